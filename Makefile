@@ -1,0 +1,22 @@
+PREFIX = /usr/local
+PROGRAM = crates/tftp_audit/out/tftp_audit
+
+.PHONY: build test bench install
+
+# Proves the program and builds it, where it is missing or older than its sources.
+build:
+	@./tftp-audit --build
+
+# The gate: every proof from nothing, the must-fail edits, the tests and the program's stored run; then the program
+# with failing reads, writes and growths.
+test:
+	rt ci
+	@./tftp-audit --build
+	sh tests/run.sh $(PROGRAM)
+
+# How fast the program is, beside wc -l on the same file.
+bench: build
+	sh bench/run.sh $(PROGRAM)
+
+install: build
+	install -D -m 755 $(PROGRAM) $(DESTDIR)$(PREFIX)/bin/tftp-audit

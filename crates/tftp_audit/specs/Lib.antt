@@ -1,0 +1,12 @@
+pub mod CaptureText
+pub mod Law
+pub mod Output
+pub mod Ports
+pub mod Reading
+pub mod Rules
+pub mod Run
+pub mod State
+pub mod Tally
+pub mod TextState
+pub mod Verdict
+pub mod Words

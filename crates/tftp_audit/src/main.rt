@@ -1,0 +1,33 @@
+//! Audits a text capture of one TFTP transfer.
+#![tactic(auto)]
+
+mod capture;
+mod judge;
+mod outcome;
+mod rule;
+mod session;
+mod tallied;
+#[cfg(test)]
+mod tests;
+mod verdict;
+mod whole;
+mod words;
+
+use session::run;
+use std::process::ExitCode;
+use std::{env, io};
+use tallied::Tallied;
+
+/// Ends with status 2, and no output, where it can't get its words.
+fn main(rt: HostRuntime) -> ExitCode {
+    let Ok(words) = env::args(&rt) else {
+        return ExitCode::from(2);
+    };
+    let Ok(words) = words.collect::<Vec<String>>(rt.alloc()) else {
+        return ExitCode::from(2);
+    };
+    let mut reader = Tallied::new(rt.reader());
+    let mut writer = Tallied::new(io::writer(&rt));
+    let status = run(rt.alloc(), words.as_slice(), &mut reader, &mut writer);
+    ExitCode::from(status.code())
+}

@@ -1,0 +1,217 @@
+-- The canonical text has no fault, and says its header and datagrams.
+use Rattle.std.proofs.Common.{◌≡◌, ◌≢◌, ℕ, suc, lit≤, not, ◌&&◌, ◌+◌, ◌^◌, ◌<◌, ◌≤◌, ◌==◌, Bool, true, false, List, [], ◌∷◌, ◌++◌, length, map, All, codes, decimal, Ok, inl, inr, refl, ap, ◌∙◌, arith, append_assoc, length-append, ne_eqb}
+use Rattle.std.specs.List.{AllZip, list_all}
+use Rattle.std.specs.Str.Parse.{AllDigits}
+use Rattle.std.proofs.lemmas.Bool.Decides.{nat_tests, Decides-and, Decides-by_and, Decides-eqb, Decides-not}
+use Rattle.std.proofs.lemmas.Fmt.{decimal_is_IsNumeral, length-decimal-le}
+use Rattle.std.proofs.lemmas.List.{length-map}
+use Rattle.std.proofs.lemmas.List.Elements.{All-append, All-cons, All-head, All-nil, All-tail, All-weaker}
+use Rattle.std.proofs.lemmas.List.Splits.{slice_split_at, slice_split_none}
+use Rattle.hex.specs.Hex.{decode_of, encode_lower, is_hex_digit, lower_digits, IsBytes}
+use Rattle.hex.proofs.HexLemmas.{decode_of-encode_lower, decode_of-ok, length-encode_with}
+use Rattle.tftp_packet.specs.declared.kinds.Dir.{Dir}
+use Rattle.tftp_packet.specs.declared.kinds.Dir.TheVariants.{In, Out}
+use Rattle.tftp_packet.specs.declared.kinds.End.{End}
+use Rattle.tftp_packet.specs.declared.kinds.End.TheVariants.{Client, Server}
+use Rattle.tftp_capture.specs.CaptureText.{Datagram, Due, Header, IsCapture, IsLawful, IsPort, Numbered, SaysDatagram, SaysDatagrams, Says, Stands, datagram_line, dir_word, end_line, head_line, SpellsPayload, numbered, payload_text, said, says_nothing, service_line, text_of, total_line, whole_lines}
+use Rattle.tftp_capture.specs.CaptureText.Due.{Nothing}
+use Rattle.tftp_capture.specs.Lines.{HasNoEnd}
+use Rattle.tftp_capture.proofs.Texts.{at_ends}
+
+-- neither a space nor an LF
+abbrev pub Plain : ℕ → Type 0
+Plain b = (b ≢ 32) × (b ≢ 10)
+
+pub no_space : (xs : List ℕ) → All Plain xs → All (λ b. (b == 32) ≡ false) xs
+no_space xs h = All-weaker Plain (λ b. (b == 32) ≡ false) (λ b n. ne_eqb b 32 n.0) xs h
+
+no_lf : (xs : List ℕ) → All Plain xs → All (λ b. b ≢ 10) xs
+no_lf xs h = All-weaker Plain (λ b. b ≢ 10) (λ b n. n.1) xs h
+
+plain_digit : (c : ℕ) → 48 ≤ c → Plain c
+plain_digit c h = (λ e. absurd (omega arith), λ e. absurd (omega arith))
+
+plain_digits : (xs : List ℕ) → AllDigits 10 xs → All Plain xs
+plain_digits [] h = All-nil Plain
+plain_digits (c ∷ cs) h =
+    let low : 48 ≤ c = grind (arith, nat_tests, h.0) in
+    All-cons Plain c cs (plain_digit c low) (plain_digits cs h.1)
+
+pub plain_decimal : (n : ℕ) → n < 2 ^ 64 → All Plain (decimal n)
+plain_decimal n h = plain_digits (decimal n) (decimal_is_IsNumeral n h).0.1
+
+hex_low : (c : ℕ) → is_hex_digit c ≡ true → 48 ≤ c
+hex_low c h = grind (arith, nat_tests)
+
+plain_hex : (xs : List ℕ) (bytes : List ℕ) → decode_of xs ≡ Ok bytes → All Plain xs
+plain_hex xs bytes h = All-weaker (λ c. is_hex_digit c ≡ true) Plain (λ c is. plain_digit c (hex_low c is)) xs (decode_of-ok xs bytes h).1
+
+-- tests on the bytes of a text that is written out
+abbrev is_plain : ℕ → Bool
+is_plain b = not (b == 32) && not (b == 10)
+
+abbrev is_no_lf : ℕ → Bool
+is_no_lf b = not (b == 10)
+
+plain_text : (xs : List ℕ) → list_all is_plain xs ≡ true → All Plain xs
+plain_text xs h = (Decides-by_and is_plain Plain (list_all is_plain) (λ b. Decides-and _ _ (Decides-not _ (Decides-eqb b 32)) (Decides-not _ (Decides-eqb b 10))) refl (λ _ _. refl) xs).0 h
+
+no_lf_text : (xs : List ℕ) → list_all is_no_lf xs ≡ true → HasNoEnd xs
+no_lf_text xs h = (Decides-by_and is_no_lf (λ b. b ≢ 10) (list_all is_no_lf) (λ b. Decides-not _ (Decides-eqb b 10)) refl (λ _ _. refl) xs).0 h
+
+plain_payload : (bytes : List ℕ) → IsBytes bytes → All Plain (payload_text bytes)
+plain_payload [] h = plain_text (codes "-") refl
+plain_payload (b ∷ bs) h = plain_hex (encode_lower (b ∷ bs)) (b ∷ bs) (decode_of-encode_lower (b ∷ bs) h)
+
+plain_dir : (dir : Dir) → All Plain (dir_word dir)
+plain_dir In = plain_text (codes "in") refl
+plain_dir Out = plain_text (codes "out") refl
+
+first_byte : (dir : Dir) (rest : List ℕ) → says_nothing (dir_word dir ++ rest) ≡ false
+first_byte In rest = refl
+first_byte Out rest = refl
+
+short_dir : (dir : Dir) → length (dir_word dir) ≤ 3
+short_dir In = lit≤ tt
+short_dir Out = lit≤ tt
+
+short_payload : (bytes : List ℕ) → length bytes ≤ 65527 → length (payload_text bytes) ≤ 131054
+short_payload [] h = lit≤ tt
+short_payload (b ∷ bs) h = omega (arith, length-encode_with lower_digits (b ∷ bs))
+
+spelled : (bytes : List ℕ) → IsBytes bytes → SpellsPayload (payload_text bytes) bytes
+spelled [] h = inl (refl, refl)
+spelled (b ∷ bs) h = inr (λ e. absurd (omega (arith, ap length e)), decode_of-encode_lower (b ∷ bs) h)
+
+module _ (d : Datagram) (lawful : IsLawful d) where
+  local_plain : All Plain (decimal d.local)
+  local_plain = plain_decimal d.local (omega (arith, lawful.local.1))
+
+  remote_plain : All Plain (decimal d.remote)
+  remote_plain = plain_decimal d.remote (omega (arith, lawful.remote.1))
+
+  pub datagram_says : SaysDatagram (datagram_line d) d
+  datagram_says = record {
+    local = decimal d.local;
+    remote = decimal d.remote;
+    digits = payload_text d.payload;
+    cut =
+        slice_split_at (λ b. b == 32) (dir_word d.dir) 32 (decimal d.local ++ 32 ∷ (decimal d.remote ++ 32 ∷ payload_text d.payload)) (no_space _ (plain_dir d.dir)) refl
+        ∙ ap (λ s. dir_word d.dir ∷ s)
+        (slice_split_at (λ b. b == 32) (decimal d.local) 32 (decimal d.remote ++ 32 ∷ payload_text d.payload) (no_space _ local_plain) refl
+        ∙ ap (λ s. decimal d.local ∷ s)
+        (slice_split_at (λ b. b == 32) (decimal d.remote) 32 (payload_text d.payload) (no_space _ remote_plain) refl
+        ∙ ap (λ s. decimal d.remote ∷ s) (slice_split_none (λ b. b == 32) (payload_text d.payload) (no_space _ (plain_payload d.payload lawful.bytes)))));
+    local_port = (lawful.local, refl);
+    remote_port = (lawful.remote, refl);
+    payload = spelled d.payload lawful.bytes;
+    fits = lawful.fits;
+  }
+
+  space : (xs : List ℕ) → All (λ b. b ≢ 10) xs → All (λ b. b ≢ 10) (32 ∷ xs)
+  space xs h = All-cons (λ b. b ≢ 10) 32 xs (λ e. absurd (omega (arith, e))) h
+
+  datagram_no_end : HasNoEnd (datagram_line d)
+  datagram_no_end =
+      All-append (λ b. b ≢ 10) (dir_word d.dir) _ (no_lf _ (plain_dir d.dir)) (space _ (All-append (λ b. b ≢ 10) (decimal d.local) _ (no_lf _ local_plain) (space _ (All-append (λ b. b ≢ 10) (decimal d.remote) _ (no_lf _ remote_plain) (space _ (no_lf _ (plain_payload d.payload lawful.bytes)))))))
+
+  datagram_narrow : length (datagram_line d) ≤ 131070
+  datagram_narrow =
+      let p = short_payload d.payload lawful.fits in
+      let l = length-decimal-le 5 d.local (omega arith) (omega (arith, lawful.local.1)) (omega (arith, lawful.local.1)) in
+      let r = length-decimal-le 5 d.remote (omega arith) (omega (arith, lawful.remote.1)) (omega (arith, lawful.remote.1)) in
+      omega (
+        arith,
+        p,
+        l,
+        r,
+        short_dir d.dir,
+        length-append (dir_word d.dir) (32 ∷ (decimal d.local ++ 32 ∷ (decimal d.remote ++ 32 ∷ payload_text d.payload))),
+        length-append (decimal d.local) (32 ∷ (decimal d.remote ++ 32 ∷ payload_text d.payload)),
+        length-append (decimal d.remote) (32 ∷ payload_text d.payload),
+      )
+
+  datagram_said : says_nothing (datagram_line d) ≡ false
+  datagram_said = first_byte d.dir (32 ∷ (decimal d.local ++ 32 ∷ (decimal d.remote ++ 32 ∷ payload_text d.payload)))
+
+-- ---- whole lines
+
+-- a line that may stand in a text
+pub record IsWholeLine (line : List ℕ) : Type 0 where
+  pub no_end : HasNoEnd line
+  pub narrow : length line ≤ 131070
+
+at_ends-whole_lines : (lines : List (List ℕ)) → All IsWholeLine lines → at_ends (whole_lines lines) ≡ lines ++ [] ∷ []
+at_ends-whole_lines [] h = refl
+at_ends-whole_lines (l ∷ ls) h =
+    let first = All-head IsWholeLine l ls h in
+    ap at_ends (append_assoc l (10 ∷ []) (whole_lines ls))
+    ∙ slice_split_at (λ b. b == 10) l 10 (whole_lines ls) (All-weaker (λ b. b ≢ 10) (λ b. (b == 10) ≡ false) (λ b n. ne_eqb b 10 n) l first.no_end) refl
+    ∙ ap (λ s. l ∷ s) (at_ends-whole_lines ls (All-tail IsWholeLine l ls h))
+
+pub stands-whole_lines : (lines : List (List ℕ)) (due : Due) (datagrams : List Numbered) → All IsWholeLine lines → length (whole_lines lines) ≤ 2 ^ 40 → Says lines due datagrams → Stands (whole_lines lines) lines [] due datagrams
+stands-whole_lines lines due datagrams all short says = record {
+  divided = at_ends-whole_lines lines all;
+  says = says;
+  short = short;
+  narrow = All-weaker IsWholeLine (λ (l : List ℕ). length l ≤ 131070) (λ l w. w.narrow) lines all;
+  narrow_rest = lit≤ tt;
+  last = λ o. refl;
+}
+
+lines_le : (lines : List (List ℕ)) → length lines ≤ length (whole_lines lines)
+lines_le [] = lit≤ tt
+lines_le (l ∷ ls) = omega (arith, length-append (l ++ 10 ∷ []) (whole_lines ls), length-append l (10 ∷ []), lines_le ls)
+
+length-numbered : (n : ℕ) (ds : List Datagram) → length (numbered n ds) ≡ length ds
+length-numbered n [] = refl
+length-numbered n (d ∷ ds) = ap suc (length-numbered (n + 1) ds)
+
+bodies : (n : ℕ) (ds : List Datagram) → All IsLawful ds → AllZip (λ (l : ℕ × List ℕ) (d : Numbered). (l.0 ≡ d.0) × SaysDatagram l.1 d.1) (said n (map datagram_line ds)) (numbered n ds)
+bodies n [] h = tt
+bodies n (d ∷ ds) h =
+    let lawful = All-head IsLawful d ds h in
+    rw (datagram_said d lawful) ((refl, datagram_says d lawful), bodies (n + 1) ds (All-tail IsLawful d ds h))
+
+lines_whole : (ds : List Datagram) → All IsLawful ds → All IsWholeLine (map datagram_line ds)
+lines_whole [] h = All-nil IsWholeLine
+lines_whole (d ∷ ds) h =
+    let lawful = All-head IsLawful d ds h in
+    All-cons IsWholeLine (datagram_line d) (map datagram_line ds) (record { no_end = datagram_no_end d lawful; narrow = datagram_narrow d lawful }) (lines_whole ds (All-tail IsLawful d ds h))
+
+end_whole : (named : End) → IsWholeLine (end_line named)
+end_whole Client = record { no_end = no_lf_text (codes "end client") refl; narrow = lit≤ tt }
+end_whole Server = record { no_end = no_lf_text (codes "end server") refl; narrow = lit≤ tt }
+
+-- a word, a space and a number
+number_whole : (word : List ℕ) (n : ℕ) → length word ≤ 100 → HasNoEnd word → n < 2 ^ 64 → IsWholeLine (word ++ decimal n)
+number_whole word n short no_end small = record {
+  no_end = All-append (λ b. b ≢ 10) word (decimal n) no_end (no_lf _ (plain_decimal n small));
+  narrow = omega (arith, length-append word (decimal n), length-decimal-le 20 n (omega arith) (omega arith) small);
+}
+
+pub canonical_is_read : (header : Header) (ds : List Datagram) → IsPort header.service → All IsLawful ds → length (text_of header ds) ≤ 2 ^ 40 → IsCapture (text_of header ds) header (numbered 4 ds)
+canonical_is_read header ds port lawful short =
+    let count = length-numbered 4 ds in
+    let lines = end_line header.named ∷ service_line header.service ∷ (map datagram_line ds ++ total_line (length ds) ∷ []) in
+    let few : length ds < 2 ^ 64 = omega (arith, lines_le (head_line ∷ lines), length-append (map datagram_line ds) (total_line (length ds) ∷ []), length-map ds datagram_line) in
+    let says : SaysDatagrams (head_line ∷ end_line header.named ∷ service_line header.service ∷ map datagram_line ds) header (numbered 4 ds) = record {
+      after_head = end_line header.named ∷ service_line header.service ∷ map datagram_line ds;
+      at_end = 2;
+      at_service = 3;
+      bodies = said 4 (map datagram_line ds);
+      begins = refl;
+      are = refl;
+      port = port;
+      each = bodies 4 ds lawful;
+    } in (
+      head_line ∷ end_line header.named ∷ service_line header.service ∷ (map datagram_line ds ++ total_line (length ds) ∷ []),
+      stands-whole_lines _ (Nothing header) (numbered 4 ds)
+          (All-cons IsWholeLine head_line (end_line header.named ∷ service_line header.service ∷ (map datagram_line ds ++ total_line (length ds) ∷ [])) (record { no_end = no_lf_text head_line refl; narrow = lit≤ tt })
+          (All-cons IsWholeLine (end_line header.named) (service_line header.service ∷ (map datagram_line ds ++ total_line (length ds) ∷ [])) (end_whole header.named)
+          (All-cons IsWholeLine (service_line header.service) (map datagram_line ds ++ total_line (length ds) ∷ []) (number_whole (codes "service ") header.service (lit≤ tt) (no_lf_text (codes "service ") refl) (omega (arith, port.1)))
+          (All-append IsWholeLine (map datagram_line ds) (total_line (length ds) ∷ []) (lines_whole ds lawful)
+          (All-cons IsWholeLine (total_line (length ds)) [] (number_whole (codes "total ") (length ds) (lit≤ tt) (no_lf_text (codes "total ") refl) few) (All-nil IsWholeLine))))))
+          short
+          (head_line ∷ end_line header.named ∷ service_line header.service ∷ map datagram_line ds, rw count refl, says),
+    )

@@ -1,0 +1,114 @@
+-- Bytes given to a writer piece by piece.
+use Rattle.std.proofs.Common.{◌≡◌, ℕ, suc, ◌+◌, ◌<◌, get_or, flat_map, drop-cons, List, [], ◌∷◌, ◌++◌, length, take, drop, Option, Result, Ok, Err, OnOk, OnErr, is_err, false, true≢false, refl, sym, ap, ◌∙◌, subst, append_assoc, append-nil, take-append-drop}
+use Rattle.std.specs.Io.KnownBytes.{Appends, Keeps}
+use Rattle.std.proofs.KnownBytes.{Appends-nil, Appends-trans, Appends-kept}
+use Rattle.std.proofs.lemmas.List.{take_more}
+use Rattle.std.proofs.lemmas.List.Concat.{flat_map-append}
+use Rattle.tftp_capture.specs.Tally.{AppendsPrefix, Gathers}
+
+pub gathers_none : (c : Option (List ℕ)) (held : List ℕ) → Gathers c c held held []
+gathers_none c held = record { written = []; are = append-nil held; appended = Appends-nil c }
+
+-- the piece waits too
+pub gathers_kept : (c : Option (List ℕ)) (held bytes : List ℕ) → Gathers c c held (held ++ bytes) bytes
+gathers_kept c held bytes = record { written = []; are = refl; appended = Appends-nil c }
+
+-- what waited is written, and the piece waits
+pub gathers_written : (c d : Option (List ℕ)) (held bytes : List ℕ) → Appends c d held → Gathers c d held bytes bytes
+gathers_written c d held bytes p = record { written = held; are = refl; appended = p }
+
+pub gathers_more : (c0 c1 c2 : Option (List ℕ)) (h0 h1 h2 first second : List ℕ) → Gathers c0 c1 h0 h1 first → Gathers c1 c2 h1 h2 second → Gathers c0 c2 h0 h2 (first ++ second)
+gathers_more c0 c1 c2 h0 h1 h2 first second p q = record {
+  written = p.written ++ q.written;
+  are = sym (append_assoc h0 first second) ∙ ap (λ l. l ++ second) p.are ∙ append_assoc p.written h1 second ∙ ap (λ l. p.written ++ l) q.are ∙ sym (append_assoc p.written q.written h2);
+  appended = Appends-trans _ _ _ _ _ p.appended q.appended;
+}
+
+pub prefix_of : (c0 c1 : Option (List ℕ)) (bytes more : List ℕ) → AppendsPrefix c0 c1 bytes → AppendsPrefix c0 c1 (bytes ++ more)
+prefix_of c0 c1 bytes more p = record {
+  written = p.written;
+  rest = p.rest ++ more;
+  are = ap (λ l. l ++ more) p.are ∙ append_assoc p.written p.rest more;
+  appended = p.appended;
+}
+
+-- some pieces were gathered, then one failed
+pub gathers_prefix : (c0 c1 c2 : Option (List ℕ)) (h0 h1 first second more : List ℕ) → Gathers c0 c1 h0 h1 first → AppendsPrefix c1 c2 (h1 ++ second) → AppendsPrefix c0 c2 (h0 ++ (first ++ (second ++ more)))
+gathers_prefix c0 c1 c2 h0 h1 first second more p q = record {
+  written = p.written ++ q.written;
+  rest = q.rest ++ more;
+  are =
+      sym (append_assoc h0 first (second ++ more)) ∙ ap (λ l. l ++ (second ++ more)) p.are ∙ append_assoc p.written h1 (second ++ more)
+      ∙ ap (λ l. p.written ++ l) (sym (append_assoc h1 second more) ∙ ap (λ l. l ++ more) q.are ∙ append_assoc q.written q.rest more)
+      ∙ sym (append_assoc p.written q.written (q.rest ++ more));
+  appended = Appends-trans _ _ _ _ _ p.appended q.appended;
+}
+
+-- some pieces were gathered, and then all that waited was written
+pub gathers_all : (c0 c1 c2 : Option (List ℕ)) (h0 h1 bytes : List ℕ) → Gathers c0 c1 h0 h1 bytes → Appends c1 c2 h1 → Appends c0 c2 (h0 ++ bytes)
+gathers_all c0 c1 c2 h0 h1 bytes p q = rw p.are (Appends-trans _ _ _ _ _ p.appended q)
+
+pub prefix_all : (c0 c1 c2 : Option (List ℕ)) (h0 h1 bytes : List ℕ) → Gathers c0 c1 h0 h1 bytes → AppendsPrefix c1 c2 h1 → AppendsPrefix c0 c2 (h0 ++ bytes)
+prefix_all c0 c1 c2 h0 h1 bytes p q = record {
+  written = p.written ++ q.written;
+  rest = q.rest;
+  are = p.are ∙ ap (λ l. p.written ++ l) q.are ∙ sym (append_assoc p.written q.written q.rest);
+  appended = Appends-trans _ _ _ _ _ p.appended q.appended;
+}
+
+-- a write took no byte, or failed, after the first n
+pub prefix_kept : (c0 c1 c2 : Option (List ℕ)) (n : ℕ) (bytes : List ℕ) → Appends c0 c1 (take n bytes) → Keeps c1 c2 → AppendsPrefix c0 c2 bytes
+prefix_kept c0 c1 c2 n bytes p q = record { written = take n bytes; rest = drop n bytes; are = sym (take-append-drop n bytes); appended = Appends-kept _ _ _ _ p q }
+
+pub prefix_none : (c0 c1 c2 : Option (List ℕ)) (n : ℕ) (bytes : List ℕ) → Appends c0 c1 (take n bytes) → Appends c1 c2 [] → AppendsPrefix c0 c2 bytes
+prefix_none c0 c1 c2 n bytes p q = record {
+  written = take n bytes;
+  rest = drop n bytes;
+  are = sym (take-append-drop n bytes);
+  appended = rw append-nil at (Appends-trans _ _ _ _ _ p q);
+}
+
+pub on_ok : {T E : Type 0} (P Q : Type 0) (r : Result T E) → (P → Q) → OnOk r P → OnOk r Q
+on_ok P Q (Ok x) f h = f h
+on_ok P Q (Err e) f h = tt
+
+pub on_err : {T E : Type 0} (P Q : Type 0) (r : Result T E) → (P → Q) → OnErr r P → OnErr r Q
+on_err P Q (Ok x) f h = tt
+on_err P Q (Err e) f h = f h
+
+-- both facts of one result
+pub on_ok_both : {T E : Type 0} (P Q : Type 0) (r : Result T E) → OnOk r P → OnOk r Q → OnOk r (P × Q)
+on_ok_both P Q (Ok x) p q = (p, q)
+on_ok_both P Q (Err e) p q = tt
+
+pub always_err : {T E : Type 0} (P : Type 0) (r : Result T E) → P → OnErr r P
+always_err P (Ok x) h = tt
+always_err P (Err e) h = h
+
+-- the pieces before a place, the one there, and the others
+pub pieces_more : {P : Type 0} (f : P → List ℕ) (ps : List P) (i : ℕ) (d : P) → i < length ps → flat_map f (take (i + 1) ps) ≡ flat_map f (take i ps) ++ f (get_or ps i d)
+pieces_more f ps i d h = ap (flat_map f) (take_more ps i d h) ∙ flat_map-append f (take i ps) (get_or ps i d ∷ []) ∙ ap (λ l. flat_map f (take i ps) ++ l) (append-nil (f (get_or ps i d)))
+
+pub pieces_rest : {P : Type 0} (f : P → List ℕ) (ps : List P) (i : ℕ) (d : P) → i < length ps → flat_map f ps ≡ flat_map f (take i ps) ++ (f (get_or ps i d) ++ flat_map f (drop (suc i) ps))
+pieces_rest f ps i d h = ap (flat_map f) (sym (take-append-drop i ps) ∙ ap (λ l. take i ps ++ l) (drop-cons ps i d h)) ∙ flat_map-append f (take i ps) (get_or ps i d ∷ drop (suc i) ps)
+
+pub pieces_failed : {P : Type 0} (f : P → List ℕ) (ps : List P) (i : ℕ) (d : P) (c0 c1 c2 : Option (List ℕ)) (h0 h1 : List ℕ) → i < length ps
+    → Gathers c0 c1 h0 h1 (flat_map f (take i ps)) → AppendsPrefix c1 c2 (h1 ++ f (get_or ps i d)) → AppendsPrefix c0 c2 (h0 ++ flat_map f ps)
+pieces_failed f ps i d c0 c1 c2 h0 h1 within p q =
+    rw (pieces_rest f ps i d within) (gathers_prefix c0 c1 c2 h0 h1 (flat_map f (take i ps)) (f (get_or ps i d)) (flat_map f (drop (suc i) ps)) p q)
+
+pub pieces_gathered : {P : Type 0} (f : P → List ℕ) (ps : List P) (i : ℕ) (d : P) (c0 c1 c2 : Option (List ℕ)) (h0 h1 h2 : List ℕ) → i < length ps
+    → Gathers c0 c1 h0 h1 (flat_map f (take i ps)) → Gathers c1 c2 h1 h2 (f (get_or ps i d)) → Gathers c0 c2 h0 h2 (flat_map f (take (i + 1) ps))
+pieces_gathered f ps i d c0 c1 c2 h0 h1 h2 within p q = rw (pieces_more f ps i d within) (gathers_more c0 c1 c2 h0 h1 h2 (flat_map f (take i ps)) (f (get_or ps i d)) p q)
+
+-- two pieces were gathered, and the third failed
+pub gathers_prefix_two : (c0 c1 c2 c3 : Option (List ℕ)) (h0 h1 h2 first second third : List ℕ) → Gathers c0 c1 h0 h1 first → Gathers c1 c2 h1 h2 second → AppendsPrefix c2 c3 (h2 ++ third)
+    → AppendsPrefix c0 c3 (h0 ++ (first ++ (second ++ third)))
+gathers_prefix_two c0 c1 c2 c3 h0 h1 h2 first second third p q r =
+    let both = gathers_more c0 c1 c2 h0 h1 h2 first second p q in
+    subst (λ (l : List ℕ). AppendsPrefix c0 c3 (h0 ++ l)) (append_assoc first second third)
+    (rw append-nil at (gathers_prefix c0 c2 c3 h0 h2 (first ++ second) third [] both r))
+
+pub from_ok : {T E : Type 0} (P : Type 0) (r : Result T E) → is_err r ≡ false → OnOk r P → P
+from_ok P (Ok x) e h = h
+from_ok P (Err y) e h = absurd (true≢false e)

@@ -1,0 +1,159 @@
+-- The header of a text, line by line.
+use Rattle.std.proofs.Common.{◌≡◌, ◌≢◌, ℕ, ◌+◌, ◌-◌, ◌^◌, Bool, true, false, not, bytes_eq, true≢false, List, [], ◌∷◌, ◌++◌, length, Option, None, Some, Ok, Err, refl, sym, ap, ◌∙◌, arith, append_assoc, length-append}
+use Rattle.std.specs.Io.KnownBytes.{Consumes, IsAtEnd, prepend_known}
+use Rattle.std.proofs.lemmas.Slice.Eq.{bytes_eq-Decides}
+use Rattle.std.proofs.KnownBytes.{Consumes-trans}
+use Rattle.tftp_packet.specs.declared.kinds.End.{End}
+use Rattle.tftp_capture.specs.declared.fault.TextFault.TheVariants.{BadHeader, BadEnd, BadService, Truncated}
+use Rattle.tftp_capture.specs.declared.fault.CaptureFault.{CaptureFault}
+use Rattle.tftp_capture.specs.declared.fault.CaptureFault.TheVariants as faults
+use Rattle.tftp_capture.specs.declared.stop.Stop.{Stop}
+use Rattle.tftp_capture.specs.declared.stop.Stop.TheVariants.{Text, Read, Memory}
+use Rattle.tftp_capture.specs.CaptureText.{Due, IsPort, Says, Stands, end_line, head_line, service_line, whole_lines}
+use Rattle.tftp_capture.specs.CaptureText.Due.{Head, EndLine, ServiceLine, Body}
+use Rattle.tftp_capture.specs.History.{FailsToBegin, FaultTells, IsAtTextEnd}
+use Rattle.tftp_capture.specs.Lines.{LineEnds, LineState, ReachesLine, fault_at}
+use Rattle.tftp_capture.proofs.Texts.{IsSkippable, says-head, says-end, says-service, stands-line, stands-nothing}
+use Rattle.tftp_capture.proofs.Faults.{fault_in_line, fault_at_end}
+use Rattle.tftp_capture.proofs.Histories.{reached, stop_tells, number_is, part_is, within_is, taken_is, bytes_are}
+
+-- these bytes were taken, and this is due after them
+pub record Begun (k0 k1 : Option (List ℕ)) (state : LineState) (due : Due) : Type 0 where
+  pub text : List ℕ
+  pub lines : List (List ℕ)
+  pub consumed : Consumes k0 k1 text
+  pub stands : Stands text lines [] due []
+  pub line_count : state.count ≡ length lines
+  pub byte_count : state.taken ≡ length text
+
+-- these bytes were taken, and have the fault
+pub record Tells (k0 k1 : Option (List ℕ)) (fault : CaptureFault) : Type 0 where
+  pub text : List ℕ
+  pub consumed : Consumes k0 k1 text
+  pub tells : FaultTells fault text []
+
+pub head_stop : (k0 k1 : Option (List ℕ)) (line bytes : List ℕ) (stop : Stop) → Consumes k0 k1 bytes → LineEnds {T = Unit {0}} (Err stop) line (2 ^ 40 - 0) bytes → Tells k0 k1 (fault_at stop 1)
+head_stop k0 k1 line bytes stop consumed ends = record {
+  text = bytes;
+  consumed = consumed;
+  tells = fault_in_line [] [] Head [] (λ o. o) stands-nothing line bytes stop ends;
+}
+
+pub head_bad : (k0 k1 : Option (List ℕ)) (line bytes : List ℕ) → Consumes k0 k1 bytes → LineEnds {T = Unit {0}} (Ok tt) line (2 ^ 40 - 0) bytes → line ≢ head_line → Tells k0 k1 (faults.Text 1 BadHeader)
+head_bad k0 k1 line bytes consumed ends other = record {
+  text = bytes;
+  consumed = consumed;
+  tells = rw ends.0 (fault_at_end [] [] Head [] (λ o. o) stands-nothing line BadHeader ends.1 (omega (arith, ends.2), refl, (refl, other)));
+}
+
+pub head_ok : (k0 k1 : Option (List ℕ)) (state : LineState) (bytes : List ℕ) → Consumes k0 k1 bytes → LineEnds {T = Unit {0}} (Ok tt) state.line (2 ^ 40 - 0) bytes → state.line ≡ head_line
+    → state.taken ≡ 0 + length state.line + 1 → state.count ≡ 0 + 1 → Begun k0 k1 state EndLine
+head_ok k0 k1 state bytes consumed ends is taken count = record {
+  text = bytes;
+  lines = state.line ∷ [];
+  consumed = consumed;
+  stands = rw ends.0 (stands-line [] state.line [] Head EndLine [] [] (2 ^ 40 - 0) ends.1 ends.2 stands-nothing (rw is says-head));
+  line_count = count;
+  byte_count = omega (arith, taken, ap length ends.0, length-append state.line (10 ∷ []));
+}
+
+module _ (k0 k1 k2 : Option (List ℕ)) (old new : LineState) (due : Due) (skippable : IsSkippable due) (begun : Begun k0 k1 old due) where
+  pub said_stop : (stop : Stop) → ReachesLine {T = Unit {0}} (Err stop) old new k1 k2 → Tells k0 k2 (fault_at stop (new.count + 1))
+  said_stop stop reach = record {
+    text = begun.text ++ (whole_lines reach.skipped ++ reach.bytes);
+    consumed = Consumes-trans _ _ _ _ _ begun.consumed reach.consumed;
+    tells = stop_tells begun.text begun.lines due [] skippable begun.stands old new k1 k2 begun.byte_count stop reach begun.line_count;
+  }
+
+  module _ (reach : ReachesLine {T = Unit {0}} (Ok tt) old new k1 k2) where
+    pub next_begun : (due' : Due) → Says ((begun.lines ++ reach.skipped) ++ new.line ∷ []) due' [] → Begun k0 k2 new due'
+    next_begun due' says =
+        let before = reached begun.text begun.lines due [] skippable begun.stands old new k1 k2 begun.byte_count (Ok tt) reach in
+        let after = stands-line (begun.text ++ whole_lines reach.skipped) new.line (begun.lines ++ reach.skipped) due due' [] []
+        (2 ^ 40 - length (begun.text ++ whole_lines reach.skipped))
+        (part_is begun.text begun.lines due [] skippable begun.stands old new k1 k2 begun.byte_count reach begun.line_count)
+        (within_is begun.text begun.lines due [] skippable begun.stands old new k1 k2 begun.byte_count reach begun.line_count)
+        before says in
+        record {
+          text = begun.text ++ (whole_lines reach.skipped ++ reach.bytes);
+          lines = (begun.lines ++ reach.skipped) ++ new.line ∷ [];
+          consumed = Consumes-trans _ _ _ _ _ begun.consumed reach.consumed;
+          stands = rw (taken_is begun.text begun.lines due [] skippable begun.stands old new k1 k2 begun.byte_count reach begun.line_count) after;
+          line_count = number_is begun.text begun.lines due [] skippable begun.stands old new k1 k2 begun.byte_count reach begun.line_count ∙ sym (length-append (begun.lines ++ reach.skipped) (new.line ∷ []));
+          byte_count = bytes_are begun.text begun.lines due [] skippable begun.stands old new k1 k2 begun.byte_count reach begun.line_count;
+        }
+
+    pub says_before : Says (begun.lines ++ reach.skipped) due []
+    says_before = (reached begun.text begun.lines due [] skippable begun.stands old new k1 k2 begun.byte_count (Ok tt) reach).says
+
+-- the second line that says something
+pub end_bad : (k0 k1 k2 : Option (List ℕ)) (old new : LineState) → Begun k0 k1 old EndLine → ReachesLine {T = Unit {0}} (Ok tt) old new k1 k2 → ((named : End) → new.line ≢ end_line named) → Tells k0 k2 (faults.Text new.count BadEnd)
+end_bad k0 k1 k2 old new begun reach other =
+    let before = reached begun.text begun.lines EndLine [] tt begun.stands old new k1 k2 begun.byte_count (Ok tt) reach in
+    let within = within_is begun.text begun.lines EndLine [] tt begun.stands old new k1 k2 begun.byte_count reach begun.line_count in
+    let wrong = fault_at_end (begun.text ++ whole_lines reach.skipped) (begun.lines ++ reach.skipped) EndLine [] (λ o. o) before new.line BadEnd
+    (part_is begun.text begun.lines EndLine [] tt begun.stands old new k1 k2 begun.byte_count reach begun.line_count)
+    (omega (arith, within, length-append (begun.text ++ whole_lines reach.skipped) new.line), refl, (refl, reach.said, other)) in
+    record {
+      text = begun.text ++ (whole_lines reach.skipped ++ reach.bytes);
+      consumed = Consumes-trans _ _ _ _ _ begun.consumed reach.consumed;
+      tells = rw (taken_is begun.text begun.lines EndLine [] tt begun.stands old new k1 k2 begun.byte_count reach begun.line_count, number_is begun.text begun.lines EndLine [] tt begun.stands old new k1 k2 begun.byte_count reach begun.line_count) wrong;
+    }
+
+pub end_ok : (k0 k1 k2 : Option (List ℕ)) (old new : LineState) (named : End) → Begun k0 k1 old EndLine → ReachesLine {T = Unit {0}} (Ok tt) old new k1 k2 → new.line ≡ end_line named → Begun k0 k2 new (ServiceLine named)
+end_ok k0 k1 k2 old new named begun reach is =
+    next_begun k0 k1 k2 old new EndLine tt begun reach (ServiceLine named)
+    (rw is (says-end (begun.lines ++ reach.skipped) named (says_before k0 k1 k2 old new EndLine tt begun reach)))
+
+-- the third
+pub service_bad : (k0 k1 k2 : Option (List ℕ)) (old new : LineState) (named : End) → Begun k0 k1 old (ServiceLine named) → ReachesLine {T = Unit {0}} (Ok tt) old new k1 k2
+    → ((port : ℕ) → IsPort port → new.line ≢ service_line port) → Tells k0 k2 (faults.Text new.count BadService)
+service_bad k0 k1 k2 old new named begun reach other =
+    let before = reached begun.text begun.lines (ServiceLine named) [] tt begun.stands old new k1 k2 begun.byte_count (Ok tt) reach in
+    let within = within_is begun.text begun.lines (ServiceLine named) [] tt begun.stands old new k1 k2 begun.byte_count reach begun.line_count in
+    let wrong = fault_at_end (begun.text ++ whole_lines reach.skipped) (begun.lines ++ reach.skipped) (ServiceLine named) [] (λ o. o) before new.line BadService
+    (part_is begun.text begun.lines (ServiceLine named) [] tt begun.stands old new k1 k2 begun.byte_count reach begun.line_count)
+    (omega (arith, within, length-append (begun.text ++ whole_lines reach.skipped) new.line), refl, (refl, reach.said, other)) in
+    record {
+      text = begun.text ++ (whole_lines reach.skipped ++ reach.bytes);
+      consumed = Consumes-trans _ _ _ _ _ begun.consumed reach.consumed;
+      tells = rw (taken_is begun.text begun.lines (ServiceLine named) [] tt begun.stands old new k1 k2 begun.byte_count reach begun.line_count, number_is begun.text begun.lines (ServiceLine named) [] tt begun.stands old new k1 k2 begun.byte_count reach begun.line_count) wrong;
+    }
+
+pub service_ok : (k0 k1 k2 : Option (List ℕ)) (old new : LineState) (named : End) (port : ℕ) → Begun k0 k1 old (ServiceLine named) → ReachesLine {T = Unit {0}} (Ok tt) old new k1 k2 → IsPort port → new.line ≡ service_line port
+    → Begun k0 k2 new (Body (record { named = named; service = port }))
+service_ok k0 k1 k2 old new named port begun reach h is =
+    next_begun k0 k1 k2 old new (ServiceLine named) tt begun reach (Body (record { named = named; service = port }))
+    (rw is (says-service (begun.lines ++ reach.skipped) named port h (says_before k0 k1 k2 old new (ServiceLine named) tt begun reach)))
+
+-- ---- what was read ahead
+
+pub consumed_nil : (r k : Option (List ℕ)) (bytes : List ℕ) → Consumes (prepend_known [] r) k bytes → Consumes r k bytes
+consumed_nil None k bytes p = tt
+consumed_nil (Some x) k bytes p = p
+
+pub fails_to_begin : (r0 r1 : Option (List ℕ)) (ahead : List ℕ) (fault : CaptureFault) → Tells (prepend_known [] r0) (prepend_known ahead r1) fault → FailsToBegin r0 r1 fault
+fails_to_begin None r1 ahead fault t = record { taken = t.text; ahead = ahead; consumed = tt; tells = t.tells }
+fails_to_begin (Some x) None ahead fault t = absurd t.consumed
+fails_to_begin (Some x) (Some y) ahead fault t = record { taken = t.text; ahead = ahead; consumed = t.consumed ∙ sym (append_assoc t.text ahead y); tells = t.tells }
+
+pub at_end_rest : (r : Option (List ℕ)) (ahead : List ℕ) → IsAtEnd (prepend_known ahead r) → IsAtEnd r
+at_end_rest None ahead p = tt
+at_end_rest (Some y) [] p = p
+at_end_rest (Some y) (b ∷ bs) p = absurd (omega (arith, ap length p))
+
+pub at_text_end : (stop : Stop) (n : ℕ) → IsAtTextEnd (fault_at stop n) → stop ≡ Text Truncated
+at_text_end (Text fault) n h = ap Text h
+at_text_end Read n h = absurd h
+at_text_end Memory n h = absurd h
+
+-- ---- the answer of `!=`
+
+pub ne_true : (a b : List ℕ) (r : Bool) → r ≡ not (bytes_eq a b) → r ≡ true → a ≢ b
+ne_true a b r is h e = true≢false (sym h ∙ is ∙ ap not ((bytes_eq-Decides a b).1 e))
+
+pub ne_false : (a b : List ℕ) (r : Bool) → r ≡ not (bytes_eq a b) → r ≡ false → a ≡ b
+ne_false a b r is h =
+    let same : not (bytes_eq a b) ≡ false → bytes_eq a b ≡ true =
+    elim (bytes_eq a b) as (λ v. not v ≡ false → v ≡ true) [ true ↦ λ _. refl | false ↦ λ e. absurd (true≢false e) ] in
+    (bytes_eq-Decides a b).0 (same (sym is ∙ h))

@@ -1,0 +1,15 @@
+pub mod Bytes
+pub mod Canonical
+pub mod Cuts
+pub mod Faults
+pub mod Gathering
+pub mod Headers
+pub mod Histories
+pub mod Pieces
+pub mod Readings
+pub mod Skips
+pub mod Spelling
+pub mod Staying
+pub mod Texts
+pub mod Uniqueness
+pub mod Walks

@@ -1,0 +1,86 @@
+use Rattle.std.proofs.Common.{◌≡◌, ◌≢◌, ◌+◌, ◌-◌, ◌<◌, ◌≤◌, [], ◌∷◌, ◌++◌, length, take, get_or, sym, ap, ◌∙◌, arith, append_assoc, length-append, length-take-le}
+use Rattle.std.proofs.lemmas.Bool.Decides.{nat_tests}
+use Rattle.std.proofs.lemmas.Grind.{common_steps}
+use Rattle.std.proofs.lemmas.List.Elements.{All-append}
+use Rattle.tftp_capture.proofs.Bytes.{taken_step, taken_all, byte_at, no_end_at, line_ended}
+use Rattle.tftp_capture.proofs.line.read_line.Goals as goal
+use Rattle.tftp_capture.proofs.line.read_line.Goals.{then-room-length, else-room-length+then-whole, else-room-length+else-whole, else-room-via-then-room+else-over, else-room-via-else-room}
+
+pub returns-then-over-clause-ends : goal.returns-then-over-clause-ends
+returns-then-over-clause-ends g c =
+    let held = c.fill.new.self in
+    let line = c.pieces.line.items in
+    let count = c.count_before-count.result in
+    let all : length c.as_slice-held.result.now ≡ length held = ap length c.as_slice-held.ensures.value in
+    let low : length line ≤ c.args.room = c.pieces.invariant.part.short in
+    let places : (c.args.room ≤ length line + count) × (c.args.room < length line + length held) =
+    elim c.if-room-length.branch [
+      | then-room-length w ↦ (omega arith, omega arith)
+      | else-room-length+then-whole w ↦ (grind (arith, nat_tests), grind (arith, nat_tests))
+      | else-room-length+else-whole w ↦ (grind (arith, nat_tests), grind (arith, nat_tests))
+    ] in
+    let at = byte_at line held count c.args.room c.pieces.invariant.part.no_end (rw c.as_slice-held.ensures.value at c.count_before-count.ensures.none_before) low places.0 places.1 in (
+      line ++ held,
+      rw (c.consume.ensures.value, c.as_slice-held.ensures.value) (taken_all _ _ _ line held c.pieces.invariant.taken c.fill.ensures.kept),
+      (get_or held (c.args.room - length line) 0, at, c.if-room.true),
+    )
+
+pub returns-then-length-gt-LONGEST_LINE-clause-ends : goal.returns-then-length-gt-LONGEST_LINE-clause-ends
+returns-then-length-gt-LONGEST_LINE-clause-ends g c =
+    let held = c.fill.new.self in
+    let line = c.pieces.line.items in
+    let count = c.count_before-count.result in
+    let no_end = rw c.as_slice-held.ensures.value at c.count_before-count.ensures.none_before in
+    let all : length c.as_slice-held.result.now ≡ length held = ap length c.as_slice-held.ensures.value in
+    let low : length line ≤ 131070 = c.pieces.invariant.part.narrow in
+    let high : 131070 < length line + count = omega arith in
+    let within : 131070 < length line + length held = omega arith in (
+      line ++ held,
+      rw (c.consume-then-length-gt-LONGEST_LINE.ensures.value, c.as_slice-held.ensures.value) (taken_all _ _ _ line held c.pieces.invariant.taken c.fill.ensures.kept),
+      (
+        get_or held (131070 - length line) 0,
+        byte_at line held count 131070 c.pieces.invariant.part.no_end no_end low (omega arith) within,
+        no_end_at held count (131070 - length line) no_end (omega arith) (omega arith),
+        elim c.else-room.branch [
+          | else-room-via-then-room+else-over w ↦ elim c.if-room-length.branch [
+            | then-room-length v ↦ grind (arith, nat_tests)
+            | else-room-length+then-whole v ↦ grind (arith, nat_tests)
+            | else-room-length+else-whole v ↦ grind (arith, nat_tests)
+          ]
+          | else-room-via-else-room w ↦ omega arith
+        ],
+      ),
+    )
+
+pub returns-then-whole-2-clause-ends : goal.returns-then-whole-2-clause-ends
+returns-then-whole-2-clause-ends g c =
+    let held = c.fill.new.self in
+    let line = c.pieces.line.items in
+    let count = c.count_before-count.result in
+    let ended : take (count + 1) held ≡ take count held ++ 10 ∷ [] = line_ended held count (rw c.as_slice-held.ensures.value at c.if-whole-2.true) (rw c.as_slice-held.ensures.value at (c.count_before-count.ensures.here c.if-whole-2.true)) in
+    let no_end = rw c.as_slice-held.ensures.value at c.count_before-count.ensures.none_before in
+    let all : length c.as_slice-held.result.now ≡ length held = ap length c.as_slice-held.ensures.value in
+    let grew : c.extend_from_slice.new.self.items ≡ line ++ take count held = rw (← c.as_slice-held.ensures.value) (grind (arith, common_steps)) in
+    let size : length c.extend_from_slice.new.self.items ≡ length line + count =
+    ap length grew ∙ length-append line (take count held) ∙ ap (λ n. length line + n) (length-take-le count held (omega arith)) in
+    let fits : length line + count < c.args.room =
+    elim c.else-room.branch [
+      | else-room-via-then-room+else-over w ↦ elim c.if-room-length.branch [
+        | then-room-length v ↦ grind (arith, nat_tests)
+        | else-room-length+then-whole v ↦ grind (arith, nat_tests)
+        | else-room-length+else-whole v ↦ grind (arith, nat_tests)
+      ]
+      | else-room-via-else-room w ↦ omega arith
+    ] in (
+      line ++ take (count + 1) held,
+      rw c.consume-then-whole-2.ensures.value (taken_step _ _ _ line held (count + 1) c.pieces.invariant.taken c.fill.ensures.kept),
+      (
+        ap (λ l. line ++ l) ended ∙ sym (append_assoc line (take count held) (10 ∷ [])) ∙ ap (λ l. l ++ 10 ∷ []) (sym grew),
+        record {
+          no_end = rw grew (All-append (λ b. b ≢ 10) line (take count held) c.pieces.invariant.part.no_end no_end);
+          narrow = omega arith;
+          short = omega arith;
+        },
+        omega arith,
+      ),
+    )

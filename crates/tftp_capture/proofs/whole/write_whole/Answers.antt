@@ -1,0 +1,19 @@
+use Rattle.std.proofs.Common.{rules}
+use Rattle.std.proofs.Math.Seq.{take-add}
+use Rattle.std.proofs.lemmas.List.{take_rest}
+use Rattle.std.proofs.KnownBytes.{Appends-trans}
+use Rattle.tftp_capture.proofs.Gathering.{prefix_none, prefix_kept}
+use Rattle.tftp_capture.proofs.whole.write_whole.Goals as goal
+
+pub loop-written-preserved : goal.loop-written-preserved
+loop-written-preserved g c = record {
+  clean = search rules;
+  within = search rules;
+  appended = rw (take-add c.loop-written.written c.in-Ok.count c.args.bytes.now) (Appends-trans _ _ _ _ _ c.loop-written.invariant.appended (rw take_rest at c.in-Ok.ensures.bytes));
+}
+
+pub returns-in_default-clause-err : goal.returns-in_default-clause-err
+returns-in_default-clause-err g c = prefix_kept _ _ _ c.loop-written.written c.args.bytes.now c.loop-written.invariant.appended c.in_default.ensures.bytes
+
+pub returns-then-count-eq0-clause-err : goal.returns-then-count-eq0-clause-err
+returns-then-count-eq0-clause-err g c = prefix_none _ _ _ c.loop-written.written c.args.bytes.now c.loop-written.invariant.appended (rw c.if-count-eq0.true at c.in-Ok.ensures.bytes)

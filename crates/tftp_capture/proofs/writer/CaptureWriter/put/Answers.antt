@@ -1,0 +1,12 @@
+use Rattle.std.proofs.Common.{◌≡◌, ◌+◌, ap, sym, ◌∙◌}
+use Rattle.tftp_capture.specs.Written.{WriterState}
+use Rattle.tftp_capture.proofs.Gathering.{from_ok}
+use Rattle.tftp_capture.proofs.Spelling.{datagram_written}
+use Rattle.tftp_capture.proofs.writer.CaptureWriter.put.Goals as goal
+
+pub returns-clause-written : goal.returns-clause-written
+returns-clause-written g c = λ start header datagrams h.
+    let held : c.self.inside.gathered ≡ c.args.self.now.held = ap (λ (s : WriterState). s.held) c.self.view_is in
+    let counted : c.self.inside.count ≡ c.args.self.now.count = ap (λ (s : WriterState). s.count) c.self.view_is in
+    let moved = from_ok _ c.put_datagram.result (sym c.is_err.ensures.value ∙ c.if-is_err.false) c.put_datagram.ensures.ok in
+    datagram_written _ _ _ _ _ _ _ _ h (rw held at moved) (ap (λ n. n + 1) counted)

@@ -1,0 +1,47 @@
+-- What the fields of a line spell.
+use Rattle.std.specs.Prelude.{◌≡◌, ℕ, ◌<◌, ◌≤◌, List, length, Option, Some, None, Result, Ok, Err}
+use Rattle.tftp_capture.specs.declared.fault.TextFault.TheVariants.{BadHex, PayloadTooLong}
+use Rattle.tftp_capture.specs.declared.stop.Stop.{Stop}
+use Rattle.tftp_capture.specs.declared.stop.Stop.TheVariants.{Text, Read, Memory}
+use Rattle.tftp_capture.specs.declared.datagram.Datagram.{Datagram as Owned}
+use Rattle.tftp_capture.specs.declared.datagram.Header.{Header as OwnedHeader}
+use Rattle.tftp_capture.specs.CaptureText.{Datagram, Header, BodyFault, SaysDatagram, SpellsPayload, total_line}
+
+-- the datagram that a value in memory is
+abbrev pub datagram_of : Owned → Datagram
+datagram_of d = record { dir = d.dir; local = d.local_port; remote = d.remote_port; payload = d.payload }
+
+-- the header that a value in memory is
+abbrev pub header_of : OwnedHeader → Header
+header_of h = record { named = h.named; service = h.service }
+
+-- a payload, or why the digits spell none that a datagram can carry
+abbrev pub PayloadEnds : Result (List ℕ) Stop → List ℕ → Type 0
+PayloadEnds (Ok payload) digits = SpellsPayload digits payload × (length payload ≤ 65527)
+PayloadEnds (Err (Text BadHex)) digits = (payload : List ℕ) → SpellsPayload digits payload → ⊥
+PayloadEnds (Err (Text PayloadTooLong)) digits = (payload : List ℕ) × SpellsPayload digits payload × (65527 < length payload)
+PayloadEnds (Err (Text _)) digits = ⊥
+PayloadEnds (Err Read) digits = ⊥
+PayloadEnds (Err Memory) digits = Unit {0}
+
+-- what a line with a datagram's first word says, or what is wrong with it, after so many datagrams
+abbrev pub DatagramEnds : Result Owned Stop → List ℕ → ℕ → Type 0
+DatagramEnds (Ok d) line count = SaysDatagram line (datagram_of d)
+DatagramEnds (Err (Text fault)) line count = BodyFault count line fault
+DatagramEnds (Err Read) line count = ⊥
+DatagramEnds (Err Memory) line count = Unit {0}
+
+-- the same of a line with the total's first word
+abbrev pub TotalEnds : Result (Unit {0}) Stop → List ℕ → ℕ → Type 0
+TotalEnds (Ok _) line count = line ≡ total_line count
+TotalEnds (Err (Text fault)) line count = BodyFault count line fault
+TotalEnds (Err Read) line count = ⊥
+TotalEnds (Err Memory) line count = ⊥
+
+-- what a line says, or what is wrong with it, where a datagram or the total is due after so many datagrams
+abbrev pub BodyEnds : Result (Option Owned) Stop → List ℕ → ℕ → Type 0
+BodyEnds (Ok (Some d)) line count = SaysDatagram line (datagram_of d)
+BodyEnds (Ok None) line count = line ≡ total_line count
+BodyEnds (Err (Text fault)) line count = BodyFault count line fault
+BodyEnds (Err Read) line count = ⊥
+BodyEnds (Err Memory) line count = Unit {0}

@@ -1,0 +1,106 @@
+-- What a reader of captures holds, and for what bytes and datagrams it stands.
+use Rattle.std.specs.Prelude.{◌≡◌, ℕ, ◌+◌, List, [], ◌∷◌, ◌++◌, length, Option, Some, None, Result, Ok, Err}
+use Rattle.std.specs.Io.KnownBytes.{Consumes}
+use Rattle.tftp_capture.specs.declared.fault.TextFault.TheVariants.{Truncated}
+use Rattle.tftp_capture.specs.declared.fault.CaptureFault.{CaptureFault}
+use Rattle.tftp_capture.specs.declared.fault.CaptureFault.TheVariants.{Text, Read, Memory}
+use Rattle.tftp_capture.specs.declared.standing.Standing.{Standing}
+use Rattle.tftp_capture.specs.declared.standing.Standing.TheVariants.{Open, Over, Failed}
+use Rattle.tftp_capture.specs.declared.datagram.Datagram.{Datagram as Owned}
+use Rattle.tftp_capture.specs.CaptureText.{Header, Numbered, Due, Stands, Unfinished, IsCapture, HasFault}
+use Rattle.tftp_capture.specs.CaptureText.Due.{Body}
+use Rattle.tftp_capture.specs.Lines.{LineState}
+use Rattle.tftp_capture.specs.Fields.{datagram_of}
+
+-- what contracts see of a reader: its header, its lines, how many datagrams it gave, the line of the last of them (or of
+-- the service line), and whether it goes on
+pub record ReaderState : Type 0 where
+  pub header : Header
+  pub lines : LineState
+  pub count : ℕ
+  pub handed : ℕ
+  pub standing : Standing
+
+-- the reader goes on: what was taken are whole lines, after which a datagram or the total is due
+pub record GoesOn (header : Header) (state : LineState) (count : ℕ) (text : List ℕ) (datagrams : List Numbered) : Type 0 where
+  pub lines : List (List ℕ)
+  pub stands : Stands text lines [] (Body header) datagrams
+  pub line_count : state.count ≡ length lines
+  pub byte_count : state.taken ≡ length text
+  pub datagram_count : count ≡ length datagrams
+
+-- what a fault says of the bytes that were taken and the datagrams that were given before it
+abbrev pub FaultTells : CaptureFault → List ℕ → List Numbered → Type 0
+FaultTells (Text line fault) text datagrams = HasFault text datagrams line fault
+FaultTells (Read line) text datagrams = (due : Due) × Unfinished text datagrams line due
+FaultTells (Memory line) text datagrams = Unit {0}
+
+-- what the reader took and gave, by whether it goes on
+abbrev pub StandingTells : Standing → ReaderState → List ℕ → List Numbered → Type 0
+StandingTells Open reader text datagrams = GoesOn reader.header reader.lines reader.count text datagrams
+StandingTells Over reader text datagrams = IsCapture text reader.header datagrams
+StandingTells (Failed fault) reader text datagrams = FaultTells fault text datagrams
+
+-- The reader stands for a history: it took the bytes of `text`, and gave the datagrams with the numbers of their lines.
+abbrev pub StandsFor : ReaderState → List ℕ → List Numbered → Type 0
+StandsFor reader text datagrams = StandingTells reader.standing reader text datagrams
+
+-- what the reader is after an answer
+abbrev pub standing_after : {T : Type 0} → Result (Option T) CaptureFault → Standing
+standing_after (Ok (Some d)) = Open
+standing_after (Ok None) = Over
+standing_after (Err fault) = Failed fault
+
+-- the datagrams with the one that was given, on that line
+abbrev pub with_answer : List Numbered → ℕ → Result (Option Owned) CaptureFault → List Numbered
+with_answer datagrams line (Ok (Some d)) = datagrams ++ (line, datagram_of d) ∷ []
+with_answer datagrams line (Ok None) = datagrams
+with_answer datagrams line (Err fault) = datagrams
+
+-- what an answer says of the bytes that were taken with it and before it, and of the datagrams before it
+abbrev pub AnswerTells : Result (Option Owned) CaptureFault → Header → LineState → ℕ → List ℕ → List Numbered → Type 0
+AnswerTells (Ok (Some d)) header state count text datagrams = GoesOn header state (count + 1) text (datagrams ++ (state.count, datagram_of d) ∷ [])
+AnswerTells (Ok None) header state count text datagrams = IsCapture text header datagrams
+AnswerTells (Err fault) header state count text datagrams = FaultTells fault text datagrams
+
+-- bytes were taken, of which and of the datagrams before it the answer tells
+pub record Answers (before after : Option (List ℕ)) (result : Result (Option Owned) CaptureFault) (header : Header) (state : LineState) (count : ℕ) (text : List ℕ) (datagrams : List Numbered) : Type 0 where
+  pub taken : List ℕ
+  pub consumed : Consumes before after taken
+  pub tells : AnswerTells result header state count (text ++ taken) datagrams
+
+-- bytes were taken, and with them the reader stands for the history that the answer adds to
+pub record Continues (old new : ReaderState) (before after : Option (List ℕ)) (result : Result (Option Owned) CaptureFault) (text : List ℕ) (datagrams : List Numbered) : Type 0 where
+  pub taken : List ℕ
+  pub consumed : Consumes before after taken
+  pub stands : StandsFor new (text ++ taken) (with_answer datagrams new.handed result)
+
+-- bytes were taken in which a header was looked for, and some more were read ahead
+pub record FailsToBegin (before after : Option (List ℕ)) (fault : CaptureFault) : Type 0 where
+  pub taken : List ℕ
+  pub ahead : List ℕ
+  pub consumed : Consumes before after (taken ++ ahead)
+  pub tells : FaultTells fault taken []
+
+-- whether a fault, or the answer of a reader that has stopped, is that a read failed
+abbrev pub IsReadFault : CaptureFault → Type 0
+IsReadFault (Text line fault) = ⊥
+IsReadFault (Read line) = Unit {0}
+IsReadFault (Memory line) = ⊥
+
+abbrev pub IsReadStanding : Standing → Type 0
+IsReadStanding Open = ⊥
+IsReadStanding Over = ⊥
+IsReadStanding (Failed fault) = IsReadFault fault
+
+-- whether a fault is one that only the text's end shows
+abbrev pub IsAtTextEnd : CaptureFault → Type 0
+IsAtTextEnd (Text line fault) = fault ≡ Truncated
+IsAtTextEnd (Read line) = ⊥
+IsAtTextEnd (Memory line) = ⊥
+
+-- the answer of a reader that goes on no more
+abbrev pub KeepsAnswer : Standing → Result (Option Owned) CaptureFault → Type 0
+KeepsAnswer Open result = Unit {0}
+KeepsAnswer Over result = result ≡ Ok None
+KeepsAnswer (Failed fault) result = result ≡ Err fault

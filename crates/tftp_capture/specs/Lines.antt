@@ -1,0 +1,80 @@
+-- Where the lines of a reader end, in its bytes.
+use Rattle.std.specs.Prelude.{◌≡◌, ◌≢◌, ℕ, ◌+◌, ◌-◌, ◌^◌, ◌<◌, ◌≤◌, true, false, List, [], ◌∷◌, ◌++◌, length, All, Option, Result, Ok, Err, OnOk, OnErr}
+use Rattle.std.specs.Io.KnownBytes.{Consumes}
+use Rattle.tftp_capture.specs.CaptureText.{says_nothing, whole_lines}
+use Rattle.tftp_capture.specs.declared.fault.TextFault.TheVariants.{LineTooLong, Truncated, TrailingText, TextTooLong}
+use Rattle.tftp_capture.specs.declared.fault.CaptureFault.{CaptureFault}
+use Rattle.tftp_capture.specs.declared.fault.CaptureFault.TheVariants as faults
+use Rattle.tftp_capture.specs.declared.stop.Stop.{Stop}
+use Rattle.tftp_capture.specs.declared.stop.Stop.TheVariants.{Text, Read, Memory}
+
+abbrev pub fault_at : Stop → ℕ → CaptureFault
+fault_at (Text fault) line = faults.Text line fault
+fault_at Read line = faults.Read line
+fault_at Memory line = faults.Memory line
+
+-- no byte is an LF
+abbrev pub HasNoEnd : List ℕ → Type 0
+HasNoEnd bytes = All (λ b. b ≢ 10) bytes
+
+-- the bytes begin with so many that are no LF, and one more
+pub record HasByteAt (bytes : List ℕ) (size : ℕ) (byte : ℕ) : Type 0 where
+  pub front : List ℕ
+  pub more : List ℕ
+  pub are : bytes ≡ front ++ byte ∷ more
+  pub no_end : HasNoEnd front
+  pub sized : length front ≡ size
+
+-- The bytes are part of a line that has not ended, for which there is room.
+pub record IsPartOfLine (bytes : List ℕ) (room : ℕ) : Type 0 where
+  pub no_end : HasNoEnd bytes
+  pub narrow : length bytes ≤ 131070
+  pub short : length bytes ≤ room
+
+-- What the bytes are that were taken to find the end of a line, where the text may have so many more bytes: the line
+-- and its LF; or, where there is no line, what came up to the byte that can't stand there, or up to the text's end.
+abbrev pub LineEnds : {T : Type 0} → Result T Stop → List ℕ → ℕ → List ℕ → Type 0
+LineEnds (Ok _) line room bytes = (bytes ≡ line ++ 10 ∷ []) × IsPartOfLine line room × (length line < room)
+LineEnds (Err (Text LineTooLong)) line room bytes = (byte : ℕ) × HasByteAt bytes 131070 byte × (byte ≢ 10) × (131070 < room)
+LineEnds (Err (Text TextTooLong)) line room bytes = (byte : ℕ) × HasByteAt bytes room byte × (room ≤ 131070)
+LineEnds (Err (Text Truncated)) line room bytes = IsPartOfLine bytes room
+LineEnds (Err Read) line room bytes = IsPartOfLine bytes room
+LineEnds (Err Memory) line room bytes = Unit {0}
+LineEnds (Err (Text _)) line room bytes = ⊥
+
+-- ---- lines, one after another
+
+-- what a source of lines holds: bytes read ahead, the line last read, and how many bytes and lines were read
+pub record LineState : Type 0 where
+  pub ahead : List ℕ
+  pub line : List ℕ
+  pub taken : ℕ
+  pub count : ℕ
+
+-- a whole line that says nothing
+pub record IsSkipped (line : List ℕ) : Type 0 where
+  pub nothing : says_nothing line ≡ true
+  pub no_end : HasNoEnd line
+  pub narrow : length line ≤ 131070
+
+-- lines that say nothing were taken, and then the bytes in which the next line that says something was looked for
+pub record ReachesLine {T : Type 0} (result : Result T Stop) (old new : LineState) (before after : Option (List ℕ)) : Type 0 where
+  pub skipped : List (List ℕ)
+  pub bytes : List ℕ
+  pub nothing : All IsSkipped skipped
+  pub consumed : Consumes before after (whole_lines skipped ++ bytes)
+  pub short : old.taken + length (whole_lines skipped) ≤ 2 ^ 40
+  pub ends : LineEnds result new.line (2 ^ 40 - (old.taken + length (whole_lines skipped))) bytes
+  pub said : OnOk result (says_nothing new.line ≡ false)
+  pub taken : OnOk result (new.taken ≡ old.taken + length (whole_lines skipped) + length bytes)
+  pub count : OnOk result (new.count ≡ old.count + length skipped + 1)
+  pub count_before : OnErr result (new.count ≡ old.count + length skipped)
+
+-- what the bytes are in which the end of the text was looked for
+abbrev pub TextEnds : {T : Type 0} → Result T Stop → ℕ → List ℕ → Type 0
+TextEnds (Ok _) size bytes = bytes ≡ []
+TextEnds (Err (Text TrailingText)) size bytes = (byte : ℕ) × (more : List ℕ) × (bytes ≡ byte ∷ more) × (size < 2 ^ 40)
+TextEnds (Err (Text TextTooLong)) size bytes = (byte : ℕ) × (more : List ℕ) × (bytes ≡ byte ∷ more) × (size ≡ 2 ^ 40)
+TextEnds (Err Read) size bytes = bytes ≡ []
+TextEnds (Err Memory) size bytes = ⊥
+TextEnds (Err (Text _)) size bytes = ⊥

@@ -1,0 +1,20 @@
+-- What a writer of captures holds, and for what header and datagrams it stands.
+use Rattle.std.specs.Prelude.{◌≡◌, ℕ, Bool, List, [], ◌∷◌, ◌++◌, length, map, Option}
+use Rattle.tftp_capture.specs.Tally.{Gathers}
+use Rattle.tftp_capture.specs.CaptureText.{Header, Datagram, head_line, end_line, service_line, datagram_line, whole_lines}
+
+-- what contracts see of a writer: bytes that wait to be written, the number of datagrams, and whether a write has failed
+pub record WriterState : Type 0 where
+  pub held : List ℕ
+  pub count : ℕ
+  pub failed : Bool
+
+-- the header's part of a text
+abbrev pub header_text : Header → List ℕ
+header_text header = whole_lines (head_line ∷ end_line header.named ∷ service_line header.service ∷ [])
+
+-- The writer stands for a header and datagrams: their text, but for its total, was added to what was there at the
+-- start, or waits to be.
+pub record HasWritten (start now : Option (List ℕ)) (writer : WriterState) (header : Header) (datagrams : List Datagram) : Type 0 where
+  pub text : Gathers start now [] writer.held (header_text header ++ whole_lines (map datagram_line datagrams))
+  pub count : writer.count ≡ length datagrams

@@ -1,0 +1,73 @@
+ghost use Rattle.std.specs.Prelude.{◌≡◌, ◌≤◌, [], length, drop, true, IfOk, OnOk, OnErr};
+ghost use Rattle.std.specs.Io.KnownBytes.{prepend_known, Keeps, IsAtEnd};
+
+use crate::tallied::Tallied;
+use std::io;
+use std::io::Read;
+use std::marker::Model;
+
+/// Bytes that were read ahead of their use, at most 4,096.
+#[derive(Drop)]
+pub struct Ahead {
+    buf: [u8; 4096],
+    start: usize,
+    end: usize,
+}
+
+impl Model for Ahead {
+    ghost use Rattle.std.specs.Prelude.{ℕ, List, take, drop, ◌≤◌};
+
+    ghost Value = { List ℕ };
+
+    ghost view = { λ a. drop a.start (take a.end a.buf) };
+
+    ghost invariant = { λ a. (a.start ≤ a.end) × (a.end ≤ 4096) };
+}
+
+impl Ahead {
+    /// Holds nothing yet.
+    pub fn new() -> Self
+        ensures { result ≡ [] }
+    {
+        Ahead {
+            buf: [0; 4096],
+            start: 0,
+            end: 0,
+        }
+    }
+
+    /// The bytes that are held.
+    #[inline]
+    pub fn as_slice(&self) -> &[u8]
+        ensures value { result.now ≡ self.now }
+        ensures few { length self.now ≤ 4096 }
+    {
+        &self.buf[self.start..self.end]
+    }
+
+    /// Lets the first `count` bytes go.
+    #[inline]
+    pub fn consume(&mut self, count: usize)
+        requires { count ≤ length self.old }
+        ensures value { self.new ≡ drop count self.old }
+        ensures few { length self.new ≤ 4096 }
+    {
+        self.start += count;
+    }
+
+    /// Reads once where nothing is held; then nothing is held only at the reader's end.
+    pub fn fill<R: Read>(&mut self, reader: &mut Tallied<R>) -> io::Result<()>
+        ensures few { length self.new ≤ 4096 }
+        ensures kept { Keeps (prepend_known self.old (R.remaining reader.old.0)) (prepend_known self.new (R.remaining reader.new.0)) }
+        ensures end { IfOk result (λ _. length self.new ≡ 0 → IsAtEnd (prepend_known self.new (R.remaining reader.new.0))) }
+        ensures ok { OnOk result (reader.new.1 ≡ reader.old.1) }
+        ensures err { OnErr result (reader.new.1 ≡ true) }
+    {
+        if self.start == self.end {
+            let count = reader.read(&mut self.buf)?;
+            self.start = 0;
+            self.end = count;
+        }
+        Ok(())
+    }
+}

@@ -1,0 +1,23 @@
+use tftp_packet::{Bytes, Dir, End};
+
+/// Whose capture it is.
+#[derive(Clone, Copy, Debug, PartialEq, Eq)]
+pub struct Header {
+    /// The end at which the datagrams were recorded.
+    pub named: End,
+    /// The port at which the server is asked, 1 to 65535 (69 by RFC 1350, section 4).
+    pub service: u16,
+}
+
+/// One datagram, as it passed the named end.
+#[derive(Debug, Drop)]
+pub struct Datagram {
+    /// Which way it went.
+    pub dir: Dir,
+    /// The named end's port, 1 to 65535.
+    pub local_port: u16,
+    /// The other end's port, 1 to 65535.
+    pub remote_port: u16,
+    /// What it carried, at most 65,527 bytes.
+    pub payload: Bytes,
+}

@@ -1,0 +1,154 @@
+ghost use Rattle.std.specs.Prelude.{◌≡◌, ◌≢◌, ◌∷◌, ℕ, List, [], codes, MatchOption};
+ghost use Rattle.tftp_capture.specs.CaptureText.{dir_word, end_line, service_line, pieces, IsPort, SpellsPort};
+ghost use Rattle.tftp_capture.specs.Fields.{BodyEnds, DatagramEnds, PayloadEnds, TotalEnds};
+
+use crate::datagram::Datagram;
+use crate::fault::TextFault;
+use crate::line::count_before;
+use crate::stop::Stop;
+use hex::FromHexError;
+use itoa::Buffer;
+use std::alloc::Global;
+use tftp_packet::{Bytes, Dir, End};
+
+/// The most bytes of a payload: the 65,535 that a UDP length counts, less the header's 8 (RFC 768).
+const LONGEST_PAYLOAD: usize = 65_527;
+
+/// The piece before the first space, and what stands after that space.
+#[inline]
+fn cut(text: &[u8]) -> Option<(&[u8], &[u8])>
+    ensures { MatchOption result (pieces text.now ≡ text.now ∷ []) (λ parts. pieces text.now ≡ parts.0.now ∷ pieces parts.1.now) }
+{
+    let at = count_before(text, b' ');
+    if at == text.len() {
+        return None;
+    }
+    Some((&text[..at], &text[at + 1..]))
+}
+
+/// The port that is spelled, 1 to 65535 without leading zeros.
+fn port(text: &[u8]) -> Option<u16>
+    ensures { MatchOption result ((port : ℕ) → SpellsPort text.now port → ⊥) (SpellsPort text.now) }
+{
+    let Ok(digits) = str::from_utf8(text) else {
+        return None;
+    };
+    let Ok(number) = digits.parse::<u16>() else {
+        return None;
+    };
+    let mut buffer = Buffer::new();
+    if number == 0 || buffer.format(number).as_bytes() != text {
+        return None;
+    }
+    Some(number)
+}
+
+/// The end that an `end` line names.
+pub fn end_of(line: &[u8]) -> Option<End>
+    ensures { MatchOption result ((named : _) → line.now ≢ end_line named) (λ named. line.now ≡ end_line named) }
+{
+    if line == b"end client".as_slice() {
+        Some(End::Client)
+    } else if line == b"end server".as_slice() {
+        Some(End::Server)
+    } else {
+        None
+    }
+}
+
+/// The port of a `service` line.
+pub fn service_of(line: &[u8]) -> Option<u16>
+    ensures { MatchOption result ((port : ℕ) → IsPort port → line.now ≢ service_line port) (λ port. IsPort port × (line.now ≡ service_line port)) }
+{
+    port(line.strip_prefix(b"service ")?)
+}
+
+/// The way that a word names.
+fn dir_of(word: &[u8]) -> Option<Dir>
+    ensures { MatchOption result ((dir : _) → word.now ≢ dir_word dir) (λ dir. word.now ≡ dir_word dir) }
+{
+    if word == b"in".as_slice() {
+        Some(Dir::In)
+    } else if word == b"out".as_slice() {
+        Some(Dir::Out)
+    } else {
+        None
+    }
+}
+
+/// The payload that is spelled.
+fn payload(alloc: Global, digits: &[u8]) -> Result<Bytes, Stop>
+    ensures { PayloadEnds result digits.now }
+{
+    if digits == b"-".as_slice() {
+        return Ok(Bytes::of(Vec::new(alloc)));
+    }
+    match hex::decode(alloc, digits) {
+        Ok(bytes) if bytes.is_empty() => Err(Stop::Text(TextFault::BadHex)),
+        Ok(bytes) if bytes.len() > LONGEST_PAYLOAD => Err(Stop::Text(TextFault::PayloadTooLong)),
+        Ok(bytes) => Ok(Bytes::of(bytes)),
+        Err(FromHexError::OutOfMemory) => Err(Stop::Memory),
+        Err(_) => Err(Stop::Text(TextFault::BadHex)),
+    }
+}
+
+/// The datagram that the fields after its first word spell.
+fn datagram(alloc: Global, dir: Dir, fields: &[u8]) -> Result<Datagram, Stop>
+    ensures { (line : List ℕ) (count : ℕ) → pieces line ≡ dir_word dir ∷ pieces fields.now → DatagramEnds result line count }
+{
+    let Some((local, rest)) = cut(fields) else {
+        return Err(Stop::Text(TextFault::BadLine));
+    };
+    let Some((remote, digits)) = cut(rest) else {
+        return Err(Stop::Text(TextFault::BadLine));
+    };
+    if cut(digits).is_some() {
+        return Err(Stop::Text(TextFault::BadLine));
+    }
+    let Some(local_port) = port(local) else {
+        return Err(Stop::Text(TextFault::BadPort));
+    };
+    let Some(remote_port) = port(remote) else {
+        return Err(Stop::Text(TextFault::BadPort));
+    };
+    let payload = payload(alloc, digits)?;
+    Ok(Datagram {
+        dir,
+        local_port,
+        remote_port,
+        payload,
+    })
+}
+
+/// Whether the number of a total line is the number of the datagrams.
+fn total(fields: &[u8], count: u64) -> Result<(), Stop>
+    ensures { (line : List ℕ) → pieces line ≡ codes "total" ∷ pieces fields.now → TotalEnds result line count }
+{
+    if cut(fields).is_some() {
+        return Err(Stop::Text(TextFault::BadLine));
+    }
+    let mut buffer = Buffer::new();
+    if buffer.format(count).as_bytes() == fields {
+        Ok(())
+    } else {
+        Err(Stop::Text(TextFault::TotalWrong))
+    }
+}
+
+/// What a line says where a datagram or the total is due: a datagram, or none for the total.
+pub fn body_line(alloc: Global, line: &[u8], count: u64) -> Result<Option<Datagram>, Stop>
+    ensures { BodyEnds result line.now count }
+{
+    let Some((word, fields)) = cut(line) else {
+        return Err(Stop::Text(TextFault::BadLine));
+    };
+    if let Some(dir) = dir_of(word) {
+        let datagram = datagram(alloc, dir, fields)?;
+        return Ok(Some(datagram));
+    }
+    if word != b"total".as_slice() {
+        return Err(Stop::Text(TextFault::BadLine));
+    }
+    total(fields, count)?;
+    Ok(None)
+}

@@ -1,0 +1,100 @@
+ghost use Rattle.std.specs.Prelude.{◌≡◌, ◌+◌, ◌≤◌, ◌++◌, [], length, true, false, All, flat_map, OnOk, OnErr};
+ghost use Rattle.std.specs.Io.KnownBytes.{Appends};
+ghost use Rattle.tftp_capture.specs.Tally.{AppendsPrefix, Gathers};
+
+use crate::fault::WriteFault;
+use crate::tallied::Tallied;
+use crate::whole::write_whole;
+use std::io::Write;
+use std::marker::Model;
+
+/// The most bytes that wait, and the most of one piece.
+pub const ROOM: usize = 4096;
+
+/// Bytes that wait to be written together, at most 4,096.
+#[derive(Drop)]
+pub struct Gathered {
+    buf: [u8; 4096],
+    len: usize,
+}
+
+impl Model for Gathered {
+    ghost use Rattle.std.specs.Prelude.{ℕ, List, take, ◌≤◌};
+
+    ghost Value = { List ℕ };
+
+    ghost view = { λ g. take g.len g.buf };
+
+    ghost invariant = { λ g. g.len ≤ 4096 };
+}
+
+impl Gathered {
+    /// Nothing waits yet.
+    pub fn new() -> Self
+        ensures { result ≡ [] }
+    {
+        Gathered {
+            buf: [0; 4096],
+            len: 0,
+        }
+    }
+
+    /// Adds a piece of at most 4,096 bytes; first writes what waits where there is no room for both.
+    pub fn add<W: Write>(&mut self, writer: &mut Tallied<W>, bytes: &[u8]) -> Result<(), WriteFault>
+        requires clean { writer.old.1 ≡ false }
+        requires fits { length bytes.now ≤ 4096 }
+        ensures ok { OnOk result (Gathers (W.contents writer.old.0) (W.contents writer.new.0) self.old self.new bytes.now) }
+        ensures clean { OnOk result (writer.new.1 ≡ false) }
+        ensures err { OnErr result (AppendsPrefix (W.contents writer.old.0) (W.contents writer.new.0) (self.old ++ bytes.now)) }
+        ensures failed { OnErr result (writer.new.1 ≡ true) }
+    {
+        if ROOM - self.len < bytes.len() {
+            self.write(writer)?;
+        }
+        self.push(bytes);
+        Ok(())
+    }
+
+    /// Adds pieces of at most 4,096 bytes, one after another.
+    pub fn add_all<W: Write>(
+        &mut self,
+        writer: &mut Tallied<W>,
+        pieces: &[&[u8]],
+    ) -> Result<(), WriteFault>
+        requires clean { writer.old.1 ≡ false }
+        requires fits { All (λ piece. length piece.now ≤ 4096) pieces.now }
+        ensures ok { OnOk result (Gathers (W.contents writer.old.0) (W.contents writer.new.0) self.old self.new (flat_map (λ piece. piece.now) pieces.now)) }
+        ensures clean { OnOk result (writer.new.1 ≡ false) }
+        ensures err { OnErr result (AppendsPrefix (W.contents writer.old.0) (W.contents writer.new.0) (self.old ++ flat_map (λ piece. piece.now) pieces.now)) }
+        ensures failed { OnErr result (writer.new.1 ≡ true) }
+    {
+        for piece in pieces {
+            self.add(writer, piece)?;
+        }
+        Ok(())
+    }
+
+    /// Writes what waits.
+    pub fn write<W: Write>(&mut self, writer: &mut Tallied<W>) -> Result<(), WriteFault>
+        requires clean { writer.old.1 ≡ false }
+        ensures ok { OnOk result (Appends (W.contents writer.old.0) (W.contents writer.new.0) self.old) }
+        ensures clean { OnOk result (writer.new.1 ≡ false) }
+        ensures err { OnErr result (AppendsPrefix (W.contents writer.old.0) (W.contents writer.new.0) self.old) }
+        ensures failed { OnErr result (writer.new.1 ≡ true) }
+        ensures empty { OnOk result (self.new ≡ []) }
+    {
+        write_whole(writer, &self.buf[..self.len])?;
+        self.len = 0;
+        Ok(())
+    }
+
+    /// Adds a piece for which there is room.
+    fn push(&mut self, bytes: &[u8])
+        requires { length self.old + length bytes.now ≤ 4096 }
+        ensures { self.new ≡ self.old ++ bytes.now }
+    {
+        let end = self.len + bytes.len();
+        self.buf[self.len..end].copy_from_slice(bytes);
+        self.len = end;
+    }
+}

@@ -1,0 +1,31 @@
+//! The capture text read and written, and readers and writers that remember whether they have failed.
+#![tactic(auto)]
+
+mod ahead;
+mod datagram;
+mod drip;
+mod fault;
+mod fields;
+mod gathered;
+mod laws;
+mod line;
+mod lines;
+mod reader;
+mod standing;
+mod stop;
+mod tallied;
+#[cfg(test)]
+mod tests;
+mod whole;
+mod writer;
+
+pub use datagram::{Datagram, Header};
+pub use drip::{DripReader, DripWriter};
+pub use fault::{CaptureFault, TextFault, WriteFault};
+pub use laws::{
+    canonical_text_is_read, fault_stays, text_has_one_reading, worked_text_is_canonical,
+};
+pub use reader::CaptureReader;
+pub use tallied::Tallied;
+pub use whole::write_whole;
+pub use writer::CaptureWriter;

@@ -1,0 +1,73 @@
+ghost use Rattle.std.specs.Prelude.{◌≡◌, ◌≢◌, ◌<◌, ◌≤◌, ℕ, List, All, true, length, take, slice_index, vec_len, OnOk};
+ghost use Rattle.std.specs.Io.KnownBytes.{prepend_known, Consumes, IsAtEnd};
+ghost use Rattle.tftp_capture.specs.Lines.{LineEnds};
+
+use crate::ahead::Ahead;
+use crate::fault::TextFault;
+use crate::stop::Stop;
+use crate::tallied::Tallied;
+use std::io::Read;
+
+/// The most bytes of a line, without its LF.
+pub const LONGEST_LINE: usize = 131_070;
+
+/// How many bytes stand before the first of that value, or before the end where there is none.
+#[inline]
+pub fn count_before(bytes: &[u8], value: u8) -> usize
+    ensures within { result ≤ length bytes.now }
+    ensures none_before { All (λ b. b ≢ value) (take result bytes.now) }
+    ensures here { result < length bytes.now → slice_index bytes.now result ≡ value }
+{
+    let found = bytes.iter().position(|byte| *byte == value);
+    found.unwrap_or(bytes.len())
+}
+
+/// Reads a line, without its LF; the text may have `room` more bytes.
+pub fn read_line<R: Read>(
+    ahead: &mut Ahead,
+    reader: &mut Tallied<R>,
+    line: &mut Vec<u8>,
+    room: u64,
+) -> Result<(), Stop>
+    ensures ends { (bytes : List ℕ) × Consumes (prepend_known ahead.old (R.remaining reader.old.0)) (prepend_known ahead.new (R.remaining reader.new.0)) bytes
+        × LineEnds result line.new.items room bytes }
+    ensures fits { OnOk result (length line.new.items < room) }
+    ensures few { length ahead.new ≤ 4096 }
+    ensures bounded { vec_len line.new ≤ 131070 }
+    ensures end { result ≡ Err (Stop.Text TextFault.Truncated) → IsAtEnd (prepend_known ahead.new (R.remaining reader.new.0)) }
+    ensures read { result ≡ Err Stop.Read → reader.new.1 ≡ true }
+    ensures tally { result ≢ Err Stop.Read → reader.new.1 ≡ reader.old.1 }
+{
+    line.clear();
+    'pieces: loop {
+        if ahead.fill(reader).is_err() {
+            return Err(Stop::Read);
+        }
+        let held = ahead.as_slice();
+        if held.is_empty() {
+            return Err(Stop::Text(TextFault::Truncated));
+        }
+        let count = count_before(held, b'\n');
+        let whole = count < held.len();
+        let length = line.len() + count;
+        let over = room < length as u64 || whole && room == length as u64;
+        if room <= LONGEST_LINE as u64 && over {
+            let all = held.len();
+            ahead.consume(all);
+            return Err(Stop::Text(TextFault::TextTooLong));
+        }
+        if length > LONGEST_LINE {
+            let all = held.len();
+            ahead.consume(all);
+            return Err(Stop::Text(TextFault::LineTooLong));
+        }
+        if line.extend_from_slice(&held[..count]).is_err() {
+            return Err(Stop::Memory);
+        }
+        if whole {
+            ahead.consume(count + 1);
+            return Ok(());
+        }
+        ahead.consume(count);
+    }
+}

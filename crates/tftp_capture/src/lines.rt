@@ -1,0 +1,139 @@
+ghost use Rattle.std.specs.Prelude.{◌≡◌, ◌≢◌, ◌+◌, ◌-◌, ◌^◌, ◌≤◌, ℕ, List, [], length, true, OnOk, OnErr};
+ghost use Rattle.std.specs.Io.KnownBytes.{prepend_known, Consumes, IsAtEnd};
+ghost use Rattle.tftp_capture.specs.Lines.{LineEnds, ReachesLine, TextEnds};
+ghost use Rattle.tftp_capture.specs.CaptureText.{says_nothing};
+
+use crate::ahead::Ahead;
+use crate::fault::TextFault;
+use crate::line::read_line;
+use crate::stop::Stop;
+use crate::tallied::Tallied;
+use std::alloc::Global;
+use std::io::Read;
+use std::marker::Model;
+
+/// The most bytes of a text.
+const LONGEST_TEXT: u64 = 1 << 40;
+
+/// The lines of a text, one after another: at most one line and the bytes read ahead are held.
+#[derive(Drop)]
+pub struct Lines {
+    ahead: Ahead,
+    line: Vec<u8>,
+    taken: u64,
+    count: u64,
+}
+
+impl Model for Lines {
+    ghost use Rattle.std.specs.Prelude.{◌^◌, ◌≤◌, length, vec_len};
+    ghost use Rattle.tftp_capture.specs.Lines.{LineState};
+
+    ghost Value = { LineState };
+
+    ghost view = { λ a. record { ahead = a.ahead; line = a.line.items; taken = a.taken; count = a.count } };
+
+    ghost invariant = { λ a. (vec_len a.line ≤ 131070) × (length a.ahead ≤ 4096) × (a.count ≤ a.taken) × (a.taken ≤ 2 ^ 40) };
+}
+
+/// Whether a line is empty or a comment.
+#[inline]
+fn is_skipped(line: &[u8]) -> bool
+    ensures { result ≡ says_nothing line.now }
+{
+    match line {
+        [] => true,
+        [first, ..] => *first == b'#',
+    }
+}
+
+impl Lines {
+    /// Nothing is read yet.
+    pub fn new(alloc: Global) -> Self
+        ensures { result ≡ record { ahead = []; line = []; taken = 0; count = 0 } }
+    {
+        Lines {
+            ahead: Ahead::new(),
+            line: Vec::new(alloc),
+            taken: 0,
+            count: 0,
+        }
+    }
+
+    /// The line last read, without its LF.
+    #[inline]
+    pub fn line(&self) -> &[u8]
+        ensures value { result.now ≡ self.now.line }
+        ensures narrow { length self.now.line ≤ 131070 }
+    {
+        self.line.as_slice()
+    }
+
+    /// How many lines were read.
+    #[inline]
+    pub fn count(&self) -> u64
+        ensures value { result ≡ self.now.count }
+        ensures few { self.now.count ≤ self.now.taken }
+        ensures short { self.now.taken ≤ 2 ^ 40 }
+    {
+        let _taken = self.taken;
+        self.count
+    }
+
+    /// Reads the next line.
+    pub fn next<R: Read>(&mut self, reader: &mut Tallied<R>) -> Result<(), Stop>
+        ensures ends { (bytes : List ℕ) × Consumes (prepend_known self.old.ahead (R.remaining reader.old.0)) (prepend_known self.new.ahead (R.remaining reader.new.0)) bytes
+            × LineEnds result self.new.line (2 ^ 40 - self.old.taken) bytes }
+        ensures taken { OnOk result (self.new.taken ≡ self.old.taken + length self.new.line + 1) }
+        ensures count { OnOk result (self.new.count ≡ self.old.count + 1) }
+        ensures same { OnErr result ((self.new.taken ≡ self.old.taken) × (self.new.count ≡ self.old.count)) }
+        ensures short { self.new.taken ≤ 2 ^ 40 }
+        ensures short_before { self.old.taken ≤ 2 ^ 40 }
+        ensures end { result ≡ Err (Stop.Text TextFault.Truncated) → IsAtEnd (prepend_known self.new.ahead (R.remaining reader.new.0)) }
+        ensures read { result ≡ Err Stop.Read → reader.new.1 ≡ true }
+        ensures tally { result ≢ Err Stop.Read → reader.new.1 ≡ reader.old.1 }
+    {
+        let room = LONGEST_TEXT - self.taken;
+        read_line(&mut self.ahead, reader, &mut self.line, room)?;
+        self.taken += self.line.len() as u64 + 1;
+        self.count += 1;
+        Ok(())
+    }
+
+    /// Reads on to the next line that says something.
+    pub fn next_said<R: Read>(&mut self, reader: &mut Tallied<R>) -> Result<(), Stop>
+        ensures reaches { ReachesLine result self.old self.new (prepend_known self.old.ahead (R.remaining reader.old.0)) (prepend_known self.new.ahead (R.remaining reader.new.0)) }
+        ensures end { result ≡ Err (Stop.Text TextFault.Truncated) → IsAtEnd (prepend_known self.new.ahead (R.remaining reader.new.0)) }
+        ensures read { result ≡ Err Stop.Read → reader.new.1 ≡ true }
+        ensures tally { result ≢ Err Stop.Read → reader.new.1 ≡ reader.old.1 }
+    {
+        'lines: loop {
+            self.next(reader)?;
+            if !is_skipped(self.line()) {
+                return Ok(());
+            }
+        }
+    }
+
+    /// Looks for the text's end after the line last read.
+    pub fn finish<R: Read>(&mut self, reader: &mut Tallied<R>) -> Result<(), Stop>
+        ensures ends { (bytes : List ℕ) × Consumes (prepend_known self.old.ahead (R.remaining reader.old.0)) (prepend_known self.new.ahead (R.remaining reader.new.0)) bytes
+            × TextEnds result self.old.taken bytes }
+        ensures same { (self.new.taken ≡ self.old.taken) × (self.new.count ≡ self.old.count) }
+        ensures end { OnOk result (IsAtEnd (prepend_known self.new.ahead (R.remaining reader.new.0))) }
+        ensures read { result ≡ Err Stop.Read → reader.new.1 ≡ true }
+        ensures tally { result ≢ Err Stop.Read → reader.new.1 ≡ reader.old.1 }
+    {
+        if self.ahead.fill(reader).is_err() {
+            return Err(Stop::Read);
+        }
+        let held = self.ahead.as_slice().len();
+        if held == 0 {
+            return Ok(());
+        }
+        self.ahead.consume(held);
+        if self.taken == LONGEST_TEXT {
+            return Err(Stop::Text(TextFault::TextTooLong));
+        }
+        Err(Stop::Text(TextFault::TrailingText))
+    }
+}

@@ -1,0 +1,178 @@
+ghost use Rattle.std.specs.Prelude.{◌≡◌, ◌≢◌, ◌+◌, ◌^◌, ◌<◌, ◌≤◌, ◌⊎◌, ℕ, List, [], length, true, false, IfOk, IfErr, IfSome, OnOk};
+ghost use Rattle.std.specs.Io.KnownBytes.{prepend_known, Consumes, IsAtEnd};
+ghost use Rattle.tftp_capture.specs.CaptureText.{Header as HeaderParts, Numbered};
+ghost use Rattle.tftp_capture.specs.Fields.{header_of};
+ghost use Rattle.tftp_capture.specs.History.{Answers, Continues, FailsToBegin, GoesOn, IsAtTextEnd, IsReadFault, IsReadStanding, KeepsAnswer, StandsFor, standing_after};
+
+use crate::datagram::{Datagram, Header};
+use crate::fault::{CaptureFault, TextFault};
+use crate::fields::{body_line, end_of, service_of};
+use crate::lines::Lines;
+use crate::standing::Standing;
+use crate::stop::Stop;
+use crate::tallied::Tallied;
+use std::alloc::Global;
+use std::io::Read;
+use std::marker::Model;
+
+/// A reader of a capture text: it holds one line of at most 131,070 bytes and at most 4,096 bytes
+/// read ahead.
+#[derive(Drop)]
+pub struct CaptureReader {
+    header: Header,
+    lines: Lines,
+    count: u64,
+    handed: u64,
+    standing: Standing,
+}
+
+impl Model for CaptureReader {
+    ghost use Rattle.std.specs.Prelude.{◌≤◌, ◌<◌, ◌^◌};
+    ghost use Rattle.tftp_capture.specs.Fields.{header_of};
+    ghost use Rattle.tftp_capture.specs.History.{ReaderState};
+
+    ghost Value = { ReaderState };
+
+    ghost view = { λ r. record { header = header_of r.header; lines = r.lines; count = r.count; handed = r.handed; standing = r.standing } };
+
+    ghost invariant = { λ r. (3 ≤ r.handed) × (r.handed ≤ r.lines.count) × (r.count < r.lines.count) × (r.handed ≤ 2 ^ 40) };
+}
+
+impl CaptureReader {
+    /// Reads the header: the first line, the end line and the service line.
+    pub fn begin<R: Read>(alloc: Global, reader: &mut Tallied<R>) -> Result<Self, CaptureFault>
+        requires clean { reader.old.1 ≡ false }
+        ensures ok { IfOk result (λ begun. (taken : List ℕ) × Consumes (R.remaining reader.old.0) (prepend_known begun.lines.ahead (R.remaining reader.new.0)) taken
+            × GoesOn begun.header begun.lines begun.count taken []) }
+        ensures open { IfOk result (λ begun. begun.standing ≡ Standing.Open) }
+        ensures line { IfOk result (λ begun. 3 ≤ begun.handed) }
+        ensures err { IfErr result (λ fault. FailsToBegin (R.remaining reader.old.0) (R.remaining reader.new.0) fault) }
+        ensures end { IfErr result (λ fault. IsAtTextEnd fault → IsAtEnd (R.remaining reader.new.0)) }
+        ensures read { IfErr result (λ fault. IsReadFault fault → reader.new.1 ≡ true) }
+        ensures tally { IfErr result (λ fault. (IsReadFault fault → ⊥) → reader.new.1 ≡ false) }
+        ensures clean { OnOk result (reader.new.1 ≡ false) }
+    {
+        let mut lines = Lines::new(alloc);
+        if let Err(stop) = lines.next(reader) {
+            return Err(stop.at(1));
+        }
+        if lines.line() != b"tftp-capture 1".as_slice() {
+            return Err(CaptureFault::Text(1, TextFault::BadHeader));
+        }
+        if let Err(stop) = lines.next_said(reader) {
+            return Err(stop.at(lines.count() + 1));
+        }
+        let Some(named) = end_of(lines.line()) else {
+            return Err(CaptureFault::Text(lines.count(), TextFault::BadEnd));
+        };
+        if let Err(stop) = lines.next_said(reader) {
+            return Err(stop.at(lines.count() + 1));
+        }
+        let handed = lines.count();
+        let Some(service) = service_of(lines.line()) else {
+            return Err(CaptureFault::Text(handed, TextFault::BadService));
+        };
+        Ok(CaptureReader {
+            header: Header { named, service },
+            lines,
+            count: 0,
+            handed,
+            standing: Standing::Open,
+        })
+    }
+
+    /// The next datagram; none, for good, once the text has ended without a fault. A fault is
+    /// answered for good.
+    pub fn next<R: Read>(
+        &mut self,
+        alloc: Global,
+        reader: &mut Tallied<R>,
+    ) -> Result<Option<Datagram>, CaptureFault>
+        requires told { IsReadStanding self.old.standing → reader.old.1 ≡ true }
+        ensures continues { (text : List ℕ) (datagrams : List Numbered) → StandsFor self.old text datagrams
+            → Continues self.old self.new (prepend_known self.old.lines.ahead (R.remaining reader.old.0)) (prepend_known self.new.lines.ahead (R.remaining reader.new.0)) result text datagrams }
+        ensures standing { self.new.standing ≡ standing_after result }
+        ensures kept { KeepsAnswer self.old.standing result }
+        ensures untouched { self.old.standing ≢ Standing.Open → (self.new ≡ self.old) × (reader.new ≡ reader.old) }
+        ensures end { self.old.standing ≡ Standing.Open → result ≡ Ok None → IsAtEnd (prepend_known self.new.lines.ahead (R.remaining reader.new.0)) }
+        ensures cut { self.old.standing ≡ Standing.Open → IfErr result (λ fault. IsAtTextEnd fault → IsAtEnd (prepend_known self.new.lines.ahead (R.remaining reader.new.0))) }
+        ensures read { IfErr result (λ fault. IsReadFault fault → reader.new.1 ≡ true) }
+        ensures tally { IfErr result (λ fault. IsReadFault fault) ⊎ (reader.new.1 ≡ reader.old.1) }
+        ensures told { IsReadStanding self.new.standing → reader.new.1 ≡ true }
+        ensures rises { IfOk result (λ answer. IfSome answer (λ _. self.old.handed < self.new.handed)) }
+        ensures line { self.new.handed ≤ 2 ^ 40 }
+        ensures fits { IfOk result (λ answer. IfSome answer (λ d. length d.payload ≤ 65527)) }
+        ensures header { self.new.header ≡ self.old.header }
+    {
+        match self.standing {
+            Standing::Open => {}
+            Standing::Over => return Ok(None),
+            Standing::Failed(fault) => return Err(fault),
+        }
+        match read_on(&mut self.lines, alloc, reader, self.count) {
+            Ok(Some(datagram)) => {
+                self.count += 1;
+                self.handed = self.lines.count();
+                Ok(Some(datagram))
+            }
+            Ok(None) => {
+                self.standing = Standing::Over;
+                Ok(None)
+            }
+            Err(fault) => {
+                self.standing = Standing::Failed(fault);
+                Err(fault)
+            }
+        }
+    }
+
+    /// The header.
+    pub fn header(&self) -> &Header
+        ensures { header_of result.now ≡ self.now.header }
+    {
+        &self.header
+    }
+
+    /// The number of the line last handed out, the first being 1; before a datagram that of the
+    /// service line.
+    pub fn line(&self) -> u64
+        ensures value { result ≡ self.now.handed }
+        ensures low { 3 ≤ result }
+        ensures high { result ≤ 2 ^ 40 }
+    {
+        self.handed
+    }
+}
+
+/// Reads to the next datagram, or over the total to the text's end, after `count` datagrams.
+fn read_on<R: Read>(
+    lines: &mut Lines,
+    alloc: Global,
+    reader: &mut Tallied<R>,
+    count: u64,
+) -> Result<Option<Datagram>, CaptureFault>
+    ensures answers { (header : HeaderParts) (text : List ℕ) (datagrams : List Numbered) → GoesOn header lines.old count text datagrams
+        → Answers (prepend_known lines.old.ahead (R.remaining reader.old.0)) (prepend_known lines.new.ahead (R.remaining reader.new.0)) result header lines.new count text datagrams }
+    ensures end { result ≡ Ok None → IsAtEnd (prepend_known lines.new.ahead (R.remaining reader.new.0)) }
+    ensures cut { IfErr result (λ fault. IsAtTextEnd fault → IsAtEnd (prepend_known lines.new.ahead (R.remaining reader.new.0))) }
+    ensures read { IfErr result (λ fault. IsReadFault fault → reader.new.1 ≡ true) }
+    ensures tally { IfErr result IsReadFault ⊎ (reader.new.1 ≡ reader.old.1) }
+    ensures rises { IfOk result (λ answer. IfSome answer (λ _. lines.old.count < lines.new.count)) }
+    ensures grows { lines.old.count ≤ lines.new.count }
+    ensures few { lines.new.count ≤ 2 ^ 40 }
+    ensures fits { IfOk result (λ answer. IfSome answer (λ d. length d.payload ≤ 65527)) }
+{
+    if let Err(stop) = lines.next_said(reader) {
+        let due = lines.count() + 1;
+        return Err(stop.at(due));
+    }
+    let line = lines.count();
+    match body_line(alloc, lines.line(), count) {
+        Ok(Some(datagram)) => Ok(Some(datagram)),
+        Ok(None) => match lines.finish(reader) {
+            Ok(()) => Ok(None),
+            Err(stop) => Err(stop.at(line + 1)),
+        },
+        Err(stop) => Err(stop.at(line)),
+    }
+}

@@ -1,0 +1,341 @@
+ghost use Rattle.std.specs.Prelude.{◌≡◌, false};
+
+use super::*;
+use std::io::Read;
+use std::test::Fail;
+use tftp_packet::{Dir, End};
+
+/// A read of the file `a`, which is `hi`, in one block (RFC 1350, sections 4 and 5).
+const READ: &[u8] =
+    b"tftp-capture 1\nend client\nservice 69\nout 40000 69 000161006f6374657400\nin 40000 41000 000300016869\nout 40000 41000 00040001\ntotal 3\n";
+
+/// What a whole text gives: the number of its datagrams and the sum of their lines, or the fault.
+fn outcome<R: Read>(rt: &HostRuntime, reader: &mut Tallied<R>) -> Result<(u64, u64), CaptureFault>
+    requires { reader.old.1 ≡ false }
+{
+    let mut capture = CaptureReader::begin(rt.alloc(), reader)?;
+    let mut count = 0u64;
+    let mut lines = 0u64;
+    for _ in 0..u64::MAX {
+        let Some(_) = capture.next(rt.alloc(), reader)? else {
+            return Ok((count, lines));
+        };
+        count = count.saturating_add(1);
+        lines = lines.saturating_add(capture.line());
+    }
+    Ok((count, lines))
+}
+
+/// Fails unless the text has that outcome, given whole and in pieces.
+fn gives(
+    rt: &HostRuntime,
+    text: &[u8],
+    wanted: Result<(u64, u64), CaptureFault>,
+) -> Result<(), Fail> {
+    for piece in [usize::MAX, 1, 7, 4096] {
+        let mut reader = Tallied::new(DripReader::new(text, piece, 0, None));
+        let found = outcome(rt, &mut reader);
+        if found != wanted || reader.failed() {
+            return Err(Fail::from((piece, found, wanted)));
+        }
+    }
+    Ok(())
+}
+
+/// The text with its line `number`, counted from 1, changed.
+fn changed(rt: &HostRuntime, number: usize, line: &[u8]) -> Result<Vec<u8>, Fail> {
+    let mut text = Vec::new(rt.alloc());
+    for (index, old) in READ.split(|byte| *byte == b'\n').enumerate() {
+        if index == 7 {
+            break;
+        }
+        text.extend_from_slice(if index + 1 == number { line } else { old })?;
+        text.push(b'\n')?;
+    }
+    Ok(text)
+}
+
+fn fails(rt: &HostRuntime, number: usize, line: &[u8], fault: TextFault) -> Result<(), Fail> {
+    let text = changed(rt, number, line)?;
+    gives(rt, &text, Err(CaptureFault::Text(number as u64, fault)))
+}
+
+#[test]
+fn a_read_is_read(rt: HostRuntime) -> Result<(), Fail> {
+    gives(&rt, READ, Ok((3, 15)))?;
+    let mut reader = Tallied::new(DripReader::new(READ, usize::MAX, 0, None));
+    let mut capture = CaptureReader::begin(rt.alloc(), &mut reader).map_err(|_| Fail::from(
+        "begin",
+    ))?;
+    assert_eq!(rt;
+        *capture.header(),
+        Header {
+            named: End::Client,
+            service: 69
+        }
+    );
+    assert_eq!(rt; capture.line(), 3);
+    Ok(())
+}
+
+#[test]
+fn each_fault_has_its_line(rt: HostRuntime) -> Result<(), Fail> {
+    fails(&rt, 1, b"tftp-capture 2", TextFault::BadHeader)?;
+    fails(&rt, 1, b"tftp-capture 1\r", TextFault::BadHeader)?;
+    fails(&rt, 2, b"end peer", TextFault::BadEnd)?;
+    fails(&rt, 2, b"total 3", TextFault::BadEnd)?;
+    fails(&rt, 3, b"service 0", TextFault::BadService)?;
+    fails(&rt, 3, b"service 069", TextFault::BadService)?;
+    fails(&rt, 3, b"service 69 ", TextFault::BadService)?;
+    fails(&rt, 4, b"out 40000  69 00", TextFault::BadLine)?;
+    fails(&rt, 4, b" ", TextFault::BadLine)?;
+    fails(&rt, 4, b"\r", TextFault::BadLine)?;
+    fails(&rt, 4, b"total", TextFault::BadLine)?;
+    fails(&rt, 4, b"total 3 ", TextFault::BadLine)?;
+    fails(&rt, 4, b"out 040000 69 00", TextFault::BadPort)?;
+    fails(&rt, 4, b"out 65536 69 00", TextFault::BadPort)?;
+    fails(&rt, 4, b"out 1 0 00", TextFault::BadPort)?;
+    fails(&rt, 4, b"out  69 00", TextFault::BadPort)?;
+    fails(&rt, 4, b"out 1 69 ", TextFault::BadHex)?;
+    fails(&rt, 4, b"out 40000 69 00016", TextFault::BadHex)?;
+    fails(&rt, 4, b"out 40000 69 0g", TextFault::BadHex)?;
+    fails(&rt, 7, b"total 4", TextFault::TotalWrong)?;
+    fails(&rt, 7, b"total 03", TextFault::TotalWrong)?;
+    fails(&rt, 7, b"total +3", TextFault::TotalWrong)?;
+    fails(&rt, 7, b"total ", TextFault::TotalWrong)?;
+    fails(&rt, 7, b"total x", TextFault::TotalWrong)
+}
+
+/// A line that begins so, and goes on with that many of one byte.
+fn long(rt: &HostRuntime, start: &[u8], byte: u8, count: usize) -> Result<Vec<u8>, Fail> {
+    let mut line = Vec::from_slice(rt.alloc(), start)?;
+    for _ in 0..count {
+        line.push(byte)?;
+    }
+    Ok(line)
+}
+
+#[test]
+fn long_lines_and_payloads(rt: HostRuntime) -> Result<(), Fail> {
+    fails(
+        &rt,
+        4,
+        &long(&rt, b"in 1 1 ", b'0', 131_056)?,
+        TextFault::PayloadTooLong,
+    )?;
+    fails(
+        &rt,
+        4,
+        &long(&rt, b"in 1 1 ", b'0', 131_055)?,
+        TextFault::BadHex,
+    )?;
+    fails(
+        &rt,
+        4,
+        &long(&rt, b"in 1 1 ", b'g', 131_056)?,
+        TextFault::BadHex,
+    )?;
+    gives(
+        &rt,
+        &changed(&rt, 4, &long(&rt, b"in 1 1 ", b'0', 131_054)?)?,
+        Ok((3, 15)),
+    )?;
+    fails(
+        &rt,
+        4,
+        &long(&rt, b"#", b'#', 131_070)?,
+        TextFault::LineTooLong,
+    )?;
+    gives(
+        &rt,
+        &changed(&rt, 3, &long(&rt, b"service 69\n#", b'#', 131_069)?)?,
+        Ok((3, 18)),
+    )?;
+    Ok(())
+}
+
+/// The text cut to that many bytes, and more after it.
+fn cut(rt: &HostRuntime, size: usize, more: &[u8]) -> Result<Vec<u8>, Fail> {
+    let mut text = Vec::from_slice(rt.alloc(), READ.get(..size).unwrap_or(READ))?;
+    text.extend_from_slice(more)?;
+    Ok(text)
+}
+
+#[test]
+fn texts_that_end_too_early_or_go_on(rt: HostRuntime) -> Result<(), Fail> {
+    let whole = READ.len();
+    gives(&rt, b"", Err(CaptureFault::Text(1, TextFault::Truncated)))?;
+    for left in [8, 1] {
+        let length = whole.saturating_sub(left);
+        gives(
+            &rt,
+            &cut(&rt, length, b"")?,
+            Err(CaptureFault::Text(7, TextFault::Truncated)),
+        )?;
+    }
+    for more in [b"#\n".as_slice(), b"\n", b"x"] {
+        gives(
+            &rt,
+            &cut(&rt, whole, more)?,
+            Err(CaptureFault::Text(8, TextFault::TrailingText)),
+        )?;
+    }
+    gives(
+        &rt,
+        &cut(&rt, whole, &long(&rt, b"", b'a', 131_071)?)?,
+        Err(CaptureFault::Text(8, TextFault::TrailingText)),
+    )?;
+    Ok(())
+}
+
+#[test]
+fn comments_and_empty_lines_are_no_datagrams(rt: HostRuntime) -> Result<(), Fail> {
+    gives(&rt, &changed(&rt, 3, b"service 69\n# x")?, Ok((3, 18)))?;
+    gives(
+        &rt,
+        &changed(&rt, 2, b"\n#\x00\xff\nend server")?,
+        Ok((3, 21)),
+    )?;
+    gives(&rt, &changed(&rt, 6, b"out 1 2 -\n\n")?, Ok((3, 15)))?;
+    gives(
+        &rt,
+        &changed(&rt, 5, b"in 40000 41000 000300016A6B")?,
+        Ok((3, 15)),
+    )?;
+    Ok(())
+}
+
+#[test]
+fn readers_that_never_end(rt: HostRuntime) {
+    let mut reader = Tallied::new(DripReader::new(b"", usize::MAX, 0, Some(b'a')));
+    assert_eq!(rt;
+        outcome(&rt, &mut reader),
+        Err(CaptureFault::Text(1, TextFault::LineTooLong))
+    );
+    let mut reader = Tallied::new(DripReader::new(b"tftp-capture 1\n", usize::MAX, 0, Some(b'#')));
+    assert_eq!(rt;
+        outcome(&rt, &mut reader),
+        Err(CaptureFault::Text(2, TextFault::LineTooLong))
+    );
+}
+
+/// How many LFs there are, and one more.
+fn line_after(bytes: &[u8]) -> u64 {
+    let mut line = 1u64;
+    for byte in bytes {
+        if *byte == b'\n' {
+            line = line.saturating_add(1);
+        }
+    }
+    line
+}
+
+#[test]
+fn each_read_fails_in_turn(rt: HostRuntime) {
+    for i in 0..=READ.len() {
+        let mut reader = Tallied::new(DripReader::new(READ, 1, i as u64 + 1, None));
+        let line = line_after(READ.get(..i).unwrap_or(READ));
+        assert_eq!(rt;
+            outcome(&rt, &mut reader),
+            Err(CaptureFault::Read(line)),
+            "read {i}"
+        );
+        assert!(rt; reader.failed());
+    }
+}
+
+#[test]
+fn faults_and_the_end_are_answered_for_good(rt: HostRuntime) -> Result<(), Fail> {
+    let mut reader = Tallied::new(DripReader::new(READ, 80, 2, None));
+    let mut capture = CaptureReader::begin(rt.alloc(), &mut reader).map_err(|_| Fail::from(
+        "begin",
+    ))?;
+    assert!(rt; matches!(capture.next(rt.alloc(), &mut reader), Ok(Some(_))));
+    for _ in 0..3 {
+        assert!(rt;
+            matches!(
+                capture.next(rt.alloc(), &mut reader),
+                Err(CaptureFault::Read(5))
+            )
+        );
+        assert_eq!(rt; capture.line(), 4);
+    }
+    let mut reader = Tallied::new(DripReader::new(READ, usize::MAX, 0, None));
+    let mut capture = CaptureReader::begin(rt.alloc(), &mut reader).map_err(|_| Fail::from(
+        "begin",
+    ))?;
+    for line in 4..7 {
+        assert!(rt; matches!(capture.next(rt.alloc(), &mut reader), Ok(Some(_))));
+        assert_eq!(rt; capture.line(), line);
+    }
+    for _ in 0..3 {
+        assert!(rt; matches!(capture.next(rt.alloc(), &mut reader), Ok(None)));
+    }
+    Ok(())
+}
+
+/// Writes the text of `READ`.
+fn write_read(writer: &mut Tallied<DripWriter>) -> Result<(), WriteFault>
+    requires { writer.old.1 ≡ false }
+{
+    let header = Header {
+        named: End::Client,
+        service: 69,
+    };
+    let mut capture = CaptureWriter::begin(writer, &header)?;
+    capture.put(writer, Dir::Out, 40_000, 69, b"\x00\x01a\x00octet\x00")?;
+    capture.put(writer, Dir::In, 40_000, 41_000, b"\x00\x03\x00\x01hi")?;
+    capture.put(writer, Dir::Out, 40_000, 41_000, b"\x00\x04\x00\x01")?;
+    capture.close(writer)
+}
+
+#[test]
+fn a_read_is_written(rt: HostRuntime) -> Result<(), Fail> {
+    for piece in [usize::MAX, 1, 5] {
+        let mut writer = Tallied::new(DripWriter::new(rt.alloc(), READ.len(), piece, 0, false)?);
+        assert_eq!(rt; write_read(&mut writer), Ok(()));
+        assert!(rt; !writer.failed());
+        assert_eq!(rt; writer.into_inner().taken(), READ);
+    }
+    Ok(())
+}
+
+#[test]
+fn each_write_fails_in_turn(rt: HostRuntime) -> Result<(), Fail> {
+    for i in 1..=READ.len() {
+        for none in [false, true] {
+            let drip = DripWriter::new(rt.alloc(), READ.len(), 1, i as u64, none)?;
+            let mut writer = Tallied::new(drip);
+            assert_eq!(rt; write_read(&mut writer), Err(WriteFault));
+            assert!(rt; writer.failed());
+            assert_eq!(rt;
+                writer.into_inner().taken(),
+                READ.get(..i - 1).unwrap_or(READ)
+            );
+        }
+    }
+    Ok(())
+}
+
+#[test]
+fn an_empty_and_the_longest_payload_are_written(rt: HostRuntime) -> Result<(), Fail> {
+    let header = Header {
+        named: End::Server,
+        service: 6969,
+    };
+    let payload = long(&rt, b"", b'\xab', 65_527)?;
+    if payload.len() != 65_527 {
+        return Err(Fail::from(payload.len()));
+    }
+    let mut writer = Tallied::new(DripWriter::new(rt.alloc(), 200_000, 1000, 0, false)?);
+    let mut capture = CaptureWriter::begin(&mut writer, &header)?;
+    capture.put(&mut writer, Dir::In, 1, 65_535, b"")?;
+    capture.put(&mut writer, Dir::Out, 65_535, 1, &payload)?;
+    capture.close(&mut writer)?;
+    let inner = writer.into_inner();
+    let start = b"tftp-capture 1\nend server\nservice 6969\nin 1 65535 -\nout 65535 1 ab";
+    assert!(rt; inner.taken().starts_with(start));
+    assert_eq!(rt; inner.taken().len(), start.len() + 2 * 65_526 + 9);
+    gives(&rt, inner.taken(), Ok((2, 9)))?;
+    Ok(())
+}

@@ -1,0 +1,239 @@
+ghost use Rattle.std.specs.Prelude.{◌≡◌, ◌+◌, ◌^◌, ◌<◌, ◌≤◌, ◌++◌, ◌∷◌, [], ℕ, List, Option, length, true, false, IfOk, IsErr, OnOk, OnErr};
+ghost use Rattle.std.specs.Io.KnownBytes.{Appends};
+ghost use Rattle.hex.specs.Hex.{encode_lower};
+ghost use Rattle.tftp_capture.specs.Tally.{AppendsPrefix, Gathers};
+ghost use Rattle.tftp_capture.specs.CaptureText.{datagram_line, payload_text, text_of, total_line, Datagram, Header as HeaderParts, IsPort};
+ghost use Rattle.tftp_capture.specs.Fields.{header_of};
+ghost use Rattle.tftp_capture.specs.Written.{header_text, HasWritten};
+
+use crate::datagram::Header;
+use crate::fault::WriteFault;
+use crate::gathered::Gathered;
+use crate::tallied::Tallied;
+use itoa::Buffer;
+use std::io::Write;
+use std::marker::Model;
+use tftp_packet::{Dir, End};
+
+/// The bytes whose hex is one piece.
+const BYTES_AT_ONCE: usize = 2048;
+
+/// A writer of a capture text in its canonical form: at most 4,096 bytes wait in it to be written.
+#[derive(Drop)]
+pub struct CaptureWriter {
+    gathered: Gathered,
+    count: u64,
+    failed: bool,
+}
+
+impl Model for CaptureWriter {
+    ghost use Rattle.tftp_capture.specs.Written.{WriterState};
+
+    ghost Value = { WriterState };
+
+    ghost view = { λ w. record { held = w.gathered; count = w.count; failed = w.failed } };
+}
+
+impl CaptureWriter {
+    /// Begins with the header; some of it may wait.
+    pub fn begin<W: Write>(writer: &mut Tallied<W>, header: &Header) -> Result<Self, WriteFault>
+        requires clean { writer.old.1 ≡ false }
+        requires service { IsPort header.now.service }
+        ensures ok { IfOk result (λ begun. HasWritten (W.contents writer.old.0) (W.contents writer.new.0) begun (header_of header.now) []) }
+        ensures fresh { IfOk result (λ begun. begun.failed ≡ false) }
+        ensures clean { OnOk result (writer.new.1 ≡ false) }
+        ensures err { OnErr result (AppendsPrefix (W.contents writer.old.0) (W.contents writer.new.0) (header_text (header_of header.now))) }
+        ensures failed { OnErr result (writer.new.1 ≡ true) }
+    {
+        let mut gathered = Gathered::new();
+        put_header(&mut gathered, writer, header)?;
+        Ok(CaptureWriter {
+            gathered,
+            count: 0,
+            failed: false,
+        })
+    }
+
+    /// Adds a datagram; some of it may wait. A fault is answered for good.
+    pub fn put<W: Write>(
+        &mut self,
+        writer: &mut Tallied<W>,
+        dir: Dir,
+        local: u16,
+        remote: u16,
+        payload: &[u8],
+    ) -> Result<(), WriteFault>
+        requires told { self.old.failed ≡ true → writer.old.1 ≡ true }
+        requires local { IsPort local }
+        requires remote { IsPort remote }
+        requires payload { length payload.now ≤ 65527 }
+        requires few { self.old.count < 2 ^ 40 }
+        ensures ok { OnOk result (Gathers (W.contents writer.old.0) (W.contents writer.new.0) self.old.held self.new.held
+            (datagram_line (record { dir = dir; local = local; remote = remote; payload = payload.now }) ++ 10 ∷ [])) }
+        ensures counted { OnOk result (self.new.count ≡ self.old.count + 1) }
+        ensures written { (start : Option (List ℕ)) (header : HeaderParts) (datagrams : List Datagram)
+            → HasWritten start (W.contents writer.old.0) self.old header datagrams
+            → OnOk result (HasWritten start (W.contents writer.new.0) self.new header (datagrams ++ record { dir = dir; local = local; remote = remote; payload = payload.now } ∷ [])) }
+        ensures clean { OnOk result ((self.new.failed ≡ false) × (writer.new.1 ≡ false)) }
+        ensures err { OnErr result (AppendsPrefix (W.contents writer.old.0) (W.contents writer.new.0)
+            (self.old.held ++ (datagram_line (record { dir = dir; local = local; remote = remote; payload = payload.now }) ++ 10 ∷ []))) }
+        ensures failed { OnErr result ((self.new.failed ≡ true) × (writer.new.1 ≡ true)) }
+        ensures told { self.new.failed ≡ true → writer.new.1 ≡ true }
+        ensures for_good { writer.old.1 ≡ true → IsErr result × (writer.new ≡ writer.old) }
+    {
+        if writer.failed() {
+            self.failed = true;
+            return Err(WriteFault);
+        }
+        if put_datagram(&mut self.gathered, writer, dir, local, remote, payload).is_err() {
+            self.failed = true;
+            return Err(WriteFault);
+        }
+        self.count += 1;
+        Ok(())
+    }
+
+    /// Ends with the total, and writes what waits.
+    pub fn close<W: Write>(self, writer: &mut Tallied<W>) -> Result<(), WriteFault>
+        requires told { self.failed ≡ true → writer.old.1 ≡ true }
+        ensures ok { OnOk result (Appends (W.contents writer.old.0) (W.contents writer.new.0) (self.held ++ (total_line self.count ++ 10 ∷ []))) }
+        ensures written { (start : Option (List ℕ)) (header : HeaderParts) (datagrams : List Datagram)
+            → HasWritten start (W.contents writer.old.0) self header datagrams
+            → OnOk result (Appends start (W.contents writer.new.0) (text_of header datagrams)) }
+        ensures clean { OnOk result (writer.new.1 ≡ false) }
+        ensures err { OnErr result (AppendsPrefix (W.contents writer.old.0) (W.contents writer.new.0) (self.held ++ (total_line self.count ++ 10 ∷ []))) }
+        ensures failed { OnErr result (writer.new.1 ≡ true) }
+        ensures for_good { writer.old.1 ≡ true → IsErr result × (writer.new ≡ writer.old) }
+    {
+        if writer.failed() {
+            return Err(WriteFault);
+        }
+        let CaptureWriter {
+            mut gathered,
+            count,
+            failed: _,
+        } = self;
+        put_total(&mut gathered, writer, count)?;
+        gathered.write(writer)
+    }
+}
+
+/// The lines of the header.
+fn put_header<W: Write>(
+    gathered: &mut Gathered,
+    writer: &mut Tallied<W>,
+    header: &Header,
+) -> Result<(), WriteFault>
+    requires clean { writer.old.1 ≡ false }
+    ensures ok { OnOk result (Gathers (W.contents writer.old.0) (W.contents writer.new.0) gathered.old gathered.new (header_text (header_of header.now))) }
+    ensures clean { OnOk result (writer.new.1 ≡ false) }
+    ensures err { OnErr result (AppendsPrefix (W.contents writer.old.0) (W.contents writer.new.0) (gathered.old ++ header_text (header_of header.now))) }
+    ensures failed { OnErr result (writer.new.1 ≡ true) }
+{
+    let mut buffer = Buffer::new();
+    let service = buffer.format(header.service).as_bytes();
+    let named = match header.named {
+        End::Client => b"client".as_slice(),
+        End::Server => b"server".as_slice(),
+    };
+    gathered.add_all(
+        writer,
+        &[
+            b"tftp-capture 1\nend ",
+            named,
+            b"\nservice ",
+            service,
+            b"\n",
+        ],
+    )
+}
+
+/// The line of a datagram.
+fn put_datagram<W: Write>(
+    gathered: &mut Gathered,
+    writer: &mut Tallied<W>,
+    dir: Dir,
+    local: u16,
+    remote: u16,
+    payload: &[u8],
+) -> Result<(), WriteFault>
+    requires clean { writer.old.1 ≡ false }
+    ensures ok { OnOk result (Gathers (W.contents writer.old.0) (W.contents writer.new.0) gathered.old gathered.new
+        (datagram_line (record { dir = dir; local = local; remote = remote; payload = payload.now }) ++ 10 ∷ [])) }
+    ensures clean { OnOk result (writer.new.1 ≡ false) }
+    ensures err { OnErr result (AppendsPrefix (W.contents writer.old.0) (W.contents writer.new.0)
+        (gathered.old ++ (datagram_line (record { dir = dir; local = local; remote = remote; payload = payload.now }) ++ 10 ∷ []))) }
+    ensures failed { OnErr result (writer.new.1 ≡ true) }
+{
+    let mut local_buffer = Buffer::new();
+    let mut remote_buffer = Buffer::new();
+    let local = local_buffer.format(local).as_bytes();
+    let remote = remote_buffer.format(remote).as_bytes();
+    let word = match dir {
+        Dir::In => b"in".as_slice(),
+        Dir::Out => b"out".as_slice(),
+    };
+    gathered.add_all(writer, &[word, b" ", local, b" ", remote, b" "])?;
+    put_payload(gathered, writer, payload)?;
+    gathered.add(writer, b"\n")
+}
+
+/// The line of the total.
+fn put_total<W: Write>(
+    gathered: &mut Gathered,
+    writer: &mut Tallied<W>,
+    count: u64,
+) -> Result<(), WriteFault>
+    requires clean { writer.old.1 ≡ false }
+    ensures ok { OnOk result (Gathers (W.contents writer.old.0) (W.contents writer.new.0) gathered.old gathered.new (total_line count ++ 10 ∷ [])) }
+    ensures clean { OnOk result (writer.new.1 ≡ false) }
+    ensures err { OnErr result (AppendsPrefix (W.contents writer.old.0) (W.contents writer.new.0) (gathered.old ++ (total_line count ++ 10 ∷ []))) }
+    ensures failed { OnErr result (writer.new.1 ≡ true) }
+{
+    let mut buffer = Buffer::new();
+    let number = buffer.format(count).as_bytes();
+    gathered.add_all(writer, &[b"total ", number, b"\n"])
+}
+
+/// The last field of a datagram's line.
+fn put_payload<W: Write>(
+    gathered: &mut Gathered,
+    writer: &mut Tallied<W>,
+    payload: &[u8],
+) -> Result<(), WriteFault>
+    requires clean { writer.old.1 ≡ false }
+    ensures ok { OnOk result (Gathers (W.contents writer.old.0) (W.contents writer.new.0) gathered.old gathered.new (payload_text payload.now)) }
+    ensures clean { OnOk result (writer.new.1 ≡ false) }
+    ensures err { OnErr result (AppendsPrefix (W.contents writer.old.0) (W.contents writer.new.0) (gathered.old ++ payload_text payload.now)) }
+    ensures failed { OnErr result (writer.new.1 ≡ true) }
+{
+    if payload.is_empty() {
+        return gathered.add(writer, b"-");
+    }
+    put_hex(gathered, writer, payload)
+}
+
+/// Two lower-case hex digits for each byte, in pieces.
+fn put_hex<W: Write>(
+    gathered: &mut Gathered,
+    writer: &mut Tallied<W>,
+    payload: &[u8],
+) -> Result<(), WriteFault>
+    requires clean { writer.old.1 ≡ false }
+    ensures ok { OnOk result (Gathers (W.contents writer.old.0) (W.contents writer.new.0) gathered.old gathered.new (encode_lower payload.now)) }
+    ensures clean { OnOk result (writer.new.1 ≡ false) }
+    ensures err { OnErr result (AppendsPrefix (W.contents writer.old.0) (W.contents writer.new.0) (gathered.old ++ encode_lower payload.now)) }
+    ensures failed { OnErr result (writer.new.1 ≡ true) }
+{
+    let mut digits = [0u8; 4096];
+    let mut done = 0;
+    while done < payload.len() {
+        let size = (payload.len() - done).min(BYTES_AT_ONCE);
+        let piece = &payload[done..done + size];
+        let text = &mut digits[..2 * size];
+        hex::encode_to_slice(piece, text).unwrap();
+        gathered.add(writer, text)?;
+        done += size;
+    }
+    Ok(())
+}

@@ -1,0 +1,12 @@
+pub mod Members
+pub mod Views
+pub mod Moments
+pub mod Blocks
+pub mod Defaults
+pub mod Worked
+pub mod Starts
+pub mod WorkedMore
+pub mod Wires
+pub mod Computed
+pub mod WorkedWindows
+pub mod Stores

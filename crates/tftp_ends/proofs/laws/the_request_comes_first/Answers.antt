@@ -1,0 +1,8 @@
+use Rattle.tftp_ends.proofs.Starts.{asked_first, only_requests_first}
+use Rattle.tftp_ends.proofs.laws.the_request_comes_first.Goals as goal
+
+pub returns-clause-server : goal.returns-clause-server
+returns-clause-server c = asked_first
+
+pub returns-clause-client : goal.returns-clause-client
+returns-clause-client c = only_requests_first

@@ -1,0 +1,12 @@
+pub mod Meaning
+pub mod Blocks
+pub mod CaptureText
+pub mod Roles
+pub mod Machines
+pub mod Runs
+pub mod Ports
+pub mod Rules
+pub mod Store
+pub mod Worked
+pub mod WorkedWindows
+pub mod WorkedStore

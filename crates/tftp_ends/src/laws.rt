@@ -1,0 +1,212 @@
+//! Laws of the definitions in `specs/`. Each is the contract of a function that does nothing.
+
+ghost use Rattle.std.specs.Prelude.{◌≡◌, ◌≢◌, ◌⊎◌, ◌↔◌, ℕ, ◌+◌, ◌-◌, ◌<◌, ◌≤◌, List, [], ◌∷◌, Some, codes};
+ghost use Rattle.std.specs.FinMap as map;
+ghost use Rattle.tftp_ends.specs.Store.{Held, IsHeldFront, Takes, Placing, Places};
+ghost use Rattle.tftp_ends.specs.WorkedStore.{first_held, first_and_fourth};
+ghost use Rattle.tftp_ends.specs.Meaning.{Meaning, SomethingAgreed, NothingAgreed, blksize_of, windowsize_of};
+ghost use Rattle.tftp_ends.specs.Blocks.{block, block_count};
+ghost use Rattle.tftp_ends.specs.Machines.{
+  MachinePacket,
+  Deed,
+  History,
+  HasSent,
+  HasTaken,
+  IsAcknowledged,
+  IsStarted,
+  MayAckZero,
+  sender_of,
+  receiver_of,
+  other_end,
+};
+ghost use Rattle.tftp_ends.specs.Runs.{
+  view_of,
+  IsRun,
+  InEachRun,
+  SenderSent,
+  SenderTook,
+  ReceiverSent,
+  ReceiverTook,
+  IsView,
+  IsComplete,
+};
+ghost use Rattle.tftp_ends.specs.Worked.{
+  two_bytes,
+  two_bytes_view,
+  two_bytes_server_view,
+  two_bytes_written,
+  two_bytes_written_view,
+  ten_bytes,
+  ten_bytes_view,
+};
+ghost use Rattle.tftp_ends.specs.WorkedWindows.{
+  six_blocks,
+  six_blocks_steps,
+  six_blocks_view,
+  six_blocks_server_view,
+  block_repeated,
+  block_repeated_view,
+  window_repeated,
+  window_repeated_view,
+};
+ghost use Rattle.tftp_packet.specs.declared.kinds.End.{End};
+ghost use Rattle.tftp_packet.specs.declared.kinds.End.TheVariants.{Client, Server};
+ghost use Rattle.tftp_packet.specs.declared.kinds.Side.TheVariants.{Get, Put};
+
+/// Five bytes are three blocks of two, the last of them short.
+pub fn five_bytes_are_three_blocks()
+    ensures count { block_count 2 (codes "abcde") ≡ 3 }
+    ensures first { block 2 (codes "abcde") 1 ≡ codes "ab" }
+    ensures second { block 2 (codes "abcde") 2 ≡ codes "cd" }
+    ensures last { block 2 (codes "abcde") 3 ≡ codes "e" }
+{}
+
+/// Four bytes are three blocks of two, the last of them empty.
+pub fn four_bytes_end_with_an_empty_block()
+    ensures count { block_count 2 (codes "abcd") ≡ 3 }
+    ensures last { block 2 (codes "abcd") 3 ≡ [] }
+{}
+
+/// The blocks of a wire determine it.
+pub fn blocks_make_the_wire()
+    ensures { (b : ℕ) (wire other : List ℕ) → 1 ≤ b → block_count b wire ≡ block_count b other
+        → ((k : ℕ) → 1 ≤ k → k ≤ block_count b wire → block b wire k ≡ block b other k) → wire ≡ other }
+{}
+
+/// A read of two bytes in lock step is a run of the two ends, and complete at each of them.
+pub fn two_bytes_are_a_run()
+    ensures client { IsView two_bytes two_bytes.file Client two_bytes_view }
+    ensures client_complete { IsComplete two_bytes two_bytes.file Client two_bytes_view }
+    ensures server { IsView two_bytes two_bytes.file Server two_bytes_server_view }
+    ensures server_complete { IsComplete two_bytes two_bytes.file Server two_bytes_server_view }
+{}
+
+/// So is a write of them, as its client sees it.
+pub fn two_bytes_written_are_a_run()
+    ensures view { IsView two_bytes_written two_bytes_written.file Client two_bytes_written_view }
+    ensures complete { IsComplete two_bytes_written two_bytes_written.file Client two_bytes_written_view }
+{}
+
+/// So is a read of ten bytes in two blocks of eight, as its client sees it, one datagram having been lost.
+pub fn ten_bytes_in_small_blocks_are_a_run()
+    ensures blocks { block_count (blksize_of ten_bytes) ten_bytes.file ≡ 2 }
+    ensures view { IsView ten_bytes ten_bytes.file Client ten_bytes_view }
+    ensures complete { IsComplete ten_bytes ten_bytes.file Client ten_bytes_view }
+{}
+
+/// So is a read of six blocks in a window of four, of which one came late and the next one twice. Both ends see the
+/// same run, and it is complete at each of them.
+pub fn window_out_of_order_is_a_run()
+    ensures blocks { block_count (blksize_of six_blocks) six_blocks.file ≡ 6 }
+    ensures run { IsRun six_blocks six_blocks.file six_blocks_steps }
+    ensures client { view_of Client six_blocks_steps ≡ six_blocks_view }
+    ensures client_complete { IsComplete six_blocks six_blocks.file Client six_blocks_view }
+    ensures server { view_of Server six_blocks_steps ≡ six_blocks_server_view }
+    ensures server_complete { IsComplete six_blocks six_blocks.file Server six_blocks_server_view }
+{}
+
+/// So is a write in lock step whose client sends a block again that was acknowledged.
+pub fn block_sent_again_is_a_run()
+    ensures view { IsView block_repeated block_repeated.file Client block_repeated_view }
+    ensures complete { IsComplete block_repeated block_repeated.file Client block_repeated_view }
+{}
+
+/// So is a write in a window of four whose client sends both blocks again, because an ACK 0 says that the first was
+/// lost.
+pub fn window_sent_again_is_a_run()
+    ensures view { IsView window_repeated window_repeated.file Client window_repeated_view }
+    ensures complete { IsComplete window_repeated window_repeated.file Client window_repeated_view }
+{}
+
+/// What an end had done before its last deed was a view too.
+pub fn each_earlier_view_is_a_view()
+    ensures { (m : Meaning) (wire : List ℕ) (e : End) (last : Deed) (earlier : History) → IsView m wire e (last ∷ earlier)
+        → IsView m wire e earlier }
+{}
+
+/// The network makes nothing up: what an end took, the other end sent.
+pub fn taken_was_sent()
+    ensures { InEachRun (λ m wire steps. (e : End) (p : MachinePacket) → HasTaken (view_of e steps) p
+        → HasSent (view_of (other_end e) steps) p) }
+{}
+
+/// Blocks are the sender's, and those that it has sent are the blocks of the wire up to some number.
+pub fn blocks_are_sent_in_order()
+    ensures sender { InEachRun (λ m wire steps. (e : End) (k : ℕ) → HasSent (view_of e steps) (MachinePacket.Data k)
+        → (e ≡ sender_of m.side) × (k ≤ block_count (blksize_of m) wire)) }
+    ensures up_to { InEachRun (λ m wire steps. (top : ℕ)
+        × ((k : ℕ) → SenderSent m steps (MachinePacket.Data k) ↔ ((1 ≤ k) × (k ≤ top)))) }
+{}
+
+/// Each block that was sent is at most a window above an acknowledgement that the sender took, and so the receiver
+/// sent, or above the start. In lock step it is the next one.
+pub fn blocks_keep_to_the_window()
+    ensures taken { InEachRun (λ m wire steps. (k : ℕ) → SenderSent m steps (MachinePacket.Data k)
+        → (a : ℕ) × IsAcknowledged (view_of (sender_of m.side) steps) a × (a < k) × (k ≤ a + windowsize_of m)) }
+    ensures given { InEachRun (λ m wire steps. (k : ℕ) → SenderSent m steps (MachinePacket.Data k)
+        → (a : ℕ) × ((a ≡ 0) ⊎ ReceiverSent m steps (MachinePacket.Ack a)) × (a < k) × (k ≤ a + windowsize_of m)) }
+    ensures in_step { InEachRun (λ m wire steps. (k : ℕ) → windowsize_of m ≡ 1
+        → SenderSent m steps (MachinePacket.Data k) → IsAcknowledged (view_of (sender_of m.side) steps) (k - 1)) }
+{}
+
+/// Acknowledgements are the receiver's. One of block j says that it took the blocks 1 to j, and so that the sender
+/// sent them.
+pub fn acknowledged_blocks_were_taken()
+    ensures receiver { InEachRun (λ m wire steps. (e : End) (j : ℕ)
+        → HasSent (view_of e steps) (MachinePacket.Ack j) → e ≡ receiver_of m.side) }
+    ensures taken { InEachRun (λ m wire steps. (j k : ℕ) → ReceiverSent m steps (MachinePacket.Ack j)
+        → 1 ≤ k → k ≤ j → ReceiverTook m steps (MachinePacket.Data k)) }
+    ensures sent { InEachRun (λ m wire steps. (j k : ℕ) → ReceiverSent m steps (MachinePacket.Ack j)
+        → 1 ≤ k → k ≤ j → SenderSent m steps (MachinePacket.Data k)) }
+{}
+
+/// An OACK is the server's, after a request, where something is agreed. The first block waits for what starts the
+/// sender, and ACK 0 for what it answers.
+pub fn answers_come_after_what_they_answer()
+    ensures oack { InEachRun (λ m wire steps. (e : End) → HasSent (view_of e steps) MachinePacket.Oack
+        → (e ≡ Server) × SomethingAgreed m × HasTaken (view_of e steps) MachinePacket.Req) }
+    ensures data { InEachRun (λ m wire steps. (k : ℕ) → SenderSent m steps (MachinePacket.Data k)
+        → IsStarted m (view_of (sender_of m.side) steps)) }
+    ensures ack_zero { InEachRun (λ m wire steps. ReceiverSent m steps (MachinePacket.Ack 0)
+        → MayAckZero m (view_of (receiver_of m.side) steps)) }
+{}
+
+/// Where options are agreed a block tells of the whole exchange before it: on a read of the OACK and the ACK 0 that
+/// answers it, on a write of the OACK.
+pub fn blocks_follow_the_agreement()
+    ensures read { InEachRun (λ m wire steps. (k : ℕ) → m.side ≡ Get → SomethingAgreed m
+        → SenderSent m steps (MachinePacket.Data k)
+        → ReceiverSent m steps (MachinePacket.Ack 0) × ReceiverTook m steps MachinePacket.Oack) }
+    ensures write { InEachRun (λ m wire steps. (k : ℕ) → m.side ≡ Put → SomethingAgreed m
+        → SenderSent m steps (MachinePacket.Data k) → SenderTook m steps MachinePacket.Oack) }
+    ensures plain_write { InEachRun (λ m wire steps. (k : ℕ) → m.side ≡ Put → NothingAgreed m
+        → SenderSent m steps (MachinePacket.Data k) → SenderTook m steps (MachinePacket.Ack 0)) }
+{}
+
+/// Nothing goes before the request, and the client sends nothing else before something has come.
+pub fn the_request_comes_first()
+    ensures server { InEachRun (λ m wire steps. (p : MachinePacket) → HasSent (view_of Server steps) p
+        → HasSent (view_of Client steps) MachinePacket.Req) }
+    ensures client { InEachRun (λ m wire steps. (p : MachinePacket) → HasSent (view_of Client steps) p
+        → (p ≡ MachinePacket.Req) ⊎ ((q : MachinePacket) × HasTaken (view_of Client steps) q)) }
+{}
+
+/// A block that is handed over is held then, unless other bytes are, and the other blocks are as before.
+pub fn placed_blocks_are_held()
+    ensures held { (old new : Held) (k : ℕ) (bytes : List ℕ) (placing : Placing) → Places old new k bytes placing
+        → placing ≢ Placing.Differs → map.get new k ≡ Some bytes }
+    ensures others { (old new : Held) (k : ℕ) (bytes : List ℕ) (placing : Placing) → Places old new k bytes placing
+        → (other : ℕ) → other ≢ k → map.get new other ≡ map.get old other }
+{}
+
+/// Blocks of eight bytes in a window of four, where the first is held, and then the fourth: the front is 1, so the
+/// fifth may come and the sixth may not; and the third is not the last.
+pub fn two_held_blocks()
+    ensures new { Places first_held first_and_fourth 4 (codes "44444444") Placing.New }
+    ensures same { Places first_held first_held 1 (codes "11111111") Placing.Same }
+    ensures differs { Places first_held first_held 1 (codes "11111112") Placing.Differs }
+    ensures front { IsHeldFront first_and_fourth 1 }
+    ensures fifth { Takes 8 4 first_and_fourth 5 8 }
+    ensures sixth { Takes 8 4 first_and_fourth 6 8 → ⊥ }
+    ensures short_third { Takes 8 4 first_and_fourth 3 7 → ⊥ }
+{}

@@ -1,0 +1,13 @@
+pub mod CaptureText
+pub mod Sides
+pub mod Netascii
+pub mod Agreement
+pub mod Fits
+pub mod Dress
+pub mod Law
+pub mod Rules
+pub mod OneEnded
+pub mod Verdict
+pub mod Worked
+pub mod WorkedWindows
+pub mod WorkedRules

@@ -1,0 +1,41 @@
+-- What there is to say of the datagrams of a capture, the oldest first. Lawful and shown are stated apart: by the runs
+-- of two ends, or by the rules at the named end.
+use Rattle.std.specs.Prelude.{◌≡◌, ℕ, ◌+◌, List, [], ◌∷◌, ◌++◌, length, reverse}
+use Rattle.tftp_ends.specs.CaptureText.{Datagram, Header}
+use Rattle.tftp_ends.specs.Meaning.{Meaning}
+use Rattle.tftp_judge.specs.Fits.{IsWritable}
+use Rattle.tftp_judge.specs.Law.{IsLawful, ShowsBy}
+use Rattle.tftp_judge.specs.Rules.{Rule, FirstBroken}
+use Rattle.tftp_judge.specs.OneEnded.{OneEnded, Meant}
+
+pub data Verdict : Type 0 where
+  Accepted : (meaning : Meaning) → Verdict
+  Unlawful : (index : ℕ) (rule : Rule) → Verdict
+  Incomplete : (count : ℕ) → Verdict
+  NormalTooLong : Verdict
+
+-- The datagrams before the one with this index, from 1, are lawful, and with it they are not. It breaks this rule and
+-- none before it in the order.
+pub record IsUnlawfulAt (Lawful : List Datagram → Type 0) (header : Header) (datagrams : List Datagram) (index : ℕ) (rule : Rule) : Type 0 where
+  pub before : List Datagram
+  pub datagram : Datagram
+  pub rest : List Datagram
+  pub split : datagrams ≡ before ++ datagram ∷ rest
+  pub index_is : index ≡ length before + 1
+  pub lawful : Lawful before
+  pub unlawful : Lawful (before ++ datagram ∷ []) → ⊥
+  pub broken : FirstBroken header (reverse before) datagram rule
+
+abbrev pub IsVerdictBy : (List Datagram → Type 0) → (Meaning → List Datagram → Type 0) → Header → List Datagram → Verdict → Type 0
+IsVerdictBy Lawful Shown header datagrams (Accepted m) = Lawful datagrams × Shown m datagrams × IsWritable m
+IsVerdictBy Lawful Shown header datagrams (Unlawful index rule) = IsUnlawfulAt Lawful header datagrams index rule
+IsVerdictBy Lawful Shown header datagrams (Incomplete count) = Lawful datagrams × ((m : Meaning) → Shown m datagrams → ⊥) × (count ≡ length datagrams)
+IsVerdictBy Lawful Shown header datagrams NormalTooLong = Lawful datagrams × ((m : Meaning) × Shown m datagrams) × ((m : Meaning) → Shown m datagrams → IsWritable m → ⊥)
+
+-- the verdict by the runs of two ends
+abbrev pub IsVerdict : Header → List Datagram → Verdict → Type 0
+IsVerdict header = IsVerdictBy (IsLawful header) (λ m datagrams. (wire : List ℕ) × ShowsBy header m wire datagrams) header
+
+-- the verdict by the rules
+abbrev pub IsVerdictByRules : Header → List Datagram → Verdict → Type 0
+IsVerdictByRules header = IsVerdictBy (λ datagrams. OneEnded header (reverse datagrams)) (λ m datagrams. Meant header (reverse datagrams) m) header

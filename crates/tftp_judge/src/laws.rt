@@ -1,0 +1,39 @@
+//! Laws of the definitions in `specs/`. Each is the contract of a function that does nothing.
+
+ghost use Rattle.std.specs.Prelude.{◌≡◌, ◌≢◌, List, ◌∷◌};
+ghost use Rattle.tftp_packet.specs.OptionMap.{OptionMap, no_options};
+ghost use Rattle.tftp_packet.specs.Message.{RequestParts};
+ghost use Rattle.tftp_ends.specs.CaptureText.{Datagram, Header};
+ghost use Rattle.tftp_judge.specs.Agreement.{MayAgree, AgreementFault, HasFault, IsFirstFault};
+ghost use Rattle.tftp_judge.specs.Rules.{Rule, number_of, FirstBroken};
+ghost use Rattle.tftp_judge.specs.OneEnded.{OneEnded, IsRefused};
+
+/// Options that may be agreed have none of the faults of an OACK, where there are any (RFC 2347).
+pub fn agreed_options_have_no_fault()
+    ensures { (request : RequestParts) (oack : OptionMap) → MayAgree request oack → oack ≢ no_options
+        → (fault : AgreementFault) → HasFault request oack fault → ⊥ }
+{}
+
+/// And options without a fault may be agreed.
+pub fn options_without_fault_may_be_agreed()
+    ensures { (request : RequestParts) (oack : OptionMap) → ((fault : AgreementFault) → HasFault request oack fault → ⊥)
+        → MayAgree request oack }
+{}
+
+/// An OACK has at most one first fault.
+pub fn first_oack_fault_is_one()
+    ensures { (request : RequestParts) (oack : OptionMap) (f g : AgreementFault) → IsFirstFault request oack f
+        → IsFirstFault request oack g → f ≡ g }
+{}
+
+/// A datagram has at most one first rule that it breaks, by the rule's number.
+pub fn first_broken_rule_is_one()
+    ensures { (header : Header) (earlier : List Datagram) (d : Datagram) (r q : Rule) → FirstBroken header earlier d r
+        → FirstBroken header earlier d q → number_of r ≡ number_of q }
+{}
+
+/// A datagram that is refused does not pass after those before it.
+pub fn refused_does_not_pass()
+    ensures { (header : Header) (earlier : List Datagram) (d : Datagram) (rule : Rule) → IsRefused header earlier d rule
+        → OneEnded header (d ∷ earlier) → ⊥ }
+{}

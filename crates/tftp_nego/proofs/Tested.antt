@@ -1,0 +1,214 @@
+-- From the tests of an OACK, one by one, to its agreement or its first fault.
+use Rattle.std.proofs.Common.{Bool, true, false, cond, ◌≡◌, ◌≢◌, ◌⊎◌, inl, inr, ℕ, ◌+◌, ◌/◌, ◌<◌, ◌≤◌, List, [], ◌∷◌, get_or, Option, Some, None, refl, sym, ap, subst, ◌∙◌, arith}
+use Rattle.std.specs.Prelude.{codes, bytes_eq}
+use Rattle.std.proofs.lemmas.Slice.Eq.{bytes_eq-Decides}
+use Rattle.std.specs.FinMap as map
+use Rattle.std.proofs.lemmas.Bool.{cases_lt}
+use Rattle.tftp_packet.specs.OptionMap.{OptionMap, OptionValue, Num, Text, no_options, lower, value_of}
+use Rattle.tftp_packet.specs.Message.{RequestParts}
+use Rattle.tftp_packet.specs.Written.{Pair, map_of, AreApart}
+use Rattle.tftp_packet.specs.declared.kinds.Side.{Side}
+use Rattle.tftp_packet.specs.declared.kinds.Side.TheVariants.{Get, Put}
+use Rattle.tftp_nego.specs.declared.fault.NegoFault.{NegoFault}
+use Rattle.tftp_nego.specs.declared.fault.NegoFault.TheVariants as fault
+use Rattle.tftp_nego.specs.Agreement.{MayAnswer, MayAgree}
+use Rattle.tftp_nego.specs.Faults.{Holds, FirstFault, HasOption, IsOutsideProfile, IsWrongNumber, IsWrongValue}
+use Rattle.tftp_nego.specs.Agreed.{EachName, SomeName, IsInProfile, IsAnswered, IsUnanswered, AreNot, IsLowered, IsKept, IsSize, AllAnswered, SomeUnanswered, FitsNumbers}
+use Rattle.tftp_nego.proofs.OptionMaps.{text_of_value, each_in_map, some_in_map, has_not_empty, some_not_empty}
+use Rattle.tftp_nego.proofs.FaultOrder.{first_MulticastAgreed, first_OptionNotRequested, first_OptionOutsideProfile, first_OptionValue, first_BeyondBlock65535}
+
+-- the options that may be agreed differ in their third letters
+third : List ℕ → ℕ
+third name = get_or name 2 0
+
+blksize_third : (name : List ℕ) → name ≡ codes "blksize" → third name ≡ 107
+unfolding third
+blksize_third name e = ap third e
+
+windowsize_third : (name : List ℕ) → name ≡ codes "windowsize" → third name ≡ 110
+unfolding third
+windowsize_third name e = ap third e
+
+timeout_third : (name : List ℕ) → name ≡ codes "timeout" → third name ≡ 109
+unfolding third
+timeout_third name e = ap third e
+
+tsize_third : (name : List ℕ) → name ≡ codes "tsize" → third name ≡ 105
+unfolding third
+tsize_third name e = ap third e
+
+-- ---- a number that may answer is not wrong
+may_not_wrong : (side : Side) (name : List ℕ) (n a : ℕ) → MayAnswer side name n a → IsWrongNumber side name n a → ⊥
+may_not_wrong side name n a (inl (p, may)) (inl (q, wrong)) = omega arith
+may_not_wrong side name n a (inl (p, may)) (inr (inl (q, wrong))) = omega (arith, blksize_third name p, windowsize_third name q)
+may_not_wrong side name n a (inl (p, may)) (inr (inr (inl (q, wrong)))) = omega (arith, blksize_third name p, timeout_third name q)
+may_not_wrong side name n a (inl (p, may)) (inr (inr (inr (q, put, wrong)))) = omega (arith, blksize_third name p, tsize_third name q)
+may_not_wrong side name n a (inr (inl (p, may))) (inl (q, wrong)) = omega (arith, windowsize_third name p, blksize_third name q)
+may_not_wrong side name n a (inr (inl (p, may))) (inr (inl (q, wrong))) = omega arith
+may_not_wrong side name n a (inr (inl (p, may))) (inr (inr (inl (q, wrong)))) = omega (arith, windowsize_third name p, timeout_third name q)
+may_not_wrong side name n a (inr (inl (p, may))) (inr (inr (inr (q, put, wrong)))) = omega (arith, windowsize_third name p, tsize_third name q)
+may_not_wrong side name n a (inr (inr (inl (p, may)))) (inl (q, wrong)) = omega (arith, timeout_third name p, blksize_third name q)
+may_not_wrong side name n a (inr (inr (inl (p, may)))) (inr (inl (q, wrong))) = omega (arith, timeout_third name p, windowsize_third name q)
+may_not_wrong side name n a (inr (inr (inl (p, may)))) (inr (inr (inl (q, wrong)))) = wrong may
+may_not_wrong side name n a (inr (inr (inl (p, may)))) (inr (inr (inr (q, put, wrong)))) = omega (arith, timeout_third name p, tsize_third name q)
+may_not_wrong side name n a (inr (inr (inr (p, may)))) (inl (q, wrong)) = omega (arith, tsize_third name p, blksize_third name q)
+may_not_wrong side name n a (inr (inr (inr (p, may)))) (inr (inl (q, wrong))) = omega (arith, tsize_third name p, windowsize_third name q)
+may_not_wrong side name n a (inr (inr (inr (p, may)))) (inr (inr (inl (q, wrong)))) = omega (arith, tsize_third name p, timeout_third name q)
+may_not_wrong side name n a (inr (inr (inr (p, may)))) (inr (inr (inr (q, put, wrong)))) = wrong (may put)
+
+may_in_profile : (side : Side) (name : List ℕ) (n a : ℕ) → MayAnswer side name n a → IsOutsideProfile name → ⊥
+may_in_profile side name n a (inl (p, may)) outside = outside.0 p
+may_in_profile side name n a (inr (inl (p, may))) outside = outside.3 p
+may_in_profile side name n a (inr (inr (inl (p, may)))) outside = outside.1 p
+may_in_profile side name n a (inr (inr (inr (p, may)))) outside = outside.2 p
+
+may_no_multicast : (side : Side) (n a : ℕ) → MayAnswer side (codes "multicast") n a → ⊥
+may_no_multicast side n a may = may_in_profile side (codes "multicast") n a may (
+  (λ e. cc),
+  (λ e. cc),
+  (λ e. cc),
+  (λ e. cc),
+)
+
+-- ---- each option was asked for and may be given
+abbrev pub AllAsked : RequestParts → OptionMap → Type 0
+AllAsked request agreed = (name : List ℕ) (value : OptionValue) → map.get agreed name ≡ Some value
+    → (asked given : ℕ) × (map.get request.options name ≡ Some (Num asked)) × (value ≡ Num given) × MayAnswer request.side name asked given
+
+answer_at : (May : ℕ → ℕ → Type 0) (asked given : OptionMap) (side : Side) (key name : List ℕ) (value : OptionValue) → ((n a : ℕ) → May n a → MayAnswer side name n a)
+    → IsAnswered May asked given key → name ≡ key → map.get given name ≡ Some value → (n a : ℕ) × (map.get asked name ≡ Some (Num n)) × (value ≡ Num a) × MayAnswer side name n a
+answer_at May asked given side key name value so answered e has =
+    let (n, a, had, is, may) = subst (λ k. IsAnswered May asked given k) (sym e) answered value has in (n, a, had, is, so n a may)
+
+pub all_asked : (request : RequestParts) (pairs : List Pair) → EachName IsInProfile pairs → AllAnswered request (map_of pairs) → AllAsked request (map_of pairs)
+all_asked request pairs known all name value has = elim (each_in_map IsInProfile pairs known name (value, has)) [
+  | inl e ↦ answer_at IsLowered request.options (map_of pairs) request.side (codes "blksize") name value (λ n a may. inl (e, may)) all.0 e has
+  | inr (inl e) ↦ answer_at IsKept request.options (map_of pairs) request.side (codes "timeout") name value (λ n a may. inr (inr (inl (e, may)))) all.1 e has
+  | inr (inr (inl e)) ↦ answer_at (IsSize request.side) request.options (map_of pairs) request.side (codes "tsize") name value (λ n a may. inr (inr (inr (e, may)))) all.3 e has
+  | inr (inr (inr e)) ↦ answer_at IsLowered request.options (map_of pairs) request.side (codes "windowsize") name value (λ n a may. inr (inl (e, may))) all.2 e has
+]
+
+pub may_agree : (request : RequestParts) (agreed : OptionMap) → AllAsked request agreed → FitsNumbers request agreed → MayAgree request agreed
+may_agree request agreed all fits = record { asked = all; size = fits }
+
+-- ---- what each test excludes
+pub all_requested_no_fault : (request : RequestParts) (pairs : List Pair) → EachName (HasOption request.options) pairs → Holds fault.OptionNotRequested request (map_of pairs) → ⊥
+all_requested_no_fault request pairs each (name, has, none) =
+    let (value, found) = each_in_map (HasOption request.options) pairs each name has in
+    let same : None ≡ Some value = sym none ∙ found in cc
+
+known_not_outside : (name : List ℕ) → IsInProfile name → IsOutsideProfile name → ⊥
+known_not_outside name (inl e) outside = outside.0 e
+known_not_outside name (inr (inl e)) outside = outside.1 e
+known_not_outside name (inr (inr (inl e))) outside = outside.2 e
+known_not_outside name (inr (inr (inr e))) outside = outside.3 e
+
+pub all_known_no_fault : (request : RequestParts) (pairs : List Pair) → EachName IsInProfile pairs → Holds fault.OptionOutsideProfile request (map_of pairs) → ⊥
+all_known_no_fault request pairs each (name, has, outside) = known_not_outside name (each_in_map IsInProfile pairs each name has) outside
+
+pub all_asked_no_fault : (request : RequestParts) (agreed : OptionMap) → AllAsked request agreed → Holds fault.OptionValue request agreed → ⊥
+all_asked_no_fault request agreed all (name, asked, given, had, has, wrong) =
+    let (n, a, has_asked, is, may) = all name given has in
+    let one : Some asked ≡ Some (Num n) = sym had ∙ has_asked in
+    let same : asked ≡ Num n = cc in
+    may_not_wrong request.side name n a may
+    (subst (λ v. IsWrongValue request.side name v (Num a)) same (subst (λ v. IsWrongValue request.side name asked v) is wrong))
+
+fits_no_fault : (request : RequestParts) (agreed : OptionMap) → MayAgree request agreed → Holds fault.BeyondBlock65535 request agreed → ⊥
+fits_no_fault request agreed may (size, octet, has, beyond) = let fits = may.size octet size has in omega (arith, fits, beyond)
+
+-- what may be agreed has no fault
+pub no_fault : (request : RequestParts) (agreed : OptionMap) → agreed ≢ no_options → MayAgree request agreed → (f : NegoFault) → Holds f request agreed → ⊥
+no_fault request agreed some may fault.OackEmpty h = some h
+no_fault request agreed some may fault.MulticastAgreed (value, has) =
+    let (n, a, had, is, answers) = may.asked (codes "multicast") value has in may_no_multicast request.side n a answers
+no_fault request agreed some may fault.OptionNotRequested (name, (value, has), none) =
+    let (n, a, had, is, answers) = may.asked name value has in
+    let same : None ≡ Some (Num n) = sym none ∙ had in cc
+no_fault request agreed some may fault.OptionOutsideProfile (name, (value, has), outside) =
+    let (n, a, had, is, answers) = may.asked name value has in may_in_profile request.side name n a answers outside
+no_fault request agreed some may fault.OptionValue h = all_asked_no_fault request agreed may.asked h
+no_fault request agreed some may fault.BeyondBlock65535 h = fits_no_fault request agreed may h
+no_fault request agreed some may fault.Memory h = h
+
+-- ---- a value that does not answer
+wrong_value : (May : ℕ → ℕ → Type 0) (side : Side) (name : List ℕ) → ((n a : ℕ) → (May n a → ⊥) → IsWrongNumber side name n a) → (was value : OptionValue) → AreNot May was value → IsWrongValue side name was value
+wrong_value May side name so (Num n) (Num a) never = so n a never
+wrong_value May side name so (Num n) (Text text) never = tt
+wrong_value May side name so (Text text) value never = tt
+
+unanswered_at : (May : ℕ → ℕ → Type 0) (request : RequestParts) (agreed : OptionMap) (name : List ℕ) → ((n a : ℕ) → (May n a → ⊥) → IsWrongNumber request.side name n a)
+    → ((key : List ℕ) → HasOption agreed key → HasOption request.options key) → IsUnanswered May request.options agreed name → Holds fault.OptionValue request agreed
+unanswered_at May request agreed name so requested (value, has, inl none) =
+    let (was, had) = requested name (value, has) in
+    let same : None ≡ Some was = sym none ∙ had in absurd (let x : ⊥ = cc in x)
+unanswered_at May request agreed name so requested (value, has, inr (was, had, never)) =
+    (name, was, value, had, has, wrong_value May request.side name so was value never)
+
+not_lowered : (n a : ℕ) → (a ≤ n → ⊥) → n < a
+not_lowered n a never = elim (cases_lt n a) [ inl below ↦ below | inr other ↦ absurd (never (omega arith)) ]
+
+not_size : (side : Side) (n a : ℕ) → (IsSize side n a → ⊥) → (side ≡ Put) × (a ≢ n)
+not_size Get n a never = absurd (never (λ e. absurd (let x : ⊥ = cc in x)))
+not_size Put n a never = (refl, λ e. never (λ _. e))
+
+some_unanswered : (request : RequestParts) (agreed : OptionMap) → ((key : List ℕ) → HasOption agreed key → HasOption request.options key) → SomeUnanswered request agreed → Holds fault.OptionValue request agreed
+some_unanswered request agreed requested (inl h) = unanswered_at IsLowered request agreed (codes "blksize") (λ n a never. inl (refl, not_lowered n a never)) requested h
+some_unanswered request agreed requested (inr (inl h)) = unanswered_at IsKept request agreed (codes "timeout") (λ n a never. inr (inr (inl (refl, never)))) requested h
+some_unanswered request agreed requested (inr (inr (inl h))) = unanswered_at IsLowered request agreed (codes "windowsize") (λ n a never. inr (inl (refl, not_lowered n a never))) requested h
+some_unanswered request agreed requested (inr (inr (inr h))) = unanswered_at (IsSize request.side) request agreed (codes "tsize") (λ n a never. let p = not_size request.side n a never in inr (inr (inr (refl, p.0, p.1)))) requested h
+
+pub unanswered_fault : (request : RequestParts) (pairs : List Pair) → EachName (HasOption request.options) pairs → SomeUnanswered request (map_of pairs) → Holds fault.OptionValue request (map_of pairs)
+unanswered_fault request pairs each some = some_unanswered request (map_of pairs) (λ name has. each_in_map (HasOption request.options) pairs each name has) some
+
+-- ---- the first fault, where the tests before it passed
+pub first_multicast : (request : RequestParts) (pairs : List Pair) → Holds fault.MulticastAgreed request (map_of pairs) → FirstFault request (map_of pairs) fault.MulticastAgreed
+first_multicast request pairs has = first_MulticastAgreed request (map_of pairs) has (has_not_empty (map_of pairs) (codes "multicast") has)
+
+pub first_not_requested : (request : RequestParts) (pairs : List Pair) → AreApart pairs → pairs ≢ [] → (Holds fault.MulticastAgreed request (map_of pairs) → ⊥)
+    → SomeName (λ name. map.get request.options name ≡ None) pairs → FirstFault request (map_of pairs) fault.OptionNotRequested
+first_not_requested request pairs apart some single found =
+    first_OptionNotRequested request (map_of pairs) (some_in_map (λ name. map.get request.options name ≡ None) pairs apart found) (some_not_empty pairs apart some) single
+
+pub first_outside : (request : RequestParts) (pairs : List Pair) → AreApart pairs → pairs ≢ [] → (Holds fault.MulticastAgreed request (map_of pairs) → ⊥)
+    → EachName (HasOption request.options) pairs → SomeName IsOutsideProfile pairs → FirstFault request (map_of pairs) fault.OptionOutsideProfile
+first_outside request pairs apart some single requested found =
+    first_OptionOutsideProfile request (map_of pairs) (some_in_map IsOutsideProfile pairs apart found) (some_not_empty pairs apart some) single (all_requested_no_fault request pairs requested)
+
+pub first_wrong_value : (request : RequestParts) (pairs : List Pair) → AreApart pairs → pairs ≢ [] → (Holds fault.MulticastAgreed request (map_of pairs) → ⊥)
+    → EachName (HasOption request.options) pairs → EachName IsInProfile pairs → SomeUnanswered request (map_of pairs) → FirstFault request (map_of pairs) fault.OptionValue
+first_wrong_value request pairs apart some single requested known found =
+    first_OptionValue request (map_of pairs) (unanswered_fault request pairs requested found) (some_not_empty pairs apart some) single
+    (all_requested_no_fault request pairs requested) (all_known_no_fault request pairs known)
+
+pub first_beyond : (request : RequestParts) (pairs : List Pair) → AreApart pairs → pairs ≢ [] → (Holds fault.MulticastAgreed request (map_of pairs) → ⊥)
+    → EachName (HasOption request.options) pairs → EachName IsInProfile pairs → AllAnswered request (map_of pairs) → Holds fault.BeyondBlock65535 request (map_of pairs)
+    → FirstFault request (map_of pairs) fault.BeyondBlock65535
+first_beyond request pairs apart some single requested known all found =
+    first_BeyondBlock65535 request (map_of pairs) found (some_not_empty pairs apart some) single
+    (all_requested_no_fault request pairs requested) (all_known_no_fault request pairs known) (all_asked_no_fault request (map_of pairs) (all_asked request pairs known all))
+
+pub tested_agrees : (request : RequestParts) (pairs : List Pair) → AreApart pairs → pairs ≢ [] → EachName IsInProfile pairs → AllAnswered request (map_of pairs) → FitsNumbers request (map_of pairs)
+    → (map_of pairs ≢ no_options) × MayAgree request (map_of pairs)
+tested_agrees request pairs apart some known all fits = (some_not_empty pairs apart some, may_agree request (map_of pairs) (all_asked request pairs known all) fits)
+
+-- ---- an OACK of one option
+only_one : (b : Bool) (key name text found : List ℕ) → bytes_eq key name ≡ b → cond b (Some text) None ≡ Some found → (key ≡ name) × (text ≡ found)
+only_one true key name text found same at = ((bytes_eq-Decides key name).0 same, cc)
+only_one false key name text found same at = absurd (let x : ⊥ = cc in x)
+
+pub agree_on_one : (request : RequestParts) (key text : List ℕ) (asked given : ℕ) → value_of (lower key) text ≡ Num given → map.get request.options (lower key) ≡ Some (Num asked)
+    → MayAnswer request.side (lower key) asked given → FitsNumbers request (map_of ((key, text) ∷ [])) → MayAgree request (map_of ((key, text) ∷ []))
+agree_on_one request key text asked given is had may fits = record { asked = all; size = fits }
+  where
+    all : (name : List ℕ) (value : OptionValue) → map.get (map_of ((key, text) ∷ [])) name ≡ Some value
+        → (n a : ℕ) × (map.get request.options name ≡ Some (Num n)) × (value ≡ Num a) × MayAnswer request.side name n a
+    all name value has =
+        let (found, at, same) = text_of_value ((key, text) ∷ []) name value has in
+        let (e, t) = only_one (bytes_eq (lower key) name) (lower key) name text found refl at in (
+          asked,
+          given,
+          subst (λ k. map.get request.options k ≡ Some (Num asked)) e had,
+          sym same ∙ subst (λ k. value_of k found ≡ Num given) e (subst (λ x. value_of (lower key) x ≡ Num given) t is),
+          subst (λ k. MayAnswer request.side k asked given) e may,
+        )

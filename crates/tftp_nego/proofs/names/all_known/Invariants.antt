@@ -1,0 +1,14 @@
+use Rattle.std.proofs.Common.{length}
+use Rattle.tftp_nego.specs.Agreed.{EachName, SomeName, IsInProfile}
+use Rattle.tftp_nego.specs.Faults.{IsOutsideProfile}
+use Rattle.tftp_nego.proofs.names.all_known.Given as goal
+
+-- what holds of the options that are left, holds of all
+abbrev pub invariant-loop-name : goal.invariant-loop-name
+invariant-loop-name l = record {
+  each : EachName IsInProfile l.pairs → EachName IsInProfile l.oack;
+  some : SomeName IsOutsideProfile l.pairs → SomeName IsOutsideProfile l.oack;
+}
+
+abbrev pub decreases-loop-name : goal.decreases-loop-name
+decreases-loop-name l = length l.pairs

@@ -1,0 +1,3 @@
+pub mod ReadsLemmas
+pub mod DecoderLemmas
+pub mod CanonicalLemmas

@@ -1,0 +1,3 @@
+pub mod Netascii
+pub mod Decoder
+pub mod Runs

@@ -1,0 +1,125 @@
+//! Reading netascii from the wire.
+
+ghost use Rattle.std.specs.Prelude.{◌≡◌, ℕ, ◌+◌, ◌<◌, ◌≤◌, List, [], ◌++◌, false, length, vec_len, vec_capacity, IfOk, OnOk, OnErr, IsOk};
+ghost use Rattle.tftp_netascii.specs.Netascii.{Reads};
+ghost use Rattle.tftp_netascii.specs.Decoder.{StandsFor};
+ghost use Rattle.tftp_netascii.specs.Runs.{ReadsAfterReturn};
+
+use crate::runs::{CR, LF, NUL, split_at_return};
+use std::alloc::{AllocError, Global};
+use std::marker::Model;
+
+/// Reads a netascii text that comes in pieces, cut anywhere. Contracts see whether it holds a CR
+/// back, which it does from one piece to the next where a CR came last (RFC 764).
+#[derive(Clone, Debug, Drop)]
+pub struct Decoder {
+    holds_return: bool,
+}
+
+impl Model for Decoder {
+    ghost use Rattle.std.specs.Prelude.{Bool};
+
+    ghost Value = { Bool };
+
+    ghost view = { λ decoder. decoder.holds_return };
+}
+
+impl Decoder {
+    /// A decoder that was fed nothing.
+    #[inline]
+    pub fn new() -> Self
+        ensures { StandsFor result [] [] }
+    {
+        Decoder {
+            holds_return: false,
+        }
+    }
+
+    /// Appends to `out` what the next piece of the text reads as, up to a CR at its end (RFC 764).
+    /// An error changes nothing, and the piece may then be fed again.
+    pub fn feed(&mut self, piece: &[u8], out: &mut Vec<u8>) -> Result<(), AllocError>
+        // Whatever the decoder stood for, it now stands for that and the piece.
+        ensures fed { OnOk result ((more : List ℕ) × (out.new.items ≡ out.old.items ++ more)
+            × ((fed written : List ℕ) → StandsFor self.old fed written
+            → StandsFor self.new (fed ++ piece.now) (written ++ more))) }
+        ensures err { OnErr result ((self.new ≡ self.old) × (out.new.items ≡ out.old.items)) }
+
+        // It fails only where there was no room for the piece and a CR before it.
+        ensures full { OnErr result (vec_capacity out.old < vec_len out.old + length piece.now + 1) }
+    {
+        let mut holds_return = self.holds_return;
+        out.reserve(piece.len() + usize::from(holds_return))?;
+        let mut rest = piece;
+        while !rest.is_empty() {
+            if holds_return {
+                let (byte, after) = after_return(rest);
+                out.push_reserved(byte);
+                holds_return = false;
+                rest = after;
+            } else if let Some((run, after)) = split_at_return(rest) {
+                out.extend_from_slice(run)?;
+                holds_return = true;
+                rest = after;
+            } else {
+                out.extend_from_slice(rest)?;
+                rest = &[];
+            }
+        }
+        self.holds_return = holds_return;
+        Ok(())
+    }
+
+    /// Ends the text: a CR that is still held back stands for itself (RFC 764). An error changes
+    /// nothing.
+    pub fn finish(&mut self, out: &mut Vec<u8>) -> Result<(), AllocError>
+        // All that was written is the file of all that was fed.
+        ensures file { OnOk result ((more : List ℕ) × (out.new.items ≡ out.old.items ++ more)
+            × ((fed written : List ℕ) → StandsFor self.old fed written → Reads fed (written ++ more))) }
+        ensures as_new { OnOk result (StandsFor self.new [] []) }
+        ensures err { OnErr result ((self.new ≡ self.old) × (out.new.items ≡ out.old.items)) }
+
+        // It fails only where there was no room for the CR, and never where none is held back.
+        ensures full { OnErr result (vec_capacity out.old ≤ vec_len out.old) }
+        ensures succeeds { self.old ≡ false → IsOk result }
+    {
+        if self.holds_return {
+            out.push(CR)?;
+            self.holds_return = false;
+        }
+        Ok(())
+    }
+}
+
+impl Default for Decoder {
+    ghost is_default = { λ decoder. StandsFor decoder [] [] };
+
+    fn default() -> Self {
+        Self::new()
+    }
+}
+
+/// What a CR stands for by the bytes after it, and those of them that are still to be read.
+fn after_return(rest: &[u8]) -> (u8, &[u8])
+    ensures { ReadsAfterReturn rest.now result.0 result.1.now }
+{
+    match rest {
+        [LF, after @ ..] => (LF, after),
+        [NUL, after @ ..] => (CR, after),
+        _ => (CR, rest),
+    }
+}
+
+/// The file that a whole netascii text reads as: no text is refused (RFC 1350, section 1, and
+/// RFC 764).
+pub fn decode(alloc: Global, wire: &[u8]) -> Result<Vec<u8>, AllocError>
+    ensures { IfOk result (λ file. Reads wire.now file.items) }
+{
+    let mut file = Vec::with_capacity(alloc, wire.len())?;
+    let mut decoder = Decoder::new();
+    decoder.feed(wire, &mut file)?;
+    decoder.finish(&mut file)?;
+    Ok(file)
+}
+
+#[cfg(test)]
+mod tests;

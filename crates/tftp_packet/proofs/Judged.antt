@@ -1,0 +1,87 @@
+-- From what the parts of `read_packet` answer to what it promises.
+use Rattle.std.proofs.Common.{◌≡◌, ◌≢◌, ◌⊎◌, ◌↔◌, inl, inr, ℕ, ◌+◌, ◌-◌, ◌*◌, ◌<◌, ◌≤◌, List, [], ◌∷◌, sym, ◌∙◌, length, take, drop, get_or, ap, subst, arith, Fits, w8}
+use Rattle.std.specs.Prelude.{Result, Ok, Err, IfOk, IsOkAnd}
+use Rattle.std.specs.List.{AllByRecursion}
+use Rattle.std.proofs.lemmas.List.Elements.{recursion_from_All, All-from_get_or}
+use Rattle.std.proofs.lemmas.List.{take_all}
+use Rattle.tftp_packet.specs.Written.{IsString, terminated}
+use Rattle.tftp_packet.specs.Message.{Message, Error}
+use Rattle.tftp_packet.specs.Meaning.{meaning}
+use Rattle.tftp_packet.specs.Spelling.{Spells, Layout}
+use Rattle.tftp_packet.specs.Faults.{Holds, FirstFault, opcode_of}
+use Rattle.tftp_packet.specs.Reading.{Judges}
+use Rattle.tftp_packet.specs.declared.packet.Packet.{Packet}
+use Rattle.tftp_packet.specs.declared.fault.PacketFault.{PacketFault}
+use Rattle.tftp_packet.specs.declared.fault.PacketFault.TheVariants.{Short, Opcode, NoTerminator}
+use Rattle.tftp_packet.proofs.FaultOrder.{first_fault_unique, first_Short, first_Opcode, first_NoTerminator}
+use Rattle.tftp_packet.proofs.Unique.{one_message}
+use Rattle.tftp_packet.proofs.NoFault.{no_fault}
+
+-- the bytes of a payload are bytes
+pub all_bytes : (payload : List ℕ) → ((i : ℕ) → Fits w8 (get_or payload i 0)) → AllByRecursion (λ b. b < 256) payload
+all_bytes payload fits = recursion_from_All (λ b. b < 256) payload (All-from_get_or (λ b. b < 256) payload 0 (λ i h. omega (arith, fits i)))
+
+pub found_of : (payload : List ℕ) (r : Result Packet PacketFault) → AllByRecursion (λ b. b < 256) payload → Judges payload r → IfOk r (λ p. Spells payload (meaning p))
+found_of payload (Ok p) bytes judged = (bytes, judged)
+found_of payload (Err f) bytes judged = tt
+
+pub only_of : (payload : List ℕ) (r : Result Packet PacketFault) → Judges payload r → (m : Message) → Spells payload m → IsOkAnd r (λ p. meaning p ≡ m)
+only_of payload (Ok p) judged m spelled = one_message payload (meaning p) m judged spelled.1
+only_of payload (Err f) judged m spelled = absurd (no_fault payload m f spelled.1 judged.0)
+
+pub fault_of : (payload : List ℕ) (r : Result Packet PacketFault) → Judges payload r → (f : PacketFault) → (r ≡ Err f) ↔ FirstFault payload f
+fault_of payload (Ok p) judged f = ((λ e. absurd (let x : ⊥ = cc in x)), λ first. absurd (no_fault payload (meaning p) f judged first.0))
+fault_of payload (Err g) judged f = ((λ e. let same : g ≡ f = cc in subst (FirstFault payload) same judged), λ first. ap Err (first_fault_unique payload g f judged first))
+
+-- too short for an opcode, or with an opcode that no packet has
+pub judged_short : (payload : List ℕ) → length payload < 2 → FirstFault payload Short
+judged_short payload short = first_Short payload (inl short)
+
+pub judged_opcode : (payload : List ℕ) → 2 ≤ length payload → (opcode_of payload ≡ 0) ⊎ (6 < opcode_of payload) → FirstFault payload Opcode
+judged_opcode payload long is = first_Opcode payload is not_short
+  where
+    not_short : Holds Short payload → ⊥
+    not_short (inl short) = omega arith
+    not_short (inr (op, short)) = grind arith
+
+-- the bytes after an opcode
+pub after_opcode : (payload : List ℕ) (k : ℕ) → opcode_of payload ≡ k → 0 < k → k < 256 → AllByRecursion (λ b. b < 256) payload → payload ≡ 0 ∷ k ∷ take (length payload - 2) (drop 2 payload)
+after_opcode [] k is low high bytes = absurd (omega arith)
+after_opcode (x ∷ []) k is low high bytes = absurd (omega arith)
+after_opcode (x ∷ y ∷ rest) k is low high bytes =
+    let zero : x ≡ 0 = omega arith in
+    let same : y ≡ k = omega arith in
+    let all : take (length (x ∷ y ∷ rest) - 2) rest ≡ rest = take_all (length (x ∷ y ∷ rest) - 2) rest (omega arith) in
+    λ i. zero i ∷ same i ∷ sym all i
+
+-- an error's bytes after its code
+pub error_parts : (payload : List ℕ) → opcode_of payload ≡ 5 → AllByRecursion (λ b. b < 256) payload → 4 ≤ length payload
+    → (payload ≡ 0 ∷ 5 ∷ get_or payload 2 0 ∷ get_or payload 3 0 ∷ take (length payload - 4) (drop 4 payload)) × (get_or payload 2 0 < 256) × (get_or payload 3 0 < 256)
+error_parts [] is bytes long = absurd (omega arith)
+error_parts (x ∷ []) is bytes long = absurd (omega arith)
+error_parts (x ∷ y ∷ []) is bytes long = absurd (omega arith)
+error_parts (x ∷ y ∷ u ∷ []) is bytes long = absurd (omega arith)
+error_parts (x ∷ y ∷ u ∷ v ∷ rest) is bytes long =
+    let zero : x ≡ 0 = omega arith in
+    let same : y ≡ 5 = omega arith in
+    let all : take (length (x ∷ y ∷ u ∷ v ∷ rest) - 4) rest ≡ rest = take_all (length (x ∷ y ∷ u ∷ v ∷ rest) - 4) rest (omega arith) in
+    ((λ i. zero i ∷ same i ∷ u ∷ v ∷ sym all i), bytes.1.1.0, bytes.1.1.1.0)
+
+pub error_laid : (payload text message : List ℕ) (x y code : ℕ) → (payload ≡ 0 ∷ 5 ∷ x ∷ y ∷ text) × (x < 256) × (y < 256) → code ≡ x * 256 + y → IsString message → text ≡ terminated message
+    → Layout payload (Error code message)
+error_laid payload text message x y code parts is string e = (x, y, (parts.1, parts.2, omega arith), string, parts.0 ∙ ap (λ t. 0 ∷ 5 ∷ x ∷ y ∷ t) e)
+
+pub error_fault : (payload text : List ℕ) (x y : ℕ) → (payload ≡ 0 ∷ 5 ∷ x ∷ y ∷ text) × (x < 256) × (y < 256) → ((message : List ℕ) → IsString message → text ≢ terminated message)
+    → FirstFault payload NoTerminator
+error_fault payload text x y parts never = first_NoTerminator payload (inr (inr (x, y, text, parts.0, never))) not_short not_opcode (λ ack. omega (arith, five, ack.0))
+  where
+    five : opcode_of payload ≡ 5
+    five = ap opcode_of parts.0
+
+    not_short : Holds Short payload → ⊥
+    not_short (inl short) = omega (arith, ap length parts.0)
+    not_short (inr (op, short)) = omega (arith, ap length parts.0)
+
+    not_opcode : Holds Opcode payload → ⊥
+    not_opcode (inl op) = omega (arith, five)
+    not_opcode (inr op) = omega (arith, five)

@@ -1,0 +1,17 @@
+pub mod Strings
+pub mod FaultOrder
+pub mod PairStrings
+pub mod Requests
+pub mod RequestCases
+pub mod Unique
+pub mod NoFault
+pub mod Judged
+pub mod OackCases
+pub mod OptionCases
+pub mod Values
+pub mod Maps
+pub mod OwnedMaps
+pub mod SameMaps
+pub mod CanonicalOptions
+pub mod CanonicalLaws
+pub mod NameOrder

@@ -1,0 +1,11 @@
+use Rattle.std.proofs.Common.{◌≡◌, ◌↔◌, [], length}
+use Rattle.tftp_packet.specs.Written.{pairs_of}
+use Rattle.tftp_packet.specs.Faults.{AnyOf}
+use Rattle.tftp_packet.proofs.option_check.has_empty_name.Given as goal
+
+-- what is asked of all options is asked of those that are left
+abbrev pub invariant-loop-name : goal.invariant-loop-name
+invariant-loop-name l = AnyOf (λ pair. pair.0 ≡ []) (pairs_of l.rest) ↔ AnyOf (λ pair. pair.0 ≡ []) (pairs_of l.bytes)
+
+abbrev pub decreases-loop-name : goal.decreases-loop-name
+decreases-loop-name l = length l.rest

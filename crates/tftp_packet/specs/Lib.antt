@@ -1,0 +1,12 @@
+pub mod OptionMap
+pub mod Message
+pub mod Written
+pub mod Spelling
+pub mod Meaning
+pub mod Faults
+pub mod Reading
+pub mod OptionFaults
+pub mod Owned
+pub mod Canonical
+pub mod Same
+pub mod Names

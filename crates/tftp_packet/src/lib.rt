@@ -1,0 +1,36 @@
+//! TFTP packets and options: what a payload spells, and what is written for it.
+#![tactic(auto)]
+
+mod byte_list;
+mod fault;
+mod kinds;
+mod laws;
+mod option_check;
+mod options;
+mod owned_options;
+mod owned_request;
+mod packet;
+mod request;
+mod same;
+mod text;
+mod value;
+mod write;
+
+pub use byte_list::Bytes;
+pub use fault::PacketFault;
+pub use kinds::{Dir, End, Mode, Side};
+pub use laws::{
+    canonical_is_shortest, canonical_spells, first_fault_is_one, map_of_options,
+    spelled_has_no_fault, spells_one_message, worked_faults, worked_spellings, worked_values,
+};
+pub use options::{OptionsView, Pairs};
+pub use owned_options::{Options, own_options};
+pub use owned_request::{Request, own_request, same_request};
+pub use packet::{Packet, opcode, read_packet};
+pub use request::RequestView;
+pub use same::same_options;
+pub use value::Value;
+pub use write::{write_oack, write_packet, write_request};
+
+#[cfg(test)]
+mod tests;

@@ -1,0 +1,121 @@
+ghost use Rattle.std.specs.Prelude.{◌≡◌, ◌↔◌, ℕ, IfOk, IsOkAnd};
+ghost use Rattle.tftp_packet.specs.Message.{Message};
+ghost use Rattle.tftp_packet.specs.Meaning.{meaning};
+ghost use Rattle.tftp_packet.specs.Spelling.{side_opcode, Spells};
+ghost use Rattle.tftp_packet.specs.Faults.{FirstFault, opcode_of};
+ghost use Rattle.tftp_packet.specs.Reading.{Judges};
+ghost use Rattle.tftp_packet.specs.declared.fault.PacketFault.{PacketFault};
+
+use crate::fault::PacketFault;
+use crate::kinds::Side;
+use crate::options::OptionsView;
+use crate::request::RequestView;
+use crate::text::only_string;
+
+/// A packet, whose bytes lie in the payload (RFC 1350, section 5).
+#[derive(Debug, Drop)]
+pub enum Packet<'a> {
+    /// A request to read or to write a file.
+    Request(RequestView<'a>),
+    /// A block of the file.
+    Data { block: u16, bytes: &'a [u8] },
+    /// The acknowledgement of a block, or of the block 0.
+    Ack { block: u16 },
+    /// The end of the transfer, with a code and a message for people (RFC 1350, section 5).
+    Error { code: u16, message: &'a [u8] },
+    /// The options that the server agrees to (RFC 2347).
+    Oack(OptionsView<'a>),
+}
+
+/// The number of the first two bytes, or 0 where there are fewer (RFC 1350, section 5).
+#[inline]
+pub fn opcode(payload: &[u8]) -> u16
+    ensures { result ≡ opcode_of payload.now }
+{
+    match payload {
+        [high, low, ..] => u16::from_be_bytes([*high, *low]),
+        _ => 0,
+    }
+}
+
+/// The packet that a payload spells. It borrows the payload, and takes no memory.
+pub fn read_packet(payload: &[u8]) -> Result<Packet<'_>, PacketFault>
+    ensures found { IfOk result (λ p. Spells payload.now (meaning p)) }
+    ensures only { (m : Message) → Spells payload.now m → IsOkAnd result (λ p. meaning p ≡ m) }
+    ensures fault { (f : PacketFault) → (result ≡ Err f) ↔ FirstFault payload.now f }
+{
+    if payload.len() < 2 {
+        return Err(PacketFault::Short);
+    }
+    match opcode(payload) {
+        1 => read_request(Side::Get, payload),
+        2 => read_request(Side::Put, payload),
+        3 => read_data(payload),
+        4 => read_ack(payload),
+        5 => read_error(payload),
+        6 => read_oack(payload),
+        _ => Err(PacketFault::Opcode),
+    }
+}
+
+/// The request that a payload spells (RFC 1350, section 5).
+fn read_request(side: Side, payload: &[u8]) -> Result<Packet<'_>, PacketFault>
+    requires { opcode_of payload.now ≡ side_opcode side }
+    ensures { Judges payload.now result }
+{
+    let request = RequestView::read(side, &payload[2..])?;
+    Ok(Packet::Request(request))
+}
+
+/// The block that a payload spells (RFC 1350, section 5).
+fn read_data(payload: &[u8]) -> Result<Packet<'_>, PacketFault>
+    requires { opcode_of payload.now ≡ 3 }
+    ensures { Judges payload.now result }
+{
+    match payload {
+        [_, _, high, low, bytes @ ..] => Ok(Packet::Data {
+            block: u16::from_be_bytes([*high, *low]),
+            bytes,
+        }),
+        _ => Err(PacketFault::Short),
+    }
+}
+
+/// The acknowledgement that a payload spells (RFC 1350, section 5).
+fn read_ack(payload: &[u8]) -> Result<Packet<'_>, PacketFault>
+    requires { opcode_of payload.now ≡ 4 }
+    ensures { Judges payload.now result }
+{
+    match payload {
+        [_, _, high, low] => Ok(Packet::Ack {
+            block: u16::from_be_bytes([*high, *low]),
+        }),
+        _ => Err(PacketFault::AckLength),
+    }
+}
+
+/// The error that a payload spells (RFC 1350, section 5).
+fn read_error(payload: &[u8]) -> Result<Packet<'_>, PacketFault>
+    requires { opcode_of payload.now ≡ 5 }
+    ensures { Judges payload.now result }
+{
+    let [_, _, high, low, text @ ..] = payload else {
+        return Err(PacketFault::Short);
+    };
+    match only_string(text) {
+        Some(message) => Ok(Packet::Error {
+            code: u16::from_be_bytes([*high, *low]),
+            message,
+        }),
+        None => Err(PacketFault::NoTerminator),
+    }
+}
+
+/// The OACK that a payload spells (RFC 2347).
+fn read_oack(payload: &[u8]) -> Result<Packet<'_>, PacketFault>
+    requires { opcode_of payload.now ≡ 6 }
+    ensures { Judges payload.now result }
+{
+    let options = OptionsView::read(&payload[2..])?;
+    Ok(Packet::Oack(options))
+}
