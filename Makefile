@@ -1,5 +1,6 @@
 PREFIX = /usr/local
 PROGRAM = crates/tftp_audit/out/tftp_audit
+BENCH = crates/tftp_bench/out/tftp_bench
 
 .PHONY: build test bench install
 
@@ -14,9 +15,10 @@ test:
 	@./tftp-audit --build
 	sh tests/run.sh $(PROGRAM)
 
-# How fast the program is, beside wc -l on the same file.
+# How fast the program and its libraries are, beside wc -l, a plain copy and the hex crate alone on the same bytes.
 bench: build
-	sh bench/run.sh $(PROGRAM)
+	@cd crates/tftp_bench && rt run -- copy </dev/null >/dev/null
+	sh bench/run.sh $(PROGRAM) $(BENCH)
 
 install: build
 	install -D -m 755 $(PROGRAM) $(DESTDIR)$(PREFIX)/bin/tftp-audit

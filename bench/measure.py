@@ -1,30 +1,54 @@
-"""Prints MB of text per second of processor time of `PROGRAM check` and of `wc -l`, the best of three runs.
+"""Prints how fast a command is on the bytes of a file, by processor time, the best of three runs.
 
-    measure.py PROGRAM TEXT
+    measure.py NAME FILE COMMAND [WORD ..]
 """
 import os
 import subprocess
 import sys
+import tempfile
+import time
 
-program, text = sys.argv[1], sys.argv[2]
-size = os.path.getsize(text)
-
-
-def best(command):
-    """The shortest time in seconds, the most resident memory in bytes, and what was printed."""
-    shortest, most, printed = None, 0, b""
-    for _ in range(3):
-        with open(text, "rb") as given:
-            child = subprocess.Popen(command, stdin=given, stdout=subprocess.PIPE)
-            printed = child.stdout.read()
-            _, _, usage = os.wait4(child.pid, 0)
-            seconds = usage.ru_utime + usage.ru_stime
-        child.returncode = 0
-        shortest = seconds if shortest is None else min(shortest, seconds)
-        most = max(most, usage.ru_maxrss * 1024)
-    return shortest, most, printed
+name, path, command = sys.argv[1], sys.argv[2], sys.argv[3:]
+size = os.path.getsize(path)
+# What writes a text is to write it nowhere; any other's answer is printed.
+WRITES_TEXT = ("copy", "netascii-decode", "netascii-encode")
 
 
-for name, command in (("tftp-audit check", [program, "check"]), ("wc -l", ["wc", "-l"])):
-    seconds, memory, printed = best(command)
-    print(f"{name}: {size / seconds / 1e6:.0f} MB/s, {memory / 1e6:.0f} MB of memory for {size / 1e6:.0f} MB of text: {printed.decode().strip()}")
+def most_resident(process):
+    """The most bytes that a running process had resident since it was started as this program, or 0."""
+    # The resource usage that the system reports at the end also counts what Python had before.
+    with open(f"/proc/{process}/status", encoding="ascii", errors="replace") as status:
+        for line in status:
+            if line.startswith("VmHWM:"):
+                return int(line.split()[1]) * 1024
+    return 0
+
+
+def run():
+    """The time in seconds, the most resident memory in bytes, and what was printed."""
+    with open(path, "rb") as given, tempfile.TemporaryFile() as taken:
+        out = subprocess.DEVNULL if command[-1] in WRITES_TEXT else taken
+        child = subprocess.Popen(command, stdin=given, stdout=out)
+        most = 0
+        while True:
+            most = max(most, most_resident(child.pid))
+            ended, status, usage = os.wait4(child.pid, os.WNOHANG)
+            if ended:
+                break
+            time.sleep(0.005)
+        child.returncode = os.waitstatus_to_exitcode(status)
+        if child.returncode:
+            sys.exit(f"{name}: ended with status {child.returncode}")
+        taken.seek(0)
+        return usage.ru_utime + usage.ru_stime, most, taken.read().decode().strip()
+
+
+runs = [run() for _ in range(3)]
+seconds = min(it[0] for it in runs)
+memory = max(it[1] for it in runs)
+answer = runs[0][2]
+print(
+    f"{name}: {seconds:.2f} s, {size / seconds / 1e6:.0f} MB/s, {seconds / size * 1e9:.2f} ns a byte,"
+    f" {memory / 1e6:.1f} MB of memory for {size / 1e6:.0f} MB" + (f": {answer}" if answer else ""),
+    flush=True,
+)

@@ -7,8 +7,8 @@ use Rattle.tftp_packet.specs.declared.fault.PacketFault.{PacketFault}
 use Rattle.tftp_packet.specs.declared.kinds.Dir.{Dir}
 use Rattle.tftp_packet.specs.declared.kinds.Dir.TheVariants.{In, Out}
 use Rattle.tftp_packet.proofs.Unique.{one_message}
-use Rattle.tftp_audit.specs.declared.capture.Header.{Header}
-use Rattle.tftp_audit.specs.declared.capture.Datagram.{Datagram}
+use Rattle.tftp_capture.specs.declared.datagram.Header.{Header}
+use Rattle.tftp_capture.specs.declared.datagram.Datagram.{Datagram}
 use Rattle.tftp_audit.specs.declared.rule.Rule.{Rule}
 use Rattle.tftp_audit.specs.declared.rule.Rule.TheVariants.{NoRequest, Malformed, WrongKind, RequestChanged, RequestAfterStart, BlockZero, BeyondBlock65535, BlockLength, WindowOverrun, BlockChanged, AckAhead, AckZero}
 use Rattle.tftp_audit.specs.Ports.{route_of, ToService}

@@ -5,8 +5,8 @@ use Rattle.std.proofs.lemmas.Bool.Decides.{nat_tests}
 use Rattle.tftp_packet.specs.Message.{Ack}
 use Rattle.tftp_packet.specs.declared.kinds.Dir.TheVariants.{Out}
 use Rattle.tftp_ends.specs.Blocks.{block}
-use Rattle.tftp_audit.specs.declared.capture.Header.{Header}
-use Rattle.tftp_audit.specs.declared.capture.Datagram.{Datagram}
+use Rattle.tftp_capture.specs.declared.datagram.Header.{Header}
+use Rattle.tftp_capture.specs.declared.datagram.Datagram.{Datagram}
 use Rattle.tftp_audit.specs.declared.judge.Judge.{Judge}
 use Rattle.tftp_audit.specs.Rules.{block_size, Passed, Took, IsFront, IsHigh, IsAcked, IsLast, LastUnknown, IsNotLengthOf, HasWrongLength}
 use Rattle.tftp_audit.specs.State.{StandsFor, IsSized, wrong_length}

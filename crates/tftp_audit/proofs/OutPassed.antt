@@ -12,8 +12,8 @@ use Rattle.tftp_packet.specs.declared.kinds.Dir.{Dir}
 use Rattle.tftp_packet.specs.declared.kinds.Dir.TheVariants.{In, Out}
 use Rattle.tftp_packet.proofs.Unique.{layout_opcode}
 use Rattle.tftp_ends.specs.Blocks.{block}
-use Rattle.tftp_audit.specs.declared.capture.Header.{Header}
-use Rattle.tftp_audit.specs.declared.capture.Datagram.{Datagram}
+use Rattle.tftp_capture.specs.declared.datagram.Header.{Header}
+use Rattle.tftp_capture.specs.declared.datagram.Datagram.{Datagram}
 use Rattle.tftp_audit.specs.declared.judge.Judge.{Judge}
 use Rattle.tftp_audit.specs.declared.judge.Asked.{Asked}
 use Rattle.tftp_audit.specs.declared.rule.Rule.{Rule}

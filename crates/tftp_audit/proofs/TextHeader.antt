@@ -1,7 +1,7 @@
 -- The lines of the header, read one after another.
 use Rattle.std.proofs.Common.{◌≡◌, ◌≢◌, ℕ, ◌≤◌, ◌^◌, List, [], ◌∷◌, ◌++◌, length, codes, decimal, refl, ap, sym, ◌∙◌, arith}
-use Rattle.tftp_audit.specs.declared.capture.Header.{Header}
-use Rattle.tftp_audit.specs.declared.capture.Datagram.{Datagram}
+use Rattle.tftp_capture.specs.declared.datagram.Header.{Header}
+use Rattle.tftp_capture.specs.declared.datagram.Datagram.{Datagram}
 use Rattle.tftp_audit.specs.declared.verdict.Stop.{Stop}
 use Rattle.tftp_audit.specs.declared.verdict.Stop.TheVariants.{Ended, Other}
 use Rattle.tftp_audit.specs.CaptureText.{IsPort, IsCapture, end_text, lines_of, joined}

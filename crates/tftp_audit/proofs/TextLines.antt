@@ -8,7 +8,7 @@ use Rattle.hex.specs.declared.error.FromHexError.{FromHexError}
 use Rattle.hex.proofs.HexLemmas.{length-encode_with, decode_of-encode_lower}
 use Rattle.tftp_packet.specs.declared.kinds.Dir.{Dir}
 use Rattle.tftp_packet.specs.declared.kinds.Dir.TheVariants.{In, Out}
-use Rattle.tftp_audit.specs.declared.capture.Datagram.{Datagram}
+use Rattle.tftp_capture.specs.declared.datagram.Datagram.{Datagram}
 use Rattle.tftp_audit.specs.CaptureText.{IsPort, IsPayload, IsDatagram, dir_text, payload_text, datagram_line, total_line}
 use Rattle.tftp_audit.proofs.Bytes.{Without, decimal_without}
 use Rattle.tftp_audit.proofs.LineText.{ports_spelled, fields_once}

@@ -5,8 +5,8 @@ use Rattle.tftp_packet.specs.declared.kinds.End.{End}
 use Rattle.tftp_packet.specs.declared.kinds.End.TheVariants.{Client, Server}
 use Rattle.tftp_packet.specs.declared.kinds.Dir.{Dir}
 use Rattle.tftp_packet.specs.declared.kinds.Dir.TheVariants.{In, Out}
-use Rattle.tftp_audit.specs.declared.capture.Header.{Header}
-use Rattle.tftp_audit.specs.declared.capture.Datagram.{Datagram}
+use Rattle.tftp_capture.specs.declared.datagram.Header.{Header}
+use Rattle.tftp_capture.specs.declared.datagram.Datagram.{Datagram}
 
 abbrev pub IsPort : ℕ → Type 0
 IsPort n = (1 ≤ n) × (n ≤ 65535)

@@ -6,7 +6,6 @@ pub mod Reading
 pub mod Rules
 pub mod Run
 pub mod State
-pub mod Tally
 pub mod TextState
 pub mod Verdict
 pub mod Words

@@ -5,8 +5,8 @@ use Rattle.std.specs.List.{list_any}
 use Rattle.tftp_packet.specs.Faults.{opcode_of}
 use Rattle.tftp_packet.specs.declared.kinds.Dir.{Dir}
 use Rattle.tftp_packet.specs.declared.kinds.Dir.TheVariants.{In, Out}
-use Rattle.tftp_audit.specs.declared.capture.Header.{Header}
-use Rattle.tftp_audit.specs.declared.capture.Datagram.{Datagram}
+use Rattle.tftp_capture.specs.declared.datagram.Header.{Header}
+use Rattle.tftp_capture.specs.declared.datagram.Datagram.{Datagram}
 
 abbrev pub goes_out : Dir → Bool
 goes_out Out = true

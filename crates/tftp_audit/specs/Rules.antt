@@ -10,8 +10,8 @@ use Rattle.tftp_packet.specs.declared.kinds.Side.TheVariants.{Get}
 use Rattle.tftp_packet.specs.declared.kinds.Mode.TheVariants.{Octet}
 use Rattle.tftp_packet.specs.declared.kinds.Dir.{Dir}
 use Rattle.tftp_packet.specs.declared.kinds.Dir.TheVariants.{In, Out}
-use Rattle.tftp_audit.specs.declared.capture.Header.{Header}
-use Rattle.tftp_audit.specs.declared.capture.Datagram.{Datagram}
+use Rattle.tftp_capture.specs.declared.datagram.Header.{Header}
+use Rattle.tftp_capture.specs.declared.datagram.Datagram.{Datagram}
 use Rattle.tftp_audit.specs.declared.rule.Rule.{Rule}
 use Rattle.tftp_audit.specs.declared.rule.Rule.TheVariants.{NoRequest, Malformed, WrongKind, RequestChanged, RequestAfterStart, BlockZero, BeyondBlock65535, BlockLength, WindowOverrun, BlockChanged, AckAhead, AckZero}
 use Rattle.tftp_audit.specs.Ports.{ToService, asks, first_of, route_of}

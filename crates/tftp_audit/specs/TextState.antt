@@ -1,8 +1,8 @@
 -- What is known of a text while its lines are read one after another.
 use Rattle.std.specs.Prelude.{◌≡◌, ◌≢◌, ℕ, ◌+◌, ◌<◌, ◌≤◌, ◌^◌, List, ◌∷◌, ◌++◌, length, map, reverse, All}
 use Rattle.tftp_packet.specs.declared.kinds.End.TheVariants.{Client}
-use Rattle.tftp_audit.specs.declared.capture.Header.{Header}
-use Rattle.tftp_audit.specs.declared.capture.Datagram.{Datagram}
+use Rattle.tftp_capture.specs.declared.datagram.Header.{Header}
+use Rattle.tftp_capture.specs.declared.datagram.Datagram.{Datagram}
 use Rattle.tftp_audit.specs.declared.judge.Judge.{Judge}
 use Rattle.tftp_audit.specs.declared.verdict.Stop.{Stop}
 use Rattle.tftp_audit.specs.declared.verdict.Stop.TheVariants.{Ended, Other}

@@ -2,8 +2,8 @@
 use Rattle.std.specs.Prelude.{◌≡◌, ◌≢◌, ◌⊎◌, ℕ, ◌+◌, ◌==◌, List, [], ◌∷◌, ◌++◌, length, reverse, count_by}
 use Rattle.tftp_ends.specs.Blocks.{block_count}
 use Rattle.tftp_ends.specs.Meaning.{Meaning}
-use Rattle.tftp_audit.specs.declared.capture.Header.{Header}
-use Rattle.tftp_audit.specs.declared.capture.Datagram.{Datagram}
+use Rattle.tftp_capture.specs.declared.datagram.Header.{Header}
+use Rattle.tftp_capture.specs.declared.datagram.Datagram.{Datagram}
 use Rattle.tftp_audit.specs.declared.outcome.Outcome.{Outcome}
 use Rattle.tftp_audit.specs.declared.outcome.Outcome.TheVariants as outcome
 use Rattle.tftp_audit.specs.declared.rule.Refusal.{Refusal}

@@ -4,32 +4,11 @@ ghost use Rattle.tftp_audit.specs.CaptureText.{IsPort, IsPayload, IsDatagram, pa
 use itoa::Buffer;
 use memchr::memchr;
 use std::str;
-use tftp_packet::{Bytes, Dir, End};
+use tftp_capture::Datagram;
+use tftp_packet::{Bytes, Dir};
 
 /// The most hex digits that a payload has.
 const MOST_DIGITS: usize = 2 * 65_527;
-
-/// What the head of a capture text says: the end at which it was recorded, and the server's well-known port.
-#[derive(Clone, Copy, Debug, PartialEq, Eq)]
-pub struct Header {
-    /// The end at which the datagrams passed.
-    pub named: End,
-    /// The port to which requests go, 1 to 65535 (69 by RFC 1350, section 4).
-    pub service: u16,
-}
-
-/// A datagram as it passed the named end.
-#[derive(Debug, Drop)]
-pub struct Datagram {
-    /// Whether it came in or went out.
-    pub dir: Dir,
-    /// The port at the named end, 1 to 65535.
-    pub local_port: u16,
-    /// The port at the other end, 1 to 65535.
-    pub remote_port: u16,
-    /// What it carried, at most 65,527 bytes.
-    pub payload: Bytes,
-}
 
 /// Why a line gave no datagram.
 #[derive(Clone, Copy, Debug, PartialEq, Eq)]

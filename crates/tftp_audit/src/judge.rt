@@ -4,10 +4,10 @@ ghost use Rattle.tftp_packet.specs.Message.{Message};
 ghost use Rattle.tftp_packet.specs.Written.{parts};
 ghost use Rattle.std.specs.Prelude.{◌≡◌, ◌≢◌, ◌&&◌, ◌↔◌, ◌+◌, ◌-◌, ◌*◌, ◌<◌, ◌≤◌, ◌^◌, ℕ, List, [], ◌∷◌, true, false, length, take, drop, vec_len, IsTrue, OnOk, IfErr, MatchOption, Option, option_map, is_ok, if◌then◌else◌};
 
-use crate::capture::Datagram;
 use crate::outcome::Outcome;
 use crate::rule::{Refusal, Rule};
 use std::alloc::Global;
+use tftp_capture::Datagram;
 use tftp_packet::{Bytes, Dir, End, Mode, Packet, RequestView, Side, opcode, read_packet};
 
 /// The bytes of a block that is not the last (RFC 1350, section 2).
@@ -78,7 +78,7 @@ fn is_request(datagram: &Datagram) -> bool
 }
 
 impl Judge {
-    ghost use Rattle.tftp_audit.specs.declared.capture.Header.{Header};
+    ghost use Rattle.tftp_capture.specs.declared.datagram.Header.{Header};
     ghost use Rattle.tftp_audit.specs.CaptureText.{IsDatagram};
     ghost use Rattle.tftp_audit.specs.Ports.{Peer, IsCovered, route_from, route_of_other};
     ghost use Rattle.tftp_packet.specs.Meaning.{meaning};

@@ -6,7 +6,6 @@ mod judge;
 mod outcome;
 mod rule;
 mod session;
-mod tallied;
 #[cfg(test)]
 mod tests;
 mod verdict;
@@ -16,7 +15,7 @@ mod words;
 use session::run;
 use std::process::ExitCode;
 use std::{env, io};
-use tallied::Tallied;
+use tftp_capture::Tallied;
 
 /// Ends with status 2, and no output, where it can't get its words.
 fn main(rt: HostRuntime) -> ExitCode {

@@ -6,7 +6,7 @@ ghost use Rattle.tftp_audit.specs.Run.{IsAnswer, IsCheck, IsSaid};
 ghost use Rattle.tftp_audit.specs.Verdict.{IsVerdict};
 
 use crate::outcome::{Outcome, Status};
-use crate::tallied::Tallied;
+use tftp_capture::Tallied;
 use crate::verdict::judge_text;
 use crate::whole::{Ending, read_text, write_whole};
 use crate::words::{Action, UsageFault, action_of};

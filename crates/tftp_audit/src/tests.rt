@@ -1,6 +1,6 @@
 use crate::capture::{cut_at, datagram_of, port_of};
 use crate::session::run;
-use crate::tallied::Tallied;
+use tftp_capture::Tallied;
 use crate::whole::{Ending, read_text, write_whole};
 use crate::words::{Action, UsageFault, action_of};
 use std::alloc::{AllocError, Global};

@@ -1,6 +1,6 @@
 ghost use Rattle.std.specs.Prelude.{◌≡◌, ◌≤◌, ◌^◌, ◌++◌, ◌∷◌, ◌↔◌, ℕ, List, IfOk, IfErr, IsTrue, length, reverse};
-ghost use Rattle.tftp_audit.specs.declared.capture.Datagram.{Datagram};
-ghost use Rattle.tftp_audit.specs.declared.capture.Header.{Header};
+ghost use Rattle.tftp_capture.specs.declared.datagram.Datagram.{Datagram};
+ghost use Rattle.tftp_capture.specs.declared.datagram.Header.{Header};
 ghost use Rattle.tftp_audit.specs.CaptureText.{IsPort, total_line};
 ghost use Rattle.tftp_audit.specs.State.{StandsFor};
 ghost use Rattle.tftp_audit.specs.TextState.{IsCountable, IsNotLine, IsStopped, header_text};

@@ -2,7 +2,7 @@ ghost use Rattle.std.specs.Prelude.{◌≡◌, ◌≤◌, ◌<◌, ℕ, [], true
 ghost use Rattle.std.specs.Io.KnownBytes.{Appends};
 ghost use Rattle.tftp_audit.specs.Reading.{IsReading};
 
-use crate::tallied::Tallied;
+use tftp_capture::Tallied;
 use std::alloc::AllocError;
 use std::io::{Read, Write};
 use thiserror::Error;

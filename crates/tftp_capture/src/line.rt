@@ -6,6 +6,7 @@ use crate::ahead::Ahead;
 use crate::fault::TextFault;
 use crate::stop::Stop;
 use crate::tallied::Tallied;
+use memchr::memchr;
 use std::io::Read;
 
 /// The most bytes of a line, without its LF.
@@ -18,8 +19,10 @@ pub fn count_before(bytes: &[u8], value: u8) -> usize
     ensures none_before { All (λ b. b ≢ value) (take result bytes.now) }
     ensures here { result < length bytes.now → slice_index bytes.now result ≡ value }
 {
-    let found = bytes.iter().position(|byte| *byte == value);
-    found.unwrap_or(bytes.len())
+    match memchr(value, bytes) {
+        Some(at) => at,
+        None => bytes.len(),
+    }
 }
 
 /// Reads a line, without its LF; the text may have `room` more bytes.

@@ -1,11 +1,11 @@
 -- What one transfer means: who asked for what, what was agreed, and the file (RFC 1350, sections 1 and 2; RFC 2347;
 -- RFC 2348; RFC 7440).
-use Rattle.std.specs.Prelude.{◌≡◌, ◌≢◌, ℕ, List, Option, Some, None, codes}
-use Rattle.std.specs.FinMap as map
-use Rattle.tftp_packet.specs.OptionMap.{OptionMap, OptionValue, Num, Text, no_options}
+use Rattle.std.specs.Prelude.{◌≡◌, ◌≢◌, ℕ, List, codes}
+use Rattle.tftp_packet.specs.OptionMap.{OptionMap, no_options}
 use Rattle.tftp_packet.specs.Message.{RequestParts}
 use Rattle.tftp_packet.specs.declared.kinds.Side.{Side}
 use Rattle.tftp_packet.specs.declared.kinds.Mode.{Mode}
+pub use Rattle.tftp_nego.specs.Numbers.{number_or, option_or}
 
 pub record Meaning : Type 0 where
   pub side : Side
@@ -25,15 +25,6 @@ NothingAgreed m = m.agreed ≡ no_options
 
 abbrev pub SomethingAgreed : Meaning → Type 0
 SomethingAgreed m = m.agreed ≢ no_options
-
--- the number of an option, where the map has one
-abbrev pub number_or : ℕ → Option OptionValue → ℕ
-number_or default (Some (Num number)) = number
-number_or default (Some (Text text)) = default
-number_or default None = default
-
-abbrev pub option_or : ℕ → OptionMap → List ℕ → ℕ
-option_or default options name = number_or default (map.get options name)
 
 -- how many bytes a block has that is not the last (RFC 1350, section 2; RFC 2348)
 abbrev pub blksize_of : Meaning → ℕ

@@ -10,6 +10,8 @@ use Rattle.tftp_packet.specs.declared.kinds.End.TheVariants.{Client, Server}
 use Rattle.tftp_packet.specs.declared.kinds.Dir.{Dir}
 use Rattle.tftp_packet.specs.declared.kinds.Dir.TheVariants.{In, Out}
 use Rattle.tftp_ends.specs.CaptureText.{Datagram, Header, PeerId, peer_of}
+use Rattle.tftp_ends.specs.declared.route.Route.{Route}
+use Rattle.tftp_ends.specs.declared.route.Route.TheVariants.{Request, Peer, Stray, StrayAnswer, ForeignPort, WrongPort, NoStrayAnswer}
 
 abbrev pub goes_out : Datagram → Bool
 goes_out d = is_out d.dir where
@@ -54,17 +56,6 @@ or_this None false this = None
 abbrev pub first_of : {X : Type 0} → (X → Bool) → List X → Option X
 first_of test [] = None
 first_of test (x ∷ earlier) = or_this (first_of test earlier) (test x) x
-
--- Where a datagram belongs: to the service port, to the other end, or astray, or to one that went astray. Or it has
--- a port that it may not have.
-pub data Route : Type 0 where
-  Request : Route
-  Peer : Route
-  Stray : Route
-  StrayAnswer : Route
-  ForeignPort : Route
-  WrongPort : Route
-  NoStrayAnswer : Route
 
 -- before the first request
 abbrev pub route_before : Header → Datagram → Route

@@ -10,21 +10,11 @@ use Rattle.tftp_packet.specs.declared.kinds.Dir.{Dir}
 use Rattle.tftp_packet.specs.declared.kinds.Dir.TheVariants.{In, Out}
 use Rattle.tftp_ends.specs.CaptureText.{Datagram}
 use Rattle.tftp_ends.specs.Roles.{sender_of, receiver_of}
-
--- how the request was answered: not yet, by a block or an ACK 0 and so with nothing agreed, or by an OACK
-pub data Reply : Type 0 where
-  NoReply : Reply
-  Plain : Reply
-  Oacked : Reply
-
--- what an end knows of the transfer before its blocks
-pub record Terms : Type 0 where
-  pub named : End
-  pub side : Side
-  pub reply : Reply
-  pub blksize : ℕ
-  pub windowsize : ℕ
-  pub size : Option ℕ  -- of the whole wire, where it was agreed
+use Rattle.tftp_ends.specs.declared.rule.EndRule.{EndRule}
+use Rattle.tftp_ends.specs.declared.rule.EndRule.TheVariants.{NotStarted, BlockZero, BeyondBlock65535, BlockLength, WindowOverrun, BlockSkipped, GoneBack, BlockChanged, AckAhead, AckZero}
+use Rattle.tftp_ends.specs.declared.terms.Reply.{Reply}
+use Rattle.tftp_ends.specs.declared.terms.Reply.TheVariants.{NoReply, Plain, Oacked}
+use Rattle.tftp_ends.specs.declared.terms.Terms.{Terms}
 
 -- a datagram that goes this way and spells this has passed
 abbrev pub Passed : Dir → Message → List Datagram → Type 0
@@ -117,17 +107,18 @@ IsAckedAt t passed acked = (IsSender t × IsAnswered passed acked) ⊎ (IsReceiv
 abbrev pub IsReachedAt : Terms → List Datagram → ℕ → Type 0
 IsReachedAt t passed reached = (IsSender t × IsTop passed reached) ⊎ (IsReceiver t × IsFront passed reached)
 
-pub data EndRule : Type 0 where
-  NotStarted : EndRule
-  BlockZero : EndRule
-  BeyondBlock65535 : EndRule
-  BlockLength : EndRule
-  WindowOverrun : EndRule
-  BlockSkipped : EndRule
-  GoneBack : EndRule
-  BlockChanged : EndRule
-  AckAhead : EndRule
-  AckZero : EndRule
+-- the numbers of these rules, in the order in which all rules are tried
+abbrev pub end_number : EndRule → ℕ
+end_number NotStarted = 18
+end_number BlockZero = 19
+end_number BeyondBlock65535 = 20
+end_number BlockLength = 21
+end_number WindowOverrun = 22
+end_number BlockSkipped = 23
+end_number GoneBack = 24
+end_number BlockChanged = 25
+end_number AckAhead = 26
+end_number AckZero = 27
 
 -- when block k with these bytes breaks each rule of blocks
 abbrev pub BlockBreaks : Terms → List Datagram → ℕ → List ℕ → EndRule → Type 0
@@ -160,3 +151,8 @@ abbrev pub EndBroken : Terms → List Datagram → Message → EndRule → Type 
 EndBroken t passed (Data k bytes) rule = BlockBreaks t passed k bytes rule
 EndBroken t passed (Ack j) rule = AckBreaks t passed j rule
 EndBroken t passed _ rule = ⊥
+
+-- the message breaks this rule, and none of these rules that stands before it
+pub record FirstEndBroken (t : Terms) (passed : List Datagram) (m : Message) (rule : EndRule) : Type 0 where
+  pub broken : EndBroken t passed m rule
+  pub first : (other : EndRule) → end_number other < end_number rule → EndBroken t passed m other → ⊥

@@ -2,3 +2,10 @@
 #![tactic(auto)]
 
 pub mod laws;
+mod route;
+mod rule;
+mod terms;
+
+pub use route::Route;
+pub use rule::EndRule;
+pub use terms::{Reply, Terms};

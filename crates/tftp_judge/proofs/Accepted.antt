@@ -9,7 +9,8 @@ use Rattle.tftp_packet.specs.declared.kinds.Dir.TheVariants.{In}
 use Rattle.tftp_ends.specs.Meaning.{request_of}
 use Rattle.tftp_ends.specs.Blocks.{block as slice}
 use Rattle.tftp_ends.specs.Ports.{transfer_of}
-use Rattle.tftp_ends.specs.Rules.{Passed, HasPassed, IsFront, NoReply, Plain}
+use Rattle.tftp_ends.specs.Rules.{Passed, HasPassed, IsFront}
+use Rattle.tftp_ends.specs.declared.terms.Reply.TheVariants.{NoReply, Plain}
 use Rattle.tftp_ends.specs.Worked.{two_bytes}
 use Rattle.tftp_judge.specs.Rules.{Agrees, Begins, plain_terms}
 use Rattle.tftp_judge.specs.OneEnded.{OneEnded, IsEnded, Meant}

@@ -10,7 +10,7 @@ use Rattle.tftp_packet.specs.declared.kinds.Side.{Side}
 use Rattle.tftp_packet.specs.declared.kinds.Side.TheVariants.{Get, Put}
 use Rattle.tftp_packet.specs.declared.kinds.Mode.TheVariants.{Octet}
 use Rattle.tftp_ends.specs.Meaning.{number_or}
-use Rattle.tftp_ends.specs.Rules.{NoReply}
+use Rattle.tftp_ends.specs.declared.terms.Reply.TheVariants.{NoReply}
 use Rattle.tftp_judge.proofs.Agreed.{AllAnswer}
 use Rattle.tftp_ends.specs.Worked.{eight_a_block}
 use Rattle.tftp_ends.specs.WorkedWindows.{eight_by_four}

@@ -7,9 +7,13 @@ use Rattle.tftp_packet.specs.Spelling.{Spells}
 use Rattle.tftp_packet.specs.declared.kinds.Side.{Side}
 use Rattle.tftp_ends.specs.CaptureText.{Header}
 use Rattle.tftp_ends.specs.Ports.{or_this, asks, route_of, is_of_transfer, transfer_of}
-use Rattle.tftp_ends.specs.Rules.{Terms, EndRule, EndBroken}
-use Rattle.tftp_judge.specs.Agreement.{AgreementFault, HasFault}
-use Rattle.tftp_judge.specs.Rules.{Rule, number_of, Answer, Agrees, terms_after, AreTerms, FirstOack, EndBreaks, Broken}
+use Rattle.tftp_ends.specs.Rules.{EndBroken}
+use Rattle.tftp_ends.specs.declared.terms.Terms.{Terms}
+use Rattle.tftp_ends.specs.declared.rule.EndRule.{EndRule}
+use Rattle.tftp_nego.specs.Faults.{Holds}
+use Rattle.tftp_nego.specs.declared.fault.NegoFault.{NegoFault}
+use Rattle.tftp_judge.specs.Rules.{number_of, Answer, Agrees, terms_after, AreTerms, FirstOack, EndBreaks, Broken}
+use Rattle.tftp_judge.specs.declared.rule.Rule.{Rule}
 use Rattle.tftp_judge.specs.OneEnded.{OneEnded, IsRefused}
 use Rattle.tftp_judge.proofs.Spelled.{spelled_once}
 use Rattle.tftp_judge.proofs.Payloads.{Spelled, datagrams, AllSpelled}
@@ -39,12 +43,12 @@ none_under n h t es e s here is other test =
 
 -- its faults below n
 pub record OackFine (asked : RequestParts) (oack : OptionMap) (n : ℕ) : Type 0 where
-  pub empty : 11 < n → HasFault asked oack AgreementFault.Empty → ⊥
-  pub multicast : 12 < n → HasFault asked oack AgreementFault.Multicast → ⊥
-  pub not_requested : 13 < n → HasFault asked oack AgreementFault.NotRequested → ⊥
-  pub outside : 14 < n → HasFault asked oack AgreementFault.OutsideProfile → ⊥
-  pub bad_value : 15 < n → HasFault asked oack AgreementFault.BadValue → ⊥
-  pub beyond : 20 < n → HasFault asked oack AgreementFault.TooManyBlocks → ⊥
+  pub empty : 11 < n → Holds NegoFault.OackEmpty asked oack → ⊥
+  pub multicast : 12 < n → Holds NegoFault.MulticastAgreed asked oack → ⊥
+  pub not_requested : 13 < n → Holds NegoFault.OptionNotRequested asked oack → ⊥
+  pub outside : 14 < n → Holds NegoFault.OptionOutsideProfile asked oack → ⊥
+  pub bad_value : 15 < n → Holds NegoFault.OptionValue asked oack → ⊥
+  pub beyond : 20 < n → Holds NegoFault.BeyondBlock65535 asked oack → ⊥
 
 same_request : (a b : RequestParts) → Some (Message.Request a) ≡ Some (Message.Request b) → a ≡ b
 same_request a b e = cc
@@ -53,24 +57,24 @@ same_oack : (a b : OptionMap) → Message.Oack a ≡ Message.Oack b → a ≡ b
 same_oack a b e = cc
 
 oack_fault : (h : Header) (es : List Spelled) (e : Spelled) (s : AllSpelled es) (here : Spells e.0.payload e.1) (asked : RequestParts) (oack : OptionMap)
-    → asked_by (first_asked h es) ≡ Some (Message.Request asked) → e.1 ≡ Message.Oack oack → (fault : AgreementFault) → FirstOack h (datagrams es) e.0 fault → HasFault asked oack fault
+    → asked_by (first_asked h es) ≡ Some (Message.Request asked) → e.1 ≡ Message.Oack oack → (fault : NegoFault) → FirstOack h (datagrams es) e.0 fault → Holds fault asked oack
 oack_fault h es e s here asked oack is says fault first =
     let request : first.asked ≡ asked = same_request first.asked asked (sym (asked_is h es first.asked s first.first) ∙ is) in
     let options : first.oack ≡ oack = same_oack first.oack oack (sym (spelled_once e.0.payload e.1 (Message.Oack first.oack) here first.says.spells) ∙ says) in
-    subst (λ r. HasFault r oack fault) request (subst (λ o. HasFault first.asked o fault) options first.wrong)
+    subst (λ r. Holds fault r oack) request (subst (λ o. Holds fault first.asked o) options first.wrong)
 
 pub first_oack_keeps : (h : Header) (es : List Spelled) (e : Spelled) (s : AllSpelled es) (here : Spells e.0.payload e.1) (t : Option Terms)
     (known : (u : Terms) → AreTerms h (datagrams es) u → t ≡ Some u) (n : ℕ) (asked : RequestParts) (oack : OptionMap)
     → asked_by (first_asked h es) ≡ Some (Message.Request asked) → first_answer asked.side (main_of h es) ≡ None → e.1 ≡ Message.Oack oack → OackFine asked oack n
     → OackKeeps h es e s here t known n
 first_oack_keeps h es e s here t known n asked oack is none says fine = record {
-  empty = λ low first. fine.empty low (oack_fault h es e s here asked oack is says AgreementFault.Empty first);
-  multicast = λ low first. fine.multicast low (oack_fault h es e s here asked oack is says AgreementFault.Multicast first);
-  not_requested = λ low first. fine.not_requested low (oack_fault h es e s here asked oack is says AgreementFault.NotRequested first);
-  outside = λ low first. fine.outside low (oack_fault h es e s here asked oack is says AgreementFault.OutsideProfile first);
-  bad_value = λ low first. fine.bad_value low (oack_fault h es e s here asked oack is says AgreementFault.BadValue first);
+  empty = λ low first. fine.empty low (oack_fault h es e s here asked oack is says NegoFault.OackEmpty first);
+  multicast = λ low first. fine.multicast low (oack_fault h es e s here asked oack is says NegoFault.MulticastAgreed first);
+  not_requested = λ low first. fine.not_requested low (oack_fault h es e s here asked oack is says NegoFault.OptionNotRequested first);
+  outside = λ low first. fine.outside low (oack_fault h es e s here asked oack is says NegoFault.OptionOutsideProfile first);
+  bad_value = λ low first. fine.bad_value low (oack_fault h es e s here asked oack is says NegoFault.OptionValue first);
   changed = λ low. not_answered h es e s here asked is none;
-  beyond = λ low first. fine.beyond low (oack_fault h es e s here asked oack is says AgreementFault.TooManyBlocks first);
+  beyond = λ low first. fine.beyond low (oack_fault h es e s here asked oack is says NegoFault.BeyondBlock65535 first);
 }
 
 -- the first OACK passes, where its options are fine
@@ -172,16 +176,16 @@ pub later_oack_keeps : (h : Header) (es : List Spelled) (e : Spelled) (s : AllSp
     (known : (u : Terms) → AreTerms h (datagrams es) u → t ≡ Some u) (n : ℕ) (asked : RequestParts) (answer : Answer) → IsFixed h es asked answer
     → (16 < n → Broken h (datagrams es) e.0 Rule.OackChanged → ⊥) → OackKeeps h es e s here t known n
 later_oack_keeps h es e s here t known n asked answer f same = record {
-  empty = λ _. never AgreementFault.Empty;
-  multicast = λ _. never AgreementFault.Multicast;
-  not_requested = λ _. never AgreementFault.NotRequested;
-  outside = λ _. never AgreementFault.OutsideProfile;
-  bad_value = λ _. never AgreementFault.BadValue;
+  empty = λ _. never NegoFault.OackEmpty;
+  multicast = λ _. never NegoFault.MulticastAgreed;
+  not_requested = λ _. never NegoFault.OptionNotRequested;
+  outside = λ _. never NegoFault.OptionOutsideProfile;
+  bad_value = λ _. never NegoFault.OptionValue;
   changed = same;
-  beyond = λ _. never AgreementFault.TooManyBlocks;
+  beyond = λ _. never NegoFault.BeyondBlock65535;
 }
   where
-    never : (fault : AgreementFault) → FirstOack h (datagrams es) e.0 fault → ⊥
+    never : (fault : NegoFault) → FirstOack h (datagrams es) e.0 fault → ⊥
     never fault first =
         let request : first.asked ≡ asked = same_request first.asked asked (sym (asked_is h es first.asked s first.first) ∙ f.request) in
         let none = unanswered_is h first.asked.side es s first.unanswered in

@@ -15,10 +15,16 @@ use Rattle.tftp_packet.specs.declared.kinds.Dir.TheVariants.{In, Out}
 use Rattle.tftp_packet.proofs.NoFault.{no_fault}
 use Rattle.tftp_ends.specs.CaptureText.{Datagram, Header}
 use Rattle.tftp_ends.specs.Roles.{sender_of, receiver_of, author_of}
-use Rattle.tftp_ends.specs.Ports.{Route, asks, first_of, route_of, transfer_of, SaysUnknownId}
-use Rattle.tftp_ends.specs.Rules.{Reply, NoReply, Plain, Oacked, Terms, Passed, HasPassed, BlockPassed, IsTop, IsHigh, IsLast, LastIsUnknown, IsNotLengthOf, HasWrongLength, BlocksWait, AckZeroWaits, IsSender, IsAckedAt, IsReachedAt, EndRule, BlockBreaks, AckBreaks, EndBroken}
-use Rattle.tftp_judge.specs.Agreement.{AgreementFault}
-use Rattle.tftp_judge.specs.Rules.{Rule, number_of, FirstAsked, Agrees, Begins, AreTerms, Says, IsWrongKind, FirstOack, EndBreaks, Broken}
+use Rattle.tftp_ends.specs.Ports.{asks, first_of, route_of, transfer_of, SaysUnknownId}
+use Rattle.tftp_ends.specs.declared.route.Route.{Route}
+use Rattle.tftp_ends.specs.Rules.{Passed, HasPassed, BlockPassed, IsTop, IsHigh, IsLast, LastIsUnknown, IsNotLengthOf, HasWrongLength, BlocksWait, AckZeroWaits, IsSender, IsAckedAt, IsReachedAt, BlockBreaks, AckBreaks, EndBroken}
+use Rattle.tftp_ends.specs.declared.terms.Reply.{Reply}
+use Rattle.tftp_ends.specs.declared.terms.Reply.TheVariants.{NoReply, Plain, Oacked}
+use Rattle.tftp_ends.specs.declared.terms.Terms.{Terms}
+use Rattle.tftp_ends.specs.declared.rule.EndRule.{EndRule}
+use Rattle.tftp_nego.specs.declared.fault.NegoFault.{NegoFault}
+use Rattle.tftp_judge.specs.Rules.{number_of, FirstAsked, Agrees, Begins, AreTerms, Says, IsWrongKind, FirstOack, EndBreaks, Broken}
+use Rattle.tftp_judge.specs.declared.rule.Rule.{Rule}
 use Rattle.tftp_judge.specs.OneEnded.{IsRead, Passes}
 use Rattle.tftp_judge.proofs.Spelled.{spelled_once}
 use Rattle.tftp_judge.proofs.Payloads.{Spelled, datagrams, AllSpelled, all_from}
@@ -457,7 +463,7 @@ module _ (h : Header) (es : List Spelled) (e : Spelled) (s : AllSpelled es) (her
         | inr none ↦ false≢true (every_here sent_no_block Out (Message.Data k bytes) none sent)
       ]
 
-  pub no_first_oack : not_oack e.1 ≡ true → (fault : AgreementFault) → FirstOack h (datagrams es) e.0 fault → ⊥
+  pub no_first_oack : not_oack e.1 ≡ true → (fault : NegoFault) → FirstOack h (datagrams es) e.0 fault → ⊥
   no_first_oack t fault first = false≢true (subst (λ x. not_oack x ≡ true) (says_is (Message.Oack first.oack) first.says) t)
 
   pub no_later_oack : not_oack e.1 ≡ true → Broken h (datagrams es) e.0 Rule.OackChanged → ⊥
@@ -487,13 +493,13 @@ module _ (h : Header) (es : List Spelled) (e : Spelled) (s : AllSpelled es) (her
 
     -- an OACK that comes first or later breaks none of its rules below n
     pub record OackKeeps (n : ℕ) : Type 0 where
-      pub empty : 11 < n → FirstOack h (datagrams es) e.0 AgreementFault.Empty → ⊥
-      pub multicast : 12 < n → FirstOack h (datagrams es) e.0 AgreementFault.Multicast → ⊥
-      pub not_requested : 13 < n → FirstOack h (datagrams es) e.0 AgreementFault.NotRequested → ⊥
-      pub outside : 14 < n → FirstOack h (datagrams es) e.0 AgreementFault.OutsideProfile → ⊥
-      pub bad_value : 15 < n → FirstOack h (datagrams es) e.0 AgreementFault.BadValue → ⊥
+      pub empty : 11 < n → FirstOack h (datagrams es) e.0 NegoFault.OackEmpty → ⊥
+      pub multicast : 12 < n → FirstOack h (datagrams es) e.0 NegoFault.MulticastAgreed → ⊥
+      pub not_requested : 13 < n → FirstOack h (datagrams es) e.0 NegoFault.OptionNotRequested → ⊥
+      pub outside : 14 < n → FirstOack h (datagrams es) e.0 NegoFault.OptionOutsideProfile → ⊥
+      pub bad_value : 15 < n → FirstOack h (datagrams es) e.0 NegoFault.OptionValue → ⊥
       pub changed : 16 < n → Broken h (datagrams es) e.0 Rule.OackChanged → ⊥
-      pub beyond : 20 < n → FirstOack h (datagrams es) e.0 AgreementFault.TooManyBlocks → ⊥
+      pub beyond : 20 < n → FirstOack h (datagrams es) e.0 NegoFault.BeyondBlock65535 → ⊥
 
     pub kept : (n : ℕ) → OackKeeps n → (rule : Rule) → number_of rule < n → keeps h t es e rule ≡ true → Broken h (datagrams es) e.0 rule → ⊥
     kept n o Rule.ForeignPort low k b = not_foreign_port k b
@@ -661,11 +667,11 @@ passes_is h t es e s here known o is =
 pub no_oack : (h : Header) (es : List Spelled) (e : Spelled) (s : AllSpelled es) (here : Spells e.0.payload e.1) (t : Option Terms)
     (known : (u : Terms) → AreTerms h (datagrams es) u → t ≡ Some u) (n : ℕ) → not_oack e.1 ≡ true → OackKeeps h es e s here t known n
 no_oack h es e s here t known n is = record {
-  empty = λ _. no_first_oack h es e s here is AgreementFault.Empty;
-  multicast = λ _. no_first_oack h es e s here is AgreementFault.Multicast;
-  not_requested = λ _. no_first_oack h es e s here is AgreementFault.NotRequested;
-  outside = λ _. no_first_oack h es e s here is AgreementFault.OutsideProfile;
-  bad_value = λ _. no_first_oack h es e s here is AgreementFault.BadValue;
+  empty = λ _. no_first_oack h es e s here is NegoFault.OackEmpty;
+  multicast = λ _. no_first_oack h es e s here is NegoFault.MulticastAgreed;
+  not_requested = λ _. no_first_oack h es e s here is NegoFault.OptionNotRequested;
+  outside = λ _. no_first_oack h es e s here is NegoFault.OptionOutsideProfile;
+  bad_value = λ _. no_first_oack h es e s here is NegoFault.OptionValue;
   changed = λ _. no_later_oack h es e s here is;
-  beyond = λ _. no_first_oack h es e s here is AgreementFault.TooManyBlocks;
+  beyond = λ _. no_first_oack h es e s here is NegoFault.BeyondBlock65535;
 }

@@ -14,7 +14,7 @@ use Rattle.tftp_ends.proofs.Defaults.{default_blksize}
 use Rattle.tftp_ends.proofs.WorkedMore.{eight_for_blksize, blocks_of_eight, two_blocks, written_one_block, written_is_view, written_complete, ten_bytes_is_view, ten_bytes_complete}
 use Rattle.tftp_packet.specs.Spelling.{Spells}
 use Rattle.tftp_judge.specs.CaptureText.{Datagram}
-use Rattle.tftp_judge.specs.Agreement.{MayAgree}
+use Rattle.tftp_nego.specs.Agreement.{MayAgree}
 use Rattle.tftp_judge.specs.Fits.{Fits}
 use Rattle.tftp_judge.specs.Dress.{Main, Placed, Division, CarriesDeed, IsDressed}
 use Rattle.tftp_judge.specs.Law.{IsSeen, Shows}

@@ -7,8 +7,11 @@ use Rattle.tftp_packet.specs.OptionMap.{OptionMap, OptionValue, Num, no_options}
 use Rattle.tftp_packet.specs.Message.{RequestParts}
 use Rattle.tftp_ends.specs.CaptureText.{Header}
 use Rattle.tftp_ends.specs.Meaning.{number_or, option_or}
-use Rattle.tftp_ends.specs.Rules.{Oacked, Terms}
-use Rattle.tftp_judge.specs.Agreement.{MayAnswer, AgreementFault, HasFault}
+use Rattle.tftp_ends.specs.declared.terms.Reply.TheVariants.{Oacked}
+use Rattle.tftp_ends.specs.declared.terms.Terms.{Terms}
+use Rattle.tftp_nego.specs.Agreement.{MayAnswer}
+use Rattle.tftp_nego.specs.Faults.{Holds}
+use Rattle.tftp_nego.specs.declared.fault.NegoFault.{NegoFault}
 use Rattle.tftp_judge.specs.Rules.{Agrees, size_from, terms_after}
 use Rattle.tftp_judge.proofs.Agreed.{AllAnswer, no_option_fault}
 use Rattle.tftp_judge.proofs.Chains.{OackFine}
@@ -48,13 +51,13 @@ not_empty options name a has e =
     let both : Some (Num a) ≡ None = sym has ∙ ap (λ o. map.get o name) e ∙ none in
     absurd (cc)
 
-pub fine : (n : ℕ) (asked : RequestParts) (oack : OptionMap) → AllAnswer asked oack → oack ≢ no_options → (20 < n → HasFault asked oack AgreementFault.TooManyBlocks → ⊥) → OackFine asked oack n
+pub fine : (n : ℕ) (asked : RequestParts) (oack : OptionMap) → AllAnswer asked oack → oack ≢ no_options → (20 < n → Holds NegoFault.BeyondBlock65535 asked oack → ⊥) → OackFine asked oack n
 fine n asked oack all there few = record {
-  empty = λ _. no_option_fault asked oack all there AgreementFault.Empty (λ e. cc);
-  multicast = λ _. no_option_fault asked oack all there AgreementFault.Multicast (λ e. cc);
-  not_requested = λ _. no_option_fault asked oack all there AgreementFault.NotRequested (λ e. cc);
-  outside = λ _. no_option_fault asked oack all there AgreementFault.OutsideProfile (λ e. cc);
-  bad_value = λ _. no_option_fault asked oack all there AgreementFault.BadValue (λ e. cc);
+  empty = λ _. no_option_fault asked oack all there NegoFault.OackEmpty (λ e. cc);
+  multicast = λ _. no_option_fault asked oack all there NegoFault.MulticastAgreed (λ e. cc);
+  not_requested = λ _. no_option_fault asked oack all there NegoFault.OptionNotRequested (λ e. cc);
+  outside = λ _. no_option_fault asked oack all there NegoFault.OptionOutsideProfile (λ e. cc);
+  bad_value = λ _. no_option_fault asked oack all there NegoFault.OptionValue (λ e. cc);
   beyond = few;
 }
 
@@ -77,13 +80,13 @@ pub found : (one other : List ℕ) (a b : ℕ) (name : List ℕ) → map.get (tw
 found one other a b name = map.get-from_entries nat_list_cmp_total ((one, Num a) ∷ (other, Num b) ∷ []) name
 
 -- without a size no size is too great
-pub no_size : (asked : RequestParts) (options : OptionMap) → map.get options (codes "tsize") ≡ None → HasFault asked options AgreementFault.TooManyBlocks → ⊥
-no_size asked options none (octet, (size, get, many)) = let both : None ≡ Some (Num size) = sym none ∙ get in absurd (cc)
+pub no_size : (asked : RequestParts) (options : OptionMap) → map.get options (codes "tsize") ≡ None → Holds NegoFault.BeyondBlock65535 asked options → ⊥
+no_size asked options none (size, octet, get, many) = let both : None ≡ Some (Num size) = sym none ∙ get in absurd (cc)
 
 -- nor is a small one
 pub small_size : (asked : RequestParts) (options : OptionMap) (size b : ℕ) → map.get options (codes "tsize") ≡ Some (Num size) → option_or 512 options (codes "blksize") ≡ b → size / b + 1 ≤ 65535
-    → HasFault asked options AgreementFault.TooManyBlocks → ⊥
-small_size asked options size b is blksize few (octet, (other, get, many)) =
+    → Holds NegoFault.BeyondBlock65535 asked options → ⊥
+small_size asked options size b is blksize few (other, octet, get, many) =
     let both : Some (Num size) ≡ Some (Num other) = sym is ∙ get in
     let same : size ≡ other = cc in
     let less : 65535 < size / b + 1 = subst (λ n. 65535 < size / n + 1) blksize (subst (λ n. 65535 < n / option_or 512 options (codes "blksize") + 1) (sym same) many) in

@@ -8,7 +8,9 @@ use Rattle.tftp_packet.specs.declared.kinds.Side.TheVariants.{Get, Put}
 use Rattle.tftp_packet.specs.declared.kinds.Dir.{Dir}
 use Rattle.tftp_ends.specs.CaptureText.{Datagram, Header}
 use Rattle.tftp_ends.specs.Ports.{or_this, first_of, asks, route_of, is_of_transfer, transfer_of}
-use Rattle.tftp_ends.specs.Rules.{Terms, Passed, NoReply}
+use Rattle.tftp_ends.specs.Rules.{Passed}
+use Rattle.tftp_ends.specs.declared.terms.Terms.{Terms}
+use Rattle.tftp_ends.specs.declared.terms.Reply.TheVariants.{NoReply}
 use Rattle.tftp_judge.specs.Rules.{FirstAsked, Answer, Agrees, Begins, IsAnswer, Answers, NotAnswered, FirstAnswer, plain_terms, terms_after, AreTerms}
 use Rattle.tftp_judge.proofs.Spelled.{spelled_once}
 use Rattle.tftp_judge.proofs.Payloads.{Spelled, datagrams, AllSpelled}
@@ -151,7 +153,7 @@ ack_answers : (b : Bool) (a : Answer) → (if b then Some Begins else None) ≡ 
 ack_answers true a e = (refl, cc)
 ack_answers false a e = absurd (cc)
 
-answer_is : (side : Side) (m : Message) (a : Answer) → IsAnswer side m a → answer_of side m ≡ Some a
+pub answer_is : (side : Side) (m : Message) (a : Answer) → IsAnswer side m a → answer_of side m ≡ Some a
 answer_is Get (Message.Oack options) (Agrees other) is = ap (λ o. Some (Agrees o)) is
 answer_is Put (Message.Oack options) (Agrees other) is = ap (λ o. Some (Agrees o)) is
 answer_is Get (Message.Data k bytes) Begins is = refl
@@ -184,7 +186,7 @@ answer_there Get (Message.Error code text) a e = absurd (cc)
 answer_there Put (Message.Error code text) a e = absurd (cc)
 
 -- no option has two values
-two_ways : {X : Type 0} (o : Option X) → (o ≡ None) ⊎ ((x : X) × (o ≡ Some x))
+pub two_ways : {X : Type 0} (o : Option X) → (o ≡ None) ⊎ ((x : X) × (o ≡ Some x))
 two_ways None = inl refl
 two_ways (Some x) = inr (x, refl)
 

@@ -16,7 +16,7 @@ use Rattle.tftp_ends.proofs.Members.{contains_first, contains_cases, contains_no
 use Rattle.tftp_ends.proofs.Defaults.{default_blksize}
 use Rattle.tftp_ends.proofs.Worked.{one_block, two_bytes_run, two_bytes_is_view, two_bytes_complete}
 use Rattle.tftp_packet.specs.Spelling.{Spells}
-use Rattle.tftp_judge.specs.Agreement.{MayAgree}
+use Rattle.tftp_nego.specs.Agreement.{MayAgree}
 use Rattle.tftp_judge.specs.Fits.{Fits}
 use Rattle.tftp_judge.specs.Dress.{Main, Placed, Division, TransferIds, CarriesDeed, HaveParts, IsDressed}
 use Rattle.tftp_judge.specs.Law.{IsSeen, IsLawful, ShowsBy, Shows}

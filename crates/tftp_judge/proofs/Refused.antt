@@ -7,8 +7,9 @@ use Rattle.tftp_packet.specs.declared.kinds.Dir.{Dir}
 use Rattle.tftp_packet.specs.declared.kinds.Dir.TheVariants.{In, Out}
 use Rattle.tftp_ends.specs.CaptureText.{Header}
 use Rattle.tftp_ends.specs.Ports.{transfer_of}
-use Rattle.tftp_ends.specs.Rules.{Passed, HasPassed, IsTop, IsAcked, EndRule}
-use Rattle.tftp_judge.specs.Rules.{Rule}
+use Rattle.tftp_ends.specs.Rules.{Passed, HasPassed, IsTop, IsAcked}
+use Rattle.tftp_ends.specs.declared.rule.EndRule.{EndRule}
+use Rattle.tftp_judge.specs.declared.rule.Rule.{Rule}
 use Rattle.tftp_judge.specs.OneEnded.{IsRefused}
 use Rattle.tftp_judge.specs.Worked.{at_client}
 use Rattle.tftp_judge.specs.WorkedWindows.{block, ack, goes, comes, before_overrun, block_seven, before_skip, block_two}

@@ -6,11 +6,13 @@ use Rattle.tftp_packet.specs.OptionMap.{Num}
 use Rattle.tftp_packet.specs.Message.{Message, RequestParts}
 use Rattle.tftp_packet.specs.declared.kinds.Side.TheVariants.{Get}
 use Rattle.tftp_ends.specs.Meaning.{number_or, request_of}
-use Rattle.tftp_ends.specs.Rules.{NoReply, Plain, IsFront, BlockPassed}
+use Rattle.tftp_ends.specs.Rules.{IsFront, BlockPassed}
+use Rattle.tftp_ends.specs.declared.terms.Reply.TheVariants.{NoReply, Plain}
 use Rattle.tftp_ends.specs.Worked.{two_bytes, eight_a_block}
 use Rattle.tftp_ends.specs.WorkedWindows.{eight_by_four}
 use Rattle.tftp_ends.proofs.WorkedWindows.{four_of_both}
-use Rattle.tftp_judge.specs.Rules.{Rule, FirstAsked, Begins, Agrees, plain_terms, Broken}
+use Rattle.tftp_judge.specs.Rules.{FirstAsked, Begins, Agrees, plain_terms, Broken}
+use Rattle.tftp_judge.specs.declared.rule.Rule.{Rule}
 use Rattle.tftp_packet.specs.Spelling.{Spells}
 use Rattle.tftp_packet.specs.declared.kinds.Dir.{Dir}
 use Rattle.tftp_packet.specs.declared.kinds.Dir.TheVariants.{In}
@@ -162,7 +164,7 @@ too_many = inr (record {
   first = (asks_for_size, refl, read_of_ten_request);
   unanswered = unanswered_there at_client Get (read_of_ten_asks ∷ []) (read_of_ten_request, tt) refl;
   says = record { routed = refl; spells = oack_spells (sized (codes "524280")) (eight_and_size 524280) refl many_is };
-  wrong = (refl, (524280, found blksize tsize 8 524280 tsize, subst (λ b. 65535 < 524280 / b + 1) (sym (ap (number_or 512) (found blksize tsize 8 524280 blksize))) (omega arith)));
+  wrong = (524280, refl, found blksize tsize 8 524280 tsize, subst (λ b. 65535 < 524280 / b + 1) (sym (ap (number_or 512) (found blksize tsize 8 524280 blksize))) (omega arith));
 })
 
 pub many_refused : IsRefused at_client (reverse (asks_for_size ∷ [])) too_many_blocks Rule.BeyondBlock65535

@@ -4,10 +4,12 @@ use Rattle.tftp_ends.specs.CaptureText.{Datagram, Header}
 use Rattle.tftp_ends.specs.Meaning.{Meaning}
 use Rattle.tftp_ends.specs.Worked.{two_bytes}
 use Rattle.tftp_ends.specs.WorkedWindows.{six_blocks}
-use Rattle.tftp_judge.specs.Rules.{Rule, number_of, FirstBroken}
+use Rattle.tftp_judge.specs.Rules.{number_of, FirstBroken}
+use Rattle.tftp_judge.specs.declared.rule.Rule.{Rule}
 use Rattle.tftp_judge.specs.OneEnded.{OneEnded, IsRefused}
 use Rattle.tftp_judge.specs.Law.{Shows}
-use Rattle.tftp_judge.specs.Verdict.{Accepted, Unlawful, Incomplete, IsVerdict, IsVerdictByRules}
+use Rattle.tftp_judge.specs.Verdict.{IsVerdict, IsVerdictByRules}
+use Rattle.tftp_judge.specs.declared.verdict.Verdict.TheVariants.{Accepted, Unlawful, Incomplete}
 use Rattle.tftp_judge.specs.Worked.{at_client, one_block_read, read_without_its_ack}
 use Rattle.tftp_judge.specs.WorkedWindows.{window_out_of_order, before_overrun, block_seven}
 use Rattle.tftp_judge.proofs.Beginnings.{shown_is_lawful}

@@ -13,7 +13,7 @@ use Rattle.tftp_ends.specs.Worked.{eight_a_block}
 use Rattle.tftp_ends.specs.WorkedWindows.{eight_by_four, six_blocks, six_blocks_view, six_blocks_server_view, block_repeated, block_repeated_view, window_repeated, window_repeated_view}
 use Rattle.tftp_ends.proofs.WorkedMore.{eight_for_blksize}
 use Rattle.tftp_ends.proofs.WorkedWindows.{eight_of_both, four_of_both, six_size, six_count, six_view, six_complete, six_server_view, six_server_complete, repeated_size, repeated_count, repeated_view, repeated_complete, window_size, window_count, window_view, window_complete}
-use Rattle.tftp_judge.specs.Agreement.{MayAgree}
+use Rattle.tftp_nego.specs.Agreement.{MayAgree}
 use Rattle.tftp_judge.specs.Fits.{Fits}
 use Rattle.tftp_judge.specs.Dress.{TransferIds, IsDressed}
 use Rattle.tftp_judge.specs.Law.{IsSeen, Shows}

@@ -6,8 +6,8 @@ use Rattle.tftp_packet.specs.declared.kinds.Mode.{Mode}
 use Rattle.tftp_packet.specs.declared.kinds.Mode.TheVariants.{Octet, Netascii}
 use Rattle.tftp_ends.specs.Meaning.{Meaning, request_of, blksize_of}
 use Rattle.tftp_ends.specs.Blocks.{block_count}
-use Rattle.tftp_judge.specs.Netascii.{Reads, canonical_wire}
-use Rattle.tftp_judge.specs.Agreement.{MayAgree}
+use Rattle.tftp_netascii.specs.Netascii.{Reads, canonical_wire}
+use Rattle.tftp_nego.specs.Agreement.{MayAgree}
 
 -- in octet mode the bytes go as they are, in netascii as a text that reads as the file
 abbrev pub ReadsAs : Mode → List ℕ → List ℕ → Type 0

@@ -1,7 +1,5 @@
 pub mod CaptureText
 pub mod Sides
-pub mod Netascii
-pub mod Agreement
 pub mod Fits
 pub mod Dress
 pub mod Law
@@ -11,3 +9,11 @@ pub mod Verdict
 pub mod Worked
 pub mod WorkedWindows
 pub mod WorkedRules
+pub mod Heard
+pub mod Plain
+pub mod PortRules
+pub mod Owned
+pub mod Numbers
+pub mod MessageRules
+pub mod SentKinds
+pub mod Settled

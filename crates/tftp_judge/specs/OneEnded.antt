@@ -7,11 +7,14 @@ use Rattle.tftp_packet.specs.Spelling.{Spells}
 use Rattle.tftp_ends.specs.CaptureText.{Datagram, Header}
 use Rattle.tftp_ends.specs.Meaning.{Meaning, request_of}
 use Rattle.tftp_ends.specs.Blocks.{block, block_count}
-use Rattle.tftp_ends.specs.Ports.{Route, route_of, transfer_of, SaysUnknownId}
-use Rattle.tftp_ends.specs.Rules.{Terms, Passed, HasPassed, IsFront, IsLast, IsSender, IsReceiver}
+use Rattle.tftp_ends.specs.Ports.{route_of, transfer_of, SaysUnknownId}
+use Rattle.tftp_ends.specs.declared.route.Route.{Route}
+use Rattle.tftp_ends.specs.Rules.{Passed, HasPassed, IsFront, IsLast, IsSender, IsReceiver}
+use Rattle.tftp_ends.specs.declared.terms.Terms.{Terms}
 use Rattle.tftp_packet.specs.declared.kinds.Dir.TheVariants.{In, Out}
 use Rattle.tftp_judge.specs.Fits.{ReadsAs}
-use Rattle.tftp_judge.specs.Rules.{Rule, Broken, FirstBroken, FirstAsked, Agrees, FirstAnswer, AreTerms}
+use Rattle.tftp_judge.specs.Rules.{Broken, FirstBroken, FirstAsked, Agrees, FirstAnswer, AreTerms}
+use Rattle.tftp_judge.specs.declared.rule.Rule.{Rule}
 
 -- what is read of a datagram on each route that it may have: a packet of the transfer, nothing of a stray, and ERROR 5
 -- in answer to one

@@ -6,7 +6,6 @@ use Rattle.tftp_packet.specs.OptionMap.{OptionMap, OptionValue as Value, Num}
 use Rattle.tftp_packet.specs.Message.{Message, RequestParts}
 use Rattle.tftp_packet.specs.Spelling.{Spells}
 use Rattle.tftp_packet.specs.Faults.{FirstFault}
-use Rattle.tftp_packet.specs.declared.fault.PacketFault.{PacketFault}
 use Rattle.tftp_packet.specs.declared.kinds.Side.{Side}
 use Rattle.tftp_packet.specs.declared.kinds.Side.TheVariants.{Get, Put}
 use Rattle.tftp_packet.specs.declared.kinds.Mode.{Mode}
@@ -17,38 +16,17 @@ use Rattle.tftp_packet.specs.declared.kinds.Dir.TheVariants.{Out}
 use Rattle.tftp_ends.specs.CaptureText.{Datagram, Header}
 use Rattle.tftp_ends.specs.Meaning.{option_or}
 use Rattle.tftp_ends.specs.Roles.{author_of}
-use Rattle.tftp_ends.specs.Ports.{Route, asks, first_of, route_of, is_of_transfer, transfer_of, PortRule, PortBroken}
-use Rattle.tftp_ends.specs.Rules.{Reply, NoReply, Plain, Oacked, Terms, Passed, EndRule, EndBroken}
-use Rattle.tftp_judge.specs.Agreement.{AgreementFault, HasFault}
-
-pub data Rule : Type 0 where
-  ForeignPort : Rule
-  WrongPort : Rule
-  StrayAnswer : Rule
-  NoRequest : Rule
-  Malformed : (fault : PacketFault) → Rule
-  WrongKind : Rule
-  TransferAborted : Rule
-  RequestChanged : Rule
-  RequestAfterStart : Rule
-  ReplyChanged : Rule
-  OackEmpty : Rule
-  MulticastAgreed : Rule
-  OptionNotRequested : Rule
-  OptionOutsideProfile : Rule
-  OptionValue : Rule
-  OackChanged : Rule
-  OackAfterStart : Rule
-  NotStarted : Rule
-  BlockZero : Rule
-  BeyondBlock65535 : Rule
-  BlockLength : Rule
-  WindowOverrun : Rule
-  BlockSkipped : Rule
-  GoneBack : Rule
-  BlockChanged : Rule
-  AckAhead : Rule
-  AckZero : Rule
+use Rattle.tftp_ends.specs.Ports.{asks, first_of, route_of, is_of_transfer, transfer_of, PortRule, PortBroken}
+use Rattle.tftp_ends.specs.declared.route.Route.{Route}
+use Rattle.tftp_ends.specs.Rules.{Passed, EndBroken}
+use Rattle.tftp_ends.specs.declared.terms.Reply.{Reply}
+use Rattle.tftp_ends.specs.declared.terms.Reply.TheVariants.{NoReply, Plain, Oacked}
+use Rattle.tftp_ends.specs.declared.terms.Terms.{Terms}
+use Rattle.tftp_ends.specs.declared.rule.EndRule.{EndRule}
+use Rattle.tftp_nego.specs.Faults.{Holds}
+use Rattle.tftp_nego.specs.declared.fault.NegoFault.{NegoFault}
+use Rattle.tftp_judge.specs.declared.rule.Rule.{Rule}
+use Rattle.tftp_judge.specs.declared.rule.Rule.TheVariants.{ForeignPort, WrongPort, StrayAnswer, NoRequest, Malformed, WrongKind, TransferAborted, RequestChanged, RequestAfterStart, ReplyChanged, OackEmpty, MulticastAgreed, OptionNotRequested, OptionOutsideProfile, OptionValue, OackChanged, OackAfterStart, NotStarted, BlockZero, BeyondBlock65535, BlockLength, WindowOverrun, BlockSkipped, GoneBack, BlockChanged, AckAhead, AckZero}
 
 -- the numbers of the rules, in the order in which they are tried
 abbrev pub number_of : Rule → ℕ
@@ -158,13 +136,13 @@ abbrev pub ClientWentOn : List Datagram → Type 0
 ClientWentOn passed = ((k : ℕ) × (bytes : List ℕ) × Passed Out (Message.Data k bytes) passed) ⊎ ((j : ℕ) × Passed Out (Message.Ack j) passed)
 
 -- the first OACK, of a request that was not answered before
-pub record FirstOack (h : Header) (earlier : List Datagram) (d : Datagram) (fault : AgreementFault) : Type 0 where
+pub record FirstOack (h : Header) (earlier : List Datagram) (d : Datagram) (fault : NegoFault) : Type 0 where
   pub asked : RequestParts
   pub oack : OptionMap
   pub first : FirstAsked h earlier asked
   pub unanswered : NotAnswered asked.side (transfer_of h earlier)
   pub says : Says h earlier d (Message.Oack oack)
-  pub wrong : HasFault asked oack fault
+  pub wrong : Holds fault asked oack
 
 -- a message of the transfer breaks one of the rules of blocks and acknowledgements
 pub record EndBreaks (h : Header) (earlier : List Datagram) (d : Datagram) (rule : EndRule) : Type 0 where
@@ -194,18 +172,18 @@ Broken h earlier d RequestAfterStart = (d.dir ≡ Out) × ((now : RequestParts) 
 -- an OACK where the request was answered without one (RFC 2347)
 Broken h earlier d ReplyChanged = (asked : RequestParts) × (oack : OptionMap) × FirstAsked h earlier asked × FirstAnswer asked.side (transfer_of h earlier) Begins × Says h earlier d (Message.Oack oack)
 -- the first OACK has no option, or one that may not be agreed (RFC 2347; RFC 2348; RFC 2349; RFC 7440, section 3)
-Broken h earlier d OackEmpty = FirstOack h earlier d AgreementFault.Empty
-Broken h earlier d MulticastAgreed = FirstOack h earlier d AgreementFault.Multicast
-Broken h earlier d OptionNotRequested = FirstOack h earlier d AgreementFault.NotRequested
-Broken h earlier d OptionOutsideProfile = FirstOack h earlier d AgreementFault.OutsideProfile
-Broken h earlier d OptionValue = FirstOack h earlier d AgreementFault.BadValue
+Broken h earlier d OackEmpty = FirstOack h earlier d NegoFault.OackEmpty
+Broken h earlier d MulticastAgreed = FirstOack h earlier d NegoFault.MulticastAgreed
+Broken h earlier d OptionNotRequested = FirstOack h earlier d NegoFault.OptionNotRequested
+Broken h earlier d OptionOutsideProfile = FirstOack h earlier d NegoFault.OptionOutsideProfile
+Broken h earlier d OptionValue = FirstOack h earlier d NegoFault.OptionValue
 -- an OACK that is not the first one again, or that the server of a read sends after a block (RFC 2347)
 Broken h earlier d OackChanged = (asked : RequestParts) × (first now : OptionMap) × FirstAsked h earlier asked × FirstAnswer asked.side (transfer_of h earlier) (Agrees first) × Says h earlier d (Message.Oack now) × (now ≢ first)
 Broken h earlier d OackAfterStart = (d.dir ≡ Out) × ((asked : RequestParts) × FirstAsked h earlier asked × (asked.side ≡ Get)) × ((oack : OptionMap) × Says h earlier d (Message.Oack oack)) × ((k : ℕ) × (bytes : List ℕ) × Passed Out (Message.Data k bytes) (transfer_of h earlier))
 -- blocks and acknowledgements (RFC 1350, sections 2, 4 and 5; RFC 2347; RFC 2349; RFC 7440, section 4)
 Broken h earlier d NotStarted = EndBreaks h earlier d EndRule.NotStarted
 Broken h earlier d BlockZero = EndBreaks h earlier d EndRule.BlockZero
-Broken h earlier d BeyondBlock65535 = EndBreaks h earlier d EndRule.BeyondBlock65535 ⊎ FirstOack h earlier d AgreementFault.TooManyBlocks
+Broken h earlier d BeyondBlock65535 = EndBreaks h earlier d EndRule.BeyondBlock65535 ⊎ FirstOack h earlier d NegoFault.BeyondBlock65535
 Broken h earlier d BlockLength = EndBreaks h earlier d EndRule.BlockLength
 Broken h earlier d WindowOverrun = EndBreaks h earlier d EndRule.WindowOverrun
 Broken h earlier d BlockSkipped = EndBreaks h earlier d EndRule.BlockSkipped

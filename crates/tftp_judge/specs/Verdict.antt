@@ -5,14 +5,11 @@ use Rattle.tftp_ends.specs.CaptureText.{Datagram, Header}
 use Rattle.tftp_ends.specs.Meaning.{Meaning}
 use Rattle.tftp_judge.specs.Fits.{IsWritable}
 use Rattle.tftp_judge.specs.Law.{IsLawful, ShowsBy}
-use Rattle.tftp_judge.specs.Rules.{Rule, FirstBroken}
+use Rattle.tftp_judge.specs.Rules.{FirstBroken}
+use Rattle.tftp_judge.specs.declared.rule.Rule.{Rule}
 use Rattle.tftp_judge.specs.OneEnded.{OneEnded, Meant}
-
-pub data Verdict : Type 0 where
-  Accepted : (meaning : Meaning) → Verdict
-  Unlawful : (index : ℕ) (rule : Rule) → Verdict
-  Incomplete : (count : ℕ) → Verdict
-  NormalTooLong : Verdict
+use Rattle.tftp_judge.specs.declared.verdict.Verdict.{Verdict}
+use Rattle.tftp_judge.specs.declared.verdict.Verdict.TheVariants.{Accepted, Unlawful, Incomplete, NormalTooLong}
 
 -- The datagrams before the one with this index, from 1, are lawful, and with it they are not. It breaks this rule and
 -- none before it in the order.

@@ -4,26 +4,26 @@ ghost use Rattle.std.specs.Prelude.{◌≡◌, ◌≢◌, List, ◌∷◌};
 ghost use Rattle.tftp_packet.specs.OptionMap.{OptionMap, no_options};
 ghost use Rattle.tftp_packet.specs.Message.{RequestParts};
 ghost use Rattle.tftp_ends.specs.CaptureText.{Datagram, Header};
-ghost use Rattle.tftp_judge.specs.Agreement.{MayAgree, AgreementFault, HasFault, IsFirstFault};
-ghost use Rattle.tftp_judge.specs.Rules.{Rule, number_of, FirstBroken};
-ghost use Rattle.tftp_judge.specs.OneEnded.{OneEnded, IsRefused};
+ghost use Rattle.tftp_nego.specs.Agreement.{MayAgree};
+ghost use Rattle.tftp_nego.specs.Faults.{Holds};
+ghost use Rattle.tftp_nego.specs.declared.fault.NegoFault.{NegoFault};
+ghost use Rattle.tftp_judge.specs.Rules.{number_of, FirstBroken};
+ghost use Rattle.tftp_judge.specs.declared.rule.Rule.{Rule};
+ghost use Rattle.tftp_ends.specs.Meaning.{Meaning};
+ghost use Rattle.tftp_judge.specs.OneEnded.{OneEnded, IsRefused, Meant};
+ghost use Rattle.tftp_judge.specs.Verdict.{IsVerdictByRules};
+ghost use Rattle.tftp_judge.specs.declared.verdict.Verdict.{Verdict};
 
 /// Options that may be agreed have none of the faults of an OACK, where there are any (RFC 2347).
 pub fn agreed_options_have_no_fault()
     ensures { (request : RequestParts) (oack : OptionMap) → MayAgree request oack → oack ≢ no_options
-        → (fault : AgreementFault) → HasFault request oack fault → ⊥ }
+        → (fault : NegoFault) → Holds fault request oack → ⊥ }
 {}
 
 /// And options without a fault may be agreed.
 pub fn options_without_fault_may_be_agreed()
-    ensures { (request : RequestParts) (oack : OptionMap) → ((fault : AgreementFault) → HasFault request oack fault → ⊥)
+    ensures { (request : RequestParts) (oack : OptionMap) → ((fault : NegoFault) → Holds fault request oack → ⊥)
         → MayAgree request oack }
-{}
-
-/// An OACK has at most one first fault.
-pub fn first_oack_fault_is_one()
-    ensures { (request : RequestParts) (oack : OptionMap) (f g : AgreementFault) → IsFirstFault request oack f
-        → IsFirstFault request oack g → f ≡ g }
 {}
 
 /// A datagram has at most one first rule that it breaks, by the rule's number.
@@ -36,4 +36,15 @@ pub fn first_broken_rule_is_one()
 pub fn refused_does_not_pass()
     ensures { (header : Header) (earlier : List Datagram) (d : Datagram) (rule : Rule) → IsRefused header earlier d rule
         → OneEnded header (d ∷ earlier) → ⊥ }
+{}
+
+/// A capture that the rules accept has one meaning.
+pub fn meaning_is_one()
+    ensures { (header : Header) (earlier : List Datagram) (m n : Meaning) → Meant header earlier m → Meant header earlier n → m ≡ n }
+{}
+
+/// A list of datagrams has one verdict by the rules.
+pub fn verdict_is_one()
+    ensures { (header : Header) (datagrams : List Datagram) (v w : Verdict) → IsVerdictByRules header datagrams v
+        → IsVerdictByRules header datagrams w → v ≡ w }
 {}

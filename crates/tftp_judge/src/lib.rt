@@ -2,6 +2,18 @@
 #![tactic(auto)]
 
 pub mod laws;
+mod meaning;
+mod plain;
+mod rule;
+mod verdict;
 pub mod worked_cases;
 pub mod worked_rules;
 pub mod worked_verdicts;
+
+pub use meaning::Meaning;
+pub use plain::judge;
+pub use rule::Rule;
+pub use verdict::Verdict;
+
+#[cfg(test)]
+mod tests;

@@ -3,7 +3,7 @@
 //! nothing.
 
 ghost use Rattle.std.specs.Prelude.{[], ◌∷◌, reverse};
-ghost use Rattle.tftp_judge.specs.Rules.{Rule};
+ghost use Rattle.tftp_judge.specs.declared.rule.Rule.{Rule};
 ghost use Rattle.tftp_ends.specs.Worked.{two_bytes};
 ghost use Rattle.tftp_judge.specs.OneEnded.{OneEnded, IsRefused, Meant};
 ghost use Rattle.tftp_judge.specs.Worked.{at_client, brings_hi, acknowledges_two, one_block_read, read_without_its_ack};

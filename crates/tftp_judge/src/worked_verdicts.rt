@@ -4,8 +4,9 @@
 ghost use Rattle.std.specs.Prelude.{[], ◌∷◌, ◌++◌};
 ghost use Rattle.tftp_ends.specs.Worked.{two_bytes};
 ghost use Rattle.tftp_ends.specs.WorkedWindows.{six_blocks};
-ghost use Rattle.tftp_judge.specs.Rules.{Rule};
-ghost use Rattle.tftp_judge.specs.Verdict.{Verdict, IsVerdict, IsVerdictByRules};
+ghost use Rattle.tftp_judge.specs.declared.rule.Rule.{Rule};
+ghost use Rattle.tftp_judge.specs.Verdict.{IsVerdict, IsVerdictByRules};
+ghost use Rattle.tftp_judge.specs.declared.verdict.Verdict.{Verdict};
 ghost use Rattle.tftp_judge.specs.Worked.{at_client, one_block_read, read_without_its_ack};
 ghost use Rattle.tftp_judge.specs.WorkedWindows.{window_out_of_order, before_overrun, block_seven};
 

@@ -1,0 +1,131 @@
+//! Does one work of the libraries alone with what standard input has, so that it can be measured.
+#![tactic(auto)]
+
+use memchr::{memchr, memrchr};
+use std::alloc::Global;
+use std::io::{ErrorKind, Read, Write};
+use std::{env, io};
+use tftp_capture::{CaptureReader, Tallied};
+use tftp_netascii::{Decoder, encode};
+
+/// The most bytes that are read at once.
+const PIECE: usize = 65_536;
+
+/// What becomes of each piece of the input.
+#[derive(Clone, Copy)]
+enum Way {
+    Decode,
+    Encode,
+    Copy,
+}
+
+/// The first word says which work it is: `netascii-decode`, `netascii-encode`, `copy`, `capture` or
+/// `hex`.
+fn main(rt: HostRuntime) -> io::Result<()> {
+    let alloc = rt.alloc();
+    let words = env::args(&rt)?.collect::<Vec<String>>(alloc)?;
+    let word = match words.as_slice() {
+        [_, word] => word.as_str(),
+        _ => "",
+    };
+    let mut reader = rt.reader();
+    let mut writer = io::writer(&rt);
+    match word {
+        "netascii-decode" => translate(alloc, &mut reader, &mut writer, Way::Decode),
+        "netascii-encode" => translate(alloc, &mut reader, &mut writer, Way::Encode),
+        "copy" => translate(alloc, &mut reader, &mut writer, Way::Copy),
+        "capture" => {
+            let count = count_datagrams(alloc, reader)?;
+            println!(rt; "{count} datagrams")
+        }
+        "hex" => {
+            let count = decode_digits(alloc, &mut reader)?;
+            println!(rt; "{count} fields of digits")
+        }
+        _ => Err(io::Error::from(ErrorKind::InvalidInput)),
+    }
+}
+
+/// Writes what the input becomes, piece by piece. The pieces and what they become stand in the same
+/// buffers, whatever the way; `encode` alone takes memory for each piece.
+fn translate<R: Read, W: Write>(
+    alloc: Global,
+    reader: &mut R,
+    writer: &mut W,
+    way: Way,
+) -> io::Result<()> {
+    let mut piece = vec![in alloc; 0u8; PIECE]?;
+    let mut out = Vec::with_capacity(alloc, 2 * PIECE)?;
+    let mut decoder = Decoder::new();
+    for _ in 0..u64::MAX {
+        let count = reader.read(&mut piece)?;
+        if count == 0 {
+            break;
+        }
+        let bytes = &piece[..count];
+        match way {
+            Way::Decode => decoder.feed(bytes, &mut out)?,
+            Way::Encode => out = encode(alloc, bytes)?,
+            Way::Copy => out.extend_from_slice(bytes)?,
+        }
+        writer.write_all(&out)?;
+        out.clear();
+    }
+    decoder.finish(&mut out)?;
+    writer.write_all(&out)
+}
+
+/// How many datagrams the capture reader gives.
+fn count_datagrams<R: Read + Drop>(alloc: Global, reader: R) -> io::Result<u64> {
+    let mut reader = Tallied::new(reader);
+    let Ok(mut capture) = CaptureReader::begin(alloc, &mut reader) else {
+        return Err(io::Error::from(ErrorKind::InvalidData));
+    };
+    for count in 0..u64::MAX {
+        match capture.next(alloc, &mut reader) {
+            Ok(Some(_)) => {}
+            Ok(None) => return Ok(count),
+            Err(_) => break,
+        }
+    }
+    Err(io::Error::from(ErrorKind::InvalidData))
+}
+
+/// Decodes the last field of each line by the hex crate into one buffer, and counts those that are
+/// hex. Lines and fields are found by memchr, and nothing else is looked at. A line longer than a
+/// piece ends the work.
+fn decode_digits<R: Read>(alloc: Global, reader: &mut R) -> io::Result<u64> {
+    let mut held = vec![in alloc; 0u8; PIECE]?;
+    let mut bytes = vec![in alloc; 0u8; PIECE]?;
+    let mut len = 0;
+    let mut fields = 0u64;
+    for _ in 0..u64::MAX {
+        let count = reader.read(&mut held[len..])?;
+        if count == 0 {
+            break;
+        }
+        len += count;
+        let mut start = 0;
+        while let Some(size) = memchr(b'\n', &held[start..len]) {
+            if ends_in_hex(&held[start..start + size], &mut bytes) {
+                fields = fields.saturating_add(1);
+            }
+            start += size + 1;
+        }
+        held.copy_within(start..len, 0);
+        len -= start;
+    }
+    Ok(fields)
+}
+
+/// Whether the line's last field is hex, which is then decoded.
+fn ends_in_hex(line: &[u8], bytes: &mut [u8]) -> bool {
+    let Some(at) = memrchr(b' ', line) else {
+        return false;
+    };
+    let digits = &line[at + 1..];
+    let Some(out) = bytes.get_mut(..digits.len() / 2) else {
+        return false;
+    };
+    hex::decode_to_slice(digits, out).is_ok()
+}

@@ -1,0 +1,181 @@
+-- A capture has one verdict by the rules.
+use Rattle.std.proofs.Common.{◌≡◌, ◌⊎◌, ℕ, ◌+◌, ◌-◌, List, [], ◌∷◌, ◌++◌, length, get_or, inl, inr, refl, sym, subst, ap, ◌∙◌, append_assoc}
+use Rattle.std.specs.Prelude.{reverse}
+use Rattle.std.proofs.lemmas.List.{reverse-append}
+use Rattle.tftp_packet.specs.declared.fault.PacketFault.{PacketFault}
+use Rattle.tftp_packet.specs.declared.fault.PacketFault.TheVariants.{Short}
+use Rattle.tftp_packet.proofs.FaultOrder.{first_fault_unique}
+use Rattle.tftp_ends.specs.CaptureText.{Datagram, Header}
+use Rattle.tftp_judge.specs.Rules.{number_of, Broken, FirstBroken}
+use Rattle.tftp_judge.specs.declared.rule.Rule.{Rule}
+use Rattle.tftp_judge.specs.OneEnded.{OneEnded}
+use Rattle.tftp_judge.specs.Verdict.{IsUnlawfulAt, IsVerdictByRules}
+use Rattle.tftp_judge.specs.declared.verdict.Verdict.{Verdict}
+use Rattle.tftp_judge.specs.declared.verdict.Verdict.TheVariants.{Accepted, Unlawful, Incomplete, NormalTooLong}
+use Rattle.tftp_judge.proofs.OneMeaning.{one_meaning}
+use Rattle.tftp_judge.proofs.Verdicts.{one_first_broken}
+
+-- ---- the rule
+
+-- the rules in their order, each at its number less one
+abbrev in_order : List Rule
+in_order =
+    Rule.ForeignPort
+    ∷ Rule.WrongPort
+    ∷ Rule.StrayAnswer
+    ∷ Rule.NoRequest
+    ∷ (Rule.Malformed Short)
+    ∷ Rule.WrongKind
+    ∷ Rule.TransferAborted
+    ∷ Rule.RequestChanged
+    ∷ Rule.RequestAfterStart
+    ∷ Rule.ReplyChanged
+    ∷ Rule.OackEmpty
+    ∷ Rule.MulticastAgreed
+    ∷ Rule.OptionNotRequested
+    ∷ Rule.OptionOutsideProfile
+    ∷ Rule.OptionValue
+    ∷ Rule.OackChanged
+    ∷ Rule.OackAfterStart
+    ∷ Rule.NotStarted
+    ∷ Rule.BlockZero
+    ∷ Rule.BeyondBlock65535
+    ∷ Rule.BlockLength
+    ∷ Rule.WindowOverrun
+    ∷ Rule.BlockSkipped
+    ∷ Rule.GoneBack
+    ∷ Rule.BlockChanged
+    ∷ Rule.AckAhead
+    ∷ Rule.AckZero
+    ∷ []
+
+abbrev rule_at : ℕ → Rule
+rule_at n = get_or in_order (n - 1) Rule.ForeignPort
+
+-- a rule is the one with its number, or that a packet is malformed
+named : (r : Rule) → (rule_at (number_of r) ≡ r) ⊎ ((fault : PacketFault) × (r ≡ Rule.Malformed fault))
+named Rule.ForeignPort = inl refl
+named Rule.WrongPort = inl refl
+named Rule.StrayAnswer = inl refl
+named Rule.NoRequest = inl refl
+named (Rule.Malformed fault) = inr (fault, refl)
+named Rule.WrongKind = inl refl
+named Rule.TransferAborted = inl refl
+named Rule.RequestChanged = inl refl
+named Rule.RequestAfterStart = inl refl
+named Rule.ReplyChanged = inl refl
+named Rule.OackEmpty = inl refl
+named Rule.MulticastAgreed = inl refl
+named Rule.OptionNotRequested = inl refl
+named Rule.OptionOutsideProfile = inl refl
+named Rule.OptionValue = inl refl
+named Rule.OackChanged = inl refl
+named Rule.OackAfterStart = inl refl
+named Rule.NotStarted = inl refl
+named Rule.BlockZero = inl refl
+named Rule.BeyondBlock65535 = inl refl
+named Rule.BlockLength = inl refl
+named Rule.WindowOverrun = inl refl
+named Rule.BlockSkipped = inl refl
+named Rule.GoneBack = inl refl
+named Rule.BlockChanged = inl refl
+named Rule.AckAhead = inl refl
+named Rule.AckZero = inl refl
+
+malformed_at : (r : Rule) → rule_at (number_of r) ≡ r → number_of r ≡ 5 → r ≡ Rule.Malformed Short
+malformed_at r is five = sym is ∙ ap rule_at five
+
+module _ (h : Header) (earlier : List Datagram) (d : Datagram) where
+  both_malformed : (r q : Rule) (f g : PacketFault) → r ≡ Rule.Malformed f → q ≡ Rule.Malformed g → Broken h earlier d r → Broken h earlier d q → r ≡ q
+  both_malformed r q f g is also one other =
+      let x = (subst (Broken h earlier d) is one).1 in
+      let y = (subst (Broken h earlier d) also other).1 in
+      is ∙ ap Rule.Malformed (first_fault_unique d.payload f g x y) ∙ sym also
+
+  pub one_rule : (r q : Rule) → FirstBroken h earlier d r → FirstBroken h earlier d q → r ≡ q
+  one_rule r q one other =
+      let same = one_first_broken h earlier d r q one other in
+      elim (named r) [
+        | inl plain ↦ elim (named q) [
+          | inl also ↦ sym plain ∙ ap rule_at same ∙ also
+          | inr bad ↦ both_malformed r q Short bad.0 (malformed_at r plain (same ∙ ap number_of bad.1)) bad.1 one.broken other.broken
+        ]
+        | inr bad ↦ elim (named q) [
+          | inl also ↦ both_malformed r q bad.0 Short bad.1 (malformed_at q also (sym same ∙ ap number_of bad.1)) one.broken other.broken
+          | inr worse ↦ both_malformed r q bad.0 worse.0 bad.1 worse.1 one.broken other.broken
+        ]
+      ]
+
+-- ---- the datagram
+
+lawful_tail : (h : Header) (xs ys : List Datagram) → OneEnded h (xs ++ ys) → OneEnded h ys
+lawful_tail h [] ys lawful = lawful
+lawful_tail h (x ∷ xs) ys lawful = lawful_tail h xs ys lawful.1
+
+-- what a lawful list begins with is lawful
+lawful_begin : (h : Header) (xs ys : List Datagram) → OneEnded h (reverse (xs ++ ys)) → OneEnded h (reverse xs)
+lawful_begin h xs ys lawful = lawful_tail h (reverse ys) (reverse xs) (subst (OneEnded h) (reverse-append xs ys) lawful)
+
+tail_same : (x y : Datagram) (xs ys : List Datagram) → x ∷ xs ≡ y ∷ ys → xs ≡ ys
+tail_same x y xs ys e = cc
+
+head_same : (x y : Datagram) (xs ys : List Datagram) → x ∷ xs ≡ y ∷ ys → x ≡ y
+head_same x y xs ys e = cc
+
+-- two places in one list
+data Order (a : List Datagram) (x : Datagram) (b : List Datagram) (y : Datagram) : Type 0 where
+  at : a ≡ b → x ≡ y → Order a x b y
+  before : (mid : List Datagram) → b ≡ (a ++ x ∷ []) ++ mid → Order a x b y
+  after : (mid : List Datagram) → a ≡ (b ++ y ∷ []) ++ mid → Order a x b y
+
+ordered : (a b : List Datagram) (x y : Datagram) (r s : List Datagram) → a ++ x ∷ r ≡ b ++ y ∷ s → Order a x b y
+ordered [] [] x y r s e = at refl (head_same x y r s e)
+ordered [] (q ∷ b) x y r s e = before b (ap (λ z. z ∷ b) (sym (head_same x q r (b ++ y ∷ s) e)))
+ordered (p ∷ a) [] x y r s e = after a (ap (λ z. z ∷ a) (head_same p y (a ++ x ∷ r) s e))
+ordered (p ∷ a) (q ∷ b) x y r s e = by (ordered a b x y r s (tail_same p q (a ++ x ∷ r) (b ++ y ∷ s) e)) where
+  same : p ≡ q
+  same = head_same p q (a ++ x ∷ r) (b ++ y ∷ s) e
+
+  by : Order a x b y → Order (p ∷ a) x (q ∷ b) y
+  by (at is also) = at (ap (λ z. z ∷ a) same ∙ ap (λ ds. q ∷ ds) is) also
+  by (before mid is) = before mid (ap (λ z. z ∷ b) (sym same) ∙ ap (λ ds. p ∷ ds) is)
+  by (after mid is) = after mid (ap (λ z. z ∷ a) same ∙ ap (λ ds. q ∷ ds) is)
+
+abbrev IsAt : Header → List Datagram → ℕ → Rule → Type 0
+IsAt h ds = IsUnlawfulAt (λ datagrams. OneEnded h (reverse datagrams)) h ds
+
+not_lawful : (h : Header) (ds : List Datagram) (i : ℕ) (r : Rule) → IsAt h ds i r → OneEnded h (reverse ds) → ⊥
+not_lawful h ds i r u lawful = u.unlawful (lawful_begin h (u.before ++ u.datagram ∷ []) u.rest
+    (subst (λ x. OneEnded h (reverse x)) (u.split ∙ sym (append_assoc u.before (u.datagram ∷ []) u.rest)) lawful))
+
+not_inside : (h : Header) (ds : List Datagram) (i : ℕ) (r : Rule) (u : IsAt h ds i r) (b mid : List Datagram) → OneEnded h (reverse b) → b ≡ (u.before ++ u.datagram ∷ []) ++ mid → ⊥
+not_inside h ds i r u b mid lawful is = u.unlawful (lawful_begin h (u.before ++ u.datagram ∷ []) mid (subst (λ x. OneEnded h (reverse x)) is lawful))
+
+one_place : (h : Header) (ds : List Datagram) (i j : ℕ) (r q : Rule) → IsAt h ds i r → IsAt h ds j q → Unlawful i r ≡ Unlawful j q
+one_place h ds i j r q u v = by (ordered u.before v.before u.datagram v.datagram u.rest v.rest (sym u.split ∙ v.split)) where
+  by : Order u.before u.datagram v.before v.datagram → Unlawful i r ≡ Unlawful j q
+  by (at is also) =
+      let broken = subst (λ b. FirstBroken h (reverse b) u.datagram q) (sym is) (subst (λ d. FirstBroken h (reverse v.before) d q) (sym also) v.broken) in
+      ap (λ n. Unlawful n r) (u.index_is ∙ ap (λ b. length b + 1) is ∙ sym v.index_is) ∙ ap (Unlawful j) (one_rule h (reverse u.before) u.datagram r q u.broken broken)
+  by (before mid is) = absurd (not_inside h ds i r u v.before mid v.lawful is)
+  by (after mid is) = absurd (not_inside h ds j q v u.before mid u.lawful is)
+
+-- ---- the verdict
+
+pub one_verdict : (h : Header) (ds : List Datagram) (v w : Verdict) → IsVerdictByRules h ds v → IsVerdictByRules h ds w → v ≡ w
+one_verdict h ds (Accepted m) (Accepted n) one other = ap Accepted (one_meaning h (reverse ds) m n one.1 other.1)
+one_verdict h ds (Accepted m) (Unlawful j q) one other = absurd (not_lawful h ds j q other one.0)
+one_verdict h ds (Accepted m) (Incomplete c) one other = absurd (other.1 m one.1)
+one_verdict h ds (Accepted m) NormalTooLong one other = absurd (other.2 m one.1 one.2)
+one_verdict h ds (Unlawful i r) (Accepted n) one other = absurd (not_lawful h ds i r one other.0)
+one_verdict h ds (Unlawful i r) (Unlawful j q) one other = one_place h ds i j r q one other
+one_verdict h ds (Unlawful i r) (Incomplete c) one other = absurd (not_lawful h ds i r one other.0)
+one_verdict h ds (Unlawful i r) NormalTooLong one other = absurd (not_lawful h ds i r one other.0)
+one_verdict h ds (Incomplete c) (Accepted n) one other = absurd (one.1 n other.1)
+one_verdict h ds (Incomplete c) (Unlawful j q) one other = absurd (not_lawful h ds j q other one.0)
+one_verdict h ds (Incomplete c) (Incomplete e) one other = ap Incomplete (one.2 ∙ sym other.2)
+one_verdict h ds (Incomplete c) NormalTooLong one other = absurd (one.1 other.1.0 other.1.1)
+one_verdict h ds NormalTooLong (Accepted n) one other = absurd (one.2 n other.1 other.2)
+one_verdict h ds NormalTooLong (Unlawful j q) one other = absurd (not_lawful h ds j q other one.0)
+one_verdict h ds NormalTooLong (Incomplete c) one other = absurd (other.1 one.1.0 one.1.1)
+one_verdict h ds NormalTooLong NormalTooLong one other = refl

@@ -1,0 +1,219 @@
+-- What is found of a datagram by its route, before it is read and after.
+use Rattle.std.proofs.Common.{◌≡◌, ◌⊎◌, ℕ, zero, suc, ◌<◌, Bool, true, false, List, [], ◌∷◌, None, inl, inr, refl, sym, subst, ap, ◌∙◌, arith}
+use Rattle.std.specs.List.{AllByRecursion}
+use Rattle.std.specs.Str.{bytes_eq}
+use Rattle.std.proofs.lemmas.Bool.{cases_lt, false≢true}
+use Rattle.std.proofs.lemmas.Slice.Eq.{bytes_eq-Decides}
+use Rattle.tftp_packet.specs.Message.{Message, RequestParts}
+use Rattle.tftp_packet.specs.Written.{IsString, terminated}
+use Rattle.tftp_packet.specs.Spelling.{Spells, IsPair}
+use Rattle.tftp_packet.proofs.NoFault.{no_fault}
+use Rattle.tftp_ends.specs.CaptureText.{Datagram, Header}
+use Rattle.tftp_ends.specs.Ports.{asks, first_of, route_of, is_of_transfer, transfer_of, SaysUnknownId, PortRule, PortBroken}
+use Rattle.tftp_ends.specs.declared.route.Route.{Route}
+use Rattle.tftp_ends.specs.declared.rule.EndRule.{EndRule}
+use Rattle.tftp_nego.specs.declared.fault.NegoFault.{NegoFault}
+use Rattle.tftp_judge.specs.Rules.{FirstAsked, Says, ClientWentOn, FirstOack, EndBreaks, Broken}
+use Rattle.tftp_judge.specs.declared.rule.Rule.{Rule}
+use Rattle.tftp_judge.specs.OneEnded.{IsRead, Passes, OneEnded}
+use Rattle.tftp_judge.proofs.FirstRequests.{none_before, none_asked, first_spells}
+
+-- ---- a datagram is ERROR 5, or it is not
+
+bytes_cases : (xs : List ℕ) → AllByRecursion (λ b. b < 256) xs ⊎ (AllByRecursion (λ b. b < 256) xs → ⊥)
+bytes_cases [] = inl tt
+bytes_cases (x ∷ xs) = elim (cases_lt x 256) [
+  | inl low ↦ elim (bytes_cases xs) [ inl all ↦ inl (low, all) | inr other ↦ inr (λ all. other all.1) ]
+  | inr high ↦ inr (λ all. let low = all.0 in omega arith)
+]
+
+abbrev IsEnded : List ℕ → Type 0
+IsEnded body = (text : List ℕ) × IsString text × (body ≡ terminated text)
+
+none_ends : IsEnded [] → ⊥
+none_ends ([], s, e) = cc
+none_ends (t ∷ ts, s, e) = cc
+
+zero_ends : (x : ℕ) (xs : List ℕ) → IsEnded (0 ∷ x ∷ xs) → ⊥
+zero_ends x xs ([], s, e) = cc
+zero_ends x xs (t ∷ ts, s, e) = let is : 0 ≡ t = cc in s.0 (sym is)
+
+more_ends : (b : ℕ) (body : List ℕ) → IsEnded body → IsEnded (suc b ∷ body)
+more_ends b body (text, s, e) = (suc b ∷ text, ((λ is. omega arith), s), ap (λ (ys : List ℕ). suc b ∷ ys) e)
+
+less_ends : (b : ℕ) (body : List ℕ) → IsEnded (suc b ∷ body) → IsEnded body
+less_ends b body ([], s, e) = let is : suc b ≡ 0 = cc in absurd (omega arith)
+less_ends b body (t ∷ ts, s, e) = (ts, s.1, cc)
+
+ended_cases : (body : List ℕ) → IsEnded body ⊎ (IsEnded body → ⊥)
+ended_cases [] = inr none_ends
+ended_cases (zero ∷ []) = inl ([], tt, refl)
+ended_cases (zero ∷ x ∷ xs) = inr (zero_ends x xs)
+ended_cases (suc b ∷ body) = elim (ended_cases body) [
+  | inl ended ↦ inl (more_ends b body ended)
+  | inr other ↦ inr (λ ended. other (less_ends b body ended))
+]
+
+after_four : List ℕ → List ℕ
+after_four (a ∷ b ∷ x ∷ y ∷ body) = body
+after_four _ = []
+
+abbrev begun : List ℕ → List ℕ
+begun payload = 0 ∷ 5 ∷ 0 ∷ 5 ∷ after_four payload
+
+five : (x y : ℕ) → IsPair x y 5 → (x ≡ 0) × (y ≡ 5)
+five x y pair = let is = pair.2 in (omega arith, omega arith)
+
+says_begun : (payload text : List ℕ) → Spells payload (Message.Error 5 text) → payload ≡ 0 ∷ 5 ∷ 0 ∷ 5 ∷ terminated text
+says_begun payload text (all, (x, y, pair, s, e)) =
+    let is = five x y pair in
+    e ∙ ap (λ (n : ℕ). 0 ∷ 5 ∷ n ∷ y ∷ terminated text) is.0 ∙ ap (λ (n : ℕ). 0 ∷ 5 ∷ 0 ∷ n ∷ terminated text) is.1
+
+body_is : (payload body : List ℕ) → payload ≡ 0 ∷ 5 ∷ 0 ∷ 5 ∷ body → after_four payload ≡ body
+unfolding after_four
+body_is payload body e = ap after_four e
+
+unknown_by : (d : Datagram) (b : Bool) → bytes_eq d.payload (begun d.payload) ≡ b → SaysUnknownId d ⊎ (SaysUnknownId d → ⊥)
+unknown_by d true t =
+    let is : d.payload ≡ begun d.payload = (bytes_eq-Decides d.payload (begun d.payload)).0 t in
+    elim (bytes_cases d.payload) [
+      | inl all ↦ elim (ended_cases (after_four d.payload)) [
+        | inl ended ↦ let (text, s, e) = ended in inl (text, (all, (0, 5, (omega arith, omega arith, omega arith), s, is ∙ ap (λ (ys : List ℕ). 0 ∷ 5 ∷ 0 ∷ 5 ∷ ys) e)))
+        | inr other ↦ inr (λ says. let (text, spells) = says in other (text, spells.1.3, body_is d.payload (terminated text) (says_begun d.payload text spells)))
+      ]
+      | inr other ↦ inr (λ says. other says.1.0)
+    ]
+unknown_by d false t = inr (λ says. never says) where
+  never : SaysUnknownId d → ⊥
+  never (text, spells) =
+      let e = says_begun d.payload text spells in
+      let same = e ∙ ap (λ (ys : List ℕ). 0 ∷ 5 ∷ 0 ∷ 5 ∷ ys) (sym (body_is d.payload (terminated text) e)) in
+      false≢true (sym t ∙ (bytes_eq-Decides d.payload (begun d.payload)).1 same)
+
+unknown_so : (d : Datagram) → ((SaysUnknownId d → ⊥) → ⊥) → SaysUnknownId d
+unknown_so d other = elim (unknown_by d (bytes_eq d.payload (begun d.payload)) refl) [ inl says ↦ says | inr never ↦ absurd (other never) ]
+
+-- ---- a datagram that is none of the transfer
+
+off_read : (r : Route) (d : Datagram) → is_of_transfer r ≡ false → (r ≡ Route.ForeignPort → ⊥) → (r ≡ Route.WrongPort → ⊥) → ((r ≡ Route.NoStrayAnswer) ⊎ ((r ≡ Route.StrayAnswer) × (SaysUnknownId d → ⊥)) → ⊥) → IsRead r d
+off_read Route.Request d off foreign wrong bad = absurd (false≢true (sym off))
+off_read Route.Peer d off foreign wrong bad = absurd (false≢true (sym off))
+off_read Route.Stray d off foreign wrong bad = tt
+off_read Route.StrayAnswer d off foreign wrong bad = unknown_so d (λ never. bad (inr (refl, never)))
+off_read Route.ForeignPort d off foreign wrong bad = absurd (foreign refl)
+off_read Route.WrongPort d off foreign wrong bad = absurd (wrong refl)
+off_read Route.NoStrayAnswer d off foreign wrong bad = absurd (bad (inl refl))
+
+module _ (h : Header) (ds : List Datagram) (d : Datagram) where
+  module _ (off : is_of_transfer (route_of h ds d) ≡ false) (kept : (port : PortRule) → PortBroken h ds d port → ⊥) where
+    not_said : (m : Message) → Says h ds d m → ⊥
+    not_said m says = false≢true (sym off ∙ says.routed)
+
+    off_lawful : (rule : Rule) → Broken h ds d rule → ⊥
+    off_lawful Rule.ForeignPort b = kept PortRule.Foreign b
+    off_lawful Rule.WrongPort b = kept PortRule.Wrong b
+    off_lawful Rule.StrayAnswer b = kept PortRule.BadAnswer b
+    off_lawful Rule.NoRequest b = false≢true (sym off ∙ ap is_of_transfer b.1)
+    off_lawful (Rule.Malformed fault) b = false≢true (sym off ∙ b.0)
+    off_lawful Rule.WrongKind (m, asked, says, is, wrong) = not_said m says
+    off_lawful Rule.TransferAborted (code, text, says) = not_said (Message.Error code text) says
+    off_lawful Rule.RequestChanged (was, now, is, says, other) = not_said (Message.Request now) says
+    off_lawful Rule.RequestAfterStart (out, (now, says), went) = not_said (Message.Request now) says
+    off_lawful Rule.ReplyChanged (asked, oack, is, answered, says) = not_said (Message.Oack oack) says
+    off_lawful Rule.OackEmpty b = not_said (Message.Oack b.oack) b.says
+    off_lawful Rule.MulticastAgreed b = not_said (Message.Oack b.oack) b.says
+    off_lawful Rule.OptionNotRequested b = not_said (Message.Oack b.oack) b.says
+    off_lawful Rule.OptionOutsideProfile b = not_said (Message.Oack b.oack) b.says
+    off_lawful Rule.OptionValue b = not_said (Message.Oack b.oack) b.says
+    off_lawful Rule.OackChanged (asked, was, now, is, answered, says, apart) = not_said (Message.Oack now) says
+    off_lawful Rule.OackAfterStart (out, asked, (oack, says), sent) = not_said (Message.Oack oack) says
+    off_lawful Rule.NotStarted b = not_said b.message b.says
+    off_lawful Rule.BlockZero b = not_said b.message b.says
+    off_lawful Rule.BeyondBlock65535 (inl b) = not_said b.message b.says
+    off_lawful Rule.BeyondBlock65535 (inr b) = not_said (Message.Oack b.oack) b.says
+    off_lawful Rule.BlockLength b = not_said b.message b.says
+    off_lawful Rule.WindowOverrun b = not_said b.message b.says
+    off_lawful Rule.BlockSkipped b = not_said b.message b.says
+    off_lawful Rule.GoneBack b = not_said b.message b.says
+    off_lawful Rule.BlockChanged b = not_said b.message b.says
+    off_lawful Rule.AckAhead b = not_said b.message b.says
+    off_lawful Rule.AckZero b = not_said b.message b.says
+
+    pub off_passes : Passes h ds d
+    off_passes = record {
+      read = off_read (route_of h ds d) d off (kept PortRule.Foreign) (kept PortRule.Wrong) (kept PortRule.BadAnswer);
+      lawful = off_lawful;
+    }
+
+  -- ---- a datagram of the transfer
+
+  main_read : (r : Route) (m : Message) → is_of_transfer r ≡ true → Spells d.payload m → IsRead r d
+  main_read Route.Request m on s = (m, s)
+  main_read Route.Peer m on s = (m, s)
+  main_read Route.Stray m on s = absurd (false≢true on)
+  main_read Route.StrayAnswer m on s = absurd (false≢true on)
+  main_read Route.ForeignPort m on s = absurd (false≢true on)
+  main_read Route.WrongPort m on s = absurd (false≢true on)
+  main_read Route.NoStrayAnswer m on s = absurd (false≢true on)
+
+  pub main_passes : (m : Message) → is_of_transfer (route_of h ds d) ≡ true → Spells d.payload m → ((rule : Rule) → Broken h ds d rule → ⊥) → Passes h ds d
+  main_passes m on s lawful = record { read = main_read (route_of h ds d) m on s; lawful = lawful }
+
+  is_request : (r : Route) → is_of_transfer r ≡ true → (r ≡ Route.Peer → ⊥) → r ≡ Route.Request
+  is_request Route.Request on other = refl
+  is_request Route.Peer on other = absurd (other refl)
+  is_request Route.Stray on other = absurd (false≢true on)
+  is_request Route.StrayAnswer on other = absurd (false≢true on)
+  is_request Route.ForeignPort on other = absurd (false≢true on)
+  is_request Route.WrongPort on other = absurd (false≢true on)
+  is_request Route.NoStrayAnswer on other = absurd (false≢true on)
+
+  -- the first request
+  module _ (m : Message) (on : is_of_transfer (route_of h ds d) ≡ true) (spells : Spells d.payload m) (one : OneEnded h ds)
+      (never : (asked : RequestParts) → FirstAsked h ds asked → ⊥) (begun_by : first_of (asks h) ds ≡ None → route_of h ds d ≡ Route.Peer → ⊥) where
+    nothing : first_of (asks h) ds ≡ None
+    nothing = none_asked h ds one never
+
+    no_error : (code : ℕ) (text : List ℕ) → Spells d.payload (Message.Error code text) → ⊥
+    no_error code text s =
+        let (asked, is) = first_spells h ds d (Message.Error code text) nothing (is_request (route_of h ds d) on (begun_by nothing)) s in cc
+
+    went_on : ClientWentOn (transfer_of h ds) → ⊥
+    went_on went = elim (subst (λ (passed : List Datagram). ClientWentOn passed) (none_before h ds nothing one) went) [ inl block ↦ block.2 | inr ack ↦ ack.1 ]
+
+    no_end : (e : EndRule) → EndBreaks h ds d e → ⊥
+    no_end e b = never b.known.0 b.known.1
+
+    no_oack : (fault : NegoFault) → FirstOack h ds d fault → ⊥
+    no_oack fault b = never b.asked b.first
+
+    pub first_lawful : (rule : Rule) → Broken h ds d rule → ⊥
+    first_lawful Rule.ForeignPort b = false≢true (sym (ap is_of_transfer b) ∙ on)
+    first_lawful Rule.WrongPort b = false≢true (sym (ap is_of_transfer b) ∙ on)
+    first_lawful Rule.StrayAnswer (inl b) = false≢true (sym (ap is_of_transfer b) ∙ on)
+    first_lawful Rule.StrayAnswer (inr b) = false≢true (sym (ap is_of_transfer b.0) ∙ on)
+    first_lawful Rule.NoRequest b = begun_by b.0 b.1
+    first_lawful (Rule.Malformed fault) b = no_fault d.payload m fault spells.1 b.1.0
+    first_lawful Rule.WrongKind (x, asked, says, is, wrong) = never asked is
+    first_lawful Rule.TransferAborted (code, text, says) = no_error code text says.spells
+    first_lawful Rule.RequestChanged (was, now, is, says, other) = never was is
+    first_lawful Rule.RequestAfterStart (out, says, went) = went_on went
+    first_lawful Rule.ReplyChanged (asked, oack, is, answered, says) = never asked is
+    first_lawful Rule.OackEmpty b = no_oack NegoFault.OackEmpty b
+    first_lawful Rule.MulticastAgreed b = no_oack NegoFault.MulticastAgreed b
+    first_lawful Rule.OptionNotRequested b = no_oack NegoFault.OptionNotRequested b
+    first_lawful Rule.OptionOutsideProfile b = no_oack NegoFault.OptionOutsideProfile b
+    first_lawful Rule.OptionValue b = no_oack NegoFault.OptionValue b
+    first_lawful Rule.OackChanged (asked, was, now, is, answered, says, apart) = never asked is
+    first_lawful Rule.OackAfterStart (out, (asked, is, get), says, sent) = never asked is
+    first_lawful Rule.NotStarted b = no_end EndRule.NotStarted b
+    first_lawful Rule.BlockZero b = no_end EndRule.BlockZero b
+    first_lawful Rule.BeyondBlock65535 (inl b) = no_end EndRule.BeyondBlock65535 b
+    first_lawful Rule.BeyondBlock65535 (inr b) = no_oack NegoFault.BeyondBlock65535 b
+    first_lawful Rule.BlockLength b = no_end EndRule.BlockLength b
+    first_lawful Rule.WindowOverrun b = no_end EndRule.WindowOverrun b
+    first_lawful Rule.BlockSkipped b = no_end EndRule.BlockSkipped b
+    first_lawful Rule.GoneBack b = no_end EndRule.GoneBack b
+    first_lawful Rule.BlockChanged b = no_end EndRule.BlockChanged b
+    first_lawful Rule.AckAhead b = no_end EndRule.AckAhead b
+    first_lawful Rule.AckZero b = no_end EndRule.AckZero b

@@ -1,0 +1,12 @@
+use Rattle.std.proofs.Common.{◌↔◌, length}
+use Rattle.tftp_packet.specs.Faults.{AnyOf}
+use Rattle.tftp_judge.proofs.Told.{Meets}
+use Rattle.tftp_judge.proofs.BlockRules.{IsOther}
+use Rattle.tftp_judge.proofs.plain.blocks.has_other.Given as goal
+
+-- what is asked of all is asked of those that are left
+abbrev pub invariant-loop-rest : goal.invariant-loop-rest
+invariant-loop-rest l = AnyOf (Meets (IsOther l.block l.bytes)) l.rest ↔ AnyOf (Meets (IsOther l.block l.bytes)) l.transfer
+
+abbrev pub decreases-loop-rest : goal.decreases-loop-rest
+decreases-loop-rest l = length l.rest

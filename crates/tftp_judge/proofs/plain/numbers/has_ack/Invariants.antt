@@ -1,0 +1,12 @@
+use Rattle.std.proofs.Common.{◌↔◌, length}
+use Rattle.tftp_packet.specs.Faults.{AnyOf}
+use Rattle.tftp_judge.proofs.Told.{Meets}
+use Rattle.tftp_judge.proofs.Numbers.{IsAck}
+use Rattle.tftp_judge.proofs.plain.numbers.has_ack.Given as goal
+
+-- what is asked of all is asked of those that are left
+abbrev pub invariant-loop-rest : goal.invariant-loop-rest
+invariant-loop-rest l = AnyOf (Meets (IsAck l.dir l.block)) l.rest ↔ AnyOf (Meets (IsAck l.dir l.block)) l.transfer
+
+abbrev pub decreases-loop-rest : goal.decreases-loop-rest
+decreases-loop-rest l = length l.rest

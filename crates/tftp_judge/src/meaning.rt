@@ -1,0 +1,62 @@
+use std::marker::Model;
+use tftp_packet::{Bytes, Options, Request};
+
+/// What a whole transfer means (RFC 1350, sections 1 and 2; RFC 2347). Only a judge makes one.
+#[derive(Debug, Drop)]
+pub struct Meaning {
+    request: Request,
+    agreed: Options,
+    file: Bytes,
+}
+
+impl Model for Meaning {
+    ghost use Rattle.tftp_ends.specs.Meaning.{Meaning as Parts};
+    ghost use Rattle.tftp_judge.specs.Owned.{meaning_code, meaning_from};
+
+    ghost Value = { Parts };
+
+    ghost coded = { meaning_code };
+
+    ghost view = { λ m. meaning_from (m.request, (m.agreed, m.file)) };
+}
+
+impl Meaning {
+    ghost use Rattle.std.specs.Prelude.{◌≡◌};
+    ghost use Rattle.tftp_ends.specs.Meaning.{request_of};
+    ghost use Rattle.tftp_judge.specs.Owned.{meaning_from};
+
+    /// Takes the parts over, and no memory.
+    pub(crate) fn of(request: Request, agreed: Options, file: Vec<u8>) -> Self
+        ensures { result ≡ meaning_from (request, (agreed, file.items)) }
+    {
+        Meaning {
+            request,
+            agreed,
+            file: Bytes::of(file),
+        }
+    }
+
+    /// What the client asked for: the side, the file's name, the mode and the options (RFC 1350, section 5).
+    #[inline]
+    pub fn request(&self) -> &Request
+        ensures { result.now ≡ request_of self.now }
+    {
+        &self.request
+    }
+
+    /// The options that the server agreed to (RFC 2347), perhaps none.
+    #[inline]
+    pub fn agreed(&self) -> &Options
+        ensures { result.now ≡ self.now.agreed }
+    {
+        &self.agreed
+    }
+
+    /// The bytes of the file.
+    #[inline]
+    pub fn file(&self) -> &[u8]
+        ensures { result.now ≡ self.now.file }
+    {
+        self.file.as_slice()
+    }
+}
