@@ -6,13 +6,13 @@ ghost use Rattle.tftp_audit.specs.Run.{IsAnswer, IsCheck, IsSaid};
 ghost use Rattle.tftp_audit.specs.Verdict.{IsVerdict};
 
 use crate::outcome::{Outcome, Status};
-use tftp_capture::Tallied;
 use crate::verdict::judge_text;
 use crate::whole::{Ending, read_text, write_whole};
 use crate::words::{Action, UsageFault, action_of};
 use std::alloc::Global;
 use std::convert::AsStr;
 use std::io::{Read, Write};
+use tftp_capture::Tallied;
 
 /// Runs the command that the words name, the first of which is the program's name: reads a capture, and writes one
 /// line. After a write that fails nothing more is written.

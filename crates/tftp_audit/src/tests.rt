@@ -1,12 +1,12 @@
 use crate::capture::{cut_at, datagram_of, port_of};
 use crate::session::run;
-use tftp_capture::Tallied;
 use crate::whole::{Ending, read_text, write_whole};
 use crate::words::{Action, UsageFault, action_of};
 use std::alloc::{AllocError, Global};
 use std::io;
 use std::io::{ErrorKind, Read, Write};
 use std::test::Fail;
+use tftp_capture::Tallied;
 use tftp_packet::Dir;
 
 /// A reader over bytes: at most `piece` bytes a read, and an error at read `fails_at`, counted from 1.

@@ -2,9 +2,9 @@ ghost use Rattle.std.specs.Prelude.{◌≡◌, ◌≤◌, ◌<◌, ℕ, [], true
 ghost use Rattle.std.specs.Io.KnownBytes.{Appends};
 ghost use Rattle.tftp_audit.specs.Reading.{IsReading};
 
-use tftp_capture::Tallied;
 use std::alloc::AllocError;
 use std::io::{Read, Write};
+use tftp_capture::Tallied;
 use thiserror::Error;
 
 /// The longest text that is read, in bytes.
