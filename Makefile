@@ -9,7 +9,7 @@ build:
 	@./tftp-audit --build
 
 # The gate: every proof from nothing, the must-fail edits, the tests and the program's stored run; then the program
-# with failing reads, writes and growths.
+# with failing reads, writes and growths, and on the recorded transfers.
 test:
 	rt ci
 	@./tftp-audit --build

@@ -11,7 +11,12 @@ import time
 name, path, command = sys.argv[1], sys.argv[2], sys.argv[3:]
 size = os.path.getsize(path)
 # What writes a text is to write it nowhere; any other's answer is printed.
-WRITES_TEXT = ("copy", "netascii-decode", "netascii-encode")
+WRITES_TEXT = ("copy", "netascii-decode", "netascii-encode", "show")
+
+
+def figures(number):
+    """Three of them, or all before the point."""
+    return f"{number:.0f}" if number >= 100 else f"{number:.3g}"
 
 
 def most_resident(process):
@@ -44,11 +49,14 @@ def run():
 
 
 runs = [run() for _ in range(3)]
-seconds = min(it[0] for it in runs)
+# The system may count no time at all for a short run.
+seconds = max(1e-6, min(it[0] for it in runs))
 memory = max(it[1] for it in runs)
 answer = runs[0][2]
+# Of a run that is over at once the memory is not seen.
+held = f"{memory / 1e6:.1f} MB of memory " if seconds > 0.05 else ""
 print(
-    f"{name}: {seconds:.2f} s, {size / seconds / 1e6:.0f} MB/s, {seconds / size * 1e9:.2f} ns a byte,"
-    f" {memory / 1e6:.1f} MB of memory for {size / 1e6:.0f} MB" + (f": {answer}" if answer else ""),
+    f"{name}: {figures(seconds)} s, {figures(size / seconds / 1e6)} MB/s, {figures(seconds / size * 1e9)} ns a byte,"
+    f" {held}for {figures(size / 1e6)} MB" + (f": {answer}" if answer else ""),
     flush=True,
 )

@@ -32,9 +32,16 @@ for size in 100000000 1000000000; do
     measure "capture reader" "$bench" capture
     measure "hex crate alone" "$bench" hex
     measure "wc -l" wc -l
-    if [ "$size" = 100000000 ]; then
-        measure "tftp-audit check" "$program" check
-    fi
+    measure "tftp-audit show" "$program" show
+done
+generate acks 100000000
+measure "tftp-audit show, acknowledgements" "$program" show
+measure "wc -l" wc -l
+
+# The time of check grows with the square of the datagrams, here 101, 1,001 and 10,001.
+for blocks in 50 500 5000; do
+    generate lockstep "$blocks"
+    measure "tftp-audit check" "$program" check
 done
 
 # 40 million lines, and as many of the shortest.

@@ -1,75 +1,213 @@
-"""Each growth that is refused, each read and each write that fails, one after another, on the built program.
+"""Each growth that is refused, each read and each write that fails, and each cut of a text, on the built program.
 
     failures.py PROGRAM FOLDER
 
 FOLDER has refuse.so, which is preloaded. Prints each case that is not as it should be, then a last line
 'N passed, M failed'; status 1 if any failed.
 """
+import dataclasses
 import os
 import pathlib
 import subprocess
 import sys
 
-program, folder = sys.argv[1], pathlib.Path(sys.argv[2])
-read = b"out 40000 69 000161006f6374657400\n"
-block = b"in 40000 41000 000300016869\n"
-ack = b"out 40000 41000 00040001\n"
-head = b"tftp-capture 1\nend client\nservice 69\n"
-text = head + read + block + ack + b"total 3\n"
-refused = head + read + b"in 40000 41000 000300026869\n" + b"total 2\n"
-incomplete = head + read + block + b"total 2\n"
-accepted = b"accepted get octet blocks 1 bytes 2\n"
-memory = b"fault memory\n"
-passed = failed = 0
+COMMANDS = ("check", "show")
+# What `show` says of the lines of a text begins at this one.
+FIRST_DATAGRAM_LINE = 4
+USAGE = (b"fault usage\n", 2)
+MEMORY = b"fault memory\n"
+NOTHING = (b"", 2)
+# The fewest bytes of a write of `show`, but for the last.
+LEAST_PIECE = 2_048
+# Words after the program's name that are no command, and words of which one is no UTF-8.
+NO_COMMANDS = (
+    [], [""], ["Check"], ["chec"], ["check "], ["--check"], ["extract"], ["help"], ["--help"], ["-h"], ["--version"],
+    ["check", "show"], ["show", "show"], ["check", ""], ["show", "--help"], ["help", "check"], ["--", "check"],
+)
+NO_WORDS = ([b"\xff"], [b"check\xc3"], ["check", b"\xff"])
 
 
-def run(given, **shim):
-    """What the program writes, its status, and whether the shim's call was met."""
-    met = folder / "met"
-    if met.exists():
-        met.unlink()
-    environment = {"LD_PRELOAD": str(folder / "refuse.so"), "MET": str(met), "PATH": os.environ.get("PATH", "")}
-    environment.update({name: str(value) for name, value in shim.items()})
-    done = subprocess.run([program, "check"], input=given, capture_output=True, env=environment, timeout=60)
-    return done.stdout, done.returncode, done.stderr, met.exists()
+@dataclasses.dataclass(frozen=True)
+class Case:
+    """A capture text, and what there is to say of it."""
+
+    name: str
+    text: bytes
+    # what `show` prints of each datagram, in order
+    rows: tuple
+    # what `check` prints of the text as a whole, and its status
+    verdict: tuple = ()
+    # the line of the first unlawful datagram, if there is one
+    unlawful: int = 0
+    # the line and the name of what is wrong with the text, if anything is
+    wrong: tuple = ()
+
+    def output(self, command, taken=None, ending="Truncated"):
+        """What is printed, and the status, where the text ends after so many bytes or, if at all, so.
+
+        `taken` is None where the text is given to its end, and else the number of bytes before its ending, which is
+        Truncated or Read.
+        """
+        whole = self.text[:taken].count(b"\n")
+        fault = () if taken is None else (whole + 1, ending)
+        if self.wrong and self.wrong[0] <= whole:
+            fault = self.wrong
+        sound = fault[0] - 1 if fault else whole
+        said = b"fault line %d %s\n" % (fault[0], fault[1].encode()) if fault else b""
+        if command == "show":
+            return b"".join(self.rows[: max(0, sound - FIRST_DATAGRAM_LINE + 1)]) + said, 2 if fault else 0
+        if fault and not 0 < self.unlawful <= sound:
+            return said, 2
+        return self.verdict
+
+    def outputs_without_memory(self, command):
+        """What may be printed, and the status, where a growth is refused."""
+        shown = range(len(self.rows) + 1) if command == "show" else range(1)
+        cut = {(b"".join(self.rows[:count]) + MEMORY, 2) for count in shown}
+        # Without memory for its words the program says nothing.
+        return cut | {self.output(command), NOTHING}
 
 
-def check(name, holds, got):
-    global passed, failed
-    if holds:
-        passed += 1
-    else:
-        failed += 1
-        print(f"{name}: {got}")
+def text_of(*lines):
+    return b"".join(line + b"\n" for line in (b"tftp-capture 1", b"end client", b"service 69", *lines))
 
 
-for given, line, status in ((text, accepted, 0), (refused, b"refused datagram 2 rule 22 WindowOverrun\n", 1), (incomplete, b"incomplete after 2\n", 1)):
-    # One byte a read and a write.
-    got = run(given, ONE_BYTE=1)
-    check("one byte", got[:3] == (line, status, b""), got)
-    # Each growth refused, until a run meets no refusal. Without memory for its words the program says nothing.
-    for n in range(1, 1000):
-        got = run(given, REFUSE=n)
-        if not got[3]:
-            check(f"no growth refused, {n}", got[:3] == (line, status, b""), got)
-            break
-        check(f"growth {n} refused", got[:3] in ((line, status, b""), (memory, 2, b""), (b"", 2, b"")), got)
-    else:
-        check("growths", False, "no end")
-    # Each write failing, or taking nothing.
-    for n in range(1, len(line) + 1):
-        for way in ("FAIL_WRITE", "EMPTY_WRITE"):
-            got = run(given, ONE_BYTE=1, **{way: n})
-            check(f"{way} {n}", got[:3] == (line[: n - 1], 2, b""), got)
+def cases():
+    request = b"out 40000 69 000161006f6374657400"
+    block = b"in 40000 41000 000300016869"
+    ack = b"out 40000 41000 00040001"
+    rows = (b"1 out RRQ\n", b"2 in DATA 1 2\n", b"3 out ACK 1\n")
+    return (
+        Case(
+            "a read of one block",
+            text_of(request, block, ack, b"total 3"),
+            rows,
+            (b"accepted get octet blocks 1 bytes 2\n", 0),
+        ),
+        Case(
+            "a block past the window",
+            text_of(request, b"in 40000 41000 000300026869", b"total 2"),
+            (rows[0], b"2 in DATA 2 2\n"),
+            (b"refused datagram 2 rule 22 WindowOverrun\n", 1),
+            unlawful=5,
+        ),
+        Case("no acknowledgement", text_of(request, block, b"total 2"), rows[:2], (b"incomplete after 2\n", 1)),
+        Case(
+            "a payload that is no packet",
+            text_of(request, b"in 40000 41000 0004000100", ack, b"total 3"),
+            (rows[0], b"2 in malformed AckLength\n", rows[2]),
+            (b"refused datagram 2 rule 5 Malformed AckLength\n", 1),
+            unlawful=5,
+        ),
+        Case("bad hex at once", text_of(b"out 40000 69 00016", block, ack, b"total 3"), (), wrong=(4, "BadHex")),
+        Case("bad hex later", text_of(request, block, ack + b"0", b"total 3"), rows[:2], wrong=(6, "BadHex")),
+        Case("a wrong total", text_of(request, block, ack, b"total 4"), rows, wrong=(7, "TotalWrong")),
+        Case("no datagram", text_of(b"total 0"), (), (b"incomplete after 0\n", 1)),
+    )
 
-# Each read failing.
-for n in range(1, len(text) + 2):
-    number = text[: n - 1].count(b"\n") + 1
-    got = run(text, ONE_BYTE=1, FAIL_READ=n)
-    check(f"read {n}", got[:3] == (b"fault line %d Read\n" % number, 2, b""), got)
-# The earlier line decides: an unlawful datagram stands before a read that fails later.
-for n in range(len(refused) - len(b"total 2\n") + 1, len(refused) + 2):
-    got = run(refused, ONE_BYTE=1, FAIL_READ=n)
-    check(f"read {n} after a refusal", got[:3] == (b"refused datagram 2 rule 22 WindowOverrun\n", 1, b""), got)
-print(f"{passed} passed, {failed} failed")
-sys.exit(1 if failed else 0)
+
+class Trial:
+    """The program, and how many of its runs were as they should be."""
+
+    def __init__(self, program, folder):
+        self.program, self.shim, self.met = program, folder / "refuse.so", folder / "met"
+        self.passed = self.failed = 0
+
+    def run(self, words, given, **shim):
+        """What the program writes and its status, whether it wrote no error, and whether the shim's call was met."""
+        self.met.unlink(missing_ok=True)
+        environment = {"LD_PRELOAD": str(self.shim), "MET": str(self.met), "PATH": os.environ.get("PATH", "")}
+        environment.update({name: str(value) for name, value in shim.items()})
+        done = subprocess.run([self.program, *words], input=given, capture_output=True, env=environment, timeout=60)
+        return (done.stdout, done.returncode), done.stderr == b"", self.met.exists()
+
+    def count(self, name, holds, got):
+        """Counts a run."""
+        if holds:
+            self.passed += 1
+        else:
+            self.failed += 1
+            print(f"{name}: {got}")
+
+    def expect(self, name, got, *outputs):
+        """Counts a run that wrote no error and whose output is among those that may be."""
+        self.count(name, got[1] and got[0] in outputs, got)
+
+    def refuse_growths(self, name, words, given, output, outputs):
+        """Each growth refused, until a run meets no refusal; that one prints `output`."""
+        for turn in range(1, 10_000):
+            got = self.run(words, given, REFUSE=turn)
+            if not got[2]:
+                self.expect(f"{name}, no growth refused", got, output)
+                return
+            self.expect(f"{name}, growth {turn} refused", got, *outputs)
+        self.count(f"{name}, growths", False, "no end")
+
+    def fail_writes(self, name, words, given, output):
+        """Each write failing, or taking nothing, of one byte a write."""
+        self.expect(f"{name}, one byte a call", self.run(words, given, ONE_BYTE=1), output)
+        for turn in range(1, len(output[0]) + 1):
+            for way in ("FAIL_WRITE", "EMPTY_WRITE"):
+                got = self.run(words, given, ONE_BYTE=1, **{way: turn})
+                self.expect(f"{name}, {way} {turn}", got, (output[0][: turn - 1], 2))
+
+    def fail_reads(self, case, command):
+        """Each read failing, of one byte a read, the one after the whole text too."""
+        for taken in range(len(case.text) + 1):
+            got = self.run([command], case.text, ONE_BYTE=1, FAIL_READ=taken + 1)
+            self.expect(f"{command}, {case.name}, read {taken + 1}", got, case.output(command, taken, "Read"))
+
+    def cut(self, case, command):
+        """The text cut after each of its bytes."""
+        for taken in range(len(case.text)):
+            got = self.run([command], case.text[:taken])
+            self.expect(f"{command}, {case.name}, {taken} bytes", got, case.output(command, taken))
+
+    def try_case(self, case, command):
+        name, output = f"{command}, {case.name}", case.output(command)
+        self.expect(name, self.run([command], case.text), output)
+        self.refuse_growths(name, [command], case.text, output, case.outputs_without_memory(command))
+        self.fail_writes(name, [command], case.text, output)
+        self.fail_reads(case, command)
+        self.cut(case, command)
+
+    def show_in_pieces(self):
+        """Many lines are written in pieces of KBs, and after a piece that fails nothing more is."""
+        count = 2_000
+        text = text_of(*[b"in 40000 41000 00030001"] * count, b"total %d" % count)
+        whole = b"".join(b"%d in DATA 1 0\n" % number for number in range(1, count + 1))
+        for turn in range(1, len(whole) // LEAST_PIECE + 3):
+            got = self.run(["show"], text, FAIL_WRITE=turn)
+            (output, status), clean, met = got
+            if not met:
+                self.expect("show, many lines", got, (whole, 0))
+                return
+            holds = clean and status == 2 and whole.startswith(output) and (turn - 1) * LEAST_PIECE <= len(output)
+            self.count(f"show, many lines, write {turn}", holds and output != whole, (len(output), status))
+        self.count("show, many lines", False, "too many writes")
+
+    def try_words(self, words):
+        """Words that are no command are told before anything is read."""
+        got = self.run(words, b"", FAIL_READ=1)
+        self.expect(f"words {words}", got, USAGE)
+        self.count(f"words {words}, no read", not got[2], got)
+
+
+def main(program, folder):
+    trial = Trial(program, pathlib.Path(folder))
+    for case in cases():
+        for command in COMMANDS:
+            trial.try_case(case, command)
+    trial.show_in_pieces()
+    for words in NO_COMMANDS:
+        trial.try_words(words)
+    for words in NO_WORDS:
+        trial.expect(f"words {words}", trial.run(words, b""), NOTHING)
+    for words in (["help"], ["check", "show"]):
+        trial.refuse_growths(f"words {words}", words, b"", USAGE, (USAGE, (MEMORY, 2), NOTHING))
+        trial.fail_writes(f"words {words}", words, b"", USAGE)
+    print(f"{trial.passed} passed, {trial.failed} failed")
+    return 1 if trial.failed else 0
+
+
+sys.exit(main(sys.argv[1], sys.argv[2]))

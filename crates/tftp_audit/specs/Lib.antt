@@ -1,11 +1,7 @@
-pub mod CaptureText
-pub mod Law
-pub mod Output
-pub mod Ports
-pub mod Reading
-pub mod Rules
-pub mod Run
-pub mod State
-pub mod TextState
-pub mod Verdict
 pub mod Words
+pub mod Names
+pub mod Output
+pub mod Source
+pub mod Shown
+pub mod Checked
+pub mod Run

@@ -1,15 +1,16 @@
 //! Audits a text capture of one TFTP transfer.
 #![tactic(auto)]
 
-mod capture;
-mod judge;
-mod outcome;
-mod rule;
+mod check;
+mod faults;
+mod names;
+mod output;
 mod session;
+mod show;
+mod status;
 #[cfg(test)]
 mod tests;
-mod verdict;
-mod whole;
+mod verdicts;
 mod words;
 
 use session::run;

@@ -1,5 +1,5 @@
 -- Bytes given to a writer piece by piece.
-use Rattle.std.proofs.Common.{◌≡◌, ℕ, suc, ◌+◌, ◌<◌, get_or, flat_map, drop-cons, List, [], ◌∷◌, ◌++◌, length, take, drop, Option, Result, Ok, Err, OnOk, OnErr, is_err, false, true≢false, refl, sym, ap, ◌∙◌, subst, append_assoc, append-nil, take-append-drop}
+use Rattle.std.proofs.Common.{◌≡◌, ◌≢◌, ℕ, suc, ◌+◌, ◌<◌, arith, length-drop, get_or, flat_map, drop-cons, List, [], ◌∷◌, ◌++◌, length, take, drop, Option, Result, Ok, Err, OnOk, OnErr, is_err, false, true≢false, refl, sym, ap, ◌∙◌, subst, append_assoc, append-nil, take-append-drop, length-append}
 use Rattle.std.specs.Io.KnownBytes.{Appends, Keeps}
 use Rattle.std.proofs.KnownBytes.{Appends-nil, Appends-trans, Appends-kept}
 use Rattle.std.proofs.lemmas.List.{take_more}
@@ -24,11 +24,16 @@ gathers_more c0 c1 c2 h0 h1 h2 first second p q = record {
   appended = Appends-trans _ _ _ _ _ p.appended q.appended;
 }
 
+more_left : (rest more : List ℕ) → rest ≢ [] → rest ++ more ≢ []
+more_left [] more h e = h refl
+more_left (b ∷ bs) more h e = absurd (omega (arith, ap length e))
+
 pub prefix_of : (c0 c1 : Option (List ℕ)) (bytes more : List ℕ) → AppendsPrefix c0 c1 bytes → AppendsPrefix c0 c1 (bytes ++ more)
 prefix_of c0 c1 bytes more p = record {
   written = p.written;
   rest = p.rest ++ more;
   are = ap (λ l. l ++ more) p.are ∙ append_assoc p.written p.rest more;
+  left = more_left p.rest more p.left;
   appended = p.appended;
 }
 
@@ -41,8 +46,23 @@ gathers_prefix c0 c1 c2 h0 h1 first second more p q = record {
       sym (append_assoc h0 first (second ++ more)) ∙ ap (λ l. l ++ (second ++ more)) p.are ∙ append_assoc p.written h1 (second ++ more)
       ∙ ap (λ l. p.written ++ l) (sym (append_assoc h1 second more) ∙ ap (λ l. l ++ more) q.are ∙ append_assoc q.written q.rest more)
       ∙ sym (append_assoc p.written q.written (q.rest ++ more));
+  left = more_left q.rest more q.left;
   appended = Appends-trans _ _ _ _ _ p.appended q.appended;
 }
+
+-- what waited was written, and then the bytes failed
+pub written_prefix : (c0 c1 c2 : Option (List ℕ)) (held bytes : List ℕ) → Appends c0 c1 held → AppendsPrefix c1 c2 bytes → AppendsPrefix c0 c2 (held ++ bytes)
+written_prefix c0 c1 c2 held bytes p q = record {
+  written = held ++ q.written;
+  rest = q.rest;
+  are = ap (λ l. held ++ l) q.are ∙ sym (append_assoc held q.written q.rest);
+  left = q.left;
+  appended = Appends-trans _ _ _ _ _ p q.appended;
+}
+
+-- what waited was written, and then the bytes
+pub gathers_past : (c0 c1 c2 : Option (List ℕ)) (held bytes : List ℕ) → Appends c0 c1 held → Appends c1 c2 bytes → Gathers c0 c2 held [] bytes
+gathers_past c0 c1 c2 held bytes p q = record { written = held ++ bytes; are = sym (append-nil (held ++ bytes)); appended = Appends-trans _ _ _ _ _ p q }
 
 -- some pieces were gathered, and then all that waited was written
 pub gathers_all : (c0 c1 c2 : Option (List ℕ)) (h0 h1 bytes : List ℕ) → Gathers c0 c1 h0 h1 bytes → Appends c1 c2 h1 → Appends c0 c2 (h0 ++ bytes)
@@ -53,18 +73,39 @@ prefix_all c0 c1 c2 h0 h1 bytes p q = record {
   written = p.written ++ q.written;
   rest = q.rest;
   are = p.are ∙ ap (λ l. p.written ++ l) q.are ∙ sym (append_assoc p.written q.written q.rest);
+  left = q.left;
   appended = Appends-trans _ _ _ _ _ p.appended q.appended;
 }
 
--- a write took no byte, or failed, after the first n
-pub prefix_kept : (c0 c1 c2 : Option (List ℕ)) (n : ℕ) (bytes : List ℕ) → Appends c0 c1 (take n bytes) → Keeps c1 c2 → AppendsPrefix c0 c2 bytes
-prefix_kept c0 c1 c2 n bytes p q = record { written = take n bytes; rest = drop n bytes; are = sym (take-append-drop n bytes); appended = Appends-kept _ _ _ _ p q }
+-- a line was not written at all
+pub prefix_nothing : (c : Option (List ℕ)) (held line : List ℕ) → AppendsPrefix c c (held ++ (line ++ 10 ∷ []))
+prefix_nothing c held line = record {
+  written = [];
+  rest = held ++ (line ++ 10 ∷ []);
+  are = refl;
+  left = λ e. absurd (omega (arith, ap length e, length-append held (line ++ 10 ∷ []), length-append line (10 ∷ [])));
+  appended = Appends-nil c;
+}
 
-pub prefix_none : (c0 c1 c2 : Option (List ℕ)) (n : ℕ) (bytes : List ℕ) → Appends c0 c1 (take n bytes) → Appends c1 c2 [] → AppendsPrefix c0 c2 bytes
-prefix_none c0 c1 c2 n bytes p q = record {
+rest_left : (n : ℕ) (bytes : List ℕ) → n < length bytes → drop n bytes ≢ []
+rest_left n bytes h e = absurd (omega (arith, ap length e, length-drop n bytes))
+
+-- a write took no byte, or failed, after the first n
+pub prefix_kept : (c0 c1 c2 : Option (List ℕ)) (n : ℕ) (bytes : List ℕ) → n < length bytes → Appends c0 c1 (take n bytes) → Keeps c1 c2 → AppendsPrefix c0 c2 bytes
+prefix_kept c0 c1 c2 n bytes h p q = record {
   written = take n bytes;
   rest = drop n bytes;
   are = sym (take-append-drop n bytes);
+  left = rest_left n bytes h;
+  appended = Appends-kept _ _ _ _ p q;
+}
+
+pub prefix_none : (c0 c1 c2 : Option (List ℕ)) (n : ℕ) (bytes : List ℕ) → n < length bytes → Appends c0 c1 (take n bytes) → Appends c1 c2 [] → AppendsPrefix c0 c2 bytes
+prefix_none c0 c1 c2 n bytes h p q = record {
+  written = take n bytes;
+  rest = drop n bytes;
+  are = sym (take-append-drop n bytes);
+  left = rest_left n bytes h;
   appended = rw append-nil at (Appends-trans _ _ _ _ _ p q);
 }
 

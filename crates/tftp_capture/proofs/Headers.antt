@@ -11,7 +11,7 @@ use Rattle.tftp_capture.specs.declared.stop.Stop.{Stop}
 use Rattle.tftp_capture.specs.declared.stop.Stop.TheVariants.{Text, Read, Memory}
 use Rattle.tftp_capture.specs.CaptureText.{Due, IsPort, Says, Stands, end_line, head_line, service_line, whole_lines}
 use Rattle.tftp_capture.specs.CaptureText.Due.{Head, EndLine, ServiceLine, Body}
-use Rattle.tftp_capture.specs.History.{FailsToBegin, FaultTells, IsAtTextEnd}
+use Rattle.tftp_capture.specs.History.{FailsToBegin, FaultTells, IsAtTextEnd, IsReadFault}
 use Rattle.tftp_capture.specs.Lines.{LineEnds, LineState, ReachesLine, fault_at}
 use Rattle.tftp_capture.proofs.Texts.{IsSkippable, says-head, says-end, says-service, stands-line, stands-nothing}
 use Rattle.tftp_capture.proofs.Faults.{fault_in_line, fault_at_end}
@@ -132,10 +132,23 @@ pub consumed_nil : (r k : Option (List ℕ)) (bytes : List ℕ) → Consumes (pr
 consumed_nil None k bytes p = tt
 consumed_nil (Some x) k bytes p = p
 
-pub fails_to_begin : (r0 r1 : Option (List ℕ)) (ahead : List ℕ) (fault : CaptureFault) → Tells (prepend_known [] r0) (prepend_known ahead r1) fault → FailsToBegin r0 r1 fault
-fails_to_begin None r1 ahead fault t = record { taken = t.text; ahead = ahead; consumed = tt; tells = t.tells }
-fails_to_begin (Some x) None ahead fault t = absurd t.consumed
-fails_to_begin (Some x) (Some y) ahead fault t = record { taken = t.text; ahead = ahead; consumed = t.consumed ∙ sym (append_assoc t.text ahead y); tells = t.tells }
+-- nothing is ahead of the end
+none_ahead : (ahead rest : List ℕ) → ahead ++ rest ≡ [] → ahead ≡ []
+none_ahead [] rest e = refl
+none_ahead (b ∷ bs) rest e = absurd (omega (arith, ap length e))
+
+pub fails_to_begin : (r0 r1 : Option (List ℕ)) (ahead : List ℕ) (fault : CaptureFault) → (IsReadFault fault → ahead ≡ []) → (IsAtTextEnd fault → IsAtEnd (prepend_known ahead r1))
+    → Tells (prepend_known [] r0) (prepend_known ahead r1) fault → FailsToBegin r0 r1 fault
+fails_to_begin None r1 ahead fault none end t = record { taken = t.text; ahead = []; consumed = tt; tells = t.tells; drained = λ _. refl; ended = λ _. refl }
+fails_to_begin (Some x) None ahead fault none end t = absurd t.consumed
+fails_to_begin (Some x) (Some y) ahead fault none end t = record {
+  taken = t.text;
+  ahead = ahead;
+  consumed = t.consumed ∙ sym (append_assoc t.text ahead y);
+  tells = t.tells;
+  drained = none;
+  ended = λ h. none_ahead ahead y (end h);
+}
 
 pub at_end_rest : (r : Option (List ℕ)) (ahead : List ℕ) → IsAtEnd (prepend_known ahead r) → IsAtEnd r
 at_end_rest None ahead p = tt
@@ -146,6 +159,11 @@ pub at_text_end : (stop : Stop) (n : ℕ) → IsAtTextEnd (fault_at stop n) → 
 at_text_end (Text fault) n h = ap Text h
 at_text_end Read n h = absurd h
 at_text_end Memory n h = absurd h
+
+pub at_read : (stop : Stop) (n : ℕ) → IsReadFault (fault_at stop n) → stop ≡ Read
+at_read (Text fault) n h = absurd h
+at_read Read n h = refl
+at_read Memory n h = absurd h
 
 -- ---- the answer of `!=`
 

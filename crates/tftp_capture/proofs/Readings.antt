@@ -187,11 +187,11 @@ fails_same r1 r2 m1 m2 b1 b2 ds1 ds2 l1 l2 f1 f2 e p q =
     ]
 
 -- a fault, as the byte at which it is, or the text's end
-data FaultIs (text : List ℕ) (ds : List Numbered) (line : ℕ) : TextFault → Type 0 where
+pub data FaultIs (text : List ℕ) (ds : List Numbered) (line : ℕ) : TextFault → Type 0 where
   cut : (due : Due) → Unfinished text ds line due → (IsOver due → ⊥) → FaultIs text ds line Truncated
   wrong : {fault : TextFault} (read more : List ℕ) (byte : ℕ) → text ≡ read ++ byte ∷ more → FailsAt read byte ds line fault → FaultIs text ds line fault
 
-fault_is : (text : List ℕ) (ds : List Numbered) (line : ℕ) (fault : TextFault) → HasFault text ds line fault → FaultIs text ds line fault
+pub fault_is : (text : List ℕ) (ds : List Numbered) (line : ℕ) (fault : TextFault) → HasFault text ds line fault → FaultIs text ds line fault
 fault_is text ds line Truncated h = cut h.0 h.1 h.2
 fault_is text ds line BadHeader h = wrong h.0 h.1 h.2 h.3 h.4
 fault_is text ds line BadEnd h = wrong h.0 h.1 h.2 h.3 h.4

@@ -212,6 +212,18 @@ abbrev pub Reads : List ℕ → Reading → Type 0
 Reads text (Capture header datagrams) = IsCapture text header datagrams
 Reads text (Fault datagrams line fault) = HasFault text datagrams line fault
 
+-- the text begins with whole lines, of which no byte is wrong, that say the header and these datagrams
+pub record Begins (text : List ℕ) (header : Header) (datagrams : List Numbered) : Type 0 where
+  pub read : List ℕ
+  pub more : List ℕ
+  pub lines : List (List ℕ)
+  pub are : text ≡ read ++ more
+  pub stands : Stands read lines [] (Body header) datagrams
+
+-- a list begins with another
+abbrev pub BeginsWith : {A : Type 0} → List A → List A → Type 0
+BeginsWith {A} whole part = (rest : List A) × (whole ≡ part ++ rest)
+
 -- ---- laws
 
 -- a datagram that a text can hold

@@ -75,13 +75,6 @@ pub record Continues (old new : ReaderState) (before after : Option (List ℕ)) 
   pub consumed : Consumes before after taken
   pub stands : StandsFor new (text ++ taken) (with_answer datagrams new.handed result)
 
--- bytes were taken in which a header was looked for, and some more were read ahead
-pub record FailsToBegin (before after : Option (List ℕ)) (fault : CaptureFault) : Type 0 where
-  pub taken : List ℕ
-  pub ahead : List ℕ
-  pub consumed : Consumes before after (taken ++ ahead)
-  pub tells : FaultTells fault taken []
-
 -- whether a fault, or the answer of a reader that has stopped, is that a read failed
 abbrev pub IsReadFault : CaptureFault → Type 0
 IsReadFault (Text line fault) = ⊥
@@ -98,6 +91,16 @@ abbrev pub IsAtTextEnd : CaptureFault → Type 0
 IsAtTextEnd (Text line fault) = fault ≡ Truncated
 IsAtTextEnd (Read line) = ⊥
 IsAtTextEnd (Memory line) = ⊥
+
+-- bytes were taken in which a header was looked for, and some more were read ahead, but none where a read failed or the
+-- text has ended
+pub record FailsToBegin (before after : Option (List ℕ)) (fault : CaptureFault) : Type 0 where
+  pub taken : List ℕ
+  pub ahead : List ℕ
+  pub consumed : Consumes before after (taken ++ ahead)
+  pub tells : FaultTells fault taken []
+  pub drained : IsReadFault fault → ahead ≡ []
+  pub ended : IsAtTextEnd fault → ahead ≡ []
 
 -- the answer of a reader that goes on no more
 abbrev pub KeepsAnswer : Standing → Result (Option Owned) CaptureFault → Type 0

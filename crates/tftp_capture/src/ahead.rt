@@ -62,6 +62,7 @@ impl Ahead {
         ensures end { IfOk result (λ _. length self.new ≡ 0 → IsAtEnd (prepend_known self.new (R.remaining reader.new.0))) }
         ensures ok { OnOk result (reader.new.1 ≡ reader.old.1) }
         ensures err { OnErr result (reader.new.1 ≡ true) }
+        ensures drained { OnErr result (self.new ≡ []) }
     {
         if self.start == self.end {
             let count = reader.read(&mut self.buf)?;

@@ -1,4 +1,4 @@
-ghost use Rattle.std.specs.Prelude.{◌≡◌, ◌+◌, ◌≤◌, ◌++◌, [], length, true, false, All, flat_map, OnOk, OnErr};
+ghost use Rattle.std.specs.Prelude.{◌≡◌, ◌+◌, ◌≤◌, ◌++◌, [], length, true, false, flat_map, OnOk, OnErr};
 ghost use Rattle.std.specs.Io.KnownBytes.{Appends};
 ghost use Rattle.tftp_capture.specs.Tally.{AppendsPrefix, Gathers};
 
@@ -8,8 +8,8 @@ use crate::whole::write_whole;
 use std::io::Write;
 use std::marker::Model;
 
-/// The most bytes that wait, and the most of one piece.
-pub const ROOM: usize = 4096;
+/// The most bytes that wait.
+const ROOM: usize = 4096;
 
 /// Bytes that wait to be written together, at most 4,096.
 #[derive(Drop)]
@@ -39,10 +39,12 @@ impl Gathered {
         }
     }
 
-    /// Adds a piece of at most 4,096 bytes; first writes what waits where there is no room for both.
+    /// Adds a piece of any length: where there is no room for both, what waits is written first, and
+    /// then at once a piece of more than 4,096 bytes. After a fault only the writer tells what was
+    /// written.
+    #[tactic(auto, using(crate::proofs::Gathering::gathers_past, crate::proofs::Gathering::prefix_of))]
     pub fn add<W: Write>(&mut self, writer: &mut Tallied<W>, bytes: &[u8]) -> Result<(), WriteFault>
         requires clean { writer.old.1 ≡ false }
-        requires fits { length bytes.now ≤ 4096 }
         ensures ok { OnOk result (Gathers (W.contents writer.old.0) (W.contents writer.new.0) self.old self.new bytes.now) }
         ensures clean { OnOk result (writer.new.1 ≡ false) }
         ensures err { OnErr result (AppendsPrefix (W.contents writer.old.0) (W.contents writer.new.0) (self.old ++ bytes.now)) }
@@ -50,19 +52,21 @@ impl Gathered {
     {
         if ROOM - self.len < bytes.len() {
             self.write(writer)?;
+            if ROOM < bytes.len() {
+                return write_whole(writer, bytes);
+            }
         }
         self.push(bytes);
         Ok(())
     }
 
-    /// Adds pieces of at most 4,096 bytes, one after another.
+    /// Adds pieces, one after another.
     pub fn add_all<W: Write>(
         &mut self,
         writer: &mut Tallied<W>,
         pieces: &[&[u8]],
     ) -> Result<(), WriteFault>
         requires clean { writer.old.1 ≡ false }
-        requires fits { All (λ piece. length piece.now ≤ 4096) pieces.now }
         ensures ok { OnOk result (Gathers (W.contents writer.old.0) (W.contents writer.new.0) self.old self.new (flat_map (λ piece. piece.now) pieces.now)) }
         ensures clean { OnOk result (writer.new.1 ≡ false) }
         ensures err { OnErr result (AppendsPrefix (W.contents writer.old.0) (W.contents writer.new.0) (self.old ++ flat_map (λ piece. piece.now) pieces.now)) }
@@ -74,7 +78,7 @@ impl Gathered {
         Ok(())
     }
 
-    /// Writes what waits.
+    /// Writes what waits; nothing waits then.
     pub fn write<W: Write>(&mut self, writer: &mut Tallied<W>) -> Result<(), WriteFault>
         requires clean { writer.old.1 ≡ false }
         ensures ok { OnOk result (Appends (W.contents writer.old.0) (W.contents writer.new.0) self.old) }

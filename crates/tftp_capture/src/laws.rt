@@ -1,5 +1,5 @@
-ghost use Rattle.std.specs.Prelude.{◌≡◌, ◌≢◌, ◌^◌, ◌≤◌, ◌++◌, ℕ, List, All, length};
-ghost use Rattle.tftp_capture.specs.CaptureText.{text_of, Datagram, HasFault, Header, IsCapture, IsLawful, IsPort, Numbered, Reading, Reads, numbered};
+ghost use Rattle.std.specs.Prelude.{◌≡◌, ◌≢◌, ◌^◌, ◌≤◌, ◌⊎◌, ◌++◌, ℕ, List, All, length};
+ghost use Rattle.tftp_capture.specs.CaptureText.{text_of, Begins, BeginsWith, Datagram, Due, HasFault, Header, IsCapture, IsLawful, IsPort, Numbered, Reading, Reads, Unfinished, numbered};
 ghost use Rattle.tftp_capture.specs.Worked.{worked_datagrams, worked_header, worked_text};
 
 use crate::fault::TextFault;
@@ -24,4 +24,27 @@ pub fn fault_stays()
 /// A text has one reading: it is one capture, or has one fault at one line.
 pub fn text_has_one_reading()
     ensures { (text : List ℕ) (one other : Reading) → Reads text one → Reads text other → one ≡ other }
+{}
+
+/// What a text begins with, it begins with in one way: under one header, and of two lists of
+/// datagrams the one begins with the other.
+pub fn beginnings_agree()
+    ensures { (text : List ℕ) (one other : Header) (some others : List Numbered) → Begins text one some → Begins text other others
+        → (one ≡ other) × (BeginsWith some others ⊎ BeginsWith others some) }
+{}
+
+/// A capture begins with its datagrams, and with nothing but the first of them.
+pub fn capture_has_its_beginnings()
+    ensures first { (text : List ℕ) (header other : Header) (datagrams some : List Numbered) → IsCapture text header datagrams → Begins text other some
+        → (other ≡ header) × BeginsWith datagrams some }
+    ensures all { (text : List ℕ) (header : Header) (datagrams : List Numbered) → IsCapture text header datagrams → Begins text header datagrams }
+{}
+
+/// The datagrams before a text's fault begin with those of each of its beginnings; so do those of a
+/// text that ends in the middle.
+pub fn fault_comes_after_beginnings()
+    ensures fault { (text : List ℕ) (header : Header) (datagrams some : List Numbered) (line : ℕ) (fault : TextFault) → HasFault text datagrams line fault → Begins text header some
+        → BeginsWith datagrams some }
+    ensures unfinished { (text : List ℕ) (header : Header) (datagrams some : List Numbered) (line : ℕ) (due : Due) → Unfinished text datagrams line due → Begins text header some
+        → BeginsWith datagrams some }
 {}

@@ -22,8 +22,10 @@ mod writer;
 pub use datagram::{Datagram, Header};
 pub use drip::{DripReader, DripWriter};
 pub use fault::{CaptureFault, TextFault, WriteFault};
+pub use gathered::Gathered;
 pub use laws::{
-    canonical_text_is_read, fault_stays, text_has_one_reading, worked_text_is_canonical,
+    beginnings_agree, canonical_text_is_read, capture_has_its_beginnings,
+    fault_comes_after_beginnings, fault_stays, text_has_one_reading, worked_text_is_canonical,
 };
 pub use reader::CaptureReader;
 pub use tallied::Tallied;

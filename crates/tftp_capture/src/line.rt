@@ -1,4 +1,4 @@
-ghost use Rattle.std.specs.Prelude.{◌≡◌, ◌≢◌, ◌<◌, ◌≤◌, ℕ, List, All, true, length, take, slice_index, vec_len, OnOk};
+ghost use Rattle.std.specs.Prelude.{◌≡◌, ◌≢◌, ◌<◌, ◌≤◌, ℕ, List, [], All, true, length, take, slice_index, vec_len, OnOk};
 ghost use Rattle.std.specs.Io.KnownBytes.{prepend_known, Consumes, IsAtEnd};
 ghost use Rattle.tftp_capture.specs.Lines.{LineEnds};
 
@@ -39,6 +39,7 @@ pub fn read_line<R: Read>(
     ensures bounded { vec_len line.new ≤ 131070 }
     ensures end { result ≡ Err (Stop.Text TextFault.Truncated) → IsAtEnd (prepend_known ahead.new (R.remaining reader.new.0)) }
     ensures read { result ≡ Err Stop.Read → reader.new.1 ≡ true }
+    ensures drained { result ≡ Err Stop.Read → ahead.new ≡ [] }
     ensures tally { result ≢ Err Stop.Read → reader.new.1 ≡ reader.old.1 }
 {
     line.clear();

@@ -90,6 +90,7 @@ impl Lines {
         ensures short_before { self.old.taken ≤ 2 ^ 40 }
         ensures end { result ≡ Err (Stop.Text TextFault.Truncated) → IsAtEnd (prepend_known self.new.ahead (R.remaining reader.new.0)) }
         ensures read { result ≡ Err Stop.Read → reader.new.1 ≡ true }
+        ensures drained { result ≡ Err Stop.Read → self.new.ahead ≡ [] }
         ensures tally { result ≢ Err Stop.Read → reader.new.1 ≡ reader.old.1 }
     {
         let room = LONGEST_TEXT - self.taken;
@@ -104,6 +105,7 @@ impl Lines {
         ensures reaches { ReachesLine result self.old self.new (prepend_known self.old.ahead (R.remaining reader.old.0)) (prepend_known self.new.ahead (R.remaining reader.new.0)) }
         ensures end { result ≡ Err (Stop.Text TextFault.Truncated) → IsAtEnd (prepend_known self.new.ahead (R.remaining reader.new.0)) }
         ensures read { result ≡ Err Stop.Read → reader.new.1 ≡ true }
+        ensures drained { result ≡ Err Stop.Read → self.new.ahead ≡ [] }
         ensures tally { result ≢ Err Stop.Read → reader.new.1 ≡ reader.old.1 }
     {
         'lines: loop {
@@ -121,6 +123,7 @@ impl Lines {
         ensures same { (self.new.taken ≡ self.old.taken) × (self.new.count ≡ self.old.count) }
         ensures end { OnOk result (IsAtEnd (prepend_known self.new.ahead (R.remaining reader.new.0))) }
         ensures read { result ≡ Err Stop.Read → reader.new.1 ≡ true }
+        ensures drained { result ≡ Err Stop.Read → self.new.ahead ≡ [] }
         ensures tally { result ≢ Err Stop.Read → reader.new.1 ≡ reader.old.1 }
     {
         if self.ahead.fill(reader).is_err() {

@@ -1,4 +1,4 @@
-ghost use Rattle.std.specs.Prelude.{◌≡◌, ◌≢◌, ◌+◌, ◌^◌, ◌<◌, ◌≤◌, ◌⊎◌, ℕ, List, [], length, true, false, IfOk, IfErr, IfSome, OnOk};
+ghost use Rattle.std.specs.Prelude.{◌≡◌, ◌≢◌, ◌+◌, ◌^◌, ◌<◌, ◌≤◌, ◌⊎◌, ℕ, List, [], length, true, false, IfOk, IfErr, IfSome, IsErrAnd, OnOk};
 ghost use Rattle.std.specs.Io.KnownBytes.{prepend_known, Consumes, IsAtEnd};
 ghost use Rattle.tftp_capture.specs.CaptureText.{Header as HeaderParts, Numbered};
 ghost use Rattle.tftp_capture.specs.Fields.{header_of};
@@ -97,7 +97,8 @@ impl CaptureReader {
         ensures end { self.old.standing ≡ Standing.Open → result ≡ Ok None → IsAtEnd (prepend_known self.new.lines.ahead (R.remaining reader.new.0)) }
         ensures cut { self.old.standing ≡ Standing.Open → IfErr result (λ fault. IsAtTextEnd fault → IsAtEnd (prepend_known self.new.lines.ahead (R.remaining reader.new.0))) }
         ensures read { IfErr result (λ fault. IsReadFault fault → reader.new.1 ≡ true) }
-        ensures tally { IfErr result (λ fault. IsReadFault fault) ⊎ (reader.new.1 ≡ reader.old.1) }
+        ensures tally { IsErrAnd result IsReadFault ⊎ (reader.new.1 ≡ reader.old.1) }
+        ensures drained { self.old.standing ≡ Standing.Open → IfErr result (λ fault. IsReadFault fault → self.new.lines.ahead ≡ []) }
         ensures told { IsReadStanding self.new.standing → reader.new.1 ≡ true }
         ensures rises { IfOk result (λ answer. IfSome answer (λ _. self.old.handed < self.new.handed)) }
         ensures line { self.new.handed ≤ 2 ^ 40 }
@@ -156,7 +157,8 @@ fn read_on<R: Read>(
     ensures end { result ≡ Ok None → IsAtEnd (prepend_known lines.new.ahead (R.remaining reader.new.0)) }
     ensures cut { IfErr result (λ fault. IsAtTextEnd fault → IsAtEnd (prepend_known lines.new.ahead (R.remaining reader.new.0))) }
     ensures read { IfErr result (λ fault. IsReadFault fault → reader.new.1 ≡ true) }
-    ensures tally { IfErr result IsReadFault ⊎ (reader.new.1 ≡ reader.old.1) }
+    ensures drained { IfErr result (λ fault. IsReadFault fault → lines.new.ahead ≡ []) }
+    ensures tally { IsErrAnd result IsReadFault ⊎ (reader.new.1 ≡ reader.old.1) }
     ensures rises { IfOk result (λ answer. IfSome answer (λ _. lines.old.count < lines.new.count)) }
     ensures grows { lines.old.count ≤ lines.new.count }
     ensures few { lines.new.count ≤ 2 ^ 40 }

@@ -339,3 +339,44 @@ fn an_empty_and_the_longest_payload_are_written(rt: HostRuntime) -> Result<(), F
     gives(&rt, inner.taken(), Ok((2, 9)))?;
     Ok(())
 }
+
+/// Gathers the bytes in pieces of 100, of 4,096, of 4,097 and of what is left, and writes what waits.
+fn gather(writer: &mut Tallied<DripWriter>, bytes: &[u8]) -> Result<(), WriteFault>
+    requires { writer.old.1 ≡ false }
+{
+    let mut gathered = Gathered::new();
+    let (short, rest) = bytes.split_at(bytes.len().min(100));
+    let (full, rest) = rest.split_at(rest.len().min(4096));
+    let (long, rest) = rest.split_at(rest.len().min(4097));
+    gathered.add(writer, short)?;
+    gathered.add_all(writer, &[full, long, b"", rest])?;
+    gathered.write(writer)
+}
+
+#[test]
+fn pieces_of_any_length_are_gathered(rt: HostRuntime) -> Result<(), Fail> {
+    let mut bytes = Vec::new(rt.alloc());
+    for index in 0..8303u32 {
+        bytes.push((index % 251) as u8)?;
+    }
+    for piece in [usize::MAX, 1000, 7] {
+        let mut writer = Tallied::new(DripWriter::new(rt.alloc(), bytes.len(), piece, 0, false)?);
+        assert_eq!(rt; gather(&mut writer, &bytes), Ok(()));
+        assert!(rt; !writer.failed());
+        assert_eq!(rt; writer.into_inner().taken(), bytes.as_slice());
+    }
+    for (write, taken) in [(1, 0), (2, 100), (3, 4196), (4, 8293)] {
+        for none in [false, true] {
+            let drip = DripWriter::new(rt.alloc(), bytes.len(), usize::MAX, write, none)?;
+            let mut writer = Tallied::new(drip);
+            assert_eq!(rt;
+                gather(&mut writer, &bytes),
+                Err(WriteFault),
+                "write {write}"
+            );
+            assert!(rt; writer.failed());
+            assert_eq!(rt; Some(writer.into_inner().taken()), bytes.get(..taken));
+        }
+    }
+    Ok(())
+}

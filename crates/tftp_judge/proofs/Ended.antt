@@ -177,7 +177,7 @@ module _ (h : Header) (earlier : List Datagram) (lawful : OneEnded h earlier) (a
       (subst (λ (u : Terms). IsJoined u.blksize through meant.ended.last meant.wire) same meant.joined)
 
   -- the count of blocks, by the terms
-  count_is : (agreed : OptionMap) (file : List ℕ) → IsAgreed asked through agreed
+  pub count_is : (agreed : OptionMap) (file : List ℕ) → IsAgreed asked through agreed
       → length (written_wire asked.mode file) / t.blksize + 1 ≡ block_count (blksize_of (meaning_from (asked, (agreed, file)))) (written_wire asked.mode file)
   count_is agreed file is = ap (λ b. length (written_wire asked.mode file) / b + 1) (size_agreed h asked through t agreed known is)
 

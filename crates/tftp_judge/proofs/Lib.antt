@@ -39,3 +39,6 @@ pub mod BlockRules
 pub mod EndRules
 pub mod PassFound
 pub mod OneVerdict
+pub mod Gatherings
+pub mod TextVerdicts
+pub mod TextFound

@@ -113,7 +113,7 @@ lawful_tail h [] ys lawful = lawful
 lawful_tail h (x ∷ xs) ys lawful = lawful_tail h xs ys lawful.1
 
 -- what a lawful list begins with is lawful
-lawful_begin : (h : Header) (xs ys : List Datagram) → OneEnded h (reverse (xs ++ ys)) → OneEnded h (reverse xs)
+pub lawful_begin : (h : Header) (xs ys : List Datagram) → OneEnded h (reverse (xs ++ ys)) → OneEnded h (reverse xs)
 lawful_begin h xs ys lawful = lawful_tail h (reverse ys) (reverse xs) (subst (OneEnded h) (reverse-append xs ys) lawful)
 
 tail_same : (x y : Datagram) (xs ys : List Datagram) → x ∷ xs ≡ y ∷ ys → xs ≡ ys
@@ -144,7 +144,7 @@ ordered (p ∷ a) (q ∷ b) x y r s e = by (ordered a b x y r s (tail_same p q (
 abbrev IsAt : Header → List Datagram → ℕ → Rule → Type 0
 IsAt h ds = IsUnlawfulAt (λ datagrams. OneEnded h (reverse datagrams)) h ds
 
-not_lawful : (h : Header) (ds : List Datagram) (i : ℕ) (r : Rule) → IsAt h ds i r → OneEnded h (reverse ds) → ⊥
+pub not_lawful : (h : Header) (ds : List Datagram) (i : ℕ) (r : Rule) → IsAt h ds i r → OneEnded h (reverse ds) → ⊥
 not_lawful h ds i r u lawful = u.unlawful (lawful_begin h (u.before ++ u.datagram ∷ []) u.rest
     (subst (λ x. OneEnded h (reverse x)) (u.split ∙ sym (append_assoc u.before (u.datagram ∷ []) u.rest)) lawful))
 

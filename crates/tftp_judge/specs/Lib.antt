@@ -4,8 +4,11 @@ pub mod Fits
 pub mod Dress
 pub mod Law
 pub mod Rules
+pub mod RuleNames
 pub mod OneEnded
 pub mod Verdict
+pub mod TextVerdict
+pub mod Gathered
 pub mod Worked
 pub mod WorkedWindows
 pub mod WorkedRules

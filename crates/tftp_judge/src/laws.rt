@@ -1,6 +1,6 @@
 //! Laws of the definitions in `specs/`. Each is the contract of a function that does nothing.
 
-ghost use Rattle.std.specs.Prelude.{◌≡◌, ◌≢◌, List, ◌∷◌};
+ghost use Rattle.std.specs.Prelude.{◌≡◌, ◌≢◌, ℕ, List, ◌∷◌, Result};
 ghost use Rattle.tftp_packet.specs.OptionMap.{OptionMap, no_options};
 ghost use Rattle.tftp_packet.specs.Message.{RequestParts};
 ghost use Rattle.tftp_ends.specs.CaptureText.{Datagram, Header};
@@ -11,7 +11,9 @@ ghost use Rattle.tftp_judge.specs.Rules.{number_of, FirstBroken};
 ghost use Rattle.tftp_judge.specs.declared.rule.Rule.{Rule};
 ghost use Rattle.tftp_ends.specs.Meaning.{Meaning};
 ghost use Rattle.tftp_judge.specs.OneEnded.{OneEnded, IsRefused, Meant};
+ghost use Rattle.tftp_judge.specs.TextVerdict.{IsOfText, IsTextVerdict};
 ghost use Rattle.tftp_judge.specs.Verdict.{IsVerdictByRules};
+ghost use Rattle.tftp_capture.specs.declared.fault.CaptureFault.{CaptureFault};
 ghost use Rattle.tftp_judge.specs.declared.verdict.Verdict.{Verdict};
 
 /// Options that may be agreed have none of the faults of an OACK, where there are any (RFC 2347).
@@ -47,4 +49,11 @@ pub fn meaning_is_one()
 pub fn verdict_is_one()
     ensures { (header : Header) (datagrams : List Datagram) (v w : Verdict) → IsVerdictByRules header datagrams v
         → IsVerdictByRules header datagrams w → v ≡ w }
+{}
+
+/// And a text has one verdict, whoever reads it: two that are of the text, and tell neither of a failed read nor of want
+/// of memory, are the same.
+pub fn text_has_one_verdict()
+    ensures { (text : List ℕ) (v w : Result Verdict CaptureFault) → IsOfText v → IsOfText w → IsTextVerdict text v
+        → IsTextVerdict text w → v ≡ w }
 {}

@@ -5,6 +5,7 @@ pub mod laws;
 mod meaning;
 mod plain;
 mod rule;
+mod text;
 mod verdict;
 pub mod worked_cases;
 pub mod worked_rules;
@@ -13,6 +14,7 @@ pub mod worked_verdicts;
 pub use meaning::Meaning;
 pub use plain::judge;
 pub use rule::Rule;
+pub use text::judge_text;
 pub use verdict::Verdict;
 
 #[cfg(test)]

@@ -1,3 +1,7 @@
+ghost use Rattle.std.specs.Prelude.{◌≡◌};
+ghost use Rattle.tftp_judge.specs.RuleNames.{rule_name};
+ghost use Rattle.tftp_judge.specs.Rules.{number_of};
+
 use tftp_packet::PacketFault;
 
 /// A rule that a datagram may break, in the order in which the rules are tried.
@@ -57,4 +61,76 @@ pub enum Rule {
     AckAhead,
     /// An ACK 0 that answers nothing (RFC 1350, section 4; RFC 2347).
     AckZero,
+}
+
+impl Rule {
+    /// The rule's place in the order in which the rules are tried, from 1.
+    pub fn number(self) -> u8
+        ensures { result ≡ number_of self }
+    {
+        match self {
+            Rule::ForeignPort => 1,
+            Rule::WrongPort => 2,
+            Rule::StrayAnswer => 3,
+            Rule::NoRequest => 4,
+            Rule::Malformed(_) => 5,
+            Rule::WrongKind => 6,
+            Rule::TransferAborted => 7,
+            Rule::RequestChanged => 8,
+            Rule::RequestAfterStart => 9,
+            Rule::ReplyChanged => 10,
+            Rule::OackEmpty => 11,
+            Rule::MulticastAgreed => 12,
+            Rule::OptionNotRequested => 13,
+            Rule::OptionOutsideProfile => 14,
+            Rule::OptionValue => 15,
+            Rule::OackChanged => 16,
+            Rule::OackAfterStart => 17,
+            Rule::NotStarted => 18,
+            Rule::BlockZero => 19,
+            Rule::BeyondBlock65535 => 20,
+            Rule::BlockLength => 21,
+            Rule::WindowOverrun => 22,
+            Rule::BlockSkipped => 23,
+            Rule::GoneBack => 24,
+            Rule::BlockChanged => 25,
+            Rule::AckAhead => 26,
+            Rule::AckZero => 27,
+        }
+    }
+
+    /// The rule's name as it is printed, without what is wrong with a payload.
+    pub fn name(self) -> &'static str
+        ensures { result.now ≡ rule_name self }
+    {
+        match self {
+            Rule::ForeignPort => "ForeignPort",
+            Rule::WrongPort => "WrongPort",
+            Rule::StrayAnswer => "StrayAnswer",
+            Rule::NoRequest => "NoRequest",
+            Rule::Malformed(_) => "Malformed",
+            Rule::WrongKind => "WrongKind",
+            Rule::TransferAborted => "TransferAborted",
+            Rule::RequestChanged => "RequestChanged",
+            Rule::RequestAfterStart => "RequestAfterStart",
+            Rule::ReplyChanged => "ReplyChanged",
+            Rule::OackEmpty => "OackEmpty",
+            Rule::MulticastAgreed => "MulticastAgreed",
+            Rule::OptionNotRequested => "OptionNotRequested",
+            Rule::OptionOutsideProfile => "OptionOutsideProfile",
+            Rule::OptionValue => "OptionValue",
+            Rule::OackChanged => "OackChanged",
+            Rule::OackAfterStart => "OackAfterStart",
+            Rule::NotStarted => "NotStarted",
+            Rule::BlockZero => "BlockZero",
+            Rule::BeyondBlock65535 => "BeyondBlock65535",
+            Rule::BlockLength => "BlockLength",
+            Rule::WindowOverrun => "WindowOverrun",
+            Rule::BlockSkipped => "BlockSkipped",
+            Rule::GoneBack => "GoneBack",
+            Rule::BlockChanged => "BlockChanged",
+            Rule::AckAhead => "AckAhead",
+            Rule::AckZero => "AckZero",
+        }
+    }
 }

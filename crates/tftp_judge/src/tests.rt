@@ -8,6 +8,7 @@ mod options;
 mod reads;
 mod rules;
 mod stores;
+mod texts;
 
 /// What a capture is expected to be: whole, with its side, its mode and the number of its file's bytes; or not.
 #[derive(Clone, Copy, Debug, PartialEq, Eq)]
@@ -36,18 +37,23 @@ fn capture_of(rt: &HostRuntime, text: &[u8]) -> Result<(Header, Vec<Datagram>), 
     Ok((header, datagrams))
 }
 
-/// Fails unless the judge says this of a capture text.
-fn gives(rt: &HostRuntime, text: &[u8], wanted: Wanted) -> Result<(), Fail> {
-    let (header, datagrams) = capture_of(rt, text)?;
-    let found = match judge(rt.alloc(), &header, &datagrams)? {
+/// What a verdict says of what is expected.
+fn found_of(verdict: &Verdict) -> Wanted {
+    match verdict {
         Verdict::Accepted(meaning) => {
             let request = meaning.request();
             Wanted::Accepted(request.side(), request.mode(), meaning.file().len() as u64)
         }
-        Verdict::Unlawful(index, rule) => Wanted::Unlawful(index, rule),
-        Verdict::Incomplete(count) => Wanted::Incomplete(count),
+        Verdict::Unlawful(index, rule) => Wanted::Unlawful(*index, *rule),
+        Verdict::Incomplete(count) => Wanted::Incomplete(*count),
         Verdict::NormalTooLong => Wanted::NormalTooLong,
-    };
+    }
+}
+
+/// Fails unless the judge says this of a capture text.
+fn gives(rt: &HostRuntime, text: &[u8], wanted: Wanted) -> Result<(), Fail> {
+    let (header, datagrams) = capture_of(rt, text)?;
+    let found = found_of(&judge(rt.alloc(), &header, &datagrams)?);
     if found == wanted {
         Ok(())
     } else {

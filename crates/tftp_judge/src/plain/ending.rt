@@ -1,4 +1,4 @@
-ghost use Rattle.std.specs.Prelude.{◌≡◌, ◌↔◌, ◌+◌, ◌/◌, ◌≤◌, ℕ, List, length, map, IsTrue, MatchOption, IfOk, IfSome, IfNone};
+ghost use Rattle.std.specs.Prelude.{◌≡◌, ◌+◌, ◌/◌, ◌≤◌, ℕ, List, length, map, MatchOption, IfOk, IfSome, IfNone};
 ghost use Rattle.tftp_packet.specs.Message.{Message};
 ghost use Rattle.tftp_packet.specs.Meaning.{meaning};
 ghost use Rattle.tftp_packet.specs.OptionMap.{OptionMap};
@@ -87,16 +87,22 @@ fn file_of(alloc: Global, mode: Mode, wire: Vec<u8>) -> Result<Vec<u8>, AllocErr
     }
 }
 
-/// Whether the one wire that is written for a file has no block above 65535 (RFC 1350, section 5).
-fn is_writable(mode: Mode, blksize: u16, file: &[u8]) -> bool
+/// The number of blocks of the one wire that is written for a file; none where it is above 65535 (RFC 1350, section 5).
+fn written_blocks(mode: Mode, blksize: u16, file: &[u8]) -> Option<u16>
     requires sized { 1 ≤ blksize }
-    ensures { IsTrue result ↔ (length (written_wire mode file.now) / blksize + 1 ≤ 65535) }
+    ensures { MatchOption result (length (written_wire mode file.now) / blksize + 1 ≤ 65535 → ⊥)
+        (λ blocks. (blocks ≡ length (written_wire mode file.now) / blksize + 1) × (length (written_wire mode file.now) / blksize + 1 ≤ 65535)) }
 {
     let length = match mode {
         Mode::Octet => file.len() as u64,
         Mode::Netascii => encoded_len(file),
     };
-    length / u64::from(blksize) < 65535
+    let full = length / u64::from(blksize);
+    if full < 65535 {
+        Some(full as u16 + 1)
+    } else {
+        None
+    }
 }
 
 /// What there is to say of datagrams that break no rule.
@@ -106,8 +112,9 @@ pub fn ending(
     datagrams: &[Datagram],
     transfer: &[Passed<'_>],
 ) -> Result<Verdict, AllocError>
-    ensures { OneEnded (header_of header.now) (newest_first datagrams.now) → Tells transfer.now (transfer_of (header_of header.now) (newest_first datagrams.now))
-        → IfOk result (IsVerdictByRules (header_of header.now) (map datagram_of datagrams.now)) }
+    requires lawful { OneEnded (header_of header.now) (newest_first datagrams.now) }
+    requires tells { Tells transfer.now (transfer_of (header_of header.now) (newest_first datagrams.now)) }
+    ensures { IfOk result (IsVerdictByRules (header_of header.now) (map datagram_of datagrams.now)) }
 {
     let count = datagrams.len() as u64;
     let Some(asked) = first_asked(header, datagrams) else {
@@ -118,10 +125,10 @@ pub fn ending(
         return Ok(Verdict::Incomplete(count));
     };
     let file = file_of(alloc, asked.mode(), wire)?;
-    if !is_writable(asked.mode(), terms.blksize, file.as_slice()) {
+    let Some(blocks) = written_blocks(asked.mode(), terms.blksize, file.as_slice()) else {
         return Ok(Verdict::NormalTooLong);
-    }
+    };
     let agreed = agreed_options(alloc, &asked, transfer)?;
     let request = own_request(alloc, &asked)?;
-    Ok(Verdict::Accepted(Meaning::of(request, agreed, file)))
+    Ok(Verdict::Accepted(Meaning::of(request, agreed, file, blocks)))
 }

@@ -13,7 +13,7 @@ loop-written-preserved g c = record {
 }
 
 pub returns-in_default-clause-err : goal.returns-in_default-clause-err
-returns-in_default-clause-err g c = prefix_kept _ _ _ c.loop-written.written c.args.bytes.now c.loop-written.invariant.appended c.in_default.ensures.bytes
+returns-in_default-clause-err g c = prefix_kept _ _ _ c.loop-written.written c.args.bytes.now c.loop-written-test.true c.loop-written.invariant.appended c.in_default.ensures.bytes
 
 pub returns-then-count-eq0-clause-err : goal.returns-then-count-eq0-clause-err
-returns-then-count-eq0-clause-err g c = prefix_none _ _ _ c.loop-written.written c.args.bytes.now c.loop-written.invariant.appended (rw c.if-count-eq0.true at c.in-Ok.ensures.bytes)
+returns-then-count-eq0-clause-err g c = prefix_none _ _ _ c.loop-written.written c.args.bytes.now c.loop-written-test.true c.loop-written.invariant.appended (rw c.if-count-eq0.true at c.in-Ok.ensures.bytes)

@@ -1,0 +1,130 @@
+"""The recorded transfers of examples/, from their fields to what the built program says of them.
+
+    recordings.py PROGRAM
+
+Prints each case that is not as it should be, then a last line 'N passed, M failed'; status 1 if any failed.
+"""
+import pathlib
+import subprocess
+import sys
+
+TOP = pathlib.Path(__file__).resolve().parent.parent
+SCRIPT = TOP / "tools" / "capture-text"
+# What curl stored or sent had 1,300, 2,500 and 1,024 bytes.
+RECORDINGS = (
+    (
+        "recorded-read",
+        ("client", "127.0.0.1", "6969"),
+        "accepted get octet blocks 3 bytes 1300",
+        ("out RRQ", "in DATA 1 512", "out ACK 1", "in DATA 2 512", "out ACK 2", "in DATA 3 276", "out ACK 3"),
+    ),
+    (
+        "recorded-options",
+        ("client", "127.0.0.1", "6969"),
+        "accepted get octet blocks 3 bytes 2500",
+        ("out RRQ", "in OACK", "out ACK 0", "in DATA 1 1024", "out ACK 1", "in DATA 1 1024", "out ACK 1")
+        + ("in DATA 2 1024", "out ACK 2", "in DATA 3 452", "out ACK 3"),
+    ),
+    (
+        "recorded-write",
+        ("server", "127.0.0.1", "6969"),
+        "accepted put octet blocks 3 bytes 1024",
+        ("in WRQ", "out OACK", "in DATA 1 512", "out ACK 1", "in DATA 2 512", "out ACK 2", "in DATA 3 0", "out ACK 3"),
+    ),
+)
+CLIENT = ("client", "192.0.2.7", "69")
+CLIENT_6 = ("client", "2001:db8::7", "69")
+SERVER = ("server", "192.0.2.1", "69")
+REQUEST = "192.0.2.7\t40000\t192.0.2.1\t69\t000161006f6374657400\n"
+HEAD = "tftp-capture 1\nend client\nservice 69\n"
+TEXT = HEAD + "out 40000 69 000161006f6374657400\n"
+AT_SERVER = TEXT.replace("client", "server").replace("out 40000 69", "in 69 40000")
+LOCAL = "127.0.0.1\t40000\t127.0.0.1\t69\t000161006f6374657400\n"
+# Words, fields, and the text that is written of them.
+WRITTEN = (
+    (CLIENT, "", HEAD + "total 0\n"),
+    (CLIENT, REQUEST, TEXT + "total 1\n"),
+    (CLIENT, REQUEST.rstrip("\n"), TEXT + "total 1\n"),
+    (CLIENT, REQUEST.replace("000161006f6374657400", "00:01:61:00:6F:63:74:65:74:00"), TEXT + "total 1\n"),
+    (CLIENT, REQUEST + "192.0.2.1\t41000\t192.0.2.7\t40000\t\n", TEXT + "in 40000 41000 -\ntotal 2\n"),
+    (SERVER, REQUEST, AT_SERVER + "total 1\n"),
+    (CLIENT_6, "2001:db8:0:0::7\t40000\t2001:db8::1\t69\t\n", HEAD + "out 40000 69 -\ntotal 1\n"),
+    (("client", "127.0.0.1", "69"), LOCAL, TEXT + "total 1\n"),
+)
+# Words and fields of which nothing is written.
+REFUSED = (
+    ((), REQUEST),
+    (("peer", "192.0.2.7", "69"), REQUEST),
+    (("client", "here", "69"), REQUEST),
+    (("client", "192.0.2.7", "069"), REQUEST),
+    (("client", "192.0.2.7", "65536"), REQUEST),
+    (CLIENT, "\n"),
+    (CLIENT, REQUEST + "192.0.2.1\t41000\t192.0.2.7\t40000\n"),
+    (CLIENT, REQUEST + "192.0.2.1\t\t192.0.2.7\t40000\t00040000\n"),
+    (CLIENT, REQUEST.replace("\n", "\t00\n")),
+    (CLIENT, REQUEST.replace("\t", " ")),
+    (CLIENT, REQUEST.replace("\t69", "\t0")),
+    (CLIENT, REQUEST.replace("657400", "65740")),
+    (CLIENT, REQUEST.replace("657400", "65:7400")),
+    (CLIENT, REQUEST.replace("657400", "65740x")),
+    (CLIENT, REQUEST.replace("657400", "00" * 65_527)),
+    # an ICMP message that quotes a datagram
+    (CLIENT, REQUEST.replace("192.0.2.7\t", "192.0.2.1,192.0.2.7\t")),
+    # hosts that are not the two of the transfer
+    (CLIENT, REQUEST + "192.0.2.1\t41000\t192.0.2.8\t40000\t00040000\n"),
+    (CLIENT, REQUEST + "192.0.2.2\t41000\t192.0.2.7\t40000\t00040000\n"),
+    # both ends at one address, and the client's port is not known or not one of the two
+    (("client", "127.0.0.1", "6969"), LOCAL),
+    (("client", "127.0.0.1", "69"), LOCAL + LOCAL.replace("40000", "40001")),
+    (("client", "127.0.0.1", "69"), LOCAL + LOCAL.replace("\t69", "\t40000")),
+)
+
+
+class Trial:
+    """How many runs were as they should be."""
+
+    def __init__(self):
+        self.passed = self.failed = 0
+
+    def check(self, name, holds, got):
+        if holds:
+            self.passed += 1
+        else:
+            self.failed += 1
+            print(f"{name}: {got}")
+
+
+def run(command, given):
+    """What a command writes, what it writes as errors, and its status."""
+    done = subprocess.run([str(word) for word in command], input=given, capture_output=True, timeout=60)
+    return done.stdout, done.stderr, done.returncode
+
+
+def try_recording(trial, program, name, words, verdict, rows):
+    """The fields give the capture, and of it the program says this."""
+    fields, capture = ((TOP / "examples" / f"{name}.{form}").read_bytes() for form in ("fields", "capture"))
+    got = run([SCRIPT, *words], fields)
+    trial.check(f"{name}, capture-text", got == (capture, b"", 0), got)
+    got = run([program, "check"], capture)
+    trial.check(f"{name}, check", got == (f"{verdict}\n".encode(), b"", 0), got)
+    got = run([program, "show"], capture)
+    shown = "".join(f"{number} {row}\n" for number, row in enumerate(rows, 1))
+    trial.check(f"{name}, show", got == (shown.encode(), b"", 0), got)
+
+
+def main(program):
+    trial = Trial()
+    for recording in RECORDINGS:
+        try_recording(trial, program, *recording)
+    for words, fields, text in WRITTEN:
+        got = run([SCRIPT, *words], fields.encode())
+        trial.check(f"capture-text {words} of {fields!r}", got == (text.encode(), b"", 0), got)
+    for words, fields in REFUSED:
+        got = run([SCRIPT, *words], fields.encode())
+        told = got[1].startswith(b"capture-text: ") and got[1].count(b"\n") == 1
+        trial.check(f"capture-text {words} of {fields[:200]!r}", got[0] == b"" and told and got[2] == 2, got)
+    print(f"{trial.passed} passed, {trial.failed} failed")
+    return 1 if trial.failed else 0
+
+
+sys.exit(main(sys.argv[1]))
