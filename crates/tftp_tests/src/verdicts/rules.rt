@@ -1,6 +1,6 @@
 use super::{Wanted, gives};
-use crate::Rule;
 use std::test::Fail;
+use tftp_judge::Rule;
 use tftp_packet::{Mode, PacketFault, Side};
 
 // A datagram for each rule that it breaks.

@@ -1,6 +1,6 @@
 use super::{Wanted, gives};
-use crate::Rule;
 use std::test::Fail;
+use tftp_judge::Rule;
 use tftp_packet::{Mode, Side};
 
 // Windows, blocks that come again or out of order, and blocks that do not fit.

@@ -1,6 +1,8 @@
-use crate::{Rule, Verdict, judge};
+//! Verdicts on lists of datagrams and on capture texts.
+
 use std::test::Fail;
 use tftp_capture::{CaptureReader, Datagram, DripReader, Header, Tallied};
+use tftp_judge::{Rule, Verdict, judge};
 use tftp_packet::{Mode, Side};
 
 mod files;

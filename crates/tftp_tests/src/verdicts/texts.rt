@@ -1,7 +1,7 @@
 use super::{Wanted, found_of};
-use crate::{Rule, Verdict, judge_text};
 use std::test::Fail;
 use tftp_capture::{CaptureFault, DripReader, Tallied, TextFault};
+use tftp_judge::{Rule, Verdict, judge_text};
 use tftp_packet::{Mode, PacketFault, Side};
 
 /// A read of the file `a`, which is `hi`, in one block (RFC 1350, sections 4 and 5).

@@ -1,6 +1,6 @@
 use super::{Wanted, gives};
-use crate::Rule;
 use std::test::Fail;
+use tftp_judge::Rule;
 use tftp_packet::{Mode, PacketFault, Side};
 
 // Options: which an OACK may agree to, the limits of a request, and the limits of block numbers.
