@@ -5,8 +5,12 @@
 #[cfg(test)]
 mod agreements;
 #[cfg(test)]
+mod commands;
+#[cfg(test)]
 mod netascii;
 #[cfg(test)]
 mod packets;
+#[cfg(test)]
+mod verdicts;
 #[cfg(test)]
 mod views;
