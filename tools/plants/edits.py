@@ -1,6 +1,5 @@
 """Wrong bodies as files: their form, where they stand, and the texts that they make."""
 import dataclasses
-import pathlib
 import re
 
 FOLDERS = ("must-fail", "plants")
@@ -17,8 +16,8 @@ class Edit:
 
     crate: str
     name: str
-    path: pathlib.Path
     folder: str
+    text: str
 
     def __str__(self):
         return "/".join(it for it in (self.crate, self.folder, self.name) if it)
@@ -26,7 +25,7 @@ class Edit:
     def applied(self, texts):
         """The texts of a crate's files, by their paths, with this edit made in them."""
         texts, file, old, pairs = dict(texts), None, None, 0
-        for line in self.path.read_text(encoding="utf-8").split("\n"):
+        for line in self.text.split("\n"):
             found = LINE.fullmatch(line)
             word, rest = (found[1], found[2] or "") if found else ("", "")
             if word == "file":
@@ -49,7 +48,7 @@ class Edit:
 
 def edits_in(crate, folder, name):
     """The edits that stand in a folder of this name."""
-    return [Edit(crate, it.stem, it, name) for it in sorted(folder.glob("*.edit"))]
+    return [Edit(crate, it.stem, name, it.read_text(encoding="utf-8")) for it in sorted(folder.glob("*.edit"))]
 
 
 def edits_of(crate, top, other):
