@@ -9,6 +9,7 @@ import argparse
 import concurrent.futures
 import pathlib
 import resource
+import signal
 import sys
 import tempfile
 import time
@@ -65,14 +66,14 @@ def run(tried, group):
 
 def main():
     given, started = words(), time.monotonic()
+    signal.signal(signal.SIGTERM, lambda *_: sys.exit(1))
     done = []
-    with tempfile.TemporaryDirectory(prefix="plants-") as folder:
+    with tempfile.TemporaryDirectory(prefix="plants-") as folder, concurrent.futures.ThreadPoolExecutor(given.jobs) as pool:
         room = rooms.Rooms(TOP, folder, given.seconds, given.fresh)
         try:
-            with concurrent.futures.ThreadPoolExecutor(given.jobs) as pool:
-                for crate in room.libraries:
-                    found = [it for it in edits.edits_of(crate, TOP, given.edits) if is_named(it, given.names)]
-                    done += try_crate(crate, found, room, pool) if found else []
+            for crate in room.libraries:
+                found = [it for it in edits.edits_of(crate, TOP, given.edits) if is_named(it, given.names)]
+                done += try_crate(crate, found, room, pool) if found else []
         finally:
             room.end_all()
     failed = [str(it.edit) for it in done if not it.is_refused]

@@ -14,6 +14,10 @@ class NotProved(Exception):
     """Why a crate's edits cannot be tried: it is not proved as it stands."""
 
 
+class Stopped(Exception):
+    """No check begins any more."""
+
+
 def libraries_of(top):
     """The crates of the repository, each with those that it names."""
     lines = (it.partition("#")[0].partition(":") for it in (top / "crates.txt").read_text(encoding="utf-8").split("\n"))
@@ -26,7 +30,7 @@ class Rooms:
 
     def __init__(self, top, folder, seconds, is_fresh):
         self.base, self.seconds, self.is_fresh = pathlib.Path(folder) / "base", seconds, is_fresh
-        self.top, self.libraries, self.running = top, libraries_of(top), set()
+        self.top, self.libraries, self.running, self.is_over = top, libraries_of(top), set(), False
         for crate in self.libraries:
             self.copy_texts(top, self.base, crate)
         shutil.copy(top / "crates.txt", self.base)
@@ -60,6 +64,8 @@ class Rooms:
 
     def check(self, top, crate, words, seconds):
         """The status and the text of a check in a room, or None and the text so far if it has not ended by then."""
+        if self.is_over:
+            raise Stopped
         how = {"stdin": subprocess.DEVNULL, "stdout": subprocess.PIPE, "stderr": subprocess.STDOUT}
         ran = subprocess.Popen(
             ["rt", "check", *words], cwd=top / "crates" / crate, start_new_session=True, encoding="utf-8", errors="replace", **how
@@ -79,6 +85,8 @@ class Rooms:
             os.killpg(pid, signal.SIGKILL)
 
     def end_all(self):
+        """Ends the checks that run, and lets no other begin."""
+        self.is_over = True
         for pid in list(self.running):
             self.end(pid)
 
