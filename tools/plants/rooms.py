@@ -77,6 +77,9 @@ class Rooms:
         except subprocess.TimeoutExpired:
             self.end(ran.pid)
             return None, ran.communicate()[0]
+        except BaseException:
+            self.end(ran.pid)
+            raise
         finally:
             self.running.discard(ran.pid)
 
