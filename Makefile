@@ -2,7 +2,7 @@ PREFIX = /usr/local
 PROGRAM = crates/tftp_audit/out/tftp_audit
 BENCH = crates/tftp_bench/out/tftp_bench
 
-.PHONY: build test bench install
+.PHONY: build test plants bench install
 
 # Proves the program and builds it, where it is missing or older than its sources.
 build:
@@ -14,6 +14,12 @@ test:
 	rt ci
 	@./tftp-audit --build
 	sh tests/run.sh $(PROGRAM)
+
+# Every wrong body, those that the gate tries too: the prover must refuse each. `python3 tools/plants NAME..` tries those
+# of some crates, or some edits.
+plants:
+	python3 tests/plants.py
+	python3 tools/plants
 
 # How fast the program and its libraries are, beside wc -l, a plain copy and the hex crate alone on the same bytes.
 bench: build
