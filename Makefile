@@ -4,7 +4,7 @@ BENCH = crates/tftp_bench/out/tftp_bench
 
 .PHONY: build test bench install
 
-# Proves the program and builds it, where it is missing or older than its sources.
+# Proves the program and builds it, where its sources are not those that it was built of.
 build:
 	@./tftp-audit --build
 
@@ -21,4 +21,4 @@ bench: build
 	sh bench/run.sh $(PROGRAM) $(BENCH)
 
 install: build
-	install -D -m 755 $(PROGRAM) $(DESTDIR)$(PREFIX)/bin/tftp-audit
+	install -D -m 755 $(PROGRAM) "$(DESTDIR)$(PREFIX)/bin/tftp-audit"
