@@ -12,7 +12,7 @@ import sys
 
 TOP = pathlib.Path(__file__).resolve().parent.parent
 SCRIPT = TOP / "tools" / "capture-text"
-# What curl stored or sent had 1,300, 2,500 and 1,024 bytes.
+# What the client stored or sent had 1,300, 2,500, 1,024, 1,292, 921 and 1,570 bytes.
 RECORDINGS = (
     (
         "recorded-read",
@@ -32,6 +32,27 @@ RECORDINGS = (
         ("server", "127.0.0.1", "6969"),
         "accepted put octet blocks 3 bytes 1024",
         ("in WRQ", "out OACK", "in DATA 1 512", "out ACK 1", "in DATA 2 512", "out ACK 2", "in DATA 3 0", "out ACK 3"),
+    ),
+    (
+        "recorded-window",
+        ("client", "192.0.2.7", "69"),
+        "accepted get octet blocks 11 bytes 1292",
+        ("out RRQ", "in OACK", "out ACK 0", *(f"in DATA {block} 128" for block in range(1, 5)), "out ACK 4")
+        + (*(f"in DATA {block} 128" for block in range(5, 9)), "out ACK 8")
+        + ("in DATA 9 128", "in DATA 10 128", "in DATA 11 12", "out ACK 11"),
+    ),
+    (
+        "recorded-netascii",
+        ("server", "2001:db8::1", "69"),
+        "accepted put netascii blocks 2 bytes 921",
+        ("in WRQ", "out ACK 0", "in DATA 1 512", "out ACK 1", "in DATA 2 469", "out ACK 2"),
+    ),
+    (
+        "recorded-stray",
+        ("client", "192.0.2.7", "69"),
+        "accepted get octet blocks 4 bytes 1570",
+        ("out RRQ", "out RRQ", "in DATA 1 512", "in DATA 1 512", "out ACK 1", "out ERROR 5", "in DATA 2 512")
+        + ("out ACK 2", "in DATA 3 512", "out ACK 3", "in DATA 4 34", "out ACK 4"),
     ),
 )
 CLIENT = ("client", "192.0.2.7", "69")
@@ -62,7 +83,11 @@ WRITTEN = (
 # Words and fields of which nothing is written, and what is told of them.
 TOLD = (
     (CLIENT, "", "the input is empty: the filter lets no datagram through"),
-    (CLIENT, "192.0.2.7\t40000\t192.0.2.1\t69\t\n" * 3, "all payloads are empty: the fifth field is not that of the payload"),
+    (
+        CLIENT,
+        "192.0.2.7\t40000\t192.0.2.1\t69\t\n" * 3,
+        "all payloads are empty: the fifth field is not that of the payload",
+    ),
     (
         ("client", "192.0.2.1", "69"),
         REQUEST,

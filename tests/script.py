@@ -69,8 +69,9 @@ class Scratch:
         self.calls.write_text("")
         environment = {"PATH": f"{self.bin}:{os.environ['PATH']}", "CALLS": str(self.calls), "MEANWHILE": meanwhile}
         done = subprocess.run(
-            [script or self.top / "tftp-audit", *words], input=given, cwd=folder or self.top, env=environment, text=True,
-            stdout=subprocess.PIPE, stderr=errors, timeout=60,
+            [script or self.top / "tftp-audit", *words],
+            input=given, cwd=folder or self.top, env=environment, text=True, stdout=subprocess.PIPE, stderr=errors,
+            timeout=60,
         )
         return done.stdout, done.stderr, done.returncode, self.calls.read_text().count("rt: run -- check\n")
 
@@ -163,7 +164,8 @@ def failing(trial, scratch):
         trial.refuses(f"a failed build, {words}", got, "error: broken\n" + NOT_BUILT, 1)
     for target in ("build", "test", "install"):
         status, errors, tested = scratch.make(target)
-        trial.check(f"a failed build, make {target}", status == 2 and "error: broken\n" in errors and not tested, errors)
+        holds = status == 2 and "error: broken\n" in errors and not tested
+        trial.check(f"a failed build, make {target}", holds, errors)
     trial.check("a failed build, installed", not scratch.installed().exists())
     now = scratch.program.read_bytes(), scratch.program.stat().st_mtime_ns
     trial.check("a failed build leaves the older program", now == old)
@@ -232,10 +234,12 @@ def on_terminal(scratch, *words):
 def wrong_words(trial, scratch):
     for words in ([], [""], ["help"], ["--help"], ["Check"], ["extract", "x"], ["check", "x", "y"], ["--build", "x"]):
         said = f"{len(words)} words {' '.join(words)}"
-        trial.runs(f"wrong words {words}", scratch.run(*words), "seven", 0, words=said, status=0 if words[:1] == ["check"] else 2)
-        output, told, status, builds = on_terminal(scratch, *words)
-        holds = output == f"seven: {said}: \n" and told.startswith(HINT) and told.count("\n") == 1
-        trial.check(f"wrong words {words} on a terminal", holds, (output, told, status, builds))
+        # the stand-in's program looks at its first word alone
+        status = 0 if words[:1] == ["check"] else 2
+        trial.runs(f"wrong words {words}", scratch.run(*words), "seven", 0, words=said, status=status)
+        output, told, ended, builds = on_terminal(scratch, *words)
+        holds = output == f"seven: {said}: \n" and told.startswith(HINT) and told.count("\n") == 1 and ended == status
+        trial.check(f"wrong words {words} on a terminal", holds, (output, told, ended, builds))
     for words in (["check"], ["show"], ["check", scratch.top / "crates.txt"], ["--build"]):
         got = on_terminal(scratch, *words)
         trial.check(f"{words} on a terminal", got[1] == "", got)
