@@ -8,11 +8,10 @@ BENCH = crates/tftp_bench/out/tftp_bench
 build:
 	@./tftp-audit --build
 
-# The gate: every proof from nothing, the must-fail edits, the tests and the program's stored run; then the program
-# with failing reads, writes and growths, and on the recorded transfers.
+# The gate: rt ci, which is every proof from nothing, the must-fail edits, the tests and the program's stored run; then
+# the program that it built, with failing reads, writes and growths, on larger captures and on the recorded transfers.
 test:
-	rt ci
-	@./tftp-audit --build
+	@./tftp-audit --gate
 	sh tests/run.sh $(PROGRAM)
 
 # How fast the program and its libraries are, beside wc -l, a plain copy and the hex crate alone on the same bytes.

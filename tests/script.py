@@ -16,9 +16,11 @@ import tempfile
 
 TOP = pathlib.Path(__file__).resolve().parent.parent
 # A build reads the source at its start; $MEANWHILE is done while it builds, and a source that says 'broken' fails.
+# As rt's, its ci first sets aside what stands in out/, and runs nothing.
 STAND_IN = r"""#!/bin/sh
 echo "rt: $*" >>"$CALLS"
-[ "$1" = ci ] && exit 0
+[ "$1" = ci ] && { cd crates/tftp_audit && rm -rf out || exit 1; }
+mkdir -p out
 text=$(cat src/main.rt)
 echo "rt: progress on $text" >&2
 eval "${MEANWHILE:-}"
@@ -31,6 +33,7 @@ END
 status=$(echo "$text" | tr -cd 0-9)
 sed -i "s/BUILT_OF/$text/; s/STATUS/${status:-0}/" out/tftp_audit
 chmod +x out/tftp_audit
+[ "$1" = ci ] && exit 0
 shift 2
 exec out/tftp_audit "$@"
 """
@@ -75,9 +78,10 @@ class Scratch:
         )
         return done.stdout, done.stderr, done.returncode, self.calls.read_text().count("rt: run -- check\n")
 
-    def make(self, target):
+    def make(self, target, meanwhile=""):
         """The status of a target of the Makefile, what it writes as errors, and whether the tests were run."""
-        _, errors, status, _ = self.run(target, f"DESTDIR={self.top.parent}", "PREFIX=/a prefix", script="make")
+        words = target, f"DESTDIR={self.top.parent}", "PREFIX=/a prefix"
+        _, errors, status, _ = self.run(*words, script="make", meanwhile=meanwhile)
         return status, errors, "tests were run" in self.calls.read_text()
 
     def installed(self):
@@ -122,6 +126,10 @@ def building(trial, scratch):
     scratch.source.write_text("six")
     os.utime(scratch.source, (0, 0))
     trial.runs("an edit with an old date", scratch.run("check"), "six", 1)
+    os.utime(scratch.source, (4_000_000_000, 4_000_000_000))
+    scratch.source.with_name("first.rt").write_text("edited")
+    trial.runs("an edit beside a date that is to come", scratch.run("check"), "six", 1)
+    trial.runs("nothing changed beside a date that is to come", scratch.run("check"), "six", 0)
     scratch.program.write_text(scratch.program.read_text().replace("six", "not ours"))
     trial.runs("another program in its place", scratch.run("check"), "six", 1)
     crates = scratch.top / "crates"
@@ -162,20 +170,42 @@ def failing(trial, scratch):
     for words in (["check"], ["check"], ["show"], ["--build"], ["extract"], ["check", "tests/run.sh"]):
         got = scratch.run(*words)
         trial.refuses(f"a failed build, {words}", got, "error: broken\n" + NOT_BUILT, 1)
-    for target in ("build", "test", "install"):
+    for target in ("build", "install"):
         status, errors, tested = scratch.make(target)
         holds = status == 2 and "error: broken\n" in errors and not tested
         trial.check(f"a failed build, make {target}", holds, errors)
     trial.check("a failed build, installed", not scratch.installed().exists())
     now = scratch.program.read_bytes(), scratch.program.stat().st_mtime_ns
     trial.check("a failed build leaves the older program", now == old)
+    status, errors, tested = scratch.make("test")
+    holds = status == 2 and "error: broken\n" in errors and not tested and not scratch.program.exists()
+    trial.check("a failed gate", holds, errors)
     scratch.source.write_text("mended")
     trial.runs("a mended source", scratch.run("check"), "mended", 1)
-    for target in ("build", "test", "install"):
-        status, errors, tested = scratch.make(target)
-        trial.check(f"make {target}", status == 0 and tested == (target == "test"), errors)
+    for target in ("build", "install"):
+        trial.check(f"make {target}", scratch.make(target) == (0, "", False))
     same = scratch.installed().exists() and scratch.installed().read_bytes() == scratch.program.read_bytes()
     trial.check("make install", same)
+
+
+def gates(trial, scratch):
+    """The gate proves and builds once, and what it built is run by the calls after it."""
+    for text in ("mended", "gated"):
+        scratch.source.write_text(text)
+        status, errors, tested = scratch.make("test")
+        calls = scratch.calls.read_text()
+        holds = status == 0 and tested and calls == "rt: ci\ntests were run\n"
+        trial.check(f"make test of {text}", holds, (errors, calls))
+        trial.runs(f"the call after make test of {text}", scratch.run("check"), text, 0)
+    status, errors, tested = scratch.make("test", meanwhile="echo later >src/main.rt")
+    trial.check("an edit while the gate runs", status == 0 and tested, errors)
+    trial.runs("the call after the gate", scratch.run("check"), "later", 1)
+    meanwhile = "text=mixture; echo mixture >src/main.rt; echo later >src/main.rt"
+    trial.check("an edit that is taken back while the gate runs", scratch.make("test", meanwhile)[0] == 0)
+    trial.runs("the call after that gate", scratch.run("check"), "later", 1)
+    scratch.source.write_text("mended")
+    got = scratch.run("--gate")
+    trial.check("--gate", got == ("", "rt: progress on mended\n", 0, 0), got)
 
 
 def links(trial, scratch):
@@ -249,7 +279,7 @@ def main():
     trial = Trial()
     with tempfile.TemporaryDirectory() as folder:
         scratch = Scratch(pathlib.Path(folder).resolve())
-        for part in (building, edits_meanwhile, failing, links, files, wrong_words):
+        for part in (building, edits_meanwhile, failing, gates, links, files, wrong_words):
             part(trial, scratch)
     print(f"{trial.passed} passed, {trial.failed} failed")
     return 1 if trial.failed else 0
