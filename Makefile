@@ -4,15 +4,14 @@ BENCH = crates/tftp_bench/out/tftp_bench
 
 .PHONY: build test plants bench install
 
-# Proves the program and builds it, where it is missing or older than its sources.
+# Proves the program and builds it, where its sources are not those that it was built of.
 build:
 	@./tftp-audit --build
 
-# The gate: every proof from nothing, the must-fail edits, the tests and the program's stored run; then the program
-# with failing reads, writes and growths, and on the recorded transfers.
+# The gate: rt ci, which is every proof from nothing, the must-fail edits, the tests and the program's stored run; then
+# the program that it built, with failing reads, writes and growths, on larger captures and on the recorded transfers.
 test:
-	rt ci
-	@./tftp-audit --build
+	@./tftp-audit --gate
 	sh tests/run.sh $(PROGRAM)
 
 # Every wrong body, those that the gate tries too: the prover must refuse each. `python3 tools/plants NAME..` tries those
@@ -27,4 +26,4 @@ bench: build
 	sh bench/run.sh $(PROGRAM) $(BENCH)
 
 install: build
-	install -D -m 755 $(PROGRAM) $(DESTDIR)$(PREFIX)/bin/tftp-audit
+	install -D -m 755 $(PROGRAM) "$(DESTDIR)$(PREFIX)/bin/tftp-audit"
