@@ -34,12 +34,12 @@ begins_asked payload (Message.Oack options) (b, l) begins = absurd (other_opcode
 
 -- ---- the first request
 
-or_none : (o : Option Datagram) (b : Bool) (d : Datagram) → or_this o b d ≡ None → (o ≡ None) × (b ≡ false)
+pub or_none : (o : Option Datagram) (b : Bool) (d : Datagram) → or_this o b d ≡ None → (o ≡ None) × (b ≡ false)
 or_none None false d e = (refl, refl)
 or_none None true d e = absurd (cc)
 or_none (Some x) b d e = absurd (cc)
 
-or_some : (o : Option Datagram) (b : Bool) (d x : Datagram) → or_this o b d ≡ Some x → (o ≡ Some x) ⊎ ((o ≡ None) × (b ≡ true) × (d ≡ x))
+pub or_some : (o : Option Datagram) (b : Bool) (d x : Datagram) → or_this o b d ≡ Some x → (o ≡ Some x) ⊎ ((o ≡ None) × (b ≡ true) × (d ≡ x))
 or_some (Some y) b d x e = inl e
 or_some None true d x e = inr (refl, refl, cc)
 or_some None false d x e = absurd (cc)
@@ -75,10 +75,14 @@ module _ (h : Header) where
   abbrev to_service : Datagram → Bool
   to_service d = port_of_server h.named d == h.service
 
-  asks_is : (ds : List Datagram) (d : Datagram) → first_of (asks h) ds ≡ None → route_of h ds d ≡ Route.Request → asks h d ≡ true
+  pub asks_is : (ds : List Datagram) (d : Datagram) → first_of (asks h) ds ≡ None → route_of h ds d ≡ Route.Request → asks h d ≡ true
   asks_is ds d none is =
       let parts = asks_by (from_begins d) (to_service d) (sym (before_is h ds d none) ∙ is) in
       ap (λ (b : Bool). b && to_service d) parts.0 ∙ parts.1
+
+  -- and what asks then has the route of a request
+  pub asks_route : (ds : List Datagram) (d : Datagram) → first_of (asks h) ds ≡ None → asks h d ≡ true → route_of h ds d ≡ Route.Request
+  asks_route ds d none t = before_is h ds d none ∙ asked_by (from_begins d) (to_service d) t
 
   pub none_before : (ds : List Datagram) → first_of (asks h) ds ≡ None → OneEnded h ds → transfer_of h ds ≡ []
   none_before [] none one = refl
@@ -100,7 +104,7 @@ module _ (h : Header) where
 
   request_read : (ds : List Datagram) (d : Datagram) → first_of (asks h) ds ≡ None → asks h d ≡ true → IsRead (route_of h ds d) d → (asked : RequestParts) × Spells d.payload (Message.Request asked)
   request_read ds d none t read =
-      let route : route_of h ds d ≡ Route.Request = before_is h ds d none ∙ asked_by (from_begins d) (to_service d) t in
+      let route = asks_route ds d none t in
       let (m, s) = subst (λ r. IsRead r d) route read in
       let (asked, is) = first_spells ds d m none route s in
       (asked, subst (Spells d.payload) is s)

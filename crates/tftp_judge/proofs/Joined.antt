@@ -18,16 +18,16 @@ use Rattle.tftp_judge.proofs.Told.{Meets, told_found, told_any}
 use Rattle.tftp_judge.proofs.Numbers.{either_way}
 use Rattle.tftp_judge.specs.OneEnded.{IsJoined}
 
-length_block : (b k : ℕ) (v : List ℕ) → length (block b v k) ≡ min b (length v - (k - 1) * b)
+pub length_block : (b k : ℕ) (v : List ℕ) → length (block b v k) ≡ min b (length v - (k - 1) * b)
 length_block b k v = length-take b (drop ((k - 1) * b) v) ∙ ap (min b) (length-drop ((k - 1) * b) v)
 
 -- after so many whole blocks, these bytes are the next
-block_added : (b k : ℕ) (w bytes : List ℕ) → length w ≡ (k - 1) * b → length bytes ≤ b → block b (w ++ bytes) k ≡ bytes
+pub block_added : (b k : ℕ) (w bytes : List ℕ) → length w ≡ (k - 1) * b → length bytes ≤ b → block b (w ++ bytes) k ≡ bytes
 block_added b k w bytes size fits =
     ap (take b) (ap (λ n. drop n (w ++ bytes)) (sym size) ∙ drop-append_seam w bytes) ∙ take_all b bytes fits
 
 -- and the whole blocks stay
-block_kept : (b k n : ℕ) (w bytes : List ℕ) → 1 ≤ k → k < n → length w ≡ (n - 1) * b → block b (w ++ bytes) k ≡ block b w k
+pub block_kept : (b k n : ℕ) (w bytes : List ℕ) → 1 ≤ k → k < n → length w ≡ (n - 1) * b → block b (w ++ bytes) k ≡ block b w k
 block_kept b zero n w bytes low below size = absurd (omega arith)
 block_kept b (suc j) n w bytes low below size =
     let now : suc j - 1 ≡ j = omega arith in

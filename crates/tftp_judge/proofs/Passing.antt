@@ -169,7 +169,7 @@ answer_is Put (Message.Request r) a is = absurd is
 answer_is Get (Message.Error code text) a is = absurd is
 answer_is Put (Message.Error code text) a is = absurd is
 
-answer_there : (side : Side) (m : Message) (a : Answer) → answer_of side m ≡ Some a → IsAnswer side m a
+pub answer_there : (side : Side) (m : Message) (a : Answer) → answer_of side m ≡ Some a → IsAnswer side m a
 answer_there Get (Message.Oack options) (Agrees other) e = cc
 answer_there Put (Message.Oack options) (Agrees other) e = cc
 answer_there Get (Message.Oack options) Begins e = absurd (cc)

@@ -20,3 +20,5 @@ pub mod Numbers
 pub mod MessageRules
 pub mod SentKinds
 pub mod Settled
+pub mod Accord
+pub mod Divides

@@ -6,6 +6,7 @@ mod meaning;
 mod plain;
 mod rule;
 mod text;
+pub mod two_ends;
 mod verdict;
 pub mod worked_cases;
 pub mod worked_rules;
