@@ -61,3 +61,4 @@ pub mod Made
 pub mod Whole
 pub mod Completed
 pub mod TwoEnds
+pub mod ByRuns

@@ -328,5 +328,5 @@ parts_some h m wire ids [] parts = tt
 parts_some h m wire ids (p ∷ earlier) parts = (part_some h m wire ids earlier p.datagram p.part parts.0, parts_some h m wire ids earlier parts.1)
 
 pub run_divides : (h : Header) (m : Meaning) (wire : List ℕ) (ids : TransferIds) (division : Division) → HaveParts h m wire ids division → IsOneSided m wire h.named (view_in division)
-  → HavePartsBy h says_some ids division × Starts h.named (view_in division)
+    → HavePartsBy h says_some ids division × Starts h.named (view_in division)
 run_divides h m wire ids division parts own = (parts_some h m wire ids division parts, starts_of m wire h.named (view_in division) own)

@@ -9,9 +9,6 @@ use Rattle.tftp_judge.specs.Law.{IsSeen, IsLawful, ShowsBy, Shows}
 use Rattle.tftp_judge.specs.Dress.{Division, datagrams_of, view_in}
 use Rattle.tftp_judge.specs.Accord.{Accords, AreRouted}
 use Rattle.tftp_judge.specs.OneEnded.{OneEnded, IsEnded, Meant}
-use Rattle.tftp_judge.specs.declared.verdict.Verdict.{Verdict}
-use Rattle.tftp_judge.specs.declared.verdict.Verdict.TheVariants.{Accepted, Unlawful, Incomplete, NormalTooLong}
-use Rattle.tftp_judge.specs.Verdict.{IsVerdictBy, IsVerdict, IsVerdictByRules}
 use Rattle.tftp_judge.specs.Divides.{Divides}
 use Rattle.tftp_judge.proofs.OneMeaning.{one_meaning}
 use Rattle.tftp_judge.proofs.Made.{some_accord}
@@ -20,26 +17,6 @@ use Rattle.tftp_judge.proofs.Parted.{parts_of}
 use Rattle.tftp_judge.proofs.OneDivision.{run_divides}
 use Rattle.tftp_judge.proofs.Completed.{completed}
 use Rattle.tftp_judge.proofs.Assembled.{run_keeps, shown_meant}
-
--- ---- verdicts by two laws that are the same
-
-module _ (Lawful Legal : List Datagram → Type 0) (Shown Said : Meaning → List Datagram → Type 0)
-    (there : (ds : List Datagram) → Lawful ds → Legal ds) (back : (ds : List Datagram) → Legal ds → Lawful ds)
-    (said : (m : Meaning) (ds : List Datagram) → Shown m ds → Said m ds) (unsaid : (m : Meaning) (ds : List Datagram) → Said m ds → Shown m ds) where
-  carried : (h : Header) (ds : List Datagram) (v : Verdict) → IsVerdictBy Lawful Shown h ds v → IsVerdictBy Legal Said h ds v
-  carried h ds (Accepted m) (lawful, shown, writable) = (there ds lawful, said m ds shown, writable)
-  carried h ds (Unlawful index rule) at = record {
-    before = at.before;
-    datagram = at.datagram;
-    rest = at.rest;
-    split = at.split;
-    index_is = at.index_is;
-    lawful = there at.before at.lawful;
-    unlawful = λ legal. at.unlawful (back _ legal);
-    broken = at.broken;
-  }
-  carried h ds (Incomplete count) (lawful, none, is) = (there ds lawful, (λ m shown. none m (unsaid m ds shown)), is)
-  carried h ds NormalTooLong (lawful, (m, shown), long) = (there ds lawful, (m, said m ds shown), λ n is writable. long n (unsaid n ds is) writable)
 
 pub rules : (h : Header) (m : Meaning) (wire : List ℕ) (datagrams : List Datagram) → IsSeen h m wire datagrams → OneEnded h (reverse datagrams) × Accords h m wire (reverse datagrams)
 rules = run_keeps
@@ -110,13 +87,9 @@ whole h m ds = (
   λ shows. meant_by h m shows.0 ds shows.1,
 )
 
-pub one : (h : Header) (ds : List Datagram) (m n : Meaning) → Shows h m ds → Shows h n ds → m ≡ n
-one h ds m n x y = one_meaning h (reverse ds) m n (meant_by h m x.wire ds x.shown) (meant_by h n y.wire ds y.shown)
+-- what is shown by any wire is one meaning
+pub one_shown : (h : Header) (ds : List Datagram) (m n : Meaning) → (wire : List ℕ) × ShowsBy h m wire ds → (wire : List ℕ) × ShowsBy h n wire ds → m ≡ n
+one_shown h ds m n x y = one_meaning h (reverse ds) m n (meant_by h m x.0 ds x.1) (meant_by h n y.0 ds y.1)
 
-pub verdict : (h : Header) (ds : List Datagram) (v : Verdict) → IsVerdict h ds v ↔ IsVerdictByRules h ds v
-verdict h ds v = (
-  carried (IsLawful h) (λ xs. OneEnded h (reverse xs)) (λ m xs. (wire : List ℕ) × ShowsBy h m wire xs) (λ m xs. Meant h (reverse xs) m)
-      (λ xs. (lawful h xs).0) (λ xs. (lawful h xs).1) (λ m xs. (whole h m xs).1) (λ m xs. (whole h m xs).0) h ds v,
-  carried (λ xs. OneEnded h (reverse xs)) (IsLawful h) (λ m xs. Meant h (reverse xs) m) (λ m xs. (wire : List ℕ) × ShowsBy h m wire xs)
-      (λ xs. (lawful h xs).1) (λ xs. (lawful h xs).0) (λ m xs. (whole h m xs).0) (λ m xs. (whole h m xs).1) h ds v,
-)
+pub one : (h : Header) (ds : List Datagram) (m n : Meaning) → Shows h m ds → Shows h n ds → m ≡ n
+one h ds m n x y = one_shown h ds m n (x.wire, x.shown) (y.wire, y.shown)

@@ -11,8 +11,6 @@ ghost use Rattle.tftp_judge.specs.Accord.{Accords, AreRouted, AreRoutedBy, Start
 ghost use Rattle.tftp_judge.specs.Divides.{says_some, FindPlaces, Divides};
 ghost use Rattle.tftp_judge.specs.Law.{IsSeen, IsLawful, ShowsBy, Shows};
 ghost use Rattle.tftp_judge.specs.OneEnded.{OneEnded, Meant};
-ghost use Rattle.tftp_judge.specs.Verdict.{IsVerdict, IsVerdictByRules};
-ghost use Rattle.tftp_judge.specs.declared.verdict.Verdict.{Verdict};
 
 /// Law (a), of a meaning. Of the view it takes two facts: the oldest deed is the client's request, and no deed is a request of
 /// the server's. Then the parts of a division are its routes, and what has the routes has parts.
@@ -51,11 +49,10 @@ pub fn rules_are_one_side()
         → Meant h (reverse datagrams) m ↔ ((wire : List ℕ) × ShowsBy h m wire datagrams) }
 {}
 
-/// Corollaries: a capture is lawful exactly if it breaks no rule at its end, and then it divides; it shows one meaning at
-/// most, and the verdict by the runs of two ends is the verdict by the rules at one.
+/// Corollaries: a capture is lawful exactly if it breaks no rule at its end, and then it divides; and it shows one
+/// meaning at most.
 pub fn one_end_tells_of_two()
     ensures lawful { (h : Header) (ds : List Datagram) → IsLawful h ds ↔ OneEnded h (reverse ds) }
     ensures divides { (h : Header) (earlier : List Datagram) → OneEnded h earlier → Divides h earlier }
     ensures one { (h : Header) (ds : List Datagram) (m n : Meaning) → Shows h m ds → Shows h n ds → m ≡ n }
-    ensures verdict { (h : Header) (ds : List Datagram) (v : Verdict) → IsVerdict h ds v ↔ IsVerdictByRules h ds v }
 {}
