@@ -1,8 +1,8 @@
 -- The line of an unlawful datagram.
 use Rattle.std.proofs.Common.{◌≡◌, ℕ, List, ◌++◌, codes, decimal, sym, ap, ◌∙◌, append_assoc}
-use Rattle.tftp_judge.specs.RuleNames.{rule_name}
-use Rattle.tftp_judge.specs.Rules.{number_of}
-use Rattle.tftp_judge.specs.declared.rule.Rule.{Rule}
+use Rattle.tftp_law.specs.RuleNames.{rule_name}
+use Rattle.tftp_law.specs.Rules.{number_of}
+use Rattle.tftp_law.specs.declared.rule.Rule.{Rule}
 use Rattle.tftp_judge.specs.declared.verdict.Verdict.TheVariants.{Unlawful}
 use Rattle.tftp_audit.specs.Checked.{detail, verdict_line}
 

@@ -6,12 +6,12 @@ use Rattle.tftp_capture.specs.History.{IsReadFault}
 use Rattle.tftp_capture.specs.declared.fault.CaptureFault.{CaptureFault}
 use Rattle.tftp_ends.specs.Blocks.{block_count}
 use Rattle.tftp_ends.specs.Meaning.{Meaning, blksize_of}
-use Rattle.tftp_judge.specs.Fits.{written_wire}
-use Rattle.tftp_judge.specs.RuleNames.{rule_name}
-use Rattle.tftp_judge.specs.Rules.{number_of}
+use Rattle.tftp_law.specs.Fits.{written_wire}
+use Rattle.tftp_law.specs.RuleNames.{rule_name}
+use Rattle.tftp_law.specs.Rules.{number_of}
 use Rattle.tftp_judge.specs.TextVerdict.{EndsText, IsTextVerdict, MayFollowFailure}
-use Rattle.tftp_judge.specs.declared.rule.Rule.{Rule}
-use Rattle.tftp_judge.specs.declared.rule.Rule.TheVariants.{Malformed}
+use Rattle.tftp_law.specs.declared.rule.Rule.{Rule}
+use Rattle.tftp_law.specs.declared.rule.Rule.TheVariants.{Malformed}
 use Rattle.tftp_judge.specs.declared.verdict.Verdict.{Verdict}
 use Rattle.tftp_judge.specs.declared.verdict.Verdict.TheVariants.{Accepted, Unlawful, Incomplete, NormalTooLong}
 use Rattle.tftp_audit.specs.declared.status.Status.{Status}

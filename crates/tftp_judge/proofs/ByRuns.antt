@@ -3,12 +3,12 @@ use Rattle.std.proofs.Common.{ℕ, List}
 use Rattle.std.specs.Prelude.{reverse, ◌↔◌}
 use Rattle.tftp_ends.specs.CaptureText.{Datagram, Header}
 use Rattle.tftp_ends.specs.Meaning.{Meaning}
-use Rattle.tftp_judge.specs.Law.{IsLawful, ShowsBy}
-use Rattle.tftp_judge.specs.OneEnded.{OneEnded, Meant}
+use Rattle.tftp_law.specs.Law.{IsLawful, ShowsBy}
+use Rattle.tftp_law.specs.OneEnded.{OneEnded, Meant}
 use Rattle.tftp_judge.specs.declared.verdict.Verdict.{Verdict}
 use Rattle.tftp_judge.specs.declared.verdict.Verdict.TheVariants.{Accepted, Unlawful, Incomplete, NormalTooLong}
 use Rattle.tftp_judge.specs.Verdict.{IsVerdictBy, IsVerdict, IsVerdictByRules}
-use Rattle.tftp_judge.proofs.TwoEnds.{lawful, whole}
+use Rattle.tftp_law.proofs.TwoEnds.{lawful, whole}
 
 -- by two laws that are the same, the verdicts are
 

@@ -1,6 +1,5 @@
 -- What there is to say of a text, of its datagrams and its first fault; and that it is one.
 use Rattle.std.proofs.Common.{◌≡◌, ◌≢◌, ℕ, ◌⊎◌, inl, inr, List, [], ◌∷◌, ◌++◌, length, Result, Ok, Err, refl, sym, ap, ◌∙◌, subst, arith, append_assoc}
-use Rattle.std.specs.Prelude.{reverse}
 use Rattle.std.proofs.lemmas.List.{map-append}
 use Rattle.tftp_capture.specs.CaptureText.{Begins, BeginsWith, HasFault, IsCapture, Numbered}
 use Rattle.tftp_capture.specs.CaptureText.Reading.{Capture, Fault}
@@ -14,15 +13,15 @@ use Rattle.tftp_capture.proofs.Readings.{reads_same}
 use Rattle.tftp_capture.proofs.Staying.{stays}
 use Rattle.tftp_ends.specs.CaptureText.{Datagram, Header}
 use Rattle.tftp_judge.specs.Gathered.{GatheringTells, fault_or, said_first}
-use Rattle.tftp_judge.specs.Law.{IsLawful}
+use Rattle.tftp_law.specs.Law.{IsLawful}
 use Rattle.tftp_judge.specs.TextVerdict.{AllLawful, BeginsBy, EndsText, IsCaptureBy, IsOfText, IsTextVerdict, unnumbered}
 use Rattle.tftp_judge.specs.Verdict.{IsVerdict}
-use Rattle.tftp_judge.specs.declared.rule.Rule.{Rule}
+use Rattle.tftp_law.specs.declared.rule.Rule.{Rule}
 use Rattle.tftp_judge.specs.declared.verdict.Verdict.{Verdict}
 use Rattle.tftp_judge.specs.declared.verdict.Verdict.TheVariants.{Accepted, Unlawful, Incomplete, NormalTooLong}
 use Rattle.tftp_judge.proofs.Gatherings.{begins_longer}
-use Rattle.tftp_judge.proofs.TwoEnds.{lawful as lawful_exactly}
-use Rattle.tftp_judge.proofs.OneVerdict.{lawful_begin, not_lawful, one_verdict}
+use Rattle.tftp_law.proofs.Beginnings.{beginning_is_lawful, empty_is_lawful}
+use Rattle.tftp_judge.proofs.OneVerdict.{not_lawful, one_verdict}
 
 -- ---- what is said stays, whatever follows
 
@@ -45,7 +44,7 @@ IsRead (Err (Memory line)) = ⊥
 -- the datagrams that come first of lawful ones are lawful
 pub front_lawful : (h : Header) (ds es : List Numbered) → IsLawful h (unnumbered ds) → BeginsWith ds es → IsLawful h (unnumbered es)
 front_lawful h ds es lawful (rest, is) =
-    lawful_begin h (unnumbered es) (unnumbered rest) (subst (λ x. IsLawful h x) (ap unnumbered is ∙ map-append (λ (n : Numbered). n.1) es rest) lawful)
+    beginning_is_lawful h (unnumbered es) (unnumbered rest) (subst (IsLawful h) (ap unnumbered is ∙ map-append (λ (n : Numbered). n.1) es rest) lawful)
 
 -- before a fault there are lawful datagrams only
 abbrev pub LawfulIn : List ℕ → List Numbered → Type 0
@@ -67,7 +66,7 @@ none_front (n ∷ es) rest e = absurd (omega (arith, ap length e))
 
 -- there are no datagrams before the fault
 pub none_in : (text : List ℕ) → LawfulIn text []
-none_in text h es begins (rest, is) = subst (λ x. IsLawful h (unnumbered x)) (sym (none_front es rest is)) ((lawful_exactly h []).1 tt)
+none_in text h es begins (rest, is) = subst (λ x. IsLawful h (unnumbered x)) (sym (none_front es rest is)) (empty_is_lawful h)
 
 pub fault_stays_on : (text more : List ℕ) (ds : List Numbered) (fault : CaptureFault) → MayGoOn (Err fault) → FaultTells fault text ds → FaultTells fault (text ++ more) ds
 fault_stays_on text more ds (Text line fault) other tells = stays text more ds line fault other tells

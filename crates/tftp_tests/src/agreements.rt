@@ -1,0 +1,191 @@
+//! Requests, and what an OACK agrees to.
+
+use std::test::Fail;
+use tftp_nego::{Agreed, NegoFault, agree, nothing_agreed};
+use tftp_packet::{Packet, own_request, read_packet};
+
+/// What an OACK answers to a request, both as payloads.
+fn answer(
+    rt: &HostRuntime,
+    request: &[u8],
+    oack: &[u8],
+) -> Result<Result<Agreed, NegoFault>, Fail> {
+    let Ok(Packet::Request(view)) = read_packet(request) else {
+        return Err(Fail::new("no request"));
+    };
+    let Ok(Packet::Oack(options)) = read_packet(oack) else {
+        return Err(Fail::new("no OACK"));
+    };
+    let request = own_request(rt.alloc(), &view)?;
+    Ok(agree(rt.alloc(), &request, &options))
+}
+
+#[test]
+fn agrees_to_options(rt: HostRuntime) -> Result<(), Fail> {
+    let cases: [(&[u8], &[u8], (u16, u16, Option<u8>, Option<u64>)); 12] = [
+        (
+            b"\x00\x01a\x00octet\x00blksize\x008\x00windowsize\x004\x00",
+            b"\x00\x06blksize\x008\x00windowsize\x004\x00",
+            (8, 4, None, None),
+        ),
+        (
+            b"\x00\x01a\x00octet\x00blksize\x001024\x00",
+            b"\x00\x06blksize\x000512\x00",
+            (512, 1, None, None),
+        ),
+        (
+            b"\x00\x01a\x00octet\x00foo\x001\x00blksize\x008\x00",
+            b"\x00\x06blksize\x008\x00",
+            (8, 1, None, None),
+        ),
+        (
+            b"\x00\x01a\x00octet\x00tsize\x0010\x00",
+            b"\x00\x06tsize\x0011\x00",
+            (512, 1, None, Some(11)),
+        ),
+        (
+            b"\x00\x01a\x00octet\x00timeout\x005\x00",
+            b"\x00\x06TimeOut\x0005\x00",
+            (512, 1, Some(5), None),
+        ),
+        (
+            b"\x00\x02a\x00octet\x00tsize\x0010\x00",
+            b"\x00\x06tsize\x0010\x00",
+            (512, 1, None, Some(10)),
+        ),
+        (
+            b"\x00\x01a\x00octet\x00blksize\x008\x00tsize\x000\x00",
+            b"\x00\x06blksize\x008\x00tsize\x00524279\x00",
+            (8, 1, None, Some(524279)),
+        ),
+        (
+            b"\x00\x01a\x00octet\x00blksize\x008\x00windowsize\x0065535\x00",
+            b"\x00\x06blksize\x008\x00windowsize\x0065535\x00",
+            (8, 65535, None, None),
+        ),
+        (
+            b"\x00\x01a\x00netascii\x00tsize\x000\x00",
+            b"\x00\x06tsize\x0018446744073709551615\x00",
+            (512, 1, None, Some(18446744073709551615)),
+        ),
+        (
+            b"\x00\x01a\x00octet\x00blksize\x0065464\x00tsize\x000\x00",
+            b"\x00\x06blksize\x0065464\x00tsize\x004290183239\x00",
+            (65464, 1, None, Some(4290183239)),
+        ),
+        (
+            b"\x00\x01a\x00octet\x00tsize\x000\x00",
+            b"\x00\x06tsize\x0033553919\x00",
+            (512, 1, None, Some(33553919)),
+        ),
+        (
+            b"\x00\x01a\x00octet\x00timeout\x00255\x00",
+            b"\x00\x06timeout\x00255\x00",
+            (512, 1, Some(255), None),
+        ),
+    ];
+    for (request, oack, (blksize, windowsize, timeout, tsize)) in cases {
+        match answer(&rt, request, oack)? {
+            Ok(agreed) => {
+                assert_eq!(rt; agreed.blksize(), blksize, "{oack:?}");
+                assert_eq!(rt; agreed.windowsize(), windowsize, "{oack:?}");
+                assert_eq!(rt; agreed.timeout(), timeout, "{oack:?}");
+                assert_eq!(rt; agreed.tsize(), tsize, "{oack:?}");
+                assert!(rt; !agreed.is_empty(), "{oack:?}");
+                assert!(rt; !agreed.options().is_empty(), "{oack:?}");
+            }
+            Err(fault) => assert!(rt; false, "{fault:?} {oack:?}"),
+        }
+    }
+    Ok(())
+}
+
+#[test]
+fn refuses_with_the_first_fault(rt: HostRuntime) -> Result<(), Fail> {
+    let cases: [(&[u8], &[u8], NegoFault); 14] = [
+        (
+            b"\x00\x01a\x00octet\x00blksize\x007\x00",
+            b"\x00\x06blksize\x007\x00",
+            NegoFault::OptionValue,
+        ),
+        (
+            b"\x00\x01a\x00octet\x00timeout\x005\x00",
+            b"\x00\x06timeout\x006\x00",
+            NegoFault::OptionValue,
+        ),
+        (
+            b"\x00\x01a\x00octet\x00windowsize\x004\x00",
+            b"\x00\x06windowsize\x005\x00",
+            NegoFault::OptionValue,
+        ),
+        (
+            b"\x00\x02a\x00octet\x00tsize\x0010\x00",
+            b"\x00\x06tsize\x0011\x00",
+            NegoFault::OptionValue,
+        ),
+        (
+            b"\x00\x01a\x00octet\x00blksize\x00512\x00",
+            b"\x00\x06blksize\x001024\x00",
+            NegoFault::OptionValue,
+        ),
+        (
+            b"\x00\x01a\x00octet\x00",
+            b"\x00\x06blksize\x008\x00",
+            NegoFault::OptionNotRequested,
+        ),
+        (b"\x00\x01a\x00octet\x00", b"\x00\x06", NegoFault::OackEmpty),
+        (
+            b"\x00\x01a\x00octet\x00foo\x001\x00",
+            b"\x00\x06foo\x001\x00",
+            NegoFault::OptionOutsideProfile,
+        ),
+        (
+            b"\x00\x01a\x00octet\x00multicast\x00\x00",
+            b"\x00\x06multicast\x00\x00",
+            NegoFault::MulticastAgreed,
+        ),
+        (
+            b"\x00\x01a\x00octet\x00",
+            b"\x00\x06blksize\x008\x00MultiCast\x00\x00",
+            NegoFault::MulticastAgreed,
+        ),
+        (
+            b"\x00\x01a\x00octet\x00blksize\x008\x00tsize\x000\x00",
+            b"\x00\x06blksize\x008\x00tsize\x00524280\x00",
+            NegoFault::BeyondBlock65535,
+        ),
+        (
+            b"\x00\x01a\x00octet\x00tsize\x000\x00",
+            b"\x00\x06tsize\x0033553920\x00",
+            NegoFault::BeyondBlock65535,
+        ),
+        (
+            b"\x00\x01a\x00octet\x00tsize\x000\x00",
+            b"\x00\x06tsize\x0018446744073709551615\x00",
+            NegoFault::BeyondBlock65535,
+        ),
+        (
+            b"\x00\x01a\x00octet\x00tsize\x000\x00",
+            b"\x00\x06tsize\x0018446744073709551616\x00",
+            NegoFault::OptionValue,
+        ),
+    ];
+    for (request, oack, want) in cases {
+        match answer(&rt, request, oack)? {
+            Ok(_) => assert!(rt; false, "{oack:?}"),
+            Err(fault) => assert_eq!(rt; fault, want, "{oack:?}"),
+        }
+    }
+    Ok(())
+}
+
+#[test]
+fn nothing_agreed_has_the_defaults(rt: HostRuntime) {
+    let agreed = nothing_agreed(rt.alloc());
+    assert_eq!(rt; agreed.blksize(), 512);
+    assert_eq!(rt; agreed.windowsize(), 1);
+    assert_eq!(rt; agreed.timeout(), None);
+    assert_eq!(rt; agreed.tsize(), None);
+    assert!(rt; agreed.is_empty());
+    assert_eq!(rt; agreed.options().len(), 0);
+}
