@@ -11,7 +11,15 @@ pub mod OneMeaning
 pub mod OneMessage
 pub mod Joined
 pub mod Moments
+pub mod Opening
+pub mod RouteTests
+pub mod ClientRoutes
+pub mod ServerRoutes
 pub mod Routed
+pub mod RoutesBack
+pub mod Unasked
+pub mod ClientParts
+pub mod ServerParts
 pub mod Parted
 pub mod OneDivision
 pub mod Heard

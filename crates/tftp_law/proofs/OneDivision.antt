@@ -23,8 +23,12 @@ use Rattle.tftp_law.specs.OneEnded.{IsRead}
 use Rattle.tftp_law.specs.declared.rule.Rule.{Rule}
 use Rattle.tftp_law.proofs.Spelled.{spelled_once}
 use Rattle.tftp_law.proofs.FirstRequests.{begins_asked, or_some, asks_route}
-use Rattle.tftp_law.proofs.Routed.{two_ways, IsTold, routed_by, starts_of, request_begins}
-use Rattle.tftp_law.proofs.Parted.{one, starts_before, none_view, request_is, parted}
+use Rattle.tftp_law.proofs.RouteTests.{two_ways, IsTold, request_begins}
+use Rattle.tftp_law.proofs.Routed.{routed_by}
+use Rattle.tftp_law.proofs.Opening.{starts_of}
+use Rattle.tftp_law.proofs.Unasked.{one, starts_before, none_view}
+use Rattle.tftp_law.proofs.RoutesBack.{request_is}
+use Rattle.tftp_law.proofs.Parted.{parted}
 
 -- ---- what is told
 
