@@ -15,7 +15,8 @@ use Rattle.tftp_law.specs.Dress.{Division, datagrams_of, view_in}
 use Rattle.tftp_law.specs.Accord.{Accords, AreRouted}
 use Rattle.tftp_law.specs.Rules.{NotAnswered}
 use Rattle.tftp_law.specs.OneEnded.{IsEnded}
-use Rattle.tftp_law.proofs.Settled.{Known, settled, not_both}
+use Rattle.tftp_law.proofs.FirstAnswered.{Known, not_both}
+use Rattle.tftp_law.proofs.Settled.{settled}
 use Rattle.tftp_law.proofs.Heard.{block_came, ack_went, ack_came_in}
 use Rattle.tftp_law.proofs.Followed.{State, state, named_is, side_is, numbers, few, as_blocks}
 use Rattle.tftp_law.proofs.Sized.{the_last}

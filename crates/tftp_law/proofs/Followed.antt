@@ -1,11 +1,8 @@
 -- From one side's history to the rules: after the datagrams of a division that follows the routes, the next deed breaks
 -- no rule.
-use Rattle.std.proofs.Common.{◌≡◌, ◌⊎◌, ℕ, ◌+◌, ◌-◌, ◌<◌, ◌≤◌, false, List, [], ◌∷◌, Contains, length, Some, None, codes, inl, inr, refl, sym, subst, ap, ◌∙◌, arith}
+use Rattle.std.proofs.Common.{◌≡◌, ◌⊎◌, ℕ, ◌+◌, ◌-◌, ◌<◌, ◌≤◌, List, [], ◌∷◌, Contains, length, Some, None, codes, inl, inr, refl, sym, subst, ap, ◌∙◌, arith}
 use Rattle.std.specs.FinMap as map
-use Rattle.std.proofs.lemmas.Bool.{false≢true, cases_eq}
-use Rattle.tftp_packet.specs.OptionMap.{OptionMap}
-use Rattle.tftp_packet.specs.Message.{Message, RequestParts}
-use Rattle.tftp_packet.specs.Spelling.{Spells}
+use Rattle.tftp_packet.specs.Message.{Message}
 use Rattle.tftp_packet.specs.declared.kinds.Side.{Side}
 use Rattle.tftp_packet.specs.declared.kinds.Side.TheVariants.{Get, Put}
 use Rattle.tftp_packet.specs.declared.kinds.End.{End}
@@ -20,122 +17,27 @@ use Rattle.tftp_ends.specs.Blocks.{block, block_count}
 use Rattle.tftp_ends.specs.Roles.{sender_of, receiver_of, author_of}
 use Rattle.tftp_ends.specs.Machines.{MachinePacket, Req, Oack, Data, Ack, Deed, Sent, Took, History, HasSent, HasTaken, message_of, IsStartedOn, MayAckZeroOn, MaySend, MaySendReq, MaySendData, MaySendAck}
 use Rattle.tftp_ends.specs.OneSide.{LetsStartOn, LetsAckZeroOn, MayCome, MayComeData, MayComeAck, IsOneSided}
-use Rattle.tftp_ends.specs.Ports.{asks, first_of, route_of, transfer_of}
+use Rattle.tftp_ends.specs.Ports.{transfer_of}
 use Rattle.tftp_ends.specs.Rules.{Passed, HasPassed, IsSender, IsReceiver, BlocksWait, AckZeroWaits, BlockBreaks, AckBreaks, EndBroken}
-use Rattle.tftp_ends.specs.declared.route.Route.{Route}
 use Rattle.tftp_ends.specs.declared.rule.EndRule.{EndRule}
 use Rattle.tftp_ends.specs.declared.terms.Reply.TheVariants.{NoReply, Plain, Oacked}
 use Rattle.tftp_ends.specs.declared.terms.Terms.{Terms}
-use Rattle.tftp_ends.proofs.Members.{contains_cases, contains_none}
 use Rattle.tftp_ends.proofs.Defaults.{default_blksize, default_windowsize}
 use Rattle.tftp_nego.proofs.Numbers.{map_in_range}
 use Rattle.tftp_law.specs.Fits.{Fits}
-use Rattle.tftp_law.specs.Dress.{Part, Main, Stray, StrayAnswer, Division, datagrams_of, view_in, dir_of, packet_of}
-use Rattle.tftp_law.specs.Accord.{packet_route, part_route, SaysAs, AreRouted}
+use Rattle.tftp_law.specs.Dress.{Division, datagrams_of, view_in, dir_of, packet_of}
+use Rattle.tftp_law.specs.Accord.{AreRouted}
 use Rattle.tftp_law.specs.Rules.{Answer, Agrees, Begins, NotAnswered, FirstAnswer, plain_terms, terms_after, IsWrongKind}
 use Rattle.tftp_law.specs.MessageRules.{RequestBreaks, OackBreaks, TermsBreak, MessageBreaks}
 use Rattle.tftp_law.specs.declared.rule.Rule.{Rule}
-use Rattle.tftp_law.proofs.FirstRequests.{or_none, or_some, asks_is, asks_route}
 use Rattle.tftp_law.proofs.Agreed.{no_agreement_fault}
-use Rattle.tftp_law.proofs.Settled.{Known, first_one, not_both as answered_not}
+use Rattle.tftp_law.proofs.FirstAnswered.{Known, first_one, not_both as answered_not}
 use Rattle.tftp_law.proofs.Made.{answer_spelled, from_eight, size_is}
 use Rattle.tftp_law.proofs.Sized.{not_beyond, not_misfit, not_changed}
 use Rattle.tftp_law.proofs.Heard.{Told as Heard, passed_told, told_passed, data_only, block_sent, ack_went, sent_block, not_both, ack_not_ahead_in, ack_not_ahead_out, within_window_in}
 use Rattle.tftp_law.proofs.Answered.{no_oack, Told, data_out, data_in, reply_is}
-
--- ---- the first request
-
-no_start : (side : Side) (m : Meaning) → IsStartedOn side m [] → ⊥
-no_start Get m s = elim s [ inl x ↦ contains_none (Took Req) x.1 | inr x ↦ contains_none (Took (Ack 0)) x.1 ]
-no_start Put m s = elim s [ inl x ↦ contains_none (Took (Ack 0)) x.1 | inr x ↦ contains_none (Took Oack) x.1 ]
-
-no_lets : (side : Side) (m : Meaning) → LetsStartOn side m [] → ⊥
-no_lets Get m s = elim s [ inl x ↦ contains_none (Sent Req) x.1 | inr x ↦ contains_none (Sent (Ack 0)) x.1 ]
-no_lets Put m s = elim s [ inl x ↦ contains_none (Sent (Ack 0)) x.1 | inr x ↦ contains_none (Sent Oack) x.1 ]
-
-no_zero : (side : Side) (m : Meaning) → MayAckZeroOn side m [] → ⊥
-no_zero Get m z = contains_none (Took Oack) z.1
-no_zero Put m z = elim z [ inl x ↦ contains_none (Took Req) x.1 | inr x ↦ contains_none (Took (Data x.1)) x.2 ]
-
-no_lets_zero : (side : Side) (m : Meaning) → LetsAckZeroOn side m [] → ⊥
-no_lets_zero Get m z = contains_none (Sent Oack) z.1
-no_lets_zero Put m z = elim z [ inl x ↦ contains_none (Sent Req) x.1 | inr x ↦ contains_none (Sent (Data x.1)) x.2 ]
-
-module _ (h : Header) (m : Meaning) (wire : List ℕ) where
-  -- the first deed is the request
-  pub first_deed : (deed : Deed) → IsOneSided m wire h.named (deed ∷ []) → packet_of deed ≡ Req
-  first_deed (Sent Req) own = refl
-  first_deed (Took Req) own = refl
-  first_deed (Sent Oack) own = absurd (contains_none (Took Req) own.0.asked)
-  first_deed (Took Oack) own = absurd (contains_none (Sent Req) own.0.asked)
-  first_deed (Sent (Data k)) own = absurd (no_start m.side m own.0.started)
-  first_deed (Took (Data k)) own = absurd (no_lets m.side m own.0.started)
-  first_deed (Sent (Ack j)) own = elim (cases_eq j 0) [
-    | inl zero ↦ absurd (no_zero m.side m (own.0.zero zero))
-    | inr some ↦ absurd (contains_none (Took (Data 1)) (own.0.taken 1 (omega arith) (omega (arith, some))))
-  ]
-  first_deed (Took (Ack j)) own = elim (cases_eq j 0) [
-    | inl zero ↦ absurd (no_lets_zero m.side m (own.0.zero zero))
-    | inr some ↦ absurd (contains_none (Sent (Data 1)) (own.0.sent 1 (omega arith) (omega (arith, some))))
-  ]
-
-  is_request : (part : Part) (d : Datagram) → part_route part ≡ Route.Request → SaysAs m wire d part → Spells d.payload (Message.Request (request_of m))
-  is_request (Main (Sent Req)) d is says = says.1
-  is_request (Main (Took Req)) d is says = says.1
-  is_request (Main (Sent Oack)) d is says = absurd (cc)
-  is_request (Main (Took Oack)) d is says = absurd (cc)
-  is_request (Main (Sent (Data k))) d is says = absurd (cc)
-  is_request (Main (Took (Data k))) d is says = absurd (cc)
-  is_request (Main (Sent (Ack j))) d is says = absurd (cc)
-  is_request (Main (Took (Ack j))) d is says = absurd (cc)
-  is_request Stray d is says = absurd (cc)
-  is_request StrayAnswer d is says = absurd (cc)
-
-  pub request_spelled : (division : Division) → AreRouted h m wire division → (d : Datagram) → first_of (asks h) (datagrams_of division) ≡ Some d → Spells d.payload (Message.Request (request_of m))
-  request_spelled [] routed d is = absurd (cc)
-  request_spelled (p ∷ earlier) routed d is = elim (or_some (first_of (asks h) (datagrams_of earlier)) (asks h p.datagram) p.datagram d is) [
-    | inl before ↦ request_spelled earlier routed.2 d before
-    | inr now ↦ subst (λ (x : Datagram). Spells x.payload (Message.Request (request_of m))) now.2
-        (is_request p.part p.datagram (sym routed.0 ∙ asks_route h (datagrams_of earlier) p.datagram now.0 now.1) routed.1)
-  ]
-
-  request_route : (q : MachinePacket) → q ≡ Req → packet_route q ≡ Route.Request
-  request_route q is = ap packet_route is
-
-  empty_step : (d : Datagram) (part : Part) (earlier : Division) → route_of h (datagrams_of earlier) d ≡ part_route part → IsOneSided m wire h.named (view_in (record { datagram = d; part = part } ∷ earlier))
-      → first_of (asks h) (datagrams_of earlier) ≡ None → asks h d ≡ false → (IsOneSided m wire h.named (view_in earlier) → view_in earlier ≡ [])
-      → view_in (record { datagram = d; part = part } ∷ earlier) ≡ []
-  empty_step d (Main (Sent p)) earlier is own none other before =
-      let request = first_deed (Sent p) (subst (λ v. IsOneSided m wire h.named (Sent p ∷ v)) (before own.1) own) in
-      absurd (false≢true (sym other ∙ asks_is h (datagrams_of earlier) d none (is ∙ request_route p request)))
-  empty_step d (Main (Took p)) earlier is own none other before =
-      let request = first_deed (Took p) (subst (λ v. IsOneSided m wire h.named (Took p ∷ v)) (before own.1) own) in
-      absurd (false≢true (sym other ∙ asks_is h (datagrams_of earlier) d none (is ∙ request_route p request)))
-  empty_step d Stray earlier is own none other before = before own
-  empty_step d StrayAnswer earlier is own none other before = before own
-
-  -- before the first request the end has done nothing
-  pub view_empty : (division : Division) → AreRouted h m wire division → IsOneSided m wire h.named (view_in division) → first_of (asks h) (datagrams_of division) ≡ None → view_in division ≡ []
-  view_empty [] routed own none = refl
-  view_empty (p ∷ earlier) routed own none =
-      let parts = or_none (first_of (asks h) (datagrams_of earlier)) (asks h p.datagram) p.datagram none in
-      empty_step p.datagram p.part earlier routed.0 own parts.0 parts.1 (λ o. view_empty earlier routed.2 o parts.0)
-
-  -- ---- the blocks of a history are numbered as those of the wire
-
-  abbrev IsNumbered : ℕ → Type 0
-  IsNumbered k = (1 ≤ k) × (k ≤ block_count (blksize_of m) wire)
-
-  numbered : (v : History) → IsOneSided m wire h.named v → (deed : Deed) → Contains v deed → (k : ℕ) → packet_of deed ≡ Data k → IsNumbered k
-  numbered [] own deed at k is = absurd (contains_none deed at)
-  numbered (Sent p ∷ v) own deed at k is = elim (contains_cases (Sent p) v deed at) [
-    | inl same ↦ let e : p ≡ Data k = ap packet_of same ∙ is in let may = subst (MaySend m wire h.named v) e own.0 in (may.from_one, may.in_wire)
-    | inr before ↦ numbered v own.1 deed before k is
-  ]
-  numbered (Took p ∷ v) own deed at k is = elim (contains_cases (Took p) v deed at) [
-    | inl same ↦ let e : p ≡ Data k = ap packet_of same ∙ is in let may = subst (MayCome m wire h.named v) e own.0 in (may.from_one, may.in_wire)
-    | inr before ↦ numbered v own.1 deed before k is
-  ]
+use Rattle.tftp_law.proofs.WhoSends.{request_kind, oack_kind, data_kind_out, data_kind_in, ack_kind_out, ack_kind_in}
+use Rattle.tftp_law.proofs.Asked.{numbered}
 
 -- ---- the next deed
 
@@ -432,32 +334,6 @@ module _ (h : Header) (m : Meaning) (wire : List ℕ) (fits : Fits m wire)
     by Rule.OptionValue b = no_agreement_fault (request_of m) m.agreed fits.may_agree something NegoFault.OptionValue b.1
     by Rule.BeyondBlock65535 b = no_agreement_fault (request_of m) m.agreed fits.may_agree something NegoFault.BeyondBlock65535 b.1
     by rule b = b.1
-
-  -- ---- the kinds
-
-  request_kind : (side : Side) (r : RequestParts) → IsWrongKind Client side (Message.Request r) → ⊥
-  request_kind Get r wrong = wrong
-  request_kind Put r wrong = wrong
-
-  oack_kind : (side : Side) (o : OptionMap) → IsWrongKind Server side (Message.Oack o) → ⊥
-  oack_kind Get o wrong = wrong
-  oack_kind Put o wrong = wrong
-
-  data_kind_out : (side : Side) (k : ℕ) (bytes : List ℕ) → IsWrongKind (author_of (sender_of side) Out) side (Message.Data k bytes) → ⊥
-  data_kind_out Get k bytes wrong = wrong
-  data_kind_out Put k bytes wrong = wrong
-
-  data_kind_in : (side : Side) (k : ℕ) (bytes : List ℕ) → IsWrongKind (author_of (receiver_of side) In) side (Message.Data k bytes) → ⊥
-  data_kind_in Get k bytes wrong = wrong
-  data_kind_in Put k bytes wrong = wrong
-
-  ack_kind_out : (side : Side) (j : ℕ) → IsWrongKind (author_of (receiver_of side) Out) side (Message.Ack j) → ⊥
-  ack_kind_out Get j wrong = wrong
-  ack_kind_out Put j wrong = wrong
-
-  ack_kind_in : (side : Side) (j : ℕ) → IsWrongKind (author_of (sender_of side) In) side (Message.Ack j) → ⊥
-  ack_kind_in Get j wrong = wrong
-  ack_kind_in Put j wrong = wrong
 
   by_author : (dir : Dir) (e : End) (x : Message) → h.named ≡ e → IsWrongKind (author_of h.named dir) m.side x → IsWrongKind (author_of e dir) m.side x
   by_author dir e x is wrong = subst (λ n. IsWrongKind (author_of n dir) m.side x) is wrong

@@ -6,6 +6,7 @@ pub mod Divided
 pub mod Beginnings
 pub mod FirstBroken
 pub mod FirstRequests
+pub mod FirstAnswered
 pub mod Settled
 pub mod OneMeaning
 pub mod OneMessage
@@ -26,9 +27,12 @@ pub mod Heard
 pub mod Answered
 pub mod Counted
 pub mod Sized
+pub mod Asked
 pub mod Followed
 pub mod Ruled
 pub mod Assembled
+pub mod WhoSends
+pub mod Searches
 pub mod May
 pub mod Seen
 pub mod Same

@@ -36,7 +36,8 @@ use Rattle.tftp_law.proofs.Answering.{answer_of, answer_is, answer_there}
 use Rattle.tftp_law.proofs.FirstRequests.{first_asks}
 use Rattle.tftp_law.proofs.Agreed.{without_fault}
 use Rattle.tftp_law.proofs.Counted.{AllSpelled, transfer_spelled}
-use Rattle.tftp_law.proofs.Settled.{Known, some_same, first_stays, or_new, main_none, main_some, asked_one, first_one, not_both, empty_before, settled}
+use Rattle.tftp_law.proofs.FirstAnswered.{Known, some_same, first_stays, or_new, main_none, main_some, asked_one, first_one, not_both, empty_before}
+use Rattle.tftp_law.proofs.Settled.{settled}
 use Rattle.tftp_law.proofs.Filled.{carried}
 
 -- ---- the first answer

@@ -24,7 +24,8 @@ use Rattle.tftp_ends.specs.declared.terms.Terms.{Terms}
 use Rattle.tftp_law.specs.Fits.{ReadsAs}
 use Rattle.tftp_law.specs.Rules.{Answer, Agrees, Begins, IsAnswer, Answers, FirstAnswer, AreTerms}
 use Rattle.tftp_law.specs.OneEnded.{IsAgreed, IsJoined, Meant}
-use Rattle.tftp_law.proofs.Settled.{Settled, settled, asked_one, first_one, terms_one, last_one}
+use Rattle.tftp_law.proofs.Settled.{Settled, settled, last_one}
+use Rattle.tftp_law.proofs.FirstAnswered.{asked_one, first_one, terms_one}
 
 -- ---- numbers that were agreed are in range
 

@@ -5,12 +5,10 @@ use Rattle.tftp_packet.specs.declared.kinds.End.{End}
 use Rattle.tftp_packet.specs.declared.kinds.End.TheVariants.{Client, Server}
 use Rattle.tftp_ends.specs.CaptureText.{Datagram, Header, PeerId, peer_of}
 use Rattle.tftp_ends.specs.Meaning.{Meaning}
-use Rattle.tftp_ends.specs.OneSide.{IsOneSided}
 use Rattle.tftp_ends.specs.Ports.{goes_out, comes_in, asks, first_of, same_peer}
 use Rattle.tftp_law.specs.Dress.{Division, datagrams_of, view_in, TransferIds, Saying, HavePartsBy, HaveParts, says_of}
 use Rattle.tftp_law.specs.Accord.{AreRoutedBy, AreRouted, Starts}
 use Rattle.tftp_law.proofs.Routed.{named_is}
-use Rattle.tftp_law.proofs.Opening.{starts_of}
 use Rattle.tftp_law.proofs.ClientParts.{ClientIds, parted_at_client}
 use Rattle.tftp_law.proofs.ServerParts.{ServerIds, parted_at_server}
 
@@ -73,5 +71,5 @@ parted h says division routed starts = by h.named refl where
     parted_at_server h.service says (server_ids h.service says division) division (subst (λ (x : Header). AreRoutedBy x says division) (named_is h Server is) routed) (subst (λ x. Starts x (view_in division)) is starts) (server_ids_are h.service says division),
   )
 
-pub parts_of : (h : Header) (m : Meaning) (wire : List ℕ) (division : Division) → AreRouted h m wire division → IsOneSided m wire h.named (view_in division) → (ids : TransferIds) × HaveParts h m wire ids division
-parts_of h m wire division routed own = parted h (says_of m wire) division routed (starts_of m wire h.named (view_in division) own)
+pub parts_of : (h : Header) (m : Meaning) (wire : List ℕ) (division : Division) → AreRouted h m wire division → Starts h.named (view_in division) → (ids : TransferIds) × HaveParts h m wire ids division
+parts_of h m wire division routed starts = parted h (says_of m wire) division routed starts

@@ -15,17 +15,21 @@ use Rattle.tftp_ends.specs.declared.route.Route.{Route}
 use Rattle.tftp_ends.proofs.Members.{contains_none}
 use Rattle.tftp_packet.proofs.NoFault.{no_fault}
 use Rattle.tftp_law.specs.Fits.{Fits}
-use Rattle.tftp_law.specs.Dress.{Part, Main, Stray, StrayAnswer, Division, datagrams_of, view_in, dir_of, packet_of}
-use Rattle.tftp_law.specs.Accord.{Accords, packet_route, part_route, SaysAs, AreRouted}
+use Rattle.tftp_packet.specs.declared.kinds.End.{End}
+use Rattle.tftp_packet.specs.declared.kinds.End.TheVariants.{Client, Server}
+use Rattle.tftp_law.proofs.Unasked.{none_view, starts_before}
+use Rattle.tftp_law.specs.Dress.{says_of, Part, Main, Stray, StrayAnswer, Division, datagrams_of, view_in, dir_of, packet_of}
+use Rattle.tftp_law.specs.Accord.{request_at, Starts, Accords, packet_route, part_route, SaysAs, AreRouted}
 use Rattle.tftp_law.specs.Rules.{FirstAsked, Agrees, Begins, Broken, EndBreaks}
 use Rattle.tftp_law.specs.MessageRules.{MessageBreaks}
 use Rattle.tftp_law.specs.declared.rule.Rule.{Rule}
 use Rattle.tftp_law.specs.OneEnded.{IsRead, Passes, OneEnded}
 use Rattle.tftp_law.proofs.Spelled.{spelled_once}
-use Rattle.tftp_law.proofs.Settled.{first_one, not_both}
+use Rattle.tftp_law.proofs.FirstAnswered.{first_one, not_both}
 use Rattle.tftp_law.proofs.OneMessage.{lawful_by}
 use Rattle.tftp_law.proofs.Heard.{passed_told}
-use Rattle.tftp_law.proofs.Followed.{request_spelled, view_empty, first_deed, deed_keeps, reply_now, wire_blocks}
+use Rattle.tftp_law.proofs.Asked.{request_spelled}
+use Rattle.tftp_law.proofs.Followed.{deed_keeps, reply_now, wire_blocks}
 
 -- ---- where it has no message of the transfer
 
@@ -133,15 +137,19 @@ module _ (h : Header) (m : Meaning) (wire : List ℕ) (fits : Fits m wire) where
   main_of (Data k) = refl
   main_of (Ack j) = refl
 
-  main_lawful : (d : Datagram) (deed : Deed) (earlier : Division) → AreRouted h m wire earlier → IsOneSided m wire h.named (view_in earlier) → IsOneSided m wire h.named (deed ∷ view_in earlier)
+  asks_first : (e : End) → packet_of (request_at e) ≡ Req
+  asks_first Client = refl
+  asks_first Server = refl
+
+  main_lawful : (d : Datagram) (deed : Deed) (earlier : Division) → AreRouted h m wire earlier → IsOneSided m wire h.named (view_in earlier) → IsOneSided m wire h.named (deed ∷ view_in earlier) → Starts h.named (deed ∷ view_in earlier)
       → route_of h (datagrams_of earlier) d ≡ packet_route (packet_of deed) → d.dir ≡ dir_of deed → Spells d.payload (message_of m wire (packet_of deed))
       → (o : Option Datagram) → first_of (asks h) (datagrams_of earlier) ≡ o → (rule : Rule) → Broken h (datagrams_of earlier) d rule → ⊥
-  main_lawful d deed earlier routed own all is way spells (Some was) there =
+  main_lawful d deed earlier routed own all starts is way spells (Some was) there =
       lawful_by h (datagrams_of earlier) d (message_of m wire (packet_of deed)) (request_of m) (ap is_of_transfer is ∙ main_of (packet_of deed)) spells (was, there, request_spelled h m wire earlier routed was there)
       (λ rule b. deed_keeps h m wire fits earlier routed own deed all rule (subst (λ dir. MessageBreaks h (request_of m) (transfer_of h (datagrams_of earlier)) dir (message_of m wire (packet_of deed)) rule) way b))
-  main_lawful d deed earlier routed own all is way spells None there =
-      let empty = view_empty h m wire earlier routed own there in
-      let request : packet_of deed ≡ Req = first_deed h m wire deed (subst (λ v. IsOneSided m wire h.named (deed ∷ v)) empty all) in
+  main_lawful d deed earlier routed own all starts is way spells None there =
+      let empty = none_view h (says_of m wire) earlier routed starts.1 there in
+      let request : packet_of deed ≡ Req = ap packet_of (starts.0.first empty) ∙ asks_first h.named in
       first_lawful h (datagrams_of earlier) d there
       (λ dir x p. let (other, at, way, said) = passed_told h m wire earlier routed dir x p in contains_none other (subst (λ v. Contains v other) empty at))
       (is ∙ ap packet_route request) (request_of m) (subst (λ q. Spells d.payload (message_of m wire q)) request spells)
@@ -151,23 +159,23 @@ module _ (h : Header) (m : Meaning) (wire : List ℕ) (fits : Fits m wire) where
   deed_own (Took p) v all = all.1
 
   part_passes : (d : Datagram) (part : Part) (earlier : Division) → AreRouted h m wire earlier → route_of h (datagrams_of earlier) d ≡ part_route part → SaysAs m wire d part
-      → IsOneSided m wire h.named (view_in (record { datagram = d; part = part } ∷ earlier)) → Passes h (datagrams_of earlier) d × IsOneSided m wire h.named (view_in earlier)
-  part_passes d (Main deed) earlier routed is says all =
+      → IsOneSided m wire h.named (view_in (record { datagram = d; part = part } ∷ earlier)) → Starts h.named (view_in (record { datagram = d; part = part } ∷ earlier)) → Passes h (datagrams_of earlier) d × IsOneSided m wire h.named (view_in earlier)
+  part_passes d (Main deed) earlier routed is says all starts =
       let own = deed_own deed (view_in earlier) all in (
         record {
           read = subst (λ r. IsRead r d) (sym is) (main_read (packet_of deed) d says.1);
-          lawful = main_lawful d deed earlier routed own all is says.0 says.1 (first_of (asks h) (datagrams_of earlier)) refl;
+          lawful = main_lawful d deed earlier routed own all starts is says.0 says.1 (first_of (asks h) (datagrams_of earlier)) refl;
         },
         own,
       )
-  part_passes d Stray earlier routed is says all = (stray_passes h (datagrams_of earlier) d is, all)
-  part_passes d StrayAnswer earlier routed is says all = (answer_passes h (datagrams_of earlier) d is says, all)
+  part_passes d Stray earlier routed is says all starts = (stray_passes h (datagrams_of earlier) d is, all)
+  part_passes d StrayAnswer earlier routed is says all starts = (answer_passes h (datagrams_of earlier) d is says, all)
 
-  pub ruled : (division : Division) → AreRouted h m wire division → IsOneSided m wire h.named (view_in division) → OneEnded h (datagrams_of division)
-  ruled [] routed own = tt
-  ruled (p ∷ earlier) routed own =
-      let (passes, before) = part_passes p.datagram p.part earlier routed.2 routed.0 routed.1 own in
-      (passes, ruled earlier routed.2 before)
+  pub ruled : (division : Division) → AreRouted h m wire division → IsOneSided m wire h.named (view_in division) → Starts h.named (view_in division) → OneEnded h (datagrams_of division)
+  ruled [] routed own starts = tt
+  ruled (p ∷ earlier) routed own starts =
+      let (passes, before) = part_passes p.datagram p.part earlier routed.2 routed.0 routed.1 own starts in
+      (passes, ruled earlier routed.2 before (starts_before h.named p.datagram p.part earlier starts))
 
   request_same : (a b : RequestParts) → Message.Request a ≡ Message.Request b → a ≡ b
   request_same a b e = cc

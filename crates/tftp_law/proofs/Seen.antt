@@ -20,14 +20,16 @@ use Rattle.tftp_ends.specs.Ports.{goes_out, comes_in, begins_request, begins_err
 use Rattle.tftp_ends.specs.Rules.{HasPassed}
 use Rattle.tftp_ends.specs.declared.route.Route.{Route}
 use Rattle.tftp_ends.proofs.Members.{contains_first, contains_later, contains_none}
-use Rattle.tftp_law.specs.Dress.{Part, Main, Stray, StrayAnswer, Division, datagrams_of, view_in}
+use Rattle.tftp_law.proofs.Opening.{starts_of}
+use Rattle.tftp_law.proofs.Unasked.{none_view}
+use Rattle.tftp_law.specs.Dress.{says_of, Part, Main, Stray, StrayAnswer, Division, datagrams_of, view_in}
 use Rattle.tftp_law.specs.Accord.{Accords, part_route, SaysAs, AreRouted}
 use Rattle.tftp_law.specs.Rules.{FirstAsked, Answer, Agrees, Begins, FirstAnswer}
 use Rattle.tftp_law.specs.declared.rule.Rule.{Rule}
 use Rattle.tftp_law.specs.OneEnded.{IsRead, Passes, OneEnded}
 use Rattle.tftp_law.proofs.FirstRequests.{begins_asked, or_some, asks_is, asks_route, first_spells}
-use Rattle.tftp_law.proofs.Settled.{first_stays}
-use Rattle.tftp_law.proofs.Followed.{request_spelled, view_empty}
+use Rattle.tftp_law.proofs.FirstAnswered.{first_stays}
+use Rattle.tftp_law.proofs.Asked.{request_spelled}
 use Rattle.tftp_law.proofs.May.{of_wire, may_send_data, may_come_data, may_send_ack, may_come_ack, agreed_now, may_send_oack, may_come_oack, asked_now, may_send_request, may_come_request}
 
 -- ---- routes, read backwards
@@ -289,7 +291,7 @@ module _ (h : Header) (m : Meaning) (wire : List ℕ) where
       now_asked r t = (d, ap (λ o. or_this o (asks h d) d) none ∙ ap (λ b. or_this None b d) asks_now, t)
 
       empty : view_in division ≡ []
-      empty = view_empty h m wire division routed own none
+      empty = none_view h (says_of m wire) division routed (starts_of m wire h.named (view_in division) own) none
 
       place_first : (dir : Dir) → d.dir ≡ dir → Placing
       place_first dir way =

@@ -7,12 +7,13 @@ use Rattle.tftp_ends.specs.OneSide.{IsOneSided}
 use Rattle.tftp_ends.proofs.OneSided.{one_sided_view}
 use Rattle.tftp_law.specs.Law.{IsSeen, IsLawful, ShowsBy, Shows}
 use Rattle.tftp_law.specs.Dress.{Division, datagrams_of, view_in}
-use Rattle.tftp_law.specs.Accord.{Accords, AreRouted}
+use Rattle.tftp_law.specs.Accord.{Starts, Accords, AreRouted}
 use Rattle.tftp_law.specs.OneEnded.{OneEnded, IsEnded, Meant}
 use Rattle.tftp_law.specs.Divides.{Divides}
 use Rattle.tftp_law.proofs.OneMeaning.{one_meaning}
 use Rattle.tftp_law.proofs.Made.{some_accord}
 use Rattle.tftp_law.proofs.Seen.{divides}
+use Rattle.tftp_law.proofs.Opening.{starts_of}
 use Rattle.tftp_law.proofs.Parted.{parts_of}
 use Rattle.tftp_law.proofs.OneDivision.{run_divides}
 use Rattle.tftp_law.proofs.Completed.{completed}
@@ -27,15 +28,16 @@ record Divided (h : Header) (m : Meaning) (wire : List ℕ) (earlier : List Data
   same : datagrams_of division ≡ earlier
   routed : AreRouted h m wire division
   own : IsOneSided m wire h.named (view_in division)
+  starts : Starts h.named (view_in division)
 
 divided : (h : Header) (m : Meaning) (wire : List ℕ) (earlier : List Datagram) → OneEnded h earlier → Accords h m wire earlier → Divided h m wire earlier
 divided h m wire earlier lawful acc =
     let (division, same, routed, own) = divides h m wire earlier lawful acc in
-    record { division = division; same = same; routed = routed; own = own }
+    record { division = division; same = same; routed = routed; own = own; starts = starts_of m wire h.named (view_in division) own }
 
 seen_by : (h : Header) (m : Meaning) (wire : List ℕ) (datagrams : List Datagram) → Accords h m wire (reverse datagrams) → Divided h m wire (reverse datagrams) → IsSeen h m wire datagrams
 seen_by h m wire datagrams acc x =
-    let p = parts_of h m wire x.division x.routed x.own in
+    let p = parts_of h m wire x.division x.routed x.starts in
     record {
       fits = acc.fits;
       view = view_in x.division;
@@ -60,7 +62,7 @@ pub divides_by_rules : (h : Header) (earlier : List Datagram) → OneEnded h ear
 divides_by_rules h earlier lawful =
     let (m, wire, acc) = some h earlier lawful in
     let x = divided h m wire earlier lawful acc in
-    let p = parts_of h m wire x.division x.routed x.own in
+    let p = parts_of h m wire x.division x.routed x.starts in
     let run = run_divides h m wire p.0 x.division p.1 x.own in
     record { division = x.division; whole = x.same; starts = run.1; ids = p.0; parts = run.0 }
 

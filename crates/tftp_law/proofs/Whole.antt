@@ -18,17 +18,19 @@ use Rattle.tftp_ends.specs.declared.terms.Reply.TheVariants.{NoReply}
 use Rattle.tftp_ends.specs.declared.terms.Terms.{Terms}
 use Rattle.tftp_ends.proofs.Members.{contains_none}
 use Rattle.tftp_law.specs.Fits.{Fits}
-use Rattle.tftp_law.specs.Dress.{Division, datagrams_of, view_in}
-use Rattle.tftp_law.specs.Accord.{AreRouted}
+use Rattle.tftp_law.specs.Dress.{says_of, Division, datagrams_of, view_in}
+use Rattle.tftp_law.specs.Accord.{Starts, AreRouted}
 use Rattle.tftp_law.specs.Rules.{FirstAsked, Agrees, Begins, NotAnswered, plain_terms, terms_after}
 use Rattle.tftp_law.specs.OneEnded.{IsAgreed, IsJoined, Meant}
-use Rattle.tftp_law.proofs.Settled.{Known, first_one, not_both}
+use Rattle.tftp_law.proofs.FirstAnswered.{Known, first_one, not_both}
 use Rattle.tftp_law.proofs.Joined.{last_block}
 use Rattle.tftp_law.proofs.Heard.{told_passed}
 use Rattle.tftp_law.proofs.Answered.{sent_data, took_data}
-use Rattle.tftp_law.proofs.Followed.{request_spelled, view_empty, reply_now, wire_blocks, state, named_is, side_is, numbers, plain_yet, begun_out, begun_in}
+use Rattle.tftp_law.proofs.Asked.{request_spelled}
+use Rattle.tftp_law.proofs.Followed.{reply_now, wire_blocks, state, named_is, side_is, numbers, plain_yet, begun_out, begun_in}
 use Rattle.tftp_law.proofs.Moments.{sent_below, acknowledged_was_sent}
 use Rattle.tftp_law.proofs.Ruled.{ruled}
+use Rattle.tftp_law.proofs.Unasked.{none_view}
 
 two_parts : (side : Side) → sender_of side ≡ receiver_of side → ⊥
 two_parts Get e = cc
@@ -41,7 +43,7 @@ which_part Server Get = inl refl
 which_part Server Put = inr refl
 
 module _ (h : Header) (m : Meaning) (wire : List ℕ) (fits : Fits m wire)
-    (division : Division) (routed : AreRouted h m wire division) (own : IsOneSided m wire h.named (view_in division)) (complete : IsComplete m wire h.named (view_in division)) where
+    (division : Division) (routed : AreRouted h m wire division) (own : IsOneSided m wire h.named (view_in division)) (starts : Starts h.named (view_in division)) (complete : IsComplete m wire h.named (view_in division)) where
   abbrev ds : List Datagram
   ds = datagrams_of division
 
@@ -93,7 +95,7 @@ module _ (h : Header) (m : Meaning) (wire : List ℕ) (fits : Fits m wire)
   asked_by : (o : Option Datagram) → first_of (asks h) ds ≡ o → FirstAsked h ds (request_of m)
   asked_by (Some was) is = (was, is, request_spelled h m wire division routed was is)
   asked_by None is =
-      let empty = view_empty h m wire division routed own is in
+      let empty = none_view h (says_of m wire) division routed starts is in
       absurd (elim ends [
         | inl x ↦ contains_none (Took (Ack n)) (subst (λ v. HasTaken v (Ack n)) empty x.1)
         | inr x ↦ contains_none (Took (Data n)) (subst (λ v. HasTaken v (Data n)) empty x.1)
@@ -114,7 +116,7 @@ module _ (h : Header) (m : Meaning) (wire : List ℕ) (fits : Fits m wire)
       let short : length (block (blksize_of m) wire n) < t.blksize = subst (λ b. length (block (blksize_of m) wire n) < b) (sym nu.blksize) (last_block (blksize_of m) n wire some refl) in
       record {
         ended = record {
-          lawful = ruled h m wire fits division routed own;
+          lawful = ruled h m wire fits division routed own starts;
           terms = t;
           known = (request_of m, asked, known);
           last = n;
