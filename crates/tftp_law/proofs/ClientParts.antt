@@ -10,10 +10,11 @@ use Rattle.tftp_ends.specs.Ports.{goes_out, comes_in, begins_request, asks, firs
 use Rattle.tftp_ends.specs.declared.route.Route.{Route}
 use Rattle.tftp_law.specs.Dress.{Part, Main, Stray, StrayAnswer, Placed, Division, datagrams_of, view_in, dir_of, packet_of, TransferIds, Saying, Carries, ComesAstray, AnswersStray, HasPartBy, HavePartsBy, IsMain}
 use Rattle.tftp_law.specs.Accord.{packet_route, part_route, SaysAsBy, AreRoutedBy, Stands, Starts}
-use Rattle.tftp_law.proofs.FirstRequests.{asks_is}
-use Rattle.tftp_law.proofs.RouteTests.{in_true, two_ways, stays, any_none, any_cases, any_first, any_later}
+use Rattle.tftp_law.proofs.FirstRequests.{asks_is, first_stays}
+use Rattle.tftp_law.proofs.RouteTests.{in_true, two_ways}
 use Rattle.tftp_law.proofs.RoutesBack.{dir_out, dir_in, came_dir, this_one, first_any, map_some, map_none, c_request, c_peer, c_stray, c_answer, no_stray_before}
 use Rattle.tftp_law.proofs.Unasked.{one, starts_before, none_view, stray_from}
+use Rattle.tftp_law.proofs.Divided.{any_none, any_cases, any_first, any_later}
 
 -- ---- at the client
 
@@ -27,7 +28,7 @@ module _ (service : ℕ) (says : Saying) (ids : TransferIds) where
     pub peer : (x : Datagram) → first_of comes_in ds ≡ Some x → peer_of x ≡ ids.peer
 
   client_ids_before : (d : Datagram) (ds : List Datagram) → ClientIds (d ∷ ds) → ClientIds ds
-  client_ids_before d ds are = record { own = λ first e. are.own first (stays (asks ch) d ds first e); peer = λ x e. are.peer x (stays comes_in d ds x e) }
+  client_ids_before d ds are = record { own = λ first e. are.own first (first_stays (asks ch) d first ds e); peer = λ x e. are.peer x (first_stays comes_in d x ds e) }
 
   abbrev CameIn : Placed → Type 0
   CameIn p = p.datagram.dir ≡ In

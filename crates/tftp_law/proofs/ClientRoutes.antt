@@ -10,7 +10,9 @@ use Rattle.tftp_ends.specs.Ports.{goes_out, comes_in, begins_request, begins_err
 use Rattle.tftp_ends.specs.declared.route.Route.{Route}
 use Rattle.tftp_law.specs.Dress.{Part, Main, Stray, StrayAnswer, Placed, Division, datagrams_of, view_in, packet_of, TransferIds, Saying, Carries, ComesAstray, AnswersStray, HasPartBy, HavePartsBy, IsMain, HasServerId}
 use Rattle.tftp_law.specs.Accord.{packet_route, part_route, SaysAsBy, AreRoutedBy, Starts}
-use Rattle.tftp_law.proofs.RouteTests.{same_true, out_true, in_false, in_true, out_false, error_begins, or_some, two_ways, stays, now, any_none, any_cases, any_first, any_later, same_is, other_peer, IsTold}
+use Rattle.tftp_law.proofs.RouteTests.{same_true, out_true, in_false, in_true, out_false, error_begins, two_ways, now, same_is, other_peer, IsTold}
+use Rattle.tftp_law.proofs.Divided.{any_none, any_cases, any_first, any_later}
+use Rattle.tftp_law.proofs.FirstRequests.{or_some, first_stays}
 
 -- ---- routes at the client
 
@@ -66,7 +68,7 @@ module _ (service : ℕ) (says : Saying) (told : IsTold says) (ids : TransferIds
   some_in [] any = absurd (any_none (λ (p : Placed). p.datagram.dir ≡ In) any)
   some_in (p ∷ earlier) any = elim (any_cases (λ (p : Placed). p.datagram.dir ≡ In) p earlier any) [
     | inl way ↦ now comes_in p.datagram (datagrams_of earlier) (in_true p.datagram way)
-    | inr before ↦ let found = some_in earlier before in (found.0, stays comes_in p.datagram (datagrams_of earlier) found.0 found.1)
+    | inr before ↦ let found = some_in earlier before in (found.0, first_stays comes_in p.datagram found.0 (datagrams_of earlier) found.1)
   ]
 
   abbrev MainIn : Placed → Type 0
@@ -111,7 +113,7 @@ module _ (service : ℕ) (says : Saying) (told : IsTold says) (ids : TransferIds
 
   asked_later : (d : Datagram) (earlier : Division) → Asked earlier → (x : Datagram) × (first_of (asks here) (d ∷ datagrams_of earlier) ≡ Some x)
   unfolding Asked
-  asked_later d earlier found = (found.0, stays (asks here) d (datagrams_of earlier) found.0 found.1)
+  asked_later d earlier found = (found.0, first_stays (asks here) d found.0 (datagrams_of earlier) found.1)
 
   asked_step : (d : Datagram) (part : Part) (earlier : Division) → HasPartBy here says ids earlier d part → Starts Client (view_in (record { datagram = d; part = part } ∷ earlier))
       → (v : History) → view_in earlier ≡ v → ((last : Deed) (rest : History) → view_in earlier ≡ last ∷ rest → Asked earlier)

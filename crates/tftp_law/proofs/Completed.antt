@@ -15,11 +15,12 @@ use Rattle.tftp_law.specs.Dress.{Division, datagrams_of, view_in}
 use Rattle.tftp_law.specs.Accord.{Accords, AreRouted}
 use Rattle.tftp_law.specs.Rules.{NotAnswered}
 use Rattle.tftp_law.specs.OneEnded.{IsEnded}
-use Rattle.tftp_law.proofs.FirstAnswered.{Known, not_both}
+use Rattle.tftp_law.proofs.FirstAnswered.{not_both}
 use Rattle.tftp_law.proofs.Settled.{settled}
 use Rattle.tftp_law.proofs.Heard.{block_came, ack_went, ack_came_in}
 use Rattle.tftp_law.proofs.Followed.{State, state, named_is, side_is, numbers, few, as_blocks}
 use Rattle.tftp_law.proofs.Sized.{the_last}
+use Rattle.tftp_law.specs.MessageRules.{AreTermsAfter}
 
 module _ (h : Header) (m : Meaning) (wire : List ℕ)
     (division : Division) (routed : AreRouted h m wire division) (own : IsOneSided m wire h.named (view_in division))
@@ -36,8 +37,8 @@ module _ (h : Header) (m : Meaning) (wire : List ℕ)
   request : ended.known.0 ≡ request_of m
   request = acc.asked ended.known.0 ended.known.1
 
-  known : Known h (request_of m) through t
-  known = subst (λ r. Known h r through t) request ended.known.2
+  known : AreTermsAfter h (request_of m) through t
+  known = subst (λ r. AreTermsAfter h r through t) request ended.known.2
 
   st : State h m wire acc.fits division routed own t
   st = state h m wire acc.fits division routed own t known

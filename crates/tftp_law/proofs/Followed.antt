@@ -28,10 +28,10 @@ use Rattle.tftp_law.specs.Fits.{Fits}
 use Rattle.tftp_law.specs.Dress.{Division, datagrams_of, view_in, dir_of, packet_of}
 use Rattle.tftp_law.specs.Accord.{AreRouted}
 use Rattle.tftp_law.specs.Rules.{Answer, Agrees, Begins, NotAnswered, FirstAnswer, plain_terms, terms_after, IsWrongKind}
-use Rattle.tftp_law.specs.MessageRules.{RequestBreaks, OackBreaks, TermsBreak, MessageBreaks}
+use Rattle.tftp_law.specs.MessageRules.{RequestBreaks, OackBreaks, TermsBreak, MessageBreaks, AreTermsAfter}
 use Rattle.tftp_law.specs.declared.rule.Rule.{Rule}
 use Rattle.tftp_law.proofs.Agreed.{no_agreement_fault}
-use Rattle.tftp_law.proofs.FirstAnswered.{Known, first_one, not_both as answered_not}
+use Rattle.tftp_law.proofs.FirstAnswered.{first_one, not_both as answered_not}
 use Rattle.tftp_law.proofs.Made.{answer_spelled, from_eight, size_is}
 use Rattle.tftp_law.proofs.Sized.{not_beyond, not_misfit, not_changed}
 use Rattle.tftp_law.proofs.Heard.{Told as Heard, passed_told, told_passed, data_only, block_sent, ack_went, sent_block, not_both, ack_not_ahead_in, ack_not_ahead_out, within_window_in}
@@ -57,7 +57,7 @@ module _ (h : Header) (m : Meaning) (wire : List ℕ) (fits : Fits m wire)
       ⊎ ((SomethingAgreed m × FirstAnswer m.side through (Agrees m.agreed) × (t ≡ terms_after h (request_of m) (Agrees m.agreed)))
       ⊎ (NothingAgreed m × (t ≡ plain_terms h m.side Plain)))
 
-  pub state : (t : Terms) → Known h (request_of m) through t → State t
+  pub state : (t : Terms) → AreTermsAfter h (request_of m) through t → State t
   state t (inl none) = inl none
   state t (inr (a, first, is)) = elim (reply_is h m wire division routed own) [
     | inl none ↦ absurd (answered_not m.side through a none first)

@@ -33,12 +33,13 @@ use Rattle.tftp_law.specs.OneEnded.{Passes, OneEnded}
 use Rattle.tftp_law.specs.Accord.{Accords}
 use Rattle.tftp_law.proofs.Spelled.{spelled_once}
 use Rattle.tftp_law.proofs.Answering.{answer_of, answer_is, answer_there}
-use Rattle.tftp_law.proofs.FirstRequests.{first_asks}
+use Rattle.tftp_law.proofs.FirstRequests.{first_asks, some_same, first_stays, asked_once, none_before}
 use Rattle.tftp_law.proofs.Agreed.{without_fault}
 use Rattle.tftp_law.proofs.Counted.{AllSpelled, transfer_spelled}
-use Rattle.tftp_law.proofs.FirstAnswered.{Known, some_same, first_stays, or_new, main_none, main_some, asked_one, first_one, not_both, empty_before}
+use Rattle.tftp_law.proofs.FirstAnswered.{or_new, main_none, main_some, first_one, not_both}
 use Rattle.tftp_law.proofs.Settled.{settled}
 use Rattle.tftp_law.proofs.Filled.{carried}
+use Rattle.tftp_law.specs.MessageRules.{AreTermsAfter}
 
 -- ---- the first answer
 
@@ -109,7 +110,7 @@ module _ (h : Header) where
   may_step earlier d passes lawful asked first options before (Some was) is false main answer =
       before (same_first earlier d asked was is first) (subst (λ ds. FirstAnswer asked.side ds (Agrees options)) (main_none (is_of_transfer (route_of h earlier d)) d (transfer_of h earlier) main) answer)
   may_step earlier d passes lawful asked first options before None is true main answer =
-      let more = main_some (is_of_transfer (route_of h earlier d)) d (transfer_of h earlier) main ∙ ap (λ ds. d ∷ ds) (empty_before h earlier lawful is) in
+      let more = main_some (is_of_transfer (route_of h earlier d)) d (transfer_of h earlier) main ∙ ap (λ ds. d ∷ ds) (none_before h earlier is lawful) in
       let request : d ≡ first.0 = or_new (asks h d) d first.0 (sym (ap (λ o. or_this o (asks h d) d) is) ∙ first.1) in
       let s : Spells d.payload (Message.Request asked) = subst (λ (x : Datagram). Spells x.payload (Message.Request asked)) (sym request) first.2 in
       elim (subst (λ ds. FirstAnswer asked.side ds (Agrees options)) more answer) [
@@ -117,7 +118,7 @@ module _ (h : Header) where
         | inr now ↦ let e : Message.Request asked ≡ Message.Oack options = spelled_once d.payload (Message.Request asked) (Message.Oack options) s (oack_spelled asked.side d options now.1) in absurd (cc)
       ]
   may_step earlier d passes lawful asked first options before None is false main answer =
-      absurd (subst (λ ds. FirstAnswer asked.side ds (Agrees options)) (main_none (is_of_transfer (route_of h earlier d)) d (transfer_of h earlier) main ∙ empty_before h earlier lawful is) answer)
+      absurd (subst (λ ds. FirstAnswer asked.side ds (Agrees options)) (main_none (is_of_transfer (route_of h earlier d)) d (transfer_of h earlier) main ∙ none_before h earlier is lawful) answer)
 
   pub may_be_agreed : (earlier : List Datagram) → OneEnded h earlier → (asked : RequestParts) → FirstAsked h earlier asked → (options : OptionMap)
       → FirstAnswer asked.side (transfer_of h earlier) (Agrees options) → MayAgree asked options
@@ -171,7 +172,7 @@ answer_spelled side (d ∷ passed) options first = elim first [ inl before ↦ a
 
 -- what is agreed, beside the terms that are known
 record IsAgreedWith (h : Header) (earlier : List Datagram) (asked : RequestParts) (t : Terms) (agreed : OptionMap) : Type 0 where
-  pub known : Known h asked (transfer_of h earlier) t
+  pub known : AreTermsAfter h asked (transfer_of h earlier) t
   pub may : MayAgree asked agreed
   pub some : 0 < t.blksize
   pub same : t.blksize ≡ option_or 512 agreed (codes "blksize")
@@ -203,7 +204,7 @@ made h earlier lawful asked first t agreed a =
           size = λ octet size get. c.size size (a.sized octet size get);
           numbered = subst (λ b. block_count b wire ≤ 65535) a.same c.numbered;
         };
-        asked = λ other also. asked_one h earlier other asked also first;
+        asked = λ other also. asked_once h earlier other asked also first;
         oacked = a.oacked;
         plain = a.plain;
         blocks = λ k bytes p. subst (λ b. (k ≤ block_count b wire) × (bytes ≡ block b wire k)) a.same (c.blocks k bytes p);
@@ -211,7 +212,7 @@ made h earlier lawful asked first t agreed a =
     )
 
 -- with nothing agreed
-plainly : (h : Header) (earlier : List Datagram) (asked : RequestParts) (t : Terms) → Known h asked (transfer_of h earlier) t → t.blksize ≡ 512 → t.size ≡ None
+plainly : (h : Header) (earlier : List Datagram) (asked : RequestParts) (t : Terms) → AreTermsAfter h asked (transfer_of h earlier) t → t.blksize ≡ 512 → t.size ≡ None
     → ((options : OptionMap) → FirstAnswer asked.side (transfer_of h earlier) (Agrees options) → ⊥) → IsAgreedWith h earlier asked t no_options
 plainly h earlier asked t known usual unsized none = record {
   known = known;
@@ -259,7 +260,7 @@ empty = record { side = Get; name = []; mode = Octet; requested = no_options; ag
 
 of_none : (h : Header) (earlier : List Datagram) → OneEnded h earlier → first_of (asks h) earlier ≡ None → Some_accord h earlier
 of_none h earlier lawful none =
-    let nothing = empty_before h earlier lawful none in (
+    let nothing = none_before h earlier none lawful in (
       empty,
       [],
       record {

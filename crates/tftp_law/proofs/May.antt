@@ -28,12 +28,13 @@ use Rattle.tftp_law.specs.Rules.{FirstAsked, Agrees, Begins, IsAnswer, NotAnswer
 use Rattle.tftp_law.specs.declared.rule.Rule.{Rule}
 use Rattle.tftp_law.specs.OneEnded.{Passes, OneEnded}
 use Rattle.tftp_law.proofs.Counted.{AllSpelled, transfer_spelled, top_of, answered_of, acked_of, front_of}
-use Rattle.tftp_law.proofs.FirstAnswered.{Known, main_some}
+use Rattle.tftp_law.proofs.FirstAnswered.{main_some}
 use Rattle.tftp_law.proofs.Heard.{Told as Heard, passed_told, told_passed, block_sent, ack_went, block_came, ack_came_in, sent_block}
 use Rattle.tftp_law.proofs.Followed.{reply_now, numbers, state, sends, takes, begun_out, begun_in, plain_yet}
 use Rattle.tftp_law.proofs.Moments.{who_sent_ack, who_took_ack, who_sent_data, who_took_data, who_sent_oack, who_took_oack, who_sent_request, who_took_request, sent_below, sent_in_window, acknowledged_was_sent}
 use Rattle.tftp_law.proofs.WhoSends.{data_out_who, data_in_who, ack_out_who, ack_in_who, oack_out_who, oack_in_who, request_out_who, request_in_who, two_parts, two_ends}
 use Rattle.tftp_law.proofs.Searches.{has_ack_zero, has_data, oack_from, zero_from}
+use Rattle.tftp_law.specs.MessageRules.{AreTermsAfter}
 
 -- ---- one datagram more
 
@@ -59,7 +60,7 @@ module _ (h : Header) (m : Meaning) (wire : List ℕ)
   says : (x : Message) → Spells d.payload x → Says h ds d x
   says x s = record { routed = main; spells = s }
 
-  breaks : (t : Terms) → Known h (request_of m) through t → (x : Message) → Spells d.payload x → (rule : EndRule) → EndBroken t through x rule → EndBreaks h ds d rule
+  breaks : (t : Terms) → AreTermsAfter h (request_of m) through t → (x : Message) → Spells d.payload x → (rule : EndRule) → EndBroken t through x rule → EndBreaks h ds d rule
   breaks t known x s rule broken = record { terms = t; known = (request_of m, first, known); message = x; says = says x s; broken = broken }
 
   right : (x : Message) → Spells d.payload x → (dir : Dir) → d.dir ≡ dir → IsWrongKind (author_of h.named dir) m.side x → ⊥
@@ -98,7 +99,7 @@ module _ (h : Header) (m : Meaning) (wire : List ℕ)
   t0 : Terms
   t0 = plain_terms h m.side NoReply
 
-  pick : (t : Terms) × Known h (request_of m) through t
+  pick : (t : Terms) × AreTermsAfter h (request_of m) through t
   pick = elim (reply_now h m wire acc.fits division routed own) [
     | inl none ↦ (plain_terms h m.side NoReply, inl (none, refl))
     | inr some ↦ elim some [
@@ -125,7 +126,7 @@ module _ (h : Header) (m : Meaning) (wire : List ℕ)
       | inr some ↦ omega (arith, some)
     ]
 
-    waits : (t : Terms) → Known h (request_of m) through t → BlocksWait t.side t.reply through → ⊥
+    waits : (t : Terms) → AreTermsAfter h (request_of m) through t → BlocksWait t.side t.reply through → ⊥
     waits t known wait = passes.lawful Rule.NotStarted (breaks t known (Message.Data k bytes) s EndRule.NotStarted wait)
 
     data_begins : (side : Side) → m.side ≡ side → side ≡ Get → IsAnswer m.side (Message.Data k bytes) Begins
@@ -278,7 +279,7 @@ module _ (h : Header) (m : Meaning) (wire : List ℕ)
   -- ---- ACKs
 
   module _ (j : ℕ) (s : Spells d.payload (Message.Ack j)) where
-    zero_waits : (t : Terms) → Known h (request_of m) through t → j ≡ 0 → AckZeroWaits t.side t.reply through → ⊥
+    zero_waits : (t : Terms) → AreTermsAfter h (request_of m) through t → j ≡ 0 → AckZeroWaits t.side t.reply through → ⊥
     zero_waits t known none wait = passes.lawful Rule.AckZero (breaks t known (Message.Ack j) s EndRule.AckZero (none, wait))
 
     ack_begins : m.side ≡ Put → j ≡ 0 → IsAnswer m.side (Message.Ack j) Begins

@@ -1,5 +1,5 @@
 -- The tests by which a route is computed: when they hold.
-use Rattle.std.proofs.Common.{◌≡◌, ◌⊎◌, ℕ, zero, suc, Bool, true, false, List, [], ◌∷◌, Option, Some, None, Any, inl, inr, refl, sym, subst, ap, ◌∙◌, arith}
+use Rattle.std.proofs.Common.{◌≡◌, ◌⊎◌, ℕ, Bool, true, false, List, ◌∷◌, Option, Some, None, inl, inr, refl, sym, subst, ap, ◌∙◌}
 use Rattle.std.specs.Prelude.{◌||◌, ◌==◌}
 use Rattle.std.proofs.lemmas.Bool.{false≢true, eqb-true, eq-eqb, false_from_ne_true}
 use Rattle.tftp_packet.specs.Message.{Message, RequestParts}
@@ -13,6 +13,7 @@ use Rattle.tftp_ends.specs.Meaning.{Meaning}
 use Rattle.tftp_ends.specs.Machines.{MachinePacket, Req, Oack, Data, Ack, message_of}
 use Rattle.tftp_ends.specs.Ports.{goes_out, comes_in, begins_request, begins_error, first_of, or_this, same_peer}
 use Rattle.tftp_law.specs.Dress.{Saying}
+use Rattle.tftp_law.proofs.FirstRequests.{first_stays}
 
 -- ---- tests that hold
 
@@ -54,38 +55,16 @@ error_begins d code text (b, (x, y, pair, string, is)) = (
 
 -- ---- the first that passes a test
 
-pub or_some : (o : Option Datagram) (b : Bool) (d x : Datagram) → or_this o b d ≡ Some x → (o ≡ Some x) ⊎ ((o ≡ None) × (b ≡ true) × (d ≡ x))
-or_some (Some y) b d x e = inl e
-or_some None true d x e = inr (refl, refl, cc)
-or_some None false d x e = absurd (cc)
-
 pub two_ways : (o : Option Datagram) → (o ≡ None) ⊎ ((x : Datagram) × (o ≡ Some x))
 two_ways None = inl refl
 two_ways (Some x) = inr (x, refl)
 
 module _ (test : Datagram → Bool) where
-  pub stays : (d : Datagram) (ds : List Datagram) (x : Datagram) → first_of test ds ≡ Some x → first_of test (d ∷ ds) ≡ Some x
-  stays d ds x is = ap (λ o. or_this o (test d) d) is
-
   pub now : (d : Datagram) (ds : List Datagram) → test d ≡ true → (x : Datagram) × (first_of test (d ∷ ds) ≡ Some x)
   now d ds t = elim (two_ways (first_of test ds)) [
     | inl none ↦ (d, ap (λ o. or_this o (test d) d) none ∙ ap (λ b. or_this None b d) t)
-    | inr some ↦ (some.0, stays d ds some.0 some.1)
+    | inr some ↦ (some.0, first_stays test d some.0 ds some.1)
   ]
-
-module _ {X : Type 0} where
-  pub any_none : (P : X → Type 0) → Any P [] → ⊥
-  any_none P (k, x, low, at, holds) = absurd (omega arith)
-
-  pub any_cases : (P : X → Type 0) (y : X) (ys : List X) → Any P (y ∷ ys) → P y ⊎ Any P ys
-  any_cases P y ys (zero, x, low, at, holds) = inl (subst P (sym at) holds)
-  any_cases P y ys (suc k, x, low, at, holds) = inr (k, x, omega arith, at, holds)
-
-  pub any_first : (P : X → Type 0) (y : X) (ys : List X) → P y → Any P (y ∷ ys)
-  any_first P y ys holds = (0, y, omega arith, refl, holds)
-
-  pub any_later : (P : X → Type 0) (y : X) (ys : List X) → Any P ys → Any P (y ∷ ys)
-  any_later P y ys (k, x, low, at, holds) = (suc k, x, omega arith, at, holds)
 
 -- ---- peers: the same exactly if they are equal
 

@@ -8,13 +8,14 @@ use Rattle.tftp_packet.specs.declared.kinds.Dir.{Dir}
 use Rattle.tftp_packet.specs.declared.kinds.Dir.TheVariants.{In, Out}
 use Rattle.tftp_packet.specs.Faults.{opcode_of}
 use Rattle.tftp_ends.specs.CaptureText.{Datagram, Header, PeerId, peer_of}
-use Rattle.tftp_ends.specs.Ports.{goes_out, comes_in, begins_request, begins_error, is_from_client, port_of_server, asks, first_of, or_this, has_come_from, same_peer, route_out, route_at_client, route_to_service, route_at_server, route_before, route_after, route_of}
+use Rattle.tftp_ends.specs.Ports.{goes_out, comes_in, begins_request, begins_error, is_from_client, port_of_server, asks, first_of, or_this, has_come_from, same_peer, route_out, route_at_client, route_to_service, route_at_server, route_after, route_of}
 use Rattle.tftp_ends.specs.declared.route.Route.{Route}
 use Rattle.tftp_law.specs.Dress.{Placed, Division, datagrams_of, dir_of}
 use Rattle.tftp_law.specs.Sides.{BeginsAsRequest}
 use Rattle.tftp_law.specs.Accord.{request_at}
-use Rattle.tftp_law.proofs.FirstRequests.{asks_is}
-use Rattle.tftp_law.proofs.RouteTests.{out_true, in_false, out_false, or_some, two_ways, any_first, any_later, is_same, apart_is}
+use Rattle.tftp_law.proofs.FirstRequests.{asks_is, or_some, before_is}
+use Rattle.tftp_law.proofs.RouteTests.{out_true, in_false, out_false, two_ways, is_same, apart_is}
+use Rattle.tftp_law.proofs.Divided.{any_first, any_later}
 
 -- ---- tests
 
@@ -286,12 +287,9 @@ module _ (h : Header) (ds : List Datagram) (d : Datagram) where
     ]
   ]
 
-  before_is : first_of (asks h) ds ≡ None → route_of h ds d ≡ route_before h d
-  before_is none = rw none refl
-
   -- before the first request nothing is a stray, nor an answer to one
   pub no_stray_before : (r : Route) → (Route.Request ≡ r → ⊥) → (Route.WrongPort ≡ r → ⊥) → (Route.Peer ≡ r → ⊥) → first_of (asks h) ds ≡ None → route_of h ds d ≡ r → ⊥
-  no_stray_before r q w p none is = before_rest _ _ r q w p (sym (before_is none) ∙ is)
+  no_stray_before r q w p none is = before_rest _ _ r q w p (sym (before_is h ds d none) ∙ is)
 
 -- what has the request's route comes from the client and begins as a request
 from_way : (e : End) (d : Datagram) → is_from_client e d ≡ true → d.dir ≡ dir_of (request_at e)

@@ -30,6 +30,7 @@ use Rattle.tftp_law.proofs.OneMessage.{lawful_by}
 use Rattle.tftp_law.proofs.Heard.{passed_told}
 use Rattle.tftp_law.proofs.Asked.{request_spelled}
 use Rattle.tftp_law.proofs.Followed.{deed_keeps, reply_now, wire_blocks}
+use Rattle.tftp_law.proofs.FirstRequests.{request_same}
 
 -- ---- where it has no message of the transfer
 
@@ -176,9 +177,6 @@ module _ (h : Header) (m : Meaning) (wire : List ℕ) (fits : Fits m wire) where
   ruled (p ∷ earlier) routed own starts =
       let (passes, before) = part_passes p.datagram p.part earlier routed.2 routed.0 routed.1 own starts in
       (passes, ruled earlier routed.2 before (starts_before h.named p.datagram p.part earlier starts))
-
-  request_same : (a b : RequestParts) → Message.Request a ≡ Message.Request b → a ≡ b
-  request_same a b e = cc
 
   abbrev through : Division → List Datagram
   through division = transfer_of h (datagrams_of division)

@@ -4,10 +4,7 @@ use Rattle.std.proofs.Common.{◌≡◌, ◌⊎◌, ℕ, Bool, true, false, List
 use Rattle.std.specs.Prelude.{not, ◌||◌, ◌&&◌, ◌==◌}
 use Rattle.std.proofs.lemmas.Bool.{false≢true, and_parts}
 use Rattle.tftp_packet.specs.Message.{Message, RequestParts}
-use Rattle.tftp_packet.specs.Spelling.{Spells, side_opcode}
-use Rattle.tftp_packet.specs.Faults.{opcode_of}
-use Rattle.tftp_packet.specs.declared.kinds.Side.{Side}
-use Rattle.tftp_packet.specs.declared.kinds.Side.TheVariants.{Get, Put}
+use Rattle.tftp_packet.specs.Spelling.{Spells}
 use Rattle.tftp_packet.specs.declared.kinds.End.{End}
 use Rattle.tftp_packet.specs.declared.kinds.End.TheVariants.{Client, Server}
 use Rattle.tftp_packet.specs.declared.kinds.Dir.{Dir}
@@ -27,10 +24,10 @@ use Rattle.tftp_law.specs.Accord.{Accords, part_route, SaysAs, AreRouted}
 use Rattle.tftp_law.specs.Rules.{FirstAsked, Answer, Agrees, Begins, FirstAnswer}
 use Rattle.tftp_law.specs.declared.rule.Rule.{Rule}
 use Rattle.tftp_law.specs.OneEnded.{IsRead, Passes, OneEnded}
-use Rattle.tftp_law.proofs.FirstRequests.{begins_asked, or_some, asks_is, asks_route, first_spells}
-use Rattle.tftp_law.proofs.FirstAnswered.{first_stays}
+use Rattle.tftp_law.proofs.FirstRequests.{begins_asked, or_some, asks_is, asks_route, first_spells, first_stays}
 use Rattle.tftp_law.proofs.Asked.{request_spelled}
 use Rattle.tftp_law.proofs.May.{of_wire, may_send_data, may_come_data, may_send_ack, may_come_ack, agreed_now, may_send_oack, may_come_oack, asked_now, may_send_request, may_come_request}
+use Rattle.tftp_law.proofs.RouteTests.{request_begins}
 
 -- ---- routes, read backwards
 
@@ -127,12 +124,6 @@ module _ (h : Header) (ds : List Datagram) (d : Datagram) where
 
   after_is : (first : Datagram) → first_of (asks h) ds ≡ Some first → route_of h ds d ≡ route_after h.named h first ds d
   after_is first some = rw some refl
-
-request_begins : (d : Datagram) (r : RequestParts) → Spells d.payload (Message.Request r) → begins_request d ≡ true
-request_begins d r s = by r.side d.payload s.1.bytes where
-  by : {rest : List ℕ} (side : Side) (p : List ℕ) → p ≡ 0 ∷ side_opcode side ∷ rest → ((opcode_of p == 1) || (opcode_of p == 2)) ≡ true
-  by Get p is = subst (λ x. ((opcode_of x == 1) || (opcode_of x == 2)) ≡ true) (sym is) refl
-  by Put p is = subst (λ x. ((opcode_of x == 1) || (opcode_of x == 2)) ≡ true) (sym is) refl
 
 main_route : (r : Route) → is_of_transfer r ≡ true → (r ≡ Route.Request) ⊎ (r ≡ Route.Peer)
 main_route Route.Request is = inl refl
@@ -242,7 +233,7 @@ module _ (h : Header) (m : Meaning) (wire : List ℕ) where
       request_route : (r : RequestParts) → Spells d.payload (Message.Request r) → is_from_client h.named d ≡ true → route_of h ds d ≡ Route.Request
       request_route r s from = elim (main_route (route_of h ds d) main) [
         | inl request ↦ request
-        | inr peer ↦ absurd (false≢true (sym (after_peer h ds d h.named was (sym (after_is h ds d was some) ∙ peer) from) ∙ request_begins d r s))
+        | inr peer ↦ absurd (false≢true (sym (after_peer h ds d h.named was (sym (after_is h ds d was some) ∙ peer) from) ∙ request_begins d.payload r s))
       ]
 
       place : (dir : Dir) → d.dir ≡ dir → (x : Message) → Spells d.payload x → Placing

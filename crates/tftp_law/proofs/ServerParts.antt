@@ -10,10 +10,11 @@ use Rattle.tftp_ends.specs.Ports.{goes_out, comes_in, begins_request, asks, firs
 use Rattle.tftp_ends.specs.declared.route.Route.{Route}
 use Rattle.tftp_law.specs.Dress.{Part, Main, Stray, StrayAnswer, Placed, Division, datagrams_of, view_in, dir_of, packet_of, TransferIds, Saying, Carries, ComesAstray, AnswersStray, HasPartBy, HavePartsBy, IsMain}
 use Rattle.tftp_law.specs.Accord.{packet_route, part_route, SaysAsBy, AreRoutedBy, Stands, Starts}
-use Rattle.tftp_law.proofs.FirstRequests.{asks_is}
-use Rattle.tftp_law.proofs.RouteTests.{two_ways, stays, any_none, any_cases, any_first, any_later, same_is}
+use Rattle.tftp_law.proofs.FirstRequests.{asks_is, first_stays}
+use Rattle.tftp_law.proofs.RouteTests.{two_ways, same_is}
 use Rattle.tftp_law.proofs.RoutesBack.{dir_out, dir_in, this_one, first_any, map_some, map_none, begins_byte, s_request, s_peer, s_stray, s_answer, no_stray_before}
 use Rattle.tftp_law.proofs.Unasked.{one, starts_before, none_view, StrayFrom, stray_from}
+use Rattle.tftp_law.proofs.Divided.{any_none, any_cases, any_first, any_later}
 
 -- ---- at the server
 
@@ -31,8 +32,8 @@ module _ (service : ℕ) (says : Saying) (ids : TransferIds) where
 
   server_ids_before : (d : Datagram) (ds : List Datagram) → ServerIds (d ∷ ds) → ServerIds ds
   server_ids_before d ds are = record {
-    peer = λ first e. are.peer first (stays (asks sh) d ds first e);
-    own = λ first x e t. are.own first x (stays (asks sh) d ds first e) (stays (to_client first) d ds x t);
+    peer = λ first e. are.peer first (first_stays (asks sh) d first ds e);
+    own = λ first x e t. are.own first x (first_stays (asks sh) d first ds e) (first_stays (to_client first) d x ds t);
   }
 
   abbrev WentOut : Placed → Type 0
@@ -109,7 +110,7 @@ module _ (service : ℕ) (says : Saying) (ids : TransferIds) where
           elim a.1 [
             | inl x ↦ (
               peer,
-              are.own some.0 d (stays (asks sh) d fs some.0 some.1)
+              are.own some.0 d (first_stays (asks sh) d some.0 fs some.1)
                   (this_one (to_client some.0) d fs (map_none (λ (b : Datagram). b.local) (first_of (to_client some.0) fs) x.1) (and_from _ _ x.0 (same_is (peer_of d) (peer_of some.0) a.0))),
               inl (dir_out d x.0),
             )

@@ -12,8 +12,10 @@ use Rattle.tftp_ends.specs.declared.route.Route.{Route}
 use Rattle.tftp_law.specs.Dress.{Part, Main, Stray, StrayAnswer, Placed, Division, datagrams_of, view_in, packet_of, TransferIds, Saying, Carries, ComesAstray, AnswersStray, HasPartBy, HavePartsBy, IsMain, HasServerId}
 use Rattle.tftp_law.specs.Sides.{BeginsAsRequest}
 use Rattle.tftp_law.specs.Accord.{packet_route, part_route, SaysAsBy, AreRoutedBy, Starts}
-use Rattle.tftp_law.proofs.RouteTests.{same_true, out_true, in_false, in_true, out_false, error_begins, or_some, two_ways, stays, now, any_none, any_cases, any_first, any_later, same_is, other_peer, IsTold}
+use Rattle.tftp_law.proofs.RouteTests.{same_true, out_true, in_false, in_true, out_false, error_begins, two_ways, now, same_is, other_peer, IsTold}
 use Rattle.tftp_law.proofs.ClientRoutes.{view_more}
+use Rattle.tftp_law.proofs.Divided.{any_none, any_cases, any_first, any_later}
+use Rattle.tftp_law.proofs.FirstRequests.{or_some, first_stays}
 
 -- ---- the server
 
@@ -166,7 +168,7 @@ module _ (service : ℕ) (says : Saying) (told : IsTold says) (ids : TransferIds
   s_some_out (p ∷ earlier) parts first is any = elim (any_cases MainOut p earlier any) [
     | inl this ↦ now (to_client service first) p.datagram (datagrams_of earlier)
         (and_from _ _ (out_true p.datagram this.1) (same_is (peer_of p.datagram) (peer_of first) (s_main_peer p.datagram p.part earlier parts.0 this.0 ∙ sym is)))
-    | inr before ↦ let found = s_some_out earlier parts.1 first is before in (found.0, stays (to_client service first) p.datagram (datagrams_of earlier) found.0 found.1)
+    | inr before ↦ let found = s_some_out earlier parts.1 first is before in (found.0, first_stays (to_client service first) p.datagram found.0 (datagrams_of earlier) found.1)
   ]
 
   s_asks_there : (earlier : Division) (d : Datagram) → Carries hh says ids earlier d (Took Req) → asks hh d ≡ true
@@ -176,7 +178,7 @@ module _ (service : ℕ) (says : Saying) (told : IsTold says) (ids : TransferIds
   SAsked division = (x : Datagram) × (first_of (asks hh) (datagrams_of division) ≡ Some x)
 
   s_asked_later : (d : Datagram) (earlier : Division) → SAsked earlier → (x : Datagram) × (first_of (asks hh) (d ∷ datagrams_of earlier) ≡ Some x)
-  s_asked_later d earlier found = (found.0, stays (asks hh) d (datagrams_of earlier) found.0 found.1)
+  s_asked_later d earlier found = (found.0, first_stays (asks hh) d found.0 (datagrams_of earlier) found.1)
 
   s_asked_step : (d : Datagram) (part : Part) (earlier : Division) → Part1 earlier d part → Own (one d part earlier)
       → (v : History) → view_in earlier ≡ v → ((last : Deed) (rest : History) → view_in earlier ≡ last ∷ rest → SAsked earlier)

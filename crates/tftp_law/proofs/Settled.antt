@@ -19,7 +19,9 @@ use Rattle.tftp_law.specs.declared.rule.Rule.{Rule}
 use Rattle.tftp_law.specs.OneEnded.{Passes, OneEnded}
 use Rattle.tftp_law.proofs.Spelled.{spelled_once}
 use Rattle.tftp_law.proofs.Counted.{AllSpelled, transfer_spelled, has_short, high_of}
-use Rattle.tftp_law.proofs.FirstAnswered.{some_same, not_both, Known, known_by, first_stays, or_new, main_none, main_some, empty_before}
+use Rattle.tftp_law.proofs.FirstAnswered.{not_both, known_by, or_new, main_none, main_some}
+use Rattle.tftp_law.proofs.FirstRequests.{some_same, first_stays, none_before}
+use Rattle.tftp_law.specs.MessageRules.{AreTermsAfter}
 
 -- ---- blocks
 
@@ -226,16 +228,16 @@ module _ (h : Header) (earlier : List Datagram) (d : Datagram) (lawful : OneEnde
   not_started t known k bytes s wait = passes.lawful Rule.NotStarted (breaks t known (Message.Data k bytes) s EndRule.NotStarted wait)
 
   -- the first request was asked before
-  module _ (asked : RequestParts) (first : FirstAsked h earlier asked) (before : (t : Terms) → Known h asked passed t → Settled asked.side t passed) where
+  module _ (asked : RequestParts) (first : FirstAsked h earlier asked) (before : (t : Terms) → AreTermsAfter h asked passed t → Settled asked.side t passed) where
     -- before the answer no block has passed
-    none_before : NotAnswered asked.side passed → NoBlock passed
-    none_before none k bytes p = (before (plain_terms h asked.side NoReply) (inl (none, refl))).answered k bytes p none
+    no_block_before : NotAnswered asked.side passed → NoBlock passed
+    no_block_before none k bytes p = (before (plain_terms h asked.side NoReply) (inl (none, refl))).answered k bytes p none
 
     -- nor is this one, which is no answer
     no_block : NotAnswered asked.side (d ∷ passed) → NoBlock (d ∷ passed)
     no_block none k bytes p = elim (either (Message.Data k bytes) d passed p) [
       | inl s ↦ by asked.side refl k bytes s
-      | inr q ↦ none_before none.1 k bytes q
+      | inr q ↦ no_block_before none.1 k bytes q
     ]
       where
         by : (side : Side) → asked.side ≡ side → (k : ℕ) (bytes : List ℕ) → Spells d.payload (Message.Data k bytes) → ⊥
@@ -243,17 +245,17 @@ module _ (h : Header) (earlier : List Datagram) (d : Datagram) (lawful : OneEnde
         by Put is k bytes s = not_started (plain_terms h asked.side NoReply) (asked, first, inl (none.1, refl)) k bytes s (subst (λ (x : Side). BlocksWait x NoReply passed) (sym is) tt)
 
     one_block : (t : Terms) → t.blksize ≡ 512 → t.size ≡ None → NotAnswered asked.side passed → (NotAnswered asked.side (d ∷ passed) → ⊥) → Settled asked.side t (d ∷ passed)
-    one_block t usual unsized none answered = extended asked.side t d passed (none_settled asked.side t passed (none_before none)) fit answered where
+    one_block t usual unsized none answered = extended asked.side t d passed (none_settled asked.side t passed (no_block_before none)) fit answered where
       fit : Fits t d passed
       fit = record {
-        same = λ k bytes other s p. absurd (none_before none k other p);
+        same = λ k bytes other s p. absurd (no_block_before none k other p);
         placed = λ k last bytes s short is. absurd (no_last last is);
         numbered = one_or_more before_it asks_it;
         within = λ k bytes s. subst (λ b. length bytes ≤ b) (sym usual) (no_longer before_it asks_it k bytes s);
         ended = λ bytes s. subst (λ b. length bytes < b) (sym usual) (short_end before_it asks_it bytes s);
         right = λ k last bytes s is wrong. no_last last is;
-        opens = λ k bytes s unknown less j other p. absurd (none_before none j other p);
-        known = inl (record { no_size = unsized; all_whole = λ k bytes p. absurd (none_before none k bytes p) });
+        opens = λ k bytes s unknown less j other p. absurd (no_block_before none j other p);
+        known = inl (record { no_size = unsized; all_whole = λ k bytes p. absurd (no_block_before none k bytes p) });
       }
         where
           before_it : Terms
@@ -263,13 +265,13 @@ module _ (h : Header) (earlier : List Datagram) (d : Datagram) (lawful : OneEnde
           asks_it = (asked, first, inl (none, refl))
 
           no_last : (last : ℕ) → IsLast t passed last → ⊥
-          no_last last (inl block) = none_before none last block.0 block.1
+          no_last last (inl block) = no_block_before none last block.0 block.1
           no_last last (inr size) = let both : None ≡ Some size.0 = sym unsized ∙ size.1 in cc
 
     no_more : (t : Terms) → NotAnswered asked.side passed → ((k : ℕ) (bytes : List ℕ) → Spells d.payload (Message.Data k bytes) → ⊥) → Settled asked.side t (d ∷ passed)
     no_more t none other = none_settled asked.side t (d ∷ passed) (λ k bytes p. elim (either (Message.Data k bytes) d passed p) [
       | inl s ↦ other k bytes s
-      | inr q ↦ none_before none k bytes q
+      | inr q ↦ no_block_before none k bytes q
     ])
 
     -- an OACK is no block
@@ -281,10 +283,10 @@ module _ (h : Header) (earlier : List Datagram) (d : Datagram) (lawful : OneEnde
         by Get k bytes a = a
         by Put k bytes a = a
 
-    now_settled : (t : Terms) → Known h asked (d ∷ passed) t → Settled asked.side t (d ∷ passed)
+    now_settled : (t : Terms) → AreTermsAfter h asked (d ∷ passed) t → Settled asked.side t (d ∷ passed)
     now_settled t (inl none) = none_settled asked.side t (d ∷ passed) (no_block none.0)
     now_settled t (inr (a, inl earlier_answer, is)) =
-        let known : Known h asked passed t = inr (a, earlier_answer, is) in
+        let known : AreTermsAfter h asked passed t = inr (a, earlier_answer, is) in
         extended asked.side t d passed (before t known) (fits t (asked, first, known)) (λ none. not_both asked.side passed a none.1 earlier_answer)
     now_settled t (inr (Begins, inr now, is)) = one_block t (ap (λ (u : Terms). u.blksize) is) (ap (λ (u : Terms). u.size) is) now.0 (λ none. none.0 Begins now.1)
     now_settled t (inr (Agrees options, inr now, is)) = oack_first t options now.0 now.1
@@ -292,19 +294,19 @@ module _ (h : Header) (earlier : List Datagram) (d : Datagram) (lawful : OneEnde
 -- ---- all of them
 
 settled_by : (h : Header) (earlier : List Datagram) (d : Datagram) → Passes h earlier d → (asked : RequestParts) → FirstAsked h (d ∷ earlier) asked
-    → ((t : Terms) → FirstAsked h earlier asked → Known h asked (transfer_of h earlier) t → Settled asked.side t (transfer_of h earlier))
+    → ((t : Terms) → FirstAsked h earlier asked → AreTermsAfter h asked (transfer_of h earlier) t → Settled asked.side t (transfer_of h earlier))
     → OneEnded h earlier → (o : Option Datagram) → first_of (asks h) earlier ≡ o → (b : Bool) → is_of_transfer (route_of h earlier d) ≡ b
-    → (t : Terms) → Known h asked (transfer_of h (d ∷ earlier)) t → Settled asked.side t (transfer_of h (d ∷ earlier))
+    → (t : Terms) → AreTermsAfter h asked (transfer_of h (d ∷ earlier)) t → Settled asked.side t (transfer_of h (d ∷ earlier))
 settled_by h earlier d passes asked first before lawful (Some was) is true main t known =
     let more = main_some (is_of_transfer (route_of h earlier d)) d (transfer_of h earlier) main in
     let stays : FirstAsked h earlier asked = (was, is, subst (λ (x : Datagram). Spells x.payload (Message.Request asked)) (some_same first.0 was (sym first.1 ∙ first_stays (asks h) d was earlier is)) first.2) in
-    subst (Settled asked.side t) (sym more) (now_settled h earlier d lawful passes main asked stays (λ u k. before u stays k) t (subst (λ ds. Known h asked ds t) more known))
+    subst (Settled asked.side t) (sym more) (now_settled h earlier d lawful passes main asked stays (λ u k. before u stays k) t (subst (λ ds. AreTermsAfter h asked ds t) more known))
 settled_by h earlier d passes asked first before lawful (Some was) is false main t known =
     let same = main_none (is_of_transfer (route_of h earlier d)) d (transfer_of h earlier) main in
     let stays : FirstAsked h earlier asked = (was, is, subst (λ (x : Datagram). Spells x.payload (Message.Request asked)) (some_same first.0 was (sym first.1 ∙ first_stays (asks h) d was earlier is)) first.2) in
-    subst (Settled asked.side t) (sym same) (before t stays (subst (λ ds. Known h asked ds t) same known))
+    subst (Settled asked.side t) (sym same) (before t stays (subst (λ ds. AreTermsAfter h asked ds t) same known))
 settled_by h earlier d passes asked first before lawful None is true main t known =
-    let more = main_some (is_of_transfer (route_of h earlier d)) d (transfer_of h earlier) main ∙ ap (λ ds. d ∷ ds) (empty_before h earlier lawful is) in
+    let more = main_some (is_of_transfer (route_of h earlier d)) d (transfer_of h earlier) main ∙ ap (λ ds. d ∷ ds) (none_before h earlier is lawful) in
     let request : d ≡ first.0 = or_new (asks h d) d first.0 (sym (ap (λ o. or_this o (asks h d) d) is) ∙ first.1) in
     let s : Spells d.payload (Message.Request asked) = subst (λ (x : Datagram). Spells x.payload (Message.Request asked)) (sym request) first.2 in
     subst (Settled asked.side t) (sym more) (none_settled asked.side t (d ∷ []) (λ k bytes p. elim (either (Message.Data k bytes) d [] p) [
@@ -312,10 +314,10 @@ settled_by h earlier d passes asked first before lawful None is true main t know
       | inr q ↦ elim q [ inl x ↦ x | inr x ↦ x ]
     ]))
 settled_by h earlier d passes asked first before lawful None is false main t known =
-    let none = main_none (is_of_transfer (route_of h earlier d)) d (transfer_of h earlier) main ∙ empty_before h earlier lawful is in
+    let none = main_none (is_of_transfer (route_of h earlier d)) d (transfer_of h earlier) main ∙ none_before h earlier is lawful in
     subst (Settled asked.side t) (sym none) (none_settled asked.side t [] (λ k bytes p. elim p [ inl x ↦ x | inr x ↦ x ]))
 
-settled_known : (h : Header) (earlier : List Datagram) → OneEnded h earlier → (asked : RequestParts) → FirstAsked h earlier asked → (t : Terms) → Known h asked (transfer_of h earlier) t → Settled asked.side t (transfer_of h earlier)
+settled_known : (h : Header) (earlier : List Datagram) → OneEnded h earlier → (asked : RequestParts) → FirstAsked h earlier asked → (t : Terms) → AreTermsAfter h asked (transfer_of h earlier) t → Settled asked.side t (transfer_of h earlier)
 settled_known h [] lawful asked first t known = let none : None ≡ Some first.0 = first.1 in absurd (cc)
 settled_known h (d ∷ earlier) lawful asked first t known =
     settled_by h earlier d lawful.0 asked first (λ u stays k. settled_known h earlier lawful.1 asked stays u k) lawful.1 (first_of (asks h) earlier) refl (is_of_transfer (route_of h earlier d)) refl t known

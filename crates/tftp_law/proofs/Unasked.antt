@@ -11,8 +11,9 @@ use Rattle.tftp_ends.specs.declared.route.Route.{Route}
 use Rattle.tftp_law.specs.Dress.{Part, Main, Stray, StrayAnswer, Placed, Division, datagrams_of, view_in, packet_of, TransferIds, Saying, HasPartBy, HavePartsBy}
 use Rattle.tftp_law.specs.Accord.{packet_route, part_route, AreRoutedBy, request_at, Starts}
 use Rattle.tftp_law.proofs.FirstRequests.{or_none, asks_is}
-use Rattle.tftp_law.proofs.RouteTests.{any_first, any_later, is_same}
+use Rattle.tftp_law.proofs.RouteTests.{is_same}
 use Rattle.tftp_law.proofs.RoutesBack.{came_dir}
+use Rattle.tftp_law.proofs.Divided.{any_first, any_later}
 
 -- ---- before the first request the view is empty
 

@@ -22,7 +22,7 @@ use Rattle.tftp_law.specs.Dress.{says_of, Division, datagrams_of, view_in}
 use Rattle.tftp_law.specs.Accord.{Starts, AreRouted}
 use Rattle.tftp_law.specs.Rules.{FirstAsked, Agrees, Begins, NotAnswered, plain_terms, terms_after}
 use Rattle.tftp_law.specs.OneEnded.{IsAgreed, IsJoined, Meant}
-use Rattle.tftp_law.proofs.FirstAnswered.{Known, first_one, not_both}
+use Rattle.tftp_law.proofs.FirstAnswered.{first_one, not_both}
 use Rattle.tftp_law.proofs.Joined.{last_block}
 use Rattle.tftp_law.proofs.Heard.{told_passed}
 use Rattle.tftp_law.proofs.Answered.{sent_data, took_data}
@@ -31,10 +31,7 @@ use Rattle.tftp_law.proofs.Followed.{reply_now, wire_blocks, state, named_is, si
 use Rattle.tftp_law.proofs.Moments.{sent_below, acknowledged_was_sent}
 use Rattle.tftp_law.proofs.Ruled.{ruled}
 use Rattle.tftp_law.proofs.Unasked.{none_view}
-
-two_parts : (side : Side) → sender_of side ≡ receiver_of side → ⊥
-two_parts Get e = cc
-two_parts Put e = cc
+use Rattle.tftp_law.specs.MessageRules.{AreTermsAfter}
 
 which_part : (e : End) (side : Side) → (e ≡ sender_of side) ⊎ (e ≡ receiver_of side)
 which_part Client Get = inr refl
@@ -74,7 +71,7 @@ module _ (h : Header) (m : Meaning) (wire : List ℕ) (fits : Fits m wire)
     | inr x ↦ inl (told_passed h m wire division routed (Took (Data k)) (complete.took x.0 k low up))
   ]
 
-  pick : (t : Terms) × Known h (request_of m) through t
+  pick : (t : Terms) × AreTermsAfter h (request_of m) through t
   pick = elim (reply_now h m wire fits division routed own) [
     | inl none ↦ (plain_terms h m.side NoReply, inl (none, refl))
     | inr some ↦ elim some [
@@ -104,7 +101,7 @@ module _ (h : Header) (m : Meaning) (wire : List ℕ) (fits : Fits m wire)
   asked : FirstAsked h ds (request_of m)
   asked = asked_by (first_of (asks h) ds) refl
 
-  whole_by : (t : Terms) → (known : Known h (request_of m) through t) → Meant h ds m
+  whole_by : (t : Terms) → (known : AreTermsAfter h (request_of m) through t) → Meant h ds m
   whole_by t known =
       let st = state h m wire fits division routed own t known in
       let nu = numbers h m wire fits division routed own plain t st in
