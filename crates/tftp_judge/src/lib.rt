@@ -12,6 +12,3 @@ pub use plain::judge;
 pub use text::judge_text;
 pub use tftp_law::Rule;
 pub use verdict::Verdict;
-
-#[cfg(test)]
-mod tests;

@@ -5,6 +5,10 @@
 #[cfg(test)]
 mod agreements;
 #[cfg(test)]
+mod commands;
+#[cfg(test)]
 mod netascii;
 #[cfg(test)]
 mod packets;
+#[cfg(test)]
+mod verdicts;
