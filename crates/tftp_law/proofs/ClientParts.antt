@@ -8,13 +8,14 @@ use Rattle.tftp_ends.specs.CaptureText.{Datagram, Header, PeerId, peer_of}
 use Rattle.tftp_ends.specs.Machines.{Req, Oack, Data, Ack, Deed, Sent, Took}
 use Rattle.tftp_ends.specs.Ports.{goes_out, comes_in, begins_request, asks, first_of, route_at_client, route_of}
 use Rattle.tftp_ends.specs.declared.route.Route.{Route}
-use Rattle.tftp_law.specs.Dress.{Part, Main, Stray, StrayAnswer, Placed, Division, datagrams_of, view_in, dir_of, packet_of, TransferIds, Saying, Carries, ComesAstray, AnswersStray, HasPartBy, HavePartsBy, IsMain}
+use Rattle.tftp_law.specs.Dress.{Part, Main, Stray, StrayAnswer, Division, datagrams_of, view_in, dir_of, packet_of, TransferIds, Saying, Carries, ComesAstray, AnswersStray, HasPartBy, HavePartsBy}
 use Rattle.tftp_law.specs.Accord.{packet_route, part_route, SaysAsBy, AreRoutedBy, Stands, Starts}
 use Rattle.tftp_law.proofs.FirstRequests.{asks_is, first_stays}
 use Rattle.tftp_law.proofs.RouteTests.{in_true, two_ways}
 use Rattle.tftp_law.proofs.RoutesBack.{dir_out, dir_in, came_dir, this_one, first_any, map_some, map_none, c_request, c_peer, c_stray, c_answer, no_stray_before}
-use Rattle.tftp_law.proofs.Unasked.{one, starts_before, none_view, stray_from}
+use Rattle.tftp_law.proofs.Unasked.{none_view, stray_from}
 use Rattle.tftp_law.proofs.Divided.{any_none, any_cases, any_first, any_later}
+use Rattle.tftp_law.proofs.Placing.{one, starts_before, CameIn, MainIn}
 
 -- ---- at the client
 
@@ -29,12 +30,6 @@ module _ (service : ℕ) (says : Saying) (ids : TransferIds) where
 
   client_ids_before : (d : Datagram) (ds : List Datagram) → ClientIds (d ∷ ds) → ClientIds ds
   client_ids_before d ds are = record { own = λ first e. are.own first (first_stays (asks ch) d first ds e); peer = λ x e. are.peer x (first_stays comes_in d x ds e) }
-
-  abbrev CameIn : Placed → Type 0
-  CameIn p = p.datagram.dir ≡ In
-
-  abbrev MainIn : Placed → Type 0
-  MainIn p = IsMain p.part × (p.datagram.dir ≡ In)
 
   c_main_in : (d : Datagram) (part : Part) (earlier : Division) → HasPartBy ch says ids earlier d part → d.dir ≡ In → Any MainIn (one d part earlier)
   c_main_in d (Main deed) earlier p way = any_first MainIn (record { datagram = d; part = Main deed }) earlier ((deed, refl), way)

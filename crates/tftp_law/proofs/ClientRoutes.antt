@@ -8,11 +8,12 @@ use Rattle.tftp_ends.specs.CaptureText.{Datagram, Header, PeerId, peer_of}
 use Rattle.tftp_ends.specs.Machines.{MachinePacket, Req, Oack, Data, Ack, Deed, Sent, Took, History}
 use Rattle.tftp_ends.specs.Ports.{goes_out, comes_in, begins_request, begins_error, asks, first_of, has_come_from, same_peer, route_of}
 use Rattle.tftp_ends.specs.declared.route.Route.{Route}
-use Rattle.tftp_law.specs.Dress.{Part, Main, Stray, StrayAnswer, Placed, Division, datagrams_of, view_in, packet_of, TransferIds, Saying, Carries, ComesAstray, AnswersStray, HasPartBy, HavePartsBy, IsMain, HasServerId}
+use Rattle.tftp_law.specs.Dress.{Part, Main, Stray, StrayAnswer, Placed, Division, datagrams_of, view_in, packet_of, TransferIds, Saying, Carries, ComesAstray, AnswersStray, HasPartBy, HavePartsBy, HasServerId}
 use Rattle.tftp_law.specs.Accord.{packet_route, part_route, SaysAsBy, AreRoutedBy, Starts}
 use Rattle.tftp_law.proofs.RouteTests.{same_true, out_true, in_false, in_true, out_false, error_begins, two_ways, now, same_is, other_peer, IsTold}
 use Rattle.tftp_law.proofs.Divided.{any_none, any_cases, any_first, any_later}
 use Rattle.tftp_law.proofs.FirstRequests.{or_some, first_stays}
+use Rattle.tftp_law.proofs.Placing.{starts_before, StrayFrom, CameIn, MainIn}
 
 -- ---- routes at the client
 
@@ -64,17 +65,14 @@ module _ (service : ℕ) (says : Saying) (told : IsTold says) (ids : TransferIds
     | inr this ↦ subst (λ (d : Datagram). d.local ≡ ids.own) this.2 (own_port earlier p.datagram p.part parts.0)
   ]
 
-  some_in : (division : Division) → Any (λ (p : Placed). p.datagram.dir ≡ In) division → (x : Datagram) × (first_of comes_in (datagrams_of division) ≡ Some x)
+  some_in : (division : Division) → Any CameIn division → (x : Datagram) × (first_of comes_in (datagrams_of division) ≡ Some x)
   some_in [] any = absurd (any_none (λ (p : Placed). p.datagram.dir ≡ In) any)
   some_in (p ∷ earlier) any = elim (any_cases (λ (p : Placed). p.datagram.dir ≡ In) p earlier any) [
     | inl way ↦ now comes_in p.datagram (datagrams_of earlier) (in_true p.datagram way)
     | inr before ↦ let found = some_in earlier before in (found.0, first_stays comes_in p.datagram found.0 (datagrams_of earlier) found.1)
   ]
 
-  abbrev MainIn : Placed → Type 0
-  MainIn p = IsMain p.part × (p.datagram.dir ≡ In)
-
-  main_in : (division : Division) → Any MainIn division → Any (λ (p : Placed). p.datagram.dir ≡ In) division
+  main_in : (division : Division) → Any MainIn division → Any CameIn division
   main_in [] any = absurd (any_none MainIn any)
   main_in (p ∷ earlier) any = elim (any_cases MainIn p earlier any) [
     | inl this ↦ any_first (λ (p : Placed). p.datagram.dir ≡ In) p earlier this.1
@@ -92,16 +90,10 @@ module _ (service : ℕ) (says : Saying) (told : IsTold says) (ids : TransferIds
   came_first earlier d Stray p own none came = let found = some_in earlier (main_in earlier p.after) in let both : None ≡ Some found.0 = sym none ∙ found.1 in absurd (cc)
   came_first earlier d StrayAnswer p own none came = absurd (false≢true (sym (out_false d p.dir) ∙ came))
 
-  own_before : (d : Datagram) (part : Part) (earlier : Division) → Starts Client (view_in (record { datagram = d; part = part } ∷ earlier)) → Starts Client (view_in earlier)
-  own_before d (Main (Sent q)) earlier own = own.1
-  own_before d (Main (Took q)) earlier own = own.1
-  own_before d Stray earlier own = own
-  own_before d StrayAnswer earlier own = own
-
   came_peer : (division : Division) → HavePartsBy here says ids division → Starts Client (view_in division) → (x : Datagram) → first_of comes_in (datagrams_of division) ≡ Some x → peer_of x ≡ ids.peer
   came_peer [] parts own x e = absurd (cc)
   came_peer (p ∷ earlier) parts own x e = elim (or_some (first_of comes_in (datagrams_of earlier)) (comes_in p.datagram) p.datagram x e) [
-    | inl before ↦ came_peer earlier parts.1 (own_before p.datagram p.part earlier own) x before
+    | inl before ↦ came_peer earlier parts.1 (starts_before Client p.datagram p.part earlier own) x before
     | inr this ↦ subst (λ (d : Datagram). peer_of d ≡ ids.peer) this.2 (came_first earlier p.datagram p.part parts.0 own this.0 this.1)
   ]
 
@@ -129,7 +121,7 @@ module _ (service : ℕ) (says : Saying) (told : IsTold says) (ids : TransferIds
   unfolding Asked
   some_asked [] parts own last rest e = absurd (cc)
   some_asked (p ∷ earlier) parts own last rest e =
-      asked_step p.datagram p.part earlier parts.0 own (view_in earlier) refl (some_asked earlier parts.1 (own_before p.datagram p.part earlier own)) last rest e
+      asked_step p.datagram p.part earlier parts.0 own (view_in earlier) refl (some_asked earlier parts.1 (starts_before Client p.datagram p.part earlier own)) last rest e
 
   -- a main datagram stands in the view
   view_step : (p : Placed) (earlier : Division) → MainIn p → (last : Deed) × (rest : History) × (view_in (p ∷ earlier) ≡ last ∷ rest)
@@ -143,9 +135,6 @@ module _ (service : ℕ) (says : Saying) (told : IsTold says) (ids : TransferIds
   view_some : (division : Division) → Any MainIn division → (last : Deed) × (rest : History) × (view_in division ≡ last ∷ rest)
   view_some [] any = absurd (any_none MainIn any)
   view_some (p ∷ earlier) any = elim (any_cases MainIn p earlier any) [ inl this ↦ view_step p earlier this | inr before ↦ view_more p.datagram p.part earlier (view_some earlier before) ]
-
-  abbrev StrayFrom : PeerId → Placed → Type 0
-  StrayFrom peer p = (p.part ≡ Stray) × (peer_of p.datagram ≡ peer)
 
   stray_there : (division : Division) → HavePartsBy here says ids division → (peer : PeerId) → Any (StrayFrom peer) division → Any MainIn division × (has_come_from peer (datagrams_of division) ≡ true) × (peer ≡ ids.peer → ⊥)
   stray_there [] parts peer any = absurd (any_none (StrayFrom peer) any)
@@ -238,6 +227,6 @@ module _ (service : ℕ) (says : Saying) (told : IsTold says) (ids : TransferIds
   pub routed_at_client : (division : Division) → HavePartsBy here says ids division → Starts Client (view_in division) → AreRoutedBy here says division
   routed_at_client [] parts own = tt
   routed_at_client (p ∷ earlier) parts own =
-      let before = own_before p.datagram p.part earlier own in
+      let before = starts_before Client p.datagram p.part earlier own in
       let this = step earlier parts.1 before p.datagram p.part parts.0 own in
       (this.0, this.1, routed_at_client earlier parts.1 before)

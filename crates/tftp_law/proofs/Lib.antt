@@ -14,6 +14,7 @@ pub mod Joined
 pub mod Moments
 pub mod Opening
 pub mod RouteTests
+pub mod Placing
 pub mod ClientRoutes
 pub mod ServerRoutes
 pub mod Routed

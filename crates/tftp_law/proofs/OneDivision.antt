@@ -26,9 +26,10 @@ use Rattle.tftp_law.proofs.FirstRequests.{begins_asked, or_some, asks_route}
 use Rattle.tftp_law.proofs.RouteTests.{two_ways, IsTold, request_begins}
 use Rattle.tftp_law.proofs.Routed.{routed_by}
 use Rattle.tftp_law.proofs.Opening.{starts_of}
-use Rattle.tftp_law.proofs.Unasked.{one, starts_before, none_view}
+use Rattle.tftp_law.proofs.Unasked.{none_view}
 use Rattle.tftp_law.proofs.RoutesBack.{request_is}
 use Rattle.tftp_law.proofs.Parted.{parted}
+use Rattle.tftp_law.proofs.Placing.{one, starts_before}
 
 -- ---- what is told
 

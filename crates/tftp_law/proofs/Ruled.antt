@@ -17,7 +17,7 @@ use Rattle.tftp_packet.proofs.NoFault.{no_fault}
 use Rattle.tftp_law.specs.Fits.{Fits}
 use Rattle.tftp_packet.specs.declared.kinds.End.{End}
 use Rattle.tftp_packet.specs.declared.kinds.End.TheVariants.{Client, Server}
-use Rattle.tftp_law.proofs.Unasked.{none_view, starts_before}
+use Rattle.tftp_law.proofs.Unasked.{none_view}
 use Rattle.tftp_law.specs.Dress.{says_of, Part, Main, Stray, StrayAnswer, Division, datagrams_of, view_in, dir_of, packet_of}
 use Rattle.tftp_law.specs.Accord.{request_at, Starts, Accords, packet_route, part_route, SaysAs, AreRouted}
 use Rattle.tftp_law.specs.Rules.{FirstAsked, Agrees, Begins, Broken, EndBreaks}
@@ -31,6 +31,7 @@ use Rattle.tftp_law.proofs.Heard.{passed_told}
 use Rattle.tftp_law.proofs.Asked.{request_spelled}
 use Rattle.tftp_law.proofs.Followed.{deed_keeps, reply_now, wire_blocks}
 use Rattle.tftp_law.proofs.FirstRequests.{request_same}
+use Rattle.tftp_law.proofs.Placing.{starts_before}
 
 -- ---- where it has no message of the transfer
 

@@ -1,20 +1,20 @@
 -- At the server a list has parts by its routes.
-use Rattle.std.proofs.Common.{◌≡◌, ◌⊎◌, ℕ, Bool, List, [], ◌∷◌, Option, Some, option_map, Any, inl, inr, refl, sym, subst, ◌∙◌}
+use Rattle.std.proofs.Common.{◌≡◌, ◌⊎◌, ℕ, Bool, List, [], ◌∷◌, Option, Some, option_map, Any, inl, inr, refl, sym, ◌∙◌}
 use Rattle.std.specs.Prelude.{◌&&◌, ◌==◌}
 use Rattle.std.proofs.lemmas.Bool.{false≢true, and_from, and_parts, eqb-true, eq-eqb}
 use Rattle.tftp_packet.specs.declared.kinds.End.TheVariants.{Server}
 use Rattle.tftp_packet.specs.declared.kinds.Dir.TheVariants.{In, Out}
-use Rattle.tftp_ends.specs.CaptureText.{Datagram, Header, PeerId, peer_of}
+use Rattle.tftp_ends.specs.CaptureText.{Datagram, Header, peer_of}
 use Rattle.tftp_ends.specs.Machines.{Req, Oack, Data, Ack, Deed, Sent, Took}
 use Rattle.tftp_ends.specs.Ports.{goes_out, comes_in, begins_request, asks, first_of, same_peer, route_at_server, route_of}
 use Rattle.tftp_ends.specs.declared.route.Route.{Route}
-use Rattle.tftp_law.specs.Dress.{Part, Main, Stray, StrayAnswer, Placed, Division, datagrams_of, view_in, dir_of, packet_of, TransferIds, Saying, Carries, ComesAstray, AnswersStray, HasPartBy, HavePartsBy, IsMain}
+use Rattle.tftp_law.specs.Dress.{Part, Main, Stray, StrayAnswer, Division, datagrams_of, view_in, dir_of, packet_of, TransferIds, Saying, Carries, ComesAstray, AnswersStray, HasPartBy, HavePartsBy}
 use Rattle.tftp_law.specs.Accord.{packet_route, part_route, SaysAsBy, AreRoutedBy, Stands, Starts}
 use Rattle.tftp_law.proofs.FirstRequests.{asks_is, first_stays}
 use Rattle.tftp_law.proofs.RouteTests.{two_ways, same_is}
 use Rattle.tftp_law.proofs.RoutesBack.{dir_out, dir_in, this_one, first_any, map_some, map_none, begins_byte, s_request, s_peer, s_stray, s_answer, no_stray_before}
-use Rattle.tftp_law.proofs.Unasked.{one, starts_before, none_view, StrayFrom, stray_from}
-use Rattle.tftp_law.proofs.Divided.{any_none, any_cases, any_first, any_later}
+use Rattle.tftp_law.proofs.Unasked.{none_view, stray_from}
+use Rattle.tftp_law.proofs.Placing.{one, starts_before, WentOut, any_main_out}
 
 -- ---- at the server
 
@@ -35,32 +35,6 @@ module _ (service : ℕ) (says : Saying) (ids : TransferIds) where
     peer = λ first e. are.peer first (first_stays (asks sh) d first ds e);
     own = λ first x e t. are.own first x (first_stays (asks sh) d first ds e) (first_stays (to_client first) d x ds t);
   }
-
-  abbrev WentOut : Placed → Type 0
-  WentOut p = p.datagram.dir ≡ Out
-
-  abbrev MainOut : Placed → Type 0
-  MainOut p = IsMain p.part × (p.datagram.dir ≡ Out)
-
-  -- what answers a stray has one before it, and that a main one
-  s_stray_main : (division : Division) (peer : PeerId) → HavePartsBy sh says ids division → Any (StrayFrom peer) division → Any MainOut division
-  s_stray_main [] peer parts any = absurd (any_none (StrayFrom peer) any)
-  s_stray_main (p ∷ earlier) peer parts any = elim (any_cases (StrayFrom peer) p earlier any) [
-    | inl this ↦ let stray : ComesAstray sh ids earlier p.datagram = subst (HasPartBy sh says ids earlier p.datagram) this.0 parts.0 in any_later MainOut p earlier stray.after
-    | inr before ↦ any_later MainOut p earlier (s_stray_main earlier peer parts.1 before)
-  ]
-
-  s_main_out : (d : Datagram) (part : Part) (earlier : Division) → HasPartBy sh says ids earlier d part → HavePartsBy sh says ids earlier → d.dir ≡ Out → Any MainOut (one d part earlier)
-  s_main_out d (Main deed) earlier p parts way = any_first MainOut (record { datagram = d; part = Main deed }) earlier ((deed, refl), way)
-  s_main_out d Stray earlier p parts way = let e : In ≡ Out = sym p.dir ∙ way in absurd (cc)
-  s_main_out d StrayAnswer earlier p parts way = any_later MainOut (record { datagram = d; part = StrayAnswer }) earlier (s_stray_main earlier (peer_of d) parts p.there)
-
-  s_any_main : (division : Division) → HavePartsBy sh says ids division → Any WentOut division → Any MainOut division
-  s_any_main [] parts any = absurd (any_none WentOut any)
-  s_any_main (p ∷ earlier) parts any = elim (any_cases WentOut p earlier any) [
-    | inl way ↦ s_main_out p.datagram p.part earlier parts.0 parts.1 way
-    | inr before ↦ any_later MainOut p earlier (s_any_main earlier parts.1 before)
-  ]
 
   s_came : (d : Datagram) (part : Part) (earlier : Division) → HasPartBy sh says ids earlier d part → Starts Server (view_in (one d part earlier)) → d.dir ≡ In → (peer_of d ≡ ids.peer → ⊥) → part ≡ Stray
   s_came d Stray earlier p starts way apart = refl
@@ -138,7 +112,7 @@ module _ (service : ℕ) (says : Saying) (ids : TransferIds) where
             dir = dir_in d out;
             here = local ∙ b.0;
             elsewhere = λ e. apart (e ∙ sym (s_ids.peer some.0 some.1));
-            after = s_any_main earlier parts b.1;
+            after = any_main_out service says ids earlier parts b.1;
             no_request = λ at_server same begins. false≢true (sym no_request ∙ and_from _ _ (begins_byte d begins) (eq-eqb d.local service (local ∙ b.0 ∙ same)));
           }
     ]

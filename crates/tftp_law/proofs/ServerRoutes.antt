@@ -14,8 +14,9 @@ use Rattle.tftp_law.specs.Sides.{BeginsAsRequest}
 use Rattle.tftp_law.specs.Accord.{packet_route, part_route, SaysAsBy, AreRoutedBy, Starts}
 use Rattle.tftp_law.proofs.RouteTests.{same_true, out_true, in_false, in_true, out_false, error_begins, two_ways, now, same_is, other_peer, IsTold}
 use Rattle.tftp_law.proofs.ClientRoutes.{view_more}
-use Rattle.tftp_law.proofs.Divided.{any_none, any_cases, any_first, any_later}
+use Rattle.tftp_law.proofs.Divided.{any_none, any_cases, any_later}
 use Rattle.tftp_law.proofs.FirstRequests.{or_some, first_stays}
+use Rattle.tftp_law.proofs.Placing.{one, starts_before, StrayFrom, WentOut, MainOut, any_main_out}
 
 -- ---- the server
 
@@ -77,15 +78,6 @@ module _ (service : ℕ) (says : Saying) (told : IsTold says) (ids : TransferIds
   abbrev Own : Division → Type 0
   Own division = Starts Server (view_in division)
 
-  abbrev one : Datagram → Part → Division → Division
-  one d part earlier = record { datagram = d; part = part } ∷ earlier
-
-  s_own_before : (d : Datagram) (part : Part) (earlier : Division) → Own (one d part earlier) → Own earlier
-  s_own_before d (Main (Sent q)) earlier own = own.1
-  s_own_before d (Main (Took q)) earlier own = own.1
-  s_own_before d Stray earlier own = own
-  s_own_before d StrayAnswer earlier own = own
-
   -- the first request is the client's
   s_asks_peer : (earlier : Division) (d : Datagram) (part : Part) → Part1 earlier d part → asks hh d ≡ true → peer_of d ≡ ids.peer
   s_asks_peer earlier d (Main deed) p t = p.client
@@ -118,43 +110,8 @@ module _ (service : ℕ) (says : Saying) (told : IsTold says) (ids : TransferIds
   s_first_own : (division : Division) → Parts division → Own division → (first x : Datagram) → first_of (to_client service first) (datagrams_of division) ≡ Some x → x.local ≡ ids.own
   s_first_own [] parts own first x e = absurd (cc)
   s_first_own (p ∷ earlier) parts own first x e = elim (or_some (first_of (to_client service first) (datagrams_of earlier)) (to_client service first p.datagram) p.datagram x e) [
-    | inl before ↦ s_first_own earlier parts.1 (s_own_before p.datagram p.part earlier own) first x before
+    | inl before ↦ s_first_own earlier parts.1 (starts_before Server p.datagram p.part earlier own) first x before
     | inr this ↦ subst (λ (d : Datagram). d.local ≡ ids.own) this.2 (s_out_own earlier p.datagram p.part parts.0 own (and_parts (goes_out p.datagram) (same_peer (peer_of p.datagram) (peer_of first)) this.1).0)
-  ]
-
-  abbrev MainOut : Placed → Type 0
-  MainOut p = IsMain p.part × (p.datagram.dir ≡ Out)
-
-  abbrev GoesOut : Placed → Type 0
-  GoesOut p = p.datagram.dir ≡ Out
-
-  abbrev IsStray : Placed → Type 0
-  IsStray p = p.part ≡ Stray
-
-  s_stray_main : (division : Division) → Parts division → Any IsStray division → Any MainOut division
-  s_stray_main [] parts any = absurd (any_none IsStray any)
-  s_stray_main (p ∷ earlier) parts any = elim (any_cases IsStray p earlier any) [
-    | inl this ↦ let stray : ComesAstray hh ids earlier p.datagram = subst (Part1 earlier p.datagram) this parts.0 in any_later MainOut p earlier stray.after
-    | inr before ↦ any_later MainOut p earlier (s_stray_main earlier parts.1 before)
-  ]
-
-  s_any_stray : (division : Division) (peer : PeerId) → Any (λ (p : Placed). (p.part ≡ Stray) × (peer_of p.datagram ≡ peer)) division → Any IsStray division
-  s_any_stray [] peer any = absurd (any_none (λ (p : Placed). (p.part ≡ Stray) × (peer_of p.datagram ≡ peer)) any)
-  s_any_stray (p ∷ earlier) peer any = elim (any_cases (λ (p : Placed). (p.part ≡ Stray) × (peer_of p.datagram ≡ peer)) p earlier any) [
-    | inl this ↦ any_first IsStray p earlier this.0
-    | inr before ↦ any_later IsStray p earlier (s_any_stray earlier peer before)
-  ]
-
-  s_out_main : (d : Datagram) (part : Part) (earlier : Division) → Part1 earlier d part → Parts earlier → d.dir ≡ Out → Any MainOut (one d part earlier)
-  s_out_main d (Main deed) earlier p parts way = any_first MainOut (record { datagram = d; part = Main deed }) earlier ((deed, refl), way)
-  s_out_main d Stray earlier p parts way = let e : In ≡ Out = sym p.dir ∙ way in absurd (cc)
-  s_out_main d StrayAnswer earlier p parts way = any_later MainOut (record { datagram = d; part = StrayAnswer }) earlier (s_stray_main earlier parts (s_any_stray earlier (peer_of d) p.there))
-
-  s_any_main : (division : Division) → Parts division → Any GoesOut division → Any MainOut division
-  s_any_main [] parts any = absurd (any_none GoesOut any)
-  s_any_main (p ∷ earlier) parts any = elim (any_cases GoesOut p earlier any) [
-    | inl way ↦ s_out_main p.datagram p.part earlier parts.0 parts.1 way
-    | inr before ↦ any_later MainOut p earlier (s_any_main earlier parts.1 before)
   ]
 
   s_main_peer : (d : Datagram) (part : Part) (earlier : Division) → Part1 earlier d part → IsMain part → peer_of d ≡ ids.peer
@@ -193,7 +150,7 @@ module _ (service : ℕ) (says : Saying) (told : IsTold says) (ids : TransferIds
   s_some_asked : (division : Division) → Parts division → Own division → (last : Deed) (rest : History) → view_in division ≡ last ∷ rest → SAsked division
   s_some_asked [] parts own last rest e = absurd (cc)
   s_some_asked (p ∷ earlier) parts own last rest e =
-      s_asked_step p.datagram p.part earlier parts.0 own (view_in earlier) refl (s_some_asked earlier parts.1 (s_own_before p.datagram p.part earlier own)) last rest e
+      s_asked_step p.datagram p.part earlier parts.0 own (view_in earlier) refl (s_some_asked earlier parts.1 (starts_before Server p.datagram p.part earlier own)) last rest e
 
   s_view_step : (p : Placed) (earlier : Division) → MainOut p → (last : Deed) × (rest : History) × (view_in (p ∷ earlier) ≡ last ∷ rest)
   s_view_step p earlier ((deed, is), way) = (deed, view_in earlier, subst (λ x. view_in (record { datagram = p.datagram; part = x } ∷ earlier) ≡ deed ∷ view_in earlier) (sym is) refl)
@@ -205,7 +162,7 @@ module _ (service : ℕ) (says : Saying) (told : IsTold says) (ids : TransferIds
     | inr before ↦ view_more service says told ids p.datagram p.part earlier (s_view_some earlier before)
   ]
 
-  s_stray_there : (division : Division) → Parts division → (peer : PeerId) → Any (λ (p : Placed). (p.part ≡ Stray) × (peer_of p.datagram ≡ peer)) division
+  s_stray_there : (division : Division) → Parts division → (peer : PeerId) → Any (StrayFrom peer) division
       → Any MainOut division × (has_come_from peer (datagrams_of division) ≡ true) × (peer ≡ ids.peer → ⊥)
   s_stray_there [] parts peer any = absurd (any_none (λ (p : Placed). (p.part ≡ Stray) × (peer_of p.datagram ≡ peer)) any)
   s_stray_there (p ∷ earlier) parts peer any = elim (any_cases (λ (p : Placed). (p.part ≡ Stray) × (peer_of p.datagram ≡ peer)) p earlier any) [
@@ -253,9 +210,9 @@ module _ (service : ℕ) (says : Saying) (told : IsTold says) (ids : TransferIds
       | inr some ↦ s_out_later service ds d asked.0 some.0 asked.1 some.1 (out_true d p.dir) (s_local_is d asked.0 some.0 at_own some.1) (s_remote_is d asked.0 p.client asked.1)
     ]
 
-    s_route_took : (d : Datagram) (q : MachinePacket) → (q ≡ Req → ⊥) → Carries hh says ids earlier d (Took q) → HasServerId Server ids d × ((d.dir ≡ Out) ⊎ Any GoesOut earlier) → SAsked earlier → route_of hh ds d ≡ Route.Peer
+    s_route_took : (d : Datagram) (q : MachinePacket) → (q ≡ Req → ⊥) → Carries hh says ids earlier d (Took q) → HasServerId Server ids d × ((d.dir ≡ Out) ⊎ Any WentOut earlier) → SAsked earlier → route_of hh ds d ≡ Route.Peer
     s_route_took d q other p goes asked =
-        let went = s_any_main earlier parts (elim goes.1 [ inl way ↦ absurd (let e : In ≡ Out = sym p.dir ∙ way in cc) | inr before ↦ before ]) in
+        let went = any_main_out service says ids earlier parts (elim goes.1 [ inl way ↦ absurd (let e : In ≡ Out = sym p.dir ∙ way in cc) | inr before ↦ before ]) in
         let some = s_some_out earlier parts asked.0 (s_first_peer earlier parts asked.0 asked.1) went in
         s_in_peer service ds d asked.0 some.0 asked.1 some.1 (in_false d p.dir) (s_local_is d asked.0 some.0 goes.0 some.1) (told.other q other d.payload p.spells) (s_remote_is d asked.0 p.client asked.1)
 
@@ -296,6 +253,6 @@ module _ (service : ℕ) (says : Saying) (told : IsTold says) (ids : TransferIds
   pub routed_at_server : (division : Division) → Parts division → Own division → AreRoutedBy hh says division
   routed_at_server [] parts own = tt
   routed_at_server (p ∷ earlier) parts own =
-      let before = s_own_before p.datagram p.part earlier own in
+      let before = starts_before Server p.datagram p.part earlier own in
       let this = s_step earlier parts.1 before p.datagram p.part parts.0 own in
       (this.0, this.1, routed_at_server earlier parts.1 before)

@@ -8,26 +8,19 @@ use Rattle.tftp_packet.specs.declared.kinds.Dir.TheVariants.{In}
 use Rattle.tftp_ends.specs.CaptureText.{Datagram, Header, PeerId, peer_of}
 use Rattle.tftp_ends.specs.Ports.{comes_in, asks, first_of, has_come_from, same_peer, route_of}
 use Rattle.tftp_ends.specs.declared.route.Route.{Route}
-use Rattle.tftp_law.specs.Dress.{Part, Main, Stray, StrayAnswer, Placed, Division, datagrams_of, view_in, packet_of, TransferIds, Saying, HasPartBy, HavePartsBy}
+use Rattle.tftp_law.specs.Dress.{Part, Main, Stray, StrayAnswer, Division, datagrams_of, view_in, packet_of, TransferIds, Saying, HasPartBy, HavePartsBy}
 use Rattle.tftp_law.specs.Accord.{packet_route, part_route, AreRoutedBy, request_at, Starts}
 use Rattle.tftp_law.proofs.FirstRequests.{or_none, asks_is}
 use Rattle.tftp_law.proofs.RouteTests.{is_same}
 use Rattle.tftp_law.proofs.RoutesBack.{came_dir}
 use Rattle.tftp_law.proofs.Divided.{any_first, any_later}
+use Rattle.tftp_law.proofs.Placing.{one, starts_before, StrayFrom}
 
 -- ---- before the first request the view is empty
 
 request_route : (e : End) → packet_route (packet_of (request_at e)) ≡ Route.Request
 request_route Client = refl
 request_route Server = refl
-
-abbrev pub one : Datagram → Part → Division → Division
-one d part earlier = record { datagram = d; part = part } ∷ earlier
-
-pub starts_before : (e : End) (d : Datagram) (part : Part) (earlier : Division) → Starts e (view_in (one d part earlier)) → Starts e (view_in earlier)
-starts_before e d (Main deed) earlier starts = starts.1
-starts_before e d Stray earlier starts = starts
-starts_before e d StrayAnswer earlier starts = starts
 
 module _ (h : Header) (says : Saying) where
   none_step : (d : Datagram) (part : Part) (earlier : Division) → Starts h.named (view_in (one d part earlier)) → route_of h (datagrams_of earlier) d ≡ part_route part → first_of (asks h) (datagrams_of earlier) ≡ None
@@ -46,9 +39,6 @@ module _ (h : Header) (says : Saying) where
       none_step p.datagram p.part earlier starts routed.0 parts.0 parts.1 (none_view earlier routed.2 (starts_before h.named p.datagram p.part earlier starts) parts.0)
 
 -- ---- a stray is where something came from that is not the peer
-
-abbrev pub StrayFrom : PeerId → Placed → Type 0
-StrayFrom peer p = (p.part ≡ Stray) × (peer_of p.datagram ≡ peer)
 
 module _ (h : Header) (says : Saying) (ids : TransferIds)
     (came : (d : Datagram) (part : Part) (earlier : Division) → HasPartBy h says ids earlier d part → Starts h.named (view_in (one d part earlier)) → d.dir ≡ In → (peer_of d ≡ ids.peer → ⊥) → part ≡ Stray) where
