@@ -10,3 +10,4 @@ pub mod Wires
 pub mod Computed
 pub mod WorkedWindows
 pub mod Stores
+pub mod OneSided

@@ -4,6 +4,7 @@ pub mod CaptureText
 pub mod Roles
 pub mod Machines
 pub mod Runs
+pub mod OneSide
 pub mod Ports
 pub mod Rules
 pub mod Store

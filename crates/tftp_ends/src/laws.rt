@@ -30,6 +30,7 @@ ghost use Rattle.tftp_ends.specs.Runs.{
   IsView,
   IsComplete,
 };
+ghost use Rattle.tftp_ends.specs.OneSide.{IsOneSided};
 ghost use Rattle.tftp_ends.specs.Worked.{
   two_bytes,
   two_bytes_view,
@@ -189,6 +190,13 @@ pub fn the_request_comes_first()
         → HasSent (view_of Client steps) MachinePacket.Req) }
     ensures client { InEachRun (λ m wire steps. (p : MachinePacket) → HasSent (view_of Client steps) p
         → (p ≡ MachinePacket.Req) ⊎ ((q : MachinePacket) × HasTaken (view_of Client steps) q)) }
+{}
+
+/// A history is what an end did in some run of both exactly if each deed is one that this end might do, by what it had
+/// done itself: whatever it saw, another end can be made up that did its part.
+pub fn one_side_makes_a_run()
+    ensures alone { (m : Meaning) (wire : List ℕ) (e : End) (h : History) → IsView m wire e h → IsOneSided m wire e h }
+    ensures with_other { (m : Meaning) (wire : List ℕ) (e : End) (h : History) → IsOneSided m wire e h → IsView m wire e h }
 {}
 
 /// A block that is handed over is held then, unless other bytes are, and the other blocks are as before.

@@ -27,7 +27,8 @@ use Rattle.tftp_packet.specs.declared.packet.Packet.{Packet}
 use Rattle.tftp_law.specs.Rules.{Answer, Agrees, Begins, IsAnswer, NotAnswered, FirstAnswer, FirstAsked}
 use Rattle.tftp_law.specs.MessageRules.{IsFirstAnswer}
 use Rattle.tftp_law.specs.OneEnded.{OneEnded, IsAgreed, IsWhole, IsJoined, Meant}
-use Rattle.tftp_law.proofs.Settled.{Known, Settled, settled, not_both, first_one, terms_one, last_one}
+use Rattle.tftp_law.proofs.FirstAnswered.{Known, not_both, first_one, terms_one}
+use Rattle.tftp_law.proofs.Settled.{Settled, settled, last_one}
 use Rattle.tftp_law.proofs.OneMeaning.{one_meaning}
 use Rattle.tftp_law.specs.Settled.{AreOnce, HasOneLast}
 

@@ -10,6 +10,7 @@ pub mod Judged
 pub mod BlockRules
 pub mod EndRules
 pub mod PassFound
+pub mod ByRuns
 pub mod OneVerdict
 pub mod Gatherings
 pub mod TextVerdicts

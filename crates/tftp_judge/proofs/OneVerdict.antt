@@ -1,18 +1,18 @@
--- A capture has one verdict by the rules.
+-- A capture has one verdict, by the runs of two ends.
 use Rattle.std.proofs.Common.{◌≡◌, ◌⊎◌, ℕ, ◌+◌, ◌-◌, List, [], ◌∷◌, ◌++◌, length, get_or, inl, inr, refl, sym, subst, ap, ◌∙◌, append_assoc}
 use Rattle.std.specs.Prelude.{reverse}
-use Rattle.std.proofs.lemmas.List.{reverse-append}
 use Rattle.tftp_packet.specs.declared.fault.PacketFault.{PacketFault}
 use Rattle.tftp_packet.specs.declared.fault.PacketFault.TheVariants.{Short}
 use Rattle.tftp_packet.proofs.FaultOrder.{first_fault_unique}
 use Rattle.tftp_ends.specs.CaptureText.{Datagram, Header}
 use Rattle.tftp_law.specs.Rules.{number_of, Broken, FirstBroken}
 use Rattle.tftp_law.specs.declared.rule.Rule.{Rule}
-use Rattle.tftp_law.specs.OneEnded.{OneEnded}
-use Rattle.tftp_judge.specs.Verdict.{IsUnlawfulAt, IsVerdictByRules}
+use Rattle.tftp_law.specs.Law.{IsLawful}
+use Rattle.tftp_judge.specs.Verdict.{IsUnlawfulAt, IsVerdict}
 use Rattle.tftp_judge.specs.declared.verdict.Verdict.{Verdict}
 use Rattle.tftp_judge.specs.declared.verdict.Verdict.TheVariants.{Accepted, Unlawful, Incomplete, NormalTooLong}
-use Rattle.tftp_law.proofs.OneMeaning.{one_meaning}
+use Rattle.tftp_law.proofs.Beginnings.{beginning_is_lawful}
+use Rattle.tftp_law.proofs.TwoEnds.{one_shown}
 use Rattle.tftp_law.proofs.FirstBroken.{one_first_broken}
 
 -- ---- the rule
@@ -108,14 +108,6 @@ module _ (h : Header) (earlier : List Datagram) (d : Datagram) where
 
 -- ---- the datagram
 
-lawful_tail : (h : Header) (xs ys : List Datagram) → OneEnded h (xs ++ ys) → OneEnded h ys
-lawful_tail h [] ys lawful = lawful
-lawful_tail h (x ∷ xs) ys lawful = lawful_tail h xs ys lawful.1
-
--- what a lawful list begins with is lawful
-pub lawful_begin : (h : Header) (xs ys : List Datagram) → OneEnded h (reverse (xs ++ ys)) → OneEnded h (reverse xs)
-lawful_begin h xs ys lawful = lawful_tail h (reverse ys) (reverse xs) (subst (OneEnded h) (reverse-append xs ys) lawful)
-
 tail_same : (x y : Datagram) (xs ys : List Datagram) → x ∷ xs ≡ y ∷ ys → xs ≡ ys
 tail_same x y xs ys e = cc
 
@@ -142,14 +134,14 @@ ordered (p ∷ a) (q ∷ b) x y r s e = by (ordered a b x y r s (tail_same p q (
   by (after mid is) = after mid (ap (λ z. z ∷ a) same ∙ ap (λ ds. q ∷ ds) is)
 
 abbrev IsAt : Header → List Datagram → ℕ → Rule → Type 0
-IsAt h ds = IsUnlawfulAt (λ datagrams. OneEnded h (reverse datagrams)) h ds
+IsAt h ds = IsUnlawfulAt (IsLawful h) h ds
 
-pub not_lawful : (h : Header) (ds : List Datagram) (i : ℕ) (r : Rule) → IsAt h ds i r → OneEnded h (reverse ds) → ⊥
-not_lawful h ds i r u lawful = u.unlawful (lawful_begin h (u.before ++ u.datagram ∷ []) u.rest
-    (subst (λ x. OneEnded h (reverse x)) (u.split ∙ sym (append_assoc u.before (u.datagram ∷ []) u.rest)) lawful))
+pub not_lawful : (h : Header) (ds : List Datagram) (i : ℕ) (r : Rule) → IsAt h ds i r → IsLawful h ds → ⊥
+not_lawful h ds i r u is = u.unlawful (beginning_is_lawful h (u.before ++ u.datagram ∷ []) u.rest
+    (subst (IsLawful h) (u.split ∙ sym (append_assoc u.before (u.datagram ∷ []) u.rest)) is))
 
-not_inside : (h : Header) (ds : List Datagram) (i : ℕ) (r : Rule) (u : IsAt h ds i r) (b mid : List Datagram) → OneEnded h (reverse b) → b ≡ (u.before ++ u.datagram ∷ []) ++ mid → ⊥
-not_inside h ds i r u b mid lawful is = u.unlawful (lawful_begin h (u.before ++ u.datagram ∷ []) mid (subst (λ x. OneEnded h (reverse x)) is lawful))
+not_inside : (h : Header) (ds : List Datagram) (i : ℕ) (r : Rule) (u : IsAt h ds i r) (b mid : List Datagram) → IsLawful h b → b ≡ (u.before ++ u.datagram ∷ []) ++ mid → ⊥
+not_inside h ds i r u b mid front is = u.unlawful (beginning_is_lawful h (u.before ++ u.datagram ∷ []) mid (subst (IsLawful h) is front))
 
 one_place : (h : Header) (ds : List Datagram) (i j : ℕ) (r q : Rule) → IsAt h ds i r → IsAt h ds j q → Unlawful i r ≡ Unlawful j q
 one_place h ds i j r q u v = by (ordered u.before v.before u.datagram v.datagram u.rest v.rest (sym u.split ∙ v.split)) where
@@ -162,8 +154,8 @@ one_place h ds i j r q u v = by (ordered u.before v.before u.datagram v.datagram
 
 -- ---- the verdict
 
-pub one_verdict : (h : Header) (ds : List Datagram) (v w : Verdict) → IsVerdictByRules h ds v → IsVerdictByRules h ds w → v ≡ w
-one_verdict h ds (Accepted m) (Accepted n) one other = ap Accepted (one_meaning h (reverse ds) m n one.1 other.1)
+pub one_verdict : (h : Header) (ds : List Datagram) (v w : Verdict) → IsVerdict h ds v → IsVerdict h ds w → v ≡ w
+one_verdict h ds (Accepted m) (Accepted n) one other = ap Accepted (one_shown h ds m n one.1 other.1)
 one_verdict h ds (Accepted m) (Unlawful j q) one other = absurd (not_lawful h ds j q other one.0)
 one_verdict h ds (Accepted m) (Incomplete c) one other = absurd (other.1 m one.1)
 one_verdict h ds (Accepted m) NormalTooLong one other = absurd (other.2 m one.1 one.2)

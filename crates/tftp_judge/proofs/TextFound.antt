@@ -11,7 +11,7 @@ use Rattle.tftp_capture.specs.Fields.{datagram_of}
 use Rattle.tftp_ends.specs.CaptureText.{Header}
 use Rattle.tftp_judge.specs.Gathered.{EndsGathering, Gathers, fault_or, said_first}
 use Rattle.tftp_judge.specs.TextVerdict.{EndsText, IsTextVerdict, MayFollowFailure, unnumbered}
-use Rattle.tftp_judge.specs.Verdict.{IsVerdictByRules}
+use Rattle.tftp_judge.specs.Verdict.{IsVerdict}
 use Rattle.tftp_judge.specs.declared.verdict.Verdict.{Verdict}
 use Rattle.tftp_judge.specs.declared.verdict.Verdict.TheVariants.{Accepted, Unlawful, Incomplete, NormalTooLong}
 use Rattle.tftp_judge.proofs.TextVerdicts.{IsRead, MayGoOn, fault_stays_on, fault_verdict, kinds, none_in, said_on, said_verdict}
@@ -153,10 +153,10 @@ module _ (before now after : Option (List ℕ)) (failed : Bool) (begun ahead : L
   consumed_all = Consumes-trans before now (prepend_known ahead after) begun gathers.taken first gathers.consumed
 
   -- the judge had a verdict
-  pub found_said : (verdict : Verdict) → IsVerdictByRules header (map datagram_of items) verdict → IfErr gathered (λ fault. IsReadFault fault → ahead ≡ []) → IfErr gathered (λ fault. IsReadFault fault → failed ≡ true)
+  pub found_said : (verdict : Verdict) → IsVerdict header (map datagram_of items) verdict → IfErr gathered (λ fault. IsReadFault fault → ahead ≡ []) → IfErr gathered (λ fault. IsReadFault fault → failed ≡ true)
       → IsErrAnd gathered IsReadFault ⊎ (failed ≡ false) → Found before after failed (said_first verdict gathered)
   found_said verdict is drained read tally =
-      let by : IsVerdictByRules header (unnumbered gathers.datagrams) verdict = subst (λ ds. IsVerdictByRules header ds verdict) (sym gathers.are) is in
+      let by : IsVerdict header (unnumbered gathers.datagrams) verdict = subst (λ ds. IsVerdict header ds verdict) (sym gathers.are) is in
       record {
         taken = all_taken;
         closes = closed before after all_taken ahead (EndsText (said_first verdict gathered)) (IsRead (said_first verdict gathered)) consumed_all (λ h. end (said_ends verdict gathered h)) (said_read verdict gathered (ahead ≡ []) drained);

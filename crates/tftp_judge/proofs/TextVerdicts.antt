@@ -1,6 +1,5 @@
 -- What there is to say of a text, of its datagrams and its first fault; and that it is one.
 use Rattle.std.proofs.Common.{◌≡◌, ◌≢◌, ℕ, ◌⊎◌, inl, inr, List, [], ◌∷◌, ◌++◌, length, Result, Ok, Err, refl, sym, ap, ◌∙◌, subst, arith, append_assoc}
-use Rattle.std.specs.Prelude.{reverse}
 use Rattle.std.proofs.lemmas.List.{map-append}
 use Rattle.tftp_capture.specs.CaptureText.{Begins, BeginsWith, HasFault, IsCapture, Numbered}
 use Rattle.tftp_capture.specs.CaptureText.Reading.{Capture, Fault}
@@ -14,14 +13,15 @@ use Rattle.tftp_capture.proofs.Readings.{reads_same}
 use Rattle.tftp_capture.proofs.Staying.{stays}
 use Rattle.tftp_ends.specs.CaptureText.{Datagram, Header}
 use Rattle.tftp_judge.specs.Gathered.{GatheringTells, fault_or, said_first}
-use Rattle.tftp_law.specs.OneEnded.{OneEnded}
+use Rattle.tftp_law.specs.Law.{IsLawful}
 use Rattle.tftp_judge.specs.TextVerdict.{AllLawful, BeginsBy, EndsText, IsCaptureBy, IsOfText, IsTextVerdict, unnumbered}
-use Rattle.tftp_judge.specs.Verdict.{IsVerdictByRules}
+use Rattle.tftp_judge.specs.Verdict.{IsVerdict}
 use Rattle.tftp_law.specs.declared.rule.Rule.{Rule}
 use Rattle.tftp_judge.specs.declared.verdict.Verdict.{Verdict}
 use Rattle.tftp_judge.specs.declared.verdict.Verdict.TheVariants.{Accepted, Unlawful, Incomplete, NormalTooLong}
 use Rattle.tftp_judge.proofs.Gatherings.{begins_longer}
-use Rattle.tftp_judge.proofs.OneVerdict.{lawful_begin, not_lawful, one_verdict}
+use Rattle.tftp_law.proofs.Beginnings.{beginning_is_lawful, empty_is_lawful}
+use Rattle.tftp_judge.proofs.OneVerdict.{not_lawful, one_verdict}
 
 -- ---- what is said stays, whatever follows
 
@@ -42,13 +42,13 @@ IsRead (Err (Read line)) = Unit {0}
 IsRead (Err (Memory line)) = ⊥
 
 -- the datagrams that come first of lawful ones are lawful
-pub front_lawful : (h : Header) (ds es : List Numbered) → OneEnded h (reverse (unnumbered ds)) → BeginsWith ds es → OneEnded h (reverse (unnumbered es))
+pub front_lawful : (h : Header) (ds es : List Numbered) → IsLawful h (unnumbered ds) → BeginsWith ds es → IsLawful h (unnumbered es)
 front_lawful h ds es lawful (rest, is) =
-    lawful_begin h (unnumbered es) (unnumbered rest) (subst (λ x. OneEnded h (reverse x)) (ap unnumbered is ∙ map-append (λ (n : Numbered). n.1) es rest) lawful)
+    beginning_is_lawful h (unnumbered es) (unnumbered rest) (subst (IsLawful h) (ap unnumbered is ∙ map-append (λ (n : Numbered). n.1) es rest) lawful)
 
 -- before a fault there are lawful datagrams only
 abbrev pub LawfulIn : List ℕ → List Numbered → Type 0
-LawfulIn text ds = (h : Header) (es : List Numbered) → Begins text h es → BeginsWith ds es → OneEnded h (reverse (unnumbered es))
+LawfulIn text ds = (h : Header) (es : List Numbered) → Begins text h es → BeginsWith ds es → IsLawful h (unnumbered es)
 
 pub fault_verdict : (text : List ℕ) (ds : List Numbered) (fault : CaptureFault) → FaultTells fault text ds → LawfulIn text ds → IsTextVerdict text (Err fault)
 fault_verdict text ds (Text line fault) tells lawful = ((ds, tells), λ h es begins. lawful h es begins (fault_after text h ds es line fault tells begins))
@@ -56,9 +56,9 @@ fault_verdict text ds (Read line) tells lawful = ((ds, tells.0, tells.1), λ h e
 fault_verdict text ds (Memory line) tells lawful = tt
 
 -- the datagrams before the fault are known, and lawful
-pub lawful_in : (text : List ℕ) (h : Header) (ds : List Numbered) → Begins text h ds → OneEnded h (reverse (unnumbered ds)) → LawfulIn text ds
+pub lawful_in : (text : List ℕ) (h : Header) (ds : List Numbered) → Begins text h ds → IsLawful h (unnumbered ds) → LawfulIn text ds
 lawful_in text h ds begins lawful other es also front =
-    subst (λ x. OneEnded x (reverse (unnumbered es))) (agree text h other ds es begins also).0 (front_lawful h ds es lawful front)
+    subst (λ x. IsLawful x (unnumbered es)) (agree text h other ds es begins also).0 (front_lawful h ds es lawful front)
 
 none_front : (es rest : List Numbered) → [] ≡ es ++ rest → es ≡ []
 none_front [] rest e = refl
@@ -66,7 +66,7 @@ none_front (n ∷ es) rest e = absurd (omega (arith, ap length e))
 
 -- there are no datagrams before the fault
 pub none_in : (text : List ℕ) → LawfulIn text []
-none_in text h es begins (rest, is) = subst (λ x. OneEnded h (reverse (unnumbered x))) (sym (none_front es rest is)) tt
+none_in text h es begins (rest, is) = subst (λ x. IsLawful h (unnumbered x)) (sym (none_front es rest is)) (empty_is_lawful h)
 
 pub fault_stays_on : (text more : List ℕ) (ds : List Numbered) (fault : CaptureFault) → MayGoOn (Err fault) → FaultTells fault text ds → FaultTells fault (text ++ more) ds
 fault_stays_on text more ds (Text line fault) other tells = stays text more ds line fault other tells
@@ -74,7 +74,7 @@ fault_stays_on text more ds (Read line) other tells = absurd other
 fault_stays_on text more ds (Memory line) other tells = tt
 
 -- a verdict's datagrams are lawful, or it says which is not
-by_verdict : (h : Header) (ds : List Datagram) (verdict : Verdict) → IsVerdictByRules h ds verdict → ((index : ℕ) × (rule : Rule) × (verdict ≡ Unlawful index rule)) ⊎ (OneEnded h (reverse ds)
+by_verdict : (h : Header) (ds : List Datagram) (verdict : Verdict) → IsVerdict h ds verdict → ((index : ℕ) × (rule : Rule) × (verdict ≡ Unlawful index rule)) ⊎ (IsLawful h ds
     × ((gathered : Result (Unit {0}) CaptureFault) → said_first verdict gathered ≡ fault_or verdict gathered) × ((text : List ℕ) → IsCaptureBy text verdict → IsTextVerdict text (Ok verdict)) × (MayGoOn (Ok verdict) → ⊥))
 by_verdict h ds (Accepted m) is = inr (is.0, λ gathered. refl, λ text by. by, λ x. x)
 by_verdict h ds (Unlawful index rule) is = inl (index, rule, refl)
@@ -82,29 +82,29 @@ by_verdict h ds (Incomplete count) is = inr (is.0, λ gathered. refl, λ text by
 by_verdict h ds NormalTooLong is = inr (is.0, λ gathered. refl, λ text by. by, λ x. x)
 
 module _ (text : List ℕ) (h : Header) (ds : List Numbered) (begins : Begins text h ds) where
-  said_fault : (verdict : Verdict) (gathered : Result (Unit {0}) CaptureFault) → OneEnded h (reverse (unnumbered ds)) → GatheringTells gathered text h ds → IsVerdictByRules h (unnumbered ds) verdict
+  said_fault : (verdict : Verdict) (gathered : Result (Unit {0}) CaptureFault) → IsLawful h (unnumbered ds) → GatheringTells gathered text h ds → IsVerdict h (unnumbered ds) verdict
       → (IsCaptureBy text verdict → IsTextVerdict text (Ok verdict)) → IsTextVerdict text (fault_or verdict gathered)
   said_fault verdict (Ok _) lawful tells is by = by (h, ds, tells, is)
   said_fault verdict (Err fault) lawful tells is by = fault_verdict text ds fault tells (lawful_in text h ds begins lawful)
 
-  pub said_verdict : (verdict : Verdict) (gathered : Result (Unit {0}) CaptureFault) → GatheringTells gathered text h ds → IsVerdictByRules h (unnumbered ds) verdict → IsTextVerdict text (said_first verdict gathered)
+  pub said_verdict : (verdict : Verdict) (gathered : Result (Unit {0}) CaptureFault) → GatheringTells gathered text h ds → IsVerdict h (unnumbered ds) verdict → IsTextVerdict text (said_first verdict gathered)
   said_verdict verdict gathered tells is = elim (by_verdict h (unnumbered ds) verdict is) as (λ _. IsTextVerdict text (said_first verdict gathered)) [
     | inl u ↦
-        subst (λ v. IsTextVerdict text (said_first v gathered)) (sym u.2) (h, ds, begins, subst (IsVerdictByRules h (unnumbered ds)) u.2 is)
+        subst (λ v. IsTextVerdict text (said_first v gathered)) (sym u.2) (h, ds, begins, subst (IsVerdict h (unnumbered ds)) u.2 is)
     | inr o ↦ subst (IsTextVerdict text) (sym (o.1 gathered)) (said_fault verdict gathered o.0 tells is (o.2 text))
   ]
 
-  fault_on : (verdict : Verdict) (gathered : Result (Unit {0}) CaptureFault) (more : List ℕ) → OneEnded h (reverse (unnumbered ds)) → GatheringTells gathered text h ds → (MayGoOn (Ok verdict) → ⊥)
+  fault_on : (verdict : Verdict) (gathered : Result (Unit {0}) CaptureFault) (more : List ℕ) → IsLawful h (unnumbered ds) → GatheringTells gathered text h ds → (MayGoOn (Ok verdict) → ⊥)
       → MayGoOn (fault_or verdict gathered) → IsTextVerdict (text ++ more) (fault_or verdict gathered)
   fault_on verdict (Ok _) more lawful tells none may = absurd (none may)
   fault_on verdict (Err fault) more lawful tells none may =
       fault_verdict (text ++ more) ds fault (fault_stays_on text more ds fault may tells) (lawful_in (text ++ more) h ds (begins_longer text more h ds begins) lawful)
 
-  pub said_on : (verdict : Verdict) (gathered : Result (Unit {0}) CaptureFault) (more : List ℕ) → GatheringTells gathered text h ds → IsVerdictByRules h (unnumbered ds) verdict → MayGoOn (said_first verdict gathered)
+  pub said_on : (verdict : Verdict) (gathered : Result (Unit {0}) CaptureFault) (more : List ℕ) → GatheringTells gathered text h ds → IsVerdict h (unnumbered ds) verdict → MayGoOn (said_first verdict gathered)
       → IsTextVerdict (text ++ more) (said_first verdict gathered)
   said_on verdict gathered more tells is may = elim (by_verdict h (unnumbered ds) verdict is) as (λ _. IsTextVerdict (text ++ more) (said_first verdict gathered)) [
     | inl u ↦
-        subst (λ v. IsTextVerdict (text ++ more) (said_first v gathered)) (sym u.2) (h, ds, begins_longer text more h ds begins, subst (IsVerdictByRules h (unnumbered ds)) u.2 is)
+        subst (λ v. IsTextVerdict (text ++ more) (said_first v gathered)) (sym u.2) (h, ds, begins_longer text more h ds begins, subst (IsVerdict h (unnumbered ds)) u.2 is)
     | inr o ↦ subst (IsTextVerdict (text ++ more)) (sym (o.1 gathered)) (fault_on verdict gathered more o.0 tells o.3 (subst MayGoOn (o.1 gathered) may))
   ]
 
@@ -134,8 +134,8 @@ kinds (Err (Text line TextTooLong)) = inl (λ e. cc)
 -- what is said of a text
 data Said (text : List ℕ) : Result Verdict CaptureFault → Type 0 where
   unlawful : (index : ℕ) (rule : Rule) → BeginsBy text (Unlawful index rule) → Said text (Ok (Unlawful index rule))
-  captured : (verdict : Verdict) (header : Header) (datagrams : List Numbered) → IsCapture text header datagrams → IsVerdictByRules header (unnumbered datagrams) verdict
-      → OneEnded header (reverse (unnumbered datagrams)) → Said text (Ok verdict)
+  captured : (verdict : Verdict) (header : Header) (datagrams : List Numbered) → IsCapture text header datagrams → IsVerdict header (unnumbered datagrams) verdict
+      → IsLawful header (unnumbered datagrams) → Said text (Ok verdict)
   faulty : (line : ℕ) (fault : TextFault) (datagrams : List Numbered) → HasFault text datagrams line fault → AllLawful text → Said text (Err (Text line fault))
 
 said_is : (text : List ℕ) (r : Result Verdict CaptureFault) → IsOfText r → IsTextVerdict text r → Said text r
@@ -148,7 +148,7 @@ said_is text (Err (Read line)) of is = absurd of
 said_is text (Err (Memory line)) of is = absurd of
 
 -- what is unlawful of the first datagrams is so of all
-longer_unlawful : (h : Header) (ds es : List Numbered) (index : ℕ) (rule : Rule) → BeginsWith ds es → IsVerdictByRules h (unnumbered es) (Unlawful index rule) → IsVerdictByRules h (unnumbered ds) (Unlawful index rule)
+longer_unlawful : (h : Header) (ds es : List Numbered) (index : ℕ) (rule : Rule) → BeginsWith ds es → IsVerdict h (unnumbered es) (Unlawful index rule) → IsVerdict h (unnumbered ds) (Unlawful index rule)
 longer_unlawful h ds es index rule (rest, is) u = record {
   before = u.before;
   datagram = u.datagram;
@@ -163,16 +163,16 @@ longer_unlawful h ds es index rule (rest, is) u = record {
 both_unlawful : (text : List ℕ) (i j : ℕ) (r q : Rule) → BeginsBy text (Unlawful i r) → BeginsBy text (Unlawful j q) → Unlawful i r ≡ Unlawful j q
 both_unlawful text i j r q (h, ds, begins, is) (k, es, also, other) =
     let same = agree text h k ds es begins also in
-    let there = subst (λ x. IsVerdictByRules x (unnumbered es) (Unlawful j q)) (sym same.0) other in
+    let there = subst (λ x. IsVerdict x (unnumbered es) (Unlawful j q)) (sym same.0) other in
     elim same.1 as (λ _. Unlawful i r ≡ Unlawful j q) [
       | inl front ↦ one_verdict h (unnumbered ds) (Unlawful i r) (Unlawful j q) is (longer_unlawful h ds es j q front there)
       | inr front ↦ one_verdict h (unnumbered es) (Unlawful i r) (Unlawful j q) (longer_unlawful h es ds i r front is) there
     ]
 
-unlawful_or_captured : (text : List ℕ) (i : ℕ) (r : Rule) (h : Header) (ds : List Numbered) → BeginsBy text (Unlawful i r) → IsCapture text h ds → OneEnded h (reverse (unnumbered ds)) → ⊥
+unlawful_or_captured : (text : List ℕ) (i : ℕ) (r : Rule) (h : Header) (ds : List Numbered) → BeginsBy text (Unlawful i r) → IsCapture text h ds → IsLawful h (unnumbered ds) → ⊥
 unlawful_or_captured text i r h ds (k, es, begins, is) capture lawful =
     let first = capture_has text h k ds es capture begins in
-    not_lawful h (unnumbered ds) i r (longer_unlawful h ds es i r first.1 (subst (λ x. IsVerdictByRules x (unnumbered es) (Unlawful i r)) first.0 is)) lawful
+    not_lawful h (unnumbered ds) i r (longer_unlawful h ds es i r first.1 (subst (λ x. IsVerdict x (unnumbered es) (Unlawful i r)) first.0 is)) lawful
 
 unlawful_or_faulty : (text : List ℕ) (i : ℕ) (r : Rule) → BeginsBy text (Unlawful i r) → AllLawful text → ⊥
 unlawful_or_faulty text i r (h, ds, begins, is) lawful = not_lawful h (unnumbered ds) i r is (lawful h ds begins)
@@ -180,12 +180,12 @@ unlawful_or_faulty text i r (h, ds, begins, is) lawful = not_lawful h (unnumbere
 captured_or_faulty : (text : List ℕ) (h : Header) (ds es : List Numbered) (line : ℕ) (fault : TextFault) → IsCapture text h ds → HasFault text es line fault → ⊥
 captured_or_faulty text h ds es line fault capture has = let same = reads_same text (Capture h ds) (Fault es line fault) capture has in cc
 
-both_captured : (text : List ℕ) (h k : Header) (ds es : List Numbered) (v w : Verdict) → IsCapture text h ds → IsCapture text k es → IsVerdictByRules h (unnumbered ds) v → IsVerdictByRules k (unnumbered es) w → v ≡ w
+both_captured : (text : List ℕ) (h k : Header) (ds es : List Numbered) (v w : Verdict) → IsCapture text h ds → IsCapture text k es → IsVerdict h (unnumbered ds) v → IsVerdict k (unnumbered es) w → v ≡ w
 both_captured text h k ds es v w one other is also =
     let same = reads_same text (Capture h ds) (Capture k es) one other in
     let headers : h ≡ k = cc in
     let lists : ds ≡ es = cc in
-    one_verdict k (unnumbered es) v w (subst (λ x. IsVerdictByRules k (unnumbered x) v) lists (subst (λ x. IsVerdictByRules x (unnumbered ds) v) headers is)) also
+    one_verdict k (unnumbered es) v w (subst (λ x. IsVerdict k (unnumbered x) v) lists (subst (λ x. IsVerdict x (unnumbered ds) v) headers is)) also
 
 both_faulty : (text : List ℕ) (ds es : List Numbered) (l m : ℕ) (f g : TextFault) → HasFault text ds l f → HasFault text es m g → (l ≡ m) × (f ≡ g)
 both_faulty text ds es l m f g one other = let same = reads_same text (Fault ds l f) (Fault es m g) one other in (cc, cc)

@@ -1,12 +1,12 @@
--- What there is to say of a capture text, by the rules at the named end.
-use Rattle.std.specs.Prelude.{List, ℕ, map, reverse, Result, Ok, Err}
+-- What there is to say of a capture text, by the runs of two ends.
+use Rattle.std.specs.Prelude.{List, ℕ, map, Result, Ok, Err}
 use Rattle.tftp_capture.specs.CaptureText.{Begins, Due, HasFault, IsCapture, Numbered, Unfinished}
 use Rattle.tftp_capture.specs.History.{IsAtTextEnd}
 use Rattle.tftp_capture.specs.declared.fault.CaptureFault.{CaptureFault}
 use Rattle.tftp_capture.specs.declared.fault.CaptureFault.TheVariants.{Text, Read, Memory}
 use Rattle.tftp_ends.specs.CaptureText.{Datagram, Header}
-use Rattle.tftp_law.specs.OneEnded.{OneEnded}
-use Rattle.tftp_judge.specs.Verdict.{IsVerdictByRules}
+use Rattle.tftp_law.specs.Law.{IsLawful}
+use Rattle.tftp_judge.specs.Verdict.{IsVerdict}
 use Rattle.tftp_judge.specs.declared.verdict.Verdict.{Verdict}
 use Rattle.tftp_judge.specs.declared.verdict.Verdict.TheVariants.{Accepted, Unlawful, Incomplete, NormalTooLong}
 
@@ -16,15 +16,15 @@ unnumbered datagrams = map (λ d. d.1) datagrams
 
 -- the text begins with datagrams of which this is the verdict
 abbrev pub BeginsBy : List ℕ → Verdict → Type 0
-BeginsBy text verdict = (header : Header) × (datagrams : List Numbered) × Begins text header datagrams × IsVerdictByRules header (unnumbered datagrams) verdict
+BeginsBy text verdict = (header : Header) × (datagrams : List Numbered) × Begins text header datagrams × IsVerdict header (unnumbered datagrams) verdict
 
 -- the text is a capture of datagrams of which this is the verdict
 abbrev pub IsCaptureBy : List ℕ → Verdict → Type 0
-IsCaptureBy text verdict = (header : Header) × (datagrams : List Numbered) × IsCapture text header datagrams × IsVerdictByRules header (unnumbered datagrams) verdict
+IsCaptureBy text verdict = (header : Header) × (datagrams : List Numbered) × IsCapture text header datagrams × IsVerdict header (unnumbered datagrams) verdict
 
 -- the datagrams that a text begins with are lawful, however many of them one takes
 abbrev pub AllLawful : List ℕ → Type 0
-AllLawful text = (header : Header) (datagrams : List Numbered) → Begins text header datagrams → OneEnded header (reverse (unnumbered datagrams))
+AllLawful text = (header : Header) (datagrams : List Numbered) → Begins text header datagrams → IsLawful header (unnumbered datagrams)
 
 -- The first unlawful datagram on the lines before the text's first fault; else that fault; else the verdict on the
 -- datagrams. A text whose reading failed is what came before.

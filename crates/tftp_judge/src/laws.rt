@@ -1,6 +1,6 @@
 //! Laws of the definitions in `specs/`. Each is the contract of a function that does nothing.
 
-ghost use Rattle.std.specs.Prelude.{◌≡◌, ◌≢◌, ℕ, List, ◌∷◌, Result};
+ghost use Rattle.std.specs.Prelude.{◌≡◌, ◌↔◌, ◌≢◌, ℕ, List, ◌∷◌, Result};
 ghost use Rattle.tftp_packet.specs.OptionMap.{OptionMap, no_options};
 ghost use Rattle.tftp_packet.specs.Message.{RequestParts};
 ghost use Rattle.tftp_ends.specs.CaptureText.{Datagram, Header};
@@ -12,14 +12,20 @@ ghost use Rattle.tftp_law.specs.declared.rule.Rule.{Rule};
 ghost use Rattle.tftp_ends.specs.Meaning.{Meaning};
 ghost use Rattle.tftp_law.specs.OneEnded.{OneEnded, IsRefused, Meant};
 ghost use Rattle.tftp_judge.specs.TextVerdict.{IsOfText, IsTextVerdict};
-ghost use Rattle.tftp_judge.specs.Verdict.{IsVerdictByRules};
+ghost use Rattle.tftp_judge.specs.Verdict.{IsVerdict, IsVerdictByRules};
 ghost use Rattle.tftp_capture.specs.declared.fault.CaptureFault.{CaptureFault};
 ghost use Rattle.tftp_judge.specs.declared.verdict.Verdict.{Verdict};
 
-/// A list of datagrams has one verdict by the rules.
+/// The verdict by the runs of two ends is the verdict by the rules at one.
+pub fn rules_give_the_verdict()
+    ensures { (header : Header) (datagrams : List Datagram) (v : Verdict) → IsVerdict header datagrams v
+        ↔ IsVerdictByRules header datagrams v }
+{}
+
+/// A list of datagrams has one verdict.
 pub fn verdict_is_one()
-    ensures { (header : Header) (datagrams : List Datagram) (v w : Verdict) → IsVerdictByRules header datagrams v
-        → IsVerdictByRules header datagrams w → v ≡ w }
+    ensures { (header : Header) (datagrams : List Datagram) (v w : Verdict) → IsVerdict header datagrams v
+        → IsVerdict header datagrams w → v ≡ w }
 {}
 
 /// And a text has one verdict, whoever reads it: two that are of the text, and tell neither of a failed read nor of want

@@ -11,8 +11,8 @@ use std::alloc::Global;
 use std::io::Read;
 use tftp_capture::{CaptureFault, CaptureReader, Datagram, Tallied};
 
-/// What there is to say of a capture text, by the rules at the named end (RFC 1350; RFC 2347; RFC 7440): the first
-/// unlawful datagram on the lines before the text's first fault, else that fault, else the verdict on its datagrams. A
+/// What there is to say of a capture text, by the runs of two ends (RFC 1350; RFC 2347; RFC 7440): the first unlawful
+/// datagram on the lines before the text's first fault, else that fault, else the verdict on its datagrams. A
 /// fault is the text's first, a failed read, or want of memory, with its line, counted from 1. The text's datagrams are
 /// held in memory; the text is not, and may have 2^40 bytes.
 pub fn judge_text<R: Read>(alloc: Global, reader: &mut Tallied<R>) -> Result<Verdict, CaptureFault>

@@ -4,12 +4,12 @@ use tftp_law::Rule;
 /// What there is to say of the datagrams of a capture.
 #[derive(Debug, Drop)]
 pub enum Verdict {
-    /// They are one whole transfer, with this meaning.
+    /// A run of two ends shows them as one whole transfer, with this meaning.
     Accepted(Meaning),
-    /// The first datagram that breaks a rule, counted from 1, and the first rule in the order that it breaks.
+    /// The first datagram with which no run is left, counted from 1, and the first rule in the order that it breaks.
     Unlawful(u64, Rule),
-    /// They break no rule and are no whole transfer; how many they are.
+    /// A run shows them, and none as a whole transfer; how many they are.
     Incomplete(u64),
-    /// They are one whole transfer, of a text whose canonical form has more than 65535 blocks.
+    /// A run shows them as a whole transfer, of a text whose canonical form has more than 65535 blocks.
     NormalTooLong,
 }

@@ -32,17 +32,27 @@ begins_asked payload (Message.Ack j) (b, (x, y, pair, is)) begins = absurd (othe
 begins_asked payload (Message.Error code text) (b, (x, y, pair, string, is)) begins = absurd (other_opcode payload 5 (ap opcode_of is) (omega arith) begins)
 begins_asked payload (Message.Oack options) (b, l) begins = absurd (other_opcode payload 6 (ap opcode_of l.bytes) (omega arith) begins)
 
--- ---- the first request
+-- ---- the first that passes a test
 
-or_none : (o : Option Datagram) (b : Bool) (d : Datagram) → or_this o b d ≡ None → (o ≡ None) × (b ≡ false)
-or_none None false d e = (refl, refl)
-or_none None true d e = absurd (cc)
-or_none (Some x) b d e = absurd (cc)
+pub some_same : {X : Type 0} (a b : X) → Some a ≡ Some b → a ≡ b
+some_same a b e = cc
 
-or_some : (o : Option Datagram) (b : Bool) (d x : Datagram) → or_this o b d ≡ Some x → (o ≡ Some x) ⊎ ((o ≡ None) × (b ≡ true) × (d ≡ x))
+pub request_same : (a b : RequestParts) → Message.Request a ≡ Message.Request b → a ≡ b
+request_same a b e = cc
+
+pub or_none : {X : Type 0} (o : Option X) (b : Bool) (x : X) → or_this o b x ≡ None → (o ≡ None) × (b ≡ false)
+or_none None true x e = absurd (cc)
+or_none None false x e = (refl, refl)
+or_none (Some y) b x e = absurd (cc)
+
+pub or_some : (o : Option Datagram) (b : Bool) (d x : Datagram) → or_this o b d ≡ Some x → (o ≡ Some x) ⊎ ((o ≡ None) × (b ≡ true) × (d ≡ x))
 or_some (Some y) b d x e = inl e
 or_some None true d x e = inr (refl, refl, cc)
 or_some None false d x e = absurd (cc)
+
+-- what was first stays first
+pub first_stays : {X : Type 0} (test : X → Bool) (x y : X) (xs : List X) → first_of test xs ≡ Some y → first_of test (x ∷ xs) ≡ Some y
+first_stays test x y xs is = ap (λ o. or_this o (test x) x) is
 
 -- its route, where none came before
 asks_by : (b c : Bool) → (if b then (if c then Route.Request else Route.WrongPort) else Route.Peer) ≡ Route.Request → (b ≡ true) × (c ≡ true)
@@ -55,7 +65,7 @@ asked_by true true e = refl
 asked_by true false e = absurd (false≢true e)
 asked_by false c e = absurd (false≢true e)
 
-before_is : (h : Header) (ds : List Datagram) (d : Datagram) → first_of (asks h) ds ≡ None → route_of h ds d ≡ route_before h d
+pub before_is : (h : Header) (ds : List Datagram) (d : Datagram) → first_of (asks h) ds ≡ None → route_of h ds d ≡ route_before h d
 before_is h ds d e = rw e
 
 not_main : (r : Route) → (r ≡ Route.Request → ⊥) → (r ≡ Route.Peer → ⊥) → is_of_transfer r ≡ false
@@ -75,10 +85,14 @@ module _ (h : Header) where
   abbrev to_service : Datagram → Bool
   to_service d = port_of_server h.named d == h.service
 
-  asks_is : (ds : List Datagram) (d : Datagram) → first_of (asks h) ds ≡ None → route_of h ds d ≡ Route.Request → asks h d ≡ true
+  pub asks_is : (ds : List Datagram) (d : Datagram) → first_of (asks h) ds ≡ None → route_of h ds d ≡ Route.Request → asks h d ≡ true
   asks_is ds d none is =
       let parts = asks_by (from_begins d) (to_service d) (sym (before_is h ds d none) ∙ is) in
       ap (λ (b : Bool). b && to_service d) parts.0 ∙ parts.1
+
+  -- and what asks then has the route of a request
+  pub asks_route : (ds : List Datagram) (d : Datagram) → first_of (asks h) ds ≡ None → asks h d ≡ true → route_of h ds d ≡ Route.Request
+  asks_route ds d none t = before_is h ds d none ∙ asked_by (from_begins d) (to_service d) t
 
   pub none_before : (ds : List Datagram) → first_of (asks h) ds ≡ None → OneEnded h ds → transfer_of h ds ≡ []
   none_before [] none one = refl
@@ -100,7 +114,7 @@ module _ (h : Header) where
 
   request_read : (ds : List Datagram) (d : Datagram) → first_of (asks h) ds ≡ None → asks h d ≡ true → IsRead (route_of h ds d) d → (asked : RequestParts) × Spells d.payload (Message.Request asked)
   request_read ds d none t read =
-      let route : route_of h ds d ≡ Route.Request = before_is h ds d none ∙ asked_by (from_begins d) (to_service d) t in
+      let route = asks_route ds d none t in
       let (m, s) = subst (λ r. IsRead r d) route read in
       let (asked, is) = first_spells ds d m none route s in
       (asked, subst (Spells d.payload) is s)
@@ -114,14 +128,8 @@ module _ (h : Header) where
 
   pub asked_once : (ds : List Datagram) (a b : RequestParts) → FirstAsked h ds a → FirstAsked h ds b → a ≡ b
   asked_once ds a b (d, is, s) (e, at, t) =
-      let same : d ≡ e = some_same (sym is ∙ at) in
-      request_same (spelled_once d.payload (Message.Request a) (Message.Request b) s (subst (λ (y : Datagram). Spells y.payload (Message.Request b)) (sym same) t))
-    where
-      some_same : Some d ≡ Some e → d ≡ e
-      some_same p = cc
-
-      request_same : Message.Request a ≡ Message.Request b → a ≡ b
-      request_same p = cc
+      let same : d ≡ e = some_same d e (sym is ∙ at) in
+      request_same a b (spelled_once d.payload (Message.Request a) (Message.Request b) s (subst (λ (y : Datagram). Spells y.payload (Message.Request b)) (sym same) t))
 
   -- where nothing was asked for, no request came
   by_first : (o : Option Datagram) (ds : List Datagram) → first_of (asks h) ds ≡ o → OneEnded h ds → ((asked : RequestParts) → FirstAsked h ds asked → ⊥) → o ≡ None
@@ -134,11 +142,8 @@ module _ (h : Header) where
   -- what is asked for first is what the first request spells
   pub asked_of : (ds : List Datagram) (d : Datagram) → Some d ≡ first_of (asks h) ds → (asked : RequestParts) → FirstAsked h ds asked → Spells d.payload (Message.Request asked)
   asked_of ds d is asked (e, at, s) =
-      let same : d ≡ e = some_same (is ∙ at) in
+      let same : d ≡ e = some_same d e (is ∙ at) in
       subst (λ (y : Datagram). Spells y.payload (Message.Request asked)) (sym same) s
-    where
-      some_same : Some d ≡ Some e → d ≡ e
-      some_same p = cc
 
 -- a packet that says a request is one
 pub request_packet : (p : Packet) (asked : RequestParts) → meaning p ≡ Message.Request asked → ((request : WrittenRequest) → p ≡ packet.Request request → ⊥) → ⊥

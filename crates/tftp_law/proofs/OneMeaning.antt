@@ -24,7 +24,9 @@ use Rattle.tftp_ends.specs.declared.terms.Terms.{Terms}
 use Rattle.tftp_law.specs.Fits.{ReadsAs}
 use Rattle.tftp_law.specs.Rules.{Answer, Agrees, Begins, IsAnswer, Answers, FirstAnswer, AreTerms}
 use Rattle.tftp_law.specs.OneEnded.{IsAgreed, IsJoined, Meant}
-use Rattle.tftp_law.proofs.Settled.{Settled, settled, asked_one, first_one, terms_one, last_one}
+use Rattle.tftp_law.proofs.Settled.{Settled, settled, last_one}
+use Rattle.tftp_law.proofs.FirstAnswered.{first_one, terms_one}
+use Rattle.tftp_law.proofs.FirstRequests.{asked_once}
 
 -- ---- numbers that were agreed are in range
 
@@ -115,7 +117,7 @@ whole a b c d f g e p q = λ i. meaning_from (e i, (p i, q i))
 
 pub one_meaning : (h : Header) (earlier : List Datagram) (m n : Meaning) → Meant h earlier m → Meant h earlier n → m ≡ n
 one_meaning h earlier m n one other =
-    let request = asked_one h earlier (request_of m) (request_of n) one.asked other.asked in
+    let request = asked_once h earlier (request_of m) (request_of n) one.asked other.asked in
     let terms = terms_one h earlier other.ended.terms one.ended.terms other.ended.known one.ended.known in
     let s = settled h earlier one.ended.lawful (request_of m) one.asked one.ended.terms one.ended.known in
     let agreed = agreed_one (request_of m) (transfer_of h earlier) m.agreed n.agreed one.agreed (subst (λ r. IsAgreed r (transfer_of h earlier) n.agreed) (sym request) other.agreed) in

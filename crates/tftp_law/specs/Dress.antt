@@ -73,11 +73,22 @@ GoesToServer header ids earlier d _ =
     HasServerId header.named ids d
     × ((d.dir ≡ from_server header.named) ⊎ Any (λ p. p.datagram.dir ≡ from_server header.named) earlier)
 
-pub record CarriesDeed (header : Header) (m : Meaning) (wire : List ℕ) (ids : TransferIds) (earlier : Division) (d : Datagram) (deed : Deed) : Type 0 where
+-- which payloads say a packet
+abbrev pub Saying : Type 1
+Saying = MachinePacket → List ℕ → Type 0
+
+-- as this meaning and wire say it
+abbrev pub says_of : Meaning → List ℕ → Saying
+says_of m wire p payload = Spells payload (message_of m wire p)
+
+pub record Carries (header : Header) (says : Saying) (ids : TransferIds) (earlier : Division) (d : Datagram) (deed : Deed) : Type 0 where
   pub dir : d.dir ≡ dir_of deed
   pub client : HasClientId header.named ids d
   pub server : GoesToServer header ids earlier d (packet_of deed)
-  pub spells : Spells d.payload (message_of m wire (packet_of deed))
+  pub spells : says (packet_of deed) d.payload
+
+abbrev pub CarriesDeed : Header → Meaning → List ℕ → TransferIds → Division → Datagram → Deed → Type 0
+CarriesDeed header m wire ids earlier d deed = Carries header (says_of m wire) ids earlier d deed
 
 -- Once the server has answered, a datagram that comes from elsewhere is no part of the transfer. Where the server goes
 -- on from the service port, a request from elsewhere is no stray: it would be another client's.
@@ -95,14 +106,20 @@ pub record AnswersStray (header : Header) (ids : TransferIds) (earlier : Divisio
   pub there : Any (λ p. (p.part ≡ Stray) × (peer_of p.datagram ≡ peer_of d)) earlier
   pub spells : (text : List ℕ) × Spells d.payload (Message.Error 5 text)
 
+abbrev pub HasPartBy : Header → Saying → TransferIds → Division → Datagram → Part → Type 0
+HasPartBy header says ids earlier d (Main deed) = Carries header says ids earlier d deed
+HasPartBy header says ids earlier d Stray = ComesAstray header ids earlier d
+HasPartBy header says ids earlier d StrayAnswer = AnswersStray header ids earlier d
+
+abbrev pub HavePartsBy : Header → Saying → TransferIds → Division → Type 0
+HavePartsBy header says ids [] = Unit {0}
+HavePartsBy header says ids (p ∷ earlier) = HasPartBy header says ids earlier p.datagram p.part × HavePartsBy header says ids earlier
+
 abbrev pub HasPart : Header → Meaning → List ℕ → TransferIds → Division → Datagram → Part → Type 0
-HasPart header m wire ids earlier d (Main deed) = CarriesDeed header m wire ids earlier d deed
-HasPart header m wire ids earlier d Stray = ComesAstray header ids earlier d
-HasPart header m wire ids earlier d StrayAnswer = AnswersStray header ids earlier d
+HasPart header m wire ids earlier d part = HasPartBy header (says_of m wire) ids earlier d part
 
 abbrev pub HaveParts : Header → Meaning → List ℕ → TransferIds → Division → Type 0
-HaveParts header m wire ids [] = Unit {0}
-HaveParts header m wire ids (p ∷ earlier) = HasPart header m wire ids earlier p.datagram p.part × HaveParts header m wire ids earlier
+HaveParts header m wire ids division = HavePartsBy header (says_of m wire) ids division
 
 -- The datagrams, the oldest first, can be divided so that the main ones are the view.
 pub record IsDressed (header : Header) (m : Meaning) (wire : List ℕ) (view : History) (datagrams : List Datagram) : Type 0 where

@@ -10,3 +10,5 @@ pub mod PortRules
 pub mod MessageRules
 pub mod Settled
 pub mod Owned
+pub mod Accord
+pub mod Divides

@@ -3,5 +3,6 @@
 
 pub mod laws;
 mod rule;
+pub mod two_ends;
 
 pub use rule::Rule;

@@ -1,7 +1,7 @@
 ghost use Rattle.std.specs.Prelude.{◌≡◌, map, IfOk, OnOk};
 ghost use Rattle.tftp_capture.specs.Fields.{datagram_of, header_of};
 ghost use Rattle.tftp_judge.specs.Plain.{Keeps};
-ghost use Rattle.tftp_judge.specs.Verdict.{IsVerdictByRules};
+ghost use Rattle.tftp_judge.specs.Verdict.{IsVerdict};
 ghost use Rattle.tftp_law.specs.declared.rule.Rule.{Rule};
 ghost use Rattle.tftp_judge.specs.declared.plain.stop.Stop.{Stop};
 ghost use Rattle.tftp_judge.specs.declared.verdict.Verdict.{Verdict};
@@ -15,10 +15,11 @@ use std::alloc::{AllocError, Global};
 use tftp_capture::{Datagram, Header};
 use tftp_packet::Packet;
 
-/// What there is to say, by the rules at the named end, of the datagrams of a capture, the oldest first (RFC 1350;
-/// RFC 2347; RFC 7440). Its time grows about with the square of their number. An error is want of memory.
+/// What there is to say of the datagrams of a capture, the oldest first, by the runs of two ends (RFC 1350; RFC 2347;
+/// RFC 7440). It tries the rules at the named end, which come to the same. Its time grows about with the square of the
+/// number of datagrams. An error is want of memory.
 pub fn judge(alloc: Global, header: &Header, datagrams: &[Datagram]) -> Result<Verdict, AllocError>
-    ensures { IfOk result (IsVerdictByRules (header_of header.now) (map datagram_of datagrams.now)) }
+    ensures { IfOk result (IsVerdict (header_of header.now) (map datagram_of datagrams.now)) }
 {
     let mut transfer = Vec::new(alloc);
     for (index, datagram) in datagrams.iter().enumerate() {

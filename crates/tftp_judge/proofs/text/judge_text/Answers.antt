@@ -3,7 +3,7 @@ use Rattle.std.specs.Prelude.{map}
 use Rattle.std.specs.Io.KnownBytes.{prepend_known}
 use Rattle.tftp_capture.specs.Fields.{datagram_of, header_of}
 use Rattle.tftp_capture.specs.declared.fault.CaptureFault.TheVariants.{Memory}
-use Rattle.tftp_judge.specs.Verdict.{IsVerdictByRules}
+use Rattle.tftp_judge.specs.Verdict.{IsVerdict}
 use Rattle.tftp_judge.proofs.text.judge_text.Given.{Over}
 use Rattle.std.proofs.lemmas.Result.{err_from_is_err_and}
 use Rattle.tftp_judge.proofs.TextFound.{Found, found_ended, found_judged, found_memory, found_no_header, found_said, found_whole}
@@ -31,8 +31,8 @@ said g c =
     let begun = c.in_ok-capture.ensures.ok in
     let e = c.gather-gathered.ensures in
     let header : header_of c.header.result.now ≡ c.in_ok-capture.capture.header = c.header.ensures ∙ e.header in
-    let is = subst (λ items. IsVerdictByRules c.in_ok-capture.capture.header (map datagram_of items) c.in-Ok.verdict) c.as_slice.ensures.value
-    (subst (λ h. IsVerdictByRules h (map datagram_of c.as_slice.result.now) c.in-Ok.verdict) header c.in-Ok.ensures) in
+    let is = subst (λ items. IsVerdict c.in_ok-capture.capture.header (map datagram_of items) c.in-Ok.verdict) c.as_slice.ensures.value
+    (subst (λ h. IsVerdict h (map datagram_of c.as_slice.result.now) c.in-Ok.verdict) header c.in-Ok.ensures) in
     rw c.first_said.ensures
     (found_said (g.R.Read.remaining c.args.reader.now.0) (prepend_known c.in_ok-capture.capture.lines.ahead (g.R.Read.remaining c.begin.new.reader.0)) (g.R.Read.remaining c.gather-gathered.new.reader.0) c.gather-gathered.new.reader.1
     begun.0 c.gather-gathered.new.capture.lines.ahead c.in_ok-capture.capture.header c.gather-gathered.result c.gather-gathered.new.datagrams.items begun.1 (e.gathers begun.0 begun.2) e.end

@@ -1,0 +1,8 @@
+use Rattle.tftp_ends.proofs.OneSided.{view_one_sided, one_sided_view}
+use Rattle.tftp_ends.proofs.laws.one_side_makes_a_run.Goals as goal
+
+pub returns-clause-alone : goal.returns-clause-alone
+returns-clause-alone c = view_one_sided
+
+pub returns-clause-with_other : goal.returns-clause-with_other
+returns-clause-with_other c = one_sided_view

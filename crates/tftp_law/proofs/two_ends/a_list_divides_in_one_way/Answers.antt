@@ -1,0 +1,13 @@
+use Rattle.tftp_law.specs.Divides.{says_some}
+use Rattle.tftp_law.proofs.Parted.{parted}
+use Rattle.tftp_law.proofs.OneDivision.{placed_divides, divides_placed, divides_routed, divides_one, run_divides}
+use Rattle.tftp_law.proofs.two_ends.a_list_divides_in_one_way.Goals as goal
+
+pub returns : goal.returns
+returns c = record {
+  divides = λ h earlier. (placed_divides h earlier, divides_placed h earlier);
+  parts = λ h division routed starts. parted h says_some division routed starts;
+  routes = divides_routed;
+  one = divides_one;
+  of_run = run_divides;
+}

@@ -1,0 +1,5 @@
+use Rattle.tftp_law.proofs.TwoEnds.{whole, one}
+use Rattle.tftp_law.proofs.two_ends.captures_show_what_is_meant.Goals as goal
+
+pub returns : goal.returns
+returns c = record { whole = whole; one = one }

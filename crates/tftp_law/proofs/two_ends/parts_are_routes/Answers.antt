@@ -1,0 +1,12 @@
+use Rattle.tftp_law.specs.Dress.{says_of}
+use Rattle.tftp_law.proofs.Routed.{told_of, routed_by}
+use Rattle.tftp_law.proofs.Opening.{starts_of}
+use Rattle.tftp_law.proofs.Parted.{parted}
+use Rattle.tftp_law.proofs.two_ends.parts_are_routes.Goals as goal
+
+pub returns : goal.returns
+returns c = record {
+  routes = λ h m wire ids division parts starts. routed_by h (says_of m wire) (told_of m wire) ids division parts starts;
+  parts = λ h m wire division routed starts. parted h (says_of m wire) division routed starts;
+  starts = starts_of;
+}

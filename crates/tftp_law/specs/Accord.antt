@@ -1,0 +1,74 @@
+-- When a meaning and a wire are in accord with what has passed, and how a division follows the routes.
+use Rattle.std.specs.Prelude.{◌≡◌, ℕ, ◌≤◌, List, [], ◌∷◌}
+use Rattle.tftp_packet.specs.OptionMap.{OptionMap, no_options}
+use Rattle.tftp_packet.specs.Message.{Message, RequestParts}
+use Rattle.tftp_packet.specs.declared.kinds.End.{End}
+use Rattle.tftp_packet.specs.declared.kinds.End.TheVariants.{Client, Server}
+use Rattle.tftp_ends.specs.CaptureText.{Datagram, Header}
+use Rattle.tftp_ends.specs.Meaning.{Meaning, request_of, blksize_of}
+use Rattle.tftp_ends.specs.Blocks.{block, block_count}
+use Rattle.tftp_ends.specs.Machines.{MachinePacket, Req, Oack, Data, Ack, Deed, Sent, Took, History}
+use Rattle.tftp_ends.specs.Ports.{route_of, transfer_of, SaysUnknownId}
+use Rattle.tftp_ends.specs.Rules.{HasPassed}
+use Rattle.tftp_ends.specs.declared.route.Route.{Route}
+use Rattle.tftp_law.specs.Fits.{Fits}
+use Rattle.tftp_law.specs.Dress.{Part, Main, Stray, StrayAnswer, Division, datagrams_of, dir_of, packet_of, Saying, says_of}
+use Rattle.tftp_law.specs.Rules.{FirstAsked, Agrees, Begins, FirstAnswer}
+
+-- the meaning and the wire are those of the first request, of the first answer and of all blocks, as far as they passed
+pub record Accords (h : Header) (m : Meaning) (wire : List ℕ) (earlier : List Datagram) : Type 0 where
+  pub fits : Fits m wire
+  pub asked : (asked : RequestParts) → FirstAsked h earlier asked → asked ≡ request_of m
+  pub oacked : (options : OptionMap) → FirstAnswer m.side (transfer_of h earlier) (Agrees options) → m.agreed ≡ options
+  pub plain : FirstAnswer m.side (transfer_of h earlier) Begins → m.agreed ≡ no_options
+  pub blocks : (k : ℕ) (bytes : List ℕ) → HasPassed (Message.Data k bytes) (transfer_of h earlier)
+      → (k ≤ block_count (blksize_of m) wire) × (bytes ≡ block (blksize_of m) wire k)
+
+-- the route of a machine's packet
+abbrev pub packet_route : MachinePacket → Route
+packet_route Req = Route.Request
+packet_route Oack = Route.Peer
+packet_route (Data k) = Route.Peer
+packet_route (Ack j) = Route.Peer
+
+-- the route that a part has
+abbrev pub part_route : Part → Route
+part_route (Main deed) = packet_route (packet_of deed)
+part_route Stray = Route.Stray
+part_route StrayAnswer = Route.StrayAnswer
+
+-- what a datagram says as this part
+abbrev pub SaysAsBy : Saying → Datagram → Part → Type 0
+SaysAsBy says d (Main deed) = (d.dir ≡ dir_of deed) × says (packet_of deed) d.payload
+SaysAsBy says d Stray = Unit {0}
+SaysAsBy says d StrayAnswer = SaysUnknownId d
+
+-- each datagram has the route of its part after those before it
+abbrev pub AreRoutedBy : Header → Saying → Division → Type 0
+AreRoutedBy h says [] = Unit {0}
+AreRoutedBy h says (p ∷ earlier) =
+    (route_of h (datagrams_of earlier) p.datagram ≡ part_route p.part) × SaysAsBy says p.datagram p.part × AreRoutedBy h says earlier
+
+abbrev pub SaysAs : Meaning → List ℕ → Datagram → Part → Type 0
+SaysAs m wire d part = SaysAsBy (says_of m wire) d part
+
+abbrev pub AreRouted : Header → Meaning → List ℕ → Division → Type 0
+AreRouted h m wire division = AreRoutedBy h (says_of m wire) division
+
+-- the deed that is the client's request, and the one that would be a request of the server
+abbrev pub request_at : End → Deed
+request_at Client = Sent Req
+request_at Server = Took Req
+
+abbrev pub request_back : End → Deed
+request_back Client = Took Req
+request_back Server = Sent Req
+
+-- the oldest deed is the client's request, and no deed is a request of the server
+pub record Stands (e : End) (earlier : History) (deed : Deed) : Type 0 where
+  pub first : earlier ≡ [] → deed ≡ request_at e
+  pub not_back : deed ≡ request_back e → ⊥
+
+abbrev pub Starts : End → History → Type 0
+Starts e [] = Unit {0}
+Starts e (deed ∷ earlier) = Stands e earlier deed × Starts e earlier

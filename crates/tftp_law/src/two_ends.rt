@@ -1,0 +1,68 @@
+//! The rules at one end are the runs of two. Each law is the contract of a function that does nothing.
+
+ghost use Rattle.std.specs.Prelude.{◌≡◌, ◌↔◌, ℕ, List, reverse};
+ghost use Rattle.tftp_ends.specs.CaptureText.{Datagram, Header};
+ghost use Rattle.tftp_packet.specs.declared.kinds.End.{End};
+ghost use Rattle.tftp_ends.specs.Machines.{History};
+ghost use Rattle.tftp_ends.specs.Meaning.{Meaning};
+ghost use Rattle.tftp_ends.specs.OneSide.{IsOneSided};
+ghost use Rattle.tftp_law.specs.Dress.{TransferIds, Division, HaveParts, HavePartsBy, view_in};
+ghost use Rattle.tftp_law.specs.Accord.{Accords, AreRouted, AreRoutedBy, Starts};
+ghost use Rattle.tftp_law.specs.Divides.{says_some, FindPlaces, Divides};
+ghost use Rattle.tftp_law.specs.Law.{IsSeen, IsLawful, ShowsBy, Shows};
+ghost use Rattle.tftp_law.specs.OneEnded.{OneEnded, Meant};
+
+/// The parts of a division are its routes, and what has such routes has parts, where the view begins with the client's
+/// request and has no request of the server's. A view that one end might have begins so.
+pub fn parts_are_routes()
+    ensures routes { (h : Header) (m : Meaning) (wire : List ℕ) (ids : TransferIds) (division : Division)
+        → HaveParts h m wire ids division → Starts h.named (view_in division) → AreRouted h m wire division }
+    ensures parts { (h : Header) (m : Meaning) (wire : List ℕ) (division : Division) → AreRouted h m wire division
+        → Starts h.named (view_in division) → (ids : TransferIds) × HaveParts h m wire ids division }
+    ensures starts { (m : Meaning) (wire : List ℕ) (e : End) (view : History) → IsOneSided m wire e view → Starts e view }
+{}
+
+/// A list divides, each main datagram spells a packet and the first of them is the client's request, exactly if no
+/// datagram breaks one of the first five rules, none is an ERROR, and no request has a route of the peer's. The division
+/// is one, its parts are the routes, and it is that of each run which shows the list, whatever the run means.
+pub fn a_list_divides_in_one_way()
+    ensures divides { (h : Header) (earlier : List Datagram) → FindPlaces h earlier ↔ Divides h earlier }
+    ensures parts { (h : Header) (division : Division) → AreRoutedBy h says_some division → Starts h.named (view_in division)
+        → (ids : TransferIds) × HavePartsBy h says_some ids division }
+    ensures routes { (h : Header) (earlier : List Datagram) (x : Divides h earlier) → AreRoutedBy h says_some x.division }
+    ensures one { (h : Header) (earlier : List Datagram) (x y : Divides h earlier) → x.division ≡ y.division }
+    ensures of_run { (h : Header) (m : Meaning) (wire : List ℕ) (ids : TransferIds) (division : Division)
+        → HaveParts h m wire ids division → IsOneSided m wire h.named (view_in division)
+        → HavePartsBy h says_some ids division × Starts h.named (view_in division) }
+{}
+
+/// What a run of two ends shows at the named end breaks no rule there, and is in accord with the run's meaning and wire.
+pub fn runs_break_no_rule()
+    ensures rules { (h : Header) (m : Meaning) (wire : List ℕ) (datagrams : List Datagram) → IsSeen h m wire datagrams
+        → OneEnded h (reverse datagrams) }
+    ensures accord { (h : Header) (m : Meaning) (wire : List ℕ) (datagrams : List Datagram) → IsSeen h m wire datagrams
+        → Accords h m wire (reverse datagrams) }
+{}
+
+/// What breaks no rule at one end is shown by a run of two, of each meaning and wire that are in accord with it; and some
+/// meaning and wire are.
+pub fn what_breaks_no_rule_is_seen()
+    ensures seen { (h : Header) (m : Meaning) (wire : List ℕ) (datagrams : List Datagram) → OneEnded h (reverse datagrams)
+        → Accords h m wire (reverse datagrams) → IsSeen h m wire datagrams }
+    ensures some { (h : Header) (earlier : List Datagram) → OneEnded h earlier
+        → (m : Meaning) × (wire : List ℕ) × Accords h m wire earlier }
+{}
+
+/// So a capture is lawful exactly if its datagrams break no rule, and then it divides.
+pub fn lawful_captures_break_no_rule()
+    ensures lawful { (h : Header) (datagrams : List Datagram) → IsLawful h datagrams ↔ OneEnded h (reverse datagrams) }
+    ensures divides { (h : Header) (earlier : List Datagram) → OneEnded h earlier → Divides h earlier }
+{}
+
+/// And what a capture means by the rules is what a whole run shows, by some wire; a capture shows one meaning at most.
+pub fn captures_show_what_is_meant()
+    ensures whole { (h : Header) (m : Meaning) (datagrams : List Datagram)
+        → Meant h (reverse datagrams) m ↔ ((wire : List ℕ) × ShowsBy h m wire datagrams) }
+    ensures one { (h : Header) (datagrams : List Datagram) (m n : Meaning) → Shows h m datagrams → Shows h n datagrams
+        → m ≡ n }
+{}
