@@ -224,6 +224,7 @@ module _ (service : ℕ) (says : Saying) (told : IsTold says) (ids : TransferIds
     step d Stray p all = (route_stray d p, tt)
     step d StrayAnswer p all = (route_answer d p, p.spells)
 
+  -- each datagram has the route of its part
   pub routed_at_client : (division : Division) → HavePartsBy here says ids division → Starts Client (view_in division) → AreRoutedBy here says division
   routed_at_client [] parts own = tt
   routed_at_client (p ∷ earlier) parts own =

@@ -250,6 +250,7 @@ module _ (service : ℕ) (says : Saying) (told : IsTold says) (ids : TransferIds
     s_step d Stray p all = (s_route_stray d p, tt)
     s_step d StrayAnswer p all = (s_route_answer d p, p.spells)
 
+  -- each datagram has the route of its part
   pub routed_at_server : (division : Division) → Parts division → Own division → AreRoutedBy hh says division
   routed_at_server [] parts own = tt
   routed_at_server (p ∷ earlier) parts own =
