@@ -11,6 +11,8 @@ import pathlib
 import subprocess
 import sys
 
+from captures import Capture, ack, blocks, data, error, netascii, oack, read_request, write_request
+
 COMMANDS = ("check", "show")
 # What `show` says of the lines of a text begins at this one.
 FIRST_DATAGRAM_LINE = 4
@@ -106,6 +108,46 @@ def cases():
     )
 
 
+def transfers():
+    """Transfers that need memory for more than a plain read does: a name, the capture and what `check` prints."""
+    sizes, file = {"blksize": 8, "windowsize": 4}, b"0123456789"
+    first, second = blocks(file, 8)
+    agreed = Capture("client")
+    agreed.put("client", read_request("boot.img", "octet", **sizes, tsize=0, timeout=6, utimeout="soon"))
+    agreed.put("server", oack(**sizes, tsize=10, timeout=6))
+    agreed.put("client", ack(0))
+    agreed.put("server", first, second)
+    agreed.put("client", ack(2))
+    yield "options agreed", agreed, "accepted get octet blocks 2 bytes 10"
+    repeated = Capture("server")
+    repeated.put("client", write_request("notes", "octet", blksize=8, other="x"))
+    repeated.put("client", write_request("notes", "OCTET", OTHER="x", BLKSIZE="08"))
+    repeated.put("server", oack(blksize=8), oack(BLKSIZE="08"))
+    for packet in (first, second):
+        repeated.put("client", packet)
+        repeated.put("server", ack(int(packet[1].split()[1])))
+    yield "a repeated request and a repeated OACK", repeated, "accepted put octet blocks 2 bytes 10"
+    text = Capture("client")
+    text.put("client", read_request("notes", "netascii", blksize=8))
+    text.put("server", oack(blksize=8))
+    text.put("client", ack(0))
+    for packet in blocks(netascii(b"line 1\rx\nline 2\n\n"), 8):
+        text.put("server", packet)
+        text.put("client", ack(int(packet[1].split()[1])))
+    yield "netascii", text, "accepted get netascii blocks 3 bytes 17"
+    strays = Capture("client")
+    strays.put("client", read_request("a", "octet"))
+    strays.put("server", data(1, b"hi"))
+    for port in (42_000, 43_000, 44_000):
+        strays.put("server", data(1, b"hi"), server=port)
+        strays.put("client", error(5, "unknown transfer"), server=port)
+    strays.put("client", ack(1))
+    yield "strays", strays, "accepted get octet blocks 1 bytes 2"
+    other = Capture("client")
+    other.put("client", read_request("a", "octet", blksize=8), read_request("b", "octet", blksize=8))
+    yield "another request", other, "refused datagram 2 rule 8 RequestChanged"
+
+
 class Trial:
     """The program, and how many of its runs were as they should be."""
 
@@ -134,14 +176,17 @@ class Trial:
         self.count(name, got[1] and got[0] in outputs, got)
 
     def refuse_growths(self, name, words, given, output, outputs):
-        """Each growth refused, until a run meets no refusal; that one prints `output`."""
+        """Each growth refused, until a run meets no refusal; that one prints `output`. How many told want of memory."""
+        told = 0
         for turn in range(1, 10_000):
             got = self.run(words, given, REFUSE=turn)
             if not got[2]:
                 self.expect(f"{name}, no growth refused", got, output)
-                return
+                return told
             self.expect(f"{name}, growth {turn} refused", got, *outputs)
+            told += got[0][0].endswith(MEMORY)
         self.count(f"{name}, growths", False, "no end")
+        return told
 
     def fail_writes(self, name, words, given, output):
         """Each write failing, or taking nothing, of one byte a write."""
@@ -163,10 +208,15 @@ class Trial:
             got = self.run([command], case.text[:taken])
             self.expect(f"{command}, {case.name}, {taken} bytes", got, case.output(command, taken))
 
-    def try_case(self, case, command):
+    def try_growths(self, case, command):
         name, output = f"{command}, {case.name}", case.output(command)
         self.expect(name, self.run([command], case.text), output)
-        self.refuse_growths(name, [command], case.text, output, case.outputs_without_memory(command))
+        told = self.refuse_growths(name, [command], case.text, output, case.outputs_without_memory(command))
+        self.count(f"{name}, want of memory", told > 0, "is never told")
+
+    def try_case(self, case, command):
+        name, output = f"{command}, {case.name}", case.output(command)
+        self.try_growths(case, command)
         self.fail_writes(name, [command], case.text, output)
         self.fail_reads(case, command)
         self.cut(case, command)
@@ -198,6 +248,11 @@ def main(program, folder):
     for case in cases():
         for command in COMMANDS:
             trial.try_case(case, command)
+    for name, capture, verdict in transfers():
+        output = f"{verdict}\n".encode(), 0 if verdict.startswith("accepted") else 1
+        case = Case(name, capture.text(), tuple(capture.rows), output)
+        for command in COMMANDS:
+            trial.try_growths(case, command)
     trial.show_in_pieces()
     for words in NO_COMMANDS:
         trial.try_words(words)

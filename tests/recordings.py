@@ -4,13 +4,15 @@
 
 Prints each case that is not as it should be, then a last line 'N passed, M failed'; status 1 if any failed.
 """
+import os
 import pathlib
+import shlex
 import subprocess
 import sys
 
 TOP = pathlib.Path(__file__).resolve().parent.parent
 SCRIPT = TOP / "tools" / "capture-text"
-# What curl stored or sent had 1,300, 2,500 and 1,024 bytes.
+# What the client stored or sent had 1,300, 2,500, 1,024, 1,292, 921 and 1,570 bytes.
 RECORDINGS = (
     (
         "recorded-read",
@@ -31,6 +33,27 @@ RECORDINGS = (
         "accepted put octet blocks 3 bytes 1024",
         ("in WRQ", "out OACK", "in DATA 1 512", "out ACK 1", "in DATA 2 512", "out ACK 2", "in DATA 3 0", "out ACK 3"),
     ),
+    (
+        "recorded-window",
+        ("client", "192.0.2.7", "69"),
+        "accepted get octet blocks 11 bytes 1292",
+        ("out RRQ", "in OACK", "out ACK 0", *(f"in DATA {block} 128" for block in range(1, 5)), "out ACK 4")
+        + (*(f"in DATA {block} 128" for block in range(5, 9)), "out ACK 8")
+        + ("in DATA 9 128", "in DATA 10 128", "in DATA 11 12", "out ACK 11"),
+    ),
+    (
+        "recorded-netascii",
+        ("server", "2001:db8::1", "69"),
+        "accepted put netascii blocks 2 bytes 921",
+        ("in WRQ", "out ACK 0", "in DATA 1 512", "out ACK 1", "in DATA 2 469", "out ACK 2"),
+    ),
+    (
+        "recorded-stray",
+        ("client", "192.0.2.7", "69"),
+        "accepted get octet blocks 4 bytes 1570",
+        ("out RRQ", "out RRQ", "in DATA 1 512", "in DATA 1 512", "out ACK 1", "out ERROR 5", "in DATA 2 512")
+        + ("out ACK 2", "in DATA 3 512", "out ACK 3", "in DATA 4 34", "out ACK 4"),
+    ),
 )
 CLIENT = ("client", "192.0.2.7", "69")
 CLIENT_6 = ("client", "2001:db8::7", "69")
@@ -42,14 +65,49 @@ AT_SERVER = TEXT.replace("client", "server").replace("out 40000 69", "in 69 4000
 LOCAL = "127.0.0.1\t40000\t127.0.0.1\t69\t000161006f6374657400\n"
 # Words, fields, and the text that is written of them.
 WRITTEN = (
-    (CLIENT, "", HEAD + "total 0\n"),
     (CLIENT, REQUEST, TEXT + "total 1\n"),
     (CLIENT, REQUEST.rstrip("\n"), TEXT + "total 1\n"),
     (CLIENT, REQUEST.replace("000161006f6374657400", "00:01:61:00:6F:63:74:65:74:00"), TEXT + "total 1\n"),
     (CLIENT, REQUEST + "192.0.2.1\t41000\t192.0.2.7\t40000\t\n", TEXT + "in 40000 41000 -\ntotal 2\n"),
     (SERVER, REQUEST, AT_SERVER + "total 1\n"),
-    (CLIENT_6, "2001:db8:0:0::7\t40000\t2001:db8::1\t69\t\n", HEAD + "out 40000 69 -\ntotal 1\n"),
+    (CLIENT_6, "2001:db8:0:0::7\t40000\t2001:db8::1\t69\t00\n", HEAD + "out 40000 69 00\ntotal 1\n"),
+    # a recording that begins after the request, and one of a request that comes later from elsewhere
+    (CLIENT, "192.0.2.1\t41000\t192.0.2.7\t40000\t00030001\n", HEAD + "in 40000 41000 00030001\ntotal 1\n"),
+    (
+        CLIENT,
+        REQUEST + "192.0.2.1\t69\t192.0.2.7\t40000\t000161006f6374657400\n",
+        TEXT + "in 40000 69 000161006f6374657400\ntotal 2\n",
+    ),
     (("client", "127.0.0.1", "69"), LOCAL, TEXT + "total 1\n"),
+)
+# Words and fields of which nothing is written, and what is told of them.
+TOLD = (
+    (CLIENT, "", "the input is empty: the filter lets no datagram through"),
+    (
+        CLIENT,
+        "192.0.2.7\t40000\t192.0.2.1\t69\t\n" * 3,
+        "all payloads are empty: the fifth field is not that of the payload",
+    ),
+    (
+        ("client", "192.0.2.1", "69"),
+        REQUEST,
+        "line 1: a request comes in at the client: the end is the other one, or 192.0.2.1 is the other end's address",
+    ),
+    (
+        ("server", "192.0.2.7", "69"),
+        REQUEST.replace("0001", "0002", 1),
+        "line 1: a request goes out at the server: the end is the other one, or 192.0.2.7 is the other end's address",
+    ),
+    (
+        ("client", "192.0.2.7", "6969"),
+        REQUEST,
+        "line 1: the request goes to port 69, and the service port is said to be 6969",
+    ),
+    (
+        ("server", "192.0.2.1", "6969"),
+        REQUEST,
+        "line 1: the request goes to port 69, and the service port is said to be 6969",
+    ),
 )
 # Words and fields of which nothing is written.
 REFUSED = (
@@ -112,6 +170,30 @@ def try_recording(trial, program, name, words, verdict, rows):
     trial.check(f"{name}, show", got == (shown.encode(), b"", 0), got)
 
 
+def broken_pipe():
+    """A pipe that nobody reads."""
+    ours, theirs = os.pipe()
+    os.close(ours)
+    return theirs
+
+
+def try_streams(trial):
+    """Standard input or output that is closed or broken is told in one line of words."""
+    fields = str(TOP / "examples" / "recorded-read.fields")
+    call = shlex.join([str(SCRIPT), "client", "127.0.0.1", "6969"])
+    for name, redirected, told in (
+        ("closed input", "<&-", "standard input cannot be read: Bad file descriptor"),
+        ("closed output", f"<{shlex.quote(fields)} >&-", "standard output cannot be written: Bad file descriptor"),
+        ("broken pipe", f"<{shlex.quote(fields)}", "standard output cannot be written: Broken pipe"),
+        ("closed output, and nothing to write", "</dev/null >&-", TOLD[0][2]),
+    ):
+        pipe = broken_pipe()
+        done = subprocess.run(f"exec {call} {redirected}", shell=True, stdout=pipe, stderr=subprocess.PIPE, timeout=60)
+        os.close(pipe)
+        holds = done.stderr == f"capture-text: {told}\n".encode() and done.returncode == 2
+        trial.check(f"capture-text, {name}", holds, (done.stderr, done.returncode))
+
+
 def main(program):
     trial = Trial()
     for recording in RECORDINGS:
@@ -119,6 +201,10 @@ def main(program):
     for words, fields, text in WRITTEN:
         got = run([SCRIPT, *words], fields.encode())
         trial.check(f"capture-text {words} of {fields!r}", got == (text.encode(), b"", 0), got)
+    for words, fields, why in TOLD:
+        got = run([SCRIPT, *words], fields.encode())
+        trial.check(f"capture-text {words} of {fields!r}", got == (b"", f"capture-text: {why}\n".encode(), 2), got)
+    try_streams(trial)
     for words, fields in REFUSED:
         got = run([SCRIPT, *words], fields.encode())
         told = got[1].startswith(b"capture-text: ") and got[1].count(b"\n") == 1

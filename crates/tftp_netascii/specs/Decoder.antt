@@ -6,6 +6,11 @@ use Rattle.tftp_netascii.specs.Netascii.{Reads, cr}
 abbrev pub EndsInReturn : List ℕ → Type 0
 EndsInReturn wire = (before : List ℕ) × (wire ≡ before ++ cr ∷ [])
 
+-- how many bytes a decoder holds back
+abbrev pub held_count : Bool → ℕ
+held_count false = 0
+held_count true = 1
+
 -- Since it was new the decoder was fed these bytes, whatever the pieces, and has written these. It holds
 -- a CR back exactly if that was the last byte, since the next byte says what it stands for.
 abbrev pub StandsFor : Bool → List ℕ → List ℕ → Type 0

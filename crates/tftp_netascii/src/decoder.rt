@@ -2,7 +2,7 @@
 
 ghost use Rattle.std.specs.Prelude.{◌≡◌, ℕ, ◌+◌, ◌<◌, ◌≤◌, List, [], ◌++◌, false, length, vec_len, vec_capacity, IfOk, OnOk, OnErr, IsOk};
 ghost use Rattle.tftp_netascii.specs.Netascii.{Reads};
-ghost use Rattle.tftp_netascii.specs.Decoder.{StandsFor};
+ghost use Rattle.tftp_netascii.specs.Decoder.{StandsFor, held_count};
 ghost use Rattle.tftp_netascii.specs.Runs.{ReadsAfterReturn};
 
 use crate::runs::{CR, LF, NUL, split_at_return};
@@ -44,8 +44,8 @@ impl Decoder {
             → StandsFor self.new (fed ++ piece.now) (written ++ more))) }
         ensures err { OnErr result ((self.new ≡ self.old) × (out.new.items ≡ out.old.items)) }
 
-        // It fails only where there was no room for the piece and a CR before it.
-        ensures full { OnErr result (vec_capacity out.old < vec_len out.old + length piece.now + 1) }
+        // It fails only where there was no room for the piece and the CR that is held back before it.
+        ensures full { OnErr result (vec_capacity out.old < vec_len out.old + length piece.now + held_count self.old) }
     {
         let mut holds_return = self.holds_return;
         out.reserve(piece.len() + usize::from(holds_return))?;
@@ -110,9 +110,10 @@ fn after_return(rest: &[u8]) -> (u8, &[u8])
 }
 
 /// The file that a whole netascii text reads as: no text is refused (RFC 1350, section 1, and
-/// RFC 764).
+/// RFC 764). An empty text takes no memory.
 pub fn decode(alloc: Global, wire: &[u8]) -> Result<Vec<u8>, AllocError>
-    ensures { IfOk result (λ file. Reads wire.now file.items) }
+    ensures file { IfOk result (λ file. Reads wire.now file.items) }
+    ensures succeeds { wire.now ≡ [] → IsOk result }
 {
     let mut file = Vec::with_capacity(alloc, wire.len())?;
     let mut decoder = Decoder::new();

@@ -1,14 +1,16 @@
 //! Writing netascii for the wire.
 
-ghost use Rattle.std.specs.Prelude.{◌≡◌, ◌==◌, ◌||◌, count_by, length, IfOk};
+ghost use Rattle.std.specs.Prelude.{◌≡◌, ◌==◌, ◌||◌, [], count_by, length, IfOk, IsOk};
 ghost use Rattle.tftp_netascii.specs.Netascii.{canonical_wire, lf, cr};
 
 use crate::runs::{CR, LF, NUL, split_at_control};
 use std::alloc::{AllocError, Global};
 
-/// The text that a file is sent as: each LF as CR LF, and each CR as CR NUL (RFC 764).
+/// The text that a file is sent as: each LF as CR LF, and each CR as CR NUL (RFC 764). An empty
+/// file takes no memory.
 pub fn encode(alloc: Global, file: &[u8]) -> Result<Vec<u8>, AllocError>
-    ensures { IfOk result (λ wire. wire.items ≡ canonical_wire file.now) }
+    ensures wire { IfOk result (λ wire. wire.items ≡ canonical_wire file.now) }
+    ensures succeeds { file.now ≡ [] → IsOk result }
 {
     let mut wire = Vec::with_capacity(alloc, encoded_len(file) as usize)?;
     let mut rest = file;

@@ -9,6 +9,7 @@ use Rattle.tftp_packet.specs.Message.{Message, Error}
 use Rattle.tftp_packet.specs.Meaning.{meaning}
 use Rattle.tftp_packet.specs.Spelling.{Spells, Layout}
 use Rattle.tftp_packet.specs.Faults.{Holds, FirstFault, opcode_of}
+use Rattle.tftp_packet.specs.AsWritten.{IsWritten}
 use Rattle.tftp_packet.specs.Reading.{Judges}
 use Rattle.tftp_packet.specs.declared.packet.Packet.{Packet}
 use Rattle.tftp_packet.specs.declared.fault.PacketFault.{PacketFault}
@@ -22,15 +23,19 @@ pub all_bytes : (payload : List ℕ) → ((i : ℕ) → Fits w8 (get_or payload 
 all_bytes payload fits = recursion_from_All (λ b. b < 256) payload (All-from_get_or (λ b. b < 256) payload 0 (λ i h. omega (arith, fits i)))
 
 pub found_of : (payload : List ℕ) (r : Result Packet PacketFault) → AllByRecursion (λ b. b < 256) payload → Judges payload r → IfOk r (λ p. Spells payload (meaning p))
-found_of payload (Ok p) bytes judged = (bytes, judged)
+found_of payload (Ok p) bytes judged = (bytes, judged.0)
 found_of payload (Err f) bytes judged = tt
 
+pub written_of : (payload : List ℕ) (r : Result Packet PacketFault) → Judges payload r → IfOk r (IsWritten payload)
+written_of payload (Ok p) judged = judged.1
+written_of payload (Err f) judged = tt
+
 pub only_of : (payload : List ℕ) (r : Result Packet PacketFault) → Judges payload r → (m : Message) → Spells payload m → IsOkAnd r (λ p. meaning p ≡ m)
-only_of payload (Ok p) judged m spelled = one_message payload (meaning p) m judged spelled.1
+only_of payload (Ok p) judged m spelled = one_message payload (meaning p) m judged.0 spelled.1
 only_of payload (Err f) judged m spelled = absurd (no_fault payload m f spelled.1 judged.0)
 
 pub fault_of : (payload : List ℕ) (r : Result Packet PacketFault) → Judges payload r → (f : PacketFault) → (r ≡ Err f) ↔ FirstFault payload f
-fault_of payload (Ok p) judged f = ((λ e. absurd (let x : ⊥ = cc in x)), λ first. absurd (no_fault payload (meaning p) f judged first.0))
+fault_of payload (Ok p) judged f = ((λ e. absurd (let x : ⊥ = cc in x)), λ first. absurd (no_fault payload (meaning p) f judged.0 first.0))
 fault_of payload (Err g) judged f = ((λ e. let same : g ≡ f = cc in subst (FirstFault payload) same judged), λ first. ap Err (first_fault_unique payload g f judged first))
 
 -- too short for an opcode, or with an opcode that no packet has

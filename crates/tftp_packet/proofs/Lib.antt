@@ -4,6 +4,7 @@ pub mod PairStrings
 pub mod Requests
 pub mod RequestCases
 pub mod Unique
+pub mod AsWritten
 pub mod NoFault
 pub mod Judged
 pub mod OackCases

@@ -12,13 +12,13 @@ use Rattle.tftp_packet.specs.declared.kinds.Mode.TheVariants.{Octet, Netascii}
 use Rattle.tftp_packet.proofs.PairStrings.{pair_strings_injective}
 use Rattle.tftp_packet.proofs.Strings.{split_unique, strings_injective}
 
-side_opcode_injective : (a b : Side) → side_opcode a ≡ side_opcode b → a ≡ b
+pub side_opcode_injective : (a b : Side) → side_opcode a ≡ side_opcode b → a ≡ b
 side_opcode_injective Get Get e = refl
 side_opcode_injective Get Put e = absurd (omega arith)
 side_opcode_injective Put Get e = absurd (omega arith)
 side_opcode_injective Put Put e = refl
 
-mode_name_injective : (a b : Mode) → mode_name a ≡ mode_name b → a ≡ b
+pub mode_name_injective : (a b : Mode) → mode_name a ≡ mode_name b → a ≡ b
 mode_name_injective Octet Octet e = refl
 mode_name_injective Octet Netascii e = absurd (let f : ⊥ = cc in f)
 mode_name_injective Netascii Octet e = absurd (let f : ⊥ = cc in f)

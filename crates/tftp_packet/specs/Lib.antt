@@ -4,7 +4,9 @@ pub mod Written
 pub mod Spelling
 pub mod Meaning
 pub mod Faults
+pub mod AsWritten
 pub mod Reading
+pub mod Worked
 pub mod OptionFaults
 pub mod Owned
 pub mod Canonical

@@ -1,8 +1,10 @@
-ghost use Rattle.std.specs.Prelude.{◌≡◌, ◌∷◌, [], ◌≤◌, ℕ, List, codes, length, option_map};
+ghost use Rattle.std.specs.Prelude.{◌≡◌, ◌∷◌, ◌++◌, [], ◌≤◌, ℕ, List, codes, length, option_map};
 ghost use Rattle.tftp_packet.specs.Message.{Message};
 ghost use Rattle.tftp_packet.specs.OptionMap.{OptionValue, value_of};
 ghost use Rattle.std.specs.FinMap as map;
-ghost use Rattle.tftp_packet.specs.Written.{Pair, AreApart, map_of, text_of};
+ghost use Rattle.tftp_packet.specs.Written.{terminated, strings, Pair, AreApart, map_of, text_of, WrittenRequest};
+ghost use Rattle.tftp_packet.specs.AsWritten.{IsWrittenRequest, IsWrittenOack};
+ghost use Rattle.tftp_packet.specs.Worked.{capitals_oack, capitals_request, capital_window, capital_size, capital_request, long_name};
 ghost use Rattle.tftp_packet.specs.Spelling.{Spells, octet_read};
 ghost use Rattle.tftp_packet.specs.Canonical.{canonical};
 ghost use Rattle.tftp_packet.specs.Faults.{FirstFault};
@@ -49,12 +51,54 @@ pub fn worked_values()
     ensures empty { value_of (codes "tsize") [] ≡ OptionValue.Text [] }
 {}
 
-/// Worked examples: the first fault of some payloads, and what is written for an acknowledgement and a request.
+/// Worked examples: what is written for an acknowledgement and a block.
+pub fn worked_canonicals()
+    ensures ack { canonical (Message.Ack 258) ≡ 0 ∷ 4 ∷ 1 ∷ 2 ∷ [] }
+    ensures data { canonical (Message.Data 1 (104 ∷ 105 ∷ [])) ≡ 0 ∷ 3 ∷ 0 ∷ 1 ∷ 104 ∷ 105 ∷ [] }
+{}
+
+/// A payload is one request, written, at most, and an OACK of one list of options.
+pub fn written_is_one()
+    ensures request { (payload : List ℕ) (r s : WrittenRequest) → IsWrittenRequest payload r → IsWrittenRequest payload s → r ≡ s }
+    ensures oack { (payload : List ℕ) (ps qs : List Pair) → IsWrittenOack payload ps → IsWrittenOack payload qs → ps ≡ qs }
+{}
+
+/// Worked examples: a request in the mode `OctEt` with the option `BLKSIZE` 08, written; and an OACK of `WindowSize` 4
+/// and `BLKSIZE` 08, written. It is no OACK of other bytes that mean the same: other letter case, another order, or no
+/// leading zero.
+pub fn worked_written()
+    ensures request { IsWrittenRequest capitals_request capital_request }
+    ensures oack { IsWrittenOack capitals_oack (capital_window ∷ capital_size ∷ []) }
+    ensures letters { IsWrittenOack capitals_oack (capital_window ∷ (codes "blksize", codes "08") ∷ []) → ⊥ }
+    ensures order { IsWrittenOack capitals_oack (capital_size ∷ capital_window ∷ []) → ⊥ }
+    ensures zeros { IsWrittenOack capitals_oack (capital_window ∷ (codes "BLKSIZE", codes "8") ∷ []) → ⊥ }
+{}
+
+/// Worked examples: the first fault of payloads of a wrong length, of a wrong opcode, and of those in which a string
+/// has no end: a request of one string, an OACK, and an ERROR with a byte after its end (RFC 1350, section 5).
 pub fn worked_faults()
     ensures short { FirstFault (0 ∷ 3 ∷ []) PacketFault.Short }
     ensures opcode { FirstFault (0 ∷ 7 ∷ []) PacketFault.Opcode }
-    ensures ack { canonical (Message.Ack 258) ≡ 0 ∷ 4 ∷ 1 ∷ 2 ∷ [] }
-    ensures data { canonical (Message.Data 1 (104 ∷ 105 ∷ [])) ≡ 0 ∷ 3 ∷ 0 ∷ 1 ∷ 104 ∷ 105 ∷ [] }
+    ensures ack_length { FirstFault (0 ∷ 4 ∷ 0 ∷ 1 ∷ 0 ∷ []) PacketFault.AckLength }
+    ensures request { FirstFault (0 ∷ 1 ∷ strings (codes "a" ∷ [])) PacketFault.NoTerminator }
+    ensures oack { FirstFault (0 ∷ 6 ∷ codes "blksize") PacketFault.NoTerminator }
+    ensures error { FirstFault (0 ∷ 5 ∷ 0 ∷ 1 ∷ terminated (codes "no") ++ 0 ∷ []) PacketFault.NoTerminator }
+{}
+
+/// Worked examples: the first fault of requests and OACKs whose options are wrong (RFC 2347). A later fault of the
+/// mode counts for nothing, nor does the letter case of names.
+pub fn worked_option_faults()
+    ensures odd { FirstFault (0 ∷ 1 ∷ strings (codes "a" ∷ codes "mail" ∷ codes "blksize" ∷ [])) PacketFault.OddOptions }
+    ensures unnamed { FirstFault (0 ∷ 6 ∷ strings ([] ∷ codes "8" ∷ [])) PacketFault.EmptyOptionName }
+    ensures twice { FirstFault (0 ∷ 2 ∷ strings (codes "a" ∷ codes "octet" ∷ codes "blksize" ∷ codes "8" ∷ codes "BLKSIZE" ∷ codes "9" ∷ [])) PacketFault.DuplicateOption }
+{}
+
+/// Worked examples: the first fault of requests with another mode (RFC 1350, section 5), and of one whose 513 bytes
+/// are one too many for a request with options (RFC 2347).
+pub fn worked_mode_faults()
+    ensures unknown { FirstFault (0 ∷ 1 ∷ strings (codes "a" ∷ codes "oct" ∷ [])) PacketFault.UnknownMode }
+    ensures mail { FirstFault (0 ∷ 2 ∷ strings (codes "a" ∷ codes "Mail" ∷ [])) PacketFault.MailMode }
+    ensures long { FirstFault (0 ∷ 1 ∷ strings (long_name ∷ codes "octet" ∷ codes "blksize" ∷ codes "8" ∷ [])) PacketFault.RequestTooLong }
 {}
 
 /// The map of options has, at a name in lower case, what the first text of that name stands for; and where no

@@ -76,7 +76,7 @@ impl<'a> OptionsView<'a> {
     /// The options in order, each with its name and its value as they lie in the payload.
     pub fn pairs(&self) -> Pairs<'a>
         ensures all { result ≡ self.now }
-        ensures options { AreOptions self.now }
+        ensures options { AreOptions result }
     {
         Pairs { rest: self.bytes }
     }

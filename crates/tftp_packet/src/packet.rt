@@ -2,6 +2,7 @@ ghost use Rattle.std.specs.Prelude.{◌≡◌, ◌↔◌, ℕ, IfOk, IsOkAnd};
 ghost use Rattle.tftp_packet.specs.Message.{Message};
 ghost use Rattle.tftp_packet.specs.Meaning.{meaning};
 ghost use Rattle.tftp_packet.specs.Spelling.{side_opcode, Spells};
+ghost use Rattle.tftp_packet.specs.AsWritten.{IsWritten};
 ghost use Rattle.tftp_packet.specs.Faults.{FirstFault, opcode_of};
 ghost use Rattle.tftp_packet.specs.Reading.{Judges};
 ghost use Rattle.tftp_packet.specs.declared.fault.PacketFault.{PacketFault};
@@ -41,6 +42,7 @@ pub fn opcode(payload: &[u8]) -> u16
 /// The packet that a payload spells. It borrows the payload, and takes no memory.
 pub fn read_packet(payload: &[u8]) -> Result<Packet<'_>, PacketFault>
     ensures found { IfOk result (λ p. Spells payload.now (meaning p)) }
+    ensures written { IfOk result (IsWritten payload.now) }
     ensures only { (m : Message) → Spells payload.now m → IsOkAnd result (λ p. meaning p ≡ m) }
     ensures fault { (f : PacketFault) → (result ≡ Err f) ↔ FirstFault payload.now f }
 {

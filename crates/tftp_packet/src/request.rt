@@ -30,11 +30,13 @@ impl<'a> RequestView<'a> {
     ghost use Rattle.std.specs.Prelude.{◌≡◌, ◌∷◌, ℕ, List, IfOk, IfErr};
     ghost use Rattle.tftp_packet.specs.Written.{parts};
     ghost use Rattle.tftp_packet.specs.Spelling.{side_opcode, SpellsRequest};
+    ghost use Rattle.tftp_packet.specs.AsWritten.{IsWrittenRequest};
     ghost use Rattle.tftp_packet.specs.Faults.{FirstFault};
 
     /// The request whose bytes after the opcode are these.
     pub(crate) fn read(side: Side, body: &'a [u8]) -> Result<Self, PacketFault>
         ensures ok { IfOk result (λ request. SpellsRequest (0 ∷ side_opcode side ∷ body.now) (parts request)) }
+        ensures written { IfOk result (IsWrittenRequest (0 ∷ side_opcode side ∷ body.now)) }
         ensures err { IfErr result (FirstFault (0 ∷ side_opcode side ∷ body.now)) }
     {
         let Some((name, rest)) = split_string(body) else {

@@ -1,8 +1,9 @@
 //! Requests, and what an OACK agrees to.
 
+use crate::views::{oack_of, request_of};
 use std::test::Fail;
 use tftp_nego::{Agreed, NegoFault, agree, nothing_agreed};
-use tftp_packet::{Packet, own_request, read_packet};
+use tftp_packet::own_request;
 
 /// What an OACK answers to a request, both as payloads.
 fn answer(
@@ -10,13 +11,8 @@ fn answer(
     request: &[u8],
     oack: &[u8],
 ) -> Result<Result<Agreed, NegoFault>, Fail> {
-    let Ok(Packet::Request(view)) = read_packet(request) else {
-        return Err(Fail::new("no request"));
-    };
-    let Ok(Packet::Oack(options)) = read_packet(oack) else {
-        return Err(Fail::new("no OACK"));
-    };
-    let request = own_request(rt.alloc(), &view)?;
+    let request = own_request(rt.alloc(), &request_of(request)?)?;
+    let options = oack_of(oack)?;
     Ok(agree(rt.alloc(), &request, &options))
 }
 

@@ -12,3 +12,5 @@ mod netascii;
 mod packets;
 #[cfg(test)]
 mod verdicts;
+#[cfg(test)]
+mod views;

@@ -64,13 +64,16 @@ fn every_cut_gives_what_the_whole_gives(rt: HostRuntime) -> Result<(), Fail> {
     Ok(())
 }
 
-/// With a growth refused the answer is want of memory or the text's own.
+/// Where one growth is refused, the answer that is asked for again is the text's own.
 #[test]
-fn decode_with_a_growth_refused(rt: HostRuntime) {
-    match decode(rt.alloc(), b"\r\n") {
-        Ok(file) => assert_eq!(rt; file.as_slice(), b"\n".as_slice()),
-        Err(AllocError) => {}
-    }
+fn decode_with_a_growth_refused(rt: HostRuntime) -> Result<(), Fail> {
+    let wire = b"\r\n";
+    let file = match decode(rt.alloc(), wire) {
+        Ok(file) => file,
+        Err(AllocError) => decode(rt.alloc(), wire)?,
+    };
+    assert_eq!(rt; file.as_slice(), b"\n".as_slice());
+    Ok(())
 }
 
 /// A piece that was refused can be fed again.
@@ -118,13 +121,16 @@ fn encodes_files(rt: HostRuntime) -> Result<(), Fail> {
     Ok(())
 }
 
-/// With a growth refused the answer is want of memory or the file's own.
+/// Where one growth is refused, the answer that is asked for again is the file's own.
 #[test]
-fn encode_with_a_growth_refused(rt: HostRuntime) {
-    match encode(rt.alloc(), b"\r\n") {
-        Ok(wire) => assert_eq!(rt; wire.as_slice(), b"\r\0\r\n".as_slice()),
-        Err(AllocError) => {}
-    }
+fn encode_with_a_growth_refused(rt: HostRuntime) -> Result<(), Fail> {
+    let file = b"\r\n";
+    let wire = match encode(rt.alloc(), file) {
+        Ok(wire) => wire,
+        Err(AllocError) => encode(rt.alloc(), file)?,
+    };
+    assert_eq!(rt; wire.as_slice(), b"\r\0\r\n".as_slice());
+    Ok(())
 }
 
 #[test]
@@ -134,11 +140,30 @@ fn joins_a_pair_that_was_cut(rt: HostRuntime) -> Result<(), Fail> {
     Ok(())
 }
 
-/// With a growth refused the answer is want of memory or the text's own.
+/// Where one growth is refused, the answer that is asked for again is the text's own.
 #[test]
-fn decode_pieces_with_a_growth_refused(rt: HostRuntime) {
-    match decode_pieces(rt.alloc(), &[b"a\r".as_slice(), b"\nb".as_slice()]) {
-        Ok(file) => assert_eq!(rt; file.as_slice(), b"a\nb".as_slice()),
-        Err(AllocError) => {}
-    }
+fn decode_pieces_with_a_growth_refused(rt: HostRuntime) -> Result<(), Fail> {
+    let pieces = [b"a\r".as_slice(), b"\nb".as_slice()];
+    let file = match decode_pieces(rt.alloc(), &pieces) {
+        Ok(file) => file,
+        Err(AllocError) => decode_pieces(rt.alloc(), &pieces)?,
+    };
+    assert_eq!(rt; file.as_slice(), b"a\nb".as_slice());
+    Ok(())
+}
+
+/// A decoder that was cloned holds back what the other holds, and each goes on alone.
+#[test]
+fn clones_hold_a_return_back(rt: HostRuntime) -> Result<(), Fail> {
+    let mut decoder = Decoder::default();
+    let mut file = Vec::new(rt.alloc());
+    decoder.feed(b"a\r", &mut file)?;
+    let mut other = decoder.clone()?;
+    let mut end = Vec::new(rt.alloc());
+    other.finish(&mut end)?;
+    assert_eq!(rt; end.as_slice(), b"\r".as_slice());
+    decoder.feed(b"\n", &mut file)?;
+    decoder.finish(&mut file)?;
+    assert_eq!(rt; file.as_slice(), b"a\n".as_slice());
+    Ok(())
 }

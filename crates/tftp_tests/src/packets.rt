@@ -1,9 +1,10 @@
 //! Packets and options: payloads and what they spell, and what is written.
 
+use crate::views::{oack_of, request_of};
 use std::test::Fail;
 use tftp_packet::{
-    Mode, Options, Packet, PacketFault, Side, Value, opcode, own_options, own_request, read_packet,
-    same_options, same_request, write_oack, write_packet, write_request,
+    Bytes, Mode, Options, OptionsView, Packet, PacketFault, Side, Value, opcode, own_options,
+    own_request, read_packet, same_options, same_request, write_oack, write_packet, write_request,
 };
 
 const ASKED: &[u8] = b"\x00\x01a\x00octet\x00WindowSize\x004\x00BLKSIZE\x0008\x00";
@@ -11,6 +12,40 @@ const ASKED: &[u8] = b"\x00\x01a\x00octet\x00WindowSize\x004\x00BLKSIZE\x0008\x0
 const CANONICAL: &[u8] = b"\x00\x01a\x00octet\x00blksize\x008\x00windowsize\x004\x00";
 
 const AGREED: &[u8] = b"\x00\x06blksize\x008\x00windowsize\x004\x00";
+
+const CAPITALS: &[u8] = b"\x00\x06WINDOWSIZE\x004\x00BLKSIZE\x0008\x00";
+
+/// The fault of a payload, where it has one.
+fn fault_of(payload: &[u8]) -> Option<PacketFault> {
+    match read_packet(payload) {
+        Ok(_) => None,
+        Err(fault) => Some(fault),
+    }
+}
+
+/// The block of a DATA, and its bytes.
+fn block_of(payload: &[u8]) -> Result<(u16, &[u8]), Fail> {
+    match read_packet(payload) {
+        Ok(Packet::Data { block, bytes }) => Ok((block, bytes)),
+        _ => Err(Fail::new("no block")),
+    }
+}
+
+/// The code of an ERROR, and its message.
+fn error_of(payload: &[u8]) -> Result<(u16, &[u8]), Fail> {
+    match read_packet(payload) {
+        Ok(Packet::Error { code, message }) => Ok((code, message)),
+        _ => Err(Fail::new("no error")),
+    }
+}
+
+/// The block that an ACK acknowledges.
+fn ack_of(payload: &[u8]) -> Result<u16, Fail> {
+    match read_packet(payload) {
+        Ok(Packet::Ack { block }) => Ok(block),
+        _ => Err(Fail::new("no ACK")),
+    }
+}
 
 #[test]
 fn refuses_what_is_no_packet(rt: HostRuntime) {
@@ -45,79 +80,78 @@ fn refuses_what_is_no_packet(rt: HostRuntime) {
         ),
     ];
     for (payload, want) in cases {
-        match read_packet(payload) {
-            Ok(_) => assert!(rt; false, "{payload:?}"),
-            Err(fault) => assert_eq!(rt; fault, want, "{payload:?}"),
-        }
+        assert_eq!(rt; fault_of(payload), Some(want), "{payload:?}");
     }
 }
 
 #[test]
-fn reads_each_kind(rt: HostRuntime) {
-    match read_packet(b"\x00\x01\x00octet\x00") {
-        Ok(Packet::Request(request)) => {
-            assert_eq!(rt; request.side(), Side::Get);
-            assert_eq!(rt; request.name(), b"".as_slice());
-            assert_eq!(rt; request.mode(), Mode::Octet);
-            assert!(rt; request.options().is_empty());
-        }
-        _ => assert!(rt; false),
-    }
-    match read_packet(b"\x00\x03\x00\x01") {
-        Ok(Packet::Data { block, bytes }) => {
-            assert_eq!(rt; block, 1);
-            assert_eq!(rt; bytes, b"".as_slice());
-        }
-        _ => assert!(rt; false),
-    }
-    match read_packet(b"\x00\x05\x00\x05\x00") {
-        Ok(Packet::Error { code, message }) => {
-            assert_eq!(rt; code, 5);
-            assert_eq!(rt; message, b"".as_slice());
-        }
-        _ => assert!(rt; false),
-    }
-    match read_packet(b"\x00\x06") {
-        Ok(Packet::Oack(options)) => assert_eq!(rt; options.len(), 0),
-        _ => assert!(rt; false),
-    }
-    match read_packet(b"\x00\x04\x01\x02") {
-        Ok(Packet::Ack { block }) => assert_eq!(rt; block, 258),
-        _ => assert!(rt; false),
-    }
+fn reads_each_kind(rt: HostRuntime) -> Result<(), Fail> {
+    let (block, bytes) = block_of(b"\x00\x03\x00\x01")?;
+    assert_eq!(rt; block, 1);
+    assert_eq!(rt; bytes, b"".as_slice());
+    let (code, message) = error_of(b"\x00\x05\x00\x05\x00")?;
+    assert_eq!(rt; code, 5);
+    assert_eq!(rt; message, b"".as_slice());
+    assert_eq!(rt; ack_of(b"\x00\x04\x01\x02")?, 258);
+    assert_eq!(rt; oack_of(b"\x00\x06")?.len(), 0);
     assert_eq!(rt; opcode(b"\x00\x06"), 6);
+    Ok(())
 }
 
 #[test]
-fn views_options_in_order(rt: HostRuntime) {
-    let Ok(Packet::Request(request)) = read_packet(ASKED) else {
-        assert!(rt; false);
-        return;
-    };
-    let options = request.options();
-    assert_eq!(rt; options.len(), 2);
+fn reads_a_request_without_a_name(rt: HostRuntime) -> Result<(), Fail> {
+    let request = request_of(b"\x00\x01\x00octet\x00")?;
+    assert_eq!(rt; request.side(), Side::Get);
+    assert_eq!(rt; request.name(), b"".as_slice());
+    assert_eq!(rt; request.mode(), Mode::Octet);
+    assert!(rt; request.options().is_empty());
+    Ok(())
+}
+
+/// Whether the options are these, in this order and byte for byte.
+fn has_pairs(options: &OptionsView<'_>, want: &[(&[u8], &[u8])]) -> bool {
     let mut pairs = options.pairs();
-    match pairs.next() {
-        Some((name, text)) => {
-            assert_eq!(rt; name, b"WindowSize".as_slice());
-            assert_eq!(rt; text, b"4".as_slice());
+    for (name, text) in want {
+        match pairs.next() {
+            Some((other, value)) if other == *name && value == *text => {}
+            _ => return false,
         }
-        None => assert!(rt; false),
     }
-    match options.get(b"blkSize") {
-        Some(text) => assert_eq!(rt; text, b"08".as_slice()),
-        None => assert!(rt; false),
-    }
+    pairs.next().is_none()
+}
+
+#[test]
+fn views_options_in_order(rt: HostRuntime) -> Result<(), Fail> {
+    let options = request_of(ASKED)?.options();
+    let want = [
+        (b"WindowSize".as_slice(), b"4".as_slice()),
+        (b"BLKSIZE".as_slice(), b"08".as_slice()),
+    ];
+    assert!(rt; has_pairs(&options, &want));
+    assert_eq!(rt; options.len(), 2);
+    assert_eq!(rt; options.get(b"blkSize"), Some(b"08".as_slice()));
     assert_eq!(rt; options.number(b"blksize"), Some(8));
     assert_eq!(rt; options.number(b"tsize"), None);
+    Ok(())
+}
+
+#[test]
+fn views_an_oack_in_capitals(rt: HostRuntime) -> Result<(), Fail> {
+    let options = oack_of(CAPITALS)?;
+    let want = [
+        (b"WINDOWSIZE".as_slice(), b"4".as_slice()),
+        (b"BLKSIZE".as_slice(), b"08".as_slice()),
+    ];
+    assert!(rt; has_pairs(&options, &want));
+    assert_eq!(rt; options.len(), 2);
+    assert_eq!(rt; options.get(b"blksize"), Some(b"08".as_slice()));
+    assert_eq!(rt; options.number(b"windowsize"), Some(4));
+    Ok(())
 }
 
 #[test]
 fn writes_a_request_canonically(rt: HostRuntime) -> Result<(), Fail> {
-    let Ok(Packet::Request(view)) = read_packet(ASKED) else {
-        assert!(rt; false);
-        return Ok(());
-    };
+    let view = request_of(ASKED)?;
     let request = own_request(rt.alloc(), &view)?;
     assert_eq!(rt; request.side(), Side::Get);
     assert_eq!(rt; request.name(), b"a".as_slice());
@@ -137,10 +171,7 @@ fn writes_a_request_canonically(rt: HostRuntime) -> Result<(), Fail> {
 
 #[test]
 fn writes_an_oack_canonically(rt: HostRuntime) -> Result<(), Fail> {
-    let Ok(Packet::Oack(view)) = read_packet(AGREED) else {
-        assert!(rt; false);
-        return Ok(());
-    };
+    let view = oack_of(CAPITALS)?;
     let options = own_options(rt.alloc(), &view)?;
     assert!(rt; same_options(&options, &view));
     let none = Options::none(rt.alloc());
@@ -148,6 +179,8 @@ fn writes_an_oack_canonically(rt: HostRuntime) -> Result<(), Fail> {
     assert!(rt; !same_options(&none, &view));
     let written = write_oack(rt.alloc(), &options)?;
     assert_eq!(rt; written.as_slice(), AGREED);
+    let again = write_packet(rt.alloc(), &Packet::Oack(view))?;
+    assert_eq!(rt; again.as_slice(), AGREED);
     Ok(())
 }
 
@@ -163,6 +196,23 @@ fn writes_blocks(rt: HostRuntime) -> Result<(), Fail> {
         },
     )?;
     assert_eq!(rt; data.as_slice(), b"\x00\x03\x00\x01hi".as_slice());
+    let error = write_packet(
+        rt.alloc(),
+        &Packet::Error {
+            code: 5,
+            message: b"",
+        },
+    )?;
+    assert_eq!(rt; error.as_slice(), b"\x00\x05\x00\x05\x00".as_slice());
+    Ok(())
+}
+
+/// Bytes are the vector that was taken over, and given back.
+#[test]
+fn bytes_are_a_vector(rt: HostRuntime) -> Result<(), Fail> {
+    let bytes = Bytes::of(Vec::from_slice(rt.alloc(), b"ab")?);
+    assert_eq!(rt; bytes.as_slice(), b"ab".as_slice());
+    assert_eq!(rt; bytes.into_vec().as_slice(), b"ab".as_slice());
     Ok(())
 }
 
@@ -181,14 +231,14 @@ fn long_request(rt: &HostRuntime, name: usize, options: &[u8]) -> Result<Vec<u8>
 fn limits_requests_with_options(rt: HostRuntime) -> Result<(), Fail> {
     let longest = long_request(&rt, 493, b"blksize\x008\x00")?;
     assert_eq!(rt; longest.len(), 512);
-    assert!(rt; read_packet(longest.as_slice()).is_ok());
+    assert_eq!(rt; fault_of(longest.as_slice()), None);
     let longer = long_request(&rt, 494, b"blksize\x008\x00")?;
-    match read_packet(longer.as_slice()) {
-        Err(fault) => assert_eq!(rt; fault, PacketFault::RequestTooLong),
-        Ok(_) => assert!(rt; false),
-    }
+    assert_eq!(rt;
+        fault_of(longer.as_slice()),
+        Some(PacketFault::RequestTooLong)
+    );
     let plain = long_request(&rt, 65_518, b"")?;
     assert_eq!(rt; plain.len(), 65_527);
-    assert!(rt; read_packet(plain.as_slice()).is_ok());
+    assert_eq!(rt; fault_of(plain.as_slice()), None);
     Ok(())
 }

@@ -14,8 +14,8 @@ loop-run-preserved c =
     rw (c.in_ok-extend_from_slice-2.ensures.items, c.in_ok-extend_from_slice.ensures.items)
     (canonical_wire-step _ _ _ _ _ _ c.in-Some.ensures.parts c.in-Some.ensures.run spelling ∙ c.loop-run.invariant)
 
-pub returns : goal.returns
-returns c =
+pub returns-clause-wire : goal.returns-clause-wire
+returns-clause-wire c =
     c.in_ok-extend_from_slice-3.ensures.items
     ∙ ap (λ xs. c.loop-run.wire.items ++ xs) (sym (canonical_wire-to_end _ c.in_default.ensures.none))
     ∙ c.loop-run.invariant

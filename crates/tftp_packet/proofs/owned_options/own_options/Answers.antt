@@ -19,7 +19,7 @@ insert_entry-requires c =
     let es = shown_entries c.loop-name.entries.items in
     let pair : Pair = (c.in-Some.name.now, c.in-Some.text.now) in
     ap (λ (entry : Shown). find (slice_cmp nat_cmp) entry.0 es) c.in_ok-entry.ensures
-    ∙ is_new es so_far.0 pair c.next.new.self so_far.2 (apart so_far.0 c.loop-name.pairs c.args.view.now pair c.next.new.self so_far.1 c.in-Some.ensures.steps c.pairs-pairs.ensures.options.2)
+    ∙ is_new es so_far.0 pair c.next.new.self so_far.2 (apart so_far.0 c.loop-name.pairs c.args.view.now pair c.next.new.self so_far.1 c.in-Some.ensures.steps (subst AreApart c.pairs-pairs.ensures.all c.pairs-pairs.ensures.options.2))
 
 pub loop-name-preserved : goal.loop-name-preserved
 loop-name-preserved c =
@@ -30,5 +30,5 @@ loop-name-preserved c =
       so_far.0 ++ pair ∷ [],
       append_assoc so_far.0 (pair ∷ []) c.next.new.self ∙ ap (λ p. so_far.0 ++ p) (sym c.in-Some.ensures.steps) ∙ so_far.1,
       subst (λ x. Stands x (so_far.0 ++ pair ∷ [])) (sym put_in)
-          (stands_more es so_far.0 pair c.next.new.self so_far.2 (apart so_far.0 c.loop-name.pairs c.args.view.now pair c.next.new.self so_far.1 c.in-Some.ensures.steps c.pairs-pairs.ensures.options.2)),
+          (stands_more es so_far.0 pair c.next.new.self so_far.2 (apart so_far.0 c.loop-name.pairs c.args.view.now pair c.next.new.self so_far.1 c.in-Some.ensures.steps (subst AreApart c.pairs-pairs.ensures.all c.pairs-pairs.ensures.options.2))),
     )

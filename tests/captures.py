@@ -1,0 +1,72 @@
+"""Capture texts, made from packets by the formats alone, and what `show` prints of them."""
+
+
+def zeroed(*words):
+    return b"".join(word.encode() + b"\0" for word in words)
+
+
+def number(value):
+    return value.to_bytes(2, "big")
+
+
+# Each packet is its payload and what `show` says of it.
+def pairs(options):
+    return zeroed(*(word for name, value in options.items() for word in (name, str(value))))
+
+
+def read_request(name, mode, **options):
+    return b"\0\1" + zeroed(name, mode) + pairs(options), "RRQ"
+
+
+def write_request(name, mode, **options):
+    return b"\0\2" + zeroed(name, mode) + pairs(options), "WRQ"
+
+
+def data(block, content):
+    return b"\0\3" + number(block) + content, f"DATA {block} {len(content)}"
+
+
+def ack(block):
+    return b"\0\4" + number(block), f"ACK {block}"
+
+
+def error(code, message):
+    return b"\0\5" + number(code) + zeroed(message), f"ERROR {code}"
+
+
+def oack(**options):
+    return b"\0\6" + pairs(options), "OACK"
+
+
+def netascii(file):
+    """The text of a file on the wire: LF as CR LF, and CR as CR NUL."""
+    return file.replace(b"\r", b"\r\0").replace(b"\n", b"\r\n")
+
+
+def blocks(wire, size):
+    """The DATA packets of a whole wire text; the last one is shorter than a block."""
+    return [data(at // size + 1, wire[at : at + size]) for at in range(0, len(wire) + 1, size)]
+
+
+class Capture:
+    """A transfer at one end, datagram by datagram."""
+
+    SERVICE, CLIENT, SERVER = 69, 40_000, 41_000
+
+    def __init__(self, end):
+        self.end, self.lines, self.rows = end, [], []
+
+    def put(self, sender, *packets, server=SERVER):
+        """The packets pass, sent by the client or by the server at this port."""
+        for payload, said in packets:
+            way = "out" if sender == self.end else "in"
+            port = self.SERVICE if said in ("RRQ", "WRQ") else server
+            local, remote = (self.CLIENT, port) if self.end == "client" else (port, self.CLIENT)
+            self.lines.append(f"{way} {local} {remote} {payload.hex()}")
+            self.rows.append(f"{len(self.rows) + 1} {way} {said}\n".encode())
+
+    def text(self, count=None):
+        """The capture text of the first so many datagrams, or of all."""
+        lines = self.lines[:count]
+        head = ("tftp-capture 1", f"end {self.end}", f"service {self.SERVICE}")
+        return "".join(f"{line}\n" for line in (*head, *lines, f"total {len(lines)}")).encode()

@@ -1,0 +1,123 @@
+"""Larger captures on the built program: thousands of datagrams with options and a window, one of them in netascii, and
+a netascii file that is just too long in canonical text, or just not.
+
+    large.py PROGRAM
+
+Prints each case that is not as it should be, then a last line 'N passed, M failed'; status 1 if any failed.
+"""
+import concurrent.futures
+import os
+import subprocess
+import sys
+
+import captures
+from captures import ack, blocks, data, netascii, oack, read_request, write_request
+
+COUNT = 10_000
+AGREED = {"blksize": 8, "windowsize": 7}
+
+
+def fill(capture, sender, last):
+    """The last two datagrams of a transfer, again and again, up to the count."""
+    other = "server" if sender == "client" else "client"
+    while len(capture.rows) < COUNT:
+        capture.put(sender, last)
+        if len(capture.rows) < COUNT:
+            capture.put(other, ack(int(last[1].split()[1])))
+
+
+def at_receiver(file):
+    """A read at the client: windows whose blocks come once or twice, and the last windows also backwards or mixed."""
+    capture = captures.Capture("client")
+    capture.put("client", read_request("boot.img", "octet", blksize=512, windowsize=7, tsize=0))
+    capture.put("server", oack(**AGREED, tsize=len(file)))
+    capture.put("client", ack(0))
+    wire, size = blocks(file, AGREED["blksize"]), AGREED["windowsize"]
+    for at in range(0, len(wire), size):
+        window, is_near_end = wire[at : at + size], len(wire) - at < 5 * size
+        ways = window, window[:3] + window, window[::-1], window[2:3] + window[:2] + [ack(at + 1)] + window[3:]
+        for packet in ways[at // size % (4 if is_near_end else 2)]:
+            capture.put("client" if packet[1].startswith("ACK") else "server", packet)
+        capture.put("client", ack(at + len(window)))
+    fill(capture, "server", wire[-1])
+    return capture
+
+
+def at_sender(file):
+    """A write in netascii at the client: windows that are acknowledged whole, in part, or twice."""
+    capture = captures.Capture("client")
+    capture.put("client", write_request("notes.txt", "netascii", **AGREED))
+    capture.put("server", oack(**AGREED))
+    wire, size = blocks(netascii(file), AGREED["blksize"]), AGREED["windowsize"]
+    at = turn = 0
+    while at < len(wire):
+        window, turn = wire[at : at + size], turn + 1
+        capture.put("client", *window)
+        # every third window is acknowledged up to its first blocks only, and the sender goes back
+        at += len(window) if turn % 3 or len(window) < size else 4
+        capture.put("server", *[ack(at)] * (1 + (turn % 5 == 0)))
+    fill(capture, "client", wire[-1])
+    return capture
+
+
+def line_ends(length):
+    """A netascii read whose wire text is bare line ends, 32,768 blocks in one window."""
+    capture = captures.Capture("client")
+    options = {"blksize": 8, "windowsize": 65_535}
+    capture.put("client", read_request("a", "netascii", **options))
+    capture.put("server", oack(**options))
+    capture.put("client", ack(0))
+    capture.put("server", *blocks(b"\n" * length, 8))
+    capture.put("client", ack(32_768))
+    return capture
+
+
+def trials_of(name, capture, kind, wire, file, change):
+    """What is tried on a capture: its name, the command, the text, what is printed and the status."""
+    count = len(wire) // AGREED["blksize"] + 1
+    accepted = f"accepted {kind} blocks {count} bytes {len(file)}\n".encode()
+    text, half = capture.text(), COUNT // 2
+    yield name, "check", text, accepted, 0
+    yield name, "show", text, b"".join(capture.rows), 0
+    yield f"{name}, its first half", "check", capture.text(half), b"incomplete after %d\n" % half, 1
+    wrong = text.replace(b"total %d" % COUNT, b"total %d" % (COUNT - 1))
+    yield f"{name}, a wrong total", "check", wrong, b"fault line %d TotalWrong\n" % (COUNT + 4), 2
+    packet, rule = change
+    capture.lines.pop()
+    capture.put("server", packet)
+    refused = f"refused datagram {COUNT} rule {rule}\n".encode()
+    yield f"{name}, another last datagram", "check", capture.text(), refused, 1
+
+
+def trials():
+    image = b"".join(b"%06d\n" % number for number in range(8_150))
+    notes = b"".join((b"%d\n", b"a\r\n%d", b"\r%d\r", b"\n\n%d")[number % 4] % number for number in range(7_600))
+    # Bare line ends are one byte each on the wire and two in canonical text, which has at most 65,535 blocks of 8.
+    yield "line ends, too many", "check", line_ends(262_140).text(), b"too long when normal\n", 1
+    accepted = b"accepted get netascii blocks 65535 bytes 262139\n"
+    yield "line ends, as many as there may be", "check", line_ends(262_139).text(), accepted, 0
+    change = data(1, b"another!"), "25 BlockChanged"
+    yield from trials_of("a read with a window", at_receiver(image), "get octet", image, image, change)
+    wire = netascii(notes)
+    change = ack(len(wire) // AGREED["blksize"] + 2), "26 AckAhead"
+    yield from trials_of("a write in netascii", at_sender(notes), "put netascii", wire, notes, change)
+
+
+def holds(program, trial):
+    """Whether the program says what is wanted; what it says otherwise is told."""
+    name, command, text, output, status = trial
+    done = subprocess.run([program, command], input=text, capture_output=True, timeout=300)
+    if (done.stdout, done.stderr, done.returncode) == (output, b"", status):
+        return True
+    print(f"{command}, {name}: {done.stdout[:100]} {done.stderr[:100]} {done.returncode}")
+    return False
+
+
+def main(program):
+    with concurrent.futures.ThreadPoolExecutor(len(os.sched_getaffinity(0))) as pool:
+        held = list(pool.map(lambda trial: holds(program, trial), trials()))
+    print(f"{held.count(True)} passed, {held.count(False)} failed")
+    return 0 if all(held) else 1
+
+
+sys.exit(main(sys.argv[1]))

@@ -1,0 +1,288 @@
+"""The script tftp-audit and the Makefile's targets that build, on a scratch copy with a stand-in for rt.
+
+    script.py
+
+The stand-in's program says of which source it was built, what its words are and what its input is. Prints each case
+that is not as it should be, then a last line 'N passed, M failed'; status 1 if any failed.
+"""
+import contextlib
+import os
+import pathlib
+import pty
+import shutil
+import subprocess
+import sys
+import tempfile
+
+TOP = pathlib.Path(__file__).resolve().parent.parent
+# A build reads the source at its start; $MEANWHILE is done while it builds, and a source that says 'broken' fails.
+# As rt's, its ci first sets aside what stands in out/, and runs nothing.
+STAND_IN = r"""#!/bin/sh
+echo "rt: $*" >>"$CALLS"
+[ "$1" = ci ] && { cd crates/tftp_audit && rm -rf out || exit 1; }
+mkdir -p out
+text=$(cat src/main.rt)
+echo "rt: progress on $text" >&2
+eval "${MEANWHILE:-}"
+case $text in *broken*) echo "error: $text" >&2 && exit 1 ;; esac
+cat >out/tftp_audit <<'END'
+#!/bin/sh
+echo "BUILT_OF: $# words $*: $(cat)"
+case $1 in check) exit STATUS ;; *) exit 2 ;; esac
+END
+status=$(echo "$text" | tr -cd 0-9)
+sed -i "s/BUILT_OF/$text/; s/STATUS/${status:-0}/" out/tftp_audit
+chmod +x out/tftp_audit
+[ "$1" = ci ] && exit 0
+shift 2
+exec out/tftp_audit "$@"
+"""
+TRIED = "echo tests were run >>\"$CALLS\"\n"
+SAYS_TIME = "tftp-audit: proving and building the program: about a quarter of an hour"
+NOT_BUILT = "tftp-audit: the program was not built, so nothing is run\n"
+HINT = "tftp-audit: call it as ./tftp-audit check|show [FILE]"
+
+
+class Scratch:
+    """A copy of the script and the Makefile, with small sources, in a folder whose name has spaces."""
+
+    def __init__(self, folder):
+        self.top = folder / "the top"
+        self.source = self.top / "crates" / "tftp_audit" / "src" / "main.rt"
+        self.program = self.top / "crates" / "tftp_audit" / "out" / "tftp_audit"
+        self.calls, self.bin = folder / "calls", folder / "bin"
+        for part in ("tftp_audit/src", "tftp_low/src", "tftp_low/specs", "tftp_low/proofs/deep", "tftp_low/must-fail"):
+            (self.top / "crates" / part).mkdir(parents=True)
+            (self.top / "crates" / part / "first.rt").write_text("first")
+        for name in ("tftp-audit", "Makefile"):
+            shutil.copy(TOP / name, self.top)
+        (self.top / "crates.txt").write_text("tftp_audit: tftp_low\n")
+        for name, text, mode in (
+            (self.top / "examples" / "one-block.capture", "an example", 0o644),
+            (self.top / "tests" / "run.sh", TRIED, 0o644),
+            (self.bin / "rt", STAND_IN, 0o755),
+        ):
+            name.parent.mkdir()
+            name.write_text(text)
+            name.chmod(mode)
+        self.source.write_text("one")
+
+    def run(self, *words, script=None, folder=None, given="", meanwhile="", errors=subprocess.PIPE):
+        """What the script writes, what it writes as errors, its status, and how often rt was called."""
+        self.calls.write_text("")
+        environment = {"PATH": f"{self.bin}:{os.environ['PATH']}", "CALLS": str(self.calls), "MEANWHILE": meanwhile}
+        done = subprocess.run(
+            [script or self.top / "tftp-audit", *words],
+            input=given, cwd=folder or self.top, env=environment, text=True, stdout=subprocess.PIPE, stderr=errors,
+            timeout=60,
+        )
+        return done.stdout, done.stderr, done.returncode, self.calls.read_text().count("rt: run -- check\n")
+
+    def make(self, target, meanwhile=""):
+        """The status of a target of the Makefile, what it writes as errors, and whether the tests were run."""
+        words = target, f"DESTDIR={self.top.parent}", "PREFIX=/a prefix"
+        _, errors, status, _ = self.run(*words, script="make", meanwhile=meanwhile)
+        return status, errors, "tests were run" in self.calls.read_text()
+
+    def installed(self):
+        return self.top.parent / "a prefix" / "bin" / "tftp-audit"
+
+
+class Trial:
+    """How many runs were as they should be."""
+
+    def __init__(self):
+        self.passed = self.failed = 0
+
+    def check(self, name, holds, got=""):
+        if holds:
+            self.passed += 1
+        else:
+            self.failed += 1
+            print(f"{name}: {got}")
+
+    def runs(self, name, got, text, builds, words="1 words check", given="", status=0):
+        """The program that was built of this text ran, after so many builds, and nothing else is told of it."""
+        output, errors, ended, calls = got
+        told = errors == "" if builds == 0 else errors.startswith(SAYS_TIME) and "rt: progress" in errors
+        holds = output == f"{text}: {words}: {given}\n" and ended == status and calls == builds and told
+        self.check(name, holds, got)
+
+    def refuses(self, name, got, message, builds=0):
+        """Nothing ran, and the last that is told is the message."""
+        output, errors, status, calls = got
+        self.check(name, output == "" and errors.endswith(message) and status == 2 and calls == builds, got)
+
+
+def building(trial, scratch):
+    trial.runs("the first call", scratch.run("check", given="text"), "one", 1, given="text")
+    trial.runs("nothing changed", scratch.run("check"), "one", 0)
+    got = scratch.run("--build")
+    trial.check("--build, nothing changed", got == ("", "", 0, 0), got)
+    scratch.source.write_text("two 1")
+    trial.refuses("a trial run that fails", scratch.run("check"), NOT_BUILT, 1)
+    scratch.source.write_text("two")
+    trial.runs("an edit", scratch.run("check"), "two", 1)
+    scratch.source.write_text("six")
+    os.utime(scratch.source, (0, 0))
+    trial.runs("an edit with an old date", scratch.run("check"), "six", 1)
+    os.utime(scratch.source, (4_000_000_000, 4_000_000_000))
+    scratch.source.with_name("first.rt").write_text("edited")
+    trial.runs("an edit beside a date that is to come", scratch.run("check"), "six", 1)
+    trial.runs("nothing changed beside a date that is to come", scratch.run("check"), "six", 0)
+    scratch.program.write_text(scratch.program.read_text().replace("six", "not ours"))
+    trial.runs("another program in its place", scratch.run("check"), "six", 1)
+    crates = scratch.top / "crates"
+    for file in (scratch.top / "crates.txt", crates / "tftp_low" / "proofs" / "deep" / "first.rt"):
+        file.write_text("edited")
+        trial.runs(f"an edit of {file.name}", scratch.run("check"), "six", 1)
+    for folder in ("src", "specs", "proofs"):
+        file = crates / "tftp_low" / folder / "another name.rt"
+        file.write_text("")
+        trial.runs(f"a file more in {folder}", scratch.run("check"), "six", 1)
+        file.unlink()
+        trial.runs(f"a file less in {folder}", scratch.run("check"), "six", 1)
+    (crates / "tftp_low" / "must-fail" / "one.edit").write_text("")
+    trial.runs("a must-fail edit more", scratch.run("check"), "six", 0)
+
+
+def edits_meanwhile(trial, scratch):
+    scratch.source.write_text("three")
+    got = scratch.run("check", meanwhile="echo four >src/main.rt")
+    trial.runs("an edit while it builds", got, "three", 1)
+    trial.runs("the call after it", scratch.run("check"), "four", 1)
+    trial.runs("the call after that", scratch.run("check"), "four", 0)
+    scratch.source.write_text("five")
+    meanwhile = "text=mixture; echo mixture >src/main.rt; printf five >src/main.rt"
+    trial.runs("an edit that is taken back", scratch.run("check", meanwhile=meanwhile), "mixture", 1)
+    trial.runs("the call after the edit was taken back", scratch.run("check"), "five", 1)
+    trial.runs("the next call", scratch.run("check"), "five", 0)
+    meanwhile = "rm ../tftp_low/src/first.rt"
+    scratch.source.write_text("six")
+    trial.runs("a source that is removed while it builds", scratch.run("check", meanwhile=meanwhile), "six", 1)
+    trial.runs("the call after a source was removed", scratch.run("check"), "six", 1)
+
+
+def failing(trial, scratch):
+    """A build that fails beside an older program."""
+    old = scratch.program.read_bytes(), scratch.program.stat().st_mtime_ns
+    scratch.source.write_text("broken")
+    for words in (["check"], ["check"], ["show"], ["--build"], ["extract"], ["check", "tests/run.sh"]):
+        got = scratch.run(*words)
+        trial.refuses(f"a failed build, {words}", got, "error: broken\n" + NOT_BUILT, 1)
+    for target in ("build", "install"):
+        status, errors, tested = scratch.make(target)
+        holds = status == 2 and "error: broken\n" in errors and not tested
+        trial.check(f"a failed build, make {target}", holds, errors)
+    trial.check("a failed build, installed", not scratch.installed().exists())
+    now = scratch.program.read_bytes(), scratch.program.stat().st_mtime_ns
+    trial.check("a failed build leaves the older program", now == old)
+    status, errors, tested = scratch.make("test")
+    holds = status == 2 and "error: broken\n" in errors and not tested and not scratch.program.exists()
+    trial.check("a failed gate", holds, errors)
+    scratch.source.write_text("mended")
+    trial.runs("a mended source", scratch.run("check"), "mended", 1)
+    for target in ("build", "install"):
+        trial.check(f"make {target}", scratch.make(target) == (0, "", False))
+    same = scratch.installed().exists() and scratch.installed().read_bytes() == scratch.program.read_bytes()
+    trial.check("make install", same)
+
+
+def gates(trial, scratch):
+    """The gate proves and builds once, and what it built is run by the calls after it."""
+    for text in ("mended", "gated"):
+        scratch.source.write_text(text)
+        status, errors, tested = scratch.make("test")
+        calls = scratch.calls.read_text()
+        holds = status == 0 and tested and calls == "rt: ci\ntests were run\n"
+        trial.check(f"make test of {text}", holds, (errors, calls))
+        trial.runs(f"the call after make test of {text}", scratch.run("check"), text, 0)
+    status, errors, tested = scratch.make("test", meanwhile="echo later >src/main.rt")
+    trial.check("an edit while the gate runs", status == 0 and tested, errors)
+    trial.runs("the call after the gate", scratch.run("check"), "later", 1)
+    meanwhile = "text=mixture; echo mixture >src/main.rt; echo later >src/main.rt"
+    trial.check("an edit that is taken back while the gate runs", scratch.make("test", meanwhile)[0] == 0)
+    trial.runs("the call after that gate", scratch.run("check"), "later", 1)
+    scratch.source.write_text("mended")
+    got = scratch.run("--gate")
+    trial.check("--gate", got == ("", "rt: progress on mended\n", 0, 0), got)
+
+
+def links(trial, scratch):
+    folder = scratch.top.parent / "a folder of links"
+    folder.mkdir()
+    (folder / "whole").symlink_to(scratch.top / "tftp-audit")
+    (folder / "part").symlink_to("../the top/tftp-audit")
+    (folder / "link of a link").symlink_to("part")
+    (scratch.top.parent / "link of the top").symlink_to("the top")
+    (folder / "below").symlink_to("../link of the top/tftp-audit")
+    for name in ("whole", "part", "link of a link", "below"):
+        trial.runs(f"the link {name}", scratch.run("check", script=folder / name), "mended", 0)
+        got = scratch.run("check", script=f"./{name}", folder=folder)
+        trial.runs(f"the link {name}, from its folder", got, "mended", 0)
+    got = scratch.run("../the top/tftp-audit", "check", script="sh", folder=folder)
+    trial.runs("sh and the script", got, "mended", 0)
+    (scratch.bin / "audit").symlink_to(scratch.top / "tftp-audit")
+    trial.runs("a link on PATH", scratch.run("audit", "check", script="env", folder=folder), "mended", 0)
+
+
+def files(trial, scratch):
+    folder = scratch.top.parent / "a folder of captures"
+    folder.mkdir()
+    (folder / "the capture").write_text("its text")
+    for name, where in ((folder / "the capture", None), ("the capture", folder), ("./the capture", folder)):
+        got = scratch.run("check", name, folder=where, given="other")
+        trial.runs(f"check {name}", got, "mended", 0, given="its text")
+    got = scratch.run("show", folder / "the capture")
+    trial.runs("show and a file", got, "mended", 0, words="1 words show", given="its text", status=2)
+    for name in ("missing", folder, ""):
+        got = scratch.run("check", name, given="other")
+        trial.refuses(f"check {name}", got, f"tftp-audit: cannot read the file '{name}'\n")
+    scratch.source.write_text("seven")
+    trial.refuses("a missing file before a build", scratch.run("check", "missing"), "cannot read the file 'missing'\n")
+    got = scratch.run("check", folder / "the capture")
+    trial.runs("a file after an edit", got, "seven", 1, given="its text")
+    scratch.source.write_text("3")
+    trial.refuses("a trial run that ends with status 3", scratch.run("check"), NOT_BUILT, 1)
+    scratch.source.write_text("seven")
+    scratch.run("--build")
+
+
+def on_terminal(scratch, *words):
+    """As `run`, with standard error a terminal."""
+    ours, theirs = pty.openpty()
+    output, _, status, builds = scratch.run(*words, errors=theirs)
+    os.close(theirs)
+    told = b""
+    with contextlib.suppress(OSError):
+        while piece := os.read(ours, 4096):
+            told += piece
+    os.close(ours)
+    return output, told.decode(), status, builds
+
+
+def wrong_words(trial, scratch):
+    for words in ([], [""], ["help"], ["--help"], ["Check"], ["extract", "x"], ["check", "x", "y"], ["--build", "x"]):
+        said = f"{len(words)} words {' '.join(words)}"
+        # the stand-in's program looks at its first word alone
+        status = 0 if words[:1] == ["check"] else 2
+        trial.runs(f"wrong words {words}", scratch.run(*words), "seven", 0, words=said, status=status)
+        output, told, ended, builds = on_terminal(scratch, *words)
+        holds = output == f"seven: {said}: \n" and told.startswith(HINT) and told.count("\n") == 1 and ended == status
+        trial.check(f"wrong words {words} on a terminal", holds, (output, told, ended, builds))
+    for words in (["check"], ["show"], ["check", scratch.top / "crates.txt"], ["--build"]):
+        got = on_terminal(scratch, *words)
+        trial.check(f"{words} on a terminal", got[1] == "", got)
+
+
+def main():
+    trial = Trial()
+    with tempfile.TemporaryDirectory() as folder:
+        scratch = Scratch(pathlib.Path(folder).resolve())
+        for part in (building, edits_meanwhile, failing, gates, links, files, wrong_words):
+            part(trial, scratch)
+    print(f"{trial.passed} passed, {trial.failed} failed")
+    return 1 if trial.failed else 0
+
+
+sys.exit(main())

@@ -1,0 +1,90 @@
+"""Tries every wrong body of the repository, those in crates/NAME/must-fail and those in crates/NAME/plants: the prover
+must refuse each. Many are tried in one check, on copies outside the repository; what is here is only read.
+
+An edit is refused where the function that it changes has an open goal of its own. Prints a line for each edit with
+the function, the clause and the reason. An edit fails that cannot be applied, that is proved, that is refused only by
+its types or its syntax, that only makes another function's proof fall, or whose check does not end.
+"""
+import argparse
+import concurrent.futures
+import pathlib
+import resource
+import signal
+import sys
+import tempfile
+import time
+
+sys.dont_write_bytecode = True
+
+import edits  # noqa: E402
+import rooms  # noqa: E402
+import tries  # noqa: E402
+
+TOP = pathlib.Path(__file__).resolve().parents[2]
+
+
+def words():
+    form = argparse.ArgumentParser(prog="plants", description=__doc__, formatter_class=argparse.RawDescriptionHelpFormatter)
+    form.add_argument("names", nargs="*", metavar="NAME", help="a crate, an edit, or CRATE/EDIT; none: all")
+    form.add_argument("--jobs", type=int, default=2, metavar="N", help="checks at a time (2)")
+    form.add_argument("--seconds", type=int, default=1200, metavar="N", help="how long a check may take (1200)")
+    form.add_argument("--edits", type=pathlib.Path, metavar="FOLDER", help="tries the edits FOLDER/CRATE/*.edit in place of the repository's")
+    form.add_argument("--fresh", action="store_true", help="takes nothing from the crates' out/: checks each from nothing first")
+    return form.parse_args()
+
+
+def is_named(edit, names):
+    return not names or {edit.crate, edit.name, f"{edit.crate}/{edit.name}"} & set(names)
+
+
+def told(it):
+    print(f"{it.edit}: {'refused: ' if it.is_refused else 'FAILED: '}{it.reason}", flush=True)
+
+
+def try_crate(crate, found, room, pool):
+    """Tries a crate's edits, and prints a line for each."""
+    try:
+        tried = tries.Tries(crate, found, room)
+    except rooms.NotProved as why:
+        print(why, flush=True)
+        return [tries.Try(it, reason="its crate is not proved") for it in found]
+    groups = tried.groups()
+    print(f"{crate}: {len(found)} edits in {len(groups)} checks", flush=True)
+    for it in tried.tries:
+        if it.reason:
+            told(it)
+    for running in concurrent.futures.as_completed([pool.submit(run, tried, it) for it in groups]):
+        for it in running.result():
+            told(it)
+    return tried.tries
+
+
+def run(tried, group):
+    tried.run(group)
+    return group.tries
+
+
+def main():
+    given, started = words(), time.monotonic()
+    signal.signal(signal.SIGTERM, lambda *_: sys.exit(1))
+    done = []
+    with tempfile.TemporaryDirectory(prefix="plants-") as folder, concurrent.futures.ThreadPoolExecutor(given.jobs) as pool:
+        room = rooms.Rooms(TOP, folder, given.seconds, given.fresh)
+        try:
+            for crate in room.libraries:
+                found = [it for it in edits.edits_of(crate, TOP, given.edits) if is_named(it, given.names)]
+                done += try_crate(crate, found, room, pool) if found else []
+        finally:
+            room.end_all()
+    failed = [str(it.edit) for it in done if not it.is_refused]
+    used = resource.getrusage(resource.RUSAGE_CHILDREN)
+    print(f"{time.monotonic() - started:.0f} s, {used.ru_utime + used.ru_stime:.0f} s of processor time")
+    print(f"{len(done) - len(failed)} refused, {len(failed)} failed{': ' + ' '.join(failed) if failed else ''}")
+    return 1 if failed or not done else 0
+
+
+if __name__ == "__main__":
+    try:
+        sys.exit(main())
+    except KeyboardInterrupt:
+        sys.exit(130)

@@ -1,0 +1,112 @@
+"""Copies of the repository outside it, in which checks run, so that no check changes the tree."""
+import contextlib
+import os
+import pathlib
+import shutil
+import signal
+import subprocess
+import tempfile
+
+PARTS = ("src", "specs", "proofs")
+
+
+class NotProved(Exception):
+    """Why a crate's edits cannot be tried: it is not proved as it stands."""
+
+
+class Stopped(Exception):
+    """No check begins any more."""
+
+
+def libraries_of(top):
+    """The crates of the repository, each with those that it names."""
+    lines = (it.partition("#")[0].partition(":") for it in (top / "crates.txt").read_text(encoding="utf-8").split("\n"))
+    named = {words.split()[0]: libraries.split() for words, _, libraries in lines if words.strip()}
+    return {crate: [it for it in libraries if it in named] for crate, libraries in named.items()}
+
+
+class Rooms:
+    """A copy of the repository, in which each crate is checked once, and the rooms that are copied from it."""
+
+    def __init__(self, top, folder, seconds, is_fresh):
+        self.base, self.seconds, self.is_fresh = pathlib.Path(folder) / "base", seconds, is_fresh
+        self.top, self.libraries, self.running, self.is_over = top, libraries_of(top), set(), False
+        for crate in self.libraries:
+            self.copy_texts(top, self.base, crate)
+        shutil.copy(top / "crates.txt", self.base)
+
+    def below(self, crate):
+        """The crates that a crate is built over."""
+        return set(self.libraries[crate]).union(*(self.below(it) for it in self.libraries[crate]))
+
+    def copy_texts(self, top, to, crate):
+        for part in PARTS:
+            if (top / "crates" / crate / part).is_dir():
+                shutil.copytree(top / "crates" / crate / part, to / "crates" / crate / part)
+
+    def texts_of(self, crate):
+        """The texts of a crate's files, by their paths."""
+        folder = self.base / "crates" / crate
+        files = sorted(it for part in PARTS for it in folder.glob(f"{part}/**/*") if it.is_file())
+        return {str(it.relative_to(folder)): it.read_text(encoding="utf-8") for it in files}
+
+    def prove(self, crate):
+        """Checks a crate as it stands, over what an earlier check has kept in the tree, and keeps its work."""
+        for it in (crate, *self.below(crate)):
+            kept, to = self.top / "crates" / it / "out", self.base / "crates" / it / "out"
+            for part in () if self.is_fresh else ("incremental", "rlib"):
+                if (kept / part).is_dir() and not (to / part).exists():
+                    shutil.copytree(kept / part, to / part)
+        status, text = self.check(self.base, crate, [], None)
+        if status:
+            raise NotProved(f"{crate} is not proved as it stands:\n{text[-2000:]}")
+        return text
+
+    def check(self, top, crate, words, seconds):
+        """The status and the text of a check in a room, or None and the text so far if it has not ended by then."""
+        if self.is_over:
+            raise Stopped
+        how = {"stdin": subprocess.DEVNULL, "stdout": subprocess.PIPE, "stderr": subprocess.STDOUT}
+        ran = subprocess.Popen(
+            ["rt", "check", *words], cwd=top / "crates" / crate, start_new_session=True, encoding="utf-8", errors="replace", **how
+        )
+        self.running.add(ran.pid)
+        try:
+            text, _ = ran.communicate(timeout=seconds)
+            return ran.returncode, text
+        except subprocess.TimeoutExpired:
+            self.end(ran.pid)
+            return None, ran.communicate()[0]
+        except BaseException:
+            self.end(ran.pid)
+            raise
+        finally:
+            self.running.discard(ran.pid)
+
+    def end(self, pid):
+        with contextlib.suppress(ProcessLookupError):
+            os.killpg(pid, signal.SIGKILL)
+
+    def end_all(self):
+        """Ends the checks that run, and lets no other begin."""
+        self.is_over = True
+        for pid in list(self.running):
+            self.end(pid)
+
+    def tried(self, crate, texts, words):
+        """Checks a crate with other texts in a room of its own, over a copy of the work that its own check has kept."""
+        with tempfile.TemporaryDirectory(prefix="room-", dir=self.base.parent) as folder:
+            room = pathlib.Path(folder)
+            shutil.copy(self.base / "crates.txt", room)
+            for it in self.libraries:
+                self.copy_texts(self.base, room, it)
+            for it in self.below(crate):
+                # the libraries are only read
+                shutil.copytree(self.base / "crates" / it / "out" / "rlib", room / "crates" / it / "out" / "rlib", copy_function=os.link)
+            kept = pathlib.Path("crates") / crate / "out" / "incremental"
+            shutil.copytree(self.base / kept, room / kept)
+            for file, text in texts.items():
+                (room / "crates" / crate / file).write_text(text, encoding="utf-8")
+            for file in set(self.texts_of(crate)) - set(texts):
+                (room / "crates" / crate / file).unlink()
+            return self.check(room, crate, ["--jobs", "1", *words], self.seconds)

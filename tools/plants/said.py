@@ -1,0 +1,82 @@
+"""What a check says of each function, and what that says of an edit."""
+import re
+
+LINE = re.compile(r"(?:fn|struct|enum|impl|trait|type) (\S+): (proved|not proved|no proof)(.*)")
+NOTE = re.compile(r"note: (\S+): (.*?) \(`([^`]+)`\)")
+# An error of a proof file, which stands in the folder that its function is named by.
+WRITTEN = re.compile(r"(?:\./)?proofs/(\S+)/(Answers|Invariants|Proof)\.antt:\d+:\d+: error: (?:`([^`]+)`: )?(.*)")
+SOURCE = re.compile(r"(?:\./)?(?:src|specs)/\S+?:\d+:\d+: error(?:\[[^\]]*\])?: .*")
+NAMES = re.compile(r"has no field|is not in scope|has no `|was not admitted|is no name")
+FAILED = re.compile(r"rattle: (?:error|no verdict)|error\[")
+ENDED = re.compile(r"(?:logic=|only=)\S+(?: .*)?")
+NOT_PROVED = "it is not proved that "
+# How an edit's functions stand: all are proved; a goal of one is open; or nothing is known of their own clauses.
+PROVED, REFUSED, CALLEE, NAMED, UNTOLD = "proved", "refused", "only a callee is named", "only names are gone", "no reason"
+
+
+class Said:
+    """The functions of a check: how each stands, and the goals that are open in it."""
+
+    def __init__(self, crate, text):
+        self.stands, self.open, self.named, self.wrong = {}, {}, {}, []
+        self.ended = self.proved = False
+        notes = []
+        for line in text.split("\n"):
+            notes += NOTE.findall(line)
+            self.read_written(crate, line)
+            stands = LINE.match(line)
+            if stands:
+                self.read_stands(*stands.groups(), notes)
+                notes = []
+            elif SOURCE.match(line) or FAILED.match(line):
+                self.wrong.append(line)
+            elif ENDED.match(line):
+                self.ended, self.proved = True, line.startswith("logic=proved")
+
+    def read_written(self, crate, line):
+        """Reads what a proof file fails to prove, or names in vain."""
+        found = WRITTEN.match(line)
+        if not found:
+            return
+        path, file, goal, why = found.groups()
+        symbol = "::".join([crate, *path.split("/")])
+        is_named = NAMES.search(re.sub(r"`[^`]*`", "``", why)) and file or ""
+        kept = self.named if is_named else self.open
+        kept.setdefault(symbol, []).append((goal or file, f"its written answer does not prove it"))
+
+    def read_stands(self, symbol, stands, rest, notes):
+        self.stands[symbol] = stands + rest
+        if stands == "proved":
+            return
+        untried = re.search(r"`search` did not prove (.*)", rest)
+        goals = re.findall(r"`([^`]+)`", untried[1]) if untried else []
+        what = {goal: said for _, said, goal in notes}
+        found = [(goal, what.get(goal, "the search did not prove it")) for goal in goals]
+        found += [(goal, said) for goal, said in what.items() if goal not in goals and "it calls" not in rest]
+        if found:
+            self.open.setdefault(symbol, []).extend(found)
+
+    def of(self, symbols):
+        """How these functions stand, with those that stand in them: one of the words above, and the reason."""
+        own = [it for it in self.stands if any(is_in(it, symbol) for symbol in symbols)]
+        for symbol in (it for it in own if it in self.open):
+            goal, what = self.open[symbol][0]
+            return REFUSED, f"{symbol}, {clause_of(goal)}, is not proved: {what.replace(NOT_PROVED, '')}"
+        for symbol in (it for it in own if it in self.named):
+            return NAMED, f"the proof of {symbol} names what the edit took away"
+        left = [it for it in own if not self.stands[it].startswith("proved")]
+        if left:
+            word = CALLEE if re.search(r"it calls|it passes|a call of", self.stands[left[0]]) else UNTOLD
+            return word, f"{left[0]}: {self.stands[left[0]]}"
+        return (PROVED, "") if own else (UNTOLD, "the check says nothing of a function that it changes")
+
+
+def is_in(symbol, outer):
+    """Whether a function is this one, or a closure that stands in it."""
+    return symbol == outer or "::fn::" in symbol and symbol.replace("::fn::", "::").startswith(f"{outer}::")
+
+
+def clause_of(goal):
+    """The clause that a goal is of, as its contract names it, and else the goal's own name."""
+    found = re.search(r"clause-(\w+)", goal)
+    return f"clause {found[1]}" if found else f"goal {goal}"

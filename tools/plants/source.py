@@ -1,0 +1,145 @@
+"""The functions of a crate's sources: where they stand, what the checker calls them, and what each may call."""
+import re
+
+# Comments, strings and characters, which may hold any sign.
+HIDDEN = re.compile(r"""//[^\n]*|/\*.*?\*/|"(?:\\.|[^"\\])*"|'(?:\\(?:x[0-9a-fA-F]{2}|u\{[^}]*\}|.)|[^\\'\n])'""", re.S)
+ITEM = re.compile(r"\b(?:(?P<kind>mod|fn|trait|const|static)\s+(?P<name>\w+)|(?P<impl>impl)\b)")
+# What stands right before the brace of a contract's clause, and not of a body.
+CLAUSE = re.compile(r"\b(?:requires|ensures|ghost|decreases)\*?\s*(?:\w+\s*:?\s*)?\Z")
+OPEN, CLOSED = "([{", ")]}"
+
+
+class Function:
+    """A function with a body, under the name that the checker prints."""
+
+    def __init__(self, symbol, text, body):
+        self.symbol, self.text, self.body = symbol, text, body
+
+    @property
+    def name(self):
+        return self.symbol.rpartition("::")[2]
+
+    def words(self):
+        """The words of its body: any function that it calls is named by one of them."""
+        return set(re.findall(r"\w+", self.body))
+
+
+def blanked(text):
+    """The text with spaces for all that stands in comments, strings and characters."""
+    return HIDDEN.sub(lambda found: re.sub(r"[^\n]", " ", found[0]), text)
+
+
+def next_of(text, signs, at):
+    """Where the first of these signs stands from there on, outside every bracket; the end if there is none."""
+    depth = 0
+    while at < len(text):
+        if depth == 0 and text[at] in signs:
+            return at
+        depth += (text[at] in OPEN) - (text[at] in CLOSED)
+        at += 1
+    return len(text)
+
+
+def end_of_block(text, at):
+    """Where the block ends whose brace opens there."""
+    return next_of(text, "}", at + 1) + 1
+
+
+def body_of(text, at):
+    """Where the body begins of the function whose name ends there, or None if it has none."""
+    while True:
+        opens = next_of(text, "{;", at)
+        if opens == len(text) or text[opens] == ";":
+            return None
+        if not CLAUSE.search(text, at, opens):
+            return opens
+        at = end_of_block(text, opens)
+
+
+def owner_of(header):
+    """What the checker puts before the names of an impl's functions: its type's name, and its trait's."""
+    plain, shorter = header.replace("->", " "), None
+    while shorter != plain:
+        plain, shorter = re.sub(r"<[^<>]*>", " ", plain), plain
+    found = re.match(r"\s*(?:([\w:]+)\s+for\s+)?[&\s]*([\w:]+)", plain)
+    trait, owner = (found[1] or "", found[2]) if found else ("", "")
+    return owner.rpartition("::")[2] + trait.rpartition("::")[2]
+
+
+class Source:
+    """The functions and the constants of one file."""
+
+    def __init__(self, text, path):
+        self.text, self.plain, self.functions, self.constants = text, blanked(text), {}, {}
+        self.read(path, 0, len(text))
+
+    def read(self, path, at, end):
+        while True:
+            item = ITEM.search(self.plain, at, end)
+            if item is None:
+                return
+            at = self.read_item(item, path)
+
+    def read_item(self, item, path):
+        """Reads an item and what stands in it, and answers where it ends."""
+        name, at = item["name"], item.end()
+        if item["kind"] == "fn":
+            opens = body_of(self.plain, at)
+            if opens is None:
+                return next_of(self.plain, ";", at)
+            end = end_of_block(self.plain, opens)
+            symbol = "::".join([*path, name])
+            self.functions[symbol] = Function(symbol, self.text[item.start() : end], self.plain[opens:end])
+            return end
+        if item["kind"] in ("const", "static"):
+            end = next_of(self.plain, ";", at)
+            self.constants[name] = self.text[at:end]
+            return end
+        opens = next_of(self.plain, "{;", at)
+        if self.plain[opens : opens + 1] != "{":
+            return opens
+        end = end_of_block(self.plain, opens)
+        self.read([*path, name or owner_of(self.plain[at:opens])], opens + 1, end - 1)
+        return end
+
+
+def module_of(crate, file):
+    """The path of the module that a file below src/ is."""
+    parts = file[: -len(".rt")].split("/")[1:]
+    return [crate, *([] if parts in (["lib"], ["main"]) else parts)]
+
+
+def sources_of(crate, texts):
+    """The sources among these files of a crate, by their paths."""
+    return {file: Source(text, module_of(crate, file)) for file, text in texts.items() if file.startswith("src/") and file.endswith(".rt")}
+
+
+def functions_of(sources):
+    return {symbol: it for source in sources.values() for symbol, it in source.functions.items()}
+
+
+def changed(before, after):
+    """The functions of a crate that an edit changes, and those whose constants it changes; none that it adds."""
+    was, now = functions_of(before), functions_of(after)
+    found = {symbol for symbol, it in was.items() if symbol in now and now[symbol].text != it.text}
+    for file, source in after.items():
+        constants = {name for name, text in source.constants.items() if before[file].constants.get(name) != text}
+        found |= {symbol for symbol, it in was.items() if constants & it.words()}
+    return found
+
+
+def reachable(functions):
+    """The functions that each may call, itself or by others: those that its words may name."""
+    named = {}
+    for symbol, it in functions.items():
+        named.setdefault(it.name, set()).add(symbol)
+    calls = {symbol: set().union(*(named.get(word, ()) for word in it.words())) for symbol, it in functions.items()}
+    reach = {}
+    for symbol in functions:
+        found, waiting = set(), [symbol]
+        while waiting:
+            new = calls[waiting.pop()] - found
+            found |= new
+            waiting += new
+        reach[symbol] = found
+    return reach
