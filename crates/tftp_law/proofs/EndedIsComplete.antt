@@ -1,4 +1,4 @@
--- What is meant by the rules is a complete one-sided history, of some wire.
+-- What has ended by the rules is complete at the named end, for each meaning and wire in accord with it.
 use Rattle.std.proofs.Common.{◌≡◌, ℕ, ◌≤◌, List, Some, None, inl, inr, sym, subst, ap, ◌∙◌}
 use Rattle.tftp_packet.specs.Message.{RequestParts}
 use Rattle.tftp_ends.specs.CaptureText.{Datagram, Header}
@@ -17,9 +17,9 @@ use Rattle.tftp_law.specs.Rules.{NotAnswered}
 use Rattle.tftp_law.specs.OneEnded.{IsEnded}
 use Rattle.tftp_law.proofs.FirstAnswered.{not_both}
 use Rattle.tftp_law.proofs.Settled.{settled}
-use Rattle.tftp_law.proofs.Heard.{block_came, ack_went, ack_came_in}
-use Rattle.tftp_law.proofs.Followed.{State, state, named_is, side_is, numbers, few, as_blocks}
-use Rattle.tftp_law.proofs.Sized.{the_last}
+use Rattle.tftp_law.proofs.PassedIsDone.{block_came, ack_went, ack_came_in}
+use Rattle.tftp_law.proofs.NextDeed.{State, state, named_is, side_is, numbers, few, as_blocks}
+use Rattle.tftp_law.proofs.BlockLengths.{the_last}
 use Rattle.tftp_law.specs.MessageRules.{AreTermsAfter}
 
 module _ (h : Header) (m : Meaning) (wire : List ℕ)
@@ -65,6 +65,7 @@ module _ (h : Header) (m : Meaning) (wire : List ℕ)
   gives : h.named ≡ sender_of m.side → IsSender t
   gives is = named_is h m wire acc.fits division routed own t st ∙ is ∙ ap sender_of (sym (side_is h m wire acc.fits division routed own t st))
 
+  -- the last block by the rules is the last of the wire
   pub completed : IsComplete m wire h.named (view_in division)
   completed = record {
     took = λ is k low up. let b = (ended.whole.front (receives is)).below k low (subst (λ i. k ≤ i) (sym last_is) up) in block_came h m wire division routed k b.0 b.1;

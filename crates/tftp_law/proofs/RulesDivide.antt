@@ -25,8 +25,8 @@ use Rattle.tftp_law.specs.Rules.{FirstAsked, Answer, Agrees, Begins, FirstAnswer
 use Rattle.tftp_law.specs.declared.rule.Rule.{Rule}
 use Rattle.tftp_law.specs.OneEnded.{IsRead, Passes, OneEnded}
 use Rattle.tftp_law.proofs.FirstRequests.{begins_asked, or_some, asks_is, asks_route, first_spells, first_stays}
-use Rattle.tftp_law.proofs.Asked.{request_spelled}
-use Rattle.tftp_law.proofs.May.{of_wire, may_send_data, may_come_data, may_send_ack, may_come_ack, agreed_now, may_send_oack, may_come_oack, asked_now, may_send_request, may_come_request}
+use Rattle.tftp_law.proofs.FirstSpelled.{request_spelled}
+use Rattle.tftp_law.proofs.NextDatagram.{of_wire, may_send_data, may_come_data, may_send_ack, may_come_ack, agreed_now, may_send_oack, may_come_oack, asked_now, may_send_request, may_come_request}
 use Rattle.tftp_law.proofs.RouteTests.{request_begins}
 
 -- ---- routes, read backwards

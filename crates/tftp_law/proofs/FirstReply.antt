@@ -21,7 +21,7 @@ use Rattle.tftp_ends.proofs.Members.{contains_later, contains_cases, contains_no
 use Rattle.tftp_law.specs.Dress.{Part, Main, Stray, StrayAnswer, Division, datagrams_of, view_in, packet_of}
 use Rattle.tftp_law.specs.Accord.{part_route, SaysAs, AreRouted}
 use Rattle.tftp_law.specs.Rules.{Answer, Agrees, Begins, IsAnswer, NotAnswered, FirstAnswer}
-use Rattle.tftp_law.proofs.Heard.{told_passed, with_main, with_stray}
+use Rattle.tftp_law.proofs.PassedIsDone.{told_passed, with_main, with_stray}
 
 -- ---- what a view tells of the deeds before
 
@@ -42,6 +42,7 @@ module _ (m : Meaning) (wire : List ℕ) (e : End) where
   more_lets_zero Get d v z = (z.0, contains_later d v (Sent Oack) z.1)
   more_lets_zero Put d v z = elim z [ inl x ↦ inl (x.0, contains_later d v (Sent Req) x.1) | inr x ↦ inr (x.0, x.1, contains_later d v (Sent (Data x.1)) x.2) ]
 
+  -- a block that was sent says what was taken before it
   pub sent_data : (k : ℕ) (v : History) → IsOneSided m wire e v → HasSent v (Data k) → IsStartedOn m.side m v
   sent_data k [] own at = absurd (contains_none (Sent (Data k)) at)
   sent_data k (Sent p ∷ v) own at = elim (contains_cases (Sent p) v (Sent (Data k)) at) [
@@ -50,6 +51,7 @@ module _ (m : Meaning) (wire : List ℕ) (e : End) where
   ]
   sent_data k (Took p ∷ v) own at = elim (contains_cases (Took p) v (Sent (Data k)) at) [ inl same ↦ absurd (cc) | inr before ↦ more_start m.side (Took p) v (sent_data k v own.1 before) ]
 
+  -- a block that was taken says what was sent before it
   pub took_data : (k : ℕ) (v : History) → IsOneSided m wire e v → HasTaken v (Data k) → LetsStartOn m.side m v
   took_data k [] own at = absurd (contains_none (Took (Data k)) at)
   took_data k (Took p ∷ v) own at = elim (contains_cases (Took p) v (Took (Data k)) at) [
@@ -78,9 +80,11 @@ module _ (m : Meaning) (wire : List ℕ) (e : End) where
   abbrev pub Told : History → Type 0
   Told v = NothingAgreed m ⊎ (SomethingAgreed m × (HasSent v Oack ⊎ HasTaken v Oack))
 
+  -- on a read a block that goes out
   pub data_out : m.side ≡ Get → (v : History) → IsOneSided m wire e v → IsStartedOn m.side m v → Told v
   data_out get v own s = elim (subst (λ side. IsStartedOn side m v) get s) [ inl x ↦ inl x.0 | inr x ↦ inr (x.0, inl (subst (λ side. LetsAckZeroOn side m v) get (took_zero v own x.1)).1) ]
 
+  -- and one that comes in
   pub data_in : m.side ≡ Get → (v : History) → IsOneSided m wire e v → LetsStartOn m.side m v → Told v
   data_in get v own s = elim (subst (λ side. LetsStartOn side m v) get s) [ inl x ↦ inl x.0 | inr x ↦ inr (x.0, inr (subst (λ side. MayAckZeroOn side m v) get (sent_zero v own x.1)).1) ]
 
@@ -98,6 +102,7 @@ module _ (m : Meaning) (wire : List ℕ) (e : End) where
 
 -- ---- the first answer
 
+-- where nothing has answered no OACK has passed
 pub no_oack : (side : Side) (dir : Dir) (o : OptionMap) (passed : List Datagram) → NotAnswered side passed → Passed dir (Message.Oack o) passed → ⊥
 no_oack side dir o [] none p = p
 no_oack side dir o (d ∷ passed) none p = elim p [ inl now ↦ none.0 (Agrees o) (Message.Oack o, now.1, refl) | inr before ↦ no_oack side dir o passed none.1 before ]
@@ -133,6 +138,7 @@ module _ (h : Header) (m : Meaning) (wire : List ℕ) where
     abbrev ps : List Datagram
     ps = transfer_of h (datagrams_of division)
 
+    -- what begins the blocks, and is the first answer, says that nothing is agreed
     pub plain : (side : Side) → Told m wire h.named (view_in division) → NotAnswered side ps → NothingAgreed m
     plain side told none = elim told [
       | inl nothing ↦ nothing
@@ -176,6 +182,7 @@ module _ (h : Header) (m : Meaning) (wire : List ℕ) where
     route_false : (r : Route) → route_of h (datagrams_of earlier) d ≡ r → is_of_transfer r ≡ false → is_of_transfer (route_of h (datagrams_of earlier) d) ≡ false
     route_false r e f = subst (λ x. is_of_transfer x ≡ false) (sym e) f
 
+  -- nothing has answered; or something is agreed, and that was the first answer; or nothing is, and the first answer began the blocks
   pub reply_is : (division : Division) → AreRouted h m wire division → IsOneSided m wire h.named (view_in division) → IsReply m.side (transfer_of h (datagrams_of division))
   reply_is [] routed own = inl tt
   reply_is (p ∷ earlier) routed own = reply_step p.datagram p.part earlier routed.2 routed.0 routed.1 own (reply_is earlier routed.2)

@@ -1,4 +1,4 @@
--- What has passed in the transfer, by the view of its end.
+-- What has passed in the transfer is what the end did: its view, read off the datagrams.
 use Rattle.std.proofs.Common.{◌≡◌, ℕ, ◌+◌, ◌≤◌, Bool, true, false, List, [], ◌∷◌, Contains, inl, inr, refl, sym, subst, ap, ◌∙◌, arith, if◌then◌else◌}
 use Rattle.std.proofs.lemmas.Bool.{false≢true, true≢false}
 use Rattle.tftp_packet.specs.Message.{Message}
@@ -61,6 +61,7 @@ module _ (h : Header) (m : Meaning) (wire : List ℕ) where
   passed_step d Stray earlier is says before dir x p = before dir x (subst (Passed dir x) (with_stray earlier d (ap is_of_transfer is)) p)
   passed_step d StrayAnswer earlier is says before dir x p = before dir x (subst (Passed dir x) (with_stray earlier d (ap is_of_transfer is)) p)
 
+  -- what has passed is a deed of the view
   pub passed_told : (division : Division) → AreRouted h m wire division → (dir : Dir) (x : Message) → Passed dir x (transfer_of h (datagrams_of division)) → Told m wire (view_in division) dir x
   passed_told [] routed dir x p = absurd p
   passed_told (p ∷ earlier) routed dir x q = passed_step p.datagram p.part earlier routed.0 routed.1 (passed_told earlier routed.2) dir x q
@@ -76,12 +77,14 @@ module _ (h : Header) (m : Meaning) (wire : List ℕ) where
   told_step d Stray earlier is says before deed at = subst (Passed (dir_of deed) (message_of m wire (packet_of deed))) (sym (with_stray earlier d (ap is_of_transfer is))) (before deed at)
   told_step d StrayAnswer earlier is says before deed at = subst (Passed (dir_of deed) (message_of m wire (packet_of deed))) (sym (with_stray earlier d (ap is_of_transfer is))) (before deed at)
 
+  -- and each deed of the view has passed
   pub told_passed : (division : Division) → AreRouted h m wire division → (deed : Deed) → Contains (view_in division) deed → Passed (dir_of deed) (message_of m wire (packet_of deed)) (transfer_of h (datagrams_of division))
   told_passed [] routed deed at = absurd (contains_none deed at)
   told_passed (p ∷ earlier) routed deed at = told_step p.datagram p.part earlier routed.0 routed.1 (told_passed earlier routed.2) deed at
 
   -- ---- by kinds
 
+  -- only a block says a block
   pub data_only : (q : MachinePacket) (k : ℕ) (bytes : List ℕ) → message_of m wire q ≡ Message.Data k bytes → (q ≡ Data k) × (bytes ≡ block (blksize_of m) wire k)
   data_only (Data j) k bytes e =
       let same : j ≡ k = cc in
@@ -109,6 +112,7 @@ module _ (h : Header) (m : Meaning) (wire : List ℕ) where
     abbrev through : List Datagram
     through = transfer_of h (datagrams_of division)
 
+    -- so each kind, one way and back
     pub block_sent : (k : ℕ) (bytes : List ℕ) → Passed Out (Message.Data k bytes) through → HasSent (view_in division) (Data k)
     block_sent k bytes p =
         let (q, at, says) = sent_of (view_in division) (Message.Data k bytes) (passed_told division routed Out (Message.Data k bytes) p) in

@@ -32,12 +32,12 @@ use Rattle.tftp_law.specs.MessageRules.{RequestBreaks, OackBreaks, TermsBreak, M
 use Rattle.tftp_law.specs.declared.rule.Rule.{Rule}
 use Rattle.tftp_law.proofs.Agreed.{no_agreement_fault}
 use Rattle.tftp_law.proofs.FirstAnswered.{first_one, not_both as answered_not}
-use Rattle.tftp_law.proofs.Made.{answer_spelled, from_eight, size_is}
-use Rattle.tftp_law.proofs.Sized.{not_beyond, not_misfit, not_changed}
-use Rattle.tftp_law.proofs.Heard.{Told as Heard, passed_told, told_passed, data_only, block_sent, ack_went, sent_block, not_both, ack_not_ahead_in, ack_not_ahead_out, within_window_in}
-use Rattle.tftp_law.proofs.Answered.{no_oack, Told, data_out, data_in, reply_is}
+use Rattle.tftp_law.proofs.MadeMeaning.{answer_spelled, from_eight, size_is}
+use Rattle.tftp_law.proofs.BlockLengths.{not_beyond, not_misfit, not_changed}
+use Rattle.tftp_law.proofs.PassedIsDone.{Told as Heard, passed_told, told_passed, data_only, block_sent, ack_went, sent_block, not_both, ack_not_ahead_in, ack_not_ahead_out, within_window_in}
+use Rattle.tftp_law.proofs.FirstReply.{no_oack, Told, data_out, data_in, reply_is}
 use Rattle.tftp_law.proofs.WhoSends.{request_kind, oack_kind, data_kind_out, data_kind_in, ack_kind_out, ack_kind_in}
-use Rattle.tftp_law.proofs.Asked.{numbered}
+use Rattle.tftp_law.proofs.FirstSpelled.{numbered}
 
 -- ---- the next deed
 
@@ -57,6 +57,7 @@ module _ (h : Header) (m : Meaning) (wire : List ℕ) (fits : Fits m wire)
       ⊎ ((SomethingAgreed m × FirstAnswer m.side through (Agrees m.agreed) × (t ≡ terms_after h (request_of m) (Agrees m.agreed)))
       ⊎ (NothingAgreed m × (t ≡ plain_terms h m.side Plain)))
 
+  -- what is known of the reply says what is agreed
   pub state : (t : Terms) → AreTermsAfter h (request_of m) through t → State t
   state t (inl none) = inl none
   state t (inr (a, first, is)) = elim (reply_is h m wire division routed own) [
@@ -98,6 +99,7 @@ module _ (h : Header) (m : Meaning) (wire : List ℕ) (fits : Fits m wire)
     size = λ size is. let both : None ≡ Some size = sym none ∙ is in absurd (cc);
   }
 
+  -- so the numbers of the terms are known
   pub numbers : (NotAnswered m.side through → NothingAgreed m) → (t : Terms) → State t → Numbers t
   numbers plain t (inl x) = plain_numbers t (plain x.0) (ap (λ (u : Terms). u.blksize) x.1) (ap (λ (u : Terms). u.windowsize) x.1) (ap (λ (u : Terms). u.size) x.1)
   numbers plain t (inr (inr x)) = plain_numbers t x.0 (ap (λ (u : Terms). u.blksize) x.1) (ap (λ (u : Terms). u.windowsize) x.1) (ap (λ (u : Terms). u.size) x.1)
@@ -153,6 +155,7 @@ module _ (h : Header) (m : Meaning) (wire : List ℕ) (fits : Fits m wire)
   no_oack_yet side none (inl p) = no_oack side In m.agreed through none p
   no_oack_yet side none (inr p) = no_oack side Out m.agreed through none p
 
+  -- blocks before any answer say that nothing is agreed
   pub plain_yet : (side : Side) → Begun side → NotAnswered side through → NothingAgreed m
   plain_yet Get b none = elim b [ inl nothing ↦ nothing | inr x ↦ absurd (no_oack_yet Get none x.2) ]
   plain_yet Put b none = elim b [ inl x ↦ x.0 | inr x ↦ absurd (no_oack_yet Put none x.1) ]
@@ -183,9 +186,11 @@ module _ (h : Header) (m : Meaning) (wire : List ℕ) (fits : Fits m wire)
 
   -- the rules that both ends keep alike
   module _ (t : Terms) (n : Numbers t) where
+    -- the blocks of the wire have numbers of two bytes
     pub few : block_count t.blksize wire ≤ 65535
     few = subst (λ b. block_count b wire ≤ 65535) (sym n.blksize) fits.numbered
 
+    -- what has passed as a block is one, by the block size of the terms
     pub as_blocks : (k : ℕ) (bytes : List ℕ) → HasPassed (Message.Data k bytes) through → (1 ≤ k) × (k ≤ block_count t.blksize wire) × (bytes ≡ block t.blksize wire k)
     as_blocks k bytes p = subst (λ b. (1 ≤ k) × (k ≤ block_count b wire) × (bytes ≡ block b wire k)) (sym n.blksize) (blocks_are k bytes p)
 
@@ -377,6 +382,7 @@ module _ (h : Header) (m : Meaning) (wire : List ℕ) (fits : Fits m wire)
   came_keeps (Ack j) may rule (inl wrong) = ack_kind_in m.side j (by_author In (sender_of m.side) (Message.Ack j) may.sender wrong.1)
   came_keeps (Ack j) may rule (inr b) = terms_keep (Message.Ack j) (ack_came j may) rule b
 
+  -- the next deed breaks no rule of its kind, whichever it is
   pub deed_keeps : (deed : Deed) → IsOneSided m wire h.named (deed ∷ view) → Keeps (dir_of deed) (packet_of deed)
   deed_keeps (Sent p) own = sent_keeps p own.0
   deed_keeps (Took p) own = came_keeps p own.0
@@ -384,5 +390,6 @@ module _ (h : Header) (m : Meaning) (wire : List ℕ) (fits : Fits m wire)
   pub reply_now : NotAnswered m.side through ⊎ ((SomethingAgreed m × FirstAnswer m.side through (Agrees m.agreed)) ⊎ (NothingAgreed m × FirstAnswer m.side through Begins))
   reply_now = reply_is h m wire division routed own
 
+  -- the blocks that passed are those of the wire
   pub wire_blocks : (k : ℕ) (bytes : List ℕ) → HasPassed (Message.Data k bytes) through → (k ≤ block_count (blksize_of m) wire) × (bytes ≡ block (blksize_of m) wire k)
   wire_blocks k bytes p = let (low, up, is) = blocks_are k bytes p in (up, is)

@@ -27,9 +27,9 @@ use Rattle.tftp_law.specs.OneEnded.{IsRead, Passes, OneEnded}
 use Rattle.tftp_law.proofs.Spelled.{spelled_once}
 use Rattle.tftp_law.proofs.FirstAnswered.{first_one, not_both}
 use Rattle.tftp_law.proofs.OneMessage.{lawful_by}
-use Rattle.tftp_law.proofs.Heard.{passed_told}
-use Rattle.tftp_law.proofs.Asked.{request_spelled}
-use Rattle.tftp_law.proofs.Followed.{deed_keeps, reply_now, wire_blocks}
+use Rattle.tftp_law.proofs.PassedIsDone.{passed_told}
+use Rattle.tftp_law.proofs.FirstSpelled.{request_spelled}
+use Rattle.tftp_law.proofs.NextDeed.{deed_keeps, reply_now, wire_blocks}
 use Rattle.tftp_law.proofs.FirstRequests.{request_same}
 use Rattle.tftp_law.proofs.Placing.{starts_before}
 
@@ -70,6 +70,7 @@ module _ (h : Header) (earlier : List Datagram) (d : Datagram) where
     outside one two three Rule.AckAhead b = no_says b.says.routed
     outside one two three Rule.AckZero b = no_says b.says.routed
 
+  -- a stray passes
   pub stray_passes : route_of h earlier d ≡ Route.Stray → Passes h earlier d
   stray_passes is = record {
     read = subst (λ r. IsRead r d) (sym is) tt;
@@ -77,6 +78,7 @@ module _ (h : Header) (earlier : List Datagram) (d : Datagram) where
         (λ b. elim b [ inl x ↦ let e = sym is ∙ x in absurd (cc) | inr x ↦ let e = sym is ∙ x.0 in absurd (cc) ]);
   }
 
+  -- and so does an answer to one
   pub answer_passes : route_of h earlier d ≡ Route.StrayAnswer → SaysUnknownId d → Passes h earlier d
   answer_passes is says = record {
     read = subst (λ r. IsRead r d) (sym is) says;
@@ -173,6 +175,7 @@ module _ (h : Header) (m : Meaning) (wire : List ℕ) (fits : Fits m wire) where
   part_passes d Stray earlier routed is says all starts = (stray_passes h (datagrams_of earlier) d is, all)
   part_passes d StrayAnswer earlier routed is says all starts = (answer_passes h (datagrams_of earlier) d is says, all)
 
+  -- every datagram of the division passes after those before it
   pub ruled : (division : Division) → AreRouted h m wire division → IsOneSided m wire h.named (view_in division) → Starts h.named (view_in division) → OneEnded h (datagrams_of division)
   ruled [] routed own starts = tt
   ruled (p ∷ earlier) routed own starts =
@@ -182,6 +185,7 @@ module _ (h : Header) (m : Meaning) (wire : List ℕ) (fits : Fits m wire) where
   abbrev through : Division → List Datagram
   through division = transfer_of h (datagrams_of division)
 
+  -- and the meaning and the wire are in accord with them
   pub accords : (division : Division) → AreRouted h m wire division → IsOneSided m wire h.named (view_in division) → Accords h m wire (datagrams_of division)
   accords division routed own = record {
     fits = fits;

@@ -35,10 +35,10 @@ use Rattle.tftp_law.proofs.Spelled.{spelled_once}
 use Rattle.tftp_law.proofs.Answering.{answer_of, answer_is, answer_there}
 use Rattle.tftp_law.proofs.FirstRequests.{first_asks, some_same, first_stays, asked_once, none_before}
 use Rattle.tftp_law.proofs.Agreed.{without_fault}
-use Rattle.tftp_law.proofs.Counted.{AllSpelled, transfer_spelled}
+use Rattle.tftp_law.proofs.HighestNumbers.{AllSpelled, transfer_spelled}
 use Rattle.tftp_law.proofs.FirstAnswered.{or_new, main_none, main_some, first_one, not_both}
 use Rattle.tftp_law.proofs.Settled.{settled}
-use Rattle.tftp_law.proofs.Filled.{carried}
+use Rattle.tftp_law.proofs.MadeWire.{carried}
 use Rattle.tftp_law.specs.MessageRules.{AreTermsAfter}
 
 -- ---- the first answer

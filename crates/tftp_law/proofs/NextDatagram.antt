@@ -21,16 +21,16 @@ use Rattle.tftp_ends.specs.Rules.{Passed, HasPassed, BlocksWait, AckZeroWaits, E
 use Rattle.tftp_ends.specs.declared.rule.EndRule.{EndRule}
 use Rattle.tftp_ends.specs.declared.terms.Reply.TheVariants.{NoReply, Plain, Oacked}
 use Rattle.tftp_ends.specs.declared.terms.Terms.{Terms}
-use Rattle.tftp_law.proofs.Same.{same_request, same_options}
+use Rattle.tftp_law.proofs.SameOrNot.{same_request, same_options}
 use Rattle.tftp_law.specs.Dress.{Division, datagrams_of, view_in}
 use Rattle.tftp_law.specs.Accord.{Accords, AreRouted}
 use Rattle.tftp_law.specs.Rules.{FirstAsked, Agrees, Begins, IsAnswer, NotAnswered, FirstAnswer, plain_terms, terms_after, IsWrongKind, Says, EndBreaks}
 use Rattle.tftp_law.specs.declared.rule.Rule.{Rule}
 use Rattle.tftp_law.specs.OneEnded.{Passes, OneEnded}
-use Rattle.tftp_law.proofs.Counted.{AllSpelled, transfer_spelled, top_of, answered_of, acked_of, front_of}
+use Rattle.tftp_law.proofs.HighestNumbers.{AllSpelled, transfer_spelled, top_of, answered_of, acked_of, front_of}
 use Rattle.tftp_law.proofs.FirstAnswered.{main_some}
-use Rattle.tftp_law.proofs.Heard.{Told as Heard, passed_told, told_passed, block_sent, ack_went, block_came, ack_came_in, sent_block}
-use Rattle.tftp_law.proofs.Followed.{reply_now, numbers, state, sends, takes, begun_out, begun_in, plain_yet}
+use Rattle.tftp_law.proofs.PassedIsDone.{Told as Heard, passed_told, told_passed, block_sent, ack_went, block_came, ack_came_in, sent_block}
+use Rattle.tftp_law.proofs.NextDeed.{reply_now, numbers, state, sends, takes, begun_out, begun_in, plain_yet}
 use Rattle.tftp_law.proofs.Moments.{who_sent_ack, who_took_ack, who_sent_data, who_took_data, who_sent_oack, who_took_oack, who_sent_request, who_took_request, sent_below, sent_in_window, acknowledged_was_sent}
 use Rattle.tftp_law.proofs.WhoSends.{data_out_who, data_in_who, ack_out_who, ack_in_who, oack_out_who, oack_in_who, request_out_who, request_in_who, two_parts, two_ends}
 use Rattle.tftp_law.proofs.Searches.{has_ack_zero, has_data, oack_from, zero_from}

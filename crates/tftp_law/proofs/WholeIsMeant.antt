@@ -24,12 +24,12 @@ use Rattle.tftp_law.specs.Rules.{FirstAsked, Agrees, Begins, NotAnswered, plain_
 use Rattle.tftp_law.specs.OneEnded.{IsAgreed, IsJoined, Meant}
 use Rattle.tftp_law.proofs.FirstAnswered.{first_one, not_both}
 use Rattle.tftp_law.proofs.Joined.{last_block}
-use Rattle.tftp_law.proofs.Heard.{told_passed}
-use Rattle.tftp_law.proofs.Answered.{sent_data, took_data}
-use Rattle.tftp_law.proofs.Asked.{request_spelled}
-use Rattle.tftp_law.proofs.Followed.{reply_now, wire_blocks, state, named_is, side_is, numbers, plain_yet, begun_out, begun_in}
+use Rattle.tftp_law.proofs.PassedIsDone.{told_passed}
+use Rattle.tftp_law.proofs.FirstReply.{sent_data, took_data}
+use Rattle.tftp_law.proofs.FirstSpelled.{request_spelled}
+use Rattle.tftp_law.proofs.NextDeed.{reply_now, wire_blocks, state, named_is, side_is, numbers, plain_yet, begun_out, begun_in}
 use Rattle.tftp_law.proofs.Moments.{sent_below, acknowledged_was_sent}
-use Rattle.tftp_law.proofs.Ruled.{ruled}
+use Rattle.tftp_law.proofs.RunsPass.{ruled}
 use Rattle.tftp_law.proofs.Unasked.{none_view}
 use Rattle.tftp_law.specs.MessageRules.{AreTermsAfter}
 
@@ -134,5 +134,6 @@ module _ (h : Header) (m : Meaning) (wire : List ℕ) (fits : Fits m wire)
         file = fits.reads;
       }
 
+  -- what the rules mean is the meaning of the run
   pub meant : Meant h ds m
   meant = let (t, known) = pick in whole_by t known

@@ -1,4 +1,4 @@
--- A view of a run breaks no rule.
+-- What a run shows breaks no rule, and where it is whole it means by the rules what the run means.
 use Rattle.std.proofs.Common.{ℕ, List, sym, subst}
 use Rattle.std.specs.Prelude.{reverse}
 use Rattle.tftp_ends.specs.CaptureText.{Datagram, Header}
@@ -11,10 +11,11 @@ use Rattle.tftp_law.specs.Accord.{Accords}
 use Rattle.tftp_law.specs.OneEnded.{OneEnded, Meant}
 use Rattle.tftp_law.proofs.Opening.{starts_of}
 use Rattle.tftp_law.proofs.Routed.{routed}
-use Rattle.tftp_law.proofs.Ruled.{ruled, accords}
+use Rattle.tftp_law.proofs.RunsPass.{ruled, accords}
 use Rattle.tftp_ends.specs.Runs.{IsComplete}
-use Rattle.tftp_law.proofs.Whole.{meant}
+use Rattle.tftp_law.proofs.WholeIsMeant.{meant}
 
+-- the division of a run has the routes, and so it passes and is in accord
 pub run_keeps : (h : Header) (m : Meaning) (wire : List ℕ) (datagrams : List Datagram) → IsSeen h m wire datagrams
     → OneEnded h (reverse datagrams) × Accords h m wire (reverse datagrams)
 run_keeps h m wire datagrams seen =
@@ -23,6 +24,7 @@ run_keeps h m wire datagrams seen =
     let routes = routed h m wire seen.dressed.ids division seen.dressed.parts own in
     subst (λ ds. OneEnded h ds × Accords h m wire ds) seen.dressed.whole (ruled h m wire seen.fits division routes own (starts_of m wire h.named (view_in division) own), accords h m wire seen.fits division routes own)
 
+-- and where the run is complete the rules tell its meaning
 pub shown_meant : (h : Header) (m : Meaning) (wire : List ℕ) (datagrams : List Datagram) → ShowsBy h m wire datagrams
     → Meant h (reverse datagrams) m
 shown_meant h m wire datagrams shows =
