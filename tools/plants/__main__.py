@@ -48,7 +48,7 @@ def try_crate(crate, found, room, pool):
     except rooms.NotProved as why:
         print(why, flush=True)
         return [tries.Try(it, reason="its crate is not proved") for it in found]
-    groups = tried.groups()
+    groups, kept = tried.groups(), room.kept_of(crate)
     print(f"{crate}: {len(found)} edits in {len(groups)} checks", flush=True)
     for it in tried.tries:
         if it.reason:
@@ -56,6 +56,9 @@ def try_crate(crate, found, room, pool):
     for running in concurrent.futures.as_completed([pool.submit(run, tried, it) for it in groups]):
         for it in running.result():
             told(it)
+    if room.kept_of(crate) != kept:
+        print(f"{crate}: a check has written over the work that was kept for the others, so none of them tells", flush=True)
+        return [tries.Try(it.edit, reason="its check was spoiled") for it in tried.tries]
     return tried.tries
 
 
