@@ -81,9 +81,8 @@ class Rooms:
         if self.is_over:
             raise Stopped
         how = {"stdin": subprocess.DEVNULL, "stdout": subprocess.PIPE, "stderr": subprocess.STDOUT}
-        ran = subprocess.Popen(
-            ["rt", "check", *words], cwd=top / "crates" / crate, start_new_session=True, encoding="utf-8", errors="replace", **how
-        )
+        how.update(start_new_session=True, encoding="utf-8", errors="replace")
+        ran = subprocess.Popen(["rt", "check", *words], cwd=top / "crates" / crate, **how)
         self.running.add(ran.pid)
         try:
             text, _ = ran.communicate(timeout=seconds)
@@ -112,7 +111,7 @@ class Rooms:
         return stamps_of(self.base / "crates" / crate / "out" / "incremental")
 
     def tried(self, crate, texts, words):
-        """Checks a crate with other texts in a room of its own, which begins with the work that its own check has kept."""
+        """Checks a crate with other texts in a room of its own, over the work that its own check has kept."""
         with tempfile.TemporaryDirectory(prefix="room-", dir=self.base.parent) as folder:
             room = pathlib.Path(folder)
             shutil.copy(self.base / "crates.txt", room)
