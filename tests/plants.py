@@ -49,8 +49,8 @@ fn low(n: u64) -> bool { n < LIMIT[0] && '{' != '}' }
 fn beside() -> u64 { 3 }
 ''',
 }
-TOP, MIDDLE, LOW, BESIDE, LEN = "box::top", "box::shelf::middle", "box::shelf::low", "box::shelf::beside", "box::shelf::Shelf::len"
-READ = "box::shelf::ShelfRead::read"
+TOP, MIDDLE, LOW, BESIDE = "box::top", "box::shelf::middle", "box::shelf::low", "box::shelf::beside"
+LEN, READ = "box::shelf::Shelf::len", "box::shelf::ShelfRead::read"
 
 CHECKED = """checked box::shelf::low, 1 of 4
 ./proofs/shelf/Shelf/len/Answers.antt:8:5: error: `returns-clause-size`: as printed, the two types differ
@@ -98,11 +98,12 @@ class Edits(unittest.TestCase):
         self.assertEqual(changed(edit("file: src/shelf.rt", "old: [7, 8]", "new: [7, 9]")), {LOW})
 
     def test_what_is_changed_back_is_not_changed(self):
-        there = ("file: src/shelf.rt", "old: { 3 }", "new: { 4 }", "old: low(n)", "new: true", "old: { 4 }", "new: { 3 }")
-        self.assertEqual(changed(edit(*there)), {MIDDLE})
+        there, back = ("old: { 3 }", "new: { 4 }"), ("old: { 4 }", "new: { 3 }")
+        self.assertEqual(changed(edit("file: src/shelf.rt", *there, "old: low(n)", "new: true", *back)), {MIDDLE})
 
     def test_a_function_that_is_added_is_none_that_is_changed(self):
-        self.assertEqual(changed(edit("file: src/shelf.rt", "old: { 3 }", "new: { four() } fn four() -> u64 { 4 }")), {BESIDE})
+        added = edit("file: src/shelf.rt", "old: { 3 }", "new: { four() } fn four() -> u64 { 4 }")
+        self.assertEqual(changed(added), {BESIDE})
 
     def test_an_edit_that_does_not_apply_says_why(self):
         wrong = {
@@ -119,11 +120,13 @@ class Edits(unittest.TestCase):
 
 class Groups(unittest.TestCase):
     def test_only_edits_that_have_nothing_to_do_with_one_another_are_tried_together(self):
-        bodies = {"low(n)": "n < 9 && low(n)", "n < LIMIT[0]": "n < LIMIT[1]", "{ 3 }": "{ 4 }", "self.books.len()": "0"}
-        found = [edit("file: src/shelf.rt", f"old: {old}", f"new: {new}", name=f"e{at}") for at, (old, new) in enumerate(bodies.items())]
+        caller, called = ("low(n)", "n < 9 && low(n)"), ("n < LIMIT[0]", "n < LIMIT[1]")
+        bodies = {"caller": caller, "called": called, "beside": ("{ 3 }", "{ 4 }"), "len": ("self.books.len()", "0")}
+        found = [edit("file: src/shelf.rt", f"old: {a}", f"new: {b}", name=name) for name, (a, b) in bodies.items()]
         all_of_them = [tries.Try(it, frozenset(changed(it))) for it in found]
         groups = tries.grouped(all_of_them, FILES, source.reachable(source.functions_of(SOURCES)))
-        self.assertEqual(sorted(sorted(it.edit.name for it in group.tries) for group in groups), [["e0", "e2", "e3"], ["e1"]])
+        names = sorted(sorted(it.edit.name for it in group.tries) for group in groups)
+        self.assertEqual(names, [["beside", "caller", "len"], ["called"]])
         self.assertEqual(groups[0].texts["src/shelf.rt"].count("{ 4 }"), 1)
 
 
@@ -135,7 +138,8 @@ class Told(unittest.TestCase):
 
     def test_an_open_goal_of_the_function_itself_is_a_refusal(self):
         self.assertEqual(self.of(LOW), (said.REFUSED, f"{LOW}, goal index-1, is not proved: the index is in bounds"))
-        self.assertEqual(self.of(LEN), (said.REFUSED, f"{LEN}, clause size, is not proved: its written answer does not prove it"))
+        written = f"{LEN}, clause size, is not proved: its written answer does not prove it"
+        self.assertEqual(self.of(LEN), (said.REFUSED, written))
         self.assertEqual(self.of(MIDDLE, LOW)[0], said.REFUSED)
 
     def test_a_line_that_names_a_callee_is_none(self):

@@ -24,12 +24,15 @@ TOP = pathlib.Path(__file__).resolve().parents[2]
 
 
 def words():
-    form = argparse.ArgumentParser(prog="plants", description=__doc__, formatter_class=argparse.RawDescriptionHelpFormatter)
+    whole = argparse.RawDescriptionHelpFormatter
+    form = argparse.ArgumentParser(prog="plants", description=__doc__, formatter_class=whole)
     form.add_argument("names", nargs="*", metavar="NAME", help="a crate, an edit, or CRATE/EDIT; none: all")
     form.add_argument("--jobs", type=int, default=2, metavar="N", help="checks at a time (2)")
     form.add_argument("--seconds", type=int, default=1200, metavar="N", help="how long a check may take (1200)")
-    form.add_argument("--edits", type=pathlib.Path, metavar="FOLDER", help="tries the edits FOLDER/CRATE/*.edit in place of the repository's")
-    form.add_argument("--fresh", action="store_true", help="takes nothing from the crates' out/: checks each from nothing first")
+    others = "tries the edits FOLDER/CRATE/*.edit in place of the repository's"
+    form.add_argument("--edits", type=pathlib.Path, metavar="FOLDER", help=others)
+    fresh = "takes nothing from the crates' out/, and first checks each from nothing"
+    form.add_argument("--fresh", action="store_true", help=fresh)
     return form.parse_args()
 
 
@@ -48,7 +51,7 @@ def try_crate(crate, found, room, pool):
     except rooms.NotProved as why:
         print(why, flush=True)
         return [tries.Try(it, reason="its crate is not proved") for it in found]
-    groups = tried.groups()
+    groups, kept = tried.groups(), room.kept_of(crate)
     print(f"{crate}: {len(found)} edits in {len(groups)} checks", flush=True)
     for it in tried.tries:
         if it.reason:
@@ -56,6 +59,9 @@ def try_crate(crate, found, room, pool):
     for running in concurrent.futures.as_completed([pool.submit(run, tried, it) for it in groups]):
         for it in running.result():
             told(it)
+    if room.kept_of(crate) != kept:
+        print(f"{crate}: a check has written over the work that was kept for the others: nothing is known", flush=True)
+        return [tries.Try(it.edit, reason="its check was spoiled") for it in tried.tries]
     return tried.tries
 
 
@@ -67,8 +73,8 @@ def run(tried, group):
 def main():
     given, started = words(), time.monotonic()
     signal.signal(signal.SIGTERM, lambda *_: sys.exit(1))
-    done = []
-    with tempfile.TemporaryDirectory(prefix="plants-") as folder, concurrent.futures.ThreadPoolExecutor(given.jobs) as pool:
+    done, many = [], concurrent.futures.ThreadPoolExecutor
+    with tempfile.TemporaryDirectory(prefix="plants-") as folder, many(given.jobs) as pool:
         room = rooms.Rooms(TOP, folder, given.seconds, given.fresh)
         try:
             for crate in room.libraries:

@@ -25,6 +25,20 @@ def libraries_of(top):
     return {crate: [it for it in libraries if it in named] for crate, libraries in named.items()}
 
 
+def link(source, to):
+    """Gives a file a second name, or copies it where that cannot be."""
+    try:
+        os.link(source, to)
+    except OSError:
+        shutil.copy2(source, to)
+
+
+def stamps_of(folder):
+    """When each file below a folder was written, and its size; an empty one may only say when it was last read."""
+    files = sorted(it for it in folder.glob("**/*") if it.is_file() and it.stat().st_size)
+    return [(str(it), it.stat().st_mtime_ns, it.stat().st_size) for it in files]
+
+
 class Rooms:
     """A copy of the repository, in which each crate is checked once, and the rooms that are copied from it."""
 
@@ -51,7 +65,7 @@ class Rooms:
         return {str(it.relative_to(folder)): it.read_text(encoding="utf-8") for it in files}
 
     def prove(self, crate):
-        """Checks a crate as it stands, over what an earlier check has kept in the tree, and keeps its work."""
+        """Checks a crate as it stands, over what an earlier check has kept in the tree, and answers what it says."""
         for it in (crate, *self.below(crate)):
             kept, to = self.top / "crates" / it / "out", self.base / "crates" / it / "out"
             for part in () if self.is_fresh else ("incremental", "rlib"):
@@ -67,9 +81,8 @@ class Rooms:
         if self.is_over:
             raise Stopped
         how = {"stdin": subprocess.DEVNULL, "stdout": subprocess.PIPE, "stderr": subprocess.STDOUT}
-        ran = subprocess.Popen(
-            ["rt", "check", *words], cwd=top / "crates" / crate, start_new_session=True, encoding="utf-8", errors="replace", **how
-        )
+        how.update(start_new_session=True, encoding="utf-8", errors="replace")
+        ran = subprocess.Popen(["rt", "check", *words], cwd=top / "crates" / crate, **how)
         self.running.add(ran.pid)
         try:
             text, _ = ran.communicate(timeout=seconds)
@@ -93,18 +106,21 @@ class Rooms:
         for pid in list(self.running):
             self.end(pid)
 
+    def kept_of(self, crate):
+        """What there is to see of the work that a crate's own check has kept."""
+        return stamps_of(self.base / "crates" / crate / "out" / "incremental")
+
     def tried(self, crate, texts, words):
-        """Checks a crate with other texts in a room of its own, over a copy of the work that its own check has kept."""
+        """Checks a crate with other texts in a room of its own, over the work that its own check has kept."""
         with tempfile.TemporaryDirectory(prefix="room-", dir=self.base.parent) as folder:
             room = pathlib.Path(folder)
             shutil.copy(self.base / "crates.txt", room)
             for it in self.libraries:
                 self.copy_texts(self.base, room, it)
-            for it in self.below(crate):
-                # the libraries are only read
-                shutil.copytree(self.base / "crates" / it / "out" / "rlib", room / "crates" / it / "out" / "rlib", copy_function=os.link)
-            kept = pathlib.Path("crates") / crate / "out" / "incremental"
-            shutil.copytree(self.base / kept, room / kept)
+            # a check writes each file anew, so that a second name for it is as good as a copy
+            for it, part in [(crate, "incremental"), *((it, "rlib") for it in self.below(crate))]:
+                kept = pathlib.Path("crates") / it / "out" / part
+                shutil.copytree(self.base / kept, room / kept, copy_function=link)
             for file, text in texts.items():
                 (room / "crates" / crate / file).write_text(text, encoding="utf-8")
             for file in set(self.texts_of(crate)) - set(texts):

@@ -5,13 +5,15 @@ LINE = re.compile(r"(?:fn|struct|enum|impl|trait|type) (\S+): (proved|not proved
 NOTE = re.compile(r"note: (\S+): (.*?) \(`([^`]+)`\)")
 # An error of a proof file, which stands in the folder that its function is named by.
 WRITTEN = re.compile(r"(?:\./)?proofs/(\S+)/(Answers|Invariants|Proof)\.antt:\d+:\d+: error: (?:`([^`]+)`: )?(.*)")
-SOURCE = re.compile(r"(?:\./)?(?:src|specs)/\S+?:\d+:\d+: error(?:\[[^\]]*\])?: .*")
+# An error of a source's types or syntax: of a goal it would have the name.
+SOURCE = re.compile(r"(?:\./)?(?:src|specs)/\S+?:\d+:\d+: error(?:\[[^\]]*\])?: (?!`[^`]*`: )")
 NAMES = re.compile(r"has no field|is not in scope|has no `|was not admitted|is no name")
 FAILED = re.compile(r"rattle: (?:error|no verdict)|error\[")
 ENDED = re.compile(r"(?:logic=|only=)\S+(?: .*)?")
 NOT_PROVED = "it is not proved that "
 # How an edit's functions stand: all are proved; a goal of one is open; or nothing is known of their own clauses.
-PROVED, REFUSED, CALLEE, NAMED, UNTOLD = "proved", "refused", "only a callee is named", "only names are gone", "no reason"
+PROVED, REFUSED, UNTOLD = "proved", "refused", "no reason"
+CALLEE, NAMED = "only a callee is named", "only names are gone"
 
 
 class Said:
@@ -40,9 +42,8 @@ class Said:
             return
         path, file, goal, why = found.groups()
         symbol = "::".join([crate, *path.split("/")])
-        is_named = NAMES.search(re.sub(r"`[^`]*`", "``", why)) and file or ""
-        kept = self.named if is_named else self.open
-        kept.setdefault(symbol, []).append((goal or file, f"its written answer does not prove it"))
+        kept = self.named if NAMES.search(re.sub(r"`[^`]*`", "``", why)) else self.open
+        kept.setdefault(symbol, []).append((goal or file, "its written answer does not prove it"))
 
     def read_stands(self, symbol, stands, rest, notes):
         self.stands[symbol] = stands + rest

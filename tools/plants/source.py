@@ -111,7 +111,8 @@ def module_of(crate, file):
 
 def sources_of(crate, texts):
     """The sources among these files of a crate, by their paths."""
-    return {file: Source(text, module_of(crate, file)) for file, text in texts.items() if file.startswith("src/") and file.endswith(".rt")}
+    files = [it for it in texts if it.startswith("src/") and it.endswith(".rt")]
+    return {file: Source(texts[file], module_of(crate, file)) for file in files}
 
 
 def functions_of(sources):

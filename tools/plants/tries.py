@@ -100,8 +100,8 @@ class Tries:
             word, why = self.alone(it, it.edit.applied(self.texts))
         if word == said.NAMED:
             # the answers fit no other body, so the search has to tell
-            texts = {file: text for file, text in it.edit.applied(self.texts).items() if not is_answer(file, it.changes)}
-            word, why = self.alone(it, texts)
+            texts = it.edit.applied(self.texts)
+            word, why = self.alone(it, {file: texts[file] for file in texts if not is_answer(file, it.changes)})
             why += " (its written answers fit no other body, and were left out)"
         it.is_refused, it.reason = word == said.REFUSED, why if word == said.REFUSED else f"{word}: {why}"
 
