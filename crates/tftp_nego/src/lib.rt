@@ -12,6 +12,3 @@ pub use agreed::{Agreed, nothing_agreed};
 pub use fault::NegoFault;
 pub use laws::{agreed_has_no_fault, first_fault_is_one, worked_agreements, worked_faults};
 pub use negotiate::agree;
-
-#[cfg(test)]
-mod tests;

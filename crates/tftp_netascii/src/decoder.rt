@@ -120,6 +120,3 @@ pub fn decode(alloc: Global, wire: &[u8]) -> Result<Vec<u8>, AllocError>
     decoder.finish(&mut file)?;
     Ok(file)
 }
-
-#[cfg(test)]
-mod tests;

@@ -35,33 +35,3 @@ fn control_count(file: &[u8]) -> usize
 {
     file.iter().filter(|byte| matches!(**byte, LF | CR)).count()
 }
-
-#[cfg(test)]
-mod tests {
-    use super::*;
-    use std::test::Fail;
-
-    #[test]
-    fn encodes_files(rt: HostRuntime) -> Result<(), Fail> {
-        let rows: [(&[u8], &[u8]); 4] = [
-            (b"", b""),
-            (b"\r\n", b"\r\0\r\n"),
-            (b"\r\0", b"\r\0\0"),
-            (b"a", b"a"),
-        ];
-        for (file, wire) in rows {
-            assert_eq!(rt; encode(rt.alloc(), file)?.as_slice(), wire);
-            assert_eq!(rt; encoded_len(file), wire.len() as u64);
-        }
-        Ok(())
-    }
-
-    /// With a growth refused the answer is want of memory or the file's own.
-    #[test]
-    fn encode_with_a_growth_refused(rt: HostRuntime) {
-        match encode(rt.alloc(), b"\r\n") {
-            Ok(wire) => assert_eq!(rt; wire.as_slice(), b"\r\0\r\n".as_slice()),
-            Err(AllocError) => {}
-        }
-    }
-}

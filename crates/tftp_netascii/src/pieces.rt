@@ -20,25 +20,3 @@ pub fn decode_pieces(alloc: Global, pieces: &[&[u8]]) -> Result<Vec<u8>, AllocEr
     decoder.finish(&mut file)?;
     Ok(file)
 }
-
-#[cfg(test)]
-mod tests {
-    use super::*;
-    use std::test::Fail;
-
-    #[test]
-    fn joins_a_pair_that_was_cut(rt: HostRuntime) -> Result<(), Fail> {
-        let file = decode_pieces(rt.alloc(), &[b"\r".as_slice(), b"\n".as_slice()])?;
-        assert_eq!(rt; file.as_slice(), b"\n".as_slice());
-        Ok(())
-    }
-
-    /// With a growth refused the answer is want of memory or the text's own.
-    #[test]
-    fn decode_pieces_with_a_growth_refused(rt: HostRuntime) {
-        match decode_pieces(rt.alloc(), &[b"a\r".as_slice(), b"\nb".as_slice()]) {
-            Ok(file) => assert_eq!(rt; file.as_slice(), b"a\nb".as_slice()),
-            Err(AllocError) => {}
-        }
-    }
-}

@@ -31,6 +31,3 @@ pub use request::RequestView;
 pub use same::same_options;
 pub use value::Value;
 pub use write::{write_oack, write_packet, write_request};
-
-#[cfg(test)]
-mod tests;

@@ -1,5 +1,7 @@
-use super::{Agreed, NegoFault, agree, nothing_agreed};
+//! Requests, and what an OACK agrees to.
+
 use std::test::Fail;
+use tftp_nego::{Agreed, NegoFault, agree, nothing_agreed};
 use tftp_packet::{Packet, own_request, read_packet};
 
 /// What an OACK answers to a request, both as payloads.

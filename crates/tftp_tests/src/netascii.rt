@@ -1,7 +1,8 @@
-//! Texts and what they read as, whole and in pieces.
+//! Netascii: texts and what they read as, whole and in pieces, and what files are written as.
 
-use super::*;
+use std::alloc::AllocError;
 use std::test::Fail;
+use tftp_netascii::{Decoder, decode, decode_pieces, encode, encoded_len};
 
 #[test]
 fn decodes_whole_texts(rt: HostRuntime) -> Result<(), Fail> {
@@ -100,4 +101,44 @@ fn finish_with_a_growth_refused(rt: HostRuntime) -> Result<(), Fail> {
     }
     assert_eq!(rt; end.as_slice(), b"\r".as_slice());
     Ok(())
+}
+
+#[test]
+fn encodes_files(rt: HostRuntime) -> Result<(), Fail> {
+    let rows: [(&[u8], &[u8]); 4] = [
+        (b"", b""),
+        (b"\r\n", b"\r\0\r\n"),
+        (b"\r\0", b"\r\0\0"),
+        (b"a", b"a"),
+    ];
+    for (file, wire) in rows {
+        assert_eq!(rt; encode(rt.alloc(), file)?.as_slice(), wire);
+        assert_eq!(rt; encoded_len(file), wire.len() as u64);
+    }
+    Ok(())
+}
+
+/// With a growth refused the answer is want of memory or the file's own.
+#[test]
+fn encode_with_a_growth_refused(rt: HostRuntime) {
+    match encode(rt.alloc(), b"\r\n") {
+        Ok(wire) => assert_eq!(rt; wire.as_slice(), b"\r\0\r\n".as_slice()),
+        Err(AllocError) => {}
+    }
+}
+
+#[test]
+fn joins_a_pair_that_was_cut(rt: HostRuntime) -> Result<(), Fail> {
+    let file = decode_pieces(rt.alloc(), &[b"\r".as_slice(), b"\n".as_slice()])?;
+    assert_eq!(rt; file.as_slice(), b"\n".as_slice());
+    Ok(())
+}
+
+/// With a growth refused the answer is want of memory or the text's own.
+#[test]
+fn decode_pieces_with_a_growth_refused(rt: HostRuntime) {
+    match decode_pieces(rt.alloc(), &[b"a\r".as_slice(), b"\nb".as_slice()]) {
+        Ok(file) => assert_eq!(rt; file.as_slice(), b"a\nb".as_slice()),
+        Err(AllocError) => {}
+    }
 }

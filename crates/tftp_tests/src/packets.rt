@@ -1,8 +1,10 @@
-use super::{
+//! Packets and options: payloads and what they spell, and what is written.
+
+use std::test::Fail;
+use tftp_packet::{
     Mode, Options, Packet, PacketFault, Side, Value, opcode, own_options, own_request, read_packet,
     same_options, same_request, write_oack, write_packet, write_request,
 };
-use std::test::Fail;
 
 const ASKED: &[u8] = b"\x00\x01a\x00octet\x00WindowSize\x004\x00BLKSIZE\x0008\x00";
 

@@ -1,0 +1,10 @@
+//! Tests of the public calls of the libraries, in a module for each library, and nothing else. They stand here so
+//! that no library is proved a second time for its tests.
+#![tactic(auto)]
+
+#[cfg(test)]
+mod agreements;
+#[cfg(test)]
+mod netascii;
+#[cfg(test)]
+mod packets;
