@@ -5,6 +5,8 @@
 #[cfg(test)]
 mod agreements;
 #[cfg(test)]
+mod captures;
+#[cfg(test)]
 mod netascii;
 #[cfg(test)]
 mod packets;
