@@ -1,10 +1,10 @@
 -- Bytes given to a writer piece by piece.
-use Rattle.std.proofs.Common.{◌≡◌, ◌≢◌, ℕ, suc, ◌+◌, ◌<◌, arith, length-drop, get_or, flat_map, drop-cons, List, [], ◌∷◌, ◌++◌, length, take, drop, Option, Result, Ok, Err, OnOk, OnErr, is_err, false, true≢false, refl, sym, ap, ◌∙◌, subst, append_assoc, append-nil, take-append-drop, length-append}
+use Rattle.std.proofs.Common.{◌≡◌, ◌≢◌, ℕ, suc, ◌+◌, ◌<◌, arith, length-drop, get_or, flat_map, drop-cons, List, [], ◌∷◌, ◌++◌, length, take, drop, Option, Result, Ok, Err, OnOk, OnErr, is_err, IsErr, Bool, true, false, true≢false, refl, sym, ap, ◌∙◌, subst, append_assoc, append-nil, take-append-drop, length-append}
 use Rattle.std.specs.Io.KnownBytes.{Appends, Keeps}
 use Rattle.std.proofs.KnownBytes.{Appends-nil, Appends-trans, Appends-kept}
 use Rattle.std.proofs.lemmas.List.{take_more}
 use Rattle.std.proofs.lemmas.List.Concat.{flat_map-append}
-use Rattle.tftp_capture.specs.Tally.{AppendsPrefix, Gathers}
+use Rattle.tftp_capture.specs.Tally.{Adds, AppendsPrefix, Gathers, Writes}
 
 pub gathers_none : (c : Option (List ℕ)) (held : List ℕ) → Gathers c c held held []
 gathers_none c held = record { written = []; are = append-nil held; appended = Appends-nil c }
@@ -49,6 +49,10 @@ gathers_prefix c0 c1 c2 h0 h1 first second more p q = record {
   left = more_left q.rest more q.left;
   appended = Appends-trans _ _ _ _ _ p.appended q.appended;
 }
+
+-- some pieces were gathered, then the last one failed
+pub prefix_after : (c0 c1 c2 : Option (List ℕ)) (h0 h1 first second : List ℕ) → Gathers c0 c1 h0 h1 first → AppendsPrefix c1 c2 (h1 ++ second) → AppendsPrefix c0 c2 (h0 ++ (first ++ second))
+prefix_after c0 c1 c2 h0 h1 first second p q = rw append-nil at (gathers_prefix c0 c1 c2 h0 h1 first second [] p q)
 
 -- what waited was written, and then the bytes failed
 pub written_prefix : (c0 c1 c2 : Option (List ℕ)) (held bytes : List ℕ) → Appends c0 c1 held → AppendsPrefix c1 c2 bytes → AppendsPrefix c0 c2 (held ++ bytes)
@@ -153,3 +157,46 @@ gathers_prefix_two c0 c1 c2 c3 h0 h1 h2 first second third p q r =
 pub from_ok : {T E : Type 0} (P : Type 0) (r : Result T E) → is_err r ≡ false → OnOk r P → P
 from_ok P (Ok x) e h = h
 from_ok P (Err y) e h = absurd (true≢false e)
+
+-- ---- what a call does, however it ends
+
+pub adds_err : {W E : Type 0} (contents : W → Option (List ℕ)) (t0 t1 : W × Bool) (r : Result (Unit {0}) E) (h0 h1 text : List ℕ) → IsErr r → t1.1 ≡ true → AppendsPrefix (contents t0.0) (contents t1.0) (h0 ++ text)
+    → Adds contents t0 t1 r h0 h1 text
+adds_err contents t0 t1 (Ok x) h0 h1 text is failed p = absurd (true≢false (sym is))
+adds_err contents t0 t1 (Err e) h0 h1 text is failed p = (failed, p)
+
+pub writes_err : {W E : Type 0} (contents : W → Option (List ℕ)) (t0 t1 : W × Bool) (r : Result (Unit {0}) E) (bytes : List ℕ) → IsErr r → t1.1 ≡ true → AppendsPrefix (contents t0.0) (contents t1.0) bytes
+    → Writes contents t0 t1 r bytes
+writes_err contents t0 t1 (Ok x) bytes is failed p = absurd (true≢false (sym is))
+writes_err contents t0 t1 (Err e) bytes is failed p = (failed, p)
+
+-- the same text, written another way
+pub adds_same : {W E : Type 0} (contents : W → Option (List ℕ)) (t0 t1 : W × Bool) (r : Result (Unit {0}) E) (h0 h1 one other : List ℕ) → one ≡ other → Adds contents t0 t1 r h0 h1 one → Adds contents t0 t1 r h0 h1 other
+adds_same contents t0 t1 r h0 h1 one other e p = subst (Adds contents t0 t1 r h0 h1) e p
+
+-- a text was added, and then another was, or was not
+pub adds_more : {W E : Type 0} (contents : W → Option (List ℕ)) (t0 t1 t2 : W × Bool) (r : Result (Unit {0}) E) (h0 h1 h2 first second : List ℕ) → Gathers (contents t0.0) (contents t1.0) h0 h1 first
+    → Adds contents t1 t2 r h1 h2 second → Adds contents t0 t2 r h0 h2 (first ++ second)
+adds_more contents t0 t1 t2 (Ok x) h0 h1 h2 first second p q = (q.0, gathers_more _ _ _ _ _ _ _ _ p q.1)
+adds_more contents t0 t1 t2 (Err e) h0 h1 h2 first second p q = (q.0, prefix_after _ _ _ _ _ _ _ p q.1)
+
+-- what waited was written, and then the bytes were, or were not
+pub writes_past : {W E : Type 0} (contents : W → Option (List ℕ)) (t0 t1 t2 : W × Bool) (r : Result (Unit {0}) E) (held bytes : List ℕ) → Appends (contents t0.0) (contents t1.0) held
+    → Writes contents t1 t2 r bytes → Adds contents t0 t2 r held [] bytes
+writes_past contents t0 t1 t2 (Ok x) held bytes p q = (q.0, gathers_past _ _ _ _ _ p q.1)
+writes_past contents t0 t1 t2 (Err e) held bytes p q = (q.0, written_prefix _ _ _ _ _ p q.1)
+
+-- a text was added, and then all that waited was written, or was not
+pub writes_rest : {W E : Type 0} (contents : W → Option (List ℕ)) (t0 t1 t2 : W × Bool) (r : Result (Unit {0}) E) (h0 h1 text : List ℕ) → Gathers (contents t0.0) (contents t1.0) h0 h1 text
+    → Writes contents t1 t2 r h1 → Writes contents t0 t2 r (h0 ++ text)
+writes_rest contents t0 t1 t2 (Ok x) h0 h1 text p q = (q.0, gathers_all _ _ _ _ _ _ p q.1)
+writes_rest contents t0 t1 t2 (Err e) h0 h1 text p q = (q.0, prefix_all _ _ _ _ _ _ p q.1)
+
+-- all that was to be written was
+pub writes_all : {W E : Type 0} (contents : W → Option (List ℕ)) (t0 t1 : W × Bool) (P : Type 0) (r : Result (Unit {0}) E) (bytes : List ℕ) → (Appends (contents t0.0) (contents t1.0) bytes → P) → Writes contents t0 t1 r bytes → OnOk r P
+writes_all contents t0 t1 P (Ok x) bytes f q = f q.1
+writes_all contents t0 t1 P (Err e) bytes f q = tt
+
+pub adds_ok : {W E : Type 0} (contents : W → Option (List ℕ)) (t0 t1 : W × Bool) (r : Result (Unit {0}) E) (h0 h1 text : List ℕ) → is_err r ≡ false → Adds contents t0 t1 r h0 h1 text → Gathers (contents t0.0) (contents t1.0) h0 h1 text
+adds_ok contents t0 t1 (Ok x) h0 h1 text e p = p.1
+adds_ok contents t0 t1 (Err y) h0 h1 text e p = absurd (true≢false e)
