@@ -1,22 +1,10 @@
 //! Audits a text capture of one TFTP transfer.
 #![tactic(auto)]
 
-mod check;
-mod faults;
-mod names;
-mod output;
-mod session;
-mod show;
-mod status;
-#[cfg(test)]
-mod tests;
-mod verdicts;
-mod words;
-
-use session::run;
 use std::process::ExitCode;
 use std::{env, io};
 use tftp_capture::Tallied;
+use tftp_commands::run;
 
 /// Ends with status 2, and no output, where it can't get its words.
 fn main(rt: HostRuntime) -> ExitCode {

@@ -17,19 +17,19 @@ use Rattle.tftp_ends.specs.CaptureText.{Datagram, Header}
 use Rattle.tftp_ends.specs.Meaning.{Meaning, blksize_of}
 use Rattle.tftp_ends.specs.Blocks.{block_count}
 use Rattle.tftp_ends.specs.Ports.{transfer_of}
-use Rattle.tftp_judge.specs.Fits.{ReadsAs, written_wire, IsWritable}
-use Rattle.tftp_judge.specs.Owned.{meaning_from}
+use Rattle.tftp_law.specs.Fits.{ReadsAs, written_wire, IsWritable}
+use Rattle.tftp_law.specs.Owned.{meaning_from}
 use Rattle.tftp_ends.specs.Roles.{sender_of, receiver_of}
 use Rattle.tftp_ends.specs.Rules.{Passed, IsFront, IsLast, LastIsUnknown}
 use Rattle.tftp_ends.specs.declared.terms.Terms.{Terms}
 use Rattle.tftp_packet.specs.Meaning.{meaning}
 use Rattle.tftp_packet.specs.declared.packet.Packet.{Packet}
-use Rattle.tftp_judge.specs.Rules.{Answer, Agrees, Begins, IsAnswer, NotAnswered, FirstAnswer, FirstAsked}
-use Rattle.tftp_judge.specs.MessageRules.{IsFirstAnswer}
-use Rattle.tftp_judge.specs.OneEnded.{OneEnded, IsAgreed, IsWhole, IsJoined, Meant}
-use Rattle.tftp_judge.proofs.Settled.{Known, Settled, settled, not_both, first_one, terms_one, last_one}
-use Rattle.tftp_judge.proofs.OneMeaning.{one_meaning}
-use Rattle.tftp_judge.specs.Settled.{AreOnce, HasOneLast}
+use Rattle.tftp_law.specs.Rules.{Answer, Agrees, Begins, IsAnswer, NotAnswered, FirstAnswer, FirstAsked}
+use Rattle.tftp_law.specs.MessageRules.{IsFirstAnswer}
+use Rattle.tftp_law.specs.OneEnded.{OneEnded, IsAgreed, IsWhole, IsJoined, Meant}
+use Rattle.tftp_law.proofs.Settled.{Known, Settled, settled, not_both, first_one, terms_one, last_one}
+use Rattle.tftp_law.proofs.OneMeaning.{one_meaning}
+use Rattle.tftp_law.specs.Settled.{AreOnce, HasOneLast}
 
 pub front_one : (passed : List Datagram) (a b : ℕ) → IsFront passed a → IsFront passed b → a ≡ b
 front_one passed a b one other = elim (cases_lt a b) [

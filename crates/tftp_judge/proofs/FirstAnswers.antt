@@ -7,9 +7,9 @@ use Rattle.tftp_packet.specs.declared.kinds.Dir.{Dir}
 use Rattle.tftp_ends.specs.CaptureText.{Datagram, Header}
 use Rattle.tftp_ends.specs.Rules.{Passed}
 use Rattle.tftp_ends.specs.declared.terms.Terms.{Terms}
-use Rattle.tftp_judge.specs.Rules.{Answer, Agrees, Begins, IsAnswer, Answers, NotAnswered, FirstAnswer, terms_after}
-use Rattle.tftp_judge.specs.MessageRules.{AreTermsAfter}
-use Rattle.tftp_judge.proofs.Spelled.{spelled_once}
+use Rattle.tftp_law.specs.Rules.{Answer, Agrees, Begins, IsAnswer, Answers, NotAnswered, FirstAnswer, terms_after}
+use Rattle.tftp_law.specs.MessageRules.{AreTermsAfter}
+use Rattle.tftp_law.proofs.Spelled.{spelled_once}
 
 answer_once : (side : Side) (m : Message) (a b : Answer) → IsAnswer side m a → IsAnswer side m b → a ≡ b
 answer_once Get (Message.Oack o) (Agrees x) (Agrees y) p q = ap Agrees (sym p ∙ q)

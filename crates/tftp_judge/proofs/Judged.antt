@@ -11,11 +11,11 @@ use Rattle.tftp_ends.specs.CaptureText.{Datagram, Header}
 use Rattle.tftp_ends.specs.Ports.{route_of, is_of_transfer, transfer_of}
 use Rattle.tftp_judge.specs.Heard.{newest_first, IsRead, Tells}
 use Rattle.tftp_judge.specs.Plain.{IsKept}
-use Rattle.tftp_judge.specs.Rules.{FirstBroken}
-use Rattle.tftp_judge.specs.OneEnded.{OneEnded, Passes}
+use Rattle.tftp_law.specs.Rules.{FirstBroken}
+use Rattle.tftp_law.specs.OneEnded.{OneEnded, Passes}
 use Rattle.tftp_judge.specs.Verdict.{IsUnlawfulAt}
 use Rattle.tftp_judge.specs.declared.plain.passed.Passed.{Passed as Kept}
-use Rattle.tftp_judge.specs.declared.rule.Rule.{Rule}
+use Rattle.tftp_law.specs.declared.rule.Rule.{Rule}
 
 next_first : (ds : List Owned) (i : ℕ) (x : Owned) → i < length ds → x ≡ get_or ds i x → newest_first (take (i + 1) ds) ≡ datagram_of x ∷ newest_first (take i ds)
 next_first ds i x below is =

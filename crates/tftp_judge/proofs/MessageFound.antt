@@ -22,9 +22,10 @@ use Rattle.tftp_nego.specs.Agreement.{MayAgree}
 use Rattle.tftp_nego.specs.Faults.{FirstFault, number}
 use Rattle.tftp_nego.specs.declared.fault.NegoFault.{NegoFault}
 use Rattle.tftp_nego.proofs.Tested.{no_fault}
-use Rattle.tftp_judge.specs.Rules.{number_of, Answer, Agrees, Begins, IsAnswer, NotAnswered, FirstAnswer, IsWrongKind, ClientWentOn}
-use Rattle.tftp_judge.specs.MessageRules.{Finds, IsFirstAnswer, AreTermsAfter, RequestBreaks, FirstOackBreaks, LaterOackBreaks, OackBreaks, TermsBreak, KindBreaks, MessageBreaks, rule_of_end, stop_of_fault}
-use Rattle.tftp_judge.specs.declared.rule.Rule.{Rule}
+use Rattle.tftp_law.specs.Rules.{number_of, Answer, Agrees, Begins, IsAnswer, NotAnswered, FirstAnswer, IsWrongKind, ClientWentOn}
+use Rattle.tftp_judge.specs.Plain.{Finds, stop_of_fault}
+use Rattle.tftp_law.specs.MessageRules.{IsFirstAnswer, AreTermsAfter, RequestBreaks, FirstOackBreaks, LaterOackBreaks, OackBreaks, TermsBreak, KindBreaks, MessageBreaks, rule_of_end}
+use Rattle.tftp_law.specs.declared.rule.Rule.{Rule}
 use Rattle.tftp_judge.specs.declared.plain.stop.Stop.{Stop}
 use Rattle.tftp_judge.proofs.FirstAnswers.{not_both, first_once, terms_once, block_answers}
 

@@ -6,14 +6,14 @@ use Rattle.tftp_packet.specs.declared.fault.PacketFault.{PacketFault}
 use Rattle.tftp_packet.specs.declared.fault.PacketFault.TheVariants.{Short}
 use Rattle.tftp_packet.proofs.FaultOrder.{first_fault_unique}
 use Rattle.tftp_ends.specs.CaptureText.{Datagram, Header}
-use Rattle.tftp_judge.specs.Rules.{number_of, Broken, FirstBroken}
-use Rattle.tftp_judge.specs.declared.rule.Rule.{Rule}
-use Rattle.tftp_judge.specs.OneEnded.{OneEnded}
+use Rattle.tftp_law.specs.Rules.{number_of, Broken, FirstBroken}
+use Rattle.tftp_law.specs.declared.rule.Rule.{Rule}
+use Rattle.tftp_law.specs.OneEnded.{OneEnded}
 use Rattle.tftp_judge.specs.Verdict.{IsUnlawfulAt, IsVerdictByRules}
 use Rattle.tftp_judge.specs.declared.verdict.Verdict.{Verdict}
 use Rattle.tftp_judge.specs.declared.verdict.Verdict.TheVariants.{Accepted, Unlawful, Incomplete, NormalTooLong}
-use Rattle.tftp_judge.proofs.OneMeaning.{one_meaning}
-use Rattle.tftp_judge.proofs.Verdicts.{one_first_broken}
+use Rattle.tftp_law.proofs.OneMeaning.{one_meaning}
+use Rattle.tftp_law.proofs.FirstBroken.{one_first_broken}
 
 -- ---- the rule
 

@@ -13,10 +13,10 @@ use Rattle.tftp_ends.specs.Ports.{asks, first_of, route_of, is_of_transfer, tran
 use Rattle.tftp_ends.specs.declared.route.Route.{Route}
 use Rattle.tftp_ends.specs.declared.rule.EndRule.{EndRule}
 use Rattle.tftp_nego.specs.declared.fault.NegoFault.{NegoFault}
-use Rattle.tftp_judge.specs.Rules.{FirstAsked, Says, ClientWentOn, FirstOack, EndBreaks, Broken}
-use Rattle.tftp_judge.specs.declared.rule.Rule.{Rule}
-use Rattle.tftp_judge.specs.OneEnded.{IsRead, Passes, OneEnded}
-use Rattle.tftp_judge.proofs.FirstRequests.{none_before, none_asked, first_spells}
+use Rattle.tftp_law.specs.Rules.{FirstAsked, Says, ClientWentOn, FirstOack, EndBreaks, Broken}
+use Rattle.tftp_law.specs.declared.rule.Rule.{Rule}
+use Rattle.tftp_law.specs.OneEnded.{IsRead, Passes, OneEnded}
+use Rattle.tftp_law.proofs.FirstRequests.{none_before, none_asked, first_spells}
 
 -- ---- a datagram is ERROR 5, or it is not
 

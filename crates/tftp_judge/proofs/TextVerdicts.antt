@@ -14,10 +14,10 @@ use Rattle.tftp_capture.proofs.Readings.{reads_same}
 use Rattle.tftp_capture.proofs.Staying.{stays}
 use Rattle.tftp_ends.specs.CaptureText.{Datagram, Header}
 use Rattle.tftp_judge.specs.Gathered.{GatheringTells, fault_or, said_first}
-use Rattle.tftp_judge.specs.OneEnded.{OneEnded}
+use Rattle.tftp_law.specs.OneEnded.{OneEnded}
 use Rattle.tftp_judge.specs.TextVerdict.{AllLawful, BeginsBy, EndsText, IsCaptureBy, IsOfText, IsTextVerdict, unnumbered}
 use Rattle.tftp_judge.specs.Verdict.{IsVerdictByRules}
-use Rattle.tftp_judge.specs.declared.rule.Rule.{Rule}
+use Rattle.tftp_law.specs.declared.rule.Rule.{Rule}
 use Rattle.tftp_judge.specs.declared.verdict.Verdict.{Verdict}
 use Rattle.tftp_judge.specs.declared.verdict.Verdict.TheVariants.{Accepted, Unlawful, Incomplete, NormalTooLong}
 use Rattle.tftp_judge.proofs.Gatherings.{begins_longer}

@@ -14,7 +14,7 @@ use Rattle.tftp_ends.specs.CaptureText.{Datagram}
 use Rattle.tftp_ends.specs.Rules.{Passed}
 use Rattle.tftp_judge.specs.declared.plain.passed.Passed.{Passed as Kept}
 use Rattle.tftp_judge.specs.Heard.{IsRead, Tells}
-use Rattle.tftp_judge.proofs.Spelled.{spelled_once}
+use Rattle.tftp_law.proofs.Spelled.{spelled_once}
 
 -- the datagram of what is kept
 abbrev pub datagram_in : Kept → Datagram

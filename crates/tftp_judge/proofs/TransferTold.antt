@@ -17,11 +17,11 @@ use Rattle.tftp_capture.specs.Fields.{datagram_of}
 use Rattle.tftp_ends.specs.CaptureText.{Datagram}
 use Rattle.tftp_ends.specs.Rules.{Passed as HasPassed}
 use Rattle.tftp_judge.specs.Heard.{IsRead, Tells}
-use Rattle.tftp_judge.specs.Rules.{Answer, Agrees, Begins, IsAnswer, Answers, NotAnswered, FirstAnswer}
-use Rattle.tftp_judge.specs.MessageRules.{IsFirstAnswer, BlockSent, AckSent}
+use Rattle.tftp_law.specs.Rules.{Answer, Agrees, Begins, IsAnswer, Answers, NotAnswered, FirstAnswer}
+use Rattle.tftp_law.specs.MessageRules.{IsFirstAnswer, BlockSent, AckSent}
 use Rattle.tftp_judge.specs.SentKinds.{IsBlock, IsAck, SentKind, does_answer, answer_in}
 use Rattle.tftp_judge.specs.declared.plain.passed.Passed.{Passed}
-use Rattle.tftp_judge.proofs.Spelled.{spelled_once}
+use Rattle.tftp_law.proofs.Spelled.{spelled_once}
 
 abbrev datagram_in : Passed → Datagram
 datagram_in p = datagram_of p.datagram.now

@@ -1,5 +1,5 @@
 -- What the plain judge finds of one datagram.
-use Rattle.std.specs.Prelude.{◌≡◌, true, false, List, [], ◌∷◌, ◌++◌, Option, Some, None}
+use Rattle.std.specs.Prelude.{◌≡◌, ◌<◌, true, false, List, [], ◌∷◌, ◌++◌, Option, Some, None, Result, Ok, Err}
 use Rattle.tftp_capture.specs.declared.datagram.Datagram.{Datagram as Owned}
 use Rattle.tftp_judge.specs.declared.plain.passed.Passed.{Passed}
 use Rattle.tftp_packet.specs.Meaning.{meaning}
@@ -9,7 +9,16 @@ use Rattle.tftp_ends.specs.CaptureText.{Datagram, Header}
 use Rattle.tftp_ends.specs.Ports.{route_of, is_of_transfer}
 use Rattle.tftp_judge.specs.declared.plain.stop.Stop.{Stop}
 use Rattle.tftp_judge.specs.declared.plain.stop.Stop.TheVariants.{Broken, Memory}
-use Rattle.tftp_judge.specs.Rules.{FirstBroken}
+use Rattle.tftp_law.specs.Rules.{number_of, FirstBroken}
+use Rattle.tftp_law.specs.declared.rule.Rule.{Rule}
+use Rattle.tftp_law.specs.declared.rule.Rule.TheVariants.{OackEmpty, MulticastAgreed, OptionNotRequested, OptionOutsideProfile, OptionValue, BeyondBlock65535}
+use Rattle.tftp_nego.specs.declared.fault.NegoFault.{NegoFault}
+
+-- no rule is broken, or the first that is; want of memory says nothing
+abbrev pub Finds : (Rule → Type 0) → Result (Unit {0}) Stop → Type 0
+Finds Breaks (Ok _) = (rule : Rule) → Breaks rule → ⊥
+Finds Breaks (Err (Broken rule)) = Breaks rule × ((other : Rule) → number_of other < number_of rule → Breaks other → ⊥)
+Finds Breaks (Err Memory) = Unit {0}
 
 -- what is kept of a datagram that passes: its packet, where it is one of the transfer
 abbrev pub IsKept : Header → List Datagram → Datagram → Option Packet → Type 0
@@ -25,3 +34,13 @@ IsStop h earlier d Memory = Unit {0}
 abbrev pub Keeps : List Passed → List Passed → Owned → Option Packet → Type 0
 Keeps old new d None = new ≡ old
 Keeps old new d (Some packet) = (p : Passed) × (p.datagram.now ≡ d) × (p.packet ≡ packet) × (new ≡ old ++ p ∷ [])
+
+-- why an OACK may not be agreed to, among all reasons
+abbrev pub stop_of_fault : NegoFault → Stop
+stop_of_fault NegoFault.OackEmpty = Broken OackEmpty
+stop_of_fault NegoFault.MulticastAgreed = Broken MulticastAgreed
+stop_of_fault NegoFault.OptionNotRequested = Broken OptionNotRequested
+stop_of_fault NegoFault.OptionOutsideProfile = Broken OptionOutsideProfile
+stop_of_fault NegoFault.OptionValue = Broken OptionValue
+stop_of_fault NegoFault.BeyondBlock65535 = Broken BeyondBlock65535
+stop_of_fault NegoFault.Memory = Memory

@@ -5,7 +5,7 @@ use Rattle.tftp_capture.specs.History.{IsAtTextEnd}
 use Rattle.tftp_capture.specs.declared.fault.CaptureFault.{CaptureFault}
 use Rattle.tftp_capture.specs.declared.fault.CaptureFault.TheVariants.{Text, Read, Memory}
 use Rattle.tftp_ends.specs.CaptureText.{Datagram, Header}
-use Rattle.tftp_judge.specs.OneEnded.{OneEnded}
+use Rattle.tftp_law.specs.OneEnded.{OneEnded}
 use Rattle.tftp_judge.specs.Verdict.{IsVerdictByRules}
 use Rattle.tftp_judge.specs.declared.verdict.Verdict.{Verdict}
 use Rattle.tftp_judge.specs.declared.verdict.Verdict.TheVariants.{Accepted, Unlawful, Incomplete, NormalTooLong}

@@ -3,11 +3,11 @@
 use Rattle.std.specs.Prelude.{◌≡◌, ℕ, ◌+◌, List, [], ◌∷◌, ◌++◌, length, reverse}
 use Rattle.tftp_ends.specs.CaptureText.{Datagram, Header}
 use Rattle.tftp_ends.specs.Meaning.{Meaning}
-use Rattle.tftp_judge.specs.Fits.{IsWritable}
-use Rattle.tftp_judge.specs.Law.{IsLawful, ShowsBy}
-use Rattle.tftp_judge.specs.Rules.{FirstBroken}
-use Rattle.tftp_judge.specs.declared.rule.Rule.{Rule}
-use Rattle.tftp_judge.specs.OneEnded.{OneEnded, Meant}
+use Rattle.tftp_law.specs.Fits.{IsWritable}
+use Rattle.tftp_law.specs.Law.{IsLawful, ShowsBy}
+use Rattle.tftp_law.specs.Rules.{FirstBroken}
+use Rattle.tftp_law.specs.declared.rule.Rule.{Rule}
+use Rattle.tftp_law.specs.OneEnded.{OneEnded, Meant}
 use Rattle.tftp_judge.specs.declared.verdict.Verdict.{Verdict}
 use Rattle.tftp_judge.specs.declared.verdict.Verdict.TheVariants.{Accepted, Unlawful, Incomplete, NormalTooLong}
 

@@ -7,43 +7,14 @@ ghost use Rattle.tftp_ends.specs.CaptureText.{Datagram, Header};
 ghost use Rattle.tftp_nego.specs.Agreement.{MayAgree};
 ghost use Rattle.tftp_nego.specs.Faults.{Holds};
 ghost use Rattle.tftp_nego.specs.declared.fault.NegoFault.{NegoFault};
-ghost use Rattle.tftp_judge.specs.Rules.{number_of, FirstBroken};
-ghost use Rattle.tftp_judge.specs.declared.rule.Rule.{Rule};
+ghost use Rattle.tftp_law.specs.Rules.{number_of, FirstBroken};
+ghost use Rattle.tftp_law.specs.declared.rule.Rule.{Rule};
 ghost use Rattle.tftp_ends.specs.Meaning.{Meaning};
-ghost use Rattle.tftp_judge.specs.OneEnded.{OneEnded, IsRefused, Meant};
+ghost use Rattle.tftp_law.specs.OneEnded.{OneEnded, IsRefused, Meant};
 ghost use Rattle.tftp_judge.specs.TextVerdict.{IsOfText, IsTextVerdict};
 ghost use Rattle.tftp_judge.specs.Verdict.{IsVerdictByRules};
 ghost use Rattle.tftp_capture.specs.declared.fault.CaptureFault.{CaptureFault};
 ghost use Rattle.tftp_judge.specs.declared.verdict.Verdict.{Verdict};
-
-/// Options that may be agreed have none of the faults of an OACK, where there are any (RFC 2347).
-pub fn agreed_options_have_no_fault()
-    ensures { (request : RequestParts) (oack : OptionMap) → MayAgree request oack → oack ≢ no_options
-        → (fault : NegoFault) → Holds fault request oack → ⊥ }
-{}
-
-/// And options without a fault may be agreed.
-pub fn options_without_fault_may_be_agreed()
-    ensures { (request : RequestParts) (oack : OptionMap) → ((fault : NegoFault) → Holds fault request oack → ⊥)
-        → MayAgree request oack }
-{}
-
-/// A datagram has at most one first rule that it breaks, by the rule's number.
-pub fn first_broken_rule_is_one()
-    ensures { (header : Header) (earlier : List Datagram) (d : Datagram) (r q : Rule) → FirstBroken header earlier d r
-        → FirstBroken header earlier d q → number_of r ≡ number_of q }
-{}
-
-/// A datagram that is refused does not pass after those before it.
-pub fn refused_does_not_pass()
-    ensures { (header : Header) (earlier : List Datagram) (d : Datagram) (rule : Rule) → IsRefused header earlier d rule
-        → OneEnded header (d ∷ earlier) → ⊥ }
-{}
-
-/// A capture that the rules accept has one meaning.
-pub fn meaning_is_one()
-    ensures { (header : Header) (earlier : List Datagram) (m n : Meaning) → Meant header earlier m → Meant header earlier n → m ≡ n }
-{}
 
 /// A list of datagrams has one verdict by the rules.
 pub fn verdict_is_one()

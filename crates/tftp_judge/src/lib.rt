@@ -1,21 +1,14 @@
-//! What captures show: the law of two ends, the rules at one end, and worked cases of both.
+//! The judge of captures: the verdict on a list of datagrams, and on a capture text.
 #![tactic(auto)]
 
 pub mod laws;
 mod meaning;
 mod plain;
-mod rule;
 mod text;
 mod verdict;
-pub mod worked_cases;
-pub mod worked_rules;
-pub mod worked_verdicts;
 
 pub use meaning::Meaning;
 pub use plain::judge;
-pub use rule::Rule;
 pub use text::judge_text;
+pub use tftp_law::Rule;
 pub use verdict::Verdict;
-
-#[cfg(test)]
-mod tests;

@@ -14,8 +14,8 @@ impl Model for Meaning {
     ghost use Rattle.std.specs.Prelude.{◌≡◌};
     ghost use Rattle.tftp_ends.specs.Blocks.{block_count};
     ghost use Rattle.tftp_ends.specs.Meaning.{Meaning as Parts, blksize_of};
-    ghost use Rattle.tftp_judge.specs.Fits.{written_wire};
-    ghost use Rattle.tftp_judge.specs.Owned.{meaning_code, meaning_from};
+    ghost use Rattle.tftp_law.specs.Fits.{written_wire};
+    ghost use Rattle.tftp_law.specs.Owned.{meaning_code, meaning_from};
 
     ghost Value = { Parts };
 
@@ -30,8 +30,8 @@ impl Meaning {
     ghost use Rattle.std.specs.Prelude.{◌≡◌};
     ghost use Rattle.tftp_ends.specs.Blocks.{block_count};
     ghost use Rattle.tftp_ends.specs.Meaning.{blksize_of, request_of};
-    ghost use Rattle.tftp_judge.specs.Fits.{written_wire};
-    ghost use Rattle.tftp_judge.specs.Owned.{meaning_from};
+    ghost use Rattle.tftp_law.specs.Fits.{written_wire};
+    ghost use Rattle.tftp_law.specs.Owned.{meaning_from};
 
     /// Takes the parts over, and no memory. The number of the blocks is that of the canonical wire.
     pub(crate) fn of(request: Request, agreed: Options, file: Vec<u8>, blocks: u16) -> Self

@@ -1,5 +1,5 @@
 use crate::meaning::Meaning;
-use crate::rule::Rule;
+use tftp_law::Rule;
 
 /// What there is to say of the datagrams of a capture.
 #[derive(Debug, Drop)]

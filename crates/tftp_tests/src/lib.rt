@@ -7,6 +7,10 @@ mod agreements;
 #[cfg(test)]
 mod captures;
 #[cfg(test)]
+mod commands;
+#[cfg(test)]
 mod netascii;
 #[cfg(test)]
 mod packets;
+#[cfg(test)]
+mod verdicts;

@@ -4,7 +4,7 @@ ghost use Rattle.tftp_packet.specs.Message.{RequestParts};
 ghost use Rattle.tftp_packet.specs.Written.{parts};
 ghost use Rattle.tftp_ends.specs.Ports.{asks, first_of};
 ghost use Rattle.tftp_judge.specs.Heard.{newest_first};
-ghost use Rattle.tftp_judge.specs.Rules.{FirstAsked};
+ghost use Rattle.tftp_law.specs.Rules.{FirstAsked};
 
 use crate::plain::ports::first_request;
 use tftp_capture::{Datagram, Header};

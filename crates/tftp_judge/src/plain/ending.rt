@@ -6,10 +6,10 @@ ghost use Rattle.tftp_packet.specs.Written.{parts, map_of};
 ghost use Rattle.tftp_capture.specs.Fields.{datagram_of, header_of};
 ghost use Rattle.tftp_ends.specs.CaptureText.{Datagram as DatagramParts};
 ghost use Rattle.tftp_ends.specs.Ports.{transfer_of};
-ghost use Rattle.tftp_judge.specs.Fits.{ReadsAs, written_wire};
+ghost use Rattle.tftp_law.specs.Fits.{ReadsAs, written_wire};
 ghost use Rattle.tftp_judge.specs.Heard.{newest_first, Tells};
-ghost use Rattle.tftp_judge.specs.OneEnded.{OneEnded, IsAgreed, IsJoined, IsWhole};
-ghost use Rattle.tftp_judge.specs.Settled.{AreOnce, HasOneLast};
+ghost use Rattle.tftp_law.specs.OneEnded.{OneEnded, IsAgreed, IsJoined, IsWhole};
+ghost use Rattle.tftp_law.specs.Settled.{AreOnce, HasOneLast};
 ghost use Rattle.tftp_judge.specs.Verdict.{IsVerdictByRules};
 
 use crate::meaning::Meaning;

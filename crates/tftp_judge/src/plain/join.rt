@@ -4,8 +4,8 @@ ghost use Rattle.tftp_packet.specs.Meaning.{meaning};
 ghost use Rattle.tftp_ends.specs.CaptureText.{Datagram};
 ghost use Rattle.tftp_ends.specs.Rules.{HasPassed};
 ghost use Rattle.tftp_judge.specs.Heard.{Tells};
-ghost use Rattle.tftp_judge.specs.OneEnded.{IsJoined};
-ghost use Rattle.tftp_judge.specs.Settled.{AreOnce};
+ghost use Rattle.tftp_law.specs.OneEnded.{IsJoined};
+ghost use Rattle.tftp_law.specs.Settled.{AreOnce};
 
 use crate::plain::passed::Passed;
 use std::alloc::{AllocError, Global};

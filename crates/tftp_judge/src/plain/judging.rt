@@ -2,7 +2,7 @@ ghost use Rattle.std.specs.Prelude.{◌≡◌, map, IfOk, OnOk};
 ghost use Rattle.tftp_capture.specs.Fields.{datagram_of, header_of};
 ghost use Rattle.tftp_judge.specs.Plain.{Keeps};
 ghost use Rattle.tftp_judge.specs.Verdict.{IsVerdictByRules};
-ghost use Rattle.tftp_judge.specs.declared.rule.Rule.{Rule};
+ghost use Rattle.tftp_law.specs.declared.rule.Rule.{Rule};
 ghost use Rattle.tftp_judge.specs.declared.plain.stop.Stop.{Stop};
 ghost use Rattle.tftp_judge.specs.declared.verdict.Verdict.{Verdict};
 

@@ -1,7 +1,7 @@
 ghost use Rattle.std.specs.Prelude.{◌≡◌, ◌↔◌, IsTrue};
 ghost use Rattle.tftp_packet.specs.Meaning.{meaning};
 ghost use Rattle.tftp_ends.specs.Roles.{author_of as author_by_way};
-ghost use Rattle.tftp_judge.specs.Rules.{IsWrongKind};
+ghost use Rattle.tftp_law.specs.Rules.{IsWrongKind};
 
 use tftp_packet::{Dir, End, Packet, Side};
 

@@ -4,7 +4,8 @@ ghost use Rattle.tftp_packet.specs.Written.{parts};
 ghost use Rattle.tftp_capture.specs.Fields.{header_of};
 ghost use Rattle.tftp_ends.specs.CaptureText.{Datagram as DatagramParts};
 ghost use Rattle.tftp_judge.specs.Heard.{Tells};
-ghost use Rattle.tftp_judge.specs.MessageRules.{Finds, TermsBreak, MessageBreaks, rule_of_end as rule_by_end};
+ghost use Rattle.tftp_judge.specs.Plain.{Finds};
+ghost use Rattle.tftp_law.specs.MessageRules.{TermsBreak, MessageBreaks, rule_of_end as rule_by_end};
 
 use crate::plain::end_fault::end_fault;
 use crate::plain::kinds::{author_of, is_wrong_kind};
@@ -13,10 +14,10 @@ use crate::plain::passed::Passed;
 use crate::plain::requests::request_fault;
 use crate::plain::stop::Stop;
 use crate::plain::terms::terms;
-use crate::rule::Rule;
 use std::alloc::Global;
 use tftp_capture::Header;
 use tftp_ends::EndRule;
+use tftp_law::Rule;
 use tftp_packet::{Dir, Packet, RequestView};
 
 /// What a packet of the transfer breaks that comes after the first request: it is of a wrong kind, it ends the transfer

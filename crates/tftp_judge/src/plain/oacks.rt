@@ -2,14 +2,15 @@ ghost use Rattle.std.specs.Prelude.{◌≡◌, List};
 ghost use Rattle.tftp_packet.specs.Written.{parts, map_of};
 ghost use Rattle.tftp_ends.specs.CaptureText.{Datagram as DatagramParts};
 ghost use Rattle.tftp_judge.specs.Heard.{Tells};
-ghost use Rattle.tftp_judge.specs.MessageRules.{Finds, FirstOackBreaks, LaterOackBreaks, OackBreaks, stop_of_fault};
+ghost use Rattle.tftp_judge.specs.Plain.{Finds, stop_of_fault};
+ghost use Rattle.tftp_law.specs.MessageRules.{FirstOackBreaks, LaterOackBreaks, OackBreaks};
 
 use crate::plain::passed::Passed;
 use crate::plain::sent::has_sent_block;
 use crate::plain::stop::Stop;
 use crate::plain::terms::first_answer;
-use crate::rule::Rule;
 use std::alloc::Global;
+use tftp_law::Rule;
 use tftp_nego::{NegoFault, agree};
 use tftp_packet::{
     Dir, OptionsView, Packet, RequestView, Side, own_options, own_request, same_options,

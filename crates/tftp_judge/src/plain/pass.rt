@@ -2,7 +2,7 @@ ghost use Rattle.std.specs.Prelude.{◌≡◌, List, IfOk, IfErr};
 ghost use Rattle.tftp_capture.specs.Fields.{datagram_of, header_of};
 ghost use Rattle.tftp_ends.specs.Ports.{transfer_of};
 ghost use Rattle.tftp_judge.specs.Heard.{newest_first, Tells};
-ghost use Rattle.tftp_judge.specs.OneEnded.{Passes, OneEnded};
+ghost use Rattle.tftp_law.specs.OneEnded.{Passes, OneEnded};
 ghost use Rattle.tftp_judge.specs.Plain.{IsKept, IsStop};
 
 use crate::plain::asked::{first_asked, lacks_request};
@@ -10,9 +10,9 @@ use crate::plain::messages::message_fault;
 use crate::plain::passed::Passed;
 use crate::plain::ports::{is_of_transfer, port_fault, route_of};
 use crate::plain::stop::Stop;
-use crate::rule::Rule;
 use std::alloc::Global;
 use tftp_capture::{Datagram, Header};
+use tftp_law::Rule;
 use tftp_packet::{Packet, read_packet};
 
 /// What becomes of a datagram after those before it: its packet, where it is one of the transfer; nothing, where it is

@@ -5,11 +5,11 @@ ghost use Rattle.tftp_capture.specs.Fields.{datagram_of, header_of};
 ghost use Rattle.tftp_ends.specs.CaptureText.{Datagram as DatagramParts, Header as HeaderParts, peer_of};
 ghost use Rattle.tftp_ends.specs.Ports as Ports;
 ghost use Rattle.tftp_judge.specs.Heard.{newest_first};
-ghost use Rattle.tftp_judge.specs.PortRules.{rule_of_port};
+ghost use Rattle.tftp_law.specs.PortRules.{rule_of_port};
 
-use crate::rule::Rule;
 use tftp_capture::{Datagram, Header};
 use tftp_ends::Route;
+use tftp_law::Rule;
 use tftp_packet::{Dir, End, Packet, opcode, read_packet};
 
 /// The port of the other side, by which alone a capture tells it (RFC 1350, section 4).

@@ -2,13 +2,14 @@ ghost use Rattle.std.specs.Prelude.{List};
 ghost use Rattle.tftp_packet.specs.Written.{parts};
 ghost use Rattle.tftp_ends.specs.CaptureText.{Datagram as DatagramParts};
 ghost use Rattle.tftp_judge.specs.Heard.{Tells};
-ghost use Rattle.tftp_judge.specs.MessageRules.{Finds, RequestBreaks};
+ghost use Rattle.tftp_judge.specs.Plain.{Finds};
+ghost use Rattle.tftp_law.specs.MessageRules.{RequestBreaks};
 
 use crate::plain::passed::Passed;
 use crate::plain::sent::client_went_on;
 use crate::plain::stop::Stop;
-use crate::rule::Rule;
 use std::alloc::Global;
+use tftp_law::Rule;
 use tftp_packet::{Dir, RequestView, own_request, same_request};
 
 /// What a request breaks after the first one: it is not that one again, or it comes after a block or an ACK of the

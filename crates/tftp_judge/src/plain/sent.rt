@@ -1,8 +1,8 @@
 ghost use Rattle.std.specs.Prelude.{◌↔◌, List, IsTrue};
 ghost use Rattle.tftp_ends.specs.CaptureText.{Datagram as DatagramParts};
 ghost use Rattle.tftp_judge.specs.Heard.{Tells};
-ghost use Rattle.tftp_judge.specs.Rules.{ClientWentOn};
-ghost use Rattle.tftp_judge.specs.MessageRules.{BlockSent, AckSent};
+ghost use Rattle.tftp_law.specs.Rules.{ClientWentOn};
+ghost use Rattle.tftp_law.specs.MessageRules.{BlockSent, AckSent};
 ghost use Rattle.tftp_judge.specs.SentKinds.{SentKind, IsBlock, IsAck};
 
 use crate::plain::passed::Passed;

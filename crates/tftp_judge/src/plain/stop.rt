@@ -1,4 +1,4 @@
-use crate::rule::Rule;
+use tftp_law::Rule;
 
 /// Why a datagram does not pass.
 #[derive(Clone, Copy, Debug, PartialEq, Eq)]

@@ -6,8 +6,8 @@ ghost use Rattle.tftp_capture.specs.Fields.{header_of};
 ghost use Rattle.tftp_ends.specs.Meaning.{option_or};
 ghost use Rattle.tftp_ends.specs.CaptureText.{Datagram as DatagramParts};
 ghost use Rattle.tftp_judge.specs.Heard.{Tells};
-ghost use Rattle.tftp_judge.specs.Rules.{NotAnswered, Agrees, plain_terms as plain_terms_of, size_from, terms_after};
-ghost use Rattle.tftp_judge.specs.MessageRules.{IsFirstAnswer, AreTermsAfter};
+ghost use Rattle.tftp_law.specs.Rules.{NotAnswered, Agrees, plain_terms as plain_terms_of, size_from, terms_after};
+ghost use Rattle.tftp_law.specs.MessageRules.{IsFirstAnswer, AreTermsAfter};
 ghost use Rattle.tftp_judge.specs.SentKinds.{does_answer};
 
 use crate::plain::passed::Passed;

@@ -2,7 +2,7 @@ ghost use Rattle.std.specs.Prelude.{◌≡◌, ◌↔◌, List, IsTrue, false};
 ghost use Rattle.tftp_ends.specs.CaptureText.{Datagram as DatagramParts};
 ghost use Rattle.tftp_ends.specs.Rules.{IsLast, IsReceiver, IsSender};
 ghost use Rattle.tftp_judge.specs.Heard.{Tells};
-ghost use Rattle.tftp_judge.specs.OneEnded.{IsWhole};
+ghost use Rattle.tftp_law.specs.OneEnded.{IsWhole};
 
 use crate::plain::numbers::{front, has_ack};
 use crate::plain::passed::Passed;

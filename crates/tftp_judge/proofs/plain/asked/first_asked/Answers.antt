@@ -7,7 +7,7 @@ use Rattle.tftp_packet.specs.declared.packet.Packet.{Packet}
 use Rattle.tftp_packet.specs.declared.fault.PacketFault.{PacketFault}
 use Rattle.tftp_capture.specs.Fields.{datagram_of, header_of}
 use Rattle.tftp_judge.specs.Heard.{newest_first}
-use Rattle.tftp_judge.proofs.FirstRequests.{asked_of, request_packet}
+use Rattle.tftp_law.proofs.FirstRequests.{asked_of, request_packet}
 use Rattle.tftp_judge.proofs.plain.asked.first_asked.Goals as goal
 use Rattle.tftp_judge.proofs.plain.asked.first_asked.Goals.{in_default-via-in-Ok+in_default, in_default-via-in_default}
 

@@ -1,7 +1,7 @@
 use Rattle.std.proofs.Common.{subst}
 use Rattle.tftp_packet.specs.Written.{parts, map_of}
-use Rattle.tftp_judge.specs.Rules.{NotAnswered}
-use Rattle.tftp_judge.specs.MessageRules.{IsFirstAnswer}
+use Rattle.tftp_law.specs.Rules.{NotAnswered}
+use Rattle.tftp_law.specs.MessageRules.{IsFirstAnswer}
 use Rattle.tftp_judge.proofs.Ended.{agreed_none, agreed_other, agreed_oack, map_ok}
 use Rattle.tftp_judge.proofs.plain.ending.agreed_options.Goals as goal
 

@@ -7,9 +7,9 @@ use Rattle.tftp_ends.specs.Blocks.{block_count}
 use Rattle.tftp_ends.specs.Meaning.{blksize_of, request_of}
 use Rattle.tftp_ends.specs.Ports.{transfer_of}
 use Rattle.tftp_judge.specs.Heard.{newest_first}
-use Rattle.tftp_judge.specs.Fits.{ReadsAs, written_wire, IsWritable}
-use Rattle.tftp_judge.specs.Owned.{meaning_from}
-use Rattle.tftp_judge.specs.OneEnded.{Meant}
+use Rattle.tftp_law.specs.Fits.{ReadsAs, written_wire, IsWritable}
+use Rattle.tftp_law.specs.Owned.{meaning_from}
+use Rattle.tftp_law.specs.OneEnded.{Meant}
 use Rattle.tftp_judge.proofs.Ended.{none_of, some_of, once, one, count_is, meant_of, not_meant, writable, too_long}
 use Rattle.tftp_judge.proofs.plain.ending.ending.Goals as goal
 

@@ -1,6 +1,6 @@
 use Rattle.std.proofs.Common.{◌<◌, sym, subst, ◌∙◌, true≢false}
 use Rattle.tftp_ends.specs.Rules.{IsLast}
-use Rattle.tftp_judge.specs.OneEnded.{IsWhole, IsJoined}
+use Rattle.tftp_law.specs.OneEnded.{IsWhole, IsJoined}
 use Rattle.tftp_judge.proofs.Ended.{not_unknown, small_last, map_found, map_none}
 use Rattle.tftp_judge.proofs.plain.ending.whole_wire.Goals as goal
 

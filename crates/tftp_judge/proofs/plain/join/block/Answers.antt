@@ -1,6 +1,6 @@
 use Rattle.std.proofs.Common.{rules}
 use Rattle.tftp_judge.proofs.Told.{none_left, pass_over}
-use Rattle.tftp_judge.proofs.Joined.{numbered_passed, passed_numbered}
+use Rattle.tftp_judge.proofs.KeptBlocks.{numbered_passed, passed_numbered}
 use Rattle.tftp_judge.proofs.plain.join.block.Goals as goal
 
 pub loop-rest-preserved : goal.loop-rest-preserved

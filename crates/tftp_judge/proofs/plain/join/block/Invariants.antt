@@ -1,5 +1,5 @@
 use Rattle.std.proofs.Common.{◌↔◌, ℕ, List, length}
-use Rattle.tftp_judge.proofs.Joined.{IsNumbered}
+use Rattle.tftp_judge.proofs.KeptBlocks.{IsNumbered}
 use Rattle.tftp_packet.specs.Faults.{AnyOf}
 use Rattle.tftp_judge.proofs.Told.{Meets}
 use Rattle.tftp_judge.proofs.plain.join.block.Given as goal

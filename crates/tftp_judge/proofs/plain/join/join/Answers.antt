@@ -1,8 +1,8 @@
 use Rattle.std.proofs.Common.{rules, ◌≡◌, List, sym, ap, subst, ◌∙◌, length, arith, ◌-◌, ◌*◌, ◌+◌}
 use Rattle.tftp_ends.specs.CaptureText.{Datagram}
 use Rattle.tftp_judge.specs.Heard.{Tells}
-use Rattle.tftp_judge.specs.OneEnded.{IsJoined}
-use Rattle.tftp_judge.proofs.Joined.{Below, below_more, size_more, joined_all, not_there, not_whole, not_last}
+use Rattle.tftp_law.specs.OneEnded.{IsJoined}
+use Rattle.tftp_law.proofs.Joined.{Below, below_more, size_more, joined_all, not_there, not_whole, not_last}
 use Rattle.tftp_judge.proofs.plain.join.join.Goals as goal
 use Rattle.tftp_judge.proofs.plain.join.join.Goals.{in_default-via-in-Some+else-bytes-size, in_default-via-in_default, in_default-block-via-in-Some-block+else-bytes-size-2, in_default-block-via-in_default-block}
 

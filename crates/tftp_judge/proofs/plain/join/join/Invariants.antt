@@ -1,7 +1,7 @@
 use Rattle.std.proofs.Common.{◌≡◌, ◌≤◌, ◌-◌, ◌*◌, List, length}
 use Rattle.tftp_ends.specs.CaptureText.{Datagram}
 use Rattle.tftp_judge.specs.Heard.{Tells}
-use Rattle.tftp_judge.proofs.Joined.{Below}
+use Rattle.tftp_law.proofs.Joined.{Below}
 use Rattle.tftp_judge.proofs.plain.join.join.Given as goal
 
 -- the wire has the whole blocks below this number

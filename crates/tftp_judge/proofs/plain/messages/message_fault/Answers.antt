@@ -3,7 +3,8 @@ use Rattle.tftp_packet.specs.Meaning.{meaning}
 use Rattle.tftp_packet.specs.Written.{parts}
 use Rattle.tftp_packet.specs.declared.packet.Packet.{Packet}
 use Rattle.tftp_capture.specs.Fields.{header_of}
-use Rattle.tftp_judge.specs.MessageRules.{Finds, TermsBreak, KindBreaks}
+use Rattle.tftp_judge.specs.Plain.{Finds}
+use Rattle.tftp_law.specs.MessageRules.{TermsBreak, KindBreaks}
 use Rattle.tftp_judge.proofs.MessageFound.{kind_finds, right_kind}
 use Rattle.tftp_judge.proofs.plain.messages.message_fault.Goals as goal
 

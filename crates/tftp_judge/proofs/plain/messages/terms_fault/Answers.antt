@@ -2,8 +2,9 @@ use Rattle.std.proofs.Common.{subst, sym, Err}
 use Rattle.tftp_packet.specs.Meaning.{meaning}
 use Rattle.tftp_packet.specs.Written.{parts}
 use Rattle.tftp_capture.specs.Fields.{header_of}
-use Rattle.tftp_judge.specs.MessageRules.{Finds, TermsBreak}
-use Rattle.tftp_judge.specs.declared.rule.Rule.{Rule}
+use Rattle.tftp_judge.specs.Plain.{Finds}
+use Rattle.tftp_law.specs.MessageRules.{TermsBreak}
+use Rattle.tftp_law.specs.declared.rule.Rule.{Rule}
 use Rattle.tftp_judge.specs.declared.plain.stop.Stop.{Stop}
 use Rattle.tftp_judge.proofs.MessageFound.{no_end, first_end}
 use Rattle.tftp_judge.proofs.plain.messages.terms_fault.Goals as goal

@@ -2,7 +2,8 @@ use Rattle.std.proofs.Common.{refl, sym, subst, Err}
 use Rattle.tftp_packet.specs.Message.{RequestParts}
 use Rattle.tftp_packet.specs.Written.{parts, map_of}
 use Rattle.tftp_nego.specs.Faults.{FirstFault}
-use Rattle.tftp_judge.specs.MessageRules.{Finds, FirstOackBreaks}
+use Rattle.tftp_judge.specs.Plain.{Finds}
+use Rattle.tftp_law.specs.MessageRules.{FirstOackBreaks}
 use Rattle.tftp_judge.specs.declared.plain.stop.Stop.{Stop}
 use Rattle.tftp_judge.proofs.MessageFound.{fault_found}
 use Rattle.tftp_judge.proofs.plain.oacks.first_oack_fault.Goals as goal

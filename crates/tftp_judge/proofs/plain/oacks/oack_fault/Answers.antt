@@ -1,7 +1,7 @@
 use Rattle.std.proofs.Common.{subst, rules}
 use Rattle.tftp_packet.specs.declared.kinds.Side.{Side}
 use Rattle.tftp_packet.specs.Written.{parts, map_of}
-use Rattle.tftp_judge.specs.Rules.{NotAnswered}
+use Rattle.tftp_law.specs.Rules.{NotAnswered}
 use Rattle.tftp_judge.proofs.MessageFound.{first_oack_finds, later_by, reply_changed_by}
 use Rattle.tftp_judge.proofs.plain.oacks.oack_fault.Goals as goal
 

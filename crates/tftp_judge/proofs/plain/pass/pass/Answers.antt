@@ -6,11 +6,12 @@ use Rattle.tftp_packet.specs.Spelling.{Spells}
 use Rattle.tftp_capture.specs.Fields.{datagram_of, header_of}
 use Rattle.tftp_ends.specs.Ports.{asks, first_of, route_of, is_of_transfer, transfer_of}
 use Rattle.tftp_ends.specs.declared.route.Route.{Route}
-use Rattle.tftp_judge.specs.Rules.{Broken}
-use Rattle.tftp_judge.specs.declared.rule.Rule.{Rule}
+use Rattle.tftp_law.specs.Rules.{Broken}
+use Rattle.tftp_law.specs.declared.rule.Rule.{Rule}
 use Rattle.tftp_judge.specs.Plain.{IsStop}
 use Rattle.tftp_judge.specs.Heard.{newest_first}
-use Rattle.tftp_judge.proofs.OneMessage.{stops_by, lawful_by}
+use Rattle.tftp_law.proofs.OneMessage.{lawful_by}
+use Rattle.tftp_judge.proofs.Stopped.{stops_by}
 use Rattle.tftp_judge.proofs.PassFound.{off_passes, main_passes, first_lawful}
 use Rattle.tftp_judge.proofs.plain.pass.pass.Goals as goal
 use Rattle.tftp_judge.proofs.plain.pass.pass.Goals.{in-Some-first_asked+in_ok-message_fault, in_default-first_asked}

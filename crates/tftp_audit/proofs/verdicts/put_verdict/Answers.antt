@@ -1,4 +1,0 @@
-use Rattle.tftp_audit.proofs.verdicts.put_verdict.Goals as goal
-
-pub returns-in-NormalTooLong-clause-err : goal.returns-in-NormalTooLong-clause-err
-returns-in-NormalTooLong-clause-err g c = rw c.in-NormalTooLong.is c.add.ensures.err

@@ -1,0 +1,283 @@
+-- A text that is shown while it is read.
+use Rattle.std.proofs.Common.{◌≡◌, ◌≢◌, ◌⊎◌, inl, inr, ℕ, ◌+◌, List, [], ◌∷◌, ◌++◌, length, Bool, true, false, true≢false, Option, Some, None, Result, Ok, Err, refl, sym, ap, ◌∙◌, subst, append_assoc, append-nil, length-append, arith}
+use Rattle.std.specs.Io.KnownBytes.{prepend_known, Consumes, IsAtEnd}
+use Rattle.std.proofs.KnownBytes.{Consumes-trans}
+use Rattle.tftp_capture.specs.declared.fault.TextFault.{TextFault}
+use Rattle.tftp_capture.specs.declared.fault.TextFault.TheVariants.{BadHeader, BadEnd, BadService, LineTooLong, BadLine, BadPort, BadHex, PayloadTooLong, TotalWrong, Truncated, TrailingText, TextTooLong}
+use Rattle.tftp_capture.specs.declared.fault.CaptureFault.{CaptureFault}
+use Rattle.tftp_capture.specs.declared.fault.CaptureFault.TheVariants.{Text, Read, Memory}
+use Rattle.tftp_capture.specs.declared.standing.Standing.TheVariants.{Open, Over, Failed}
+use Rattle.tftp_capture.specs.declared.datagram.Datagram.{Datagram as Owned}
+use Rattle.tftp_capture.specs.CaptureText.{Header, Numbered, Stands, IsCapture, HasFault}
+use Rattle.tftp_capture.specs.CaptureText.Due.{Body}
+use Rattle.tftp_capture.specs.Fields.{datagram_of}
+use Rattle.tftp_capture.specs.History.{Continues, FailsToBegin, FaultTells, GoesOn, IsAtTextEnd, IsReadFault, ReaderState, StandsFor}
+use Rattle.tftp_capture.specs.Tally.{AppendsPrefix, Gathers}
+use Rattle.tftp_capture.proofs.Staying.{stays}
+use Rattle.tftp_capture.proofs.Gathering.{gathers_more, gathers_none}
+use Rattle.tftp_commands.specs.declared.status.Status.{Status}
+use Rattle.tftp_commands.specs.declared.status.Status.TheVariants as status
+use Rattle.tftp_commands.specs.Output.{IsWritten, Output}
+use Rattle.tftp_commands.specs.Shown.{AreFirst, AreLines, Ending, Whole, Faulty, Cut, EndsBy, IsDatagramLine, IsShown, last_line, status_of}
+use Rattle.tftp_commands.specs.Source.{given}
+use Rattle.tftp_commands.proofs.Lines.{lines_more}
+use Rattle.tftp_commands.proofs.Written.{prefix_after, written_after}
+
+-- What was shown so far: a reader that goes on took these bytes and gave these datagrams; the lines of these were
+-- written, or wait.
+pub record Showing (start now : Option (List ℕ)) (capture : ReaderState) (before after : Option (List ℕ)) (waits : List ℕ) (number : ℕ) : Type 0 where
+  pub read : List ℕ
+  pub datagrams : List Numbered
+  pub lines : List ℕ
+  pub consumed : Consumes start (prepend_known capture.lines.ahead now) read
+  pub stands : GoesOn capture.header capture.lines capture.count read datagrams
+  pub counted : number ≡ length datagrams
+  pub are : AreLines 1 datagrams lines
+  pub gathered : Gathers before after [] waits lines
+
+-- a run so far, whatever comes of it: what was read of the source, and the output of which all or a part was written
+abbrev pub Said : Option (List ℕ) → Option (List ℕ) → Bool → Option (List ℕ) → Option (List ℕ) → Bool → Status → Type 0
+Said start now failed before after cut result =
+    (read : List ℕ) × (output : Output) × Consumes start now read × IsShown (record { read = read; left = now; failed = failed }) cut output × IsWritten before after cut output result
+
+-- ---- what is read ahead
+
+-- what is read ahead is read too
+consumed_ahead : (start now : Option (List ℕ)) (ahead taken : List ℕ) → Consumes start (prepend_known ahead now) taken → Consumes start now (taken ++ ahead)
+consumed_ahead None now ahead taken p = tt
+consumed_ahead (Some x) None ahead taken p = absurd p
+consumed_ahead (Some x) (Some y) ahead taken p = p ∙ sym (append_assoc taken ahead y)
+
+-- nothing is ahead of the end
+consumed_end : (start now : Option (List ℕ)) (ahead taken : List ℕ) → Consumes start (prepend_known ahead now) taken → IsAtEnd (prepend_known ahead now) → Consumes start now taken × IsAtEnd now
+consumed_end None None ahead taken p e = (tt, tt)
+consumed_end (Some x) None ahead taken p e = absurd p
+consumed_end None (Some y) [] taken p e = (tt, e)
+consumed_end None (Some y) (b ∷ bs) taken p e = absurd (omega (arith, ap length e))
+consumed_end (Some x) (Some y) [] taken p e = (p, e)
+consumed_end (Some x) (Some y) (b ∷ bs) taken p e = absurd (omega (arith, ap length e))
+
+consumed_none : (start now : Option (List ℕ)) (ahead taken : List ℕ) → Consumes start (prepend_known ahead now) taken → ahead ≡ [] → Consumes start now taken
+consumed_none start now ahead taken p e = subst (Consumes start now) (ap (λ l. taken ++ l) e ∙ append-nil taken) (consumed_ahead start now ahead taken p)
+
+-- ---- the datagrams so far
+
+begins : (header : Header) (lines : List (List ℕ)) (text more : List ℕ) (ds : List Numbered) → Stands text lines [] (Body header) ds → AreFirst (text ++ more) ds
+begins header lines text more ds stands = inr (header, record { read = text; more = more; lines = lines; are = refl; stands = stands })
+
+-- ---- one datagram more
+
+pub begun : (start now : Option (List ℕ)) (capture : ReaderState) (contents : Option (List ℕ)) (taken : List ℕ) → Consumes start (prepend_known capture.lines.ahead now) taken
+    → GoesOn capture.header capture.lines capture.count taken [] → Showing start now capture contents contents [] 0
+begun start now capture contents taken p goes =
+    record { read = taken; datagrams = []; lines = []; consumed = p; stands = goes; counted = refl; are = refl; gathered = gathers_none contents [] }
+
+opened : (capture : ReaderState) (text : List ℕ) (ds : List Numbered) → capture.standing ≡ Open → GoesOn capture.header capture.lines capture.count text ds → StandsFor capture text ds
+opened capture text ds going goes = rw going goes
+
+-- what the reader answers next, whatever was taken and given before
+abbrev pub Nexts : ReaderState → ReaderState → Option (List ℕ) → Option (List ℕ) → Result (Option Owned) CaptureFault → Type 0
+Nexts old new mid now result =
+    (text : List ℕ) (ds : List Numbered) → StandsFor old text ds → Continues old new (prepend_known old.lines.ahead mid) (prepend_known new.lines.ahead now) result text ds
+
+more_counted : (number : ℕ) (ds : List Numbered) (d : Numbered) → number ≡ length ds → number + 1 ≡ length (ds ++ d ∷ [])
+more_counted number ds d e = omega (arith, e, length-append ds (d ∷ []))
+
+-- the line of the next datagram follows those of the others
+next_line : (number : ℕ) (ds : List Numbered) (bytes : List ℕ) (d : Numbered) (line : List ℕ) → number ≡ length ds → AreLines 1 ds bytes → IsDatagramLine (number + 1) d.1 line
+    → AreLines 1 (ds ++ d ∷ []) (bytes ++ line)
+next_line number ds bytes d line e are is = lines_more 1 ds bytes d line are (subst (λ k. IsDatagramLine k d.1 line) (omega (arith, e)) is)
+
+pub one_more : (start mid now before c1 c2 : Option (List ℕ)) (old new : ReaderState) (w1 w2 : List ℕ) (number : ℕ) (d : Owned) (line : List ℕ)
+    → Showing start mid old before c1 w1 number → old.standing ≡ Open → Nexts old new mid now (Ok (Some d)) → new.standing ≡ Open
+    → IsDatagramLine (number + 1) (datagram_of d) line → Gathers c1 c2 w1 w2 line → Showing start now new before c2 w2 (number + 1)
+one_more start mid now before c1 c2 old new w1 w2 number d line s going next still is g =
+    let n = next s.read s.datagrams (opened old s.read s.datagrams going s.stands) in
+    record {
+      read = s.read ++ n.taken;
+      datagrams = s.datagrams ++ (new.handed, datagram_of d) ∷ [];
+      lines = s.lines ++ line;
+      consumed = Consumes-trans _ _ _ _ _ s.consumed n.consumed;
+      stands = rw still at n.stands;
+      counted = more_counted number s.datagrams (new.handed, datagram_of d) s.counted;
+      are = next_line number s.datagrams s.lines (new.handed, datagram_of d) line s.counted s.are is;
+      gathered = gathers_more _ _ _ _ _ _ _ _ s.gathered g;
+    }
+
+-- ---- endings
+
+pub cut_here : (start mid now before c1 c2 : Option (List ℕ)) (old new : ReaderState) (w1 : List ℕ) (number : ℕ) (d : Owned) (line : List ℕ) (failed cut : Bool)
+    → Showing start mid old before c1 w1 number → old.standing ≡ Open → Nexts old new mid now (Ok (Some d)) → new.standing ≡ Open → failed ≡ false → cut ≡ true
+    → IsDatagramLine (number + 1) (datagram_of d) line → AppendsPrefix c1 c2 (w1 ++ line) → Said start now failed before c2 cut status.Fault
+cut_here start mid now before c1 c2 old new w1 number d line failed cut s going next still clean is_cut is g =
+    let n = next s.read s.datagrams (opened old s.read s.datagrams going s.stands) in
+    let goes : GoesOn new.header new.lines new.count (s.read ++ n.taken) (s.datagrams ++ (new.handed, datagram_of d) ∷ []) = rw still at n.stands in
+    let part : AppendsPrefix before c2 ((s.lines ++ line) ++ []) = rw append-nil (prefix_after before c1 c2 [] w1 s.lines line s.gathered g) in (
+      (s.read ++ n.taken) ++ new.lines.ahead,
+      record { bytes = (s.lines ++ line) ++ []; status = status.Fault },
+      consumed_ahead start now new.lines.ahead (s.read ++ n.taken) (Consumes-trans _ _ _ _ _ s.consumed n.consumed),
+      record {
+        datagrams = s.datagrams ++ (new.handed, datagram_of d) ∷ [];
+        ending = Cut;
+        lines = s.lines ++ line;
+        are = next_line number s.datagrams s.lines (new.handed, datagram_of d) line s.counted s.are is;
+        ends = (begins new.header goes.lines (s.read ++ n.taken) new.lines.ahead _ goes.stands, clean, is_cut);
+        is = refl;
+      },
+      rw is_cut (part, refl),
+    )
+
+pub shown_whole : (start mid now before c1 c2 : Option (List ℕ)) (old new : ReaderState) (w1 : List ℕ) (number : ℕ) (failed cut : Bool) (result : Status)
+    → Showing start mid old before c1 w1 number → old.standing ≡ Open → Nexts old new mid now (Ok None) → new.standing ≡ Over
+    → IsAtEnd (prepend_known new.lines.ahead now) → failed ≡ false → IsWritten c1 c2 cut (record { bytes = w1 ++ last_line Whole; status = status_of Whole }) result
+    → Said start now failed before c2 cut result
+shown_whole start mid now before c1 c2 old new w1 number failed cut result s going next over end clean written =
+    let n = next s.read s.datagrams (opened old s.read s.datagrams going s.stands) in
+    let capture : IsCapture (s.read ++ n.taken) new.header s.datagrams = rw over at n.stands in
+    let ended = consumed_end start now new.lines.ahead (s.read ++ n.taken) (Consumes-trans _ _ _ _ _ s.consumed n.consumed) end in (
+      s.read ++ n.taken,
+      record { bytes = s.lines ++ last_line Whole; status = status_of Whole },
+      ended.0,
+      record {
+        datagrams = s.datagrams;
+        ending = Whole;
+        lines = s.lines;
+        are = s.are;
+        ends = ((new.header, capture), ended.1, clean);
+        is = refl;
+      },
+      written_after before c1 c2 cut [] w1 s.lines (last_line Whole) (status_of Whole) result s.gathered written,
+    )
+
+truncated_or_not : (fault : TextFault) → (fault ≡ Truncated) ⊎ (fault ≢ Truncated)
+truncated_or_not BadHeader = inr (λ e. cc)
+truncated_or_not BadEnd = inr (λ e. cc)
+truncated_or_not BadService = inr (λ e. cc)
+truncated_or_not LineTooLong = inr (λ e. cc)
+truncated_or_not BadLine = inr (λ e. cc)
+truncated_or_not BadPort = inr (λ e. cc)
+truncated_or_not BadHex = inr (λ e. cc)
+truncated_or_not PayloadTooLong = inr (λ e. cc)
+truncated_or_not TotalWrong = inr (λ e. cc)
+truncated_or_not Truncated = inl refl
+truncated_or_not TrailingText = inr (λ e. cc)
+truncated_or_not TextTooLong = inr (λ e. cc)
+
+-- what a fault says of all that was read
+abbrev FaultEnds : Option (List ℕ) → Option (List ℕ) → Bool → Bool → CaptureFault → List Numbered → Type 0
+FaultEnds start now failed cut fault ds = (read : List ℕ) × Consumes start now read × EndsBy (Faulty fault) (record { read = read; left = now; failed = failed }) cut ds
+
+fault_ends : (start now : Option (List ℕ)) (taken ahead : List ℕ) (failed cut : Bool) (fault : CaptureFault) (ds : List Numbered) → Consumes start now (taken ++ ahead)
+    → (IsAtTextEnd fault → Consumes start now taken × IsAtEnd now) → (IsReadFault fault → Consumes start now taken) → FaultTells fault taken ds → AreFirst (taken ++ ahead) ds
+    → (IsReadFault fault → failed ≡ true) → ((IsReadFault fault → ⊥) → failed ≡ false) → FaultEnds start now failed cut fault ds
+fault_ends start now taken ahead failed cut (Read line) ds p end drained tells first failing working = (taken, drained tt, (tells, failing tt))
+fault_ends start now taken ahead failed cut (Memory line) ds p end drained tells first failing working = (taken ++ ahead, p, (first, working (λ h. h)))
+fault_ends start now taken ahead failed cut (Text line fault) ds p end drained tells first failing working = by (truncated_or_not fault)
+  where
+    by : (fault ≡ Truncated) ⊎ (fault ≢ Truncated) → FaultEnds start now failed cut (Text line fault) ds
+    by (inl is) = (taken, (end is).0, (tells, λ h. (end h).1, working (λ h. h)))
+    by (inr other) = (taken ++ ahead, p, (stays taken ahead ds line fault other tells, λ h. absurd (other h), working (λ h. h)))
+
+-- the first datagrams, and then the fault
+pub shown_fault : (start mid now before c1 c2 : Option (List ℕ)) (old new : ReaderState) (w1 : List ℕ) (number : ℕ) (failed cut : Bool) (result : Status) (fault : CaptureFault)
+    → Showing start mid old before c1 w1 number → old.standing ≡ Open → Nexts old new mid now (Err fault) → new.standing ≡ Failed fault
+    → (IsAtTextEnd fault → IsAtEnd (prepend_known new.lines.ahead now)) → (IsReadFault fault → new.lines.ahead ≡ [])
+    → (IsReadFault fault → failed ≡ true) → ((IsReadFault fault → ⊥) → failed ≡ false)
+    → IsWritten c1 c2 cut (record { bytes = w1 ++ last_line (Faulty fault); status = status_of (Faulty fault) }) result → Said start now failed before c2 cut result
+shown_fault start mid now before c1 c2 old new w1 number failed cut result fault s going next stopped end drained failing working written =
+    let n = next s.read s.datagrams (opened old s.read s.datagrams going s.stands) in
+    let tells : FaultTells fault (s.read ++ n.taken) s.datagrams = rw stopped at n.stands in
+    let p = Consumes-trans _ _ _ _ _ s.consumed n.consumed in
+    let first : AreFirst ((s.read ++ n.taken) ++ new.lines.ahead) s.datagrams = rw append_assoc (begins old.header s.stands.lines s.read (n.taken ++ new.lines.ahead) s.datagrams s.stands.stands) in
+    let ended =
+    fault_ends start now (s.read ++ n.taken) new.lines.ahead failed cut fault s.datagrams (consumed_ahead start now new.lines.ahead (s.read ++ n.taken) p)
+    (λ h. consumed_end start now new.lines.ahead (s.read ++ n.taken) p (end h)) (λ h. consumed_none start now new.lines.ahead (s.read ++ n.taken) p (drained h)) tells first failing working in (
+      ended.0,
+      record { bytes = s.lines ++ last_line (Faulty fault); status = status_of (Faulty fault) },
+      ended.1,
+      record {
+        datagrams = s.datagrams;
+        ending = Faulty fault;
+        lines = s.lines;
+        are = s.are;
+        ends = ended.2;
+        is = refl;
+      },
+      written_after before c1 c2 cut [] w1 s.lines (last_line (Faulty fault)) (status_of (Faulty fault)) result s.gathered written,
+    )
+
+-- none of the datagrams, and then the fault
+pub shown_nothing : (start now before after : Option (List ℕ)) (failed cut : Bool) (result : Status) (fault : CaptureFault) → FailsToBegin start now fault → (IsAtTextEnd fault → IsAtEnd now)
+    → (IsReadFault fault → failed ≡ true) → ((IsReadFault fault → ⊥) → failed ≡ false)
+    → IsWritten before after cut (record { bytes = last_line (Faulty fault); status = status_of (Faulty fault) }) result → Said start now failed before after cut result
+shown_nothing start now before after failed cut result fault f end failing working written =
+    let drop_ahead = λ (none : f.ahead ≡ []). subst (Consumes start now) (ap (λ l. f.taken ++ l) none ∙ append-nil f.taken) f.consumed in
+    let ended = fault_ends start now f.taken f.ahead failed cut fault [] f.consumed (λ h. (drop_ahead (f.ended h), end h)) (λ h. drop_ahead (f.drained h)) f.tells (inl refl) failing working in (
+      ended.0,
+      record { bytes = last_line (Faulty fault); status = status_of (Faulty fault) },
+      ended.1,
+      record {
+        datagrams = [];
+        ending = Faulty fault;
+        lines = [];
+        are = refl;
+        ends = ended.2;
+        is = refl;
+      },
+      written,
+    )
+
+-- ---- a text that was given whole
+
+first_more : (text read rest : List ℕ) (ds : List Numbered) → text ≡ read ++ rest → AreFirst read ds → AreFirst text ds
+first_more text read rest ds e (inl none) = inl none
+first_more text read rest ds e (inr b) = inr (
+  b.0,
+  record {
+    read = b.1.read;
+    more = b.1.more ++ rest;
+    lines = b.1.lines;
+    are = e ∙ ap (λ l. l ++ rest) b.1.are ∙ append_assoc b.1.read b.1.more rest;
+    stands = b.1.stands;
+  },
+)
+
+all_read : (text read rest : List ℕ) → text ≡ read ++ rest → rest ≡ [] → read ≡ text
+all_read text read rest e none = sym (e ∙ ap (λ l. read ++ l) none ∙ append-nil read)
+
+ends_given : (ending : Ending) (text read rest : List ℕ) (failed cut : Bool) (ds : List Numbered) → text ≡ read ++ rest → failed ≡ false
+    → EndsBy ending (record { read = read; left = Some rest; failed = failed }) cut ds → EndsBy ending (given text) cut ds
+ends_given Whole text read rest failed cut ds e clean h = ((h.0.0, subst (λ l. IsCapture l h.0.0 ds) (all_read text read rest e h.1) h.0.1), refl, refl)
+ends_given (Faulty (Read line)) text read rest failed cut ds e clean h = absurd (true≢false (sym h.1 ∙ clean))
+ends_given (Faulty (Memory line)) text read rest failed cut ds e clean h = (first_more text read rest ds e h.0, refl)
+ends_given Cut text read rest failed cut ds e clean h = (first_more text read rest ds e h.0, refl, h.2)
+ends_given (Faulty (Text line fault)) text read rest failed cut ds e clean h = by (truncated_or_not fault)
+  where
+    by : (fault ≡ Truncated) ⊎ (fault ≢ Truncated) → EndsBy (Faulty (Text line fault)) (given text) cut ds
+    by (inl is) = (subst (λ l. HasFault l ds line fault) (all_read text read rest e (h.1 is)) h.0, λ _. refl, refl)
+    by (inr other) = (subst (λ l. HasFault l ds line fault) (sym e) (stays read rest ds line fault other h.0), λ _. refl, refl)
+
+-- of a text that was given whole the output is that of the text
+pub whole_text : (text : List ℕ) (start now before after : Option (List ℕ)) (failed cut : Bool) (result : Status) → start ≡ Some text → failed ≡ false → Said start now failed before after cut result
+    → (output : Output) × IsShown (given text) cut output × IsWritten before after cut output result
+whole_text text start now before after failed cut result tells clean said = by now (subst (λ s. Said s now failed before after cut result) tells said)
+  where
+    by : (now : Option (List ℕ)) → Said (Some text) now failed before after cut result → (output : Output) × IsShown (given text) cut output × IsWritten before after cut output result
+    by None s = absurd s.2
+    by (Some rest) s = (
+      s.1,
+      record {
+        datagrams = s.3.datagrams;
+        ending = s.3.ending;
+        lines = s.3.lines;
+        are = s.3.are;
+        ends = ends_given s.3.ending text s.0 rest failed cut s.3.datagrams s.2 clean s.3.ends;
+        is = s.3.is;
+      },
+      s.4,
+    )
+
+-- it is the other one
+pub other_side : {P Q : Type 0} → (P → ⊥) → P ⊎ Q → Q
+other_side wrong (inl p) = absurd (wrong p)
+other_side wrong (inr q) = q

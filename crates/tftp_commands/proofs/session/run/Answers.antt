@@ -1,0 +1,56 @@
+use Rattle.std.proofs.Common.{[], Err, refl, ap, ◌∙◌}
+use Rattle.std.proofs.lemmas.List.{length-map}
+use Rattle.std.proofs.KnownBytes.{Consumes-nil}
+use Rattle.tftp_commands.specs.declared.words.Action.TheVariants.{Check, Show}
+use Rattle.tftp_commands.proofs.Commands.{check_output, memory_output, no_command, show_output, usage_output}
+use Rattle.tftp_commands.proofs.session.run.Goals as goal
+
+pub returns-in-Ok-Check-clause-said : goal.returns-in-Ok-Check-clause-said
+returns-in-Ok-Check-clause-said g c =
+    let is = rw c.in-Ok-Check.field-0-is at c.in-Ok-Check.ensures.ok in
+    let said = c.check.ensures.said in
+    (said.0, said.1, said.2, check_output _ _ _ said.1 is said.3, said.4)
+
+pub returns-in-Ok-Check-clause-whole : goal.returns-in-Ok-Check-clause-whole
+returns-in-Ok-Check-clause-whole g c = λ text tells clean.
+    let is = rw c.in-Ok-Check.field-0-is at c.in-Ok-Check.ensures.ok in
+    let said = c.check.ensures.whole text tells clean in
+    (said.0, check_output _ _ _ said.0 is said.1, said.2)
+
+pub returns-in-Ok-Check-clause-untouched : goal.returns-in-Ok-Check-clause-untouched
+returns-in-Ok-Check-clause-untouched g c = λ none. absurd (none Check (rw c.in-Ok-Check.field-0-is at c.in-Ok-Check.ensures.ok))
+
+pub returns-in-Ok-Show-clause-said : goal.returns-in-Ok-Show-clause-said
+returns-in-Ok-Show-clause-said g c =
+    let is = rw c.in-Ok-Show.field-0-is at c.in-Ok-Show.ensures.ok in
+    let said = c.show.ensures.said in
+    (said.0, said.1, said.2, show_output _ _ _ said.1 is said.3, said.4)
+
+pub returns-in-Ok-Show-clause-whole : goal.returns-in-Ok-Show-clause-whole
+returns-in-Ok-Show-clause-whole g c = λ text tells clean.
+    let is = rw c.in-Ok-Show.field-0-is at c.in-Ok-Show.ensures.ok in
+    let said = c.show.ensures.whole text tells clean in
+    (said.0, show_output _ _ _ said.0 is said.1, said.2)
+
+pub returns-in-Ok-Show-clause-untouched : goal.returns-in-Ok-Show-clause-untouched
+returns-in-Ok-Show-clause-untouched g c = λ none. absurd (none Show (rw c.in-Ok-Show.field-0-is at c.in-Ok-Show.ensures.ok))
+
+pub returns-in-Err-Usage-clause-said : goal.returns-in-Err-Usage-clause-said
+returns-in-Err-Usage-clause-said g c =
+    let none = no_command _ c.action_of.result (c.in-Err-Usage.is ∙ ap Err c.in-Err-Usage.field-0-is) c.action_of.ensures.only in
+    ([], _, Consumes-nil _, usage_output _ _ _ none, c.say.ensures)
+
+pub returns-in-Err-Usage-clause-whole : goal.returns-in-Err-Usage-clause-whole
+returns-in-Err-Usage-clause-whole g c = λ text tells clean.
+    let none = no_command _ c.action_of.result (c.in-Err-Usage.is ∙ ap Err c.in-Err-Usage.field-0-is) c.action_of.ensures.only in
+    (_, usage_output _ _ _ none, c.say.ensures)
+
+pub returns-in-Err-Memory-clause-said : goal.returns-in-Err-Memory-clause-said
+returns-in-Err-Memory-clause-said g c =
+    let two = c.action_of.ensures.two (c.in-Err-Memory.is ∙ ap Err c.in-Err-Memory.field-0-is) in
+    ([], _, Consumes-nil _, memory_output _ _ _ (length-map c.args.words.now g.S.AsStr.text ∙ two) c.requires.reading, c.say-in-Err-Memory.ensures)
+
+pub returns-in-Err-Memory-clause-whole : goal.returns-in-Err-Memory-clause-whole
+returns-in-Err-Memory-clause-whole g c = λ text tells clean.
+    let two = c.action_of.ensures.two (c.in-Err-Memory.is ∙ ap Err c.in-Err-Memory.field-0-is) in
+    (_, memory_output _ _ _ (length-map c.args.words.now g.S.AsStr.text ∙ two) refl, c.say-in-Err-Memory.ensures)

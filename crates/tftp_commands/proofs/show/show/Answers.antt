@@ -1,0 +1,57 @@
+use Rattle.std.proofs.Common.{refl, sym, ◌∙◌, arith}
+use Rattle.tftp_capture.proofs.Gathering.{from_ok}
+use Rattle.tftp_commands.proofs.Written.{from_err}
+use Rattle.tftp_commands.proofs.Showing.{cut_here, one_more, other_side, shown_fault, shown_nothing, shown_whole, whole_text}
+use Rattle.tftp_commands.proofs.show.show.Goals as goal
+
+pub returns-in-Err-clause-said : goal.returns-in-Err-clause-said
+returns-in-Err-clause-said g c = shown_nothing _ _ _ _ _ _ _ c.in-Err.fault c.in-Err.ensures.err c.in-Err.ensures.end c.in-Err.ensures.read c.in-Err.ensures.tally (rw c.new-gathered.ensures at c.finish.ensures)
+
+pub returns-in-Err-clause-whole : goal.returns-in-Err-clause-whole
+returns-in-Err-clause-whole g c = λ text tells clean. whole_text text _ _ _ _ _ _ _ tells clean (returns-in-Err-clause-said g c)
+
+pub returns-in-Ok-None-clause-said : goal.returns-in-Ok-None-clause-said
+returns-in-Ok-None-clause-said g c =
+    let inv = c.loop-datagram.invariant in
+    let answered = rw c.in-Ok-None.field-0-is at c.in-Ok-None.ensures in
+    shown_whole _ _ _ _ _ _ c.loop-datagram.capture c.next.new.self c.loop-datagram.gathered c.loop-datagram.number _ _ _ inv.shown inv.going answered.continues answered.standing
+    (answered.end inv.going refl) (other_side (λ h. h) answered.tally ∙ inv.reading) c.finish-in-Ok-None.ensures
+
+pub returns-in-Ok-None-clause-whole : goal.returns-in-Ok-None-clause-whole
+returns-in-Ok-None-clause-whole g c = λ text tells clean. whole_text text _ _ _ _ _ _ _ tells clean (returns-in-Ok-None-clause-said g c)
+
+pub returns-in-Err-next-clause-said : goal.returns-in-Err-next-clause-said
+returns-in-Err-next-clause-said g c =
+    let inv = c.loop-datagram.invariant in
+    let answered = c.in-Err-next.ensures in
+    shown_fault _ _ _ _ _ _ c.loop-datagram.capture c.next.new.self c.loop-datagram.gathered c.loop-datagram.number _ _ _ c.in-Err-next.fault inv.shown inv.going answered.continues answered.standing
+    (answered.cut inv.going) (answered.drained inv.going) answered.read (λ other. other_side other answered.tally ∙ inv.reading) c.finish-in-Err-next.ensures
+
+pub returns-in-Err-next-clause-whole : goal.returns-in-Err-next-clause-whole
+returns-in-Err-next-clause-whole g c = λ text tells clean. whole_text text _ _ _ _ _ _ _ tells clean (returns-in-Err-next-clause-said g c)
+
+pub returns-then-is_err-clause-said : goal.returns-then-is_err-clause-said
+returns-then-is_err-clause-said g c =
+    let inv = c.loop-datagram.invariant in
+    let answered = rw c.in-Ok-Some.field-0-is at c.in-Ok-Some.ensures in
+    let failed = sym c.is_err.ensures.value ∙ c.if-is_err.true in
+    let told = from_err _ c.put_datagram.result failed c.put_datagram.ensures.err in
+    cut_here _ _ _ _ _ _ c.loop-datagram.capture c.next.new.self c.loop-datagram.gathered c.loop-datagram.number c.in-Ok-Some.datagram told.0 _ _ inv.shown inv.going answered.continues answered.standing
+    (other_side (λ h. h) answered.tally ∙ inv.reading) (from_err _ c.put_datagram.result failed c.put_datagram.ensures.failed) told.1 told.2
+
+pub returns-then-is_err-clause-whole : goal.returns-then-is_err-clause-whole
+returns-then-is_err-clause-whole g c = λ text tells clean. whole_text text _ _ _ _ _ _ _ tells clean (returns-then-is_err-clause-said g c)
+
+pub loop-datagram-preserved : goal.loop-datagram-preserved
+loop-datagram-preserved g c =
+    let inv = c.loop-datagram.invariant in
+    let answered = rw c.in-Ok-Some.field-0-is at c.in-Ok-Some.ensures in
+    let passed = sym c.is_err.ensures.value ∙ c.if-is_err.false in
+    let told = from_ok _ c.put_datagram.result passed c.put_datagram.ensures.ok in
+    record {
+      going = answered.standing;
+      reading = other_side (λ h. h) answered.tally ∙ inv.reading;
+      writing = from_ok _ c.put_datagram.result passed c.put_datagram.ensures.clean;
+      few = omega (arith, inv.few, answered.rises);
+      shown = one_more _ _ _ _ _ _ c.loop-datagram.capture c.next.new.self c.loop-datagram.gathered c.put_datagram.new.gathered c.loop-datagram.number c.in-Ok-Some.datagram told.0 inv.shown inv.going answered.continues answered.standing told.1 told.2;
+    }

@@ -1,0 +1,87 @@
+-- What `show` prints of a capture text: a line for each datagram, and the text's fault, if it has one.
+use Rattle.std.specs.Prelude.{◌≡◌, ◌⊎◌, ℕ, ◌+◌, List, [], ◌∷◌, ◌++◌, length, Bool, true, false, Option, Some, None, codes, decimal}
+use Rattle.std.specs.Io.KnownBytes.{IsAtEnd}
+use Rattle.tftp_packet.specs.Message.{Message, Request, Data, Ack, Error, Oack}
+use Rattle.tftp_packet.specs.Spelling.{Spells}
+use Rattle.tftp_packet.specs.Faults.{FirstFault}
+use Rattle.tftp_packet.specs.declared.fault.PacketFault.{PacketFault}
+use Rattle.tftp_capture.specs.CaptureText.{Header, Datagram, Numbered, Due, dir_word, IsCapture, HasFault, Unfinished, Begins}
+use Rattle.tftp_capture.specs.History.{IsAtTextEnd}
+use Rattle.tftp_capture.specs.declared.fault.CaptureFault.{CaptureFault}
+use Rattle.tftp_capture.specs.declared.fault.CaptureFault.TheVariants.{Text, Read, Memory}
+use Rattle.tftp_commands.specs.declared.status.Status.{Status}
+use Rattle.tftp_commands.specs.declared.status.Status.TheVariants as status
+use Rattle.tftp_commands.specs.Names.{request_name, packet_fault_name}
+use Rattle.tftp_commands.specs.Output.{Output, fault_line}
+use Rattle.tftp_commands.specs.Source.{Source}
+
+-- ---- the lines of datagrams
+
+-- the kind of a packet, and its numbers; the length of a block is that of its data
+abbrev pub message_text : Message → List ℕ
+message_text (Request request) = request_name request.side
+message_text (Data block bytes) = codes "DATA " ++ decimal block ++ codes " " ++ decimal (length bytes)
+message_text (Ack block) = codes "ACK " ++ decimal block
+message_text (Error code message) = codes "ERROR " ++ decimal code
+message_text (Oack options) = codes "OACK"
+
+-- what is said of a payload: by the message that it spells, or by its first fault
+abbrev pub IsPayloadText : List ℕ → List ℕ → Type 0
+IsPayloadText payload text =
+    ((message : Message) × Spells payload message × (text ≡ message_text message))
+    ⊎ ((fault : PacketFault) × FirstFault payload fault × (text ≡ codes "malformed " ++ packet_fault_name fault))
+
+-- the line of the datagram with this number
+abbrev pub IsDatagramLine : ℕ → Datagram → List ℕ → Type 0
+IsDatagramLine number d line =
+    (text : List ℕ) × IsPayloadText d.payload text × (line ≡ decimal number ++ codes " " ++ dir_word d.dir ++ codes " " ++ text ++ codes "\n")
+
+-- the lines of datagrams, the first of which has this number
+abbrev pub AreLines : ℕ → List Numbered → List ℕ → Type 0
+AreLines number [] bytes = bytes ≡ []
+AreLines number (d ∷ datagrams) bytes = (line more : List ℕ) × IsDatagramLine number d.1 line × AreLines (number + 1) datagrams more × (bytes ≡ line ++ more)
+
+-- ---- where the showing ends
+
+-- the datagrams are the first of the text, or none
+abbrev pub AreFirst : List ℕ → List Numbered → Type 0
+AreFirst text datagrams = (datagrams ≡ []) ⊎ ((header : Header) × Begins text header datagrams)
+
+-- at the text's end, at a fault, or where a write failed
+pub data Ending : Type 0 where
+  Whole : Ending
+  Faulty : (fault : CaptureFault) → Ending
+  Cut : Ending
+
+-- The datagrams are all that the source gave before this ending; `cut` says whether a write failed. A text's end, and
+-- the fault Truncated, come at the source's end; the fault Read where a read failed, and there alone.
+abbrev pub EndsBy : Ending → Source → Bool → List Numbered → Type 0
+EndsBy Whole source cut datagrams = ((header : Header) × IsCapture source.read header datagrams) × IsAtEnd source.left × (source.failed ≡ false)
+EndsBy (Faulty (Text line fault)) source cut datagrams = HasFault source.read datagrams line fault × (IsAtTextEnd (Text line fault) → IsAtEnd source.left) × (source.failed ≡ false)
+EndsBy (Faulty (Read line)) source cut datagrams = ((due : Due) × Unfinished source.read datagrams line due) × (source.failed ≡ true)
+EndsBy (Faulty (Memory line)) source cut datagrams = AreFirst source.read datagrams × (source.failed ≡ false)
+EndsBy Cut source cut datagrams = AreFirst source.read datagrams × (source.failed ≡ false) × (cut ≡ true)
+
+-- the ending of a text that was read to its end, or to this fault
+abbrev pub ending_of : Option CaptureFault → Ending
+ending_of None = Whole
+ending_of (Some fault) = Faulty fault
+
+abbrev pub last_line : Ending → List ℕ
+last_line Whole = []
+last_line (Faulty fault) = fault_line fault
+last_line Cut = []
+
+abbrev pub status_of : Ending → Status
+status_of Whole = status.Success
+status_of (Faulty fault) = status.Fault
+status_of Cut = status.Fault
+
+-- the output is the lines of the datagrams, numbered from 1, and the fault's
+pub record IsShown (source : Source) (cut : Bool) (output : Output) : Type 0 where
+  pub datagrams : List Numbered
+  pub ending : Ending
+  pub lines : List ℕ
+  pub are : AreLines 1 datagrams lines
+  pub ends : EndsBy ending source cut datagrams
+  pub is : output ≡ record { bytes = lines ++ last_line ending; status = status_of ending }

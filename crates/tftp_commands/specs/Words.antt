@@ -1,0 +1,21 @@
+-- The words of a command line.
+use Rattle.std.specs.Prelude.{◌≡◌, ℕ, List, [], ◌∷◌, codes}
+use Rattle.clap.specs.Simple.{App, new_app, with_subcommand}
+use Rattle.tftp_commands.specs.declared.words.Action.{Action}
+use Rattle.tftp_commands.specs.declared.words.Action.TheVariants.{Check, Show}
+
+-- the word that names a command
+abbrev pub name_of : Action → List ℕ
+name_of Check = codes "check"
+name_of Show = codes "show"
+
+-- the words are the program's name, whatever it is, and that of the command
+abbrev pub IsCommand : Action → List (List ℕ) → Type 0
+IsCommand action words = (program : List ℕ) × (words ≡ program ∷ name_of action ∷ [])
+
+abbrev pub IsNoCommand : List (List ℕ) → Type 0
+IsNoCommand words = (action : Action) → IsCommand action words → ⊥
+
+-- what the command line may be
+abbrev pub audit_app : App
+audit_app = with_subcommand (with_subcommand (new_app (codes "tftp-audit")) (new_app (codes "check")).top) (new_app (codes "show")).top

@@ -1,0 +1,57 @@
+ghost use Rattle.std.specs.Prelude.{◌≡◌, ℕ, List, Some, true, false, OnOk, OnErr};
+ghost use Rattle.std.specs.Io.KnownBytes.{Appends, Consumes};
+ghost use Rattle.tftp_capture.specs.Tally.{AppendsPrefix};
+ghost use Rattle.tftp_commands.specs.Checked.{IsChecked, checked};
+ghost use Rattle.tftp_commands.specs.Output.{IsWritten, Output};
+ghost use Rattle.tftp_commands.specs.Source.{Source, given};
+
+use crate::faults::put_fault;
+use crate::output::write_out;
+use crate::status::Status;
+use crate::verdicts::{put_verdict, status_of};
+use std::alloc::Global;
+use std::io::{Read, Write};
+use tftp_capture::{CaptureFault, Gathered, Tallied};
+use tftp_judge::{Verdict, judge_text};
+
+/// Judges a capture text, and says the verdict, or why there is none, in one line.
+pub fn check<R: Read, W: Write>(
+    alloc: Global,
+    reader: &mut Tallied<R>,
+    writer: &mut Tallied<W>,
+) -> Status
+    requires reading { reader.old.1 ≡ false }
+    requires writing { writer.old.1 ≡ false }
+    ensures said { (read : List ℕ) × (output : Output) × Consumes (R.remaining reader.old.0) (R.remaining reader.new.0) read
+        × IsChecked (record { read = read; left = R.remaining reader.new.0; failed = reader.new.1 }) output
+        × IsWritten (W.contents writer.old.0) (W.contents writer.new.0) writer.new.1 output result }
+    ensures whole { (text : List ℕ) → R.remaining reader.old.0 ≡ Some text → reader.new.1 ≡ false
+        → (output : Output) × IsChecked (given text) output × IsWritten (W.contents writer.old.0) (W.contents writer.new.0) writer.new.1 output result }
+{
+    match judge_text(alloc, reader) {
+        Ok(verdict) => say_verdict(writer, &verdict),
+        Err(fault) => say_fault(writer, fault),
+    }
+}
+
+fn say_verdict<W: Write>(writer: &mut Tallied<W>, verdict: &Verdict) -> Status
+    requires { writer.old.1 ≡ false }
+    ensures { IsWritten (W.contents writer.old.0) (W.contents writer.new.0) writer.new.1 (checked (Ok verdict.now)) result }
+{
+    let mut gathered = Gathered::new();
+    match put_verdict(&mut gathered, writer, verdict) {
+        Ok(()) => write_out(gathered, writer, status_of(verdict)),
+        Err(_) => Status::Fault,
+    }
+}
+
+fn say_fault<W: Write>(writer: &mut Tallied<W>, fault: CaptureFault) -> Status
+    requires { writer.old.1 ≡ false }
+    ensures { IsWritten (W.contents writer.old.0) (W.contents writer.new.0) writer.new.1 (checked (Err fault)) result }
+{
+    let mut gathered = Gathered::new();
+    match put_fault(&mut gathered, writer, fault) {
+        Ok(()) => write_out(gathered, writer, Status::Fault),
+        Err(_) => Status::Fault,
+    }
+}

@@ -1,0 +1,40 @@
+ghost use Rattle.std.specs.Prelude.{◌≡◌, ◌++◌, true, false, OnOk, OnErr};
+ghost use Rattle.tftp_capture.specs.Tally.{AppendsPrefix, Gathers};
+ghost use Rattle.tftp_commands.specs.Output.{fault_line};
+
+use crate::names::text_fault_name;
+use itoa::Buffer;
+use std::io::Write;
+use tftp_capture::{CaptureFault, Gathered, Tallied, WriteFault};
+
+/// Adds the line of a fault.
+pub fn put_fault<W: Write>(
+    gathered: &mut Gathered,
+    writer: &mut Tallied<W>,
+    fault: CaptureFault,
+) -> Result<(), WriteFault>
+    requires clean { writer.old.1 ≡ false }
+    ensures ok { OnOk result (Gathers (W.contents writer.old.0) (W.contents writer.new.0) gathered.old gathered.new (fault_line fault)) }
+    ensures clean { OnOk result (writer.new.1 ≡ false) }
+    ensures err { OnErr result (AppendsPrefix (W.contents writer.old.0) (W.contents writer.new.0) (gathered.old ++ fault_line fault)) }
+    ensures failed { OnErr result (writer.new.1 ≡ true) }
+{
+    let mut buffer = Buffer::new();
+    match fault {
+        CaptureFault::Text(line, fault) => gathered.add_all(
+            writer,
+            &[
+                b"fault line ",
+                buffer.format(line).as_bytes(),
+                b" ",
+                text_fault_name(fault),
+                b"\n",
+            ],
+        ),
+        CaptureFault::Read(line) => gathered.add_all(
+            writer,
+            &[b"fault line ", buffer.format(line).as_bytes(), b" Read\n"],
+        ),
+        CaptureFault::Memory(_) => gathered.add(writer, b"fault memory\n"),
+    }
+}

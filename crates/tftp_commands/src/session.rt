@@ -1,0 +1,49 @@
+ghost use Rattle.std.specs.Prelude.{◌≡◌, ℕ, List, Some, false, map};
+ghost use Rattle.std.specs.Io.KnownBytes.{Consumes};
+ghost use Rattle.tftp_commands.specs.Output.{IsWritten, Output};
+ghost use Rattle.tftp_commands.specs.Run.{IsOutput};
+ghost use Rattle.tftp_commands.specs.Source.{Source, given};
+ghost use Rattle.tftp_commands.specs.Words.{IsNoCommand};
+
+use crate::check::check;
+use crate::output::say;
+use crate::show::show;
+use crate::status::Status;
+use crate::words::{Action, UsageFault, action_of};
+use std::alloc::Global;
+use std::convert::AsStr;
+use std::io::{Read, Write};
+use tftp_capture::Tallied;
+
+/// Runs the command that the words name, the first of which is the program's name: reads a capture text, and writes
+/// lines. After a write that fails nothing more is written.
+pub fn run<S: AsStr, R: Read, W: Write>(
+    alloc: Global,
+    words: &[S],
+    reader: &mut Tallied<R>,
+    writer: &mut Tallied<W>,
+) -> Status
+    requires reading { reader.old.1 ≡ false }
+    requires writing { writer.old.1 ≡ false }
+
+    // Whatever the reader, the writer and the memory do: bytes were read, and the output is one that there is of the
+    // words and of these. It was written, and its status is the run's; or, where a write failed, a part of it was.
+    ensures said { (read : List ℕ) × (output : Output) × Consumes (R.remaining reader.old.0) (R.remaining reader.new.0) read
+        × IsOutput (map S.text words.now) (record { read = read; left = R.remaining reader.new.0; failed = reader.new.1 }) writer.new.1 output
+        × IsWritten (W.contents writer.old.0) (W.contents writer.new.0) writer.new.1 output result }
+
+    // Where no read fails, it is the output on exactly the text that the reader had.
+    ensures whole { (text : List ℕ) → R.remaining reader.old.0 ≡ Some text → reader.new.1 ≡ false
+        → (output : Output) × IsOutput (map S.text words.now) (given text) writer.new.1 output
+        × IsWritten (W.contents writer.old.0) (W.contents writer.new.0) writer.new.1 output result }
+
+    // Where the words are no command, nothing is read.
+    ensures untouched { IsNoCommand (map S.text words.now) → reader.new ≡ reader.old }
+{
+    match action_of(alloc, words) {
+        Ok(Action::Check) => check(alloc, reader, writer),
+        Ok(Action::Show) => show(alloc, reader, writer),
+        Err(UsageFault::Usage) => say(writer, b"fault usage\n"),
+        Err(UsageFault::Memory) => say(writer, b"fault memory\n"),
+    }
+}

@@ -1,0 +1,129 @@
+ghost use Rattle.std.specs.Prelude.{◌≡◌, ◌++◌, true, false, OnOk, OnErr};
+ghost use Rattle.tftp_capture.specs.Tally.{AppendsPrefix, Gathers};
+ghost use Rattle.tftp_judge.specs.declared.verdict.Verdict.{Verdict};
+ghost use Rattle.tftp_commands.specs.Checked.{accepted_line, detail, verdict_line, verdict_status};
+
+use crate::names::{mode_name, packet_fault_name, side_name};
+use crate::status::Status;
+use itoa::Buffer;
+use std::io::Write;
+use tftp_capture::{Gathered, Tallied, WriteFault};
+use tftp_judge::{Meaning, Rule, Verdict};
+
+/// The status that goes with a verdict.
+pub fn status_of(verdict: &Verdict) -> Status
+    ensures { result ≡ verdict_status verdict.now }
+{
+    match verdict {
+        Verdict::Accepted(_) => Status::Success,
+        Verdict::Unlawful(..) | Verdict::Incomplete(_) | Verdict::NormalTooLong => Status::Refused,
+    }
+}
+
+/// Adds the line of a verdict.
+pub fn put_verdict<W: Write>(
+    gathered: &mut Gathered,
+    writer: &mut Tallied<W>,
+    verdict: &Verdict,
+) -> Result<(), WriteFault>
+    requires clean { writer.old.1 ≡ false }
+    ensures ok { OnOk result (Gathers (W.contents writer.old.0) (W.contents writer.new.0) gathered.old gathered.new (verdict_line verdict.now)) }
+    ensures clean { OnOk result (writer.new.1 ≡ false) }
+    ensures err { OnErr result (AppendsPrefix (W.contents writer.old.0) (W.contents writer.new.0) (gathered.old ++ verdict_line verdict.now)) }
+    ensures failed { OnErr result (writer.new.1 ≡ true) }
+{
+    match verdict {
+        Verdict::Accepted(meaning) => put_accepted(gathered, writer, meaning),
+        Verdict::Unlawful(index, rule) => put_unlawful(gathered, writer, *index, *rule),
+        Verdict::Incomplete(count) => put_incomplete(gathered, writer, *count),
+        Verdict::NormalTooLong => gathered.add(writer, b"too long when normal\n"),
+    }
+}
+
+fn put_accepted<W: Write>(
+    gathered: &mut Gathered,
+    writer: &mut Tallied<W>,
+    meaning: &Meaning,
+) -> Result<(), WriteFault>
+    requires clean { writer.old.1 ≡ false }
+    ensures ok { OnOk result (Gathers (W.contents writer.old.0) (W.contents writer.new.0) gathered.old gathered.new (accepted_line meaning.now)) }
+    ensures clean { OnOk result (writer.new.1 ≡ false) }
+    ensures err { OnErr result (AppendsPrefix (W.contents writer.old.0) (W.contents writer.new.0) (gathered.old ++ accepted_line meaning.now)) }
+    ensures failed { OnErr result (writer.new.1 ≡ true) }
+{
+    let mut blocks_buffer = Buffer::new();
+    let mut bytes_buffer = Buffer::new();
+    gathered.add_all(
+        writer,
+        &[
+            b"accepted ",
+            side_name(meaning.request().side()),
+            b" ",
+            mode_name(meaning.request().mode()),
+            b" blocks ",
+            blocks_buffer.format(meaning.blocks()).as_bytes(),
+            b" bytes ",
+            bytes_buffer.format(meaning.file().len()).as_bytes(),
+            b"\n",
+        ],
+    )
+}
+
+fn put_unlawful<W: Write>(
+    gathered: &mut Gathered,
+    writer: &mut Tallied<W>,
+    index: u64,
+    rule: Rule,
+) -> Result<(), WriteFault>
+    requires clean { writer.old.1 ≡ false }
+    ensures ok { OnOk result (Gathers (W.contents writer.old.0) (W.contents writer.new.0) gathered.old gathered.new (verdict_line (Verdict.Unlawful index rule))) }
+    ensures clean { OnOk result (writer.new.1 ≡ false) }
+    ensures err { OnErr result (AppendsPrefix (W.contents writer.old.0) (W.contents writer.new.0) (gathered.old ++ verdict_line (Verdict.Unlawful index rule))) }
+    ensures failed { OnErr result (writer.new.1 ≡ true) }
+{
+    let mut index_buffer = Buffer::new();
+    let mut number_buffer = Buffer::new();
+    let (space, fault) = detail_of(rule);
+    gathered.add_all(
+        writer,
+        &[
+            b"refused datagram ",
+            index_buffer.format(index).as_bytes(),
+            b" rule ",
+            number_buffer.format(rule.number()).as_bytes(),
+            b" ",
+            rule.name().as_bytes(),
+            space,
+            fault,
+            b"\n",
+        ],
+    )
+}
+
+/// What stands behind the rule's name: a space, and what is wrong with the payload, where that is the rule.
+fn detail_of(rule: Rule) -> (&'static [u8], &'static [u8])
+    ensures { result.0.now ++ result.1.now ≡ detail rule }
+{
+    match rule {
+        Rule::Malformed(fault) => (b" ", packet_fault_name(fault)),
+        _ => (b"", b""),
+    }
+}
+
+fn put_incomplete<W: Write>(
+    gathered: &mut Gathered,
+    writer: &mut Tallied<W>,
+    count: u64,
+) -> Result<(), WriteFault>
+    requires clean { writer.old.1 ≡ false }
+    ensures ok { OnOk result (Gathers (W.contents writer.old.0) (W.contents writer.new.0) gathered.old gathered.new (verdict_line (Verdict.Incomplete count))) }
+    ensures clean { OnOk result (writer.new.1 ≡ false) }
+    ensures err { OnErr result (AppendsPrefix (W.contents writer.old.0) (W.contents writer.new.0) (gathered.old ++ verdict_line (Verdict.Incomplete count))) }
+    ensures failed { OnErr result (writer.new.1 ≡ true) }
+{
+    let mut buffer = Buffer::new();
+    gathered.add_all(
+        writer,
+        &[b"incomplete after ", buffer.format(count).as_bytes(), b"\n"],
+    )
+}

@@ -1,5 +1,0 @@
-use Rattle.tftp_judge.proofs.Agreed.{no_agreement_fault}
-use Rattle.tftp_judge.proofs.laws.agreed_options_have_no_fault.Goals as goal
-
-pub returns : goal.returns
-returns c = no_agreement_fault

@@ -1,0 +1,12 @@
+pub mod Spelled
+pub mod Answering
+pub mod Agreed
+pub mod NothingAgreed
+pub mod Divided
+pub mod Beginnings
+pub mod FirstBroken
+pub mod FirstRequests
+pub mod Settled
+pub mod OneMeaning
+pub mod OneMessage
+pub mod Joined

@@ -1,0 +1,113 @@
+-- How the datagrams of a capture carry what an end sent and took (RFC 1350, sections 4 and 5).
+use Rattle.std.specs.Prelude.{◌≡◌, ◌≢◌, ℕ, ◌⊎◌, List, [], ◌∷◌, map, reverse, filter_map, Any, Option, Some, None}
+use Rattle.tftp_packet.specs.Message.{Message}
+use Rattle.tftp_packet.specs.declared.kinds.End.{End}
+use Rattle.tftp_packet.specs.declared.kinds.End.TheVariants.{Client, Server}
+use Rattle.tftp_packet.specs.declared.kinds.Dir.{Dir}
+use Rattle.tftp_packet.specs.declared.kinds.Dir.TheVariants.{In, Out}
+use Rattle.tftp_ends.specs.Meaning.{Meaning}
+use Rattle.tftp_ends.specs.Machines.{MachinePacket, Req, Deed, Sent, Took, History, message_of}
+use Rattle.tftp_ends.specs.CaptureText.{Datagram, Header, PeerId, peer_of}
+use Rattle.tftp_law.specs.Sides.{server_port, from_server, BeginsAsRequest}
+use Rattle.tftp_packet.specs.Spelling.{Spells}
+
+-- What a datagram is to the transfer: what its end sent or took, a stray from another port, or the answer to one.
+pub data Part : Type 0 where
+  Main : (deed : Deed) → Part
+  Stray : Part
+  StrayAnswer : Part
+
+pub record Placed : Type 0 where
+  pub datagram : Datagram
+  pub part : Part
+
+-- a capture's datagrams, each with its part, the newest first
+abbrev pub Division : Type 0
+Division = List Placed
+
+abbrev pub datagrams_of : Division → List Datagram
+datagrams_of division = map (λ p. p.datagram) division
+
+abbrev pub deed_in : Placed → Option Deed
+deed_in p = deed_as p.part where
+  deed_as : Part → Option Deed
+  deed_as (Main deed) = Some deed
+  deed_as Stray = None
+  deed_as StrayAnswer = None
+
+-- what the end did, by the main datagrams
+abbrev pub view_in : Division → History
+view_in division = filter_map deed_in division
+
+-- the transfer ids (RFC 1350, section 4): the port of the end where the capture was taken, and the other side
+pub record TransferIds : Type 0 where
+  pub own : ℕ
+  pub peer : PeerId
+
+-- the client's side of the datagram has the client's id
+abbrev pub HasClientId : End → TransferIds → Datagram → Type 0
+HasClientId Client ids d = d.local ≡ ids.own
+HasClientId Server ids d = peer_of d ≡ ids.peer
+
+-- the server's side has the id that the server chose
+abbrev pub HasServerId : End → TransferIds → Datagram → Type 0
+HasServerId Client ids d = peer_of d ≡ ids.peer
+HasServerId Server ids d = d.local ≡ ids.own
+
+abbrev pub dir_of : Deed → Dir
+dir_of (Sent packet) = Out
+dir_of (Took packet) = In
+
+abbrev pub packet_of : Deed → MachinePacket
+packet_of (Sent packet) = packet
+packet_of (Took packet) = packet
+
+abbrev pub IsMain : Part → Type 0
+IsMain part = (deed : Deed) × (part ≡ Main deed)
+
+-- A request goes to the service port. All else goes to or comes from where the server answers, and not before a
+-- datagram has come from there.
+abbrev pub GoesToServer : Header → TransferIds → Division → Datagram → MachinePacket → Type 0
+GoesToServer header ids earlier d Req = server_port header.named d ≡ header.service
+GoesToServer header ids earlier d _ =
+    HasServerId header.named ids d
+    × ((d.dir ≡ from_server header.named) ⊎ Any (λ p. p.datagram.dir ≡ from_server header.named) earlier)
+
+pub record CarriesDeed (header : Header) (m : Meaning) (wire : List ℕ) (ids : TransferIds) (earlier : Division) (d : Datagram) (deed : Deed) : Type 0 where
+  pub dir : d.dir ≡ dir_of deed
+  pub client : HasClientId header.named ids d
+  pub server : GoesToServer header ids earlier d (packet_of deed)
+  pub spells : Spells d.payload (message_of m wire (packet_of deed))
+
+-- Once the server has answered, a datagram that comes from elsewhere is no part of the transfer. Where the server goes
+-- on from the service port, a request from elsewhere is no stray: it would be another client's.
+pub record ComesAstray (header : Header) (ids : TransferIds) (earlier : Division) (d : Datagram) : Type 0 where
+  pub dir : d.dir ≡ In
+  pub here : d.local ≡ ids.own
+  pub elsewhere : peer_of d ≢ ids.peer
+  pub after : Any (λ p. IsMain p.part × (p.datagram.dir ≡ from_server header.named)) earlier
+  pub no_request : header.named ≡ Server → ids.own ≡ header.service → BeginsAsRequest d.payload → ⊥
+
+-- A stray may be answered by ERROR 5, "Unknown transfer ID", to where it came from.
+pub record AnswersStray (header : Header) (ids : TransferIds) (earlier : Division) (d : Datagram) : Type 0 where
+  pub dir : d.dir ≡ Out
+  pub here : d.local ≡ ids.own
+  pub there : Any (λ p. (p.part ≡ Stray) × (peer_of p.datagram ≡ peer_of d)) earlier
+  pub spells : (text : List ℕ) × Spells d.payload (Message.Error 5 text)
+
+abbrev pub HasPart : Header → Meaning → List ℕ → TransferIds → Division → Datagram → Part → Type 0
+HasPart header m wire ids earlier d (Main deed) = CarriesDeed header m wire ids earlier d deed
+HasPart header m wire ids earlier d Stray = ComesAstray header ids earlier d
+HasPart header m wire ids earlier d StrayAnswer = AnswersStray header ids earlier d
+
+abbrev pub HaveParts : Header → Meaning → List ℕ → TransferIds → Division → Type 0
+HaveParts header m wire ids [] = Unit {0}
+HaveParts header m wire ids (p ∷ earlier) = HasPart header m wire ids earlier p.datagram p.part × HaveParts header m wire ids earlier
+
+-- The datagrams, the oldest first, can be divided so that the main ones are the view.
+pub record IsDressed (header : Header) (m : Meaning) (wire : List ℕ) (view : History) (datagrams : List Datagram) : Type 0 where
+  pub ids : TransferIds
+  pub division : Division
+  pub whole : datagrams_of division ≡ reverse datagrams
+  pub main : view_in division ≡ view
+  pub parts : HaveParts header m wire ids division

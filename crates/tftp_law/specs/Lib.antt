@@ -1,0 +1,12 @@
+pub mod CaptureText
+pub mod Sides
+pub mod Fits
+pub mod Dress
+pub mod Law
+pub mod Rules
+pub mod RuleNames
+pub mod OneEnded
+pub mod PortRules
+pub mod MessageRules
+pub mod Settled
+pub mod Owned

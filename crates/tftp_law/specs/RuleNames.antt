@@ -1,0 +1,34 @@
+-- The names of the rules, as they are printed.
+use Rattle.std.specs.Prelude.{ℕ, List, codes}
+use Rattle.tftp_law.specs.declared.rule.Rule.{Rule}
+use Rattle.tftp_law.specs.declared.rule.Rule.TheVariants.{ForeignPort, WrongPort, StrayAnswer, NoRequest, Malformed, WrongKind, TransferAborted, RequestChanged, RequestAfterStart, ReplyChanged, OackEmpty, MulticastAgreed, OptionNotRequested, OptionOutsideProfile, OptionValue, OackChanged, OackAfterStart, NotStarted, BlockZero, BeyondBlock65535, BlockLength, WindowOverrun, BlockSkipped, GoneBack, BlockChanged, AckAhead, AckZero}
+
+-- a rule's own name; what is wrong with a payload is no part of it
+abbrev pub rule_name : Rule → List ℕ
+rule_name ForeignPort = codes "ForeignPort"
+rule_name WrongPort = codes "WrongPort"
+rule_name StrayAnswer = codes "StrayAnswer"
+rule_name NoRequest = codes "NoRequest"
+rule_name (Malformed fault) = codes "Malformed"
+rule_name WrongKind = codes "WrongKind"
+rule_name TransferAborted = codes "TransferAborted"
+rule_name RequestChanged = codes "RequestChanged"
+rule_name RequestAfterStart = codes "RequestAfterStart"
+rule_name ReplyChanged = codes "ReplyChanged"
+rule_name OackEmpty = codes "OackEmpty"
+rule_name MulticastAgreed = codes "MulticastAgreed"
+rule_name OptionNotRequested = codes "OptionNotRequested"
+rule_name OptionOutsideProfile = codes "OptionOutsideProfile"
+rule_name OptionValue = codes "OptionValue"
+rule_name OackChanged = codes "OackChanged"
+rule_name OackAfterStart = codes "OackAfterStart"
+rule_name NotStarted = codes "NotStarted"
+rule_name BlockZero = codes "BlockZero"
+rule_name BeyondBlock65535 = codes "BeyondBlock65535"
+rule_name BlockLength = codes "BlockLength"
+rule_name WindowOverrun = codes "WindowOverrun"
+rule_name BlockSkipped = codes "BlockSkipped"
+rule_name GoneBack = codes "GoneBack"
+rule_name BlockChanged = codes "BlockChanged"
+rule_name AckAhead = codes "AckAhead"
+rule_name AckZero = codes "AckZero"

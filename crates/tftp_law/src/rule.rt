@@ -1,0 +1,136 @@
+ghost use Rattle.std.specs.Prelude.{◌≡◌};
+ghost use Rattle.tftp_law.specs.RuleNames.{rule_name};
+ghost use Rattle.tftp_law.specs.Rules.{number_of};
+
+use tftp_packet::PacketFault;
+
+/// A rule that a datagram may break, in the order in which the rules are tried.
+#[derive(Clone, Copy, Debug, PartialEq, Eq)]
+pub enum Rule {
+    /// The port at the named end is not the transfer's (RFC 1350, section 4).
+    ForeignPort,
+    /// The port at the other side is none that the datagram may go to (RFC 1350, section 4).
+    WrongPort,
+    /// A stray is answered by something else than ERROR 5 (RFC 1350, section 4).
+    StrayAnswer,
+    /// The transfer does not begin with a request (RFC 1350, section 4).
+    NoRequest,
+    /// The payload spells no packet (RFC 1350, section 5; RFC 2347).
+    Malformed(PacketFault),
+    /// The sender has nothing of this kind to send (RFC 1350, sections 2 and 4).
+    WrongKind,
+    /// An ERROR ended the transfer (RFC 1350, section 7).
+    TransferAborted,
+    /// A request that is not the first one again (RFC 1350, section 4).
+    RequestChanged,
+    /// A request after a block or an ACK of the client (RFC 1350, section 4).
+    RequestAfterStart,
+    /// An OACK where the request was answered without one (RFC 2347).
+    ReplyChanged,
+    /// The first OACK has no option (RFC 2347).
+    OackEmpty,
+    /// The first OACK agrees to `multicast` (RFC 2090).
+    MulticastAgreed,
+    /// The first OACK has an option that was not requested (RFC 2347).
+    OptionNotRequested,
+    /// The first OACK has an option that is not supported (RFC 2347).
+    OptionOutsideProfile,
+    /// The first OACK has a value that may not answer the one requested (RFC 2348; RFC 2349; RFC 7440).
+    OptionValue,
+    /// An OACK that is not the first one again (RFC 2347).
+    OackChanged,
+    /// The server of a read sends an OACK after a block (RFC 2347).
+    OackAfterStart,
+    /// A block before the request is answered, or the answer is taken (RFC 1350, section 4; RFC 2347).
+    NotStarted,
+    /// Blocks are numbered from 1 (RFC 1350, section 5).
+    BlockZero,
+    /// A file of more than 65535 blocks (RFC 1350, section 5; RFC 2349).
+    BeyondBlock65535,
+    /// A length that the block can't have at its place (RFC 1350, section 2; RFC 2348; RFC 2349).
+    BlockLength,
+    /// A block more than a window ahead of what was acknowledged (RFC 7440, section 4).
+    WindowOverrun,
+    /// The sender left a block out (RFC 1350, section 2).
+    BlockSkipped,
+    /// In lock step the sender went back (RFC 1350, section 2).
+    GoneBack,
+    /// A block came again with other bytes (RFC 1350, section 2).
+    BlockChanged,
+    /// An ACK of what has not come, or was not sent (RFC 1350, section 2; RFC 7440, section 4).
+    AckAhead,
+    /// An ACK 0 that answers nothing (RFC 1350, section 4; RFC 2347).
+    AckZero,
+}
+
+impl Rule {
+    /// The rule's place in the order in which the rules are tried, from 1.
+    pub fn number(self) -> u8
+        ensures { result ≡ number_of self }
+    {
+        match self {
+            Rule::ForeignPort => 1,
+            Rule::WrongPort => 2,
+            Rule::StrayAnswer => 3,
+            Rule::NoRequest => 4,
+            Rule::Malformed(_) => 5,
+            Rule::WrongKind => 6,
+            Rule::TransferAborted => 7,
+            Rule::RequestChanged => 8,
+            Rule::RequestAfterStart => 9,
+            Rule::ReplyChanged => 10,
+            Rule::OackEmpty => 11,
+            Rule::MulticastAgreed => 12,
+            Rule::OptionNotRequested => 13,
+            Rule::OptionOutsideProfile => 14,
+            Rule::OptionValue => 15,
+            Rule::OackChanged => 16,
+            Rule::OackAfterStart => 17,
+            Rule::NotStarted => 18,
+            Rule::BlockZero => 19,
+            Rule::BeyondBlock65535 => 20,
+            Rule::BlockLength => 21,
+            Rule::WindowOverrun => 22,
+            Rule::BlockSkipped => 23,
+            Rule::GoneBack => 24,
+            Rule::BlockChanged => 25,
+            Rule::AckAhead => 26,
+            Rule::AckZero => 27,
+        }
+    }
+
+    /// The rule's name as it is printed, without what is wrong with a payload.
+    pub fn name(self) -> &'static str
+        ensures { result.now ≡ rule_name self }
+    {
+        match self {
+            Rule::ForeignPort => "ForeignPort",
+            Rule::WrongPort => "WrongPort",
+            Rule::StrayAnswer => "StrayAnswer",
+            Rule::NoRequest => "NoRequest",
+            Rule::Malformed(_) => "Malformed",
+            Rule::WrongKind => "WrongKind",
+            Rule::TransferAborted => "TransferAborted",
+            Rule::RequestChanged => "RequestChanged",
+            Rule::RequestAfterStart => "RequestAfterStart",
+            Rule::ReplyChanged => "ReplyChanged",
+            Rule::OackEmpty => "OackEmpty",
+            Rule::MulticastAgreed => "MulticastAgreed",
+            Rule::OptionNotRequested => "OptionNotRequested",
+            Rule::OptionOutsideProfile => "OptionOutsideProfile",
+            Rule::OptionValue => "OptionValue",
+            Rule::OackChanged => "OackChanged",
+            Rule::OackAfterStart => "OackAfterStart",
+            Rule::NotStarted => "NotStarted",
+            Rule::BlockZero => "BlockZero",
+            Rule::BeyondBlock65535 => "BeyondBlock65535",
+            Rule::BlockLength => "BlockLength",
+            Rule::WindowOverrun => "WindowOverrun",
+            Rule::BlockSkipped => "BlockSkipped",
+            Rule::GoneBack => "GoneBack",
+            Rule::BlockChanged => "BlockChanged",
+            Rule::AckAhead => "AckAhead",
+            Rule::AckZero => "AckZero",
+        }
+    }
+}

@@ -1,0 +1,207 @@
+-- Lists of datagrams that break no rule, one datagram at a time or by computation.
+use Rattle.std.proofs.Common.{◌≡◌, ℕ, ◌<◌, ◌&&◌, Bool, true, false, List, [], ◌∷◌, ◌++◌, Option, Some, None, inr, sym, subst, ap, ◌∙◌}
+use Rattle.std.proofs.lemmas.Bool.{and_parts}
+use Rattle.tftp_packet.specs.OptionMap.{OptionMap}
+use Rattle.tftp_packet.specs.Message.{Message, RequestParts}
+use Rattle.tftp_packet.specs.Spelling.{Spells}
+use Rattle.tftp_packet.specs.declared.kinds.Side.{Side}
+use Rattle.tftp_ends.specs.CaptureText.{Header}
+use Rattle.tftp_ends.specs.Ports.{or_this, asks, route_of, is_of_transfer, transfer_of}
+use Rattle.tftp_ends.specs.Rules.{EndBroken}
+use Rattle.tftp_ends.specs.declared.terms.Terms.{Terms}
+use Rattle.tftp_ends.specs.declared.rule.EndRule.{EndRule}
+use Rattle.tftp_nego.specs.Faults.{Holds}
+use Rattle.tftp_nego.specs.declared.fault.NegoFault.{NegoFault}
+use Rattle.tftp_law.specs.Rules.{number_of, Answer, Agrees, terms_after, AreTerms, FirstOack, EndBreaks, Broken}
+use Rattle.tftp_law.specs.declared.rule.Rule.{Rule}
+use Rattle.tftp_law.specs.OneEnded.{OneEnded, IsRefused}
+use Rattle.tftp_law.proofs.Spelled.{spelled_once}
+use Rattle.tftp_worked.proofs.Payloads.{Spelled, datagrams, AllSpelled}
+use Rattle.tftp_law.proofs.Answering.{answer_of}
+use Rattle.tftp_worked.proofs.Passing.{kept_if, main_of, first_asked, asked_by, asked_is, asked_back, first_answer, or_now, unanswered_is, answered_is, answered_there, terms_of, terms_from, terms_by, terms_are}
+use Rattle.tftp_worked.proofs.RuleTests.{not_oack}
+use Rattle.tftp_worked.proofs.Kept.{passes_by, keeps_below, passes_is, none_below, no_oack, OackKeeps, not_answered}
+
+-- what is known of the transfer, if it is these terms
+pub known_by : (h : Header) (es : List Spelled) (s : AllSpelled es) (t : Option Terms) → t ≡ terms_of h es → (u : Terms) → AreTerms h (datagrams es) u → t ≡ Some u
+known_by h es s t is u known = is ∙ terms_are h es u s known
+
+-- one more datagram that is no OACK
+pub one_more : (h : Header) (t : Option Terms) (es : List Spelled) (e : Spelled) → AllSpelled es → Spells e.0.payload e.1 → t ≡ terms_of h es → not_oack e.1 ≡ true
+    → passes_by h t es e ≡ true → OneEnded h (datagrams es) → OneEnded h (datagrams (e ∷ es))
+one_more h t es e s here is other test before =
+    let known = known_by h es s t is in
+    (passes_is h t es e s here known (no_oack h es e s here t known 28 other) test, before)
+
+-- the rules below n that a datagram breaks which is no OACK: none
+pub none_under : (n : ℕ) (h : Header) (t : Option Terms) (es : List Spelled) (e : Spelled) → AllSpelled es → Spells e.0.payload e.1 → t ≡ terms_of h es → not_oack e.1 ≡ true
+    → keeps_below n h t es e ≡ true → (rule : Rule) → number_of rule < n → Broken h (datagrams es) e.0 rule → ⊥
+none_under n h t es e s here is other test =
+    let known = known_by h es s t is in
+    none_below n h t es e s here known (no_oack h es e s here t known n other) test
+
+-- ---- the first OACK
+
+-- its faults below n
+pub record OackFine (asked : RequestParts) (oack : OptionMap) (n : ℕ) : Type 0 where
+  pub empty : 11 < n → Holds NegoFault.OackEmpty asked oack → ⊥
+  pub multicast : 12 < n → Holds NegoFault.MulticastAgreed asked oack → ⊥
+  pub not_requested : 13 < n → Holds NegoFault.OptionNotRequested asked oack → ⊥
+  pub outside : 14 < n → Holds NegoFault.OptionOutsideProfile asked oack → ⊥
+  pub bad_value : 15 < n → Holds NegoFault.OptionValue asked oack → ⊥
+  pub beyond : 20 < n → Holds NegoFault.BeyondBlock65535 asked oack → ⊥
+
+same_request : (a b : RequestParts) → Some (Message.Request a) ≡ Some (Message.Request b) → a ≡ b
+same_request a b e = cc
+
+same_oack : (a b : OptionMap) → Message.Oack a ≡ Message.Oack b → a ≡ b
+same_oack a b e = cc
+
+oack_fault : (h : Header) (es : List Spelled) (e : Spelled) (s : AllSpelled es) (here : Spells e.0.payload e.1) (asked : RequestParts) (oack : OptionMap)
+    → asked_by (first_asked h es) ≡ Some (Message.Request asked) → e.1 ≡ Message.Oack oack → (fault : NegoFault) → FirstOack h (datagrams es) e.0 fault → Holds fault asked oack
+oack_fault h es e s here asked oack is says fault first =
+    let request : first.asked ≡ asked = same_request first.asked asked (sym (asked_is h es first.asked s first.first) ∙ is) in
+    let options : first.oack ≡ oack = same_oack first.oack oack (sym (spelled_once e.0.payload e.1 (Message.Oack first.oack) here first.says.spells) ∙ says) in
+    subst (λ r. Holds fault r oack) request (subst (λ o. Holds fault first.asked o) options first.wrong)
+
+pub first_oack_keeps : (h : Header) (es : List Spelled) (e : Spelled) (s : AllSpelled es) (here : Spells e.0.payload e.1) (t : Option Terms)
+    (known : (u : Terms) → AreTerms h (datagrams es) u → t ≡ Some u) (n : ℕ) (asked : RequestParts) (oack : OptionMap)
+    → asked_by (first_asked h es) ≡ Some (Message.Request asked) → first_answer asked.side (main_of h es) ≡ None → e.1 ≡ Message.Oack oack → OackFine asked oack n
+    → OackKeeps h es e s here t known n
+first_oack_keeps h es e s here t known n asked oack is none says fine = record {
+  empty = λ low first. fine.empty low (oack_fault h es e s here asked oack is says NegoFault.OackEmpty first);
+  multicast = λ low first. fine.multicast low (oack_fault h es e s here asked oack is says NegoFault.MulticastAgreed first);
+  not_requested = λ low first. fine.not_requested low (oack_fault h es e s here asked oack is says NegoFault.OptionNotRequested first);
+  outside = λ low first. fine.outside low (oack_fault h es e s here asked oack is says NegoFault.OptionOutsideProfile first);
+  bad_value = λ low first. fine.bad_value low (oack_fault h es e s here asked oack is says NegoFault.OptionValue first);
+  changed = λ low. not_answered h es e s here asked is none;
+  beyond = λ low first. fine.beyond low (oack_fault h es e s here asked oack is says NegoFault.BeyondBlock65535 first);
+}
+
+-- the first OACK passes, where its options are fine
+pub first_oack : (h : Header) (t : Option Terms) (es : List Spelled) (e : Spelled) (asked : RequestParts) (oack : OptionMap) → AllSpelled es → Spells e.0.payload e.1 → t ≡ terms_of h es
+    → asked_by (first_asked h es) ≡ Some (Message.Request asked) → first_answer asked.side (main_of h es) ≡ None → e.1 ≡ Message.Oack oack → OackFine asked oack 28
+    → passes_by h t es e ≡ true → OneEnded h (datagrams es) → OneEnded h (datagrams (e ∷ es))
+first_oack h t es e asked oack s here is request none says fine test before =
+    let known = known_by h es s t is in
+    (passes_is h t es e s here known (first_oack_keeps h es e s here t known 28 asked oack request none says fine) test, before)
+
+-- ---- once the request is answered
+
+-- the first request and the first answer
+pub record IsFixed (h : Header) (es : List Spelled) (asked : RequestParts) (answer : Answer) : Type 0 where
+  pub request : asked_by (first_asked h es) ≡ Some (Message.Request asked)
+  pub answered : first_answer asked.side (main_of h es) ≡ Some answer
+
+or_this_stays : (o : Option Spelled) (b : Bool) (e : Spelled) (asked : RequestParts) → asked_by o ≡ Some (Message.Request asked) → asked_by (or_this o b e) ≡ Some (Message.Request asked)
+or_this_stays (Some x) b e asked is = is
+or_this_stays None b e asked is = absurd (cc)
+
+or_now_stays : (o now : Option Answer) (a : Answer) → o ≡ Some a → or_now o now ≡ Some a
+or_now_stays (Some x) now a is = is
+or_now_stays None now a is = absurd (cc)
+
+answer_stays : (b : Bool) (side : Side) (e : Spelled) (es : List Spelled) (a : Answer) → first_answer side es ≡ Some a → first_answer side (kept_if b e es) ≡ Some a
+answer_stays true side e es a is = or_now_stays (first_answer side es) (answer_of side e.1) a is
+answer_stays false side e es a is = is
+
+fixed_more : (h : Header) (es : List Spelled) (e : Spelled) (asked : RequestParts) (a : Answer) → IsFixed h es asked a → IsFixed h (e ∷ es) asked a
+fixed_more h es e asked a f = record {
+  request = or_this_stays (first_asked h es) (asks h e.0) e asked f.request;
+  answered = answer_stays (is_of_transfer (route_of h (datagrams es) e.0)) asked.side e (main_of h es) a f.answered;
+}
+
+pub fixed_all : (h : Header) (news es : List Spelled) (asked : RequestParts) (a : Answer) → IsFixed h es asked a → IsFixed h (news ++ es) asked a
+fixed_all h [] es asked a f = f
+fixed_all h (e ∷ news) es asked a f = fixed_more h (news ++ es) e asked a (fixed_all h news es asked a f)
+
+pub fixed_terms : (h : Header) (es : List Spelled) (asked : RequestParts) (a : Answer) (t : Terms) → IsFixed h es asked a → t ≡ terms_after h asked a → Some t ≡ terms_of h es
+fixed_terms h es asked a t f is = ap Some is ∙ sym (ap (λ o. Some (terms_by h asked o)) f.answered) ∙ sym (ap (terms_from h es) f.request)
+
+abbrev pub all_pass : Header → Option Terms → List Spelled → List Spelled → Bool
+all_pass h t [] es = true
+all_pass h t (e ∷ news) es = (not_oack e.1 && passes_by h t (news ++ es) e) && all_pass h t news es
+
+pub lawful_more : (h : Header) (t : Terms) (asked : RequestParts) (a : Answer) (news es : List Spelled) → AllSpelled (news ++ es) → IsFixed h es asked a → t ≡ terms_after h asked a
+    → all_pass h (Some t) news es ≡ true → OneEnded h (datagrams es) → OneEnded h (datagrams (news ++ es))
+lawful_more h t asked a [] es s f is test before = before
+lawful_more h t asked a (e ∷ news) es s f is test before =
+    let parts = and_parts (not_oack e.1 && passes_by h (Some t) (news ++ es) e) (all_pass h (Some t) news es) test in
+    let now = and_parts (not_oack e.1) (passes_by h (Some t) (news ++ es) e) parts.0 in
+    one_more h (Some t) (news ++ es) e s.1 s.0 (fixed_terms h (news ++ es) asked a t (fixed_all h news es asked a f) is) now.0 now.1
+    (lawful_more h t asked a news es s.1 f is parts.1 before)
+
+-- ---- refused
+
+-- what stands at the start of a capture whose request is answered
+pub record Base (h : Header) : Type 0 where
+  pub es : List Spelled
+  pub spelled : AllSpelled es
+  pub asked : RequestParts
+  pub answer : Answer
+  pub fixed : IsFixed h es asked answer
+  pub terms : Terms
+  pub is : terms ≡ terms_after h asked answer
+  pub lawful : OneEnded h (datagrams es)
+
+-- the rule is one of blocks and acknowledgements, and what breaks it is this message
+pub end_breaks : (h : Header) (b : Base h) (news : List Spelled) (e : Spelled) (rule : EndRule) → AllSpelled (news ++ b.es) → Spells e.0.payload e.1
+    → is_of_transfer (route_of h (datagrams (news ++ b.es)) e.0) ≡ true → EndBroken b.terms (transfer_of h (datagrams (news ++ b.es))) e.1 rule
+    → EndBreaks h (datagrams (news ++ b.es)) e.0 rule
+end_breaks h b news e rule s here main broken =
+    let f = fixed_all h news b.es b.asked b.answer b.fixed in
+    record {
+      terms = b.terms;
+      known = (b.asked, asked_back h (news ++ b.es) b.asked s f.request, inr (b.answer, answered_there h b.asked.side (news ++ b.es) b.answer s f.answered, b.is));
+      message = e.1;
+      says = record { routed = main; spells = here };
+      broken = broken;
+    }
+
+pub refused_after : (h : Header) (b : Base h) (news : List Spelled) (e : Spelled) (rule : Rule) → AllSpelled (news ++ b.es) → Spells e.0.payload e.1 → not_oack e.1 ≡ true
+    → all_pass h (Some b.terms) news b.es ≡ true → keeps_below (number_of rule) h (Some b.terms) (news ++ b.es) e ≡ true → Broken h (datagrams (news ++ b.es)) e.0 rule
+    → IsRefused h (datagrams (news ++ b.es)) e.0 rule
+refused_after h b news e rule s here other pass test broken =
+    let f = fixed_all h news b.es b.asked b.answer b.fixed in
+    record {
+      lawful = lawful_more h b.terms b.asked b.answer news b.es s b.fixed b.is pass b.lawful;
+      broken = record {
+        broken = broken;
+        first = none_under (number_of rule) h (Some b.terms) (news ++ b.es) e s here (fixed_terms h (news ++ b.es) b.asked b.answer b.terms f b.is) other test;
+      };
+    }
+
+-- an OACK after the first answer is none of the first, and below rule n it breaks none of their rules, where it says the
+-- same or n is at most that of a changed one
+pub later_oack_keeps : (h : Header) (es : List Spelled) (e : Spelled) (s : AllSpelled es) (here : Spells e.0.payload e.1) (t : Option Terms)
+    (known : (u : Terms) → AreTerms h (datagrams es) u → t ≡ Some u) (n : ℕ) (asked : RequestParts) (answer : Answer) → IsFixed h es asked answer
+    → (16 < n → Broken h (datagrams es) e.0 Rule.OackChanged → ⊥) → OackKeeps h es e s here t known n
+later_oack_keeps h es e s here t known n asked answer f same = record {
+  empty = λ _. never NegoFault.OackEmpty;
+  multicast = λ _. never NegoFault.MulticastAgreed;
+  not_requested = λ _. never NegoFault.OptionNotRequested;
+  outside = λ _. never NegoFault.OptionOutsideProfile;
+  bad_value = λ _. never NegoFault.OptionValue;
+  changed = same;
+  beyond = λ _. never NegoFault.BeyondBlock65535;
+}
+  where
+    never : (fault : NegoFault) → FirstOack h (datagrams es) e.0 fault → ⊥
+    never fault first =
+        let request : first.asked ≡ asked = same_request first.asked asked (sym (asked_is h es first.asked s first.first) ∙ f.request) in
+        let none = unanswered_is h first.asked.side es s first.unanswered in
+        let both : None ≡ Some answer = sym none ∙ ap (λ (r : RequestParts). first_answer r.side (main_of h es)) request ∙ f.answered in
+        absurd (cc)
+
+-- it says what the first one said
+pub same_again : (h : Header) (es : List Spelled) (e : Spelled) (s : AllSpelled es) (here : Spells e.0.payload e.1) (asked : RequestParts) (options : OptionMap) → IsFixed h es asked (Agrees options)
+    → e.1 ≡ Message.Oack options → Broken h (datagrams es) e.0 Rule.OackChanged → ⊥
+same_again h es e s here asked options f says (other, first, now, request, answer, said, apart) =
+    let is : other ≡ asked = same_request other asked (sym (asked_is h es other s request) ∙ f.request) in
+    let both : Some (Agrees first) ≡ Some (Agrees options) = sym (answered_is h other.side es (Agrees first) s answer) ∙ ap (λ (r : RequestParts). first_answer r.side (main_of h es)) is ∙ f.answered in
+    let one : first ≡ options = same_answer first options both in
+    let again : now ≡ options = same_oack now options (sym (spelled_once e.0.payload e.1 (Message.Oack now) here said.spells) ∙ says) in
+    apart (again ∙ sym one)
+  where
+    same_answer : (a b : OptionMap) → Some (Agrees a) ≡ Some (Agrees b) → a ≡ b
+    same_answer a b e = cc

@@ -1,0 +1,677 @@
+-- What the tests of the rules tell: a datagram breaks none of them.
+use Rattle.std.proofs.Common.{◌≡◌, ◌≢◌, ◌⊎◌, ℕ, ◌+◌, ◌/◌, ◌%◌, ◌<◌, ◌≤◌, ◌==◌, ◌&&◌, ◌||◌, not, nat_lt, nat_le, zero, suc, Bool, true, false, List, [], ◌∷◌, length, Option, Some, None, option_map, inl, inr, refl, sym, subst, ap, ◌∙◌, arith}
+use Rattle.std.proofs.lemmas.Bool.{and_parts, or_cases, eqb-true, eq-eqb, leb-true, ltb-true, cases_lt, true≢false, false≢true}
+use Rattle.std.proofs.lemmas.Slice.Eq.{bytes_eq-Decides}
+use Rattle.std.specs.Str.{bytes_eq}
+use Rattle.std.specs.List.{list_all, AllByRecursion}
+use Rattle.tftp_packet.specs.Message.{Message, RequestParts}
+use Rattle.tftp_packet.specs.Spelling.{Spells}
+use Rattle.tftp_packet.specs.declared.kinds.Side.{Side}
+use Rattle.tftp_packet.specs.declared.kinds.Side.TheVariants.{Get, Put}
+use Rattle.tftp_packet.specs.declared.kinds.End.{End}
+use Rattle.tftp_packet.specs.declared.kinds.End.TheVariants.{Client, Server}
+use Rattle.tftp_packet.specs.declared.kinds.Dir.{Dir}
+use Rattle.tftp_packet.specs.declared.kinds.Dir.TheVariants.{In, Out}
+use Rattle.tftp_packet.proofs.NoFault.{no_fault}
+use Rattle.tftp_ends.specs.CaptureText.{Datagram, Header}
+use Rattle.tftp_ends.specs.Roles.{sender_of, receiver_of, author_of}
+use Rattle.tftp_ends.specs.Ports.{asks, first_of, route_of, transfer_of, SaysUnknownId}
+use Rattle.tftp_ends.specs.declared.route.Route.{Route}
+use Rattle.tftp_ends.specs.Rules.{Passed, HasPassed, BlockPassed, IsTop, IsHigh, IsLast, LastIsUnknown, IsNotLengthOf, HasWrongLength, BlocksWait, AckZeroWaits, IsSender, IsAckedAt, IsReachedAt, BlockBreaks, AckBreaks, EndBroken}
+use Rattle.tftp_ends.specs.declared.terms.Reply.{Reply}
+use Rattle.tftp_ends.specs.declared.terms.Reply.TheVariants.{NoReply, Plain, Oacked}
+use Rattle.tftp_ends.specs.declared.terms.Terms.{Terms}
+use Rattle.tftp_ends.specs.declared.rule.EndRule.{EndRule}
+use Rattle.tftp_nego.specs.declared.fault.NegoFault.{NegoFault}
+use Rattle.tftp_law.specs.Rules.{number_of, FirstAsked, Agrees, Begins, AreTerms, Says, IsWrongKind, FirstOack, EndBreaks, Broken}
+use Rattle.tftp_law.specs.declared.rule.Rule.{Rule}
+use Rattle.tftp_law.specs.OneEnded.{IsRead, Passes}
+use Rattle.tftp_law.proofs.Spelled.{spelled_once}
+use Rattle.tftp_worked.proofs.Payloads.{Spelled, datagrams, AllSpelled, all_from}
+use Rattle.tftp_worked.proofs.Passing.{main_of, every, some, every_is, some_is, first_asked, first_is, asked_by, asked_is, first_answer, answered_is}
+use Rattle.tftp_worked.proofs.RuleTests.{is_unknown_id, not_foreign, not_wrong, not_peer, answers_well, is_readable, not_error, not_request, not_oack, right_kind, kind_is_right, not_asked, not_begun, no_plain_answer, went_on, sent_no_block, is_ack_zero, is_block, same_end, is_sender, is_receiver, may_start, may_be_zero, size_fits, fits_last, fits_short, fits_size, is_some, is_short, is_below, may_be_last, length_fits, allows, in_window, reaches, is_next, not_above, not_changed, is_taken, taken_up_to, block_keeps, ack_keeps, end_keeps, is_main, keeps}
+
+unless : (b c : Bool) → b ≡ true → (not b || c) ≡ true → c ≡ true
+unless true c is t = t
+unless false c is t = absurd (false≢true is)
+
+unknown_is : (d : Datagram) (m : Message) → Spells d.payload m → is_unknown_id m ≡ true → SaysUnknownId d
+unknown_is d (Message.Error code text) s t = (text, subst (λ c. Spells d.payload (Message.Error c text)) (eqb-true code 5 t) s)
+unknown_is d (Message.Request r) s t = absurd (false≢true t)
+unknown_is d (Message.Oack o) s t = absurd (false≢true t)
+unknown_is d (Message.Data k bytes) s t = absurd (false≢true t)
+unknown_is d (Message.Ack j) s t = absurd (false≢true t)
+
+wrong_kind : (a : End) (side : Side) (m : Message) → IsWrongKind a side m → right_kind a side m ≡ false
+wrong_kind Client Get (Message.Data k bytes) w = refl
+wrong_kind Client Put (Message.Ack j) w = refl
+wrong_kind Client Get (Message.Oack options) w = refl
+wrong_kind Client Put (Message.Oack options) w = refl
+wrong_kind Server Get (Message.Ack j) w = refl
+wrong_kind Server Put (Message.Data k bytes) w = refl
+wrong_kind Server Get (Message.Request request) w = refl
+wrong_kind Server Put (Message.Request request) w = refl
+wrong_kind Client Get (Message.Request request) w = absurd w
+wrong_kind Client Put (Message.Request request) w = absurd w
+wrong_kind Client Get (Message.Ack j) w = absurd w
+wrong_kind Client Put (Message.Data k bytes) w = absurd w
+wrong_kind Client Get (Message.Error code text) w = absurd w
+wrong_kind Client Put (Message.Error code text) w = absurd w
+wrong_kind Server Get (Message.Data k bytes) w = absurd w
+wrong_kind Server Put (Message.Ack j) w = absurd w
+wrong_kind Server Get (Message.Oack options) w = absurd w
+wrong_kind Server Put (Message.Oack options) w = absurd w
+wrong_kind Server Get (Message.Error code text) w = absurd w
+wrong_kind Server Put (Message.Error code text) w = absurd w
+
+is_end : (a b : End) → a ≡ b → same_end a b ≡ true
+is_end Client Client e = refl
+is_end Server Server e = refl
+is_end Client Server e = absurd (cc)
+is_end Server Client e = absurd (cc)
+
+differs : (x y : ℕ) → not (x == y) ≡ true → x ≡ y → ⊥
+differs x y t is = false≢true (subst (λ (b : Bool). not b ≡ true) (eq-eqb x y is) t)
+
+not_last : (t : Terms) (last k long : ℕ) → fits_last t last k long ≡ true → IsNotLengthOf t last k long → ⊥
+not_last t last k long e wrong = elim (or_cases (nat_lt k last && long == t.blksize) (k == last && (not (long == t.blksize) && size_fits t.size t.blksize long)) e) [
+  | inl below ↦
+      let parts = and_parts (nat_lt k last) (long == t.blksize) below in
+      let less = ltb-true k last parts.0 in
+      let whole = eqb-true long t.blksize parts.1 in
+      elim wrong [
+        | inl past ↦ omega arith
+        | inr (inl early) ↦ early.1 whole
+        | inr (inr (inl at)) ↦ let is = at.0 in omega arith
+        | inr (inr (inr at)) ↦ let is = at.0 in omega arith
+      ]
+  | inr here ↦
+      let parts = and_parts (k == last) (not (long == t.blksize) && size_fits t.size t.blksize long) here in
+      let more = and_parts (not (long == t.blksize)) (size_fits t.size t.blksize long) parts.1 in
+      let same = eqb-true k last parts.0 in
+      elim wrong [
+        | inl past ↦ omega arith
+        | inr (inl early) ↦ let less = early.0 in omega arith
+        | inr (inr (inl at)) ↦ differs long t.blksize more.0 at.1
+        | inr (inr (inr at)) ↦ at.3 (eqb-true long (at.1 % t.blksize) (subst (λ s. size_fits s t.blksize long ≡ true) at.2 more.1))
+      ]
+]
+
+module _ (h : Header) (es : List Spelled) (e : Spelled) (s : AllSpelled es) (here : Spells e.0.payload e.1) where
+  abbrev passed : List Datagram
+  passed = transfer_of h (datagrams es)
+
+  every_here : (test : Dir → Message → Bool) (dir : Dir) (m : Message) → every test (main_of h es) ≡ true → Passed dir m passed → test dir m ≡ true
+  every_here test dir m t p = every_is h es test dir m s t p
+
+  every_way : (test : Dir → Message → Bool) (m : Message) → every test (main_of h es) ≡ true → HasPassed m passed → (dir : Dir) × (test dir m ≡ true)
+  every_way test m t p = elim p [ inl came ↦ (In, every_here test In m t came) | inr went ↦ (Out, every_here test Out m t went) ]
+
+  some_here : (test : Dir → Message → Bool) → some test (main_of h es) ≡ true → (dir : Dir) × (m : Message) × (test dir m ≡ true) × Passed dir m passed
+  some_here test t = some_is h es test s t
+
+  says_is : (m : Message) → Says h (datagrams es) e.0 m → e.1 ≡ m
+  says_is m says = spelled_once e.0.payload e.1 m here says.spells
+
+  says_main : (m : Message) (b : Bool) → Says h (datagrams es) e.0 m → (not (is_main h es e) || b) ≡ true → b ≡ true
+  says_main m b says t = unless (is_main h es e) b says.routed t
+
+  -- ---- of blocks
+
+  passed_way : (dir : Dir) (m : Message) → Passed dir m passed → HasPassed m passed
+  passed_way In m p = inl p
+  passed_way Out m p = inr p
+
+  zero_acked : (dir : Dir) (m : Message) → is_ack_zero dir m ≡ true → Passed dir m passed → HasPassed (Message.Ack 0) passed
+  zero_acked dir (Message.Ack j) t p = subst (λ n. HasPassed (Message.Ack n) passed) (eqb-true j 0 t) (passed_way dir (Message.Ack j) p)
+  zero_acked dir (Message.Data k bytes) t p = absurd (false≢true t)
+  zero_acked dir (Message.Request r) t p = absurd (false≢true t)
+  zero_acked dir (Message.Oack o) t p = absurd (false≢true t)
+  zero_acked dir (Message.Error code text) t p = absurd (false≢true t)
+
+  started : (side : Side) (reply : Reply) → may_start side reply (main_of h es) ≡ true → BlocksWait side reply passed → ⊥
+  started Get Oacked t wait = let p = some_here is_ack_zero t in wait (zero_acked p.0 p.1 p.2 p.3)
+  started Put NoReply t wait = false≢true t
+  started Get NoReply t wait = wait
+  started Get Plain t wait = wait
+  started Put Plain t wait = wait
+  started Put Oacked t wait = wait
+
+  short_one : (u : Terms) (k long : ℕ) (last : ℕ) (bytes : List ℕ) → every (fits_short u k long) (main_of h es) ≡ true → HasPassed (Message.Data last bytes) passed → length bytes < u.blksize
+      → fits_last u last k long ≡ true
+  short_one u k long last bytes t p less =
+      let fits = (every_way (fits_short u k long) (Message.Data last bytes) t p).1 in
+      elim (or_cases (nat_le u.blksize (length bytes)) (fits_last u last k long) fits) [
+        | inl whole ↦ let most = leb-true u.blksize (length bytes) whole in absurd (omega arith)
+        | inr is ↦ is
+      ]
+
+  sized_one : (u : Terms) (o : Option ℕ) (k long size : ℕ) → fits_size u o k long ≡ true → o ≡ Some size → fits_last u (size / u.blksize + 1) k long ≡ true
+  sized_one u (Some other) k long size t is = let same : other ≡ size = cc in subst (λ n. fits_last u (n / u.blksize + 1) k long ≡ true) same t
+  sized_one u None k long size t is = absurd (cc)
+
+  known_last : (u : Terms) (k long last : ℕ) → every (fits_short u k long) (main_of h es) ≡ true → fits_size u u.size k long ≡ true → IsLast u passed last → IsNotLengthOf u last k long → ⊥
+  known_last u k long last short sized is wrong = elim is [
+    | inl some_short ↦ not_last u last k long (short_one u k long last some_short.0 short some_short.1 some_short.2) wrong
+    | inr size ↦ not_last u last k long (subst (λ n. fits_last u n k long ≡ true) (sym size.2) (sized_one u u.size k long size.0 sized size.1)) wrong
+  ]
+
+  some_size : (o : Option ℕ) → is_some o ≡ true → o ≡ None → ⊥
+  some_size (Some n) t e = absurd (cc)
+  some_size None t e = false≢true t
+
+  short_there : (u : Terms) (dir : Dir) (m : Message) → is_short u.blksize dir m ≡ true → Passed dir m passed → LastIsUnknown u passed → ⊥
+  short_there u dir (Message.Data k bytes) t p none = let less = ltb-true (length bytes) u.blksize t in let most = none.all_whole k bytes (passed_way dir (Message.Data k bytes) p) in omega arith
+  short_there u dir (Message.Ack j) t p none = false≢true t
+  short_there u dir (Message.Request r) t p none = false≢true t
+  short_there u dir (Message.Oack o) t p none = false≢true t
+  short_there u dir (Message.Error code text) t p none = false≢true t
+
+  above_all : (k high : ℕ) → 0 < k → every (is_below k) (main_of h es) ≡ true → IsHigh passed high → k ≤ high → ⊥
+  above_all k high some_k t is low = elim is.member [
+    | inl none ↦ omega arith
+    | inr block ↦ let less = ltb-true high k (every_way (is_below k) (Message.Data high block.0) t block.1).1 in omega arith
+  ]
+
+  unknown_last : (u : Terms) (k long : ℕ) → may_be_last u (main_of h es) k long ≡ true → LastIsUnknown u passed → long < u.blksize → (high : ℕ) → IsHigh passed high → k ≤ high → ⊥
+  unknown_last u k long t none less high is low = elim (or_cases (nat_le u.blksize long) (is_some u.size || (some (is_short u.blksize) (main_of h es) || (nat_lt 0 k && every (is_below k) (main_of h es)))) t) [
+    | inl whole ↦ let most = leb-true u.blksize long whole in omega arith
+    | inr other ↦ elim (or_cases (is_some u.size) (some (is_short u.blksize) (main_of h es) || (nat_lt 0 k && every (is_below k) (main_of h es))) other) [
+      | inl sized ↦ some_size u.size sized none.no_size
+      | inr more ↦ elim (or_cases (some (is_short u.blksize) (main_of h es)) (nat_lt 0 k && every (is_below k) (main_of h es)) more) [
+        | inl short ↦ let p = some_here (is_short u.blksize) short in short_there u p.0 p.1 p.2 p.3 none
+        | inr above ↦ let parts = and_parts (nat_lt 0 k) (every (is_below k) (main_of h es)) above in above_all k high (ltb-true 0 k parts.0) parts.1 is low
+      ]
+    ]
+  ]
+
+  right_length : (u : Terms) (k long : ℕ) → length_fits u (main_of h es) k long ≡ true → HasWrongLength u passed k long → ⊥
+  right_length u k long t wrong =
+      let a = and_parts (nat_le long u.blksize) (every (fits_short u k long) (main_of h es) && (fits_size u u.size k long && may_be_last u (main_of h es) k long)) t in
+      let b = and_parts (every (fits_short u k long) (main_of h es)) (fits_size u u.size k long && may_be_last u (main_of h es) k long) a.1 in
+      let c = and_parts (fits_size u u.size k long) (may_be_last u (main_of h es) k long) b.1 in
+      elim wrong [
+        | inl above ↦ let most = leb-true long u.blksize a.0 in omega arith
+        | inr (inl known) ↦ known_last u k long known.0 b.0 c.0 known.1 known.2
+        | inr (inr first) ↦ unknown_last u k long c.1 first.0 first.1 first.2.0 first.2.1 first.2.2
+      ]
+
+  acked_in : (w k : ℕ) (dir : Dir) (m : Message) → allows In w k dir m ≡ true → Passed dir m passed → (a : ℕ) × Passed In (Message.Ack a) passed × (k ≤ a + w)
+  acked_in w k In (Message.Ack a) t p = (a, p, leb-true k (a + w) t)
+  acked_in w k Out (Message.Ack a) t p = absurd (false≢true t)
+  acked_in w k dir (Message.Data i bytes) t p = absurd (never dir t) where
+    never : (way : Dir) → allows In w k way (Message.Data i bytes) ≡ true → ⊥
+    never In u = false≢true u
+    never Out u = false≢true u
+  acked_in w k In (Message.Request r) t p = absurd (false≢true t)
+  acked_in w k Out (Message.Request r) t p = absurd (false≢true t)
+  acked_in w k In (Message.Oack o) t p = absurd (false≢true t)
+  acked_in w k Out (Message.Oack o) t p = absurd (false≢true t)
+  acked_in w k In (Message.Error code text) t p = absurd (false≢true t)
+  acked_in w k Out (Message.Error code text) t p = absurd (false≢true t)
+
+  acked_out : (w k : ℕ) (dir : Dir) (m : Message) → allows Out w k dir m ≡ true → Passed dir m passed → (a : ℕ) × Passed Out (Message.Ack a) passed × (k ≤ a + w)
+  acked_out w k Out (Message.Ack a) t p = (a, p, leb-true k (a + w) t)
+  acked_out w k In (Message.Ack a) t p = absurd (false≢true t)
+  acked_out w k In (Message.Data i bytes) t p = absurd (false≢true t)
+  acked_out w k Out (Message.Data i bytes) t p = absurd (false≢true t)
+  acked_out w k In (Message.Request r) t p = absurd (false≢true t)
+  acked_out w k Out (Message.Request r) t p = absurd (false≢true t)
+  acked_out w k In (Message.Oack o) t p = absurd (false≢true t)
+  acked_out w k Out (Message.Oack o) t p = absurd (false≢true t)
+  acked_out w k In (Message.Error code text) t p = absurd (false≢true t)
+  acked_out w k Out (Message.Error code text) t p = absurd (false≢true t)
+
+  within : (u : Terms) (k : ℕ) → in_window u (main_of h es) k ≡ true → (acked : ℕ) → IsAckedAt u passed acked → acked + u.windowsize < k → ⊥
+  within u k t acked is past = elim (or_cases (nat_le k u.windowsize) ((not (is_sender u) || some (allows In u.windowsize k) (main_of h es)) && (not (is_receiver u) || some (allows Out u.windowsize k) (main_of h es))) t) [
+    | inl low ↦ let most = leb-true k u.windowsize low in omega arith
+    | inr both ↦
+        let parts = and_parts (not (is_sender u) || some (allows In u.windowsize k) (main_of h es)) (not (is_receiver u) || some (allows Out u.windowsize k) (main_of h es)) both in
+        elim is [
+          | inl sends ↦
+              let p = some_here (allows In u.windowsize k) (unless (is_sender u) (some (allows In u.windowsize k) (main_of h es)) (is_end u.named (sender_of u.side) sends.0) parts.0) in
+              let a = acked_in u.windowsize k p.0 p.1 p.2 p.3 in
+              let low = sends.1.most a.0 a.1 in
+              let high = a.2 in
+              omega arith
+          | inr takes ↦
+              let p = some_here (allows Out u.windowsize k) (unless (is_receiver u) (some (allows Out u.windowsize k) (main_of h es)) (is_end u.named (receiver_of u.side) takes.0) parts.1) in
+              let a = acked_out u.windowsize k p.0 p.1 p.2 p.3 in
+              let low = takes.1.most a.0 a.1 in
+              let high = a.2 in
+              omega arith
+        ]
+  ]
+
+  next_block : (k : ℕ) (dir : Dir) (m : Message) → is_next k dir m ≡ true → Passed dir m passed → (j : ℕ) × BlockPassed Out j passed × (k ≤ j + 1)
+  next_block k Out (Message.Data j bytes) t p = (j, (bytes, p), leb-true k (j + 1) t)
+  next_block k In (Message.Data j bytes) t p = absurd (false≢true t)
+  next_block k In (Message.Ack j) t p = absurd (false≢true t)
+  next_block k Out (Message.Ack j) t p = absurd (false≢true t)
+  next_block k In (Message.Request r) t p = absurd (false≢true t)
+  next_block k Out (Message.Request r) t p = absurd (false≢true t)
+  next_block k In (Message.Oack o) t p = absurd (false≢true t)
+  next_block k Out (Message.Oack o) t p = absurd (false≢true t)
+  next_block k In (Message.Error code text) t p = absurd (false≢true t)
+  next_block k Out (Message.Error code text) t p = absurd (false≢true t)
+
+  not_skipped : (u : Terms) (k : ℕ) → (not (is_sender u) || (nat_le k 1 || some (is_next k) (main_of h es))) ≡ true → IsSender u → (top : ℕ) → IsTop passed top → top + 1 < k → ⊥
+  not_skipped u k t sends top is past = elim (or_cases (nat_le k 1) (some (is_next k) (main_of h es)) (unless (is_sender u) (nat_le k 1 || some (is_next k) (main_of h es)) (is_end u.named (sender_of u.side) sends) t)) [
+    | inl first ↦ let low = leb-true k 1 first in omega arith
+    | inr next ↦
+        let p = some_here (is_next k) next in
+        let j = next_block k p.0 p.1 p.2 p.3 in
+        let most = is.most j.0 j.1 in
+        let high = j.2 in
+        omega arith
+  ]
+
+  not_back : (u : Terms) (k : ℕ) → (not (is_sender u) || (not (u.windowsize == 1) || every (not_above k) (main_of h es))) ≡ true → IsSender u → u.windowsize ≡ 1 → (top : ℕ) → IsTop passed top → k < top → ⊥
+  not_back u k t sends one top is back = elim (or_cases (not (u.windowsize == 1)) (every (not_above k) (main_of h es)) (unless (is_sender u) (not (u.windowsize == 1) || every (not_above k) (main_of h es)) (is_end u.named (sender_of u.side) sends) t)) [
+    | inl many ↦ differs u.windowsize 1 many one
+    | inr all ↦ elim is.member [
+      | inl none ↦ omega arith
+      | inr block ↦ let most = leb-true top k (every_here (not_above k) Out (Message.Data top block.0) all block.1) in omega arith
+    ]
+  ]
+
+  unchanged : (k : ℕ) (bytes other : List ℕ) → every (not_changed k bytes) (main_of h es) ≡ true → HasPassed (Message.Data k other) passed → other ≢ bytes → ⊥
+  unchanged k bytes other t p apart = elim (or_cases (not (k == k)) (bytes_eq other bytes) (every_way (not_changed k bytes) (Message.Data k other) t p).1) [
+    | inl not_same ↦ differs k k not_same refl
+    | inr same ↦ apart ((bytes_eq-Decides other bytes).0 same)
+  ]
+
+  block_kept : (u : Terms) (k : ℕ) (bytes : List ℕ) (rule : EndRule) → block_keeps u (main_of h es) k bytes rule ≡ true → BlockBreaks u passed k bytes rule → ⊥
+  block_kept u k bytes EndRule.NotStarted t b = started u.side u.reply t b
+  block_kept u k bytes EndRule.BlockZero t b = differs k 0 t b
+  block_kept u k bytes EndRule.BeyondBlock65535 t b = elim (or_cases (not (k == 65535)) (nat_lt (length bytes) u.blksize) t) [
+    | inl other ↦ differs k 65535 other b.0
+    | inr short ↦ let less = ltb-true (length bytes) u.blksize short in let most = b.1 in omega arith
+  ]
+  block_kept u k bytes EndRule.BlockLength t b = right_length u k (length bytes) t b
+  block_kept u k bytes EndRule.WindowOverrun t b = within u k t b.0 b.1 b.2
+  block_kept u k bytes EndRule.BlockSkipped t b = not_skipped u k t b.0 b.1.0 b.1.1 b.1.2
+  block_kept u k bytes EndRule.GoneBack t b = not_back u k t b.0 b.1 b.2.0 b.2.1 b.2.2
+  block_kept u k bytes EndRule.BlockChanged t b = unchanged k bytes b.0 t b.1 b.2
+  block_kept u k bytes EndRule.AckAhead t b = b
+  block_kept u k bytes EndRule.AckZero t b = b
+
+  -- ---- of acknowledgements
+
+  reached_block : (k : ℕ) (dir : Dir) (m : Message) → reaches k dir m ≡ true → Passed dir m passed → (j : ℕ) × BlockPassed Out j passed × (k ≤ j)
+  reached_block k Out (Message.Data j bytes) t p = (j, (bytes, p), leb-true k j t)
+  reached_block k In (Message.Data j bytes) t p = absurd (false≢true t)
+  reached_block k In (Message.Ack j) t p = absurd (false≢true t)
+  reached_block k Out (Message.Ack j) t p = absurd (false≢true t)
+  reached_block k In (Message.Request r) t p = absurd (false≢true t)
+  reached_block k Out (Message.Request r) t p = absurd (false≢true t)
+  reached_block k In (Message.Oack o) t p = absurd (false≢true t)
+  reached_block k Out (Message.Oack o) t p = absurd (false≢true t)
+  reached_block k In (Message.Error code text) t p = absurd (false≢true t)
+  reached_block k Out (Message.Error code text) t p = absurd (false≢true t)
+
+  taken_block : (k : ℕ) (dir : Dir) (m : Message) → is_taken k dir m ≡ true → Passed dir m passed → BlockPassed In k passed
+  taken_block k In (Message.Data j bytes) t p = subst (λ n. BlockPassed In n passed) (sym (eqb-true k j t)) (bytes, p)
+  taken_block k Out (Message.Data j bytes) t p = absurd (false≢true t)
+  taken_block k In (Message.Ack j) t p = absurd (false≢true t)
+  taken_block k Out (Message.Ack j) t p = absurd (false≢true t)
+  taken_block k In (Message.Request r) t p = absurd (false≢true t)
+  taken_block k Out (Message.Request r) t p = absurd (false≢true t)
+  taken_block k In (Message.Oack o) t p = absurd (false≢true t)
+  taken_block k Out (Message.Oack o) t p = absurd (false≢true t)
+  taken_block k In (Message.Error code text) t p = absurd (false≢true t)
+  taken_block k Out (Message.Error code text) t p = absurd (false≢true t)
+
+  taken_below : (j : ℕ) → taken_up_to (main_of h es) j ≡ true → (k : ℕ) → 1 ≤ k → k ≤ j → BlockPassed In k passed
+  taken_below zero t k low high = absurd (omega arith)
+  taken_below (suc j) t k low high =
+      let parts = and_parts (some (is_taken (suc j)) (main_of h es)) (taken_up_to (main_of h es) j) t in
+      elim (cases_lt k (suc j)) [
+        | inl below ↦ taken_below j parts.1 k low (omega arith)
+        | inr at ↦
+            let p = some_here (is_taken (suc j)) parts.0 in
+            let is : suc j ≡ k = omega arith in
+            subst (λ n. BlockPassed In n passed) is (taken_block (suc j) p.0 p.1 p.2 p.3)
+      ]
+
+  not_ahead : (u : Terms) (j : ℕ) → (j == 0 || ((not (is_sender u) || some (reaches j) (main_of h es)) && (not (is_receiver u) || taken_up_to (main_of h es) j))) ≡ true
+      → (reached : ℕ) → IsReachedAt u passed reached → reached < j → ⊥
+  not_ahead u j t reached is past = elim (or_cases (j == 0) ((not (is_sender u) || some (reaches j) (main_of h es)) && (not (is_receiver u) || taken_up_to (main_of h es) j)) t) [
+    | inl none ↦ let low = eqb-true j 0 none in omega arith
+    | inr both ↦
+        let parts = and_parts (not (is_sender u) || some (reaches j) (main_of h es)) (not (is_receiver u) || taken_up_to (main_of h es) j) both in
+        elim is [
+          | inl sends ↦
+              let p = some_here (reaches j) (unless (is_sender u) (some (reaches j) (main_of h es)) (is_end u.named (sender_of u.side) sends.0) parts.0) in
+              let k = reached_block j p.0 p.1 p.2 p.3 in
+              let most = sends.1.most k.0 k.1 in
+              let high = k.2 in
+              omega arith
+          | inr takes ↦ takes.1.next (taken_below j (unless (is_receiver u) (taken_up_to (main_of h es) j) (is_end u.named (receiver_of u.side) takes.0) parts.1) (reached + 1) (omega arith) (omega arith))
+        ]
+  ]
+
+  block_there : (dir : Dir) (m : Message) → is_block dir m ≡ true → Passed dir m passed → (k : ℕ) × (bytes : List ℕ) × HasPassed (Message.Data k bytes) passed
+  block_there dir (Message.Data k bytes) t p = (k, bytes, passed_way dir (Message.Data k bytes) p)
+  block_there dir (Message.Ack j) t p = absurd (false≢true t)
+  block_there dir (Message.Request r) t p = absurd (false≢true t)
+  block_there dir (Message.Oack o) t p = absurd (false≢true t)
+  block_there dir (Message.Error code text) t p = absurd (false≢true t)
+
+  zero_may : (side : Side) (reply : Reply) → may_be_zero side reply (main_of h es) ≡ true → AckZeroWaits side reply passed → ⊥
+  zero_may Get NoReply t wait = false≢true t
+  zero_may Get Plain t wait = false≢true t
+  zero_may Put Oacked t wait = let p = some_here is_block t in let k = block_there p.0 p.1 p.2 p.3 in wait k.0 k.1 k.2
+  zero_may Get Oacked t wait = wait
+  zero_may Put NoReply t wait = wait
+  zero_may Put Plain t wait = wait
+
+  ack_kept : (u : Terms) (j : ℕ) (rule : EndRule) → ack_keeps u (main_of h es) j rule ≡ true → AckBreaks u passed j rule → ⊥
+  ack_kept u j EndRule.AckAhead t b = not_ahead u j t b.0 b.1 b.2
+  ack_kept u j EndRule.AckZero t b = elim (or_cases (not (j == 0)) (may_be_zero u.side u.reply (main_of h es)) t) [
+    | inl other ↦ differs j 0 other b.0
+    | inr may ↦ zero_may u.side u.reply may b.1
+  ]
+  ack_kept u j EndRule.NotStarted t b = b
+  ack_kept u j EndRule.BlockZero t b = b
+  ack_kept u j EndRule.BeyondBlock65535 t b = b
+  ack_kept u j EndRule.BlockLength t b = b
+  ack_kept u j EndRule.WindowOverrun t b = b
+  ack_kept u j EndRule.BlockSkipped t b = b
+  ack_kept u j EndRule.GoneBack t b = b
+  ack_kept u j EndRule.BlockChanged t b = b
+
+  message_kept : (u : Terms) (m : Message) (rule : EndRule) → end_keeps (Some u) (main_of h es) m rule ≡ true → EndBroken u passed m rule → ⊥
+  message_kept u (Message.Data k bytes) rule t b = block_kept u k bytes rule t b
+  message_kept u (Message.Ack j) rule t b = ack_kept u j rule t b
+  message_kept u (Message.Request r) rule t b = b
+  message_kept u (Message.Oack o) rule t b = b
+  message_kept u (Message.Error code text) rule t b = b
+
+  -- ---- of ports, requests and OACKs
+
+  abbrev route : Route
+  route = route_of h (datagrams es) e.0
+
+  not_foreign_port : not_foreign route ≡ true → route ≡ Route.ForeignPort → ⊥
+  not_foreign_port t is = false≢true (subst (λ r. not_foreign r ≡ true) is t)
+
+  not_wrong_port : not_wrong route ≡ true → route ≡ Route.WrongPort → ⊥
+  not_wrong_port t is = false≢true (subst (λ r. not_wrong r ≡ true) is t)
+
+  good_answer : answers_well route e.1 ≡ true → (route ≡ Route.NoStrayAnswer) ⊎ ((route ≡ Route.StrayAnswer) × (SaysUnknownId e.0 → ⊥)) → ⊥
+  good_answer t b = elim b [
+    | inl none ↦ false≢true (subst (λ r. answers_well r e.1 ≡ true) none t)
+    | inr bad ↦ bad.1 (unknown_is e.0 e.1 here (subst (λ r. answers_well r e.1 ≡ true) bad.0 t))
+  ]
+
+  none_asked : (o : Option Spelled) → option_map (λ (x : Spelled). x.0) o ≡ None → not (not_asked (asked_by o)) ≡ true → ⊥
+  none_asked None is t = false≢true t
+  none_asked (Some x) is t = absurd (cc)
+
+  has_request : (not (not_asked (asked_by (first_asked h es))) || not_peer route) ≡ true → first_of (asks h) (datagrams es) ≡ None → route ≡ Route.Peer → ⊥
+  has_request t none is = elim (or_cases (not (not_asked (asked_by (first_asked h es)))) (not_peer route) t) [
+    | inl there ↦ none_asked (first_asked h es) (sym (first_is h es) ∙ none) there
+    | inr other ↦ false≢true (subst (λ r. not_peer r ≡ true) is other)
+  ]
+
+  asked_here : (asked : RequestParts) → FirstAsked h (datagrams es) asked → asked_by (first_asked h es) ≡ Some (Message.Request asked)
+  asked_here asked first = asked_is h es asked s first
+
+  not_wrong_kind : (not (is_main h es e) || kind_is_right (author_of h.named e.0.dir) (asked_by (first_asked h es)) e.1) ≡ true → Broken h (datagrams es) e.0 Rule.WrongKind → ⊥
+  not_wrong_kind t (m, asked, says, first, wrong) =
+      let right = says_main m (kind_is_right (author_of h.named e.0.dir) (asked_by (first_asked h es)) e.1) says t in
+      let now : right_kind (author_of h.named e.0.dir) asked.side m ≡ true =
+      subst (λ x. right_kind (author_of h.named e.0.dir) asked.side x ≡ true) (says_is m says)
+      (subst (λ o. kind_is_right (author_of h.named e.0.dir) o e.1 ≡ true) (asked_here asked first) right) in
+      true≢false (sym now ∙ wrong_kind (author_of h.named e.0.dir) asked.side m wrong)
+
+  no_error : (not (is_main h es e) || not_error e.1) ≡ true → Broken h (datagrams es) e.0 Rule.TransferAborted → ⊥
+  no_error t (code, text, says) =
+      false≢true (subst (λ x. not_error x ≡ true) (says_is (Message.Error code text) says) (says_main (Message.Error code text) (not_error e.1) says t))
+
+  first_request : (not (is_main h es e) || (not_request e.1 || not_asked (asked_by (first_asked h es)))) ≡ true → Broken h (datagrams es) e.0 Rule.RequestChanged → ⊥
+  first_request t (first, now, asked, says, other) =
+      elim (or_cases (not_request e.1) (not_asked (asked_by (first_asked h es))) (says_main (Message.Request now) (not_request e.1 || not_asked (asked_by (first_asked h es))) says t)) [
+        | inl no_request ↦ false≢true (subst (λ x. not_request x ≡ true) (says_is (Message.Request now) says) no_request)
+        | inr none ↦ false≢true (subst (λ o. not_asked o ≡ true) (asked_here first asked) none)
+      ]
+
+  early_request : (not (is_main h es e) || (not_request e.1 || every went_on (main_of h es))) ≡ true → Broken h (datagrams es) e.0 Rule.RequestAfterStart → ⊥
+  early_request t (way, (now, says), more) =
+      elim (or_cases (not_request e.1) (every went_on (main_of h es)) (says_main (Message.Request now) (not_request e.1 || every went_on (main_of h es)) says t)) [
+        | inl no_request ↦ false≢true (subst (λ x. not_request x ≡ true) (says_is (Message.Request now) says) no_request)
+        | inr none ↦ elim more [
+          | inl block ↦ false≢true (every_here went_on Out (Message.Data block.0 block.1) none block.2)
+          | inr ack ↦ false≢true (every_here went_on Out (Message.Ack ack.0) none ack.1)
+        ]
+      ]
+
+  not_plain : (not (is_main h es e) || (not_oack e.1 || no_plain_answer (asked_by (first_asked h es)) (main_of h es))) ≡ true → Broken h (datagrams es) e.0 Rule.ReplyChanged → ⊥
+  not_plain t (asked, oack, first, answer, says) =
+      elim (or_cases (not_oack e.1) (no_plain_answer (asked_by (first_asked h es)) (main_of h es)) (says_main (Message.Oack oack) (not_oack e.1 || no_plain_answer (asked_by (first_asked h es)) (main_of h es)) says t)) [
+        | inl no_oack ↦ false≢true (subst (λ x. not_oack x ≡ true) (says_is (Message.Oack oack) says) no_oack)
+        | inr none ↦
+            false≢true (subst (λ o. not_begun o ≡ true) (answered_is h asked.side es Begins s answer)
+            (subst (λ o. no_plain_answer o (main_of h es) ≡ true) (asked_here asked first) none))
+      ]
+
+  early_oack : (not (is_main h es e) || (not_oack e.1 || every sent_no_block (main_of h es))) ≡ true → Broken h (datagrams es) e.0 Rule.OackAfterStart → ⊥
+  early_oack t (way, (asked, first, get), (oack, says), (k, bytes, sent)) =
+      elim (or_cases (not_oack e.1) (every sent_no_block (main_of h es)) (says_main (Message.Oack oack) (not_oack e.1 || every sent_no_block (main_of h es)) says t)) [
+        | inl no_oack ↦ false≢true (subst (λ x. not_oack x ≡ true) (says_is (Message.Oack oack) says) no_oack)
+        | inr none ↦ false≢true (every_here sent_no_block Out (Message.Data k bytes) none sent)
+      ]
+
+  pub no_first_oack : not_oack e.1 ≡ true → (fault : NegoFault) → FirstOack h (datagrams es) e.0 fault → ⊥
+  no_first_oack t fault first = false≢true (subst (λ x. not_oack x ≡ true) (says_is (Message.Oack first.oack) first.says) t)
+
+  pub no_later_oack : not_oack e.1 ≡ true → Broken h (datagrams es) e.0 Rule.OackChanged → ⊥
+  no_later_oack t (asked, first, now, request, answer, says, other) = false≢true (subst (λ x. not_oack x ≡ true) (says_is (Message.Oack now) says) t)
+
+  -- before the first answer no OACK is a later one
+  pub not_answered : (asked : RequestParts) → asked_by (first_asked h es) ≡ Some (Message.Request asked) → first_answer asked.side (main_of h es) ≡ None → Broken h (datagrams es) e.0 Rule.OackChanged → ⊥
+  not_answered asked is none (other, first, now, request, answer, says, apart) =
+      let same : Message.Request other ≡ Message.Request asked = some_same (Message.Request other) (Message.Request asked) (sym (asked_here other request) ∙ is) in
+      let side : other.side ≡ asked.side = request_side other asked same in
+      let both : None ≡ Some (Agrees first) = sym none ∙ sym (ap (λ (x : Side). first_answer x (main_of h es)) side) ∙ answered_is h other.side es (Agrees first) s answer in
+      absurd (cc)
+    where
+      some_same : (a b : Message) → Some a ≡ Some b → a ≡ b
+      some_same a b e = cc
+
+      request_side : (a b : RequestParts) → Message.Request a ≡ Message.Request b → a.side ≡ b.side
+      request_side a b e = cc
+
+  module _ (t : Option Terms) (known : (u : Terms) → AreTerms h (datagrams es) u → t ≡ Some u) where
+    end_kept : (rule : EndRule) → (not (is_main h es e) || end_keeps t (main_of h es) e.1 rule) ≡ true → EndBreaks h (datagrams es) e.0 rule → ⊥
+    end_kept rule k b =
+        let now = says_main b.message (end_keeps t (main_of h es) e.1 rule) b.says k in
+        let at : end_keeps (Some b.terms) (main_of h es) b.message rule ≡ true =
+        subst (λ m. end_keeps (Some b.terms) (main_of h es) m rule ≡ true) (says_is b.message b.says) (subst (λ o. end_keeps o (main_of h es) e.1 rule ≡ true) (known b.terms b.known) now) in
+        message_kept b.terms b.message rule at b.broken
+
+    -- an OACK that comes first or later breaks none of its rules below n
+    pub record OackKeeps (n : ℕ) : Type 0 where
+      pub empty : 11 < n → FirstOack h (datagrams es) e.0 NegoFault.OackEmpty → ⊥
+      pub multicast : 12 < n → FirstOack h (datagrams es) e.0 NegoFault.MulticastAgreed → ⊥
+      pub not_requested : 13 < n → FirstOack h (datagrams es) e.0 NegoFault.OptionNotRequested → ⊥
+      pub outside : 14 < n → FirstOack h (datagrams es) e.0 NegoFault.OptionOutsideProfile → ⊥
+      pub bad_value : 15 < n → FirstOack h (datagrams es) e.0 NegoFault.OptionValue → ⊥
+      pub changed : 16 < n → Broken h (datagrams es) e.0 Rule.OackChanged → ⊥
+      pub beyond : 20 < n → FirstOack h (datagrams es) e.0 NegoFault.BeyondBlock65535 → ⊥
+
+    pub kept : (n : ℕ) → OackKeeps n → (rule : Rule) → number_of rule < n → keeps h t es e rule ≡ true → Broken h (datagrams es) e.0 rule → ⊥
+    kept n o Rule.ForeignPort low k b = not_foreign_port k b
+    kept n o Rule.WrongPort low k b = not_wrong_port k b
+    kept n o Rule.StrayAnswer low k b = good_answer k b
+    kept n o Rule.NoRequest low k b = has_request k b.0 b.1
+    kept n o (Rule.Malformed fault) low k b = no_fault e.0.payload e.1 fault here.1 b.1.0
+    kept n o Rule.WrongKind low k b = not_wrong_kind k b
+    kept n o Rule.TransferAborted low k b = no_error k b
+    kept n o Rule.RequestChanged low k b = first_request k b
+    kept n o Rule.RequestAfterStart low k b = early_request k b
+    kept n o Rule.ReplyChanged low k b = not_plain k b
+    kept n o Rule.OackEmpty low k b = o.empty low b
+    kept n o Rule.MulticastAgreed low k b = o.multicast low b
+    kept n o Rule.OptionNotRequested low k b = o.not_requested low b
+    kept n o Rule.OptionOutsideProfile low k b = o.outside low b
+    kept n o Rule.OptionValue low k b = o.bad_value low b
+    kept n o Rule.OackChanged low k b = o.changed low b
+    kept n o Rule.OackAfterStart low k b = early_oack k b
+    kept n o Rule.NotStarted low k b = end_kept EndRule.NotStarted k b
+    kept n o Rule.BlockZero low k b = end_kept EndRule.BlockZero k b
+    kept n o Rule.BeyondBlock65535 low k b = elim b [ inl block ↦ end_kept EndRule.BeyondBlock65535 k block | inr oack ↦ o.beyond low oack ]
+    kept n o Rule.BlockLength low k b = end_kept EndRule.BlockLength k b
+    kept n o Rule.WindowOverrun low k b = end_kept EndRule.WindowOverrun k b
+    kept n o Rule.BlockSkipped low k b = end_kept EndRule.BlockSkipped k b
+    kept n o Rule.GoneBack low k b = end_kept EndRule.GoneBack k b
+    kept n o Rule.BlockChanged low k b = end_kept EndRule.BlockChanged k b
+    kept n o Rule.AckAhead low k b = end_kept EndRule.AckAhead k b
+    kept n o Rule.AckZero low k b = end_kept EndRule.AckZero k b
+
+-- ---- all rules at once
+
+abbrev pub all_rules : List Rule
+all_rules =
+    Rule.ForeignPort
+    ∷ Rule.WrongPort
+    ∷ Rule.StrayAnswer
+    ∷ Rule.NoRequest
+    ∷ Rule.WrongKind
+    ∷ Rule.TransferAborted
+    ∷ Rule.RequestChanged
+    ∷ Rule.RequestAfterStart
+    ∷ Rule.ReplyChanged
+    ∷ Rule.OackEmpty
+    ∷ Rule.MulticastAgreed
+    ∷ Rule.OptionNotRequested
+    ∷ Rule.OptionOutsideProfile
+    ∷ Rule.OptionValue
+    ∷ Rule.OackChanged
+    ∷ Rule.OackAfterStart
+    ∷ Rule.NotStarted
+    ∷ Rule.BlockZero
+    ∷ Rule.BeyondBlock65535
+    ∷ Rule.BlockLength
+    ∷ Rule.WindowOverrun
+    ∷ Rule.BlockSkipped
+    ∷ Rule.GoneBack
+    ∷ Rule.BlockChanged
+    ∷ Rule.AckAhead
+    ∷ Rule.AckZero
+    ∷ []
+
+-- each rule below n is kept
+abbrev pub keeps_below : ℕ → Header → Option Terms → List Spelled → Spelled → Bool
+keeps_below n h t es e = list_all (λ rule. nat_le n (number_of rule) || keeps h t es e rule) all_rules
+
+low_kept : (n : ℕ) (h : Header) (t : Option Terms) (es : List Spelled) (e : Spelled) (rule : Rule) → (nat_le n (number_of rule) || keeps h t es e rule) ≡ true → number_of rule < n → keeps h t es e rule ≡ true
+low_kept n h t es e rule is low = elim (or_cases (nat_le n (number_of rule)) (keeps h t es e rule) is) [
+  | inl high ↦ let most = leb-true n (number_of rule) high in absurd (omega arith)
+  | inr k ↦ k
+]
+
+kept_of_all : (n : ℕ) (h : Header) (t : Option Terms) (es : List Spelled) (e : Spelled) → keeps_below n h t es e ≡ true → (rule : Rule) → number_of rule < n → keeps h t es e rule ≡ true
+kept_of_all n h t es e is rule =
+    let all = all_from (λ (r : Rule). nat_le n (number_of r) || keeps h t es e r) (λ r. number_of r < n → keeps h t es e r ≡ true) (low_kept n h t es e) all_rules is in
+    by all rule
+  where
+    by : AllByRecursion (λ (r : Rule). number_of r < n → keeps h t es e r ≡ true) all_rules → (r : Rule) → number_of r < n → keeps h t es e r ≡ true
+    by all (Rule.Malformed fault) = λ low. refl
+    by all Rule.ForeignPort = all.0
+    by all Rule.WrongPort = all.1.0
+    by all Rule.StrayAnswer = all.1.1.0
+    by all Rule.NoRequest = all.1.1.1.0
+    by all Rule.WrongKind = all.1.1.1.1.0
+    by all Rule.TransferAborted = all.1.1.1.1.1.0
+    by all Rule.RequestChanged = all.1.1.1.1.1.1.0
+    by all Rule.RequestAfterStart = all.1.1.1.1.1.1.1.0
+    by all Rule.ReplyChanged = all.1.1.1.1.1.1.1.1.0
+    by all Rule.OackEmpty = all.1.1.1.1.1.1.1.1.1.0
+    by all Rule.MulticastAgreed = all.1.1.1.1.1.1.1.1.1.1.0
+    by all Rule.OptionNotRequested = all.1.1.1.1.1.1.1.1.1.1.1.0
+    by all Rule.OptionOutsideProfile = all.1.1.1.1.1.1.1.1.1.1.1.1.0
+    by all Rule.OptionValue = all.1.1.1.1.1.1.1.1.1.1.1.1.1.0
+    by all Rule.OackChanged = all.1.1.1.1.1.1.1.1.1.1.1.1.1.1.0
+    by all Rule.OackAfterStart = all.1.1.1.1.1.1.1.1.1.1.1.1.1.1.1.0
+    by all Rule.NotStarted = all.1.1.1.1.1.1.1.1.1.1.1.1.1.1.1.1.0
+    by all Rule.BlockZero = all.1.1.1.1.1.1.1.1.1.1.1.1.1.1.1.1.1.0
+    by all Rule.BeyondBlock65535 = all.1.1.1.1.1.1.1.1.1.1.1.1.1.1.1.1.1.1.0
+    by all Rule.BlockLength = all.1.1.1.1.1.1.1.1.1.1.1.1.1.1.1.1.1.1.1.0
+    by all Rule.WindowOverrun = all.1.1.1.1.1.1.1.1.1.1.1.1.1.1.1.1.1.1.1.1.0
+    by all Rule.BlockSkipped = all.1.1.1.1.1.1.1.1.1.1.1.1.1.1.1.1.1.1.1.1.1.0
+    by all Rule.GoneBack = all.1.1.1.1.1.1.1.1.1.1.1.1.1.1.1.1.1.1.1.1.1.1.0
+    by all Rule.BlockChanged = all.1.1.1.1.1.1.1.1.1.1.1.1.1.1.1.1.1.1.1.1.1.1.1.0
+    by all Rule.AckAhead = all.1.1.1.1.1.1.1.1.1.1.1.1.1.1.1.1.1.1.1.1.1.1.1.1.0
+    by all Rule.AckZero = all.1.1.1.1.1.1.1.1.1.1.1.1.1.1.1.1.1.1.1.1.1.1.1.1.1.0
+
+-- none of the rules below n is broken
+pub none_below : (n : ℕ) (h : Header) (t : Option Terms) (es : List Spelled) (e : Spelled) (s : AllSpelled es) (here : Spells e.0.payload e.1)
+    (known : (u : Terms) → AreTerms h (datagrams es) u → t ≡ Some u) → OackKeeps h es e s here t known n → keeps_below n h t es e ≡ true
+    → (rule : Rule) → number_of rule < n → Broken h (datagrams es) e.0 rule → ⊥
+none_below n h t es e s here known o is rule low b = kept h es e s here t known n o rule low (kept_of_all n h t es e is rule low) b
+
+pub below_all : (rule : Rule) → number_of rule < 28
+below_all (Rule.Malformed fault) = omega arith
+below_all Rule.ForeignPort = omega arith
+below_all Rule.WrongPort = omega arith
+below_all Rule.StrayAnswer = omega arith
+below_all Rule.NoRequest = omega arith
+below_all Rule.WrongKind = omega arith
+below_all Rule.TransferAborted = omega arith
+below_all Rule.RequestChanged = omega arith
+below_all Rule.RequestAfterStart = omega arith
+below_all Rule.ReplyChanged = omega arith
+below_all Rule.OackEmpty = omega arith
+below_all Rule.MulticastAgreed = omega arith
+below_all Rule.OptionNotRequested = omega arith
+below_all Rule.OptionOutsideProfile = omega arith
+below_all Rule.OptionValue = omega arith
+below_all Rule.OackChanged = omega arith
+below_all Rule.OackAfterStart = omega arith
+below_all Rule.NotStarted = omega arith
+below_all Rule.BlockZero = omega arith
+below_all Rule.BeyondBlock65535 = omega arith
+below_all Rule.BlockLength = omega arith
+below_all Rule.WindowOverrun = omega arith
+below_all Rule.BlockSkipped = omega arith
+below_all Rule.GoneBack = omega arith
+below_all Rule.BlockChanged = omega arith
+below_all Rule.AckAhead = omega arith
+below_all Rule.AckZero = omega arith
+
+read_is : (r : Route) (d : Datagram) (m : Message) → Spells d.payload m → is_readable r m ≡ true → IsRead r d
+read_is Route.Request d m s t = (m, s)
+read_is Route.Peer d m s t = (m, s)
+read_is Route.Stray d m s t = tt
+read_is Route.StrayAnswer d m s t = unknown_is d m s t
+read_is Route.ForeignPort d m s t = absurd (false≢true t)
+read_is Route.WrongPort d m s t = absurd (false≢true t)
+read_is Route.NoStrayAnswer d m s t = absurd (false≢true t)
+
+-- the datagram passes
+abbrev pub passes_by : Header → Option Terms → List Spelled → Spelled → Bool
+passes_by h t es e = is_readable (route_of h (datagrams es) e.0) e.1 && keeps_below 28 h t es e
+
+pub passes_is : (h : Header) (t : Option Terms) (es : List Spelled) (e : Spelled) (s : AllSpelled es) (here : Spells e.0.payload e.1)
+    (known : (u : Terms) → AreTerms h (datagrams es) u → t ≡ Some u) → OackKeeps h es e s here t known 28 → passes_by h t es e ≡ true → Passes h (datagrams es) e.0
+passes_is h t es e s here known o is =
+    let parts = and_parts (is_readable (route_of h (datagrams es) e.0) e.1) (keeps_below 28 h t es e) is in
+    record {
+      read = read_is (route_of h (datagrams es) e.0) e.0 e.1 here parts.0;
+      lawful = λ rule b. none_below 28 h t es e s here known o parts.1 rule (below_all rule) b;
+    }
+
+-- what is no OACK breaks none of their rules
+pub no_oack : (h : Header) (es : List Spelled) (e : Spelled) (s : AllSpelled es) (here : Spells e.0.payload e.1) (t : Option Terms)
+    (known : (u : Terms) → AreTerms h (datagrams es) u → t ≡ Some u) (n : ℕ) → not_oack e.1 ≡ true → OackKeeps h es e s here t known n
+no_oack h es e s here t known n is = record {
+  empty = λ _. no_first_oack h es e s here is NegoFault.OackEmpty;
+  multicast = λ _. no_first_oack h es e s here is NegoFault.MulticastAgreed;
+  not_requested = λ _. no_first_oack h es e s here is NegoFault.OptionNotRequested;
+  outside = λ _. no_first_oack h es e s here is NegoFault.OptionOutsideProfile;
+  bad_value = λ _. no_first_oack h es e s here is NegoFault.OptionValue;
+  changed = λ _. no_later_oack h es e s here is;
+  beyond = λ _. no_first_oack h es e s here is NegoFault.BeyondBlock65535;
+}

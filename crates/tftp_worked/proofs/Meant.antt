@@ -1,0 +1,117 @@
+-- What a dressed capture says of the view and of the meaning, where each datagram goes between the same two ports and
+-- spells something else than an ERROR.
+use Rattle.std.proofs.Common.{◌≡◌, ℕ, List, [], ◌∷◌, ◌++◌, map as each, inl, inr, refl, sym, subst, ap, ◌∙◌}
+use Rattle.tftp_packet.specs.Message.{Message, RequestParts}
+use Rattle.tftp_packet.specs.Spelling.{Spells}
+use Rattle.tftp_packet.specs.declared.kinds.Dir.{Dir}
+use Rattle.tftp_packet.specs.declared.kinds.Dir.TheVariants.{In, Out}
+use Rattle.tftp_ends.specs.CaptureText.{Datagram, Header, peer_of}
+use Rattle.tftp_ends.specs.Meaning.{Meaning, request_of}
+use Rattle.tftp_ends.specs.Machines.{MachinePacket, Req, Oack, Data, Ack, Deed, Sent, Took, message_of, History}
+use Rattle.tftp_law.specs.Dress.{Part, Main, Stray, StrayAnswer, Placed, Division, IsMain, datagrams_of, view_in, TransferIds, dir_of, packet_of, CarriesDeed, HasPart, HaveParts}
+use Rattle.tftp_worked.specs.Worked.{at_client}
+use Rattle.tftp_law.proofs.Spelled.{spelled_once}
+use Rattle.tftp_worked.proofs.Payloads.{Spelled, datagrams, AllSpelled}
+use Rattle.tftp_law.proofs.Divided.{divided_more, divided_none, view_main, any_none, any_cases}
+
+-- the machine packet that a message is
+abbrev pub packet_for : Message → MachinePacket
+packet_for (Message.Request request) = Req
+packet_for (Message.Oack options) = Oack
+packet_for (Message.Data k bytes) = Data k
+packet_for (Message.Ack j) = Ack j
+packet_for (Message.Error code text) = Req
+
+abbrev pub deed_for : Dir → Message → Deed
+deed_for Out message = Sent (packet_for message)
+deed_for In message = Took (packet_for message)
+
+abbrev pub deeds_for : List Spelled → History
+deeds_for es = each (λ (e : Spelled). deed_for e.0.dir e.1) es
+
+abbrev pub IsNoError : Message → Type 0
+IsNoError message = (code : ℕ) (text : List ℕ) → message ≡ Message.Error code text → ⊥
+
+abbrev pub AllMeant : Meaning → List ℕ → List Spelled → Type 0
+AllMeant m wire [] = Unit {0}
+AllMeant m wire (e ∷ es) = (message_of m wire (packet_for e.1) ≡ e.1) × AllMeant m wire es
+
+packet_is : (m : Meaning) (wire : List ℕ) (p : MachinePacket) (message : Message) → message_of m wire p ≡ message → p ≡ packet_for message
+packet_is m wire Req message e = subst (λ x. Req ≡ packet_for x) e refl
+packet_is m wire Oack message e = subst (λ x. Oack ≡ packet_for x) e refl
+packet_is m wire (Data k) message e = subst (λ x. Data k ≡ packet_for x) e refl
+packet_is m wire (Ack j) message e = subst (λ x. Ack j ≡ packet_for x) e refl
+
+deed_is : (m : Meaning) (wire : List ℕ) (dir : Dir) (deed : Deed) (message : Message) → dir ≡ dir_of deed → message_of m wire (packet_of deed) ≡ message → deed ≡ deed_for dir message
+deed_is m wire Out (Sent p) message way e = ap Sent (packet_is m wire p message e)
+deed_is m wire In (Took p) message way e = ap Took (packet_is m wire p message e)
+deed_is m wire Out (Took p) message way e = absurd (cc)
+deed_is m wire In (Sent p) message way e = absurd (cc)
+
+-- the datagram is a main one, and its deed is what it says
+abbrev pub IsCarried : Meaning → List ℕ → Part → Spelled → Type 0
+IsCarried m wire part e = (part ≡ Main (deed_for e.0.dir e.1)) × (message_of m wire (packet_for e.1) ≡ e.1)
+
+carried_by : (header : Header) (m : Meaning) (wire : List ℕ) (ids : TransferIds) (earlier : Division) (e : Spelled) (deed : Deed) → CarriesDeed header m wire ids earlier e.0 deed
+    → Spells e.0.payload e.1 → IsCarried m wire (Main deed) e
+carried_by header m wire ids earlier e deed h s =
+    let says : message_of m wire (packet_of deed) ≡ e.1 = spelled_once e.0.payload (message_of m wire (packet_of deed)) e.1 h.spells s in
+    let is = packet_is m wire (packet_of deed) e.1 says in
+    (ap Main (deed_is m wire e.0.dir deed e.1 h.dir says), subst (λ p. message_of m wire p ≡ e.1) is says)
+
+carried_is : (header : Header) (m : Meaning) (wire : List ℕ) (ids : TransferIds) (earlier : Division) (e : Spelled) (part : Part) → HasPart header m wire ids earlier e.0 part
+    → Spells e.0.payload e.1 → IsNoError e.1 → (e.0.dir ≡ In → peer_of e.0 ≡ ids.peer) → IsCarried m wire part e
+carried_is header m wire ids earlier e (Main deed) h s apart near = carried_by header m wire ids earlier e deed h s
+carried_is header m wire ids earlier e Stray h s apart near = absurd (h.elsewhere (near h.dir))
+carried_is header m wire ids earlier e StrayAnswer h s apart near = absurd (apart 5 h.spells.0 (spelled_once e.0.payload e.1 (Message.Error 5 h.spells.0) s h.spells.1))
+
+-- each is near: it comes from the peer, if it comes in, and is no ERROR
+abbrev pub AllNear : TransferIds → List Spelled → Type 0
+AllNear ids [] = Unit {0}
+AllNear ids (e ∷ es) = IsNoError e.1 × (e.0.dir ≡ In → peer_of e.0 ≡ ids.peer) × AllNear ids es
+
+pub all_meant : (header : Header) (m : Meaning) (wire : List ℕ) (ids : TransferIds) (es : List Spelled) (division : Division) → datagrams_of division ≡ datagrams es
+    → HaveParts header m wire ids division → AllSpelled es → AllNear ids es → (view_in division ≡ deeds_for es) × AllMeant m wire es
+all_meant header m wire ids [] division whole parts s near = (ap view_in (divided_none division whole), tt)
+all_meant header m wire ids (e ∷ es) division whole parts s near =
+    let (p, rest, is, last, more) = divided_more division e.0 (datagrams es) whole in
+    let have : HaveParts header m wire ids (p ∷ rest) = subst (HaveParts header m wire ids) is parts in
+    let now = carried_is header m wire ids rest e p.part (subst (λ d. HasPart header m wire ids rest d p.part) last have.0) s.0 near.0 near.1 in
+    let before = all_meant header m wire ids es rest more have.1 s.1 near.2 in
+    (ap view_in is ∙ view_main p (deed_for e.0.dir e.1) rest now.0 ∙ ap (λ v. deed_for e.0.dir e.1 ∷ v) before.0, (now.1, before.1))
+
+pub tail_of : (header : Header) (m : Meaning) (wire : List ℕ) (ids : TransferIds) (newer older : List Datagram) (division : Division) → datagrams_of division ≡ newer ++ older
+    → HaveParts header m wire ids division → (rest : Division) × (datagrams_of rest ≡ older) × HaveParts header m wire ids rest
+tail_of header m wire ids [] older division whole parts = (division, whole, parts)
+tail_of header m wire ids (d ∷ newer) older division whole parts =
+    let (p, rest, is, last, more) = divided_more division d (newer ++ older) whole in
+    let have : HaveParts header m wire ids (p ∷ rest) = subst (HaveParts header m wire ids) is parts in
+    tail_of header m wire ids newer older rest more have.1
+
+-- at the client: an OACK that comes in after a datagram that goes out shows where the server answers
+oack_shows : (m : Meaning) (wire : List ℕ) (ids : TransferIds) (q : Placed) (d : Datagram) (options : RequestParts) (part : Part) → q.datagram.dir ≡ Out → d.dir ≡ In
+    → ((request : RequestParts) → Spells d.payload (Message.Request request) → ⊥) → HasPart at_client m wire ids (q ∷ []) d part → peer_of d ≡ ids.peer
+oack_shows m wire ids q d options (Main (Took Req)) out way other h = absurd (other (request_of m) h.spells)
+oack_shows m wire ids q d options (Main (Took Oack)) out way other h = h.server.0
+oack_shows m wire ids q d options (Main (Took (Data k))) out way other h = h.server.0
+oack_shows m wire ids q d options (Main (Took (Ack j))) out way other h = h.server.0
+oack_shows m wire ids q d options (Main (Sent p)) out way other h = let e = sym way ∙ h.dir in absurd (cc)
+oack_shows m wire ids q d options Stray out way other h = elim (any_cases (λ (p : Placed). IsMain p.part × (p.datagram.dir ≡ In)) q [] h.after) [
+  | inl first ↦ let e : Out ≡ In = sym out ∙ first.1 in absurd (cc)
+  | inr none ↦ absurd (any_none (λ (p : Placed). IsMain p.part × (p.datagram.dir ≡ In)) none)
+]
+oack_shows m wire ids q d options StrayAnswer out way other h = let e = sym way ∙ h.dir in absurd (cc)
+
+-- the second datagram shows it, where it comes in and spells no request
+pub second_shows : (m : Meaning) (wire : List ℕ) (ids : TransferIds) (newer : List Datagram) (second first : Datagram) (message : Message) (division : Division)
+    → datagrams_of division ≡ newer ++ second ∷ first ∷ [] → HaveParts at_client m wire ids division → first.dir ≡ Out → second.dir ≡ In
+    → Spells second.payload message → ((request : RequestParts) → message ≡ Message.Request request → ⊥) → peer_of second ≡ ids.peer
+second_shows m wire ids newer second first message division whole parts out way s other =
+    let (rest, is, have) = tail_of at_client m wire ids newer (second ∷ first ∷ []) division whole parts in
+    let (p, more, then_is, at, no_more) = divided_more rest second (first ∷ []) is in
+    let (q, none, last_is, begun, end) = divided_more more first [] no_more in
+    let whole_is : rest ≡ p ∷ q ∷ [] = then_is ∙ ap (λ r. p ∷ r) (last_is ∙ ap (λ r. q ∷ r) (divided_none none end)) in
+    let two : HaveParts at_client m wire ids (p ∷ q ∷ []) = subst (HaveParts at_client m wire ids) whole_is have in
+    oack_shows m wire ids q second (request_of m) p.part (ap (λ d. d.dir) begun ∙ out) way
+    (λ request t. other request (spelled_once second.payload message (Message.Request request) s t))
+    (subst (λ d. HasPart at_client m wire ids (q ∷ []) d p.part) at two.0)

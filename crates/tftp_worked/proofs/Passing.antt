@@ -1,0 +1,228 @@
+-- What has passed, read off a list of datagrams with what they spell, the newest first.
+use Rattle.std.proofs.Common.{◌≡◌, ◌&&◌, ◌||◌, ◌⊎◌, Bool, true, false, List, [], ◌∷◌, Option, Some, None, option_map, inl, inr, refl, sym, subst, ap, ◌∙◌, if◌then◌else◌}
+use Rattle.std.proofs.lemmas.Bool.{and_parts, or_cases, false≢true}
+use Rattle.tftp_packet.specs.Message.{Message, RequestParts}
+use Rattle.tftp_packet.specs.Spelling.{Spells}
+use Rattle.tftp_packet.specs.declared.kinds.Side.{Side}
+use Rattle.tftp_packet.specs.declared.kinds.Dir.{Dir}
+use Rattle.tftp_ends.specs.CaptureText.{Datagram, Header}
+use Rattle.tftp_ends.specs.Ports.{or_this, first_of, asks, route_of, is_of_transfer, transfer_of}
+use Rattle.tftp_ends.specs.Rules.{Passed}
+use Rattle.tftp_ends.specs.declared.terms.Terms.{Terms}
+use Rattle.tftp_ends.specs.declared.terms.Reply.TheVariants.{NoReply}
+use Rattle.tftp_law.specs.Rules.{FirstAsked, Answer, Answers, NotAnswered, FirstAnswer, plain_terms, terms_after, AreTerms}
+use Rattle.tftp_law.proofs.Answering.{answer_of, answer_is, answer_there}
+use Rattle.tftp_law.proofs.Spelled.{spelled_once}
+use Rattle.tftp_worked.proofs.Payloads.{Spelled, datagrams, AllSpelled}
+
+-- ---- the datagrams of the transfer
+
+abbrev pub kept_if : Bool → Spelled → List Spelled → List Spelled
+kept_if true e es = e ∷ es
+kept_if false e es = es
+
+abbrev pub main_of : Header → List Spelled → List Spelled
+main_of h [] = []
+main_of h (e ∷ es) = kept_if (is_of_transfer (route_of h (datagrams es) e.0)) e (main_of h es)
+
+main_if : (b : Bool) (e : Spelled) (es : List Spelled) (passed : List Datagram) → datagrams es ≡ passed → datagrams (kept_if b e es) ≡ (if b then e.0 ∷ passed else passed)
+main_if true e es passed is = ap (λ ds. e.0 ∷ ds) is
+main_if false e es passed is = is
+
+pub main_is : (h : Header) (es : List Spelled) → datagrams (main_of h es) ≡ transfer_of h (datagrams es)
+main_is h [] = refl
+main_is h (e ∷ es) = main_if (is_of_transfer (route_of h (datagrams es) e.0)) e (main_of h es) (transfer_of h (datagrams es)) (main_is h es)
+
+spelled_if : (b : Bool) (e : Spelled) (es : List Spelled) → Spells e.0.payload e.1 → AllSpelled es → AllSpelled (kept_if b e es)
+spelled_if true e es s all = (s, all)
+spelled_if false e es s all = all
+
+pub main_spelled : (h : Header) (es : List Spelled) → AllSpelled es → AllSpelled (main_of h es)
+main_spelled h [] s = tt
+main_spelled h (e ∷ es) s = spelled_if (is_of_transfer (route_of h (datagrams es) e.0)) e (main_of h es) s.0 (main_spelled h es s.1)
+
+-- ---- tests of what has passed
+
+abbrev pub every : (Dir → Message → Bool) → List Spelled → Bool
+every test [] = true
+every test (e ∷ es) = test e.0.dir e.1 && every test es
+
+abbrev pub some : (Dir → Message → Bool) → List Spelled → Bool
+some test [] = false
+some test (e ∷ es) = test e.0.dir e.1 || some test es
+
+every_here : (test : Dir → Message → Bool) (e : Spelled) (dir : Dir) (m : Message) → Spells e.0.payload e.1 → (e.0.dir ≡ dir) × Spells e.0.payload m → test e.0.dir e.1 ≡ true → test dir m ≡ true
+every_here test e dir m s at t = subst (λ x. test x m ≡ true) at.0 (subst (λ x. test e.0.dir x ≡ true) (spelled_once e.0.payload e.1 m s at.1) t)
+
+every_in : (test : Dir → Message → Bool) (es : List Spelled) (dir : Dir) (m : Message) → AllSpelled es → every test es ≡ true → Passed dir m (datagrams es) → test dir m ≡ true
+every_in test [] dir m s t p = absurd p
+every_in test (e ∷ es) dir m s t p =
+    let parts = and_parts (test e.0.dir e.1) (every test es) t in
+    elim p [ inl here ↦ every_here test e dir m s.0 here parts.0 | inr before ↦ every_in test es dir m s.1 parts.1 before ]
+
+some_in : (test : Dir → Message → Bool) (es : List Spelled) → AllSpelled es → some test es ≡ true → (dir : Dir) × (m : Message) × (test dir m ≡ true) × Passed dir m (datagrams es)
+some_in test [] s t = absurd (false≢true t)
+some_in test (e ∷ es) s t = elim (or_cases (test e.0.dir e.1) (some test es) t) [
+  | inl here ↦ (e.0.dir, e.1, here, inl (refl, s.0))
+  | inr before ↦ let p = some_in test es s.1 before in (p.0, p.1, p.2, inr p.3)
+]
+
+-- of the datagrams of the transfer
+pub every_is : (h : Header) (es : List Spelled) (test : Dir → Message → Bool) (dir : Dir) (m : Message) → AllSpelled es → every test (main_of h es) ≡ true
+    → Passed dir m (transfer_of h (datagrams es)) → test dir m ≡ true
+every_is h es test dir m s t p = every_in test (main_of h es) dir m (main_spelled h es s) t (subst (Passed dir m) (sym (main_is h es)) p)
+
+pub some_is : (h : Header) (es : List Spelled) (test : Dir → Message → Bool) → AllSpelled es → some test (main_of h es) ≡ true
+    → (dir : Dir) × (m : Message) × (test dir m ≡ true) × Passed dir m (transfer_of h (datagrams es))
+some_is h es test s t =
+    let p = some_in test (main_of h es) (main_spelled h es s) t in
+    (p.0, p.1, p.2, subst (Passed p.0 p.1) (main_is h es) p.3)
+
+-- ---- the first request
+
+abbrev pub first_asked : Header → List Spelled → Option Spelled
+first_asked h es = first_of (λ (e : Spelled). asks h e.0) es
+
+or_this_is : (o : Option Spelled) (b : Bool) (e : Spelled) → or_this (option_map (λ (x : Spelled). x.0) o) b e.0 ≡ option_map (λ (x : Spelled). x.0) (or_this o b e)
+or_this_is (Some x) b e = refl
+or_this_is None true e = refl
+or_this_is None false e = refl
+
+pub first_is : (h : Header) (es : List Spelled) → first_of (asks h) (datagrams es) ≡ option_map (λ (x : Spelled). x.0) (first_asked h es)
+first_is h [] = refl
+first_is h (e ∷ es) = ap (λ o. or_this o (asks h e.0) e.0) (first_is h es) ∙ or_this_is (first_asked h es) (asks h e.0) e
+
+IsSpelled : Option Spelled → Type 0
+IsSpelled None = Unit {0}
+IsSpelled (Some e) = Spells e.0.payload e.1
+
+or_this_spelled : (o : Option Spelled) (b : Bool) (e : Spelled) → IsSpelled o → Spells e.0.payload e.1 → IsSpelled (or_this o b e)
+unfolding IsSpelled
+or_this_spelled (Some x) b e o s = o
+or_this_spelled None true e o s = s
+or_this_spelled None false e o s = tt
+
+first_spelled : (h : Header) (es : List Spelled) → AllSpelled es → IsSpelled (first_asked h es)
+unfolding IsSpelled
+first_spelled h [] s = tt
+first_spelled h (e ∷ es) s = or_this_spelled (first_asked h es) (asks h e.0) e (first_spelled h es s.1) s.0
+
+-- what the first request says
+abbrev pub asked_by : Option Spelled → Option Message
+asked_by o = option_map (λ (x : Spelled). x.1) o
+
+asked_in : (o : Option Spelled) (d : Datagram) (asked : RequestParts) → IsSpelled o → option_map (λ (x : Spelled). x.0) o ≡ Some d → Spells d.payload (Message.Request asked) → asked_by o ≡ Some (Message.Request asked)
+unfolding IsSpelled
+asked_in None d asked s e t = absurd (cc)
+asked_in (Some x) d asked s e t =
+    let same : x.0 ≡ d = cc in
+    ap Some (spelled_once x.0.payload x.1 (Message.Request asked) s (subst (λ y. Spells y.payload (Message.Request asked)) (sym same) t))
+
+pub asked_is : (h : Header) (es : List Spelled) (asked : RequestParts) → AllSpelled es → FirstAsked h (datagrams es) asked → asked_by (first_asked h es) ≡ Some (Message.Request asked)
+asked_is h es asked s (d, first, t) = asked_in (first_asked h es) d asked (first_spelled h es s) (sym (first_is h es) ∙ first) t
+
+-- the first request, where it is known
+pub asked_there : (h : Header) (es : List Spelled) (first : Spelled) (asked : RequestParts) → first_asked h es ≡ Some first → Spells first.0.payload (Message.Request asked) → FirstAsked h (datagrams es) asked
+asked_there h es first asked is s = (first.0, first_is h es ∙ ap (option_map (λ (x : Spelled). x.0)) is, s)
+
+asked_out : (o : Option Spelled) (asked : RequestParts) → IsSpelled o → asked_by o ≡ Some (Message.Request asked) → (d : Datagram) × (option_map (λ (x : Spelled). x.0) o ≡ Some d) × Spells d.payload (Message.Request asked)
+unfolding IsSpelled
+asked_out None asked s e = absurd (cc)
+asked_out (Some x) asked s e = let is : x.1 ≡ Message.Request asked = cc in (x.0, refl, subst (Spells x.0.payload) is s)
+
+pub asked_back : (h : Header) (es : List Spelled) (asked : RequestParts) → AllSpelled es → asked_by (first_asked h es) ≡ Some (Message.Request asked) → FirstAsked h (datagrams es) asked
+asked_back h es asked s e = let (d, is, t) = asked_out (first_asked h es) asked (first_spelled h es s) e in (d, first_is h es ∙ is, t)
+
+-- ---- the first answer to it
+
+abbrev pub or_now : Option Answer → Option Answer → Option Answer
+or_now (Some first) now = Some first
+or_now None now = now
+
+abbrev pub first_answer : Side → List Spelled → Option Answer
+first_answer side [] = None
+first_answer side (e ∷ es) = or_now (first_answer side es) (answer_of side e.1)
+
+-- no option has two values
+pub two_ways : {X : Type 0} (o : Option X) → (o ≡ None) ⊎ ((x : X) × (o ≡ Some x))
+two_ways None = inl refl
+two_ways (Some x) = inr (x, refl)
+
+answers_is : (side : Side) (e : Spelled) (a : Answer) → Spells e.0.payload e.1 → Answers side e.0 a → answer_of side e.1 ≡ Some a
+answers_is side e a s (m, t, is) = ap (answer_of side) (spelled_once e.0.payload e.1 m s t) ∙ answer_is side m a is
+
+now_none : (o now : Option Answer) → o ≡ None → now ≡ None → or_now o now ≡ None
+now_none None now e f = f
+now_none (Some x) now e f = e
+
+now_some : (o now : Option Answer) (a : Answer) → (o ≡ Some a) ⊎ ((o ≡ None) × (now ≡ Some a)) → or_now o now ≡ Some a
+now_some None now a e = elim e [ inl some ↦ absurd (cc) | inr none ↦ none.1 ]
+now_some (Some x) now a e = elim e [ inl some ↦ some | inr none ↦ let is = none.0 in absurd (cc) ]
+
+none_now : (o now : Option Answer) → or_now o now ≡ None → (o ≡ None) × (now ≡ None)
+none_now None now e = (refl, e)
+none_now (Some x) now e = absurd (cc)
+
+some_now : (o now : Option Answer) (a : Answer) → or_now o now ≡ Some a → (o ≡ Some a) ⊎ ((o ≡ None) × (now ≡ Some a))
+some_now None now a e = inr (refl, e)
+some_now (Some x) now a e = inl e
+
+none_in : (side : Side) (es : List Spelled) → AllSpelled es → NotAnswered side (datagrams es) → first_answer side es ≡ None
+none_in side [] s none = refl
+none_in side (e ∷ es) s none =
+    now_none (first_answer side es) (answer_of side e.1) (none_in side es s.1 none.1)
+    (elim (two_ways (answer_of side e.1)) [ inl is ↦ is | inr is ↦ absurd (none.0 is.0 (e.1, s.0, answer_there side e.1 is.0 is.1)) ])
+
+first_in : (side : Side) (es : List Spelled) (a : Answer) → AllSpelled es → FirstAnswer side (datagrams es) a → first_answer side es ≡ Some a
+first_in side [] a s first = absurd first
+first_in side (e ∷ es) a s first =
+    now_some (first_answer side es) (answer_of side e.1) a
+    (elim first [ inl before ↦ inl (first_in side es a s.1 before) | inr now ↦ inr (none_in side es s.1 now.0, answers_is side e a s.0 now.1) ])
+
+none_there : (side : Side) (es : List Spelled) → AllSpelled es → first_answer side es ≡ None → NotAnswered side (datagrams es)
+none_there side [] s is = tt
+none_there side (e ∷ es) s is =
+    let none = none_now (first_answer side es) (answer_of side e.1) is in
+    (λ a answers. let now : None ≡ Some a = sym none.1 ∙ answers_is side e a s.0 answers in absurd (cc), none_there side es s.1 none.0)
+
+first_there : (side : Side) (es : List Spelled) (a : Answer) → AllSpelled es → first_answer side es ≡ Some a → FirstAnswer side (datagrams es) a
+first_there side [] a s is = absurd (cc)
+first_there side (e ∷ es) a s is = elim (some_now (first_answer side es) (answer_of side e.1) a is) [
+  | inl before ↦ inl (first_there side es a s.1 before)
+  | inr now ↦ inr (none_there side es s.1 now.0, (e.1, s.0, answer_there side e.1 a now.1))
+]
+
+-- of the datagrams of the transfer
+pub unanswered_is : (h : Header) (side : Side) (es : List Spelled) → AllSpelled es → NotAnswered side (transfer_of h (datagrams es)) → first_answer side (main_of h es) ≡ None
+unanswered_is h side es s none = none_in side (main_of h es) (main_spelled h es s) (subst (NotAnswered side) (sym (main_is h es)) none)
+
+pub answered_is : (h : Header) (side : Side) (es : List Spelled) (a : Answer) → AllSpelled es → FirstAnswer side (transfer_of h (datagrams es)) a → first_answer side (main_of h es) ≡ Some a
+answered_is h side es a s first = first_in side (main_of h es) a (main_spelled h es s) (subst (λ ds. FirstAnswer side ds a) (sym (main_is h es)) first)
+
+pub unanswered_there : (h : Header) (side : Side) (es : List Spelled) → AllSpelled es → first_answer side (main_of h es) ≡ None → NotAnswered side (transfer_of h (datagrams es))
+unanswered_there h side es s is = subst (NotAnswered side) (main_is h es) (none_there side (main_of h es) (main_spelled h es s) is)
+
+pub answered_there : (h : Header) (side : Side) (es : List Spelled) (a : Answer) → AllSpelled es → first_answer side (main_of h es) ≡ Some a → FirstAnswer side (transfer_of h (datagrams es)) a
+answered_there h side es a s is = subst (λ ds. FirstAnswer side ds a) (main_is h es) (first_there side (main_of h es) a (main_spelled h es s) is)
+
+-- ---- what is known of the transfer
+
+abbrev pub terms_by : Header → RequestParts → Option Answer → Terms
+terms_by h asked None = plain_terms h asked.side NoReply
+terms_by h asked (Some answer) = terms_after h asked answer
+
+abbrev pub terms_from : Header → List Spelled → Option Message → Option Terms
+terms_from h es (Some (Message.Request asked)) = Some (terms_by h asked (first_answer asked.side (main_of h es)))
+terms_from h es _ = None
+
+abbrev pub terms_of : Header → List Spelled → Option Terms
+terms_of h es = terms_from h es (asked_by (first_asked h es))
+
+pub terms_are : (h : Header) (es : List Spelled) (t : Terms) → AllSpelled es → AreTerms h (datagrams es) t → terms_of h es ≡ Some t
+terms_are h es t s known = elim known.2 [
+  | inl none ↦ from (ap (λ o. Some (terms_by h known.0 o)) (unanswered_is h known.0.side es s none.0) ∙ ap Some (sym none.1))
+  | inr answered ↦ from (ap (λ o. Some (terms_by h known.0 o)) (answered_is h known.0.side es answered.0 s answered.1) ∙ ap Some (sym answered.2))
+]
+  where
+    from : Some (terms_by h known.0 (first_answer known.0.side (main_of h es))) ≡ Some t → terms_of h es ≡ Some t
+    from e = ap (terms_from h es) (asked_is h es known.0 s known.1) ∙ e

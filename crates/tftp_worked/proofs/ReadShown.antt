@@ -1,0 +1,138 @@
+-- The worked captures: what they show, and what they cannot.
+use Rattle.std.proofs.Common.{◌≡◌, ◌≢◌, ℕ, ◌≤◌, List, [], ◌∷◌, codes, inl, inr, refl, sym, subst, ap, ◌∙◌, arith}
+use Rattle.tftp_packet.specs.Message.{Message}
+use Rattle.tftp_packet.specs.declared.kinds.End.TheVariants.{Client, Server}
+use Rattle.tftp_packet.specs.declared.kinds.Dir.TheVariants.{In}
+use Rattle.tftp_ends.specs.Meaning.{Meaning, NothingAgreed, blksize_of}
+use Rattle.tftp_ends.specs.Blocks.{block, block_count}
+use Rattle.tftp_ends.specs.Machines.{Deed, Sent, Took, Req, Data, Ack, History, HasSent, HasTaken, receiver_of}
+use Rattle.tftp_ends.specs.Runs.{Step, IsView}
+use Rattle.tftp_ends.specs.Worked.{two_bytes, two_bytes_view}
+use Rattle.tftp_ends.proofs.Members.{contains_first, contains_cases, contains_none}
+use Rattle.tftp_ends.proofs.Defaults.{default_blksize}
+use Rattle.tftp_ends.proofs.Worked.{one_block, two_bytes_run, two_bytes_is_view, two_bytes_complete}
+use Rattle.tftp_packet.specs.Spelling.{Spells}
+use Rattle.tftp_law.specs.Dress.{Main, Placed, Division, TransferIds, CarriesDeed, HaveParts, IsDressed}
+use Rattle.tftp_law.specs.Law.{IsSeen, IsLawful, ShowsBy, Shows}
+use Rattle.tftp_worked.specs.Worked.{at_client, asks_for_a, brings_hi, acknowledges_hi, one_block_read, read_without_its_ack, read_past_its_end}
+use Rattle.tftp_law.proofs.NothingAgreed.{two_bytes_fit}
+use Rattle.tftp_worked.proofs.Spelled.{request_spelled, hi_spelled, ack_spelled}
+use Rattle.tftp_law.proofs.Divided.{any_first}
+use Rattle.tftp_worked.proofs.Read.{begun, Followed, acknowledged, more_came}
+use Rattle.tftp_worked.proofs.ReadRuns.{nothing_agreed, taken_in_wire, wire_is_hi, side_is_get, file_is_wire, meaning_is, hi_taken, no_ack_zero}
+
+abbrev pub ids : TransferIds
+ids = record { own = 40000; peer = 41000 }
+
+abbrev pub begins : Division
+begins =
+    record { datagram = brings_hi; part = Main (Took (Data 1)) }
+    ∷ record { datagram = asks_for_a; part = Main (Sent Req) }
+    ∷ []
+
+abbrev ends : Division
+ends = record { datagram = acknowledges_hi; part = Main (Sent (Ack 1)) } ∷ begins
+
+asks : CarriesDeed at_client two_bytes two_bytes.file ids [] asks_for_a (Sent Req)
+asks = record { dir = refl; client = refl; server = refl; spells = request_spelled }
+
+brings : CarriesDeed at_client two_bytes two_bytes.file ids (record { datagram = asks_for_a; part = Main (Sent Req) } ∷ []) brings_hi (Took (Data 1))
+brings = record {
+  dir = refl;
+  client = refl;
+  server = (refl, inl refl);
+  spells = subst (λ b. Spells brings_hi.payload (Message.Data 1 (block b two_bytes.file 1))) (sym (default_blksize two_bytes refl)) hi_spelled;
+}
+
+acknowledges : CarriesDeed at_client two_bytes two_bytes.file ids begins acknowledges_hi (Sent (Ack 1))
+acknowledges = record {
+  dir = refl;
+  client = refl;
+  server = (refl, inr (any_first (λ (p : Placed). p.datagram.dir ≡ In) (record { datagram = brings_hi; part = Main (Took (Data 1)) }) (record { datagram = asks_for_a; part = Main (Sent Req) } ∷ []) refl));
+  spells = ack_spelled;
+}
+
+pub begin_parts : HaveParts at_client two_bytes two_bytes.file ids begins
+begin_parts = (brings, (asks, tt))
+
+pub dressed_read : IsDressed at_client two_bytes two_bytes.file two_bytes_view one_block_read
+dressed_read = record { ids = ids; division = ends; whole = refl; main = refl; parts = (acknowledges, begin_parts) }
+
+abbrev without_ack : History
+without_ack = Took (Data 1) ∷ Sent Req ∷ []
+
+dressed_begin : IsDressed at_client two_bytes two_bytes.file without_ack read_without_its_ack
+dressed_begin = record { ids = ids; division = begins; whole = refl; main = refl; parts = begin_parts }
+
+seen_read : IsSeen at_client two_bytes two_bytes.file one_block_read
+seen_read = record { fits = two_bytes_fit; view = two_bytes_view; run = two_bytes_is_view; dressed = dressed_read }
+
+pub read_is_shown : Shows at_client two_bytes one_block_read
+unfolding seen_read
+read_is_shown = record {
+  writable = omega (arith, one_block);
+  wire = two_bytes.file;
+  shown = record { seen = seen_read; complete = two_bytes_complete };
+}
+
+begin_steps : List Step
+begin_steps =
+    record { actor = Client; deed = Took (Data 1) }
+    ∷ record { actor = Server; deed = Sent (Data 1) }
+    ∷ record { actor = Server; deed = Took Req }
+    ∷ record { actor = Client; deed = Sent Req }
+    ∷ []
+
+begin_is_view : IsView two_bytes two_bytes.file Client without_ack
+unfolding begin_steps
+begin_is_view = (begin_steps, two_bytes_run.1.1, refl)
+
+pub begin_is_lawful : IsLawful at_client read_without_its_ack
+begin_is_lawful = (two_bytes, two_bytes.file, record { fits = two_bytes_fit; view = without_ack; run = begin_is_view; dressed = dressed_begin })
+
+none_agreed_after : (m : Meaning) (wire : List ℕ) (view : History) (deed : Deed) → deed ≢ Sent (Ack 0) → IsView m wire Client view → Followed m wire deed view → NothingAgreed m
+none_agreed_after m wire view deed differs run f =
+    nothing_agreed m wire view 1 run (side_is_get m f.request)
+    (subst (λ v. HasTaken v (Data 1)) (sym f.is) (hi_taken deed))
+    (λ at. no_ack_zero deed differs (subst (λ v. HasSent v (Ack 0)) f.is at))
+
+pub only_two_bytes : (m : Meaning) (wire : List ℕ) → IsSeen at_client m wire one_block_read → m ≡ two_bytes
+only_two_bytes m wire seen =
+    let dress = seen.dressed in
+    let f = acknowledged m wire dress.ids seen.view dress.division dress.whole dress.main dress.parts in
+    let none = none_agreed_after m wire seen.view (Sent (Ack 1)) (λ e. omega (arith, ack_of e)) seen.run f in
+    meaning_is m f.request none (sym (file_is_wire m wire f.request seen.fits) ∙ wire_is_hi m wire none f.hi)
+  where
+    ack_of : Sent (Ack 1) ≡ Sent (Ack 0) → ◌≡◌ {A = ℕ} 1 0
+    ack_of e = cc
+
+pub same_two_bytes : (m other : Meaning) → Shows at_client m one_block_read → Shows at_client other one_block_read → m ≡ other
+same_two_bytes m other s t = only_two_bytes m s.wire s.shown.seen ∙ sym (only_two_bytes other t.wire t.shown.seen)
+
+no_ack_in : (n : ℕ) → HasSent without_ack (Ack n) → ⊥
+no_ack_in n at = elim (contains_cases (Took (Data 1)) (Sent Req ∷ []) (Sent (Ack n)) at) [
+  | inl is ↦ absurd (cc)
+  | inr later ↦ elim (contains_cases (Sent Req) [] (Sent (Ack n)) later) [ inl is ↦ absurd (cc) | inr none ↦ contains_none (Sent (Ack n)) none ]
+]
+
+pub begin_shows_nothing : (m : Meaning) (wire : List ℕ) → ShowsBy at_client m wire read_without_its_ack → ⊥
+begin_shows_nothing m wire shown =
+    let seen = shown.seen in
+    let dress = seen.dressed in
+    let b = begun m wire dress.ids dress.division dress.whole dress.parts in
+    let receiver : Client ≡ receiver_of m.side = ap receiver_of (sym (side_is_get m b.request)) in
+    let n = block_count (blksize_of m) wire in
+    no_ack_in n (subst (λ v. HasSent v (Ack n)) (sym dress.main ∙ b.view) (shown.complete.acknowledged receiver))
+
+one_block_of : (m : Meaning) (wire : List ℕ) → NothingAgreed m → wire ≡ codes "hi" → block_count (blksize_of m) wire ≡ 1
+one_block_of m wire none is = ap (λ b. block_count b wire) (default_blksize m none) ∙ ap (λ x. block_count 512 x) is
+
+pub past_is_unlawful : IsLawful at_client read_past_its_end → ⊥
+past_is_unlawful (m, wire, seen) =
+    let dress = seen.dressed in
+    let f = more_came m wire dress.ids seen.view dress.division dress.whole dress.main dress.parts in
+    let none = none_agreed_after m wire seen.view (Took (Data 2)) (λ e. cc) seen.run f in
+    let taken = subst (λ v. HasTaken v (Data 2)) (sym f.is) (contains_first (Took (Data 2)) (Took (Data 1) ∷ Sent Req ∷ [])) in
+    let two : 2 ≤ block_count (blksize_of m) wire = taken_in_wire m wire seen.view 2 seen.run taken in
+    let one = one_block_of m wire none (wire_is_hi m wire none f.hi) in
+    omega arith

@@ -1,0 +1,58 @@
+-- Worked verdicts, from the runs and the rules.
+use Rattle.std.proofs.Common.{List, [], ◌∷◌, ◌++◌, reverse, refl}
+use Rattle.tftp_ends.specs.CaptureText.{Datagram, Header}
+use Rattle.tftp_ends.specs.Meaning.{Meaning}
+use Rattle.tftp_ends.specs.Worked.{two_bytes}
+use Rattle.tftp_ends.specs.WorkedWindows.{six_blocks}
+use Rattle.tftp_law.specs.declared.rule.Rule.{Rule}
+use Rattle.tftp_law.specs.Law.{Shows}
+use Rattle.tftp_judge.specs.Verdict.{IsVerdict, IsVerdictByRules}
+use Rattle.tftp_judge.specs.declared.verdict.Verdict.TheVariants.{Accepted, Unlawful, Incomplete}
+use Rattle.tftp_worked.specs.Worked.{at_client, one_block_read, read_without_its_ack}
+use Rattle.tftp_worked.specs.WorkedWindows.{window_out_of_order, before_overrun, block_seven}
+use Rattle.tftp_law.proofs.Beginnings.{shown_is_lawful}
+use Rattle.tftp_law.proofs.FirstBroken.{refused_does_not_pass}
+use Rattle.tftp_worked.proofs.ReadShown.{read_is_shown, begin_is_lawful, begin_shows_nothing}
+use Rattle.tftp_worked.proofs.WindowsShown.{six_shown}
+use Rattle.tftp_worked.proofs.Unlawful.{overrun_is_first, overrun_is_unlawful}
+use Rattle.tftp_worked.proofs.Refused.{overrun_refused}
+use Rattle.tftp_worked.proofs.Accepted.{plain_passes, plain_meant}
+
+accepted : (header : Header) (m : Meaning) (datagrams : List Datagram) → Shows header m datagrams → IsVerdict header datagrams (Accepted m)
+accepted header m datagrams shows = (shown_is_lawful header m datagrams shows, (shows.wire, shows.shown), shows.writable)
+
+pub read_accepted : IsVerdict at_client one_block_read (Accepted two_bytes)
+read_accepted = accepted at_client two_bytes one_block_read read_is_shown
+
+pub window_accepted : IsVerdict at_client window_out_of_order (Accepted six_blocks)
+window_accepted = accepted at_client six_blocks window_out_of_order six_shown
+
+pub begin_incomplete : IsVerdict at_client read_without_its_ack (Incomplete 2)
+begin_incomplete = (begin_is_lawful, (λ m shown. begin_shows_nothing m shown.0 shown.1), refl)
+
+pub overrun_verdict : IsVerdict at_client (before_overrun ++ block_seven ∷ []) (Unlawful 8 Rule.WindowOverrun)
+overrun_verdict = record {
+  before = before_overrun;
+  datagram = block_seven;
+  rest = [];
+  split = refl;
+  index_is = refl;
+  lawful = overrun_is_first.lawful;
+  unlawful = overrun_is_unlawful;
+  broken = overrun_refused.broken;
+}
+
+pub read_by_rules : IsVerdictByRules at_client one_block_read (Accepted two_bytes)
+read_by_rules = (plain_passes, plain_meant, read_is_shown.writable)
+
+pub overrun_by_rules : IsVerdictByRules at_client (before_overrun ++ block_seven ∷ []) (Unlawful 8 Rule.WindowOverrun)
+overrun_by_rules = record {
+  before = before_overrun;
+  datagram = block_seven;
+  rest = [];
+  split = refl;
+  index_is = refl;
+  lawful = overrun_refused.lawful;
+  unlawful = λ passes. refused_does_not_pass at_client (reverse before_overrun) block_seven Rule.WindowOverrun overrun_refused passes;
+  broken = overrun_refused.broken;
+}

@@ -1,0 +1,6 @@
+//! Worked cases of the law: what captures show by the runs of two ends, what they break by the rules, and the verdicts.
+#![tactic(auto)]
+
+pub mod worked_cases;
+pub mod worked_rules;
+pub mod worked_verdicts;

@@ -1,0 +1,106 @@
+//! Worked cases of the law, proved from its definitions alone. Each is the contract of a function that does nothing.
+
+ghost use Rattle.std.specs.Prelude.{◌≡◌, ℕ, List, [], ◌∷◌, ◌++◌};
+ghost use Rattle.tftp_law.specs.CaptureText.{Datagram, Header};
+ghost use Rattle.tftp_ends.specs.Meaning.{Meaning};
+ghost use Rattle.tftp_ends.specs.Worked.{two_bytes, two_bytes_written, ten_bytes};
+ghost use Rattle.tftp_ends.specs.WorkedWindows.{six_blocks, six_blocks_steps, block_repeated, window_repeated};
+ghost use Rattle.tftp_ends.specs.Runs.{IsRun, view_of};
+ghost use Rattle.tftp_packet.specs.declared.kinds.End.TheVariants.{Client, Server};
+ghost use Rattle.tftp_law.specs.Dress.{IsDressed};
+ghost use Rattle.tftp_worked.specs.WorkedWindows.{
+  at_service,
+  window_out_of_order,
+  window_at_server,
+  before_overrun,
+  block_seven,
+  block_sent_again,
+  window_sent_again,
+  before_skip,
+  block_two,
+};
+ghost use Rattle.tftp_law.specs.Law.{Shows, ShowsBy, IsSeen, IsLawful, IsLawfulUpTo};
+ghost use Rattle.tftp_worked.specs.Worked.{
+  at_client,
+  at_server,
+  one_block_read,
+  read_without_its_ack,
+  read_past_its_end,
+  read_with_a_stray,
+  read_at_server,
+  one_block_write,
+  read_in_eights,
+};
+
+/// Three datagrams show a read of a file of two bytes.
+pub fn one_block_read_is_shown()
+    ensures { Shows at_client two_bytes one_block_read }
+{}
+
+/// So do five, of which one came from another port and one answers it.
+pub fn read_with_a_stray_is_shown()
+    ensures { Shows at_client two_bytes read_with_a_stray }
+{}
+
+/// The same read as its server sees it, which answers from a port of its own.
+pub fn read_at_the_server_is_shown()
+    ensures { Shows at_server two_bytes read_at_server }
+{}
+
+/// A write of the two bytes.
+pub fn one_block_write_is_shown()
+    ensures { Shows at_client two_bytes_written one_block_write }
+{}
+
+/// A read with an agreed block size, in two blocks.
+pub fn read_in_eights_is_shown()
+    ensures { Shows at_client ten_bytes read_in_eights }
+{}
+
+/// A read in a window of four blocks, of which one comes late and the next one twice: at its client, at its server, and
+/// that both captures are of one run.
+pub fn window_out_of_order_is_shown()
+    ensures client { Shows at_client six_blocks window_out_of_order }
+    ensures server { Shows at_service six_blocks window_at_server }
+    ensures run { IsRun six_blocks six_blocks.file six_blocks_steps }
+    ensures client_dressed { IsDressed at_client six_blocks six_blocks.file (view_of Client six_blocks_steps) window_out_of_order }
+    ensures server_dressed { IsDressed at_service six_blocks six_blocks.file (view_of Server six_blocks_steps) window_at_server }
+{}
+
+/// A write in lock step whose client sends a block again that was acknowledged.
+pub fn block_sent_again_is_shown()
+    ensures { Shows at_client block_repeated block_sent_again }
+{}
+
+/// A write in a window of four whose client sends both blocks again after an ACK 0.
+pub fn window_sent_again_is_shown()
+    ensures { Shows at_client window_repeated window_sent_again }
+{}
+
+/// No run has a block that is more than the window above what was acknowledged. Up to it the capture is lawful.
+pub fn block_past_the_window_is_unlawful()
+    ensures { IsLawfulUpTo at_client (before_overrun ++ block_seven ∷ []) 7 }
+{}
+
+/// No run has block 2 before block 1 was sent.
+pub fn block_skipped_is_unlawful()
+    ensures { IsLawful at_client (before_skip ++ block_two ∷ []) → ⊥ }
+{}
+
+/// The three datagrams of the read at the client show nothing else.
+pub fn one_block_read_has_one_meaning()
+    ensures only { (m : Meaning) (wire : List ℕ) → IsSeen at_client m wire one_block_read → m ≡ two_bytes }
+    ensures same { (m other : Meaning) → Shows at_client m one_block_read → Shows at_client other one_block_read
+        → m ≡ other }
+{}
+
+/// Without its last ACK the read is lawful, and shows nothing.
+pub fn read_without_its_ack_is_not_complete()
+    ensures lawful { IsLawful at_client read_without_its_ack }
+    ensures shows_nothing { (m : Meaning) (wire : List ℕ) → ShowsBy at_client m wire read_without_its_ack → ⊥ }
+{}
+
+/// No run has a block after one that is shorter than a block.
+pub fn block_after_the_last_is_unlawful()
+    ensures { IsLawful at_client read_past_its_end → ⊥ }
+{}

@@ -1,0 +1,130 @@
+//! Worked cases of the rules, proved from their definitions alone. Each names the datagram that breaks a rule, and says
+//! that those before it break none and that it breaks no earlier rule. Each is the contract of a function that does
+//! nothing.
+
+ghost use Rattle.std.specs.Prelude.{[], ◌∷◌, reverse};
+ghost use Rattle.tftp_law.specs.declared.rule.Rule.{Rule};
+ghost use Rattle.tftp_ends.specs.Worked.{two_bytes};
+ghost use Rattle.tftp_law.specs.OneEnded.{OneEnded, IsRefused, Meant};
+ghost use Rattle.tftp_worked.specs.Worked.{at_client, brings_hi, acknowledges_two, one_block_read, read_without_its_ack};
+ghost use Rattle.tftp_worked.specs.WorkedWindows.{
+  at_service,
+  window_out_of_order,
+  window_at_server,
+  block_sent_again,
+  window_sent_again,
+  before_overrun,
+  block_seven,
+  before_skip,
+  block_two,
+};
+ghost use Rattle.tftp_worked.specs.WorkedRules.{
+  before_going_back,
+  goes_back,
+  before_ack_zero,
+  ack_zero,
+  before_answering,
+  acknowledges_stray,
+  acknowledges_nobody,
+  comes_to_another_port,
+  before_last_number,
+  last_number,
+  asks_for_size,
+  too_many_blocks,
+  before_changed_block,
+  changed_block,
+  before_short_block,
+  short_block,
+  only_asked,
+  block_zero,
+  says_not_found,
+  before_changed_reply,
+  agrees_to_four,
+  before_taking_offer,
+  agrees_to_eight,
+  block_too_early,
+  before_late_oack,
+  late_oack,
+};
+
+/// Captures of whole transfers break no rule: the read of one block; the read in a window of four of which a block comes
+/// late, at both ends; and the two writes that send blocks again.
+pub fn whole_transfers_break_no_rule()
+    ensures read { OneEnded at_client (reverse one_block_read) }
+    ensures window { OneEnded at_client (reverse window_out_of_order) }
+    ensures window_at_the_server { OneEnded at_service (reverse window_at_server) }
+    ensures block_again { OneEnded at_client (reverse block_sent_again) }
+    ensures window_again { OneEnded at_client (reverse window_sent_again) }
+{}
+
+/// The three datagrams of the read mean, by the rules, what they show.
+pub fn one_block_read_means_two_bytes()
+    ensures { Meant at_client (reverse one_block_read) two_bytes }
+{}
+
+/// At its transfer id the client hears one server (RFC 1350, section 4). What comes to another port, what goes to a port
+/// that nothing came from, and what answers a stray by no ERROR 5 breaks one of the first three rules.
+pub fn ports_are_the_transfers()
+    ensures foreign { IsRefused at_client (reverse before_answering) comes_to_another_port Rule.ForeignPort }
+    ensures wrong { IsRefused at_client (reverse before_answering) acknowledges_nobody Rule.WrongPort }
+    ensures stray { IsRefused at_client (reverse before_answering) acknowledges_stray Rule.StrayAnswer }
+{}
+
+/// Nothing comes before a request (RFC 1350, section 4).
+pub fn request_comes_first()
+    ensures { IsRefused at_client [] brings_hi Rule.NoRequest }
+{}
+
+/// The server of a read acknowledges nothing (RFC 1350, section 2).
+pub fn server_of_a_read_sends_no_ack()
+    ensures { IsRefused at_client (reverse only_asked) ack_zero Rule.WrongKind }
+{}
+
+/// An ERROR ends the transfer (RFC 1350, section 7).
+pub fn error_ends_the_transfer()
+    ensures { IsRefused at_client (reverse only_asked) says_not_found Rule.TransferAborted }
+{}
+
+/// No block is acknowledged before it and all below it have come in (RFC 1350, section 2).
+pub fn acks_follow_the_blocks()
+    ensures { IsRefused at_client (reverse read_without_its_ack) acknowledges_two Rule.AckAhead }
+{}
+
+/// An OACK comes before the file or not at all, and says one thing (RFC 2347).
+pub fn one_reply_answers_a_request()
+    ensures after_a_block { IsRefused at_client (reverse before_changed_reply) agrees_to_four Rule.ReplyChanged }
+    ensures another { IsRefused at_client (reverse before_taking_offer) agrees_to_eight Rule.OackChanged }
+    ensures late { IsRefused at_service (reverse before_late_oack) late_oack Rule.OackAfterStart }
+{}
+
+/// With options the first block of a read waits for ACK 0 (RFC 2347), and block numbers begin with 1 (RFC 1350,
+/// section 5).
+pub fn blocks_begin_in_order()
+    ensures early { IsRefused at_client (reverse before_taking_offer) block_too_early Rule.NotStarted }
+    ensures zero { IsRefused at_client (reverse only_asked) block_zero Rule.BlockZero }
+{}
+
+/// Blocks have numbers of two bytes (RFC 1350, section 5). Block 65535 is the last, and so is shorter than a block; and a
+/// size that needs more blocks may not be agreed.
+pub fn blocks_end_at_65535()
+    ensures block { IsRefused at_client (reverse before_last_number) last_number Rule.BeyondBlock65535 }
+    ensures size { IsRefused at_client (reverse (asks_for_size ∷ [])) too_many_blocks Rule.BeyondBlock65535 }
+{}
+
+/// The agreed size says which block is the last and how long it is (RFC 2349), and a block that comes again is the same.
+pub fn blocks_are_those_of_the_file()
+    ensures length { IsRefused at_client (reverse before_short_block) short_block Rule.BlockLength }
+    ensures changed { IsRefused at_client (reverse before_changed_block) changed_block Rule.BlockChanged }
+{}
+
+/// Blocks go in order and at most a window ahead (RFC 7440, section 4), and in lock step never back (RFC 1350, section 2).
+pub fn blocks_keep_to_the_window()
+    ensures overrun { IsRefused at_client (reverse before_overrun) block_seven Rule.WindowOverrun }
+    ensures skipped { IsRefused at_client (reverse before_skip) block_two Rule.BlockSkipped }
+    ensures back { IsRefused at_client (reverse before_going_back) goes_back Rule.GoneBack }
+{}
+
+/// On a write with options ACK 0 has nothing to answer before a block has gone out (RFC 2347).
+pub fn ack_zero_answers_something()
+    ensures { IsRefused at_client (reverse before_ack_zero) ack_zero Rule.AckZero }
+{}
