@@ -21,7 +21,8 @@ use Rattle.tftp_commands.specs.Output.{IsWritten, Output}
 use Rattle.tftp_commands.specs.Shown.{AreFirst, AreLines, Ending, Whole, Faulty, Cut, EndsBy, IsDatagramLine, IsShown, last_line, status_of}
 use Rattle.tftp_commands.specs.Source.{given}
 use Rattle.tftp_commands.proofs.Lines.{lines_more}
-use Rattle.tftp_commands.proofs.Written.{prefix_after, written_after}
+use Rattle.tftp_capture.proofs.Gathering.{prefix_after}
+use Rattle.tftp_commands.proofs.Written.{written_after}
 
 -- What was shown so far: a reader that goes on took these bytes and gave these datagrams; the lines of these were
 -- written, or wait.
