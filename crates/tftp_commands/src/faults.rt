@@ -1,4 +1,4 @@
-ghost use Rattle.std.specs.Prelude.{◌≡◌, ◌++◌, true, false, OnOk, OnErr};
+ghost use Rattle.std.specs.Prelude.{◌≡◌, ◌++◌, false};
 ghost use Rattle.tftp_capture.specs.Tally.{Adds};
 ghost use Rattle.tftp_commands.specs.Output.{fault_line};
 

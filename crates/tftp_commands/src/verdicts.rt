@@ -1,4 +1,4 @@
-ghost use Rattle.std.specs.Prelude.{◌≡◌, ◌++◌, true, false, OnOk, OnErr};
+ghost use Rattle.std.specs.Prelude.{◌≡◌, ◌++◌, false};
 ghost use Rattle.tftp_capture.specs.Tally.{Adds};
 ghost use Rattle.tftp_judge.specs.declared.verdict.Verdict.{Verdict};
 ghost use Rattle.tftp_commands.specs.Checked.{accepted_line, detail, verdict_line, verdict_status};

@@ -315,12 +315,7 @@ fn the_line_is_that_of_what_was_handed_out(rt: HostRuntime) -> Result<(), Fail> 
         5,
         &[6, 7, 8],
     )?;
-    stands_on(
-        &rt,
-        &changed(&rt, 3, b"#\n\nservice 69\n#")?,
-        5,
-        &[7, 8, 9],
-    )?;
+    stands_on(&rt, &changed(&rt, 3, b"#\n\nservice 69\n#")?, 5, &[7, 8, 9])?;
     stands_on(&rt, &changed(&rt, 6, b"out 1 2 -\n\n#")?, 3, &[4, 5, 6])?;
     stands_on(
         &rt,
@@ -346,11 +341,32 @@ fn the_line_stays_at_a_fault(rt: HostRuntime) -> Result<(), Fail> {
             assert!(rt; matches!(capture.next(rt.alloc(), &mut reader), Ok(Some(_))));
         }
         for _ in 0..2 {
-            assert!(rt; matches!(capture.next(rt.alloc(), &mut reader), Err(CaptureFault::Text(..))));
+            assert!(rt;
+                matches!(
+                    capture.next(rt.alloc(), &mut reader),
+                    Err(CaptureFault::Text(..))
+                )
+            );
             assert_eq!(rt; capture.line(), wanted);
         }
     }
     Ok(())
+}
+
+/// With a growth refused the answer is the text's own, or want of memory on one of its lines.
+#[test]
+fn texts_with_a_growth_refused(rt: HostRuntime) {
+    let bad: &[u8] = b"tftp-capture 1\nend client\nservice 69\nout 1 2 0g\n";
+    for (text, wanted, lines) in [
+        (READ, Ok((3, 15)), 7),
+        (bad, Err(CaptureFault::Text(4, TextFault::BadHex)), 4),
+    ] {
+        let mut reader = Tallied::new(DripReader::new(text, 1, 0, None));
+        match outcome(&rt, &mut reader) {
+            Err(CaptureFault::Memory(line)) => assert!(rt; 1 <= line && line <= lines),
+            found => assert_eq!(rt; found, wanted),
+        }
+    }
 }
 
 /// A reader and a writer that counts how often it was asked, and answers one call with an error.
