@@ -1,8 +1,14 @@
-ghost use Rattle.std.specs.Prelude.{◌≡◌, false};
+//! Capture texts: what is read of them, with its lines, and what is written; and who was asked whether a call failed.
 
-use super::*;
-use std::io::Read;
+ghost use Rattle.std.specs.Prelude.{◌≡◌, false, IfOk};
+
+use std::io;
+use std::io::{ErrorKind, Read, Write};
 use std::test::Fail;
+use tftp_capture::{
+    CaptureFault, CaptureReader, CaptureWriter, DripReader, DripWriter, Gathered, Header, Tallied,
+    TextFault, WriteFault,
+};
 use tftp_packet::{Dir, End};
 
 /// A read of the file `a`, which is `hi`, in one block (RFC 1350, sections 4 and 5).
@@ -272,6 +278,171 @@ fn faults_and_the_end_are_answered_for_good(rt: HostRuntime) -> Result<(), Fail>
         assert!(rt; matches!(capture.next(rt.alloc(), &mut reader), Ok(None)));
     }
     Ok(())
+}
+
+/// Fails unless the text's service line and its datagrams stand on these lines, and the last of them is named on.
+fn stands_on(rt: &HostRuntime, text: &[u8], service: u64, datagrams: &[u64]) -> Result<(), Fail> {
+    let mut reader = Tallied::new(DripReader::new(text, 7, 0, None));
+    let mut capture = CaptureReader::begin(rt.alloc(), &mut reader).map_err(|_| Fail::from(
+        "begin",
+    ))?;
+    let mut last = capture.line();
+    if last != service {
+        return Err(Fail::from((last, service)));
+    }
+    for line in datagrams {
+        let more = matches!(capture.next(rt.alloc(), &mut reader), Ok(Some(_)));
+        last = capture.line();
+        if !more || last != *line {
+            return Err(Fail::from((more, last, *line)));
+        }
+    }
+    for _ in 0..2 {
+        let ends = matches!(capture.next(rt.alloc(), &mut reader), Ok(None));
+        if !ends || capture.line() != last {
+            return Err(Fail::from((ends, capture.line(), last)));
+        }
+    }
+    Ok(())
+}
+
+#[test]
+fn the_line_is_that_of_what_was_handed_out(rt: HostRuntime) -> Result<(), Fail> {
+    stands_on(&rt, READ, 3, &[4, 5, 6])?;
+    stands_on(
+        &rt,
+        &changed(&rt, 2, b"\n#\x00\xff\nend server")?,
+        5,
+        &[6, 7, 8],
+    )?;
+    stands_on(&rt, &changed(&rt, 3, b"#\n\nservice 69\n#")?, 5, &[7, 8, 9])?;
+    stands_on(&rt, &changed(&rt, 6, b"out 1 2 -\n\n#")?, 3, &[4, 5, 6])?;
+    stands_on(
+        &rt,
+        b"tftp-capture 1\n#\nend client\n#\nservice 69\n#\ntotal 0\n",
+        5,
+        &[],
+    )
+}
+
+#[test]
+fn the_line_stays_at_a_fault(rt: HostRuntime) -> Result<(), Fail> {
+    for (number, line, wanted) in [
+        (4, b"#\n#\nin".as_slice(), 3),
+        (5, b"#\nin 1", 4),
+        (7, b"#\n#\ntotal 4", 6),
+    ] {
+        let text = changed(&rt, number, line)?;
+        let mut reader = Tallied::new(DripReader::new(&text, 7, 0, None));
+        let mut capture = CaptureReader::begin(rt.alloc(), &mut reader).map_err(|_| Fail::from(
+            "begin",
+        ))?;
+        for _ in 4..number {
+            assert!(rt; matches!(capture.next(rt.alloc(), &mut reader), Ok(Some(_))));
+        }
+        for _ in 0..2 {
+            assert!(rt;
+                matches!(
+                    capture.next(rt.alloc(), &mut reader),
+                    Err(CaptureFault::Text(..))
+                )
+            );
+            assert_eq!(rt; capture.line(), wanted);
+        }
+    }
+    Ok(())
+}
+
+/// With a growth refused the answer is the text's own, or want of memory on one of its lines.
+#[test]
+fn texts_with_a_growth_refused(rt: HostRuntime) {
+    let bad: &[u8] = b"tftp-capture 1\nend client\nservice 69\nout 1 2 0g\n";
+    for (text, wanted, lines) in [
+        (READ, Ok((3, 15)), 7),
+        (bad, Err(CaptureFault::Text(4, TextFault::BadHex)), 4),
+    ] {
+        let mut reader = Tallied::new(DripReader::new(text, 1, 0, None));
+        match outcome(&rt, &mut reader) {
+            Err(CaptureFault::Memory(line)) => assert!(rt; 1 <= line && line <= lines),
+            found => assert_eq!(rt; found, wanted),
+        }
+    }
+}
+
+/// A reader and a writer that counts how often it was asked, and answers one call with an error.
+#[derive(Drop)]
+struct Asked {
+    calls: u64,
+    fails_at: u64,
+}
+
+impl Asked {
+    fn answer(&mut self, count: usize) -> io::Result<usize>
+        ensures { IfOk result (λ n. n ≡ count) }
+    {
+        self.calls = self.calls.saturating_add(1);
+        if self.calls == self.fails_at {
+            return Err(io::Error::from(ErrorKind::Other));
+        }
+        Ok(count)
+    }
+}
+
+impl Read for Asked {
+    fn read(&mut self, buf: &mut [u8]) -> io::Result<usize> {
+        self.answer(buf.len())
+    }
+}
+
+impl Write for Asked {
+    fn write(&mut self, buf: &[u8]) -> io::Result<usize> {
+        self.answer(buf.len())
+    }
+
+    fn flush(&mut self) -> io::Result<()> {
+        self.answer(0)?;
+        Ok(())
+    }
+}
+
+#[test]
+fn each_read_asks_once(rt: HostRuntime) {
+    for fails_at in 0..4 {
+        let mut reader = Tallied::new(Asked { calls: 0, fails_at });
+        let mut buf = [0u8; 2];
+        for call in 1..4u64 {
+            let answer = reader.read(&mut buf);
+            assert_eq!(rt; answer.ok(), if call == fails_at { None } else { Some(2) });
+            assert_eq!(rt; reader.failed(), fails_at != 0 && fails_at <= call);
+        }
+        assert_eq!(rt; reader.into_inner().calls, 3);
+    }
+}
+
+#[test]
+fn each_write_asks_once(rt: HostRuntime) {
+    for fails_at in 0..4 {
+        let mut writer = Tallied::new(Asked { calls: 0, fails_at });
+        for call in 1..4u64 {
+            let answer = writer.write(b"ab");
+            assert_eq!(rt; answer.ok(), if call == fails_at { None } else { Some(2) });
+            assert_eq!(rt; writer.failed(), fails_at != 0 && fails_at <= call);
+        }
+        assert_eq!(rt; writer.into_inner().calls, 3);
+    }
+}
+
+#[test]
+fn each_flush_asks_once(rt: HostRuntime) {
+    for fails_at in 0..4 {
+        let mut writer = Tallied::new(Asked { calls: 0, fails_at });
+        for call in 1..4u64 {
+            let answer = writer.flush();
+            assert_eq!(rt; answer.is_ok(), call != fails_at);
+            assert_eq!(rt; writer.failed(), fails_at != 0 && fails_at <= call);
+        }
+        assert_eq!(rt; writer.into_inner().calls, 3);
+    }
 }
 
 /// Writes the text of `READ`.

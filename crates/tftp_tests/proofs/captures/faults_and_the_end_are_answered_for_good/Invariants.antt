@@ -1,6 +1,6 @@
 use Rattle.std.proofs.Common.{◌≡◌, true}
 use Rattle.tftp_capture.specs.History.{IsReadStanding}
-use Rattle.tftp_capture.proofs.tests.faults_and_the_end_are_answered_for_good.Given as goal
+use Rattle.tftp_tests.proofs.captures.faults_and_the_end_are_answered_for_good.Given as goal
 
 abbrev pub invariant-loop : goal.invariant-loop
 invariant-loop g l = IsReadStanding l.capture.standing → l.reader.1 ≡ true
