@@ -10,3 +10,6 @@ pub mod Wires
 pub mod Computed
 pub mod WorkedWindows
 pub mod Stores
+pub mod Orderly
+pub mod Places
+pub mod Ring

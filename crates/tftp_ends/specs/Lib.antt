@@ -7,6 +7,8 @@ pub mod Runs
 pub mod Ports
 pub mod Rules
 pub mod Store
+pub mod Placed
+pub mod Slots
 pub mod Worked
 pub mod WorkedWindows
 pub mod WorkedStore
