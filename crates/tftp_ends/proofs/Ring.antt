@@ -7,7 +7,7 @@ use Rattle.std.proofs.lemmas.Bool.{cases_lt}
 use Rattle.std.proofs.lemmas.List.{length-take, length-drop, length-append, take_all, get_or_append_left, get_or-append_right, nil_from_length, take_rest}
 use Rattle.std.proofs.Math.Seq.{take-add}
 use Rattle.std.specs.FinMap as map
-use Rattle.tftp_ends.specs.Store.{Held, IsHeldFront, IsHighest, IsOrderly, IsHeldLast, IsPending, IsJoin, Takes}
+use Rattle.tftp_ends.specs.Store.{IsHeldFront, IsHighest, IsOrderly, IsPending, IsJoin, Takes}
 use Rattle.tftp_ends.specs.Slots.{Slots, numbered, cut, placed, filled, IsEven, IsRow, IsRing, IsWhole}
 use Rattle.tftp_ends.proofs.Orderly.{front_unique, takes_within}
 use Rattle.tftp_ends.proofs.Places.{below, at_place, at_block, none_at_0, length_cut, at_cut, row_even, even_fits, even_exact, even_last, past, even_placed, length_placed, placed_other, filled_placed, append_placed, numbered_placed, placed_first, slots_step}

@@ -1,5 +1,5 @@
 -- A row of places, of which some have a block: what a store with joined bytes and a ring stands for.
-use Rattle.std.specs.Prelude.{◌≡◌, ◌+◌, ◌*◌, ◌<◌, ◌≤◌, ℕ, zero, suc, List, [], ◌∷◌, map, length, take, drop, Option, Some, None, option_map, slice_index_or, ⊤}
+use Rattle.std.specs.Prelude.{◌≡◌, ◌+◌, ◌*◌, ◌≤◌, ℕ, zero, suc, List, [], ◌∷◌, map, length, take, drop, Option, Some, None, option_map, slice_index_or, ⊤}
 use Rattle.std.specs.Global.{Vec}
 use Rattle.std.specs.FinMap as finite
 use Rattle.tftp_ends.specs.Store.{Held, nothing_held}

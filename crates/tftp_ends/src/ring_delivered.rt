@@ -1,6 +1,6 @@
 ghost use Rattle.std.specs.Prelude.{◌≡◌, ◌+◌, ◌≤◌, ◌<◌, ℕ, List, map, Option, None, option_map, OnOk, OnErr, length, drop, ◌++◌, slice_index_or};
 ghost use Rattle.std.specs.Vec.{vec_capacity};
-ghost use Rattle.tftp_ends.specs.Slots.{cut, placed, leading, filled, IsEven, IsRow};
+ghost use Rattle.tftp_ends.specs.Slots.{shown, cut, placed, leading, filled, IsEven, IsRow};
 
 use crate::delivered::{Delivered, Placed};
 use crate::taking::may_take;
@@ -25,13 +25,13 @@ pub struct RingDelivered {
 
 impl Model for RingDelivered {
     ghost use Rattle.std.specs.Prelude.{ℕ, List, map, Option, option_map, ◌++◌};
-    ghost use Rattle.tftp_ends.specs.Slots.{Slots, cut, IsRing};
+    ghost use Rattle.tftp_ends.specs.Slots.{Slots, shown, cut, IsRing};
 
     ghost Value = { Slots × ℕ × ℕ };
 
-    ghost view = { λ a. (cut a.block_size a.front a.joined.items ++ map (option_map (λ v. v.items)) a.pending.items, a.block_size, a.window) };
+    ghost view = { λ a. (cut a.block_size a.front a.joined.items ++ shown a.pending.items, a.block_size, a.window) };
 
-    ghost invariant = { λ a. IsRing a.block_size a.window a.joined.items a.front (map (option_map (λ v. v.items)) a.pending.items) a.waiting };
+    ghost invariant = { λ a. IsRing a.block_size a.window a.joined.items a.front (shown a.pending.items) a.waiting };
 }
 
 impl Delivered for RingDelivered {
@@ -77,6 +77,7 @@ impl Delivered for RingDelivered {
             }
             None => {}
         }
+        // All growths come before the first change.
         let place = (number - self.front - 1) as usize;
         if place > 0 {
             let copy = Vec::from_slice(alloc, bytes)?;
@@ -152,7 +153,7 @@ fn hold(
     block: Vec<u8>,
 ) -> Result<(), AllocError>
     requires { place < 65535 }
-    ensures ok { OnOk result (map (option_map (λ v. v.items)) pending.new.items ≡ placed (map (option_map (λ v. v.items)) pending.old.items) place block.items) }
+    ensures ok { OnOk result (shown pending.new.items ≡ placed (shown pending.old.items) place block.items) }
     ensures err { OnErr result (pending.new.items ≡ pending.old.items) }
 {
     let held = pending.len();
@@ -170,9 +171,9 @@ fn hold(
 
 /// The bytes of the blocks that follow the first place without a gap.
 fn following(pending: &VecDeque<Option<Vec<u8>>>, block_size: u16) -> usize
-    requires even { IsEven block_size (map (option_map (λ v. v.items)) pending.now.items) }
+    requires even { IsEven block_size (shown pending.now.items) }
     requires length { length pending.now.items ≤ 65535 }
-    ensures value { result ≡ leading (drop 1 (map (option_map (λ v. v.items)) pending.now.items)) }
+    ensures value { result ≡ leading (drop 1 (shown pending.now.items)) }
     ensures bound { result ≤ 4294836225 }
 {
     let mut total = 0;
@@ -198,16 +199,16 @@ fn advance(
     from: u16,
     block_size: u16,
 ) -> u16
-    requires row { IsRow block_size joined.old.items from (map (option_map (λ v. v.items)) pending.old.items) }
-    requires room { length joined.old.items + leading (map (option_map (λ v. v.items)) pending.old.items) ≤ vec_capacity joined.old }
+    requires row { IsRow block_size joined.old.items from (shown pending.old.items) }
+    requires room { length joined.old.items + leading (shown pending.old.items) ≤ vec_capacity joined.old }
     requires numbers { from + length pending.old.items ≤ 65535 }
-    ensures row { IsRow block_size joined.new.items result (map (option_map (λ v. v.items)) pending.new.items) }
-    ensures slots { cut block_size result joined.new.items ++ map (option_map (λ v. v.items)) pending.new.items
-        ≡ cut block_size from joined.old.items ++ map (option_map (λ v. v.items)) pending.old.items }
-    ensures gap { slice_index_or (map (option_map (λ v. v.items)) pending.new.items) 0 None ≡ None }
+    ensures row { IsRow block_size joined.new.items result (shown pending.new.items) }
+    ensures slots { cut block_size result joined.new.items ++ shown pending.new.items
+        ≡ cut block_size from joined.old.items ++ shown pending.old.items }
+    ensures gap { slice_index_or (shown pending.new.items) 0 None ≡ None }
     ensures within { from ≤ result }
     ensures length { result + length pending.new.items ≡ from + length pending.old.items }
-    ensures filled { result + filled (map (option_map (λ v. v.items)) pending.new.items) ≡ from + filled (map (option_map (λ v. v.items)) pending.old.items) }
+    ensures filled { result + filled (shown pending.new.items) ≡ from + filled (shown pending.old.items) }
 {
     let mut front = from;
     loop {

@@ -1,6 +1,6 @@
-use Rattle.std.proofs.Common.{ap, ◌∙◌, map, option_map, Some, None, arith}
+use Rattle.std.proofs.Common.{ap, ◌∙◌, option_map, Some, None, arith}
 use Rattle.std.proofs.lemmas.List.{length-map, map-set, map_push}
-use Rattle.tftp_ends.specs.Slots.{placed}
+use Rattle.tftp_ends.specs.Slots.{shown, placed}
 use Rattle.tftp_ends.proofs.Places.{placed_set, placed_more, placed_end}
 use Rattle.tftp_ends.proofs.ring_delivered.hold.Goals as goal
 
@@ -11,7 +11,7 @@ returns-then-place-held-clause-ok c =
     let read = c.len-held.ensures in
     let low = c.if-place-held.true in
     map-set (option_map (λ v. v.items)) c.args.pending.now.items c.args.place (Some c.args.block)
-    ∙ placed_set (map (option_map (λ v. v.items)) c.args.pending.now.items) c.args.place c.args.block.items (omega arith)
+    ∙ placed_set (shown c.args.pending.now.items) c.args.place c.args.block.items (omega arith)
 
 pub loop-pending-preserved : goal.loop-pending-preserved
 loop-pending-preserved c =
@@ -23,9 +23,9 @@ loop-pending-preserved c =
     let kept = c.push_back_reserved.ensures.capacity in
     let room = c.loop-pending.invariant.room in
     record {
-      same = ap (λ t. placed (map (option_map (λ v. v.items)) t) c.args.place c.args.block.items) c.push_back_reserved.ensures.items
+      same = ap (λ t. placed (shown t) c.args.place c.args.block.items) c.push_back_reserved.ensures.items
           ∙ ap (λ t. placed t c.args.place c.args.block.items) (map_push (option_map (λ v. v.items)) c.loop-pending.pending.items None)
-          ∙ placed_more (map (option_map (λ v. v.items)) c.loop-pending.pending.items) c.args.place c.args.block.items (omega arith)
+          ∙ placed_more (shown c.loop-pending.pending.items) c.args.place c.args.block.items (omega arith)
           ∙ c.loop-pending.invariant.same;
       within = omega arith;
       room = omega arith;
@@ -38,7 +38,7 @@ returns-clause-ok c =
     let read = c.len.ensures in
     let high = c.loop-pending-test.false in
     let within = c.loop-pending.invariant.within in
-    ap (map (option_map (λ v. v.items))) c.push_back_reserved-2.ensures.items
+    ap (shown) c.push_back_reserved-2.ensures.items
     ∙ map_push (option_map (λ v. v.items)) c.loop-pending.pending.items (Some c.args.block)
-    ∙ placed_end (map (option_map (λ v. v.items)) c.loop-pending.pending.items) c.args.place c.args.block.items (omega arith)
+    ∙ placed_end (shown c.loop-pending.pending.items) c.args.place c.args.block.items (omega arith)
     ∙ c.loop-pending.invariant.same

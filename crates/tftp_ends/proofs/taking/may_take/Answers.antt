@@ -1,6 +1,5 @@
-use Rattle.std.proofs.Common.{ap, sym, ◌∙◌, ◌≡◌, ◌<◌, ◌≤◌, ◌+◌, length, option_map, inl, inr, arith}
+use Rattle.std.proofs.Common.{ap, sym, ◌∙◌, ◌≡◌, ◌<◌, ◌≤◌, option_map, inl, inr, arith}
 use Rattle.std.proofs.lemmas.Bool.Decides.{nat_tests}
-use Rattle.std.specs.FinMap as map
 use Rattle.tftp_ends.specs.Store.{IsHeldLast}
 use Rattle.tftp_ends.proofs.Orderly.{takes_within, may_after_short}
 use Rattle.tftp_ends.proofs.taking.may_take.Goals as goal
