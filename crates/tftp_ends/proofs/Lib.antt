@@ -13,3 +13,4 @@ pub mod Stores
 pub mod Orderly
 pub mod Places
 pub mod Ring
+pub mod Kept

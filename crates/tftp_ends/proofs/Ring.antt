@@ -49,7 +49,7 @@ highest_is b n js ring row = subst (λ m. IsHighest (numbered 1 (cut b n js ++ r
 below_none : (n : ℕ) (os : Slots) (q : ℕ) → q < n → map.contains_key (numbered n os) q ≡ false
 below_none n os q low = ap is_some (below n os q low)
 
-len_numbered : (n : ℕ) (os : Slots) → map.len (numbered n os) ≡ filled os
+pub len_numbered : (n : ℕ) (os : Slots) → map.len (numbered n os) ≡ filled os
 len_numbered n [] = map.len-empty nat_cmp (List ℕ)
 len_numbered n (None ∷ os) = len_numbered (n + 1) os
 len_numbered n (Some x ∷ os) = map.len-insert nat_cmp_total (numbered (n + 1) os) n x

@@ -9,6 +9,7 @@ pub mod Rules
 pub mod Store
 pub mod Placed
 pub mod Slots
+pub mod Kept
 pub mod Worked
 pub mod WorkedWindows
 pub mod WorkedStore

@@ -3,6 +3,7 @@
 
 mod delivered;
 pub mod laws;
+mod map_delivered;
 mod ring_delivered;
 mod route;
 mod rule;
@@ -10,6 +11,7 @@ mod taking;
 mod terms;
 
 pub use delivered::{Delivered, Placed};
+pub use map_delivered::MapDelivered;
 pub use ring_delivered::RingDelivered;
 pub use route::Route;
 pub use rule::EndRule;
