@@ -1,6 +1,6 @@
 -- What a map of blocks has at a number, and what becomes of the numbers kept beside it.
 use Rattle.std.proofs.Common.{◌≡◌, ◌≢◌, ◌+◌, ◌-◌, ◌<◌, ◌≤◌, ℕ, zero, suc, Bool, ◌⊎◌, inl, inr, List, [], ◌∷◌, ◌++◌, map, length, true, false, cond, refl, ap, sym, subst, ◌∙◌, Option, Some, None, arith}
-use Rattle.std.specs.Prelude.{option_map, is_some, max, slice_index_or, Result, Ok, Err, IfOk}
+use Rattle.std.specs.Prelude.{option_map, is_some, max, slice_index_or, Result, Ok, Err, IfOk, OnErr}
 use Rattle.std.specs.Ordering.{nat_cmp}
 use Rattle.std.specs.BTreeMap.{is_at}
 use Rattle.std.specs.Cmp.{eq_by_cmp_equiv}
@@ -293,3 +293,7 @@ join_whole held front wire is joined other known = subst (λ m. IsJoin held m wi
 pub where_ok : {T E : Type 0} (P Q : T → Type 0) (r : Result T E) → ((value : T) → P value → Q value) → IfOk r P → IfOk r Q
 where_ok P Q (Ok value) to is = to value is
 where_ok P Q (Err e) to is = tt
+
+pub where_err : {T E P : Type 0} (r : Result T E) → P → OnErr r P
+where_err (Ok value) is = tt
+where_err (Err e) is = is

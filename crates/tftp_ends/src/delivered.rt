@@ -1,4 +1,4 @@
-ghost use Rattle.std.specs.Prelude.{◌≡◌, ◌↔◌, ◌≤◌, ◌<◌, ℕ, List, true, length, IfOk, OnErr, option_map};
+ghost use Rattle.std.specs.Prelude.{◌≡◌, ◌↔◌, ◌≤◌, ◌<◌, ℕ, List, None, true, length, IfOk, OnErr, option_map};
 ghost use Rattle.std.specs.FinMap as map;
 ghost use Rattle.tftp_ends.specs.Store.{
   Held,
@@ -51,11 +51,12 @@ pub trait Delivered: Sized {
     fn takes(&self, number: u16, len: usize) -> bool
         ensures { (result ≡ true) ↔ Takes (block_size self.now) (window self.now) (held self.now) number len };
 
-    /// Holds a block. A block that is held takes no memory.
+    /// Holds a block.
     fn put(&mut self, alloc: Global, number: u16, bytes: &[u8]) -> Result<Placed, AllocError>
         requires { Takes (block_size self.old) (window self.old) (held self.old) number (length bytes.now) }
         ensures ok { IfOk result (λ placed. Places (held self.old) (held self.new) number bytes.now (placing placed)) }
         ensures err { OnErr result (held self.new ≡ held self.old) }
+        ensures absent { OnErr result (map.get (held self.old) number ≡ None) }
         ensures block_size { block_size self.new ≡ block_size self.old }
         ensures window { window self.new ≡ window self.old };
 

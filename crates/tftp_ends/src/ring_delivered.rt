@@ -1,4 +1,4 @@
-ghost use Rattle.std.specs.Prelude.{◌≡◌, ◌+◌, ◌≤◌, ◌<◌, ℕ, List, map, Option, None, option_map, OnOk, OnErr, length, drop, ◌++◌, slice_index_or};
+ghost use Rattle.std.specs.Prelude.{◌≡◌, ◌+◌, ◌*◌, ◌≤◌, ◌<◌, ℕ, List, map, Option, None, option_map, OnOk, OnErr, length, drop, ◌++◌, slice_index_or};
 ghost use Rattle.std.specs.Vec.{vec_capacity};
 ghost use Rattle.tftp_ends.specs.Slots.{shown, cut, placed, leading, filled, IsEven, IsRow};
 
@@ -132,16 +132,8 @@ impl Delivered for RingDelivered {
         self.waiting as usize
     }
 
-    fn into_wire(self, alloc: Global) -> Result<Vec<u8>, AllocError> {
-        let RingDelivered {
-            joined,
-            pending: _,
-            front: _,
-            waiting: _,
-            block_size: _,
-            window: _,
-        } = self;
-        let _alloc = alloc;
+    fn into_wire(self, _alloc: Global) -> Result<Vec<u8>, AllocError> {
+        let RingDelivered { joined, .. } = self;
         Ok(joined)
     }
 }
@@ -174,7 +166,7 @@ fn following(pending: &VecDeque<Option<Vec<u8>>>, block_size: u16) -> usize
     requires even { IsEven block_size (shown pending.now.items) }
     requires length { length pending.now.items ≤ 65535 }
     ensures value { result ≡ leading (drop 1 (shown pending.now.items)) }
-    ensures bound { result ≤ 4294836225 }
+    ensures bound { result ≤ 65535 * 65535 }
 {
     let mut total = 0;
     let mut at = 1;

@@ -5,7 +5,7 @@ use Rattle.std.proofs.lemmas.Slice.Eq.{slice_eq-Decides}
 use Rattle.std.proofs.lemmas.Bool.Decides.{Decides-eqb}
 use Rattle.tftp_ends.specs.Store.{Takes}
 use Rattle.tftp_ends.specs.Kept.{held_in, IsKept}
-use Rattle.tftp_ends.proofs.Kept.{get_in, insert_in, kept_more}
+use Rattle.tftp_ends.proofs.Kept.{get_in, insert_in, kept_more, where_err}
 use Rattle.tftp_ends.proofs.map_delivered.MapDeliveredDelivered.put.Goals as goal
 
 pub returns-then-eq-clause-ok : goal.returns-then-eq-clause-ok
@@ -51,3 +51,13 @@ returns-clause-ok c = (
       ∙ ap (λ m. map.insert m.0 c.args.number c.in_ok-copy.copy.items) c.self.view_is
       ∙ ap (map.insert c.args.self.now.0 c.args.number) c.in_ok-copy.ensures.items,
 )
+
+pub returns-in_err-copy-clause-absent : goal.returns-in_err-copy-clause-absent
+returns-in_err-copy-clause-absent c = where_err c.from_residual.result
+    (ap (λ m. map.get m.0 c.args.number) (sym c.self.view_is) ∙ get_in (λ v. v.items) c.self.inside.by_number.entries c.args.number
+    ∙ ap (option_map (λ v. v.items)) (sym c.in-None.ensures.value))
+
+pub returns-in_err-insert-clause-absent : goal.returns-in_err-insert-clause-absent
+returns-in_err-insert-clause-absent c = where_err c.from_residual-in_err-insert.result
+    (ap (λ m. map.get m.0 c.args.number) (sym c.self.view_is) ∙ get_in (λ v. v.items) c.self.inside.by_number.entries c.args.number
+    ∙ ap (option_map (λ v. v.items)) (sym c.in-None.ensures.value))
