@@ -143,6 +143,15 @@ def transfers():
         strays.put("client", error(5, "unknown transfer"), server=port)
     strays.put("client", ack(1))
     yield "strays", strays, "accepted get octet blocks 1 bytes 2"
+    many = Capture("client")
+    many.put("client", read_request("boot.img", "octet", **sizes))
+    many.put("server", oack(**sizes))
+    many.put("client", ack(0))
+    wire = blocks(file * 80, 8)
+    for at in range(0, len(wire), 4):
+        many.put("server", *wire[at : at + 4])
+        many.put("client", ack(min(at + 4, len(wire))))
+    yield "a hundred blocks", many, "accepted get octet blocks 101 bytes 800"
     other = Capture("client")
     other.put("client", read_request("a", "octet", blksize=8), read_request("b", "octet", blksize=8))
     yield "another request", other, "refused datagram 2 rule 8 RequestChanged"

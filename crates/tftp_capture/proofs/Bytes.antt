@@ -1,10 +1,11 @@
 -- What was taken of a reader's bytes, and where its lines end.
-use Rattle.std.proofs.Common.{◌≡◌, ◌≢◌, ℕ, suc, ◌+◌, ◌-◌, ◌<◌, ◌≤◌, List, [], ◌∷◌, ◌++◌, length, take, drop, get_or, Option, None, Some, refl, sym, ap, ◌∙◌, arith, append_assoc, take-append-drop, length-take, length-take-le, length-append, get_or-take, drop-cons, take-take}
+use Rattle.std.proofs.Common.{◌≡◌, ◌≢◌, ℕ, suc, ◌+◌, ◌-◌, ◌<◌, ◌≤◌, ◌⊎◌, inl, inr, List, [], ◌∷◌, ◌++◌, length, take, drop, get_or, Option, None, Some, refl, sym, ap, ◌∙◌, arith, append_assoc, take-append-drop, length-take, length-take-le, length-append, get_or-take, drop-cons, take-take}
 use Rattle.std.specs.Io.KnownBytes.{prepend_known, Consumes, Keeps}
 use Rattle.std.proofs.KnownBytes.{Consumes-nil, Consumes-trans, Consumes-kept}
 use Rattle.std.proofs.Math.Seq.{take-length}
-use Rattle.std.proofs.lemmas.List.{take_more}
+use Rattle.std.proofs.lemmas.List.{drop_all, take_more}
 use Rattle.std.proofs.lemmas.List.Elements.{All-append, All-take}
+use Rattle.std.proofs.lemmas.Bool.{cases_lt}
 use Rattle.tftp_capture.specs.Lines.{HasNoEnd, HasByteAt}
 
 pub consumed : (known : Option (List ℕ)) (held : List ℕ) (n : ℕ) → Consumes (prepend_known held known) (prepend_known (drop n held) known) (take n held)
@@ -54,3 +55,11 @@ line_ended held count within is = take_more held count 0 within ∙ ap (λ b. ta
 pub taken_rest : (k0 known : Option (List ℕ)) (held : List ℕ) → Keeps k0 (prepend_known held known) → length held ≢ 0
     → (bytes : List ℕ) × Consumes k0 (prepend_known (drop (length held) held) known) bytes × ((byte : ℕ) × (more : List ℕ) × (bytes ≡ byte ∷ more))
 taken_rest k0 known held kept some = (held, taken_all k0 k0 known [] held (Consumes-nil k0) kept, nonempty held some)
+
+-- what is ahead once the bytes before the first LF are taken
+pub end_ahead : (held : List ℕ) (count room size : ℕ) → count ≤ length held → (count < length held → get_or held count 0 ≡ 10) → (count < length held → size < room)
+    → (drop count held ≡ []) ⊎ ((more : List ℕ) × (drop count held ≡ 10 ∷ more) × (size < room))
+end_ahead held count room size upto here fits = elim (cases_lt count (length held)) as (λ _. (drop count held ≡ []) ⊎ ((more : List ℕ) × (drop count held ≡ 10 ∷ more) × (size < room))) [
+  | inl h ↦ inr (drop (suc count) held, drop-cons held count 0 h ∙ ap (λ b. b ∷ drop (suc count) held) (here h), fits h)
+  | inr h ↦ inl (drop_all count held (omega arith))
+]

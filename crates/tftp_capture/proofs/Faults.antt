@@ -1,13 +1,13 @@
 -- What is wrong with a text, by what was taken of it.
-use Rattle.std.proofs.Common.{◌≡◌, ℕ, ◌+◌, ◌-◌, ◌^◌, ◌<◌, false, List, [], ◌∷◌, ◌++◌, length, Err, refl, sym, ap, ◌∙◌, arith, append_assoc, append-nil, length-append}
+use Rattle.std.proofs.Common.{◌≡◌, ℕ, ◌+◌, ◌-◌, ◌^◌, ◌<◌, ◌⊎◌, inl, inr, false, List, [], ◌∷◌, ◌++◌, length, Err, refl, sym, ap, ◌∙◌, arith, append_assoc, append-nil, length-append}
 use Rattle.tftp_capture.specs.declared.fault.TextFault.{TextFault}
 use Rattle.tftp_capture.specs.declared.fault.TextFault.TheVariants.{BadHeader, BadEnd, BadService, LineTooLong, BadLine, BadPort, BadHex, PayloadTooLong, TotalWrong, Truncated, TrailingText, TextTooLong}
 use Rattle.tftp_capture.specs.declared.stop.Stop.{Stop}
 use Rattle.tftp_capture.specs.declared.stop.Stop.TheVariants.{Text, Read, Memory}
 use Rattle.tftp_capture.specs.CaptureText.{BodyFault, ByteFault, Due, FailsAt, HasFault, Header, IsOver, Numbered, Stands, Unfinished, says_nothing}
 use Rattle.tftp_capture.specs.CaptureText.Due.{Body, Nothing}
-use Rattle.tftp_capture.specs.History.{FaultTells}
-use Rattle.tftp_capture.specs.Lines.{IsPartOfLine, LineEnds, TextEnds, fault_at}
+use Rattle.tftp_capture.specs.History.{FaultTells, MemoryTells}
+use Rattle.tftp_capture.specs.Lines.{IsPartOfLine, LeavesEnd, LineEnds, TextEnds, fault_at}
 use Rattle.tftp_capture.proofs.Texts.{stands-part}
 
 module _ (text : List ℕ) (lines : List (List ℕ)) (due : Due) (datagrams : List Numbered) (not_yet : IsOver due → ⊥) (stands : Stands text lines [] due datagrams) where
@@ -43,6 +43,21 @@ module _ (text : List ℕ) (lines : List (List ℕ)) (due : Due) (datagrams : Li
   fault_in_line line bytes (Text PayloadTooLong) e = absurd e
   fault_in_line line bytes (Text TotalWrong) e = absurd e
   fault_in_line line bytes (Text TrailingText) e = absurd e
+
+  -- memory was refused in a line
+  pub memory_in_line : (line bytes ahead : List ℕ) (stop : Stop) → LineEnds {T = Unit {0}} (Err stop) line (2 ^ 40 - length text) bytes → LeavesEnd {T = Unit {0}} (Err stop) (2 ^ 40 - length text) bytes ahead
+      → MemoryTells (fault_at stop (length lines + 1)) (text ++ bytes) ahead datagrams
+  memory_in_line line bytes ahead (Text fault) e l = tt
+  memory_in_line line bytes ahead Read e l = tt
+  memory_in_line line bytes ahead Memory e l = inl (record {
+    due = due;
+    unfinished = unfinished bytes e;
+    goes_on = not_yet;
+    ends = elim l as (λ _. (ahead ≡ []) ⊎ ((more : List ℕ) × (ahead ≡ 10 ∷ more) × (length (text ++ bytes) < 2 ^ 40))) [
+      | inl none ↦ inl none
+      | inr end ↦ inr (end.0, end.1, omega (arith, length-append text bytes, end.2))
+    ];
+  })
 
   -- the LF of a line whose content is wrong fails
   pub fault_at_end : (line : List ℕ) (fault : TextFault) → IsPartOfLine line (2 ^ 40 - length text) → ByteFault (length (text ++ line)) line due (length datagrams) 10 fault

@@ -1,10 +1,10 @@
 -- Bytes given to a writer piece by piece.
-use Rattle.std.proofs.Common.{◌≡◌, ◌≢◌, ℕ, suc, ◌+◌, ◌<◌, arith, length-drop, get_or, flat_map, drop-cons, List, [], ◌∷◌, ◌++◌, length, take, drop, Option, Result, Ok, Err, OnOk, OnErr, is_err, false, true≢false, refl, sym, ap, ◌∙◌, subst, append_assoc, append-nil, take-append-drop, length-append}
+use Rattle.std.proofs.Common.{◌≡◌, ◌≢◌, ℕ, suc, ◌+◌, ◌<◌, arith, length-drop, get_or, flat_map, drop-cons, List, [], ◌∷◌, ◌++◌, length, take, drop, Option, Result, Ok, Err, OnOk, is_err, IsErr, Bool, true, false, true≢false, refl, sym, ap, ◌∙◌, subst, append_assoc, append-nil, take-append-drop, length-append}
 use Rattle.std.specs.Io.KnownBytes.{Appends, Keeps}
 use Rattle.std.proofs.KnownBytes.{Appends-nil, Appends-trans, Appends-kept}
 use Rattle.std.proofs.lemmas.List.{take_more}
 use Rattle.std.proofs.lemmas.List.Concat.{flat_map-append}
-use Rattle.tftp_capture.specs.Tally.{AppendsPrefix, Gathers}
+use Rattle.tftp_capture.specs.Tally.{Adds, AppendsPrefix, Gathers, Writes}
 
 pub gathers_none : (c : Option (List ℕ)) (held : List ℕ) → Gathers c c held held []
 gathers_none c held = record { written = []; are = append-nil held; appended = Appends-nil c }
@@ -49,6 +49,10 @@ gathers_prefix c0 c1 c2 h0 h1 first second more p q = record {
   left = more_left q.rest more q.left;
   appended = Appends-trans _ _ _ _ _ p.appended q.appended;
 }
+
+-- some pieces were gathered, then the last one failed
+pub prefix_after : (c0 c1 c2 : Option (List ℕ)) (h0 h1 first second : List ℕ) → Gathers c0 c1 h0 h1 first → AppendsPrefix c1 c2 (h1 ++ second) → AppendsPrefix c0 c2 (h0 ++ (first ++ second))
+prefix_after c0 c1 c2 h0 h1 first second p q = rw append-nil at (gathers_prefix c0 c1 c2 h0 h1 first second [] p q)
 
 -- what waited was written, and then the bytes failed
 pub written_prefix : (c0 c1 c2 : Option (List ℕ)) (held bytes : List ℕ) → Appends c0 c1 held → AppendsPrefix c1 c2 bytes → AppendsPrefix c0 c2 (held ++ bytes)
@@ -109,23 +113,6 @@ prefix_none c0 c1 c2 n bytes h p q = record {
   appended = rw append-nil at (Appends-trans _ _ _ _ _ p q);
 }
 
-pub on_ok : {T E : Type 0} (P Q : Type 0) (r : Result T E) → (P → Q) → OnOk r P → OnOk r Q
-on_ok P Q (Ok x) f h = f h
-on_ok P Q (Err e) f h = tt
-
-pub on_err : {T E : Type 0} (P Q : Type 0) (r : Result T E) → (P → Q) → OnErr r P → OnErr r Q
-on_err P Q (Ok x) f h = tt
-on_err P Q (Err e) f h = f h
-
--- both facts of one result
-pub on_ok_both : {T E : Type 0} (P Q : Type 0) (r : Result T E) → OnOk r P → OnOk r Q → OnOk r (P × Q)
-on_ok_both P Q (Ok x) p q = (p, q)
-on_ok_both P Q (Err e) p q = tt
-
-pub always_err : {T E : Type 0} (P : Type 0) (r : Result T E) → P → OnErr r P
-always_err P (Ok x) h = tt
-always_err P (Err e) h = h
-
 -- the pieces before a place, the one there, and the others
 pub pieces_more : {P : Type 0} (f : P → List ℕ) (ps : List P) (i : ℕ) (d : P) → i < length ps → flat_map f (take (i + 1) ps) ≡ flat_map f (take i ps) ++ f (get_or ps i d)
 pieces_more f ps i d h = ap (flat_map f) (take_more ps i d h) ∙ flat_map-append f (take i ps) (get_or ps i d ∷ []) ∙ ap (λ l. flat_map f (take i ps) ++ l) (append-nil (f (get_or ps i d)))
@@ -142,14 +129,52 @@ pub pieces_gathered : {P : Type 0} (f : P → List ℕ) (ps : List P) (i : ℕ) 
     → Gathers c0 c1 h0 h1 (flat_map f (take i ps)) → Gathers c1 c2 h1 h2 (f (get_or ps i d)) → Gathers c0 c2 h0 h2 (flat_map f (take (i + 1) ps))
 pieces_gathered f ps i d c0 c1 c2 h0 h1 h2 within p q = rw (pieces_more f ps i d within) (gathers_more c0 c1 c2 h0 h1 h2 (flat_map f (take i ps)) (f (get_or ps i d)) p q)
 
--- two pieces were gathered, and the third failed
-pub gathers_prefix_two : (c0 c1 c2 c3 : Option (List ℕ)) (h0 h1 h2 first second third : List ℕ) → Gathers c0 c1 h0 h1 first → Gathers c1 c2 h1 h2 second → AppendsPrefix c2 c3 (h2 ++ third)
-    → AppendsPrefix c0 c3 (h0 ++ (first ++ (second ++ third)))
-gathers_prefix_two c0 c1 c2 c3 h0 h1 h2 first second third p q r =
-    let both = gathers_more c0 c1 c2 h0 h1 h2 first second p q in
-    subst (λ (l : List ℕ). AppendsPrefix c0 c3 (h0 ++ l)) (append_assoc first second third)
-    (rw append-nil at (gathers_prefix c0 c2 c3 h0 h2 (first ++ second) third [] both r))
+-- ---- what a call does, however it ends
 
-pub from_ok : {T E : Type 0} (P : Type 0) (r : Result T E) → is_err r ≡ false → OnOk r P → P
-from_ok P (Ok x) e h = h
-from_ok P (Err y) e h = absurd (true≢false e)
+pub adds_err : {W E : Type 0} (contents : W → Option (List ℕ)) (t0 t1 : W × Bool) (r : Result (Unit {0}) E) (h0 h1 text : List ℕ) → IsErr r → t1.1 ≡ true → AppendsPrefix (contents t0.0) (contents t1.0) (h0 ++ text)
+    → Adds contents t0 t1 r h0 h1 text
+adds_err contents t0 t1 (Ok x) h0 h1 text is failed p = absurd (true≢false (sym is))
+adds_err contents t0 t1 (Err e) h0 h1 text is failed p = (failed, p)
+
+pub writes_err : {W E : Type 0} (contents : W → Option (List ℕ)) (t0 t1 : W × Bool) (r : Result (Unit {0}) E) (bytes : List ℕ) → IsErr r → t1.1 ≡ true → AppendsPrefix (contents t0.0) (contents t1.0) bytes
+    → Writes contents t0 t1 r bytes
+writes_err contents t0 t1 (Ok x) bytes is failed p = absurd (true≢false (sym is))
+writes_err contents t0 t1 (Err e) bytes is failed p = (failed, p)
+
+-- the same text, written another way
+pub adds_same : {W E : Type 0} (contents : W → Option (List ℕ)) (t0 t1 : W × Bool) (r : Result (Unit {0}) E) (h0 h1 one other : List ℕ) → one ≡ other → Adds contents t0 t1 r h0 h1 one → Adds contents t0 t1 r h0 h1 other
+adds_same contents t0 t1 r h0 h1 one other e p = subst (Adds contents t0 t1 r h0 h1) e p
+
+-- a text was added, and then another was, or was not
+pub adds_more : {W E : Type 0} (contents : W → Option (List ℕ)) (t0 t1 t2 : W × Bool) (r : Result (Unit {0}) E) (h0 h1 h2 first second : List ℕ) → Gathers (contents t0.0) (contents t1.0) h0 h1 first
+    → Adds contents t1 t2 r h1 h2 second → Adds contents t0 t2 r h0 h2 (first ++ second)
+adds_more contents t0 t1 t2 (Ok x) h0 h1 h2 first second p q = (q.0, gathers_more _ _ _ _ _ _ _ _ p q.1)
+adds_more contents t0 t1 t2 (Err e) h0 h1 h2 first second p q = (q.0, prefix_after _ _ _ _ _ _ _ p q.1)
+
+-- what waited was written, and then the bytes were, or were not
+pub writes_past : {W E : Type 0} (contents : W → Option (List ℕ)) (t0 t1 t2 : W × Bool) (r : Result (Unit {0}) E) (held bytes : List ℕ) → Appends (contents t0.0) (contents t1.0) held
+    → Writes contents t1 t2 r bytes → Adds contents t0 t2 r held [] bytes
+writes_past contents t0 t1 t2 (Ok x) held bytes p q = (q.0, gathers_past _ _ _ _ _ p q.1)
+writes_past contents t0 t1 t2 (Err e) held bytes p q = (q.0, written_prefix _ _ _ _ _ p q.1)
+
+-- a text was added, and then all that waited was written, or was not
+pub writes_rest : {W E : Type 0} (contents : W → Option (List ℕ)) (t0 t1 t2 : W × Bool) (r : Result (Unit {0}) E) (h0 h1 text : List ℕ) → Gathers (contents t0.0) (contents t1.0) h0 h1 text
+    → Writes contents t1 t2 r h1 → Writes contents t0 t2 r (h0 ++ text)
+writes_rest contents t0 t1 t2 (Ok x) h0 h1 text p q = (q.0, gathers_all _ _ _ _ _ _ p q.1)
+writes_rest contents t0 t1 t2 (Err e) h0 h1 text p q = (q.0, prefix_all _ _ _ _ _ _ p q.1)
+
+-- all that was to be written was
+pub writes_all : {W E : Type 0} (contents : W → Option (List ℕ)) (t0 t1 : W × Bool) (P : Type 0) (r : Result (Unit {0}) E) (bytes : List ℕ) → (Appends (contents t0.0) (contents t1.0) bytes → P) → Writes contents t0 t1 r bytes → OnOk r P
+writes_all contents t0 t1 P (Ok x) bytes f q = f q.1
+writes_all contents t0 t1 P (Err e) bytes f q = tt
+
+-- what a call did that succeeded, and what one did that failed
+pub added : {W E : Type 0} (contents : W → Option (List ℕ)) (t0 t1 : W × Bool) (r : Result (Unit {0}) E) (h0 h1 text : List ℕ) → is_err r ≡ false → Adds contents t0 t1 r h0 h1 text
+    → (t1.1 ≡ false) × Gathers (contents t0.0) (contents t1.0) h0 h1 text
+added contents t0 t1 (Ok x) h0 h1 text e p = p
+added contents t0 t1 (Err y) h0 h1 text e p = absurd (true≢false e)
+
+pub not_added : {W E : Type 0} (contents : W → Option (List ℕ)) (t0 t1 : W × Bool) (r : Result (Unit {0}) E) (h0 h1 text : List ℕ) → is_err r ≡ true → Adds contents t0 t1 r h0 h1 text
+    → (t1.1 ≡ true) × AppendsPrefix (contents t0.0) (contents t1.0) (h0 ++ text)
+not_added contents t0 t1 (Ok x) h0 h1 text e p = absurd (true≢false (sym e))
+not_added contents t0 t1 (Err y) h0 h1 text e p = p

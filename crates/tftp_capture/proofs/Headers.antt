@@ -1,5 +1,5 @@
 -- The header of a text, line by line.
-use Rattle.std.proofs.Common.{◌≡◌, ◌≢◌, ℕ, ◌+◌, ◌-◌, ◌^◌, Bool, true, false, not, bytes_eq, true≢false, List, [], ◌∷◌, ◌++◌, length, Option, None, Some, Ok, Err, refl, sym, ap, ◌∙◌, arith, append_assoc, length-append}
+use Rattle.std.proofs.Common.{◌≡◌, ◌≢◌, ℕ, ◌+◌, ◌-◌, ◌^◌, inl, inr, Bool, true, false, not, bytes_eq, true≢false, List, [], ◌∷◌, ◌++◌, length, Option, None, Some, Ok, Err, refl, sym, ap, ◌∙◌, arith, append_assoc, length-append}
 use Rattle.std.specs.Io.KnownBytes.{Consumes, IsAtEnd, prepend_known}
 use Rattle.std.proofs.lemmas.Slice.Eq.{bytes_eq-Decides}
 use Rattle.std.proofs.KnownBytes.{Consumes-trans}
@@ -11,11 +11,11 @@ use Rattle.tftp_capture.specs.declared.stop.Stop.{Stop}
 use Rattle.tftp_capture.specs.declared.stop.Stop.TheVariants.{Text, Read, Memory}
 use Rattle.tftp_capture.specs.CaptureText.{Due, IsPort, Says, Stands, end_line, head_line, service_line, whole_lines}
 use Rattle.tftp_capture.specs.CaptureText.Due.{Head, EndLine, ServiceLine, Body}
-use Rattle.tftp_capture.specs.History.{FailsToBegin, FaultTells, IsAtTextEnd, IsReadFault}
-use Rattle.tftp_capture.specs.Lines.{LineEnds, LineState, ReachesLine, fault_at}
-use Rattle.tftp_capture.proofs.Texts.{IsSkippable, says-head, says-end, says-service, stands-line, stands-nothing}
-use Rattle.tftp_capture.proofs.Faults.{fault_in_line, fault_at_end}
-use Rattle.tftp_capture.proofs.Histories.{reached, stop_tells, number_is, part_is, within_is, taken_is, bytes_are}
+use Rattle.tftp_capture.specs.History.{FailsToBegin, FaultTells, HasService, IsAtTextEnd, IsReadFault, MemoryTells}
+use Rattle.tftp_capture.specs.Lines.{LeavesEnd, LineEnds, LineState, ReachesLine, fault_at}
+use Rattle.tftp_capture.proofs.Texts.{IsSkippable, said-push, says-head, says-end, says-service, stands-line, stands-nothing}
+use Rattle.tftp_capture.proofs.Faults.{fault_in_line, fault_at_end, memory_in_line}
+use Rattle.tftp_capture.proofs.Histories.{reached, stop_memory, stop_tells, number_is, part_is, within_is, taken_is, bytes_are}
 
 -- these bytes were taken, and this is due after them
 pub record Begun (k0 k1 : Option (List ℕ)) (state : LineState) (due : Due) : Type 0 where
@@ -27,23 +27,27 @@ pub record Begun (k0 k1 : Option (List ℕ)) (state : LineState) (due : Due) : T
   pub byte_count : state.taken ≡ length text
 
 -- these bytes were taken, and have the fault
-pub record Tells (k0 k1 : Option (List ℕ)) (fault : CaptureFault) : Type 0 where
+pub record Tells (k0 k1 : Option (List ℕ)) (ahead : List ℕ) (fault : CaptureFault) : Type 0 where
   pub text : List ℕ
   pub consumed : Consumes k0 k1 text
   pub tells : FaultTells fault text []
+  pub memory : MemoryTells fault text ahead []
 
-pub head_stop : (k0 k1 : Option (List ℕ)) (line bytes : List ℕ) (stop : Stop) → Consumes k0 k1 bytes → LineEnds {T = Unit {0}} (Err stop) line (2 ^ 40 - 0) bytes → Tells k0 k1 (fault_at stop 1)
-head_stop k0 k1 line bytes stop consumed ends = record {
+pub head_stop : (k0 k1 : Option (List ℕ)) (line bytes ahead : List ℕ) (stop : Stop) → Consumes k0 k1 bytes → LineEnds {T = Unit {0}} (Err stop) line (2 ^ 40 - 0) bytes → LeavesEnd {T = Unit {0}} (Err stop) (2 ^ 40 - 0) bytes ahead
+    → Tells k0 k1 ahead (fault_at stop 1)
+head_stop k0 k1 line bytes ahead stop consumed ends leaves = record {
   text = bytes;
   consumed = consumed;
   tells = fault_in_line [] [] Head [] (λ o. o) stands-nothing line bytes stop ends;
+  memory = memory_in_line [] [] Head [] (λ o. o) stands-nothing line bytes ahead stop ends leaves;
 }
 
-pub head_bad : (k0 k1 : Option (List ℕ)) (line bytes : List ℕ) → Consumes k0 k1 bytes → LineEnds {T = Unit {0}} (Ok tt) line (2 ^ 40 - 0) bytes → line ≢ head_line → Tells k0 k1 (faults.Text 1 BadHeader)
-head_bad k0 k1 line bytes consumed ends other = record {
+pub head_bad : (k0 k1 : Option (List ℕ)) (line bytes ahead : List ℕ) → Consumes k0 k1 bytes → LineEnds {T = Unit {0}} (Ok tt) line (2 ^ 40 - 0) bytes → line ≢ head_line → Tells k0 k1 ahead (faults.Text 1 BadHeader)
+head_bad k0 k1 line bytes ahead consumed ends other = record {
   text = bytes;
   consumed = consumed;
   tells = rw ends.0 (fault_at_end [] [] Head [] (λ o. o) stands-nothing line BadHeader ends.1 (omega (arith, ends.2), refl, (refl, other)));
+  memory = tt;
 }
 
 pub head_ok : (k0 k1 : Option (List ℕ)) (state : LineState) (bytes : List ℕ) → Consumes k0 k1 bytes → LineEnds {T = Unit {0}} (Ok tt) state.line (2 ^ 40 - 0) bytes → state.line ≡ head_line
@@ -58,11 +62,12 @@ head_ok k0 k1 state bytes consumed ends is taken count = record {
 }
 
 module _ (k0 k1 k2 : Option (List ℕ)) (old new : LineState) (due : Due) (skippable : IsSkippable due) (begun : Begun k0 k1 old due) where
-  pub said_stop : (stop : Stop) → ReachesLine {T = Unit {0}} (Err stop) old new k1 k2 → Tells k0 k2 (fault_at stop (new.count + 1))
+  pub said_stop : (stop : Stop) → ReachesLine {T = Unit {0}} (Err stop) old new k1 k2 → Tells k0 k2 new.ahead (fault_at stop (new.count + 1))
   said_stop stop reach = record {
     text = begun.text ++ (whole_lines reach.skipped ++ reach.bytes);
     consumed = Consumes-trans _ _ _ _ _ begun.consumed reach.consumed;
     tells = stop_tells begun.text begun.lines due [] skippable begun.stands old new k1 k2 begun.byte_count stop reach begun.line_count;
+    memory = stop_memory begun.text begun.lines due [] skippable begun.stands old new k1 k2 begun.byte_count stop reach begun.line_count;
   }
 
   module _ (reach : ReachesLine {T = Unit {0}} (Ok tt) old new k1 k2) where
@@ -87,7 +92,7 @@ module _ (k0 k1 k2 : Option (List ℕ)) (old new : LineState) (due : Due) (skipp
     says_before = (reached begun.text begun.lines due [] skippable begun.stands old new k1 k2 begun.byte_count (Ok tt) reach).says
 
 -- the second line that says something
-pub end_bad : (k0 k1 k2 : Option (List ℕ)) (old new : LineState) → Begun k0 k1 old EndLine → ReachesLine {T = Unit {0}} (Ok tt) old new k1 k2 → ((named : End) → new.line ≢ end_line named) → Tells k0 k2 (faults.Text new.count BadEnd)
+pub end_bad : (k0 k1 k2 : Option (List ℕ)) (old new : LineState) → Begun k0 k1 old EndLine → ReachesLine {T = Unit {0}} (Ok tt) old new k1 k2 → ((named : End) → new.line ≢ end_line named) → Tells k0 k2 new.ahead (faults.Text new.count BadEnd)
 end_bad k0 k1 k2 old new begun reach other =
     let before = reached begun.text begun.lines EndLine [] tt begun.stands old new k1 k2 begun.byte_count (Ok tt) reach in
     let within = within_is begun.text begun.lines EndLine [] tt begun.stands old new k1 k2 begun.byte_count reach begun.line_count in
@@ -98,6 +103,7 @@ end_bad k0 k1 k2 old new begun reach other =
       text = begun.text ++ (whole_lines reach.skipped ++ reach.bytes);
       consumed = Consumes-trans _ _ _ _ _ begun.consumed reach.consumed;
       tells = rw (taken_is begun.text begun.lines EndLine [] tt begun.stands old new k1 k2 begun.byte_count reach begun.line_count, number_is begun.text begun.lines EndLine [] tt begun.stands old new k1 k2 begun.byte_count reach begun.line_count) wrong;
+      memory = tt;
     }
 
 pub end_ok : (k0 k1 k2 : Option (List ℕ)) (old new : LineState) (named : End) → Begun k0 k1 old EndLine → ReachesLine {T = Unit {0}} (Ok tt) old new k1 k2 → new.line ≡ end_line named → Begun k0 k2 new (ServiceLine named)
@@ -107,7 +113,7 @@ end_ok k0 k1 k2 old new named begun reach is =
 
 -- the third
 pub service_bad : (k0 k1 k2 : Option (List ℕ)) (old new : LineState) (named : End) → Begun k0 k1 old (ServiceLine named) → ReachesLine {T = Unit {0}} (Ok tt) old new k1 k2
-    → ((port : ℕ) → IsPort port → new.line ≢ service_line port) → Tells k0 k2 (faults.Text new.count BadService)
+    → ((port : ℕ) → IsPort port → new.line ≢ service_line port) → Tells k0 k2 new.ahead (faults.Text new.count BadService)
 service_bad k0 k1 k2 old new named begun reach other =
     let before = reached begun.text begun.lines (ServiceLine named) [] tt begun.stands old new k1 k2 begun.byte_count (Ok tt) reach in
     let within = within_is begun.text begun.lines (ServiceLine named) [] tt begun.stands old new k1 k2 begun.byte_count reach begun.line_count in
@@ -118,6 +124,7 @@ service_bad k0 k1 k2 old new named begun reach other =
       text = begun.text ++ (whole_lines reach.skipped ++ reach.bytes);
       consumed = Consumes-trans _ _ _ _ _ begun.consumed reach.consumed;
       tells = rw (taken_is begun.text begun.lines (ServiceLine named) [] tt begun.stands old new k1 k2 begun.byte_count reach begun.line_count, number_is begun.text begun.lines (ServiceLine named) [] tt begun.stands old new k1 k2 begun.byte_count reach begun.line_count) wrong;
+      memory = tt;
     }
 
 pub service_ok : (k0 k1 k2 : Option (List ℕ)) (old new : LineState) (named : End) (port : ℕ) → Begun k0 k1 old (ServiceLine named) → ReachesLine {T = Unit {0}} (Ok tt) old new k1 k2 → IsPort port → new.line ≡ service_line port
@@ -125,6 +132,23 @@ pub service_ok : (k0 k1 k2 : Option (List ℕ)) (old new : LineState) (named : E
 service_ok k0 k1 k2 old new named port begun reach h is =
     next_begun k0 k1 k2 old new (ServiceLine named) tt begun reach (Body (record { named = named; service = port }))
     (rw is (says-service (begun.lines ++ reach.skipped) named port h (says_before k0 k1 k2 old new (ServiceLine named) tt begun reach)))
+
+-- the third line stands where it was read
+pub service_at : (k0 k1 k2 : Option (List ℕ)) (old new : LineState) (named : End) (port : ℕ) (begun : Begun k0 k1 old (ServiceLine named)) (reach : ReachesLine {T = Unit {0}} (Ok tt) old new k1 k2) (h : IsPort port) (is : new.line ≡ service_line port)
+    → HasService (service_ok k0 k1 k2 old new named port begun reach h is).text (record { named = named; service = port }) new.count
+unfolding service_ok next_begun
+service_at k0 k1 k2 old new named port begun reach h is =
+    let before = says_before k0 k1 k2 old new (ServiceLine named) tt begun reach in
+    let number : 2 + length before.0 ≡ new.count = omega (arith, number_is begun.text begun.lines (ServiceLine named) [] tt begun.stands old new k1 k2 begun.byte_count reach begun.line_count, ap length before.2) in
+    record {
+      lines = (begun.lines ++ reach.skipped) ++ new.line ∷ [];
+      after_head = before.0 ++ service_line port ∷ [];
+      at_end = before.1;
+      others = [];
+      divided = (service_ok k0 k1 k2 old new named port begun reach h is).stands.divided;
+      begins = ap (λ l. (begun.lines ++ reach.skipped) ++ l ∷ []) is ∙ ap (λ l. l ++ service_line port ∷ []) before.2;
+      are = said-push 2 before.0 (service_line port) refl ∙ ap (λ l. l ++ (2 + length before.0, service_line port) ∷ []) before.3 ∙ ap (λ n. (before.1, end_line named) ∷ (n, service_line port) ∷ []) number;
+    }
 
 -- ---- what was read ahead
 
@@ -137,9 +161,18 @@ none_ahead : (ahead rest : List ℕ) → ahead ++ rest ≡ [] → ahead ≡ []
 none_ahead [] rest e = refl
 none_ahead (b ∷ bs) rest e = absurd (omega (arith, ap length e))
 
+-- what is known of the bytes ahead is known of none
+memory_alone : (fault : CaptureFault) (text ahead : List ℕ) → MemoryTells fault text ahead [] → MemoryTells fault text [] []
+memory_alone (faults.Text line fault) text ahead m = tt
+memory_alone (faults.Read line) text ahead m = tt
+memory_alone (faults.Memory line) text ahead m = elim m as (λ _. MemoryTells (faults.Memory line) text [] []) [
+  | inl b ↦ inl (record { due = b.due; unfinished = b.unfinished; goes_on = b.goes_on; ends = inl refl })
+  | inr s ↦ inr s
+]
+
 pub fails_to_begin : (r0 r1 : Option (List ℕ)) (ahead : List ℕ) (fault : CaptureFault) → (IsReadFault fault → ahead ≡ []) → (IsAtTextEnd fault → IsAtEnd (prepend_known ahead r1))
-    → Tells (prepend_known [] r0) (prepend_known ahead r1) fault → FailsToBegin r0 r1 fault
-fails_to_begin None r1 ahead fault none end t = record { taken = t.text; ahead = []; consumed = tt; tells = t.tells; drained = λ _. refl; ended = λ _. refl }
+    → Tells (prepend_known [] r0) (prepend_known ahead r1) ahead fault → FailsToBegin r0 r1 fault
+fails_to_begin None r1 ahead fault none end t = record { taken = t.text; ahead = []; consumed = tt; tells = t.tells; drained = λ _. refl; ended = λ _. refl; memory = memory_alone fault t.text ahead t.memory }
 fails_to_begin (Some x) None ahead fault none end t = absurd t.consumed
 fails_to_begin (Some x) (Some y) ahead fault none end t = record {
   taken = t.text;
@@ -148,6 +181,7 @@ fails_to_begin (Some x) (Some y) ahead fault none end t = record {
   tells = t.tells;
   drained = none;
   ended = λ h. none_ahead ahead y (end h);
+  memory = t.memory;
 }
 
 pub at_end_rest : (r : Option (List ℕ)) (ahead : List ℕ) → IsAtEnd (prepend_known ahead r) → IsAtEnd r

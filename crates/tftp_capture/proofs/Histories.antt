@@ -1,17 +1,17 @@
 -- What a reader's answers tell of the bytes that were taken.
-use Rattle.std.proofs.Common.{◌≡◌, ℕ, ◌+◌, ◌-◌, ◌^◌, ◌<◌, List, [], ◌∷◌, ◌++◌, length, Option, None, Some, Result, Ok, Err, sym, ap, ◌∙◌, arith, append_assoc, append-nil, length-append}
+use Rattle.std.proofs.Common.{◌≡◌, ℕ, ◌+◌, ◌-◌, ◌^◌, ◌<◌, inr, List, [], ◌∷◌, ◌++◌, length, Option, None, Some, Result, Ok, Err, sym, ap, ◌∙◌, subst, arith, append_assoc, append-nil, length-append}
 use Rattle.std.specs.Io.KnownBytes.{Consumes}
 use Rattle.std.proofs.KnownBytes.{Consumes-trans}
 use Rattle.tftp_capture.specs.declared.stop.Stop.{Stop}
 use Rattle.tftp_capture.specs.declared.stop.Stop.TheVariants.{Text, Read, Memory}
 use Rattle.tftp_capture.specs.declared.datagram.Datagram.{Datagram as Owned}
-use Rattle.tftp_capture.specs.CaptureText.{Due, Header, Numbered, SaysDatagram, Stands, total_line, whole_lines}
+use Rattle.tftp_capture.specs.CaptureText.{Datagram, Due, Header, Numbered, SaysDatagram, Stands, total_line, whole_lines}
 use Rattle.tftp_capture.specs.CaptureText.Due.{Body, Nothing}
 use Rattle.tftp_capture.specs.Fields.{BodyEnds, datagram_of}
-use Rattle.tftp_capture.specs.History.{Answers, FaultTells, GoesOn}
+use Rattle.tftp_capture.specs.History.{Answers, FaultTells, GoesOn, MemoryTells}
 use Rattle.tftp_capture.specs.Lines.{IsPartOfLine, LineState, ReachesLine, TextEnds, fault_at}
 use Rattle.tftp_capture.proofs.Texts.{IsSkippable, not_over, says-datagram, stands-line, stands-skips}
-use Rattle.tftp_capture.proofs.Faults.{body_fault, end_fault, fault_in_line}
+use Rattle.tftp_capture.proofs.Faults.{body_fault, end_fault, fault_in_line, memory_in_line}
 
 module _ (text : List ℕ) (lines : List (List ℕ)) (due : Due) (datagrams : List Numbered) (skippable : IsSkippable due) (stands : Stands text lines [] due datagrams) (old new : LineState) (k0 k1 : Option (List ℕ)) (byte_count : old.taken ≡ length text) where
   -- after the lines that say nothing
@@ -27,6 +27,15 @@ module _ (text : List ℕ) (lines : List (List ℕ)) (due : Due) (datagrams : Li
   stop_tells stop reach line_count =
       let at : length (lines ++ reach.skipped) ≡ new.count = length-append lines reach.skipped ∙ ap (λ n. n + length reach.skipped) (sym line_count) ∙ sym reach.count_before in
       let tells = fault_in_line (text ++ whole_lines reach.skipped) (lines ++ reach.skipped) due datagrams (not_over due skippable) (reached (Err stop) reach) new.line reach.bytes stop (rw (room_is (Err stop) reach) at reach.ends) in
+      rw (at, append_assoc text (whole_lines reach.skipped) reach.bytes) at tells
+
+  -- memory was refused there
+  pub stop_memory : (stop : Stop) (reach : ReachesLine {T = Unit {0}} (Err stop) old new k0 k1) → old.count ≡ length lines
+      → MemoryTells (fault_at stop (new.count + 1)) (text ++ (whole_lines reach.skipped ++ reach.bytes)) new.ahead datagrams
+  stop_memory stop reach line_count =
+      let at : length (lines ++ reach.skipped) ≡ new.count = length-append lines reach.skipped ∙ ap (λ n. n + length reach.skipped) (sym line_count) ∙ sym reach.count_before in
+      let room = room_is (Err stop) reach in
+      let tells = memory_in_line (text ++ whole_lines reach.skipped) (lines ++ reach.skipped) due datagrams (not_over due skippable) (reached (Err stop) reach) new.line reach.bytes new.ahead stop (rw room at reach.ends) (rw room at reach.leaves) in
       rw (at, append_assoc text (whole_lines reach.skipped) reach.bytes) at tells
 
   module _ (reach : ReachesLine {T = Unit {0}} (Ok tt) old new k0 k1) (line_count : old.count ≡ length lines) where
@@ -51,32 +60,45 @@ module _ (header : Header) (old new : LineState) (count : ℕ) (text : List ℕ)
     taken = whole_lines reach.skipped ++ reach.bytes;
     consumed = reach.consumed;
     tells = stop_tells text goes.lines (Body header) datagrams tt goes.stands old new k0 k1 goes.byte_count stop reach goes.line_count;
+    memory = stop_memory text goes.lines (Body header) datagrams tt goes.stands old new k0 k1 goes.byte_count stop reach goes.line_count;
   }
 
   module _ (reach : ReachesLine {T = Unit {0}} (Ok tt) old new k0 k1) where
     lines_after : List (List ℕ)
     lines_after = (goes.lines ++ reach.skipped) ++ new.line ∷ []
 
-    pub datagram_answers : (d : Owned) → SaysDatagram new.line (datagram_of d) → Answers k0 k1 (Ok (Some d)) header new count text datagrams
-    datagram_answers d says =
+    datagram_stands : (d : Datagram) → SaysDatagram new.line d → Stands (text ++ (whole_lines reach.skipped ++ reach.bytes)) lines_after [] (Body header) (datagrams ++ (new.count, d) ∷ [])
+    unfolding lines_after
+    datagram_stands d says =
         let before = reached text goes.lines (Body header) datagrams tt goes.stands old new k0 k1 goes.byte_count (Ok tt) reach in
         let number = number_is text goes.lines (Body header) datagrams tt goes.stands old new k0 k1 goes.byte_count reach goes.line_count in
-        let after = stands-line (text ++ whole_lines reach.skipped) new.line (goes.lines ++ reach.skipped) (Body header) (Body header) datagrams (datagrams ++ (length (goes.lines ++ reach.skipped) + 1, datagram_of d) ∷ [])
+        let after = stands-line (text ++ whole_lines reach.skipped) new.line (goes.lines ++ reach.skipped) (Body header) (Body header) datagrams (datagrams ++ (length (goes.lines ++ reach.skipped) + 1, d) ∷ [])
         (2 ^ 40 - length (text ++ whole_lines reach.skipped))
         (part_is text goes.lines (Body header) datagrams tt goes.stands old new k0 k1 goes.byte_count reach goes.line_count)
         (within_is text goes.lines (Body header) datagrams tt goes.stands old new k0 k1 goes.byte_count reach goes.line_count)
-        before (says-datagram (goes.lines ++ reach.skipped) new.line header datagrams (datagram_of d) reach.said says before.says) in
+        before (says-datagram (goes.lines ++ reach.skipped) new.line header datagrams d reach.said says before.says) in
         let taken = taken_is text goes.lines (Body header) datagrams tt goes.stands old new k0 k1 goes.byte_count reach goes.line_count in
+        subst (λ n. Stands (text ++ (whole_lines reach.skipped ++ reach.bytes)) ((goes.lines ++ reach.skipped) ++ new.line ∷ []) [] (Body header) (datagrams ++ (n, d) ∷ [])) (sym number) (rw taken after)
+
+    lines_number : new.count ≡ length lines_after
+    unfolding lines_after
+    lines_number =
+        let number = number_is text goes.lines (Body header) datagrams tt goes.stands old new k0 k1 goes.byte_count reach goes.line_count in
+        number ∙ sym (length-append (goes.lines ++ reach.skipped) (new.line ∷ []))
+
+    pub datagram_answers : (d : Owned) → SaysDatagram new.line (datagram_of d) → Answers k0 k1 (Ok (Some d)) header new count text datagrams
+    datagram_answers d says =
         record {
           taken = whole_lines reach.skipped ++ reach.bytes;
           consumed = reach.consumed;
           tells = record {
-            lines = (goes.lines ++ reach.skipped) ++ new.line ∷ [];
-            stands = rw (taken, number) after;
-            line_count = number ∙ sym (length-append (goes.lines ++ reach.skipped) (new.line ∷ []));
+            lines = lines_after;
+            stands = datagram_stands (datagram_of d) says;
+            line_count = lines_number;
             byte_count = bytes_are text goes.lines (Body header) datagrams tt goes.stands old new k0 k1 goes.byte_count reach goes.line_count;
             datagram_count = ap (λ n. n + 1) goes.datagram_count ∙ sym (length-append datagrams ((new.count, datagram_of d) ∷ []));
           };
+          memory = tt;
         }
 
     total_stands : new.line ≡ total_line count → Stands (text ++ (whole_lines reach.skipped ++ reach.bytes)) ((goes.lines ++ reach.skipped) ++ new.line ∷ []) [] (Nothing header) datagrams
@@ -95,7 +117,15 @@ module _ (header : Header) (old new : LineState) (count : ℕ) (text : List ℕ)
       taken = (whole_lines reach.skipped ++ reach.bytes) ++ bytes;
       consumed = Consumes-trans _ _ _ _ _ reach.consumed consumed;
       tells = ((goes.lines ++ reach.skipped) ++ new.line ∷ [], rw (none, append-nil (whole_lines reach.skipped ++ reach.bytes)) (total_stands is));
+      memory = tt;
     }
+
+    -- the text's end is looked for without memory
+    end_memory : (ahead bytes : List ℕ) (stop : Stop) → TextEnds {T = Unit {0}} (Err stop) new.taken bytes
+        → MemoryTells (fault_at stop (new.count + 1)) (text ++ ((whole_lines reach.skipped ++ reach.bytes) ++ bytes)) ahead datagrams
+    end_memory ahead bytes (Text fault) ends = tt
+    end_memory ahead bytes Read ends = tt
+    end_memory ahead bytes Memory ends = absurd ends
 
     pub end_answers : (state : LineState) (k2 : Option (List ℕ)) (bytes : List ℕ) (stop : Stop) → new.line ≡ total_line count → Consumes k1 k2 bytes → TextEnds {T = Unit {0}} (Err stop) new.taken bytes
         → Answers k0 k2 (Err (fault_at stop (new.count + 1))) header state count text datagrams
@@ -108,6 +138,7 @@ module _ (header : Header) (old new : LineState) (count : ℕ) (text : List ℕ)
           taken = (whole_lines reach.skipped ++ reach.bytes) ++ bytes;
           consumed = Consumes-trans _ _ _ _ _ reach.consumed consumed;
           tells = rw (number, append_assoc text (whole_lines reach.skipped ++ reach.bytes) bytes) at tells;
+          memory = end_memory state.ahead bytes stop ends;
         }
 
     content_tells : (stop : Stop) → BodyEnds (Err stop) new.line count → FaultTells (fault_at stop new.count) (text ++ (whole_lines reach.skipped ++ reach.bytes)) datagrams
@@ -121,9 +152,21 @@ module _ (header : Header) (old new : LineState) (count : ℕ) (text : List ℕ)
     content_tells Read ends = absurd ends
     content_tells Memory ends = tt
 
+    content_memory : (stop : Stop) → BodyEnds (Err stop) new.line count → MemoryTells (fault_at stop new.count) (text ++ (whole_lines reach.skipped ++ reach.bytes)) new.ahead datagrams
+    content_memory (Text fault) ends = tt
+    content_memory Read ends = tt
+    content_memory Memory ends = inr (record {
+      header = header;
+      datagram = ends.0;
+      lines = lines_after;
+      stands = datagram_stands ends.0 ends.1;
+      at_line = lines_number;
+    })
+
     pub content_answers : (stop : Stop) → BodyEnds (Err stop) new.line count → Answers k0 k1 (Err (fault_at stop new.count)) header new count text datagrams
     content_answers stop ends = record {
       taken = whole_lines reach.skipped ++ reach.bytes;
       consumed = reach.consumed;
       tells = content_tells stop ends;
+      memory = content_memory stop ends;
     }

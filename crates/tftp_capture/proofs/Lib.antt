@@ -2,6 +2,7 @@ pub mod Beginnings
 pub mod Bytes
 pub mod Canonical
 pub mod Cuts
+pub mod Digits
 pub mod Faults
 pub mod Gathering
 pub mod Headers

@@ -1,12 +1,15 @@
 -- What the pieces of a line say, and what is wrong with them.
-use Rattle.std.proofs.Common.{◌≡◌, ◌≢◌, ℕ, ◌≤◌, ◌==◌, true, false, List, [], ◌∷◌, length, codes, decimal, Option, None, Some, MatchOption, is_some, true≢false, refl, sym, ap, ◌∙◌, subst, arith, IsUtf8}
+use Rattle.std.proofs.Common.{◌≡◌, ◌≢◌, ℕ, ◌≤◌, ◌==◌, true, false, List, [], ◌∷◌, length, codes, decimal, Option, None, Some, Err, MatchOption, is_some, true≢false, refl, sym, ap, ◌∙◌, subst, arith, IsUtf8}
 use Rattle.std.specs.List.{join_with_byte}
 use Rattle.std.proofs.lemmas.List.Splits.{length-slice_split, join_with_byte-slice_split}
 use Rattle.std.proofs.lemmas.Fmt.{IsAscii-decimal}
 use Rattle.std.proofs.lemmas.Str.{IsUtf8-from_ascii}
 use Rattle.tftp_packet.specs.declared.kinds.Dir.{Dir}
 use Rattle.tftp_packet.specs.declared.kinds.Dir.TheVariants.{In, Out}
-use Rattle.tftp_capture.specs.declared.fault.TextFault.TheVariants.{BadLine}
+use Rattle.tftp_capture.specs.declared.fault.TextFault.TheVariants.{BadHeader, BadEnd, BadService, LineTooLong, BadLine, BadPort, BadHex, PayloadTooLong, TotalWrong, Truncated, TrailingText, TextTooLong}
+use Rattle.tftp_capture.specs.declared.stop.Stop.{Stop}
+use Rattle.tftp_capture.specs.declared.stop.Stop.TheVariants.{Text, Read, Memory}
+use Rattle.tftp_capture.specs.Fields.{DatagramEnds, PayloadEnds}
 use Rattle.tftp_capture.specs.CaptureText.{dir_word, pieces, total_line, BodyFault, HasFields, SpellsPort}
 
 pub some_piece : (xs : List ℕ) → 1 ≤ length (pieces xs)
@@ -65,3 +68,24 @@ cut_none first rest xs (Some p) m e = absurd (true≢false (sym e))
 -- the text of a port is UTF-8, and `parse` reads the port
 pub port_utf8 : (bytes : List ℕ) (port : ℕ) → SpellsPort bytes port → IsUtf8 bytes
 port_utf8 bytes port h = subst IsUtf8 (sym h.1) (IsUtf8-from_ascii _ (IsAscii-decimal port (omega (arith, h.0.1))))
+
+-- the last field spells no payload, or memory was refused for the one that it spells
+pub payload_stop : (count : ℕ) (line local remote digits : List ℕ) (dir : Dir) (l r : ℕ) → pieces line ≡ dir_word dir ∷ local ∷ remote ∷ digits ∷ [] → SpellsPort local l → SpellsPort remote r
+    → (stop : Stop) → PayloadEnds (Err stop) digits → DatagramEnds (Err stop) line count
+payload_stop count line local remote digits dir l r is sl sr (Text BadHex) p = (dir_word dir, local, remote, digits, l, r, has_fields line local remote digits dir is, sl, sr, p)
+payload_stop count line local remote digits dir l r is sl sr (Text PayloadTooLong) p = (dir_word dir, local, remote, digits, p.0, l, r, has_fields line local remote digits dir is, sl, sr, p.1, p.2)
+payload_stop count line local remote digits dir l r is sl sr Memory p = (
+  record { dir = dir; local = l; remote = r; payload = p.0 },
+  record { local = local; remote = remote; digits = digits; cut = is; local_port = sl; remote_port = sr; payload = p.1; fits = p.2 },
+)
+payload_stop count line local remote digits dir l r is sl sr Read p = absurd p
+payload_stop count line local remote digits dir l r is sl sr (Text BadHeader) p = absurd p
+payload_stop count line local remote digits dir l r is sl sr (Text BadEnd) p = absurd p
+payload_stop count line local remote digits dir l r is sl sr (Text BadService) p = absurd p
+payload_stop count line local remote digits dir l r is sl sr (Text LineTooLong) p = absurd p
+payload_stop count line local remote digits dir l r is sl sr (Text BadLine) p = absurd p
+payload_stop count line local remote digits dir l r is sl sr (Text BadPort) p = absurd p
+payload_stop count line local remote digits dir l r is sl sr (Text TotalWrong) p = absurd p
+payload_stop count line local remote digits dir l r is sl sr (Text Truncated) p = absurd p
+payload_stop count line local remote digits dir l r is sl sr (Text TrailingText) p = absurd p
+payload_stop count line local remote digits dir l r is sl sr (Text TextTooLong) p = absurd p

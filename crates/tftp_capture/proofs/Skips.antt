@@ -5,7 +5,7 @@ use Rattle.std.proofs.KnownBytes.{Consumes-nil, Consumes-trans}
 use Rattle.std.proofs.lemmas.List.Concat.{flat_map-append}
 use Rattle.std.proofs.lemmas.List.Elements.{All-push, All-nil}
 use Rattle.tftp_capture.specs.CaptureText.{says_nothing, whole_lines}
-use Rattle.tftp_capture.specs.Lines.{IsSkipped, LineEnds, LineState, ReachesLine}
+use Rattle.tftp_capture.specs.Lines.{IsSkipped, LeavesEnd, LineEnds, LineState, ReachesLine}
 use Rattle.tftp_capture.specs.declared.stop.Stop.{Stop}
 
 pub whole_lines-push : (lines : List (List ℕ)) (line : List ℕ) → whole_lines (lines ++ line ∷ []) ≡ whole_lines lines ++ (line ++ 10 ∷ [])
@@ -55,6 +55,7 @@ reaches_line old mid new k0 k1 k2 bytes s short consumed ends said taken count =
       consumed = Consumes-trans _ _ _ _ _ s.consumed consumed;
       short = rw (← s.taken) short;
       ends = rw (← s.taken) ends;
+      leaves = tt;
       said = said;
       taken = omega (arith, s.taken, taken, size);
       count = omega (arith, s.count, count);
@@ -62,15 +63,16 @@ reaches_line old mid new k0 k1 k2 bytes s short consumed ends said taken count =
     }
 
 pub reaches_stop : (stop : Stop) (old mid new : LineState) (k0 k1 k2 : Option (List ℕ)) (bytes : List ℕ) → Skipped old mid k0 k1 → mid.taken ≤ 2 ^ 40
-    → Consumes k1 k2 bytes → LineEnds {T = Unit {0}} (Err stop) new.line (2 ^ 40 - mid.taken) bytes
+    → Consumes k1 k2 bytes → LineEnds {T = Unit {0}} (Err stop) new.line (2 ^ 40 - mid.taken) bytes → LeavesEnd {T = Unit {0}} (Err stop) (2 ^ 40 - mid.taken) bytes new.ahead
     → new.count ≡ mid.count → ReachesLine {T = Unit {0}} (Err stop) old new k0 k2
-reaches_stop stop old mid new k0 k1 k2 bytes s short consumed ends count = record {
+reaches_stop stop old mid new k0 k1 k2 bytes s short consumed ends leaves count = record {
   skipped = s.skipped;
   bytes = bytes;
   nothing = s.nothing;
   consumed = Consumes-trans _ _ _ _ _ s.consumed consumed;
   short = rw (← s.taken) short;
   ends = rw (← s.taken) ends;
+  leaves = rw (← s.taken) leaves;
   said = tt;
   taken = tt;
   count = tt;

@@ -22,14 +22,14 @@ PayloadEnds (Err (Text BadHex)) digits = (payload : List ℕ) → SpellsPayload 
 PayloadEnds (Err (Text PayloadTooLong)) digits = (payload : List ℕ) × SpellsPayload digits payload × (65527 < length payload)
 PayloadEnds (Err (Text _)) digits = ⊥
 PayloadEnds (Err Read) digits = ⊥
-PayloadEnds (Err Memory) digits = Unit {0}
+PayloadEnds (Err Memory) digits = (payload : List ℕ) × SpellsPayload digits payload × (length payload ≤ 65527)
 
 -- what a line with a datagram's first word says, or what is wrong with it, after so many datagrams
 abbrev pub DatagramEnds : Result Owned Stop → List ℕ → ℕ → Type 0
 DatagramEnds (Ok d) line count = SaysDatagram line (datagram_of d)
 DatagramEnds (Err (Text fault)) line count = BodyFault count line fault
 DatagramEnds (Err Read) line count = ⊥
-DatagramEnds (Err Memory) line count = Unit {0}
+DatagramEnds (Err Memory) line count = (d : Datagram) × SaysDatagram line d
 
 -- the same of a line with the total's first word
 abbrev pub TotalEnds : Result (Unit {0}) Stop → List ℕ → ℕ → Type 0
@@ -44,4 +44,4 @@ BodyEnds (Ok (Some d)) line count = SaysDatagram line (datagram_of d)
 BodyEnds (Ok None) line count = line ≡ total_line count
 BodyEnds (Err (Text fault)) line count = BodyFault count line fault
 BodyEnds (Err Read) line count = ⊥
-BodyEnds (Err Memory) line count = Unit {0}
+BodyEnds (Err Memory) line count = (d : Datagram) × SaysDatagram line d

@@ -1,5 +1,5 @@
 -- What a reader of captures holds, and for what bytes and datagrams it stands.
-use Rattle.std.specs.Prelude.{◌≡◌, ℕ, ◌+◌, List, [], ◌∷◌, ◌++◌, length, Option, Some, None, Result, Ok, Err}
+use Rattle.std.specs.Prelude.{◌≡◌, ℕ, ◌+◌, ◌^◌, ◌<◌, ◌⊎◌, ◌==◌, List, [], ◌∷◌, ◌++◌, length, Option, Some, None, Result, Ok, Err}
 use Rattle.std.specs.Io.KnownBytes.{Consumes}
 use Rattle.tftp_capture.specs.declared.fault.TextFault.TheVariants.{Truncated}
 use Rattle.tftp_capture.specs.declared.fault.CaptureFault.{CaptureFault}
@@ -7,7 +7,8 @@ use Rattle.tftp_capture.specs.declared.fault.CaptureFault.TheVariants.{Text, Rea
 use Rattle.tftp_capture.specs.declared.standing.Standing.{Standing}
 use Rattle.tftp_capture.specs.declared.standing.Standing.TheVariants.{Open, Over, Failed}
 use Rattle.tftp_capture.specs.declared.datagram.Datagram.{Datagram as Owned}
-use Rattle.tftp_capture.specs.CaptureText.{Header, Numbered, Due, Stands, Unfinished, IsCapture, HasFault}
+use Rattle.std.specs.List.{slice_split}
+use Rattle.tftp_capture.specs.CaptureText.{Datagram, Header, Numbered, Due, Stands, Unfinished, IsCapture, IsOver, HasFault, said, head_line, end_line, service_line}
 use Rattle.tftp_capture.specs.CaptureText.Due.{Body}
 use Rattle.tftp_capture.specs.Lines.{LineState}
 use Rattle.tftp_capture.specs.Fields.{datagram_of}
@@ -34,6 +35,47 @@ abbrev pub FaultTells : CaptureFault → List ℕ → List Numbered → Type 0
 FaultTells (Text line fault) text datagrams = HasFault text datagrams line fault
 FaultTells (Read line) text datagrams = (due : Due) × Unfinished text datagrams line due
 FaultTells (Memory line) text datagrams = Unit {0}
+
+-- Memory was refused while the line was read: no byte of it or before it is wrong, and all of it that was read is taken;
+-- what is ahead is nothing, or begins with its LF, for which the text has room.
+pub record IsBeingRead (text ahead : List ℕ) (datagrams : List Numbered) (line : ℕ) : Type 0 where
+  pub due : Due
+  pub unfinished : Unfinished text datagrams line due
+  pub goes_on : IsOver due → ⊥
+  pub ends : (ahead ≡ []) ⊎ ((more : List ℕ) × (ahead ≡ 10 ∷ more) × (length text < 2 ^ 40))
+
+-- memory was refused for the datagram that the line says, the last of the whole lines that were taken
+pub record SaysOneMore (text : List ℕ) (datagrams : List Numbered) (line : ℕ) : Type 0 where
+  pub header : Header
+  pub datagram : Datagram
+  pub lines : List (List ℕ)
+  pub stands : Stands text lines [] (Body header) (datagrams ++ (line, datagram) ∷ [])
+  pub at_line : line ≡ length lines
+
+-- what want of memory says of the bytes that were taken, of those ahead, and of the datagrams that were given before it:
+-- no byte that was taken is wrong, and the line is the one that was being read
+abbrev pub MemoryTells : CaptureFault → List ℕ → List ℕ → List Numbered → Type 0
+MemoryTells (Text line fault) text ahead datagrams = Unit {0}
+MemoryTells (Read line) text ahead datagrams = Unit {0}
+MemoryTells (Memory line) text ahead datagrams = IsBeingRead text ahead datagrams line ⊎ SaysOneMore text datagrams line
+
+-- the same of the answer of a reader that went on
+abbrev pub WantTells : Standing → Result (Option Owned) CaptureFault → List ℕ → List ℕ → List Numbered → Type 0
+WantTells Open (Ok _) text ahead datagrams = Unit {0}
+WantTells Open (Err fault) text ahead datagrams = MemoryTells fault text ahead datagrams
+WantTells Over result text ahead datagrams = Unit {0}
+WantTells (Failed fault) result text ahead datagrams = Unit {0}
+
+-- The text is whole lines: the first line, the end line, and on line n the service line, before any other line that
+-- says something.
+pub record HasService (text : List ℕ) (header : Header) (n : ℕ) : Type 0 where
+  pub lines : List (List ℕ)
+  pub after_head : List (List ℕ)
+  pub at_end : ℕ
+  pub others : List (ℕ × List ℕ)
+  pub divided : slice_split (λ b. b == 10) text ≡ lines ++ [] ∷ []
+  pub begins : lines ≡ head_line ∷ after_head
+  pub are : said 2 after_head ≡ (at_end, end_line header.named) ∷ (n, service_line header.service) ∷ others
 
 -- what the reader took and gave, by whether it goes on
 abbrev pub StandingTells : Standing → ReaderState → List ℕ → List Numbered → Type 0
@@ -68,12 +110,14 @@ pub record Answers (before after : Option (List ℕ)) (result : Result (Option O
   pub taken : List ℕ
   pub consumed : Consumes before after taken
   pub tells : AnswerTells result header state count (text ++ taken) datagrams
+  pub memory : WantTells Open result (text ++ taken) state.ahead datagrams
 
 -- bytes were taken, and with them the reader stands for the history that the answer adds to
 pub record Continues (old new : ReaderState) (before after : Option (List ℕ)) (result : Result (Option Owned) CaptureFault) (text : List ℕ) (datagrams : List Numbered) : Type 0 where
   pub taken : List ℕ
   pub consumed : Consumes before after taken
   pub stands : StandsFor new (text ++ taken) (with_answer datagrams new.handed result)
+  pub memory : WantTells old.standing result (text ++ taken) new.lines.ahead datagrams
 
 -- whether a fault, or the answer of a reader that has stopped, is that a read failed
 abbrev pub IsReadFault : CaptureFault → Type 0
@@ -101,6 +145,13 @@ pub record FailsToBegin (before after : Option (List ℕ)) (fault : CaptureFault
   pub tells : FaultTells fault taken []
   pub drained : IsReadFault fault → ahead ≡ []
   pub ended : IsAtTextEnd fault → ahead ≡ []
+  pub memory : MemoryTells fault taken ahead []
+
+-- no datagram was given
+abbrev pub GivesNone : Result (Option Owned) CaptureFault → Type 0
+GivesNone (Ok (Some d)) = ⊥
+GivesNone (Ok None) = Unit {0}
+GivesNone (Err fault) = Unit {0}
 
 -- the answer of a reader that goes on no more
 abbrev pub KeepsAnswer : Standing → Result (Option Owned) CaptureFault → Type 0

@@ -1,5 +1,5 @@
 -- Where the lines of a reader end, in its bytes.
-use Rattle.std.specs.Prelude.{◌≡◌, ◌≢◌, ℕ, ◌+◌, ◌-◌, ◌^◌, ◌<◌, ◌≤◌, true, false, List, [], ◌∷◌, ◌++◌, length, All, Option, Result, Ok, Err, OnOk, OnErr}
+use Rattle.std.specs.Prelude.{◌≡◌, ◌≢◌, ℕ, ◌+◌, ◌-◌, ◌^◌, ◌<◌, ◌≤◌, ◌⊎◌, true, false, List, [], ◌∷◌, ◌++◌, length, All, Option, Result, Ok, Err, OnOk, OnErr}
 use Rattle.std.specs.Io.KnownBytes.{Consumes}
 use Rattle.tftp_capture.specs.CaptureText.{says_nothing, whole_lines}
 use Rattle.tftp_capture.specs.declared.fault.TextFault.TheVariants.{LineTooLong, Truncated, TrailingText, TextTooLong}
@@ -39,8 +39,16 @@ LineEnds (Err (Text LineTooLong)) line room bytes = (byte : ℕ) × HasByteAt by
 LineEnds (Err (Text TextTooLong)) line room bytes = (byte : ℕ) × HasByteAt bytes room byte × (room ≤ 131070)
 LineEnds (Err (Text Truncated)) line room bytes = IsPartOfLine bytes room
 LineEnds (Err Read) line room bytes = IsPartOfLine bytes room
-LineEnds (Err Memory) line room bytes = Unit {0}
+LineEnds (Err Memory) line room bytes = IsPartOfLine bytes room
 LineEnds (Err (Text _)) line room bytes = ⊥
+
+-- Where memory was refused in a line, all of it that was read is taken: nothing is ahead, or its LF is, for which the
+-- text has room.
+abbrev pub LeavesEnd : {T : Type 0} → Result T Stop → ℕ → List ℕ → List ℕ → Type 0
+LeavesEnd (Err Memory) room bytes ahead = (ahead ≡ []) ⊎ ((more : List ℕ) × (ahead ≡ 10 ∷ more) × (length bytes < room))
+LeavesEnd (Err Read) room bytes ahead = Unit {0}
+LeavesEnd (Err (Text _)) room bytes ahead = Unit {0}
+LeavesEnd (Ok _) room bytes ahead = Unit {0}
 
 -- ---- lines, one after another
 
@@ -65,6 +73,7 @@ pub record ReachesLine {T : Type 0} (result : Result T Stop) (old new : LineStat
   pub consumed : Consumes before after (whole_lines skipped ++ bytes)
   pub short : old.taken + length (whole_lines skipped) ≤ 2 ^ 40
   pub ends : LineEnds result new.line (2 ^ 40 - (old.taken + length (whole_lines skipped))) bytes
+  pub leaves : LeavesEnd result (2 ^ 40 - (old.taken + length (whole_lines skipped))) bytes new.ahead
   pub said : OnOk result (says_nothing new.line ≡ false)
   pub taken : OnOk result (new.taken ≡ old.taken + length (whole_lines skipped) + length bytes)
   pub count : OnOk result (new.count ≡ old.count + length skipped + 1)

@@ -1,4 +1,6 @@
-ghost use Rattle.std.specs.Prelude.{◌≡◌, ◌≢◌, ◌∷◌, ℕ, List, [], codes, MatchOption};
+ghost use Rattle.std.specs.Prelude.{◌≡◌, ◌≢◌, ◌∷◌, ℕ, List, [], codes, Err, MatchOption};
+ghost use Rattle.std.specs.List.{list_all};
+ghost use Rattle.std.specs.Char.{is_ascii_hexdigit};
 ghost use Rattle.tftp_capture.specs.CaptureText.{dir_word, end_line, service_line, pieces, IsPort, SpellsPort};
 ghost use Rattle.tftp_capture.specs.Fields.{BodyEnds, DatagramEnds, PayloadEnds, TotalEnds};
 
@@ -76,6 +78,26 @@ fn dir_of(word: &[u8]) -> Option<Dir>
     }
 }
 
+/// Whether the bytes are hex digits of either case.
+fn are_digits(bytes: &[u8]) -> bool
+    ensures { result ≡ list_all is_ascii_hexdigit bytes.now }
+{
+    bytes.iter().all(|byte| byte.is_ascii_hexdigit())
+}
+
+/// What there is to say of digits for whose bytes memory was refused: they may spell no payload all the same.
+fn refused(digits: &[u8]) -> Stop
+    ensures { digits.now ≢ codes "-" → PayloadEnds (Err result) digits.now }
+{
+    if digits.is_empty() || digits.len() % 2 == 1 || !are_digits(digits) {
+        return Stop::Text(TextFault::BadHex);
+    }
+    if digits.len() / 2 > LONGEST_PAYLOAD {
+        return Stop::Text(TextFault::PayloadTooLong);
+    }
+    Stop::Memory
+}
+
 /// The payload that is spelled.
 fn payload(alloc: Global, digits: &[u8]) -> Result<Bytes, Stop>
     ensures { PayloadEnds result digits.now }
@@ -87,7 +109,7 @@ fn payload(alloc: Global, digits: &[u8]) -> Result<Bytes, Stop>
         Ok(bytes) if bytes.is_empty() => Err(Stop::Text(TextFault::BadHex)),
         Ok(bytes) if bytes.len() > LONGEST_PAYLOAD => Err(Stop::Text(TextFault::PayloadTooLong)),
         Ok(bytes) => Ok(Bytes::of(bytes)),
-        Err(FromHexError::OutOfMemory) => Err(Stop::Memory),
+        Err(FromHexError::OutOfMemory) => Err(refused(digits)),
         Err(_) => Err(Stop::Text(TextFault::BadHex)),
     }
 }

@@ -1,6 +1,5 @@
-ghost use Rattle.std.specs.Prelude.{◌≡◌, ◌+◌, ◌≤◌, ◌++◌, [], length, true, false, flat_map, OnOk, OnErr};
-ghost use Rattle.std.specs.Io.KnownBytes.{Appends};
-ghost use Rattle.tftp_capture.specs.Tally.{AppendsPrefix, Gathers};
+ghost use Rattle.std.specs.Prelude.{◌≡◌, ◌+◌, ◌≤◌, ◌++◌, [], length, false, flat_map, OnOk};
+ghost use Rattle.tftp_capture.specs.Tally.{Adds, Writes};
 
 use crate::fault::WriteFault;
 use crate::tallied::Tallied;
@@ -42,13 +41,10 @@ impl Gathered {
     /// Adds a piece of any length: where there is no room for both, what waits is written first, and
     /// then at once a piece of more than 4,096 bytes. After a fault only the writer tells what was
     /// written.
-    #[tactic(auto, using(crate::proofs::Gathering::gathers_past, crate::proofs::Gathering::prefix_of))]
+    #[tactic(auto, using(crate::proofs::Gathering::writes_past, crate::proofs::Gathering::prefix_of))]
     pub fn add<W: Write>(&mut self, writer: &mut Tallied<W>, bytes: &[u8]) -> Result<(), WriteFault>
         requires clean { writer.old.1 ≡ false }
-        ensures ok { OnOk result (Gathers (W.contents writer.old.0) (W.contents writer.new.0) self.old self.new bytes.now) }
-        ensures clean { OnOk result (writer.new.1 ≡ false) }
-        ensures err { OnErr result (AppendsPrefix (W.contents writer.old.0) (W.contents writer.new.0) (self.old ++ bytes.now)) }
-        ensures failed { OnErr result (writer.new.1 ≡ true) }
+        ensures adds { Adds W.contents writer.old writer.new result self.old self.new bytes.now }
     {
         if ROOM - self.len < bytes.len() {
             self.write(writer)?;
@@ -67,10 +63,7 @@ impl Gathered {
         pieces: &[&[u8]],
     ) -> Result<(), WriteFault>
         requires clean { writer.old.1 ≡ false }
-        ensures ok { OnOk result (Gathers (W.contents writer.old.0) (W.contents writer.new.0) self.old self.new (flat_map (λ piece. piece.now) pieces.now)) }
-        ensures clean { OnOk result (writer.new.1 ≡ false) }
-        ensures err { OnErr result (AppendsPrefix (W.contents writer.old.0) (W.contents writer.new.0) (self.old ++ flat_map (λ piece. piece.now) pieces.now)) }
-        ensures failed { OnErr result (writer.new.1 ≡ true) }
+        ensures adds { Adds W.contents writer.old writer.new result self.old self.new (flat_map (λ piece. piece.now) pieces.now) }
     {
         for piece in pieces {
             self.add(writer, piece)?;
@@ -81,10 +74,7 @@ impl Gathered {
     /// Writes what waits; nothing waits then.
     pub fn write<W: Write>(&mut self, writer: &mut Tallied<W>) -> Result<(), WriteFault>
         requires clean { writer.old.1 ≡ false }
-        ensures ok { OnOk result (Appends (W.contents writer.old.0) (W.contents writer.new.0) self.old) }
-        ensures clean { OnOk result (writer.new.1 ≡ false) }
-        ensures err { OnErr result (AppendsPrefix (W.contents writer.old.0) (W.contents writer.new.0) self.old) }
-        ensures failed { OnErr result (writer.new.1 ≡ true) }
+        ensures writes { Writes W.contents writer.old writer.new result self.old }
         ensures empty { OnOk result (self.new ≡ []) }
     {
         write_whole(writer, &self.buf[..self.len])?;

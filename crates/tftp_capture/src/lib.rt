@@ -14,8 +14,6 @@ mod reader;
 mod standing;
 mod stop;
 mod tallied;
-#[cfg(test)]
-mod tests;
 mod whole;
 mod writer;
 

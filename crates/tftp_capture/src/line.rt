@@ -1,6 +1,6 @@
 ghost use Rattle.std.specs.Prelude.{◌≡◌, ◌≢◌, ◌<◌, ◌≤◌, ℕ, List, [], All, true, length, take, slice_index, vec_len, OnOk};
 ghost use Rattle.std.specs.Io.KnownBytes.{prepend_known, Consumes, IsAtEnd};
-ghost use Rattle.tftp_capture.specs.Lines.{LineEnds};
+ghost use Rattle.tftp_capture.specs.Lines.{LeavesEnd, LineEnds};
 
 use crate::ahead::Ahead;
 use crate::fault::TextFault;
@@ -33,7 +33,7 @@ pub fn read_line<R: Read>(
     room: u64,
 ) -> Result<(), Stop>
     ensures ends { (bytes : List ℕ) × Consumes (prepend_known ahead.old (R.remaining reader.old.0)) (prepend_known ahead.new (R.remaining reader.new.0)) bytes
-        × LineEnds result line.new.items room bytes }
+        × LineEnds result line.new.items room bytes × LeavesEnd result room bytes ahead.new }
     ensures fits { OnOk result (length line.new.items < room) }
     ensures few { length ahead.new ≤ 4096 }
     ensures bounded { vec_len line.new ≤ 131070 }
@@ -66,6 +66,7 @@ pub fn read_line<R: Read>(
             return Err(Stop::Text(TextFault::LineTooLong));
         }
         if line.extend_from_slice(&held[..count]).is_err() {
+            ahead.consume(count);
             return Err(Stop::Memory);
         }
         if whole {

@@ -1,6 +1,6 @@
 ghost use Rattle.std.specs.Prelude.{◌≡◌, ◌≢◌, ◌+◌, ◌-◌, ◌^◌, ◌≤◌, ℕ, List, [], length, true, OnOk, OnErr};
 ghost use Rattle.std.specs.Io.KnownBytes.{prepend_known, Consumes, IsAtEnd};
-ghost use Rattle.tftp_capture.specs.Lines.{LineEnds, ReachesLine, TextEnds};
+ghost use Rattle.tftp_capture.specs.Lines.{LeavesEnd, LineEnds, ReachesLine, TextEnds};
 ghost use Rattle.tftp_capture.specs.CaptureText.{says_nothing};
 
 use crate::ahead::Ahead;
@@ -82,7 +82,7 @@ impl Lines {
     /// Reads the next line.
     pub fn next<R: Read>(&mut self, reader: &mut Tallied<R>) -> Result<(), Stop>
         ensures ends { (bytes : List ℕ) × Consumes (prepend_known self.old.ahead (R.remaining reader.old.0)) (prepend_known self.new.ahead (R.remaining reader.new.0)) bytes
-            × LineEnds result self.new.line (2 ^ 40 - self.old.taken) bytes }
+            × LineEnds result self.new.line (2 ^ 40 - self.old.taken) bytes × LeavesEnd result (2 ^ 40 - self.old.taken) bytes self.new.ahead }
         ensures taken { OnOk result (self.new.taken ≡ self.old.taken + length self.new.line + 1) }
         ensures count { OnOk result (self.new.count ≡ self.old.count + 1) }
         ensures same { OnErr result ((self.new.taken ≡ self.old.taken) × (self.new.count ≡ self.old.count)) }

@@ -2,7 +2,7 @@ ghost use Rattle.std.specs.Prelude.{◌≡◌, ◌≢◌, ◌+◌, ◌^◌, ◌<
 ghost use Rattle.std.specs.Io.KnownBytes.{prepend_known, Consumes, IsAtEnd};
 ghost use Rattle.tftp_capture.specs.CaptureText.{Header as HeaderParts, Numbered};
 ghost use Rattle.tftp_capture.specs.Fields.{header_of};
-ghost use Rattle.tftp_capture.specs.History.{Answers, Continues, FailsToBegin, GoesOn, IsAtTextEnd, IsReadFault, IsReadStanding, KeepsAnswer, StandsFor, standing_after};
+ghost use Rattle.tftp_capture.specs.History.{Answers, Continues, FailsToBegin, GivesNone, GoesOn, HasService, IsAtTextEnd, IsReadFault, IsReadStanding, KeepsAnswer, StandsFor, standing_after};
 
 use crate::datagram::{Datagram, Header};
 use crate::fault::{CaptureFault, TextFault};
@@ -46,6 +46,8 @@ impl CaptureReader {
             × GoesOn begun.header begun.lines begun.count taken []) }
         ensures open { IfOk result (λ begun. begun.standing ≡ Standing.Open) }
         ensures line { IfOk result (λ begun. 3 ≤ begun.handed) }
+        ensures service { IfOk result (λ begun. (taken : List ℕ) × Consumes (R.remaining reader.old.0) (prepend_known begun.lines.ahead (R.remaining reader.new.0)) taken
+            × HasService taken begun.header begun.handed) }
         ensures err { IfErr result (λ fault. FailsToBegin (R.remaining reader.old.0) (R.remaining reader.new.0) fault) }
         ensures end { IfErr result (λ fault. IsAtTextEnd fault → IsAtEnd (R.remaining reader.new.0)) }
         ensures read { IfErr result (λ fault. IsReadFault fault → reader.new.1 ≡ true) }
@@ -102,6 +104,7 @@ impl CaptureReader {
         ensures told { IsReadStanding self.new.standing → reader.new.1 ≡ true }
         ensures rises { IfOk result (λ answer. IfSome answer (λ _. self.old.handed < self.new.handed)) }
         ensures line { self.new.handed ≤ 2 ^ 40 }
+        ensures stays { GivesNone result → self.new.handed ≡ self.old.handed }
         ensures fits { IfOk result (λ answer. IfSome answer (λ d. length d.payload ≤ 65527)) }
         ensures header { self.new.header ≡ self.old.header }
     {

@@ -1,7 +1,7 @@
-ghost use Rattle.std.specs.Prelude.{◌≡◌, ◌+◌, ◌^◌, ◌<◌, ◌≤◌, ◌++◌, ◌∷◌, [], ℕ, List, Option, length, true, false, IfOk, IsErr, OnOk, OnErr};
+ghost use Rattle.std.specs.Prelude.{◌≡◌, ◌+◌, ◌^◌, ◌<◌, ◌≤◌, ◌++◌, ◌∷◌, [], ℕ, List, Option, length, true, false, IfOk, is_err, IsErr, OnOk, OnErr};
 ghost use Rattle.std.specs.Io.KnownBytes.{Appends};
 ghost use Rattle.hex.specs.Hex.{encode_lower};
-ghost use Rattle.tftp_capture.specs.Tally.{AppendsPrefix, Gathers};
+ghost use Rattle.tftp_capture.specs.Tally.{Adds, AppendsPrefix, Writes};
 ghost use Rattle.tftp_capture.specs.CaptureText.{datagram_line, payload_text, text_of, total_line, Datagram, Header as HeaderParts, IsPort};
 ghost use Rattle.tftp_capture.specs.Fields.{header_of};
 ghost use Rattle.tftp_capture.specs.Written.{header_text, HasWritten};
@@ -68,16 +68,13 @@ impl CaptureWriter {
         requires remote { IsPort remote }
         requires payload { length payload.now ≤ 65527 }
         requires few { self.old.count < 2 ^ 40 }
-        ensures ok { OnOk result (Gathers (W.contents writer.old.0) (W.contents writer.new.0) self.old.held self.new.held
-            (datagram_line (record { dir = dir; local = local; remote = remote; payload = payload.now }) ++ 10 ∷ [])) }
+        ensures adds { Adds W.contents writer.old writer.new result self.old.held self.new.held
+            (datagram_line (record { dir = dir; local = local; remote = remote; payload = payload.now }) ++ 10 ∷ []) }
         ensures counted { OnOk result (self.new.count ≡ self.old.count + 1) }
         ensures written { (start : Option (List ℕ)) (header : HeaderParts) (datagrams : List Datagram)
             → HasWritten start (W.contents writer.old.0) self.old header datagrams
             → OnOk result (HasWritten start (W.contents writer.new.0) self.new header (datagrams ++ record { dir = dir; local = local; remote = remote; payload = payload.now } ∷ [])) }
-        ensures clean { OnOk result ((self.new.failed ≡ false) × (writer.new.1 ≡ false)) }
-        ensures err { OnErr result (AppendsPrefix (W.contents writer.old.0) (W.contents writer.new.0)
-            (self.old.held ++ (datagram_line (record { dir = dir; local = local; remote = remote; payload = payload.now }) ++ 10 ∷ []))) }
-        ensures failed { OnErr result ((self.new.failed ≡ true) × (writer.new.1 ≡ true)) }
+        ensures failed { self.new.failed ≡ is_err result }
         ensures told { self.new.failed ≡ true → writer.new.1 ≡ true }
         ensures for_good { writer.old.1 ≡ true → IsErr result × (writer.new ≡ writer.old) }
     {
@@ -96,13 +93,10 @@ impl CaptureWriter {
     /// Ends with the total, and writes what waits.
     pub fn close<W: Write>(self, writer: &mut Tallied<W>) -> Result<(), WriteFault>
         requires told { self.failed ≡ true → writer.old.1 ≡ true }
-        ensures ok { OnOk result (Appends (W.contents writer.old.0) (W.contents writer.new.0) (self.held ++ (total_line self.count ++ 10 ∷ []))) }
+        ensures writes { Writes W.contents writer.old writer.new result (self.held ++ (total_line self.count ++ 10 ∷ [])) }
         ensures written { (start : Option (List ℕ)) (header : HeaderParts) (datagrams : List Datagram)
             → HasWritten start (W.contents writer.old.0) self header datagrams
             → OnOk result (Appends start (W.contents writer.new.0) (text_of header datagrams)) }
-        ensures clean { OnOk result (writer.new.1 ≡ false) }
-        ensures err { OnErr result (AppendsPrefix (W.contents writer.old.0) (W.contents writer.new.0) (self.held ++ (total_line self.count ++ 10 ∷ []))) }
-        ensures failed { OnErr result (writer.new.1 ≡ true) }
         ensures for_good { writer.old.1 ≡ true → IsErr result × (writer.new ≡ writer.old) }
     {
         if writer.failed() {
@@ -125,10 +119,7 @@ fn put_header<W: Write>(
     header: &Header,
 ) -> Result<(), WriteFault>
     requires clean { writer.old.1 ≡ false }
-    ensures ok { OnOk result (Gathers (W.contents writer.old.0) (W.contents writer.new.0) gathered.old gathered.new (header_text (header_of header.now))) }
-    ensures clean { OnOk result (writer.new.1 ≡ false) }
-    ensures err { OnErr result (AppendsPrefix (W.contents writer.old.0) (W.contents writer.new.0) (gathered.old ++ header_text (header_of header.now))) }
-    ensures failed { OnErr result (writer.new.1 ≡ true) }
+    ensures adds { Adds W.contents writer.old writer.new result gathered.old gathered.new (header_text (header_of header.now)) }
 {
     let mut buffer = Buffer::new();
     let service = buffer.format(header.service).as_bytes();
@@ -158,12 +149,7 @@ fn put_datagram<W: Write>(
     payload: &[u8],
 ) -> Result<(), WriteFault>
     requires clean { writer.old.1 ≡ false }
-    ensures ok { OnOk result (Gathers (W.contents writer.old.0) (W.contents writer.new.0) gathered.old gathered.new
-        (datagram_line (record { dir = dir; local = local; remote = remote; payload = payload.now }) ++ 10 ∷ [])) }
-    ensures clean { OnOk result (writer.new.1 ≡ false) }
-    ensures err { OnErr result (AppendsPrefix (W.contents writer.old.0) (W.contents writer.new.0)
-        (gathered.old ++ (datagram_line (record { dir = dir; local = local; remote = remote; payload = payload.now }) ++ 10 ∷ []))) }
-    ensures failed { OnErr result (writer.new.1 ≡ true) }
+    ensures adds { Adds W.contents writer.old writer.new result gathered.old gathered.new (datagram_line (record { dir = dir; local = local; remote = remote; payload = payload.now }) ++ 10 ∷ []) }
 {
     let mut local_buffer = Buffer::new();
     let mut remote_buffer = Buffer::new();
@@ -185,10 +171,7 @@ fn put_total<W: Write>(
     count: u64,
 ) -> Result<(), WriteFault>
     requires clean { writer.old.1 ≡ false }
-    ensures ok { OnOk result (Gathers (W.contents writer.old.0) (W.contents writer.new.0) gathered.old gathered.new (total_line count ++ 10 ∷ [])) }
-    ensures clean { OnOk result (writer.new.1 ≡ false) }
-    ensures err { OnErr result (AppendsPrefix (W.contents writer.old.0) (W.contents writer.new.0) (gathered.old ++ (total_line count ++ 10 ∷ []))) }
-    ensures failed { OnErr result (writer.new.1 ≡ true) }
+    ensures adds { Adds W.contents writer.old writer.new result gathered.old gathered.new (total_line count ++ 10 ∷ []) }
 {
     let mut buffer = Buffer::new();
     let number = buffer.format(count).as_bytes();
@@ -202,10 +185,7 @@ fn put_payload<W: Write>(
     payload: &[u8],
 ) -> Result<(), WriteFault>
     requires clean { writer.old.1 ≡ false }
-    ensures ok { OnOk result (Gathers (W.contents writer.old.0) (W.contents writer.new.0) gathered.old gathered.new (payload_text payload.now)) }
-    ensures clean { OnOk result (writer.new.1 ≡ false) }
-    ensures err { OnErr result (AppendsPrefix (W.contents writer.old.0) (W.contents writer.new.0) (gathered.old ++ payload_text payload.now)) }
-    ensures failed { OnErr result (writer.new.1 ≡ true) }
+    ensures adds { Adds W.contents writer.old writer.new result gathered.old gathered.new (payload_text payload.now) }
 {
     if payload.is_empty() {
         return gathered.add(writer, b"-");
@@ -220,10 +200,7 @@ fn put_hex<W: Write>(
     payload: &[u8],
 ) -> Result<(), WriteFault>
     requires clean { writer.old.1 ≡ false }
-    ensures ok { OnOk result (Gathers (W.contents writer.old.0) (W.contents writer.new.0) gathered.old gathered.new (encode_lower payload.now)) }
-    ensures clean { OnOk result (writer.new.1 ≡ false) }
-    ensures err { OnErr result (AppendsPrefix (W.contents writer.old.0) (W.contents writer.new.0) (gathered.old ++ encode_lower payload.now)) }
-    ensures failed { OnErr result (writer.new.1 ≡ true) }
+    ensures adds { Adds W.contents writer.old writer.new result gathered.old gathered.new (encode_lower payload.now) }
 {
     let mut digits = [0u8; 4096];
     let mut done = 0;

@@ -1,7 +1,7 @@
 -- The lines of datagrams.
-use Rattle.std.proofs.Common.{◌≡◌, ◌↔◌, inl, inr, ℕ, ◌+◌, List, [], ◌∷◌, ◌++◌, length, codes, decimal, Option, Result, Ok, Err, IfOk, refl, sym, ap, ◌∙◌, subst, append_assoc, append-nil, arith}
-use Rattle.tftp_capture.specs.Tally.{AppendsPrefix, Gathers}
-use Rattle.tftp_capture.proofs.Gathering.{gathers_more, prefix_of}
+use Rattle.std.proofs.Common.{◌≡◌, ◌↔◌, inl, inr, ℕ, ◌+◌, Bool, List, [], ◌∷◌, ◌++◌, length, codes, decimal, Option, Result, Ok, Err, IfOk, refl, sym, ap, ◌∙◌, subst, append_assoc, append-nil, arith}
+use Rattle.tftp_capture.specs.Tally.{Adds, AppendsPrefix, Gathers}
+use Rattle.tftp_capture.proofs.Gathering.{adds_more, adds_same, prefix_of}
 use Rattle.tftp_packet.specs.declared.kinds.Dir.{Dir}
 use Rattle.tftp_packet.specs.Spelling.{Spells}
 use Rattle.tftp_packet.specs.Faults.{FirstFault}
@@ -11,7 +11,6 @@ use Rattle.tftp_packet.specs.declared.fault.PacketFault.{PacketFault}
 use Rattle.tftp_capture.specs.CaptureText.{Numbered, dir_word}
 use Rattle.tftp_commands.specs.Names.{packet_fault_name}
 use Rattle.tftp_commands.specs.Shown.{message_text, AreLines, IsDatagramLine, IsPayloadText}
-use Rattle.tftp_commands.proofs.Written.{prefix_after}
 
 -- the lines of some datagrams, and that of one more
 pub lines_more : (n : ℕ) (ds : List Numbered) (bytes : List ℕ) (d : Numbered) (line : List ℕ) → AreLines n ds bytes → IsDatagramLine (n + length ds) d.1 line
@@ -46,11 +45,10 @@ line_pieces number dir n d text is_number is_dir =
     ∙ append_assoc (decimal number ++ codes " ") (dir_word dir) (32 ∷ tail)
     ∙ append_assoc (decimal number) (32 ∷ []) (dir_word dir ++ (32 ∷ tail)))
 
-pub line_gathered : (c0 c1 c2 : Option (List ℕ)) (h0 h1 h2 head tail line : List ℕ) → head ++ tail ≡ line → Gathers c0 c1 h0 h1 head → Gathers c1 c2 h1 h2 tail → Gathers c0 c2 h0 h2 line
-line_gathered c0 c1 c2 h0 h1 h2 head tail line are p q = subst (Gathers c0 c2 h0 h2) are (gathers_more c0 c1 c2 h0 h1 h2 head tail p q)
-
-pub line_failed : (c0 c1 c2 : Option (List ℕ)) (h0 h1 head tail line : List ℕ) → head ++ tail ≡ line → Gathers c0 c1 h0 h1 head → AppendsPrefix c1 c2 (h1 ++ tail) → AppendsPrefix c0 c2 (h0 ++ line)
-line_failed c0 c1 c2 h0 h1 head tail line are p q = subst (λ (l : List ℕ). AppendsPrefix c0 c2 (h0 ++ l)) are (prefix_after c0 c1 c2 h0 h1 head tail p q)
+-- the first pieces of a line were added, and then the others were, or were not
+pub line_added : {W E : Type 0} (contents : W → Option (List ℕ)) (t0 t1 t2 : W × Bool) (r : Result (Unit {0}) E) (h0 h1 h2 head tail line : List ℕ) → head ++ tail ≡ line → Gathers (contents t0.0) (contents t1.0) h0 h1 head
+    → Adds contents t1 t2 r h1 h2 tail → Adds contents t0 t2 r h0 h2 line
+line_added contents t0 t1 t2 r h0 h1 h2 head tail line are p q = adds_same contents t0 t2 r h0 h2 (head ++ tail) line are (adds_more contents t0 t1 t2 r h0 h1 h2 head tail p q)
 
 pub head_failed : (c0 c1 : Option (List ℕ)) (h0 head tail line : List ℕ) → head ++ tail ≡ line → AppendsPrefix c0 c1 (h0 ++ head) → AppendsPrefix c0 c1 (h0 ++ line)
 head_failed c0 c1 h0 head tail line are p = subst (λ (l : List ℕ). AppendsPrefix c0 c1 (h0 ++ l)) are (rw append_assoc at (prefix_of c0 c1 (h0 ++ head) tail p))

@@ -14,14 +14,14 @@ use Rattle.tftp_capture.specs.Fields.{datagram_of}
 use Rattle.tftp_capture.specs.History.{Continues, FailsToBegin, FaultTells, GoesOn, IsAtTextEnd, IsReadFault, ReaderState, StandsFor}
 use Rattle.tftp_capture.specs.Tally.{AppendsPrefix, Gathers}
 use Rattle.tftp_capture.proofs.Staying.{stays}
-use Rattle.tftp_capture.proofs.Gathering.{gathers_more, gathers_none}
+use Rattle.tftp_capture.proofs.Gathering.{gathers_more, gathers_none, prefix_after}
 use Rattle.tftp_commands.specs.declared.status.Status.{Status}
 use Rattle.tftp_commands.specs.declared.status.Status.TheVariants as status
 use Rattle.tftp_commands.specs.Output.{IsWritten, Output}
 use Rattle.tftp_commands.specs.Shown.{AreFirst, AreLines, Ending, Whole, Faulty, Cut, EndsBy, IsDatagramLine, IsShown, last_line, status_of}
 use Rattle.tftp_commands.specs.Source.{given}
 use Rattle.tftp_commands.proofs.Lines.{lines_more}
-use Rattle.tftp_commands.proofs.Written.{prefix_after, written_after}
+use Rattle.tftp_commands.proofs.Written.{written_after}
 
 -- What was shown so far: a reader that goes on took these bytes and gave these datagrams; the lines of these were
 -- written, or wait.

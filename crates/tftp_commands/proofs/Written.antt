@@ -1,9 +1,9 @@
 -- What a writer was given, piece by piece.
-use Rattle.std.proofs.Common.{◌≡◌, ℕ, List, [], ◌++◌, Bool, true, false, Option, Result, Ok, Err, OnErr, is_err, sym, ap, ◌∙◌, subst, append_assoc, append-nil}
+use Rattle.std.proofs.Common.{◌≡◌, ℕ, List, [], ◌++◌, Bool, true, false, Option, sym, ap, ◌∙◌, subst, append_assoc, append-nil}
 use Rattle.std.specs.Io.KnownBytes.{Appends}
-use Rattle.std.proofs.lemmas.Bool.{false≢true}
 use Rattle.std.proofs.KnownBytes.{Appends-trans}
-use Rattle.tftp_capture.specs.Tally.{AppendsPrefix, Gathers}
+use Rattle.tftp_capture.specs.Tally.{Gathers}
+use Rattle.tftp_capture.proofs.Gathering.{prefix_after}
 use Rattle.tftp_commands.specs.Output.{IsWritten}
 use Rattle.tftp_commands.specs.declared.status.Status.{Status}
 
@@ -11,17 +11,6 @@ appends_after : (c0 c1 c2 : Option (List ℕ)) (h0 h1 bytes last : List ℕ) →
 appends_after c0 c1 c2 h0 h1 bytes last p q =
     let are : p.written ++ (h1 ++ last) ≡ h0 ++ (bytes ++ last) = sym (append_assoc p.written h1 last) ∙ ap (λ l. l ++ last) (sym p.are) ∙ append_assoc h0 bytes last in
     subst (Appends c0 c2) are (Appends-trans _ _ _ _ _ p.appended q)
-
-pub prefix_after : (c0 c1 c2 : Option (List ℕ)) (h0 h1 bytes last : List ℕ) → Gathers c0 c1 h0 h1 bytes → AppendsPrefix c1 c2 (h1 ++ last) → AppendsPrefix c0 c2 (h0 ++ (bytes ++ last))
-prefix_after c0 c1 c2 h0 h1 bytes last p q = record {
-  written = p.written ++ q.written;
-  rest = q.rest;
-  are =
-      sym (append_assoc h0 bytes last) ∙ ap (λ l. l ++ last) p.are ∙ append_assoc p.written h1 last
-      ∙ ap (λ l. p.written ++ l) q.are ∙ sym (append_assoc p.written q.written q.rest);
-  left = q.left;
-  appended = Appends-trans _ _ _ _ _ p.appended q.appended;
-}
 
 -- bytes were gathered, and then what waited was written, and more
 pub written_after : (c0 c1 c2 : Option (List ℕ)) (failed : Bool) (h0 h1 bytes last : List ℕ) (status result : Status) → Gathers c0 c1 h0 h1 bytes
@@ -35,7 +24,3 @@ pub written_all : (c0 c1 c2 : Option (List ℕ)) (failed : Bool) (h0 h1 bytes : 
 written_all c0 c1 c2 failed h0 h1 bytes status result p q =
     let wide : IsWritten c1 c2 failed (record { bytes = h1 ++ []; status = status }) result = subst (λ (l : List ℕ). IsWritten c1 c2 failed (record { bytes = l; status = status }) result) (sym (append-nil h1)) q in
     subst (λ (l : List ℕ). IsWritten c0 c2 failed (record { bytes = h0 ++ l; status = status }) result) (append-nil bytes) (written_after c0 c1 c2 failed h0 h1 bytes [] status result p wide)
-
-pub from_err : {T E : Type 0} (P : Type 0) (r : Result T E) → is_err r ≡ true → OnErr r P → P
-from_err P (Ok x) e h = absurd (false≢true e)
-from_err P (Err y) e h = h

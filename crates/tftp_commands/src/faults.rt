@@ -1,5 +1,5 @@
-ghost use Rattle.std.specs.Prelude.{◌≡◌, ◌++◌, true, false, OnOk, OnErr};
-ghost use Rattle.tftp_capture.specs.Tally.{AppendsPrefix, Gathers};
+ghost use Rattle.std.specs.Prelude.{◌≡◌, ◌++◌, false};
+ghost use Rattle.tftp_capture.specs.Tally.{Adds};
 ghost use Rattle.tftp_commands.specs.Output.{fault_line};
 
 use crate::names::text_fault_name;
@@ -14,10 +14,7 @@ pub fn put_fault<W: Write>(
     fault: CaptureFault,
 ) -> Result<(), WriteFault>
     requires clean { writer.old.1 ≡ false }
-    ensures ok { OnOk result (Gathers (W.contents writer.old.0) (W.contents writer.new.0) gathered.old gathered.new (fault_line fault)) }
-    ensures clean { OnOk result (writer.new.1 ≡ false) }
-    ensures err { OnErr result (AppendsPrefix (W.contents writer.old.0) (W.contents writer.new.0) (gathered.old ++ fault_line fault)) }
-    ensures failed { OnErr result (writer.new.1 ≡ true) }
+    ensures adds { Adds W.contents writer.old writer.new result gathered.old gathered.new (fault_line fault) }
 {
     let mut buffer = Buffer::new();
     match fault {

@@ -2,7 +2,7 @@ ghost use Rattle.std.specs.Prelude.{◌≡◌, ◌++◌, ◌^◌, ◌<◌, ℕ, 
 ghost use Rattle.std.specs.Io.KnownBytes.{Consumes};
 ghost use Rattle.tftp_packet.specs.Meaning.{meaning};
 ghost use Rattle.tftp_capture.specs.Fields.{datagram_of};
-ghost use Rattle.tftp_capture.specs.Tally.{AppendsPrefix, Gathers};
+ghost use Rattle.tftp_capture.specs.Tally.{Adds};
 ghost use Rattle.tftp_commands.specs.Output.{IsWritten, Output};
 ghost use Rattle.tftp_commands.specs.Source.{Source, given};
 ghost use Rattle.tftp_commands.specs.Shown.{message_text, ending_of, last_line, status_of, IsDatagramLine, IsPayloadText, IsShown};
@@ -78,10 +78,7 @@ fn put_datagram<W: Write>(
     datagram: &Datagram,
 ) -> Result<(), WriteFault>
     requires clean { writer.old.1 ≡ false }
-    ensures ok { OnOk result ((line : List ℕ) × IsDatagramLine number (datagram_of datagram.now) line × Gathers (W.contents writer.old.0) (W.contents writer.new.0) gathered.old gathered.new line) }
-    ensures clean { OnOk result (writer.new.1 ≡ false) }
-    ensures err { OnErr result ((line : List ℕ) × IsDatagramLine number (datagram_of datagram.now) line × AppendsPrefix (W.contents writer.old.0) (W.contents writer.new.0) (gathered.old ++ line)) }
-    ensures failed { OnErr result (writer.new.1 ≡ true) }
+    ensures adds { (line : List ℕ) × IsDatagramLine number (datagram_of datagram.now) line × Adds W.contents writer.old writer.new result gathered.old gathered.new line }
 {
     let packet = read_packet(datagram.payload.as_slice());
     let mut buffer = Buffer::new();
@@ -107,10 +104,7 @@ fn put_packet<W: Write>(
     packet: &Packet<'_>,
 ) -> Result<(), WriteFault>
     requires clean { writer.old.1 ≡ false }
-    ensures ok { OnOk result (Gathers (W.contents writer.old.0) (W.contents writer.new.0) gathered.old gathered.new (message_text (meaning packet.now) ++ codes "\n")) }
-    ensures clean { OnOk result (writer.new.1 ≡ false) }
-    ensures err { OnErr result (AppendsPrefix (W.contents writer.old.0) (W.contents writer.new.0) (gathered.old ++ (message_text (meaning packet.now) ++ codes "\n"))) }
-    ensures failed { OnErr result (writer.new.1 ≡ true) }
+    ensures adds { Adds W.contents writer.old writer.new result gathered.old gathered.new (message_text (meaning packet.now) ++ codes "\n") }
 {
     match packet {
         Packet::Request(request) => gathered.add_all(
@@ -132,10 +126,7 @@ fn put_data<W: Write>(
     length: usize,
 ) -> Result<(), WriteFault>
     requires clean { writer.old.1 ≡ false }
-    ensures ok { OnOk result (Gathers (W.contents writer.old.0) (W.contents writer.new.0) gathered.old gathered.new (codes "DATA " ++ decimal block ++ codes " " ++ decimal length ++ codes "\n")) }
-    ensures clean { OnOk result (writer.new.1 ≡ false) }
-    ensures err { OnErr result (AppendsPrefix (W.contents writer.old.0) (W.contents writer.new.0) (gathered.old ++ (codes "DATA " ++ decimal block ++ codes " " ++ decimal length ++ codes "\n"))) }
-    ensures failed { OnErr result (writer.new.1 ≡ true) }
+    ensures adds { Adds W.contents writer.old writer.new result gathered.old gathered.new (codes "DATA " ++ decimal block ++ codes " " ++ decimal length ++ codes "\n") }
 {
     let mut block_buffer = Buffer::new();
     let mut length_buffer = Buffer::new();
@@ -159,10 +150,7 @@ fn put_numbered<W: Write>(
     number: u16,
 ) -> Result<(), WriteFault>
     requires clean { writer.old.1 ≡ false }
-    ensures ok { OnOk result (Gathers (W.contents writer.old.0) (W.contents writer.new.0) gathered.old gathered.new (word.now ++ decimal number ++ codes "\n")) }
-    ensures clean { OnOk result (writer.new.1 ≡ false) }
-    ensures err { OnErr result (AppendsPrefix (W.contents writer.old.0) (W.contents writer.new.0) (gathered.old ++ (word.now ++ decimal number ++ codes "\n"))) }
-    ensures failed { OnErr result (writer.new.1 ≡ true) }
+    ensures adds { Adds W.contents writer.old writer.new result gathered.old gathered.new (word.now ++ decimal number ++ codes "\n") }
 {
     let mut buffer = Buffer::new();
     gathered.add_all(writer, &[word, buffer.format(number).as_bytes(), b"\n"])

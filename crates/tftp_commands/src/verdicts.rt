@@ -1,5 +1,5 @@
-ghost use Rattle.std.specs.Prelude.{◌≡◌, ◌++◌, true, false, OnOk, OnErr};
-ghost use Rattle.tftp_capture.specs.Tally.{AppendsPrefix, Gathers};
+ghost use Rattle.std.specs.Prelude.{◌≡◌, ◌++◌, false};
+ghost use Rattle.tftp_capture.specs.Tally.{Adds};
 ghost use Rattle.tftp_judge.specs.declared.verdict.Verdict.{Verdict};
 ghost use Rattle.tftp_commands.specs.Checked.{accepted_line, detail, verdict_line, verdict_status};
 
@@ -27,10 +27,7 @@ pub fn put_verdict<W: Write>(
     verdict: &Verdict,
 ) -> Result<(), WriteFault>
     requires clean { writer.old.1 ≡ false }
-    ensures ok { OnOk result (Gathers (W.contents writer.old.0) (W.contents writer.new.0) gathered.old gathered.new (verdict_line verdict.now)) }
-    ensures clean { OnOk result (writer.new.1 ≡ false) }
-    ensures err { OnErr result (AppendsPrefix (W.contents writer.old.0) (W.contents writer.new.0) (gathered.old ++ verdict_line verdict.now)) }
-    ensures failed { OnErr result (writer.new.1 ≡ true) }
+    ensures adds { Adds W.contents writer.old writer.new result gathered.old gathered.new (verdict_line verdict.now) }
 {
     match verdict {
         Verdict::Accepted(meaning) => put_accepted(gathered, writer, meaning),
@@ -46,10 +43,7 @@ fn put_accepted<W: Write>(
     meaning: &Meaning,
 ) -> Result<(), WriteFault>
     requires clean { writer.old.1 ≡ false }
-    ensures ok { OnOk result (Gathers (W.contents writer.old.0) (W.contents writer.new.0) gathered.old gathered.new (accepted_line meaning.now)) }
-    ensures clean { OnOk result (writer.new.1 ≡ false) }
-    ensures err { OnErr result (AppendsPrefix (W.contents writer.old.0) (W.contents writer.new.0) (gathered.old ++ accepted_line meaning.now)) }
-    ensures failed { OnErr result (writer.new.1 ≡ true) }
+    ensures adds { Adds W.contents writer.old writer.new result gathered.old gathered.new (accepted_line meaning.now) }
 {
     let mut blocks_buffer = Buffer::new();
     let mut bytes_buffer = Buffer::new();
@@ -76,10 +70,7 @@ fn put_unlawful<W: Write>(
     rule: Rule,
 ) -> Result<(), WriteFault>
     requires clean { writer.old.1 ≡ false }
-    ensures ok { OnOk result (Gathers (W.contents writer.old.0) (W.contents writer.new.0) gathered.old gathered.new (verdict_line (Verdict.Unlawful index rule))) }
-    ensures clean { OnOk result (writer.new.1 ≡ false) }
-    ensures err { OnErr result (AppendsPrefix (W.contents writer.old.0) (W.contents writer.new.0) (gathered.old ++ verdict_line (Verdict.Unlawful index rule))) }
-    ensures failed { OnErr result (writer.new.1 ≡ true) }
+    ensures adds { Adds W.contents writer.old writer.new result gathered.old gathered.new (verdict_line (Verdict.Unlawful index rule)) }
 {
     let mut index_buffer = Buffer::new();
     let mut number_buffer = Buffer::new();
@@ -116,10 +107,7 @@ fn put_incomplete<W: Write>(
     count: u64,
 ) -> Result<(), WriteFault>
     requires clean { writer.old.1 ≡ false }
-    ensures ok { OnOk result (Gathers (W.contents writer.old.0) (W.contents writer.new.0) gathered.old gathered.new (verdict_line (Verdict.Incomplete count))) }
-    ensures clean { OnOk result (writer.new.1 ≡ false) }
-    ensures err { OnErr result (AppendsPrefix (W.contents writer.old.0) (W.contents writer.new.0) (gathered.old ++ verdict_line (Verdict.Incomplete count))) }
-    ensures failed { OnErr result (writer.new.1 ≡ true) }
+    ensures adds { Adds W.contents writer.old writer.new result gathered.old gathered.new (verdict_line (Verdict.Incomplete count)) }
 {
     let mut buffer = Buffer::new();
     gathered.add_all(

@@ -11,3 +11,7 @@ pub mod Computed
 pub mod WorkedWindows
 pub mod Stores
 pub mod OneSided
+pub mod Orderly
+pub mod Places
+pub mod Ring
+pub mod Kept

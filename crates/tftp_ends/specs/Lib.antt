@@ -8,6 +8,9 @@ pub mod OneSide
 pub mod Ports
 pub mod Rules
 pub mod Store
+pub mod Placed
+pub mod Slots
+pub mod Kept
 pub mod Worked
 pub mod WorkedWindows
 pub mod WorkedStore

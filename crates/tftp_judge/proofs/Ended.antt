@@ -25,9 +25,9 @@ use Rattle.tftp_ends.specs.declared.terms.Terms.{Terms}
 use Rattle.tftp_packet.specs.Meaning.{meaning}
 use Rattle.tftp_packet.specs.declared.packet.Packet.{Packet}
 use Rattle.tftp_law.specs.Rules.{Answer, Agrees, Begins, IsAnswer, NotAnswered, FirstAnswer, FirstAsked}
-use Rattle.tftp_law.specs.MessageRules.{IsFirstAnswer}
+use Rattle.tftp_law.specs.MessageRules.{IsFirstAnswer, AreTermsAfter}
 use Rattle.tftp_law.specs.OneEnded.{OneEnded, IsAgreed, IsWhole, IsJoined, Meant}
-use Rattle.tftp_law.proofs.FirstAnswered.{Known, not_both, first_one, terms_one}
+use Rattle.tftp_law.proofs.FirstAnswered.{not_both, first_one, terms_one}
 use Rattle.tftp_law.proofs.Settled.{Settled, settled, last_one}
 use Rattle.tftp_law.proofs.OneMeaning.{one_meaning}
 use Rattle.tftp_law.specs.Settled.{AreOnce, HasOneLast}
@@ -128,7 +128,7 @@ some_of P None x e p = absurd (cc)
 nothing_is_512 : option_or 512 no_options (codes "blksize") ≡ 512
 nothing_is_512 = ap (number_or 512) (map.get-empty (slice_cmp nat_cmp) (codes "blksize"))
 
-pub size_agreed : (h : Header) (asked : RequestParts) (passed : List Datagram) (t : Terms) (agreed : OptionMap) → Known h asked passed t → IsAgreed asked passed agreed → t.blksize ≡ option_or 512 agreed (codes "blksize")
+pub size_agreed : (h : Header) (asked : RequestParts) (passed : List Datagram) (t : Terms) (agreed : OptionMap) → AreTermsAfter h asked passed t → IsAgreed asked passed agreed → t.blksize ≡ option_or 512 agreed (codes "blksize")
 size_agreed h asked passed t agreed (inl none) (inl first) = absurd (not_both asked.side passed (Agrees agreed) none.0 first)
 size_agreed h asked passed t agreed (inl none) (inr other) = ap (λ (u : Terms). u.blksize) none.1 ∙ sym (ap (λ o. option_or 512 o (codes "blksize")) other.0 ∙ nothing_is_512)
 size_agreed h asked passed t agreed (inr (Begins, first, is)) (inl also) = let same = first_one asked.side passed Begins (Agrees agreed) first also in cc
@@ -141,12 +141,12 @@ size_agreed h asked passed t agreed (inr (Agrees options, first, is)) (inl also)
     agreed_same a b e = cc
 size_agreed h asked passed t agreed (inr (Agrees options, first, is)) (inr other) = absurd (other.1 options first)
 
-pub some_agreed : (h : Header) (asked : RequestParts) (passed : List Datagram) (t : Terms) → Known h asked passed t → (agreed : OptionMap) × IsAgreed asked passed agreed
+pub some_agreed : (h : Header) (asked : RequestParts) (passed : List Datagram) (t : Terms) → AreTermsAfter h asked passed t → (agreed : OptionMap) × IsAgreed asked passed agreed
 some_agreed h asked passed t (inl none) = (no_options, agreed_none asked passed no_options none.0 refl)
 some_agreed h asked passed t (inr (Begins, first, is)) = (no_options, inr (refl, λ options also. let same = first_one asked.side passed Begins (Agrees options) first also in cc))
 some_agreed h asked passed t (inr (Agrees options, first, is)) = (options, inl first)
 
-module _ (h : Header) (earlier : List Datagram) (lawful : OneEnded h earlier) (asked : RequestParts) (first : FirstAsked h earlier asked) (t : Terms) (known : Known h asked (transfer_of h earlier) t) where
+module _ (h : Header) (earlier : List Datagram) (lawful : OneEnded h earlier) (asked : RequestParts) (first : FirstAsked h earlier asked) (t : Terms) (known : AreTermsAfter h asked (transfer_of h earlier) t) where
   abbrev through : List Datagram
   through = transfer_of h earlier
 

@@ -129,6 +129,7 @@ module _ (service : ℕ) (says : Saying) (ids : TransferIds) where
     c_back Stray s all is = c_back_stray is
     c_back StrayAnswer s all is = c_back_answer s is
 
+  -- each datagram has the part of its route
   pub parted_at_client : (division : Division) → AreRoutedBy ch says division → Starts Client (view_in division) → ClientIds (datagrams_of division) → HavePartsBy ch says ids division
   parted_at_client [] routed starts are = tt
   parted_at_client (p ∷ earlier) routed starts are =

@@ -1,10 +1,10 @@
 -- At the client the parts of a division have their routes.
 use Rattle.std.proofs.Common.{◌≡◌, ◌⊎◌, ℕ, true, false, List, [], ◌∷◌, Some, None, Any, inl, inr, refl, sym, subst, ◌∙◌}
 use Rattle.std.specs.Prelude.{◌==◌}
-use Rattle.std.proofs.lemmas.Bool.{false≢true, and_from, or_left, or_right}
+use Rattle.std.proofs.lemmas.Bool.{false≢true, and_from}
 use Rattle.tftp_packet.specs.declared.kinds.End.TheVariants.{Client}
 use Rattle.tftp_packet.specs.declared.kinds.Dir.TheVariants.{In, Out}
-use Rattle.tftp_ends.specs.CaptureText.{Datagram, Header, PeerId, peer_of}
+use Rattle.tftp_ends.specs.CaptureText.{Datagram, Header, peer_of}
 use Rattle.tftp_ends.specs.Machines.{MachinePacket, Req, Oack, Data, Ack, Deed, Sent, Took, History}
 use Rattle.tftp_ends.specs.Ports.{goes_out, comes_in, begins_request, begins_error, asks, first_of, has_come_from, same_peer, route_of}
 use Rattle.tftp_ends.specs.declared.route.Route.{Route}
@@ -13,7 +13,7 @@ use Rattle.tftp_law.specs.Accord.{packet_route, part_route, SaysAsBy, AreRoutedB
 use Rattle.tftp_law.proofs.RouteTests.{same_true, out_true, in_false, in_true, out_false, error_begins, two_ways, now, same_is, other_peer, IsTold}
 use Rattle.tftp_law.proofs.Divided.{any_none, any_cases, any_first, any_later}
 use Rattle.tftp_law.proofs.FirstRequests.{or_some, first_stays}
-use Rattle.tftp_law.proofs.Placing.{starts_before, StrayFrom, CameIn, MainIn}
+use Rattle.tftp_law.proofs.Placing.{starts_before, CameIn, MainIn, Asked, asked_some, stray_there, view_some}
 
 -- ---- routes at the client
 
@@ -100,53 +100,8 @@ module _ (service : ℕ) (says : Saying) (told : IsTold says) (ids : TransferIds
   asks_there : (earlier : Division) (d : Datagram) → Carries here says ids earlier d (Sent Req) → asks here d ≡ true
   asks_there earlier d p = and_from _ _ (and_from _ _ (out_true d p.dir) (told.request d.payload p.spells)) (same_true d.remote service p.server)
 
-  Asked : Division → Type 0
-  Asked division = (x : Datagram) × (first_of (asks here) (datagrams_of division) ≡ Some x)
-
-  asked_later : (d : Datagram) (earlier : Division) → Asked earlier → (x : Datagram) × (first_of (asks here) (d ∷ datagrams_of earlier) ≡ Some x)
-  unfolding Asked
-  asked_later d earlier found = (found.0, first_stays (asks here) d found.0 (datagrams_of earlier) found.1)
-
-  asked_step : (d : Datagram) (part : Part) (earlier : Division) → HasPartBy here says ids earlier d part → Starts Client (view_in (record { datagram = d; part = part } ∷ earlier))
-      → (v : History) → view_in earlier ≡ v → ((last : Deed) (rest : History) → view_in earlier ≡ last ∷ rest → Asked earlier)
-      → (last : Deed) (rest : History) → view_in (record { datagram = d; part = part } ∷ earlier) ≡ last ∷ rest → (x : Datagram) × (first_of (asks here) (d ∷ datagrams_of earlier) ≡ Some x)
-  asked_step d Stray earlier p own v is before last rest e = asked_later d earlier (before last rest e)
-  asked_step d StrayAnswer earlier p own v is before last rest e = asked_later d earlier (before last rest e)
-  asked_step d (Main deed) earlier p own (other ∷ v) is before last rest e = asked_later d earlier (before other v is)
-  asked_step d (Main deed) earlier p own [] is before last rest e =
-      let first : deed ≡ Sent Req = own.0.first is in
-      now (asks here) d (datagrams_of earlier) (asks_there earlier d (subst (Carries here says ids earlier d) first p))
-
-  some_asked : (division : Division) → HavePartsBy here says ids division → Starts Client (view_in division) → (last : Deed) (rest : History) → view_in division ≡ last ∷ rest → Asked division
-  unfolding Asked
-  some_asked [] parts own last rest e = absurd (cc)
-  some_asked (p ∷ earlier) parts own last rest e =
-      asked_step p.datagram p.part earlier parts.0 own (view_in earlier) refl (some_asked earlier parts.1 (starts_before Client p.datagram p.part earlier own)) last rest e
-
-  -- a main datagram stands in the view
-  view_step : (p : Placed) (earlier : Division) → MainIn p → (last : Deed) × (rest : History) × (view_in (p ∷ earlier) ≡ last ∷ rest)
-  view_step p earlier ((deed, is), way) = (deed, view_in earlier, subst (λ x. view_in (record { datagram = p.datagram; part = x } ∷ earlier) ≡ deed ∷ view_in earlier) (sym is) refl)
-
-  pub view_more : (d : Datagram) (part : Part) (earlier : Division) → (last : Deed) × (rest : History) × (view_in earlier ≡ last ∷ rest) → (last : Deed) × (rest : History) × (view_in (record { datagram = d; part = part } ∷ earlier) ≡ last ∷ rest)
-  view_more d (Main deed) earlier some = (deed, view_in earlier, refl)
-  view_more d Stray earlier some = some
-  view_more d StrayAnswer earlier some = some
-
-  view_some : (division : Division) → Any MainIn division → (last : Deed) × (rest : History) × (view_in division ≡ last ∷ rest)
-  view_some [] any = absurd (any_none MainIn any)
-  view_some (p ∷ earlier) any = elim (any_cases MainIn p earlier any) [ inl this ↦ view_step p earlier this | inr before ↦ view_more p.datagram p.part earlier (view_some earlier before) ]
-
-  stray_there : (division : Division) → HavePartsBy here says ids division → (peer : PeerId) → Any (StrayFrom peer) division → Any MainIn division × (has_come_from peer (datagrams_of division) ≡ true) × (peer ≡ ids.peer → ⊥)
-  stray_there [] parts peer any = absurd (any_none (StrayFrom peer) any)
-  stray_there (p ∷ earlier) parts peer any = elim (any_cases (StrayFrom peer) p earlier any) [
-    | inl this ↦
-        let stray : ComesAstray here ids earlier p.datagram = subst (HasPartBy here says ids earlier p.datagram) this.0 parts.0 in (
-          any_later MainIn p earlier stray.after,
-          or_left _ _ (and_from _ _ (in_true p.datagram stray.dir) (same_is (peer_of p.datagram) peer this.1)),
-          λ same. stray.elsewhere (this.1 ∙ same),
-        )
-    | inr before ↦ let rest = stray_there earlier parts.1 peer before in (any_later MainIn p earlier rest.0, or_right _ _ rest.1, rest.2)
-  ]
+  some_asked : (division : Division) → HavePartsBy here says ids division → Starts Client (view_in division) → (last : Deed) (rest : History) → view_in division ≡ last ∷ rest → Asked here division
+  some_asked division parts own last rest is = asked_some here says ids (λ earlier d carries. asks_there earlier d carries) division parts own last rest is
 
   module _ (earlier : Division) (parts : HavePartsBy here says ids earlier) (own : Starts Client (view_in earlier)) where
     local_is : (d first : Datagram) → d.local ≡ ids.own → first_of (asks here) (datagrams_of earlier) ≡ Some first → (d.local == first.local) ≡ true
@@ -169,21 +124,19 @@ module _ (service : ℕ) (says : Saying) (told : IsTold says) (ids : TransferIds
         ]
 
     -- something was asked before
-    asked_before : (deed : Deed) → (deed ≡ Sent Req → ⊥) → Starts Client (deed ∷ view_in earlier) → Asked earlier
+    asked_before : (deed : Deed) → (deed ≡ Sent Req → ⊥) → Starts Client (deed ∷ view_in earlier) → Asked here earlier
     asked_before deed other all = by (view_in earlier) refl where
-      by : (v : History) → view_in earlier ≡ v → Asked earlier
+      by : (v : History) → view_in earlier ≡ v → Asked here earlier
       by (last ∷ rest) is = some_asked earlier parts own last rest is
       by [] is = absurd (other (all.0.first is))
 
     route_sent : (d : Datagram) (q : MachinePacket) → (q ≡ Req → ⊥) → Carries here says ids earlier d (Sent q) → HasServerId Client ids d × ((d.dir ≡ In) ⊎ Any (λ (p : Placed). p.datagram.dir ≡ In) earlier)
-        → Asked earlier → route_of here (datagrams_of earlier) d ≡ Route.Peer
-    unfolding Asked
+        → Asked here earlier → route_of here (datagrams_of earlier) d ≡ Route.Peer
     route_sent d q other p goes asked =
         let back = some_in earlier (elim goes.1 [ inl way ↦ absurd (let e : Out ≡ In = sym p.dir ∙ way in cc) | inr before ↦ before ]) in
         out_peer service (datagrams_of earlier) d asked.0 back.0 asked.1 back.1 (local_is d asked.0 p.client asked.1) (out_true d p.dir) (told.other q other d.payload p.spells) (remote_is d back.0 goes.0 back.1)
 
-    route_took : (d : Datagram) (q : MachinePacket) → Carries here says ids earlier d (Took q) → HasServerId Client ids d → Asked earlier → route_of here (datagrams_of earlier) d ≡ Route.Peer
-    unfolding Asked
+    route_took : (d : Datagram) (q : MachinePacket) → Carries here says ids earlier d (Took q) → HasServerId Client ids d → Asked here earlier → route_of here (datagrams_of earlier) d ≡ Route.Peer
     route_took d q p from asked = elim (two_ways (first_of comes_in (datagrams_of earlier))) [
       | inl none ↦ in_first service (datagrams_of earlier) d asked.0 asked.1 none (local_is d asked.0 p.client asked.1) (in_false d p.dir)
       | inr some ↦ in_peer service (datagrams_of earlier) d asked.0 some.0 asked.1 some.1 (local_is d asked.0 p.client asked.1) (in_false d p.dir) (remote_is d some.0 from some.1)
@@ -199,20 +152,18 @@ module _ (service : ℕ) (says : Saying) (told : IsTold says) (ids : TransferIds
     route_main d (Took (Data k)) p all = route_took d (Data k) p p.server.0 (asked_before (Took (Data k)) (λ e. cc) all)
     route_main d (Took (Ack j)) p all = route_took d (Ack j) p p.server.0 (asked_before (Took (Ack j)) (λ e. cc) all)
 
-    asked_by_main : Any MainIn earlier → Asked earlier
-    asked_by_main any = let some = view_some earlier any in some_asked earlier parts own some.0 some.1 some.2
+    asked_by_main : Any MainIn earlier → Asked here earlier
+    asked_by_main any = let some = view_some In earlier any in some_asked earlier parts own some.0 some.1 some.2
 
     route_stray : (d : Datagram) → ComesAstray here ids earlier d → route_of here (datagrams_of earlier) d ≡ Route.Stray
-    unfolding Asked
     route_stray d p =
         let asked = asked_by_main p.after in
         let came = some_in earlier (main_in earlier p.after) in
         in_stray service (datagrams_of earlier) d asked.0 came.0 asked.1 came.1 (local_is d asked.0 p.here asked.1) (in_false d p.dir) (remote_not d came.0 p.elsewhere came.1)
 
     route_answer : (d : Datagram) → AnswersStray here ids earlier d → route_of here (datagrams_of earlier) d ≡ Route.StrayAnswer
-    unfolding Asked
     route_answer d p =
-        let stray = stray_there earlier parts (peer_of d) p.there in
+        let stray = stray_there here says ids earlier parts (peer_of d) p.there in
         let asked = asked_by_main stray.0 in
         let came = some_in earlier (main_in earlier stray.0) in
         let error = error_begins d 5 p.spells.0 p.spells.1 in
@@ -224,6 +175,7 @@ module _ (service : ℕ) (says : Saying) (told : IsTold says) (ids : TransferIds
     step d Stray p all = (route_stray d p, tt)
     step d StrayAnswer p all = (route_answer d p, p.spells)
 
+  -- each datagram has the route of its part
   pub routed_at_client : (division : Division) → HavePartsBy here says ids division → Starts Client (view_in division) → AreRoutedBy here says division
   routed_at_client [] parts own = tt
   routed_at_client (p ∷ earlier) parts own =

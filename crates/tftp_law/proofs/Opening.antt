@@ -34,6 +34,7 @@ no_zero_at_client : (side : Side) (m : Meaning) → MayAckZeroOn side m [] → �
 no_zero_at_client Get m z = none_taken Oack z.1
 no_zero_at_client Put m z = elim z [ inl x ↦ none_taken Req x.1 | inr x ↦ none_taken (Data x.1) x.2 ]
 
+-- a client begins with its request
 pub client_first : (m : Meaning) (wire : List ℕ) (d : Deed) → IsOneSided m wire Client (d ∷ []) → d ≡ Sent Req
 client_first m wire (Sent Req) may = refl
 client_first m wire (Sent Oack) may = none_taken Req may.0.asked
@@ -46,6 +47,7 @@ client_first m wire (Took (Data k)) may = absurd (no_lets_start m.side m may.0.s
 client_first m wire (Took (Ack zero)) may = absurd (no_lets_zero m.side m (may.0.zero refl))
 client_first m wire (Took (Ack (suc j))) may = none_sent (Data 1) (may.0.sent 1 (omega arith) (omega arith))
 
+-- a server begins by taking one
 pub server_first : (m : Meaning) (wire : List ℕ) (d : Deed) → IsOneSided m wire Server (d ∷ []) → d ≡ Took Req
 server_first m wire (Took Req) may = refl
 server_first m wire (Sent Req) may = let e : Server ≡ Client = may.0.client in absurd (cc)
@@ -72,6 +74,7 @@ own_tail : (m : Meaning) (wire : List ℕ) (e : End) (deed : Deed) (v : History)
 own_tail m wire e (Sent p) v own = own.1
 own_tail m wire e (Took p) v own = own.1
 
+-- so a one-sided history starts with the client's request
 pub starts_of : (m : Meaning) (wire : List ℕ) (e : End) (v : History) → IsOneSided m wire e v → Starts e v
 starts_of m wire e [] own = tt
 starts_of m wire e (deed ∷ v) own = (

@@ -59,6 +59,7 @@ module _ (service : ℕ) (says : Saying) (division : Division) where
     own = λ first x e t. subst (λ o. x.local ≡ own_by o) (sym e) (or_is 0 local_of (first_of (to first) all) x t);
   }
 
+-- whatever says the packets
 pub parted : (h : Header) (says : Saying) (division : Division) → AreRoutedBy h says division → Starts h.named (view_in division) → (ids : TransferIds) × HavePartsBy h says ids division
 parted h says division routed starts = by h.named refl where
   by : (e : End) → h.named ≡ e → (ids : TransferIds) × HavePartsBy h says ids division
@@ -71,5 +72,6 @@ parted h says division routed starts = by h.named refl where
     parted_at_server h.service says (server_ids h.service says division) division (subst (λ (x : Header). AreRoutedBy x says division) (named_is h Server is) routed) (subst (λ x. Starts x (view_in division)) is starts) (server_ids_are h.service says division),
   )
 
+-- as a meaning says them
 pub parts_of : (h : Header) (m : Meaning) (wire : List ℕ) (division : Division) → AreRouted h m wire division → Starts h.named (view_in division) → (ids : TransferIds) × HaveParts h m wire ids division
 parts_of h m wire division routed starts = parted h (says_of m wire) division routed starts

@@ -1,12 +1,19 @@
 -- What stands where in a division.
-use Rattle.std.proofs.Common.{◌≡◌, ℕ, [], ◌∷◌, Any, inl, inr, refl, sym, subst, ◌∙◌}
+use Rattle.std.proofs.Common.{◌≡◌, ℕ, [], ◌∷◌, Any, inl, inr, refl, sym, subst, ◌∙◌, true, Some}
 use Rattle.tftp_packet.specs.declared.kinds.End.{End}
 use Rattle.tftp_packet.specs.declared.kinds.End.TheVariants.{Server}
 use Rattle.tftp_packet.specs.declared.kinds.Dir.TheVariants.{In, Out}
 use Rattle.tftp_ends.specs.CaptureText.{Datagram, Header, PeerId, peer_of}
-use Rattle.tftp_law.specs.Dress.{Part, Main, Stray, StrayAnswer, Placed, Division, view_in, TransferIds, Saying, ComesAstray, HasPartBy, HavePartsBy, IsMain}
-use Rattle.tftp_law.specs.Accord.{Starts}
+use Rattle.tftp_law.specs.Dress.{Part, Main, Stray, StrayAnswer, Placed, Division, view_in, TransferIds, Saying, ComesAstray, HasPartBy, HavePartsBy, IsMain, datagrams_of, Carries}
+use Rattle.tftp_law.specs.Accord.{Starts, request_at}
 use Rattle.tftp_law.proofs.Divided.{any_none, any_cases, any_first, any_later}
+use Rattle.std.proofs.lemmas.Bool.{and_from, or_left, or_right}
+use Rattle.tftp_ends.specs.Machines.{Deed, History}
+use Rattle.tftp_ends.specs.Ports.{asks, first_of, has_come_from}
+use Rattle.tftp_law.proofs.RouteTests.{in_true, now, same_is}
+use Rattle.tftp_law.proofs.FirstRequests.{first_stays}
+use Rattle.tftp_law.specs.Sides.{from_server}
+use Rattle.tftp_packet.specs.declared.kinds.Dir.{Dir}
 
 abbrev pub one : Datagram → Part → Division → Division
 one d part earlier = record { datagram = d; part = part } ∷ earlier
@@ -20,17 +27,72 @@ starts_before e d StrayAnswer earlier starts = starts
 abbrev pub CameIn : Placed → Type 0
 CameIn p = p.datagram.dir ≡ In
 
+abbrev pub MainGoing : Dir → Placed → Type 0
+MainGoing dir p = IsMain p.part × (p.datagram.dir ≡ dir)
+
 abbrev pub MainIn : Placed → Type 0
-MainIn p = IsMain p.part × (p.datagram.dir ≡ In)
+MainIn = MainGoing In
 
 abbrev pub WentOut : Placed → Type 0
 WentOut p = p.datagram.dir ≡ Out
 
 abbrev pub MainOut : Placed → Type 0
-MainOut p = IsMain p.part × (p.datagram.dir ≡ Out)
+MainOut = MainGoing Out
 
 abbrev pub StrayFrom : PeerId → Placed → Type 0
 StrayFrom peer p = (p.part ≡ Stray) × (peer_of p.datagram ≡ peer)
+
+-- ---- a main datagram stands in the view
+
+view_more : (d : Datagram) (part : Part) (earlier : Division) → (last : Deed) × (rest : History) × (view_in earlier ≡ last ∷ rest) → (last : Deed) × (rest : History) × (view_in (one d part earlier) ≡ last ∷ rest)
+view_more d (Main deed) earlier some = (deed, view_in earlier, refl)
+view_more d Stray earlier some = some
+view_more d StrayAnswer earlier some = some
+
+pub view_some : (dir : Dir) (division : Division) → Any (MainGoing dir) division → (last : Deed) × (rest : History) × (view_in division ≡ last ∷ rest)
+view_some dir [] any = absurd (any_none (MainGoing dir) any)
+view_some dir (p ∷ earlier) any = elim (any_cases (MainGoing dir) p earlier any) [
+  | inl this ↦ let (deed, is) = this.0 in (deed, view_in earlier, subst (λ x. view_in (one p.datagram x earlier) ≡ deed ∷ view_in earlier) (sym is) refl)
+  | inr before ↦ view_more p.datagram p.part earlier (view_some dir earlier before)
+]
+
+-- ---- where the view is not empty, a request has passed
+
+abbrev pub Asked : Header → Division → Type 0
+Asked h division = (x : Datagram) × (first_of (asks h) (datagrams_of division) ≡ Some x)
+
+module _ (h : Header) (says : Saying) (ids : TransferIds) where
+  asked_later : (d : Datagram) (part : Part) (earlier : Division) → Asked h earlier → Asked h (one d part earlier)
+  asked_later d part earlier found = (found.0, first_stays (asks h) d found.0 (datagrams_of earlier) found.1)
+
+  module _ (asks_there : (earlier : Division) (d : Datagram) → Carries h says ids earlier d (request_at h.named) → asks h d ≡ true) where
+    asked_step : (d : Datagram) (part : Part) (earlier : Division) → HasPartBy h says ids earlier d part → Starts h.named (view_in (one d part earlier))
+        → (v : History) → view_in earlier ≡ v → ((last : Deed) (rest : History) → view_in earlier ≡ last ∷ rest → Asked h earlier)
+        → (last : Deed) (rest : History) → view_in (one d part earlier) ≡ last ∷ rest → Asked h (one d part earlier)
+    asked_step d Stray earlier p starts v is before last rest e = asked_later d Stray earlier (before last rest e)
+    asked_step d StrayAnswer earlier p starts v is before last rest e = asked_later d StrayAnswer earlier (before last rest e)
+    asked_step d (Main deed) earlier p starts (other ∷ v) is before last rest e = asked_later d (Main deed) earlier (before other v is)
+    asked_step d (Main deed) earlier p starts [] is before last rest e =
+        now (asks h) d (datagrams_of earlier) (asks_there earlier d (subst (Carries h says ids earlier d) (starts.0.first is) p))
+
+    pub asked_some : (division : Division) → HavePartsBy h says ids division → Starts h.named (view_in division) → (last : Deed) (rest : History) → view_in division ≡ last ∷ rest → Asked h division
+    asked_some [] parts starts last rest e = absurd (cc)
+    asked_some (p ∷ earlier) parts starts last rest e =
+        asked_step p.datagram p.part earlier parts.0 starts (view_in earlier) refl (asked_some earlier parts.1 (starts_before h.named p.datagram p.part earlier starts)) last rest e
+
+  -- a stray has a main datagram of the server's side before it, and is where something came from that is not the peer
+  pub stray_there : (division : Division) → HavePartsBy h says ids division → (peer : PeerId) → Any (StrayFrom peer) division
+      → Any (MainGoing (from_server h.named)) division × (has_come_from peer (datagrams_of division) ≡ true) × (peer ≡ ids.peer → ⊥)
+  stray_there [] parts peer any = absurd (any_none (StrayFrom peer) any)
+  stray_there (p ∷ earlier) parts peer any = elim (any_cases (StrayFrom peer) p earlier any) [
+    | inl this ↦
+        let stray : ComesAstray h ids earlier p.datagram = subst (HasPartBy h says ids earlier p.datagram) this.0 parts.0 in (
+          any_later (MainGoing (from_server h.named)) p earlier stray.after,
+          or_left _ _ (and_from _ _ (in_true p.datagram stray.dir) (same_is (peer_of p.datagram) peer this.1)),
+          λ same. stray.elsewhere (this.1 ∙ same),
+        )
+    | inr before ↦ let rest = stray_there earlier parts.1 peer before in (any_later (MainGoing (from_server h.named)) p earlier rest.0, or_right _ _ rest.1, rest.2)
+  ]
 
 -- ---- at the server something that went out has a main datagram before it, or is one
 

@@ -15,6 +15,7 @@ use Rattle.tftp_law.proofs.ServerRoutes.{routed_at_server}
 pub named_is : (h : Header) (e : End) → h.named ≡ e → h ≡ record { named = e; service = h.service }
 named_is h e is = ap (λ x. record { named = x; service = h.service }) is
 
+-- whatever says the packets
 pub routed_by : (h : Header) (says : Saying) → IsTold says → (ids : TransferIds) (division : Division) → HavePartsBy h says ids division → Starts h.named (view_in division) → AreRoutedBy h says division
 routed_by h says told ids division parts starts = by h.named refl where
   by : (e : End) → h.named ≡ e → AreRoutedBy h says division
@@ -23,11 +24,13 @@ routed_by h says told ids division parts starts = by h.named refl where
   by Server is = subst (λ (x : Header). AreRoutedBy x says division) (sym (named_is h Server is))
       (routed_at_server h.service says told ids division (subst (λ (x : Header). HavePartsBy x says ids division) (named_is h Server is) parts) (subst (λ x. Starts x (view_in division)) is starts))
 
+-- as a meaning says them a request begins as one, and nothing else does
 pub told_of : (m : Meaning) (wire : List ℕ) → IsTold (says_of m wire)
 told_of m wire = record {
   request = λ payload s. request_begins payload _ s;
   other = λ p apart payload s. other_begins m wire payload p apart s;
 }
 
+-- and so the parts of a run have their routes
 pub routed : (h : Header) (m : Meaning) (wire : List ℕ) (ids : TransferIds) (division : Division) → HaveParts h m wire ids division → IsOneSided m wire h.named (view_in division) → AreRouted h m wire division
 routed h m wire ids division parts own = routed_by h (says_of m wire) (told_of m wire) ids division parts (starts_of m wire h.named (view_in division) own)

@@ -301,6 +301,7 @@ module _ (h : Header) (ds : List Datagram) (d : Datagram) where
   asked_after Client first is = let a = c_request h ds d first.local _ is in (dir_out d a.2, a.3)
   asked_after Server first is = let a = s_request h ds d (peer_of first) _ is in (dir_in d a.2, a.3)
 
+  -- what has the route of a request comes from the client and begins as one
   pub request_is : route_of h ds d ≡ Route.Request → (d.dir ≡ dir_of (request_at h.named)) × (begins_request d ≡ true)
   request_is is = elim (two_ways (first_of (asks h) ds)) [
     | inl none ↦

@@ -11,8 +11,8 @@ use Rattle.tftp_packet.specs.declared.kinds.Dir.TheVariants.{In, Out}
 use Rattle.tftp_ends.specs.CaptureText.{Datagram}
 use Rattle.tftp_ends.specs.Rules.{Passed, HasPassed}
 use Rattle.tftp_law.specs.Rules.{Agrees, Begins, IsAnswer, FirstAnswer}
-use Rattle.tftp_law.proofs.Counted.{AllSpelled, scan}
-use Rattle.tftp_law.proofs.Made.{oack_spelled}
+use Rattle.tftp_law.proofs.HighestNumbers.{AllSpelled, scan}
+use Rattle.tftp_law.proofs.MadeMeaning.{oack_spelled}
 
 -- ---- what is searched for
 

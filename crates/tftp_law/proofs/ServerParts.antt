@@ -136,6 +136,7 @@ module _ (service : ℕ) (says : Saying) (ids : TransferIds) where
     s_back Stray s all is = s_back_stray is
     s_back StrayAnswer s all is = s_back_answer s is
 
+  -- each datagram has the part of its route
   pub parted_at_server : (division : Division) → AreRoutedBy sh says division → Starts Server (view_in division) → ServerIds (datagrams_of division) → HavePartsBy sh says ids division
   parted_at_server [] routed starts are = tt
   parted_at_server (p ∷ earlier) routed starts are =

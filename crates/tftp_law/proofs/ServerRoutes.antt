@@ -1,22 +1,21 @@
 -- At the server the parts of a division have their routes.
 use Rattle.std.proofs.Common.{◌≡◌, ◌⊎◌, ℕ, ◌+◌, ◌*◌, Bool, true, false, List, [], ◌∷◌, Option, Some, None, Any, inl, inr, refl, sym, subst, ◌∙◌, arith}
 use Rattle.std.specs.Prelude.{◌&&◌, ◌||◌, ◌==◌}
-use Rattle.std.proofs.lemmas.Bool.{false≢true, and_from, and_parts, or_left, or_right, eqb-true, false_from_ne_true, or_cases}
+use Rattle.std.proofs.lemmas.Bool.{false≢true, and_from, and_parts, eqb-true, false_from_ne_true, or_cases}
 use Rattle.tftp_packet.specs.Faults.{opcode_of}
 use Rattle.tftp_packet.specs.declared.kinds.End.TheVariants.{Server}
 use Rattle.tftp_packet.specs.declared.kinds.Dir.TheVariants.{In, Out}
-use Rattle.tftp_ends.specs.CaptureText.{Datagram, Header, PeerId, peer_of}
+use Rattle.tftp_ends.specs.CaptureText.{Datagram, Header, peer_of}
 use Rattle.tftp_ends.specs.Machines.{MachinePacket, Req, Oack, Data, Ack, Deed, Sent, Took, History}
 use Rattle.tftp_ends.specs.Ports.{goes_out, comes_in, begins_request, begins_error, asks, first_of, has_come_from, same_peer, route_of}
 use Rattle.tftp_ends.specs.declared.route.Route.{Route}
-use Rattle.tftp_law.specs.Dress.{Part, Main, Stray, StrayAnswer, Placed, Division, datagrams_of, view_in, packet_of, TransferIds, Saying, Carries, ComesAstray, AnswersStray, HasPartBy, HavePartsBy, IsMain, HasServerId}
+use Rattle.tftp_law.specs.Dress.{Part, Main, Stray, StrayAnswer, Division, datagrams_of, view_in, packet_of, TransferIds, Saying, Carries, ComesAstray, AnswersStray, HasPartBy, HavePartsBy, IsMain, HasServerId}
 use Rattle.tftp_law.specs.Sides.{BeginsAsRequest}
 use Rattle.tftp_law.specs.Accord.{packet_route, part_route, SaysAsBy, AreRoutedBy, Starts}
 use Rattle.tftp_law.proofs.RouteTests.{same_true, out_true, in_false, in_true, out_false, error_begins, two_ways, now, same_is, other_peer, IsTold}
-use Rattle.tftp_law.proofs.ClientRoutes.{view_more}
-use Rattle.tftp_law.proofs.Divided.{any_none, any_cases, any_later}
+use Rattle.tftp_law.proofs.Divided.{any_none, any_cases}
 use Rattle.tftp_law.proofs.FirstRequests.{or_some, first_stays}
-use Rattle.tftp_law.proofs.Placing.{one, starts_before, StrayFrom, WentOut, MainOut, any_main_out}
+use Rattle.tftp_law.proofs.Placing.{one, starts_before, WentOut, MainOut, any_main_out, Asked, asked_some, stray_there, view_some}
 
 -- ---- the server
 
@@ -131,49 +130,8 @@ module _ (service : ℕ) (says : Saying) (told : IsTold says) (ids : TransferIds
   s_asks_there : (earlier : Division) (d : Datagram) → Carries hh says ids earlier d (Took Req) → asks hh d ≡ true
   s_asks_there earlier d p = and_from _ _ (and_from _ _ (in_true d p.dir) (told.request d.payload p.spells)) (same_true d.local service p.server)
 
-  abbrev SAsked : Division → Type 0
-  SAsked division = (x : Datagram) × (first_of (asks hh) (datagrams_of division) ≡ Some x)
-
-  s_asked_later : (d : Datagram) (earlier : Division) → SAsked earlier → (x : Datagram) × (first_of (asks hh) (d ∷ datagrams_of earlier) ≡ Some x)
-  s_asked_later d earlier found = (found.0, first_stays (asks hh) d found.0 (datagrams_of earlier) found.1)
-
-  s_asked_step : (d : Datagram) (part : Part) (earlier : Division) → Part1 earlier d part → Own (one d part earlier)
-      → (v : History) → view_in earlier ≡ v → ((last : Deed) (rest : History) → view_in earlier ≡ last ∷ rest → SAsked earlier)
-      → (last : Deed) (rest : History) → view_in (one d part earlier) ≡ last ∷ rest → (x : Datagram) × (first_of (asks hh) (d ∷ datagrams_of earlier) ≡ Some x)
-  s_asked_step d Stray earlier p own v is before last rest e = s_asked_later d earlier (before last rest e)
-  s_asked_step d StrayAnswer earlier p own v is before last rest e = s_asked_later d earlier (before last rest e)
-  s_asked_step d (Main deed) earlier p own (other ∷ v) is before last rest e = s_asked_later d earlier (before other v is)
-  s_asked_step d (Main deed) earlier p own [] is before last rest e =
-      let first : deed ≡ Took Req = own.0.first is in
-      now (asks hh) d (datagrams_of earlier) (s_asks_there earlier d (subst (Carries hh says ids earlier d) first p))
-
-  s_some_asked : (division : Division) → Parts division → Own division → (last : Deed) (rest : History) → view_in division ≡ last ∷ rest → SAsked division
-  s_some_asked [] parts own last rest e = absurd (cc)
-  s_some_asked (p ∷ earlier) parts own last rest e =
-      s_asked_step p.datagram p.part earlier parts.0 own (view_in earlier) refl (s_some_asked earlier parts.1 (starts_before Server p.datagram p.part earlier own)) last rest e
-
-  s_view_step : (p : Placed) (earlier : Division) → MainOut p → (last : Deed) × (rest : History) × (view_in (p ∷ earlier) ≡ last ∷ rest)
-  s_view_step p earlier ((deed, is), way) = (deed, view_in earlier, subst (λ x. view_in (record { datagram = p.datagram; part = x } ∷ earlier) ≡ deed ∷ view_in earlier) (sym is) refl)
-
-  s_view_some : (division : Division) → Any MainOut division → (last : Deed) × (rest : History) × (view_in division ≡ last ∷ rest)
-  s_view_some [] any = absurd (any_none MainOut any)
-  s_view_some (p ∷ earlier) any = elim (any_cases MainOut p earlier any) [
-    | inl this ↦ s_view_step p earlier this
-    | inr before ↦ view_more service says told ids p.datagram p.part earlier (s_view_some earlier before)
-  ]
-
-  s_stray_there : (division : Division) → Parts division → (peer : PeerId) → Any (StrayFrom peer) division
-      → Any MainOut division × (has_come_from peer (datagrams_of division) ≡ true) × (peer ≡ ids.peer → ⊥)
-  s_stray_there [] parts peer any = absurd (any_none (λ (p : Placed). (p.part ≡ Stray) × (peer_of p.datagram ≡ peer)) any)
-  s_stray_there (p ∷ earlier) parts peer any = elim (any_cases (λ (p : Placed). (p.part ≡ Stray) × (peer_of p.datagram ≡ peer)) p earlier any) [
-    | inl this ↦
-        let stray : ComesAstray hh ids earlier p.datagram = subst (Part1 earlier p.datagram) this.0 parts.0 in (
-          any_later MainOut p earlier stray.after,
-          or_left _ _ (and_from _ _ (in_true p.datagram stray.dir) (same_is (peer_of p.datagram) peer this.1)),
-          λ same. stray.elsewhere (this.1 ∙ same),
-        )
-    | inr before ↦ let rest = s_stray_there earlier parts.1 peer before in (any_later MainOut p earlier rest.0, or_right _ _ rest.1, rest.2)
-  ]
+  s_some_asked : (division : Division) → Parts division → Own division → (last : Deed) (rest : History) → view_in division ≡ last ∷ rest → Asked hh division
+  s_some_asked division parts own last rest is = asked_some hh says ids (λ earlier d carries. s_asks_there earlier d carries) division parts own last rest is
 
   module _ (earlier : Division) (parts : Parts earlier) (own : Own earlier) where
     abbrev ds : List Datagram
@@ -198,19 +156,19 @@ module _ (service : ℕ) (says : Saying) (told : IsTold says) (ids : TransferIds
           | inr some ↦ s_later_request service ds d some.0 some.1 out begins there (s_remote_is d some.0 p.client some.1) (first_of (to_client service some.0) ds) refl (λ x e. (d.local == x.local, refl))
         ]
 
-    s_asked_before : (deed : Deed) → (deed ≡ Took Req → ⊥) → Starts Server (deed ∷ view_in earlier) → SAsked earlier
+    s_asked_before : (deed : Deed) → (deed ≡ Took Req → ⊥) → Starts Server (deed ∷ view_in earlier) → Asked hh earlier
     s_asked_before deed other all = by (view_in earlier) refl where
-      by : (v : History) → view_in earlier ≡ v → SAsked earlier
+      by : (v : History) → view_in earlier ≡ v → Asked hh earlier
       by (last ∷ rest) is = s_some_asked earlier parts own last rest is
       by [] is = absurd (other (all.0.first is))
 
-    s_route_sent : (d : Datagram) (q : MachinePacket) → Carries hh says ids earlier d (Sent q) → HasServerId Server ids d → SAsked earlier → route_of hh ds d ≡ Route.Peer
+    s_route_sent : (d : Datagram) (q : MachinePacket) → Carries hh says ids earlier d (Sent q) → HasServerId Server ids d → Asked hh earlier → route_of hh ds d ≡ Route.Peer
     s_route_sent d q p at_own asked = elim (two_ways (first_of (to_client service asked.0) ds)) [
       | inl none ↦ s_out_first service ds d asked.0 asked.1 none (out_true d p.dir) (s_remote_is d asked.0 p.client asked.1)
       | inr some ↦ s_out_later service ds d asked.0 some.0 asked.1 some.1 (out_true d p.dir) (s_local_is d asked.0 some.0 at_own some.1) (s_remote_is d asked.0 p.client asked.1)
     ]
 
-    s_route_took : (d : Datagram) (q : MachinePacket) → (q ≡ Req → ⊥) → Carries hh says ids earlier d (Took q) → HasServerId Server ids d × ((d.dir ≡ Out) ⊎ Any WentOut earlier) → SAsked earlier → route_of hh ds d ≡ Route.Peer
+    s_route_took : (d : Datagram) (q : MachinePacket) → (q ≡ Req → ⊥) → Carries hh says ids earlier d (Took q) → HasServerId Server ids d × ((d.dir ≡ Out) ⊎ Any WentOut earlier) → Asked hh earlier → route_of hh ds d ≡ Route.Peer
     s_route_took d q other p goes asked =
         let went = any_main_out service says ids earlier parts (elim goes.1 [ inl way ↦ absurd (let e : In ≡ Out = sym p.dir ∙ way in cc) | inr before ↦ before ]) in
         let some = s_some_out earlier parts asked.0 (s_first_peer earlier parts asked.0 asked.1) went in
@@ -226,8 +184,8 @@ module _ (service : ℕ) (says : Saying) (told : IsTold says) (ids : TransferIds
     s_route_main d (Sent (Data k)) p all = s_route_sent d (Data k) p p.server.0 (s_asked_before (Sent (Data k)) (λ e. cc) all)
     s_route_main d (Sent (Ack j)) p all = s_route_sent d (Ack j) p p.server.0 (s_asked_before (Sent (Ack j)) (λ e. cc) all)
 
-    s_asked_by_main : Any MainOut earlier → SAsked earlier
-    s_asked_by_main any = let some = s_view_some earlier any in s_some_asked earlier parts own some.0 some.1 some.2
+    s_asked_by_main : Any MainOut earlier → Asked hh earlier
+    s_asked_by_main any = let some = view_some Out earlier any in s_some_asked earlier parts own some.0 some.1 some.2
 
     s_route_stray : (d : Datagram) → ComesAstray hh ids earlier d → route_of hh ds d ≡ Route.Stray
     s_route_stray d p =
@@ -239,7 +197,7 @@ module _ (service : ℕ) (says : Saying) (told : IsTold says) (ids : TransferIds
 
     s_route_answer : (d : Datagram) → AnswersStray hh ids earlier d → route_of hh ds d ≡ Route.StrayAnswer
     s_route_answer d p =
-        let stray = s_stray_there earlier parts (peer_of d) p.there in
+        let stray = stray_there hh says ids earlier parts (peer_of d) p.there in
         let asked = s_asked_by_main stray.0 in
         let some = s_some_out earlier parts asked.0 (s_first_peer earlier parts asked.0 asked.1) stray.0 in
         let error = error_begins d 5 p.spells.0 p.spells.1 in
@@ -250,6 +208,7 @@ module _ (service : ℕ) (says : Saying) (told : IsTold says) (ids : TransferIds
     s_step d Stray p all = (s_route_stray d p, tt)
     s_step d StrayAnswer p all = (s_route_answer d p, p.spells)
 
+  -- each datagram has the route of its part
   pub routed_at_server : (division : Division) → Parts division → Own division → AreRoutedBy hh says division
   routed_at_server [] parts own = tt
   routed_at_server (p ∷ earlier) parts own =

@@ -18,7 +18,7 @@ use Rattle.tftp_law.specs.Rules.{FirstAsked, Agrees, Begins, IsAnswer, Answers, 
 use Rattle.tftp_law.specs.declared.rule.Rule.{Rule}
 use Rattle.tftp_law.specs.OneEnded.{Passes, OneEnded}
 use Rattle.tftp_law.proofs.Spelled.{spelled_once}
-use Rattle.tftp_law.proofs.Counted.{AllSpelled, transfer_spelled, has_short, high_of}
+use Rattle.tftp_law.proofs.HighestNumbers.{AllSpelled, transfer_spelled, has_short, high_of}
 use Rattle.tftp_law.proofs.FirstAnswered.{not_both, known_by, or_new, main_none, main_some}
 use Rattle.tftp_law.proofs.FirstRequests.{some_same, first_stays, none_before}
 use Rattle.tftp_law.specs.MessageRules.{AreTermsAfter}

@@ -11,14 +11,15 @@ use Rattle.tftp_law.specs.Accord.{Starts, Accords, AreRouted}
 use Rattle.tftp_law.specs.OneEnded.{OneEnded, IsEnded, Meant}
 use Rattle.tftp_law.specs.Divides.{Divides}
 use Rattle.tftp_law.proofs.OneMeaning.{one_meaning}
-use Rattle.tftp_law.proofs.Made.{some_accord}
-use Rattle.tftp_law.proofs.Seen.{divides}
+use Rattle.tftp_law.proofs.MadeMeaning.{some_accord}
+use Rattle.tftp_law.proofs.RulesDivide.{divides}
 use Rattle.tftp_law.proofs.Opening.{starts_of}
 use Rattle.tftp_law.proofs.Parted.{parts_of}
 use Rattle.tftp_law.proofs.OneDivision.{run_divides}
-use Rattle.tftp_law.proofs.Completed.{completed}
-use Rattle.tftp_law.proofs.Assembled.{run_keeps, shown_meant}
+use Rattle.tftp_law.proofs.EndedIsComplete.{completed}
+use Rattle.tftp_law.proofs.RunsBreakNoRule.{run_keeps, shown_meant}
 
+-- from a run to the rules
 pub rules : (h : Header) (m : Meaning) (wire : List ℕ) (datagrams : List Datagram) → IsSeen h m wire datagrams → OneEnded h (reverse datagrams) × Accords h m wire (reverse datagrams)
 rules = run_keeps
 
@@ -45,12 +46,15 @@ seen_by h m wire datagrams acc x =
       dressed = record { ids = p.0; division = x.division; whole = x.same; main = refl; parts = p.1 };
     }
 
+-- from the rules to a run: a division is made, and the other end is made up
 pub seen : (h : Header) (m : Meaning) (wire : List ℕ) (datagrams : List Datagram) → OneEnded h (reverse datagrams) → Accords h m wire (reverse datagrams) → IsSeen h m wire datagrams
 seen h m wire datagrams lawful acc = seen_by h m wire datagrams acc (divided h m wire (reverse datagrams) lawful acc)
 
+-- a meaning and a wire are made up
 pub some : (h : Header) (earlier : List Datagram) → OneEnded h earlier → (m : Meaning) × (wire : List ℕ) × Accords h m wire earlier
 some h earlier lawful = some_accord h earlier lawful
 
+-- so a capture is lawful exactly if it breaks no rule
 pub lawful : (h : Header) (ds : List Datagram) → IsLawful h ds ↔ OneEnded h (reverse ds)
 lawful h ds = (
   λ is. (rules h is.0 is.1 ds is.2).0,
@@ -66,6 +70,7 @@ divides_by_rules h earlier lawful =
     let run = run_divides h m wire p.0 x.division p.1 x.own in
     record { division = x.division; whole = x.same; starts = run.1; ids = p.0; parts = run.0 }
 
+-- from a whole run to what the rules mean
 pub meant_by : (h : Header) (m : Meaning) (wire : List ℕ) (ds : List Datagram) → ShowsBy h m wire ds → Meant h (reverse ds) m
 meant_by = shown_meant
 
@@ -82,6 +87,7 @@ shows_some h ds ended =
       },
     )
 
+-- what is meant is shown: by the wire that was made up, and the meaning is one
 pub whole : (h : Header) (m : Meaning) (ds : List Datagram) → Meant h (reverse ds) m ↔ ((wire : List ℕ) × ShowsBy h m wire ds)
 whole h m ds = (
   λ meant. let (n, wire, shows) = shows_some h ds meant.ended in
@@ -93,5 +99,6 @@ whole h m ds = (
 pub one_shown : (h : Header) (ds : List Datagram) (m n : Meaning) → (wire : List ℕ) × ShowsBy h m wire ds → (wire : List ℕ) × ShowsBy h n wire ds → m ≡ n
 one_shown h ds m n x y = one_meaning h (reverse ds) m n (meant_by h m x.0 ds x.1) (meant_by h n y.0 ds y.1)
 
+-- a capture shows one meaning at most
 pub one : (h : Header) (ds : List Datagram) (m n : Meaning) → Shows h m ds → Shows h n ds → m ≡ n
 one h ds m n x y = one_shown h ds m n (x.wire, x.shown) (y.wire, y.shown)

@@ -32,6 +32,7 @@ module _ (h : Header) (says : Saying) where
       let asked = asks_is h (datagrams_of earlier) d none (route ∙ ap (λ x. packet_route (packet_of x)) is ∙ request_route h.named) in
       absurd (false≢true (sym not_now ∙ asked))
 
+  -- what was done first is the request, and so one has passed
   pub none_view : (division : Division) → AreRoutedBy h says division → Starts h.named (view_in division) → first_of (asks h) (datagrams_of division) ≡ None → view_in division ≡ []
   none_view [] routed starts none = refl
   none_view (p ∷ earlier) routed starts none =

@@ -5,6 +5,8 @@
 #[cfg(test)]
 mod agreements;
 #[cfg(test)]
+mod captures;
+#[cfg(test)]
 mod commands;
 #[cfg(test)]
 mod netascii;

@@ -2,7 +2,7 @@ use Rattle.std.proofs.Common.{◌≡◌, ◌≢◌, ◌+◌, ◌-◌, ◌<◌, �
 use Rattle.std.proofs.lemmas.Bool.Decides.{nat_tests}
 use Rattle.std.proofs.lemmas.Grind.{common_steps}
 use Rattle.std.proofs.lemmas.List.Elements.{All-append}
-use Rattle.tftp_capture.proofs.Bytes.{taken_step, taken_all, byte_at, no_end_at, line_ended}
+use Rattle.tftp_capture.proofs.Bytes.{end_ahead, taken_step, taken_all, byte_at, no_end_at, line_ended}
 use Rattle.tftp_capture.proofs.line.read_line.Goals as goal
 use Rattle.tftp_capture.proofs.line.read_line.Goals.{then-room-length, else-room-length+then-whole, else-room-length+else-whole, else-room-via-then-room+else-over, else-room-via-else-room}
 
@@ -23,6 +23,7 @@ returns-then-over-clause-ends g c =
       line ++ held,
       rw (c.consume.ensures.value, c.as_slice-held.ensures.value) (taken_all _ _ _ line held c.pieces.invariant.taken c.fill.ensures.kept),
       (get_or held (c.args.room - length line) 0, at, c.if-room.true),
+      tt,
     )
 
 pub returns-then-length-gt-LONGEST_LINE-clause-ends : goal.returns-then-length-gt-LONGEST_LINE-clause-ends
@@ -50,6 +51,7 @@ returns-then-length-gt-LONGEST_LINE-clause-ends g c =
           | else-room-via-else-room w ↦ omega arith
         ],
       ),
+      tt,
     )
 
 pub returns-then-whole-2-clause-ends : goal.returns-then-whole-2-clause-ends
@@ -83,4 +85,34 @@ returns-then-whole-2-clause-ends g c =
         },
         omega arith,
       ),
+      tt,
+    )
+
+pub returns-then-is_err-2-clause-ends : goal.returns-then-is_err-2-clause-ends
+returns-then-is_err-2-clause-ends g c =
+    let held = c.fill.new.self in
+    let line = c.pieces.line.items in
+    let count = c.count_before-count.result in
+    let no_end = rw c.as_slice-held.ensures.value at c.count_before-count.ensures.none_before in
+    let all : length c.as_slice-held.result.now ≡ length held = ap length c.as_slice-held.ensures.value in
+    let upto : count ≤ length held = omega arith in
+    let here : count < length held → get_or held count 0 ≡ 10 = rw c.as_slice-held.ensures.value at c.count_before-count.ensures.here in
+    let size : length (line ++ take count held) ≡ length line + count = length-append line (take count held) ∙ ap (λ n. length line + n) (length-take-le count held upto) in
+    let fits : (length line + count ≤ c.args.room) × (count < length held → length line + count < c.args.room) =
+    elim c.else-room.branch [
+      | else-room-via-then-room+else-over w ↦ elim c.if-room-length.branch [
+        | then-room-length v ↦ (grind (arith, nat_tests), λ h. grind (arith, nat_tests))
+        | else-room-length+then-whole v ↦ (grind (arith, nat_tests), λ h. grind (arith, nat_tests))
+        | else-room-length+else-whole v ↦ (grind (arith, nat_tests), λ h. grind (arith, nat_tests))
+      ]
+      | else-room-via-else-room w ↦ (omega arith, λ h. omega arith)
+    ] in (
+      line ++ take count held,
+      rw c.consume-then-is_err-2.ensures.value (taken_step _ _ _ line held count c.pieces.invariant.taken c.fill.ensures.kept),
+      record {
+        no_end = All-append (λ b. b ≢ 10) line (take count held) c.pieces.invariant.part.no_end no_end;
+        narrow = omega arith;
+        short = omega (arith, size, fits.0);
+      },
+      rw c.consume-then-is_err-2.ensures.value (end_ahead held count c.args.room (length (line ++ take count held)) upto here (λ h. omega (arith, size, fits.1 h))),
     )

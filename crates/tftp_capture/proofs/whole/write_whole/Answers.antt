@@ -12,8 +12,8 @@ loop-written-preserved g c = record {
   appended = rw (take-add c.loop-written.written c.in-Ok.count c.args.bytes.now) (Appends-trans _ _ _ _ _ c.loop-written.invariant.appended (rw take_rest at c.in-Ok.ensures.bytes));
 }
 
-pub returns-in_default-clause-err : goal.returns-in_default-clause-err
-returns-in_default-clause-err g c = prefix_kept _ _ _ c.loop-written.written c.args.bytes.now c.loop-written-test.true c.loop-written.invariant.appended c.in_default.ensures.bytes
+pub returns-in_default : goal.returns-in_default
+returns-in_default g c = record { writes = (search rules, prefix_kept _ _ _ c.loop-written.written c.args.bytes.now c.loop-written-test.true c.loop-written.invariant.appended c.in_default.ensures.bytes) }
 
-pub returns-then-count-eq0-clause-err : goal.returns-then-count-eq0-clause-err
-returns-then-count-eq0-clause-err g c = prefix_none _ _ _ c.loop-written.written c.args.bytes.now c.loop-written-test.true c.loop-written.invariant.appended (rw c.if-count-eq0.true at c.in-Ok.ensures.bytes)
+pub returns-then-count-eq0 : goal.returns-then-count-eq0
+returns-then-count-eq0 g c = record { writes = (search rules, prefix_none _ _ _ c.loop-written.written c.args.bytes.now c.loop-written-test.true c.loop-written.invariant.appended (rw c.if-count-eq0.true at c.in-Ok.ensures.bytes)) }

@@ -1,6 +1,5 @@
 use Rattle.std.proofs.Common.{refl, sym, ◌∙◌, arith}
-use Rattle.tftp_capture.proofs.Gathering.{from_ok}
-use Rattle.tftp_commands.proofs.Written.{from_err}
+use Rattle.tftp_capture.proofs.Gathering.{added, not_added}
 use Rattle.tftp_commands.proofs.Showing.{cut_here, one_more, other_side, shown_fault, shown_nothing, shown_whole, whole_text}
 use Rattle.tftp_commands.proofs.show.show.Goals as goal
 
@@ -35,9 +34,10 @@ returns-then-is_err-clause-said g c =
     let inv = c.loop-datagram.invariant in
     let answered = rw c.in-Ok-Some.field-0-is at c.in-Ok-Some.ensures in
     let failed = sym c.is_err.ensures.value ∙ c.if-is_err.true in
-    let told = from_err _ c.put_datagram.result failed c.put_datagram.ensures.err in
-    cut_here _ _ _ _ _ _ c.loop-datagram.capture c.next.new.self c.loop-datagram.gathered c.loop-datagram.number c.in-Ok-Some.datagram told.0 _ _ inv.shown inv.going answered.continues answered.standing
-    (other_side (λ h. h) answered.tally ∙ inv.reading) (from_err _ c.put_datagram.result failed c.put_datagram.ensures.failed) told.1 told.2
+    let put = c.put_datagram.ensures.adds in
+    let told = not_added g.W.Write.contents c.loop-datagram.writer c.put_datagram.new.writer c.put_datagram.result _ _ _ failed put.2 in
+    cut_here _ _ _ _ _ _ c.loop-datagram.capture c.next.new.self c.loop-datagram.gathered c.loop-datagram.number c.in-Ok-Some.datagram put.0 _ _ inv.shown inv.going answered.continues answered.standing
+    (other_side (λ h. h) answered.tally ∙ inv.reading) told.0 put.1 told.1
 
 pub returns-then-is_err-clause-whole : goal.returns-then-is_err-clause-whole
 returns-then-is_err-clause-whole g c = λ text tells clean. whole_text text _ _ _ _ _ _ _ tells clean (returns-then-is_err-clause-said g c)
@@ -47,11 +47,12 @@ loop-datagram-preserved g c =
     let inv = c.loop-datagram.invariant in
     let answered = rw c.in-Ok-Some.field-0-is at c.in-Ok-Some.ensures in
     let passed = sym c.is_err.ensures.value ∙ c.if-is_err.false in
-    let told = from_ok _ c.put_datagram.result passed c.put_datagram.ensures.ok in
+    let put = c.put_datagram.ensures.adds in
+    let told = added g.W.Write.contents c.loop-datagram.writer c.put_datagram.new.writer c.put_datagram.result _ _ _ passed put.2 in
     record {
       going = answered.standing;
       reading = other_side (λ h. h) answered.tally ∙ inv.reading;
-      writing = from_ok _ c.put_datagram.result passed c.put_datagram.ensures.clean;
+      writing = told.0;
       few = omega (arith, inv.few, answered.rises);
-      shown = one_more _ _ _ _ _ _ c.loop-datagram.capture c.next.new.self c.loop-datagram.gathered c.put_datagram.new.gathered c.loop-datagram.number c.in-Ok-Some.datagram told.0 inv.shown inv.going answered.continues answered.standing told.1 told.2;
+      shown = one_more _ _ _ _ _ _ c.loop-datagram.capture c.next.new.self c.loop-datagram.gathered c.put_datagram.new.gathered c.loop-datagram.number c.in-Ok-Some.datagram put.0 inv.shown inv.going answered.continues answered.standing put.1 told.1;
     }

@@ -1,4 +1,4 @@
 use Rattle.tftp_commands.proofs.verdicts.put_verdict.Goals as goal
 
-pub returns-in-NormalTooLong-clause-err : goal.returns-in-NormalTooLong-clause-err
-returns-in-NormalTooLong-clause-err g c = rw c.in-NormalTooLong.is c.add.ensures.err
+pub returns-in-NormalTooLong : goal.returns-in-NormalTooLong
+returns-in-NormalTooLong g c = record { adds = rw c.in-NormalTooLong.is c.add.ensures.adds }

@@ -1,20 +1,21 @@
-use Rattle.std.proofs.Common.{◌≡◌, ◌≢◌, Err, ap, sym, refl, ◌∙◌}
+use Rattle.std.proofs.Common.{◌≡◌, ◌≢◌, Err, ap, sym, refl, ◌∙◌, subst}
 use Rattle.tftp_capture.specs.CaptureText.{head_line}
 use Rattle.tftp_capture.specs.CaptureText.Due.{EndLine, ServiceLine}
-use Rattle.tftp_capture.proofs.Headers.{at_end_rest, at_read, at_text_end, consumed_nil, end_bad, end_ok, fails_to_begin, head_bad, head_ok, head_stop, ne_false, ne_true, said_stop, service_bad, service_ok}
+use Rattle.tftp_capture.specs.History.{HasService}
+use Rattle.tftp_capture.proofs.Headers.{at_end_rest, at_read, at_text_end, consumed_nil, end_bad, end_ok, fails_to_begin, head_bad, head_ok, head_stop, ne_false, ne_true, said_stop, service_at, service_bad, service_ok}
 use Rattle.tftp_capture.proofs.reader.CaptureReader.begin.Goals as goal
 
 pub returns-in-Err-clause-err : goal.returns-in-Err-clause-err
 returns-in-Err-clause-err g c =
     let ends = rw c.new-lines.ensures at c.in-Err.ensures.ends in
-    fails_to_begin (g.R.Read.remaining c.args.reader.now.0) (g.R.Read.remaining c.next.new.reader.0) c.next.new.self.ahead c.at.result (λ h. c.in-Err.ensures.drained (ap Err (at_read c.in-Err.stop _ (rw c.at.ensures at h)))) (λ h. c.in-Err.ensures.end (ap Err (at_text_end c.in-Err.stop _ (rw c.at.ensures at h)))) (rw c.at.ensures (head_stop _ _ c.next.new.self.line _ c.in-Err.stop ends.1 ends.2))
+    fails_to_begin (g.R.Read.remaining c.args.reader.now.0) (g.R.Read.remaining c.next.new.reader.0) c.next.new.self.ahead c.at.result (λ h. c.in-Err.ensures.drained (ap Err (at_read c.in-Err.stop _ (rw c.at.ensures at h)))) (λ h. c.in-Err.ensures.end (ap Err (at_text_end c.in-Err.stop _ (rw c.at.ensures at h)))) (rw c.at.ensures (head_stop _ _ c.next.new.self.line _ c.next.new.self.ahead c.in-Err.stop ends.1 ends.2 ends.3))
 
 pub returns-then-ne-clause-err : goal.returns-then-ne-clause-err
 returns-then-ne-clause-err g c =
     let ends = rw c.new-lines.ensures at c.in_default.ensures.ends in
     let other : c.next.new.self.line ≢ head_line = λ e. ne_true _ _ c.ne.result c.ne.ensures c.if-ne.true (c.line.ensures.value ∙ e ∙ sym c.as_slice.ensures) in
     fails_to_begin (g.R.Read.remaining c.args.reader.now.0) (g.R.Read.remaining c.next.new.reader.0) c.next.new.self.ahead _ (λ h. absurd h) (λ h. cc)
-    (head_bad _ _ c.next.new.self.line ends.0 ends.1 ends.2 other)
+    (head_bad _ _ c.next.new.self.line ends.0 _ ends.1 ends.2 other)
 
 pub returns-in-Err-next_said-clause-err : goal.returns-in-Err-next_said-clause-err
 returns-in-Err-next_said-clause-err g c =
@@ -84,4 +85,19 @@ returns-clause-ok g c =
         byte_count = begun.byte_count;
         datagram_count = refl;
       },
+    )
+
+pub returns-clause-service : goal.returns-clause-service
+returns-clause-service g c =
+    let ends = rw c.new-lines.ensures at c.in_default.ensures.ends in
+    let is : c.next.new.self.line ≡ head_line = sym c.line.ensures.value ∙ ne_false _ _ c.ne.result c.ne.ensures c.if-ne.false ∙ c.as_slice.ensures in
+    let taken = rw c.new-lines.ensures at c.in_default.ensures.taken in
+    let count = rw c.new-lines.ensures at c.in_default.ensures.count in
+    let head = head_ok _ _ c.next.new.self ends.0 ends.1 ends.2 is taken count in
+    let named = end_ok _ _ _ c.next.new.self c.next_said.new.self c.in-Some.named head c.in_default-next_said.ensures.reaches (sym c.line-2.ensures.value ∙ c.in-Some.ensures) in
+    let is = rw c.line-3.ensures.value at c.in-Some-service_of.ensures in
+    let begun = service_ok _ _ _ c.next_said.new.self c.next_said-2.new.self c.in-Some.named c.in-Some-service_of.service named c.in_default-next_said-2.ensures.reaches is.0 is.1 in (
+      begun.text,
+      consumed_nil (g.R.Read.remaining c.args.reader.now.0) _ begun.text begun.consumed,
+      subst (HasService begun.text _) (sym c.count-handed.ensures.value) (service_at _ _ _ c.next_said.new.self c.next_said-2.new.self c.in-Some.named c.in-Some-service_of.service named c.in_default-next_said-2.ensures.reaches is.0 is.1),
     )

@@ -1,7 +1,7 @@
-use Rattle.std.proofs.Common.{◌≡◌, ◌+◌, ap, sym, ◌∙◌}
+use Rattle.std.proofs.Common.{rules, ◌≡◌, ◌+◌, ap, sym, ◌∙◌}
 use Rattle.tftp_capture.specs.CaptureText.{datagram_line}
 use Rattle.tftp_capture.specs.Written.{WriterState}
-use Rattle.tftp_capture.proofs.Gathering.{from_ok, prefix_nothing}
+use Rattle.tftp_capture.proofs.Gathering.{added, prefix_nothing}
 use Rattle.tftp_capture.proofs.Spelling.{datagram_written}
 use Rattle.tftp_capture.proofs.writer.CaptureWriter.put.Goals as goal
 
@@ -9,8 +9,8 @@ pub returns-clause-written : goal.returns-clause-written
 returns-clause-written g c = λ start header datagrams h.
     let held : c.self.inside.gathered ≡ c.args.self.now.held = ap (λ (s : WriterState). s.held) c.self.view_is in
     let counted : c.self.inside.count ≡ c.args.self.now.count = ap (λ (s : WriterState). s.count) c.self.view_is in
-    let moved = from_ok _ c.put_datagram.result (sym c.is_err.ensures.value ∙ c.if-is_err.false) c.put_datagram.ensures.ok in
-    datagram_written _ _ _ _ _ _ _ _ h (rw held at moved) (ap (λ n. n + 1) counted)
+    let moved = added g.W.Write.contents c.args.writer.now c.put_datagram.new.writer c.put_datagram.result _ _ _ (sym c.is_err.ensures.value ∙ c.if-is_err.false) c.put_datagram.ensures.adds in
+    datagram_written _ _ _ _ _ _ _ _ h (rw held at moved.1) (ap (λ n. n + 1) counted)
 
-pub returns-then-failed-clause-err : goal.returns-then-failed-clause-err
-returns-then-failed-clause-err g c = prefix_nothing _ c.args.self.now.held (datagram_line (record { dir = c.args.dir; local = c.args.local; remote = c.args.remote; payload = c.args.payload.now }))
+pub returns-then-failed-clause-adds : goal.returns-then-failed-clause-adds
+returns-then-failed-clause-adds g c = (search rules, prefix_nothing _ c.args.self.now.held (datagram_line (record { dir = c.args.dir; local = c.args.local; remote = c.args.remote; payload = c.args.payload.now })))
