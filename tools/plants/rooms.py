@@ -26,9 +26,9 @@ def libraries_of(top):
 
 
 def share(source, to):
-    """Copies a file; one that holds what was proved, which a check only reads or writes anew, gets a second name."""
+    """Copies a file; what was proved and what is built, which a check only reads or writes anew, gets a second name."""
     try:
-        (os.link if source.endswith((".oantt", ".rlib")) else shutil.copy2)(source, to)
+        (os.link if source.endswith(".oantt") or "/out/rlib/" in source else shutil.copy2)(source, to)
     except OSError:
         shutil.copy2(source, to)
 
