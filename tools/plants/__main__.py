@@ -82,6 +82,7 @@ def main():
                 named = [it for it in found if is_named(it, given.names)]
                 done += try_crate(crate, named, room, pool) if named else []
         finally:
+            signal.signal(signal.SIGTERM, signal.SIG_IGN)
             room.end_all()
     failed = [str(it.edit) for it in done if not it.is_refused]
     used = resource.getrusage(resource.RUSAGE_CHILDREN)
