@@ -55,6 +55,7 @@ LEN, READ = "box::shelf::Shelf::len", "box::shelf::ShelfRead::read"
 CHECKED = """checked box::shelf::low, 1 of 4
 ./proofs/shelf/Shelf/len/Answers.antt:8:5: error: `returns-clause-size`: as printed, the two types differ
   (expected)
+./proofs/shelf/Shelf/len/Answers.antt:9:5: error: `returns-clause-least`: the goal does not follow
 ./proofs/shelf/beside/Answers.antt:9:5: error: `returns`: `c.was` has no field `is`
 fn box::shelf::Shelf::len: not proved
 fn box::shelf::beside: not proved
@@ -138,7 +139,7 @@ class Told(unittest.TestCase):
 
     def test_an_open_goal_of_the_function_itself_is_a_refusal(self):
         self.assertEqual(self.of(LOW), (said.REFUSED, f"{LOW}, goal index-1, is not proved: the index is in bounds"))
-        written = f"{LEN}, clause size, is not proved: its written answer does not prove it"
+        written = f"{LEN}, clause size, is not proved: its written answer does not prove it; also clause least"
         self.assertEqual(self.of(LEN), (said.REFUSED, written))
         self.assertEqual(self.of(MIDDLE, LOW)[0], said.REFUSED)
 

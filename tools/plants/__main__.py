@@ -37,7 +37,7 @@ def words():
 
 
 def is_named(edit, names):
-    return not names or {edit.crate, edit.name, f"{edit.crate}/{edit.name}"} & set(names)
+    return not names or {edit.crate, edit.name, f"{edit.crate}/{edit.name}", str(edit)} & set(names)
 
 
 def told(it):
@@ -77,10 +77,12 @@ def main():
     with tempfile.TemporaryDirectory(prefix="plants-") as folder, many(given.jobs) as pool:
         room = rooms.Rooms(TOP, folder, given.seconds, given.fresh)
         try:
-            for crate in room.libraries:
-                found = [it for it in edits.edits_of(crate, TOP, given.edits) if is_named(it, given.names)]
-                done += try_crate(crate, found, room, pool) if found else []
+            all_of_them = {crate: edits.edits_of(crate, TOP, given.edits) for crate in room.libraries}
+            for crate, found in all_of_them.items():
+                named = [it for it in found if is_named(it, given.names)]
+                done += try_crate(crate, named, room, pool) if named else []
         finally:
+            signal.signal(signal.SIGTERM, signal.SIG_IGN)
             room.end_all()
     failed = [str(it.edit) for it in done if not it.is_refused]
     used = resource.getrusage(resource.RUSAGE_CHILDREN)

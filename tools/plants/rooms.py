@@ -25,10 +25,10 @@ def libraries_of(top):
     return {crate: [it for it in libraries if it in named] for crate, libraries in named.items()}
 
 
-def link(source, to):
-    """Gives a file a second name, or copies it where that cannot be."""
+def share(source, to):
+    """Copies a file; what was proved and what is built, which a check only reads or writes anew, gets a second name."""
     try:
-        os.link(source, to)
+        (os.link if source.endswith(".oantt") or "/out/rlib/" in source else shutil.copy2)(source, to)
     except OSError:
         shutil.copy2(source, to)
 
@@ -117,10 +117,9 @@ class Rooms:
             shutil.copy(self.base / "crates.txt", room)
             for it in self.libraries:
                 self.copy_texts(self.base, room, it)
-            # a check writes each file anew, so that a second name for it is as good as a copy
             for it, part in [(crate, "incremental"), *((it, "rlib") for it in self.below(crate))]:
                 kept = pathlib.Path("crates") / it / "out" / part
-                shutil.copytree(self.base / kept, room / kept, copy_function=link)
+                shutil.copytree(self.base / kept, room / kept, copy_function=share)
             for file, text in texts.items():
                 (room / "crates" / crate / file).write_text(text, encoding="utf-8")
             for file in set(self.texts_of(crate)) - set(texts):

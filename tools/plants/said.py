@@ -61,8 +61,9 @@ class Said:
         """How these functions stand, with those that stand in them: one of the words above, and the reason."""
         own = [it for it in self.stands if any(is_in(it, symbol) for symbol in symbols)]
         for symbol in (it for it in own if it in self.open):
-            goal, what = self.open[symbol][0]
-            return REFUSED, f"{symbol}, {clause_of(goal)}, is not proved: {what.replace(NOT_PROVED, '')}"
+            first, *more = dict.fromkeys((clause_of(goal), what) for goal, what in self.open[symbol])
+            also = "".join(f"; also {clause}" for clause in dict.fromkeys(it for it, _ in more if it != first[0]))
+            return REFUSED, f"{symbol}, {first[0]}, is not proved: {first[1].replace(NOT_PROVED, '')}{also}"
         for symbol in (it for it in own if it in self.named):
             return NAMED, f"the proof of {symbol} names what the edit took away"
         left = [it for it in own if not self.stands[it].startswith("proved")]
