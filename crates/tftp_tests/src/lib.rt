@@ -8,3 +8,5 @@ mod agreements;
 mod netascii;
 #[cfg(test)]
 mod packets;
+#[cfg(test)]
+mod stores;
