@@ -1,19 +1,10 @@
 //! Laws of the definitions in `specs/`. Each is the contract of a function that does nothing.
 
-ghost use Rattle.std.specs.Prelude.{◌≡◌, ◌↔◌, ◌≢◌, ℕ, List, ◌∷◌, Result};
-ghost use Rattle.tftp_packet.specs.OptionMap.{OptionMap, no_options};
-ghost use Rattle.tftp_packet.specs.Message.{RequestParts};
+ghost use Rattle.std.specs.Prelude.{◌≡◌, ◌↔◌, ℕ, List, Result};
+ghost use Rattle.tftp_capture.specs.declared.fault.CaptureFault.{CaptureFault};
 ghost use Rattle.tftp_ends.specs.CaptureText.{Datagram, Header};
-ghost use Rattle.tftp_nego.specs.Agreement.{MayAgree};
-ghost use Rattle.tftp_nego.specs.Faults.{Holds};
-ghost use Rattle.tftp_nego.specs.declared.fault.NegoFault.{NegoFault};
-ghost use Rattle.tftp_law.specs.Rules.{number_of, FirstBroken};
-ghost use Rattle.tftp_law.specs.declared.rule.Rule.{Rule};
-ghost use Rattle.tftp_ends.specs.Meaning.{Meaning};
-ghost use Rattle.tftp_law.specs.OneEnded.{OneEnded, IsRefused, Meant};
 ghost use Rattle.tftp_judge.specs.TextVerdict.{IsOfText, IsTextVerdict};
 ghost use Rattle.tftp_judge.specs.Verdict.{IsVerdict, IsVerdictByRules};
-ghost use Rattle.tftp_capture.specs.declared.fault.CaptureFault.{CaptureFault};
 ghost use Rattle.tftp_judge.specs.declared.verdict.Verdict.{Verdict};
 
 /// The verdict by the runs of two ends is the verdict by the rules at one.

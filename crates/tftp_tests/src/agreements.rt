@@ -16,71 +16,73 @@ fn answer(
     Ok(agree(rt.alloc(), &request, &options))
 }
 
+/// Requests and OACKs that may be agreed, with the block size, the window, the timeout and the size.
+const AGREED: [(&[u8], &[u8], (u16, u16, Option<u8>, Option<u64>)); 12] = [
+    (
+        b"\x00\x01a\x00octet\x00blksize\x008\x00windowsize\x004\x00",
+        b"\x00\x06blksize\x008\x00windowsize\x004\x00",
+        (8, 4, None, None),
+    ),
+    (
+        b"\x00\x01a\x00octet\x00blksize\x001024\x00",
+        b"\x00\x06blksize\x000512\x00",
+        (512, 1, None, None),
+    ),
+    (
+        b"\x00\x01a\x00octet\x00foo\x001\x00blksize\x008\x00",
+        b"\x00\x06blksize\x008\x00",
+        (8, 1, None, None),
+    ),
+    (
+        b"\x00\x01a\x00octet\x00tsize\x0010\x00",
+        b"\x00\x06tsize\x0011\x00",
+        (512, 1, None, Some(11)),
+    ),
+    (
+        b"\x00\x01a\x00octet\x00timeout\x005\x00",
+        b"\x00\x06TimeOut\x0005\x00",
+        (512, 1, Some(5), None),
+    ),
+    (
+        b"\x00\x02a\x00octet\x00tsize\x0010\x00",
+        b"\x00\x06tsize\x0010\x00",
+        (512, 1, None, Some(10)),
+    ),
+    (
+        b"\x00\x01a\x00octet\x00blksize\x008\x00tsize\x000\x00",
+        b"\x00\x06blksize\x008\x00tsize\x00524279\x00",
+        (8, 1, None, Some(524279)),
+    ),
+    (
+        b"\x00\x01a\x00octet\x00blksize\x008\x00windowsize\x0065535\x00",
+        b"\x00\x06blksize\x008\x00windowsize\x0065535\x00",
+        (8, 65535, None, None),
+    ),
+    (
+        b"\x00\x01a\x00netascii\x00tsize\x000\x00",
+        b"\x00\x06tsize\x0018446744073709551615\x00",
+        (512, 1, None, Some(18446744073709551615)),
+    ),
+    (
+        b"\x00\x01a\x00octet\x00blksize\x0065464\x00tsize\x000\x00",
+        b"\x00\x06blksize\x0065464\x00tsize\x004290183239\x00",
+        (65464, 1, None, Some(4290183239)),
+    ),
+    (
+        b"\x00\x01a\x00octet\x00tsize\x000\x00",
+        b"\x00\x06tsize\x0033553919\x00",
+        (512, 1, None, Some(33553919)),
+    ),
+    (
+        b"\x00\x01a\x00octet\x00timeout\x00255\x00",
+        b"\x00\x06timeout\x00255\x00",
+        (512, 1, Some(255), None),
+    ),
+];
+
 #[test]
 fn agrees_to_options(rt: HostRuntime) -> Result<(), Fail> {
-    let cases: [(&[u8], &[u8], (u16, u16, Option<u8>, Option<u64>)); 12] = [
-        (
-            b"\x00\x01a\x00octet\x00blksize\x008\x00windowsize\x004\x00",
-            b"\x00\x06blksize\x008\x00windowsize\x004\x00",
-            (8, 4, None, None),
-        ),
-        (
-            b"\x00\x01a\x00octet\x00blksize\x001024\x00",
-            b"\x00\x06blksize\x000512\x00",
-            (512, 1, None, None),
-        ),
-        (
-            b"\x00\x01a\x00octet\x00foo\x001\x00blksize\x008\x00",
-            b"\x00\x06blksize\x008\x00",
-            (8, 1, None, None),
-        ),
-        (
-            b"\x00\x01a\x00octet\x00tsize\x0010\x00",
-            b"\x00\x06tsize\x0011\x00",
-            (512, 1, None, Some(11)),
-        ),
-        (
-            b"\x00\x01a\x00octet\x00timeout\x005\x00",
-            b"\x00\x06TimeOut\x0005\x00",
-            (512, 1, Some(5), None),
-        ),
-        (
-            b"\x00\x02a\x00octet\x00tsize\x0010\x00",
-            b"\x00\x06tsize\x0010\x00",
-            (512, 1, None, Some(10)),
-        ),
-        (
-            b"\x00\x01a\x00octet\x00blksize\x008\x00tsize\x000\x00",
-            b"\x00\x06blksize\x008\x00tsize\x00524279\x00",
-            (8, 1, None, Some(524279)),
-        ),
-        (
-            b"\x00\x01a\x00octet\x00blksize\x008\x00windowsize\x0065535\x00",
-            b"\x00\x06blksize\x008\x00windowsize\x0065535\x00",
-            (8, 65535, None, None),
-        ),
-        (
-            b"\x00\x01a\x00netascii\x00tsize\x000\x00",
-            b"\x00\x06tsize\x0018446744073709551615\x00",
-            (512, 1, None, Some(18446744073709551615)),
-        ),
-        (
-            b"\x00\x01a\x00octet\x00blksize\x0065464\x00tsize\x000\x00",
-            b"\x00\x06blksize\x0065464\x00tsize\x004290183239\x00",
-            (65464, 1, None, Some(4290183239)),
-        ),
-        (
-            b"\x00\x01a\x00octet\x00tsize\x000\x00",
-            b"\x00\x06tsize\x0033553919\x00",
-            (512, 1, None, Some(33553919)),
-        ),
-        (
-            b"\x00\x01a\x00octet\x00timeout\x00255\x00",
-            b"\x00\x06timeout\x00255\x00",
-            (512, 1, Some(255), None),
-        ),
-    ];
-    for (request, oack, (blksize, windowsize, timeout, tsize)) in cases {
+    for (request, oack, (blksize, windowsize, timeout, tsize)) in AGREED {
         match answer(&rt, request, oack)? {
             Ok(agreed) => {
                 assert_eq!(rt; agreed.blksize(), blksize, "{oack:?}");
@@ -96,77 +98,79 @@ fn agrees_to_options(rt: HostRuntime) -> Result<(), Fail> {
     Ok(())
 }
 
+/// Requests and OACKs that may not, with the first fault.
+const REFUSED: [(&[u8], &[u8], NegoFault); 14] = [
+    (
+        b"\x00\x01a\x00octet\x00blksize\x007\x00",
+        b"\x00\x06blksize\x007\x00",
+        NegoFault::OptionValue,
+    ),
+    (
+        b"\x00\x01a\x00octet\x00timeout\x005\x00",
+        b"\x00\x06timeout\x006\x00",
+        NegoFault::OptionValue,
+    ),
+    (
+        b"\x00\x01a\x00octet\x00windowsize\x004\x00",
+        b"\x00\x06windowsize\x005\x00",
+        NegoFault::OptionValue,
+    ),
+    (
+        b"\x00\x02a\x00octet\x00tsize\x0010\x00",
+        b"\x00\x06tsize\x0011\x00",
+        NegoFault::OptionValue,
+    ),
+    (
+        b"\x00\x01a\x00octet\x00blksize\x00512\x00",
+        b"\x00\x06blksize\x001024\x00",
+        NegoFault::OptionValue,
+    ),
+    (
+        b"\x00\x01a\x00octet\x00",
+        b"\x00\x06blksize\x008\x00",
+        NegoFault::OptionNotRequested,
+    ),
+    (b"\x00\x01a\x00octet\x00", b"\x00\x06", NegoFault::OackEmpty),
+    (
+        b"\x00\x01a\x00octet\x00foo\x001\x00",
+        b"\x00\x06foo\x001\x00",
+        NegoFault::OptionOutsideProfile,
+    ),
+    (
+        b"\x00\x01a\x00octet\x00multicast\x00\x00",
+        b"\x00\x06multicast\x00\x00",
+        NegoFault::MulticastAgreed,
+    ),
+    (
+        b"\x00\x01a\x00octet\x00",
+        b"\x00\x06blksize\x008\x00MultiCast\x00\x00",
+        NegoFault::MulticastAgreed,
+    ),
+    (
+        b"\x00\x01a\x00octet\x00blksize\x008\x00tsize\x000\x00",
+        b"\x00\x06blksize\x008\x00tsize\x00524280\x00",
+        NegoFault::BeyondBlock65535,
+    ),
+    (
+        b"\x00\x01a\x00octet\x00tsize\x000\x00",
+        b"\x00\x06tsize\x0033553920\x00",
+        NegoFault::BeyondBlock65535,
+    ),
+    (
+        b"\x00\x01a\x00octet\x00tsize\x000\x00",
+        b"\x00\x06tsize\x0018446744073709551615\x00",
+        NegoFault::BeyondBlock65535,
+    ),
+    (
+        b"\x00\x01a\x00octet\x00tsize\x000\x00",
+        b"\x00\x06tsize\x0018446744073709551616\x00",
+        NegoFault::OptionValue,
+    ),
+];
+
 #[test]
 fn refuses_with_the_first_fault(rt: HostRuntime) -> Result<(), Fail> {
-    let cases: [(&[u8], &[u8], NegoFault); 14] = [
-        (
-            b"\x00\x01a\x00octet\x00blksize\x007\x00",
-            b"\x00\x06blksize\x007\x00",
-            NegoFault::OptionValue,
-        ),
-        (
-            b"\x00\x01a\x00octet\x00timeout\x005\x00",
-            b"\x00\x06timeout\x006\x00",
-            NegoFault::OptionValue,
-        ),
-        (
-            b"\x00\x01a\x00octet\x00windowsize\x004\x00",
-            b"\x00\x06windowsize\x005\x00",
-            NegoFault::OptionValue,
-        ),
-        (
-            b"\x00\x02a\x00octet\x00tsize\x0010\x00",
-            b"\x00\x06tsize\x0011\x00",
-            NegoFault::OptionValue,
-        ),
-        (
-            b"\x00\x01a\x00octet\x00blksize\x00512\x00",
-            b"\x00\x06blksize\x001024\x00",
-            NegoFault::OptionValue,
-        ),
-        (
-            b"\x00\x01a\x00octet\x00",
-            b"\x00\x06blksize\x008\x00",
-            NegoFault::OptionNotRequested,
-        ),
-        (b"\x00\x01a\x00octet\x00", b"\x00\x06", NegoFault::OackEmpty),
-        (
-            b"\x00\x01a\x00octet\x00foo\x001\x00",
-            b"\x00\x06foo\x001\x00",
-            NegoFault::OptionOutsideProfile,
-        ),
-        (
-            b"\x00\x01a\x00octet\x00multicast\x00\x00",
-            b"\x00\x06multicast\x00\x00",
-            NegoFault::MulticastAgreed,
-        ),
-        (
-            b"\x00\x01a\x00octet\x00",
-            b"\x00\x06blksize\x008\x00MultiCast\x00\x00",
-            NegoFault::MulticastAgreed,
-        ),
-        (
-            b"\x00\x01a\x00octet\x00blksize\x008\x00tsize\x000\x00",
-            b"\x00\x06blksize\x008\x00tsize\x00524280\x00",
-            NegoFault::BeyondBlock65535,
-        ),
-        (
-            b"\x00\x01a\x00octet\x00tsize\x000\x00",
-            b"\x00\x06tsize\x0033553920\x00",
-            NegoFault::BeyondBlock65535,
-        ),
-        (
-            b"\x00\x01a\x00octet\x00tsize\x000\x00",
-            b"\x00\x06tsize\x0018446744073709551615\x00",
-            NegoFault::BeyondBlock65535,
-        ),
-        (
-            b"\x00\x01a\x00octet\x00tsize\x000\x00",
-            b"\x00\x06tsize\x0018446744073709551616\x00",
-            NegoFault::OptionValue,
-        ),
-    ];
-    for (request, oack, want) in cases {
+    for (request, oack, want) in REFUSED {
         match answer(&rt, request, oack)? {
             Ok(_) => assert!(rt; false, "{oack:?}"),
             Err(fault) => assert_eq!(rt; fault, want, "{oack:?}"),

@@ -9,8 +9,8 @@ mod files;
 mod options;
 mod reads;
 mod rules;
-mod stores;
 mod texts;
+mod windows;
 
 /// What a capture is expected to be: whole, with its side, its mode and the number of its file's bytes; or not.
 #[derive(Clone, Copy, Debug, PartialEq, Eq)]

@@ -1,7 +1,6 @@
 //! Worked cases of the law, proved from its definitions alone. Each is the contract of a function that does nothing.
 
 ghost use Rattle.std.specs.Prelude.{◌≡◌, ℕ, List, [], ◌∷◌, ◌++◌};
-ghost use Rattle.tftp_law.specs.CaptureText.{Datagram, Header};
 ghost use Rattle.tftp_ends.specs.Meaning.{Meaning};
 ghost use Rattle.tftp_ends.specs.Worked.{two_bytes, two_bytes_written, ten_bytes};
 ghost use Rattle.tftp_ends.specs.WorkedWindows.{six_blocks, six_blocks_steps, block_repeated, window_repeated};

@@ -16,8 +16,9 @@ use tftp_capture::{Datagram, Header};
 use tftp_packet::Packet;
 
 /// What there is to say of the datagrams of a capture, the oldest first, by the runs of two ends (RFC 1350; RFC 2347;
-/// RFC 7440). It tries the rules at the named end, which come to the same. Its time grows about with the square of the
-/// number of datagrams. An error is want of memory.
+/// RFC 7440). It tries the rules at the named end, which come to the same. Its time grows with the square of the number
+/// of datagrams where blocks come nearly in order, and with the cube where many come out of order. An error is want of
+/// memory.
 pub fn judge(alloc: Global, header: &Header, datagrams: &[Datagram]) -> Result<Verdict, AllocError>
     ensures { IfOk result (IsVerdict (header_of header.now) (map datagram_of datagrams.now)) }
 {
