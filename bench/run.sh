@@ -27,6 +27,15 @@ generate file 100000000
 measure "netascii encode" "$bench" netascii-encode
 measure "plain copy of the same" "$bench" copy
 
+# Blocks of 1,526 bytes, of which 65,535 are 100 MB, and of 8 bytes; reversed, all blocks of a window of 65,535 but the
+# first one wait.
+generate random 100000000
+for store in map ring; do
+    for blocks in large small reversed; do
+        measure "$store store, $blocks" "$bench" "$store-$blocks"
+    done
+done
+
 for size in 100000000 1000000000; do
     generate capture "$size"
     measure "capture reader" "$bench" capture

@@ -1,15 +1,24 @@
 //! Does one work of the libraries alone with what standard input has, so that it can be measured.
 #![tactic(auto)]
 
+mod stores;
+
+use crate::stores::{Order, fill_stores};
 use memchr::{memchr, memrchr};
 use std::alloc::Global;
 use std::io::{ErrorKind, Read, Write};
 use std::{env, io};
 use tftp_capture::{CaptureReader, Tallied};
+use tftp_ends::{MapDelivered, RingDelivered};
 use tftp_netascii::{Decoder, encode};
 
 /// The most bytes that are read at once.
 const PIECE: usize = 65_536;
+
+/// How many bytes a block has in the stores: 65,535 of them are 100 MB, and the least that may be agreed (RFC 2348).
+const LARGE: u16 = 1526;
+
+const SMALL: u16 = 8;
 
 /// What becomes of each piece of the input.
 #[derive(Clone, Copy)]
@@ -19,8 +28,8 @@ enum Way {
     Copy,
 }
 
-/// The first word says which work it is: `netascii-decode`, `netascii-encode`, `copy`, `capture` or
-/// `hex`.
+/// The first word says which work it is: `netascii-decode`, `netascii-encode`, `copy`, `capture`, `hex`, or a store and
+/// how it is filled, `map-large`, `map-small`, `map-reversed`, `ring-large`, `ring-small` or `ring-reversed`.
 fn main(rt: HostRuntime) -> io::Result<()> {
     let alloc = rt.alloc();
     let words = env::args(&rt)?.collect::<Vec<String>>(alloc)?;
@@ -42,6 +51,23 @@ fn main(rt: HostRuntime) -> io::Result<()> {
             let count = decode_digits(alloc, &mut reader)?;
             println!(rt; "{count} fields of digits")
         }
+        _ => {
+            let count = fill_named(alloc, &mut reader, word)?;
+            println!(rt; "{count} blocks")
+        }
+    }
+}
+
+/// Fills the stores that the word names: with large blocks or small ones in order, or with small ones in reversed
+/// windows.
+fn fill_named<R: Read>(alloc: Global, reader: &mut R, word: &str) -> io::Result<u64> {
+    match word {
+        "map-large" => fill_stores::<MapDelivered, R>(alloc, reader, LARGE, Order::Rising),
+        "map-small" => fill_stores::<MapDelivered, R>(alloc, reader, SMALL, Order::Rising),
+        "map-reversed" => fill_stores::<MapDelivered, R>(alloc, reader, SMALL, Order::Reversed),
+        "ring-large" => fill_stores::<RingDelivered, R>(alloc, reader, LARGE, Order::Rising),
+        "ring-small" => fill_stores::<RingDelivered, R>(alloc, reader, SMALL, Order::Rising),
+        "ring-reversed" => fill_stores::<RingDelivered, R>(alloc, reader, SMALL, Order::Reversed),
         _ => Err(io::Error::from(ErrorKind::InvalidInput)),
     }
 }
