@@ -16,3 +16,4 @@ pub mod SameMaps
 pub mod CanonicalOptions
 pub mod CanonicalLaws
 pub mod NameOrder
+pub mod Hosts

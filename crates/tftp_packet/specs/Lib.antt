@@ -12,3 +12,4 @@ pub mod Owned
 pub mod Canonical
 pub mod Same
 pub mod Names
+pub mod Host

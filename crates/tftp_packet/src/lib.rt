@@ -3,6 +3,7 @@
 
 mod byte_list;
 mod fault;
+mod host;
 mod kinds;
 mod laws;
 mod option_check;
@@ -18,6 +19,7 @@ mod write;
 
 pub use byte_list::Bytes;
 pub use fault::PacketFault;
+pub use host::Host;
 pub use kinds::{Dir, End, Mode, Side};
 pub use laws::{
     canonical_is_shortest, canonical_spells, first_fault_is_one, map_of_options,
