@@ -23,8 +23,8 @@ pub fn parts_are_routes()
 {}
 
 /// A list divides, each main datagram spells a packet and the first of them is the client's request, exactly if no
-/// datagram breaks one of the first five rules, none is an ERROR, and no request has a route of the peer's. The division
-/// is one, its parts are the routes, and it is that of each run which shows the list, whatever the run means.
+/// datagram breaks one of the first five rules, and no request has a route of the peer's. The division is one, its parts
+/// are the routes, and it is that of each run which shows the list, whatever the run means.
 pub fn a_list_divides_in_one_way()
     ensures divides { (h : Header) (earlier : List Datagram) → FindPlaces h earlier ↔ Divides h earlier }
     ensures parts { (h : Header) (division : Division) → AreRoutedBy h says_some division → Starts h.named (view_in division)
