@@ -3,6 +3,7 @@ pub mod Views
 pub mod Moments
 pub mod Blocks
 pub mod Defaults
+pub mod HistoryTests
 pub mod Worked
 pub mod Starts
 pub mod WorkedMore
@@ -10,6 +11,7 @@ pub mod Wires
 pub mod Computed
 pub mod WorkedWindows
 pub mod Stores
+pub mod Stops
 pub mod OneSided
 pub mod Orderly
 pub mod Places

@@ -184,12 +184,15 @@ pub fn blocks_follow_the_agreement()
         → SenderSent m steps (MachinePacket.Data k) → SenderTook m steps (MachinePacket.Ack 0)) }
 {}
 
-/// Nothing goes before the request, and the client sends nothing else before something has come.
+/// Nothing goes before the request, and the client sends nothing else but an ERROR before something has come.
 pub fn the_request_comes_first()
     ensures server { InEachRun (λ m wire steps. (p : MachinePacket) → HasSent (view_of Server steps) p
         → HasSent (view_of Client steps) MachinePacket.Req) }
+    ensures request { InEachRun (λ m wire steps. (p : MachinePacket) → HasSent (view_of Client steps) p
+        → HasSent (view_of Client steps) MachinePacket.Req) }
     ensures client { InEachRun (λ m wire steps. (p : MachinePacket) → HasSent (view_of Client steps) p
-        → (p ≡ MachinePacket.Req) ⊎ ((q : MachinePacket) × HasTaken (view_of Client steps) q)) }
+        → (p ≡ MachinePacket.Req) ⊎ ((code : ℕ) × (text : List ℕ) × (p ≡ MachinePacket.Error code text))
+        ⊎ ((q : MachinePacket) × HasTaken (view_of Client steps) q)) }
 {}
 
 /// A history is what an end did in some run of both exactly if each deed is one that this end might do, by what it had
