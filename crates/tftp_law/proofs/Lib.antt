@@ -24,6 +24,9 @@ pub mod Parted
 pub mod OneDivision
 pub mod PassedIsDone
 pub mod FirstReply
+pub mod AfterError
+pub mod HeardAnswer
+pub mod AnsweredBefore
 pub mod HighestNumbers
 pub mod Settled
 pub mod OneMeaning
