@@ -28,6 +28,7 @@ pub mod AfterError
 pub mod HeardAnswer
 pub mod AnsweredBefore
 pub mod HighestNumbers
+pub mod FirstError
 pub mod Settled
 pub mod OneMeaning
 pub mod Joined
