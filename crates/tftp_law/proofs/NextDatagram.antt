@@ -34,7 +34,7 @@ use Rattle.tftp_law.proofs.PassedIsDone.{Told as Heard, passed_told, told_passed
 use Rattle.tftp_law.proofs.AfterError.{none_sent_before}
 use Rattle.tftp_law.proofs.HeardAnswer.{heard_own}
 use Rattle.tftp_law.proofs.AnsweredBefore.{oack_used, zero_used}
-use Rattle.tftp_ends.proofs.OneSided.{asked_heard}
+use Rattle.tftp_ends.proofs.Stops.{asked_heard}
 use Rattle.tftp_law.proofs.NextDeed.{reply_now, numbers, state, sends, takes, begun_out, begun_in, plain_yet}
 use Rattle.tftp_law.proofs.Moments.{who_sent_ack, who_took_ack, who_sent_data, who_took_data, who_sent_oack, who_took_oack, who_sent_request, who_took_request, sent_below, sent_in_window, acknowledged_was_sent}
 use Rattle.tftp_law.proofs.WhoSends.{data_out_who, data_in_who, ack_out_who, ack_in_who, oack_out_who, oack_in_who, request_out_who, request_in_who, two_parts, two_ends}
