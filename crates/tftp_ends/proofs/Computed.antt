@@ -1,6 +1,6 @@
 -- A test that a list of steps is a run, and that an end's view is complete.
-use Rattle.std.proofs.Common.{◌≡◌, ℕ, zero, suc, ◌+◌, ◌-◌, ◌<◌, ◌≤◌, ◌==◌, ◌&&◌, ◌||◌, not, nat_lt, nat_le, Bool, true, false, List, [], ◌∷◌, inl, inr, refl, sym, ap, ◌∙◌, subst, arith}
-use Rattle.std.proofs.lemmas.Bool.{and_parts, or_cases, leb-true, ltb-true, eqb-true, false≢true, cases_lt}
+use Rattle.std.proofs.Common.{◌≡◌, ℕ, ◌+◌, ◌-◌, ◌<◌, ◌≤◌, ◌==◌, ◌&&◌, ◌||◌, not, nat_lt, nat_le, Bool, true, false, List, [], ◌∷◌, inl, inr, refl, sym, ap, ◌∙◌, subst, arith}
+use Rattle.std.proofs.lemmas.Bool.{and_parts, or_cases, leb-true, ltb-true, eqb-true, false≢true}
 use Rattle.tftp_packet.specs.declared.kinds.Side.{Side}
 use Rattle.tftp_packet.specs.declared.kinds.Side.TheVariants.{Get, Put}
 use Rattle.tftp_packet.specs.declared.kinds.End.{End}
@@ -8,61 +8,13 @@ use Rattle.tftp_packet.specs.declared.kinds.End.TheVariants.{Client, Server}
 use Rattle.tftp_ends.specs.Meaning.{Meaning, SomethingAgreed, NothingAgreed, windowsize_of, blksize_of}
 use Rattle.tftp_ends.specs.Blocks.{block_count}
 use Rattle.tftp_ends.specs.Roles.{sender_of, receiver_of, other_end}
-use Rattle.tftp_ends.specs.Machines.{Deed, Sent, Took, MachinePacket, Req, Oack, Data, Ack, History, HasSent, HasTaken, IsAcknowledged, IsStartedOn, MayAckZeroOn, MaySendReq, MaySendOack, MaySendData, MaySendAck, MaySend}
+use Rattle.tftp_ends.specs.Machines.{Deed, Sent, Took, MachinePacket, Req, Oack, Data, Ack, Error, History, HasSent, HasTaken, IsAcknowledged, IsStartedOn, MayAckZeroOn, MaySendReq, MaySendOack, MaySendData, MaySendAck, MaySendError, MaySend, NoErrorSent}
+use Rattle.tftp_ends.specs.OneSide.{is_error}
 use Rattle.tftp_ends.specs.Runs.{Step, view_of, MayFollow, IsRun, IsComplete}
-use Rattle.tftp_ends.proofs.Members.{contains_first, contains_later, contains_cases, contains_none}
+use Rattle.tftp_ends.proofs.Members.{contains_first, contains_later}
+pub use Rattle.tftp_ends.proofs.HistoryTests.{same_end, same_packet, has_sent, has_taken, all_sent, is_no_data, is_no_ack, is_no_error, is_data_up_to, took_data, took_up_to, end_is, packet_is, sent_is, taken_is, all_is, none_sent, took_data_is, took_up_to_is}
 
 -- ---- the tests
-
-abbrev pub same_end : End → End → Bool
-same_end Client Client = true
-same_end Server Server = true
-same_end _ _ = false
-
-abbrev pub same_packet : MachinePacket → MachinePacket → Bool
-same_packet Req Req = true
-same_packet Oack Oack = true
-same_packet (Data k) (Data j) = k == j
-same_packet (Ack k) (Ack j) = k == j
-same_packet _ _ = false
-
-abbrev pub has_sent : History → MachinePacket → Bool
-has_sent [] p = false
-has_sent (Sent q ∷ h) p = same_packet q p || has_sent h p
-has_sent (Took q ∷ h) p = has_sent h p
-
-abbrev pub has_taken : History → MachinePacket → Bool
-has_taken [] p = false
-has_taken (Sent q ∷ h) p = has_taken h p
-has_taken (Took q ∷ h) p = same_packet q p || has_taken h p
-
-abbrev pub all_sent : (MachinePacket → Bool) → History → Bool
-all_sent test [] = true
-all_sent test (Sent q ∷ h) = test q && all_sent test h
-all_sent test (Took q ∷ h) = all_sent test h
-
-abbrev pub is_no_data : MachinePacket → Bool
-is_no_data (Data k) = false
-is_no_data _ = true
-
-abbrev pub is_no_ack : MachinePacket → Bool
-is_no_ack (Ack j) = false
-is_no_ack _ = true
-
-abbrev pub is_data_up_to : ℕ → MachinePacket → Bool
-is_data_up_to k (Data higher) = nat_le higher k
-is_data_up_to k _ = true
-
--- some block was taken
-abbrev pub took_data : History → Bool
-took_data [] = false
-took_data (Took (Data k) ∷ h) = true
-took_data (_ ∷ h) = took_data h
-
--- blocks 1 to j were taken
-abbrev pub took_up_to : History → ℕ → Bool
-took_up_to h zero = true
-took_up_to h (suc j) = has_taken h (Data (suc j)) && took_up_to h j
 
 abbrev pub acked_for : ℕ → ℕ → MachinePacket → Bool
 acked_for w k (Ack a) = nat_lt a k && nat_le k (a + w)
@@ -91,13 +43,26 @@ may_ack_zero Get false h = false
 may_ack_zero Put true h = took_data h
 may_ack_zero Put false h = has_taken h Req
 
-abbrev pub may_send : Side → Plan → End → History → MachinePacket → Bool
-may_send side plan e h Req = same_end e Client && (all_sent is_no_data h && all_sent is_no_ack h)
-may_send side plan e h Oack = same_end e Server && (plan.agreed && (has_taken h Req && all_sent is_no_data h))
-may_send side plan e h (Data k) =
+-- an ERROR that was sent before is this one
+abbrev pub is_error_again : MachinePacket → MachinePacket → Bool
+is_error_again p q = is_no_error q || same_packet q p
+
+abbrev pub may_send_error : End → History → MachinePacket → Bool
+may_send_error Client h p = has_sent h Req && all_sent (is_error_again p) h
+may_send_error Server h p = has_taken h Req && all_sent (is_error_again p) h
+
+-- where no ERROR was sent
+abbrev pub may_go_on : Side → Plan → End → History → MachinePacket → Bool
+may_go_on side plan e h Req = same_end e Client && (all_sent is_no_data h && all_sent is_no_ack h)
+may_go_on side plan e h Oack = same_end e Server && (plan.agreed && (has_taken h Req && all_sent is_no_data h))
+may_go_on side plan e h (Data k) =
     same_end e (sender_of side)
     && (nat_le 1 k && (nat_le k plan.blocks && (is_started side plan.agreed h && ((k == 1 || has_sent h (Data (k - 1))) && (in_window plan.windowsize k h && (not (plan.windowsize == 1) || all_sent (is_data_up_to k) h))))))
-may_send side plan e h (Ack j) = same_end e (receiver_of side) && ((not (j == 0) || may_ack_zero side plan.agreed h) && took_up_to h j)
+may_go_on side plan e h (Ack j) = same_end e (receiver_of side) && ((not (j == 0) || may_ack_zero side plan.agreed h) && took_up_to h j)
+may_go_on side plan e h (Error code text) = false
+
+abbrev pub may_send : Side → Plan → End → History → MachinePacket → Bool
+may_send side plan e h p = (all_sent is_no_error h && may_go_on side plan e h p) || (is_error p && may_send_error e h p)
 
 abbrev pub may_follow : Side → Plan → List Step → End → Deed → Bool
 may_follow side plan earlier e (Sent p) = may_send side plan e (view_of e earlier) p
@@ -115,73 +80,6 @@ is_complete side plan e h = is_told (same_end e (sender_of side)) where
 
 -- ---- what they tell
 
-end_is : (a b : End) → same_end a b ≡ true → a ≡ b
-end_is Client Client e = refl
-end_is Server Server e = refl
-end_is Client Server e = absurd (false≢true e)
-end_is Server Client e = absurd (false≢true e)
-
-packet_is : (p q : MachinePacket) → same_packet p q ≡ true → p ≡ q
-packet_is Req Req e = refl
-packet_is Oack Oack e = refl
-packet_is (Data k) (Data j) e = let is : k ≡ j = eqb-true k j e in cc
-packet_is (Ack k) (Ack j) e = let is : k ≡ j = eqb-true k j e in cc
-packet_is Req Oack e = absurd (false≢true e)
-packet_is Req (Data j) e = absurd (false≢true e)
-packet_is Req (Ack j) e = absurd (false≢true e)
-packet_is Oack Req e = absurd (false≢true e)
-packet_is Oack (Data j) e = absurd (false≢true e)
-packet_is Oack (Ack j) e = absurd (false≢true e)
-packet_is (Data k) Req e = absurd (false≢true e)
-packet_is (Data k) Oack e = absurd (false≢true e)
-packet_is (Data k) (Ack j) e = absurd (false≢true e)
-packet_is (Ack k) Req e = absurd (false≢true e)
-packet_is (Ack k) Oack e = absurd (false≢true e)
-packet_is (Ack k) (Data j) e = absurd (false≢true e)
-
-pub sent_is : (h : History) (p : MachinePacket) → has_sent h p ≡ true → HasSent h p
-sent_is [] p e = absurd (false≢true e)
-sent_is (Took q ∷ h) p e = contains_later (Took q) h (Sent p) (sent_is h p e)
-sent_is (Sent q ∷ h) p e = elim (or_cases (same_packet q p) (has_sent h p) e) [
-  | inl same ↦ subst (λ x. HasSent (Sent q ∷ h) x) (packet_is q p same) (contains_first (Sent q) h)
-  | inr more ↦ contains_later (Sent q) h (Sent p) (sent_is h p more)
-]
-
-pub taken_is : (h : History) (p : MachinePacket) → has_taken h p ≡ true → HasTaken h p
-taken_is [] p e = absurd (false≢true e)
-taken_is (Sent q ∷ h) p e = contains_later (Sent q) h (Took p) (taken_is h p e)
-taken_is (Took q ∷ h) p e = elim (or_cases (same_packet q p) (has_taken h p) e) [
-  | inl same ↦ subst (λ x. HasTaken (Took q ∷ h) x) (packet_is q p same) (contains_first (Took q) h)
-  | inr more ↦ contains_later (Took q) h (Took p) (taken_is h p more)
-]
-
-pub all_is : (test : MachinePacket → Bool) (h : History) (p : MachinePacket) → all_sent test h ≡ true → HasSent h p → test p ≡ true
-all_is test [] p e at = absurd (contains_none (Sent p) at)
-all_is test (Took q ∷ h) p e at = elim (contains_cases (Took q) h (Sent p) at) [ inl is ↦ absurd (cc) | inr more ↦ all_is test h p e more ]
-all_is test (Sent q ∷ h) p e at =
-    let parts = and_parts (test q) (all_sent test h) e in
-    elim (contains_cases (Sent q) h (Sent p) at) [
-      | inl is ↦ let same : q ≡ p = cc in subst (λ x. test x ≡ true) same parts.0
-      | inr more ↦ all_is test h p parts.1 more
-    ]
-
-took_data_is : (h : History) → took_data h ≡ true → (k : ℕ) × HasTaken h (Data k)
-took_data_is [] e = absurd (false≢true e)
-took_data_is (Took (Data k) ∷ h) e = (k, contains_first (Took (Data k)) h)
-took_data_is (Took Req ∷ h) e = let t = took_data_is h e in (t.0, contains_later (Took Req) h (Took (Data t.0)) t.1)
-took_data_is (Took Oack ∷ h) e = let t = took_data_is h e in (t.0, contains_later (Took Oack) h (Took (Data t.0)) t.1)
-took_data_is (Took (Ack j) ∷ h) e = let t = took_data_is h e in (t.0, contains_later (Took (Ack j)) h (Took (Data t.0)) t.1)
-took_data_is (Sent q ∷ h) e = let t = took_data_is h e in (t.0, contains_later (Sent q) h (Took (Data t.0)) t.1)
-
-took_up_to_is : (h : History) (j : ℕ) → took_up_to h j ≡ true → (k : ℕ) → 1 ≤ k → k ≤ j → HasTaken h (Data k)
-took_up_to_is h zero e k low high = absurd (omega arith)
-took_up_to_is h (suc j) e k low high =
-    let parts = and_parts (has_taken h (Data (suc j))) (took_up_to h j) e in
-    elim (cases_lt k (suc j)) [
-      | inl below ↦ took_up_to_is h j parts.1 k low (omega arith)
-      | inr at ↦ let is : suc j ≡ k = omega arith in subst (λ x. HasTaken h (Data x)) is (taken_is h (Data (suc j)) parts.0)
-    ]
-
 abbrev InWindow : ℕ → ℕ → History → Type 0
 InWindow w k h = (a : ℕ) × IsAcknowledged h a × (a < k) × (k ≤ a + w)
 
@@ -193,6 +91,7 @@ window_at w k (Ack a) h e = let parts = and_parts (nat_lt a k) (nat_le k (a + w)
 window_at w k Req h e = absurd (false≢true e)
 window_at w k Oack h e = absurd (false≢true e)
 window_at w k (Data j) h e = absurd (false≢true e)
+window_at w k (Error code text) h e = absurd (false≢true e)
 
 window_is : (w k : ℕ) (h : History) → 1 ≤ k → in_window w k h ≡ true → InWindow w k h
 window_is w k [] low e = let high = leb-true k w e in (0, inl refl, omega arith, omega arith)
@@ -223,30 +122,32 @@ zero_is Get false m h so not_so e = absurd (false≢true e)
 zero_is Put true m h so not_so e = let t = took_data_is h e in inr (so refl, t.0, t.1)
 zero_is Put false m h so not_so e = inl (not_so refl, taken_is h Req e)
 
-req_is : (m : Meaning) (plan : Plan) (e : End) (h : History) → may_send m.side plan e h Req ≡ true → MaySendReq e h
-req_is m plan e h t =
+req_is : (m : Meaning) (plan : Plan) (e : End) (h : History) → NoErrorSent h → may_go_on m.side plan e h Req ≡ true → MaySendReq e h
+req_is m plan e h none t =
     let a = and_parts (same_end e Client) (all_sent is_no_data h && all_sent is_no_ack h) t in
     let b = and_parts (all_sent is_no_data h) (all_sent is_no_ack h) a.1 in
     record {
       client = end_is e Client a.0;
+      no_error = none;
       no_data = λ k at. false≢true (all_is is_no_data h (Data k) b.0 at);
       no_ack = λ j at. false≢true (all_is is_no_ack h (Ack j) b.1 at);
     }
 
-oack_is : (m : Meaning) (wire : List ℕ) (plan : Plan) (e : End) (h : History) → IsPlan m wire plan → may_send m.side plan e h Oack ≡ true → MaySendOack m e h
-oack_is m wire plan e h is t =
+oack_is : (m : Meaning) (wire : List ℕ) (plan : Plan) (e : End) (h : History) → IsPlan m wire plan → NoErrorSent h → may_go_on m.side plan e h Oack ≡ true → MaySendOack m e h
+oack_is m wire plan e h is none t =
     let a = and_parts (same_end e Server) (plan.agreed && (has_taken h Req && all_sent is_no_data h)) t in
     let b = and_parts plan.agreed (has_taken h Req && all_sent is_no_data h) a.1 in
     let c = and_parts (has_taken h Req) (all_sent is_no_data h) b.1 in
     record {
       server = end_is e Server a.0;
+      no_error = none;
       agreed = is.something b.0;
       asked = taken_is h Req c.0;
       no_data = λ side k at. false≢true (all_is is_no_data h (Data k) c.1 at);
     }
 
-data_is : (m : Meaning) (wire : List ℕ) (plan : Plan) (e : End) (h : History) (k : ℕ) → IsPlan m wire plan → may_send m.side plan e h (Data k) ≡ true → MaySendData m wire e h k
-data_is m wire plan e h k is t =
+data_is : (m : Meaning) (wire : List ℕ) (plan : Plan) (e : End) (h : History) (k : ℕ) → IsPlan m wire plan → NoErrorSent h → may_go_on m.side plan e h (Data k) ≡ true → MaySendData m wire e h k
+data_is m wire plan e h k is none t =
     let step = not (plan.windowsize == 1) || all_sent (is_data_up_to k) h in
     let window = in_window plan.windowsize k h && step in
     let order = (k == 1 || has_sent h (Data (k - 1))) && window in
@@ -266,6 +167,7 @@ data_is m wire plan e h k is t =
     let w_high = w.3 in
     record {
       sender = end_is e (sender_of m.side) a.0;
+      no_error = none;
       from_one = low;
       in_wire = omega arith;
       started = started_is m.side plan.agreed m h is.something is.nothing d.0;
@@ -280,12 +182,13 @@ data_is m wire plan e h k is t =
     no_step : (n : ℕ) → n ≡ 1 → not (n == 1) ≡ true → ⊥
     no_step n one many = false≢true (subst (λ x. not (x == 1) ≡ true) one many)
 
-ack_is : (m : Meaning) (wire : List ℕ) (plan : Plan) (e : End) (h : History) (j : ℕ) → IsPlan m wire plan → may_send m.side plan e h (Ack j) ≡ true → MaySendAck m e h j
-ack_is m wire plan e h j is t =
+ack_is : (m : Meaning) (wire : List ℕ) (plan : Plan) (e : End) (h : History) (j : ℕ) → IsPlan m wire plan → NoErrorSent h → may_go_on m.side plan e h (Ack j) ≡ true → MaySendAck m e h j
+ack_is m wire plan e h j is free t =
     let a = and_parts (same_end e (receiver_of m.side)) ((not (j == 0) || may_ack_zero m.side plan.agreed h) && took_up_to h j) t in
     let b = and_parts (not (j == 0) || may_ack_zero m.side plan.agreed h) (took_up_to h j) a.1 in
     record {
       receiver = end_is e (receiver_of m.side) a.0;
+      no_error = free;
       zero = λ none. elim (or_cases (not (j == 0)) (may_ack_zero m.side plan.agreed h) b.0) [
         | inl some ↦ absurd (false≢true (subst (λ x. not (x == 0) ≡ true) none some))
         | inr may ↦ zero_is m.side plan.agreed m h is.something is.nothing may
@@ -293,11 +196,39 @@ ack_is m wire plan e h j is t =
       taken = took_up_to_is h j b.1;
     }
 
+again_is : (h : History) (code : ℕ) (text : List ℕ) → all_sent (is_error_again (Error code text)) h ≡ true → (c : ℕ) (t : List ℕ) → HasSent h (Error c t) → (c ≡ code) × (t ≡ text)
+again_is h code text all c t at = same (packet_is (Error c t) (Error code text) (all_is (is_error_again (Error code text)) h (Error c t) all at)) where
+  same : Error c t ≡ Error code text → (c ≡ code) × (t ≡ text)
+  same e = (cc, cc)
+
+error_is : (e : End) (h : History) (code : ℕ) (text : List ℕ) → may_send_error e h (Error code text) ≡ true → MaySendError e h code text
+error_is Client h code text t =
+    let parts = and_parts (has_sent h Req) (all_sent (is_error_again (Error code text)) h) t in
+    record { asked = λ _. sent_is h Req parts.0; was_asked = λ e. absurd (cc); same = again_is h code text parts.1 }
+error_is Server h code text t =
+    let parts = and_parts (has_taken h Req) (all_sent (is_error_again (Error code text)) h) t in
+    record { asked = λ e. absurd (cc); was_asked = λ _. taken_is h Req parts.0; same = again_is h code text parts.1 }
+
+go_on_is : (m : Meaning) (wire : List ℕ) (plan : Plan) (e : End) (h : History) (p : MachinePacket) → IsPlan m wire plan → NoErrorSent h → may_go_on m.side plan e h p ≡ true → MaySend m wire e h p
+go_on_is m wire plan e h Req is none t = req_is m plan e h none t
+go_on_is m wire plan e h Oack is none t = oack_is m wire plan e h is none t
+go_on_is m wire plan e h (Data k) is none t = data_is m wire plan e h k is none t
+go_on_is m wire plan e h (Ack j) is none t = ack_is m wire plan e h j is none t
+go_on_is m wire plan e h (Error code text) is none t = absurd (false≢true t)
+
+stops_is : (m : Meaning) (wire : List ℕ) (e : End) (h : History) (p : MachinePacket) → (is_error p && may_send_error e h p) ≡ true → MaySend m wire e h p
+stops_is m wire e h (Error code text) t = error_is e h code text t
+stops_is m wire e h Req t = absurd (false≢true t)
+stops_is m wire e h Oack t = absurd (false≢true t)
+stops_is m wire e h (Data k) t = absurd (false≢true t)
+stops_is m wire e h (Ack j) t = absurd (false≢true t)
+
 pub may_send_is : (m : Meaning) (wire : List ℕ) (plan : Plan) (e : End) (h : History) (p : MachinePacket) → IsPlan m wire plan → may_send m.side plan e h p ≡ true → MaySend m wire e h p
-may_send_is m wire plan e h Req is t = req_is m plan e h t
-may_send_is m wire plan e h Oack is t = oack_is m wire plan e h is t
-may_send_is m wire plan e h (Data k) is t = data_is m wire plan e h k is t
-may_send_is m wire plan e h (Ack j) is t = ack_is m wire plan e h j is t
+may_send_is m wire plan e h p is t =
+    elim (or_cases (all_sent is_no_error h && may_go_on m.side plan e h p) (is_error p && may_send_error e h p) t) [
+      | inl goes ↦ let parts = and_parts (all_sent is_no_error h) (may_go_on m.side plan e h p) goes in go_on_is m wire plan e h p is (none_sent h parts.0) parts.1
+      | inr stops ↦ stops_is m wire e h p stops
+    ]
 
 follow_is : (m : Meaning) (wire : List ℕ) (plan : Plan) (earlier : List Step) (e : End) (d : Deed) → IsPlan m wire plan → may_follow m.side plan earlier e d ≡ true → MayFollow m wire earlier e d
 follow_is m wire plan earlier e (Sent p) is t = may_send_is m wire plan e (view_of e earlier) p is t

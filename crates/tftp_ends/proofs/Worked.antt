@@ -7,23 +7,25 @@ use Rattle.tftp_ends.specs.Machines.{Deed, Sent, Took, Req, Data, Ack, HasSent, 
 use Rattle.tftp_ends.specs.Runs.{IsRun, IsView, IsComplete}
 use Rattle.tftp_ends.specs.Worked.{two_bytes, two_bytes_view, two_bytes_server_view, two_bytes_steps}
 use Rattle.tftp_ends.proofs.Members.{contains_first, contains_later, contains_cases, contains_none}
+use Rattle.tftp_ends.proofs.HistoryTests.{none_sent}
 use Rattle.tftp_ends.proofs.Defaults.{default_blksize, default_windowsize}
 
 pub one_block : block_count (blksize_of two_bytes) two_bytes.file ≡ 1
 one_block = ap (λ b. block_count b two_bytes.file) (default_blksize two_bytes refl)
 
-window_one : windowsize_of two_bytes ≡ 1
+pub window_one : windowsize_of two_bytes ≡ 1
 window_one = default_windowsize two_bytes refl
 
 only : (d x : Deed) → Contains (d ∷ []) x → d ≡ x
 only d x at = elim (contains_cases d [] x at) [ inl is ↦ is | inr more ↦ absurd (contains_none x more) ]
 
 pub asks : MaySendReq Client []
-asks = record { client = refl; no_data = λ k at. contains_none _ at; no_ack = λ j at. contains_none _ at }
+asks = record { client = refl; no_error = none_sent [] refl; no_data = λ k at. contains_none _ at; no_ack = λ j at. contains_none _ at }
 
 pub answers : MaySendData two_bytes two_bytes.file Server (Took Req ∷ []) 1
 answers = record {
   sender = refl;
+  no_error = none_sent (Took Req ∷ []) refl;
   from_one = omega arith;
   in_wire = omega (arith, one_block);
   started = inl (refl, contains_first (Took Req) []);
@@ -35,6 +37,7 @@ answers = record {
 pub acknowledges : MaySendAck two_bytes Client (Took (Data 1) ∷ Sent Req ∷ []) 1
 acknowledges = record {
   receiver = refl;
+  no_error = none_sent (Took (Data 1) ∷ Sent Req ∷ []) refl;
   zero = λ e. absurd (omega arith);
   taken = λ k low high. let e : 1 ≡ k = omega arith in subst (λ x. HasTaken (Took (Data 1) ∷ Sent Req ∷ []) (Data x)) e (contains_first (Took (Data 1)) (Sent Req ∷ []));
 }

@@ -12,6 +12,7 @@ use Rattle.tftp_ends.specs.Machines.{Deed, Sent, Took, Req, Oack, Data, Ack, His
 use Rattle.tftp_ends.specs.Runs.{IsRun, IsView, IsComplete}
 use Rattle.tftp_ends.specs.Worked.{two_bytes_written, two_bytes_written_view, two_bytes_written_steps, eight_a_block, ten_bytes, ten_bytes_view, ten_bytes_steps}
 use Rattle.tftp_ends.proofs.Members.{contains_first, contains_later, contains_cases, contains_none}
+use Rattle.tftp_ends.proofs.HistoryTests.{none_sent}
 use Rattle.tftp_ends.proofs.Defaults.{default_blksize, default_windowsize}
 use Rattle.tftp_ends.proofs.Worked.{asks}
 
@@ -29,11 +30,12 @@ written_window : windowsize_of two_bytes_written ≡ 1
 written_window = default_windowsize two_bytes_written refl
 
 accepts : MaySendAck two_bytes_written Server (Took Req ∷ []) 0
-accepts = record { receiver = refl; zero = λ e. inl (refl, contains_first (Took Req) []); taken = λ k low high. absurd (omega arith) }
+accepts = record { receiver = refl; no_error = none_sent (Took Req ∷ []) refl; zero = λ e. inl (refl, contains_first (Took Req) []); taken = λ k low high. absurd (omega arith) }
 
 brings : MaySendData two_bytes_written two_bytes_written.file Client (Took (Ack 0) ∷ Sent Req ∷ []) 1
 brings = record {
   sender = refl;
+  no_error = none_sent (Took (Ack 0) ∷ Sent Req ∷ []) refl;
   from_one = omega arith;
   in_wire = omega (arith, written_one_block);
   started = inl (refl, contains_first (Took (Ack 0)) (Sent Req ∷ []));
@@ -48,6 +50,7 @@ brings = record {
 acknowledges : MaySendAck two_bytes_written Server (Took (Data 1) ∷ Sent (Ack 0) ∷ Took Req ∷ []) 1
 acknowledges = record {
   receiver = refl;
+  no_error = none_sent (Took (Data 1) ∷ Sent (Ack 0) ∷ Took Req ∷ []) refl;
   zero = λ e. absurd (omega arith);
   taken = λ k low high. let e : 1 ≡ k = omega arith in subst (λ x. HasTaken (Took (Data 1) ∷ Sent (Ack 0) ∷ Took Req ∷ []) (Data x)) e (contains_first (Took (Data 1)) (Sent (Ack 0) ∷ Took Req ∷ []));
 }
@@ -102,7 +105,7 @@ something_agreed e =
 pub blocks_of_eight : blksize_of ten_bytes ≡ 8
 blocks_of_eight = ap (number_or 512) eight_for_blksize
 
-one_at_a_time : windowsize_of ten_bytes ≡ 1
+pub one_at_a_time : windowsize_of ten_bytes ≡ 1
 one_at_a_time = ap (number_or 1) none_for_windowsize
 
 pub two_blocks : block_count (blksize_of ten_bytes) ten_bytes.file ≡ 2
@@ -111,13 +114,14 @@ two_blocks = ap (λ b. block_count b ten_bytes.file) blocks_of_eight
 offers : MaySendOack ten_bytes Server (Took Req ∷ [])
 offers = record {
   server = refl;
+  no_error = none_sent (Took Req ∷ []) refl;
   agreed = something_agreed;
   asked = contains_first (Took Req) [];
   no_data = λ get k at. let is = only (Took Req) (Sent (Data k)) at in cc;
 }
 
 takes_offer : MaySendAck ten_bytes Client (Took Oack ∷ Sent Req ∷ []) 0
-takes_offer = record { receiver = refl; zero = λ e. (something_agreed, contains_first (Took Oack) (Sent Req ∷ [])); taken = λ k low high. absurd (omega arith) }
+takes_offer = record { receiver = refl; no_error = none_sent (Took Oack ∷ Sent Req ∷ []) refl; zero = λ e. (something_agreed, contains_first (Took Oack) (Sent Req ∷ [])); taken = λ k low high. absurd (omega arith) }
 
 abbrev server_ready : History
 server_ready = Took (Ack 0) ∷ Sent Oack ∷ Took Req ∷ []
@@ -137,6 +141,7 @@ sent_first k at = elim (contains_cases (Sent (Data 1)) server_ready (Sent (Data 
 sends_first : MaySendData ten_bytes ten_bytes.file Server server_ready 1
 sends_first = record {
   sender = refl;
+  no_error = none_sent server_ready refl;
   from_one = omega arith;
   in_wire = omega (arith, two_blocks);
   started = inr (something_agreed, contains_first (Took (Ack 0)) (Sent Oack ∷ Took Req ∷ []));
@@ -148,6 +153,7 @@ sends_first = record {
 repeats_first : MaySendData ten_bytes ten_bytes.file Server (Sent (Data 1) ∷ server_ready) 1
 repeats_first = record {
   sender = refl;
+  no_error = none_sent (Sent (Data 1) ∷ server_ready) refl;
   from_one = omega arith;
   in_wire = omega (arith, two_blocks);
   started = inr (something_agreed, second (Sent (Data 1)) (Took (Ack 0)) (Sent Oack ∷ Took Req ∷ []));
@@ -165,6 +171,7 @@ sent_twice k at = elim (contains_cases (Took (Ack 1)) (Sent (Data 1) ∷ Sent (D
 sends_second : MaySendData ten_bytes ten_bytes.file Server (Took (Ack 1) ∷ Sent (Data 1) ∷ Sent (Data 1) ∷ server_ready) 2
 sends_second = record {
   sender = refl;
+  no_error = none_sent (Took (Ack 1) ∷ Sent (Data 1) ∷ Sent (Data 1) ∷ server_ready) refl;
   from_one = omega arith;
   in_wire = omega (arith, two_blocks);
   started = inr (
@@ -183,6 +190,7 @@ client_ready = Sent (Ack 0) ∷ Took Oack ∷ Sent Req ∷ []
 acknowledges_first : MaySendAck ten_bytes Client (Took (Data 1) ∷ client_ready) 1
 acknowledges_first = record {
   receiver = refl;
+  no_error = none_sent (Took (Data 1) ∷ client_ready) refl;
   zero = λ e. absurd (omega arith);
   taken = λ k low high. let e : 1 ≡ k = omega arith in subst (λ x. HasTaken (Took (Data 1) ∷ client_ready) (Data x)) e (contains_first (Took (Data 1)) client_ready);
 }
@@ -200,7 +208,7 @@ took_both k low high = elim (one_or_two k low high) [
     one_or_two n above below = elim (cases_eq n 1) [ inl e ↦ inl e | inr other ↦ inr (omega arith) ]
 
 acknowledges_second : MaySendAck ten_bytes Client client_near 2
-acknowledges_second = record { receiver = refl; zero = λ e. absurd (omega arith); taken = took_both }
+acknowledges_second = record { receiver = refl; no_error = none_sent client_near refl; zero = λ e. absurd (omega arith); taken = took_both }
 
 ten_bytes_run : IsRun ten_bytes ten_bytes.file ten_bytes_steps
 ten_bytes_run = (

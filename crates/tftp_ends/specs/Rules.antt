@@ -1,6 +1,7 @@
 -- The rules of blocks and acknowledgements at one end (RFC 1350, sections 2, 4 and 5; RFC 2347; RFC 2348; RFC 7440,
 -- section 4). The list `passed` has the datagrams of the transfer that have passed at the named end, the newest first.
-use Rattle.std.specs.Prelude.{◌≡◌, ◌≢◌, ◌⊎◌, ℕ, ◌+◌, ◌/◌, ◌%◌, ◌<◌, ◌≤◌, List, [], ◌∷◌, length, Some, None}
+use Rattle.std.specs.Prelude.{◌≡◌, ◌≢◌, ◌⊎◌, ℕ, ◌+◌, ◌/◌, ◌%◌, ◌<◌, ◌≤◌, List, [], ◌∷◌, length, Bool, Some, None, ◌&&◌, if◌then◌else◌}
+use Rattle.std.specs.List.{list_any}
 use Rattle.tftp_packet.specs.Message.{Message, Data, Ack}
 use Rattle.tftp_packet.specs.Spelling.{Spells}
 use Rattle.tftp_packet.specs.declared.kinds.Side.{Side}
@@ -9,6 +10,7 @@ use Rattle.tftp_packet.specs.declared.kinds.Dir.{Dir}
 use Rattle.tftp_packet.specs.declared.kinds.Dir.TheVariants.{In, Out}
 use Rattle.tftp_ends.specs.CaptureText.{Datagram}
 use Rattle.tftp_ends.specs.Roles.{sender_of, receiver_of}
+use Rattle.tftp_ends.specs.Ports.{goes_out, comes_in, begins_error}
 use Rattle.tftp_ends.specs.declared.rule.EndRule.{EndRule}
 use Rattle.tftp_ends.specs.declared.rule.EndRule.TheVariants.{NotStarted, BlockZero, BeyondBlock65535, BlockLength, WindowOverrun, BlockSkipped, GoneBack, BlockChanged, AckAhead, AckZero}
 use Rattle.tftp_ends.specs.declared.terms.Reply.{Reply}
@@ -22,6 +24,16 @@ Passed dir m (d ∷ passed) = ((d.dir ≡ dir) × Spells d.payload m) ⊎ Passed
 
 abbrev pub HasPassed : Message → List Datagram → Type 0
 HasPassed m passed = Passed In m passed ⊎ Passed Out m passed
+
+-- an ERROR of the other end
+abbrev pub brings_error : Datagram → Bool
+brings_error d = comes_in d && begins_error d
+
+-- All that came in, and what had gone out before the first ERROR came in. By then the other end had sent all that it ever
+-- sends, but that ERROR again, and so it has used nothing that went out later (RFC 1350, section 7).
+abbrev pub usable : List Datagram → List Datagram
+usable [] = []
+usable (d ∷ passed) = if goes_out d && list_any brings_error passed then usable passed else d ∷ usable passed
 
 -- some block with this number
 abbrev pub BlockPassed : Dir → ℕ → List Datagram → Type 0
@@ -122,14 +134,14 @@ end_number AckZero = 27
 -- when block k with these bytes breaks each rule of blocks
 abbrev pub BlockBreaks : Terms → List Datagram → ℕ → List ℕ → EndRule → Type 0
 -- it comes before the request is answered, or the answer is taken (RFC 1350, section 4; RFC 2347)
-BlockBreaks t passed k bytes NotStarted = BlocksWait t.side t.reply passed
+BlockBreaks t passed k bytes NotStarted = BlocksWait t.side t.reply (usable passed)
 -- blocks are numbered from 1, by two bytes (RFC 1350, section 5)
 BlockBreaks t passed k bytes BlockZero = k ≡ 0
 BlockBreaks t passed k bytes BeyondBlock65535 = (k ≡ 65535) × (t.blksize ≤ length bytes)
 -- a block shorter than the others is the last (RFC 1350, section 2; RFC 2348; RFC 2349)
 BlockBreaks t passed k bytes BlockLength = HasWrongLength t passed k (length bytes)
 -- no more than a window goes ahead of what was acknowledged (RFC 7440, section 4; a window of 1 is RFC 1350, section 2)
-BlockBreaks t passed k bytes WindowOverrun = (acked : ℕ) × IsAckedAt t passed acked × (acked + t.windowsize < k)
+BlockBreaks t passed k bytes WindowOverrun = (acked : ℕ) × IsAckedAt t (usable passed) acked × (acked + t.windowsize < k)
 -- a sender leaves no block out, and in lock step does not go back (RFC 1350, section 2)
 BlockBreaks t passed k bytes BlockSkipped = IsSender t × ((top : ℕ) × IsTop passed top × (top + 1 < k))
 BlockBreaks t passed k bytes GoneBack = IsSender t × (t.windowsize ≡ 1) × ((top : ℕ) × IsTop passed top × (k < top))
@@ -140,9 +152,9 @@ BlockBreaks t passed k bytes _ = ⊥
 -- when an ACK of block j breaks each rule of acknowledgements
 abbrev pub AckBreaks : Terms → List Datagram → ℕ → EndRule → Type 0
 -- an ACK says that this block and all before it have come (RFC 1350, section 2; RFC 7440, section 4)
-AckBreaks t passed j AckAhead = (reached : ℕ) × IsReachedAt t passed reached × (reached < j)
+AckBreaks t passed j AckAhead = (reached : ℕ) × IsReachedAt t (usable passed) reached × (reached < j)
 -- ACK 0 answers an OACK, a request to write, or says that the first block was lost (RFC 1350, section 4; RFC 2347)
-AckBreaks t passed j AckZero = (j ≡ 0) × AckZeroWaits t.side t.reply passed
+AckBreaks t passed j AckZero = (j ≡ 0) × AckZeroWaits t.side t.reply (usable passed)
 AckBreaks t passed j _ = ⊥
 
 -- when a message breaks each of these rules

@@ -7,7 +7,7 @@ use Rattle.tftp_packet.specs.declared.kinds.End.TheVariants.{Client, Server}
 use Rattle.tftp_ends.specs.CaptureText.{Datagram, Header}
 use Rattle.tftp_ends.specs.Meaning.{Meaning, request_of, blksize_of}
 use Rattle.tftp_ends.specs.Blocks.{block, block_count}
-use Rattle.tftp_ends.specs.Machines.{MachinePacket, Req, Oack, Data, Ack, Deed, Sent, Took, History}
+use Rattle.tftp_ends.specs.Machines.{MachinePacket, Req, Oack, Data, Ack, Error, Deed, Sent, Took, History}
 use Rattle.tftp_ends.specs.Ports.{route_of, transfer_of, SaysUnknownId}
 use Rattle.tftp_ends.specs.Rules.{HasPassed}
 use Rattle.tftp_ends.specs.declared.route.Route.{Route}
@@ -30,6 +30,7 @@ packet_route Req = Route.Request
 packet_route Oack = Route.Peer
 packet_route (Data k) = Route.Peer
 packet_route (Ack j) = Route.Peer
+packet_route (Error code text) = Route.Peer
 
 -- the route that a part has
 abbrev pub part_route : Part → Route

@@ -1,10 +1,10 @@
 -- How a list of datagrams divides, whatever it means. The list `earlier` has the datagrams that have passed, the newest
 -- first.
-use Rattle.std.specs.Prelude.{◌≡◌, ◌≤◌, List, [], ◌∷◌, Option, Some, None}
+use Rattle.std.specs.Prelude.{◌≡◌, ◌≤◌, List, [], ◌∷◌, Option, Some}
 use Rattle.tftp_packet.specs.Message.{Message, RequestParts}
 use Rattle.tftp_packet.specs.Spelling.{Spells}
 use Rattle.tftp_ends.specs.CaptureText.{Datagram, Header}
-use Rattle.tftp_ends.specs.Machines.{MachinePacket, Req, Oack, Data, Ack}
+use Rattle.tftp_ends.specs.Machines.{MachinePacket, Req, Oack, Data, Ack, Error}
 use Rattle.tftp_ends.specs.Ports.{route_of}
 use Rattle.tftp_ends.specs.declared.route.Route.{Route}
 use Rattle.tftp_law.specs.Dress.{Division, datagrams_of, view_in, TransferIds, Saying, HavePartsBy}
@@ -19,18 +19,16 @@ packet_in (Message.Request asked) = Some Req
 packet_in (Message.Oack options) = Some Oack
 packet_in (Message.Data k bytes) = Some (Data k)
 packet_in (Message.Ack j) = Some (Ack j)
-packet_in (Message.Error code text) = None
+packet_in (Message.Error code text) = Some (Error code text)
 
 -- the payload spells such a packet, of whatever meaning
 abbrev pub says_some : Saying
 says_some p payload = (m : Message) × Spells payload m × (packet_in m ≡ Some p)
 
--- The datagram can be read and breaks none of the first five rules; it is no ERROR, and no request on a route of the
--- peer's.
+-- The datagram can be read and breaks none of the first five rules, and it is no request on a route of the peer's.
 pub record FindsPlace (h : Header) (earlier : List Datagram) (d : Datagram) : Type 0 where
   pub read : IsRead (route_of h earlier d) d
   pub lawful : (rule : Rule) → number_of rule ≤ 5 → Broken h earlier d rule → ⊥
-  pub no_error : Broken h earlier d Rule.TransferAborted → ⊥
   pub not_back : route_of h earlier d ≡ Route.Peer → (asked : RequestParts) → Spells d.payload (Message.Request asked) → ⊥
 
 abbrev pub FindPlaces : Header → List Datagram → Type 0

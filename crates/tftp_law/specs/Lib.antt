@@ -8,6 +8,7 @@ pub mod RuleNames
 pub mod OneEnded
 pub mod PortRules
 pub mod MessageRules
+pub mod Aborted
 pub mod Settled
 pub mod Owned
 pub mod Accord

@@ -17,9 +17,9 @@ use Rattle.tftp_ends.specs.declared.terms.Terms.{Terms}
 use Rattle.tftp_ends.specs.declared.rule.EndRule.{EndRule}
 use Rattle.tftp_nego.specs.Faults.{Holds}
 use Rattle.tftp_nego.specs.declared.fault.NegoFault.{NegoFault}
-use Rattle.tftp_law.specs.Rules.{Answer, Agrees, Begins, IsAnswer, NotAnswered, FirstAnswer, plain_terms, terms_after, IsWrongKind, ClientWentOn}
+use Rattle.tftp_law.specs.Rules.{Answer, Agrees, Begins, IsAnswer, NotAnswered, FirstAnswer, plain_terms, terms_after, IsWrongKind, GoesOn, ClientWentOn}
 use Rattle.tftp_law.specs.declared.rule.Rule.{Rule}
-use Rattle.tftp_law.specs.declared.rule.Rule.TheVariants.{WrongKind, TransferAborted, RequestChanged, RequestAfterStart, ReplyChanged, OackEmpty, MulticastAgreed, OptionNotRequested, OptionOutsideProfile, OptionValue, OackChanged, OackAfterStart, NotStarted, BlockZero, BeyondBlock65535, BlockLength, WindowOverrun, BlockSkipped, GoneBack, BlockChanged, AckAhead, AckZero}
+use Rattle.tftp_law.specs.declared.rule.Rule.TheVariants.{WrongKind, AfterError, RequestChanged, RequestAfterStart, ReplyChanged, OackEmpty, MulticastAgreed, OptionNotRequested, OptionOutsideProfile, OptionValue, OackChanged, OackAfterStart, NotStarted, BlockZero, BeyondBlock65535, BlockLength, WindowOverrun, BlockSkipped, GoneBack, BlockChanged, AckAhead, AckZero}
 
 -- the packet is the first answer
 abbrev pub IsFirstAnswer : Side → List Datagram → Packet → Type 0
@@ -87,7 +87,7 @@ TermsBreak h asked passed m rule = (e : EndRule) × (rule ≡ rule_of_end e) × 
 -- a message that its sender may send
 abbrev pub KindBreaks : Header → RequestParts → List Datagram → Dir → Message → Rule → Type 0
 KindBreaks h asked passed dir (Message.Request now) rule = RequestBreaks asked passed dir now rule
-KindBreaks h asked passed dir (Message.Error code text) rule = rule ≡ TransferAborted
+KindBreaks h asked passed dir (Message.Error code text) rule = ⊥
 KindBreaks h asked passed dir (Message.Oack oack) rule = OackBreaks asked passed dir oack rule
 KindBreaks h asked passed dir (Message.Data k bytes) rule = TermsBreak h asked passed (Message.Data k bytes) rule
 KindBreaks h asked passed dir (Message.Ack j) rule = TermsBreak h asked passed (Message.Ack j) rule
@@ -96,4 +96,5 @@ KindBreaks h asked passed dir (Message.Ack j) rule = TermsBreak h asked passed (
 abbrev pub MessageBreaks : Header → RequestParts → List Datagram → Dir → Message → Rule → Type 0
 MessageBreaks h asked passed dir m rule =
     ((rule ≡ WrongKind) × IsWrongKind (author_of h.named dir) asked.side m)
+    ⊎ ((rule ≡ AfterError) × GoesOn passed dir m)
     ⊎ KindBreaks h asked passed dir m rule

@@ -1,7 +1,7 @@
 -- The names of the rules, as they are printed.
 use Rattle.std.specs.Prelude.{ℕ, List, codes}
 use Rattle.tftp_law.specs.declared.rule.Rule.{Rule}
-use Rattle.tftp_law.specs.declared.rule.Rule.TheVariants.{ForeignPort, WrongPort, StrayAnswer, NoRequest, Malformed, WrongKind, TransferAborted, RequestChanged, RequestAfterStart, ReplyChanged, OackEmpty, MulticastAgreed, OptionNotRequested, OptionOutsideProfile, OptionValue, OackChanged, OackAfterStart, NotStarted, BlockZero, BeyondBlock65535, BlockLength, WindowOverrun, BlockSkipped, GoneBack, BlockChanged, AckAhead, AckZero}
+use Rattle.tftp_law.specs.declared.rule.Rule.TheVariants.{ForeignPort, WrongPort, StrayAnswer, NoRequest, Malformed, WrongKind, AfterError, RequestChanged, RequestAfterStart, ReplyChanged, OackEmpty, MulticastAgreed, OptionNotRequested, OptionOutsideProfile, OptionValue, OackChanged, OackAfterStart, NotStarted, BlockZero, BeyondBlock65535, BlockLength, WindowOverrun, BlockSkipped, GoneBack, BlockChanged, AckAhead, AckZero}
 
 -- a rule's own name; what is wrong with a payload is no part of it
 abbrev pub rule_name : Rule → List ℕ
@@ -11,7 +11,7 @@ rule_name StrayAnswer = codes "StrayAnswer"
 rule_name NoRequest = codes "NoRequest"
 rule_name (Malformed fault) = codes "Malformed"
 rule_name WrongKind = codes "WrongKind"
-rule_name TransferAborted = codes "TransferAborted"
+rule_name AfterError = codes "AfterError"
 rule_name RequestChanged = codes "RequestChanged"
 rule_name RequestAfterStart = codes "RequestAfterStart"
 rule_name ReplyChanged = codes "ReplyChanged"

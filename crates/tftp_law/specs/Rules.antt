@@ -12,6 +12,7 @@ use Rattle.tftp_packet.specs.declared.kinds.Mode.{Mode}
 use Rattle.tftp_packet.specs.declared.kinds.Mode.TheVariants.{Octet}
 use Rattle.tftp_packet.specs.declared.kinds.End.{End}
 use Rattle.tftp_packet.specs.declared.kinds.End.TheVariants.{Client, Server}
+use Rattle.tftp_packet.specs.declared.kinds.Dir.{Dir}
 use Rattle.tftp_packet.specs.declared.kinds.Dir.TheVariants.{Out}
 use Rattle.tftp_ends.specs.CaptureText.{Datagram, Header}
 use Rattle.tftp_ends.specs.Meaning.{option_or}
@@ -26,7 +27,7 @@ use Rattle.tftp_ends.specs.declared.rule.EndRule.{EndRule}
 use Rattle.tftp_nego.specs.Faults.{Holds}
 use Rattle.tftp_nego.specs.declared.fault.NegoFault.{NegoFault}
 use Rattle.tftp_law.specs.declared.rule.Rule.{Rule}
-use Rattle.tftp_law.specs.declared.rule.Rule.TheVariants.{ForeignPort, WrongPort, StrayAnswer, NoRequest, Malformed, WrongKind, TransferAborted, RequestChanged, RequestAfterStart, ReplyChanged, OackEmpty, MulticastAgreed, OptionNotRequested, OptionOutsideProfile, OptionValue, OackChanged, OackAfterStart, NotStarted, BlockZero, BeyondBlock65535, BlockLength, WindowOverrun, BlockSkipped, GoneBack, BlockChanged, AckAhead, AckZero}
+use Rattle.tftp_law.specs.declared.rule.Rule.TheVariants.{ForeignPort, WrongPort, StrayAnswer, NoRequest, Malformed, WrongKind, AfterError, RequestChanged, RequestAfterStart, ReplyChanged, OackEmpty, MulticastAgreed, OptionNotRequested, OptionOutsideProfile, OptionValue, OackChanged, OackAfterStart, NotStarted, BlockZero, BeyondBlock65535, BlockLength, WindowOverrun, BlockSkipped, GoneBack, BlockChanged, AckAhead, AckZero}
 
 -- the numbers of the rules, in the order in which they are tried
 abbrev pub number_of : Rule → ℕ
@@ -36,7 +37,7 @@ number_of StrayAnswer = 3
 number_of NoRequest = 4
 number_of (Malformed fault) = 5
 number_of WrongKind = 6
-number_of TransferAborted = 7
+number_of AfterError = 7
 number_of RequestChanged = 8
 number_of RequestAfterStart = 9
 number_of ReplyChanged = 10
@@ -131,7 +132,14 @@ IsWrongKind Server Put (Message.Data k bytes) = Unit {0}
 IsWrongKind Server side (Message.Request request) = Unit {0}
 IsWrongKind _ _ _ = ⊥
 
--- the client has sent something else than requests
+abbrev pub IsError : Message → Type 0
+IsError m = (code : ℕ) × (text : List ℕ) × (m ≡ Message.Error code text)
+
+-- An ERROR went this way, and this is not that ERROR again. What comes in and is no ERROR may have been sent before it.
+abbrev pub GoesOn : List Datagram → Dir → Message → Type 0
+GoesOn passed dir now = (stop : Message) × IsError stop × Passed dir stop passed × (now ≢ stop) × ((dir ≡ Out) ⊎ IsError now)
+
+-- the client has sent something else than requests and ERRORs
 abbrev pub ClientWentOn : List Datagram → Type 0
 ClientWentOn passed = ((k : ℕ) × (bytes : List ℕ) × Passed Out (Message.Data k bytes) passed) ⊎ ((j : ℕ) × Passed Out (Message.Ack j) passed)
 
@@ -164,8 +172,8 @@ Broken h earlier d NoRequest = (first_of (asks h) earlier ≡ None) × (route_of
 Broken h earlier d (Malformed fault) = (is_of_transfer (route_of h earlier d) ≡ true) × FirstFault d.payload fault
 -- its sender has nothing of this kind to send (RFC 1350, sections 2 and 4)
 Broken h earlier d WrongKind = (m : Message) × (asked : RequestParts) × Says h earlier d m × FirstAsked h earlier asked × IsWrongKind (author_of h.named d.dir) asked.side m
--- an ERROR ends the transfer (RFC 1350, section 7)
-Broken h earlier d TransferAborted = (code : ℕ) × (text : List ℕ) × Says h earlier d (Message.Error code text)
+-- its end sends it after an ERROR (RFC 1350, section 7)
+Broken h earlier d AfterError = (now : Message) × Says h earlier d now × GoesOn (transfer_of h earlier) d.dir now
 -- a request that is not the first one again, or that comes after an ACK or a block (RFC 1350, section 4)
 Broken h earlier d RequestChanged = (first now : RequestParts) × FirstAsked h earlier first × Says h earlier d (Message.Request now) × (now ≢ first)
 Broken h earlier d RequestAfterStart = (d.dir ≡ Out) × ((now : RequestParts) × Says h earlier d (Message.Request now)) × ClientWentOn (transfer_of h earlier)

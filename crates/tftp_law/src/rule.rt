@@ -19,8 +19,8 @@ pub enum Rule {
     Malformed(PacketFault),
     /// The sender has nothing of this kind to send (RFC 1350, sections 2 and 4).
     WrongKind,
-    /// An ERROR ended the transfer (RFC 1350, section 7).
-    TransferAborted,
+    /// After an ERROR its end sent something else (RFC 1350, section 7).
+    AfterError,
     /// A request that is not the first one again (RFC 1350, section 4).
     RequestChanged,
     /// A request after a block or an ACK of the client (RFC 1350, section 4).
@@ -75,7 +75,7 @@ impl Rule {
             Rule::NoRequest => 4,
             Rule::Malformed(_) => 5,
             Rule::WrongKind => 6,
-            Rule::TransferAborted => 7,
+            Rule::AfterError => 7,
             Rule::RequestChanged => 8,
             Rule::RequestAfterStart => 9,
             Rule::ReplyChanged => 10,
@@ -110,7 +110,7 @@ impl Rule {
             Rule::NoRequest => "NoRequest",
             Rule::Malformed(_) => "Malformed",
             Rule::WrongKind => "WrongKind",
-            Rule::TransferAborted => "TransferAborted",
+            Rule::AfterError => "AfterError",
             Rule::RequestChanged => "RequestChanged",
             Rule::RequestAfterStart => "RequestAfterStart",
             Rule::ReplyChanged => "ReplyChanged",
