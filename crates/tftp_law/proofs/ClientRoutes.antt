@@ -71,6 +71,7 @@ module _ (service : ℕ) (says : Saying) (told : IsTold says) (ids : TransferIds
   asks_host earlier d (Main (Sent Oack)) p out begins = absurd (false≢true (sym (told.other Oack (λ e. cc) d.payload p.spells) ∙ begins))
   asks_host earlier d (Main (Sent (Data k))) p out begins = absurd (false≢true (sym (told.other (Data k) (λ e. cc) d.payload p.spells) ∙ begins))
   asks_host earlier d (Main (Sent (Ack j))) p out begins = absurd (false≢true (sym (told.other (Ack j) (λ e. cc) d.payload p.spells) ∙ begins))
+  asks_host earlier d (Main (Sent (Error code text))) p out begins = absurd (false≢true (sym (told.other (Error code text) (λ e. cc) d.payload p.spells) ∙ begins))
   asks_host earlier d (Main (Took q)) p out begins = absurd (false≢true (sym (in_false d p.dir) ∙ out))
   asks_host earlier d Stray p out begins = absurd (false≢true (sym (in_false d p.dir) ∙ out))
   asks_host earlier d StrayAnswer p out begins = absurd (false≢true (sym (error_begins d 5 p.spells.0 p.spells.1).0 ∙ begins))
