@@ -1,10 +1,10 @@
 -- The worked read where several hosts have the same ports.
-use Rattle.std.proofs.Common.{◌≡◌, true, false, List, [], ◌∷◌, Some, None, codes, reverse, inl, inr, refl, sym, subst, ap, arith}
+use Rattle.std.proofs.Common.{◌≡◌, true, false, List, [], ◌∷◌, Some, None, codes, reverse, inl, inr, refl, ap, arith}
 use Rattle.std.proofs.lemmas.Bool.{false≢true}
 use Rattle.std.proofs.lemmas.Slice.Eq.{bytes_eq-Decides}
 use Rattle.tftp_packet.specs.Message.{Message}
 use Rattle.tftp_packet.specs.declared.kinds.Side.TheVariants.{Get}
-use Rattle.tftp_packet.specs.declared.kinds.Dir.TheVariants.{In, Out}
+use Rattle.tftp_packet.specs.declared.kinds.Dir.TheVariants.{In}
 use Rattle.tftp_ends.specs.Meaning.{request_of}
 use Rattle.tftp_ends.specs.CaptureText.{PeerId, peer_of}
 use Rattle.tftp_ends.specs.Machines.{Sent, Took, Req, Data, Ack}
@@ -23,7 +23,7 @@ use Rattle.tftp_worked.specs.Worked.{at_client, at_server, server_host, asks_for
 use Rattle.tftp_worked.specs.WorkedHosts.{third_host, comes_from_third_host, answers_third_host, read_with_a_third_host, after_third_host, acknowledges_third_host, read_from_third_host, answered_from_third_host, asks_third_host, third_host_asks, only_is_asked}
 use Rattle.tftp_worked.specs.WorkedRules.{only_asked}
 use Rattle.tftp_worked.proofs.Spelled.{request_spelled, hi_spelled, ack_spelled, unknown_id_spelled}
-use Rattle.tftp_worked.proofs.Payloads.{Spelled, datagrams, AllSpelled, ack_spells}
+use Rattle.tftp_worked.proofs.Payloads.{Spelled, datagrams}
 use Rattle.tftp_worked.proofs.Dressed.{Carried, dressed_by}
 use Rattle.tftp_worked.proofs.Chains.{one_more, none_under}
 use Rattle.tftp_worked.proofs.ReadShown.{ids, begins, begin_parts}
