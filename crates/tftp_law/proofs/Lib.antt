@@ -43,6 +43,9 @@ pub mod WholeIsMeant
 pub mod RunsBreakNoRule
 pub mod Searches
 pub mod NextDatagram
+pub mod NextBlock
+pub mod NextAck
+pub mod NextOther
 pub mod RulesDivide
 pub mod EndedIsComplete
 pub mod TwoEnds

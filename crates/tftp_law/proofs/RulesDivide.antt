@@ -26,7 +26,10 @@ use Rattle.tftp_law.specs.declared.rule.Rule.{Rule}
 use Rattle.tftp_law.specs.OneEnded.{IsRead, Passes, OneEnded}
 use Rattle.tftp_law.proofs.FirstRequests.{begins_asked, or_some, asks_is, asks_route, first_spells, first_stays}
 use Rattle.tftp_law.proofs.FirstSpelled.{request_spelled}
-use Rattle.tftp_law.proofs.NextDatagram.{of_wire, may_send_data, may_come_data, may_send_ack, may_come_ack, agreed_now, may_send_oack, may_come_oack, asked_now, may_send_request, may_come_request, may_send_error, may_come_error}
+use Rattle.tftp_law.proofs.NextDatagram.{Next}
+use Rattle.tftp_law.proofs.NextBlock.{of_wire, may_send_data, may_come_data}
+use Rattle.tftp_law.proofs.NextAck.{may_send_ack, may_come_ack}
+use Rattle.tftp_law.proofs.NextOther.{agreed_now, may_send_oack, may_come_oack, asked_now, may_send_request, may_come_request, may_send_error, may_come_error}
 use Rattle.tftp_law.proofs.RouteTests.{request_begins}
 
 -- ---- routes, read backwards
@@ -235,6 +238,9 @@ module _ (h : Header) (m : Meaning) (wire : List ℕ) where
       asks_for : HasSent (view_in division) Req ⊎ HasTaken (view_in division) Req
       asks_for = requested h m wire division routed was some
 
+      next : Next h m wire division d
+      next = record { routed = routed; own = own; starts = starts; lawful = lawful; passes = passes; main = main; first = first; requested = asks_for; acc = acc }
+
       -- only a request has a request's route
       other_route : (x : Message) → Spells d.payload x → ((r : RequestParts) → x ≡ Message.Request r → ⊥) → route_of h ds d ≡ Route.Peer
       other_route x s other = elim (main_route (route_of h ds d) main) [
@@ -253,43 +259,43 @@ module _ (h : Header) (m : Meaning) (wire : List ℕ) where
 
       place : (dir : Dir) → d.dir ≡ dir → (x : Message) → Spells d.payload x → Placing
       place Out way (Message.Request r) s =
-          let may = may_send_request h m wire division routed own starts lawful d passes main first asks_for acc r s way in
-          (Main (Sent Req), request_route r s (out_from h.named d may.client way), (way, subst (λ q. Spells d.payload (Message.Request q)) (asked_now h m wire division routed own starts lawful d passes main first asks_for acc r s) s), (may, own))
+          let may = may_send_request next r s way in
+          (Main (Sent Req), request_route r s (out_from h.named d may.client way), (way, subst (λ q. Spells d.payload (Message.Request q)) (asked_now next r s) s), (may, own))
       place In way (Message.Request r) s =
-          let may = may_come_request h m wire division routed own starts lawful d passes main first asks_for acc r s way in
-          (Main (Took Req), request_route r s (in_from h.named d may way), (way, subst (λ q. Spells d.payload (Message.Request q)) (asked_now h m wire division routed own starts lawful d passes main first asks_for acc r s) s), (may, own))
+          let may = may_come_request next r s way in
+          (Main (Took Req), request_route r s (in_from h.named d may way), (way, subst (λ q. Spells d.payload (Message.Request q)) (asked_now next r s) s), (may, own))
       place Out way (Message.Oack o) s = (
         Main (Sent Oack),
         other_route (Message.Oack o) s (λ r e. cc),
-        (way, subst (λ q. Spells d.payload (Message.Oack q)) (sym (agreed_now h m wire division routed own starts lawful d passes main first asks_for acc o s).0) s),
-        (may_send_oack h m wire division routed own starts lawful d passes main first asks_for acc o s way, own),
+        (way, subst (λ q. Spells d.payload (Message.Oack q)) (sym (agreed_now next o s).0) s),
+        (may_send_oack next o s way, own),
       )
       place In way (Message.Oack o) s = (
         Main (Took Oack),
         other_route (Message.Oack o) s (λ r e. cc),
-        (way, subst (λ q. Spells d.payload (Message.Oack q)) (sym (agreed_now h m wire division routed own starts lawful d passes main first asks_for acc o s).0) s),
-        (may_come_oack h m wire division routed own starts lawful d passes main first asks_for acc o s way, own),
+        (way, subst (λ q. Spells d.payload (Message.Oack q)) (sym (agreed_now next o s).0) s),
+        (may_come_oack next o s way, own),
       )
       place Out way (Message.Data k bytes) s = (
         Main (Sent (Data k)),
         other_route (Message.Data k bytes) s (λ r e. cc),
-        (way, subst (λ q. Spells d.payload (Message.Data k q)) (of_wire h m wire division routed own starts lawful d passes main first asks_for acc k bytes s).1 s),
-        (may_send_data h m wire division routed own starts lawful d passes main first asks_for acc k bytes s way, own),
+        (way, subst (λ q. Spells d.payload (Message.Data k q)) (of_wire next k bytes s).1 s),
+        (may_send_data next k bytes s way, own),
       )
       place In way (Message.Data k bytes) s = (
         Main (Took (Data k)),
         other_route (Message.Data k bytes) s (λ r e. cc),
-        (way, subst (λ q. Spells d.payload (Message.Data k q)) (of_wire h m wire division routed own starts lawful d passes main first asks_for acc k bytes s).1 s),
-        (may_come_data h m wire division routed own starts lawful d passes main first asks_for acc k bytes s way, own),
+        (way, subst (λ q. Spells d.payload (Message.Data k q)) (of_wire next k bytes s).1 s),
+        (may_come_data next k bytes s way, own),
       )
       place Out way (Message.Ack j) s =
-          (Main (Sent (Ack j)), other_route (Message.Ack j) s (λ r e. cc), (way, s), (may_send_ack h m wire division routed own starts lawful d passes main first asks_for acc j s way, own))
+          (Main (Sent (Ack j)), other_route (Message.Ack j) s (λ r e. cc), (way, s), (may_send_ack next j s way, own))
       place In way (Message.Ack j) s =
-          (Main (Took (Ack j)), other_route (Message.Ack j) s (λ r e. cc), (way, s), (may_come_ack h m wire division routed own starts lawful d passes main first asks_for acc j s way, own))
+          (Main (Took (Ack j)), other_route (Message.Ack j) s (λ r e. cc), (way, s), (may_come_ack next j s way, own))
       place Out way (Message.Error code text) s =
-          (Main (Sent (Error code text)), other_route (Message.Error code text) s (λ r e. cc), (way, s), (may_send_error h m wire division routed own starts lawful d passes main first asks_for acc code text s way, own))
+          (Main (Sent (Error code text)), other_route (Message.Error code text) s (λ r e. cc), (way, s), (may_send_error next code text s way, own))
       place In way (Message.Error code text) s =
-          (Main (Took (Error code text)), other_route (Message.Error code text) s (λ r e. cc), (way, s), (may_come_error h m wire division routed own starts lawful d passes main first asks_for acc code text s way, own))
+          (Main (Took (Error code text)), other_route (Message.Error code text) s (λ r e. cc), (way, s), (may_come_error next code text s way, own))
 
       not_first : view_in division ≡ [] → ⊥
       not_first e = elim asks_for [
