@@ -37,6 +37,7 @@ pub mod MadeWire
 pub mod MadeMeaning
 pub mod FirstSpelled
 pub mod WhoSends
+pub mod KnownTerms
 pub mod NextDeed
 pub mod RunsPass
 pub mod WholeIsMeant

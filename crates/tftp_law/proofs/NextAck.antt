@@ -21,7 +21,8 @@ use Rattle.tftp_law.specs.Rules.{Agrees, Begins, IsAnswer, FirstAnswer, plain_te
 use Rattle.tftp_law.specs.declared.rule.Rule.{Rule}
 use Rattle.tftp_law.proofs.HighestNumbers.{top_of, front_of}
 use Rattle.tftp_law.proofs.PassedIsDone.{block_sent, block_came, usable_passed}
-use Rattle.tftp_law.proofs.NextDeed.{reply_now, state, sends, takes}
+use Rattle.tftp_law.proofs.KnownTerms.{state, sends, takes}
+use Rattle.tftp_law.proofs.NextDeed.{reply_now}
 use Rattle.tftp_law.proofs.Moments.{who_sent_data, who_took_data, sent_below}
 use Rattle.tftp_law.proofs.WhoSends.{ack_out_who, ack_in_who, two_parts}
 use Rattle.tftp_law.proofs.Searches.{has_data}

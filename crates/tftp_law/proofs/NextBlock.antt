@@ -24,7 +24,8 @@ use Rattle.tftp_law.specs.declared.rule.Rule.{Rule}
 use Rattle.tftp_law.proofs.HighestNumbers.{top_of, answered_of, acked_of}
 use Rattle.tftp_law.proofs.PassedIsDone.{block_sent, ack_went, ack_came_in, sent_block, usable_passed, used_ack}
 use Rattle.tftp_law.proofs.AnsweredBefore.{zero_used}
-use Rattle.tftp_law.proofs.NextDeed.{reply_now, numbers, state, sends, takes, begun_out, begun_in, plain_yet}
+use Rattle.tftp_law.proofs.KnownTerms.{numbers, state, sends, takes, begun_out, begun_in, plain_yet}
+use Rattle.tftp_law.proofs.NextDeed.{reply_now}
 use Rattle.tftp_law.proofs.Moments.{who_sent_ack, who_took_ack, sent_below, sent_in_window, acknowledged_was_sent}
 use Rattle.tftp_law.proofs.WhoSends.{data_out_who, data_in_who, two_parts}
 use Rattle.tftp_law.proofs.Searches.{has_ack_zero, zero_from}

@@ -28,7 +28,8 @@ use Rattle.tftp_law.proofs.Joined.{last_block}
 use Rattle.tftp_law.proofs.PassedIsDone.{told_passed}
 use Rattle.tftp_law.proofs.FirstReply.{sent_data}
 use Rattle.tftp_law.proofs.FirstSpelled.{request_spelled}
-use Rattle.tftp_law.proofs.NextDeed.{reply_now, wire_blocks, state, named_is, side_is, numbers, plain_yet, begun_out, begun_in}
+use Rattle.tftp_law.proofs.KnownTerms.{state, named_is, side_is, numbers, plain_yet, begun_out, begun_in}
+use Rattle.tftp_law.proofs.NextDeed.{reply_now, wire_blocks}
 use Rattle.tftp_law.proofs.Moments.{sent_below, acknowledged_was_sent}
 use Rattle.tftp_law.proofs.RunsPass.{ruled}
 use Rattle.tftp_law.proofs.Unasked.{none_view}
