@@ -47,6 +47,7 @@ pub mod NextDatagram
 pub mod NextBlock
 pub mod NextAck
 pub mod NextOther
+pub mod EarlierList
 pub mod RulesDivide
 pub mod EndedIsComplete
 pub mod TwoEnds
