@@ -11,6 +11,7 @@ pub mod BlockRules
 pub mod EndRules
 pub mod PassFound
 pub mod ByRuns
+pub mod FirstErrors
 pub mod OneVerdict
 pub mod Gatherings
 pub mod TextVerdicts
