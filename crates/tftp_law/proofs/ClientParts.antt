@@ -5,7 +5,7 @@ use Rattle.std.proofs.lemmas.Bool.{and_parts, eqb-true}
 use Rattle.tftp_packet.specs.declared.kinds.End.TheVariants.{Client}
 use Rattle.tftp_packet.specs.declared.kinds.Dir.TheVariants.{In, Out}
 use Rattle.tftp_ends.specs.CaptureText.{Datagram, Header, PeerId, peer_of}
-use Rattle.tftp_ends.specs.Machines.{Req, Oack, Data, Ack, Deed, Sent, Took}
+use Rattle.tftp_ends.specs.Machines.{Req, Oack, Data, Ack, Deed, Sent, Took, Error}
 use Rattle.tftp_ends.specs.Ports.{goes_out, comes_in, begins_request, asks, first_of, route_at_client, route_of}
 use Rattle.tftp_ends.specs.declared.route.Route.{Route}
 use Rattle.tftp_law.specs.Dress.{Part, Main, Stray, StrayAnswer, Division, datagrams_of, view_in, dir_of, packet_of, TransferIds, Saying, Carries, ComesAstray, AnswersStray, HasPartBy, HavePartsBy}
@@ -51,6 +51,7 @@ module _ (service : ℕ) (says : Saying) (ids : TransferIds) where
   c_came d (Main (Took Oack)) earlier p starts way apart = absurd (apart p.server.0)
   c_came d (Main (Took (Data k))) earlier p starts way apart = absurd (apart p.server.0)
   c_came d (Main (Took (Ack j))) earlier p starts way apart = absurd (apart p.server.0)
+  c_came d (Main (Took (Error code text))) earlier p starts way apart = absurd (apart p.server.0)
 
   module _ (earlier : Division) (parts : HavePartsBy ch says ids earlier) (routed : AreRoutedBy ch says earlier) (starts : Starts Client (view_in earlier)) (d : Datagram) (are : ClientIds (d ∷ datagrams_of earlier)) where
     abbrev es : List Datagram
@@ -105,6 +106,8 @@ module _ (service : ℕ) (says : Saying) (ids : TransferIds) where
     c_back_main (Took Oack) way s stands is = let b = c_back_peer (Took Oack) (λ e. cc) stands is way in record { dir = way; client = b.0; server = (b.1, b.2); spells = s }
     c_back_main (Took (Data k)) way s stands is = let b = c_back_peer (Took (Data k)) (λ e. cc) stands is way in record { dir = way; client = b.0; server = (b.1, b.2); spells = s }
     c_back_main (Took (Ack j)) way s stands is = let b = c_back_peer (Took (Ack j)) (λ e. cc) stands is way in record { dir = way; client = b.0; server = (b.1, b.2); spells = s }
+    c_back_main (Sent (Error code text)) way s stands is = let b = c_back_peer (Sent (Error code text)) (λ e. cc) stands is way in record { dir = way; client = b.0; server = (b.1, b.2); spells = s }
+    c_back_main (Took (Error code text)) way s stands is = let b = c_back_peer (Took (Error code text)) (λ e. cc) stands is way in record { dir = way; client = b.0; server = (b.1, b.2); spells = s }
 
     c_back_stray : route_of ch es d ≡ Route.Stray → ComesAstray ch ids earlier d
     c_back_stray is = elim (two_ways (first_of (asks ch) es)) [

@@ -5,7 +5,7 @@ use Rattle.std.proofs.lemmas.Bool.{false≢true, and_from}
 use Rattle.tftp_packet.specs.declared.kinds.End.TheVariants.{Client}
 use Rattle.tftp_packet.specs.declared.kinds.Dir.TheVariants.{In, Out}
 use Rattle.tftp_ends.specs.CaptureText.{Datagram, Header, peer_of}
-use Rattle.tftp_ends.specs.Machines.{MachinePacket, Req, Oack, Data, Ack, Deed, Sent, Took, History}
+use Rattle.tftp_ends.specs.Machines.{MachinePacket, Req, Oack, Data, Ack, Deed, Sent, Took, History, Error}
 use Rattle.tftp_ends.specs.Ports.{goes_out, comes_in, begins_request, begins_error, asks, first_of, has_come_from, same_peer, route_of}
 use Rattle.tftp_ends.specs.declared.route.Route.{Route}
 use Rattle.tftp_law.specs.Dress.{Part, Main, Stray, StrayAnswer, Placed, Division, datagrams_of, view_in, packet_of, TransferIds, Saying, Carries, ComesAstray, AnswersStray, HasPartBy, HavePartsBy, HasServerId}
@@ -87,6 +87,7 @@ module _ (service : ℕ) (says : Saying) (told : IsTold says) (ids : TransferIds
   came_first earlier d (Main (Took Oack)) p own none came = p.server.0
   came_first earlier d (Main (Took (Data k))) p own none came = p.server.0
   came_first earlier d (Main (Took (Ack j))) p own none came = p.server.0
+  came_first earlier d (Main (Took (Error code text))) p own none came = p.server.0
   came_first earlier d Stray p own none came = let found = some_in earlier (main_in earlier p.after) in let both : None ≡ Some found.0 = sym none ∙ found.1 in absurd (cc)
   came_first earlier d StrayAnswer p own none came = absurd (false≢true (sym (out_false d p.dir) ∙ came))
 
@@ -151,6 +152,8 @@ module _ (service : ℕ) (says : Saying) (told : IsTold says) (ids : TransferIds
     route_main d (Took Oack) p all = route_took d Oack p p.server.0 (asked_before (Took Oack) (λ e. cc) all)
     route_main d (Took (Data k)) p all = route_took d (Data k) p p.server.0 (asked_before (Took (Data k)) (λ e. cc) all)
     route_main d (Took (Ack j)) p all = route_took d (Ack j) p p.server.0 (asked_before (Took (Ack j)) (λ e. cc) all)
+    route_main d (Sent (Error code text)) p all = route_sent d (Error code text) (λ e. cc) p p.server (asked_before (Sent (Error code text)) (λ e. cc) all)
+    route_main d (Took (Error code text)) p all = route_took d (Error code text) p p.server.0 (asked_before (Took (Error code text)) (λ e. cc) all)
 
     asked_by_main : Any MainIn earlier → Asked here earlier
     asked_by_main any = let some = view_some In earlier any in some_asked earlier parts own some.0 some.1 some.2

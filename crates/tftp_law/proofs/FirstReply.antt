@@ -10,13 +10,15 @@ use Rattle.tftp_packet.specs.declared.kinds.Dir.TheVariants.{In, Out}
 use Rattle.tftp_packet.proofs.Unique.{one_message}
 use Rattle.tftp_ends.specs.CaptureText.{Datagram, Header}
 use Rattle.tftp_ends.specs.Meaning.{Meaning, request_of, SomethingAgreed, NothingAgreed}
-use Rattle.tftp_ends.specs.Machines.{Req, Oack, Data, Ack, Deed, Sent, Took, History, HasSent, HasTaken, message_of, IsStartedOn, MayAckZeroOn, MaySend}
+use Rattle.tftp_ends.specs.Machines.{Req, Oack, Data, Ack, Deed, Sent, Took, History, HasSent, HasTaken, message_of, IsStartedOn, MayAckZeroOn, MaySend, Error}
 use Rattle.tftp_ends.specs.OneSide.{LetsStartOn, LetsAckZeroOn, MayCome, IsOneSided}
 use Rattle.tftp_ends.specs.Ports.{route_of, is_of_transfer, transfer_of}
 use Rattle.tftp_ends.specs.Rules.{Passed}
 use Rattle.tftp_ends.specs.declared.route.Route.{Route}
 use Rattle.tftp_packet.specs.OptionMap.{OptionMap}
 use Rattle.std.proofs.Common.{false}
+use Rattle.tftp_ends.specs.OneSide.{heard}
+use Rattle.tftp_ends.proofs.Stops.{heard_done}
 use Rattle.tftp_ends.proofs.Members.{contains_later, contains_cases, contains_none}
 use Rattle.tftp_law.specs.Dress.{Part, Main, Stray, StrayAnswer, Division, datagrams_of, view_in, packet_of}
 use Rattle.tftp_law.specs.Accord.{part_route, SaysAs, AreRouted}
@@ -33,6 +35,14 @@ module _ (m : Meaning) (wire : List ℕ) (e : End) where
   more_lets : (side : Side) (d : Deed) (v : History) → LetsStartOn side m v → LetsStartOn side m (d ∷ v)
   more_lets Get d v s = elim s [ inl x ↦ inl (x.0, contains_later d v (Sent Req) x.1) | inr x ↦ inr (x.0, contains_later d v (Sent (Ack 0)) x.1) ]
   more_lets Put d v s = elim s [ inl x ↦ inl (x.0, contains_later d v (Sent (Ack 0)) x.1) | inr x ↦ inr (x.0, contains_later d v (Sent Oack) x.1) ]
+
+  pub used_start : (side : Side) (v : History) → LetsStartOn side m (heard v) → LetsStartOn side m v
+  used_start Get v s = elim s [ inl x ↦ inl (x.0, heard_done v (Sent Req) x.1) | inr x ↦ inr (x.0, heard_done v (Sent (Ack 0)) x.1) ]
+  used_start Put v s = elim s [ inl x ↦ inl (x.0, heard_done v (Sent (Ack 0)) x.1) | inr x ↦ inr (x.0, heard_done v (Sent Oack) x.1) ]
+
+  pub used_zero : (side : Side) (v : History) → LetsAckZeroOn side m (heard v) → LetsAckZeroOn side m v
+  used_zero Get v z = (z.0, heard_done v (Sent Oack) z.1)
+  used_zero Put v z = elim z [ inl x ↦ inl (x.0, heard_done v (Sent Req) x.1) | inr x ↦ inr (x.0, x.1, heard_done v (Sent (Data x.1)) x.2) ]
 
   more_zero : (side : Side) (d : Deed) (v : History) → MayAckZeroOn side m v → MayAckZeroOn side m (d ∷ v)
   more_zero Get d v z = (z.0, contains_later d v (Took Oack) z.1)
@@ -55,12 +65,12 @@ module _ (m : Meaning) (wire : List ℕ) (e : End) where
   pub took_data : (k : ℕ) (v : History) → IsOneSided m wire e v → HasTaken v (Data k) → LetsStartOn m.side m v
   took_data k [] own at = absurd (contains_none (Took (Data k)) at)
   took_data k (Took p ∷ v) own at = elim (contains_cases (Took p) v (Took (Data k)) at) [
-    | inl same ↦ let is : p ≡ Data k = cc in more_lets m.side (Took p) v (subst (MayCome m wire e v) is own.0).started
+    | inl same ↦ let is : p ≡ Data k = cc in more_lets m.side (Took p) v (used_start m.side v (subst (MayCome m wire e v) is own.0).started)
     | inr before ↦ more_lets m.side (Took p) v (took_data k v own.1 before)
   ]
   took_data k (Sent p ∷ v) own at = elim (contains_cases (Sent p) v (Took (Data k)) at) [ inl same ↦ absurd (cc) | inr before ↦ more_lets m.side (Sent p) v (took_data k v own.1 before) ]
 
-  sent_zero : (v : History) → IsOneSided m wire e v → HasSent v (Ack 0) → MayAckZeroOn m.side m v
+  pub sent_zero : (v : History) → IsOneSided m wire e v → HasSent v (Ack 0) → MayAckZeroOn m.side m v
   sent_zero [] own at = absurd (contains_none (Sent (Ack 0)) at)
   sent_zero (Sent p ∷ v) own at = elim (contains_cases (Sent p) v (Sent (Ack 0)) at) [
     | inl same ↦ let is : p ≡ Ack 0 = cc in more_zero m.side (Sent p) v ((subst (MaySend m wire e v) is own.0).zero refl)
@@ -68,10 +78,10 @@ module _ (m : Meaning) (wire : List ℕ) (e : End) where
   ]
   sent_zero (Took p ∷ v) own at = elim (contains_cases (Took p) v (Sent (Ack 0)) at) [ inl same ↦ absurd (cc) | inr before ↦ more_zero m.side (Took p) v (sent_zero v own.1 before) ]
 
-  took_zero : (v : History) → IsOneSided m wire e v → HasTaken v (Ack 0) → LetsAckZeroOn m.side m v
+  pub took_zero : (v : History) → IsOneSided m wire e v → HasTaken v (Ack 0) → LetsAckZeroOn m.side m v
   took_zero [] own at = absurd (contains_none (Took (Ack 0)) at)
   took_zero (Took p ∷ v) own at = elim (contains_cases (Took p) v (Took (Ack 0)) at) [
-    | inl same ↦ let is : p ≡ Ack 0 = cc in more_lets_zero m.side (Took p) v ((subst (MayCome m wire e v) is own.0).zero refl)
+    | inl same ↦ let is : p ≡ Ack 0 = cc in more_lets_zero m.side (Took p) v (used_zero m.side v ((subst (MayCome m wire e v) is own.0).zero refl))
     | inr before ↦ more_lets_zero m.side (Took p) v (took_zero v own.1 before)
   ]
   took_zero (Sent p ∷ v) own at = elim (contains_cases (Sent p) v (Took (Ack 0)) at) [ inl same ↦ absurd (cc) | inr before ↦ more_lets_zero m.side (Sent p) v (took_zero v own.1 before) ]
@@ -134,6 +144,10 @@ module _ (h : Header) (m : Meaning) (wire : List ℕ) where
   no_request Get r a is = is
   no_request Put r a is = is
 
+  no_error : (side : Side) (code : ℕ) (message : List ℕ) (a : Answer) → IsAnswer side (Message.Error code message) a → ⊥
+  no_error Get code message a is = is
+  no_error Put code message a is = is
+
   module _ (division : Division) (routed : AreRouted h m wire division) (own : IsOneSided m wire h.named (view_in division)) (d : Datagram) where
     abbrev ps : List Datagram
     ps = transfer_of h (datagrams_of division)
@@ -166,9 +180,11 @@ module _ (h : Header) (m : Meaning) (wire : List ℕ) where
     main_reply (Sent Oack) s all r = agrees m.side d ps s all.0.agreed r
     main_reply (Took Oack) s all r = agrees m.side d ps s all.0.agreed r
     main_reply (Sent (Data k)) s all r = data_reply m.side refl k s (λ get. data_out m wire h.named get (view_in division) own all.0.started) r
-    main_reply (Took (Data k)) s all r = data_reply m.side refl k s (λ get. data_in m wire h.named get (view_in division) own all.0.started) r
+    main_reply (Took (Data k)) s all r = data_reply m.side refl k s (λ get. data_in m wire h.named get (view_in division) own (used_start m wire h.named m.side (view_in division) all.0.started)) r
     main_reply (Sent (Ack j)) s all r = ack_reply m.side refl j s (λ put none. zero_out m wire h.named put (view_in division) own (all.0.zero none)) r
-    main_reply (Took (Ack j)) s all r = ack_reply m.side refl j s (λ put none. zero_in m wire h.named put (view_in division) own (all.0.zero none)) r
+    main_reply (Took (Ack j)) s all r = ack_reply m.side refl j s (λ put none. zero_in m wire h.named put (view_in division) own (used_zero m wire h.named m.side (view_in division) (all.0.zero none))) r
+    main_reply (Sent (Error code message)) s all r = stays_none m.side d ps (message_of m wire (Error code message)) s (no_error m.side code message) r
+    main_reply (Took (Error code message)) s all r = stays_none m.side d ps (message_of m wire (Error code message)) s (no_error m.side code message) r
 
   reply_step : (d : Datagram) (part : Part) (earlier : Division) → AreRouted h m wire earlier → route_of h (datagrams_of earlier) d ≡ part_route part → SaysAs m wire d part
       → IsOneSided m wire h.named (view_in (record { datagram = d; part = part } ∷ earlier)) → (IsOneSided m wire h.named (view_in earlier) → IsReply m.side (transfer_of h (datagrams_of earlier)))

@@ -5,7 +5,7 @@ use Rattle.tftp_packet.specs.Spelling.{Spells}
 use Rattle.tftp_ends.specs.CaptureText.{Datagram, Header}
 use Rattle.tftp_ends.specs.Meaning.{Meaning, request_of, blksize_of}
 use Rattle.tftp_ends.specs.Blocks.{block_count}
-use Rattle.tftp_ends.specs.Machines.{Req, Oack, Data, Ack, Deed, Sent, Took, History, MaySend}
+use Rattle.tftp_ends.specs.Machines.{Req, Oack, Data, Ack, Deed, Sent, Took, History, MaySend, Error}
 use Rattle.tftp_ends.specs.OneSide.{MayCome, IsOneSided}
 use Rattle.tftp_ends.specs.Ports.{asks, first_of}
 use Rattle.tftp_ends.specs.declared.route.Route.{Route}
@@ -26,6 +26,8 @@ module _ (h : Header) (m : Meaning) (wire : List ℕ) where
   is_request (Main (Took (Data k))) d is says = absurd (cc)
   is_request (Main (Sent (Ack j))) d is says = absurd (cc)
   is_request (Main (Took (Ack j))) d is says = absurd (cc)
+  is_request (Main (Sent (Error code text))) d is says = absurd (cc)
+  is_request (Main (Took (Error code text))) d is says = absurd (cc)
   is_request Stray d is says = absurd (cc)
   is_request StrayAnswer d is says = absurd (cc)
 

@@ -24,7 +24,11 @@ pub mod Parted
 pub mod OneDivision
 pub mod PassedIsDone
 pub mod FirstReply
+pub mod AfterError
+pub mod HeardAnswer
+pub mod AnsweredBefore
 pub mod HighestNumbers
+pub mod FirstError
 pub mod Settled
 pub mod OneMeaning
 pub mod Joined

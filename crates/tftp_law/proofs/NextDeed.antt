@@ -15,10 +15,10 @@ use Rattle.tftp_ends.specs.CaptureText.{Datagram, Header}
 use Rattle.tftp_ends.specs.Meaning.{Meaning, request_of, SomethingAgreed, NothingAgreed, blksize_of, windowsize_of}
 use Rattle.tftp_ends.specs.Blocks.{block, block_count}
 use Rattle.tftp_ends.specs.Roles.{sender_of, receiver_of, author_of}
-use Rattle.tftp_ends.specs.Machines.{MachinePacket, Req, Oack, Data, Ack, Deed, Sent, Took, History, HasSent, HasTaken, message_of, IsStartedOn, MayAckZeroOn, MaySend, MaySendReq, MaySendData, MaySendAck}
-use Rattle.tftp_ends.specs.OneSide.{LetsStartOn, LetsAckZeroOn, MayCome, MayComeData, MayComeAck, IsOneSided}
+use Rattle.tftp_ends.specs.Machines.{MachinePacket, Req, Oack, Data, Ack, Deed, Sent, Took, History, HasSent, HasTaken, message_of, IsStartedOn, MayAckZeroOn, MaySend, MaySendReq, MaySendData, MaySendAck, Error}
+use Rattle.tftp_ends.specs.OneSide.{LetsStartOn, LetsAckZeroOn, MayCome, MayComeData, MayComeAck, IsOneSided, heard}
 use Rattle.tftp_ends.specs.Ports.{transfer_of}
-use Rattle.tftp_ends.specs.Rules.{Passed, HasPassed, IsSender, IsReceiver, BlocksWait, AckZeroWaits, BlockBreaks, AckBreaks, EndBroken}
+use Rattle.tftp_ends.specs.Rules.{Passed, HasPassed, IsSender, IsReceiver, BlocksWait, AckZeroWaits, BlockBreaks, AckBreaks, EndBroken, usable}
 use Rattle.tftp_ends.specs.declared.rule.EndRule.{EndRule}
 use Rattle.tftp_ends.specs.declared.terms.Reply.TheVariants.{NoReply, Plain, Oacked}
 use Rattle.tftp_ends.specs.declared.terms.Terms.{Terms}
@@ -34,10 +34,11 @@ use Rattle.tftp_law.proofs.Agreed.{no_agreement_fault}
 use Rattle.tftp_law.proofs.FirstAnswered.{first_one, not_both as answered_not}
 use Rattle.tftp_law.proofs.MadeMeaning.{answer_spelled, from_eight, size_is}
 use Rattle.tftp_law.proofs.BlockLengths.{not_beyond, not_misfit, not_changed}
-use Rattle.tftp_law.proofs.PassedIsDone.{Told as Heard, passed_told, told_passed, data_only, block_sent, ack_went, sent_block, not_both, ack_not_ahead_in, ack_not_ahead_out, within_window_in}
-use Rattle.tftp_law.proofs.FirstReply.{no_oack, Told, data_out, data_in, reply_is}
+use Rattle.tftp_law.proofs.PassedIsDone.{Told as Heard, usable_in, usable_passed, used_passed, passed_told, told_passed, data_only, block_sent, ack_went, sent_block, not_both, ack_not_ahead_in, ack_not_ahead_out, within_window_in}
+use Rattle.tftp_law.proofs.FirstReply.{used_start, no_oack, Told, data_out, data_in, reply_is}
 use Rattle.tftp_law.proofs.WhoSends.{request_kind, oack_kind, data_kind_out, data_kind_in, ack_kind_out, ack_kind_in}
 use Rattle.tftp_law.proofs.FirstSpelled.{numbered}
+use Rattle.tftp_law.proofs.AfterError.{stays_silent}
 
 -- ---- the next deed
 
@@ -49,8 +50,15 @@ module _ (h : Header) (m : Meaning) (wire : List ℕ) (fits : Fits m wire)
   abbrev view : History
   view = view_in division
 
-  heard : (deed : Deed) → Contains view deed → Passed (dir_of deed) (message_of m wire (packet_of deed)) through
-  heard deed at = told_passed h m wire division routed deed at
+  -- what the other end can have used
+  abbrev used : List Datagram
+  used = usable through
+
+  used_any : (x : Message) → HasPassed x used → HasPassed x through
+  used_any x p = elim p [ inl came ↦ inl (usable_passed In x through came) | inr went ↦ inr (usable_passed Out x through went) ]
+
+  passed_by : (deed : Deed) → Contains view deed → Passed (dir_of deed) (message_of m wire (packet_of deed)) through
+  passed_by deed at = told_passed h m wire division routed deed at
 
   abbrev pub State : Terms → Type 0
   State t = (NotAnswered m.side through × (t ≡ plain_terms h m.side NoReply))
@@ -127,29 +135,32 @@ module _ (h : Header) (m : Meaning) (wire : List ℕ) (fits : Fits m wire)
   -- ---- blocks: what lets them begin
 
   abbrev pub Begun : Side → Type 0
-  Begun Get = NothingAgreed m ⊎ (SomethingAgreed m × HasPassed (Message.Ack 0) through × HasPassed (Message.Oack m.agreed) through)
+  Begun Get = NothingAgreed m ⊎ (SomethingAgreed m × HasPassed (Message.Ack 0) used × HasPassed (Message.Oack m.agreed) through)
   Begun Put = (NothingAgreed m × HasPassed (Message.Ack 0) through) ⊎ (SomethingAgreed m × HasPassed (Message.Oack m.agreed) through)
 
   oack_passed : HasSent view Oack ⊎ HasTaken view Oack → HasPassed (Message.Oack m.agreed) through
-  oack_passed (inl sent) = inr (heard (Sent Oack) sent)
-  oack_passed (inr taken) = inl (heard (Took Oack) taken)
+  oack_passed (inl sent) = inr (passed_by (Sent Oack) sent)
+  oack_passed (inr taken) = inl (passed_by (Took Oack) taken)
 
-  begun_get : HasPassed (Message.Ack 0) through → SomethingAgreed m → Told m wire h.named view → Begun Get
+  begun_get : HasPassed (Message.Ack 0) used → SomethingAgreed m → Told m wire h.named view → Begun Get
   begun_get ack something told = elim told [ inl nothing ↦ inl nothing | inr x ↦ inr (something, ack, oack_passed x.1) ]
 
   pub begun_out : (side : Side) → m.side ≡ side → IsStartedOn side m view → Begun side
   begun_out Get get s = elim s [
     | inl x ↦ inl x.0
-    | inr x ↦ begun_get (inl (heard (Took (Ack 0)) x.1)) x.0 (data_out m wire h.named get view own (subst (λ side. IsStartedOn side m view) (sym get) (inr x)))
+    | inr x ↦ begun_get (inl (usable_in (Message.Ack 0) through (passed_by (Took (Ack 0)) x.1))) x.0 (data_out m wire h.named get view own (subst (λ side. IsStartedOn side m view) (sym get) (inr x)))
   ]
-  begun_out Put put s = elim s [ inl x ↦ inl (x.0, inl (heard (Took (Ack 0)) x.1)) | inr x ↦ inr (x.0, inl (heard (Took Oack) x.1)) ]
+  begun_out Put put s = elim s [ inl x ↦ inl (x.0, inl (passed_by (Took (Ack 0)) x.1)) | inr x ↦ inr (x.0, inl (passed_by (Took Oack) x.1)) ]
 
-  pub begun_in : (side : Side) → m.side ≡ side → LetsStartOn side m view → Begun side
+  pub begun_in : (side : Side) → m.side ≡ side → LetsStartOn side m (heard view) → Begun side
   begun_in Get get s = elim s [
     | inl x ↦ inl x.0
-    | inr x ↦ begun_get (inr (heard (Sent (Ack 0)) x.1)) x.0 (data_in m wire h.named get view own (subst (λ side. LetsStartOn side m view) (sym get) (inr x)))
+    | inr x ↦ begun_get (inr (used_passed h m wire division routed (Ack 0) x.1)) x.0 (data_in m wire h.named get view own (used_start m wire h.named m.side view (subst (λ side. LetsStartOn side m (heard view)) (sym get) (inr x))))
   ]
-  begun_in Put put s = elim s [ inl x ↦ inl (x.0, inr (heard (Sent (Ack 0)) x.1)) | inr x ↦ inr (x.0, inr (heard (Sent Oack) x.1)) ]
+  begun_in Put put s = elim s [
+    | inl x ↦ inl (x.0, used_any (Message.Ack 0) (inr (used_passed h m wire division routed (Ack 0) x.1)))
+    | inr x ↦ inr (x.0, used_any (Message.Oack m.agreed) (inr (used_passed h m wire division routed Oack x.1)))
+  ]
 
   no_oack_yet : (side : Side) → NotAnswered side through → HasPassed (Message.Oack m.agreed) through → ⊥
   no_oack_yet side none (inl p) = no_oack side In m.agreed through none p
@@ -164,25 +175,25 @@ module _ (h : Header) (m : Meaning) (wire : List ℕ) (fits : Fits m wire)
   no_ack_yet dir [] none p = p
   no_ack_yet dir (d ∷ passed) none p = elim p [ inl now ↦ none.0 Begins (Message.Ack 0, now.1, refl) | inr before ↦ no_ack_yet dir passed none.1 before ]
 
-  wait_none : (side : Side) → Begun side → NotAnswered side through → BlocksWait side NoReply through → ⊥
+  wait_none : (side : Side) → Begun side → NotAnswered side through → BlocksWait side NoReply used → ⊥
   wait_none Get b none wait = wait
   wait_none Put b none wait = elim b [
     | inl x ↦ elim x.1 [ inl p ↦ no_ack_yet In through none p | inr p ↦ no_ack_yet Out through none p ]
     | inr x ↦ no_oack_yet Put none x.1
   ]
 
-  wait_oacked : (side : Side) → Begun side → SomethingAgreed m → BlocksWait side Oacked through → ⊥
+  wait_oacked : (side : Side) → Begun side → SomethingAgreed m → BlocksWait side Oacked used → ⊥
   wait_oacked Get b something wait = elim b [ inl nothing ↦ something nothing | inr x ↦ wait x.1 ]
   wait_oacked Put b something wait = wait
 
-  wait_plain : (side : Side) → BlocksWait side Plain through → ⊥
+  wait_plain : (side : Side) → BlocksWait side Plain used → ⊥
   wait_plain Get wait = wait
   wait_plain Put wait = wait
 
-  not_waiting : Begun m.side → (t : Terms) → State t → BlocksWait t.side t.reply through → ⊥
-  not_waiting b t (inl x) wait = wait_none m.side b x.0 (subst (λ (u : Terms). BlocksWait u.side u.reply through) x.1 wait)
-  not_waiting b t (inr (inl x)) wait = wait_oacked m.side b x.0 (subst (λ (u : Terms). BlocksWait u.side u.reply through) x.2 wait)
-  not_waiting b t (inr (inr x)) wait = wait_plain m.side (subst (λ (u : Terms). BlocksWait u.side u.reply through) x.1 wait)
+  not_waiting : Begun m.side → (t : Terms) → State t → BlocksWait t.side t.reply used → ⊥
+  not_waiting b t (inl x) wait = wait_none m.side b x.0 (subst (λ (u : Terms). BlocksWait u.side u.reply used) x.1 wait)
+  not_waiting b t (inr (inl x)) wait = wait_oacked m.side b x.0 (subst (λ (u : Terms). BlocksWait u.side u.reply used) x.2 wait)
+  not_waiting b t (inr (inr x)) wait = wait_plain m.side (subst (λ (u : Terms). BlocksWait u.side u.reply used) x.1 wait)
 
   -- the rules that both ends keep alike
   module _ (t : Terms) (n : Numbers t) where
@@ -231,7 +242,7 @@ module _ (h : Header) (m : Meaning) (wire : List ℕ) (fits : Fits m wire)
         let w = may.in_window in
         let near = w.3 in
         let size = n.windowsize in
-        let low : w.0 ≤ acked = elim w.1 [ inl none ↦ omega (arith, none) | inr at ↦ most.most w.0 (heard (Took (Ack w.0)) at) ] in
+        let low : w.0 ≤ acked = elim w.1 [ inl none ↦ omega (arith, none) | inr at ↦ most.most w.0 (usable_in (Message.Ack w.0) through (passed_by (Took (Ack w.0)) at)) ] in
         omega (arith, near, size, low, past)
     by EndRule.BlockSkipped (sender, (top, most, skipped)) = top_near top (λ j at. most.most j (sent_block h m wire division routed j at)) skipped
     by EndRule.GoneBack (sender, one, (top, most, back)) = elim most.member [
@@ -243,7 +254,7 @@ module _ (h : Header) (m : Meaning) (wire : List ℕ) (fits : Fits m wire)
     by EndRule.AckZero breaks = breaks
 
   -- a block that comes in
-  data_came : (k : ℕ) → MayComeData m wire h.named view k → (t : Terms) → State t → (rule : EndRule) → BlockBreaks t through k (block (blksize_of m) wire k) rule → ⊥
+  data_came : (k : ℕ) → MayComeData m wire h.named (heard view) k → (t : Terms) → State t → (rule : EndRule) → BlockBreaks t through k (block (blksize_of m) wire k) rule → ⊥
   data_came k may t s = by where
     begun : Begun m.side
     begun = begun_in m.side refl may.started
@@ -267,32 +278,32 @@ module _ (h : Header) (m : Meaning) (wire : List ℕ) (fits : Fits m wire)
 
   abbrev Answering : Side → Type 0
   Answering Get = SomethingAgreed m × HasPassed (Message.Oack m.agreed) through
-  Answering Put = NothingAgreed m ⊎ (SomethingAgreed m × (k : ℕ) × (bytes : List ℕ) × HasPassed (Message.Data k bytes) through)
+  Answering Put = NothingAgreed m ⊎ (SomethingAgreed m × (k : ℕ) × (bytes : List ℕ) × HasPassed (Message.Data k bytes) used)
 
   answering_out : (side : Side) → MayAckZeroOn side m view → Answering side
-  answering_out Get z = (z.0, inl (heard (Took Oack) z.1))
-  answering_out Put z = elim z [ inl x ↦ inl x.0 | inr x ↦ inr (x.0, x.1, block (blksize_of m) wire x.1, inl (heard (Took (Data x.1)) x.2)) ]
+  answering_out Get z = (z.0, inl (passed_by (Took Oack) z.1))
+  answering_out Put z = elim z [ inl x ↦ inl x.0 | inr x ↦ inr (x.0, x.1, block (blksize_of m) wire x.1, inl (usable_in (Message.Data x.1 (block (blksize_of m) wire x.1)) through (passed_by (Took (Data x.1)) x.2))) ]
 
-  answering_in : (side : Side) → LetsAckZeroOn side m view → Answering side
-  answering_in Get z = (z.0, inr (heard (Sent Oack) z.1))
-  answering_in Put z = elim z [ inl x ↦ inl x.0 | inr x ↦ inr (x.0, x.1, block (blksize_of m) wire x.1, inr (heard (Sent (Data x.1)) x.2)) ]
+  answering_in : (side : Side) → LetsAckZeroOn side m (heard view) → Answering side
+  answering_in Get z = (z.0, used_any (Message.Oack m.agreed) (inr (used_passed h m wire division routed Oack z.1)))
+  answering_in Put z = elim z [ inl x ↦ inl x.0 | inr x ↦ inr (x.0, x.1, block (blksize_of m) wire x.1, inr (used_passed h m wire division routed (Data x.1) x.2)) ]
 
-  zero_none : (side : Side) → Answering side → NotAnswered side through → AckZeroWaits side NoReply through → ⊥
+  zero_none : (side : Side) → Answering side → NotAnswered side through → AckZeroWaits side NoReply used → ⊥
   zero_none Get a none wait = no_oack_yet Get none a.1
   zero_none Put a none wait = wait
 
-  zero_oacked : (side : Side) → Answering side → SomethingAgreed m → AckZeroWaits side Oacked through → ⊥
+  zero_oacked : (side : Side) → Answering side → SomethingAgreed m → AckZeroWaits side Oacked used → ⊥
   zero_oacked Get a something wait = wait
   zero_oacked Put a something wait = elim a [ inl nothing ↦ something nothing | inr x ↦ wait x.1 x.2 x.3 ]
 
-  zero_plain : (side : Side) → Answering side → NothingAgreed m → AckZeroWaits side Plain through → ⊥
+  zero_plain : (side : Side) → Answering side → NothingAgreed m → AckZeroWaits side Plain used → ⊥
   zero_plain Get a nothing wait = a.0 nothing
   zero_plain Put a nothing wait = wait
 
-  zero_answers : Answering m.side → (t : Terms) → State t → AckZeroWaits t.side t.reply through → ⊥
-  zero_answers a t (inl x) wait = zero_none m.side a x.0 (subst (λ (u : Terms). AckZeroWaits u.side u.reply through) x.1 wait)
-  zero_answers a t (inr (inl x)) wait = zero_oacked m.side a x.0 (subst (λ (u : Terms). AckZeroWaits u.side u.reply through) x.2 wait)
-  zero_answers a t (inr (inr x)) wait = zero_plain m.side a x.0 (subst (λ (u : Terms). AckZeroWaits u.side u.reply through) x.1 wait)
+  zero_answers : Answering m.side → (t : Terms) → State t → AckZeroWaits t.side t.reply used → ⊥
+  zero_answers a t (inl x) wait = zero_none m.side a x.0 (subst (λ (u : Terms). AckZeroWaits u.side u.reply used) x.1 wait)
+  zero_answers a t (inr (inl x)) wait = zero_oacked m.side a x.0 (subst (λ (u : Terms). AckZeroWaits u.side u.reply used) x.2 wait)
+  zero_answers a t (inr (inr x)) wait = zero_plain m.side a x.0 (subst (λ (u : Terms). AckZeroWaits u.side u.reply used) x.1 wait)
 
   ack_sent : (j : ℕ) → MaySendAck m h.named view j → (t : Terms) → State t → (rule : EndRule) → AckBreaks t through j rule → ⊥
   ack_sent j may t s EndRule.AckAhead breaks = ack_not_ahead_out h m wire division routed t j (takes t s may.receiver) may breaks
@@ -306,7 +317,7 @@ module _ (h : Header) (m : Meaning) (wire : List ℕ) (fits : Fits m wire)
   ack_sent j may t s EndRule.GoneBack breaks = breaks
   ack_sent j may t s EndRule.BlockChanged breaks = breaks
 
-  ack_came : (j : ℕ) → MayComeAck m h.named view j → (t : Terms) → State t → (rule : EndRule) → AckBreaks t through j rule → ⊥
+  ack_came : (j : ℕ) → MayComeAck m h.named (heard view) j → (t : Terms) → State t → (rule : EndRule) → AckBreaks t through j rule → ⊥
   ack_came j may t s EndRule.AckAhead breaks = ack_not_ahead_in h m wire division routed t j (sends t s may.sender) may breaks
   ack_came j may t s EndRule.AckZero breaks = zero_answers (answering_in m.side (may.zero breaks.0)) t s breaks.1
   ack_came j may t s EndRule.NotStarted breaks = breaks
@@ -362,25 +373,39 @@ module _ (h : Header) (m : Meaning) (wire : List ℕ) (fits : Fits m wire)
   abbrev Keeps : Dir → MachinePacket → Type 0
   Keeps dir p = (rule : Rule) → MessageBreaks h (request_of m) through dir (message_of m wire p) rule → ⊥
 
+  error_kind : (dir : Dir) (e : End) (side : Side) (code : ℕ) (message : List ℕ) → IsWrongKind (author_of e dir) side (Message.Error code message) → ⊥
+  error_kind dir e side code message wrong = error_by (author_of e dir) side wrong where
+    error_by : (e : End) (side : Side) → IsWrongKind e side (Message.Error code message) → ⊥
+    error_by Client Get wrong = wrong
+    error_by Client Put wrong = wrong
+    error_by Server Get wrong = wrong
+    error_by Server Put wrong = wrong
+
   sent_keeps : (p : MachinePacket) → MaySend m wire h.named view p → Keeps Out p
   sent_keeps Req may rule (inl wrong) = request_kind m.side (request_of m) (by_author Out Client (message_of m wire Req) may.client wrong.1)
-  sent_keeps Req may rule (inr b) = request_keeps Out (λ out. may) rule b
+  sent_keeps Req may rule (inr (inr b)) = request_keeps Out (λ out. may) rule b
   sent_keeps Oack may rule (inl wrong) = oack_kind m.side m.agreed (by_author Out Server (message_of m wire Oack) may.server wrong.1)
-  sent_keeps Oack may rule (inr b) = oack_keeps Out may.agreed (λ out get k bytes p. may.no_data get k (block_sent h m wire division routed k bytes p)) rule b
+  sent_keeps Oack may rule (inr (inr b)) = oack_keeps Out may.agreed (λ out get k bytes p. may.no_data get k (block_sent h m wire division routed k bytes p)) rule b
   sent_keeps (Data k) may rule (inl wrong) = data_kind_out m.side k (block (blksize_of m) wire k) (by_author Out (sender_of m.side) (message_of m wire (Data k)) may.sender wrong.1)
-  sent_keeps (Data k) may rule (inr b) = terms_keep (message_of m wire (Data k)) (data_sent k may) rule b
+  sent_keeps (Data k) may rule (inr (inr b)) = terms_keep (message_of m wire (Data k)) (data_sent k may) rule b
   sent_keeps (Ack j) may rule (inl wrong) = ack_kind_out m.side j (by_author Out (receiver_of m.side) (Message.Ack j) may.receiver wrong.1)
-  sent_keeps (Ack j) may rule (inr b) = terms_keep (Message.Ack j) (ack_sent j may) rule b
+  sent_keeps (Ack j) may rule (inr (inr b)) = terms_keep (Message.Ack j) (ack_sent j may) rule b
+  sent_keeps (Error code message) may rule (inl wrong) = error_kind Out h.named m.side code message wrong.1
+  sent_keeps (Error code message) may rule (inr (inr b)) = b
+  sent_keeps p may rule (inr (inl b)) = stays_silent h m wire division routed (Sent p) (may, own) b.1
 
   came_keeps : (p : MachinePacket) → MayCome m wire h.named view p → Keeps In p
   came_keeps Req may rule (inl wrong) = request_kind m.side (request_of m) (by_author In Server (message_of m wire Req) may wrong.1)
-  came_keeps Req may rule (inr b) = request_keeps In (λ out. absurd (cc)) rule b
+  came_keeps Req may rule (inr (inr b)) = request_keeps In (λ out. absurd (cc)) rule b
   came_keeps Oack may rule (inl wrong) = oack_kind m.side m.agreed (by_author In Client (message_of m wire Oack) may.client wrong.1)
-  came_keeps Oack may rule (inr b) = oack_keeps In may.agreed (λ out. absurd (cc)) rule b
+  came_keeps Oack may rule (inr (inr b)) = oack_keeps In may.agreed (λ out. absurd (cc)) rule b
   came_keeps (Data k) may rule (inl wrong) = data_kind_in m.side k (block (blksize_of m) wire k) (by_author In (receiver_of m.side) (message_of m wire (Data k)) may.receiver wrong.1)
-  came_keeps (Data k) may rule (inr b) = terms_keep (message_of m wire (Data k)) (data_came k may) rule b
+  came_keeps (Data k) may rule (inr (inr b)) = terms_keep (message_of m wire (Data k)) (data_came k may) rule b
   came_keeps (Ack j) may rule (inl wrong) = ack_kind_in m.side j (by_author In (sender_of m.side) (Message.Ack j) may.sender wrong.1)
-  came_keeps (Ack j) may rule (inr b) = terms_keep (Message.Ack j) (ack_came j may) rule b
+  came_keeps (Ack j) may rule (inr (inr b)) = terms_keep (Message.Ack j) (ack_came j may) rule b
+  came_keeps (Error code message) may rule (inl wrong) = error_kind In h.named m.side code message wrong.1
+  came_keeps (Error code message) may rule (inr (inr b)) = b
+  came_keeps p may rule (inr (inl b)) = stays_silent h m wire division routed (Took p) (may, own) b.1
 
   -- the next deed breaks no rule of its kind, whichever it is
   pub deed_keeps : (deed : Deed) → IsOneSided m wire h.named (deed ∷ view) → Keeps (dir_of deed) (packet_of deed)

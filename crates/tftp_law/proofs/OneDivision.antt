@@ -10,7 +10,7 @@ use Rattle.tftp_packet.specs.declared.kinds.Dir.{Dir}
 use Rattle.tftp_packet.specs.declared.kinds.Dir.TheVariants.{In, Out}
 use Rattle.tftp_ends.specs.CaptureText.{Datagram, Header}
 use Rattle.tftp_ends.specs.Meaning.{Meaning}
-use Rattle.tftp_ends.specs.Machines.{MachinePacket, Req, Oack, Data, Ack, Deed, Sent, Took, message_of}
+use Rattle.tftp_ends.specs.Machines.{MachinePacket, Req, Oack, Data, Ack, Deed, Sent, Took, message_of, Error}
 use Rattle.tftp_ends.specs.OneSide.{IsOneSided}
 use Rattle.tftp_ends.specs.Ports.{asks, first_of, route_of, is_of_transfer}
 use Rattle.tftp_ends.specs.declared.route.Route.{Route}
@@ -24,8 +24,7 @@ use Rattle.tftp_law.specs.declared.rule.Rule.{Rule}
 use Rattle.tftp_law.proofs.Spelled.{spelled_once}
 use Rattle.tftp_law.proofs.FirstRequests.{begins_asked, or_some, asks_route}
 use Rattle.tftp_law.proofs.RouteTests.{two_ways, IsTold, request_begins}
-use Rattle.tftp_law.proofs.Routed.{routed_by}
-use Rattle.tftp_law.proofs.Opening.{starts_of}
+use Rattle.tftp_law.proofs.Routed.{routed_by, starts_of}
 use Rattle.tftp_law.proofs.Unasked.{none_view}
 use Rattle.tftp_law.proofs.RoutesBack.{request_is}
 use Rattle.tftp_law.proofs.Parted.{parted}
@@ -67,12 +66,14 @@ no_stray_route Req e = cc
 no_stray_route Oack e = cc
 no_stray_route (Data k) e = cc
 no_stray_route (Ack j) e = cc
+no_stray_route (Error code text) e = cc
 
 no_answer_route : (p : MachinePacket) → packet_route p ≡ Route.StrayAnswer → ⊥
 no_answer_route Req e = cc
 no_answer_route Oack e = cc
 no_answer_route (Data k) e = cc
 no_answer_route (Ack j) e = cc
+no_answer_route (Error code text) e = cc
 
 deed_one : (a b : Deed) → dir_of a ≡ dir_of b → packet_of a ≡ packet_of b → a ≡ b
 deed_one (Sent p) (Sent q) way is = ap Sent is
@@ -193,7 +194,7 @@ module _ (h : Header) where
 
     add_said : FindsPlace h ds d → (m : Message) → Spells d.payload m → route_of h ds d ≡ Route.Peer → More
     add_said place (Message.Request asked) s is = absurd (place.not_back is asked s)
-    add_said place (Message.Error code text) s is = absurd (place.no_error (code, text, record { routed = ap is_of_transfer is; spells = s }))
+    add_said place (Message.Error code text) s is = add_peer place (Error code text) (λ e. cc) refl (Message.Error code text) s refl is
     add_said place (Message.Oack options) s is = add_peer place Oack (λ e. cc) refl (Message.Oack options) s refl is
     add_said place (Message.Data k bytes) s is = add_peer place (Data k) (λ e. cc) refl (Message.Data k bytes) s refl is
     add_said place (Message.Ack j) s is = add_peer place (Ack j) (λ e. cc) refl (Message.Ack j) s refl is
@@ -230,6 +231,7 @@ module _ (h : Header) where
     by Oack = (m, s)
     by (Data k) = (m, s)
     by (Ack j) = (m, s)
+    by (Error code text) = (m, s)
   read_of d Stray s = tt
   read_of d StrayAnswer s = s
 
@@ -248,11 +250,6 @@ module _ (h : Header) where
   spelled Route.WrongPort d t read = absurd (cc)
   spelled Route.NoStrayAnswer d t read = absurd (cc)
 
-  main_says : (d : Datagram) (part : Part) → SaysAsBy says_some d part → is_of_transfer (part_route part) ≡ true → (p : MachinePacket) × says_some p d.payload
-  main_says d (Main deed) s t = (packet_of deed, s.1)
-  main_says d Stray s t = absurd (cc)
-  main_says d StrayAnswer s t = absurd (cc)
-
   peer_is_other : (deed : Deed) → packet_route (packet_of deed) ≡ Route.Peer → packet_of deed ≡ Req → ⊥
   peer_is_other deed is e = let both : Route.Request ≡ Route.Peer = sym (ap packet_route e) ∙ is in cc
 
@@ -265,14 +262,10 @@ module _ (h : Header) where
   place_of x d part starts routed = record {
     read = read;
     lawful = lawful;
-    no_error = λ b. error b.0 b.1 b.2 (main_says d part routed.1 (ap is_of_transfer (sym routed.0) ∙ b.2.routed));
     not_back = λ is asked s. back asked s (peer_main d part routed.1 (sym routed.0 ∙ is)) (sym routed.0 ∙ is);
   } where
     read : IsRead (route_of h (datagrams_of x) d) d
     read = subst (λ r. IsRead r d) (sym routed.0) (read_of d part routed.1)
-
-    error : (code : ℕ) (text : List ℕ) → Says h (datagrams_of x) d (Message.Error code text) → (p : MachinePacket) × says_some p d.payload → ⊥
-    error code text says (p, (m, s, is)) = let both : None ≡ Some p = ap packet_in (spelled_once d.payload (Message.Error code text) m says.spells s) ∙ is in cc
 
     back : (asked : RequestParts) → Spells d.payload (Message.Request asked) → (deed : Deed) × (part ≡ Main deed) × says_some (packet_of deed) d.payload → part_route part ≡ Route.Peer → ⊥
     back asked s (deed, is, (m, t, at)) peer =
@@ -286,7 +279,7 @@ module _ (h : Header) where
     lawful Rule.NoRequest low b = first_main d part x starts (none_view h says_some x routed.2 (starts_before h.named d part x starts) b.0) (sym routed.0 ∙ b.1)
     lawful (Rule.Malformed fault) low b = let (m, s) = spelled (route_of h (datagrams_of x) d) d b.0 read in no_fault d.payload m fault s.1 b.1.0
     lawful Rule.WrongKind low b = omega (arith, low)
-    lawful Rule.TransferAborted low b = omega (arith, low)
+    lawful Rule.AfterError low b = omega (arith, low)
     lawful Rule.RequestChanged low b = omega (arith, low)
     lawful Rule.RequestAfterStart low b = omega (arith, low)
     lawful Rule.ReplyChanged low b = omega (arith, low)
@@ -322,6 +315,7 @@ some_of m wire Req payload s = (message_of m wire Req, s, refl)
 some_of m wire Oack payload s = (message_of m wire Oack, s, refl)
 some_of m wire (Data k) payload s = (message_of m wire (Data k), s, refl)
 some_of m wire (Ack j) payload s = (message_of m wire (Ack j), s, refl)
+some_of m wire (Error code text) payload s = (message_of m wire (Error code text), s, refl)
 
 part_some : (h : Header) (m : Meaning) (wire : List ℕ) (ids : TransferIds) (earlier : Division) (d : Datagram) (part : Part) → HasPartBy h (says_of m wire) ids earlier d part → HasPartBy h says_some ids earlier d part
 part_some h m wire ids earlier d (Main deed) p = record { dir = p.dir; client = p.client; server = p.server; spells = some_of m wire (packet_of deed) d.payload p.spells }
@@ -334,4 +328,4 @@ parts_some h m wire ids (p ∷ earlier) parts = (part_some h m wire ids earlier 
 
 pub run_divides : (h : Header) (m : Meaning) (wire : List ℕ) (ids : TransferIds) (division : Division) → HaveParts h m wire ids division → IsOneSided m wire h.named (view_in division)
     → HavePartsBy h says_some ids division × Starts h.named (view_in division)
-run_divides h m wire ids division parts own = (parts_some h m wire ids division parts, starts_of m wire h.named (view_in division) own)
+run_divides h m wire ids division parts own = (parts_some h m wire ids division parts, starts_of h m wire ids division parts own)

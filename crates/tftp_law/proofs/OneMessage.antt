@@ -13,7 +13,7 @@ use Rattle.tftp_ends.specs.declared.terms.Terms.{Terms}
 use Rattle.tftp_ends.specs.declared.rule.EndRule.{EndRule}
 use Rattle.tftp_nego.specs.Faults.{Holds}
 use Rattle.tftp_nego.specs.declared.fault.NegoFault.{NegoFault}
-use Rattle.tftp_law.specs.Rules.{number_of, FirstBroken, FirstAsked, Agrees, Begins, NotAnswered, FirstAnswer, Says, IsWrongKind, FirstOack, EndBreaks, Broken}
+use Rattle.tftp_law.specs.Rules.{number_of, FirstBroken, FirstAsked, Agrees, Begins, NotAnswered, FirstAnswer, Says, IsWrongKind, FirstOack, EndBreaks, Broken, GoesOn}
 use Rattle.tftp_law.specs.MessageRules.{AreTermsAfter, TermsBreak, OackBreaks, KindBreaks, MessageBreaks, rule_of_end}
 use Rattle.tftp_law.specs.declared.rule.Rule.{Rule}
 use Rattle.tftp_law.proofs.Spelled.{spelled_once}
@@ -31,7 +31,7 @@ module _ (h : Header) (earlier : List Datagram) (d : Datagram) (m : Message) (as
   once other is = asked_once h earlier other asked is first
 
   by_kind : (x : Message) (rule : Rule) → Says h earlier d x → KindBreaks h asked passed d.dir x rule → MessageBreaks h asked passed d.dir m rule
-  by_kind x rule says b = inr (subst (λ y. KindBreaks h asked passed d.dir y rule) (same_message x says) b)
+  by_kind x rule says b = inr (inr (subst (λ y. KindBreaks h asked passed d.dir y rule) (same_message x says) b))
 
   oack_there : (fault : NegoFault) (f : FirstOack h earlier d fault) → NotAnswered asked.side passed × Holds fault asked f.oack
   oack_there fault f = subst (λ (a : RequestParts). NotAnswered a.side passed × Holds fault a f.oack) (once f.asked f.first) (f.unanswered, f.wrong)
@@ -60,7 +60,7 @@ module _ (h : Header) (earlier : List Datagram) (d : Datagram) (m : Message) (as
   there (Rule.Malformed fault) b = absurd (no_fault d.payload m fault spells.1 b.1.0)
   there Rule.WrongKind (x, other, says, is, wrong) =
       inl (refl, subst (λ (a : RequestParts). IsWrongKind (author_of h.named d.dir) a.side m) (once other is) (subst (IsWrongKind (author_of h.named d.dir) other.side) (same_message x says) wrong))
-  there Rule.TransferAborted (code, text, says) = by_kind (Message.Error code text) Rule.TransferAborted says refl
+  there Rule.AfterError (now, says, goes) = inr (inl (refl, subst (GoesOn passed d.dir) (same_message now says) goes))
   there Rule.RequestChanged (was, now, is, says, other) = by_kind (Message.Request now) Rule.RequestChanged says (λ same. other (same ∙ sym (once was is)))
   there Rule.RequestAfterStart (out, (now, says), went) = by_kind (Message.Request now) Rule.RequestAfterStart says (out, went)
   there Rule.ReplyChanged (other, oack, is, answered, says) =
@@ -123,7 +123,7 @@ module _ (h : Header) (earlier : List Datagram) (d : Datagram) (m : Message) (as
   kind_back (Message.Request now) says Rule.RequestChanged b = (asked, now, first, says, b)
   kind_back (Message.Request now) says Rule.RequestAfterStart b = (b.0, (now, says), b.1)
   kind_back (Message.Request now) says rule b = absurd b
-  kind_back (Message.Error code text) says rule b = subst (Broken h earlier d) (sym b) (code, text, says)
+  kind_back (Message.Error code text) says rule b = absurd b
   kind_back (Message.Oack oack) says rule b = oack_back oack says rule b
   kind_back (Message.Data k bytes) says rule b = terms_back (Message.Data k bytes) says rule b
   kind_back (Message.Ack j) says rule b = terms_back (Message.Ack j) says rule b
@@ -133,7 +133,8 @@ module _ (h : Header) (earlier : List Datagram) (d : Datagram) (m : Message) (as
 
   back : (rule : Rule) → MessageBreaks h asked passed d.dir m rule → Broken h earlier d rule
   back rule (inl (is, wrong)) = subst (Broken h earlier d) (sym is) (m, asked, says_so, first, wrong)
-  back rule (inr b) = kind_back m says_so rule b
+  back rule (inr (inl (is, goes))) = subst (Broken h earlier d) (sym is) (m, says_so, goes)
+  back rule (inr (inr b)) = kind_back m says_so rule b
 
   -- ---- what is found of it
 

@@ -1,11 +1,12 @@
--- How a one-sided history begins: with the client's request, and no deed in it is a request of the server.
+-- How a one-sided history begins: with the client's request, unless an ERROR comes to a server first; and no deed in it is
+-- a request of the server.
 use Rattle.std.proofs.Common.{◌≡◌, ℕ, zero, suc, List, [], ◌∷◌, inl, inr, refl, subst, arith}
 use Rattle.tftp_packet.specs.declared.kinds.Side.{Side}
 use Rattle.tftp_packet.specs.declared.kinds.Side.TheVariants.{Get, Put}
 use Rattle.tftp_packet.specs.declared.kinds.End.{End}
 use Rattle.tftp_packet.specs.declared.kinds.End.TheVariants.{Client, Server}
 use Rattle.tftp_ends.specs.Meaning.{Meaning}
-use Rattle.tftp_ends.specs.Machines.{MachinePacket, Req, Oack, Data, Ack, Deed, Sent, Took, History, HasSent, HasTaken, IsStartedOn, MayAckZeroOn}
+use Rattle.tftp_ends.specs.Machines.{MachinePacket, Req, Oack, Data, Ack, Deed, Sent, Took, History, HasSent, HasTaken, IsStartedOn, MayAckZeroOn, Error}
 use Rattle.tftp_ends.specs.OneSide.{LetsStartOn, LetsAckZeroOn, IsOneSided}
 use Rattle.tftp_ends.proofs.Members.{contains_none}
 use Rattle.tftp_law.specs.Accord.{request_at, request_back, Starts}
@@ -46,27 +47,36 @@ client_first m wire (Took Oack) may = none_sent Req may.0.asked
 client_first m wire (Took (Data k)) may = absurd (no_lets_start m.side m may.0.started)
 client_first m wire (Took (Ack zero)) may = absurd (no_lets_zero m.side m (may.0.zero refl))
 client_first m wire (Took (Ack (suc j))) may = none_sent (Data 1) (may.0.sent 1 (omega arith) (omega arith))
+client_first m wire (Sent (Error code text)) may = none_sent Req (may.0.asked refl)
+client_first m wire (Took (Error code text)) may = none_sent Req (may.0.asked refl)
 
--- a server begins by taking one
-pub server_first : (m : Meaning) (wire : List ℕ) (d : Deed) → IsOneSided m wire Server (d ∷ []) → d ≡ Took Req
-server_first m wire (Took Req) may = refl
-server_first m wire (Sent Req) may = let e : Server ≡ Client = may.0.client in absurd (cc)
-server_first m wire (Sent Oack) may = none_taken Req may.0.asked
-server_first m wire (Sent (Data k)) may = absurd (no_start m.side m may.0.started)
-server_first m wire (Sent (Ack zero)) may = absurd (no_zero_at_client m.side m (may.0.zero refl))
-server_first m wire (Sent (Ack (suc j))) may = none_taken (Data 1) (may.0.taken 1 (omega arith) (omega arith))
-server_first m wire (Took Oack) may = let e : Server ≡ Client = may.0.client in absurd (cc)
-server_first m wire (Took (Data k)) may = absurd (no_lets_start m.side m may.0.started)
-server_first m wire (Took (Ack zero)) may = absurd (no_lets_zero m.side m (may.0.zero refl))
-server_first m wire (Took (Ack (suc j))) may = none_sent (Data 1) (may.0.sent 1 (omega arith) (omega arith))
+-- a server begins by taking one, unless an ERROR comes first
+pub server_first : (m : Meaning) (wire : List ℕ) (d : Deed) → IsOneSided m wire Server (d ∷ []) → ((code : ℕ) (text : List ℕ) → d ≡ Took (Error code text) → ⊥) → d ≡ Took Req
+server_first m wire (Took Req) may none = refl
+server_first m wire (Sent Req) may none = let e : Server ≡ Client = may.0.client in absurd (cc)
+server_first m wire (Sent Oack) may none = none_taken Req may.0.asked
+server_first m wire (Sent (Data k)) may none = absurd (no_start m.side m may.0.started)
+server_first m wire (Sent (Ack zero)) may none = absurd (no_zero_at_client m.side m (may.0.zero refl))
+server_first m wire (Sent (Ack (suc j))) may none = none_taken (Data 1) (may.0.taken 1 (omega arith) (omega arith))
+server_first m wire (Took Oack) may none = let e : Server ≡ Client = may.0.client in absurd (cc)
+server_first m wire (Took (Data k)) may none = absurd (no_lets_start m.side m may.0.started)
+server_first m wire (Took (Ack zero)) may none = absurd (no_lets_zero m.side m (may.0.zero refl))
+server_first m wire (Took (Ack (suc j))) may none = none_sent (Data 1) (may.0.sent 1 (omega arith) (omega arith))
+server_first m wire (Sent (Error code text)) may none = none_taken Req (may.0.was_asked refl)
+server_first m wire (Took (Error code text)) may none = absurd (none code text refl)
 
 -- ---- a one-sided history starts so
 
-one_starts : (m : Meaning) (wire : List ℕ) (e : End) (deed : Deed) → IsOneSided m wire e (deed ∷ []) → deed ≡ request_at e
-one_starts m wire Client deed own = client_first m wire deed own
-one_starts m wire Server deed own = server_first m wire deed own
+-- no ERROR comes first
+abbrev pub NoErrorFirst : History → Type 0
+NoErrorFirst [] = Unit {0}
+NoErrorFirst (deed ∷ v) = (v ≡ [] → (code : ℕ) (text : List ℕ) → deed ≡ Took (Error code text) → ⊥) × NoErrorFirst v
 
-none_back : (m : Meaning) (wire : List ℕ) (e : End) (v : History) → IsOneSided m wire e (request_back e ∷ v) → ⊥
+one_starts : (m : Meaning) (wire : List ℕ) (e : End) (deed : Deed) → IsOneSided m wire e (deed ∷ []) → (e ≡ Server → (code : ℕ) (text : List ℕ) → deed ≡ Took (Error code text) → ⊥) → deed ≡ request_at e
+one_starts m wire Client deed own none = client_first m wire deed own
+one_starts m wire Server deed own none = server_first m wire deed own (none refl)
+
+pub none_back : (m : Meaning) (wire : List ℕ) (e : End) (v : History) → IsOneSided m wire e (request_back e ∷ v) → ⊥
 none_back m wire Client v own = let e : Client ≡ Server = own.0 in cc
 none_back m wire Server v own = let e : Server ≡ Client = own.0.client in cc
 
@@ -74,13 +84,13 @@ own_tail : (m : Meaning) (wire : List ℕ) (e : End) (deed : Deed) (v : History)
 own_tail m wire e (Sent p) v own = own.1
 own_tail m wire e (Took p) v own = own.1
 
--- so a one-sided history starts with the client's request
-pub starts_of : (m : Meaning) (wire : List ℕ) (e : End) (v : History) → IsOneSided m wire e v → Starts e v
-starts_of m wire e [] own = tt
-starts_of m wire e (deed ∷ v) own = (
+-- so a one-sided history starts with the client's request, where no ERROR comes to a server first
+pub one_sided_starts : (m : Meaning) (wire : List ℕ) (e : End) (v : History) → IsOneSided m wire e v → (e ≡ Server → NoErrorFirst v) → Starts e v
+one_sided_starts m wire e [] own none = tt
+one_sided_starts m wire e (deed ∷ v) own none = (
   record {
-    first = λ is. one_starts m wire e deed (subst (λ x. IsOneSided m wire e (deed ∷ x)) is own);
+    first = λ is. one_starts m wire e deed (subst (λ x. IsOneSided m wire e (deed ∷ x)) is own) (λ server. (none server).0 is);
     not_back = λ is. none_back m wire e v (subst (λ x. IsOneSided m wire e (x ∷ v)) is own);
   },
-  starts_of m wire e v (own_tail m wire e deed v own),
+  one_sided_starts m wire e v (own_tail m wire e deed v own) (λ server. (none server).1),
 )

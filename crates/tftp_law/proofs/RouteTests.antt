@@ -10,7 +10,7 @@ use Rattle.tftp_packet.specs.declared.kinds.Side.TheVariants.{Get, Put}
 use Rattle.tftp_packet.specs.declared.kinds.Dir.TheVariants.{In, Out}
 use Rattle.tftp_ends.specs.CaptureText.{Datagram, PeerId}
 use Rattle.tftp_ends.specs.Meaning.{Meaning}
-use Rattle.tftp_ends.specs.Machines.{MachinePacket, Req, Oack, Data, Ack, message_of}
+use Rattle.tftp_ends.specs.Machines.{MachinePacket, Req, Oack, Data, Ack, message_of, Error}
 use Rattle.tftp_ends.specs.Ports.{goes_out, comes_in, begins_request, begins_error, first_of, or_this, same_peer}
 use Rattle.tftp_law.specs.Dress.{Saying}
 use Rattle.tftp_law.proofs.FirstRequests.{first_stays}
@@ -46,6 +46,7 @@ other_begins m wire payload Req other s = absurd (other refl)
 other_begins m wire payload Oack other s = subst (λ p. ((opcode_of p == 1) || (opcode_of p == 2)) ≡ false) (sym s.1.bytes) refl
 other_begins m wire payload (Data k) other (b, (x, y, pair, is)) = subst (λ p. ((opcode_of p == 1) || (opcode_of p == 2)) ≡ false) (sym is) refl
 other_begins m wire payload (Ack j) other (b, (x, y, pair, is)) = subst (λ p. ((opcode_of p == 1) || (opcode_of p == 2)) ≡ false) (sym is) refl
+other_begins m wire payload (Error code text) other (b, (x, y, pair, string, is)) = subst (λ p. ((opcode_of p == 1) || (opcode_of p == 2)) ≡ false) (sym is) refl
 
 pub error_begins : (d : Datagram) (code : ℕ) (text : List ℕ) → Spells d.payload (Message.Error code text) → (begins_request d ≡ false) × (begins_error d ≡ true)
 error_begins d code text (b, (x, y, pair, string, is)) = (

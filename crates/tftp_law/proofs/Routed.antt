@@ -7,10 +7,10 @@ use Rattle.tftp_ends.specs.Meaning.{Meaning}
 use Rattle.tftp_ends.specs.OneSide.{IsOneSided}
 use Rattle.tftp_law.specs.Dress.{Division, view_in, TransferIds, Saying, says_of, HavePartsBy, HaveParts}
 use Rattle.tftp_law.specs.Accord.{AreRoutedBy, AreRouted, Starts}
-use Rattle.tftp_law.proofs.Opening.{starts_of}
+use Rattle.tftp_law.proofs.Opening.{one_sided_starts}
 use Rattle.tftp_law.proofs.RouteTests.{request_begins, other_begins, IsTold}
 use Rattle.tftp_law.proofs.ClientRoutes.{routed_at_client}
-use Rattle.tftp_law.proofs.ServerRoutes.{routed_at_server}
+use Rattle.tftp_law.proofs.ServerRoutes.{no_error_first, routed_at_server}
 
 pub named_is : (h : Header) (e : End) → h.named ≡ e → h ≡ record { named = e; service = h.service }
 named_is h e is = ap (λ x. record { named = x; service = h.service }) is
@@ -31,6 +31,11 @@ told_of m wire = record {
   other = λ p apart payload s. other_begins m wire payload p apart s;
 }
 
--- and so the parts of a run have their routes
+-- the parts of a run start with the client's request
+pub starts_of : (h : Header) (m : Meaning) (wire : List ℕ) (ids : TransferIds) (division : Division) → HaveParts h m wire ids division → IsOneSided m wire h.named (view_in division) → Starts h.named (view_in division)
+starts_of h m wire ids division parts own = one_sided_starts m wire h.named (view_in division) own
+    (λ server. no_error_first h.service (says_of m wire) (told_of m wire) ids division (subst (λ (x : Header). HavePartsBy x (says_of m wire) ids division) (named_is h Server server) parts))
+
+-- and so they have their routes
 pub routed : (h : Header) (m : Meaning) (wire : List ℕ) (ids : TransferIds) (division : Division) → HaveParts h m wire ids division → IsOneSided m wire h.named (view_in division) → AreRouted h m wire division
-routed h m wire ids division parts own = routed_by h (says_of m wire) (told_of m wire) ids division parts (starts_of m wire h.named (view_in division) own)
+routed h m wire ids division parts own = routed_by h (says_of m wire) (told_of m wire) ids division parts (starts_of h m wire ids division parts own)

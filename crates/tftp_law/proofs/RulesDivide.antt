@@ -11,22 +11,22 @@ use Rattle.tftp_packet.specs.declared.kinds.Dir.{Dir}
 use Rattle.tftp_packet.specs.declared.kinds.Dir.TheVariants.{In, Out}
 use Rattle.tftp_ends.specs.CaptureText.{Datagram, Header, PeerId, peer_of}
 use Rattle.tftp_ends.specs.Meaning.{Meaning, request_of}
-use Rattle.tftp_ends.specs.Machines.{Req, Oack, Data, Ack, Deed, Sent, Took, History, HasSent, HasTaken}
+use Rattle.tftp_ends.specs.Machines.{Req, Oack, Data, Ack, Error, Deed, Sent, Took, History, HasSent, HasTaken}
 use Rattle.tftp_ends.specs.OneSide.{IsOneSided}
 use Rattle.tftp_ends.specs.Ports.{goes_out, comes_in, begins_request, begins_error, is_from_client, asks, first_of, or_this, has_come_from, same_peer, route_out, route_at_client, route_to_service, route_at_server, route_after, route_of, is_of_transfer, transfer_of}
 use Rattle.tftp_ends.specs.Rules.{HasPassed}
 use Rattle.tftp_ends.specs.declared.route.Route.{Route}
 use Rattle.tftp_ends.proofs.Members.{contains_first, contains_later, contains_none}
-use Rattle.tftp_law.proofs.Opening.{starts_of}
+use Rattle.tftp_law.proofs.Opening.{none_back}
 use Rattle.tftp_law.proofs.Unasked.{none_view}
 use Rattle.tftp_law.specs.Dress.{says_of, Part, Main, Stray, StrayAnswer, Division, datagrams_of, view_in}
-use Rattle.tftp_law.specs.Accord.{Accords, part_route, SaysAs, AreRouted}
+use Rattle.tftp_law.specs.Accord.{Accords, part_route, SaysAs, AreRouted, request_at, Starts}
 use Rattle.tftp_law.specs.Rules.{FirstAsked, Answer, Agrees, Begins, FirstAnswer}
 use Rattle.tftp_law.specs.declared.rule.Rule.{Rule}
 use Rattle.tftp_law.specs.OneEnded.{IsRead, Passes, OneEnded}
 use Rattle.tftp_law.proofs.FirstRequests.{begins_asked, or_some, asks_is, asks_route, first_spells, first_stays}
 use Rattle.tftp_law.proofs.FirstSpelled.{request_spelled}
-use Rattle.tftp_law.proofs.NextDatagram.{of_wire, may_send_data, may_come_data, may_send_ack, may_come_ack, agreed_now, may_send_oack, may_come_oack, asked_now, may_send_request, may_come_request}
+use Rattle.tftp_law.proofs.NextDatagram.{of_wire, may_send_data, may_come_data, may_send_ack, may_come_ack, agreed_now, may_send_oack, may_come_oack, asked_now, may_send_request, may_come_request, may_send_error, may_come_error}
 use Rattle.tftp_law.proofs.RouteTests.{request_begins}
 
 -- ---- routes, read backwards
@@ -172,6 +172,8 @@ module _ (h : Header) (m : Meaning) (wire : List ℕ) where
   now_there d (Main (Took (Data k))) earlier is = absurd (cc)
   now_there d (Main (Sent (Ack j))) earlier is = absurd (cc)
   now_there d (Main (Took (Ack j))) earlier is = absurd (cc)
+  now_there d (Main (Sent (Error code text))) earlier is = absurd (cc)
+  now_there d (Main (Took (Error code text))) earlier is = absurd (cc)
   now_there d Stray earlier is = absurd (cc)
   now_there d StrayAnswer earlier is = absurd (cc)
 
@@ -204,7 +206,7 @@ module _ (h : Header) (m : Meaning) (wire : List ℕ) where
 -- ---- one datagram more
 
 module _ (h : Header) (m : Meaning) (wire : List ℕ) where
-  module _ (division : Division) (routed : AreRouted h m wire division) (own : IsOneSided m wire h.named (view_in division)) (lawful : OneEnded h (datagrams_of division))
+  module _ (division : Division) (routed : AreRouted h m wire division) (own : IsOneSided m wire h.named (view_in division)) (starts : Starts h.named (view_in division)) (lawful : OneEnded h (datagrams_of division))
       (d : Datagram) (passes : Passes h (datagrams_of division) d) (acc : Accords h m wire (d ∷ datagrams_of division)) where
     abbrev ds : List Datagram
     ds = datagrams_of division
@@ -212,6 +214,19 @@ module _ (h : Header) (m : Meaning) (wire : List ℕ) where
     -- its part, and what follows of it
     abbrev Placing : Type 0
     Placing = (part : Part) × (route_of h ds d ≡ part_route part) × SaysAs m wire d part × IsOneSided m wire h.named (view_in (record { datagram = d; part = part } ∷ division))
+
+    -- and the view starts with the request
+    abbrev Started : Type 0
+    Started = (part : Part) × (route_of h ds d ≡ part_route part) × SaysAs m wire d part × IsOneSided m wire h.named (view_in (record { datagram = d; part = part } ∷ division))
+        × Starts h.named (view_in (record { datagram = d; part = part } ∷ division))
+
+    stands : (deed : Deed) → (view_in division ≡ [] → deed ≡ request_at h.named) → IsOneSided m wire h.named (deed ∷ view_in division) → Starts h.named (deed ∷ view_in division)
+    stands deed is all = (record { first = is; not_back = λ e. none_back m wire h.named (view_in division) (subst (λ x. IsOneSided m wire h.named (x ∷ view_in division)) e all) }, starts)
+
+    started : (view_in division ≡ [] → ⊥) → Placing → Started
+    started some (Main deed, is, says, all) = (Main deed, is, says, all, stands deed (λ e. absurd (some e)) all)
+    started some (Stray, is, says, all) = (Stray, is, says, all, starts)
+    started some (StrayAnswer, is, says, all) = (StrayAnswer, is, says, all, starts)
 
     module _ (main : is_of_transfer (route_of h ds d) ≡ true) (was : Datagram) (some : first_of (asks h) ds ≡ Some was) where
       first : FirstAsked h ds (request_of m)
@@ -238,40 +253,49 @@ module _ (h : Header) (m : Meaning) (wire : List ℕ) where
 
       place : (dir : Dir) → d.dir ≡ dir → (x : Message) → Spells d.payload x → Placing
       place Out way (Message.Request r) s =
-          let may = may_send_request h m wire division routed own lawful d passes main first asks_for acc r s way in
-          (Main (Sent Req), request_route r s (out_from h.named d may.client way), (way, subst (λ q. Spells d.payload (Message.Request q)) (asked_now h m wire division routed own lawful d passes main first asks_for acc r s) s), (may, own))
+          let may = may_send_request h m wire division routed own starts lawful d passes main first asks_for acc r s way in
+          (Main (Sent Req), request_route r s (out_from h.named d may.client way), (way, subst (λ q. Spells d.payload (Message.Request q)) (asked_now h m wire division routed own starts lawful d passes main first asks_for acc r s) s), (may, own))
       place In way (Message.Request r) s =
-          let may = may_come_request h m wire division routed own lawful d passes main first asks_for acc r s way in
-          (Main (Took Req), request_route r s (in_from h.named d may way), (way, subst (λ q. Spells d.payload (Message.Request q)) (asked_now h m wire division routed own lawful d passes main first asks_for acc r s) s), (may, own))
+          let may = may_come_request h m wire division routed own starts lawful d passes main first asks_for acc r s way in
+          (Main (Took Req), request_route r s (in_from h.named d may way), (way, subst (λ q. Spells d.payload (Message.Request q)) (asked_now h m wire division routed own starts lawful d passes main first asks_for acc r s) s), (may, own))
       place Out way (Message.Oack o) s = (
         Main (Sent Oack),
         other_route (Message.Oack o) s (λ r e. cc),
-        (way, subst (λ q. Spells d.payload (Message.Oack q)) (sym (agreed_now h m wire division routed own lawful d passes main first asks_for acc o s).0) s),
-        (may_send_oack h m wire division routed own lawful d passes main first asks_for acc o s way, own),
+        (way, subst (λ q. Spells d.payload (Message.Oack q)) (sym (agreed_now h m wire division routed own starts lawful d passes main first asks_for acc o s).0) s),
+        (may_send_oack h m wire division routed own starts lawful d passes main first asks_for acc o s way, own),
       )
       place In way (Message.Oack o) s = (
         Main (Took Oack),
         other_route (Message.Oack o) s (λ r e. cc),
-        (way, subst (λ q. Spells d.payload (Message.Oack q)) (sym (agreed_now h m wire division routed own lawful d passes main first asks_for acc o s).0) s),
-        (may_come_oack h m wire division routed own lawful d passes main first asks_for acc o s way, own),
+        (way, subst (λ q. Spells d.payload (Message.Oack q)) (sym (agreed_now h m wire division routed own starts lawful d passes main first asks_for acc o s).0) s),
+        (may_come_oack h m wire division routed own starts lawful d passes main first asks_for acc o s way, own),
       )
       place Out way (Message.Data k bytes) s = (
         Main (Sent (Data k)),
         other_route (Message.Data k bytes) s (λ r e. cc),
-        (way, subst (λ q. Spells d.payload (Message.Data k q)) (of_wire h m wire division routed own lawful d passes main first asks_for acc k bytes s).1 s),
-        (may_send_data h m wire division routed own lawful d passes main first asks_for acc k bytes s way, own),
+        (way, subst (λ q. Spells d.payload (Message.Data k q)) (of_wire h m wire division routed own starts lawful d passes main first asks_for acc k bytes s).1 s),
+        (may_send_data h m wire division routed own starts lawful d passes main first asks_for acc k bytes s way, own),
       )
       place In way (Message.Data k bytes) s = (
         Main (Took (Data k)),
         other_route (Message.Data k bytes) s (λ r e. cc),
-        (way, subst (λ q. Spells d.payload (Message.Data k q)) (of_wire h m wire division routed own lawful d passes main first asks_for acc k bytes s).1 s),
-        (may_come_data h m wire division routed own lawful d passes main first asks_for acc k bytes s way, own),
+        (way, subst (λ q. Spells d.payload (Message.Data k q)) (of_wire h m wire division routed own starts lawful d passes main first asks_for acc k bytes s).1 s),
+        (may_come_data h m wire division routed own starts lawful d passes main first asks_for acc k bytes s way, own),
       )
       place Out way (Message.Ack j) s =
-          (Main (Sent (Ack j)), other_route (Message.Ack j) s (λ r e. cc), (way, s), (may_send_ack h m wire division routed own lawful d passes main first asks_for acc j s way, own))
+          (Main (Sent (Ack j)), other_route (Message.Ack j) s (λ r e. cc), (way, s), (may_send_ack h m wire division routed own starts lawful d passes main first asks_for acc j s way, own))
       place In way (Message.Ack j) s =
-          (Main (Took (Ack j)), other_route (Message.Ack j) s (λ r e. cc), (way, s), (may_come_ack h m wire division routed own lawful d passes main first asks_for acc j s way, own))
-      place dir way (Message.Error code text) s = absurd (passes.lawful Rule.TransferAborted (code, text, record { routed = main; spells = s }))
+          (Main (Took (Ack j)), other_route (Message.Ack j) s (λ r e. cc), (way, s), (may_come_ack h m wire division routed own starts lawful d passes main first asks_for acc j s way, own))
+      place Out way (Message.Error code text) s =
+          (Main (Sent (Error code text)), other_route (Message.Error code text) s (λ r e. cc), (way, s), (may_send_error h m wire division routed own starts lawful d passes main first asks_for acc code text s way, own))
+      place In way (Message.Error code text) s =
+          (Main (Took (Error code text)), other_route (Message.Error code text) s (λ r e. cc), (way, s), (may_come_error h m wire division routed own starts lawful d passes main first asks_for acc code text s way, own))
+
+      not_first : view_in division ≡ [] → ⊥
+      not_first e = elim asks_for [
+        | inl sent ↦ contains_none (Sent Req) (subst (λ v. HasSent v Req) e sent)
+        | inr taken ↦ contains_none (Took Req) (subst (λ v. HasTaken v Req) e taken)
+      ]
 
     -- the first request
     module _ (none : first_of (asks h) ds ≡ None) (is : route_of h ds d ≡ Route.Request) (x : Message) (s : Spells d.payload x) where
@@ -282,9 +306,12 @@ module _ (h : Header) (m : Meaning) (wire : List ℕ) where
       now_asked r t = (d, ap (λ o. or_this o (asks h d) d) none ∙ ap (λ b. or_this None b d) asks_now, t)
 
       empty : view_in division ≡ []
-      empty = none_view h (says_of m wire) division routed (starts_of m wire h.named (view_in division) own) none
+      empty = none_view h (says_of m wire) division routed starts none
 
-      place_first : (dir : Dir) → d.dir ≡ dir → Placing
+      no_errors : {P : Type 0} (deed : Deed) → Contains (view_in division) deed → P
+      no_errors deed at = absurd (contains_none deed (subst (λ v. Contains v deed) empty at))
+
+      place_first : (dir : Dir) → d.dir ≡ dir → Started
       place_first dir way =
           let (r, is_request) = first_spells h ds d x none is s in
           let t : Spells d.payload (Message.Request r) = subst (Spells d.payload) is_request s in
@@ -292,34 +319,32 @@ module _ (h : Header) (m : Meaning) (wire : List ℕ) where
           let says : Spells d.payload (Message.Request (request_of m)) = subst (λ q. Spells d.payload (Message.Request q)) same t in
           let from : is_from_client h.named d ≡ true = (and_parts (is_from_client h.named d) (begins_request d) (and_parts (is_from_client h.named d && begins_request d) _ asks_now).0).0 in
           elim (from_client h.named d dir way from) [
-            | inl a ↦ (
-              Main (Sent Req),
-              is,
-              (way ∙ a.1, says),
-              (
-                record {
-                  client = a.0;
-                  no_data = λ k at. contains_none (Sent (Data k)) (subst (λ v. Contains v (Sent (Data k))) empty at);
-                  no_ack = λ j at. contains_none (Sent (Ack j)) (subst (λ v. Contains v (Sent (Ack j))) empty at);
-                },
-                own,
-              ),
-            )
-            | inr a ↦ (Main (Took Req), is, (way ∙ a.1, says), (a.0, own))
+            | inl a ↦
+                let all : IsOneSided m wire h.named (Sent Req ∷ view_in division) = (
+                  record {
+                    no_error = λ code text at. no_errors (Sent (Error code text)) at;
+                    client = a.0;
+                    no_data = λ k at. no_errors (Sent (Data k)) at;
+                    no_ack = λ j at. no_errors (Sent (Ack j)) at;
+                  },
+                  own,
+                ) in
+                (Main (Sent Req), is, (way ∙ a.1, says), all, stands (Sent Req) (λ e. sym (ap request_at a.0)) all)
+            | inr a ↦ (Main (Took Req), is, (way ∙ a.1, says), (a.0, own), stands (Took Req) (λ e. sym (ap request_at a.0)) (a.0, own))
           ]
 
-    main_by : (o : Option Datagram) → first_of (asks h) ds ≡ o → (r : Route) → route_of h ds d ≡ r → is_of_transfer r ≡ true → (x : Message) → Spells d.payload x → Placing
-    main_by (Some was) some r is main x s = place (ap is_of_transfer is ∙ main) was some d.dir refl x s
+    main_by : (o : Option Datagram) → first_of (asks h) ds ≡ o → (r : Route) → route_of h ds d ≡ r → is_of_transfer r ≡ true → (x : Message) → Spells d.payload x → Started
+    main_by (Some was) some r is main x s = started (not_first (ap is_of_transfer is ∙ main) was some) (place (ap is_of_transfer is ∙ main) was some d.dir refl x s)
     main_by None none r is main x s = elim (main_route r main) [
       | inl request ↦ place_first none (is ∙ request) x s d.dir refl
       | inr peer ↦ absurd (passes.lawful Rule.NoRequest (none, is ∙ peer))
     ]
 
-    placed : (r : Route) → route_of h ds d ≡ r → IsRead r d → Placing
+    placed : (r : Route) → route_of h ds d ≡ r → IsRead r d → Started
     placed Route.Request is (x, s) = main_by (first_of (asks h) ds) refl Route.Request is refl x s
     placed Route.Peer is (x, s) = main_by (first_of (asks h) ds) refl Route.Peer is refl x s
-    placed Route.Stray is read = (Stray, is, tt, own)
-    placed Route.StrayAnswer is read = (StrayAnswer, is, read, own)
+    placed Route.Stray is read = (Stray, is, tt, own, starts)
+    placed Route.StrayAnswer is read = (StrayAnswer, is, read, own, starts)
     placed Route.ForeignPort is read = absurd read
     placed Route.WrongPort is read = absurd read
     placed Route.NoStrayAnswer is read = absurd read
@@ -327,17 +352,17 @@ module _ (h : Header) (m : Meaning) (wire : List ℕ) where
   -- ---- all of them
 
   abbrev Divides : List Datagram → Type 0
-  Divides earlier = (division : Division) × (datagrams_of division ≡ earlier) × AreRouted h m wire division × IsOneSided m wire h.named (view_in division)
+  Divides earlier = (division : Division) × (datagrams_of division ≡ earlier) × AreRouted h m wire division × IsOneSided m wire h.named (view_in division) × Starts h.named (view_in division)
 
-  one_more : (division : Division) → AreRouted h m wire division → IsOneSided m wire h.named (view_in division) → (earlier : List Datagram) → datagrams_of division ≡ earlier
+  one_more : (division : Division) → AreRouted h m wire division → IsOneSided m wire h.named (view_in division) → Starts h.named (view_in division) → (earlier : List Datagram) → datagrams_of division ≡ earlier
       → (d : Datagram) → OneEnded h (d ∷ earlier) → Accords h m wire (d ∷ earlier) → Divides (d ∷ earlier)
-  one_more division routed own earlier same d lawful acc =
+  one_more division routed own starts earlier same d lawful acc =
       let all : OneEnded h (d ∷ datagrams_of division) = subst (λ ds. OneEnded h (d ∷ ds)) (sym same) lawful in
-      let (part, route, says, more) = placed division routed own all.1 d all.0 (subst (λ ds. Accords h m wire (d ∷ ds)) (sym same) acc) (route_of h (datagrams_of division) d) refl all.0.read in
-      (record { datagram = d; part = part } ∷ division, ap (λ ds. d ∷ ds) same, (route, says, routed), more)
+      let (part, route, says, more, start) = placed division routed own starts all.1 d all.0 (subst (λ ds. Accords h m wire (d ∷ ds)) (sym same) acc) (route_of h (datagrams_of division) d) refl all.0.read in
+      (record { datagram = d; part = part } ∷ division, ap (λ ds. d ∷ ds) same, (route, says, routed), more, start)
 
   pub divides : (earlier : List Datagram) → OneEnded h earlier → Accords h m wire earlier → Divides earlier
-  divides [] lawful acc = ([], refl, tt, tt)
+  divides [] lawful acc = ([], refl, tt, tt, tt)
   divides (d ∷ earlier) lawful acc =
-      let (division, same, routed, own) = divides earlier lawful.1 (before h m wire d earlier acc) in
-      one_more division routed own earlier same d lawful acc
+      let (division, same, routed, own, starts) = divides earlier lawful.1 (before h m wire d earlier acc) in
+      one_more division routed own starts earlier same d lawful acc

@@ -9,8 +9,7 @@ use Rattle.tftp_law.specs.Law.{IsSeen, ShowsBy}
 use Rattle.tftp_law.specs.Dress.{view_in}
 use Rattle.tftp_law.specs.Accord.{Accords}
 use Rattle.tftp_law.specs.OneEnded.{OneEnded, Meant}
-use Rattle.tftp_law.proofs.Opening.{starts_of}
-use Rattle.tftp_law.proofs.Routed.{routed}
+use Rattle.tftp_law.proofs.Routed.{routed, starts_of}
 use Rattle.tftp_law.proofs.RunsPass.{ruled, accords}
 use Rattle.tftp_ends.specs.Runs.{IsComplete}
 use Rattle.tftp_law.proofs.WholeIsMeant.{meant}
@@ -21,8 +20,9 @@ pub run_keeps : (h : Header) (m : Meaning) (wire : List ℕ) (datagrams : List D
 run_keeps h m wire datagrams seen =
     let division = seen.dressed.division in
     let own : IsOneSided m wire h.named (view_in division) = subst (IsOneSided m wire h.named) (sym seen.dressed.main) (view_one_sided m wire h.named seen.view seen.run) in
+    let starts = starts_of h m wire seen.dressed.ids division seen.dressed.parts own in
     let routes = routed h m wire seen.dressed.ids division seen.dressed.parts own in
-    subst (λ ds. OneEnded h ds × Accords h m wire ds) seen.dressed.whole (ruled h m wire seen.fits division routes own (starts_of m wire h.named (view_in division) own), accords h m wire seen.fits division routes own)
+    subst (λ ds. OneEnded h ds × Accords h m wire ds) seen.dressed.whole (ruled h m wire seen.fits division routes own starts, accords h m wire seen.fits division routes own)
 
 -- and where the run is complete the rules tell its meaning
 pub shown_meant : (h : Header) (m : Meaning) (wire : List ℕ) (datagrams : List Datagram) → ShowsBy h m wire datagrams
@@ -31,6 +31,7 @@ shown_meant h m wire datagrams shows =
     let seen = shows.seen in
     let division = seen.dressed.division in
     let own : IsOneSided m wire h.named (view_in division) = subst (IsOneSided m wire h.named) (sym seen.dressed.main) (view_one_sided m wire h.named seen.view seen.run) in
+    let starts = starts_of h m wire seen.dressed.ids division seen.dressed.parts own in
     let routes = routed h m wire seen.dressed.ids division seen.dressed.parts own in
     let complete = subst (IsComplete m wire h.named) (sym seen.dressed.main) shows.complete in
-    subst (λ ds. Meant h ds m) seen.dressed.whole (meant h m wire seen.fits division routes own (starts_of m wire h.named (view_in division) own) complete)
+    subst (λ ds. Meant h ds m) seen.dressed.whole (meant h m wire seen.fits division routes own starts complete)

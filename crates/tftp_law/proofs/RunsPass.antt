@@ -3,11 +3,13 @@ use Rattle.std.proofs.Common.{◌≡◌, ℕ, true, false, List, [], ◌∷◌, 
 use Rattle.std.proofs.lemmas.Bool.{false≢true}
 use Rattle.tftp_packet.specs.Message.{Message, RequestParts}
 use Rattle.tftp_packet.specs.Spelling.{Spells}
+use Rattle.tftp_packet.specs.declared.kinds.End.{End}
+use Rattle.tftp_packet.specs.declared.kinds.End.TheVariants.{Client, Server}
 use Rattle.tftp_packet.specs.declared.kinds.Dir.{Dir}
 use Rattle.tftp_packet.specs.declared.kinds.Dir.TheVariants.{Out}
 use Rattle.tftp_ends.specs.CaptureText.{Datagram, Header}
 use Rattle.tftp_ends.specs.Meaning.{Meaning, request_of}
-use Rattle.tftp_ends.specs.Machines.{MachinePacket, Req, Oack, Data, Ack, Deed, Sent, Took, History, message_of}
+use Rattle.tftp_ends.specs.Machines.{MachinePacket, Req, Oack, Data, Ack, Error, Deed, Sent, Took, History, message_of}
 use Rattle.tftp_ends.specs.OneSide.{IsOneSided}
 use Rattle.tftp_ends.specs.Ports.{asks, first_of, route_of, is_of_transfer, transfer_of, SaysUnknownId}
 use Rattle.tftp_ends.specs.Rules.{Passed}
@@ -47,7 +49,7 @@ module _ (h : Header) (earlier : List Datagram) (d : Datagram) where
     outside one two three Rule.NoRequest b = no_says (ap is_of_transfer b.1)
     outside one two three (Rule.Malformed fault) b = no_says b.0
     outside one two three Rule.WrongKind b = no_says b.2.routed
-    outside one two three Rule.TransferAborted (code, text, says) = no_says says.routed
+    outside one two three Rule.AfterError (now, says, goes) = no_says says.routed
     outside one two three Rule.RequestChanged (was, now, is, says, apart) = no_says says.routed
     outside one two three Rule.RequestAfterStart (out, (now, says), went) = no_says says.routed
     outside one two three Rule.ReplyChanged (asked, oack, is, begins, says) = no_says says.routed
@@ -103,7 +105,7 @@ module _ (h : Header) (earlier : List Datagram) (d : Datagram) where
     first_lawful Rule.NoRequest b = let e = sym is ∙ b.1 in cc
     first_lawful (Rule.Malformed fault) b = no_fault d.payload (Message.Request request) fault spells.1 b.1.0
     first_lawful Rule.WrongKind b = unasked b.1 b.3
-    first_lawful Rule.TransferAborted (code, text, says) = let e = spelled_once d.payload (Message.Request request) (Message.Error code text) spells says.spells in cc
+    first_lawful Rule.AfterError (now, says, (stop, error, passed, apart, way)) = empty d.dir stop passed
     first_lawful Rule.RequestChanged (was, now, first, says, apart) = unasked was first
     first_lawful Rule.RequestAfterStart (out, says, went) = elim went [ inl x ↦ empty Out (Message.Data x.0 x.1) x.2 | inr x ↦ empty Out (Message.Ack x.0) x.1 ]
     first_lawful Rule.ReplyChanged b = unasked b.0 b.2
@@ -134,12 +136,14 @@ module _ (h : Header) (m : Meaning) (wire : List ℕ) (fits : Fits m wire) where
   main_read Oack d s = (message_of m wire Oack, s)
   main_read (Data k) d s = (message_of m wire (Data k), s)
   main_read (Ack j) d s = (message_of m wire (Ack j), s)
+  main_read (Error code message) d s = (message_of m wire (Error code message), s)
 
   main_of : (q : MachinePacket) → is_of_transfer (packet_route q) ≡ true
   main_of Req = refl
   main_of Oack = refl
   main_of (Data k) = refl
   main_of (Ack j) = refl
+  main_of (Error code message) = refl
 
   asks_first : (e : End) → packet_of (request_at e) ≡ Req
   asks_first Client = refl

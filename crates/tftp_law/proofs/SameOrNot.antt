@@ -1,6 +1,7 @@
 -- Values that have a code are the same or not.
-use Rattle.std.proofs.Common.{◌≡◌, ◌⊎◌, inl, inr, refl, ap}
+use Rattle.std.proofs.Common.{◌≡◌, ◌⊎◌, ℕ, List, inl, inr, refl, ap}
 use Rattle.std.proofs.lemmas.Bool.{cases_eq}
+use Rattle.std.specs.Coded.{coded_ℕ, coded_list}
 use Rattle.tftp_packet.specs.OptionMap.{OptionMap}
 use Rattle.tftp_packet.specs.Message.{RequestParts}
 use Rattle.tftp_packet.specs.Owned.{parts_code, options_code}
@@ -30,3 +31,6 @@ same_request = coded_same parts_code
 
 pub same_options : (a b : OptionMap) → (a ≡ b) ⊎ (a ≡ b → ⊥)
 same_options = coded_same options_code
+
+pub same_text : (a b : List ℕ) → (a ≡ b) ⊎ (a ≡ b → ⊥)
+same_text = coded_same (coded_list coded_ℕ)

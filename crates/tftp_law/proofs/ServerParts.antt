@@ -5,7 +5,7 @@ use Rattle.std.proofs.lemmas.Bool.{false≢true, and_from, and_parts, eqb-true, 
 use Rattle.tftp_packet.specs.declared.kinds.End.TheVariants.{Server}
 use Rattle.tftp_packet.specs.declared.kinds.Dir.TheVariants.{In, Out}
 use Rattle.tftp_ends.specs.CaptureText.{Datagram, Header, peer_of}
-use Rattle.tftp_ends.specs.Machines.{Req, Oack, Data, Ack, Deed, Sent, Took}
+use Rattle.tftp_ends.specs.Machines.{Req, Oack, Data, Ack, Deed, Sent, Took, Error}
 use Rattle.tftp_ends.specs.Ports.{goes_out, comes_in, begins_request, asks, first_of, same_peer, route_at_server, route_of}
 use Rattle.tftp_ends.specs.declared.route.Route.{Route}
 use Rattle.tftp_law.specs.Dress.{Part, Main, Stray, StrayAnswer, Division, datagrams_of, view_in, dir_of, packet_of, TransferIds, Saying, Carries, ComesAstray, AnswersStray, HasPartBy, HavePartsBy}
@@ -101,6 +101,8 @@ module _ (service : ℕ) (says : Saying) (ids : TransferIds) where
     s_back_main (Took Oack) way s stands is = let b = s_back_peer (Took Oack) (λ e. cc) stands is in record { dir = way; client = b.0; server = (b.1, b.2); spells = s }
     s_back_main (Took (Data k)) way s stands is = let b = s_back_peer (Took (Data k)) (λ e. cc) stands is in record { dir = way; client = b.0; server = (b.1, b.2); spells = s }
     s_back_main (Took (Ack j)) way s stands is = let b = s_back_peer (Took (Ack j)) (λ e. cc) stands is in record { dir = way; client = b.0; server = (b.1, b.2); spells = s }
+    s_back_main (Sent (Error code text)) way s stands is = let b = s_back_peer (Sent (Error code text)) (λ e. cc) stands is in record { dir = way; client = b.0; server = (b.1, b.2); spells = s }
+    s_back_main (Took (Error code text)) way s stands is = let b = s_back_peer (Took (Error code text)) (λ e. cc) stands is in record { dir = way; client = b.0; server = (b.1, b.2); spells = s }
 
     s_back_stray : route_of sh fs d ≡ Route.Stray → ComesAstray sh ids earlier d
     s_back_stray is = elim (two_ways (first_of (asks sh) fs)) [

@@ -6,7 +6,7 @@ use Rattle.tftp_packet.specs.Faults.{opcode_of}
 use Rattle.tftp_packet.specs.declared.kinds.End.TheVariants.{Server}
 use Rattle.tftp_packet.specs.declared.kinds.Dir.TheVariants.{In, Out}
 use Rattle.tftp_ends.specs.CaptureText.{Datagram, Header, peer_of}
-use Rattle.tftp_ends.specs.Machines.{MachinePacket, Req, Oack, Data, Ack, Deed, Sent, Took, History}
+use Rattle.tftp_ends.specs.Machines.{MachinePacket, Req, Oack, Data, Ack, Deed, Sent, Took, History, Error}
 use Rattle.tftp_ends.specs.Ports.{goes_out, comes_in, begins_request, begins_error, asks, first_of, has_come_from, same_peer, route_of}
 use Rattle.tftp_ends.specs.declared.route.Route.{Route}
 use Rattle.tftp_law.specs.Dress.{Part, Main, Stray, StrayAnswer, Division, datagrams_of, view_in, packet_of, TransferIds, Saying, Carries, ComesAstray, AnswersStray, HasPartBy, HavePartsBy, IsMain, HasServerId}
@@ -15,6 +15,7 @@ use Rattle.tftp_law.specs.Accord.{packet_route, part_route, SaysAsBy, AreRoutedB
 use Rattle.tftp_law.proofs.RouteTests.{same_true, out_true, in_false, in_true, out_false, error_begins, two_ways, now, same_is, other_peer, IsTold}
 use Rattle.tftp_law.proofs.Divided.{any_none, any_cases}
 use Rattle.tftp_law.proofs.FirstRequests.{or_some, first_stays}
+use Rattle.tftp_law.proofs.Opening.{NoErrorFirst}
 use Rattle.tftp_law.proofs.Placing.{one, starts_before, WentOut, MainOut, any_main_out, Asked, asked_some, stray_there, view_some}
 
 -- ---- the server
@@ -102,6 +103,7 @@ module _ (service : ℕ) (says : Saying) (told : IsTold says) (ids : TransferIds
   s_out_own earlier d (Main (Sent Oack)) p own t = p.server.0
   s_out_own earlier d (Main (Sent (Data k))) p own t = p.server.0
   s_out_own earlier d (Main (Sent (Ack j))) p own t = p.server.0
+  s_out_own earlier d (Main (Sent (Error code text))) p own t = p.server.0
   s_out_own earlier d (Main (Took q)) p own t = absurd (false≢true (sym (in_false d p.dir) ∙ t))
   s_out_own earlier d Stray p own t = absurd (false≢true (sym (in_false d p.dir) ∙ t))
   s_out_own earlier d StrayAnswer p own t = p.here
@@ -183,6 +185,8 @@ module _ (service : ℕ) (says : Saying) (told : IsTold says) (ids : TransferIds
     s_route_main d (Sent Oack) p all = s_route_sent d Oack p p.server.0 (s_asked_before (Sent Oack) (λ e. cc) all)
     s_route_main d (Sent (Data k)) p all = s_route_sent d (Data k) p p.server.0 (s_asked_before (Sent (Data k)) (λ e. cc) all)
     s_route_main d (Sent (Ack j)) p all = s_route_sent d (Ack j) p p.server.0 (s_asked_before (Sent (Ack j)) (λ e. cc) all)
+    s_route_main d (Took (Error code text)) p all = s_route_took d (Error code text) (λ e. cc) p p.server (s_asked_before (Took (Error code text)) (λ e. cc) all)
+    s_route_main d (Sent (Error code text)) p all = s_route_sent d (Error code text) p p.server.0 (s_asked_before (Sent (Error code text)) (λ e. cc) all)
 
     s_asked_by_main : Any MainOut earlier → Asked hh earlier
     s_asked_by_main any = let some = view_some Out earlier any in s_some_asked earlier parts own some.0 some.1 some.2
@@ -207,6 +211,22 @@ module _ (service : ℕ) (says : Saying) (told : IsTold says) (ids : TransferIds
     s_step d (Main deed) p all = (s_route_main d deed p all, (p.dir, p.spells))
     s_step d Stray p all = (s_route_stray d p, tt)
     s_step d StrayAnswer p all = (s_route_answer d p, p.spells)
+
+  -- no ERROR comes first: the server has sent something before it
+  s_error_later : (d : Datagram) (earlier : Division) → Parts earlier → view_in earlier ≡ [] → (code : ℕ) (text : List ℕ) → Carries hh says ids earlier d (Took (Error code text)) → ⊥
+  s_error_later d earlier parts empty code text c = elim c.server.1 [
+    | inl way ↦ let both : In ≡ Out = sym c.dir ∙ way in absurd (cc)
+    | inr any ↦ let some = view_some Out earlier (any_main_out service says ids earlier parts any) in let both : [] ≡ some.0 ∷ some.1 = sym empty ∙ some.2 in absurd (cc)
+  ]
+
+  s_later : (d : Datagram) (part : Part) (earlier : Division) → Part1 earlier d part → Parts earlier → NoErrorFirst (view_in earlier) → NoErrorFirst (view_in (one d part earlier))
+  s_later d (Main deed) earlier p parts rest = (λ empty code text is. s_error_later d earlier parts empty code text (subst (Carries hh says ids earlier d) is p), rest)
+  s_later d Stray earlier p parts rest = rest
+  s_later d StrayAnswer earlier p parts rest = rest
+
+  pub no_error_first : (division : Division) → Parts division → NoErrorFirst (view_in division)
+  no_error_first [] parts = tt
+  no_error_first (p ∷ earlier) parts = s_later p.datagram p.part earlier parts.0 parts.1 (no_error_first earlier parts.1)
 
   -- each datagram has the route of its part
   pub routed_at_server : (division : Division) → Parts division → Own division → AreRoutedBy hh says division

@@ -10,7 +10,7 @@ use Rattle.tftp_packet.specs.declared.kinds.Side.{Side}
 use Rattle.tftp_packet.specs.declared.kinds.Side.TheVariants.{Get, Put}
 use Rattle.tftp_ends.specs.CaptureText.{Datagram, Header}
 use Rattle.tftp_ends.specs.Ports.{or_this, first_of, asks, route_of, is_of_transfer, transfer_of}
-use Rattle.tftp_ends.specs.Rules.{HasPassed, IsLast, LastIsUnknown, IsNotLengthOf, BlocksWait, EndBroken}
+use Rattle.tftp_ends.specs.Rules.{HasPassed, IsLast, LastIsUnknown, IsNotLengthOf, BlocksWait, EndBroken, usable}
 use Rattle.tftp_ends.specs.declared.terms.Reply.TheVariants.{NoReply}
 use Rattle.tftp_ends.specs.declared.terms.Terms.{Terms}
 use Rattle.tftp_ends.specs.declared.rule.EndRule.{EndRule}
@@ -224,7 +224,7 @@ module _ (h : Header) (earlier : List Datagram) (d : Datagram) (lawful : OneEnde
       same k bytes other s p false e =
           absurd (passes.lawful Rule.BlockChanged (breaks t known (Message.Data k bytes) s EndRule.BlockChanged (other, p, λ is. false≢true (sym e ∙ (bytes_eq-Decides other bytes).1 is))))
 
-  not_started : (t : Terms) → AreTerms h earlier t → (k : ℕ) (bytes : List ℕ) → Spells d.payload (Message.Data k bytes) → BlocksWait t.side t.reply passed → ⊥
+  not_started : (t : Terms) → AreTerms h earlier t → (k : ℕ) (bytes : List ℕ) → Spells d.payload (Message.Data k bytes) → BlocksWait t.side t.reply (usable passed) → ⊥
   not_started t known k bytes s wait = passes.lawful Rule.NotStarted (breaks t known (Message.Data k bytes) s EndRule.NotStarted wait)
 
   -- the first request was asked before
@@ -242,7 +242,7 @@ module _ (h : Header) (earlier : List Datagram) (d : Datagram) (lawful : OneEnde
       where
         by : (side : Side) → asked.side ≡ side → (k : ℕ) (bytes : List ℕ) → Spells d.payload (Message.Data k bytes) → ⊥
         by Get is k bytes s = none.0 Begins (subst (λ (x : Side). Answers x d Begins) (sym is) (Message.Data k bytes, s, tt))
-        by Put is k bytes s = not_started (plain_terms h asked.side NoReply) (asked, first, inl (none.1, refl)) k bytes s (subst (λ (x : Side). BlocksWait x NoReply passed) (sym is) tt)
+        by Put is k bytes s = not_started (plain_terms h asked.side NoReply) (asked, first, inl (none.1, refl)) k bytes s (subst (λ (x : Side). BlocksWait x NoReply (usable passed)) (sym is) tt)
 
     one_block : (t : Terms) → t.blksize ≡ 512 → t.size ≡ None → NotAnswered asked.side passed → (NotAnswered asked.side (d ∷ passed) → ⊥) → Settled asked.side t (d ∷ passed)
     one_block t usual unsized none answered = extended asked.side t d passed (none_settled asked.side t passed (no_block_before none)) fit answered where

@@ -13,7 +13,6 @@ use Rattle.tftp_law.specs.Divides.{Divides}
 use Rattle.tftp_law.proofs.OneMeaning.{one_meaning}
 use Rattle.tftp_law.proofs.MadeMeaning.{some_accord}
 use Rattle.tftp_law.proofs.RulesDivide.{divides}
-use Rattle.tftp_law.proofs.Opening.{starts_of}
 use Rattle.tftp_law.proofs.Parted.{parts_of}
 use Rattle.tftp_law.proofs.OneDivision.{run_divides}
 use Rattle.tftp_law.proofs.EndedIsComplete.{completed}
@@ -33,8 +32,8 @@ record Divided (h : Header) (m : Meaning) (wire : List ℕ) (earlier : List Data
 
 divided : (h : Header) (m : Meaning) (wire : List ℕ) (earlier : List Datagram) → OneEnded h earlier → Accords h m wire earlier → Divided h m wire earlier
 divided h m wire earlier lawful acc =
-    let (division, same, routed, own) = divides h m wire earlier lawful acc in
-    record { division = division; same = same; routed = routed; own = own; starts = starts_of m wire h.named (view_in division) own }
+    let (division, same, routed, own, starts) = divides h m wire earlier lawful acc in
+    record { division = division; same = same; routed = routed; own = own; starts = starts }
 
 seen_by : (h : Header) (m : Meaning) (wire : List ℕ) (datagrams : List Datagram) → Accords h m wire (reverse datagrams) → Divided h m wire (reverse datagrams) → IsSeen h m wire datagrams
 seen_by h m wire datagrams acc x =

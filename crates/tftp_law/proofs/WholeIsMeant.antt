@@ -1,5 +1,5 @@
 -- A complete one-sided history is a whole transfer by the rules, of the same meaning.
-use Rattle.std.proofs.Common.{◌≡◌, ◌⊎◌, ℕ, ◌+◌, ◌<◌, ◌≤◌, List, length, Option, Some, None, inl, inr, refl, sym, subst, ap, ◌∙◌, arith}
+use Rattle.std.proofs.Common.{◌≡◌, ◌⊎◌, ℕ, ◌+◌, ◌<◌, ◌≤◌, List, [], ◌∷◌, length, Option, Some, None, inl, inr, refl, sym, subst, ap, ◌∙◌, arith}
 use Rattle.tftp_packet.specs.Message.{Message}
 use Rattle.tftp_packet.specs.declared.kinds.Side.{Side}
 use Rattle.tftp_packet.specs.declared.kinds.Side.TheVariants.{Get, Put}
@@ -9,14 +9,15 @@ use Rattle.tftp_ends.specs.CaptureText.{Datagram, Header}
 use Rattle.tftp_ends.specs.Meaning.{Meaning, request_of, NothingAgreed, blksize_of}
 use Rattle.tftp_ends.specs.Blocks.{block, block_count}
 use Rattle.tftp_ends.specs.Roles.{sender_of, receiver_of}
-use Rattle.tftp_ends.specs.Machines.{Data, Ack, Sent, Took, HasSent, HasTaken}
-use Rattle.tftp_ends.specs.OneSide.{IsOneSided}
+use Rattle.tftp_ends.specs.Machines.{Req, Oack, Data, Ack, Deed, History, Sent, Took, HasSent, HasTaken}
+use Rattle.tftp_ends.specs.OneSide.{heard, LetsStartOn, MayCome, IsOneSided}
 use Rattle.tftp_ends.specs.Runs.{IsComplete}
 use Rattle.tftp_ends.specs.Ports.{asks, first_of, transfer_of}
 use Rattle.tftp_ends.specs.Rules.{HasPassed, IsSender, IsReceiver}
 use Rattle.tftp_ends.specs.declared.terms.Reply.TheVariants.{NoReply}
 use Rattle.tftp_ends.specs.declared.terms.Terms.{Terms}
-use Rattle.tftp_ends.proofs.Members.{contains_none}
+use Rattle.tftp_ends.proofs.Members.{contains_cases, contains_none}
+use Rattle.tftp_ends.proofs.Stops.{heard_more}
 use Rattle.tftp_law.specs.Fits.{Fits}
 use Rattle.tftp_law.specs.Dress.{says_of, Division, datagrams_of, view_in}
 use Rattle.tftp_law.specs.Accord.{Starts, AreRouted}
@@ -38,6 +39,23 @@ which_part Client Get = inr refl
 which_part Client Put = inl refl
 which_part Server Get = inl refl
 which_part Server Put = inr refl
+
+-- what let a block come in was sent before an ERROR came
+module _ (m : Meaning) (wire : List ℕ) (e : End) where
+  more_heard : (side : Side) (d : Deed) (v : History) → LetsStartOn side m (heard v) → LetsStartOn side m (heard (d ∷ v))
+  more_heard Get d v s = elim s [ inl x ↦ inl (x.0, heard_more d v (Sent Req) x.1) | inr x ↦ inr (x.0, heard_more d v (Sent (Ack 0)) x.1) ]
+  more_heard Put d v s = elim s [ inl x ↦ inl (x.0, heard_more d v (Sent (Ack 0)) x.1) | inr x ↦ inr (x.0, heard_more d v (Sent Oack) x.1) ]
+
+  took_heard : (k : ℕ) (v : History) → IsOneSided m wire e v → HasTaken v (Data k) → LetsStartOn m.side m (heard v)
+  took_heard k [] own at = absurd (contains_none (Took (Data k)) at)
+  took_heard k (Took p ∷ v) own at = elim (contains_cases (Took p) v (Took (Data k)) at) [
+    | inl same ↦ let is : p ≡ Data k = cc in more_heard m.side (Took p) v (subst (MayCome m wire e v) is own.0).started
+    | inr before ↦ more_heard m.side (Took p) v (took_heard k v own.1 before)
+  ]
+  took_heard k (Sent p ∷ v) own at = elim (contains_cases (Sent p) v (Took (Data k)) at) [
+    | inl same ↦ absurd (cc)
+    | inr before ↦ more_heard m.side (Sent p) v (took_heard k v own.1 before)
+  ]
 
 module _ (h : Header) (m : Meaning) (wire : List ℕ) (fits : Fits m wire)
     (division : Division) (routed : AreRouted h m wire division) (own : IsOneSided m wire h.named (view_in division)) (starts : Starts h.named (view_in division)) (complete : IsComplete m wire h.named (view_in division)) where
@@ -62,7 +80,7 @@ module _ (h : Header) (m : Meaning) (wire : List ℕ) (fits : Fits m wire)
   plain : NotAnswered m.side through → NothingAgreed m
   plain = elim ends [
     | inl x ↦ plain_yet h m wire fits division routed own m.side (begun_out h m wire fits division routed own m.side refl (sent_data m wire h.named n (view_in division) own x.2))
-    | inr x ↦ plain_yet h m wire fits division routed own m.side (begun_in h m wire fits division routed own m.side refl (took_data m wire h.named n (view_in division) own x.1))
+    | inr x ↦ plain_yet h m wire fits division routed own m.side (begun_in h m wire fits division routed own m.side refl (took_heard m wire h.named n (view_in division) own x.1))
   ]
 
   there : (k : ℕ) → 1 ≤ k → k ≤ n → HasPassed (Message.Data k (block (blksize_of m) wire k)) through

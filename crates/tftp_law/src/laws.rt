@@ -1,6 +1,6 @@
 //! Laws of the definitions in `specs/`. Each is the contract of a function that does nothing.
 
-ghost use Rattle.std.specs.Prelude.{◌≡◌, ◌≢◌, ℕ, List, [], ◌∷◌, ◌++◌};
+ghost use Rattle.std.specs.Prelude.{◌≡◌, ◌≢◌, ◌⊎◌, ℕ, List, [], ◌∷◌, ◌++◌};
 ghost use Rattle.tftp_packet.specs.OptionMap.{OptionMap, no_options};
 ghost use Rattle.tftp_packet.specs.Message.{RequestParts};
 ghost use Rattle.tftp_nego.specs.Agreement.{MayAgree};
@@ -11,6 +11,8 @@ ghost use Rattle.tftp_law.specs.CaptureText.{Datagram, Header};
 ghost use Rattle.tftp_law.specs.Law.{Shows, IsLawful, IsLawfulUpTo};
 ghost use Rattle.tftp_law.specs.Rules.{number_of, FirstBroken};
 ghost use Rattle.tftp_law.specs.declared.rule.Rule.{Rule};
+ghost use Rattle.tftp_law.specs.Aborted.{IsAborted, IsNotAborted};
+ghost use Rattle.tftp_law.specs.declared.by.By.{By};
 ghost use Rattle.tftp_law.specs.OneEnded.{OneEnded, IsRefused, Meant};
 
 /// Options that may be agreed have none of the faults of an OACK, where there are any (RFC 2347).
@@ -35,6 +37,16 @@ pub fn first_broken_rule_is_one()
 pub fn refused_does_not_pass()
     ensures { (header : Header) (earlier : List Datagram) (d : Datagram) (rule : Rule) → IsRefused header earlier d rule
         → OneEnded header (d ∷ earlier) → ⊥ }
+{}
+
+/// The ERROR that ended a transfer is one: it has one author and one code. And lawful datagrams have one, or none.
+pub fn the_first_error_is_one()
+    ensures one { (header : Header) (earlier : List Datagram) (by other : By) (code number : ℕ)
+        → IsAborted header earlier by code → IsAborted header earlier other number → (by ≡ other) × (code ≡ number) }
+    ensures none { (header : Header) (earlier : List Datagram) (by : By) (code : ℕ) → IsNotAborted header earlier
+        → IsAborted header earlier by code → ⊥ }
+    ensures either { (header : Header) (earlier : List Datagram) → OneEnded header earlier
+        → ((by : By) × (code : ℕ) × IsAborted header earlier by code) ⊎ IsNotAborted header earlier }
 {}
 
 /// A capture that the rules accept has one meaning.

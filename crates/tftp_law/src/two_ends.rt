@@ -13,13 +13,14 @@ ghost use Rattle.tftp_law.specs.Law.{IsSeen, IsLawful, ShowsBy, Shows};
 ghost use Rattle.tftp_law.specs.OneEnded.{OneEnded, Meant};
 
 /// The parts of a division are its routes, and what has such routes has parts, where the view begins with the client's
-/// request and has no request of the server's. A view that one end might have begins so.
+/// request and has no request of the server's. The view of such parts begins so, where it is one that one end might have.
 pub fn parts_are_routes()
     ensures routes { (h : Header) (m : Meaning) (wire : List ℕ) (ids : TransferIds) (division : Division)
         → HaveParts h m wire ids division → Starts h.named (view_in division) → AreRouted h m wire division }
     ensures parts { (h : Header) (m : Meaning) (wire : List ℕ) (division : Division) → AreRouted h m wire division
         → Starts h.named (view_in division) → (ids : TransferIds) × HaveParts h m wire ids division }
-    ensures starts { (m : Meaning) (wire : List ℕ) (e : End) (view : History) → IsOneSided m wire e view → Starts e view }
+    ensures starts { (h : Header) (m : Meaning) (wire : List ℕ) (ids : TransferIds) (division : Division)
+        → HaveParts h m wire ids division → IsOneSided m wire h.named (view_in division) → Starts h.named (view_in division) }
 {}
 
 /// A list divides, each main datagram spells a packet and the first of them is the client's request, exactly if no

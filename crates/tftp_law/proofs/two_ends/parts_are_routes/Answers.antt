@@ -1,6 +1,5 @@
 use Rattle.tftp_law.specs.Dress.{says_of}
-use Rattle.tftp_law.proofs.Routed.{told_of, routed_by}
-use Rattle.tftp_law.proofs.Opening.{starts_of}
+use Rattle.tftp_law.proofs.Routed.{told_of, routed_by, starts_of}
 use Rattle.tftp_law.proofs.Parted.{parted}
 use Rattle.tftp_law.proofs.two_ends.parts_are_routes.Goals as goal
 
