@@ -28,7 +28,7 @@ module _ (Lawful Legal : List Datagram → Type 0) (Shown Said : Meaning → Lis
     broken = at.broken;
   }
   carried h ds (Aborted by code) (lawful, none, is) = (there ds lawful, (λ m shown. none m (unsaid m ds shown)), is)
-  carried h ds (Incomplete count) (lawful, none, is) = (there ds lawful, (λ m shown. none m (unsaid m ds shown)), is)
+  carried h ds (Incomplete count) (lawful, none, going, is) = (there ds lawful, (λ m shown. none m (unsaid m ds shown)), going, is)
   carried h ds NormalTooLong (lawful, (m, shown), long) = (there ds lawful, (m, said m ds shown), λ n is writable. long n (unsaid n ds is) writable)
 
 -- the law of two ends, and that of the rules

@@ -12,7 +12,7 @@ use Rattle.tftp_judge.specs.Verdict.{IsUnlawfulAt, IsVerdict}
 use Rattle.tftp_judge.specs.declared.verdict.Verdict.{Verdict}
 use Rattle.tftp_judge.specs.declared.verdict.Verdict.TheVariants.{Accepted, Unlawful, Aborted, Incomplete, NormalTooLong}
 use Rattle.tftp_ends.specs.Ports.{transfer_of}
-use Rattle.tftp_judge.proofs.FirstErrors.{one_error, none_first}
+use Rattle.tftp_law.proofs.FirstError.{one_first, none_first}
 use Rattle.tftp_law.proofs.Beginnings.{beginning_is_lawful}
 use Rattle.tftp_law.proofs.TwoEnds.{one_shown}
 use Rattle.tftp_law.proofs.FirstBroken.{one_first_broken}
@@ -170,13 +170,13 @@ one_verdict h ds (Unlawful i r) NormalTooLong one other = absurd (not_lawful h d
 one_verdict h ds (Aborted by code) (Accepted n) one other = absurd (one.1 n other.1)
 one_verdict h ds (Aborted by code) (Unlawful j q) one other = absurd (not_lawful h ds j q other one.0)
 one_verdict h ds (Aborted by code) (Aborted also other_code) one other =
-    let same = one_error (transfer_of h (reverse ds)) by also code other_code one.2 other.2 in
+    let same = one_first (transfer_of h (reverse ds)) by also code other_code one.2 other.2 in
     ap (λ b. Aborted b code) same.0 ∙ ap (Aborted also) same.1
-one_verdict h ds (Aborted by code) (Incomplete c) one other = absurd (none_first (transfer_of h (reverse ds)) by code other.2 one.2)
+one_verdict h ds (Aborted by code) (Incomplete c) one other = absurd (none_first (transfer_of h (reverse ds)) other.2 by code one.2)
 one_verdict h ds (Aborted by code) NormalTooLong one other = absurd (one.1 other.1.0 other.1.1)
 one_verdict h ds (Incomplete c) (Accepted n) one other = absurd (one.1 n other.1)
 one_verdict h ds (Incomplete c) (Unlawful j q) one other = absurd (not_lawful h ds j q other one.0)
-one_verdict h ds (Incomplete c) (Aborted by code) one other = absurd (none_first (transfer_of h (reverse ds)) by code one.2 other.2)
+one_verdict h ds (Incomplete c) (Aborted by code) one other = absurd (none_first (transfer_of h (reverse ds)) one.2 by code other.2)
 one_verdict h ds (Incomplete c) (Incomplete e) one other = ap Incomplete (one.3 ∙ sym other.3)
 one_verdict h ds (Incomplete c) NormalTooLong one other = absurd (one.1 other.1.0 other.1.1)
 one_verdict h ds NormalTooLong (Accepted n) one other = absurd (one.2 n other.1 other.2)

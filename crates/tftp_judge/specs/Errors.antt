@@ -12,12 +12,13 @@ abbrev pub is_error : Message → Bool
 is_error (Message.Error code text) = true
 is_error _ = false
 
+abbrev pub comes_with_error : Dir → Message → Bool
+comes_with_error In m = is_error m
+comes_with_error Out m = false
+
 -- an ERROR came in
 abbrev pub brings_error : Passed → Bool
-brings_error p = by p.datagram.now.dir where
-  by : Dir → Bool
-  by In = is_error (meaning p.packet)
-  by Out = false
+brings_error p = comes_with_error p.datagram.now.dir (meaning p.packet)
 
 -- what is kept before the first ERROR that came in
 abbrev pub before_error : List Passed → List Passed

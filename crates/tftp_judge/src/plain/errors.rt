@@ -53,19 +53,27 @@ pub fn usable<'t, 'a>(transfer: &'t [Passed<'a>], dir: Dir) -> &'t [Passed<'a>]
     }
 }
 
+/// Whether the packet is this ERROR (RFC 1350, section 5).
+fn is_this_error(packet: &Packet<'_>, code: u16, message: &[u8]) -> bool
+    ensures { IsTrue result ↔ (meaning packet.now ≡ Message.Error code message.now) }
+{
+    match packet {
+        Packet::Error {
+            code: other,
+            message: text,
+        } => *other == code && *text == message,
+        _ => false,
+    }
+}
+
 /// Whether an ERROR went this way, and the packet is another one (RFC 1350, section 7).
 fn is_other_error(passed: &Passed<'_>, dir: Dir, packet: &Packet<'_>) -> bool
     ensures { IsTrue result ↔ ((passed.now.datagram.now.dir ≡ dir) × IsError (meaning passed.now.packet) × (meaning packet.now ≢ meaning passed.now.packet)) }
 {
-    match (&passed.packet, packet) {
-        (
-            Packet::Error { code, message },
-            Packet::Error {
-                code: other,
-                message: text,
-            },
-        ) => passed.datagram.dir == dir && (other != code || text != message),
-        (Packet::Error { .. }, _) => passed.datagram.dir == dir,
+    match passed.packet {
+        Packet::Error { code, message } => {
+            passed.datagram.dir == dir && !is_this_error(packet, code, message)
+        }
         _ => false,
     }
 }
