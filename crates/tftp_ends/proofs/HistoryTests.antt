@@ -1,10 +1,10 @@
 -- Tests of what an end has sent and taken.
-use Rattle.std.proofs.Common.{◌≡◌, ℕ, zero, suc, ◌==◌, ◌&&◌, ◌||◌, nat_le, not, bytes_eq, Bool, true, false, List, [], ◌∷◌, inl, inr, refl, subst, ◌≤◌, arith}
+use Rattle.std.proofs.Common.{◌≡◌, ℕ, zero, suc, ◌==◌, ◌&&◌, ◌||◌, nat_le, not, bytes_eq, Bool, true, false, [], ◌∷◌, inl, inr, refl, subst, ◌≤◌, arith}
 use Rattle.std.proofs.lemmas.Bool.{and_parts, or_cases, eqb-true, false≢true, cases_lt}
 use Rattle.std.proofs.lemmas.Slice.Eq.{bytes_eq-Decides}
 use Rattle.tftp_packet.specs.declared.kinds.End.{End}
 use Rattle.tftp_packet.specs.declared.kinds.End.TheVariants.{Client, Server}
-use Rattle.tftp_ends.specs.Machines.{Deed, Sent, Took, MachinePacket, Req, Oack, Data, Ack, Error, History, HasSent, HasTaken, NoErrorSent}
+use Rattle.tftp_ends.specs.Machines.{Sent, Took, MachinePacket, Req, Oack, Data, Ack, Error, History, HasSent, HasTaken, NoErrorSent}
 use Rattle.tftp_ends.specs.OneSide.{is_error}
 use Rattle.tftp_ends.proofs.Members.{contains_first, contains_later, contains_cases, contains_none}
 

@@ -10,9 +10,14 @@ pub mod WorkedMore
 pub mod Wires
 pub mod Computed
 pub mod WorkedWindows
+pub mod WorkedErrors
 pub mod Stores
 pub mod Stops
+pub mod OtherEnd
+pub mod Cut
 pub mod OneSided
+pub mod HiddenEnd
+pub mod MadeRuns
 pub mod Orderly
 pub mod Places
 pub mod Ring

@@ -13,7 +13,7 @@ use Rattle.tftp_ends.proofs.Defaults.{default_blksize, default_windowsize}
 pub one_block : block_count (blksize_of two_bytes) two_bytes.file ≡ 1
 one_block = ap (λ b. block_count b two_bytes.file) (default_blksize two_bytes refl)
 
-window_one : windowsize_of two_bytes ≡ 1
+pub window_one : windowsize_of two_bytes ≡ 1
 window_one = default_windowsize two_bytes refl
 
 only : (d x : Deed) → Contains (d ∷ []) x → d ≡ x

@@ -105,7 +105,7 @@ something_agreed e =
 pub blocks_of_eight : blksize_of ten_bytes ≡ 8
 blocks_of_eight = ap (number_or 512) eight_for_blksize
 
-one_at_a_time : windowsize_of ten_bytes ≡ 1
+pub one_at_a_time : windowsize_of ten_bytes ≡ 1
 one_at_a_time = ap (number_or 1) none_for_windowsize
 
 pub two_blocks : block_count (blksize_of ten_bytes) ten_bytes.file ≡ 2

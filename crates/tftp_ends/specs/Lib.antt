@@ -13,4 +13,5 @@ pub mod Slots
 pub mod Kept
 pub mod Worked
 pub mod WorkedWindows
+pub mod WorkedErrors
 pub mod WorkedStore

@@ -50,6 +50,16 @@ ghost use Rattle.tftp_ends.specs.WorkedWindows.{
   window_repeated,
   window_repeated_view,
 };
+ghost use Rattle.tftp_ends.specs.WorkedErrors.{
+  stopped_short,
+  read_refused_view,
+  read_refused_server_view,
+  given_up_view,
+  read_given_up_view,
+  stopped_at_the_end_view,
+  block_after_error_view,
+  answer_to_late_ack_view,
+};
 ghost use Rattle.tftp_packet.specs.declared.kinds.End.{End};
 ghost use Rattle.tftp_packet.specs.declared.kinds.End.TheVariants.{Client, Server};
 ghost use Rattle.tftp_packet.specs.declared.kinds.Side.TheVariants.{Get, Put};
@@ -117,6 +127,32 @@ pub fn block_sent_again_is_a_run()
 pub fn window_sent_again_is_a_run()
     ensures view { IsView window_repeated window_repeated.file Client window_repeated_view }
     ensures complete { IsComplete window_repeated window_repeated.file Client window_repeated_view }
+{}
+
+/// A read that the server refuses by an ERROR is a run, as both ends see it.
+pub fn refused_read_is_a_run()
+    ensures client { IsView two_bytes two_bytes.file Client read_refused_view }
+    ensures server { IsView two_bytes two_bytes.file Server read_refused_server_view }
+{}
+
+/// So is one whose client gives it up and says so again, as it may. It may not go on, nor say anything else.
+pub fn read_given_up_is_a_run()
+    ensures view { IsView two_bytes two_bytes.file Client read_given_up_view }
+    ensures no_ack { IsView two_bytes two_bytes.file Client (Deed.Sent (MachinePacket.Ack 1) ∷ given_up_view) → ⊥ }
+    ensures no_other { IsView two_bytes two_bytes.file Client (Deed.Sent stopped_short ∷ given_up_view) → ⊥ }
+{}
+
+/// An ERROR that comes forbids nothing: a client that has all blocks may acknowledge the last one, and is done.
+pub fn read_stopped_at_its_end_is_a_run()
+    ensures view { IsView two_bytes two_bytes.file Client stopped_at_the_end_view }
+    ensures complete { IsComplete two_bytes two_bytes.file Client stopped_at_the_end_view }
+{}
+
+/// A block that was sent before an ERROR may come after it. One that only an ACK allows which went out after the ERROR had
+/// come was never sent.
+pub fn blocks_after_an_error_were_sent_before_it()
+    ensures view { IsView ten_bytes ten_bytes.file Client block_after_error_view }
+    ensures late { IsView ten_bytes ten_bytes.file Client answer_to_late_ack_view → ⊥ }
 {}
 
 /// What an end had done before its last deed was a view too.
@@ -193,6 +229,13 @@ pub fn the_request_comes_first()
     ensures client { InEachRun (λ m wire steps. (p : MachinePacket) → HasSent (view_of Client steps) p
         → (p ≡ MachinePacket.Req) ⊎ ((code : ℕ) × (text : List ℕ) × (p ≡ MachinePacket.Error code text))
         ⊎ ((q : MachinePacket) × HasTaken (view_of Client steps) q)) }
+{}
+
+/// After an ERROR its end sends nothing but that ERROR again.
+pub fn nothing_follows_an_error()
+    ensures { (m : Meaning) (wire : List ℕ) (e : End) (p : MachinePacket) (earlier : History) (code : ℕ) (text : List ℕ)
+        → IsView m wire e (Deed.Sent p ∷ earlier) → HasSent earlier (MachinePacket.Error code text)
+        → p ≡ MachinePacket.Error code text }
 {}
 
 /// A history is what an end did in some run of both exactly if each deed is one that this end might do, by what it had

@@ -10,7 +10,7 @@ use Rattle.tftp_ends.specs.Machines.{MachinePacket, Req, Oack, Data, Ack, Error,
 use Rattle.tftp_ends.specs.OneSide.{is_error, MayCome, IsOneSided}
 use Rattle.tftp_ends.specs.Ports.{transfer_of}
 use Rattle.tftp_ends.specs.Rules.{Passed}
-use Rattle.tftp_ends.proofs.OneSided.{sends_before_error}
+use Rattle.tftp_ends.proofs.Cut.{sends_before_error}
 use Rattle.tftp_law.specs.Dress.{Division, datagrams_of, view_in, dir_of, packet_of}
 use Rattle.tftp_law.specs.Accord.{AreRouted}
 use Rattle.tftp_law.specs.Rules.{Says, GoesOn, Broken}

@@ -18,7 +18,8 @@ use Rattle.tftp_law.specs.OneEnded.{IsEnded}
 use Rattle.tftp_law.proofs.FirstAnswered.{not_both}
 use Rattle.tftp_law.proofs.Settled.{settled}
 use Rattle.tftp_law.proofs.PassedIsDone.{block_came, ack_went, ack_came_in}
-use Rattle.tftp_law.proofs.NextDeed.{State, state, named_is, side_is, numbers, few, as_blocks}
+use Rattle.tftp_law.proofs.KnownTerms.{State, state, named_is, side_is, numbers}
+use Rattle.tftp_law.proofs.NextDeed.{few, as_blocks}
 use Rattle.tftp_law.proofs.BlockLengths.{the_last}
 use Rattle.tftp_law.specs.MessageRules.{AreTermsAfter}
 

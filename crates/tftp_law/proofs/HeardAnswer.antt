@@ -9,7 +9,7 @@ use Rattle.tftp_ends.specs.Machines.{MachinePacket, Req, Oack, Data, Ack, Error,
 use Rattle.tftp_ends.specs.OneSide.{is_error, heard, LetsStartOn, LetsAckZeroOn, IsOneSided}
 use Rattle.tftp_ends.proofs.Stops.{either, heard_all, heard_stopped, heard_done}
 use Rattle.tftp_ends.proofs.Members.{contains_later, contains_cases, contains_none}
-use Rattle.tftp_ends.proofs.OneSided.{sends_before_error}
+use Rattle.tftp_ends.proofs.Cut.{sends_before_error}
 use Rattle.tftp_law.proofs.FirstReply.{sent_data, took_data, sent_zero, took_zero}
 
 tail_own : (m : Meaning) (wire : List ℕ) (e : End) (d : Deed) (h : History) → IsOneSided m wire e (d ∷ h) → IsOneSided m wire e h

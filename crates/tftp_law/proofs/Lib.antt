@@ -37,12 +37,17 @@ pub mod MadeWire
 pub mod MadeMeaning
 pub mod FirstSpelled
 pub mod WhoSends
+pub mod KnownTerms
 pub mod NextDeed
 pub mod RunsPass
 pub mod WholeIsMeant
 pub mod RunsBreakNoRule
 pub mod Searches
 pub mod NextDatagram
+pub mod NextBlock
+pub mod NextAck
+pub mod NextOther
+pub mod EarlierList
 pub mod RulesDivide
 pub mod EndedIsComplete
 pub mod TwoEnds

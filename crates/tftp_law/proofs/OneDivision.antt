@@ -1,5 +1,5 @@
 -- A list that finds its places divides, in one way, which is that of its routes.
-use Rattle.std.proofs.Common.{◌≡◌, ℕ, ◌≤◌, Bool, true, false, List, [], ◌∷◌, Some, None, inl, inr, refl, sym, subst, ap, ◌∙◌, arith}
+use Rattle.std.proofs.Common.{◌≡◌, ℕ, ◌≤◌, Bool, true, false, List, [], ◌∷◌, Some, inl, inr, refl, sym, subst, ap, ◌∙◌, arith}
 use Rattle.std.specs.Prelude.{◌||◌, ◌==◌}
 use Rattle.tftp_packet.specs.Message.{Message, RequestParts}
 use Rattle.tftp_packet.specs.Spelling.{Spells}
@@ -18,7 +18,7 @@ use Rattle.tftp_packet.proofs.NoFault.{no_fault}
 use Rattle.tftp_law.specs.Dress.{Part, Main, Stray, StrayAnswer, Division, datagrams_of, view_in, dir_of, packet_of, TransferIds, says_of, HasPartBy, HavePartsBy, HaveParts}
 use Rattle.tftp_law.specs.Accord.{packet_route, part_route, SaysAsBy, AreRoutedBy, request_at, request_back, Starts}
 use Rattle.tftp_law.specs.Divides.{packet_in, says_some, FindsPlace, FindPlaces, Divides}
-use Rattle.tftp_law.specs.Rules.{Says, Broken, number_of}
+use Rattle.tftp_law.specs.Rules.{Broken, number_of}
 use Rattle.tftp_law.specs.OneEnded.{IsRead}
 use Rattle.tftp_law.specs.declared.rule.Rule.{Rule}
 use Rattle.tftp_law.proofs.Spelled.{spelled_once}

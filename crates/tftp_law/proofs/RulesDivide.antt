@@ -11,23 +11,26 @@ use Rattle.tftp_packet.specs.declared.kinds.Dir.{Dir}
 use Rattle.tftp_packet.specs.declared.kinds.Dir.TheVariants.{In, Out}
 use Rattle.tftp_ends.specs.CaptureText.{Datagram, Header, PeerId, peer_of}
 use Rattle.tftp_ends.specs.Meaning.{Meaning, request_of}
-use Rattle.tftp_ends.specs.Machines.{Req, Oack, Data, Ack, Error, Deed, Sent, Took, History, HasSent, HasTaken}
+use Rattle.tftp_ends.specs.Machines.{Req, Oack, Data, Ack, Error, Deed, Sent, Took, HasSent, HasTaken}
 use Rattle.tftp_ends.specs.OneSide.{IsOneSided}
-use Rattle.tftp_ends.specs.Ports.{goes_out, comes_in, begins_request, begins_error, is_from_client, asks, first_of, or_this, has_come_from, same_peer, route_out, route_at_client, route_to_service, route_at_server, route_after, route_of, is_of_transfer, transfer_of}
-use Rattle.tftp_ends.specs.Rules.{HasPassed}
+use Rattle.tftp_ends.specs.Ports.{goes_out, comes_in, begins_request, begins_error, is_from_client, asks, first_of, or_this, has_come_from, same_peer, route_out, route_at_client, route_to_service, route_at_server, route_after, route_of, is_of_transfer}
 use Rattle.tftp_ends.specs.declared.route.Route.{Route}
-use Rattle.tftp_ends.proofs.Members.{contains_first, contains_later, contains_none}
+use Rattle.tftp_ends.proofs.Members.{contains_none}
 use Rattle.tftp_law.proofs.Opening.{none_back}
 use Rattle.tftp_law.proofs.Unasked.{none_view}
 use Rattle.tftp_law.specs.Dress.{says_of, Part, Main, Stray, StrayAnswer, Division, datagrams_of, view_in}
 use Rattle.tftp_law.specs.Accord.{Accords, part_route, SaysAs, AreRouted, request_at, Starts}
-use Rattle.tftp_law.specs.Rules.{FirstAsked, Answer, Agrees, Begins, FirstAnswer}
+use Rattle.tftp_law.specs.Rules.{FirstAsked}
 use Rattle.tftp_law.specs.declared.rule.Rule.{Rule}
 use Rattle.tftp_law.specs.OneEnded.{IsRead, Passes, OneEnded}
-use Rattle.tftp_law.proofs.FirstRequests.{begins_asked, or_some, asks_is, asks_route, first_spells, first_stays}
+use Rattle.tftp_law.proofs.FirstRequests.{begins_asked, asks_is, first_spells}
 use Rattle.tftp_law.proofs.FirstSpelled.{request_spelled}
-use Rattle.tftp_law.proofs.NextDatagram.{of_wire, may_send_data, may_come_data, may_send_ack, may_come_ack, agreed_now, may_send_oack, may_come_oack, asked_now, may_send_request, may_come_request, may_send_error, may_come_error}
+use Rattle.tftp_law.proofs.NextDatagram.{Next}
+use Rattle.tftp_law.proofs.NextBlock.{of_wire, may_send_data, may_come_data}
+use Rattle.tftp_law.proofs.NextAck.{may_send_ack, may_come_ack}
+use Rattle.tftp_law.proofs.NextOther.{agreed_now, may_send_oack, may_come_oack, asked_now, may_send_request, may_come_request, may_send_error, may_come_error}
 use Rattle.tftp_law.proofs.RouteTests.{request_begins}
+use Rattle.tftp_law.proofs.EarlierList.{requested, before}
 
 -- ---- routes, read backwards
 
@@ -149,60 +152,6 @@ from_client Client d In way from = let e : is_from_client Client d ≡ false = r
 from_client Server d In way from = inr (refl, refl)
 from_client Server d Out way from = let e : is_from_client Server d ≡ false = rw way refl in absurd (false≢true (sym e ∙ from))
 
--- ---- the request is in the view
-
-module _ (h : Header) (m : Meaning) (wire : List ℕ) where
-  abbrev HasRequest : History → Type 0
-  HasRequest v = HasSent v Req ⊎ HasTaken v Req
-
-  more_request : (deed : Deed) (v : History) → HasRequest v → HasRequest (deed ∷ v)
-  more_request deed v has = elim has [ inl x ↦ inl (contains_later deed v (Sent Req) x) | inr x ↦ inr (contains_later deed v (Took Req) x) ]
-
-  grown : (d : Datagram) (part : Part) (earlier : Division) → HasRequest (view_in earlier) → HasRequest (view_in (record { datagram = d; part = part } ∷ earlier))
-  grown d (Main deed) earlier has = more_request deed (view_in earlier) has
-  grown d Stray earlier has = has
-  grown d StrayAnswer earlier has = has
-
-  now_there : (d : Datagram) (part : Part) (earlier : Division) → part_route part ≡ Route.Request → HasRequest (view_in (record { datagram = d; part = part } ∷ earlier))
-  now_there d (Main (Sent Req)) earlier is = inl (contains_first (Sent Req) (view_in earlier))
-  now_there d (Main (Took Req)) earlier is = inr (contains_first (Took Req) (view_in earlier))
-  now_there d (Main (Sent Oack)) earlier is = absurd (cc)
-  now_there d (Main (Took Oack)) earlier is = absurd (cc)
-  now_there d (Main (Sent (Data k))) earlier is = absurd (cc)
-  now_there d (Main (Took (Data k))) earlier is = absurd (cc)
-  now_there d (Main (Sent (Ack j))) earlier is = absurd (cc)
-  now_there d (Main (Took (Ack j))) earlier is = absurd (cc)
-  now_there d (Main (Sent (Error code text))) earlier is = absurd (cc)
-  now_there d (Main (Took (Error code text))) earlier is = absurd (cc)
-  now_there d Stray earlier is = absurd (cc)
-  now_there d StrayAnswer earlier is = absurd (cc)
-
-  requested : (division : Division) → AreRouted h m wire division → (d : Datagram) → first_of (asks h) (datagrams_of division) ≡ Some d → HasRequest (view_in division)
-  requested [] routed d is = absurd (cc)
-  requested (p ∷ earlier) routed d is = elim (or_some (first_of (asks h) (datagrams_of earlier)) (asks h p.datagram) p.datagram d is) [
-    | inl before ↦ grown p.datagram p.part earlier (requested earlier routed.2 d before)
-    | inr now ↦ now_there p.datagram p.part earlier (sym routed.0 ∙ asks_route h (datagrams_of earlier) p.datagram now.0 now.1)
-  ]
-
-  -- ---- accord with the list before
-
-  answer_grows : (b : Bool) (d : Datagram) (ds : List Datagram) (a : Answer) → FirstAnswer m.side ds a → FirstAnswer m.side (if b then d ∷ ds else ds) a
-  answer_grows true d ds a first = inl first
-  answer_grows false d ds a first = first
-
-  passed_grows : (b : Bool) (d : Datagram) (ds : List Datagram) (x : Message) → HasPassed x ds → HasPassed x (if b then d ∷ ds else ds)
-  passed_grows true d ds x p = elim p [ inl q ↦ inl (inr q) | inr q ↦ inr (inr q) ]
-  passed_grows false d ds x p = p
-
-  before : (d : Datagram) (ds : List Datagram) → Accords h m wire (d ∷ ds) → Accords h m wire ds
-  before d ds acc = record {
-    fits = acc.fits;
-    asked = λ asked first. acc.asked asked (first.0, first_stays (asks h) d first.0 ds first.1, first.2);
-    oacked = λ options first. acc.oacked options (answer_grows (is_of_transfer (route_of h ds d)) d (transfer_of h ds) (Agrees options) first);
-    plain = λ first. acc.plain (answer_grows (is_of_transfer (route_of h ds d)) d (transfer_of h ds) Begins first);
-    blocks = λ k bytes p. acc.blocks k bytes (passed_grows (is_of_transfer (route_of h ds d)) d (transfer_of h ds) (Message.Data k bytes) p);
-  }
-
 -- ---- one datagram more
 
 module _ (h : Header) (m : Meaning) (wire : List ℕ) where
@@ -235,6 +184,9 @@ module _ (h : Header) (m : Meaning) (wire : List ℕ) where
       asks_for : HasSent (view_in division) Req ⊎ HasTaken (view_in division) Req
       asks_for = requested h m wire division routed was some
 
+      next : Next h m wire division d
+      next = record { routed = routed; own = own; starts = starts; lawful = lawful; passes = passes; main = main; first = first; requested = asks_for; acc = acc }
+
       -- only a request has a request's route
       other_route : (x : Message) → Spells d.payload x → ((r : RequestParts) → x ≡ Message.Request r → ⊥) → route_of h ds d ≡ Route.Peer
       other_route x s other = elim (main_route (route_of h ds d) main) [
@@ -253,43 +205,43 @@ module _ (h : Header) (m : Meaning) (wire : List ℕ) where
 
       place : (dir : Dir) → d.dir ≡ dir → (x : Message) → Spells d.payload x → Placing
       place Out way (Message.Request r) s =
-          let may = may_send_request h m wire division routed own starts lawful d passes main first asks_for acc r s way in
-          (Main (Sent Req), request_route r s (out_from h.named d may.client way), (way, subst (λ q. Spells d.payload (Message.Request q)) (asked_now h m wire division routed own starts lawful d passes main first asks_for acc r s) s), (may, own))
+          let may = may_send_request next r s way in
+          (Main (Sent Req), request_route r s (out_from h.named d may.client way), (way, subst (λ q. Spells d.payload (Message.Request q)) (asked_now next r s) s), (may, own))
       place In way (Message.Request r) s =
-          let may = may_come_request h m wire division routed own starts lawful d passes main first asks_for acc r s way in
-          (Main (Took Req), request_route r s (in_from h.named d may way), (way, subst (λ q. Spells d.payload (Message.Request q)) (asked_now h m wire division routed own starts lawful d passes main first asks_for acc r s) s), (may, own))
+          let may = may_come_request next r s way in
+          (Main (Took Req), request_route r s (in_from h.named d may way), (way, subst (λ q. Spells d.payload (Message.Request q)) (asked_now next r s) s), (may, own))
       place Out way (Message.Oack o) s = (
         Main (Sent Oack),
         other_route (Message.Oack o) s (λ r e. cc),
-        (way, subst (λ q. Spells d.payload (Message.Oack q)) (sym (agreed_now h m wire division routed own starts lawful d passes main first asks_for acc o s).0) s),
-        (may_send_oack h m wire division routed own starts lawful d passes main first asks_for acc o s way, own),
+        (way, subst (λ q. Spells d.payload (Message.Oack q)) (sym (agreed_now next o s).0) s),
+        (may_send_oack next o s way, own),
       )
       place In way (Message.Oack o) s = (
         Main (Took Oack),
         other_route (Message.Oack o) s (λ r e. cc),
-        (way, subst (λ q. Spells d.payload (Message.Oack q)) (sym (agreed_now h m wire division routed own starts lawful d passes main first asks_for acc o s).0) s),
-        (may_come_oack h m wire division routed own starts lawful d passes main first asks_for acc o s way, own),
+        (way, subst (λ q. Spells d.payload (Message.Oack q)) (sym (agreed_now next o s).0) s),
+        (may_come_oack next o s way, own),
       )
       place Out way (Message.Data k bytes) s = (
         Main (Sent (Data k)),
         other_route (Message.Data k bytes) s (λ r e. cc),
-        (way, subst (λ q. Spells d.payload (Message.Data k q)) (of_wire h m wire division routed own starts lawful d passes main first asks_for acc k bytes s).1 s),
-        (may_send_data h m wire division routed own starts lawful d passes main first asks_for acc k bytes s way, own),
+        (way, subst (λ q. Spells d.payload (Message.Data k q)) (of_wire next k bytes s).1 s),
+        (may_send_data next k bytes s way, own),
       )
       place In way (Message.Data k bytes) s = (
         Main (Took (Data k)),
         other_route (Message.Data k bytes) s (λ r e. cc),
-        (way, subst (λ q. Spells d.payload (Message.Data k q)) (of_wire h m wire division routed own starts lawful d passes main first asks_for acc k bytes s).1 s),
-        (may_come_data h m wire division routed own starts lawful d passes main first asks_for acc k bytes s way, own),
+        (way, subst (λ q. Spells d.payload (Message.Data k q)) (of_wire next k bytes s).1 s),
+        (may_come_data next k bytes s way, own),
       )
       place Out way (Message.Ack j) s =
-          (Main (Sent (Ack j)), other_route (Message.Ack j) s (λ r e. cc), (way, s), (may_send_ack h m wire division routed own starts lawful d passes main first asks_for acc j s way, own))
+          (Main (Sent (Ack j)), other_route (Message.Ack j) s (λ r e. cc), (way, s), (may_send_ack next j s way, own))
       place In way (Message.Ack j) s =
-          (Main (Took (Ack j)), other_route (Message.Ack j) s (λ r e. cc), (way, s), (may_come_ack h m wire division routed own starts lawful d passes main first asks_for acc j s way, own))
+          (Main (Took (Ack j)), other_route (Message.Ack j) s (λ r e. cc), (way, s), (may_come_ack next j s way, own))
       place Out way (Message.Error code text) s =
-          (Main (Sent (Error code text)), other_route (Message.Error code text) s (λ r e. cc), (way, s), (may_send_error h m wire division routed own starts lawful d passes main first asks_for acc code text s way, own))
+          (Main (Sent (Error code text)), other_route (Message.Error code text) s (λ r e. cc), (way, s), (may_send_error next code text s way, own))
       place In way (Message.Error code text) s =
-          (Main (Took (Error code text)), other_route (Message.Error code text) s (λ r e. cc), (way, s), (may_come_error h m wire division routed own starts lawful d passes main first asks_for acc code text s way, own))
+          (Main (Took (Error code text)), other_route (Message.Error code text) s (λ r e. cc), (way, s), (may_come_error next code text s way, own))
 
       not_first : view_in division ≡ [] → ⊥
       not_first e = elim asks_for [

@@ -4,7 +4,7 @@ use Rattle.std.specs.Prelude.{reverse, ◌↔◌}
 use Rattle.tftp_ends.specs.CaptureText.{Datagram, Header}
 use Rattle.tftp_ends.specs.Meaning.{Meaning}
 use Rattle.tftp_ends.specs.OneSide.{IsOneSided}
-use Rattle.tftp_ends.proofs.OneSided.{one_sided_view}
+use Rattle.tftp_ends.proofs.MadeRuns.{one_sided_view}
 use Rattle.tftp_law.specs.Law.{IsSeen, IsLawful, ShowsBy, Shows}
 use Rattle.tftp_law.specs.Dress.{Division, datagrams_of, view_in}
 use Rattle.tftp_law.specs.Accord.{Starts, Accords, AreRouted}

@@ -26,9 +26,10 @@ use Rattle.tftp_law.specs.OneEnded.{IsAgreed, IsJoined, Meant}
 use Rattle.tftp_law.proofs.FirstAnswered.{first_one, not_both}
 use Rattle.tftp_law.proofs.Joined.{last_block}
 use Rattle.tftp_law.proofs.PassedIsDone.{told_passed}
-use Rattle.tftp_law.proofs.FirstReply.{sent_data, took_data}
+use Rattle.tftp_law.proofs.FirstReply.{sent_data}
 use Rattle.tftp_law.proofs.FirstSpelled.{request_spelled}
-use Rattle.tftp_law.proofs.NextDeed.{reply_now, wire_blocks, state, named_is, side_is, numbers, plain_yet, begun_out, begun_in}
+use Rattle.tftp_law.proofs.KnownTerms.{state, named_is, side_is, numbers, plain_yet, begun_out, begun_in}
+use Rattle.tftp_law.proofs.NextDeed.{reply_now, wire_blocks}
 use Rattle.tftp_law.proofs.Moments.{sent_below, acknowledged_was_sent}
 use Rattle.tftp_law.proofs.RunsPass.{ruled}
 use Rattle.tftp_law.proofs.Unasked.{none_view}

@@ -1,4 +1,5 @@
-use Rattle.tftp_ends.proofs.OneSided.{view_one_sided, one_sided_view}
+use Rattle.tftp_ends.proofs.OneSided.{view_one_sided}
+use Rattle.tftp_ends.proofs.MadeRuns.{one_sided_view}
 use Rattle.tftp_ends.proofs.laws.one_side_makes_a_run.Goals as goal
 
 pub returns-clause-alone : goal.returns-clause-alone
