@@ -20,7 +20,7 @@ use Rattle.tftp_ends.specs.declared.terms.Terms.{Terms}
 use Rattle.tftp_judge.specs.declared.plain.passed.Passed.{Passed as Kept}
 use Rattle.tftp_judge.specs.Heard.{Tells}
 use Rattle.tftp_judge.proofs.Told.{Meets, told_found, told_any}
-use Rattle.tftp_judge.proofs.Numbers.{either_way}
+use Rattle.tftp_judge.proofs.Numbers.{either_way, passed_as}
 
 -- ---- numbers are unique
 
@@ -92,15 +92,17 @@ either_told Q transfer passed tells = (
   ]),
 )
 
-through : {A B C : Type 0} → (A ↔ B) → (B → C) → (C → B) → A ↔ C
+pub through : {A B C : Type 0} → (A ↔ B) → (B → C) → (C → B) → A ↔ C
 through ab to from = ((λ a. to (ab.0 a)), (λ c. ab.1 (from c)))
 
-abbrev pub IsAny : Dir → Message → Type 0
-IsAny way m = (k : ℕ) × (bytes : List ℕ) × (m ≡ Data k bytes)
+abbrev pub IsAny : Dir → Dir → Message → Type 0
+IsAny dir way m = (way ≡ dir) × ((k : ℕ) × (bytes : List ℕ) × (m ≡ Data k bytes))
 
-pub any_told : (transfer : List Kept) (passed : List Datagram) → Tells transfer passed → AnyOf (Meets IsAny) transfer ↔ ((k : ℕ) × (bytes : List ℕ) × HasPassed (Data k bytes) passed)
-any_told transfer passed tells =
-    through (either_told (λ m. IsAny In m) transfer passed tells) (λ f. (f.1.0, f.1.1, subst (λ m. HasPassed m passed) f.1.2 f.2)) (λ p. (Data p.0 p.1, (p.0, p.1, refl), p.2))
+pub any_told : (dir : Dir) (transfer : List Kept) (passed : List Datagram) → Tells transfer passed → AnyOf (Meets (IsAny dir)) transfer ↔ ((k : ℕ) × BlockPassed dir k passed)
+any_told dir transfer passed tells = (
+  (λ any. let f = told_found (IsAny dir) transfer passed tells any in (f.2.1.0, (f.2.1.1, passed_as dir f.0 f.1 (Data f.2.1.0 f.2.1.1) passed f.2.0 f.2.1.2 f.3))),
+  (λ p. told_any (IsAny dir) transfer passed tells dir (Data p.0 p.1.0) (refl, (p.0, p.1.0, refl)) p.1.1),
+)
 
 abbrev pub IsOther : ℕ → List ℕ → Dir → Message → Type 0
 IsOther k bytes way m = (other : List ℕ) × (m ≡ Data k other) × (other ≢ bytes)
@@ -119,8 +121,8 @@ misfit_told t k long transfer passed tells =
 
 -- ---- packets in memory
 
-pub any_read : (n : ℕ) (packet : Packet) (bytes : Bor (List ℕ)) → packet ≡ packets.Data n bytes → IsTrue true ↔ ((k : ℕ) × (all : List ℕ) × (meaning packet ≡ Data k all))
-any_read n packet bytes is = ((λ yes. (n, bytes.now, ap meaning is)), (λ some. refl))
+pub any_read : (dir way : Dir) (n : ℕ) (packet : Packet) (bytes : Bor (List ℕ)) (result : Bool) → packet ≡ packets.Data n bytes → (IsTrue result ↔ (way ≡ dir)) → IsTrue result ↔ IsAny dir way (meaning packet)
+any_read dir way n packet bytes result is tells = ((λ yes. (tells.0 yes, (n, bytes.now, ap meaning is))), (λ any. tells.1 any.0))
 
 pub other_read : (k n : ℕ) (packet : Packet) (bytes : Bor (List ℕ)) (wanted : List ℕ) (result : Bool) → packet ≡ packets.Data n bytes → n ≡ k → (IsTrue result ↔ (bytes.now ≢ wanted))
     → IsTrue result ↔ ((other : List ℕ) × (meaning packet ≡ Data k other) × (other ≢ wanted))

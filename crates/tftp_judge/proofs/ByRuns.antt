@@ -6,7 +6,7 @@ use Rattle.tftp_ends.specs.Meaning.{Meaning}
 use Rattle.tftp_law.specs.Law.{IsLawful, ShowsBy}
 use Rattle.tftp_law.specs.OneEnded.{OneEnded, Meant}
 use Rattle.tftp_judge.specs.declared.verdict.Verdict.{Verdict}
-use Rattle.tftp_judge.specs.declared.verdict.Verdict.TheVariants.{Accepted, Unlawful, Incomplete, NormalTooLong}
+use Rattle.tftp_judge.specs.declared.verdict.Verdict.TheVariants.{Accepted, Unlawful, Aborted, Incomplete, NormalTooLong}
 use Rattle.tftp_judge.specs.Verdict.{IsVerdictBy, IsVerdict, IsVerdictByRules}
 use Rattle.tftp_law.proofs.TwoEnds.{lawful, whole}
 
@@ -27,7 +27,8 @@ module _ (Lawful Legal : List Datagram → Type 0) (Shown Said : Meaning → Lis
     unlawful = λ legal. at.unlawful (back _ legal);
     broken = at.broken;
   }
-  carried h ds (Incomplete count) (lawful, none, is) = (there ds lawful, (λ m shown. none m (unsaid m ds shown)), is)
+  carried h ds (Aborted by code) (lawful, none, is) = (there ds lawful, (λ m shown. none m (unsaid m ds shown)), is)
+  carried h ds (Incomplete count) (lawful, none, going, is) = (there ds lawful, (λ m shown. none m (unsaid m ds shown)), going, is)
   carried h ds NormalTooLong (lawful, (m, shown), long) = (there ds lawful, (m, said m ds shown), λ n is writable. long n (unsaid n ds is) writable)
 
 -- the law of two ends, and that of the rules

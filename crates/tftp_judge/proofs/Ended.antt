@@ -1,5 +1,6 @@
 -- When a transfer is whole, and what is said of datagrams that break no rule.
 use Rattle.std.proofs.Common.{◌≡◌, ◌⊎◌, ℕ, ◌+◌, ◌/◌, ◌<◌, ◌≤◌, List, [], ◌∷◌, length, Option, Some, None, Result, Ok, Err, IfOk, IfSome, IfNone, codes, inl, inr, refl, sym, subst, ap, ◌∙◌, arith}
+use Rattle.std.specs.Prelude.{reverse}
 use Rattle.std.proofs.lemmas.Bool.{cases_lt}
 use Rattle.std.specs.FinMap as map
 use Rattle.tftp_packet.specs.OptionMap.{OptionMap, no_options}
@@ -31,6 +32,10 @@ use Rattle.tftp_law.proofs.FirstAnswered.{not_both, first_one, terms_one}
 use Rattle.tftp_law.proofs.Settled.{Settled, settled, last_one}
 use Rattle.tftp_law.proofs.OneMeaning.{one_meaning}
 use Rattle.tftp_law.specs.Settled.{AreOnce, HasOneLast}
+use Rattle.tftp_judge.specs.Ending.{IsUnfinished}
+use Rattle.tftp_judge.specs.Verdict.{IsVerdictByRules}
+use Rattle.tftp_judge.specs.declared.verdict.Verdict.{Verdict}
+use Rattle.tftp_judge.specs.declared.verdict.Verdict.TheVariants.{Aborted, Incomplete}
 
 pub front_one : (passed : List Datagram) (a b : ℕ) → IsFront passed a → IsFront passed b → a ≡ b
 front_one passed a b one other = elim (cases_lt a b) [
@@ -193,3 +198,10 @@ module _ (h : Header) (earlier : List Datagram) (lawful : OneEnded h earlier) (a
         (meaning_from (asked, (agreed.0, file)), meant),
         (λ m other few. many (subst (λ n. n ≤ 65535) (sym (count_is agreed.0 file agreed.1)) (subst IsWritable (one_meaning h earlier m (meaning_from (asked, (agreed.0, file))) other meant) few))),
       )
+
+-- what there is to say of datagrams that break no rule and mean nothing
+pub unfinished_by : (h : Header) (datagrams : List Datagram) (total : ℕ) (v : Verdict) → OneEnded h (reverse datagrams) → ((m : Meaning) → Meant h (reverse datagrams) m → ⊥) → total ≡ length datagrams
+    → IsUnfinished (transfer_of h (reverse datagrams)) total v → IsVerdictByRules h datagrams v
+unfinished_by h datagrams total (Aborted by code) lawful none is first = (lawful, none, first)
+unfinished_by h datagrams total (Incomplete count) lawful none is left = (lawful, none, left.0, left.1 ∙ is)
+unfinished_by h datagrams total v lawful none is other = absurd other

@@ -11,6 +11,8 @@ pub mod BlockRules
 pub mod EndRules
 pub mod PassFound
 pub mod ByRuns
+pub mod Usable
+pub mod ErrorRules
 pub mod OneVerdict
 pub mod Gatherings
 pub mod TextVerdicts

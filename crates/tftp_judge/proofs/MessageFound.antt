@@ -22,7 +22,7 @@ use Rattle.tftp_nego.specs.Agreement.{MayAgree}
 use Rattle.tftp_nego.specs.Faults.{FirstFault, number}
 use Rattle.tftp_nego.specs.declared.fault.NegoFault.{NegoFault}
 use Rattle.tftp_nego.proofs.Tested.{no_fault}
-use Rattle.tftp_law.specs.Rules.{number_of, Answer, Agrees, Begins, IsAnswer, NotAnswered, FirstAnswer, IsWrongKind, ClientWentOn}
+use Rattle.tftp_law.specs.Rules.{number_of, Answer, Agrees, Begins, IsAnswer, NotAnswered, FirstAnswer, IsWrongKind, GoesOn, ClientWentOn}
 use Rattle.tftp_judge.specs.Plain.{Finds, stop_of_fault}
 use Rattle.tftp_law.specs.MessageRules.{IsFirstAnswer, AreTermsAfter, RequestBreaks, FirstOackBreaks, LaterOackBreaks, OackBreaks, TermsBreak, KindBreaks, MessageBreaks, rule_of_end}
 use Rattle.tftp_law.specs.declared.rule.Rule.{Rule}
@@ -223,13 +223,52 @@ module _ (h : Header) (asked : RequestParts) (passed : List Datagram) (m : Messa
 
 -- ---- any message
 
-module _ (h : Header) (asked : RequestParts) (passed : List Datagram) (dir : Dir) (m : Message) (right : IsWrongKind (author_of h.named dir) asked.side m → ⊥) where
+end_from : (e : EndRule) → 18 ≤ number_of (rule_of_end e)
+end_from EndRule.NotStarted = omega arith
+end_from EndRule.BlockZero = omega arith
+end_from EndRule.BeyondBlock65535 = omega arith
+end_from EndRule.BlockLength = omega arith
+end_from EndRule.WindowOverrun = omega arith
+end_from EndRule.BlockSkipped = omega arith
+end_from EndRule.GoneBack = omega arith
+end_from EndRule.BlockChanged = omega arith
+end_from EndRule.AckAhead = omega arith
+end_from EndRule.AckZero = omega arith
+
+request_from : (asked : RequestParts) (passed : List Datagram) (dir : Dir) (now : RequestParts) (rule : Rule) → RequestBreaks asked passed dir now rule → 8 ≤ number_of rule
+request_from asked passed dir now Rule.RequestChanged b = omega arith
+request_from asked passed dir now Rule.RequestAfterStart b = omega arith
+request_from asked passed dir now rule b = absurd b
+
+terms_from : (h : Header) (asked : RequestParts) (passed : List Datagram) (m : Message) (rule : Rule) → TermsBreak h asked passed m rule → 8 ≤ number_of rule
+terms_from h asked passed m rule (e, is, t, at, b) = let high = end_from e in let same = ap number_of is in omega arith
+
+-- the rules of one kind stand behind that of ERRORs
+kind_from : (h : Header) (asked : RequestParts) (passed : List Datagram) (dir : Dir) (m : Message) (rule : Rule) → KindBreaks h asked passed dir m rule → 8 ≤ number_of rule
+kind_from h asked passed dir (Message.Request now) rule b = request_from asked passed dir now rule b
+kind_from h asked passed dir (Message.Error code text) rule b = absurd b
+kind_from h asked passed dir (Message.Oack oack) rule b = let high = from_ten asked passed dir oack rule b in omega arith
+kind_from h asked passed dir (Message.Data k bytes) rule b = terms_from h asked passed (Message.Data k bytes) rule b
+kind_from h asked passed dir (Message.Ack j) rule b = terms_from h asked passed (Message.Ack j) rule b
+
+-- the first rule is that of ERRORs
+pub gone_on : (h : Header) (asked : RequestParts) (passed : List Datagram) (dir : Dir) (m : Message) → (IsWrongKind (author_of h.named dir) asked.side m → ⊥) → GoesOn passed dir m
+    → Finds (MessageBreaks h asked passed dir m) (Err (Stop.Broken Rule.AfterError))
+gone_on h asked passed dir m right on = (inr (inl (refl, on)), below)
+  where
+    below : (other : Rule) → number_of other < 7 → MessageBreaks h asked passed dir m other → ⊥
+    below other low (inl (is, wrong)) = right wrong
+    below other low (inr (inl (is, on))) = let same = ap number_of is in omega (arith, low, same)
+    below other low (inr (inr b)) = let high = kind_from h asked passed dir m other b in omega (arith, low, high)
+
+module _ (h : Header) (asked : RequestParts) (passed : List Datagram) (dir : Dir) (m : Message) (right : IsWrongKind (author_of h.named dir) asked.side m → ⊥) (stays : GoesOn passed dir m → ⊥) where
   kind_there : (rule : Rule) → KindBreaks h asked passed dir m rule → MessageBreaks h asked passed dir m rule
-  kind_there rule b = inr b
+  kind_there rule b = inr (inr b)
 
   kind_back : (rule : Rule) → MessageBreaks h asked passed dir m rule → KindBreaks h asked passed dir m rule
   kind_back rule (inl (is, wrong)) = absurd (right wrong)
-  kind_back rule (inr b) = b
+  kind_back rule (inr (inl (is, on))) = absurd (stays on)
+  kind_back rule (inr (inr b)) = b
 
   pub kind_finds : (r : Result (Unit {0}) Stop) → Finds (KindBreaks h asked passed dir m) r → Finds (MessageBreaks h asked passed dir m) r
   kind_finds = finds_by (KindBreaks h asked passed dir m) (MessageBreaks h asked passed dir m) kind_there kind_back

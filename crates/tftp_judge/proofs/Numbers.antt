@@ -27,7 +27,7 @@ IsAck dir j way m = (way ≡ dir) × (m ≡ Ack j)
 abbrev pub IsShort : ℕ → ℕ → Dir → Message → Type 0
 IsShort size k way m = (bytes : List ℕ) × (m ≡ Data k bytes) × (length bytes < size)
 
-passed_as : (dir way : Dir) (m n : Message) (passed : List Datagram) → way ≡ dir → m ≡ n → Passed way m passed → Passed dir n passed
+pub passed_as : (dir way : Dir) (m n : Message) (passed : List Datagram) → way ≡ dir → m ≡ n → Passed way m passed → Passed dir n passed
 passed_as dir way m n passed same is p = subst (λ x. Passed dir x passed) is (subst (λ x. Passed x m passed) same p)
 
 pub block_told : (dir : Dir) (k : ℕ) (transfer : List Kept) (passed : List Datagram) → Tells transfer passed → AnyOf (Meets (IsBlock dir k)) transfer ↔ BlockPassed dir k passed

@@ -10,7 +10,9 @@ use Rattle.tftp_law.specs.declared.rule.Rule.{Rule}
 use Rattle.tftp_law.specs.Law.{IsLawful}
 use Rattle.tftp_judge.specs.Verdict.{IsUnlawfulAt, IsVerdict}
 use Rattle.tftp_judge.specs.declared.verdict.Verdict.{Verdict}
-use Rattle.tftp_judge.specs.declared.verdict.Verdict.TheVariants.{Accepted, Unlawful, Incomplete, NormalTooLong}
+use Rattle.tftp_judge.specs.declared.verdict.Verdict.TheVariants.{Accepted, Unlawful, Aborted, Incomplete, NormalTooLong}
+use Rattle.tftp_ends.specs.Ports.{transfer_of}
+use Rattle.tftp_law.proofs.FirstError.{one_first, none_first}
 use Rattle.tftp_law.proofs.Beginnings.{beginning_is_lawful}
 use Rattle.tftp_law.proofs.TwoEnds.{one_shown}
 use Rattle.tftp_law.proofs.FirstBroken.{one_first_broken}
@@ -26,7 +28,7 @@ in_order =
     ∷ Rule.NoRequest
     ∷ (Rule.Malformed Short)
     ∷ Rule.WrongKind
-    ∷ Rule.TransferAborted
+    ∷ Rule.AfterError
     ∷ Rule.RequestChanged
     ∷ Rule.RequestAfterStart
     ∷ Rule.ReplyChanged
@@ -60,7 +62,7 @@ named Rule.StrayAnswer = inl refl
 named Rule.NoRequest = inl refl
 named (Rule.Malformed fault) = inr (fault, refl)
 named Rule.WrongKind = inl refl
-named Rule.TransferAborted = inl refl
+named Rule.AfterError = inl refl
 named Rule.RequestChanged = inl refl
 named Rule.RequestAfterStart = inl refl
 named Rule.ReplyChanged = inl refl
@@ -157,17 +159,28 @@ one_place h ds i j r q u v = by (ordered u.before v.before u.datagram v.datagram
 pub one_verdict : (h : Header) (ds : List Datagram) (v w : Verdict) → IsVerdict h ds v → IsVerdict h ds w → v ≡ w
 one_verdict h ds (Accepted m) (Accepted n) one other = ap Accepted (one_shown h ds m n one.1 other.1)
 one_verdict h ds (Accepted m) (Unlawful j q) one other = absurd (not_lawful h ds j q other one.0)
+one_verdict h ds (Accepted m) (Aborted by code) one other = absurd (other.1 m one.1)
 one_verdict h ds (Accepted m) (Incomplete c) one other = absurd (other.1 m one.1)
 one_verdict h ds (Accepted m) NormalTooLong one other = absurd (other.2 m one.1 one.2)
 one_verdict h ds (Unlawful i r) (Accepted n) one other = absurd (not_lawful h ds i r one other.0)
 one_verdict h ds (Unlawful i r) (Unlawful j q) one other = one_place h ds i j r q one other
+one_verdict h ds (Unlawful i r) (Aborted by code) one other = absurd (not_lawful h ds i r one other.0)
 one_verdict h ds (Unlawful i r) (Incomplete c) one other = absurd (not_lawful h ds i r one other.0)
 one_verdict h ds (Unlawful i r) NormalTooLong one other = absurd (not_lawful h ds i r one other.0)
+one_verdict h ds (Aborted by code) (Accepted n) one other = absurd (one.1 n other.1)
+one_verdict h ds (Aborted by code) (Unlawful j q) one other = absurd (not_lawful h ds j q other one.0)
+one_verdict h ds (Aborted by code) (Aborted also other_code) one other =
+    let same = one_first (transfer_of h (reverse ds)) by also code other_code one.2 other.2 in
+    ap (λ b. Aborted b code) same.0 ∙ ap (Aborted also) same.1
+one_verdict h ds (Aborted by code) (Incomplete c) one other = absurd (none_first (transfer_of h (reverse ds)) other.2 by code one.2)
+one_verdict h ds (Aborted by code) NormalTooLong one other = absurd (one.1 other.1.0 other.1.1)
 one_verdict h ds (Incomplete c) (Accepted n) one other = absurd (one.1 n other.1)
 one_verdict h ds (Incomplete c) (Unlawful j q) one other = absurd (not_lawful h ds j q other one.0)
-one_verdict h ds (Incomplete c) (Incomplete e) one other = ap Incomplete (one.2 ∙ sym other.2)
+one_verdict h ds (Incomplete c) (Aborted by code) one other = absurd (none_first (transfer_of h (reverse ds)) one.2 by code other.2)
+one_verdict h ds (Incomplete c) (Incomplete e) one other = ap Incomplete (one.3 ∙ sym other.3)
 one_verdict h ds (Incomplete c) NormalTooLong one other = absurd (one.1 other.1.0 other.1.1)
 one_verdict h ds NormalTooLong (Accepted n) one other = absurd (one.2 n other.1 other.2)
 one_verdict h ds NormalTooLong (Unlawful j q) one other = absurd (not_lawful h ds j q other one.0)
+one_verdict h ds NormalTooLong (Aborted by code) one other = absurd (other.1 one.1.0 one.1.1)
 one_verdict h ds NormalTooLong (Incomplete c) one other = absurd (other.1 one.1.0 one.1.1)
 one_verdict h ds NormalTooLong NormalTooLong one other = refl

@@ -13,10 +13,10 @@ use Rattle.tftp_ends.specs.Ports.{asks, first_of, route_of, is_of_transfer, tran
 use Rattle.tftp_ends.specs.declared.route.Route.{Route}
 use Rattle.tftp_ends.specs.declared.rule.EndRule.{EndRule}
 use Rattle.tftp_nego.specs.declared.fault.NegoFault.{NegoFault}
-use Rattle.tftp_law.specs.Rules.{FirstAsked, Says, ClientWentOn, FirstOack, EndBreaks, Broken}
+use Rattle.tftp_law.specs.Rules.{FirstAsked, Says, GoesOn, ClientWentOn, FirstOack, EndBreaks, Broken}
 use Rattle.tftp_law.specs.declared.rule.Rule.{Rule}
 use Rattle.tftp_law.specs.OneEnded.{IsRead, Passes, OneEnded}
-use Rattle.tftp_law.proofs.FirstRequests.{none_before, none_asked, first_spells}
+use Rattle.tftp_law.proofs.FirstRequests.{none_before, none_asked}
 
 -- ---- a datagram is ERROR 5, or it is not
 
@@ -116,7 +116,7 @@ module _ (h : Header) (ds : List Datagram) (d : Datagram) where
     off_lawful Rule.NoRequest b = false≢true (sym off ∙ ap is_of_transfer b.1)
     off_lawful (Rule.Malformed fault) b = false≢true (sym off ∙ b.0)
     off_lawful Rule.WrongKind (m, asked, says, is, wrong) = not_said m says
-    off_lawful Rule.TransferAborted (code, text, says) = not_said (Message.Error code text) says
+    off_lawful Rule.AfterError (now, says, went) = not_said now says
     off_lawful Rule.RequestChanged (was, now, is, says, other) = not_said (Message.Request now) says
     off_lawful Rule.RequestAfterStart (out, (now, says), went) = not_said (Message.Request now) says
     off_lawful Rule.ReplyChanged (asked, oack, is, answered, says) = not_said (Message.Oack oack) says
@@ -159,24 +159,14 @@ module _ (h : Header) (ds : List Datagram) (d : Datagram) where
   pub main_passes : (m : Message) → is_of_transfer (route_of h ds d) ≡ true → Spells d.payload m → ((rule : Rule) → Broken h ds d rule → ⊥) → Passes h ds d
   main_passes m on s lawful = record { read = main_read (route_of h ds d) m on s; lawful = lawful }
 
-  is_request : (r : Route) → is_of_transfer r ≡ true → (r ≡ Route.Peer → ⊥) → r ≡ Route.Request
-  is_request Route.Request on other = refl
-  is_request Route.Peer on other = absurd (other refl)
-  is_request Route.Stray on other = absurd (false≢true on)
-  is_request Route.StrayAnswer on other = absurd (false≢true on)
-  is_request Route.ForeignPort on other = absurd (false≢true on)
-  is_request Route.WrongPort on other = absurd (false≢true on)
-  is_request Route.NoStrayAnswer on other = absurd (false≢true on)
-
   -- the first request
   module _ (m : Message) (on : is_of_transfer (route_of h ds d) ≡ true) (spells : Spells d.payload m) (one : OneEnded h ds)
       (never : (asked : RequestParts) → FirstAsked h ds asked → ⊥) (begun_by : first_of (asks h) ds ≡ None → route_of h ds d ≡ Route.Peer → ⊥) where
     nothing : first_of (asks h) ds ≡ None
     nothing = none_asked h ds one never
 
-    no_error : (code : ℕ) (text : List ℕ) → Spells d.payload (Message.Error code text) → ⊥
-    no_error code text s =
-        let (asked, is) = first_spells h ds d (Message.Error code text) nothing (is_request (route_of h ds d) on (begun_by nothing)) s in cc
+    gone_on : (now : Message) → GoesOn (transfer_of h ds) d.dir now → ⊥
+    gone_on now went = (subst (λ (passed : List Datagram). GoesOn passed d.dir now) (none_before h ds nothing one) went).2
 
     went_on : ClientWentOn (transfer_of h ds) → ⊥
     went_on went = elim (subst (λ (passed : List Datagram). ClientWentOn passed) (none_before h ds nothing one) went) [ inl block ↦ block.2 | inr ack ↦ ack.1 ]
@@ -195,7 +185,7 @@ module _ (h : Header) (ds : List Datagram) (d : Datagram) where
     first_lawful Rule.NoRequest b = begun_by b.0 b.1
     first_lawful (Rule.Malformed fault) b = no_fault d.payload m fault spells.1 b.1.0
     first_lawful Rule.WrongKind (x, asked, says, is, wrong) = never asked is
-    first_lawful Rule.TransferAborted (code, text, says) = no_error code text says.spells
+    first_lawful Rule.AfterError (now, says, went) = gone_on now went
     first_lawful Rule.RequestChanged (was, now, is, says, other) = never was is
     first_lawful Rule.RequestAfterStart (out, says, went) = went_on went
     first_lawful Rule.ReplyChanged (asked, oack, is, answered, says) = never asked is

@@ -13,7 +13,7 @@ use Rattle.tftp_judge.specs.Gathered.{EndsGathering, Gathers, fault_or, said_fir
 use Rattle.tftp_judge.specs.TextVerdict.{EndsText, IsTextVerdict, MayFollowFailure, unnumbered}
 use Rattle.tftp_judge.specs.Verdict.{IsVerdict}
 use Rattle.tftp_judge.specs.declared.verdict.Verdict.{Verdict}
-use Rattle.tftp_judge.specs.declared.verdict.Verdict.TheVariants.{Accepted, Unlawful, Incomplete, NormalTooLong}
+use Rattle.tftp_judge.specs.declared.verdict.Verdict.TheVariants.{Accepted, Unlawful, Aborted, Incomplete, NormalTooLong}
 use Rattle.tftp_judge.proofs.TextVerdicts.{IsRead, MayGoOn, fault_stays_on, fault_verdict, kinds, none_in, said_on, said_verdict}
 
 -- bytes were taken and some read ahead, none where a read failed or the text has ended
@@ -119,6 +119,7 @@ read_fault verdict (Err fault) P h p = p (is_read fault h)
 said_read : (verdict : Verdict) (gathered : Result (Unit {0}) CaptureFault) (P : Type 0) → IfErr gathered (λ fault. IsReadFault fault → P) → IsRead (said_first verdict gathered) → P
 said_read (Accepted m) gathered P p h = read_fault (Accepted m) gathered P h p
 said_read (Unlawful index rule) gathered P p h = absurd h
+said_read (Aborted by code) gathered P p h = read_fault (Aborted by code) gathered P h p
 said_read (Incomplete count) gathered P p h = read_fault (Incomplete count) gathered P h p
 said_read NormalTooLong gathered P p h = read_fault NormalTooLong gathered P h p
 
@@ -129,6 +130,7 @@ ends_or verdict (Err fault) h = h
 said_ends : (verdict : Verdict) (gathered : Result (Unit {0}) CaptureFault) → EndsText (said_first verdict gathered) → EndsGathering gathered
 said_ends (Accepted m) gathered h = ends_or (Accepted m) gathered h
 said_ends (Unlawful index rule) gathered h = absurd h
+said_ends (Aborted by code) gathered h = ends_or (Aborted by code) gathered h
 said_ends (Incomplete count) gathered h = ends_or (Incomplete count) gathered h
 said_ends NormalTooLong gathered h = ends_or NormalTooLong gathered h
 
@@ -141,6 +143,7 @@ follows verdict (Err (Memory line)) h = tt
 said_follows : (verdict : Verdict) (gathered : Result (Unit {0}) CaptureFault) → IsErrAnd gathered IsReadFault → MayFollowFailure (said_first verdict gathered)
 said_follows (Accepted m) gathered h = follows (Accepted m) gathered h
 said_follows (Unlawful index rule) gathered h = tt
+said_follows (Aborted by code) gathered h = follows (Aborted by code) gathered h
 said_follows (Incomplete count) gathered h = follows (Incomplete count) gathered h
 said_follows NormalTooLong gathered h = follows NormalTooLong gathered h
 

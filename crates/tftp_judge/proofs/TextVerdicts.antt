@@ -18,7 +18,7 @@ use Rattle.tftp_judge.specs.TextVerdict.{AllLawful, BeginsBy, EndsText, IsCaptur
 use Rattle.tftp_judge.specs.Verdict.{IsVerdict}
 use Rattle.tftp_law.specs.declared.rule.Rule.{Rule}
 use Rattle.tftp_judge.specs.declared.verdict.Verdict.{Verdict}
-use Rattle.tftp_judge.specs.declared.verdict.Verdict.TheVariants.{Accepted, Unlawful, Incomplete, NormalTooLong}
+use Rattle.tftp_judge.specs.declared.verdict.Verdict.TheVariants.{Accepted, Unlawful, Aborted, Incomplete, NormalTooLong}
 use Rattle.tftp_judge.proofs.Gatherings.{begins_longer}
 use Rattle.tftp_law.proofs.Beginnings.{beginning_is_lawful, empty_is_lawful}
 use Rattle.tftp_judge.proofs.OneVerdict.{not_lawful, one_verdict}
@@ -29,6 +29,7 @@ use Rattle.tftp_judge.proofs.OneVerdict.{not_lawful, one_verdict}
 abbrev pub MayGoOn : Result Verdict CaptureFault → Type 0
 MayGoOn (Ok (Unlawful index rule)) = Unit {0}
 MayGoOn (Ok (Accepted m)) = ⊥
+MayGoOn (Ok (Aborted by code)) = ⊥
 MayGoOn (Ok (Incomplete count)) = ⊥
 MayGoOn (Ok NormalTooLong) = ⊥
 MayGoOn (Err (Text line fault)) = fault ≢ Truncated
@@ -78,6 +79,7 @@ by_verdict : (h : Header) (ds : List Datagram) (verdict : Verdict) → IsVerdict
     × ((gathered : Result (Unit {0}) CaptureFault) → said_first verdict gathered ≡ fault_or verdict gathered) × ((text : List ℕ) → IsCaptureBy text verdict → IsTextVerdict text (Ok verdict)) × (MayGoOn (Ok verdict) → ⊥))
 by_verdict h ds (Accepted m) is = inr (is.0, λ gathered. refl, λ text by. by, λ x. x)
 by_verdict h ds (Unlawful index rule) is = inl (index, rule, refl)
+by_verdict h ds (Aborted by code) is = inr (is.0, λ gathered. refl, λ text is. is, λ x. x)
 by_verdict h ds (Incomplete count) is = inr (is.0, λ gathered. refl, λ text by. by, λ x. x)
 by_verdict h ds NormalTooLong is = inr (is.0, λ gathered. refl, λ text by. by, λ x. x)
 
@@ -112,6 +114,7 @@ module _ (text : List ℕ) (h : Header) (ds : List Numbered) (begins : Begins te
 pub kinds : (r : Result Verdict CaptureFault) → MayGoOn r ⊎ (EndsText r ⊎ IsRead r)
 kinds (Ok (Accepted m)) = inr (inl tt)
 kinds (Ok (Unlawful index rule)) = inl tt
+kinds (Ok (Aborted by code)) = inr (inl tt)
 kinds (Ok (Incomplete count)) = inr (inl tt)
 kinds (Ok NormalTooLong) = inr (inl tt)
 kinds (Err (Read line)) = inr (inr tt)
@@ -141,6 +144,7 @@ data Said (text : List ℕ) : Result Verdict CaptureFault → Type 0 where
 said_is : (text : List ℕ) (r : Result Verdict CaptureFault) → IsOfText r → IsTextVerdict text r → Said text r
 said_is text (Ok (Unlawful index rule)) of is = unlawful index rule is
 said_is text (Ok (Accepted m)) of (h, ds, capture, is) = captured (Accepted m) h ds capture is is.0
+said_is text (Ok (Aborted by code)) of (h, ds, capture, is) = captured (Aborted by code) h ds capture is is.0
 said_is text (Ok (Incomplete count)) of (h, ds, capture, is) = captured (Incomplete count) h ds capture is is.0
 said_is text (Ok NormalTooLong) of (h, ds, capture, is) = captured NormalTooLong h ds capture is is.0
 said_is text (Err (Text line fault)) of is = faulty line fault is.0.0 is.0.1 is.1

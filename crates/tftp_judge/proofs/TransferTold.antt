@@ -23,27 +23,27 @@ use Rattle.tftp_judge.specs.SentKinds.{IsBlock, IsAck, SentKind, does_answer, an
 use Rattle.tftp_judge.specs.declared.plain.passed.Passed.{Passed}
 use Rattle.tftp_law.proofs.Spelled.{spelled_once}
 
-abbrev datagram_in : Passed → Datagram
+abbrev pub datagram_in : Passed → Datagram
 datagram_in p = datagram_of p.datagram.now
 
 abbrev pub told : List Passed → List Datagram
 told ts = reverse (each (λ p. datagram_of p.datagram.now) ts)
 
-told_more : (p : Passed) (ts : List Passed) → told (p ∷ ts) ≡ told ts ++ datagram_in p ∷ []
+pub told_more : (p : Passed) (ts : List Passed) → told (p ∷ ts) ≡ told ts ++ datagram_in p ∷ []
 told_more p ts = reverse-append (datagram_in p ∷ []) (each (λ (q : Passed). datagram_of q.datagram.now) ts)
 
 -- ---- what has passed
 
-passed_before : (dir : Dir) (m : Message) (xs : List Datagram) (d : Datagram) → HasPassed dir m xs → HasPassed dir m (xs ++ d ∷ [])
+pub passed_before : (dir : Dir) (m : Message) (xs : List Datagram) (d : Datagram) → HasPassed dir m xs → HasPassed dir m (xs ++ d ∷ [])
 passed_before dir m [] d p = absurd p
 passed_before dir m (x ∷ xs) d (inl here) = inl here
 passed_before dir m (x ∷ xs) d (inr before) = inr (passed_before dir m xs d before)
 
-passed_last : (dir : Dir) (m : Message) (xs : List Datagram) (d : Datagram) → d.dir ≡ dir → Spells d.payload m → HasPassed dir m (xs ++ d ∷ [])
+pub passed_last : (dir : Dir) (m : Message) (xs : List Datagram) (d : Datagram) → d.dir ≡ dir → Spells d.payload m → HasPassed dir m (xs ++ d ∷ [])
 passed_last dir m [] d way s = inl (way, s)
 passed_last dir m (x ∷ xs) d way s = inr (passed_last dir m xs d way s)
 
-passed_split : (dir : Dir) (m : Message) (xs : List Datagram) (d : Datagram) → HasPassed dir m (xs ++ d ∷ []) → HasPassed dir m xs ⊎ ((d.dir ≡ dir) × Spells d.payload m)
+pub passed_split : (dir : Dir) (m : Message) (xs : List Datagram) (d : Datagram) → HasPassed dir m (xs ++ d ∷ []) → HasPassed dir m xs ⊎ ((d.dir ≡ dir) × Spells d.payload m)
 passed_split dir m [] d (inl here) = inr here
 passed_split dir m [] d (inr none) = absurd none
 passed_split dir m (x ∷ xs) d (inl here) = inl (inl here)

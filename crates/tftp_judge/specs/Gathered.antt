@@ -9,7 +9,7 @@ use Rattle.tftp_capture.specs.declared.fault.CaptureFault.{CaptureFault}
 use Rattle.tftp_ends.specs.CaptureText.{Header}
 use Rattle.tftp_judge.specs.TextVerdict.{unnumbered}
 use Rattle.tftp_judge.specs.declared.verdict.Verdict.{Verdict}
-use Rattle.tftp_judge.specs.declared.verdict.Verdict.TheVariants.{Accepted, Unlawful, Incomplete, NormalTooLong}
+use Rattle.tftp_judge.specs.declared.verdict.Verdict.TheVariants.{Accepted, Unlawful, Aborted, Incomplete, NormalTooLong}
 
 -- how the gathering ended: the text is a capture of these datagrams, or has this fault after them
 abbrev pub GatheringTells : Result (Unit {0}) CaptureFault → List ℕ → Header → List Numbered → Type 0
@@ -47,5 +47,6 @@ fault_or verdict (Err fault) = Err fault
 abbrev pub said_first : Verdict → Result (Unit {0}) CaptureFault → Result Verdict CaptureFault
 said_first (Unlawful index rule) gathered = Ok (Unlawful index rule)
 said_first (Accepted m) gathered = fault_or (Accepted m) gathered
+said_first (Aborted by code) gathered = fault_or (Aborted by code) gathered
 said_first (Incomplete count) gathered = fault_or (Incomplete count) gathered
 said_first NormalTooLong gathered = fault_or NormalTooLong gathered

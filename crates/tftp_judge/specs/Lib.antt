@@ -5,3 +5,5 @@ pub mod Heard
 pub mod Plain
 pub mod Numbers
 pub mod SentKinds
+pub mod Errors
+pub mod Ending

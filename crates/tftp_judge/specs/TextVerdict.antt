@@ -8,7 +8,7 @@ use Rattle.tftp_ends.specs.CaptureText.{Datagram, Header}
 use Rattle.tftp_law.specs.Law.{IsLawful}
 use Rattle.tftp_judge.specs.Verdict.{IsVerdict}
 use Rattle.tftp_judge.specs.declared.verdict.Verdict.{Verdict}
-use Rattle.tftp_judge.specs.declared.verdict.Verdict.TheVariants.{Accepted, Unlawful, Incomplete, NormalTooLong}
+use Rattle.tftp_judge.specs.declared.verdict.Verdict.TheVariants.{Accepted, Unlawful, Aborted, Incomplete, NormalTooLong}
 
 -- the datagrams without the numbers of their lines
 abbrev pub unnumbered : List Numbered → List Datagram
@@ -31,6 +31,7 @@ AllLawful text = (header : Header) (datagrams : List Numbered) → Begins text h
 abbrev pub IsTextVerdict : List ℕ → Result Verdict CaptureFault → Type 0
 IsTextVerdict text (Ok (Unlawful index rule)) = BeginsBy text (Unlawful index rule)
 IsTextVerdict text (Ok (Accepted m)) = IsCaptureBy text (Accepted m)
+IsTextVerdict text (Ok (Aborted by code)) = IsCaptureBy text (Aborted by code)
 IsTextVerdict text (Ok (Incomplete count)) = IsCaptureBy text (Incomplete count)
 IsTextVerdict text (Ok NormalTooLong) = IsCaptureBy text NormalTooLong
 IsTextVerdict text (Err (Text line fault)) = ((datagrams : List Numbered) × HasFault text datagrams line fault) × AllLawful text
@@ -41,6 +42,7 @@ IsTextVerdict text (Err (Memory line)) = Unit {0}
 abbrev pub EndsText : Result Verdict CaptureFault → Type 0
 EndsText (Ok (Unlawful index rule)) = ⊥
 EndsText (Ok (Accepted m)) = Unit {0}
+EndsText (Ok (Aborted by code)) = Unit {0}
 EndsText (Ok (Incomplete count)) = Unit {0}
 EndsText (Ok NormalTooLong) = Unit {0}
 EndsText (Err fault) = IsAtTextEnd fault
@@ -49,6 +51,7 @@ EndsText (Err fault) = IsAtTextEnd fault
 abbrev pub MayFollowFailure : Result Verdict CaptureFault → Type 0
 MayFollowFailure (Ok (Unlawful index rule)) = Unit {0}
 MayFollowFailure (Ok (Accepted m)) = ⊥
+MayFollowFailure (Ok (Aborted by code)) = ⊥
 MayFollowFailure (Ok (Incomplete count)) = ⊥
 MayFollowFailure (Ok NormalTooLong) = ⊥
 MayFollowFailure (Err (Text line fault)) = ⊥

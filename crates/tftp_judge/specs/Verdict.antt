@@ -3,13 +3,14 @@
 use Rattle.std.specs.Prelude.{◌≡◌, ℕ, ◌+◌, List, [], ◌∷◌, ◌++◌, length, reverse}
 use Rattle.tftp_ends.specs.CaptureText.{Datagram, Header}
 use Rattle.tftp_ends.specs.Meaning.{Meaning}
+use Rattle.tftp_law.specs.Aborted.{IsAborted, IsNotAborted}
 use Rattle.tftp_law.specs.Fits.{IsWritable}
 use Rattle.tftp_law.specs.Law.{IsLawful, ShowsBy}
 use Rattle.tftp_law.specs.Rules.{FirstBroken}
 use Rattle.tftp_law.specs.declared.rule.Rule.{Rule}
 use Rattle.tftp_law.specs.OneEnded.{OneEnded, Meant}
 use Rattle.tftp_judge.specs.declared.verdict.Verdict.{Verdict}
-use Rattle.tftp_judge.specs.declared.verdict.Verdict.TheVariants.{Accepted, Unlawful, Incomplete, NormalTooLong}
+use Rattle.tftp_judge.specs.declared.verdict.Verdict.TheVariants.{Accepted, Unlawful, Aborted, Incomplete, NormalTooLong}
 
 -- The datagrams before the one with this index, from 1, are lawful, and with it they are not. It breaks this rule and
 -- none before it in the order.
@@ -26,7 +27,9 @@ pub record IsUnlawfulAt (Lawful : List Datagram → Type 0) (header : Header) (d
 abbrev pub IsVerdictBy : (List Datagram → Type 0) → (Meaning → List Datagram → Type 0) → Header → List Datagram → Verdict → Type 0
 IsVerdictBy Lawful Shown header datagrams (Accepted m) = Lawful datagrams × Shown m datagrams × IsWritable m
 IsVerdictBy Lawful Shown header datagrams (Unlawful index rule) = IsUnlawfulAt Lawful header datagrams index rule
-IsVerdictBy Lawful Shown header datagrams (Incomplete count) = Lawful datagrams × ((m : Meaning) → Shown m datagrams → ⊥) × (count ≡ length datagrams)
+IsVerdictBy Lawful Shown header datagrams (Aborted by code) = Lawful datagrams × ((m : Meaning) → Shown m datagrams → ⊥) × IsAborted header (reverse datagrams) by code
+IsVerdictBy Lawful Shown header datagrams (Incomplete count) =
+    Lawful datagrams × ((m : Meaning) → Shown m datagrams → ⊥) × IsNotAborted header (reverse datagrams) × (count ≡ length datagrams)
 IsVerdictBy Lawful Shown header datagrams NormalTooLong = Lawful datagrams × ((m : Meaning) × Shown m datagrams) × ((m : Meaning) → Shown m datagrams → IsWritable m → ⊥)
 
 -- the verdict by the runs of two ends

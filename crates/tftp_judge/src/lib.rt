@@ -10,5 +10,5 @@ mod verdict;
 pub use meaning::Meaning;
 pub use plain::judge;
 pub use text::judge_text;
-pub use tftp_law::Rule;
+pub use tftp_law::{By, Rule};
 pub use verdict::Verdict;

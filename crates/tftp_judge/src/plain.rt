@@ -5,6 +5,7 @@ mod asked;
 mod blocks;
 mod end_fault;
 mod ending;
+mod errors;
 mod join;
 mod judging;
 mod kinds;

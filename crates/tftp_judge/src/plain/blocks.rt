@@ -4,9 +4,10 @@ ghost use Rattle.std.specs.Prelude.{◌≡◌, ◌≢◌, ◌↔◌, ℕ, ◌+�
 ghost use Rattle.tftp_packet.specs.Message.{Message};
 ghost use Rattle.tftp_packet.specs.Meaning.{meaning};
 ghost use Rattle.tftp_ends.specs.CaptureText.{Datagram};
-ghost use Rattle.tftp_ends.specs.Rules.{HasPassed, IsHigh, IsLast, LastIsUnknown, IsNotLengthOf, HasWrongLength, BlocksWait, IsSender, IsReceiver, IsAckedAt, BlockBreaks};
+ghost use Rattle.tftp_ends.specs.Rules.{HasPassed, IsHigh, IsLast, LastIsUnknown, IsNotLengthOf, HasWrongLength, BlocksWait, IsSender, IsReceiver, IsAckedAt, BlockBreaks, usable as usable_of};
 ghost use Rattle.tftp_judge.specs.Heard.{Tells};
 
+use crate::plain::errors::usable;
 use crate::plain::numbers::{acked, answered, has_ack, high, last_block, short_number, top};
 use crate::plain::passed::Passed;
 use tftp_ends::{EndRule, Reply, Terms};
@@ -26,11 +27,14 @@ pub fn is_sender(terms: &Terms) -> bool
 /// Whether blocks wait for an ACK 0 or a reply (RFC 1350, section 4; RFC 2347).
 fn blocks_wait(terms: &Terms, transfer: &[Passed<'_>]) -> bool
     ensures { (passed : List Datagram) → Tells transfer.now passed
-        → (IsTrue result ↔ BlocksWait terms.now.side terms.now.reply passed) }
+        → (IsTrue result ↔ BlocksWait terms.now.side terms.now.reply (usable_of passed)) }
 {
     match terms.side {
         Side::Get => match terms.reply {
-            Reply::Oacked => !has_ack(transfer, Dir::In, 0) && !has_ack(transfer, Dir::Out, 0),
+            Reply::Oacked => {
+                !has_ack(usable(transfer, Dir::In), Dir::In, 0)
+                    && !has_ack(usable(transfer, Dir::Out), Dir::Out, 0)
+            }
             Reply::NoReply => false,
             Reply::Plain => false,
         },
@@ -148,14 +152,15 @@ fn has_wrong_length(terms: &Terms, transfer: &[Passed<'_>], block: u16, long: u6
     misfits_last(terms, transfer, block, long) || ends_below(terms, transfer, block, long)
 }
 
-/// The highest ACK that came in at the sender, or that the receiver sent, or 0 (RFC 1350, section 2).
+/// The highest ACK that came in at the sender, or that the receiver sent and the sender can have used, or 0 (RFC 1350,
+/// sections 2 and 7).
 fn acked_at(terms: &Terms, transfer: &[Passed<'_>]) -> u16
-    ensures { (passed : List Datagram) → Tells transfer.now passed → IsAckedAt terms.now passed result }
+    ensures { (passed : List Datagram) → Tells transfer.now passed → IsAckedAt terms.now (usable_of passed) result }
 {
     if is_sender(terms) {
-        answered(transfer)
+        answered(usable(transfer, Dir::In))
     } else {
-        acked(transfer)
+        acked(usable(transfer, Dir::Out))
     }
 }
 

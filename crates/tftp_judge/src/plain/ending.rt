@@ -7,6 +7,7 @@ ghost use Rattle.tftp_capture.specs.Fields.{datagram_of, header_of};
 ghost use Rattle.tftp_ends.specs.CaptureText.{Datagram as DatagramParts};
 ghost use Rattle.tftp_ends.specs.Ports.{transfer_of};
 ghost use Rattle.tftp_law.specs.Fits.{ReadsAs, written_wire};
+ghost use Rattle.tftp_judge.specs.Ending.{IsUnfinished};
 ghost use Rattle.tftp_judge.specs.Heard.{newest_first, Tells};
 ghost use Rattle.tftp_law.specs.OneEnded.{OneEnded, IsAgreed, IsJoined, IsWhole};
 ghost use Rattle.tftp_law.specs.Settled.{AreOnce, HasOneLast};
@@ -14,6 +15,7 @@ ghost use Rattle.tftp_judge.specs.Verdict.{IsVerdictByRules};
 
 use crate::meaning::Meaning;
 use crate::plain::asked::first_asked;
+use crate::plain::errors::first_error;
 use crate::plain::join::join;
 use crate::plain::numbers::last_block;
 use crate::plain::passed::Passed;
@@ -105,6 +107,16 @@ fn written_blocks(mode: Mode, blksize: u16, file: &[u8]) -> Option<u16>
     }
 }
 
+/// What there is to say of a transfer that is not whole: who ended it, or how many datagrams there are (RFC 1350, section 7).
+fn unfinished(transfer: &[Passed<'_>], count: u64) -> Verdict
+    ensures { (passed : List DatagramParts) → Tells transfer.now passed → IsUnfinished passed count result }
+{
+    match first_error(transfer) {
+        Some((by, code)) => Verdict::Aborted(by, code),
+        None => Verdict::Incomplete(count),
+    }
+}
+
 /// What there is to say of datagrams that break no rule.
 pub fn ending(
     alloc: Global,
@@ -118,11 +130,11 @@ pub fn ending(
 {
     let count = datagrams.len() as u64;
     let Some(asked) = first_asked(header, datagrams) else {
-        return Ok(Verdict::Incomplete(count));
+        return Ok(unfinished(transfer, count));
     };
     let terms = terms(header, &asked, transfer);
     let Some(wire) = whole_wire(alloc, &terms, transfer)? else {
-        return Ok(Verdict::Incomplete(count));
+        return Ok(unfinished(transfer, count));
     };
     let file = file_of(alloc, asked.mode(), wire)?;
     let Some(blocks) = written_blocks(asked.mode(), terms.blksize, file.as_slice()) else {

@@ -8,6 +8,7 @@ ghost use Rattle.tftp_judge.specs.Plain.{Finds};
 ghost use Rattle.tftp_law.specs.MessageRules.{TermsBreak, MessageBreaks, rule_of_end as rule_by_end};
 
 use crate::plain::end_fault::end_fault;
+use crate::plain::errors::goes_on;
 use crate::plain::kinds::{author_of, is_wrong_kind};
 use crate::plain::oacks::oack_fault;
 use crate::plain::passed::Passed;
@@ -20,8 +21,8 @@ use tftp_ends::EndRule;
 use tftp_law::Rule;
 use tftp_packet::{Dir, Packet, RequestView};
 
-/// What a packet of the transfer breaks that comes after the first request: it is of a wrong kind, it ends the transfer
-/// (RFC 1350, section 7), or what the rules of its kind say.
+/// What a packet of the transfer breaks that comes after the first request: it is of a wrong kind, it goes on after an
+/// ERROR (RFC 1350, section 7), or what the rules of its kind say.
 pub fn message_fault(
     alloc: Global,
     header: &Header,
@@ -35,9 +36,12 @@ pub fn message_fault(
     if is_wrong_kind(author_of(header.named, dir), asked.side(), packet) {
         return Err(Stop::Broken(Rule::WrongKind));
     }
+    if goes_on(transfer, dir, packet) {
+        return Err(Stop::Broken(Rule::AfterError));
+    }
     match packet {
         Packet::Request(now) => request_fault(alloc, asked, transfer, dir, now),
-        Packet::Error { .. } => Err(Stop::Broken(Rule::TransferAborted)),
+        Packet::Error { .. } => Ok(()),
         Packet::Oack(oack) => oack_fault(alloc, asked, transfer, dir, oack),
         Packet::Data { .. } | Packet::Ack { .. } => terms_fault(header, asked, transfer, packet),
     }

@@ -1,4 +1,5 @@
 use Rattle.std.proofs.Common.{◌≡◌, ◌≤◌, ◌+◌, ◌/◌, length, sym, subst, ap, ◌∙◌}
+use Rattle.std.specs.Prelude.{map}
 use Rattle.std.proofs.lemmas.List.{length-map}
 use Rattle.tftp_packet.specs.Written.{parts}
 use Rattle.tftp_capture.specs.Fields.{datagram_of, header_of}
@@ -10,11 +11,15 @@ use Rattle.tftp_judge.specs.Heard.{newest_first}
 use Rattle.tftp_law.specs.Fits.{ReadsAs, written_wire, IsWritable}
 use Rattle.tftp_law.specs.Owned.{meaning_from}
 use Rattle.tftp_law.specs.OneEnded.{Meant}
-use Rattle.tftp_judge.proofs.Ended.{none_of, some_of, once, one, count_is, meant_of, not_meant, writable, too_long}
+use Rattle.tftp_judge.proofs.Ended.{none_of, some_of, once, one, count_is, meant_of, not_meant, writable, too_long, unfinished_by}
 use Rattle.tftp_judge.proofs.plain.ending.ending.Goals as goal
 
 pub returns-in_default : goal.returns-in_default
-returns-in_default c = (c.requires.lawful, (λ m meant. c.in_default.ensures (request_of m) meant.asked), sym (length-map c.args.datagrams.now datagram_of))
+returns-in_default c =
+    let h = header_of c.args.header.now in
+    let earlier = newest_first c.args.datagrams.now in
+    unfinished_by h (map datagram_of c.args.datagrams.now) _ c.unfinished.result c.requires.lawful (λ m meant. c.in_default.ensures (request_of m) meant.asked) (sym (length-map c.args.datagrams.now datagram_of))
+    (c.unfinished.ensures (transfer_of h earlier) c.requires.tells)
 
 pub returns-in_default-2 : goal.returns-in_default-2
 returns-in_default-2 c =
@@ -25,7 +30,8 @@ returns-in_default-2 c =
     let asked = parts c.in-Some.asked in
     let known = c.terms-terms.ensures.are (transfer_of h earlier) tells in
     let none = none_of _ c.in_ok-wire.field-0 c.in_default-2.is (c.in_ok-wire.ensures.none (transfer_of h earlier) tells (once h earlier lawful asked c.in-Some.ensures c.terms-terms.result known) (one h earlier lawful asked c.in-Some.ensures c.terms-terms.result known)) in
-    (lawful, not_meant h earlier lawful asked c.in-Some.ensures c.terms-terms.result known none, sym (length-map c.args.datagrams.now datagram_of))
+    unfinished_by h (map datagram_of c.args.datagrams.now) _ c.unfinished-in_default-2.result lawful (not_meant h earlier lawful asked c.in-Some.ensures c.terms-terms.result known none)
+    (sym (length-map c.args.datagrams.now datagram_of)) (c.unfinished-in_default-2.ensures (transfer_of h earlier) tells)
 
 pub returns-in_default-written_blocks : goal.returns-in_default-written_blocks
 returns-in_default-written_blocks c =
