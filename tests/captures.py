@@ -49,24 +49,26 @@ def blocks(wire, size):
 
 
 class Capture:
-    """A transfer at one end, datagram by datagram."""
+    """A transfer at one end, datagram by datagram. A text of version 2 names the other host of each."""
 
     SERVICE, CLIENT, SERVER = 69, 40_000, 41_000
+    OTHER_HOST, THIRD_HOST = "192.0.2.1", "2001:db8::9"
 
-    def __init__(self, end):
-        self.end, self.lines, self.rows = end, [], []
+    def __init__(self, end, version=1):
+        self.end, self.version, self.lines, self.rows = end, version, [], []
 
-    def put(self, sender, *packets, server=SERVER):
-        """The packets pass, sent by the client or by the server at this port."""
+    def put(self, sender, *packets, client=CLIENT, server=SERVER, host=OTHER_HOST):
+        """The packets pass, sent by the client or by the server, at these ports and with this other host."""
         for payload, said in packets:
             way = "out" if sender == self.end else "in"
             port = self.SERVICE if said in ("RRQ", "WRQ") else server
-            local, remote = (self.CLIENT, port) if self.end == "client" else (port, self.CLIENT)
-            self.lines.append(f"{way} {local} {remote} {payload.hex()}")
+            local, remote = (client, port) if self.end == "client" else (port, client)
+            peer = f"{host} {remote}" if self.version == 2 else remote
+            self.lines.append(f"{way} {local} {peer} {payload.hex()}")
             self.rows.append(f"{len(self.rows) + 1} {way} {said}\n".encode())
 
     def text(self, count=None):
         """The capture text of the first so many datagrams, or of all."""
         lines = self.lines[:count]
-        head = ("tftp-capture 1", f"end {self.end}", f"service {self.SERVICE}")
+        head = (f"tftp-capture {self.version}", f"end {self.end}", f"service {self.SERVICE}")
         return "".join(f"{line}\n" for line in (*head, *lines, f"total {len(lines)}")).encode()

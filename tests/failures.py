@@ -12,6 +12,7 @@ import subprocess
 import sys
 
 from captures import Capture, ack, blocks, data, error, netascii, oack, read_request, write_request
+from trial import Trial
 
 COMMANDS = ("check", "show")
 # What `show` says of the lines of a text begins at this one.
@@ -74,7 +75,14 @@ def text_of(*lines):
     return b"".join(line + b"\n" for line in (b"tftp-capture 1", b"end client", b"service 69", *lines))
 
 
-def cases():
+def case_of(name, capture, line):
+    """A whole capture, and the line that `check` prints of it."""
+    verdict = f"{line}\n".encode(), 0 if line.startswith("accepted") else 1
+    return Case(name, capture.text(), tuple(capture.rows), verdict)
+
+
+def texts():
+    """Texts of version 1, sound and with faults."""
     request = b"out 40000 69 000161006f6374657400"
     block = b"in 40000 41000 000300016869"
     ack = b"out 40000 41000 00040001"
@@ -108,6 +116,36 @@ def cases():
     )
 
 
+def with_hosts():
+    """Texts of version 2: strays of a third host at the server's port, and a host that is none."""
+    strays = Capture("client", version=2)
+    strays.put("client", read_request("a", "octet"))
+    strays.put("server", data(1, b"hi"))
+    strays.put("server", data(1, b"hi"), host=strays.THIRD_HOST)
+    strays.put("client", error(5, ""), host=strays.THIRD_HOST)
+    strays.put("client", ack(1))
+    sound = case_of("strays of a third host", strays, "accepted get octet blocks 1 bytes 2")
+    yield sound
+    wrong = sound.text.replace(b" %s " % strays.THIRD_HOST.encode(), b" a\tb ", 1)
+    yield Case("a host that is none", wrong, tuple(strays.rows[:2]), wrong=(6, "BadHost"))
+
+
+def with_errors():
+    """Transfers that an end ends, and what must not follow."""
+    missing = Capture("client")
+    missing.put("client", read_request("a", "octet"))
+    missing.put("server", error(1, "none"))
+    yield case_of("a missing file", missing, "aborted by peer code 1")
+    full = Capture("client")
+    full.put("client", read_request("a", "octet"))
+    full.put("server", data(1, b"hi"))
+    full.put("client", error(3, "full"))
+    yield case_of("a full disk", full, "aborted by local code 3")
+    full.put("client", ack(1))
+    after = case_of("an acknowledgement after the error", full, "refused datagram 4 rule 7 AfterError")
+    yield dataclasses.replace(after, unlawful=7)
+
+
 def hundred_blocks(file, sizes):
     """A read in windows of four blocks, each acknowledged by its last."""
     many = Capture("client")
@@ -122,7 +160,7 @@ def hundred_blocks(file, sizes):
 
 
 def transfers():
-    """Transfers that need memory for more than a plain read does: a name, the capture and what `check` prints."""
+    """Transfers that need memory for more than a plain read does."""
     sizes, file = {"blksize": 8, "windowsize": 4}, b"0123456789"
     first, second = blocks(file, 8)
     agreed = Capture("client")
@@ -131,7 +169,7 @@ def transfers():
     agreed.put("client", ack(0))
     agreed.put("server", first, second)
     agreed.put("client", ack(2))
-    yield "options agreed", agreed, "accepted get octet blocks 2 bytes 10"
+    yield case_of("options agreed", agreed, "accepted get octet blocks 2 bytes 10")
     repeated = Capture("server")
     repeated.put("client", write_request("notes", "octet", blksize=8, other="x"))
     repeated.put("client", write_request("notes", "OCTET", OTHER="x", BLKSIZE="08"))
@@ -139,7 +177,7 @@ def transfers():
     for packet in (first, second):
         repeated.put("client", packet)
         repeated.put("server", ack(int(packet[1].split()[1])))
-    yield "a repeated request and a repeated OACK", repeated, "accepted put octet blocks 2 bytes 10"
+    yield case_of("a repeated request and a repeated OACK", repeated, "accepted put octet blocks 2 bytes 10")
     text = Capture("client")
     text.put("client", read_request("notes", "netascii", blksize=8))
     text.put("server", oack(blksize=8))
@@ -147,27 +185,61 @@ def transfers():
     for packet in blocks(netascii(b"line 1\rx\nline 2\n\n"), 8):
         text.put("server", packet)
         text.put("client", ack(int(packet[1].split()[1])))
-    yield "netascii", text, "accepted get netascii blocks 3 bytes 17"
-    strays = Capture("client")
-    strays.put("client", read_request("a", "octet"))
-    strays.put("server", data(1, b"hi"))
-    for port in (42_000, 43_000, 44_000):
-        strays.put("server", data(1, b"hi"), server=port)
-        strays.put("client", error(5, "unknown transfer"), server=port)
-    strays.put("client", ack(1))
-    yield "strays", strays, "accepted get octet blocks 1 bytes 2"
-    yield "a hundred blocks", hundred_blocks(file, sizes), "accepted get octet blocks 101 bytes 800"
+    yield case_of("netascii", text, "accepted get netascii blocks 3 bytes 17")
+    yield case_of("a hundred blocks", hundred_blocks(file, sizes), "accepted get octet blocks 101 bytes 800")
     other = Capture("client")
     other.put("client", read_request("a", "octet", blksize=8), read_request("b", "octet", blksize=8))
-    yield "another request", other, "refused datagram 2 rule 8 RequestChanged"
+    yield case_of("another request", other, "refused datagram 2 rule 8 RequestChanged")
 
 
-class Trial:
-    """The program, and how many of its runs were as they should be."""
+def strays():
+    """Reads that strays come between, at either end: from other ports, and from other hosts at the other end's port."""
+    answer = error(5, "unknown transfer")
+    ports = Capture("client")
+    ports.put("client", read_request("a", "octet"))
+    ports.put("server", data(1, b"hi"))
+    for port in (42_000, 43_000, 44_000):
+        ports.put("server", data(1, b"hi"), server=port)
+        ports.put("client", answer, server=port)
+    ports.put("client", ack(1))
+    yield case_of("strays", ports, "accepted get octet blocks 1 bytes 2")
+    hosts = Capture("server", version=2)
+    hosts.put("client", read_request("a", "octet"))
+    hosts.put("server", data(1, b"hi"))
+    for host in ("192.0.2.9", "192.0.2.10", "2001:db8:1111:2222:3333:4444:255.255.255.255"):
+        hosts.put("client", ack(1), host=host)
+        hosts.put("server", answer, host=host)
+    hosts.put("client", ack(1))
+    yield case_of("strays of other hosts", hosts, "accepted get octet blocks 1 bytes 2")
+
+
+def errors():
+    """Transfers that an ERROR ends, which both ends send and repeat, or which is known from one side alone."""
+    told, asked = error(0, "out of blocks"), error(8, "no such size")
+    both = Capture("client")
+    both.put("client", read_request("a", "octet", blksize=8))
+    both.put("server", oack(blksize=8))
+    both.put("client", ack(0))
+    both.put("server", data(1, b"12345678"), told, told, data(1, b"12345678"))
+    both.put("client", asked, asked)
+    yield case_of("errors of both ends", both, "aborted by peer code 0")
+    refused = Capture("client")
+    refused.put("client", read_request("a", "octet", blksize=8))
+    refused.put("server", oack(blksize=8))
+    refused.put("client", asked)
+    yield case_of("an agreement that is refused", refused, "aborted by local code 8")
+    other = Capture("client")
+    other.put("client", read_request("a", "octet"))
+    other.put("server", error(1, "none"), error(1, "no such file"))
+    yield case_of("another error", other, "refused datagram 3 rule 7 AfterError")
+
+
+class ProgramTrial(Trial):
+    """The runs of the program."""
 
     def __init__(self, program, folder):
+        super().__init__()
         self.program, self.shim, self.met = program, folder / "refuse.so", folder / "met"
-        self.passed = self.failed = 0
 
     def run(self, words, given, **shim):
         """What the program writes and its status, whether it wrote no error, and whether the shim's call was met."""
@@ -177,17 +249,9 @@ class Trial:
         done = subprocess.run([self.program, *words], input=given, capture_output=True, env=environment, timeout=60)
         return (done.stdout, done.returncode), done.stderr == b"", self.met.exists()
 
-    def count(self, name, holds, got):
-        """Counts a run."""
-        if holds:
-            self.passed += 1
-        else:
-            self.failed += 1
-            print(f"{name}: {got}")
-
     def expect(self, name, got, *outputs):
         """Counts a run that wrote no error and whose output is among those that may be."""
-        self.count(name, got[1] and got[0] in outputs, got)
+        self.check(name, got[1] and got[0] in outputs, got)
 
     def refuse_growths(self, name, words, given, output, outputs):
         """Each growth refused, until a run meets no refusal; that one prints `output`. How many told want of memory."""
@@ -199,7 +263,7 @@ class Trial:
                 return told
             self.expect(f"{name}, growth {turn} refused", got, *outputs)
             told += got[0][0].endswith(MEMORY)
-        self.count(f"{name}, growths", False, "no end")
+        self.check(f"{name}, growths", False, "no end")
         return told
 
     def fail_writes(self, name, words, given, output):
@@ -226,7 +290,7 @@ class Trial:
         name, output = f"{command}, {case.name}", case.output(command)
         self.expect(name, self.run([command], case.text), output)
         told = self.refuse_growths(name, [command], case.text, output, case.outputs_without_memory(command))
-        self.count(f"{name}, want of memory", told > 0, "is never told")
+        self.check(f"{name}, want of memory", told > 0, "is never told")
 
     def try_case(self, case, command):
         name, output = f"{command}, {case.name}", case.output(command)
@@ -247,24 +311,22 @@ class Trial:
                 self.expect("show, many lines", got, (whole, 0))
                 return
             holds = clean and status == 2 and whole.startswith(output) and (turn - 1) * LEAST_PIECE <= len(output)
-            self.count(f"show, many lines, write {turn}", holds and output != whole, (len(output), status))
-        self.count("show, many lines", False, "too many writes")
+            self.check(f"show, many lines, write {turn}", holds and output != whole, (len(output), status))
+        self.check("show, many lines", False, "too many writes")
 
     def try_words(self, words):
         """Words that are no command are told before anything is read."""
         got = self.run(words, b"", FAIL_READ=1)
         self.expect(f"words {words}", got, USAGE)
-        self.count(f"words {words}, no read", not got[2], got)
+        self.check(f"words {words}, no read", not got[2], got)
 
 
 def main(program, folder):
-    trial = Trial(program, pathlib.Path(folder))
-    for case in cases():
+    trial = ProgramTrial(program, pathlib.Path(folder))
+    for case in (*texts(), *with_hosts(), *with_errors()):
         for command in COMMANDS:
             trial.try_case(case, command)
-    for name, capture, verdict in transfers():
-        output = f"{verdict}\n".encode(), 0 if verdict.startswith("accepted") else 1
-        case = Case(name, capture.text(), tuple(capture.rows), output)
+    for case in (*transfers(), *strays(), *errors()):
         for command in COMMANDS:
             trial.try_growths(case, command)
     trial.show_in_pieces()
@@ -276,8 +338,7 @@ def main(program, folder):
     for words, outputs in ((["help"], (USAGE, (MEMORY, 2), NOTHING)), (["check", "show"], (USAGE, NOTHING))):
         trial.refuse_growths(f"words {words}", words, b"", USAGE, outputs)
         trial.fail_writes(f"words {words}", words, b"", USAGE)
-    print(f"{trial.passed} passed, {trial.failed} failed")
-    return 1 if trial.failed else 0
+    return trial.end()
 
 
 sys.exit(main(sys.argv[1], sys.argv[2]))

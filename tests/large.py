@@ -1,5 +1,5 @@
-"""Larger captures on the built program: thousands of datagrams with options and a window, one of them in netascii, and
-a netascii file that is just too long in canonical text, or just not.
+"""Larger captures on the built program: thousands of datagrams with options and a window, in netascii, between strays
+of a third host, or ended by an ERROR; and a netascii file that is just too long in canonical text, or just not.
 
     large.py PROGRAM
 
@@ -11,7 +11,8 @@ import subprocess
 import sys
 
 import captures
-from captures import ack, blocks, data, netascii, oack, read_request, write_request
+from captures import ack, blocks, data, error, netascii, oack, read_request, write_request
+from trial import Trial
 
 COUNT = 10_000
 AGREED = {"blksize": 8, "windowsize": 7}
@@ -60,6 +61,31 @@ def at_sender(file):
     return capture
 
 
+def among_hosts(file):
+    """A read at the client: between the blocks a third host sends some from the server's port, and gets ERRORs."""
+    capture = captures.Capture("client", version=2)
+    capture.put("client", read_request("boot.img", "octet", **AGREED))
+    capture.put("server", oack(**AGREED))
+    capture.put("client", ack(0))
+    wire, size = blocks(file, AGREED["blksize"]), AGREED["windowsize"]
+    for at in range(0, len(wire), size):
+        window = wire[at : at + size]
+        capture.put("server", *window)
+        capture.put("server", data(at + size, b"a stray"), host=capture.THIRD_HOST)
+        if at % 2 == 1:
+            capture.put("client", error(5, "unknown transfer"), host=capture.THIRD_HOST)
+        capture.put("client", ack(at + len(window)))
+    fill(capture, "server", wire[-1])
+    return capture
+
+
+def ended(capture, sender, told):
+    """The first half of a capture, and then one ERROR of this end, again and again up to the count."""
+    del capture.lines[COUNT // 2 :], capture.rows[COUNT // 2 :]
+    capture.put(sender, *[told] * (COUNT - len(capture.rows)))
+    return capture
+
+
 def line_ends(length):
     """A netascii read whose wire text is bare line ends, 32,768 blocks in one window."""
     capture = captures.Capture("client")
@@ -72,8 +98,16 @@ def line_ends(length):
     return capture
 
 
-def trials_of(name, capture, kind, wire, file, change):
-    """What is tried on a capture: its name, the command, the text, what is printed and the status."""
+def with_another_last(name, capture, sender, packet, rule):
+    """The same capture with this packet as its last datagram, which breaks the rule."""
+    capture.lines.pop()
+    capture.put(sender, packet)
+    refused = f"refused datagram {COUNT} rule {rule}\n".encode()
+    return f"{name}, another last datagram", "check", capture.text(), refused, 1
+
+
+def whole(name, capture, kind, wire, file, change):
+    """What is tried on a whole capture: a name, the command, the text, what is printed and the status."""
     count = len(wire) // AGREED["blksize"] + 1
     accepted = f"accepted {kind} blocks {count} bytes {len(file)}\n".encode()
     text, half = capture.text(), COUNT // 2
@@ -82,14 +116,17 @@ def trials_of(name, capture, kind, wire, file, change):
     yield f"{name}, its first half", "check", capture.text(half), b"incomplete after %d\n" % half, 1
     wrong = text.replace(b"total %d" % COUNT, b"total %d" % (COUNT - 1))
     yield f"{name}, a wrong total", "check", wrong, b"fault line %d TotalWrong\n" % (COUNT + 4), 2
-    packet, rule = change
-    capture.lines.pop()
-    capture.put("server", packet)
-    refused = f"refused datagram {COUNT} rule {rule}\n".encode()
-    yield f"{name}, another last datagram", "check", capture.text(), refused, 1
+    yield with_another_last(name, capture, "server", *change)
 
 
-def trials():
+def aborted(name, capture, by, change):
+    """What is tried on a capture that ends by ERRORs."""
+    yield name, "check", capture.text(), f"aborted by {by}\n".encode(), 1
+    yield name, "show", capture.text(), b"".join(capture.rows), 0
+    yield with_another_last(name, capture, *change, "7 AfterError")
+
+
+def cases():
     image = b"".join(b"%06d\n" % number for number in range(8_150))
     notes = b"".join((b"%d\n", b"a\r\n%d", b"\r%d\r", b"\n\n%d")[number % 4] % number for number in range(7_600))
     # Bare line ends are one byte each on the wire and two in canonical text, which has at most 65,535 blocks of 8.
@@ -97,27 +134,31 @@ def trials():
     accepted = b"accepted get netascii blocks 65535 bytes 262139\n"
     yield "line ends, as many as there may be", "check", line_ends(262_139).text(), accepted, 0
     change = data(1, b"another!"), "25 BlockChanged"
-    yield from trials_of("a read with a window", at_receiver(image), "get octet", image, image, change)
+    yield from whole("a read with a window", at_receiver(image), "get octet", image, image, change)
+    yield from whole("a read among hosts", among_hosts(image), "get octet", image, image, change)
     wire = netascii(notes)
     change = ack(len(wire) // AGREED["blksize"] + 2), "26 AckAhead"
-    yield from trials_of("a write in netascii", at_sender(notes), "put netascii", wire, notes, change)
+    yield from whole("a write in netascii", at_sender(notes), "put netascii", wire, notes, change)
+    read = ended(at_receiver(image), "server", error(0, "out of blocks"))
+    yield from aborted("a read that the server ends", read, "peer code 0", ("server", error(0, "out of block")))
+    write = ended(at_sender(notes), "client", error(3, "disk full"))
+    yield from aborted("a write that the client ends", write, "local code 3", ("client", data(1, wire[:8])))
 
 
-def holds(program, trial):
-    """Whether the program says what is wanted; what it says otherwise is told."""
-    name, command, text, output, status = trial
+def said(program, command, text):
+    """What the program prints of a text, what it writes as errors, and its status."""
     done = subprocess.run([program, command], input=text, capture_output=True, timeout=300)
-    if (done.stdout, done.stderr, done.returncode) == (output, b"", status):
-        return True
-    print(f"{command}, {name}: {done.stdout[:100]} {done.stderr[:100]} {done.returncode}")
-    return False
+    return done.stdout, done.stderr, done.returncode
 
 
 def main(program):
+    trial, tried = Trial(), list(cases())
     with concurrent.futures.ThreadPoolExecutor(len(os.sched_getaffinity(0))) as pool:
-        held = list(pool.map(lambda trial: holds(program, trial), trials()))
-    print(f"{held.count(True)} passed, {held.count(False)} failed")
-    return 0 if all(held) else 1
+        got = pool.map(lambda case: said(program, *case[1:3]), tried)
+        for (name, command, _, output, status), printed in zip(tried, got):
+            holds = printed == (output, b"", status)
+            trial.check(f"{command}, {name}", holds, (printed[0][:100], *printed[1:]))
+    return trial.end()
 
 
 sys.exit(main(sys.argv[1]))

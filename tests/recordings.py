@@ -1,4 +1,5 @@
-"""The recorded transfers of examples/, from their fields to what the built program says of them.
+"""The captures of examples/: the recorded transfers, from their fields to what the built program says of them, and the
+others. And what tools/capture-text writes and refuses of other fields.
 
     recordings.py PROGRAM
 
@@ -9,6 +10,8 @@ import pathlib
 import shlex
 import subprocess
 import sys
+
+from trial import Trial
 
 TOP = pathlib.Path(__file__).resolve().parent.parent
 SCRIPT = TOP / "tools" / "capture-text"
@@ -55,6 +58,11 @@ RECORDINGS = (
         + ("out ACK 2", "in DATA 3 512", "out ACK 3", "in DATA 4 34", "out ACK 4"),
     ),
 )
+# Captures that were not recorded, and what is said of them.
+WRITTEN_BY_HAND = (
+    ("one-block", "accepted get octet blocks 1 bytes 2", 0, ("out RRQ", "in DATA 1 2", "out ACK 1")),
+    ("missing-file", "aborted by peer code 1", 1, ("out RRQ", "in ERROR 1")),
+)
 CLIENT = ("client", "192.0.2.7", "69")
 CLIENT_6 = ("client", "2001:db8::7", "69")
 SERVER = ("server", "192.0.2.1", "69")
@@ -79,6 +87,46 @@ WRITTEN = (
         TEXT + "in 40000 69 000161006f6374657400\ntotal 2\n",
     ),
     (("client", "127.0.0.1", "69"), LOCAL, TEXT + "total 1\n"),
+)
+# The same with the word hosts. Each datagram names its other host, by one name, and a third host is no matter.
+HOSTS = "tftp-capture 2\nend client\nservice 69\n"
+OTHERS = HOSTS + "out 40000 192.0.2.1 69 000161006f6374657400\n"
+OTHERS_AT_SERVER = OTHERS.replace("client", "server").replace("out 40000 192.0.2.1 69", "in 69 192.0.2.7 40000")
+STRAY = "192.0.2.9\t41000\t192.0.2.7\t40000\t000300016869\n"
+ANSWER = "192.0.2.7\t40000\t192.0.2.9\t41000\t0005000500\n"
+STRAY_AT_SERVER = "192.0.2.9\t40000\t192.0.2.1\t41000\t00040001\n"
+LONGEST = "2001:0db8:1111:2222:3333:4444:255.255.255.255"
+WITH_HOSTS = (
+    (CLIENT, REQUEST, OTHERS + "total 1\n"),
+    (SERVER, REQUEST, OTHERS_AT_SERVER + "total 1\n"),
+    (
+        CLIENT,
+        REQUEST + STRAY + ANSWER + "192.0.2.2\t41000\t192.0.2.7\t40000\t\n",
+        OTHERS
+        + "in 40000 192.0.2.9 41000 000300016869\nout 40000 192.0.2.9 41000 0005000500\n"
+        + "in 40000 192.0.2.2 41000 -\ntotal 4\n",
+    ),
+    (SERVER, REQUEST + STRAY_AT_SERVER, OTHERS_AT_SERVER + "in 41000 192.0.2.9 40000 00040001\ntotal 2\n"),
+    # a recording that begins after the request
+    (CLIENT, STRAY, HOSTS + "in 40000 192.0.2.9 41000 000300016869\ntotal 1\n"),
+    (
+        CLIENT_6,
+        "2001:db8::7\t40000\t2001:db8::1\t69\t00\n2001:db8::9\t42000\t2001:db8:0::7\t40000\t00030001\n",
+        HOSTS + "out 40000 2001:db8::1 69 00\nin 40000 2001:db8::9 42000 00030001\ntotal 2\n",
+    ),
+    (
+        ("server", "2001:db8::1", "69"),
+        "2001:db8::7\t40000\t2001:db8::1\t69\t00\n2001:db8::1\t41000\t2001:db8:0:0::7\t40000\t01\n",
+        HOSTS.replace("client", "server") + "in 69 2001:db8::7 40000 00\nout 41000 2001:db8::7 40000 01\ntotal 2\n",
+    ),
+    (CLIENT_6, f"2001:db8::7\t40000\t{LONGEST}\t69\t00\n", HOSTS + f"out 40000 {LONGEST} 69 00\ntotal 1\n"),
+    (("client", "127.0.0.1", "69"), LOCAL, OTHERS.replace("192.0.2.1", "127.0.0.1") + "total 1\n"),
+    # a server that answers from the client's own address, and not from the one that was asked
+    (
+        ("client", "127.0.0.1", "69"),
+        LOCAL.replace("\t127.0.0.1\t69", "\t127.0.0.2\t69") + "127.0.0.1\t41000\t127.0.0.1\t40000\t00030001\n",
+        OTHERS.replace("192.0.2.1", "127.0.0.2") + "in 40000 127.0.0.1 41000 00030001\ntotal 2\n",
+    ),
 )
 # Words and fields of which nothing is written, and what is told of them.
 TOLD = (
@@ -112,6 +160,11 @@ TOLD = (
 # Words and fields of which nothing is written.
 REFUSED = (
     ((), REQUEST),
+    (("client", "192.0.2.7"), REQUEST),
+    ((*CLIENT, "host"), REQUEST),
+    (("hosts", *CLIENT), REQUEST),
+    ((*CLIENT, "hosts", "hosts"), REQUEST),
+    (("client", "192.0.2.7", "hosts"), REQUEST),
     (("peer", "192.0.2.7", "69"), REQUEST),
     (("client", "here", "69"), REQUEST),
     (("client", "192.0.2.7", "069"), REQUEST),
@@ -131,25 +184,17 @@ REFUSED = (
     # hosts that are not the two of the transfer
     (CLIENT, REQUEST + "192.0.2.1\t41000\t192.0.2.8\t40000\t00040000\n"),
     (CLIENT, REQUEST + "192.0.2.2\t41000\t192.0.2.7\t40000\t00040000\n"),
+    # the same of version 2, where a third host's datagrams are those at this end's address, and a host has no zone
+    ((*CLIENT, "hosts"), ""),
+    ((*CLIENT, "hosts"), REQUEST + "192.0.2.1\t41000\t192.0.2.8\t40000\t00040000\n"),
+    ((*CLIENT, "hosts"), REQUEST.replace("192.0.2.7\t", "192.0.2.1,192.0.2.7\t")),
+    ((*CLIENT_6, "hosts"), "2001:db8::7\t40000\tfe80::1%eth0\t69\t00\n"),
+    (("client", "127.0.0.1", "6969", "hosts"), LOCAL),
     # both ends at one address, and the client's port is not known or not one of the two
     (("client", "127.0.0.1", "6969"), LOCAL),
     (("client", "127.0.0.1", "69"), LOCAL + LOCAL.replace("40000", "40001")),
     (("client", "127.0.0.1", "69"), LOCAL + LOCAL.replace("\t69", "\t40000")),
 )
-
-
-class Trial:
-    """How many runs were as they should be."""
-
-    def __init__(self):
-        self.passed = self.failed = 0
-
-    def check(self, name, holds, got):
-        if holds:
-            self.passed += 1
-        else:
-            self.failed += 1
-            print(f"{name}: {got}")
 
 
 def run(command, given):
@@ -158,16 +203,24 @@ def run(command, given):
     return done.stdout, done.stderr, done.returncode
 
 
-def try_recording(trial, program, name, words, verdict, rows):
-    """The fields give the capture, and of it the program says this."""
-    fields, capture = ((TOP / "examples" / f"{name}.{form}").read_bytes() for form in ("fields", "capture"))
-    got = run([SCRIPT, *words], fields)
-    trial.check(f"{name}, capture-text", got == (capture, b"", 0), got)
+def try_capture(trial, program, name, capture, verdict, status, rows):
+    """Of the capture the program says this."""
     got = run([program, "check"], capture)
-    trial.check(f"{name}, check", got == (f"{verdict}\n".encode(), b"", 0), got)
+    trial.check(f"{name}, check", got == (f"{verdict}\n".encode(), b"", status), got)
     got = run([program, "show"], capture)
     shown = "".join(f"{number} {row}\n" for number, row in enumerate(rows, 1))
     trial.check(f"{name}, show", got == (shown.encode(), b"", 0), got)
+
+
+def try_recording(trial, program, name, words, verdict, rows):
+    """The fields give the capture, and the program says this of it, and of the one with hosts."""
+    fields, capture = ((TOP / "examples" / f"{name}.{form}").read_bytes() for form in ("fields", "capture"))
+    got = run([SCRIPT, *words], fields)
+    trial.check(f"{name}, capture-text", got == (capture, b"", 0), got)
+    try_capture(trial, program, name, capture, verdict, 0, rows)
+    got = run([SCRIPT, *words, "hosts"], fields)
+    trial.check(f"{name}, capture-text with hosts", got[1:] == (b"", 0), got)
+    try_capture(trial, program, f"{name} with hosts", got[0], verdict, 0, rows)
 
 
 def broken_pipe():
@@ -198,7 +251,10 @@ def main(program):
     trial = Trial()
     for recording in RECORDINGS:
         try_recording(trial, program, *recording)
-    for words, fields, text in WRITTEN:
+    for name, verdict, status, rows in WRITTEN_BY_HAND:
+        capture = (TOP / "examples" / f"{name}.capture").read_bytes()
+        try_capture(trial, program, name, capture, verdict, status, rows)
+    for words, fields, text in (*WRITTEN, *(((*words, "hosts"), *rest) for words, *rest in WITH_HOSTS)):
         got = run([SCRIPT, *words], fields.encode())
         trial.check(f"capture-text {words} of {fields!r}", got == (text.encode(), b"", 0), got)
     for words, fields, why in TOLD:
@@ -209,8 +265,7 @@ def main(program):
         got = run([SCRIPT, *words], fields.encode())
         told = got[1].startswith(b"capture-text: ") and got[1].count(b"\n") == 1
         trial.check(f"capture-text {words} of {fields[:200]!r}", got[0] == b"" and told and got[2] == 2, got)
-    print(f"{trial.passed} passed, {trial.failed} failed")
-    return 1 if trial.failed else 0
+    return trial.end()
 
 
 sys.exit(main(sys.argv[1]))

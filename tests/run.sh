@@ -5,6 +5,7 @@ set -eu
 here=$(dirname "$0")
 shim=$(mktemp -d)
 trap 'rm -rf "$shim"' EXIT
+export PYTHONDONTWRITEBYTECODE=1
 cc -O1 -shared -fPIC -o "$shim/refuse.so" "$here/refuse.c" -ldl
 echo "script:"
 python3 "$here/script.py"

@@ -14,6 +14,8 @@ import subprocess
 import sys
 import tempfile
 
+from trial import Trial
+
 TOP = pathlib.Path(__file__).resolve().parent.parent
 # A build reads the source at its start; $MEANWHILE is done while it builds, and a source that says 'broken' fails.
 # As rt's, its ci first sets aside what stands in out/, and runs nothing.
@@ -88,18 +90,8 @@ class Scratch:
         return self.top.parent / "a prefix" / "bin" / "tftp-audit"
 
 
-class Trial:
-    """How many runs were as they should be."""
-
-    def __init__(self):
-        self.passed = self.failed = 0
-
-    def check(self, name, holds, got=""):
-        if holds:
-            self.passed += 1
-        else:
-            self.failed += 1
-            print(f"{name}: {got}")
+class ScriptTrial(Trial):
+    """The runs of the script."""
 
     def runs(self, name, got, text, builds, words="1 words check", given="", status=0):
         """The program that was built of this text ran, after so many builds, and nothing else is told of it."""
@@ -289,13 +281,12 @@ def wrong_words(trial, scratch):
 
 
 def main():
-    trial = Trial()
+    trial = ScriptTrial()
     with tempfile.TemporaryDirectory() as folder:
         scratch = Scratch(pathlib.Path(folder).resolve())
         for part in (building, edits_meanwhile, failing, gates, links, files, wrong_words):
             part(trial, scratch)
-    print(f"{trial.passed} passed, {trial.failed} failed")
-    return 1 if trial.failed else 0
+    return trial.end()
 
 
 sys.exit(main())

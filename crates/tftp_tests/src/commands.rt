@@ -5,7 +5,9 @@ use std::test::Fail;
 use tftp_capture::{DripReader, DripWriter, Tallied};
 use tftp_commands::run;
 
+mod errors;
 mod failures;
+mod hosts;
 mod options;
 mod reads;
 mod rules;
@@ -14,11 +16,14 @@ mod texts;
 mod windows;
 mod words;
 
-/// The datagrams of a capture at the client, the line that `check` says of it, and the status.
+/// The datagrams of a capture, the line that `check` says of it, and the status.
 type Case = (&'static [&'static str], &'static str, u8);
 
 /// The header of a capture at the client.
 const CLIENT: &str = "tftp-capture 1\nend client\nservice 69\n";
+
+/// The same at the server.
+const SERVER: &str = "tftp-capture 1\nend server\nservice 69\n";
 
 /// A read of the file `a`, without options.
 const READ: &str = "out 40000 69 000161006f6374657400";
@@ -152,10 +157,15 @@ fn says(
     Ok(())
 }
 
-/// Fails unless `check` says of each capture its line, and ends with its status.
+/// Fails unless `check` says of each capture at the client its line, and ends with its status.
 fn all_are_checked(rt: &HostRuntime, cases: &[Case]) -> Result<(), Fail> {
+    all_are_checked_under(rt, CLIENT, cases)
+}
+
+/// Fails unless `check` says of each capture with this header its line, and ends with its status.
+fn all_are_checked_under(rt: &HostRuntime, header: &str, cases: &[Case]) -> Result<(), Fail> {
     for (datagrams, line, status) in cases {
-        let text = capture(rt.alloc(), CLIENT, datagrams)?;
+        let text = capture(rt.alloc(), header, datagrams)?;
         says(rt, "check", text.as_slice(), line, *status)?;
     }
     Ok(())

@@ -13,10 +13,31 @@ const LINES: [&str; 7] = [
     "total 3",
 ];
 
+/// The same in version 2.
+const LINES_WITH_HOSTS: [&str; 7] = [
+    "tftp-capture 2",
+    "end client",
+    "service 69",
+    "out 40000 10.0.0.1 69 000161006f6374657400",
+    "in 40000 10.0.0.1 41000 000300016869",
+    "out 40000 10.0.0.1 41000 00040001",
+    "total 3",
+];
+
 /// The text of the read of `hi` with the line `number`, counted from 1, changed.
 fn changed(alloc: Global, number: usize, line: &str) -> Result<Vec<u8>, AllocError> {
+    changed_of(alloc, &LINES, number, line)
+}
+
+/// The text of these lines with the line `number`, counted from 1, changed.
+fn changed_of(
+    alloc: Global,
+    lines: &[&str],
+    number: usize,
+    line: &str,
+) -> Result<Vec<u8>, AllocError> {
     let mut text = Vec::new(alloc);
-    for (index, old) in LINES.iter().enumerate() {
+    for (index, old) in lines.iter().enumerate() {
         let kept = if index + 1 == number { line } else { *old };
         text.extend_from_slice(kept.as_bytes())?;
         text.extend_from_slice(b"\n")?;
@@ -33,10 +54,19 @@ fn is_fault(rt: &HostRuntime, text: &[u8], number: usize, fault: &str) -> Result
     says(rt, "show", text, shown.as_str(), 2)
 }
 
-/// Fails unless each changed line has its fault.
+/// Fails unless each changed line of the read of `hi` has its fault.
 fn all_are_faults(rt: &HostRuntime, cases: &[(usize, &str, &str)]) -> Result<(), Fail> {
+    all_are_faults_of(rt, &LINES, cases)
+}
+
+/// Fails unless each changed line of these has its fault.
+fn all_are_faults_of(
+    rt: &HostRuntime,
+    lines: &[&str],
+    cases: &[(usize, &str, &str)],
+) -> Result<(), Fail> {
     for (number, line, fault) in cases {
-        let text = changed(rt.alloc(), *number, line)?;
+        let text = changed_of(rt.alloc(), lines, *number, line)?;
         is_fault(rt, text.as_slice(), *number, fault)?;
     }
     Ok(())
@@ -54,8 +84,11 @@ fn is_read_of_hi(rt: &HostRuntime, text: &[u8]) -> Result<(), Fail> {
     )
 }
 
-const HEADERS: [(usize, &str, &str); 13] = [
-    (1, "tftp-capture 2", "BadHeader"),
+const HEADERS: [(usize, &str, &str); 16] = [
+    (1, "tftp-capture 3", "BadHeader"),
+    (1, "tftp-capture 0", "BadHeader"),
+    (1, "tftp-capture 2 ", "BadHeader"),
+    (1, "tftp-capture 12", "BadHeader"),
     (1, "tftp-capture 1\r", "BadHeader"),
     (1, "# x", "BadHeader"),
     (2, "end peer", "BadEnd"),
@@ -75,7 +108,8 @@ fn faults_of_the_header(rt: HostRuntime) -> Result<(), Fail> {
     all_are_faults(&rt, &HEADERS)
 }
 
-const DATAGRAMS: [(usize, &str, &str); 14] = [
+const DATAGRAMS: [(usize, &str, &str); 15] = [
+    (4, "out 40000 10.0.0.1 69 00", "BadLine"),
     (4, "out 40000  69 00", "BadLine"),
     (4, "total", "BadLine"),
     (4, "total 3 ", "BadLine"),
@@ -95,6 +129,43 @@ const DATAGRAMS: [(usize, &str, &str); 14] = [
 #[test]
 fn faults_of_datagrams(rt: HostRuntime) -> Result<(), Fail> {
     all_are_faults(&rt, &DATAGRAMS)
+}
+
+const WITH_HOSTS: [(usize, &str, &str); 20] = [
+    (2, "end client 10.0.0.1", "BadEnd"),
+    (3, "service 10.0.0.1 69", "BadService"),
+    (4, READ, "BadLine"),
+    (4, "out 40000 10.0.0.1 69 00 00", "BadLine"),
+    (4, "out 40000 10.0.0.1  69 00", "BadLine"),
+    (4, "total 10.0.0.1 0", "BadLine"),
+    (4, "out 040000 \t 69 0", "BadPort"),
+    (4, "out 40000 \t 0 0", "BadPort"),
+    (4, "out 40000 10.0.0.1  00", "BadPort"),
+    (4, "out 40000  69 00", "BadHost"),
+    (4, "out 40000 \t 69 0", "BadHost"),
+    (4, "out 40000 a\u{7f} 69 00", "BadHost"),
+    (5, "in 40000 10.0.0.1\r 41000 00", "BadHost"),
+    (6, "out 40000 \u{e9} 41000 00", "BadHost"),
+    (4, "out 40000 10.0.0.1 69 0", "BadHex"),
+    (4, "out 40000 10.0.0.1 69 ", "BadHex"),
+    (5, "in 40000 - 41000 --", "BadHex"),
+    (6, "total 3", "TotalWrong"),
+    (7, "total 4", "TotalWrong"),
+    (7, HI, "BadLine"),
+];
+
+/// In version 2 the host stands between the ports, and is judged after them and before the payload.
+#[test]
+fn faults_of_texts_with_hosts(rt: HostRuntime) -> Result<(), Fail> {
+    all_are_faults_of(&rt, &LINES_WITH_HOSTS, &WITH_HOSTS)?;
+    let first = changed(rt.alloc(), 1, "tftp-capture 2")?;
+    is_fault(&rt, first.as_slice(), 4, "BadLine")?;
+    let second = changed_of(rt.alloc(), &LINES_WITH_HOSTS, 1, "tftp-capture 1")?;
+    is_fault(&rt, second.as_slice(), 4, "BadLine")?;
+    let host = "a".repeat(rt.alloc(), 46)?;
+    let line = format!(in rt.alloc(); "out 40000 {host} 69 000161006f6374657400")?;
+    let third = changed_of(rt.alloc(), &LINES_WITH_HOSTS, 4, line.as_str())?;
+    is_fault(&rt, third.as_slice(), 4, "BadHost")
 }
 
 const TOTALS: [(usize, &str, &str); 7] = [
@@ -134,6 +205,44 @@ fn lines_and_payloads_that_are_too_long(rt: HostRuntime) -> Result<(), Fail> {
     Ok(())
 }
 
+/// In version 2 a line is too long from 131,117 bytes on, but the first one as in version 1.
+#[test]
+fn lines_and_payloads_that_are_too_long_with_hosts(rt: HostRuntime) -> Result<(), Fail> {
+    let cases = [
+        (4, "in 1 a 1 ", "0", 131_056, "PayloadTooLong"),
+        (4, "in 1 a 1 ", "0", 131_055, "BadHex"),
+        (4, "in 1 a 1 ", "g", 131_056, "BadHex"),
+        (4, "in 1 a\t 1 ", "0", 131_056, "BadHost"),
+        (4, "in 1 ", "a", 131_111, "BadLine"),
+        (4, "in 1 ", "a", 131_112, "LineTooLong"),
+        (4, "#", "#", 131_116, "LineTooLong"),
+        (1, "tftp-capture 2", " ", 131_056, "BadHeader"),
+        (1, "tftp-capture 2", " ", 131_057, "LineTooLong"),
+    ];
+    for (number, start, sign, count, fault) in cases {
+        let line = long_line(rt.alloc(), start, sign, count)?;
+        let text = changed_of(rt.alloc(), &LINES_WITH_HOSTS, number, line.as_str())?;
+        is_fault(&rt, text.as_slice(), number, fault)?;
+    }
+    Ok(())
+}
+
+/// A payload of 65,527 bytes to a host of 45, and a comment, of 131,116 bytes each.
+#[test]
+fn the_longest_lines_with_hosts(rt: HostRuntime) -> Result<(), Fail> {
+    let host = "a".repeat(rt.alloc(), 45)?;
+    let start = format!(in rt.alloc(); "out 65535 {host} 65535 ")?;
+    let payload = long_line(rt.alloc(), start.as_str(), "0", 131_054)?;
+    let text = changed_of(rt.alloc(), &LINES_WITH_HOSTS, 6, payload.as_str())?;
+    let shown = "1 out RRQ\n2 in DATA 1 2\n3 out malformed Opcode\n";
+    says(&rt, "show", text.as_slice(), shown, 0)?;
+    let refused = "refused datagram 3 rule 1 ForeignPort\n";
+    says(&rt, "check", text.as_slice(), refused, 1)?;
+    let comment = long_line(rt.alloc(), "service 69\n#", "#", 131_115)?;
+    let text = changed_of(rt.alloc(), &LINES_WITH_HOSTS, 3, comment.as_str())?;
+    is_read_of_hi(&rt, text.as_slice())
+}
+
 /// One byte less than too long: a payload of 65,527 bytes, and a comment.
 #[test]
 fn the_longest_lines(rt: HostRuntime) -> Result<(), Fail> {
@@ -151,7 +260,9 @@ fn the_longest_lines(rt: HostRuntime) -> Result<(), Fail> {
 #[test]
 fn texts_that_end_too_early(rt: HostRuntime) -> Result<(), Fail> {
     is_fault(&rt, b"", 1, "Truncated")?;
+    is_fault(&rt, b"tftp-capture 3", 1, "Truncated")?;
     is_fault(&rt, b"tftp-capture 2", 1, "Truncated")?;
+    is_fault(&rt, b"tftp-capture 2\n", 2, "Truncated")?;
     is_fault(&rt, CLIENT.as_bytes(), 4, "Truncated")?;
     let whole = read_of_hi(rt.alloc())?;
     let text = whole.as_slice();
@@ -184,6 +295,13 @@ fn texts_that_say_the_same(rt: HostRuntime) -> Result<(), Fail> {
     ];
     for (number, line) in cases {
         let text = changed(rt.alloc(), number, line)?;
+        is_read_of_hi(&rt, text.as_slice())?;
+    }
+    for (number, line) in [
+        (1, "tftp-capture 2\n\n# any text"),
+        (4, "# x\nout 40000 10.0.0.1 69 000161006F6374657400"),
+    ] {
+        let text = changed_of(rt.alloc(), &LINES_WITH_HOSTS, number, line)?;
         is_read_of_hi(&rt, text.as_slice())?;
     }
     let mut bytes = Vec::from_slice(rt.alloc(), b"tftp-capture 1\n#\x00\x80\xff\n")?;

@@ -1,0 +1,19 @@
+"""How many of a test's cases were as they should be."""
+
+
+class Trial:
+    def __init__(self):
+        self.passed = self.failed = 0
+
+    def check(self, name, holds, got=""):
+        """Counts a case; one that is not as it should be is printed with what was got."""
+        if holds:
+            self.passed += 1
+        else:
+            self.failed += 1
+            print(f"{name}: {got}")
+
+    def end(self):
+        """Prints how many passed and failed; the status, 1 if any failed."""
+        print(f"{self.passed} passed, {self.failed} failed")
+        return 1 if self.failed else 0
