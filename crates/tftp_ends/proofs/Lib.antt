@@ -14,4 +14,5 @@ pub mod OneSided
 pub mod Orderly
 pub mod Places
 pub mod Ring
+pub mod Spans
 pub mod Kept
