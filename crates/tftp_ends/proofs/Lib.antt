@@ -21,4 +21,5 @@ pub mod MadeRuns
 pub mod Orderly
 pub mod Places
 pub mod Ring
+pub mod Spans
 pub mod Kept

@@ -1,5 +1,5 @@
 -- Rows of places: cut, placed, numbered.
-use Rattle.std.proofs.Common.{Ordering, Less, Equal, Greater, ◌≡◌, ◌≢◌, ◌+◌, ◌-◌, ◌*◌, ◌<◌, ◌≤◌, ℕ, zero, suc, Bool, List, [], ◌∷◌, ◌++◌, length, take, drop, Some, None, true, false, cond, refl, ap, sym, subst, ◌∙◌, ◌⊎◌, inl, inr, arith}
+use Rattle.std.proofs.Common.{Ordering, Less, Equal, Greater, ◌≡◌, ◌≢◌, ◌+◌, ◌-◌, ◌*◌, ◌<◌, ◌≤◌, ℕ, zero, suc, Bool, List, [], ◌∷◌, ◌++◌, length, take, drop, Option, Some, None, true, false, cond, refl, ap, sym, subst, ◌∙◌, ◌⊎◌, inl, inr, arith}
 use Rattle.std.specs.Prelude.{slice_index_or, slice_set}
 use Rattle.std.specs.Ordering.{nat_cmp, is_eq, eq_by_cmp}
 use Rattle.std.specs.Cmp.{nat_cmp_is}
@@ -72,18 +72,18 @@ placed_other (o ∷ os) zero x (suc j) differs = refl
 placed_other (o ∷ os) (suc i) x zero differs = refl
 placed_other (o ∷ os) (suc i) x (suc j) differs = placed_other os i x j (λ e. differs (ap suc e))
 
-pub placed_set : (os : Slots) (i : ℕ) (x : List ℕ) → i < length os → slice_set os i (Some x) ≡ placed os i x
+pub placed_set : {X : Type 0} (os : List (Option X)) (i : ℕ) (x : X) → i < length os → slice_set os i (Some x) ≡ placed os i x
 placed_set [] i x within = absurd (omega arith)
 placed_set (o ∷ os) zero x within = refl
 placed_set (o ∷ os) (suc i) x within = ap (λ t. o ∷ t) (placed_set os i x (omega arith))
 
-pub placed_more : (os : Slots) (i : ℕ) (x : List ℕ) → length os < i → placed (os ++ None ∷ []) i x ≡ placed os i x
+pub placed_more : {X : Type 0} (os : List (Option X)) (i : ℕ) (x : X) → length os < i → placed (os ++ None ∷ []) i x ≡ placed os i x
 placed_more [] zero x past = absurd (omega arith)
 placed_more [] (suc i) x past = refl
 placed_more (o ∷ os) zero x past = absurd (omega arith)
 placed_more (o ∷ os) (suc i) x past = ap (λ t. o ∷ t) (placed_more os i x (omega arith))
 
-pub placed_end : (os : Slots) (i : ℕ) (x : List ℕ) → length os ≡ i → os ++ Some x ∷ [] ≡ placed os i x
+pub placed_end : {X : Type 0} (os : List (Option X)) (i : ℕ) (x : X) → length os ≡ i → os ++ Some x ∷ [] ≡ placed os i x
 placed_end [] zero x e = refl
 placed_end [] (suc i) x e = absurd (omega arith)
 placed_end (o ∷ os) zero x e = absurd (omega arith)

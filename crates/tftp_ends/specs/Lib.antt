@@ -10,6 +10,7 @@ pub mod Rules
 pub mod Store
 pub mod Placed
 pub mod Slots
+pub mod Spans
 pub mod Kept
 pub mod Worked
 pub mod WorkedWindows

@@ -1,15 +1,10 @@
 -- A row of places, of which some have a block: what a store with joined bytes and a ring stands for.
-use Rattle.std.specs.Prelude.{◌≡◌, ◌+◌, ◌*◌, ◌≤◌, ℕ, zero, suc, List, [], ◌∷◌, map, length, take, drop, Option, Some, None, option_map, slice_index_or, ⊤}
-use Rattle.std.specs.Global.{Vec}
+use Rattle.std.specs.Prelude.{◌≡◌, ◌+◌, ◌*◌, ◌≤◌, ℕ, zero, suc, List, [], ◌∷◌, length, take, drop, Option, Some, None, slice_index_or, ⊤}
 use Rattle.std.specs.FinMap as finite
 use Rattle.tftp_ends.specs.Store.{Held, nothing_held}
 
 abbrev pub Slots : Type 0
 Slots = List (Option (List ℕ))
-
--- the places of a ring, with the bytes of their blocks
-abbrev pub shown : List (Option (Vec ℕ)) → Slots
-shown places = map (option_map (λ block. block.items)) places
 
 -- the blocks of a row whose first place has the number n
 abbrev pub numbered : ℕ → Slots → Held
@@ -23,11 +18,11 @@ cut b zero joined = []
 cut b (suc count) joined = Some (take b joined) ∷ cut b count (drop b joined)
 
 -- the row with a block at place i, which grows as far as that
-abbrev pub placed : Slots → ℕ → List ℕ → Slots
-placed [] zero bytes = Some bytes ∷ []
-placed [] (suc i) bytes = None ∷ placed [] i bytes
-placed (slot ∷ slots) zero bytes = Some bytes ∷ slots
-placed (slot ∷ slots) (suc i) bytes = slot ∷ placed slots i bytes
+abbrev pub placed : {X : Type 0} → List (Option X) → ℕ → X → List (Option X)
+placed [] zero block = Some block ∷ []
+placed [] (suc i) block = None ∷ placed [] i block
+placed (slot ∷ slots) zero block = Some block ∷ slots
+placed (slot ∷ slots) (suc i) block = slot ∷ placed slots i block
 
 -- the bytes of the blocks up to the first gap
 abbrev pub leading : Slots → ℕ

@@ -9,6 +9,7 @@ mod route;
 mod rule;
 mod taking;
 mod terms;
+mod waiting;
 
 pub use delivered::{Delivered, Placed};
 pub use map_delivered::MapDelivered;

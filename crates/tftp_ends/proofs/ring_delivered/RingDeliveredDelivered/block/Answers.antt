@@ -1,8 +1,6 @@
-use Rattle.std.proofs.Common.{ap, sym, ◌∙◌, ◌<◌, ◌-◌, ◌*◌, option_map, length, take, drop, Some, None, refl, inl, inr, arith}
-use Rattle.std.proofs.lemmas.List.{length-map, get_or-map, get_or_default, get_or_past}
-use Rattle.std.proofs.lemmas.Bool.{cases_lt}
+use Rattle.std.proofs.Common.{ap, sym, ◌∙◌, ◌-◌, ◌*◌, take, drop, Some, inl, inr, arith}
 use Rattle.std.specs.FinMap as finite
-use Rattle.tftp_ends.specs.Slots.{shown, numbered}
+use Rattle.tftp_ends.specs.Slots.{numbered}
 use Rattle.tftp_ends.proofs.Places.{none_at_0}
 use Rattle.tftp_ends.proofs.Ring.{block_bytes, ring_block, joined_block}
 use Rattle.tftp_ends.proofs.ring_delivered.RingDeliveredDelivered.block.Goals.{then-len-from, else-len-from}
@@ -21,42 +19,12 @@ returns-then-number-self c =
       | then-len-from w ↦ let less = w.if-len-from.true in let whole = w.to-is in let read = w.len-to.ensures in inl (omega arith, omega arith)
       | else-len-from w ↦ inr (w.to-is)
     ]))
-    ∙ sym (joined_block c.self.inside.block_size c.self.inside.front c.self.inside.joined.items (shown c.self.inside.pending.items) c.args.number
+    ∙ sym (joined_block c.self.inside.block_size c.self.inside.front c.self.inside.joined.items c.self.inside.pending c.args.number
     (let some = c.if-number-eq0.false in omega arith) c.if-number-self.true)
     ∙ ap (λ m. finite.get (numbered 1 m.0) c.args.number) c.self.view_is
 
-pub returns-in-Some-place : goal.returns-in-Some-place
-returns-in-Some-place c =
-    let own = c.self.inside.pending.ok.0 in
-    let low = c.in-Some.ensures.variant.0 refl in
-    let within : c.args.number - 1 - c.self.inside.front < length c.self.inside.pending.items = omega arith in
-    ap Some c.as_slice.ensures.value
-    ∙ sym (ap (option_map (λ v. v.items)) (get_or_default c.self.inside.pending.items (c.args.number - 1 - c.self.inside.front) None c.in-Some.place.now within ∙ sym c.in-Some.ensures.lookup ∙ c.in-Some-place.is))
-    ∙ sym (get_or-map (option_map (λ v. v.items)) c.self.inside.pending.items (c.args.number - 1 - c.self.inside.front) None None within)
-    ∙ sym (ring_block c.self.inside.block_size c.self.inside.front c.self.inside.joined.items (shown c.self.inside.pending.items) c.args.number
+pub returns : goal.returns
+returns c = c.get.ensures
+    ∙ sym (ring_block c.self.inside.block_size c.self.inside.front c.self.inside.joined.items c.self.inside.pending c.args.number
     (let above = c.if-number-self.false in omega arith))
     ∙ ap (λ m. finite.get (numbered 1 m.0) c.args.number) c.self.view_is
-
-pub returns-in-None-place : goal.returns-in-None-place
-returns-in-None-place c =
-    let own = c.self.inside.pending.ok.0 in
-    let low = c.in-Some.ensures.variant.0 refl in
-    let within : c.args.number - 1 - c.self.inside.front < length c.self.inside.pending.items = omega arith in
-    sym (ap (option_map (λ v. v.items)) (get_or_default c.self.inside.pending.items (c.args.number - 1 - c.self.inside.front) None c.in-Some.place.now within ∙ sym c.in-Some.ensures.lookup ∙ c.in-None-place.is))
-    ∙ sym (get_or-map (option_map (λ v. v.items)) c.self.inside.pending.items (c.args.number - 1 - c.self.inside.front) None None within)
-    ∙ sym (ring_block c.self.inside.block_size c.self.inside.front c.self.inside.joined.items (shown c.self.inside.pending.items) c.args.number
-    (let above = c.if-number-self.false in omega arith))
-    ∙ ap (λ m. finite.get (numbered 1 m.0) c.args.number) c.self.view_is
-
-pub returns-in-None : goal.returns-in-None
-returns-in-None c =
-    let own = c.self.inside.pending.ok.0 in
-    let long = length-map c.self.inside.pending.items (option_map (λ v. v.items)) in
-    let above : c.self.inside.front < c.args.number = (let over = c.if-number-self.false in omega arith) in
-    elim (cases_lt (c.args.number - 1 - c.self.inside.front) (length c.self.inside.pending.items)) [
-      | inl within ↦ let no = c.in-None.ensures.variant.1 (omega arith) in absurd (cc)
-      | inr past_all ↦
-          sym (get_or_past (shown c.self.inside.pending.items) (c.args.number - 1 - c.self.inside.front) None (omega arith))
-          ∙ sym (ring_block c.self.inside.block_size c.self.inside.front c.self.inside.joined.items (shown c.self.inside.pending.items) c.args.number above)
-          ∙ ap (λ m. finite.get (numbered 1 m.0) c.args.number) c.self.view_is
-    ]

@@ -1,7 +1,6 @@
-use Rattle.std.proofs.Common.{subst, ◌+◌, ◌≡◌, length, option_map, arith}
-use Rattle.std.proofs.lemmas.List.{length-map}
+use Rattle.std.proofs.Common.{subst, ◌+◌, ◌≡◌, length, arith}
 use Rattle.tftp_ends.specs.Store.{IsHighest, IsOrderly}
-use Rattle.tftp_ends.specs.Slots.{shown, numbered}
+use Rattle.tftp_ends.specs.Slots.{numbered}
 use Rattle.tftp_ends.proofs.Places.{row_even}
 use Rattle.tftp_ends.proofs.Ring.{highest_is, orderly_slots}
 use Rattle.tftp_ends.proofs.ring_delivered.RingDeliveredDelivered.highest.Goals as goal
@@ -11,10 +10,8 @@ returns-clause-orderly c = subst (λ m. IsOrderly m.1 (numbered 1 m.0)) c.self.v
 
 pub returns-clause-highest : goal.returns-clause-highest
 returns-clause-highest c =
-    let long = length-map c.self.inside.pending.items (option_map (λ v. v.items)) in
-    let own = c.self.inside.pending.ok.0 in
     let read = c.len.ensures in
-    let same : c.self.inside.front + length (shown c.self.inside.pending.items) ≡ c.self.inside.front + c.len.result = omega arith in
+    let same : c.self.inside.front + length c.self.inside.pending ≡ c.self.inside.front + c.len.result = omega arith in
     subst (λ h. IsHighest (numbered 1 c.args.self.now.0) h) same
-    (subst (λ m. IsHighest (numbered 1 m.0) (c.self.inside.front + length (shown c.self.inside.pending.items))) c.self.view_is
+    (subst (λ m. IsHighest (numbered 1 m.0) (c.self.inside.front + length c.self.inside.pending)) c.self.view_is
     (highest_is _ _ _ _ c.self.invariant.row))

@@ -1,12 +1,12 @@
 use Rattle.std.proofs.Common.{subst, sym, ◌<◌}
 use Rattle.tftp_ends.specs.Store.{IsPending}
-use Rattle.tftp_ends.specs.Slots.{shown, numbered}
+use Rattle.tftp_ends.specs.Slots.{numbered}
 use Rattle.tftp_ends.proofs.Ring.{pending_is, pending_fewer}
 use Rattle.tftp_ends.proofs.ring_delivered.RingDeliveredDelivered.pending.Goals as goal
 
 pub returns-clause-count : goal.returns-clause-count
 returns-clause-count c = subst (λ m. IsPending (numbered 1 m.0) c.self.inside.waiting) c.self.view_is
-    (pending_is c.self.inside.block_size c.self.inside.front c.self.inside.joined.items (shown c.self.inside.pending.items) c.self.inside.waiting c.self.invariant.gap c.self.invariant.count)
+    (pending_is c.self.inside.block_size c.self.inside.front c.self.inside.joined.items c.self.inside.pending c.self.inside.waiting c.self.invariant.gap c.self.invariant.count)
 
 pub returns-clause-fewer : goal.returns-clause-fewer
 returns-clause-fewer c = subst (λ m. c.self.inside.waiting < m.2) c.self.view_is

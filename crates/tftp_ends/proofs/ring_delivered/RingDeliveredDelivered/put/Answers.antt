@@ -1,92 +1,87 @@
-use Rattle.std.proofs.Common.{ap, sym, subst, ◌∙◌, ◌≡◌, ◌≤◌, ◌-◌, ◌+◌, ◌++◌, option_map, length, drop, arith}
-use Rattle.std.proofs.lemmas.List.{length-map, length-drop, drop-map}
+use Rattle.std.proofs.Common.{ap, sym, subst, ◌∙◌, ◌≡◌, ◌≤◌, ◌-◌, ◌+◌, ◌++◌, length, drop, arith}
+use Rattle.std.proofs.lemmas.List.{length-drop}
 use Rattle.std.specs.FinMap as finite
-use Rattle.tftp_ends.specs.Slots.{shown, numbered, cut, placed, IsRow, IsRing}
+use Rattle.tftp_ends.specs.Slots.{numbered, cut, placed, IsRow, IsRing}
 use Rattle.tftp_ends.proofs.Places.{row_step}
 use Rattle.tftp_ends.proofs.Ring.{new_facts, new_waits, numbered_new, first_row, numbered_first, filled_within}
 use Rattle.tftp_ends.proofs.ring_delivered.RingDeliveredDelivered.put.Goals as goal
 
 pub overflow_sub-place : goal.overflow_sub-place
 overflow_sub-place c =
-    let known = new_facts c.self.inside.block_size c.self.inside.window c.self.inside.front c.self.inside.joined.items (shown c.self.inside.pending.items) c.args.number c.args.bytes.now c.args.self.now c.self.view_is c.requires c.in-None.ensures in
+    let known = new_facts c.self.inside.block_size c.self.inside.window c.self.inside.front c.self.inside.joined.items c.self.inside.pending c.args.number c.args.bytes.now c.args.self.now c.self.view_is c.requires c.in-None.ensures in
     let above = known.2 in omega arith
 
 pub overflow_sub-place-2 : goal.overflow_sub-place-2
 overflow_sub-place-2 c =
-    let known = new_facts c.self.inside.block_size c.self.inside.window c.self.inside.front c.self.inside.joined.items (shown c.self.inside.pending.items) c.args.number c.args.bytes.now c.args.self.now c.self.view_is c.requires c.in-None.ensures in
+    let known = new_facts c.self.inside.block_size c.self.inside.window c.self.inside.front c.self.inside.joined.items c.self.inside.pending c.args.number c.args.bytes.now c.args.self.now c.self.view_is c.requires c.in-None.ensures in
     let above = known.2 in omega arith
 
 pub overflow_add-self : goal.overflow_add-self
 overflow_add-self c =
-    let known = new_facts c.self.inside.block_size c.self.inside.window c.self.inside.front c.self.inside.joined.items (shown c.self.inside.pending.items) c.args.number c.args.bytes.now c.args.self.now c.self.view_is c.requires c.in-None.ensures in
-    let waits = new_waits c.self.inside.block_size c.self.inside.window c.self.inside.front c.self.inside.joined.items (shown c.self.inside.pending.items) c.self.inside.waiting c.args.number c.args.bytes.now c.self.invariant known.0 known.1 (let far = c.if-place-gt0.true in let above = known.2 in omega arith) (let fits = c.ranges.number.fits in omega arith) in
+    let known = new_facts c.self.inside.block_size c.self.inside.window c.self.inside.front c.self.inside.joined.items c.self.inside.pending c.args.number c.args.bytes.now c.args.self.now c.self.view_is c.requires c.in-None.ensures in
+    let waits = new_waits c.self.inside.block_size c.self.inside.window c.self.inside.front c.self.inside.joined.items c.self.inside.pending c.self.inside.waiting c.args.number c.args.bytes.now c.self.invariant known.0 known.1 (let far = c.if-place-gt0.true in let above = known.2 in omega arith) (let fits = c.ranges.number.fits in omega arith) in
     let count = waits.count in
     let numbers = waits.numbers in
-    let few = filled_within (placed (shown c.self.inside.pending.items) (c.args.number - c.self.inside.front - 1) c.args.bytes.now) in
+    let few = filled_within (placed c.self.inside.pending (c.args.number - c.self.inside.front - 1) c.args.bytes.now) in
     omega arith
 
 pub invariant_of-self-then-place-gt0 : goal.invariant_of-self-then-place-gt0
 invariant_of-self-then-place-gt0 c =
-    let known = new_facts c.self.inside.block_size c.self.inside.window c.self.inside.front c.self.inside.joined.items (shown c.self.inside.pending.items) c.args.number c.args.bytes.now c.args.self.now c.self.view_is c.requires c.in-None.ensures in
-    let waits = new_waits c.self.inside.block_size c.self.inside.window c.self.inside.front c.self.inside.joined.items (shown c.self.inside.pending.items) c.self.inside.waiting c.args.number c.args.bytes.now c.self.invariant known.0 known.1 (let far = c.if-place-gt0.true in let above = known.2 in omega arith) (let fits = c.ranges.number.fits in omega arith) in
-    let held : shown c.hold.new.pending.items ≡ placed (shown c.self.inside.pending.items) (c.args.number - c.self.inside.front - 1) c.args.bytes.now =
-    c.in_ok-hold.ensures.ok ∙ ap (placed (shown c.self.inside.pending.items) (c.args.number - c.self.inside.front - 1)) c.in_ok-copy.ensures.items in
+    let known = new_facts c.self.inside.block_size c.self.inside.window c.self.inside.front c.self.inside.joined.items c.self.inside.pending c.args.number c.args.bytes.now c.args.self.now c.self.view_is c.requires c.in-None.ensures in
+    let waits = new_waits c.self.inside.block_size c.self.inside.window c.self.inside.front c.self.inside.joined.items c.self.inside.pending c.self.inside.waiting c.args.number c.args.bytes.now c.self.invariant known.0 known.1 (let far = c.if-place-gt0.true in let above = known.2 in omega arith) (let fits = c.ranges.number.fits in omega arith) in
+    let held = c.in_ok-hold.ensures.ok in
     subst (λ ring. IsRing c.self.inside.block_size c.self.inside.window c.self.inside.joined.items c.self.inside.front ring (c.self.inside.waiting + 1)) (sym held) waits
 
 pub returns-then-place-gt0-clause-ok : goal.returns-then-place-gt0-clause-ok
 returns-then-place-gt0-clause-ok c =
-    let known = new_facts c.self.inside.block_size c.self.inside.window c.self.inside.front c.self.inside.joined.items (shown c.self.inside.pending.items) c.args.number c.args.bytes.now c.args.self.now c.self.view_is c.requires c.in-None.ensures in
-    let held : shown c.hold.new.pending.items ≡ placed (shown c.self.inside.pending.items) (c.args.number - c.self.inside.front - 1) c.args.bytes.now =
-    c.in_ok-hold.ensures.ok ∙ ap (placed (shown c.self.inside.pending.items) (c.args.number - c.self.inside.front - 1)) c.in_ok-copy.ensures.items in (
+    let known = new_facts c.self.inside.block_size c.self.inside.window c.self.inside.front c.self.inside.joined.items c.self.inside.pending c.args.number c.args.bytes.now c.args.self.now c.self.view_is c.requires c.in-None.ensures in
+    let held = c.in_ok-hold.ensures.ok in (
       sym c.in-None.ensures,
       ap (λ ring. numbered 1 (cut c.self.inside.block_size c.self.inside.front c.self.inside.joined.items ++ ring)) held
-          ∙ numbered_new c.self.inside.block_size c.self.inside.front c.self.inside.joined.items (shown c.self.inside.pending.items) c.args.number c.args.bytes.now known.2
+          ∙ numbered_new c.self.inside.block_size c.self.inside.front c.self.inside.joined.items c.self.inside.pending c.args.number c.args.bytes.now known.2
           ∙ ap (λ m. finite.insert (numbered 1 m.0) c.args.number c.args.bytes.now) c.self.view_is,
     )
 
 pub overflow_add-next : goal.overflow_add-next
 overflow_add-next c =
-    let known = new_facts c.self.inside.block_size c.self.inside.window c.self.inside.front c.self.inside.joined.items (shown c.self.inside.pending.items) c.args.number c.args.bytes.now c.args.self.now c.self.view_is c.requires c.in-None.ensures in
+    let known = new_facts c.self.inside.block_size c.self.inside.window c.self.inside.front c.self.inside.joined.items c.self.inside.pending c.args.number c.args.bytes.now c.args.self.now c.self.view_is c.requires c.in-None.ensures in
     let above = known.2 in
     let fits = c.ranges.number.fits in omega arith
 
 pub advance-front-requires-clause-row : goal.advance-front-requires-clause-row
 advance-front-requires-clause-row c =
-    let known = new_facts c.self.inside.block_size c.self.inside.window c.self.inside.front c.self.inside.joined.items (shown c.self.inside.pending.items) c.args.number c.args.bytes.now c.args.self.now c.self.view_is c.requires c.in-None.ensures in
+    let known = new_facts c.self.inside.block_size c.self.inside.window c.self.inside.front c.self.inside.joined.items c.self.inside.pending c.args.number c.args.bytes.now c.args.self.now c.self.view_is c.requires c.in-None.ensures in
     let above = known.2 in
     let near : c.args.number - c.self.inside.front - 1 ≤ 0 = c.if-place-gt0.false in
-    let row = first_row c.self.inside.block_size c.self.inside.window c.self.inside.front c.self.inside.joined.items (shown c.self.inside.pending.items) c.args.number c.args.bytes.now c.self.invariant.row known.0 known.1 above near in
-    let rest : shown c.pop_front-gap.new.self.items ≡ drop 1 (shown c.self.inside.pending.items) =
-    ap (shown) c.pop_front-gap.ensures.rest ∙ sym (drop-map (option_map (λ v. v.items)) 1 c.self.inside.pending.items) in
+    let row = first_row c.self.inside.block_size c.self.inside.window c.self.inside.front c.self.inside.joined.items c.self.inside.pending c.args.number c.args.bytes.now c.self.invariant.row known.0 known.1 above near in
+    let rest : c.drop_first.new.self ≡ drop 1 c.self.inside.pending = c.drop_first.ensures in
     let joined : c.extend_from_slice.new.self.items ≡ c.self.inside.joined.items ++ c.args.bytes.now =
     c.in_ok-extend_from_slice.ensures.items ∙ ap (λ t. t ++ c.args.bytes.now) c.in_ok-reserve.ensures.items in
-    subst (λ js. IsRow c.self.inside.block_size js (c.self.inside.front + 1) (shown c.pop_front-gap.new.self.items)) (sym joined)
+    subst (λ js. IsRow c.self.inside.block_size js (c.self.inside.front + 1) c.drop_first.new.self) (sym joined)
     (subst (λ ring. IsRow c.self.inside.block_size (c.self.inside.joined.items ++ c.args.bytes.now) (c.self.inside.front + 1) ring) (sym rest) (row_step _ _ _ _ _ row))
 
 pub advance-front-requires-clause-numbers : goal.advance-front-requires-clause-numbers
 advance-front-requires-clause-numbers c =
-    let known = new_facts c.self.inside.block_size c.self.inside.window c.self.inside.front c.self.inside.joined.items (shown c.self.inside.pending.items) c.args.number c.args.bytes.now c.args.self.now c.self.view_is c.requires c.in-None.ensures in
+    let known = new_facts c.self.inside.block_size c.self.inside.window c.self.inside.front c.self.inside.joined.items c.self.inside.pending c.args.number c.args.bytes.now c.args.self.now c.self.view_is c.requires c.in-None.ensures in
     let above = known.2 in
     let fits = c.ranges.number.fits in
-    let fewer = ap length c.pop_front-gap.ensures.rest ∙ length-drop 1 c.self.inside.pending.items in
-    let same = length-map c.self.inside.pending.items (option_map (λ v. v.items)) in
+    let fewer = ap length c.drop_first.ensures ∙ length-drop 1 c.self.inside.pending in
     let numbers = c.self.invariant.numbers in
     omega arith
 
 pub returns-clause-ok : goal.returns-clause-ok
 returns-clause-ok c =
-    let known = new_facts c.self.inside.block_size c.self.inside.window c.self.inside.front c.self.inside.joined.items (shown c.self.inside.pending.items) c.args.number c.args.bytes.now c.args.self.now c.self.view_is c.requires c.in-None.ensures in
+    let known = new_facts c.self.inside.block_size c.self.inside.window c.self.inside.front c.self.inside.joined.items c.self.inside.pending c.args.number c.args.bytes.now c.args.self.now c.self.view_is c.requires c.in-None.ensures in
     let above = known.2 in
     let near : c.args.number - c.self.inside.front - 1 ≤ 0 = c.if-place-gt0.false in
-    let row = first_row c.self.inside.block_size c.self.inside.window c.self.inside.front c.self.inside.joined.items (shown c.self.inside.pending.items) c.args.number c.args.bytes.now c.self.invariant.row known.0 known.1 above near in
-    let rest : shown c.pop_front-gap.new.self.items ≡ drop 1 (shown c.self.inside.pending.items) =
-    ap (shown) c.pop_front-gap.ensures.rest ∙ sym (drop-map (option_map (λ v. v.items)) 1 c.self.inside.pending.items) in
+    let row = first_row c.self.inside.block_size c.self.inside.window c.self.inside.front c.self.inside.joined.items c.self.inside.pending c.args.number c.args.bytes.now c.self.invariant.row known.0 known.1 above near in
+    let rest : c.drop_first.new.self ≡ drop 1 c.self.inside.pending = c.drop_first.ensures in
     let joined : c.extend_from_slice.new.self.items ≡ c.self.inside.joined.items ++ c.args.bytes.now =
     c.in_ok-extend_from_slice.ensures.items ∙ ap (λ t. t ++ c.args.bytes.now) c.in_ok-reserve.ensures.items in (
       sym c.in-None.ensures,
       ap (numbered 1) (c.advance-front.ensures.slots
-          ∙ ap (λ js. cut c.self.inside.block_size (c.self.inside.front + 1) js ++ shown c.pop_front-gap.new.self.items) joined
+          ∙ ap (λ js. cut c.self.inside.block_size (c.self.inside.front + 1) js ++ c.drop_first.new.self) joined
           ∙ ap (λ ring. cut c.self.inside.block_size (c.self.inside.front + 1) (c.self.inside.joined.items ++ c.args.bytes.now) ++ ring) rest)
-          ∙ numbered_first c.self.inside.block_size c.self.inside.front c.self.inside.joined.items (shown c.self.inside.pending.items) c.args.number c.args.bytes.now row above near
+          ∙ numbered_first c.self.inside.block_size c.self.inside.front c.self.inside.joined.items c.self.inside.pending c.args.number c.args.bytes.now row above near
           ∙ ap (λ m. finite.insert (numbered 1 m.0) c.args.number c.args.bytes.now) c.self.view_is,
     )

@@ -1,0 +1,145 @@
+ghost use Rattle.std.specs.Prelude.{◌≡◌, ◌+◌, ◌*◌, ◌≤◌, ◌<◌, ◌++◌, ℕ, List, [], ◌∷◌, None, Some, true, false, option_map, OnOk, OnErr, length, drop, slice_index_or};
+ghost use Rattle.std.specs.Vec.{vec_capacity};
+ghost use Rattle.std.specs.VecDeque.{deque_capacity};
+ghost use Rattle.tftp_ends.specs.Slots.{placed, leading, IsEven};
+
+use std::alloc::{AllocError, Global};
+use std::collections::VecDeque;
+use std::marker::Model;
+
+/// Where a block lies in the bytes of all that wait.
+#[derive(Clone, Copy)]
+struct Span {
+    start: usize,
+    len: usize,
+}
+
+/// The blocks above the front of a ring, each at its place. They share one vector, where each stands in the order in
+/// which it came. It is emptied when no place is left, so it never has more than the bytes of all blocks that have waited.
+#[derive(Drop)]
+pub(crate) struct Waiting {
+    bytes: Vec<u8>,
+    places: VecDeque<Option<Span>>,
+}
+
+impl Model for Waiting {
+    ghost use Rattle.std.specs.Prelude.{length};
+    ghost use Rattle.tftp_ends.specs.Slots.{Slots};
+
+    ghost Value = { Slots };
+
+    ghost use Rattle.tftp_ends.specs.Spans.{shown, AreWithin};
+
+    ghost view = { λ w. shown w.bytes.items w.places.items };
+
+    ghost invariant = { λ w. AreWithin (length w.bytes.items) w.places.items };
+}
+
+impl Waiting {
+    /// No place. Takes no memory.
+    pub(crate) fn new(alloc: Global) -> Self
+        ensures { result ≡ [] }
+    {
+        Waiting {
+            bytes: Vec::new(alloc),
+            places: VecDeque::new(alloc),
+        }
+    }
+
+    /// How many places there are.
+    pub(crate) fn len(&self) -> usize
+        ensures { result ≡ length self.now }
+    {
+        self.places.len()
+    }
+
+    /// The bytes of the block at a place, if one is there.
+    pub(crate) fn get(&self, place: usize) -> Option<&[u8]>
+        ensures { option_map (λ b. b.now) result ≡ slice_index_or self.now place None }
+    {
+        match self.places.get(place) {
+            Some(Some(span)) => Some(&self.bytes[span.start..span.start + span.len]),
+            _ => None,
+        }
+    }
+
+    /// Puts a block at a place. There are then as many places as that at least.
+    pub(crate) fn hold(&mut self, place: usize, block: &[u8]) -> Result<(), AllocError>
+        requires { place < 65535 }
+        ensures ok { OnOk result (self.new ≡ placed self.old place block.now) }
+        ensures err { OnErr result (self.new ≡ self.old) }
+    {
+        // All growths come before the first change of a place.
+        let held = self.places.len();
+        self.places.reserve((place + 1).saturating_sub(held))?;
+        let start = self.bytes.len();
+        self.bytes.extend_from_slice(block)?;
+        let len = block.len();
+        set_place(&mut self.places, place, Span { start, len });
+        Ok(())
+    }
+
+    /// The bytes of the blocks that follow the first place without a gap.
+    pub(crate) fn following(&self, block_size: u16) -> usize
+        requires even { IsEven block_size self.now }
+        requires length { length self.now ≤ 65535 }
+        ensures value { result ≡ leading (drop 1 self.now) }
+        ensures bound { result ≤ 65535 * 65535 }
+    {
+        let mut total = 0;
+        let mut at = 1;
+        while at < self.places.len() {
+            match self.places[at] {
+                Some(span) => {
+                    total += span.len;
+                    at += 1;
+                }
+                None => {
+                    return total;
+                }
+            }
+        }
+        total
+    }
+
+    /// Moves the block of the first place behind the joined ones, where one is there, and says whether it was.
+    pub(crate) fn move_first(&mut self, joined: &mut Vec<u8>) -> bool
+        requires room { length joined.old.items + leading self.old ≤ vec_capacity joined.old }
+        ensures moved { result ≡ true → (block : List ℕ) × (self.old ≡ Some block ∷ self.new) × (joined.new.items ≡ joined.old.items ++ block) }
+        ensures gap { result ≡ false → (slice_index_or self.new 0 None ≡ None) × (self.new ≡ self.old) × (joined.new.items ≡ joined.old.items) }
+        ensures capacity { vec_capacity joined.old ≤ vec_capacity joined.new }
+    {
+        let Some(block) = self.get(0) else {
+            return false;
+        };
+        let moved = joined.extend_from_slice(block).is_ok();
+        self.drop_first();
+        moved
+    }
+
+    /// Drops the first place, and its block.
+    pub(crate) fn drop_first(&mut self)
+        ensures { self.new ≡ drop 1 self.old }
+    {
+        let _first = self.places.pop_front();
+        if self.places.is_empty() {
+            self.bytes.clear();
+        }
+    }
+}
+
+/// Puts a span at a place, which the row grows as far as.
+fn set_place(places: &mut VecDeque<Option<Span>>, place: usize, span: Span)
+    requires room { place < deque_capacity places.old }
+    ensures { places.new.items ≡ placed places.old.items place span }
+{
+    let held = places.len();
+    if place < held {
+        places[place] = Some(span);
+        return;
+    }
+    while places.len() < place {
+        places.push_back_reserved(None);
+    }
+    places.push_back_reserved(Some(span));
+}
