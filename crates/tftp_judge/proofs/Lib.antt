@@ -16,5 +16,6 @@ pub mod ErrorRules
 pub mod OneVerdict
 pub mod Gatherings
 pub mod TextVerdicts
+mod SameVerdicts
 pub mod TextFound
 pub mod Stopped
