@@ -29,8 +29,9 @@ HasPassed m passed = Passed In m passed ⊎ Passed Out m passed
 abbrev pub brings_error : Datagram → Bool
 brings_error d = comes_in d && begins_error d
 
--- All that came in, and what had gone out before the first ERROR came in. By then the other end had sent all that it ever
--- sends, but that ERROR again, and so it has used nothing that went out later (RFC 1350, section 7).
+-- What the other end can have used, and all that came in: what goes out after its first ERROR has come in is left out. By
+-- then it had sent all that it ever sends, but that ERROR again (RFC 1350, section 7). The four rules that judge what comes
+-- in by what has gone out read this.
 abbrev pub usable : List Datagram → List Datagram
 usable [] = []
 usable (d ∷ passed) = if goes_out d && list_any brings_error passed then usable passed else d ∷ usable passed

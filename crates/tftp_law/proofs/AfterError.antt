@@ -1,4 +1,4 @@
--- What an end does after an ERROR, and what may come after one: rule 7, and rules 18 and 27 of what comes in.
+-- What one side does is nothing after an ERROR, but that ERROR again; and what breaks no rule is not, either.
 use Rattle.std.proofs.Common.{◌≡◌, ℕ, Bool, true, false, List, ◌∷◌, Contains, inl, inr, refl, sym, subst, ap, ◌∙◌}
 use Rattle.std.proofs.lemmas.Bool.{true≢false}
 use Rattle.tftp_packet.specs.Message.{Message}
@@ -43,7 +43,7 @@ module _ (h : Header) (m : Meaning) (wire : List ℕ) (division : Division) (rou
     by (Took q, at, way, same) = subst (HasTaken (view_in division)) same at
     by (Sent q, at, way, same) = absurd (cc)
 
-  -- no lawful deed breaks rule 7
+  -- no lawful deed goes on after an ERROR
   pub stays_silent : (deed : Deed) → IsOneSided m wire h.named (deed ∷ view_in division) → GoesOn (transfer_of h (datagrams_of division)) (dir_of deed) (message_of m wire (packet_of deed)) → ⊥
   stays_silent (Sent p) own (stop, (code, text, is), passed, differs, which) = by (is_error p) refl where
     at : HasSent (view_in division) (Error code text)
@@ -67,7 +67,7 @@ module _ (h : Header) (m : Meaning) (wire : List ℕ) (division : Division) (rou
       let all : message_of m wire p ≡ stop = cc in
       differs all
 
-  -- where rule 7 is not broken, this end has sent no ERROR before another packet
+  -- a packet that goes out and is not one after an ERROR: this end has sent none
   pub none_sent_before : (d : Datagram) (p : MachinePacket) → is_error p ≡ false → d.dir ≡ Out → Says h (datagrams_of division) d (message_of m wire p) → (Broken h (datagrams_of division) d Rule.AfterError → ⊥) → NoErrorSent (view_in division)
   none_sent_before d p plain way says holds code text at = holds (
     message_of m wire p,

@@ -1,4 +1,4 @@
--- What a server had sent when an ERROR came: by the routes it had answered.
+-- What a server had sent when an ERROR came: it had answered, since before that the ERROR has no route.
 use Rattle.std.proofs.Common.{◌≡◌, ℕ, true, List, [], ◌∷◌, Any, inl, inr, sym, subst, ◌∙◌}
 use Rattle.std.proofs.lemmas.Bool.{false≢true}
 use Rattle.tftp_packet.specs.declared.kinds.Side.TheVariants.{Put}

@@ -144,9 +144,9 @@ module _ (h : Header) (m : Meaning) (wire : List ℕ) where
   no_request Get r a is = is
   no_request Put r a is = is
 
-  no_error : (side : Side) (code : ℕ) (message : List ℕ) (a : Answer) → IsAnswer side (Message.Error code message) a → ⊥
-  no_error Get code message a is = is
-  no_error Put code message a is = is
+  no_error : (side : Side) (code : ℕ) (text : List ℕ) (a : Answer) → IsAnswer side (Message.Error code text) a → ⊥
+  no_error Get code text a is = is
+  no_error Put code text a is = is
 
   module _ (division : Division) (routed : AreRouted h m wire division) (own : IsOneSided m wire h.named (view_in division)) (d : Datagram) where
     abbrev ps : List Datagram
@@ -183,8 +183,8 @@ module _ (h : Header) (m : Meaning) (wire : List ℕ) where
     main_reply (Took (Data k)) s all r = data_reply m.side refl k s (λ get. data_in m wire h.named get (view_in division) own (used_start m wire h.named m.side (view_in division) all.0.started)) r
     main_reply (Sent (Ack j)) s all r = ack_reply m.side refl j s (λ put none. zero_out m wire h.named put (view_in division) own (all.0.zero none)) r
     main_reply (Took (Ack j)) s all r = ack_reply m.side refl j s (λ put none. zero_in m wire h.named put (view_in division) own (used_zero m wire h.named m.side (view_in division) (all.0.zero none))) r
-    main_reply (Sent (Error code message)) s all r = stays_none m.side d ps (message_of m wire (Error code message)) s (no_error m.side code message) r
-    main_reply (Took (Error code message)) s all r = stays_none m.side d ps (message_of m wire (Error code message)) s (no_error m.side code message) r
+    main_reply (Sent (Error code text)) s all r = stays_none m.side d ps (message_of m wire (Error code text)) s (no_error m.side code text) r
+    main_reply (Took (Error code text)) s all r = stays_none m.side d ps (message_of m wire (Error code text)) s (no_error m.side code text) r
 
   reply_step : (d : Datagram) (part : Part) (earlier : Division) → AreRouted h m wire earlier → route_of h (datagrams_of earlier) d ≡ part_route part → SaysAs m wire d part
       → IsOneSided m wire h.named (view_in (record { datagram = d; part = part } ∷ earlier)) → (IsOneSided m wire h.named (view_in earlier) → IsReply m.side (transfer_of h (datagrams_of earlier)))

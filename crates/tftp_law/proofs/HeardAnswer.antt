@@ -1,4 +1,4 @@
--- What a server had answered before an ERROR came.
+-- A server that had sent anything when an ERROR came had sent its answer, or never sends it.
 use Rattle.std.proofs.Common.{◌≡◌, ◌⊎◌, ℕ, zero, suc, false, List, [], ◌∷◌, Contains, inl, inr, refl, sym, subst, arith}
 use Rattle.tftp_packet.specs.declared.kinds.Side.{Side}
 use Rattle.tftp_packet.specs.declared.kinds.Side.TheVariants.{Get, Put}
@@ -7,19 +7,15 @@ use Rattle.tftp_packet.specs.declared.kinds.End.TheVariants.{Client, Server}
 use Rattle.tftp_ends.specs.Meaning.{Meaning, NothingAgreed, SomethingAgreed}
 use Rattle.tftp_ends.specs.Machines.{MachinePacket, Req, Oack, Data, Ack, Error, Deed, Sent, Took, History, HasSent, HasTaken, IsStartedOn, MayAckZeroOn, MaySend, sender_of, receiver_of}
 use Rattle.tftp_ends.specs.OneSide.{is_error, heard, LetsStartOn, LetsAckZeroOn, IsOneSided}
-use Rattle.tftp_ends.proofs.Stops.{either, heard_all, heard_stopped, heard_done}
+use Rattle.tftp_ends.proofs.Stops.{either, heard_all, heard_stopped, heard_done, lawful_tail}
 use Rattle.tftp_ends.proofs.Members.{contains_later, contains_cases, contains_none}
 use Rattle.tftp_ends.proofs.Cut.{sends_before_error}
 use Rattle.tftp_law.proofs.FirstReply.{sent_data, took_data, sent_zero, took_zero}
 
-tail_own : (m : Meaning) (wire : List ℕ) (e : End) (d : Deed) (h : History) → IsOneSided m wire e (d ∷ h) → IsOneSided m wire e h
-tail_own m wire e (Sent p) h own = own.1
-tail_own m wire e (Took p) h own = own.1
-
 pub heard_own : (m : Meaning) (wire : List ℕ) (e : End) (h : History) → IsOneSided m wire e h → IsOneSided m wire e (heard h)
 heard_own m wire e [] own = tt
 heard_own m wire e (d ∷ h) own = elim (either (d ∷ h)) [
-  | inl over ↦ subst (IsOneSided m wire e) (sym (heard_stopped d h over)) (heard_own m wire e h (tail_own m wire e d h own))
+  | inl over ↦ subst (IsOneSided m wire e) (sym (heard_stopped d h over)) (heard_own m wire e h (lawful_tail m wire e d h own))
   | inr going ↦ subst (IsOneSided m wire e) (sym (heard_all (d ∷ h) going)) own
 ]
 
@@ -31,7 +27,7 @@ sent_before m wire e (d ∷ h) own code text stop p plain at = elim (either (d �
       let stop_before : HasSent (heard h) (Error code text) = subst (λ v. HasSent v (Error code text)) (heard_stopped d h over) stop in
       subst (λ v. HasSent v p) (sym (heard_stopped d h over)) (elim (contains_cases d h (Sent p) at) [
         | inl same ↦ absurd (sends_before_error m wire e h p plain (subst (λ x. IsOneSided m wire e (x ∷ h)) same own).0 code text (heard_done h (Sent (Error code text)) stop_before))
-        | inr before ↦ sent_before m wire e h (tail_own m wire e d h own) code text stop_before p plain before
+        | inr before ↦ sent_before m wire e h (lawful_tail m wire e d h own) code text stop_before p plain before
       ])
   | inr going ↦ subst (λ v. HasSent v p) (sym (heard_all (d ∷ h) going)) at
 ]
@@ -41,7 +37,7 @@ allowed : (m : Meaning) (wire : List ℕ) (e : End) (h : History) → IsOneSided
 allowed m wire e [] own p at = absurd (contains_none (Sent p) at)
 allowed m wire e (d ∷ h) own p at = elim (contains_cases d h (Sent p) at) [
   | inl same ↦ (h, (subst (λ x. IsOneSided m wire e (x ∷ h)) same own).0, λ x was. contains_later d h x was)
-  | inr before ↦ let a = allowed m wire e h (tail_own m wire e d h own) p before in (a.0, a.1, λ x was. contains_later d h x (a.2 x was))
+  | inr before ↦ let a = allowed m wire e h (lawful_tail m wire e d h own) p before in (a.0, a.1, λ x was. contains_later d h x (a.2 x was))
 ]
 
 module _ (m : Meaning) (wire : List ℕ) (h : History) (own : IsOneSided m wire Server h) where

@@ -41,6 +41,7 @@ usable_spelled (d ∷ ds) all = by (goes_out d && list_any brings_error ds) (usa
   by : (b : Bool) → AllSpelled (usable ds) → AllSpelled (if b then usable ds else d ∷ usable ds)
   by true rest = rest
   by false rest = (all.0, rest)
+
 -- a datagram of the transfer that passes after those of a division, of a meaning and a wire in accord with all of them
 pub record Next (h : Header) (m : Meaning) (wire : List ℕ) (division : Division) (d : Datagram) : Type 0 where
   pub routed : AreRouted h m wire division

@@ -225,9 +225,9 @@ module _ (h : Header) (m : Meaning) (wire : List ℕ) (fits : Fits m wire)
   abbrev Keeps : Dir → MachinePacket → Type 0
   Keeps dir p = (rule : Rule) → MessageBreaks h (request_of m) through dir (message_of m wire p) rule → ⊥
 
-  error_kind : (dir : Dir) (e : End) (side : Side) (code : ℕ) (message : List ℕ) → IsWrongKind (author_of e dir) side (Message.Error code message) → ⊥
-  error_kind dir e side code message wrong = error_by (author_of e dir) side wrong where
-    error_by : (e : End) (side : Side) → IsWrongKind e side (Message.Error code message) → ⊥
+  error_kind : (dir : Dir) (e : End) (side : Side) (code : ℕ) (text : List ℕ) → IsWrongKind (author_of e dir) side (Message.Error code text) → ⊥
+  error_kind dir e side code text wrong = error_by (author_of e dir) side wrong where
+    error_by : (e : End) (side : Side) → IsWrongKind e side (Message.Error code text) → ⊥
     error_by Client Get wrong = wrong
     error_by Client Put wrong = wrong
     error_by Server Get wrong = wrong
@@ -242,8 +242,8 @@ module _ (h : Header) (m : Meaning) (wire : List ℕ) (fits : Fits m wire)
   sent_keeps (Data k) may rule (inr (inr b)) = terms_keep (message_of m wire (Data k)) (data_sent k may) rule b
   sent_keeps (Ack j) may rule (inl wrong) = ack_kind_out m.side j (by_author Out (receiver_of m.side) (Message.Ack j) may.receiver wrong.1)
   sent_keeps (Ack j) may rule (inr (inr b)) = terms_keep (Message.Ack j) (ack_sent j may) rule b
-  sent_keeps (Error code message) may rule (inl wrong) = error_kind Out h.named m.side code message wrong.1
-  sent_keeps (Error code message) may rule (inr (inr b)) = b
+  sent_keeps (Error code text) may rule (inl wrong) = error_kind Out h.named m.side code text wrong.1
+  sent_keeps (Error code text) may rule (inr (inr b)) = b
   sent_keeps p may rule (inr (inl b)) = stays_silent h m wire division routed (Sent p) (may, own) b.1
 
   came_keeps : (p : MachinePacket) → MayCome m wire h.named view p → Keeps In p
@@ -255,8 +255,8 @@ module _ (h : Header) (m : Meaning) (wire : List ℕ) (fits : Fits m wire)
   came_keeps (Data k) may rule (inr (inr b)) = terms_keep (message_of m wire (Data k)) (data_came k may) rule b
   came_keeps (Ack j) may rule (inl wrong) = ack_kind_in m.side j (by_author In (sender_of m.side) (Message.Ack j) may.sender wrong.1)
   came_keeps (Ack j) may rule (inr (inr b)) = terms_keep (Message.Ack j) (ack_came j may) rule b
-  came_keeps (Error code message) may rule (inl wrong) = error_kind In h.named m.side code message wrong.1
-  came_keeps (Error code message) may rule (inr (inr b)) = b
+  came_keeps (Error code text) may rule (inl wrong) = error_kind In h.named m.side code text wrong.1
+  came_keeps (Error code text) may rule (inr (inr b)) = b
   came_keeps p may rule (inr (inl b)) = stays_silent h m wire division routed (Took p) (may, own) b.1
 
   -- the next deed breaks no rule of its kind, whichever it is

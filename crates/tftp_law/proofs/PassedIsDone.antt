@@ -65,7 +65,7 @@ main_route Req = refl
 main_route Oack = refl
 main_route (Data k) = refl
 main_route (Ack j) = refl
-main_route (Error code message) = refl
+main_route (Error code text) = refl
 
 module _ (h : Header) (m : Meaning) (wire : List ℕ) where
   -- the datagrams of the transfer, with one more
@@ -121,7 +121,7 @@ module _ (h : Header) (m : Meaning) (wire : List ℕ) where
   begins d Oack s = subst (λ p. (opcode_of p == 5) ≡ false) (sym s.1.bytes) refl
   begins d (Data k) (b, (x, y, pair, is)) = subst (λ p. (opcode_of p == 5) ≡ false) (sym is) refl
   begins d (Ack j) (b, (x, y, pair, is)) = subst (λ p. (opcode_of p == 5) ≡ false) (sym is) refl
-  begins d (Error code message) (b, (x, y, pair, string, is)) = subst (λ p. (opcode_of p == 5) ≡ true) (sym is) refl
+  begins d (Error code text) (b, (x, y, pair, string, is)) = subst (λ p. (opcode_of p == 5) ≡ true) (sym is) refl
 
   brings : (d : Datagram) (deed : Deed) → SaysAs m wire d (Main deed) → brings_error d ≡ takes_error deed
   brings d (Sent p) says = rw (says.0) refl
@@ -195,14 +195,14 @@ module _ (h : Header) (m : Meaning) (wire : List ℕ) where
   data_only Req k bytes e = absurd (cc)
   data_only Oack k bytes e = absurd (cc)
   data_only (Ack j) k bytes e = absurd (cc)
-  data_only (Error code message) k bytes e = absurd (cc)
+  data_only (Error code text) k bytes e = absurd (cc)
 
   ack_only : (q : MachinePacket) (j : ℕ) → message_of m wire q ≡ Message.Ack j → q ≡ Ack j
   ack_only (Ack i) j e = let same : i ≡ j = cc in ap Ack same
   ack_only Req j e = absurd (cc)
   ack_only Oack j e = absurd (cc)
   ack_only (Data k) j e = absurd (cc)
-  ack_only (Error code message) j e = absurd (cc)
+  ack_only (Error code text) j e = absurd (cc)
 
   sent_of : (view : History) (x : Message) → Told m wire view Out x → (q : MachinePacket) × HasSent view q × (message_of m wire q ≡ x)
   sent_of view x (Sent q, at, way, says) = (q, at, says)

@@ -136,14 +136,14 @@ module _ (h : Header) (m : Meaning) (wire : List ℕ) (fits : Fits m wire) where
   main_read Oack d s = (message_of m wire Oack, s)
   main_read (Data k) d s = (message_of m wire (Data k), s)
   main_read (Ack j) d s = (message_of m wire (Ack j), s)
-  main_read (Error code message) d s = (message_of m wire (Error code message), s)
+  main_read (Error code text) d s = (message_of m wire (Error code text), s)
 
   main_of : (q : MachinePacket) → is_of_transfer (packet_route q) ≡ true
   main_of Req = refl
   main_of Oack = refl
   main_of (Data k) = refl
   main_of (Ack j) = refl
-  main_of (Error code message) = refl
+  main_of (Error code text) = refl
 
   asks_first : (e : End) → packet_of (request_at e) ≡ Req
   asks_first Client = refl
