@@ -5,3 +5,4 @@ pub mod FaultLines
 pub mod Lines
 pub mod Showing
 pub mod Unlawful
+pub mod AbortedLine

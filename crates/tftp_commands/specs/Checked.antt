@@ -13,10 +13,10 @@ use Rattle.tftp_judge.specs.TextVerdict.{EndsText, IsTextVerdict, MayFollowFailu
 use Rattle.tftp_law.specs.declared.rule.Rule.{Rule}
 use Rattle.tftp_law.specs.declared.rule.Rule.TheVariants.{Malformed}
 use Rattle.tftp_judge.specs.declared.verdict.Verdict.{Verdict}
-use Rattle.tftp_judge.specs.declared.verdict.Verdict.TheVariants.{Accepted, Unlawful, Incomplete, NormalTooLong}
+use Rattle.tftp_judge.specs.declared.verdict.Verdict.TheVariants.{Accepted, Unlawful, Aborted, Incomplete, NormalTooLong}
 use Rattle.tftp_commands.specs.declared.status.Status.{Status}
 use Rattle.tftp_commands.specs.declared.status.Status.TheVariants as status
-use Rattle.tftp_commands.specs.Names.{packet_fault_name, side_name}
+use Rattle.tftp_commands.specs.Names.{by_name, packet_fault_name, side_name}
 use Rattle.tftp_commands.specs.Output.{Output, fault_line}
 use Rattle.tftp_commands.specs.Source.{Source}
 
@@ -37,6 +37,7 @@ detail _ = []
 abbrev pub verdict_line : Verdict → List ℕ
 verdict_line (Accepted m) = accepted_line m
 verdict_line (Unlawful index rule) = codes "refused datagram " ++ decimal index ++ codes " rule " ++ decimal (number_of rule) ++ codes " " ++ rule_name rule ++ detail rule ++ codes "\n"
+verdict_line (Aborted by code) = codes "aborted by " ++ by_name by ++ codes " code " ++ decimal code ++ codes "\n"
 verdict_line (Incomplete count) = codes "incomplete after " ++ decimal count ++ codes "\n"
 verdict_line NormalTooLong = codes "too long when normal\n"
 
@@ -44,6 +45,7 @@ verdict_line NormalTooLong = codes "too long when normal\n"
 abbrev pub verdict_status : Verdict → Status
 verdict_status (Accepted m) = status.Success
 verdict_status (Unlawful index rule) = status.Refused
+verdict_status (Aborted by code) = status.Refused
 verdict_status (Incomplete count) = status.Refused
 verdict_status NormalTooLong = status.Refused
 

@@ -6,10 +6,16 @@ use Rattle.tftp_packet.specs.declared.fault.PacketFault.{PacketFault}
 use Rattle.tftp_packet.specs.declared.fault.PacketFault.TheVariants.{Short, Opcode, AckLength, NoTerminator, OddOptions, EmptyOptionName, DuplicateOption, UnknownMode, MailMode, RequestTooLong}
 use Rattle.tftp_capture.specs.declared.fault.TextFault.{TextFault}
 use Rattle.tftp_capture.specs.declared.fault.TextFault.TheVariants.{BadHeader, BadEnd, BadService, LineTooLong, BadLine, BadPort, BadHost, BadHex, PayloadTooLong, TotalWrong, Truncated, TrailingText, TextTooLong}
+use Rattle.tftp_law.specs.declared.by.By.{By}
+use Rattle.tftp_law.specs.declared.by.By.TheVariants.{Local, Peer}
 
 abbrev pub side_name : Side → List ℕ
 side_name Get = codes "get"
 side_name Put = codes "put"
+
+abbrev pub by_name : By → List ℕ
+by_name Local = codes "local"
+by_name Peer = codes "peer"
 
 abbrev pub request_name : Side → List ℕ
 request_name Get = codes "RRQ"

@@ -1,9 +1,10 @@
 ghost use Rattle.std.specs.Prelude.{◌≡◌};
 ghost use Rattle.tftp_packet.specs.Spelling.{mode_name as mode_word};
 ghost use Rattle.tftp_capture.specs.CaptureText.{dir_word};
-ghost use Rattle.tftp_commands.specs.Names.{packet_fault_name as packet_fault_word, request_name as request_word, side_name as side_word, text_fault_name as text_fault_word};
+ghost use Rattle.tftp_commands.specs.Names.{by_name as by_word, packet_fault_name as packet_fault_word, request_name as request_word, side_name as side_word, text_fault_name as text_fault_word};
 
 use tftp_capture::TextFault;
+use tftp_judge::By;
 use tftp_packet::{Dir, Mode, PacketFault, Side};
 
 /// The word that a verdict has for the side.
@@ -13,6 +14,16 @@ pub fn side_name(side: Side) -> &'static [u8]
     match side {
         Side::Get => b"get",
         Side::Put => b"put",
+    }
+}
+
+/// The word of the end that ended a transfer.
+pub fn by_name(by: By) -> &'static [u8]
+    ensures { result.now ≡ by_word by }
+{
+    match by {
+        By::Local => b"local",
+        By::Peer => b"peer",
     }
 }
 

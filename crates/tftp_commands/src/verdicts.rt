@@ -3,12 +3,12 @@ ghost use Rattle.tftp_capture.specs.Tally.{Adds};
 ghost use Rattle.tftp_judge.specs.declared.verdict.Verdict.{Verdict};
 ghost use Rattle.tftp_commands.specs.Checked.{accepted_line, detail, verdict_line, verdict_status};
 
-use crate::names::{mode_name, packet_fault_name, side_name};
+use crate::names::{by_name, mode_name, packet_fault_name, side_name};
 use crate::status::Status;
 use itoa::Buffer;
 use std::io::Write;
 use tftp_capture::{Gathered, Tallied, WriteFault};
-use tftp_judge::{Meaning, Rule, Verdict};
+use tftp_judge::{By, Meaning, Rule, Verdict};
 
 /// The status that goes with a verdict.
 pub fn status_of(verdict: &Verdict) -> Status
@@ -16,7 +16,8 @@ pub fn status_of(verdict: &Verdict) -> Status
 {
     match verdict {
         Verdict::Accepted(_) => Status::Success,
-        Verdict::Unlawful(..) | Verdict::Incomplete(_) | Verdict::NormalTooLong => Status::Refused,
+        Verdict::Unlawful(..) | Verdict::Aborted(..) => Status::Refused,
+        Verdict::Incomplete(_) | Verdict::NormalTooLong => Status::Refused,
     }
 }
 
@@ -32,6 +33,7 @@ pub fn put_verdict<W: Write>(
     match verdict {
         Verdict::Accepted(meaning) => put_accepted(gathered, writer, meaning),
         Verdict::Unlawful(index, rule) => put_unlawful(gathered, writer, *index, *rule),
+        Verdict::Aborted(by, code) => put_aborted(gathered, writer, *by, *code),
         Verdict::Incomplete(count) => put_incomplete(gathered, writer, *count),
         Verdict::NormalTooLong => gathered.add(writer, b"too long when normal\n"),
     }
@@ -99,6 +101,28 @@ fn detail_of(rule: Rule) -> (&'static [u8], &'static [u8])
         Rule::Malformed(fault) => (b" ", packet_fault_name(fault)),
         _ => (b"", b""),
     }
+}
+
+fn put_aborted<W: Write>(
+    gathered: &mut Gathered,
+    writer: &mut Tallied<W>,
+    by: By,
+    code: u16,
+) -> Result<(), WriteFault>
+    requires clean { writer.old.1 ≡ false }
+    ensures adds { Adds W.contents writer.old writer.new result gathered.old gathered.new (verdict_line (Verdict.Aborted by code)) }
+{
+    let mut buffer = Buffer::new();
+    gathered.add_all(
+        writer,
+        &[
+            b"aborted by ",
+            by_name(by),
+            b" code ",
+            buffer.format(code).as_bytes(),
+            b"\n",
+        ],
+    )
 }
 
 fn put_incomplete<W: Write>(

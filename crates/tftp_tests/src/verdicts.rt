@@ -2,9 +2,10 @@
 
 use std::test::Fail;
 use tftp_capture::{CaptureReader, Datagram, DripReader, Header, Tallied};
-use tftp_judge::{Rule, Verdict, judge};
+use tftp_judge::{By, Rule, Verdict, judge};
 use tftp_packet::{Mode, Side};
 
+mod errors;
 mod files;
 mod options;
 mod reads;
@@ -17,6 +18,7 @@ mod windows;
 pub enum Wanted {
     Accepted(Side, Mode, u64),
     Unlawful(u64, Rule),
+    Aborted(By, u16),
     Incomplete(u64),
     NormalTooLong,
 }
@@ -47,6 +49,7 @@ fn found_of(verdict: &Verdict) -> Wanted {
             Wanted::Accepted(request.side(), request.mode(), meaning.file().len() as u64)
         }
         Verdict::Unlawful(index, rule) => Wanted::Unlawful(*index, *rule),
+        Verdict::Aborted(by, code) => Wanted::Aborted(*by, *code),
         Verdict::Incomplete(count) => Wanted::Incomplete(*count),
         Verdict::NormalTooLong => Wanted::NormalTooLong,
     }

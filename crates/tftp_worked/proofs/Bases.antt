@@ -266,6 +266,43 @@ write_by_eight = record {
   lawful = write_by_eight_lawful;
 }
 
+-- ---- read_by_eight
+
+eight_read_all : AllAnswer (asks_for Get eight_a_block) eight_a_block
+eight_read_all = (eight_may_be_agreed (asks_for Get eight_a_block) refl).asked
+
+abbrev pub read_by_eight_asks : Spelled
+read_by_eight_asks = (asks (request 1 by_eight), Message.Request (asks_for Get eight_a_block))
+
+pub read_by_eight_request : Spells (request 1 by_eight) (Message.Request (asks_for Get eight_a_block))
+read_by_eight_request = request_spells Get by_eight eight_a_block refl eight_is
+
+pub read_by_eight_asked : OneEnded at_client (datagrams (read_by_eight_asks ∷ []))
+read_by_eight_asked = one_more at_client None [] read_by_eight_asks tt read_by_eight_request refl refl refl tt
+
+abbrev pub read_by_eight_oack : Spelled
+read_by_eight_oack = (comes (oack by_eight), Message.Oack eight_a_block)
+
+pub read_by_eight_agrees : Spells (oack by_eight) (Message.Oack eight_a_block)
+read_by_eight_agrees = oack_spells by_eight eight_a_block refl eight_is
+
+pub read_by_eight_lawful : OneEnded at_client (datagrams (read_by_eight_oack ∷ read_by_eight_asks ∷ []))
+read_by_eight_lawful =
+    first_oack at_client (Some (plain_terms at_client Get NoReply)) (read_by_eight_asks ∷ []) read_by_eight_oack (asks_for Get eight_a_block) eight_a_block (read_by_eight_request, tt) read_by_eight_agrees refl refl refl refl
+    (fine 28 (asks_for Get eight_a_block) eight_a_block (eight_read_all) (not_empty eight_a_block blksize 8 eight_for_blksize) (λ _. no_size (asks_for Get eight_a_block) eight_a_block (map.get-from_entries nat_list_cmp_total ((codes "blksize", Num 8) ∷ []) tsize))) refl read_by_eight_asked
+
+abbrev pub read_by_eight : Base at_client
+read_by_eight = record {
+  es = read_by_eight_oack ∷ read_by_eight_asks ∷ [];
+  spelled = (read_by_eight_agrees, (read_by_eight_request, tt));
+  asked = asks_for Get eight_a_block;
+  answer = Agrees eight_a_block;
+  fixed = record { request = refl; answered = refl };
+  terms = terms at_client (asks_for Get eight_a_block) (Some (Num 8)) (None) (None);
+  is = terms_are at_client (asks_for Get eight_a_block) eight_a_block (Some (Num 8)) (None) (None) (map.get-from_entries nat_list_cmp_total ((codes "blksize", Num 8) ∷ []) blksize) (map.get-from_entries nat_list_cmp_total ((codes "blksize", Num 8) ∷ []) windowsize) (map.get-from_entries nat_list_cmp_total ((codes "blksize", Num 8) ∷ []) tsize);
+  lawful = read_by_eight_lawful;
+}
+
 -- ---- read_of_ten
 
 abbrev pub read_of_ten_asks : Spelled

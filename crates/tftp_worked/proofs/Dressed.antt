@@ -13,7 +13,7 @@ use Rattle.tftp_ends.specs.CaptureText.{Datagram, Header, peer_of}
 use Rattle.tftp_ends.specs.Meaning.{Meaning, blksize_of, request_of}
 use Rattle.tftp_ends.specs.Blocks.{block}
 use Rattle.tftp_ends.specs.Ports.{same_peer}
-use Rattle.tftp_ends.specs.Machines.{MachinePacket, Req, Oack, Data, Ack, Deed, message_of, History}
+use Rattle.tftp_ends.specs.Machines.{MachinePacket, Req, Oack, Data, Ack, Error, Deed, message_of, History}
 use Rattle.tftp_law.specs.Sides.{server_port, from_server}
 use Rattle.tftp_law.specs.Dress.{Main, Placed, Division, datagrams_of, view_in, TransferIds, HasClientId, HasServerId, GoesToServer, dir_of, packet_of, HaveParts, IsDressed}
 use Rattle.tftp_law.proofs.Divided.{any_first, any_later}
@@ -66,6 +66,7 @@ says b m wire Req = Message.Request (request_of m)
 says b m wire Oack = Message.Oack m.agreed
 says b m wire (Data k) = Message.Data k (block b wire k)
 says b m wire (Ack j) = Message.Ack j
+says b m wire (Error code text) = Message.Error code text
 
 abbrev pub AllSpell : ℕ → Meaning → List ℕ → List Carried → Type 0
 AllSpell b m wire [] = Unit {0}
@@ -76,6 +77,7 @@ says_it m wire Req = refl
 says_it m wire Oack = refl
 says_it m wire (Data k) = refl
 says_it m wire (Ack j) = refl
+says_it m wire (Error code text) = refl
 
 dir_is : (a b : Dir) → same_dir a b ≡ true → a ≡ b
 dir_is In In e = refl
@@ -123,6 +125,7 @@ goes_is header ids earlier d Req e =
 goes_is header ids earlier d Oack e = other_goes header ids earlier d e
 goes_is header ids earlier d (Data k) e = other_goes header ids earlier d e
 goes_is header ids earlier d (Ack j) e = other_goes header ids earlier d e
+goes_is header ids earlier d (Error code text) e = other_goes header ids earlier d e
 
 parts_are : (header : Header) (m : Meaning) (wire : List ℕ) (ids : TransferIds) (cs : List Carried) → are_main header ids cs ≡ true → AllSpell (blksize_of m) m wire cs
     → HaveParts header m wire ids (division_of cs)

@@ -1,6 +1,6 @@
 -- What the tests of the rules tell: a datagram breaks none of them.
-use Rattle.std.proofs.Common.{◌≡◌, ◌≢◌, ◌⊎◌, ℕ, ◌+◌, ◌/◌, ◌%◌, ◌<◌, ◌≤◌, ◌==◌, ◌&&◌, ◌||◌, not, nat_lt, nat_le, zero, suc, Bool, true, false, List, [], ◌∷◌, length, Option, Some, None, option_map, inl, inr, refl, sym, subst, ap, ◌∙◌, arith}
-use Rattle.std.proofs.lemmas.Bool.{and_parts, or_cases, eqb-true, eq-eqb, leb-true, ltb-true, cases_lt, true≢false, false≢true}
+use Rattle.std.proofs.Common.{◌≡◌, ◌≢◌, ◌⊎◌, ℕ, ◌+◌, ◌/◌, ◌%◌, ◌<◌, ◌≤◌, ◌==◌, ◌&&◌, ◌||◌, not, nat_lt, nat_le, Bool, true, false, List, [], ◌∷◌, length, Option, Some, None, option_map, inl, inr, refl, sym, subst, ap, ◌∙◌, arith}
+use Rattle.std.proofs.lemmas.Bool.{and_parts, or_cases, eqb-true, eq-eqb, leb-true, ltb-true, true≢false, false≢true}
 use Rattle.std.proofs.lemmas.Slice.Eq.{bytes_eq-Decides}
 use Rattle.std.specs.Str.{bytes_eq}
 use Rattle.std.specs.List.{list_all, AllByRecursion}
@@ -14,26 +14,21 @@ use Rattle.tftp_packet.specs.declared.kinds.Dir.{Dir}
 use Rattle.tftp_packet.specs.declared.kinds.Dir.TheVariants.{In, Out}
 use Rattle.tftp_packet.proofs.NoFault.{no_fault}
 use Rattle.tftp_ends.specs.CaptureText.{Datagram, Header}
-use Rattle.tftp_ends.specs.Roles.{sender_of, receiver_of, author_of}
+use Rattle.tftp_ends.specs.Roles.{sender_of, author_of}
 use Rattle.tftp_ends.specs.Ports.{asks, first_of, route_of, transfer_of, SaysUnknownId}
 use Rattle.tftp_ends.specs.declared.route.Route.{Route}
-use Rattle.tftp_ends.specs.Rules.{Passed, HasPassed, BlockPassed, IsTop, IsHigh, IsLast, LastIsUnknown, IsNotLengthOf, HasWrongLength, BlocksWait, AckZeroWaits, IsSender, IsAckedAt, IsReachedAt, BlockBreaks, AckBreaks, EndBroken}
-use Rattle.tftp_ends.specs.declared.terms.Reply.{Reply}
-use Rattle.tftp_ends.specs.declared.terms.Reply.TheVariants.{NoReply, Plain, Oacked}
+use Rattle.tftp_ends.specs.Rules.{Passed, HasPassed, BlockPassed, IsTop, IsHigh, IsLast, LastIsUnknown, IsNotLengthOf, HasWrongLength, BlocksWait, AckZeroWaits, IsSender, IsAckedAt, IsReachedAt, BlockBreaks, AckBreaks, EndBroken, usable}
 use Rattle.tftp_ends.specs.declared.terms.Terms.{Terms}
 use Rattle.tftp_ends.specs.declared.rule.EndRule.{EndRule}
 use Rattle.tftp_nego.specs.declared.fault.NegoFault.{NegoFault}
-use Rattle.tftp_law.specs.Rules.{number_of, FirstAsked, Agrees, Begins, AreTerms, Says, IsWrongKind, FirstOack, EndBreaks, Broken}
+use Rattle.tftp_law.specs.Rules.{number_of, FirstAsked, Agrees, Begins, AreTerms, Says, IsError, IsWrongKind, FirstOack, EndBreaks, Broken}
 use Rattle.tftp_law.specs.declared.rule.Rule.{Rule}
 use Rattle.tftp_law.specs.OneEnded.{IsRead, Passes}
 use Rattle.tftp_law.proofs.Spelled.{spelled_once}
 use Rattle.tftp_worked.proofs.Payloads.{Spelled, datagrams, AllSpelled, all_from}
-use Rattle.tftp_worked.proofs.Passing.{main_of, every, some, every_is, some_is, first_asked, first_is, asked_by, asked_is, first_answer, answered_is}
-use Rattle.tftp_worked.proofs.RuleTests.{is_unknown_id, not_foreign, not_wrong, not_peer, answers_well, is_readable, not_error, not_request, not_oack, right_kind, kind_is_right, not_asked, not_begun, no_plain_answer, went_on, sent_no_block, is_ack_zero, is_block, same_end, is_sender, is_receiver, may_start, may_be_zero, size_fits, fits_last, fits_short, fits_size, is_some, is_short, is_below, may_be_last, length_fits, allows, in_window, reaches, is_next, not_above, not_changed, is_taken, taken_up_to, block_keeps, ack_keeps, end_keeps, is_main, keeps}
-
-unless : (b c : Bool) → b ≡ true → (not b || c) ≡ true → c ≡ true
-unless true c is t = t
-unless false c is t = absurd (false≢true is)
+use Rattle.tftp_worked.proofs.Passing.{main_of, main_is, main_spelled, used_of, all_used, used_is, every, some, every_is, some_is, first_asked, first_is, asked_by, asked_is, first_answer, answered_is}
+use Rattle.tftp_worked.proofs.KeptUsable.{unless, is_end, started, within, not_ahead, zero_may}
+use Rattle.tftp_worked.proofs.RuleTests.{is_unknown_id, not_foreign, not_wrong, not_peer, answers_well, is_readable, not_error, same_stop, may_precede, is_that, same_dir, not_request, not_oack, right_kind, kind_is_right, not_asked, not_begun, no_plain_answer, went_on, sent_no_block, is_sender, may_be_zero, size_fits, fits_last, fits_short, fits_size, is_some, is_short, is_below, may_be_last, length_fits, is_next, not_above, not_changed, block_keeps, ack_keeps, end_keeps, is_main, keeps}
 
 unknown_is : (d : Datagram) (m : Message) → Spells d.payload m → is_unknown_id m ≡ true → SaysUnknownId d
 unknown_is d (Message.Error code text) s t = (text, subst (λ c. Spells d.payload (Message.Error c text)) (eqb-true code 5 t) s)
@@ -41,6 +36,31 @@ unknown_is d (Message.Request r) s t = absurd (false≢true t)
 unknown_is d (Message.Oack o) s t = absurd (false≢true t)
 unknown_is d (Message.Data k bytes) s t = absurd (false≢true t)
 unknown_is d (Message.Ack j) s t = absurd (false≢true t)
+
+-- after an ERROR it is that one again, or what may have been sent before it
+dir_same : (dir : Dir) → same_dir dir dir ≡ true
+dir_same In = refl
+dir_same Out = refl
+
+is_that_one : (code : ℕ) (text : List ℕ) (now : Message) → is_that code text now ≡ true → now ≡ Message.Error code text
+is_that_one code text (Message.Error c words) t =
+    let parts = and_parts (c == code) (bytes_eq words text) t in
+    ap (λ n. Message.Error n words) (eqb-true c code parts.0) ∙ ap (Message.Error code) ((bytes_eq-Decides words text).0 parts.1)
+is_that_one code text (Message.Request r) t = absurd (false≢true t)
+is_that_one code text (Message.Oack o) t = absurd (false≢true t)
+is_that_one code text (Message.Data k bytes) t = absurd (false≢true t)
+is_that_one code text (Message.Ack j) t = absurd (false≢true t)
+
+not_before : (dir : Dir) (now : Message) → may_precede dir now ≡ true → (dir ≡ Out) ⊎ IsError now → ⊥
+not_before Out now t way = false≢true t
+not_before In now t (inl out) = absurd (cc)
+not_before In now t (inr (code, text, is)) = false≢true (subst (λ m. not_error m ≡ true) is t)
+
+same_again : (dir : Dir) (now : Message) (code : ℕ) (text : List ℕ) → same_stop dir now dir (Message.Error code text) ≡ true → (now ≡ Message.Error code text → ⊥) → (dir ≡ Out) ⊎ IsError now → ⊥
+same_again dir now code text t apart way = elim (or_cases (may_precede dir now) (is_that code text now) (unless (same_dir dir dir) (may_precede dir now || is_that code text now) (dir_same dir) t)) [
+  | inl before ↦ not_before dir now before way
+  | inr one ↦ apart (is_that_one code text now one)
+]
 
 wrong_kind : (a : End) (side : Side) (m : Message) → IsWrongKind a side m → right_kind a side m ≡ false
 wrong_kind Client Get (Message.Data k bytes) w = refl
@@ -63,12 +83,6 @@ wrong_kind Server Get (Message.Oack options) w = absurd w
 wrong_kind Server Put (Message.Oack options) w = absurd w
 wrong_kind Server Get (Message.Error code text) w = absurd w
 wrong_kind Server Put (Message.Error code text) w = absurd w
-
-is_end : (a b : End) → a ≡ b → same_end a b ≡ true
-is_end Client Client e = refl
-is_end Server Server e = refl
-is_end Client Server e = absurd (cc)
-is_end Server Client e = absurd (cc)
 
 differs : (x y : ℕ) → not (x == y) ≡ true → x ≡ y → ⊥
 differs x y t is = false≢true (subst (λ (b : Bool). not b ≡ true) (eq-eqb x y is) t)
@@ -101,6 +115,16 @@ module _ (h : Header) (es : List Spelled) (e : Spelled) (s : AllSpelled es) (her
   abbrev passed : List Datagram
   passed = transfer_of h (datagrams es)
 
+  -- of what the other end can have used
+  abbrev used : List Spelled
+  used = used_of (main_of h es)
+
+  used_spelled : AllSpelled used
+  used_spelled = all_used (main_of h es) (main_spelled h es s)
+
+  used_are : datagrams used ≡ usable passed
+  used_are = used_is (main_of h es) ∙ ap usable (main_is h es)
+
   every_here : (test : Dir → Message → Bool) (dir : Dir) (m : Message) → every test (main_of h es) ≡ true → Passed dir m passed → test dir m ≡ true
   every_here test dir m t p = every_is h es test dir m s t p
 
@@ -121,21 +145,6 @@ module _ (h : Header) (es : List Spelled) (e : Spelled) (s : AllSpelled es) (her
   passed_way : (dir : Dir) (m : Message) → Passed dir m passed → HasPassed m passed
   passed_way In m p = inl p
   passed_way Out m p = inr p
-
-  zero_acked : (dir : Dir) (m : Message) → is_ack_zero dir m ≡ true → Passed dir m passed → HasPassed (Message.Ack 0) passed
-  zero_acked dir (Message.Ack j) t p = subst (λ n. HasPassed (Message.Ack n) passed) (eqb-true j 0 t) (passed_way dir (Message.Ack j) p)
-  zero_acked dir (Message.Data k bytes) t p = absurd (false≢true t)
-  zero_acked dir (Message.Request r) t p = absurd (false≢true t)
-  zero_acked dir (Message.Oack o) t p = absurd (false≢true t)
-  zero_acked dir (Message.Error code text) t p = absurd (false≢true t)
-
-  started : (side : Side) (reply : Reply) → may_start side reply (main_of h es) ≡ true → BlocksWait side reply passed → ⊥
-  started Get Oacked t wait = let p = some_here is_ack_zero t in wait (zero_acked p.0 p.1 p.2 p.3)
-  started Put NoReply t wait = false≢true t
-  started Get NoReply t wait = wait
-  started Get Plain t wait = wait
-  started Put Plain t wait = wait
-  started Put Oacked t wait = wait
 
   short_one : (u : Terms) (k long : ℕ) (last : ℕ) (bytes : List ℕ) → every (fits_short u k long) (main_of h es) ≡ true → HasPassed (Message.Data last bytes) passed → length bytes < u.blksize
       → fits_last u last k long ≡ true
@@ -196,53 +205,6 @@ module _ (h : Header) (es : List Spelled) (e : Spelled) (s : AllSpelled es) (her
         | inr (inr first) ↦ unknown_last u k long c.1 first.0 first.1 first.2.0 first.2.1 first.2.2
       ]
 
-  acked_in : (w k : ℕ) (dir : Dir) (m : Message) → allows In w k dir m ≡ true → Passed dir m passed → (a : ℕ) × Passed In (Message.Ack a) passed × (k ≤ a + w)
-  acked_in w k In (Message.Ack a) t p = (a, p, leb-true k (a + w) t)
-  acked_in w k Out (Message.Ack a) t p = absurd (false≢true t)
-  acked_in w k dir (Message.Data i bytes) t p = absurd (never dir t) where
-    never : (way : Dir) → allows In w k way (Message.Data i bytes) ≡ true → ⊥
-    never In u = false≢true u
-    never Out u = false≢true u
-  acked_in w k In (Message.Request r) t p = absurd (false≢true t)
-  acked_in w k Out (Message.Request r) t p = absurd (false≢true t)
-  acked_in w k In (Message.Oack o) t p = absurd (false≢true t)
-  acked_in w k Out (Message.Oack o) t p = absurd (false≢true t)
-  acked_in w k In (Message.Error code text) t p = absurd (false≢true t)
-  acked_in w k Out (Message.Error code text) t p = absurd (false≢true t)
-
-  acked_out : (w k : ℕ) (dir : Dir) (m : Message) → allows Out w k dir m ≡ true → Passed dir m passed → (a : ℕ) × Passed Out (Message.Ack a) passed × (k ≤ a + w)
-  acked_out w k Out (Message.Ack a) t p = (a, p, leb-true k (a + w) t)
-  acked_out w k In (Message.Ack a) t p = absurd (false≢true t)
-  acked_out w k In (Message.Data i bytes) t p = absurd (false≢true t)
-  acked_out w k Out (Message.Data i bytes) t p = absurd (false≢true t)
-  acked_out w k In (Message.Request r) t p = absurd (false≢true t)
-  acked_out w k Out (Message.Request r) t p = absurd (false≢true t)
-  acked_out w k In (Message.Oack o) t p = absurd (false≢true t)
-  acked_out w k Out (Message.Oack o) t p = absurd (false≢true t)
-  acked_out w k In (Message.Error code text) t p = absurd (false≢true t)
-  acked_out w k Out (Message.Error code text) t p = absurd (false≢true t)
-
-  within : (u : Terms) (k : ℕ) → in_window u (main_of h es) k ≡ true → (acked : ℕ) → IsAckedAt u passed acked → acked + u.windowsize < k → ⊥
-  within u k t acked is past = elim (or_cases (nat_le k u.windowsize) ((not (is_sender u) || some (allows In u.windowsize k) (main_of h es)) && (not (is_receiver u) || some (allows Out u.windowsize k) (main_of h es))) t) [
-    | inl low ↦ let most = leb-true k u.windowsize low in omega arith
-    | inr both ↦
-        let parts = and_parts (not (is_sender u) || some (allows In u.windowsize k) (main_of h es)) (not (is_receiver u) || some (allows Out u.windowsize k) (main_of h es)) both in
-        elim is [
-          | inl sends ↦
-              let p = some_here (allows In u.windowsize k) (unless (is_sender u) (some (allows In u.windowsize k) (main_of h es)) (is_end u.named (sender_of u.side) sends.0) parts.0) in
-              let a = acked_in u.windowsize k p.0 p.1 p.2 p.3 in
-              let low = sends.1.most a.0 a.1 in
-              let high = a.2 in
-              omega arith
-          | inr takes ↦
-              let p = some_here (allows Out u.windowsize k) (unless (is_receiver u) (some (allows Out u.windowsize k) (main_of h es)) (is_end u.named (receiver_of u.side) takes.0) parts.1) in
-              let a = acked_out u.windowsize k p.0 p.1 p.2 p.3 in
-              let low = takes.1.most a.0 a.1 in
-              let high = a.2 in
-              omega arith
-        ]
-  ]
-
   next_block : (k : ℕ) (dir : Dir) (m : Message) → is_next k dir m ≡ true → Passed dir m passed → (j : ℕ) × BlockPassed Out j passed × (k ≤ j + 1)
   next_block k Out (Message.Data j bytes) t p = (j, (bytes, p), leb-true k (j + 1) t)
   next_block k In (Message.Data j bytes) t p = absurd (false≢true t)
@@ -282,14 +244,14 @@ module _ (h : Header) (es : List Spelled) (e : Spelled) (s : AllSpelled es) (her
   ]
 
   block_kept : (u : Terms) (k : ℕ) (bytes : List ℕ) (rule : EndRule) → block_keeps u (main_of h es) k bytes rule ≡ true → BlockBreaks u passed k bytes rule → ⊥
-  block_kept u k bytes EndRule.NotStarted t b = started u.side u.reply t b
+  block_kept u k bytes EndRule.NotStarted t b = started used used_spelled u.side u.reply t (subst (BlocksWait u.side u.reply) (sym used_are) b)
   block_kept u k bytes EndRule.BlockZero t b = differs k 0 t b
   block_kept u k bytes EndRule.BeyondBlock65535 t b = elim (or_cases (not (k == 65535)) (nat_lt (length bytes) u.blksize) t) [
     | inl other ↦ differs k 65535 other b.0
     | inr short ↦ let less = ltb-true (length bytes) u.blksize short in let most = b.1 in omega arith
   ]
   block_kept u k bytes EndRule.BlockLength t b = right_length u k (length bytes) t b
-  block_kept u k bytes EndRule.WindowOverrun t b = within u k t b.0 b.1 b.2
+  block_kept u k bytes EndRule.WindowOverrun t b = within used used_spelled u k t b.0 (subst (λ ds. IsAckedAt u ds b.0) (sym used_are) b.1) b.2
   block_kept u k bytes EndRule.BlockSkipped t b = not_skipped u k t b.0 b.1.0 b.1.1 b.1.2
   block_kept u k bytes EndRule.GoneBack t b = not_back u k t b.0 b.1 b.2.0 b.2.1 b.2.2
   block_kept u k bytes EndRule.BlockChanged t b = unchanged k bytes b.0 t b.1 b.2
@@ -298,79 +260,11 @@ module _ (h : Header) (es : List Spelled) (e : Spelled) (s : AllSpelled es) (her
 
   -- ---- of acknowledgements
 
-  reached_block : (k : ℕ) (dir : Dir) (m : Message) → reaches k dir m ≡ true → Passed dir m passed → (j : ℕ) × BlockPassed Out j passed × (k ≤ j)
-  reached_block k Out (Message.Data j bytes) t p = (j, (bytes, p), leb-true k j t)
-  reached_block k In (Message.Data j bytes) t p = absurd (false≢true t)
-  reached_block k In (Message.Ack j) t p = absurd (false≢true t)
-  reached_block k Out (Message.Ack j) t p = absurd (false≢true t)
-  reached_block k In (Message.Request r) t p = absurd (false≢true t)
-  reached_block k Out (Message.Request r) t p = absurd (false≢true t)
-  reached_block k In (Message.Oack o) t p = absurd (false≢true t)
-  reached_block k Out (Message.Oack o) t p = absurd (false≢true t)
-  reached_block k In (Message.Error code text) t p = absurd (false≢true t)
-  reached_block k Out (Message.Error code text) t p = absurd (false≢true t)
-
-  taken_block : (k : ℕ) (dir : Dir) (m : Message) → is_taken k dir m ≡ true → Passed dir m passed → BlockPassed In k passed
-  taken_block k In (Message.Data j bytes) t p = subst (λ n. BlockPassed In n passed) (sym (eqb-true k j t)) (bytes, p)
-  taken_block k Out (Message.Data j bytes) t p = absurd (false≢true t)
-  taken_block k In (Message.Ack j) t p = absurd (false≢true t)
-  taken_block k Out (Message.Ack j) t p = absurd (false≢true t)
-  taken_block k In (Message.Request r) t p = absurd (false≢true t)
-  taken_block k Out (Message.Request r) t p = absurd (false≢true t)
-  taken_block k In (Message.Oack o) t p = absurd (false≢true t)
-  taken_block k Out (Message.Oack o) t p = absurd (false≢true t)
-  taken_block k In (Message.Error code text) t p = absurd (false≢true t)
-  taken_block k Out (Message.Error code text) t p = absurd (false≢true t)
-
-  taken_below : (j : ℕ) → taken_up_to (main_of h es) j ≡ true → (k : ℕ) → 1 ≤ k → k ≤ j → BlockPassed In k passed
-  taken_below zero t k low high = absurd (omega arith)
-  taken_below (suc j) t k low high =
-      let parts = and_parts (some (is_taken (suc j)) (main_of h es)) (taken_up_to (main_of h es) j) t in
-      elim (cases_lt k (suc j)) [
-        | inl below ↦ taken_below j parts.1 k low (omega arith)
-        | inr at ↦
-            let p = some_here (is_taken (suc j)) parts.0 in
-            let is : suc j ≡ k = omega arith in
-            subst (λ n. BlockPassed In n passed) is (taken_block (suc j) p.0 p.1 p.2 p.3)
-      ]
-
-  not_ahead : (u : Terms) (j : ℕ) → (j == 0 || ((not (is_sender u) || some (reaches j) (main_of h es)) && (not (is_receiver u) || taken_up_to (main_of h es) j))) ≡ true
-      → (reached : ℕ) → IsReachedAt u passed reached → reached < j → ⊥
-  not_ahead u j t reached is past = elim (or_cases (j == 0) ((not (is_sender u) || some (reaches j) (main_of h es)) && (not (is_receiver u) || taken_up_to (main_of h es) j)) t) [
-    | inl none ↦ let low = eqb-true j 0 none in omega arith
-    | inr both ↦
-        let parts = and_parts (not (is_sender u) || some (reaches j) (main_of h es)) (not (is_receiver u) || taken_up_to (main_of h es) j) both in
-        elim is [
-          | inl sends ↦
-              let p = some_here (reaches j) (unless (is_sender u) (some (reaches j) (main_of h es)) (is_end u.named (sender_of u.side) sends.0) parts.0) in
-              let k = reached_block j p.0 p.1 p.2 p.3 in
-              let most = sends.1.most k.0 k.1 in
-              let high = k.2 in
-              omega arith
-          | inr takes ↦ takes.1.next (taken_below j (unless (is_receiver u) (taken_up_to (main_of h es) j) (is_end u.named (receiver_of u.side) takes.0) parts.1) (reached + 1) (omega arith) (omega arith))
-        ]
-  ]
-
-  block_there : (dir : Dir) (m : Message) → is_block dir m ≡ true → Passed dir m passed → (k : ℕ) × (bytes : List ℕ) × HasPassed (Message.Data k bytes) passed
-  block_there dir (Message.Data k bytes) t p = (k, bytes, passed_way dir (Message.Data k bytes) p)
-  block_there dir (Message.Ack j) t p = absurd (false≢true t)
-  block_there dir (Message.Request r) t p = absurd (false≢true t)
-  block_there dir (Message.Oack o) t p = absurd (false≢true t)
-  block_there dir (Message.Error code text) t p = absurd (false≢true t)
-
-  zero_may : (side : Side) (reply : Reply) → may_be_zero side reply (main_of h es) ≡ true → AckZeroWaits side reply passed → ⊥
-  zero_may Get NoReply t wait = false≢true t
-  zero_may Get Plain t wait = false≢true t
-  zero_may Put Oacked t wait = let p = some_here is_block t in let k = block_there p.0 p.1 p.2 p.3 in wait k.0 k.1 k.2
-  zero_may Get Oacked t wait = wait
-  zero_may Put NoReply t wait = wait
-  zero_may Put Plain t wait = wait
-
   ack_kept : (u : Terms) (j : ℕ) (rule : EndRule) → ack_keeps u (main_of h es) j rule ≡ true → AckBreaks u passed j rule → ⊥
-  ack_kept u j EndRule.AckAhead t b = not_ahead u j t b.0 b.1 b.2
-  ack_kept u j EndRule.AckZero t b = elim (or_cases (not (j == 0)) (may_be_zero u.side u.reply (main_of h es)) t) [
+  ack_kept u j EndRule.AckAhead t b = not_ahead used used_spelled u j t b.0 (subst (λ ds. IsReachedAt u ds b.0) (sym used_are) b.1) b.2
+  ack_kept u j EndRule.AckZero t b = elim (or_cases (not (j == 0)) (may_be_zero u.side u.reply used) t) [
     | inl other ↦ differs j 0 other b.0
-    | inr may ↦ zero_may u.side u.reply may b.1
+    | inr may ↦ zero_may used used_spelled u.side u.reply may (subst (AckZeroWaits u.side u.reply) (sym used_are) b.1)
   ]
   ack_kept u j EndRule.NotStarted t b = b
   ack_kept u j EndRule.BlockZero t b = b
@@ -426,9 +320,12 @@ module _ (h : Header) (es : List Spelled) (e : Spelled) (s : AllSpelled es) (her
       (subst (λ o. kind_is_right (author_of h.named e.0.dir) o e.1 ≡ true) (asked_here asked first) right) in
       true≢false (sym now ∙ wrong_kind (author_of h.named e.0.dir) asked.side m wrong)
 
-  no_error : (not (is_main h es e) || not_error e.1) ≡ true → Broken h (datagrams es) e.0 Rule.TransferAborted → ⊥
-  no_error t (code, text, says) =
-      false≢true (subst (λ x. not_error x ≡ true) (says_is (Message.Error code text) says) (says_main (Message.Error code text) (not_error e.1) says t))
+  silent : (not (is_main h es e) || every (same_stop e.0.dir e.1) (main_of h es)) ≡ true → Broken h (datagrams es) e.0 Rule.AfterError → ⊥
+  silent t (now, says, (stop, (code, text, is), went, apart, way)) =
+      let test = says_main now (every (same_stop e.0.dir e.1) (main_of h es)) says t in
+      let here : same_stop e.0.dir e.1 e.0.dir (Message.Error code text) ≡ true = every_here (same_stop e.0.dir e.1) e.0.dir (Message.Error code text) test (subst (λ x. Passed e.0.dir x passed) is went) in
+      let same : e.1 ≡ now = says_is now says in
+      same_again e.0.dir now code text (subst (λ x. same_stop e.0.dir x e.0.dir (Message.Error code text) ≡ true) same here) (λ one. apart (one ∙ sym is)) way
 
   first_request : (not (is_main h es e) || (not_request e.1 || not_asked (asked_by (first_asked h es)))) ≡ true → Broken h (datagrams es) e.0 Rule.RequestChanged → ⊥
   first_request t (first, now, asked, says, other) =
@@ -508,7 +405,7 @@ module _ (h : Header) (es : List Spelled) (e : Spelled) (s : AllSpelled es) (her
     kept n o Rule.NoRequest low k b = has_request k b.0 b.1
     kept n o (Rule.Malformed fault) low k b = no_fault e.0.payload e.1 fault here.1 b.1.0
     kept n o Rule.WrongKind low k b = not_wrong_kind k b
-    kept n o Rule.TransferAborted low k b = no_error k b
+    kept n o Rule.AfterError low k b = silent k b
     kept n o Rule.RequestChanged low k b = first_request k b
     kept n o Rule.RequestAfterStart low k b = early_request k b
     kept n o Rule.ReplyChanged low k b = not_plain k b
@@ -539,7 +436,7 @@ all_rules =
     ∷ Rule.StrayAnswer
     ∷ Rule.NoRequest
     ∷ Rule.WrongKind
-    ∷ Rule.TransferAborted
+    ∷ Rule.AfterError
     ∷ Rule.RequestChanged
     ∷ Rule.RequestAfterStart
     ∷ Rule.ReplyChanged
@@ -584,7 +481,7 @@ kept_of_all n h t es e is rule =
     by all Rule.StrayAnswer = all.1.1.0
     by all Rule.NoRequest = all.1.1.1.0
     by all Rule.WrongKind = all.1.1.1.1.0
-    by all Rule.TransferAborted = all.1.1.1.1.1.0
+    by all Rule.AfterError = all.1.1.1.1.1.0
     by all Rule.RequestChanged = all.1.1.1.1.1.1.0
     by all Rule.RequestAfterStart = all.1.1.1.1.1.1.1.0
     by all Rule.ReplyChanged = all.1.1.1.1.1.1.1.1.0
@@ -619,7 +516,7 @@ below_all Rule.WrongPort = omega arith
 below_all Rule.StrayAnswer = omega arith
 below_all Rule.NoRequest = omega arith
 below_all Rule.WrongKind = omega arith
-below_all Rule.TransferAborted = omega arith
+below_all Rule.AfterError = omega arith
 below_all Rule.RequestChanged = omega arith
 below_all Rule.RequestAfterStart = omega arith
 below_all Rule.ReplyChanged = omega arith

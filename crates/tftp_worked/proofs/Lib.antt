@@ -12,11 +12,16 @@ mod Meant
 mod Unlawful
 mod Passing
 mod RuleTests
+mod KeptUsable
 mod Kept
 mod Chains
 mod Options
 mod Bases
 mod Refused
 mod RefusedMore
+mod RefusedErrors
+mod Unfinished
 mod Verdicts
 mod Accepted
+mod ErrorsShown
+mod ErrorVerdicts

@@ -1,5 +1,5 @@
 -- What a dressed capture says of the view and of the meaning, where each datagram goes between the same two ports and
--- spells something else than an ERROR.
+-- spells something else than an ERROR 5.
 use Rattle.std.proofs.Common.{◌≡◌, ℕ, List, [], ◌∷◌, ◌++◌, map as each, inl, inr, refl, sym, subst, ap, ◌∙◌}
 use Rattle.tftp_packet.specs.Message.{Message, RequestParts}
 use Rattle.tftp_packet.specs.Spelling.{Spells}
@@ -7,7 +7,7 @@ use Rattle.tftp_packet.specs.declared.kinds.Dir.{Dir}
 use Rattle.tftp_packet.specs.declared.kinds.Dir.TheVariants.{In, Out}
 use Rattle.tftp_ends.specs.CaptureText.{Datagram, Header, peer_of}
 use Rattle.tftp_ends.specs.Meaning.{Meaning, request_of}
-use Rattle.tftp_ends.specs.Machines.{MachinePacket, Req, Oack, Data, Ack, Deed, Sent, Took, message_of, History}
+use Rattle.tftp_ends.specs.Machines.{MachinePacket, Req, Oack, Data, Ack, Error, Deed, Sent, Took, message_of, History}
 use Rattle.tftp_law.specs.Dress.{Part, Main, Stray, StrayAnswer, Placed, Division, IsMain, datagrams_of, view_in, TransferIds, dir_of, packet_of, CarriesDeed, HasPart, HaveParts}
 use Rattle.tftp_worked.specs.Worked.{at_client}
 use Rattle.tftp_law.proofs.Spelled.{spelled_once}
@@ -20,7 +20,7 @@ packet_for (Message.Request request) = Req
 packet_for (Message.Oack options) = Oack
 packet_for (Message.Data k bytes) = Data k
 packet_for (Message.Ack j) = Ack j
-packet_for (Message.Error code text) = Req
+packet_for (Message.Error code text) = Error code text
 
 abbrev pub deed_for : Dir → Message → Deed
 deed_for Out message = Sent (packet_for message)
@@ -29,8 +29,8 @@ deed_for In message = Took (packet_for message)
 abbrev pub deeds_for : List Spelled → History
 deeds_for es = each (λ (e : Spelled). deed_for e.0.dir e.1) es
 
-abbrev pub IsNoError : Message → Type 0
-IsNoError message = (code : ℕ) (text : List ℕ) → message ≡ Message.Error code text → ⊥
+abbrev pub AnswersNoStray : Message → Type 0
+AnswersNoStray message = (text : List ℕ) → message ≡ Message.Error 5 text → ⊥
 
 abbrev pub AllMeant : Meaning → List ℕ → List Spelled → Type 0
 AllMeant m wire [] = Unit {0}
@@ -41,6 +41,7 @@ packet_is m wire Req message e = subst (λ x. Req ≡ packet_for x) e refl
 packet_is m wire Oack message e = subst (λ x. Oack ≡ packet_for x) e refl
 packet_is m wire (Data k) message e = subst (λ x. Data k ≡ packet_for x) e refl
 packet_is m wire (Ack j) message e = subst (λ x. Ack j ≡ packet_for x) e refl
+packet_is m wire (Error code text) message e = subst (λ x. Error code text ≡ packet_for x) e refl
 
 deed_is : (m : Meaning) (wire : List ℕ) (dir : Dir) (deed : Deed) (message : Message) → dir ≡ dir_of deed → message_of m wire (packet_of deed) ≡ message → deed ≡ deed_for dir message
 deed_is m wire Out (Sent p) message way e = ap Sent (packet_is m wire p message e)
@@ -60,15 +61,15 @@ carried_by header m wire ids earlier e deed h s =
     (ap Main (deed_is m wire e.0.dir deed e.1 h.dir says), subst (λ p. message_of m wire p ≡ e.1) is says)
 
 carried_is : (header : Header) (m : Meaning) (wire : List ℕ) (ids : TransferIds) (earlier : Division) (e : Spelled) (part : Part) → HasPart header m wire ids earlier e.0 part
-    → Spells e.0.payload e.1 → IsNoError e.1 → (e.0.dir ≡ In → peer_of e.0 ≡ ids.peer) → IsCarried m wire part e
+    → Spells e.0.payload e.1 → AnswersNoStray e.1 → (e.0.dir ≡ In → peer_of e.0 ≡ ids.peer) → IsCarried m wire part e
 carried_is header m wire ids earlier e (Main deed) h s apart near = carried_by header m wire ids earlier e deed h s
 carried_is header m wire ids earlier e Stray h s apart near = absurd (h.elsewhere (near h.dir))
-carried_is header m wire ids earlier e StrayAnswer h s apart near = absurd (apart 5 h.spells.0 (spelled_once e.0.payload e.1 (Message.Error 5 h.spells.0) s h.spells.1))
+carried_is header m wire ids earlier e StrayAnswer h s apart near = absurd (apart h.spells.0 (spelled_once e.0.payload e.1 (Message.Error 5 h.spells.0) s h.spells.1))
 
--- each is near: it comes from the peer, if it comes in, and is no ERROR
+-- each is near: it comes from the peer, if it comes in, and is no ERROR 5
 abbrev pub AllNear : TransferIds → List Spelled → Type 0
 AllNear ids [] = Unit {0}
-AllNear ids (e ∷ es) = IsNoError e.1 × (e.0.dir ≡ In → peer_of e.0 ≡ ids.peer) × AllNear ids es
+AllNear ids (e ∷ es) = AnswersNoStray e.1 × (e.0.dir ≡ In → peer_of e.0 ≡ ids.peer) × AllNear ids es
 
 pub all_meant : (header : Header) (m : Meaning) (wire : List ℕ) (ids : TransferIds) (es : List Spelled) (division : Division) → datagrams_of division ≡ datagrams es
     → HaveParts header m wire ids division → AllSpelled es → AllNear ids es → (view_in division ≡ deeds_for es) × AllMeant m wire es
@@ -95,6 +96,7 @@ oack_shows m wire ids q d options (Main (Took Req)) out way other h = absurd (ot
 oack_shows m wire ids q d options (Main (Took Oack)) out way other h = h.server.0
 oack_shows m wire ids q d options (Main (Took (Data k))) out way other h = h.server.0
 oack_shows m wire ids q d options (Main (Took (Ack j))) out way other h = h.server.0
+oack_shows m wire ids q d options (Main (Took (Error code text))) out way other h = h.server.0
 oack_shows m wire ids q d options (Main (Sent p)) out way other h = let e = sym way ∙ h.dir in absurd (cc)
 oack_shows m wire ids q d options Stray out way other h = elim (any_cases (λ (p : Placed). IsMain p.part × (p.datagram.dir ≡ In)) q [] h.after) [
   | inl first ↦ let e : Out ≡ In = sym out ∙ first.1 in absurd (cc)

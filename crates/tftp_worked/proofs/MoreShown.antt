@@ -101,7 +101,7 @@ eights_may_be_agreed = record {
   size = λ mode size e. absurd (no_size size e);
 }
 
-eights_fit : Fits ten_bytes ten_bytes.file
+pub eights_fit : Fits ten_bytes ten_bytes.file
 eights_fit = record {
   may_agree = eights_may_be_agreed;
   reads = refl;

@@ -1,13 +1,14 @@
 -- What has passed, read off a list of datagrams with what they spell, the newest first.
 use Rattle.std.proofs.Common.{◌≡◌, ◌&&◌, ◌||◌, ◌⊎◌, Bool, true, false, List, [], ◌∷◌, Option, Some, None, option_map, inl, inr, refl, sym, subst, ap, ◌∙◌, if◌then◌else◌}
+use Rattle.std.specs.List.{list_any}
 use Rattle.std.proofs.lemmas.Bool.{and_parts, or_cases, false≢true}
 use Rattle.tftp_packet.specs.Message.{Message, RequestParts}
 use Rattle.tftp_packet.specs.Spelling.{Spells}
 use Rattle.tftp_packet.specs.declared.kinds.Side.{Side}
 use Rattle.tftp_packet.specs.declared.kinds.Dir.{Dir}
 use Rattle.tftp_ends.specs.CaptureText.{Datagram, Header}
-use Rattle.tftp_ends.specs.Ports.{or_this, first_of, asks, route_of, is_of_transfer, transfer_of}
-use Rattle.tftp_ends.specs.Rules.{Passed}
+use Rattle.tftp_ends.specs.Ports.{goes_out, or_this, first_of, asks, route_of, is_of_transfer, transfer_of}
+use Rattle.tftp_ends.specs.Rules.{Passed, brings_error, usable}
 use Rattle.tftp_ends.specs.declared.terms.Terms.{Terms}
 use Rattle.tftp_ends.specs.declared.terms.Reply.TheVariants.{NoReply}
 use Rattle.tftp_law.specs.Rules.{FirstAsked, Answer, Answers, NotAnswered, FirstAnswer, plain_terms, terms_after, AreTerms}
@@ -41,6 +42,37 @@ pub main_spelled : (h : Header) (es : List Spelled) → AllSpelled es → AllSpe
 main_spelled h [] s = tt
 main_spelled h (e ∷ es) s = spelled_if (is_of_transfer (route_of h (datagrams es) e.0)) e (main_of h es) s.0 (main_spelled h es s.1)
 
+-- ---- what of them the other end can have used
+
+abbrev pub stopped_in : List Spelled → Bool
+stopped_in es = list_any (λ (e : Spelled). brings_error e.0) es
+
+-- none of what went out after an ERROR came in
+abbrev pub used_of : List Spelled → List Spelled
+used_of [] = []
+used_of (e ∷ es) = if goes_out e.0 && stopped_in es then used_of es else e ∷ used_of es
+
+stopped_is : (es : List Spelled) → stopped_in es ≡ list_any brings_error (datagrams es)
+stopped_is [] = refl
+stopped_is (e ∷ es) = ap (λ b. brings_error e.0 || b) (stopped_is es)
+
+used_if : (b : Bool) (e : Spelled) (es : List Spelled) (ds : List Datagram) → datagrams es ≡ ds → datagrams (if b then es else e ∷ es) ≡ (if b then ds else e.0 ∷ ds)
+used_if true e es ds is = is
+used_if false e es ds is = ap (λ xs. e.0 ∷ xs) is
+
+pub used_is : (es : List Spelled) → datagrams (used_of es) ≡ usable (datagrams es)
+used_is [] = refl
+used_is (e ∷ es) = used_if (goes_out e.0 && stopped_in es) e (used_of es) (usable (datagrams es)) (used_is es)
+    ∙ ap (λ b. if goes_out e.0 && b then usable (datagrams es) else e.0 ∷ usable (datagrams es)) (stopped_is es)
+
+all_if : (b : Bool) (e : Spelled) (es : List Spelled) → Spells e.0.payload e.1 → AllSpelled es → AllSpelled (if b then es else e ∷ es)
+all_if true e es s all = all
+all_if false e es s all = (s, all)
+
+pub all_used : (es : List Spelled) → AllSpelled es → AllSpelled (used_of es)
+all_used [] s = tt
+all_used (e ∷ es) s = all_if (goes_out e.0 && stopped_in es) e (used_of es) s.0 (all_used es s.1)
+
 -- ---- tests of what has passed
 
 abbrev pub every : (Dir → Message → Bool) → List Spelled → Bool
@@ -54,13 +86,13 @@ some test (e ∷ es) = test e.0.dir e.1 || some test es
 every_here : (test : Dir → Message → Bool) (e : Spelled) (dir : Dir) (m : Message) → Spells e.0.payload e.1 → (e.0.dir ≡ dir) × Spells e.0.payload m → test e.0.dir e.1 ≡ true → test dir m ≡ true
 every_here test e dir m s at t = subst (λ x. test x m ≡ true) at.0 (subst (λ x. test e.0.dir x ≡ true) (spelled_once e.0.payload e.1 m s at.1) t)
 
-every_in : (test : Dir → Message → Bool) (es : List Spelled) (dir : Dir) (m : Message) → AllSpelled es → every test es ≡ true → Passed dir m (datagrams es) → test dir m ≡ true
+pub every_in : (test : Dir → Message → Bool) (es : List Spelled) (dir : Dir) (m : Message) → AllSpelled es → every test es ≡ true → Passed dir m (datagrams es) → test dir m ≡ true
 every_in test [] dir m s t p = absurd p
 every_in test (e ∷ es) dir m s t p =
     let parts = and_parts (test e.0.dir e.1) (every test es) t in
     elim p [ inl here ↦ every_here test e dir m s.0 here parts.0 | inr before ↦ every_in test es dir m s.1 parts.1 before ]
 
-some_in : (test : Dir → Message → Bool) (es : List Spelled) → AllSpelled es → some test es ≡ true → (dir : Dir) × (m : Message) × (test dir m ≡ true) × Passed dir m (datagrams es)
+pub some_in : (test : Dir → Message → Bool) (es : List Spelled) → AllSpelled es → some test es ≡ true → (dir : Dir) × (m : Message) × (test dir m ≡ true) × Passed dir m (datagrams es)
 some_in test [] s t = absurd (false≢true t)
 some_in test (e ∷ es) s t = elim (or_cases (test e.0.dir e.1) (some test es) t) [
   | inl here ↦ (e.0.dir, e.1, here, inl (refl, s.0))

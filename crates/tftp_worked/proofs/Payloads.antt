@@ -13,6 +13,7 @@ use Rattle.tftp_packet.specs.Spelling.{Spells, side_opcode}
 use Rattle.tftp_packet.specs.declared.kinds.Side.{Side}
 use Rattle.tftp_packet.specs.declared.kinds.Mode.TheVariants.{Octet}
 use Rattle.tftp_worked.specs.WorkedWindows.{request, oack, block, ack, by_eight, by_four, by_two}
+use Rattle.tftp_worked.specs.WorkedErrors.{error}
 use Rattle.tftp_ends.specs.Worked.{eight_a_block}
 use Rattle.tftp_ends.specs.WorkedWindows.{eight_by_four}
 
@@ -130,6 +131,11 @@ pub ack_spells : (j : ℕ) → all_bytes (ack j) ≡ true → Spells (ack j) (Me
 ack_spells j e =
     let all = bytes_are (ack j) e in
     (all, (0, j, (omega arith, all.1.1.1.0, omega arith), refl))
+
+pub error_spells : (code : ℕ) (text : List ℕ) → all_bytes (error code text) ≡ true → is_string text ≡ true → Spells (error code text) (Message.Error code text)
+error_spells code text e strung =
+    let all = bytes_are (error code text) e in
+    (all, (0, code, (omega arith, all.1.1.1.0, omega arith), string_is text strung, refl))
 
 -- the maps of the worked options
 pub eight_is : eight_a_block ≡ map_of by_eight

@@ -4,7 +4,7 @@ use Rattle.tftp_packet.specs.Message.{Message, RequestParts}
 use Rattle.tftp_packet.specs.declared.kinds.Dir.TheVariants.{In, Out}
 use Rattle.tftp_ends.specs.Meaning.{Meaning, request_of, blksize_of}
 use Rattle.tftp_ends.specs.Blocks.{block}
-use Rattle.tftp_ends.specs.Machines.{Deed, Sent, Took, MachinePacket, Req, Oack, Data, Ack, History, message_of}
+use Rattle.tftp_ends.specs.Machines.{Deed, Sent, Took, MachinePacket, Req, Oack, Data, Ack, Error, History, message_of}
 use Rattle.tftp_ends.specs.Worked.{two_bytes}
 use Rattle.tftp_ends.specs.CaptureText.{Datagram, PeerId, peer_of}
 use Rattle.tftp_packet.specs.Spelling.{Spells}
@@ -43,6 +43,7 @@ asks : (m : Meaning) (wire : List ℕ) (ids : TransferIds) (part : Part) → Has
 asks m wire ids (Main (Sent Req)) h = (refl, same_parts _ _ (is_request m wire Req h.spells))
 asks m wire ids (Main (Sent Oack)) h = let e = is_request m wire Oack h.spells in absurd (cc)
 asks m wire ids (Main (Sent (Data k))) h = let e = is_request m wire (Data k) h.spells in absurd (cc)
+asks m wire ids (Main (Sent (Error code text))) h = let e = is_request m wire (Error code text) h.spells in absurd (cc)
 asks m wire ids (Main (Sent (Ack j))) h = let e = is_request m wire (Ack j) h.spells in absurd (cc)
 asks m wire ids (Main (Took p)) h = let e = h.dir in absurd (cc)
 asks m wire ids Stray h = let e = h.dir in absurd (cc)
@@ -55,6 +56,7 @@ brings m wire ids q (Main (Took (Data k))) is h =
     (ap (λ x. Main (Took (Data x))) e.0, subst (λ x. block (blksize_of m) wire x ≡ codes "hi") e.0 e.1, h.server.0)
 brings m wire ids q (Main (Took Req)) is h = let e = is_hi m wire Req h.spells in absurd (cc)
 brings m wire ids q (Main (Took Oack)) is h = let e = is_hi m wire Oack h.spells in absurd (cc)
+brings m wire ids q (Main (Took (Error code text))) is h = let e = is_hi m wire (Error code text) h.spells in absurd (cc)
 brings m wire ids q (Main (Took (Ack j))) is h = let e = is_hi m wire (Ack j) h.spells in absurd (cc)
 brings m wire ids q (Main (Sent p)) is h = let e = h.dir in absurd (cc)
 brings m wire ids q Stray is h = elim (any_cases _ q [] h.after) [
@@ -99,6 +101,7 @@ begun m wire ids division whole parts =
 -- then the ACK of block 1
 acknowledged_as : (m : Meaning) (wire : List ℕ) (ids : TransferIds) (earlier : Division) (part : Part) → Begun m wire ids earlier → HasPart at_client m wire ids earlier acknowledges_hi part → part ≡ Main (Sent (Ack 1))
 acknowledged_as m wire ids earlier (Main (Sent (Ack j))) b h = ap (λ x. Main (Sent (Ack x))) (same_number _ _ (is_ack m wire (Ack j) h.spells))
+acknowledged_as m wire ids earlier (Main (Sent (Error code text))) b h = let e = is_ack m wire (Error code text) h.spells in absurd (cc)
 acknowledged_as m wire ids earlier (Main (Sent Req)) b h = let e = is_ack m wire Req h.spells in absurd (cc)
 acknowledged_as m wire ids earlier (Main (Sent Oack)) b h = let e = is_ack m wire Oack h.spells in absurd (cc)
 acknowledged_as m wire ids earlier (Main (Sent (Data k))) b h = let e = is_ack m wire (Data k) h.spells in absurd (cc)
@@ -111,6 +114,7 @@ more_as : (m : Meaning) (wire : List ℕ) (ids : TransferIds) (earlier : Divisio
 more_as m wire ids earlier (Main (Took (Data k))) b h = ap (λ x. Main (Took (Data x))) (same_block _ _ _ _ (is_more m wire (Data k) h.spells)).0
 more_as m wire ids earlier (Main (Took Req)) b h = let e = is_more m wire Req h.spells in absurd (cc)
 more_as m wire ids earlier (Main (Took Oack)) b h = let e = is_more m wire Oack h.spells in absurd (cc)
+more_as m wire ids earlier (Main (Took (Error code text))) b h = let e = is_more m wire (Error code text) h.spells in absurd (cc)
 more_as m wire ids earlier (Main (Took (Ack j))) b h = let e = is_more m wire (Ack j) h.spells in absurd (cc)
 more_as m wire ids earlier (Main (Sent p)) b h = let e = h.dir in absurd (cc)
 more_as m wire ids earlier Stray b h = absurd (h.elsewhere b.server)

@@ -33,7 +33,7 @@ abbrev pub acked : ℕ → Spelled
 acked j = (comes (ack j), Message.Ack j)
 
 -- the greatest, by computation
-abbrev ack_up_to : ℕ → Dir → Message → Bool
+abbrev pub ack_up_to : ℕ → Dir → Message → Bool
 ack_up_to n Out (Message.Ack j) = nat_le j n
 ack_up_to n _ _ = true
 

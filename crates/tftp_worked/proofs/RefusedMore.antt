@@ -13,7 +13,6 @@ use Rattle.tftp_ends.specs.WorkedWindows.{eight_by_four}
 use Rattle.tftp_ends.proofs.WorkedWindows.{four_of_both}
 use Rattle.tftp_law.specs.Rules.{FirstAsked, Begins, Agrees, plain_terms, Broken}
 use Rattle.tftp_law.specs.declared.rule.Rule.{Rule}
-use Rattle.tftp_packet.specs.Spelling.{Spells}
 use Rattle.tftp_packet.specs.declared.kinds.Dir.{Dir}
 use Rattle.tftp_packet.specs.declared.kinds.Dir.TheVariants.{In}
 use Rattle.tftp_ends.specs.Ports.{transfer_of}
@@ -21,7 +20,7 @@ use Rattle.std.proofs.lemmas.Bool.{false≢true}
 use Rattle.tftp_law.specs.OneEnded.{OneEnded, IsRefused}
 use Rattle.tftp_worked.specs.Worked.{at_client, asks_for_a, brings_hi, acknowledges_two, read_without_its_ack}
 use Rattle.tftp_worked.specs.WorkedWindows.{request, block, ack, by_eight, by_four, answers, hears, is_asked, at_service}
-use Rattle.tftp_worked.specs.WorkedRules.{comes_from_elsewhere, before_answering, acknowledges_stray, acknowledges_nobody, comes_to_another_port, asks_for_size, too_many_blocks, only_asked, ack_zero, block_zero, before_changed_reply, agrees_to_four, before_taking_offer, agrees_to_eight, before_late_oack, late_oack, sized, says_not_found}
+use Rattle.tftp_worked.specs.WorkedRules.{comes_from_elsewhere, before_answering, acknowledges_stray, acknowledges_nobody, comes_to_another_port, asks_for_size, too_many_blocks, only_asked, ack_zero, block_zero, before_changed_reply, agrees_to_four, before_taking_offer, agrees_to_eight, before_late_oack, late_oack, sized}
 use Rattle.tftp_worked.proofs.Spelled.{request_spelled, hi_spelled}
 use Rattle.tftp_worked.proofs.Payloads.{Spelled, datagrams, AllSpelled, oack_spells, data_spells, ack_spells, eight_is}
 use Rattle.tftp_worked.proofs.Passing.{asked_there, unanswered_there, answered_there, every_is}
@@ -32,22 +31,22 @@ use Rattle.tftp_worked.proofs.Bases.{blksize, tsize, asks_for, eight_and_size, m
 
 -- ---- a read without options
 
-abbrev asked : RequestParts
+abbrev pub asked : RequestParts
 asked = request_of two_bytes
 
-abbrev plain_asks : Spelled
+abbrev pub plain_asks : Spelled
 plain_asks = (asks_for_a, Message.Request asked)
 
-abbrev plain_hi : Spelled
+abbrev pub plain_hi : Spelled
 plain_hi = (brings_hi, Message.Data 1 (codes "hi"))
 
 abbrev stray : Spelled
 stray = (comes_from_elsewhere, Message.Data 1 (codes "hi"))
 
-plain_asked : OneEnded at_client (datagrams (plain_asks ∷ []))
+pub plain_asked : OneEnded at_client (datagrams (plain_asks ∷ []))
 plain_asked = one_more at_client None [] plain_asks tt request_spelled refl refl refl tt
 
-plain_begun : OneEnded at_client (datagrams (plain_hi ∷ plain_asks ∷ []))
+pub plain_begun : OneEnded at_client (datagrams (plain_hi ∷ plain_asks ∷ []))
 plain_begun = one_more at_client (Some (plain_terms at_client Get NoReply)) (plain_asks ∷ []) plain_hi (request_spelled, tt) hi_spelled refl refl refl plain_asked
 
 astray : OneEnded at_client (datagrams (stray ∷ plain_hi ∷ plain_asks ∷ []))
@@ -86,7 +85,7 @@ unasked_refused = record {
   broken = record { broken = (refl, refl); first = none_under 4 at_client None [] plain_hi tt hi_spelled refl refl refl };
 }
 
-first_asked_is : FirstAsked at_client (reverse only_asked) asked
+pub first_asked_is : FirstAsked at_client (reverse only_asked) asked
 first_asked_is = (asks_for_a, refl, request_spelled)
 
 pub kind_refused : IsRefused at_client (reverse only_asked) ack_zero Rule.WrongKind
@@ -113,7 +112,7 @@ zero_block_refused = record {
   };
 }
 
--- ---- an ACK of a block that has not come, and an ERROR
+-- ---- an ACK of a block that has not come
 
 abbrev begun : List Spelled
 begun = plain_hi ∷ plain_asks ∷ []
@@ -140,18 +139,6 @@ ahead_refused = record {
       broken = (1, inr (refl, begun_front), omega arith);
     };
     first = none_under 26 at_client (Some (plain_terms at_client Get Plain)) begun (acknowledges_two, Message.Ack 2) (hi_spelled, (request_spelled, tt)) (ack_spells 2 refl) refl refl refl;
-  };
-}
-
-error_spelled : Spells says_not_found.payload (Message.Error 1 [])
-error_spelled = ((omega arith, (omega arith, (omega arith, (omega arith, (omega arith, tt))))), (0, 1, (omega arith, omega arith, omega arith), tt, refl))
-
-pub error_refused : IsRefused at_client (reverse only_asked) says_not_found Rule.TransferAborted
-error_refused = record {
-  lawful = plain_asked;
-  broken = record {
-    broken = (1, [], record { routed = refl; spells = error_spelled });
-    first = none_under 7 at_client (Some (plain_terms at_client Get NoReply)) (plain_asks ∷ []) (says_not_found, Message.Error 1 []) (request_spelled, tt) error_spelled refl refl refl;
   };
 }
 

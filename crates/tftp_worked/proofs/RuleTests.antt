@@ -19,7 +19,7 @@ use Rattle.tftp_ends.specs.declared.rule.EndRule.{EndRule}
 use Rattle.tftp_law.specs.Rules.{Answer, Begins}
 use Rattle.tftp_law.specs.declared.rule.Rule.{Rule}
 use Rattle.tftp_worked.proofs.Payloads.{Spelled, datagrams}
-use Rattle.tftp_worked.proofs.Passing.{main_of, every, some, first_asked, asked_by, first_answer}
+use Rattle.tftp_worked.proofs.Passing.{main_of, used_of, every, some, first_asked, asked_by, first_answer}
 
 abbrev pub is_unknown_id : Message → Bool
 is_unknown_id (Message.Error code text) = code == 5
@@ -52,6 +52,25 @@ is_readable _ m = false
 abbrev pub not_error : Message → Bool
 not_error (Message.Error code text) = false
 not_error _ = true
+
+abbrev pub same_dir : Dir → Dir → Bool
+same_dir In In = true
+same_dir Out Out = true
+same_dir _ _ = false
+
+abbrev pub is_that : ℕ → List ℕ → Message → Bool
+is_that code text (Message.Error c words) = c == code && bytes_eq words text
+is_that code text _ = false
+
+-- what comes in and is no ERROR may have been sent before the ERROR
+abbrev pub may_precede : Dir → Message → Bool
+may_precede In now = not_error now
+may_precede Out now = false
+
+-- after an ERROR that went this way
+abbrev pub same_stop : Dir → Message → Dir → Message → Bool
+same_stop dir now way (Message.Error code text) = not (same_dir dir way) || (may_precede dir now || is_that code text now)
+same_stop dir now way _ = true
 
 abbrev pub not_request : Message → Bool
 not_request (Message.Request request) = false
@@ -195,11 +214,11 @@ taken_up_to ts zero = true
 taken_up_to ts (suc j) = some (is_taken (suc j)) ts && taken_up_to ts j
 
 abbrev pub block_keeps : Terms → List Spelled → ℕ → List ℕ → EndRule → Bool
-block_keeps t ts k bytes EndRule.NotStarted = may_start t.side t.reply ts
+block_keeps t ts k bytes EndRule.NotStarted = may_start t.side t.reply (used_of ts)
 block_keeps t ts k bytes EndRule.BlockZero = not (k == 0)
 block_keeps t ts k bytes EndRule.BeyondBlock65535 = not (k == 65535) || nat_lt (length bytes) t.blksize
 block_keeps t ts k bytes EndRule.BlockLength = length_fits t ts k (length bytes)
-block_keeps t ts k bytes EndRule.WindowOverrun = in_window t ts k
+block_keeps t ts k bytes EndRule.WindowOverrun = in_window t (used_of ts) k
 block_keeps t ts k bytes EndRule.BlockSkipped = not (is_sender t) || (nat_le k 1 || some (is_next k) ts)
 block_keeps t ts k bytes EndRule.GoneBack = not (is_sender t) || (not (t.windowsize == 1) || every (not_above k) ts)
 block_keeps t ts k bytes EndRule.BlockChanged = every (not_changed k bytes) ts
@@ -207,8 +226,8 @@ block_keeps t ts k bytes EndRule.AckAhead = true
 block_keeps t ts k bytes EndRule.AckZero = true
 
 abbrev pub ack_keeps : Terms → List Spelled → ℕ → EndRule → Bool
-ack_keeps t ts j EndRule.AckAhead = j == 0 || ((not (is_sender t) || some (reaches j) ts) && (not (is_receiver t) || taken_up_to ts j))
-ack_keeps t ts j EndRule.AckZero = not (j == 0) || may_be_zero t.side t.reply ts
+ack_keeps t ts j EndRule.AckAhead = j == 0 || ((not (is_sender t) || some (reaches j) (used_of ts)) && (not (is_receiver t) || taken_up_to (used_of ts) j))
+ack_keeps t ts j EndRule.AckZero = not (j == 0) || may_be_zero t.side t.reply (used_of ts)
 ack_keeps t ts j _ = true
 
 abbrev pub end_keeps : Option Terms → List Spelled → Message → EndRule → Bool
@@ -227,7 +246,7 @@ keeps h t es e Rule.StrayAnswer = answers_well (route_of h (datagrams es) e.0) e
 keeps h t es e Rule.NoRequest = not (not_asked (asked_by (first_asked h es))) || not_peer (route_of h (datagrams es) e.0)
 keeps h t es e (Rule.Malformed fault) = true
 keeps h t es e Rule.WrongKind = not (is_main h es e) || kind_is_right (author_of h.named e.0.dir) (asked_by (first_asked h es)) e.1
-keeps h t es e Rule.TransferAborted = not (is_main h es e) || not_error e.1
+keeps h t es e Rule.AfterError = not (is_main h es e) || every (same_stop e.0.dir e.1) (main_of h es)
 keeps h t es e Rule.RequestChanged = not (is_main h es e) || (not_request e.1 || not_asked (asked_by (first_asked h es)))
 keeps h t es e Rule.RequestAfterStart = not (is_main h es e) || (not_request e.1 || every went_on (main_of h es))
 keeps h t es e Rule.ReplyChanged = not (is_main h es e) || (not_oack e.1 || no_plain_answer (asked_by (first_asked h es)) (main_of h es))

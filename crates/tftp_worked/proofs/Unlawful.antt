@@ -64,21 +64,21 @@ server = record { host = server_host; port = 41000 }
 
 overrun_near : (ids : TransferIds) → server ≡ ids.peer → AllNear ids overrun
 overrun_near ids e = (
-  λ code text is. cc,
+  λ text is. cc,
   λ _. e,
   (
-    λ code text is. cc,
+    λ text is. cc,
     λ _. e,
     (
-      λ code text is. cc,
+      λ text is. cc,
       λ _. e,
       (
-        λ code text is. cc,
+        λ text is. cc,
         λ _. e,
         (
-          λ code text is. cc,
+          λ text is. cc,
           λ _. e,
-          (λ code text is. cc, λ _. e, (λ code text is. cc, λ _. e, (λ code text is. cc, λ way. absurd (cc), tt))),
+          (λ text is. cc, λ _. e, (λ text is. cc, λ _. e, (λ text is. cc, λ way. absurd (cc), tt))),
         ),
       ),
     ),
@@ -144,7 +144,7 @@ pub skips_spelled : AllSpelled skips
 skips_spelled = (data_spells 2 (codes "22222222") refl, (oack_spells by_two eight_by_two refl two_is, (request_spells Put by_two eight_by_two refl two_is, tt)))
 
 skips_near : (ids : TransferIds) → server ≡ ids.peer → AllNear ids skips
-skips_near ids e = (λ code text is. cc, λ _. e, (λ code text is. cc, λ _. e, (λ code text is. cc, λ way. absurd (cc), tt)))
+skips_near ids e = (λ text is. cc, λ _. e, (λ text is. cc, λ _. e, (λ text is. cc, λ way. absurd (cc), tt)))
 
 abbrev is_not_first : MachinePacket → Bool
 is_not_first p = not (same_packet p (Data 1))

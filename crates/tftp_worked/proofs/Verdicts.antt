@@ -8,7 +8,11 @@ use Rattle.tftp_law.specs.declared.rule.Rule.{Rule}
 use Rattle.tftp_law.specs.Law.{Shows}
 use Rattle.tftp_judge.specs.Verdict.{IsVerdict, IsVerdictByRules}
 use Rattle.tftp_judge.specs.declared.verdict.Verdict.TheVariants.{Accepted, Unlawful, Incomplete}
+use Rattle.tftp_law.specs.Aborted.{IsNotAborted}
 use Rattle.tftp_worked.specs.Worked.{at_client, one_block_read, read_without_its_ack}
+use Rattle.tftp_worked.proofs.RefusedMore.{plain_asks, plain_hi}
+use Rattle.tftp_worked.proofs.RefusedErrors.{begun_spelled}
+use Rattle.tftp_worked.proofs.Unfinished.{no_errors}
 use Rattle.tftp_worked.specs.WorkedWindows.{window_out_of_order, before_overrun, block_seven}
 use Rattle.tftp_law.proofs.Beginnings.{shown_is_lawful}
 use Rattle.tftp_law.proofs.FirstBroken.{refused_does_not_pass}
@@ -18,7 +22,7 @@ use Rattle.tftp_worked.proofs.Unlawful.{overrun_is_first, overrun_is_unlawful}
 use Rattle.tftp_worked.proofs.Refused.{overrun_refused}
 use Rattle.tftp_worked.proofs.Accepted.{plain_passes, plain_meant}
 
-accepted : (header : Header) (m : Meaning) (datagrams : List Datagram) → Shows header m datagrams → IsVerdict header datagrams (Accepted m)
+pub accepted : (header : Header) (m : Meaning) (datagrams : List Datagram) → Shows header m datagrams → IsVerdict header datagrams (Accepted m)
 accepted header m datagrams shows = (shown_is_lawful header m datagrams shows, (shows.wire, shows.shown), shows.writable)
 
 pub read_accepted : IsVerdict at_client one_block_read (Accepted two_bytes)
@@ -27,8 +31,11 @@ read_accepted = accepted at_client two_bytes one_block_read read_is_shown
 pub window_accepted : IsVerdict at_client window_out_of_order (Accepted six_blocks)
 window_accepted = accepted at_client six_blocks window_out_of_order six_shown
 
+begin_has_no_error : IsNotAborted at_client (reverse read_without_its_ack)
+begin_has_no_error = no_errors (plain_hi ∷ plain_asks ∷ []) begun_spelled refl
+
 pub begin_incomplete : IsVerdict at_client read_without_its_ack (Incomplete 2)
-begin_incomplete = (begin_is_lawful, (λ m shown. begin_shows_nothing m shown.0 shown.1), refl)
+begin_incomplete = (begin_is_lawful, (λ m shown. begin_shows_nothing m shown.0 shown.1), begin_has_no_error, refl)
 
 pub overrun_verdict : IsVerdict at_client (before_overrun ++ block_seven ∷ []) (Unlawful 8 Rule.WindowOverrun)
 overrun_verdict = record {

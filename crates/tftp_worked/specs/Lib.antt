@@ -2,3 +2,4 @@ pub mod Worked
 pub mod WorkedWindows
 pub mod WorkedRules
 pub mod WorkedHosts
+pub mod WorkedErrors

@@ -83,16 +83,12 @@ before_short_block =
 abbrev pub short_block : Datagram
 short_block = comes (block 2 (codes "2"))
 
--- a read: its server acknowledges, sends block 0, or says that there is no such file
+-- a read: its server acknowledges, or sends block 0
 abbrev pub only_asked : List Datagram
 only_asked = asks_for_a ∷ []
 
 abbrev pub block_zero : Datagram
 block_zero = comes (block 0 [])
-
--- ERROR 1, "File not found"
-abbrev pub says_not_found : Datagram
-says_not_found = comes (0 ∷ 5 ∷ 0 ∷ 1 ∷ 0 ∷ [])
 
 -- a read with options: an OACK after a block, another OACK, a block before ACK 0 has gone out
 abbrev pub before_changed_reply : List Datagram

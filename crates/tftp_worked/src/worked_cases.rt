@@ -29,6 +29,19 @@ ghost use Rattle.tftp_worked.specs.Worked.{
   read_at_server,
   one_block_write,
   read_in_eights,
+  acknowledges_hi,
+};
+ghost use Rattle.tftp_worked.specs.WorkedErrors.{
+  says_forbidden,
+  read_refused,
+  read_refused_twice,
+  read_given_up,
+  read_given_up_twice,
+  stopped_at_the_end,
+  stopped_after_the_end,
+  block_after_error,
+  before_late_answer,
+  late_answer,
 };
 
 /// Three datagrams show a read of a file of two bytes.
@@ -84,6 +97,35 @@ pub fn block_past_the_window_is_unlawful()
 /// No run has block 2 before block 1 was sent.
 pub fn block_skipped_is_unlawful()
     ensures { IsLawful at_client (before_skip ++ block_two ∷ []) → ⊥ }
+{}
+
+/// Transfers in which an ERROR is sent are lawful (RFC 1350, section 7): the server says that there is no such file, once
+/// or twice; the client gives up, and says so again where the block comes again; a block comes after the ERROR that was
+/// sent after it.
+pub fn transfers_with_an_error_are_lawful()
+    ensures refused { IsLawful at_client read_refused }
+    ensures refused_twice { IsLawful at_client read_refused_twice }
+    ensures given_up { IsLawful at_client read_given_up }
+    ensures given_up_twice { IsLawful at_client read_given_up_twice }
+    ensures block_after_error { IsLawful at_client block_after_error }
+{}
+
+/// A read whose blocks have all come is shown, where its last ACK goes after an ERROR came in, and where an ERROR comes
+/// after it.
+pub fn read_stopped_at_the_end_is_shown()
+    ensures before { Shows at_client two_bytes stopped_at_the_end }
+    ensures after { Shows at_client two_bytes stopped_after_the_end }
+{}
+
+/// No run has another ERROR of the server after its first one, nor an ACK of the client after its ERROR.
+pub fn what_follows_an_error_is_unlawful()
+    ensures another { IsLawful at_client (read_refused ++ says_forbidden ∷ []) → ⊥ }
+    ensures ack { IsLawful at_client (read_given_up ++ acknowledges_hi ∷ []) → ⊥ }
+{}
+
+/// No run has a block that answers an ACK which went out after the ERROR came in. Up to it the capture is lawful.
+pub fn answer_to_a_late_ack_is_unlawful()
+    ensures { IsLawfulUpTo at_client (before_late_answer ++ late_answer ∷ []) 6 }
 {}
 
 /// The three datagrams of the read at the client show nothing else.

@@ -6,7 +6,7 @@ ghost use Rattle.std.specs.Prelude.{[], ◌∷◌, reverse};
 ghost use Rattle.tftp_law.specs.declared.rule.Rule.{Rule};
 ghost use Rattle.tftp_ends.specs.Worked.{two_bytes};
 ghost use Rattle.tftp_law.specs.OneEnded.{OneEnded, IsRefused, Meant};
-ghost use Rattle.tftp_worked.specs.Worked.{at_client, brings_hi, acknowledges_two, one_block_read, read_without_its_ack};
+ghost use Rattle.tftp_worked.specs.Worked.{at_client, brings_hi, acknowledges_hi, acknowledges_two, one_block_read, read_without_its_ack};
 ghost use Rattle.tftp_worked.specs.WorkedWindows.{
   at_service,
   window_out_of_order,
@@ -37,7 +37,6 @@ ghost use Rattle.tftp_worked.specs.WorkedRules.{
   short_block,
   only_asked,
   block_zero,
-  says_not_found,
   before_changed_reply,
   agrees_to_four,
   before_taking_offer,
@@ -45,6 +44,20 @@ ghost use Rattle.tftp_worked.specs.WorkedRules.{
   block_too_early,
   before_late_oack,
   late_oack,
+};
+ghost use Rattle.tftp_worked.specs.WorkedErrors.{
+  says_forbidden,
+  read_refused,
+  read_refused_twice,
+  read_given_up,
+  read_given_up_twice,
+  stopped_at_the_end,
+  stopped_after_the_end,
+  block_after_error,
+  before_late_answer,
+  late_answer,
+  only_offered,
+  stops_unanswered,
 };
 
 /// Captures of whole transfers break no rule: the read of one block; the read in a window of four of which a block comes
@@ -80,9 +93,33 @@ pub fn server_of_a_read_sends_no_ack()
     ensures { IsRefused at_client (reverse only_asked) ack_zero Rule.WrongKind }
 {}
 
-/// An ERROR ends the transfer (RFC 1350, section 7).
-pub fn error_ends_the_transfer()
-    ensures { IsRefused at_client (reverse only_asked) says_not_found Rule.TransferAborted }
+/// Transfers in which an ERROR is sent break no rule: it may come after a request, go out after a block, and do so again;
+/// an ACK may go out after it came in, and what was sent before it may come after it.
+pub fn transfers_with_an_error_break_no_rule()
+    ensures refused { OneEnded at_client (reverse read_refused) }
+    ensures refused_twice { OneEnded at_client (reverse read_refused_twice) }
+    ensures given_up { OneEnded at_client (reverse read_given_up) }
+    ensures given_up_twice { OneEnded at_client (reverse read_given_up_twice) }
+    ensures stopped_at_the_end { OneEnded at_client (reverse stopped_at_the_end) }
+    ensures stopped_after_the_end { OneEnded at_client (reverse stopped_after_the_end) }
+    ensures block_after_error { OneEnded at_client (reverse block_after_error) }
+{}
+
+/// After its ERROR an end says nothing else (RFC 1350, section 7): the other end's next ERROR is that one again, and the
+/// named end's next datagram is.
+pub fn an_end_goes_no_further_than_its_error()
+    ensures another { IsRefused at_client (reverse read_refused) says_forbidden Rule.AfterError }
+    ensures ack { IsRefused at_client (reverse read_given_up) acknowledges_hi Rule.AfterError }
+{}
+
+/// What comes in after an ERROR was sent before it, and so no block answers an ACK that went out after the ERROR came in.
+pub fn blocks_answer_no_ack_after_an_error()
+    ensures { IsRefused at_client (reverse before_late_answer) late_answer Rule.WindowOverrun }
+{}
+
+/// A server that has not answered is asked at the service port, and nothing else comes there (RFC 1350, section 4).
+pub fn server_is_stopped_once_it_has_answered()
+    ensures { IsRefused at_service (reverse only_offered) stops_unanswered Rule.WrongPort }
 {}
 
 /// No block is acknowledged before it and all below it have come in (RFC 1350, section 2).

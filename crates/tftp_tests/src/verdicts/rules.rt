@@ -1,6 +1,6 @@
 use super::{Wanted, gives};
 use std::test::Fail;
-use tftp_judge::Rule;
+use tftp_judge::{By, Rule};
 use tftp_packet::{Mode, PacketFault, Side};
 
 /// Ports, kinds of packets, requests, starts and numbers: what breaks a rule, and what breaks none.
@@ -63,7 +63,7 @@ const RULES: [(&[u8], Wanted); 29] = [
     ),
     (
         b"tftp-capture 1\nend client\nservice 69\nout 40000 69 000161006f6374657400\nin 40000 41000 0005000100\ntotal 2\n",
-        Wanted::Unlawful(2, Rule::TransferAborted),
+        Wanted::Aborted(By::Peer, 1),
     ),
     (
         b"tftp-capture 1\nend client\nservice 69\nout 40000 69 000161006d61696c00\ntotal 1\n",

@@ -27,7 +27,11 @@ fn answer(
 }
 
 /// Fails unless that is said of a text, given whole and in pieces.
-fn says(rt: &HostRuntime, text: &[u8], wanted: Result<Wanted, CaptureFault>) -> Result<(), Fail> {
+pub fn says(
+    rt: &HostRuntime,
+    text: &[u8],
+    wanted: Result<Wanted, CaptureFault>,
+) -> Result<(), Fail> {
     for piece in [usize::MAX, 1, 7] {
         let found = answer(rt, text, piece, 0);
         if found != wanted {
