@@ -221,14 +221,16 @@ fn acknowledgements_after_an_error(rt: HostRuntime) -> Result<(), Fail> {
     all_are_checked(&rt, &WRITES_AFTERWARDS)
 }
 
-/// A read of the file `a` and a write with a window, as they come to a server, and ERRORs at it.
+/// A read of the file `a`, as the server is asked for it.
 const ASKED: &str = "in 69 40000 000161006f6374657400";
 
+/// A write with a window, and its OACK from the service port.
 const ASKED_TO_WRITE: &str =
     "in 69 40000 000261006f6374657400626c6b73697a6500380077696e646f7773697a65003400";
 
 const AGREED: &str = "out 69 40000 0006626c6b73697a6500380077696e646f7773697a65003400";
 
+/// The server has no such file.
 const ANSWERED: &str = "out 41000 40000 0005000100";
 
 const AT_SERVER: [Case; 6] = [
