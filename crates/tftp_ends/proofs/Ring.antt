@@ -187,14 +187,22 @@ first_moved b w n js ring k x row takes none after first =
     subst (λ m. IsRow b (js ++ x) m (drop 1 ring)) next (row_step b js n x (drop 1 ring) (first_row b w n js ring k x row takes none after first))
 
 -- where no other block waits
-pub none_waits : (ring : Slots) → length ring ≤ 0 → ring ≡ drop 1 ring
-none_waits ring none = let empty = nil_from_length ring (omega arith) in empty ∙ ap (drop 1) (sym empty)
+none_waits : (b : ℕ) (ring : Slots) → IsEven b ring → filled ring ≤ 0 → length ring ≤ 0
+none_waits b [] even none = omega arith
+none_waits b (None ∷ os) even none = let some = even.0 in let rest = none_waits b os even.1 none in absurd (omega arith)
+none_waits b (Some x ∷ os) even none = absurd (omega arith)
+
+pub none_is_dropped : (b : ℕ) (ring : Slots) → IsEven b ring → filled ring ≤ 0 → ring ≡ drop 1 ring
+none_is_dropped b ring even none =
+    let short = none_waits b ring even none in
+    let empty = nil_from_length ring (omega arith) in empty ∙ ap (drop 1) (sym empty)
 
 pub first_alone : (b w n : ℕ) (js : List ℕ) (ring : Slots) (waiting k : ℕ) (x : List ℕ) → IsRing b w js n ring waiting → Takes b w (numbered 1 (cut b n js ++ ring)) k (length x)
-    → map.get (numbered 1 (cut b n js ++ ring)) k ≡ None → n < k → k - n - 1 ≤ 0 → k ≤ 65535 → length ring ≤ 0 → IsRing b w (js ++ x) k ring waiting
-first_alone b w n js ring waiting k x is takes none after first fits empty =
+    → map.get (numbered 1 (cut b n js ++ ring)) k ≡ None → n < k → k - n - 1 ≤ 0 → k ≤ 65535 → filled ring ≤ 0 → IsRing b w (js ++ x) k ring waiting
+first_alone b w n js ring waiting k x is takes none after first fits alone =
+    let short = none_waits b ring is.row.even alone in
     record {
-      row = subst (IsRow b (js ++ x) k) (sym (none_waits ring empty)) (first_moved b w n js ring k x is.row takes none after first);
+      row = subst (IsRow b (js ++ x) k) (sym (none_is_dropped b ring is.row.even alone)) (first_moved b w n js ring k x is.row takes none after first);
       gap = is.gap;
       within = is.within;
       numbers = omega arith;

@@ -88,7 +88,7 @@ impl Delivered for RingDelivered {
         self.joined.reserve(bytes.len() + following)?;
         self.joined.extend_from_slice(bytes)?;
         self.front = number;
-        if self.pending.len() > 0 {
+        if self.waiting > 0 {
             self.pending.drop_first();
             self.front = advance(&mut self.joined, &mut self.pending, number, self.block_size);
             self.waiting -= self.front - number;

@@ -2,7 +2,7 @@ use Rattle.std.proofs.Common.{ap, sym, subst, ◌∙◌, ◌≡◌, ◌≤◌, �
 use Rattle.std.proofs.lemmas.List.{length-drop}
 use Rattle.std.specs.FinMap as finite
 use Rattle.tftp_ends.specs.Slots.{numbered, cut, placed, IsRow, IsRing}
-use Rattle.tftp_ends.proofs.Ring.{new_facts, new_waits, numbered_new, first_row, first_moved, first_alone, none_waits, numbered_first, filled_within}
+use Rattle.tftp_ends.proofs.Ring.{new_facts, new_waits, numbered_new, first_row, first_moved, first_alone, none_is_dropped, numbered_first, filled_within}
 use Rattle.tftp_ends.proofs.ring_delivered.RingDeliveredDelivered.put.Goals as goal
 
 pub overflow_sub-place : goal.overflow_sub-place
@@ -51,20 +51,20 @@ advance-self-inside-requires-clause-row c =
     subst (λ js. IsRow c.self.inside.block_size js c.args.number c.drop_first.new.self) (sym joined)
     (subst (IsRow c.self.inside.block_size (c.self.inside.joined.items ++ c.args.bytes.now) c.args.number) (sym c.drop_first.ensures) row)
 
-pub invariant_of-self-else-len-gt0 : goal.invariant_of-self-else-len-gt0
-invariant_of-self-else-len-gt0 c =
+pub invariant_of-self-else-self-gt0 : goal.invariant_of-self-else-self-gt0
+invariant_of-self-else-self-gt0 c =
     let known = new_facts c.self.inside.block_size c.self.inside.window c.self.inside.front c.self.inside.joined.items c.self.inside.pending c.args.number c.args.bytes.now c.args.self.now c.self.view_is c.requires c.in-None.ensures in
     let near : c.args.number - c.self.inside.front - 1 ≤ 0 = c.if-place-gt0.false in
     let joined : c.extend_from_slice.new.self.items ≡ c.self.inside.joined.items ++ c.args.bytes.now =
     c.in_ok-extend_from_slice.ensures.items ∙ ap (λ t. t ++ c.args.bytes.now) c.in_ok-reserve.ensures.items in
     let fits = c.ranges.number.fits in
-    let read = c.len.ensures in
-    let none = c.if-len-gt0.false in
+    let count = c.self.invariant.count in
+    let none = c.if-self-gt0.false in
     subst (λ js. IsRing c.self.inside.block_size c.self.inside.window js c.args.number c.self.inside.pending c.self.inside.waiting) (sym joined)
     (first_alone c.self.inside.block_size c.self.inside.window c.self.inside.front c.self.inside.joined.items c.self.inside.pending c.self.inside.waiting c.args.number c.args.bytes.now c.self.invariant known.0 known.1 known.2 near (omega arith) (omega arith))
 
-pub returns-then-len-gt0-clause-ok : goal.returns-then-len-gt0-clause-ok
-returns-then-len-gt0-clause-ok c =
+pub returns-then-self-gt0-clause-ok : goal.returns-then-self-gt0-clause-ok
+returns-then-self-gt0-clause-ok c =
     let known = new_facts c.self.inside.block_size c.self.inside.window c.self.inside.front c.self.inside.joined.items c.self.inside.pending c.args.number c.args.bytes.now c.args.self.now c.self.view_is c.requires c.in-None.ensures in
     let near : c.args.number - c.self.inside.front - 1 ≤ 0 = c.if-place-gt0.false in
     let joined : c.extend_from_slice.new.self.items ≡ c.self.inside.joined.items ++ c.args.bytes.now =
@@ -78,18 +78,18 @@ returns-then-len-gt0-clause-ok c =
           ∙ ap (λ m. finite.insert (numbered 1 m.0) c.args.number c.args.bytes.now) c.self.view_is,
     )
 
-pub returns-else-len-gt0-clause-ok : goal.returns-else-len-gt0-clause-ok
-returns-else-len-gt0-clause-ok c =
+pub returns-else-self-gt0-clause-ok : goal.returns-else-self-gt0-clause-ok
+returns-else-self-gt0-clause-ok c =
     let known = new_facts c.self.inside.block_size c.self.inside.window c.self.inside.front c.self.inside.joined.items c.self.inside.pending c.args.number c.args.bytes.now c.args.self.now c.self.view_is c.requires c.in-None.ensures in
     let near : c.args.number - c.self.inside.front - 1 ≤ 0 = c.if-place-gt0.false in
     let joined : c.extend_from_slice.new.self.items ≡ c.self.inside.joined.items ++ c.args.bytes.now =
     c.in_ok-extend_from_slice.ensures.items ∙ ap (λ t. t ++ c.args.bytes.now) c.in_ok-reserve.ensures.items in
     let row = first_row c.self.inside.block_size c.self.inside.window c.self.inside.front c.self.inside.joined.items c.self.inside.pending c.args.number c.args.bytes.now c.self.invariant.row known.0 known.1 known.2 near in
-    let read = c.len.ensures in
-    let none = c.if-len-gt0.false in (
+    let count = c.self.invariant.count in
+    let none = c.if-self-gt0.false in (
       sym c.in-None.ensures,
       ap (numbered 1) (ap (λ js. cut c.self.inside.block_size c.args.number js ++ c.self.inside.pending) joined
-          ∙ ap (λ ring. cut c.self.inside.block_size c.args.number (c.self.inside.joined.items ++ c.args.bytes.now) ++ ring) (none_waits c.self.inside.pending (omega arith)))
+          ∙ ap (λ ring. cut c.self.inside.block_size c.args.number (c.self.inside.joined.items ++ c.args.bytes.now) ++ ring) (none_is_dropped c.self.inside.block_size c.self.inside.pending c.self.invariant.row.even (omega arith)))
           ∙ numbered_first c.self.inside.block_size c.self.inside.front c.self.inside.joined.items c.self.inside.pending c.args.number c.args.bytes.now row known.2 near
           ∙ ap (λ m. finite.insert (numbered 1 m.0) c.args.number c.args.bytes.now) c.self.view_is,
     )
