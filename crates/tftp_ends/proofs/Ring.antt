@@ -10,7 +10,7 @@ use Rattle.std.specs.FinMap as map
 use Rattle.tftp_ends.specs.Store.{IsHeldFront, IsHighest, IsOrderly, IsPending, IsJoin, Takes}
 use Rattle.tftp_ends.specs.Slots.{Slots, numbered, cut, placed, filled, IsEven, IsRow, IsRing, IsWhole}
 use Rattle.tftp_ends.proofs.Orderly.{front_unique, takes_within}
-use Rattle.tftp_ends.proofs.Places.{below, at_place, at_block, none_at_0, length_cut, at_cut, row_even, even_fits, even_exact, even_last, past, even_placed, length_placed, placed_other, filled_placed, append_placed, numbered_placed, placed_first, slots_step}
+use Rattle.tftp_ends.proofs.Places.{below, at_place, at_block, none_at_0, length_cut, at_cut, row_even, even_fits, even_exact, even_last, past, even_placed, length_placed, placed_other, filled_placed, append_placed, numbered_placed, placed_first, row_step, slots_step}
 
 pub slot_joined : (b n : ℕ) (js : List ℕ) (ring : Slots) (i : ℕ) → i < n → slice_index_or (cut b n js ++ ring) i None ≡ Some (take b (drop (i * b) js))
 slot_joined b n js ring i low = let long = length_cut b n js in get_or_append_left (cut b n js) ring None i (omega arith) ∙ at_cut b n js i low
@@ -179,10 +179,42 @@ pub first_row : (b w n : ℕ) (js : List ℕ) (ring : Slots) (k : ℕ) (x : List
     → map.get (numbered 1 (cut b n js ++ ring)) k ≡ None → n < k → k - n - 1 ≤ 0 → IsRow b js n (Some x ∷ drop 1 ring)
 first_row b w n js ring k x row takes none after first = subst (IsRow b js n) (first_is n ring k x after first) (new_row b w n js ring k x row takes none after)
 
+-- with the block behind the joined ones
+pub first_moved : (b w n : ℕ) (js : List ℕ) (ring : Slots) (k : ℕ) (x : List ℕ) → IsRow b js n ring → Takes b w (numbered 1 (cut b n js ++ ring)) k (length x)
+    → map.get (numbered 1 (cut b n js ++ ring)) k ≡ None → n < k → k - n - 1 ≤ 0 → IsRow b (js ++ x) k (drop 1 ring)
+first_moved b w n js ring k x row takes none after first =
+    let next : n + 1 ≡ k = omega arith in
+    subst (λ m. IsRow b (js ++ x) m (drop 1 ring)) next (row_step b js n x (drop 1 ring) (first_row b w n js ring k x row takes none after first))
+
+-- where no other block waits
+none_waits : (b : ℕ) (ring : Slots) → IsEven b ring → filled ring ≤ 0 → length ring ≤ 0
+none_waits b [] even none = omega arith
+none_waits b (None ∷ os) even none = let some = even.0 in let rest = none_waits b os even.1 none in absurd (omega arith)
+none_waits b (Some x ∷ os) even none = absurd (omega arith)
+
+pub none_is_dropped : (b : ℕ) (ring : Slots) → IsEven b ring → filled ring ≤ 0 → ring ≡ drop 1 ring
+none_is_dropped b ring even none =
+    let short = none_waits b ring even none in
+    let empty = nil_from_length ring (omega arith) in empty ∙ ap (drop 1) (sym empty)
+
+pub first_alone : (b w n : ℕ) (js : List ℕ) (ring : Slots) (waiting k : ℕ) (x : List ℕ) → IsRing b w js n ring waiting → Takes b w (numbered 1 (cut b n js ++ ring)) k (length x)
+    → map.get (numbered 1 (cut b n js ++ ring)) k ≡ None → n < k → k - n - 1 ≤ 0 → k ≤ 65535 → filled ring ≤ 0 → IsRing b w (js ++ x) k ring waiting
+first_alone b w n js ring waiting k x is takes none after first fits alone =
+    let short = none_waits b ring is.row.even alone in
+    record {
+      row = subst (IsRow b (js ++ x) k) (sym (none_is_dropped b ring is.row.even alone)) (first_moved b w n js ring k x is.row takes none after first);
+      gap = is.gap;
+      within = is.within;
+      numbers = omega arith;
+      count = is.count;
+      sizes = is.sizes;
+    }
+
 pub numbered_first : (b n : ℕ) (js : List ℕ) (ring : Slots) (k : ℕ) (x : List ℕ) → IsRow b js n (Some x ∷ drop 1 ring) → n < k → k - n - 1 ≤ 0
-    → numbered 1 (cut b (n + 1) (js ++ x) ++ drop 1 ring) ≡ map.insert (numbered 1 (cut b n js ++ ring)) k x
+    → numbered 1 (cut b k (js ++ x) ++ drop 1 ring) ≡ map.insert (numbered 1 (cut b n js ++ ring)) k x
 numbered_first b n js ring k x row after first =
-    ap (numbered 1) (slots_step b js n x (drop 1 ring) row ∙ ap (λ t. cut b n js ++ t) (sym (first_is n ring k x after first)))
+    (let next : k ≡ n + 1 = omega arith in ap (λ m. numbered 1 (cut b m (js ++ x) ++ drop 1 ring)) next)
+    ∙ ap (numbered 1) (slots_step b js n x (drop 1 ring) row ∙ ap (λ t. cut b n js ++ t) (sym (first_is n ring k x after first)))
     ∙ numbered_new b n js ring k x after
 
 -- what is known where a block is new, of the fields behind the view

@@ -87,11 +87,12 @@ impl Delivered for RingDelivered {
         let following = self.pending.following(self.block_size);
         self.joined.reserve(bytes.len() + following)?;
         self.joined.extend_from_slice(bytes)?;
-        self.pending.drop_first();
-        let next = self.front + 1;
-        let front = advance(&mut self.joined, &mut self.pending, next, self.block_size);
-        self.waiting -= front - next;
-        self.front = front;
+        self.front = number;
+        if self.waiting > 0 {
+            self.pending.drop_first();
+            self.front = advance(&mut self.joined, &mut self.pending, number, self.block_size);
+            self.waiting -= self.front - number;
+        }
         Ok(Placed::New)
     }
 

@@ -1,4 +1,4 @@
-use Rattle.std.proofs.Common.{ap, ◌∙◌, ◌≡◌, length, None, arith}
+use Rattle.std.proofs.Common.{ap, ◌∙◌, arith}
 use Rattle.tftp_ends.specs.Slots.{placed}
 use Rattle.tftp_ends.proofs.Places.{placed_set, placed_more, placed_end}
 use Rattle.tftp_ends.proofs.waiting.set_place.Goals as goal

@@ -1,4 +1,4 @@
-use Rattle.std.proofs.Common.{ap, sym, subst, ◌∙◌, ◌≡◌, ◌<◌, length, drop, Some, None, slice_index_or, arith}
+use Rattle.std.proofs.Common.{ap, sym, subst, ◌∙◌, ◌≡◌, length, drop, None, arith}
 use Rattle.std.proofs.lemmas.List.{get_or_default}
 use Rattle.tftp_ends.specs.Slots.{leading, IsEven}
 use Rattle.tftp_ends.specs.Spans.{shown}

@@ -1,4 +1,4 @@
-use Rattle.std.proofs.Common.{ap, sym, ◌∙◌, ◌≡◌, ◌+◌, ◌≤◌, length, Some, None, slice_index_or, refl, arith}
+use Rattle.std.proofs.Common.{sym, ◌∙◌, ◌≡◌, length, Some, None, slice_index_or, refl, arith}
 use Rattle.std.proofs.lemmas.List.{get_or_default}
 use Rattle.tftp_ends.proofs.Spans.{within_at}
 use Rattle.tftp_ends.proofs.waiting.Waiting.get.Goals as goal
