@@ -1,12 +1,19 @@
--- Two texts that are the same capture, in as many lines, have the same verdicts.
-use Rattle.std.proofs.Common.{◌≡◌, ℕ, ◌+◌, ◌==◌, List, [], ◌∷◌, ◌++◌, length, Result, Ok, Err, sym, ap, ◌∙◌, subst, arith, length-append}
-use Rattle.std.specs.List.{slice_split}
-use Rattle.tftp_capture.specs.CaptureText.{Begins, IsCapture, Numbered, Unfinished}
+-- Two texts that are the same capture, in as many lines, have the same verdicts; so have a text and the same in version 2.
+use Rattle.std.proofs.Common.{◌≡◌, ℕ, ◌+◌, ◌^◌, ◌≤◌, ◌==◌, ◌↔◌, List, [], ◌∷◌, All, length, map as each, Result, Ok, Err, refl, sym, ap, ◌∙◌, subst, arith, length-append}
+use Rattle.std.specs.List.{join_with_byte, slice_split}
+use Rattle.std.proofs.lemmas.List.{length-map}
+use Rattle.std.proofs.lemmas.List.Elements.{All-cons, All-tail}
+use Rattle.tftp_capture.specs.declared.version.Version.TheVariants.{Two}
+use Rattle.tftp_capture.specs.CaptureText.{IsCapture, Numbered, head_line}
 use Rattle.tftp_capture.specs.CaptureText.Due.{Nothing}
 use Rattle.tftp_capture.specs.CaptureText.Reading.{Capture}
 use Rattle.tftp_capture.specs.declared.fault.CaptureFault.{CaptureFault}
 use Rattle.tftp_capture.specs.declared.fault.CaptureFault.TheVariants.{Text, Read, Memory}
+use Rattle.tftp_capture.specs.InTwo.{in_version_two, line_in_two, lines_in_two}
 use Rattle.tftp_capture.proofs.Beginnings.{capture_begins, capture_has}
+use Rattle.tftp_capture.proofs.Canonical.{no_lf_text}
+use Rattle.tftp_capture.proofs.InTwo.{Lacks, cut_again, parts_lack}
+use Rattle.tftp_capture.proofs.TwoTexts.{map_whole, says_the_same}
 use Rattle.tftp_capture.proofs.Readings.{reads_same}
 use Rattle.tftp_ends.specs.CaptureText.{Header}
 use Rattle.tftp_law.specs.Law.{IsLawful}
@@ -47,3 +54,23 @@ module _ (one two : List ℕ) (h : Header) (ds : List Numbered) (first : IsCaptu
       let there : line_count two ≡ length second.1 + 1 = ap length second.2.divided ∙ length-append second.1 ([] ∷ []) in
       ((ds, Nothing second.0 h, record { lines = second.1; rest = []; stands = second.2; at_line = ends.at_line ∙ sym here ∙ lines ∙ there }), all_lawful lawful)
   same_verdict lines (Err (Memory line)) is = tt
+
+-- ---- in version 2
+
+as_many : (ps : List (List ℕ)) → 1 ≤ length ps → All (Lacks 10) ps → length (slice_split (λ b. b == 10) (join_with_byte 10 (lines_in_two ps))) ≡ length ps
+as_many [] some whole = absurd (omega arith)
+as_many (p ∷ ps) some whole =
+    let rest = map_whole ps (All-tail (Lacks 10) p ps whole) in
+    let all = All-cons (Lacks 10) (head_line Two) (each line_in_two ps) (no_lf_text (head_line Two) refl) rest in
+    ap length (cut_again 10 (head_line Two) (each line_in_two ps) all) ∙ omega (arith, length-map ps line_in_two)
+
+lines_stay : (text : List ℕ) (h : Header) (ds : List Numbered) → IsCapture text h ds → line_count (in_version_two text) ≡ line_count text
+lines_stay text h ds capture =
+    let count : line_count text ≡ length capture.1 + 1 = ap length capture.2.divided ∙ length-append capture.1 ([] ∷ []) in
+    as_many (slice_split (λ b. b == 10) text) (omega arith) (parts_lack 10 text)
+
+pub same_in_two : (text : List ℕ) (h : Header) (ds : List Numbered) (v : Result Verdict CaptureFault) → IsCapture text h ds → length (in_version_two text) ≤ 2 ^ 40 → IsTextVerdict text v ↔ IsTextVerdict (in_version_two text) v
+same_in_two text h ds v capture short =
+    let two = says_the_same text h ds capture short in
+    let lines = lines_stay text h ds capture in
+    (same_verdict text (in_version_two text) h ds capture two (sym lines) v, same_verdict (in_version_two text) text h ds two capture lines v)
