@@ -1,12 +1,13 @@
 -- Captures in which an ERROR is sent: the runs that they show, and those that no run has.
-use Rattle.std.proofs.Common.{◌≡◌, ℕ, ◌+◌, ◌≤◌, nat_le, Bool, true, false, List, [], ◌∷◌, ◌++◌, codes, inl, inr, refl, sym, subst, ap, ◌∙◌, arith}
+use Rattle.std.proofs.Common.{◌≡◌, ◌⊎◌, ℕ, ◌+◌, ◌≤◌, nat_le, Bool, true, false, List, [], ◌∷◌, ◌++◌, Any, codes, inl, inr, refl, sym, subst, ap, ◌∙◌, arith}
 use Rattle.std.proofs.lemmas.Bool.{true≢false, leb-true}
 use Rattle.tftp_packet.specs.Message.{Message}
 use Rattle.tftp_packet.specs.OptionMap.{OptionMap}
 use Rattle.tftp_packet.specs.declared.kinds.Side.TheVariants.{Get}
+use Rattle.tftp_packet.specs.declared.kinds.Dir.TheVariants.{In, Out}
 use Rattle.tftp_packet.specs.declared.kinds.End.TheVariants.{Client}
 use Rattle.tftp_ends.specs.CaptureText.{Datagram}
-use Rattle.tftp_ends.specs.Meaning.{Meaning, option_or, windowsize_of}
+use Rattle.tftp_ends.specs.Meaning.{Meaning, request_of, option_or, windowsize_of}
 use Rattle.tftp_ends.specs.Machines.{MachinePacket, Sent, Took, Req, Oack, Data, Ack, Error, History}
 use Rattle.tftp_ends.specs.OneSide.{IsOneSided}
 use Rattle.tftp_ends.specs.Runs.{Step, IsView, IsComplete}
@@ -19,12 +20,14 @@ use Rattle.tftp_ends.proofs.WorkedMore.{something_agreed, two_blocks, blocks_of_
 use Rattle.tftp_ends.proofs.WorkedErrors.{read_refused_is_view, read_given_up_is_view, stopped_at_the_end_is_view, stopped_at_the_end_complete, block_after_error_is_view}
 use Rattle.tftp_ends.proofs.Computed.{Plan, IsPlan, run_is, complete_is, all_is}
 use Rattle.tftp_ends.proofs.OneSided.{view_one_sided}
-use Rattle.tftp_law.specs.Dress.{TransferIds, IsDressed}
+use Rattle.tftp_law.specs.Dress.{Part, Main, Stray, StrayAnswer, Placed, IsMain, TransferIds, HasPart, HaveParts, IsDressed}
+use Rattle.tftp_law.proofs.Divided.{divided_more, divided_none, any_none, any_cases}
+use Rattle.tftp_law.proofs.Spelled.{spelled_once}
 use Rattle.tftp_law.specs.Law.{IsSeen, IsLawful, Shows}
 use Rattle.tftp_law.proofs.NothingAgreed.{two_bytes_fit}
 use Rattle.tftp_worked.specs.Worked.{at_client, asks_for_a, brings_hi, acknowledges_hi}
-use Rattle.tftp_worked.specs.WorkedWindows.{request, oack, block, ack, by_eight, asks, goes, comes}
-use Rattle.tftp_worked.specs.WorkedErrors.{says_not_found, says_forbidden, stops, gives_up, read_refused, read_refused_twice, read_given_up, read_given_up_twice, stopped_at_the_end, stopped_after_the_end, block_after_error, before_late_answer, late_answer}
+use Rattle.tftp_worked.specs.WorkedWindows.{request, oack, block, ack, by_eight, asks, goes, comes, is_asked, at_service}
+use Rattle.tftp_worked.specs.WorkedErrors.{says_not_found, says_forbidden, stops, gives_up, read_refused, read_refused_twice, read_given_up, read_given_up_twice, stopped_at_the_end, stopped_after_the_end, block_after_error, before_late_answer, late_answer, only_offered, stops_unanswered}
 use Rattle.tftp_worked.proofs.Spelled.{request_spelled, hi_spelled, ack_spelled}
 use Rattle.tftp_worked.proofs.Payloads.{Spelled, data_spells, ack_spells}
 use Rattle.tftp_worked.proofs.Dressed.{Carried, dressed_by}
@@ -272,3 +275,36 @@ late_is_unlawful (m, wire, seen) =
     (late_near dress.ids peer) in
     let agreed : m.agreed ≡ eight_a_block = same_options m.agreed eight_a_block meant.1.1.1.1.1.1.0 in
     late_is_out m wire (one_sided_as m wire seen.view (deeds_for late) seen.run (sym dress.main ∙ meant.0)) (ap (λ o. option_or 1 o (codes "windowsize")) agreed ∙ one_at_a_time)
+
+-- ---- at a server that has not answered
+
+not_yet : (q : Placed) → q.datagram.dir ≡ In → (In ≡ Out) ⊎ Any (λ (p : Placed). p.datagram.dir ≡ Out) (q ∷ []) → ⊥
+not_yet q way (inl e) = absurd (cc)
+not_yet q way (inr any) = elim (any_cases (λ (p : Placed). p.datagram.dir ≡ Out) q [] any) [
+  | inl first ↦ let e : In ≡ Out = sym way ∙ first in absurd (cc)
+  | inr none ↦ any_none (λ (p : Placed). p.datagram.dir ≡ Out) none
+]
+
+no_part : (m : Meaning) (wire : List ℕ) (ids : TransferIds) (q : Placed) (part : Part) → q.datagram.dir ≡ In → HasPart at_service m wire ids (q ∷ []) stops_unanswered part → ⊥
+no_part m wire ids q (Main (Took Req)) way h = let e = spelled_once stops_unanswered.payload (Message.Request (request_of m)) (Message.Error 0 []) h.spells stop_spelled in absurd (cc)
+no_part m wire ids q (Main (Took Oack)) way h = not_yet q way h.server.1
+no_part m wire ids q (Main (Took (Data k))) way h = not_yet q way h.server.1
+no_part m wire ids q (Main (Took (Ack j))) way h = not_yet q way h.server.1
+no_part m wire ids q (Main (Took (Error code text))) way h = not_yet q way h.server.1
+no_part m wire ids q (Main (Sent p)) way h = let e = h.dir in absurd (cc)
+no_part m wire ids q Stray way h = elim (any_cases (λ (p : Placed). IsMain p.part × (p.datagram.dir ≡ Out)) q [] h.after) [
+  | inl first ↦ let e : In ≡ Out = sym way ∙ first.1 in absurd (cc)
+  | inr none ↦ any_none (λ (p : Placed). IsMain p.part × (p.datagram.dir ≡ Out)) none
+]
+no_part m wire ids q StrayAnswer way h = let e = h.dir in absurd (cc)
+
+pub unanswered_is_unlawful : IsLawful at_service (only_offered ++ stops_unanswered ∷ []) → ⊥
+unanswered_is_unlawful (m, wire, seen) =
+    let dress = seen.dressed in
+    let offer = is_asked (request 2 []) in
+    let (p, rest, is, last, more) = divided_more dress.division stops_unanswered (offer ∷ []) dress.whole in
+    let (q, none, then_is, first, no_more) = divided_more rest offer [] more in
+    let one : rest ≡ q ∷ [] = then_is ∙ ap (λ r. q ∷ r) (divided_none none no_more) in
+    let parts : HaveParts at_service m wire dress.ids (p ∷ rest) = subst (HaveParts at_service m wire dress.ids) is dress.parts in
+    let two : HaveParts at_service m wire dress.ids (p ∷ q ∷ []) = subst (λ r. HaveParts at_service m wire dress.ids (p ∷ r)) one parts in
+    no_part m wire dress.ids q p.part (ap (λ d. d.dir) first) (subst (λ d. HasPart at_service m wire dress.ids (q ∷ []) d p.part) last two.0)

@@ -42,6 +42,8 @@ ghost use Rattle.tftp_worked.specs.WorkedErrors.{
   block_after_error,
   before_late_answer,
   late_answer,
+  only_offered,
+  stops_unanswered,
 };
 
 /// Three datagrams show a read of a file of two bytes.
@@ -126,6 +128,12 @@ pub fn what_follows_an_error_is_unlawful()
 /// No run has a block that answers an ACK which went out after the ERROR came in. Up to it the capture is lawful.
 pub fn answer_to_a_late_ack_is_unlawful()
     ensures { IsLawfulUpTo at_client (before_late_answer ++ late_answer ∷ []) 6 }
+{}
+
+/// No run has an ERROR that comes to a server at the service port: before the server has answered, the client knows no
+/// other port of it (RFC 1350, section 4).
+pub fn error_before_the_answer_is_unlawful()
+    ensures { IsLawful at_service (only_offered ++ stops_unanswered ∷ []) → ⊥ }
 {}
 
 /// The three datagrams of the read at the client show nothing else.

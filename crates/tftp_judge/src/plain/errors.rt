@@ -128,11 +128,11 @@ pub fn first_error(transfer: &[Passed<'_>]) -> Option<(By, u16)>
         (λ error. FirstError passed error.0 error.1) }
 {
     let mut rest = transfer;
-    while let [passed, after @ ..] = rest {
-        if let Some(error) = error_by(passed) {
+    while let [first, later @ ..] = rest {
+        if let Some(error) = error_by(first) {
             return Some(error);
         }
-        rest = after;
+        rest = later;
     }
     None
 }
