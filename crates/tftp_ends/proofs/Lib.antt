@@ -17,3 +17,12 @@ pub mod Orderly
 pub mod Places
 pub mod Ring
 pub mod Kept
+pub mod Passing
+pub mod AfterSender
+pub mod SoundStates
+pub mod FirstRules
+pub mod EndLengths
+pub mod AfterReceiver
+pub mod SenderRules
+pub mod ReceiverRules
+pub mod AllDone

@@ -11,6 +11,8 @@ pub mod Store
 pub mod Placed
 pub mod Slots
 pub mod Kept
+pub mod States
+pub mod StatesKept
 pub mod Worked
 pub mod WorkedWindows
 pub mod WorkedStore
