@@ -1,12 +1,9 @@
 -- What a sender stands for after each datagram.
-use Rattle.std.proofs.Common.{◌≡◌, ◌≢◌, ◌↔◌, ◌⊎◌, ℕ, ◌≤◌, max, Bool, true, false, ◌||◌, List, ◌∷◌, Some, None, inl, inr, refl, sym, subst, ap, ◌∙◌, arith}
-use Rattle.std.proofs.lemmas.Bool.{true≢false, false≢true}
+use Rattle.std.proofs.Common.{◌≡◌, ◌≢◌, ◌↔◌, ◌⊎◌, ℕ, max, Bool, true, false, List, ◌∷◌, Some, None, inl, inr, refl, sym, subst, ap, ◌∙◌}
+use Rattle.std.proofs.lemmas.Bool.{true≢false}
 use Rattle.std.specs.FinMap as map
-use Rattle.tftp_packet.specs.Message.{Message, Request, Data, Ack, Error, Oack}
+use Rattle.tftp_packet.specs.Message.{Message, Data, Ack, Error}
 use Rattle.tftp_packet.specs.Spelling.{Spells}
-use Rattle.tftp_packet.specs.Faults.{opcode_of}
-use Rattle.tftp_packet.proofs.Unique.{message_opcode, layout_opcode}
-use Rattle.tftp_packet.specs.declared.kinds.Dir.{Dir}
 use Rattle.tftp_packet.specs.declared.kinds.Dir.TheVariants.{In, Out}
 use Rattle.tftp_ends.specs.CaptureText.{Datagram}
 use Rattle.tftp_ends.specs.Rules.{Passed, HasPassed, BlockPassed, IsGreatest, usable}

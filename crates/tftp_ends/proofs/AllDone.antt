@@ -1,13 +1,12 @@
 -- When all has come and is acknowledged, by the numbers that a state keeps.
-use Rattle.std.proofs.Common.{◌≡◌, ◌↔◌, ◌⊎◌, ℕ, ◌+◌, ◌<◌, ◌≤◌, Bool, IsTrue, nat_eq, eq-eqb, List, length, Some, None, inl, inr, refl, sym, subst, ap, ◌∙◌, arith}
+use Rattle.std.proofs.Common.{◌≡◌, ◌↔◌, ℕ, ◌≤◌, IsTrue, nat_eq, eq-eqb, List, inl, inr, sym, subst, ◌∙◌, arith}
 use Rattle.std.proofs.lemmas.Bool.{eqb-true}
-use Rattle.std.specs.FinMap as map
-use Rattle.tftp_packet.specs.Message.{Data, Ack}
+use Rattle.tftp_packet.specs.Message.{Ack}
 use Rattle.tftp_packet.specs.declared.kinds.Dir.TheVariants.{In, Out}
 use Rattle.tftp_ends.specs.CaptureText.{Datagram}
 use Rattle.tftp_ends.specs.Rules.{Passed, IsLast}
 use Rattle.tftp_ends.specs.Store.{Held, IsHeldFront}
-use Rattle.tftp_ends.specs.States.{AreBlocks, Sender, Receiver, IsSenderAfter, IsReceiverAfter, IsHeld, IsAllAnswered, IsAllTaken}
+use Rattle.tftp_ends.specs.States.{AreBlocks, Sender, Receiver, IsSenderAfter, IsReceiverAfter, IsAllAnswered, IsAllTaken}
 use Rattle.tftp_ends.specs.StatesKept.{IsSound, IsSoundSender, IsSoundReceiver, IsEnd}
 use Rattle.tftp_ends.specs.declared.terms.Terms.{Terms}
 use Rattle.tftp_ends.proofs.SoundStates.{held_from_one, front_reaches}

@@ -1,14 +1,13 @@
 -- What the blocks that are held tell of the last one, and of lengths.
-use Rattle.std.proofs.Common.{◌≡◌, ◌≢◌, ◌⊎◌, ℕ, ◌+◌, ◌/◌, ◌%◌, ◌<◌, ◌≤◌, List, length, Option, Some, None, inl, inr, refl, sym, subst, ap, ◌∙◌, arith}
+use Rattle.std.proofs.Common.{◌≡◌, ◌⊎◌, ℕ, ◌+◌, ◌/◌, ◌%◌, ◌<◌, ◌≤◌, List, length, Option, Some, None, inl, inr, refl, sym, subst, ap, ◌∙◌, arith}
 use Rattle.std.proofs.lemmas.Bool.{cases_lt, cases_eq}
 use Rattle.std.proofs.lemmas.Nat.{mod_below}
 use Rattle.std.specs.FinMap as map
-use Rattle.tftp_packet.specs.Message.{Data}
 use Rattle.tftp_ends.specs.CaptureText.{Datagram}
-use Rattle.tftp_ends.specs.Rules.{HasPassed, IsLast, IsNotLengthOf, HasWrongLength}
-use Rattle.tftp_ends.specs.Store.{Held, IsHighest, IsHeldLast}
+use Rattle.tftp_ends.specs.Rules.{IsLast, IsNotLengthOf, HasWrongLength}
+use Rattle.tftp_ends.specs.Store.{Held, IsHeldLast}
 use Rattle.tftp_ends.specs.States.{AreBlocks, IsHeld, HasLengthBySize}
-use Rattle.tftp_ends.specs.StatesKept.{AreWhole, IsShortTop, IsEnd, EndsThere, HasRightLength, IsSound}
+use Rattle.tftp_ends.specs.StatesKept.{IsShortTop, IsEnd, EndsThere, HasRightLength, IsSound}
 use Rattle.tftp_ends.specs.declared.terms.Terms.{Terms}
 
 less_than_size : (size b : ℕ) → 8 ≤ b → size % b < b

@@ -1,12 +1,12 @@
 -- The rules of blocks and acknowledgements at a receiver, by the numbers that it keeps.
-use Rattle.std.proofs.Common.{◌≡◌, ◌≢◌, ◌↔◌, ◌⊎◌, ℕ, ◌+◌, ◌<◌, ◌≤◌, List, length, Some, None, inl, inr, refl, sym, subst, ap, ◌∙◌, arith}
-use Rattle.std.proofs.lemmas.Bool.{cases_eq, cases_lt}
+use Rattle.std.proofs.Common.{◌≡◌, ◌≢◌, ◌↔◌, ℕ, ◌+◌, ◌<◌, ◌≤◌, List, Some, None, inl, inr, refl, sym, ◌∙◌, arith}
+use Rattle.std.proofs.lemmas.Bool.{cases_lt}
 use Rattle.std.specs.FinMap as map
 use Rattle.tftp_packet.specs.Message.{Data, Ack}
 use Rattle.tftp_packet.specs.declared.kinds.Dir.TheVariants.{In, Out}
 use Rattle.tftp_ends.specs.CaptureText.{Datagram}
-use Rattle.tftp_ends.specs.Rules.{Passed, HasPassed, BlockPassed, IsGreatest, IsFront, IsAckedAt, IsReachedAt, IsSender, EndBroken, FirstEndBroken, AckZeroWaits, usable}
-use Rattle.tftp_ends.specs.Store.{Held, IsHighest, IsHeldFront}
+use Rattle.tftp_ends.specs.Rules.{Passed, HasPassed, IsFront, IsAckedAt, IsReachedAt, IsSender, EndBroken, FirstEndBroken, AckZeroWaits, usable}
+use Rattle.tftp_ends.specs.Store.{IsHighest, IsHeldFront}
 use Rattle.tftp_ends.specs.States.{Receiver, IsReceiverAfter, IsHeld}
 use Rattle.tftp_ends.specs.StatesKept.{IsSoundReceiver, IsKnown, NoneBelow}
 use Rattle.tftp_ends.specs.declared.rule.EndRule.{EndRule}

@@ -1,5 +1,5 @@
 -- The rules of blocks and acknowledgements at a sender, by the numbers that it keeps.
-use Rattle.std.proofs.Common.{◌≡◌, ◌≢◌, ◌↔◌, ◌⊎◌, ℕ, ◌+◌, ◌<◌, ◌≤◌, Bool, true, false, List, length, Some, None, inl, inr, refl, sym, subst, ap, ◌∙◌, arith}
+use Rattle.std.proofs.Common.{◌≡◌, ◌≢◌, ◌↔◌, ◌⊎◌, ℕ, ◌+◌, ◌<◌, ◌≤◌, List, length, Some, inl, inr, refl, arith}
 use Rattle.std.proofs.lemmas.Bool.{cases_eq}
 use Rattle.std.specs.FinMap as map
 use Rattle.tftp_packet.specs.Message.{Data, Ack}
@@ -9,8 +9,8 @@ use Rattle.tftp_packet.specs.declared.kinds.End.{End}
 use Rattle.tftp_packet.specs.declared.kinds.Dir.TheVariants.{In, Out}
 use Rattle.tftp_ends.specs.CaptureText.{Datagram}
 use Rattle.tftp_ends.specs.Roles.{sender_of, receiver_of}
-use Rattle.tftp_ends.specs.Rules.{Passed, HasPassed, BlockPassed, IsGreatest, IsTop, IsAckedAt, IsReachedAt, EndBroken, FirstEndBroken, AckZeroWaits, usable}
-use Rattle.tftp_ends.specs.Store.{Held, IsHighest}
+use Rattle.tftp_ends.specs.Rules.{Passed, HasPassed, BlockPassed, IsTop, IsAckedAt, IsReachedAt, EndBroken, FirstEndBroken, AckZeroWaits, usable}
+use Rattle.tftp_ends.specs.Store.{IsHighest}
 use Rattle.tftp_ends.specs.States.{Sender, IsSenderAfter, IsHeld, MaySend}
 use Rattle.tftp_ends.specs.StatesKept.{IsSoundSender, IsKnown, IsOpen, NoneBelow}
 use Rattle.tftp_ends.specs.declared.rule.EndRule.{EndRule}

@@ -1,6 +1,6 @@
 -- What an end keeps of a transfer whose request has been answered, and for which datagrams that stands. The list `passed`
 -- has the datagrams of the transfer that have passed at this end, the newest first.
-use Rattle.std.specs.Prelude.{◌≡◌, ◌↔◌, ◌⊎◌, ℕ, ◌+◌, ◌/◌, ◌%◌, ◌<◌, ◌≤◌, Bool, true, false, List, length, Option, Some, cond}
+use Rattle.std.specs.Prelude.{◌≡◌, ◌↔◌, ◌⊎◌, ℕ, ◌+◌, ◌/◌, ◌%◌, ◌<◌, ◌≤◌, Bool, true, List, length, Option, Some, cond}
 use Rattle.std.specs.List.{list_any}
 use Rattle.std.specs.FinMap as map
 use Rattle.tftp_packet.specs.Message.{Message, Request, Data, Ack, Error, Oack}
@@ -10,7 +10,7 @@ use Rattle.tftp_packet.specs.declared.kinds.Dir.{Dir}
 use Rattle.tftp_packet.specs.declared.kinds.Dir.TheVariants.{In, Out}
 use Rattle.tftp_ends.specs.CaptureText.{Datagram}
 use Rattle.tftp_ends.specs.Roles.{sender_of, receiver_of}
-use Rattle.tftp_ends.specs.Rules.{Passed, HasPassed, brings_error, usable, IsTop, IsAnswered, IsAcked, IsFront, IsLast, IsSender, IsReceiver}
+use Rattle.tftp_ends.specs.Rules.{Passed, HasPassed, brings_error, usable, IsTop, IsAnswered, IsAcked, IsFront, IsLast}
 use Rattle.tftp_ends.specs.Store.{Held, IsHeldFront, Takes}
 use Rattle.tftp_ends.specs.declared.terms.Reply.TheVariants.{Plain, Oacked}
 use Rattle.tftp_ends.specs.declared.terms.Terms.{Terms}

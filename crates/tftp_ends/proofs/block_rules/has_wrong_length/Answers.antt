@@ -1,6 +1,5 @@
-use Rattle.std.proofs.Common.{sym, ◌∙◌, ◌≤◌, ◌≡◌, arith}
+use Rattle.std.proofs.Common.{sym, ◌∙◌, arith}
 use Rattle.std.proofs.lemmas.Bool.{not-true, not-false, false≢true}
-use Rattle.tftp_ends.specs.States.{HasLengthBySize}
 use Rattle.tftp_ends.proofs.EndLengths.{right_by_size, wrong_by_size, right_by_block}
 use Rattle.tftp_ends.proofs.block_rules.has_wrong_length.Goals as goal
 

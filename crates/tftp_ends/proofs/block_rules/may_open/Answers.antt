@@ -1,4 +1,4 @@
-use Rattle.std.proofs.Common.{◌≡◌, ◌≤◌, ◌+◌, ◌<◌, refl, sym, subst, arith}
+use Rattle.std.proofs.Common.{refl, sym, subst, arith}
 use Rattle.tftp_packet.specs.Message.{Data}
 use Rattle.tftp_ends.specs.Rules.{HasWrongLength, usable}
 use Rattle.tftp_ends.specs.declared.rule.EndRule.TheVariants.{BlockLength, WindowOverrun}

@@ -1,4 +1,4 @@
-use Rattle.std.proofs.Common.{◌≡◌, ◌≤◌, ℕ, sym, subst}
+use Rattle.std.proofs.Common.{◌≤◌, subst}
 use Rattle.tftp_packet.specs.Message.{Ack}
 use Rattle.tftp_ends.specs.Rules.{EndBroken, FirstEndBroken, usable}
 use Rattle.tftp_ends.specs.States.{IsReceiverAfter, MayAcknowledge}

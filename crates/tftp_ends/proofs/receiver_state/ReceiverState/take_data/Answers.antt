@@ -1,4 +1,4 @@
-use Rattle.std.proofs.Common.{◌≤◌, sym, subst, ◌∙◌, arith}
+use Rattle.std.proofs.Common.{sym, subst, ◌∙◌, arith}
 use Rattle.tftp_ends.specs.States.{IsReceiverAfter, Fits}
 use Rattle.tftp_ends.proofs.AfterReceiver.{taken}
 use Rattle.tftp_ends.proofs.SoundStates.{sound_taken}

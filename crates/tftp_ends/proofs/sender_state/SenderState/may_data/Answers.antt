@@ -1,4 +1,4 @@
-use Rattle.std.proofs.Common.{rules, Err, IfErr, ◌≡◌, ◌≢◌, ◌≤◌, ◌<◌, ◌+◌, ◌⊎◌, length, inl, inr, refl, subst, arith}
+use Rattle.std.proofs.Common.{rules, Err, IfErr, ◌≡◌, ◌≢◌, ◌≤◌, ◌⊎◌, inl, inr, refl, subst, arith}
 use Rattle.tftp_packet.specs.Message.{Data}
 use Rattle.tftp_ends.specs.Rules.{EndBroken, FirstEndBroken}
 use Rattle.tftp_ends.specs.States.{IsSenderAfter, MaySend}
