@@ -26,3 +26,4 @@ pub mod AfterReceiver
 pub mod SenderRules
 pub mod ReceiverRules
 pub mod AllDone
+pub mod BeforeReply

@@ -12,6 +12,7 @@ use Rattle.tftp_ends.specs.CaptureText.{Datagram}
 use Rattle.tftp_ends.specs.Roles.{sender_of, receiver_of}
 use Rattle.tftp_ends.specs.Rules.{Passed, HasPassed, brings_error, usable, IsTop, IsAnswered, IsAcked, IsFront, IsLast}
 use Rattle.tftp_ends.specs.Store.{Held, IsHeldFront, Takes}
+use Rattle.tftp_ends.specs.declared.terms.Reply.{Reply}
 use Rattle.tftp_ends.specs.declared.terms.Reply.TheVariants.{Plain, Oacked}
 use Rattle.tftp_ends.specs.declared.terms.Terms.{Terms}
 
@@ -78,6 +79,12 @@ pub record IsReceiverAfter (r : Receiver) (passed : List Datagram) : Type 0 wher
 
 abbrev pub stopped_receiver : Receiver → Receiver
 stopped_receiver r = record { terms = r.terms; held = r.held; acked = r.acked; usable_acked = r.usable_acked; zero = r.zero; stopped = true }
+
+-- ---- before the reply
+
+-- the same terms, with this reply
+abbrev pub replied : Reply → Terms → Terms
+replied reply t = record { named = t.named; side = t.side; reply = reply; blksize = t.blksize; windowsize = t.windowsize; size = t.size }
 
 -- ---- what passes
 

@@ -1,4 +1,5 @@
-ghost use Rattle.std.specs.Prelude.{◌≡◌, ◌↔◌, ℕ, ◌≤◌, List, ◌∷◌, IsTrue, false, true, OnOk, OnErr, IfErr};
+ghost use Rattle.std.specs.Prelude.{◌≡◌, ◌↔◌, ℕ, ◌≤◌, List, ◌∷◌, None, IsTrue, false, true, OnOk, OnErr, IfErr};
+ghost use Rattle.std.specs.FinMap as map;
 ghost use Rattle.tftp_packet.specs.Message.{Data, Ack, Error};
 ghost use Rattle.tftp_packet.specs.declared.kinds.Dir.TheVariants.{In, Out};
 ghost use Rattle.tftp_ends.specs.CaptureText.{Datagram};
@@ -119,12 +120,14 @@ impl<D: Delivered> ReceiverState<D> {
         Ok(())
     }
 
-    /// Keeps a block that comes in. After want of memory nothing has changed.
+    /// Keeps a block that comes in. After want of memory, which a block that is held never
+    /// meets, nothing has changed.
     pub fn take_data(&mut self, alloc: Global, number: u16, bytes: &[u8]) -> Result<(), AllocError>
         requires { Fits self.old.terms self.old.held number bytes.now }
         ensures ok { (passed : List Datagram) (d : Datagram) → IsReceiverAfter self.old passed → Says d In (Data number bytes.now)
             → OnOk result (IsReceiverAfter self.new (d ∷ passed)) }
         ensures err { OnErr result (self.new ≡ self.old) }
+        ensures absent { OnErr result (map.get self.old.held number ≡ None) }
         ensures terms { self.new.terms ≡ self.old.terms }
     {
         self.store.put(alloc, number, bytes)?;
@@ -172,6 +175,7 @@ impl<D: Delivered> ReceiverState<D> {
         ensures after { (passed : List Datagram) (d : Datagram) (code : ℕ) (text : List ℕ) → IsReceiverAfter self.old passed
             → Says d In (Error code text) → IsReceiverAfter self.new (d ∷ passed) }
         ensures value { self.new ≡ stopped_receiver self.old }
+        ensures again { self.old.stopped ≡ true → self.new ≡ self.old }
     {
         self.stopped = true;
     }

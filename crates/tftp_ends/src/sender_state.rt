@@ -1,4 +1,5 @@
-ghost use Rattle.std.specs.Prelude.{◌≡◌, ◌↔◌, ℕ, ◌≤◌, List, ◌∷◌, IsTrue, false, true, OnOk, OnErr, IfErr};
+ghost use Rattle.std.specs.Prelude.{◌≡◌, ◌↔◌, ℕ, ◌≤◌, List, ◌∷◌, None, IsTrue, false, true, OnOk, OnErr, IfErr};
+ghost use Rattle.std.specs.FinMap as map;
 ghost use Rattle.tftp_packet.specs.Message.{Data, Ack, Error};
 ghost use Rattle.tftp_packet.specs.declared.kinds.Dir.TheVariants.{In, Out};
 ghost use Rattle.tftp_ends.specs.CaptureText.{Datagram};
@@ -125,12 +126,14 @@ impl<D: Delivered> SenderState<D> {
         Ok(())
     }
 
-    /// Keeps a block that goes out. After want of memory nothing has changed.
+    /// Keeps a block that goes out. After want of memory, which a block that is held never
+    /// meets, nothing has changed.
     pub fn sent(&mut self, alloc: Global, number: u16, bytes: &[u8]) -> Result<(), AllocError>
         requires { MaySend self.old number bytes.now }
         ensures ok { (passed : List Datagram) (d : Datagram) → IsSenderAfter self.old passed → Says d Out (Data number bytes.now)
             → OnOk result (IsSenderAfter self.new (d ∷ passed)) }
         ensures err { OnErr result (self.new ≡ self.old) }
+        ensures absent { OnErr result (map.get self.old.held number ≡ None) }
         ensures terms { self.new.terms ≡ self.old.terms }
     {
         self.store.put(alloc, number, bytes)?;
@@ -177,6 +180,7 @@ impl<D: Delivered> SenderState<D> {
         ensures after { (passed : List Datagram) (d : Datagram) (code : ℕ) (text : List ℕ) → IsSenderAfter self.old passed
             → Says d In (Error code text) → IsSenderAfter self.new (d ∷ passed) }
         ensures value { self.new ≡ stopped_sender self.old }
+        ensures again { self.old.stopped ≡ true → self.new ≡ self.old }
     {
         self.stopped = true;
     }
