@@ -26,6 +26,7 @@ AreBlocks passed held = (k : ℕ) (bytes : List ℕ) → HasPassed (Data k bytes
 
 -- ---- the sender
 
+-- what it keeps
 pub record Sender : Type 0 where
   pub terms : Terms
   pub held : Held  -- the blocks that went out
@@ -49,11 +50,13 @@ pub record IsSenderAfter (s : Sender) (passed : List Datagram) : Type 0 where
   pub usable_top : IsTop (usable passed) s.usable_top
   pub stopped : has_stopped passed ≡ s.stopped
 
+-- the same, when an ERROR comes in
 abbrev pub stopped_sender : Sender → Sender
 stopped_sender s = record { terms = s.terms; held = s.held; answered = s.answered; zero = s.zero; usable_top = s.usable_top; stopped = true }
 
 -- ---- the receiver
 
+-- what it keeps
 pub record Receiver : Type 0 where
   pub terms : Terms
   pub held : Held  -- the blocks that came in
@@ -77,6 +80,7 @@ pub record IsReceiverAfter (r : Receiver) (passed : List Datagram) : Type 0 wher
   pub zero : (r.zero ≡ true) ↔ HasPassed (Ack 0) (usable passed)
   pub stopped : has_stopped passed ≡ r.stopped
 
+-- the same, when an ERROR comes in
 abbrev pub stopped_receiver : Receiver → Receiver
 stopped_receiver r = record { terms = r.terms; held = r.held; acked = r.acked; usable_acked = r.usable_acked; zero = r.zero; stopped = true }
 
@@ -125,6 +129,7 @@ pub record Fits (t : Terms) (held : Held) (k : ℕ) (bytes : List ℕ) : Type 0 
   pub same : (other : List ℕ) → map.get held k ≡ Some other → other ≡ bytes
   pub sized : (size : ℕ) → t.size ≡ Some size → HasLengthBySize t.blksize size k (length bytes)
 
+-- the block is held
 abbrev pub IsHeld : Held → ℕ → Type 0
 IsHeld held k = (bytes : List ℕ) × (map.get held k ≡ Some bytes)
 

@@ -1,8 +1,8 @@
 //! The states of the two ends, on each of the two stores by the same steps.
 
-use tftp_ends::{Delivered, EndFault, MapDelivered, ReceiverState, RingDelivered, SenderState};
 use std::alloc::AllocError;
 use std::test::Fail;
+use tftp_ends::{Delivered, EndFault, MapDelivered, ReceiverState, RingDelivered, SenderState};
 use tftp_packet::Side;
 
 fn expect(holds: bool, what: &'static str) -> Result<(), Fail> {
