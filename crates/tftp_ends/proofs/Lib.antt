@@ -23,3 +23,13 @@ pub mod Places
 pub mod Ring
 pub mod Spans
 pub mod Kept
+pub mod Passing
+pub mod AfterSender
+pub mod SoundStates
+pub mod FirstRules
+pub mod EndLengths
+pub mod AfterReceiver
+pub mod SenderRules
+pub mod ReceiverRules
+pub mod AllDone
+pub mod BeforeReply

@@ -12,6 +12,8 @@ pub mod Placed
 pub mod Slots
 pub mod Spans
 pub mod Kept
+pub mod States
+pub mod StatesKept
 pub mod Worked
 pub mod WorkedWindows
 pub mod WorkedErrors

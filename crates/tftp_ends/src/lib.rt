@@ -1,19 +1,26 @@
 //! The two ends of a transfer: what each may send, and the runs of both over a network.
 #![tactic(auto)]
 
+mod block_rules;
 mod delivered;
 pub mod laws;
 mod map_delivered;
+mod receiver_state;
 mod ring_delivered;
 mod route;
 mod rule;
+mod sender_state;
+pub mod state_laws;
 mod taking;
 mod terms;
 mod waiting;
 
+pub use block_rules::EndFault;
 pub use delivered::{Delivered, Placed};
 pub use map_delivered::MapDelivered;
+pub use receiver_state::ReceiverState;
 pub use ring_delivered::RingDelivered;
 pub use route::Route;
 pub use rule::EndRule;
+pub use sender_state::SenderState;
 pub use terms::{Reply, Terms};

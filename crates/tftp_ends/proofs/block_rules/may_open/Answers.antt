@@ -1,0 +1,51 @@
+use Rattle.std.proofs.Common.{refl, sym, subst, arith}
+use Rattle.tftp_packet.specs.Message.{Data}
+use Rattle.tftp_ends.specs.Rules.{HasWrongLength, usable}
+use Rattle.tftp_ends.specs.declared.rule.EndRule.TheVariants.{BlockLength, WindowOverrun}
+use Rattle.tftp_ends.proofs.FirstRules.{first_is, before_19, before_20, before_21, before_22, before_23, refute}
+use Rattle.tftp_ends.proofs.EndLengths.{right_not_wrong}
+use Rattle.tftp_ends.proofs.block_rules.may_open.Goals as goal
+
+pub returns-then-has_wrong_length-clause-first : goal.returns-then-has_wrong_length-clause-first
+returns-then-has_wrong_length-clause-first g c = λ passed bytes known long.
+    first_is _ passed (Data c.args.number bytes) BlockLength 21 refl
+    (before_21 _ passed c.args.number bytes
+    (before_20 _ passed c.args.number bytes
+    (before_19 _ passed c.args.number bytes (refute _ c.if-blocks_wait.false (c.blocks_wait.ensures (usable passed) known.zero)))
+    c.if-number-eq0.false)
+    (λ b. refute _ c.if-is_beyond.false c.is_beyond.ensures (b.0, rw (sym long) b.1)))
+    (subst (HasWrongLength c.args.terms.now passed c.args.number) (sym long) (c.has_wrong_length.ensures.wrong c.if-has_wrong_length.true passed known.blocks))
+
+pub returns-then-from-clause-first : goal.returns-then-from-clause-first
+returns-then-from-clause-first g c = λ passed bytes known long.
+    let far = c.if-from.true in
+    first_is _ passed (Data c.args.number bytes) WindowOverrun 22 refl
+    (before_22 _ passed c.args.number bytes (before_21 _ passed c.args.number bytes
+    (before_20 _ passed c.args.number bytes
+    (before_19 _ passed c.args.number bytes (refute _ c.if-blocks_wait.false (c.blocks_wait.ensures (usable passed) known.zero)))
+    c.if-number-eq0.false)
+    (λ b. refute _ c.if-is_beyond.false c.is_beyond.ensures (b.0, rw (sym long) b.1)))
+    (right_not_wrong _ _ passed c.args.number bytes c.args.len known.blocks c.requires.sound long c.if-number-eq0.false (c.has_wrong_length.ensures.right c.if-has_wrong_length.false)))
+    (c.args.acked, known.acked, (let x = c.from.ensures in let y = c.from-2.ensures in let z = c.from-3.ensures in omega arith))
+
+pub returns-clause-lawful : goal.returns-clause-lawful
+returns-clause-lawful g c = λ passed bytes known long.
+    let near = c.if-from.false in
+    before_23 _ passed c.args.number bytes
+    (before_22 _ passed c.args.number bytes (before_21 _ passed c.args.number bytes
+    (before_20 _ passed c.args.number bytes
+    (before_19 _ passed c.args.number bytes (refute _ c.if-blocks_wait.false (c.blocks_wait.ensures (usable passed) known.zero)))
+    c.if-number-eq0.false)
+    (λ b. refute _ c.if-is_beyond.false c.is_beyond.ensures (b.0, rw (sym long) b.1)))
+    (right_not_wrong _ _ passed c.args.number bytes c.args.len known.blocks c.requires.sound long c.if-number-eq0.false (c.has_wrong_length.ensures.right c.if-has_wrong_length.false)))
+    (λ b. let same = known.only b.0 b.1 in let over = b.2 in let x = c.from.ensures in let y = c.from-2.ensures in let z = c.from-3.ensures in omega arith)
+
+pub returns-clause-open : goal.returns-clause-open
+returns-clause-open g c =
+    let near = c.if-from.false in
+    let some = c.if-number-eq0.false in
+    record {
+      from_one = omega arith;
+      right = c.has_wrong_length.ensures.right c.if-has_wrong_length.false;
+      within = let x = c.from.ensures in let y = c.from-2.ensures in let z = c.from-3.ensures in omega arith;
+    }

@@ -1,0 +1,143 @@
+-- What an end keeps of a transfer whose request has been answered, and for which datagrams that stands. The list `passed`
+-- has the datagrams of the transfer that have passed at this end, the newest first.
+use Rattle.std.specs.Prelude.{◌≡◌, ◌↔◌, ◌⊎◌, ℕ, ◌+◌, ◌/◌, ◌%◌, ◌<◌, ◌≤◌, Bool, true, List, length, Option, Some, cond}
+use Rattle.std.specs.List.{list_any}
+use Rattle.std.specs.FinMap as map
+use Rattle.tftp_packet.specs.Message.{Message, Request, Data, Ack, Error, Oack}
+use Rattle.tftp_packet.specs.Spelling.{Spells}
+use Rattle.tftp_packet.specs.declared.kinds.Side.{Side}
+use Rattle.tftp_packet.specs.declared.kinds.Dir.{Dir}
+use Rattle.tftp_packet.specs.declared.kinds.Dir.TheVariants.{In, Out}
+use Rattle.tftp_ends.specs.CaptureText.{Datagram}
+use Rattle.tftp_ends.specs.Roles.{sender_of, receiver_of}
+use Rattle.tftp_ends.specs.Rules.{Passed, HasPassed, brings_error, usable, IsTop, IsAnswered, IsAcked, IsFront, IsLast}
+use Rattle.tftp_ends.specs.Store.{Held, IsHeldFront, Takes}
+use Rattle.tftp_ends.specs.declared.terms.Reply.{Reply}
+use Rattle.tftp_ends.specs.declared.terms.Reply.TheVariants.{Plain, Oacked}
+use Rattle.tftp_ends.specs.declared.terms.Terms.{Terms}
+
+-- an ERROR of the other end has come in
+abbrev pub has_stopped : List Datagram → Bool
+has_stopped passed = list_any brings_error passed
+
+-- these blocks have passed, and no others
+abbrev pub AreBlocks : List Datagram → Held → Type 0
+AreBlocks passed held = (k : ℕ) (bytes : List ℕ) → HasPassed (Data k bytes) passed ↔ (map.get held k ≡ Some bytes)
+
+-- ---- the sender
+
+-- what it keeps
+pub record Sender : Type 0 where
+  pub terms : Terms
+  pub held : Held  -- the blocks that went out
+  pub answered : ℕ  -- the highest ACK that came in
+  pub zero : Bool  -- an ACK 0 came in
+  pub usable_top : ℕ  -- the highest block that went out before an ERROR came in
+  pub stopped : Bool  -- an ERROR came in
+
+-- what the sender knows at its start
+abbrev pub sender_terms : Side → Bool → ℕ → ℕ → Option ℕ → Terms
+sender_terms side oacked blksize windowsize size =
+    record { named = sender_of side; side = side; reply = cond oacked Oacked Plain; blksize = blksize; windowsize = windowsize; size = size }
+
+-- The sender stands for these datagrams.
+pub record IsSenderAfter (s : Sender) (passed : List Datagram) : Type 0 where
+  pub blocks : AreBlocks passed s.held
+  pub sends_blocks : (k : ℕ) (bytes : List ℕ) → Passed In (Data k bytes) passed → ⊥
+  pub takes_acks : (j : ℕ) → Passed Out (Ack j) passed → ⊥
+  pub answered : IsAnswered passed s.answered
+  pub zero : (s.zero ≡ true) ↔ HasPassed (Ack 0) (usable passed)
+  pub usable_top : IsTop (usable passed) s.usable_top
+  pub stopped : has_stopped passed ≡ s.stopped
+
+-- the same, when an ERROR comes in
+abbrev pub stopped_sender : Sender → Sender
+stopped_sender s = record { terms = s.terms; held = s.held; answered = s.answered; zero = s.zero; usable_top = s.usable_top; stopped = true }
+
+-- ---- the receiver
+
+-- what it keeps
+pub record Receiver : Type 0 where
+  pub terms : Terms
+  pub held : Held  -- the blocks that came in
+  pub acked : ℕ  -- the highest ACK that went out
+  pub usable_acked : ℕ  -- the highest ACK that went out before an ERROR came in
+  pub zero : Bool  -- an ACK 0 went out before an ERROR came in
+  pub stopped : Bool  -- an ERROR came in
+
+-- what the receiver knows at its start
+abbrev pub receiver_terms : Side → Bool → ℕ → ℕ → Option ℕ → Terms
+receiver_terms side oacked blksize windowsize size =
+    record { named = receiver_of side; side = side; reply = cond oacked Oacked Plain; blksize = blksize; windowsize = windowsize; size = size }
+
+-- The receiver stands for these datagrams.
+pub record IsReceiverAfter (r : Receiver) (passed : List Datagram) : Type 0 where
+  pub blocks : AreBlocks passed r.held
+  pub takes_blocks : (k : ℕ) (bytes : List ℕ) → Passed Out (Data k bytes) passed → ⊥
+  pub sends_acks : (j : ℕ) → Passed In (Ack j) passed → ⊥
+  pub acked : IsAcked passed r.acked
+  pub usable_acked : IsAcked (usable passed) r.usable_acked
+  pub zero : (r.zero ≡ true) ↔ HasPassed (Ack 0) (usable passed)
+  pub stopped : has_stopped passed ≡ r.stopped
+
+-- the same, when an ERROR comes in
+abbrev pub stopped_receiver : Receiver → Receiver
+stopped_receiver r = record { terms = r.terms; held = r.held; acked = r.acked; usable_acked = r.usable_acked; zero = r.zero; stopped = true }
+
+-- ---- before the reply
+
+-- the same terms, with this reply
+abbrev pub replied : Reply → Terms → Terms
+replied reply t = record { named = t.named; side = t.side; reply = reply; blksize = t.blksize; windowsize = t.windowsize; size = t.size }
+
+-- ---- what passes
+
+-- no block and no ACK has passed
+pub record IsBeforeBlocks (passed : List Datagram) : Type 0 where
+  pub no_block : (k : ℕ) (bytes : List ℕ) → HasPassed (Data k bytes) passed → ⊥
+  pub no_ack : (j : ℕ) → HasPassed (Ack j) passed → ⊥
+
+-- requests, what a server agrees to, and this end's own ERROR
+abbrev pub IsAside : Dir → Message → Type 0
+IsAside dir (Request parts) = Unit {0}
+IsAside dir (Oack options) = Unit {0}
+IsAside dir (Error code text) = dir ≡ Out
+IsAside dir _ = ⊥
+
+-- a datagram that goes this way and spells this
+abbrev pub Says : Datagram → Dir → Message → Type 0
+Says d dir m = (d.dir ≡ dir) × Spells d.payload m
+
+-- the last block is known, and its ACK has come (RFC 1350, section 6)
+abbrev pub IsAllAnswered : Terms → List Datagram → Type 0
+IsAllAnswered t passed = (last : ℕ) × IsLast t passed last × Passed In (Ack last) passed
+
+-- the last block is known, all blocks up to it have come, and its ACK was sent (RFC 1350, section 6)
+abbrev pub IsAllTaken : Terms → List Datagram → Type 0
+IsAllTaken t passed = (last : ℕ) × IsLast t passed last × IsFront passed last × Passed Out (Ack last) passed
+
+-- ---- which blocks may be kept
+
+-- the length that block k has in a wire of this size (RFC 1350, section 2; RFC 2349)
+abbrev pub HasLengthBySize : ℕ → ℕ → ℕ → ℕ → Type 0
+HasLengthBySize b size k long = ((k ≤ size / b) × (long ≡ b)) ⊎ ((k ≡ size / b + 1) × (long ≡ size % b))
+
+-- A block that fits those that are held: the store takes it, it is no other one with the same number, and it has the
+-- length that an agreed size leaves it.
+pub record Fits (t : Terms) (held : Held) (k : ℕ) (bytes : List ℕ) : Type 0 where
+  pub takes : Takes t.blksize t.windowsize held k (length bytes)
+  pub same : (other : List ℕ) → map.get held k ≡ Some other → other ≡ bytes
+  pub sized : (size : ℕ) → t.size ≡ Some size → HasLengthBySize t.blksize size k (length bytes)
+
+-- the block is held
+abbrev pub IsHeld : Held → ℕ → Type 0
+IsHeld held k = (bytes : List ℕ) × (map.get held k ≡ Some bytes)
+
+-- a block that the sender may keep: it fits, and each one below it is held
+pub record MaySend (s : Sender) (k : ℕ) (bytes : List ℕ) : Type 0 where
+  pub fits : Fits s.terms s.held k bytes
+  pub below : (n : ℕ) → 1 ≤ n → n < k → IsHeld s.held n
+
+-- an ACK that the receiver may note: all blocks up to it have come
+abbrev pub MayAcknowledge : Receiver → ℕ → Type 0
+MayAcknowledge r j = (front : ℕ) → IsHeldFront r.held front → j ≤ front

@@ -1,0 +1,174 @@
+//! The rules of blocks and acknowledgements, by the numbers and blocks that a state keeps.
+
+ghost use Rattle.std.specs.Prelude.{◌≡◌, ◌≢◌, ◌↔◌, ℕ, ◌≤◌, List, length, Some, IsTrue, true, false, MatchOption, OnOk, IfErr};
+ghost use Rattle.std.specs.FinMap as map;
+ghost use Rattle.tftp_packet.specs.Message.{Data, Ack};
+ghost use Rattle.tftp_ends.specs.CaptureText.{Datagram};
+ghost use Rattle.tftp_ends.specs.Rules.{HasPassed, HasWrongLength, BlocksWait, AckZeroWaits, FirstEndBroken};
+ghost use Rattle.tftp_ends.specs.States.{AreBlocks, HasLengthBySize};
+ghost use Rattle.tftp_ends.specs.StatesKept.{IsSound, IsShortTop, AreWhole, IsEnd, HasNoEnd, EndsElsewhere, EndsThere, HasRightLength, IsKnown, NoneBelow, IsOpen};
+
+use crate::delivered::Delivered;
+use crate::rule::EndRule;
+use crate::terms::{Reply, Terms};
+use tftp_packet::Side;
+
+/// What is wrong with a block or an acknowledgement: one of the rules of these.
+pub type EndFault = EndRule;
+
+/// Whether blocks wait for an ACK 0 (RFC 1350, section 4; RFC 2347). `zero` tells whether one has passed.
+fn blocks_wait(terms: &Terms, zero: bool) -> bool
+    ensures { (passed : List Datagram) → ((zero ≡ true) ↔ HasPassed (Ack 0) passed)
+        → (IsTrue result ↔ BlocksWait terms.now.side terms.now.reply passed) }
+{
+    match terms.side {
+        Side::Get => terms.reply == Reply::Oacked && !zero,
+        Side::Put => terms.reply == Reply::NoReply,
+    }
+}
+
+/// Whether an ACK 0 has nothing to answer (RFC 1350, section 4; RFC 2347). `any_block` tells whether a block has passed.
+pub(crate) fn ack_zero_waits(terms: &Terms, any_block: bool) -> bool
+    ensures { (passed : List Datagram) → ((any_block ≡ true) ↔ ((k : ℕ) × (bytes : List ℕ) × HasPassed (Data k bytes) passed))
+        → (IsTrue result ↔ AckZeroWaits terms.now.side terms.now.reply passed) }
+{
+    match terms.side {
+        Side::Get => terms.reply != Reply::Oacked,
+        Side::Put => terms.reply == Reply::Oacked && !any_block,
+    }
+}
+
+/// The block that is shorter than the others, and so the last, if it is held (RFC 1350, section 2).
+fn short_block<D: Delivered>(store: &D, block_size: usize) -> Option<u16>
+    requires { D.block_size store.now ≡ block_size }
+    ensures { MatchOption result (AreWhole block_size (D.held store.now)) (IsShortTop block_size (D.held store.now)) }
+{
+    let highest = store.highest();
+    match store.block(highest) {
+        Some(bytes) => {
+            if bytes.len() < block_size {
+                return Some(highest);
+            }
+        }
+        None => {}
+    }
+    None
+}
+
+/// The last block, where a size was agreed or a short block is held (RFC 1350, section 2; RFC 2349).
+pub(crate) fn last_block<D: Delivered>(terms: &Terms, store: &D) -> Option<u64>
+    requires sound { IsSound terms.now (D.held store.now) }
+    requires block_size { D.block_size store.now ≡ terms.now.blksize }
+    ensures { MatchOption result (HasNoEnd terms.now (D.held store.now)) (IsEnd terms.now (D.held store.now)) }
+{
+    match terms.size {
+        Some(size) => Some(size / u64::from(terms.blksize) + 1),
+        None => match short_block(store, usize::from(terms.blksize)) {
+            Some(last) => Some(u64::from(last)),
+            None => None,
+        },
+    }
+}
+
+/// Whether a block has the length that this size of the wire leaves it (RFC 1350, section 2; RFC 2349).
+fn has_length_by_size(block_size: u64, size: u64, number: u64, len: u64) -> bool
+    requires block_size { 8 ≤ block_size }
+    requires number { number ≤ 65535 }
+    ensures { IsTrue result ↔ HasLengthBySize block_size size number len }
+{
+    let whole_blocks = size / block_size;
+    if number <= whole_blocks {
+        return len == block_size;
+    }
+    number - whole_blocks == 1 && len == size % block_size
+}
+
+/// Whether a block that is no longer than the others can't have its length, where no size was agreed (RFC 1350, section
+/// 2).
+fn ends_elsewhere<D: Delivered>(store: &D, block_size: usize, number: u16, len: usize) -> bool
+    requires block_size { D.block_size store.now ≡ block_size }
+    requires fits { len ≤ block_size }
+    ensures wrong { result ≡ true → EndsElsewhere block_size (D.held store.now) number len }
+    ensures right { result ≡ false → EndsThere block_size (D.held store.now) number len }
+{
+    match short_block(store, block_size) {
+        Some(last) => number > last || (len == block_size) != (number < last),
+        None => len < block_size && number <= store.highest(),
+    }
+}
+
+/// Whether a block can't have this length beside those that are held (RFC 1350, section 2; RFC 2348; RFC 2349).
+fn has_wrong_length<D: Delivered>(terms: &Terms, store: &D, number: u16, len: usize) -> bool
+    requires sound { IsSound terms.now (D.held store.now) }
+    requires block_size { D.block_size store.now ≡ terms.now.blksize }
+    ensures wrong { result ≡ true → (passed : List Datagram) → AreBlocks passed (D.held store.now) → HasWrongLength terms.now passed number len }
+    ensures right { result ≡ false → HasRightLength terms.now (D.held store.now) number len }
+{
+    let block_size = terms.blksize;
+    if len > usize::from(block_size) {
+        return true;
+    }
+    match terms.size {
+        Some(size) => !has_length_by_size(
+            u64::from(block_size),
+            size,
+            u64::from(number),
+            len as u64,
+        ),
+        None => ends_elsewhere(store, usize::from(block_size), number, len),
+    }
+}
+
+/// Whether it is a block 65535 that is not the last (RFC 1350, section 5).
+fn is_beyond(terms: &Terms, number: u16, len: usize) -> bool
+    ensures { IsTrue result ↔ ((number ≡ 65535) × (terms.now.blksize ≤ len)) }
+{
+    number == u16::MAX && usize::from(terms.blksize) <= len
+}
+
+/// The first rule that a block of this length breaks, of those that are the same at both ends and do not compare its
+/// bytes. `acked` is the highest ACK that the sender can go by (RFC 1350, sections 2, 4 and 5; RFC 2347; RFC 2348; RFC
+/// 2349; RFC 7440, section 4).
+pub(crate) fn may_open<D: Delivered>(
+    terms: &Terms,
+    store: &D,
+    zero: bool,
+    acked: u16,
+    number: u16,
+    len: usize,
+) -> Result<(), EndFault>
+    requires sound { IsSound terms.now (D.held store.now) }
+    requires block_size { D.block_size store.now ≡ terms.now.blksize }
+    ensures lawful { (passed : List Datagram) (bytes : List ℕ) → IsKnown terms.now passed (D.held store.now) zero acked → length bytes ≡ len
+        → OnOk result (NoneBelow terms.now passed (Data number bytes) 23) }
+    ensures first { (passed : List Datagram) (bytes : List ℕ) → IsKnown terms.now passed (D.held store.now) zero acked → length bytes ≡ len
+        → IfErr result (FirstEndBroken terms.now passed (Data number bytes)) }
+    ensures open { OnOk result (IsOpen terms.now (D.held store.now) acked number len) }
+{
+    if blocks_wait(terms, zero) {
+        return Err(EndFault::NotStarted);
+    }
+    if number == 0 {
+        return Err(EndFault::BlockZero);
+    }
+    if is_beyond(terms, number, len) {
+        return Err(EndFault::BeyondBlock65535);
+    }
+    if has_wrong_length(terms, store, number, len) {
+        return Err(EndFault::BlockLength);
+    }
+    if u32::from(acked) + u32::from(terms.windowsize) < u32::from(number) {
+        return Err(EndFault::WindowOverrun);
+    }
+    Ok(())
+}
+
+/// Whether the block is held with other bytes (RFC 1350, section 2).
+pub(crate) fn is_other<D: Delivered>(store: &D, number: u16, bytes: &[u8]) -> bool
+    ensures { IsTrue result ↔ ((other : List ℕ) × (map.get (D.held store.now) number ≡ Some other) × (other ≢ bytes.now)) }
+{
+    match store.block(number) {
+        Some(held) => held != bytes,
+        None => false,
+    }
+}

@@ -1,0 +1,217 @@
+ghost use Rattle.std.specs.Prelude.{◌≡◌, ◌↔◌, ℕ, ◌≤◌, List, ◌∷◌, None, IsTrue, false, true, OnOk, OnErr, IfErr};
+ghost use Rattle.std.specs.FinMap as map;
+ghost use Rattle.tftp_packet.specs.Message.{Data, Ack, Error};
+ghost use Rattle.tftp_packet.specs.declared.kinds.Dir.TheVariants.{In, Out};
+ghost use Rattle.tftp_ends.specs.CaptureText.{Datagram};
+ghost use Rattle.tftp_ends.specs.Store.{nothing_held};
+ghost use Rattle.tftp_ends.specs.Rules.{EndBroken, FirstEndBroken};
+ghost use Rattle.tftp_ends.specs.States.{
+  has_stopped,
+  sender_terms,
+  stopped_sender,
+  IsSenderAfter,
+  IsBeforeBlocks,
+  IsAllAnswered,
+  MaySend,
+  Says,
+};
+ghost use Rattle.tftp_ends.specs.declared.rule.EndRule.{EndRule as Rule};
+
+use crate::block_rules::{EndFault, ack_zero_waits, is_other, last_block, may_open};
+use crate::delivered::Delivered;
+use crate::terms::{Reply, Terms};
+use std::alloc::{AllocError, Global};
+use std::marker::Model;
+use tftp_packet::{End, Side};
+
+/// The end that sends the file, from when the request is answered. It keeps the blocks and a few numbers, and no list of
+/// what has passed.
+#[derive(Drop)]
+pub struct SenderState<D: Delivered> {
+    terms: Terms,
+    // the blocks that went out
+    store: D,
+    // the highest ACK that came in
+    answered: u16,
+    // whether an ACK 0 came in
+    zero: bool,
+    // the highest block that went out before an ERROR came in
+    usable_top: u16,
+    // whether an ERROR came in
+    stopped: bool,
+}
+
+impl<D: Delivered> Model for SenderState<D> {
+    ghost use Rattle.std.specs.Prelude.{◌≡◌};
+    ghost use Rattle.tftp_ends.specs.States.{Sender};
+    ghost use Rattle.tftp_ends.specs.StatesKept.{sender_code, IsSoundSender};
+
+    ghost Value = { Sender };
+
+    ghost coded = { sender_code };
+
+    ghost view = { λ s. record { terms = s.terms; held = D.held s.store; answered = s.answered; zero = s.zero; usable_top = s.usable_top; stopped = s.stopped } };
+
+    ghost invariant = { λ s. IsSoundSender (record { terms = s.terms; held = D.held s.store; answered = s.answered; zero = s.zero; usable_top = s.usable_top; stopped = s.stopped })
+        × (D.block_size s.store ≡ s.terms.blksize) × (D.window s.store ≡ s.terms.windowsize) };
+}
+
+impl<D: Delivered> SenderState<D> {
+    /// The sender of a transfer whose request was answered, by an OACK or without one. `wire_len` is the size of the wire
+    /// where that was agreed. Takes no memory.
+    pub fn new(
+        side: Side,
+        oacked: bool,
+        blksize: u16,
+        windowsize: u16,
+        wire_len: Option<u64>,
+        store: D,
+    ) -> Self
+        requires blksize { 8 ≤ blksize }
+        requires windowsize { 1 ≤ windowsize }
+        requires empty { D.held store ≡ nothing_held }
+        requires block_size { D.block_size store ≡ blksize }
+        requires window { D.window store ≡ windowsize }
+        ensures terms { result.terms ≡ sender_terms side oacked blksize windowsize wire_len }
+        ensures before { (passed : List Datagram) → IsBeforeBlocks passed → has_stopped passed ≡ false → IsSenderAfter result passed }
+        ensures stopped { (passed : List Datagram) → IsBeforeBlocks passed → has_stopped passed ≡ true → IsSenderAfter (stopped_sender result) passed }
+    {
+        SenderState {
+            terms: Terms {
+                named: match side {
+                    Side::Get => End::Server,
+                    Side::Put => End::Client,
+                },
+                side,
+                reply: if oacked { Reply::Oacked } else { Reply::Plain },
+                blksize,
+                windowsize,
+                size: wire_len,
+            },
+            store,
+            answered: 0,
+            zero: false,
+            usable_top: 0,
+            stopped: false,
+        }
+    }
+
+    /// Whether a block may go out, or the first rule that it breaks (RFC 1350, sections 2, 4 and 5; RFC 2347; RFC 2348;
+    /// RFC 2349; RFC 7440, section 4).
+    pub fn may_data(&self, number: u16, bytes: &[u8]) -> Result<(), EndFault>
+        ensures lawful { (passed : List Datagram) → IsSenderAfter self.now passed
+            → OnOk result ((rule : Rule) → EndBroken self.now.terms passed (Data number bytes.now) rule → ⊥) }
+        ensures first { (passed : List Datagram) → IsSenderAfter self.now passed
+            → IfErr result (FirstEndBroken self.now.terms passed (Data number bytes.now)) }
+        ensures may { OnOk result (MaySend self.now number bytes.now) }
+    {
+        may_open(
+            &self.terms,
+            &self.store,
+            self.zero,
+            self.answered,
+            number,
+            bytes.len(),
+        )?;
+        let top = self.store.highest();
+        if u32::from(top) + 1 < u32::from(number) {
+            return Err(EndFault::BlockSkipped);
+        }
+        if self.terms.windowsize == 1 && number < top {
+            return Err(EndFault::GoneBack);
+        }
+        if is_other(&self.store, number, bytes) {
+            return Err(EndFault::BlockChanged);
+        }
+        Ok(())
+    }
+
+    /// Keeps a block that goes out. After want of memory, which a block that is held never
+    /// meets, nothing has changed.
+    pub fn sent(&mut self, alloc: Global, number: u16, bytes: &[u8]) -> Result<(), AllocError>
+        requires { MaySend self.old number bytes.now }
+        ensures ok { (passed : List Datagram) (d : Datagram) → IsSenderAfter self.old passed → Says d Out (Data number bytes.now)
+            → OnOk result (IsSenderAfter self.new (d ∷ passed)) }
+        ensures err { OnErr result (self.new ≡ self.old) }
+        ensures absent { OnErr result (map.get self.old.held number ≡ None) }
+        ensures terms { self.new.terms ≡ self.old.terms }
+    {
+        self.store.put(alloc, number, bytes)?;
+        if !self.stopped {
+            self.usable_top = self.usable_top.max(number);
+        }
+        Ok(())
+    }
+
+    /// Whether an ACK may come in, or the first rule that it breaks (RFC 1350, sections 2 and 4; RFC 2347; RFC 7440,
+    /// section 4).
+    pub fn may_ack(&self, number: u16) -> Result<(), EndFault>
+        ensures lawful { (passed : List Datagram) → IsSenderAfter self.now passed
+            → OnOk result ((rule : Rule) → EndBroken self.now.terms passed (Ack number) rule → ⊥) }
+        ensures first { (passed : List Datagram) → IsSenderAfter self.now passed
+            → IfErr result (FirstEndBroken self.now.terms passed (Ack number)) }
+        ensures may { OnOk result (number ≤ self.now.usable_top) }
+    {
+        if self.usable_top < number {
+            return Err(EndFault::AckAhead);
+        }
+        if number == 0 && ack_zero_waits(&self.terms, self.usable_top > 0) {
+            return Err(EndFault::AckZero);
+        }
+        Ok(())
+    }
+
+    /// Notes an ACK that comes in.
+    pub fn got_ack(&mut self, number: u16)
+        requires { number ≤ self.old.usable_top }
+        ensures after { (passed : List Datagram) (d : Datagram) → IsSenderAfter self.old passed → Says d In (Ack number)
+            → IsSenderAfter self.new (d ∷ passed) }
+        ensures terms { self.new.terms ≡ self.old.terms }
+    {
+        self.answered = self.answered.max(number);
+        if number == 0 {
+            self.zero = true;
+        }
+    }
+
+    /// Notes that an ERROR comes in. What goes out from then on the other end can't have used (RFC 1350, section 7).
+    /// Takes no memory, and a second call changes nothing.
+    pub fn peer_stopped(&mut self)
+        ensures after { (passed : List Datagram) (d : Datagram) (code : ℕ) (text : List ℕ) → IsSenderAfter self.old passed
+            → Says d In (Error code text) → IsSenderAfter self.new (d ∷ passed) }
+        ensures value { self.new ≡ stopped_sender self.old }
+        ensures again { self.old.stopped ≡ true → self.new ≡ self.old }
+    {
+        self.stopped = true;
+    }
+
+    /// Whether all blocks are acknowledged (RFC 1350, section 6).
+    pub fn done(&self) -> bool
+        ensures { (passed : List Datagram) → IsSenderAfter self.now passed
+            → (IsTrue result ↔ IsAllAnswered self.now.terms passed) }
+    {
+        match last_block(&self.terms, &self.store) {
+            Some(last) => last == u64::from(self.answered),
+            None => false,
+        }
+    }
+
+    /// The store with the blocks that went out.
+    pub fn store(&self) -> &D
+        ensures held { D.held result.now ≡ self.now.held }
+        ensures block_size { D.block_size result.now ≡ self.now.terms.blksize }
+        ensures window { D.window result.now ≡ self.now.terms.windowsize }
+    {
+        &self.store
+    }
+
+    /// The store with the blocks that went out.
+    pub fn into_store(self) -> D
+        ensures held { D.held result ≡ self.held }
+        ensures block_size { D.block_size result ≡ self.terms.blksize }
+        ensures window { D.window result ≡ self.terms.windowsize }
+    {
+        let SenderState { store, .. } = self;
+        store
+    }
+}
