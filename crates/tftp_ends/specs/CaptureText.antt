@@ -1,10 +1,11 @@
 -- A capture: where it was taken, and what passed there.
-use Rattle.std.specs.Prelude.{ℕ}
+use Rattle.std.specs.Prelude.{ℕ, List}
 pub use Rattle.tftp_capture.specs.CaptureText.{Datagram, Header}
 
--- The other side of a datagram, as far as a capture tells it: the port.
-abbrev pub PeerId : Type 0
-PeerId = ℕ
+-- the other side of a datagram: a host, and a port there (RFC 1350, section 4)
+pub record PeerId : Type 0 where
+  pub host : List ℕ
+  pub port : ℕ
 
 abbrev pub peer_of : Datagram → PeerId
-peer_of d = d.remote
+peer_of d = record { host = d.host; port = d.remote }

@@ -1,7 +1,8 @@
--- Transfer ids: which datagrams belong to the transfer, by their ports (RFC 1350, section 4). The list `earlier` has
--- the datagrams that have passed, the newest first.
+-- Transfer ids: which datagrams belong to the transfer, by their ports and the other host (RFC 1350, section 4). The
+-- list `earlier` has the datagrams that have passed, the newest first.
 use Rattle.std.specs.Prelude.{◌≡◌, ◌⊎◌, ℕ, ◌==◌, ◌&&◌, ◌||◌, not, Bool, true, false, List, [], ◌∷◌, Option, Some, None, option_map, if◌then◌else◌}
 use Rattle.std.specs.List.{list_any}
+use Rattle.std.specs.Str.{bytes_eq}
 use Rattle.tftp_packet.specs.Message.{Message}
 use Rattle.tftp_packet.specs.Spelling.{Spells}
 use Rattle.tftp_packet.specs.Faults.{opcode_of}
@@ -22,8 +23,9 @@ goes_out d = is_out d.dir where
 abbrev pub comes_in : Datagram → Bool
 comes_in d = not (goes_out d)
 
+-- the same host, byte by byte, and the same port there
 abbrev pub same_peer : PeerId → PeerId → Bool
-same_peer one other = one == other
+same_peer one other = bytes_eq one.host other.host && (one.port == other.port)
 
 -- the payload begins as a request does (RFC 1350, section 5)
 abbrev pub begins_request : Datagram → Bool
@@ -74,11 +76,12 @@ route_out other earlier d =
     else if has_come_from (peer_of d) earlier then (if begins_error d then StrayAnswer else NoStrayAnswer)
     else WrongPort
 
--- At the client, whose port is fixed by its first request. The server's is fixed by the first datagram that comes in.
-abbrev pub route_at_client : Header → ℕ → Option PeerId → List Datagram → Datagram → Route
-route_at_client h own server earlier d =
+-- At the client, whose port is fixed by its first request, and so is where it asks. The server is fixed by the first
+-- datagram that comes in: it may answer from another host than the one asked.
+abbrev pub route_at_client : ℕ → PeerId → Option PeerId → List Datagram → Datagram → Route
+route_at_client own asked server earlier d =
     if not (d.local == own) then ForeignPort
-    else if goes_out d then (if begins_request d then (if d.remote == h.service then Request else WrongPort) else out server)
+    else if goes_out d then (if begins_request d then (if same_peer (peer_of d) asked then Request else WrongPort) else out server)
     else back server
   where
     out : Option PeerId → Route
@@ -111,7 +114,8 @@ route_at_server h client (Some own) earlier d =
 
 -- the route, by the first request and by the first datagram from the server's side
 abbrev pub route_after : End → Header → Datagram → List Datagram → Datagram → Route
-route_after Client h first earlier d = route_at_client h first.local (option_map peer_of (first_of comes_in earlier)) earlier d
+route_after Client h first earlier d =
+    route_at_client first.local (peer_of first) (option_map peer_of (first_of comes_in earlier)) earlier d
 route_after Server h first earlier d =
     route_at_server h (peer_of first) (option_map (λ a. a.local) (first_of (λ a. goes_out a && same_peer (peer_of a) (peer_of first)) earlier)) earlier d
 

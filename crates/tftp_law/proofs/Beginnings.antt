@@ -21,7 +21,7 @@ empty_is_lawful header = (
     fits = two_bytes_fit;
     view = [];
     run = ([], tt, refl);
-    dressed = record { ids = record { own = 0; peer = 0 }; division = []; whole = refl; main = refl; parts = tt };
+    dressed = record { ids = record { own = 0; peer = record { host = []; port = 0 }; asked = [] }; division = []; whole = refl; main = refl; parts = tt };
   },
 )
 

@@ -1,5 +1,5 @@
 -- At the client a list has parts by its routes.
-use Rattle.std.proofs.Common.{◌≡◌, ◌⊎◌, ℕ, List, [], ◌∷◌, Option, Some, option_map, Any, inl, inr, refl, sym, ◌∙◌}
+use Rattle.std.proofs.Common.{◌≡◌, ◌⊎◌, ℕ, true, List, [], ◌∷◌, Option, Some, option_map, Any, inl, inr, refl, sym, ap, ◌∙◌}
 use Rattle.std.specs.Prelude.{◌&&◌, ◌==◌}
 use Rattle.std.proofs.lemmas.Bool.{and_parts, eqb-true}
 use Rattle.tftp_packet.specs.declared.kinds.End.TheVariants.{Client}
@@ -10,7 +10,7 @@ use Rattle.tftp_ends.specs.Ports.{goes_out, comes_in, begins_request, asks, firs
 use Rattle.tftp_ends.specs.declared.route.Route.{Route}
 use Rattle.tftp_law.specs.Dress.{Part, Main, Stray, StrayAnswer, Division, datagrams_of, view_in, dir_of, packet_of, TransferIds, Saying, Carries, ComesAstray, AnswersStray, HasPartBy, HavePartsBy}
 use Rattle.tftp_law.specs.Accord.{packet_route, part_route, SaysAsBy, AreRoutedBy, Stands, Starts}
-use Rattle.tftp_law.proofs.FirstRequests.{asks_is, first_stays}
+use Rattle.tftp_law.proofs.FirstRequests.{asks_is, first_stays, first_passes}
 use Rattle.tftp_law.proofs.RouteTests.{in_true, two_ways}
 use Rattle.tftp_law.proofs.RoutesBack.{dir_out, dir_in, came_dir, this_one, first_any, map_some, map_none, c_request, c_peer, c_stray, c_answer, no_stray_before}
 use Rattle.tftp_law.proofs.Unasked.{none_view, stray_from}
@@ -27,9 +27,17 @@ module _ (service : ℕ) (says : Saying) (ids : TransferIds) where
   pub record ClientIds (ds : List Datagram) : Type 0 where
     pub own : (first : Datagram) → first_of (asks ch) ds ≡ Some first → first.local ≡ ids.own
     pub peer : (x : Datagram) → first_of comes_in ds ≡ Some x → peer_of x ≡ ids.peer
+    pub asked : (first : Datagram) → first_of (asks ch) ds ≡ Some first → first.host ≡ ids.asked
 
   client_ids_before : (d : Datagram) (ds : List Datagram) → ClientIds (d ∷ ds) → ClientIds ds
-  client_ids_before d ds are = record { own = λ first e. are.own first (first_stays (asks ch) d first ds e); peer = λ x e. are.peer x (first_stays comes_in d x ds e) }
+  client_ids_before d ds are = record {
+    own = λ first e. are.own first (first_stays (asks ch) d first ds e);
+    peer = λ x e. are.peer x (first_stays comes_in d x ds e);
+    asked = λ first e. are.asked first (first_stays (asks ch) d first ds e);
+  }
+
+  asked_there : (d : Datagram) → asks ch d ≡ true → d.remote ≡ service
+  asked_there d t = eqb-true d.remote service (and_parts (goes_out d && begins_request d) (d.remote == service) t).1
 
   c_main_in : (d : Datagram) (part : Part) (earlier : Division) → HasPartBy ch says ids earlier d part → d.dir ≡ In → Any MainIn (one d part earlier)
   c_main_in d (Main deed) earlier p way = any_first MainIn (record { datagram = d; part = Main deed }) earlier ((deed, refl), way)
@@ -62,8 +70,8 @@ module _ (service : ℕ) (says : Saying) (ids : TransferIds) where
     before_ids : ClientIds es
     before_ids = client_ids_before d es are
 
-    c_after : (first : Datagram) (r : Route) → first_of (asks ch) es ≡ Some first → route_of ch es d ≡ r → route_at_client ch first.local server es d ≡ r
-    c_after first r some is = let e : route_of ch es d ≡ route_at_client ch first.local server es d = rw some refl in sym e ∙ is
+    c_after : (first : Datagram) (r : Route) → first_of (asks ch) es ≡ Some first → route_of ch es d ≡ r → route_at_client first.local (peer_of first) server es d ≡ r
+    c_after first r some is = let e : route_of ch es d ≡ route_at_client first.local (peer_of first) server es d = rw some refl in sym e ∙ is
 
     c_own : (first : Datagram) → first_of (asks ch) es ≡ Some first → d.local ≡ first.local → d.local ≡ ids.own
     c_own first some is = is ∙ before_ids.own first some
@@ -73,14 +81,15 @@ module _ (service : ℕ) (says : Saying) (ids : TransferIds) where
         let (x, some, at) = map_some peer_of (first_of comes_in es) p is in
         (sym at ∙ before_ids.peer x some, first_any comes_in CameIn (λ q t. came_dir q.datagram t) earlier x some)
 
-    c_back_request : route_of ch es d ≡ Route.Request → (d.local ≡ ids.own) × (d.remote ≡ service)
+    c_back_request : route_of ch es d ≡ Route.Request → (d.local ≡ ids.own) × (d.remote ≡ service) × (d.host ≡ ids.asked)
     c_back_request is = elim (two_ways (first_of (asks ch) es)) [
       | inl none ↦
           let t = asks_is ch es d none is in
-          (are.own d (this_one (asks ch) d es none t), eqb-true d.remote service (and_parts (goes_out d && begins_request d) (d.remote == service) t).1)
+          (are.own d (this_one (asks ch) d es none t), asked_there d t, are.asked d (this_one (asks ch) d es none t))
       | inr some ↦
-          let a = c_request ch es d some.0.local server (c_after some.0 Route.Request some.1 is) in
-          (c_own some.0 some.1 a.0, a.1)
+          let a = c_request ch es d some.0.local (peer_of some.0) server (c_after some.0 Route.Request some.1 is) in
+          let there = asked_there some.0 (first_passes (asks ch) es some.0 some.1) in
+          (c_own some.0 some.1 a.0, ap (λ (p : PeerId). p.port) a.1 ∙ there, ap (λ (p : PeerId). p.host) a.1 ∙ before_ids.asked some.0 some.1)
     ]
 
     c_back_peer : (deed : Deed) → (deed ≡ Sent Req → ⊥) → Stands Client (view_in earlier) deed → route_of ch es d ≡ Route.Peer → d.dir ≡ dir_of deed
@@ -88,7 +97,7 @@ module _ (service : ℕ) (says : Saying) (ids : TransferIds) where
     c_back_peer deed other stands is way = elim (two_ways (first_of (asks ch) es)) [
       | inl none ↦ absurd (other (stands.first (none_view ch says earlier routed starts none)))
       | inr some ↦
-          let a = c_peer ch es d some.0.local server (c_after some.0 Route.Peer some.1 is) in
+          let a = c_peer ch es d some.0.local (peer_of some.0) server (c_after some.0 Route.Peer some.1 is) in
           let own = c_own some.0 some.1 a.0 in
           elim a.1 [
             | inl x ↦ let came = dir_in d x.0 in (own, are.peer d (this_one comes_in d es (map_none peer_of (first_of comes_in es) x.1) (in_true d came)), inl came)
@@ -97,7 +106,7 @@ module _ (service : ℕ) (says : Saying) (ids : TransferIds) where
     ]
 
     c_back_main : (deed : Deed) → d.dir ≡ dir_of deed → says (packet_of deed) d.payload → Stands Client (view_in earlier) deed → route_of ch es d ≡ packet_route (packet_of deed) → Carries ch says ids earlier d deed
-    c_back_main (Sent Req) way s stands is = let b = c_back_request is in record { dir = way; client = b.0; server = b.1; spells = s }
+    c_back_main (Sent Req) way s stands is = let b = c_back_request is in record { dir = way; client = b.0; server = (b.1, λ e. b.2); spells = s }
     c_back_main (Took Req) way s stands is = absurd (stands.not_back refl)
     c_back_main (Sent Oack) way s stands is = let b = c_back_peer (Sent Oack) (λ e. cc) stands is way in record { dir = way; client = b.0; server = (b.1, b.2); spells = s }
     c_back_main (Sent (Data k)) way s stands is = let b = c_back_peer (Sent (Data k)) (λ e. cc) stands is way in record { dir = way; client = b.0; server = (b.1, b.2); spells = s }
@@ -110,7 +119,7 @@ module _ (service : ℕ) (says : Saying) (ids : TransferIds) where
     c_back_stray is = elim (two_ways (first_of (asks ch) es)) [
       | inl none ↦ absurd (no_stray_before ch es d Route.Stray (λ e. cc) (λ e. cc) (λ e. cc) none is)
       | inr some ↦
-          let (own, out, p, at, apart) = c_stray ch es d some.0.local server (c_after some.0 Route.Stray some.1 is) in
+          let (own, out, p, at, apart) = c_stray ch es d some.0.local (peer_of some.0) server (c_after some.0 Route.Stray some.1 is) in
           let b = c_server p at in
           record { dir = dir_in d out; here = c_own some.0 some.1 own; elsewhere = λ e. apart (e ∙ sym b.0); after = c_any_main earlier parts b.1; no_request = λ e. absurd (cc) }
     ]
@@ -119,7 +128,7 @@ module _ (service : ℕ) (says : Saying) (ids : TransferIds) where
     c_back_answer s is = elim (two_ways (first_of (asks ch) es)) [
       | inl none ↦ absurd (no_stray_before ch es d Route.StrayAnswer (λ e. cc) (λ e. cc) (λ e. cc) none is)
       | inr some ↦
-          let (p, at, (own, out, apart, noted)) = c_answer ch es d some.0.local server (c_after some.0 Route.StrayAnswer some.1 is) in
+          let (p, at, (own, out, apart, noted)) = c_answer ch es d some.0.local (peer_of some.0) server (c_after some.0 Route.StrayAnswer some.1 is) in
           let b = c_server p at in
           record { dir = dir_out d out; here = c_own some.0 some.1 own; there = stray_from ch says ids c_came earlier parts starts (peer_of d) (λ e. apart (e ∙ sym b.0)) noted; spells = s }
     ]

@@ -1,7 +1,7 @@
 -- At the client the parts of a division have their routes.
 use Rattle.std.proofs.Common.{◌≡◌, ◌⊎◌, ℕ, true, false, List, [], ◌∷◌, Some, None, Any, inl, inr, refl, sym, subst, ◌∙◌}
-use Rattle.std.specs.Prelude.{◌==◌}
-use Rattle.std.proofs.lemmas.Bool.{false≢true, and_from}
+use Rattle.std.specs.Prelude.{◌==◌, ◌&&◌}
+use Rattle.std.proofs.lemmas.Bool.{false≢true, and_from, and_parts, eqb-true}
 use Rattle.tftp_packet.specs.declared.kinds.End.TheVariants.{Client}
 use Rattle.tftp_packet.specs.declared.kinds.Dir.TheVariants.{In, Out}
 use Rattle.tftp_ends.specs.CaptureText.{Datagram, Header, peer_of}
@@ -12,7 +12,7 @@ use Rattle.tftp_law.specs.Dress.{Part, Main, Stray, StrayAnswer, Placed, Divisio
 use Rattle.tftp_law.specs.Accord.{packet_route, part_route, SaysAsBy, AreRoutedBy, Starts}
 use Rattle.tftp_law.proofs.RouteTests.{same_true, out_true, in_false, in_true, out_false, error_begins, two_ways, now, same_is, other_peer, IsTold}
 use Rattle.tftp_law.proofs.Divided.{any_none, any_cases, any_first, any_later}
-use Rattle.tftp_law.proofs.FirstRequests.{or_some, first_stays}
+use Rattle.tftp_law.proofs.FirstRequests.{or_some, first_stays, first_passes}
 use Rattle.tftp_law.proofs.Placing.{starts_before, CameIn, MainIn, Asked, asked_some, stray_there, view_some}
 
 -- ---- routes at the client
@@ -24,8 +24,8 @@ module _ (service : ℕ) where
   first_request : (ds : List Datagram) (d : Datagram) → first_of (asks at) ds ≡ None → goes_out d ≡ true → begins_request d ≡ true → (d.remote == service) ≡ true → route_of at ds d ≡ Route.Request
   first_request ds d none out begins there = rw (none, out, begins, there) refl
 
-  later_request : (ds : List Datagram) (d first : Datagram) → first_of (asks at) ds ≡ Some first → (d.local == first.local) ≡ true → goes_out d ≡ true → begins_request d ≡ true → (d.remote == service) ≡ true
-      → route_of at ds d ≡ Route.Request
+  later_request : (ds : List Datagram) (d first : Datagram) → first_of (asks at) ds ≡ Some first → (d.local == first.local) ≡ true → goes_out d ≡ true → begins_request d ≡ true
+      → same_peer (peer_of d) (peer_of first) ≡ true → route_of at ds d ≡ Route.Request
   later_request ds d first some own out begins there = rw (some, own, out, begins, there) refl
 
   out_peer : (ds : List Datagram) (d first other : Datagram) → first_of (asks at) ds ≡ Some first → first_of comes_in ds ≡ Some other → (d.local == first.local) ≡ true → goes_out d ≡ true → begins_request d ≡ false
@@ -65,6 +65,26 @@ module _ (service : ℕ) (says : Saying) (told : IsTold says) (ids : TransferIds
     | inr this ↦ subst (λ (d : Datagram). d.local ≡ ids.own) this.2 (own_port earlier p.datagram p.part parts.0)
   ]
 
+  -- what asks is the client's request
+  asks_host : (earlier : Division) (d : Datagram) (part : Part) → HasPartBy here says ids earlier d part → goes_out d ≡ true → begins_request d ≡ true → d.host ≡ ids.asked
+  asks_host earlier d (Main (Sent Req)) p out begins = p.server.1 refl
+  asks_host earlier d (Main (Sent Oack)) p out begins = absurd (false≢true (sym (told.other Oack (λ e. cc) d.payload p.spells) ∙ begins))
+  asks_host earlier d (Main (Sent (Data k))) p out begins = absurd (false≢true (sym (told.other (Data k) (λ e. cc) d.payload p.spells) ∙ begins))
+  asks_host earlier d (Main (Sent (Ack j))) p out begins = absurd (false≢true (sym (told.other (Ack j) (λ e. cc) d.payload p.spells) ∙ begins))
+  asks_host earlier d (Main (Took q)) p out begins = absurd (false≢true (sym (in_false d p.dir) ∙ out))
+  asks_host earlier d Stray p out begins = absurd (false≢true (sym (in_false d p.dir) ∙ out))
+  asks_host earlier d StrayAnswer p out begins = absurd (false≢true (sym (error_begins d 5 p.spells.0 p.spells.1).0 ∙ begins))
+
+  first_host : (division : Division) → HavePartsBy here says ids division → (x : Datagram) → first_of (asks here) (datagrams_of division) ≡ Some x → x.host ≡ ids.asked
+  first_host [] parts x e = absurd (cc)
+  first_host (p ∷ earlier) parts x e = elim (or_some (first_of (asks here) (datagrams_of earlier)) (asks here p.datagram) p.datagram x e) [
+    | inl before ↦ first_host earlier parts.1 x before
+    | inr this ↦
+        let a = and_parts (goes_out p.datagram && begins_request p.datagram) (p.datagram.remote == service) this.1 in
+        let b = and_parts (goes_out p.datagram) (begins_request p.datagram) a.0 in
+        subst (λ (d : Datagram). d.host ≡ ids.asked) this.2 (asks_host earlier p.datagram p.part parts.0 b.0 b.1)
+  ]
+
   some_in : (division : Division) → Any CameIn division → (x : Datagram) × (first_of comes_in (datagrams_of division) ≡ Some x)
   some_in [] any = absurd (any_none (λ (p : Placed). p.datagram.dir ≡ In) any)
   some_in (p ∷ earlier) any = elim (any_cases (λ (p : Placed). p.datagram.dir ≡ In) p earlier any) [
@@ -98,7 +118,10 @@ module _ (service : ℕ) (says : Saying) (told : IsTold says) (ids : TransferIds
   ]
 
   asks_there : (earlier : Division) (d : Datagram) → Carries here says ids earlier d (Sent Req) → asks here d ≡ true
-  asks_there earlier d p = and_from _ _ (and_from _ _ (out_true d p.dir) (told.request d.payload p.spells)) (same_true d.remote service p.server)
+  asks_there earlier d p = and_from _ _ (and_from _ _ (out_true d p.dir) (told.request d.payload p.spells)) (same_true d.remote service p.server.0)
+
+  asked_there : (d : Datagram) → asks here d ≡ true → d.remote ≡ service
+  asked_there d t = eqb-true d.remote service (and_parts (goes_out d && begins_request d) (d.remote == service) t).1
 
   some_asked : (division : Division) → HavePartsBy here says ids division → Starts Client (view_in division) → (last : Deed) (rest : History) → view_in division ≡ last ∷ rest → Asked here division
   some_asked division parts own last rest is = asked_some here says ids (λ earlier d carries. asks_there earlier d carries) division parts own last rest is
@@ -113,14 +136,21 @@ module _ (service : ℕ) (says : Saying) (told : IsTold says) (ids : TransferIds
     remote_not : (d other : Datagram) → (peer_of d ≡ ids.peer → ⊥) → first_of comes_in (datagrams_of earlier) ≡ Some other → same_peer (peer_of d) (peer_of other) ≡ false
     remote_not d other not_there some = other_peer (peer_of d) (peer_of other) (λ same. not_there (same ∙ came_peer earlier parts own other some))
 
+    -- a request goes where the first one went
+    asked_is : (d first : Datagram) → (d.remote ≡ service) × (Client ≡ Client → d.host ≡ ids.asked) → first_of (asks here) (datagrams_of earlier) ≡ Some first → same_peer (peer_of d) (peer_of first) ≡ true
+    asked_is d first goes some =
+        let host = goes.1 refl ∙ sym (first_host earlier parts first some) in
+        let port = goes.0 ∙ sym (asked_there first (first_passes (asks here) (datagrams_of earlier) first some)) in
+        same_is (peer_of d) (peer_of first) (λ i. record { host = host i; port = port i })
+
     route_request : (d : Datagram) → Carries here says ids earlier d (Sent Req) → route_of here (datagrams_of earlier) d ≡ Route.Request
     route_request d p =
         let out = out_true d p.dir in
         let begins = told.request d.payload p.spells in
-        let there = same_true d.remote service p.server in
+        let there = same_true d.remote service p.server.0 in
         elim (two_ways (first_of (asks here) (datagrams_of earlier))) [
           | inl none ↦ first_request service (datagrams_of earlier) d none out begins there
-          | inr some ↦ later_request service (datagrams_of earlier) d some.0 some.1 (local_is d some.0 p.client some.1) out begins there
+          | inr some ↦ later_request service (datagrams_of earlier) d some.0 some.1 (local_is d some.0 p.client some.1) out begins (asked_is d some.0 p.server some.1)
         ]
 
     -- something was asked before

@@ -54,6 +54,14 @@ or_some None false d x e = absurd (cc)
 pub first_stays : {X : Type 0} (test : X → Bool) (x y : X) (xs : List X) → first_of test xs ≡ Some y → first_of test (x ∷ xs) ≡ Some y
 first_stays test x y xs is = ap (λ o. or_this o (test x) x) is
 
+-- the first that passes a test passes it
+pub first_passes : (test : Datagram → Bool) (ds : List Datagram) (x : Datagram) → first_of test ds ≡ Some x → test x ≡ true
+first_passes test [] x is = absurd (cc)
+first_passes test (d ∷ ds) x is = elim (or_some (first_of test ds) (test d) d x is) [
+  | inl before ↦ first_passes test ds x before
+  | inr this ↦ subst (λ y. test y ≡ true) this.2 this.1
+]
+
 -- its route, where none came before
 asks_by : (b c : Bool) → (if b then (if c then Route.Request else Route.WrongPort) else Route.Peer) ≡ Route.Request → (b ≡ true) × (c ≡ true)
 asks_by true true e = (refl, refl)

@@ -1,5 +1,5 @@
 -- At either end a list has parts by its routes, where the oldest deed is the client's request.
-use Rattle.std.proofs.Common.{◌≡◌, ℕ, Bool, List, Option, Some, None, option_map, refl, sym, subst}
+use Rattle.std.proofs.Common.{◌≡◌, ℕ, Bool, List, [], Option, Some, None, option_map, refl, sym, subst}
 use Rattle.std.specs.Prelude.{◌&&◌}
 use Rattle.tftp_packet.specs.declared.kinds.End.{End}
 use Rattle.tftp_packet.specs.declared.kinds.End.TheVariants.{Client, Server}
@@ -19,13 +19,16 @@ or_else x None = x
 or_else x (Some y) = y
 
 abbrev some_peer : PeerId
-some_peer = 0
+some_peer = record { host = []; port = 0 }
 
 or_is : {X : Type 0} (x : X) (f : Datagram → X) (o : Option Datagram) (d : Datagram) → o ≡ Some d → f d ≡ or_else x (option_map f o)
 or_is x f o d is = rw is refl
 
 abbrev local_of : Datagram → ℕ
 local_of d = d.local
+
+abbrev host_of : Datagram → List ℕ
+host_of d = d.host
 
 module _ (service : ℕ) (says : Saying) (division : Division) where
   abbrev all : List Datagram
@@ -38,10 +41,18 @@ module _ (service : ℕ) (says : Saying) (division : Division) where
   as_server = record { named = Server; service = service }
 
   abbrev client_ids : TransferIds
-  client_ids = record { own = or_else 0 (option_map local_of (first_of (asks as_client) all)); peer = or_else some_peer (option_map peer_of (first_of comes_in all)) }
+  client_ids = record {
+    own = or_else 0 (option_map local_of (first_of (asks as_client) all));
+    peer = or_else some_peer (option_map peer_of (first_of comes_in all));
+    asked = or_else [] (option_map host_of (first_of (asks as_client) all));
+  }
 
   client_ids_are : ClientIds service says client_ids all
-  client_ids_are = record { own = λ first e. or_is 0 local_of (first_of (asks as_client) all) first e; peer = λ x e. or_is some_peer peer_of (first_of comes_in all) x e }
+  client_ids_are = record {
+    own = λ first e. or_is 0 local_of (first_of (asks as_client) all) first e;
+    peer = λ x e. or_is some_peer peer_of (first_of comes_in all) x e;
+    asked = λ first e. or_is [] host_of (first_of (asks as_client) all) first e;
+  }
 
   abbrev to : Datagram → Datagram → Bool
   to first a = goes_out a && same_peer (peer_of a) (peer_of first)
@@ -51,7 +62,7 @@ module _ (service : ℕ) (says : Saying) (division : Division) where
   own_by (Some first) = or_else 0 (option_map local_of (first_of (to first) all))
 
   abbrev server_ids : TransferIds
-  server_ids = record { own = own_by (first_of (asks as_server) all); peer = or_else some_peer (option_map peer_of (first_of (asks as_server) all)) }
+  server_ids = record { own = own_by (first_of (asks as_server) all); peer = or_else some_peer (option_map peer_of (first_of (asks as_server) all)); asked = [] }
 
   server_ids_are : ServerIds service says server_ids all
   server_ids_are = record {

@@ -1,7 +1,8 @@
 -- The tests by which a route is computed: when they hold.
 use Rattle.std.proofs.Common.{◌≡◌, ◌⊎◌, ℕ, Bool, true, false, List, ◌∷◌, Option, Some, None, inl, inr, refl, sym, subst, ap, ◌∙◌}
-use Rattle.std.specs.Prelude.{◌||◌, ◌==◌}
-use Rattle.std.proofs.lemmas.Bool.{false≢true, eqb-true, eq-eqb, false_from_ne_true}
+use Rattle.std.specs.Prelude.{◌||◌, ◌==◌, bytes_eq}
+use Rattle.std.proofs.lemmas.Bool.{false≢true, eqb-true, eq-eqb, false_from_ne_true, and_from, and_parts}
+use Rattle.std.proofs.lemmas.Slice.Eq.{bytes_eq-Decides}
 use Rattle.tftp_packet.specs.Message.{Message, RequestParts}
 use Rattle.tftp_packet.specs.Spelling.{Spells, side_opcode}
 use Rattle.tftp_packet.specs.Faults.{opcode_of}
@@ -69,10 +70,14 @@ module _ (test : Datagram → Bool) where
 -- ---- peers: the same exactly if they are equal
 
 pub same_is : (a b : PeerId) → a ≡ b → same_peer a b ≡ true
-same_is a b e = eq-eqb a b e
+same_is a b e = and_from _ _ ((bytes_eq-Decides a.host b.host).1 (ap (λ (p : PeerId). p.host) e)) (eq-eqb a.port b.port (ap (λ (p : PeerId). p.port) e))
 
 pub is_same : (a b : PeerId) → same_peer a b ≡ true → a ≡ b
-is_same a b e = eqb-true a b e
+is_same a b e =
+    let parts = and_parts (bytes_eq a.host b.host) (a.port == b.port) e in
+    let host = (bytes_eq-Decides a.host b.host).0 parts.0 in
+    let port = eqb-true a.port b.port parts.1 in
+    λ i. record { host = host i; port = port i }
 
 pub apart_is : (a b : PeerId) → same_peer a b ≡ false → a ≡ b → ⊥
 apart_is a b differs e = false≢true (sym differs ∙ same_is a b e)

@@ -161,27 +161,27 @@ before_rest false c r q w p is = p is
 
 module _ (h : Header) (ds : List Datagram) (d : Datagram) where
   at_client : Datagram → Route
-  at_client first = route_at_client h first.local (option_map peer_of (first_of comes_in ds)) ds d
+  at_client first = route_at_client first.local (peer_of first) (option_map peer_of (first_of comes_in ds)) ds d
 
-  pub c_request : (own : ℕ) (o : Option PeerId) → route_at_client h own o ds d ≡ Route.Request → (d.local ≡ own) × (d.remote ≡ h.service) × (goes_out d ≡ true) × (begins_request d ≡ true)
-  c_request own None is =
-      let a = client_request (d.local == own) (goes_out d) (begins_request d) (d.remote == h.service) Route.WrongPort Route.Peer (λ e. cc) (λ e. cc) is in
-      (eqb-true d.local own a.0, eqb-true d.remote h.service a.1, a.2, a.3)
-  c_request own (Some p) is =
-      let a = client_request (d.local == own) (goes_out d) (begins_request d) (d.remote == h.service) (route_out p ds d) (if same_peer (peer_of d) p then Route.Peer else Route.Stray)
+  pub c_request : (own : ℕ) (asked : PeerId) (o : Option PeerId) → route_at_client own asked o ds d ≡ Route.Request → (d.local ≡ own) × (peer_of d ≡ asked) × (goes_out d ≡ true) × (begins_request d ≡ true)
+  c_request own asked None is =
+      let a = client_request (d.local == own) (goes_out d) (begins_request d) (same_peer (peer_of d) asked) Route.WrongPort Route.Peer (λ e. cc) (λ e. cc) is in
+      (eqb-true d.local own a.0, is_same (peer_of d) asked a.1, a.2, a.3)
+  c_request own asked (Some p) is =
+      let a = client_request (d.local == own) (goes_out d) (begins_request d) (same_peer (peer_of d) asked) (route_out p ds d) (if same_peer (peer_of d) p then Route.Peer else Route.Stray)
       (out_no_request (same_peer (peer_of d) p) (has_come_from (peer_of d) ds) (begins_error d)) (back_no_request (same_peer (peer_of d) p)) is in
-      (eqb-true d.local own a.0, eqb-true d.remote h.service a.1, a.2, a.3)
+      (eqb-true d.local own a.0, is_same (peer_of d) asked a.1, a.2, a.3)
 
   -- what has a route of the peer
   abbrev FromPeer : ℕ → Option PeerId → Type 0
   FromPeer own o = (d.local ≡ own) × (((goes_out d ≡ false) × (o ≡ None)) ⊎ ((p : PeerId) × (o ≡ Some p) × (peer_of d ≡ p)))
 
-  pub c_peer : (own : ℕ) (o : Option PeerId) → route_at_client h own o ds d ≡ Route.Peer → FromPeer own o
-  c_peer own None is =
-      let a = client_rest (d.local == own) (goes_out d) (begins_request d) (d.remote == h.service) Route.WrongPort Route.Peer Route.Peer (λ e. cc) (λ e. cc) (λ e. cc) is in
+  pub c_peer : (own : ℕ) (asked : PeerId) (o : Option PeerId) → route_at_client own asked o ds d ≡ Route.Peer → FromPeer own o
+  c_peer own asked None is =
+      let a = client_rest (d.local == own) (goes_out d) (begins_request d) (same_peer (peer_of d) asked) Route.WrongPort Route.Peer Route.Peer (λ e. cc) (λ e. cc) (λ e. cc) is in
       (eqb-true d.local own a.0, elim a.1 [ inl x ↦ absurd (let e : Route.WrongPort ≡ Route.Peer = x.1 in cc) | inr x ↦ inl (x.0, refl) ])
-  c_peer own (Some p) is =
-      let a = client_rest (d.local == own) (goes_out d) (begins_request d) (d.remote == h.service) (route_out p ds d) (if same_peer (peer_of d) p then Route.Peer else Route.Stray) Route.Peer (λ e. cc) (λ e. cc) (λ e. cc) is in (
+  c_peer own asked (Some p) is =
+      let a = client_rest (d.local == own) (goes_out d) (begins_request d) (same_peer (peer_of d) asked) (route_out p ds d) (if same_peer (peer_of d) p then Route.Peer else Route.Stray) Route.Peer (λ e. cc) (λ e. cc) (λ e. cc) is in (
         eqb-true d.local own a.0,
         inr (
           p,
@@ -193,12 +193,12 @@ module _ (h : Header) (ds : List Datagram) (d : Datagram) where
         ),
       )
 
-  pub c_stray : (own : ℕ) (o : Option PeerId) → route_at_client h own o ds d ≡ Route.Stray → (d.local ≡ own) × (goes_out d ≡ false) × (p : PeerId) × (o ≡ Some p) × (peer_of d ≡ p → ⊥)
-  c_stray own None is =
-      let a = client_rest (d.local == own) (goes_out d) (begins_request d) (d.remote == h.service) Route.WrongPort Route.Peer Route.Stray (λ e. cc) (λ e. cc) (λ e. cc) is in
+  pub c_stray : (own : ℕ) (asked : PeerId) (o : Option PeerId) → route_at_client own asked o ds d ≡ Route.Stray → (d.local ≡ own) × (goes_out d ≡ false) × (p : PeerId) × (o ≡ Some p) × (peer_of d ≡ p → ⊥)
+  c_stray own asked None is =
+      let a = client_rest (d.local == own) (goes_out d) (begins_request d) (same_peer (peer_of d) asked) Route.WrongPort Route.Peer Route.Stray (λ e. cc) (λ e. cc) (λ e. cc) is in
       absurd (elim a.1 [ inl x ↦ (let e : Route.WrongPort ≡ Route.Stray = x.1 in cc) | inr x ↦ (let e : Route.Peer ≡ Route.Stray = x.1 in cc) ])
-  c_stray own (Some p) is =
-      let a = client_rest (d.local == own) (goes_out d) (begins_request d) (d.remote == h.service) (route_out p ds d) (if same_peer (peer_of d) p then Route.Peer else Route.Stray) Route.Stray (λ e. cc) (λ e. cc) (λ e. cc) is in
+  c_stray own asked (Some p) is =
+      let a = client_rest (d.local == own) (goes_out d) (begins_request d) (same_peer (peer_of d) asked) (route_out p ds d) (if same_peer (peer_of d) p then Route.Peer else Route.Stray) Route.Stray (λ e. cc) (λ e. cc) (λ e. cc) is in
       elim a.1 [
         | inl x ↦ absurd (out_no_stray (same_peer (peer_of d) p) (has_come_from (peer_of d) ds) (begins_error d) x.1)
         | inr x ↦ (eqb-true d.local own a.0, x.0, p, refl, apart_is (peer_of d) p (back_is_stray (same_peer (peer_of d) p) x.1))
@@ -207,12 +207,12 @@ module _ (h : Header) (ds : List Datagram) (d : Datagram) where
   abbrev ToStray : ℕ → PeerId → Type 0
   ToStray own p = (d.local ≡ own) × (goes_out d ≡ true) × (peer_of d ≡ p → ⊥) × (has_come_from (peer_of d) ds ≡ true)
 
-  pub c_answer : (own : ℕ) (o : Option PeerId) → route_at_client h own o ds d ≡ Route.StrayAnswer → (p : PeerId) × (o ≡ Some p) × ToStray own p
-  c_answer own None is =
-      let a = client_rest (d.local == own) (goes_out d) (begins_request d) (d.remote == h.service) Route.WrongPort Route.Peer Route.StrayAnswer (λ e. cc) (λ e. cc) (λ e. cc) is in
+  pub c_answer : (own : ℕ) (asked : PeerId) (o : Option PeerId) → route_at_client own asked o ds d ≡ Route.StrayAnswer → (p : PeerId) × (o ≡ Some p) × ToStray own p
+  c_answer own asked None is =
+      let a = client_rest (d.local == own) (goes_out d) (begins_request d) (same_peer (peer_of d) asked) Route.WrongPort Route.Peer Route.StrayAnswer (λ e. cc) (λ e. cc) (λ e. cc) is in
       absurd (elim a.1 [ inl x ↦ (let e : Route.WrongPort ≡ Route.StrayAnswer = x.1 in cc) | inr x ↦ (let e : Route.Peer ≡ Route.StrayAnswer = x.1 in cc) ])
-  c_answer own (Some p) is =
-      let a = client_rest (d.local == own) (goes_out d) (begins_request d) (d.remote == h.service) (route_out p ds d) (if same_peer (peer_of d) p then Route.Peer else Route.Stray) Route.StrayAnswer (λ e. cc) (λ e. cc) (λ e. cc) is in
+  c_answer own asked (Some p) is =
+      let a = client_rest (d.local == own) (goes_out d) (begins_request d) (same_peer (peer_of d) asked) (route_out p ds d) (if same_peer (peer_of d) p then Route.Peer else Route.Stray) Route.StrayAnswer (λ e. cc) (λ e. cc) (λ e. cc) is in
       elim a.1 [
         | inl x ↦ let b = out_is_answer (same_peer (peer_of d) p) (has_come_from (peer_of d) ds) (begins_error d) x.1 in (p, refl, (eqb-true d.local own a.0, x.0, apart_is (peer_of d) p b.0, b.1))
         | inr x ↦ absurd (back_no_answer (same_peer (peer_of d) p) x.1)
@@ -298,7 +298,7 @@ from_way Server d t = came_dir d t
 
 module _ (h : Header) (ds : List Datagram) (d : Datagram) where
   asked_after : (e : End) (first : Datagram) → route_after e h first ds d ≡ Route.Request → (d.dir ≡ dir_of (request_at e)) × (begins_request d ≡ true)
-  asked_after Client first is = let a = c_request h ds d first.local _ is in (dir_out d a.2, a.3)
+  asked_after Client first is = let a = c_request h ds d first.local (peer_of first) _ is in (dir_out d a.2, a.3)
   asked_after Server first is = let a = s_request h ds d (peer_of first) _ is in (dir_in d a.2, a.3)
 
   -- what has the route of a request comes from the client and begins as one

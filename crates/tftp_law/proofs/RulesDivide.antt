@@ -95,14 +95,14 @@ server_peer false own false true false one service a is came = refl
 server_peer false own false false begins one service a is came = absurd (cc)
 
 module _ (h : Header) (ds : List Datagram) (d : Datagram) where
-  at_client_request : (own : ℕ) (o : Option PeerId) → route_at_client h own o ds d ≡ Route.Request → begins_request d ≡ true
-  at_client_request own None is = client_request (d.local == own) (goes_out d) (begins_request d) (d.remote == h.service) Route.WrongPort Route.Peer (λ e. cc) (λ e. cc) is
-  at_client_request own (Some p) is = client_request (d.local == own) (goes_out d) (begins_request d) (d.remote == h.service) (route_out p ds d) (if same_peer (peer_of d) p then Route.Peer else Route.Stray)
+  at_client_request : (own : ℕ) (asked : PeerId) (o : Option PeerId) → route_at_client own asked o ds d ≡ Route.Request → begins_request d ≡ true
+  at_client_request own asked None is = client_request (d.local == own) (goes_out d) (begins_request d) (same_peer (peer_of d) asked) Route.WrongPort Route.Peer (λ e. cc) (λ e. cc) is
+  at_client_request own asked (Some p) is = client_request (d.local == own) (goes_out d) (begins_request d) (same_peer (peer_of d) asked) (route_out p ds d) (if same_peer (peer_of d) p then Route.Peer else Route.Stray)
       (out_peer (same_peer (peer_of d) p) (has_come_from (peer_of d) ds) (begins_error d)) (back_peer (same_peer (peer_of d) p)) is
 
-  at_client_peer : (own : ℕ) (o : Option PeerId) → route_at_client h own o ds d ≡ Route.Peer → goes_out d ≡ true → begins_request d ≡ false
-  at_client_peer own None is went = client_peer (d.local == own) (goes_out d) (begins_request d) (d.remote == h.service) Route.WrongPort Route.Peer is went
-  at_client_peer own (Some p) is went = client_peer (d.local == own) (goes_out d) (begins_request d) (d.remote == h.service) (route_out p ds d) (if same_peer (peer_of d) p then Route.Peer else Route.Stray) is went
+  at_client_peer : (own : ℕ) (asked : PeerId) (o : Option PeerId) → route_at_client own asked o ds d ≡ Route.Peer → goes_out d ≡ true → begins_request d ≡ false
+  at_client_peer own asked None is went = client_peer (d.local == own) (goes_out d) (begins_request d) (same_peer (peer_of d) asked) Route.WrongPort Route.Peer is went
+  at_client_peer own asked (Some p) is went = client_peer (d.local == own) (goes_out d) (begins_request d) (same_peer (peer_of d) asked) (route_out p ds d) (if same_peer (peer_of d) p then Route.Peer else Route.Stray) is went
 
   at_server_request : (client : PeerId) (o : Option ℕ) → route_at_server h client o ds d ≡ Route.Request → begins_request d ≡ true
   at_server_request client None is = first_request (goes_out d) (same_peer (peer_of d) client) (begins_request d) (route_to_service h client d) (service_request (d.local == h.service) (same_peer (peer_of d) client) (begins_request d)) is
@@ -115,11 +115,11 @@ module _ (h : Header) (ds : List Datagram) (d : Datagram) where
       (service_peer (d.local == h.service) (same_peer (peer_of d) client) (begins_request d)) is came
 
   after_request : (e : End) (first : Datagram) → route_after e h first ds d ≡ Route.Request → begins_request d ≡ true
-  after_request Client first is = at_client_request first.local _ is
+  after_request Client first is = at_client_request first.local (peer_of first) _ is
   after_request Server first is = at_server_request (peer_of first) _ is
 
   after_peer : (e : End) (first : Datagram) → route_after e h first ds d ≡ Route.Peer → is_from_client e d ≡ true → begins_request d ≡ false
-  after_peer Client first is from = at_client_peer first.local _ is from
+  after_peer Client first is from = at_client_peer first.local (peer_of first) _ is from
   after_peer Server first is from = at_server_peer (peer_of first) _ is from
 
   after_is : (first : Datagram) → first_of (asks h) ds ≡ Some first → route_of h ds d ≡ route_after h.named h first ds d

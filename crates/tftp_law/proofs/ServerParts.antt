@@ -93,7 +93,7 @@ module _ (service : ℕ) (says : Saying) (ids : TransferIds) where
     ]
 
     s_back_main : (deed : Deed) → d.dir ≡ dir_of deed → says (packet_of deed) d.payload → Stands Server (view_in earlier) deed → route_of sh fs d ≡ packet_route (packet_of deed) → Carries sh says ids earlier d deed
-    s_back_main (Took Req) way s stands is = let b = s_back_request is in record { dir = way; client = b.0; server = b.1; spells = s }
+    s_back_main (Took Req) way s stands is = let b = s_back_request is in record { dir = way; client = b.0; server = (b.1, λ e. cc); spells = s }
     s_back_main (Sent Req) way s stands is = absurd (stands.not_back refl)
     s_back_main (Sent Oack) way s stands is = let b = s_back_peer (Sent Oack) (λ e. cc) stands is in record { dir = way; client = b.0; server = (b.1, b.2); spells = s }
     s_back_main (Sent (Data k)) way s stands is = let b = s_back_peer (Sent (Data k)) (λ e. cc) stands is in record { dir = way; client = b.0; server = (b.1, b.2); spells = s }

@@ -128,7 +128,7 @@ module _ (service : ℕ) (says : Saying) (told : IsTold says) (ids : TransferIds
   ]
 
   s_asks_there : (earlier : Division) (d : Datagram) → Carries hh says ids earlier d (Took Req) → asks hh d ≡ true
-  s_asks_there earlier d p = and_from _ _ (and_from _ _ (in_true d p.dir) (told.request d.payload p.spells)) (same_true d.local service p.server)
+  s_asks_there earlier d p = and_from _ _ (and_from _ _ (in_true d p.dir) (told.request d.payload p.spells)) (same_true d.local service p.server.0)
 
   s_some_asked : (division : Division) → Parts division → Own division → (last : Deed) (rest : History) → view_in division ≡ last ∷ rest → Asked hh division
   s_some_asked division parts own last rest is = asked_some hh says ids (λ earlier d carries. s_asks_there earlier d carries) division parts own last rest is
@@ -150,7 +150,7 @@ module _ (service : ℕ) (says : Saying) (told : IsTold says) (ids : TransferIds
     s_route_request d p =
         let out = in_false d p.dir in
         let begins = told.request d.payload p.spells in
-        let there = same_true d.local service p.server in
+        let there = same_true d.local service p.server.0 in
         elim (two_ways (first_of (asks hh) ds)) [
           | inl none ↦ s_first_request service ds d none out begins there
           | inr some ↦ s_later_request service ds d some.0 some.1 out begins there (s_remote_is d some.0 p.client some.1) (first_of (to_client service some.0) ds) refl (λ x e. (d.local == x.local, refl))

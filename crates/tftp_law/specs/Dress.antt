@@ -11,7 +11,7 @@ use Rattle.tftp_ends.specs.CaptureText.{Datagram, Header, PeerId, peer_of}
 use Rattle.tftp_law.specs.Sides.{server_port, from_server, BeginsAsRequest}
 use Rattle.tftp_packet.specs.Spelling.{Spells}
 
--- What a datagram is to the transfer: what its end sent or took, a stray from another port, or the answer to one.
+-- What a datagram is to the transfer: what its end sent or took, a stray from elsewhere, or the answer to one.
 pub data Part : Type 0 where
   Main : (deed : Deed) → Part
   Stray : Part
@@ -39,10 +39,12 @@ deed_in p = deed_as p.part where
 abbrev pub view_in : Division → History
 view_in division = filter_map deed_in division
 
--- the transfer ids (RFC 1350, section 4): the port of the end where the capture was taken, and the other side
+-- the transfer ids (RFC 1350, section 4): the port of the end where the capture was taken, and the other side; and the
+-- host that a client asks, from which the server need not answer
 pub record TransferIds : Type 0 where
   pub own : ℕ
   pub peer : PeerId
+  pub asked : List ℕ
 
 -- the client's side of the datagram has the client's id
 abbrev pub HasClientId : End → TransferIds → Datagram → Type 0
@@ -65,10 +67,10 @@ packet_of (Took packet) = packet
 abbrev pub IsMain : Part → Type 0
 IsMain part = (deed : Deed) × (part ≡ Main deed)
 
--- A request goes to the service port. All else goes to or comes from where the server answers, and not before a
--- datagram has come from there.
+-- A request goes to the service port, and a client sends all of them to one host. All else goes to or comes from where
+-- the server answers, and not before a datagram has come from there.
 abbrev pub GoesToServer : Header → TransferIds → Division → Datagram → MachinePacket → Type 0
-GoesToServer header ids earlier d Req = server_port header.named d ≡ header.service
+GoesToServer header ids earlier d Req = (server_port header.named d ≡ header.service) × (header.named ≡ Client → d.host ≡ ids.asked)
 GoesToServer header ids earlier d _ =
     HasServerId header.named ids d
     × ((d.dir ≡ from_server header.named) ⊎ Any (λ p. p.datagram.dir ≡ from_server header.named) earlier)
