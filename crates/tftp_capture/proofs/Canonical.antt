@@ -13,7 +13,7 @@ use Rattle.tftp_packet.specs.declared.kinds.Dir.{Dir}
 use Rattle.tftp_packet.specs.declared.kinds.Dir.TheVariants.{In, Out}
 use Rattle.tftp_packet.specs.declared.kinds.End.{End}
 use Rattle.tftp_packet.specs.declared.kinds.End.TheVariants.{Client, Server}
-use Rattle.tftp_capture.specs.CaptureText.{Datagram, Due, Header, IsCapture, IsLawful, IsPort, Numbered, SaysDatagram, SaysDatagrams, Says, Stands, datagram_line, dir_word, end_line, head_line, SpellsPayload, numbered, payload_text, said, says_nothing, service_line, text_of, total_line, whole_lines}
+use Rattle.tftp_capture.specs.CaptureText.{Datagram, Due, Header, IsCapture, IsLawful, IsPort, NamesNoHost, Numbered, SaysDatagram, SaysDatagrams, Says, Stands, datagram_line, dir_word, end_line, head_line, SpellsPayload, numbered, payload_text, said, says_nothing, service_line, text_of, total_line, whole_lines}
 use Rattle.tftp_capture.specs.CaptureText.Due.{Nothing}
 use Rattle.tftp_capture.specs.Lines.{HasNoEnd}
 use Rattle.tftp_capture.proofs.Texts.{at_ends}
@@ -90,8 +90,8 @@ module _ (d : Datagram) (lawful : IsLawful d) where
   remote_plain : All Plain (decimal d.remote)
   remote_plain = plain_decimal d.remote (omega (arith, lawful.remote.1))
 
-  pub datagram_says : SaysDatagram (datagram_line d) d
-  datagram_says = record {
+  pub datagram_says : NamesNoHost d → SaysDatagram (datagram_line d) d
+  datagram_says unnamed = record {
     local = decimal d.local;
     remote = decimal d.remote;
     digits = payload_text d.payload;
@@ -102,6 +102,7 @@ module _ (d : Datagram) (lawful : IsLawful d) where
         ∙ ap (λ s. decimal d.local ∷ s)
         (slice_split_at (λ b. b == 32) (decimal d.remote) 32 (payload_text d.payload) (no_space _ remote_plain) refl
         ∙ ap (λ s. decimal d.remote ∷ s) (slice_split_none (λ b. b == 32) (payload_text d.payload) (no_space _ (plain_payload d.payload lawful.bytes)))));
+    host = unnamed;
     local_port = (lawful.local, refl);
     remote_port = (lawful.remote, refl);
     payload = spelled d.payload lawful.bytes;
@@ -167,11 +168,11 @@ length-numbered : (n : ℕ) (ds : List Datagram) → length (numbered n ds) ≡ 
 length-numbered n [] = refl
 length-numbered n (d ∷ ds) = ap suc (length-numbered (n + 1) ds)
 
-bodies : (n : ℕ) (ds : List Datagram) → All IsLawful ds → AllZip (λ (l : ℕ × List ℕ) (d : Numbered). (l.0 ≡ d.0) × SaysDatagram l.1 d.1) (said n (map datagram_line ds)) (numbered n ds)
-bodies n [] h = tt
-bodies n (d ∷ ds) h =
+bodies : (n : ℕ) (ds : List Datagram) → All IsLawful ds → All NamesNoHost ds → AllZip (λ (l : ℕ × List ℕ) (d : Numbered). (l.0 ≡ d.0) × SaysDatagram l.1 d.1) (said n (map datagram_line ds)) (numbered n ds)
+bodies n [] h u = tt
+bodies n (d ∷ ds) h u =
     let lawful = All-head IsLawful d ds h in
-    rw (datagram_said d lawful) ((refl, datagram_says d lawful), bodies (n + 1) ds (All-tail IsLawful d ds h))
+    rw (datagram_said d lawful) ((refl, datagram_says d lawful (All-head NamesNoHost d ds u)), bodies (n + 1) ds (All-tail IsLawful d ds h) (All-tail NamesNoHost d ds u))
 
 lines_whole : (ds : List Datagram) → All IsLawful ds → All IsWholeLine (map datagram_line ds)
 lines_whole [] h = All-nil IsWholeLine
@@ -190,8 +191,8 @@ number_whole word n short no_end small = record {
   narrow = omega (arith, length-append word (decimal n), length-decimal-le 20 n (omega arith) (omega arith) small);
 }
 
-pub canonical_is_read : (header : Header) (ds : List Datagram) → IsPort header.service → All IsLawful ds → length (text_of header ds) ≤ 2 ^ 40 → IsCapture (text_of header ds) header (numbered 4 ds)
-canonical_is_read header ds port lawful short =
+pub canonical_is_read : (header : Header) (ds : List Datagram) → IsPort header.service → All IsLawful ds → All NamesNoHost ds → length (text_of header ds) ≤ 2 ^ 40 → IsCapture (text_of header ds) header (numbered 4 ds)
+canonical_is_read header ds port lawful unnamed short =
     let count = length-numbered 4 ds in
     let lines = end_line header.named ∷ service_line header.service ∷ (map datagram_line ds ++ total_line (length ds) ∷ []) in
     let few : length ds < 2 ^ 64 = omega (arith, lines_le (head_line ∷ lines), length-append (map datagram_line ds) (total_line (length ds) ∷ []), length-map ds datagram_line) in
@@ -203,7 +204,7 @@ canonical_is_read header ds port lawful short =
       begins = refl;
       are = refl;
       port = port;
-      each = bodies 4 ds lawful;
+      each = bodies 4 ds lawful unnamed;
     } in (
       head_line ∷ end_line header.named ∷ service_line header.service ∷ (map datagram_line ds ++ total_line (length ds) ∷ []),
       stands-whole_lines _ (Nothing header) (numbered 4 ds)

@@ -4,6 +4,7 @@ use Rattle.std.specs.List.{join_with_byte}
 use Rattle.std.proofs.lemmas.List.Splits.{length-slice_split, join_with_byte-slice_split}
 use Rattle.std.proofs.lemmas.Fmt.{IsAscii-decimal}
 use Rattle.std.proofs.lemmas.Str.{IsUtf8-from_ascii}
+use Rattle.tftp_packet.specs.Host.{no_host}
 use Rattle.tftp_packet.specs.declared.kinds.Dir.{Dir}
 use Rattle.tftp_packet.specs.declared.kinds.Dir.TheVariants.{In, Out}
 use Rattle.tftp_capture.specs.declared.fault.TextFault.TheVariants.{BadHeader, BadEnd, BadService, LineTooLong, BadLine, BadPort, BadHex, PayloadTooLong, TotalWrong, Truncated, TrailingText, TextTooLong}
@@ -75,8 +76,8 @@ pub payload_stop : (count : ℕ) (line local remote digits : List ℕ) (dir : Di
 payload_stop count line local remote digits dir l r is sl sr (Text BadHex) p = (dir_word dir, local, remote, digits, l, r, has_fields line local remote digits dir is, sl, sr, p)
 payload_stop count line local remote digits dir l r is sl sr (Text PayloadTooLong) p = (dir_word dir, local, remote, digits, p.0, l, r, has_fields line local remote digits dir is, sl, sr, p.1, p.2)
 payload_stop count line local remote digits dir l r is sl sr Memory p = (
-  record { dir = dir; local = l; remote = r; payload = p.0 },
-  record { local = local; remote = remote; digits = digits; cut = is; local_port = sl; remote_port = sr; payload = p.1; fits = p.2 },
+  record { dir = dir; local = l; host = no_host; remote = r; payload = p.0 },
+  record { local = local; remote = remote; digits = digits; cut = is; host = refl; local_port = sl; remote_port = sr; payload = p.1; fits = p.2 },
 )
 payload_stop count line local remote digits dir l r is sl sr Read p = absurd p
 payload_stop count line local remote digits dir l r is sl sr (Text BadHeader) p = absurd p

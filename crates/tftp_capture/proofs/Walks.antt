@@ -43,12 +43,13 @@ payload_same bytes p q (inl a) (inr b) = absurd (dash_is_odd q (ap decode_of (sy
 payload_same bytes p q (inr a) (inl b) = absurd (dash_is_odd p (ap decode_of (sym b.0) ∙ a.1))
 payload_same bytes p q (inr a) (inr b) = decode_of-same bytes p q a.1 b.1
 
-datagram_is : (a b : Datagram) → a.dir ≡ b.dir → a.local ≡ b.local → a.remote ≡ b.remote → a.payload ≡ b.payload → a ≡ b
-datagram_is a b p q r s =
-    let one : a ≡ record { dir = b.dir; local = a.local; remote = a.remote; payload = a.payload } = ap (λ x. record { dir = x; local = a.local; remote = a.remote; payload = a.payload }) p in
-    let two : a ≡ record { dir = b.dir; local = b.local; remote = a.remote; payload = a.payload } = one ∙ ap (λ x. record { dir = b.dir; local = x; remote = a.remote; payload = a.payload }) q in
-    let three : a ≡ record { dir = b.dir; local = b.local; remote = b.remote; payload = a.payload } = two ∙ ap (λ x. record { dir = b.dir; local = b.local; remote = x; payload = a.payload }) r in
-    three ∙ ap (λ x. record { dir = b.dir; local = b.local; remote = b.remote; payload = x }) s
+datagram_is : (a b : Datagram) → a.dir ≡ b.dir → a.local ≡ b.local → a.host ≡ b.host → a.remote ≡ b.remote → a.payload ≡ b.payload → a ≡ b
+datagram_is a b p q h r s =
+    let one : a ≡ record { dir = b.dir; local = a.local; host = a.host; remote = a.remote; payload = a.payload } = ap (λ x. record { dir = x; local = a.local; host = a.host; remote = a.remote; payload = a.payload }) p in
+    let two : a ≡ record { dir = b.dir; local = b.local; host = a.host; remote = a.remote; payload = a.payload } = one ∙ ap (λ x. record { dir = b.dir; local = x; host = a.host; remote = a.remote; payload = a.payload }) q in
+    let three : a ≡ record { dir = b.dir; local = b.local; host = b.host; remote = a.remote; payload = a.payload } = two ∙ ap (λ x. record { dir = b.dir; local = b.local; host = x; remote = a.remote; payload = a.payload }) h in
+    let four : a ≡ record { dir = b.dir; local = b.local; host = b.host; remote = b.remote; payload = a.payload } = three ∙ ap (λ x. record { dir = b.dir; local = b.local; host = b.host; remote = x; payload = a.payload }) r in
+    four ∙ ap (λ x. record { dir = b.dir; local = b.local; host = b.host; remote = b.remote; payload = x }) s
 
 pub datagram_same : (line : List ℕ) (a b : Datagram) → SaysDatagram line a → SaysDatagram line b → a ≡ b
 datagram_same line a b p q =
@@ -59,6 +60,7 @@ datagram_same line a b p q =
     let digits : p.digits ≡ q.digits = cc in
     datagram_is a b (dir_same a.dir b.dir dir)
     (port_same q.local a.local b.local (subst (λ l. SpellsPort l a.local) local p.local_port) q.local_port)
+    (p.host ∙ sym q.host)
     (port_same q.remote a.remote b.remote (subst (λ l. SpellsPort l a.remote) remote p.remote_port) q.remote_port)
     (payload_same q.digits a.payload b.payload (subst (λ l. SpellsPayload l a.payload) digits p.payload) q.payload)
 

@@ -3,6 +3,7 @@
 use Rattle.std.specs.Prelude.{◌≡◌, ◌≢◌, ℕ, ◌+◌, ◌^◌, ◌<◌, ◌≤◌, Bool, true, false, ◌⊎◌, ◌==◌, if◌then◌else◌, List, [], ◌∷◌, ◌++◌, length, map, All, flat_map, Ok, codes, decimal}
 use Rattle.std.specs.List.{slice_split, join_with_byte, AllZip}
 use Rattle.hex.specs.Hex.{encode_lower, decode_of, IsBytes}
+use Rattle.tftp_packet.specs.Host.{IsHost, no_host}
 use Rattle.tftp_packet.specs.declared.kinds.Dir.{Dir}
 use Rattle.tftp_packet.specs.declared.kinds.Dir.TheVariants.{In, Out}
 use Rattle.tftp_packet.specs.declared.kinds.End.{End}
@@ -15,10 +16,11 @@ pub record Header : Type 0 where
   pub named : End
   pub service : ℕ
 
--- which way, between which ports and with which payload a datagram passed
+-- which way, between which ports, to or from which host and with which payload a datagram passed
 pub record Datagram : Type 0 where
   pub dir : Dir
   pub local : ℕ
+  pub host : List ℕ
   pub remote : ℕ
   pub payload : List ℕ
 
@@ -98,6 +100,7 @@ pub record SaysDatagram (line : List ℕ) (d : Datagram) : Type 0 where
   pub remote : List ℕ
   pub digits : List ℕ
   pub cut : pieces line ≡ dir_word d.dir ∷ local ∷ remote ∷ digits ∷ []
+  pub host : d.host ≡ no_host
   pub local_port : SpellsPort local d.local
   pub remote_port : SpellsPort remote d.remote
   pub payload : SpellsPayload digits d.payload
@@ -229,9 +232,14 @@ BeginsWith {A} whole part = (rest : List A) × (whole ≡ part ++ rest)
 -- a datagram that a text can hold
 pub record IsLawful (d : Datagram) : Type 0 where
   pub local : IsPort d.local
+  pub host : IsHost d.host
   pub remote : IsPort d.remote
   pub bytes : IsBytes d.payload
   pub fits : length d.payload ≤ 65527
+
+-- the datagram names no host
+abbrev pub NamesNoHost : Datagram → Type 0
+NamesNoHost d = d.host ≡ no_host
 
 -- the datagrams on lines one after another, the first on line n
 abbrev pub numbered : ℕ → List Datagram → List Numbered

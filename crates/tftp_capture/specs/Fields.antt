@@ -9,7 +9,7 @@ use Rattle.tftp_capture.specs.CaptureText.{Datagram, Header, BodyFault, SaysData
 
 -- the datagram that a value in memory is
 abbrev pub datagram_of : Owned → Datagram
-datagram_of d = record { dir = d.dir; local = d.local_port; remote = d.remote_port; payload = d.payload }
+datagram_of d = record { dir = d.dir; local = d.local_port; host = d.remote_host; remote = d.remote_port; payload = d.payload }
 
 -- the header that a value in memory is
 abbrev pub header_of : OwnedHeader → Header

@@ -1,4 +1,4 @@
-use tftp_packet::{Bytes, Dir, End};
+use tftp_packet::{Bytes, Dir, End, Host};
 
 /// Whose capture it is.
 #[derive(Clone, Copy, Debug, PartialEq, Eq)]
@@ -16,6 +16,8 @@ pub struct Datagram {
     pub dir: Dir,
     /// The named end's port, 1 to 65535.
     pub local_port: u16,
+    /// The other end's host, `-` where the text names none.
+    pub remote_host: Host,
     /// The other end's port, 1 to 65535.
     pub remote_port: u16,
     /// What it carried, at most 65,527 bytes.

@@ -11,7 +11,7 @@ use crate::stop::Stop;
 use hex::FromHexError;
 use itoa::Buffer;
 use std::alloc::Global;
-use tftp_packet::{Bytes, Dir, End};
+use tftp_packet::{Bytes, Dir, End, Host};
 
 /// The most bytes of a payload: the 65,535 that a UDP length counts, less the header's 8 (RFC 768).
 const LONGEST_PAYLOAD: usize = 65_527;
@@ -137,6 +137,7 @@ fn datagram(alloc: Global, dir: Dir, fields: &[u8]) -> Result<Datagram, Stop>
     Ok(Datagram {
         dir,
         local_port,
+        remote_host: Host::none(),
         remote_port,
         payload,
     })

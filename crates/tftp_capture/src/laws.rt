@@ -1,5 +1,5 @@
 ghost use Rattle.std.specs.Prelude.{◌≡◌, ◌≢◌, ◌^◌, ◌≤◌, ◌⊎◌, ◌++◌, ℕ, List, All, length};
-ghost use Rattle.tftp_capture.specs.CaptureText.{text_of, Begins, BeginsWith, Datagram, Due, HasFault, Header, IsCapture, IsLawful, IsPort, Numbered, Reading, Reads, Unfinished, numbered};
+ghost use Rattle.tftp_capture.specs.CaptureText.{text_of, Begins, BeginsWith, Datagram, Due, HasFault, Header, IsCapture, IsLawful, IsPort, Numbered, NamesNoHost, Reading, Reads, Unfinished, numbered};
 ghost use Rattle.tftp_capture.specs.Worked.{worked_datagrams, worked_header, worked_text};
 
 use crate::fault::TextFault;
@@ -9,9 +9,10 @@ pub fn worked_text_is_canonical()
     ensures { text_of worked_header worked_datagrams ≡ worked_text }
 {}
 
-/// A canonical text has no fault, and says its header and its datagrams, the first on line 4.
+/// A canonical text, of datagrams that name no host, has no fault, and says its header and its datagrams, the first on
+/// line 4.
 pub fn canonical_text_is_read()
-    ensures { (header : Header) (datagrams : List Datagram) → IsPort header.service → All IsLawful datagrams → length (text_of header datagrams) ≤ 2 ^ 40
+    ensures { (header : Header) (datagrams : List Datagram) → IsPort header.service → All IsLawful datagrams → All NamesNoHost datagrams → length (text_of header datagrams) ≤ 2 ^ 40
         → IsCapture (text_of header datagrams) header (numbered 4 datagrams) }
 {}
 

@@ -1,6 +1,7 @@
 ghost use Rattle.std.specs.Prelude.{◌≡◌, ◌+◌, ◌^◌, ◌<◌, ◌≤◌, ◌++◌, ◌∷◌, [], ℕ, List, Option, length, true, false, IfOk, is_err, IsErr, OnOk, OnErr};
 ghost use Rattle.std.specs.Io.KnownBytes.{Appends};
 ghost use Rattle.hex.specs.Hex.{encode_lower};
+ghost use Rattle.tftp_packet.specs.Host.{no_host};
 ghost use Rattle.tftp_capture.specs.Tally.{Adds, AppendsPrefix, Writes};
 ghost use Rattle.tftp_capture.specs.CaptureText.{datagram_line, payload_text, text_of, total_line, Datagram, Header as HeaderParts, IsPort};
 ghost use Rattle.tftp_capture.specs.Fields.{header_of};
@@ -18,7 +19,8 @@ use tftp_packet::{Dir, End};
 /// The bytes whose hex is one piece.
 const BYTES_AT_ONCE: usize = 2048;
 
-/// A writer of a capture text in its canonical form: at most 4,096 bytes wait in it to be written.
+/// A writer of a capture text in its canonical form, which names no host: at most 4,096 bytes wait in it to be
+/// written.
 #[derive(Drop)]
 pub struct CaptureWriter {
     gathered: Gathered,
@@ -54,7 +56,7 @@ impl CaptureWriter {
         })
     }
 
-    /// Adds a datagram; some of it may wait. A fault is answered for good.
+    /// Adds a datagram whose host is `-`; some of it may wait. A fault is answered for good.
     pub fn put<W: Write>(
         &mut self,
         writer: &mut Tallied<W>,
@@ -69,11 +71,11 @@ impl CaptureWriter {
         requires payload { length payload.now ≤ 65527 }
         requires few { self.old.count < 2 ^ 40 }
         ensures adds { Adds W.contents writer.old writer.new result self.old.held self.new.held
-            (datagram_line (record { dir = dir; local = local; remote = remote; payload = payload.now }) ++ 10 ∷ []) }
+            (datagram_line (record { dir = dir; local = local; host = no_host; remote = remote; payload = payload.now }) ++ 10 ∷ []) }
         ensures counted { OnOk result (self.new.count ≡ self.old.count + 1) }
         ensures written { (start : Option (List ℕ)) (header : HeaderParts) (datagrams : List Datagram)
             → HasWritten start (W.contents writer.old.0) self.old header datagrams
-            → OnOk result (HasWritten start (W.contents writer.new.0) self.new header (datagrams ++ record { dir = dir; local = local; remote = remote; payload = payload.now } ∷ [])) }
+            → OnOk result (HasWritten start (W.contents writer.new.0) self.new header (datagrams ++ record { dir = dir; local = local; host = no_host; remote = remote; payload = payload.now } ∷ [])) }
         ensures failed { self.new.failed ≡ is_err result }
         ensures told { self.new.failed ≡ true → writer.new.1 ≡ true }
         ensures for_good { writer.old.1 ≡ true → IsErr result × (writer.new ≡ writer.old) }
@@ -149,7 +151,7 @@ fn put_datagram<W: Write>(
     payload: &[u8],
 ) -> Result<(), WriteFault>
     requires clean { writer.old.1 ≡ false }
-    ensures adds { Adds W.contents writer.old writer.new result gathered.old gathered.new (datagram_line (record { dir = dir; local = local; remote = remote; payload = payload.now }) ++ 10 ∷ []) }
+    ensures adds { Adds W.contents writer.old writer.new result gathered.old gathered.new (datagram_line (record { dir = dir; local = local; host = no_host; remote = remote; payload = payload.now }) ++ 10 ∷ []) }
 {
     let mut local_buffer = Buffer::new();
     let mut remote_buffer = Buffer::new();

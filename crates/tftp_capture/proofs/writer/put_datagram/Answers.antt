@@ -1,4 +1,5 @@
 use Rattle.std.proofs.Common.{◌≡◌, ◌++◌, [], ◌∷◌, decimal, ◌∙◌, subst, List, ℕ, rules, append_assoc}
+use Rattle.tftp_packet.specs.Host.{no_host}
 use Rattle.tftp_capture.specs.CaptureText.{dir_word, payload_text, Datagram}
 use Rattle.tftp_capture.specs.Tally.{AppendsPrefix}
 use Rattle.tftp_capture.proofs.Gathering.{adds_err, adds_more, adds_same, gathers_prefix, prefix_of}
@@ -8,7 +9,7 @@ use Rattle.tftp_capture.proofs.writer.put_datagram.Goals.{in-In, in-Out}
 
 pub returns-in_err-add_all : goal.returns-in_err-add_all
 returns-in_err-add_all g c =
-    let d : Datagram = record { dir = c.args.dir; local = c.args.local; remote = c.args.remote; payload = c.args.payload.now } in
+    let d : Datagram = record { dir = c.args.dir; local = c.args.local; host = no_host; remote = c.args.remote; payload = c.args.payload.now } in
     let word : c.match-dir.word.now ≡ dir_word d.dir = elim c.match-dir.branch [ in-In w ↦ search rules | in-Out w ↦ search rules ] in
     let local : c.as_bytes-local.result.now ≡ decimal c.args.local = c.as_bytes-local.ensures.value ∙ c.format.ensures.text in
     let remote : c.as_bytes-remote.result.now ≡ decimal c.args.remote = c.as_bytes-remote.ensures.value ∙ c.format-2.ensures.text in
@@ -22,7 +23,7 @@ returns-in_err-add_all g c =
 
 pub returns-in_err-put_payload : goal.returns-in_err-put_payload
 returns-in_err-put_payload g c =
-    let d : Datagram = record { dir = c.args.dir; local = c.args.local; remote = c.args.remote; payload = c.args.payload.now } in
+    let d : Datagram = record { dir = c.args.dir; local = c.args.local; host = no_host; remote = c.args.remote; payload = c.args.payload.now } in
     let word : c.match-dir.word.now ≡ dir_word d.dir = elim c.match-dir.branch [ in-In w ↦ search rules | in-Out w ↦ search rules ] in
     let local : c.as_bytes-local.result.now ≡ decimal c.args.local = c.as_bytes-local.ensures.value ∙ c.format.ensures.text in
     let remote : c.as_bytes-remote.result.now ≡ decimal c.args.remote = c.as_bytes-remote.ensures.value ∙ c.format-2.ensures.text in
@@ -36,7 +37,7 @@ returns-in_err-put_payload g c =
 
 pub returns : goal.returns
 returns g c =
-    let d : Datagram = record { dir = c.args.dir; local = c.args.local; remote = c.args.remote; payload = c.args.payload.now } in
+    let d : Datagram = record { dir = c.args.dir; local = c.args.local; host = no_host; remote = c.args.remote; payload = c.args.payload.now } in
     let word : c.match-dir.word.now ≡ dir_word d.dir = elim c.match-dir.branch [ in-In w ↦ search rules | in-Out w ↦ search rules ] in
     let local : c.as_bytes-local.result.now ≡ decimal c.args.local = c.as_bytes-local.ensures.value ∙ c.format.ensures.text in
     let remote : c.as_bytes-remote.result.now ≡ decimal c.args.remote = c.as_bytes-remote.ensures.value ∙ c.format-2.ensures.text in

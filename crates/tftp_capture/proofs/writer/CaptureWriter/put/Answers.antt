@@ -1,4 +1,5 @@
 use Rattle.std.proofs.Common.{rules, ◌≡◌, ◌+◌, ap, sym, ◌∙◌}
+use Rattle.tftp_packet.specs.Host.{no_host}
 use Rattle.tftp_capture.specs.CaptureText.{datagram_line}
 use Rattle.tftp_capture.specs.Written.{WriterState}
 use Rattle.tftp_capture.proofs.Gathering.{added, prefix_nothing}
@@ -13,4 +14,4 @@ returns-clause-written g c = λ start header datagrams h.
     datagram_written _ _ _ _ _ _ _ _ h (rw held at moved.1) (ap (λ n. n + 1) counted)
 
 pub returns-then-failed-clause-adds : goal.returns-then-failed-clause-adds
-returns-then-failed-clause-adds g c = (search rules, prefix_nothing _ c.args.self.now.held (datagram_line (record { dir = c.args.dir; local = c.args.local; remote = c.args.remote; payload = c.args.payload.now })))
+returns-then-failed-clause-adds g c = (search rules, prefix_nothing _ c.args.self.now.held (datagram_line (record { dir = c.args.dir; local = c.args.local; host = no_host; remote = c.args.remote; payload = c.args.payload.now })))
