@@ -15,3 +15,9 @@ pub mod Orderly
 pub mod Places
 pub mod Ring
 pub mod Kept
+pub mod NotedPeers
+pub mod KeptIds
+pub mod RouteSides
+pub mod KeptAtClient
+pub mod KeptAtServer
+pub mod KeptSteps
