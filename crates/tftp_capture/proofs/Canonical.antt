@@ -13,7 +13,8 @@ use Rattle.tftp_packet.specs.declared.kinds.Dir.{Dir}
 use Rattle.tftp_packet.specs.declared.kinds.Dir.TheVariants.{In, Out}
 use Rattle.tftp_packet.specs.declared.kinds.End.{End}
 use Rattle.tftp_packet.specs.declared.kinds.End.TheVariants.{Client, Server}
-use Rattle.tftp_capture.specs.CaptureText.{Datagram, Due, Header, IsCapture, IsLawful, IsPort, NamesNoHost, Numbered, SaysDatagram, SaysDatagrams, Says, Stands, datagram_line, dir_word, end_line, head_line, SpellsPayload, numbered, payload_text, said, says_nothing, service_line, text_of, total_line, whole_lines}
+use Rattle.tftp_capture.specs.CaptureText.{Datagram, Due, Header, IsCapture, IsLawful, IsPort, NamesNoHost, Numbered, SaysDatagram, SaysDatagrams, Says, Stands, datagram_line, dir_word, end_line, head_line, longest, SpellsPayload, numbered, payload_text, said, says_nothing, service_line, text_of, total_line, whole_lines}
+use Rattle.tftp_capture.specs.declared.version.Version.TheVariants.{One}
 use Rattle.tftp_capture.specs.CaptureText.Due.{Nothing}
 use Rattle.tftp_capture.specs.Lines.{HasNoEnd}
 use Rattle.tftp_capture.proofs.Texts.{at_ends}
@@ -90,20 +91,22 @@ module _ (d : Datagram) (lawful : IsLawful d) where
   remote_plain : All Plain (decimal d.remote)
   remote_plain = plain_decimal d.remote (omega (arith, lawful.remote.1))
 
-  pub datagram_says : NamesNoHost d → SaysDatagram (datagram_line d) d
+  pub datagram_says : NamesNoHost d → SaysDatagram One (datagram_line d) d
   datagram_says unnamed = record {
     local = decimal d.local;
     remote = decimal d.remote;
     digits = payload_text d.payload;
-    cut =
-        slice_split_at (λ b. b == 32) (dir_word d.dir) 32 (decimal d.local ++ 32 ∷ (decimal d.remote ++ 32 ∷ payload_text d.payload)) (no_space _ (plain_dir d.dir)) refl
-        ∙ ap (λ s. dir_word d.dir ∷ s)
-        (slice_split_at (λ b. b == 32) (decimal d.local) 32 (decimal d.remote ++ 32 ∷ payload_text d.payload) (no_space _ local_plain) refl
-        ∙ ap (λ s. decimal d.local ∷ s)
-        (slice_split_at (λ b. b == 32) (decimal d.remote) 32 (payload_text d.payload) (no_space _ remote_plain) refl
-        ∙ ap (λ s. decimal d.remote ∷ s) (slice_split_none (λ b. b == 32) (payload_text d.payload) (no_space _ (plain_payload d.payload lawful.bytes)))));
-    host = unnamed;
+    cut = (
+      slice_split_at (λ b. b == 32) (dir_word d.dir) 32 (decimal d.local ++ 32 ∷ (decimal d.remote ++ 32 ∷ payload_text d.payload)) (no_space _ (plain_dir d.dir)) refl
+          ∙ ap (λ s. dir_word d.dir ∷ s)
+          (slice_split_at (λ b. b == 32) (decimal d.local) 32 (decimal d.remote ++ 32 ∷ payload_text d.payload) (no_space _ local_plain) refl
+          ∙ ap (λ s. decimal d.local ∷ s)
+          (slice_split_at (λ b. b == 32) (decimal d.remote) 32 (payload_text d.payload) (no_space _ remote_plain) refl
+          ∙ ap (λ s. decimal d.remote ∷ s) (slice_split_none (λ b. b == 32) (payload_text d.payload) (no_space _ (plain_payload d.payload lawful.bytes))))),
+      unnamed,
+    );
     local_port = (lawful.local, refl);
+    host = lawful.host;
     remote_port = (lawful.remote, refl);
     payload = spelled d.payload lawful.bytes;
     fits = lawful.fits;
@@ -137,26 +140,26 @@ module _ (d : Datagram) (lawful : IsLawful d) where
 
 -- ---- whole lines
 
--- a line that may stand in a text
-pub record IsWholeLine (line : List ℕ) : Type 0 where
+-- a line of at most so many bytes that may stand in a text
+pub record IsWholeLine (size : ℕ) (line : List ℕ) : Type 0 where
   pub no_end : HasNoEnd line
-  pub narrow : length line ≤ 131070
+  pub narrow : length line ≤ size
 
-at_ends-whole_lines : (lines : List (List ℕ)) → All IsWholeLine lines → at_ends (whole_lines lines) ≡ lines ++ [] ∷ []
-at_ends-whole_lines [] h = refl
-at_ends-whole_lines (l ∷ ls) h =
-    let first = All-head IsWholeLine l ls h in
+at_ends-whole_lines : (size : ℕ) (lines : List (List ℕ)) → All (IsWholeLine size) lines → at_ends (whole_lines lines) ≡ lines ++ [] ∷ []
+at_ends-whole_lines size [] h = refl
+at_ends-whole_lines size (l ∷ ls) h =
+    let first = All-head (IsWholeLine size) l ls h in
     ap at_ends (append_assoc l (10 ∷ []) (whole_lines ls))
     ∙ slice_split_at (λ b. b == 10) l 10 (whole_lines ls) (All-weaker (λ b. b ≢ 10) (λ b. (b == 10) ≡ false) (λ b n. ne_eqb b 10 n) l first.no_end) refl
-    ∙ ap (λ s. l ∷ s) (at_ends-whole_lines ls (All-tail IsWholeLine l ls h))
+    ∙ ap (λ s. l ∷ s) (at_ends-whole_lines size ls (All-tail (IsWholeLine size) l ls h))
 
-pub stands-whole_lines : (lines : List (List ℕ)) (due : Due) (datagrams : List Numbered) → All IsWholeLine lines → length (whole_lines lines) ≤ 2 ^ 40 → Says lines due datagrams → Stands (whole_lines lines) lines [] due datagrams
+pub stands-whole_lines : (lines : List (List ℕ)) (due : Due) (datagrams : List Numbered) → All (IsWholeLine (longest due)) lines → length (whole_lines lines) ≤ 2 ^ 40 → Says lines due datagrams → Stands (whole_lines lines) lines [] due datagrams
 stands-whole_lines lines due datagrams all short says = record {
-  divided = at_ends-whole_lines lines all;
+  divided = at_ends-whole_lines (longest due) lines all;
   says = says;
   short = short;
-  narrow = All-weaker IsWholeLine (λ (l : List ℕ). length l ≤ 131070) (λ l w. w.narrow) lines all;
-  narrow_rest = lit≤ tt;
+  narrow = All-weaker (IsWholeLine (longest due)) (λ (l : List ℕ). length l ≤ longest due) (λ l w. w.narrow) lines all;
+  narrow_rest = omega arith;
   last = λ o. refl;
 }
 
@@ -168,24 +171,24 @@ length-numbered : (n : ℕ) (ds : List Datagram) → length (numbered n ds) ≡ 
 length-numbered n [] = refl
 length-numbered n (d ∷ ds) = ap suc (length-numbered (n + 1) ds)
 
-bodies : (n : ℕ) (ds : List Datagram) → All IsLawful ds → All NamesNoHost ds → AllZip (λ (l : ℕ × List ℕ) (d : Numbered). (l.0 ≡ d.0) × SaysDatagram l.1 d.1) (said n (map datagram_line ds)) (numbered n ds)
+bodies : (n : ℕ) (ds : List Datagram) → All IsLawful ds → All NamesNoHost ds → AllZip (λ (l : ℕ × List ℕ) (d : Numbered). (l.0 ≡ d.0) × SaysDatagram One l.1 d.1) (said n (map datagram_line ds)) (numbered n ds)
 bodies n [] h u = tt
 bodies n (d ∷ ds) h u =
     let lawful = All-head IsLawful d ds h in
     rw (datagram_said d lawful) ((refl, datagram_says d lawful (All-head NamesNoHost d ds u)), bodies (n + 1) ds (All-tail IsLawful d ds h) (All-tail NamesNoHost d ds u))
 
-lines_whole : (ds : List Datagram) → All IsLawful ds → All IsWholeLine (map datagram_line ds)
-lines_whole [] h = All-nil IsWholeLine
+lines_whole : (ds : List Datagram) → All IsLawful ds → All (IsWholeLine 131070) (map datagram_line ds)
+lines_whole [] h = All-nil (IsWholeLine 131070)
 lines_whole (d ∷ ds) h =
     let lawful = All-head IsLawful d ds h in
-    All-cons IsWholeLine (datagram_line d) (map datagram_line ds) (record { no_end = datagram_no_end d lawful; narrow = datagram_narrow d lawful }) (lines_whole ds (All-tail IsLawful d ds h))
+    All-cons (IsWholeLine 131070) (datagram_line d) (map datagram_line ds) (record { no_end = datagram_no_end d lawful; narrow = datagram_narrow d lawful }) (lines_whole ds (All-tail IsLawful d ds h))
 
-end_whole : (named : End) → IsWholeLine (end_line named)
+end_whole : (named : End) → IsWholeLine 131070 (end_line named)
 end_whole Client = record { no_end = no_lf_text (codes "end client") refl; narrow = lit≤ tt }
 end_whole Server = record { no_end = no_lf_text (codes "end server") refl; narrow = lit≤ tt }
 
 -- a word, a space and a number
-number_whole : (word : List ℕ) (n : ℕ) → length word ≤ 100 → HasNoEnd word → n < 2 ^ 64 → IsWholeLine (word ++ decimal n)
+number_whole : (word : List ℕ) (n : ℕ) → length word ≤ 100 → HasNoEnd word → n < 2 ^ 64 → IsWholeLine 131070 (word ++ decimal n)
 number_whole word n short no_end small = record {
   no_end = All-append (λ b. b ≢ 10) word (decimal n) no_end (no_lf _ (plain_decimal n small));
   narrow = omega (arith, length-append word (decimal n), length-decimal-le 20 n (omega arith) (omega arith) small);
@@ -195,8 +198,8 @@ pub canonical_is_read : (header : Header) (ds : List Datagram) → IsPort header
 canonical_is_read header ds port lawful unnamed short =
     let count = length-numbered 4 ds in
     let lines = end_line header.named ∷ service_line header.service ∷ (map datagram_line ds ++ total_line (length ds) ∷ []) in
-    let few : length ds < 2 ^ 64 = omega (arith, lines_le (head_line ∷ lines), length-append (map datagram_line ds) (total_line (length ds) ∷ []), length-map ds datagram_line) in
-    let says : SaysDatagrams (head_line ∷ end_line header.named ∷ service_line header.service ∷ map datagram_line ds) header (numbered 4 ds) = record {
+    let few : length ds < 2 ^ 64 = omega (arith, lines_le (head_line One ∷ lines), length-append (map datagram_line ds) (total_line (length ds) ∷ []), length-map ds datagram_line) in
+    let says : SaysDatagrams One (head_line One ∷ end_line header.named ∷ service_line header.service ∷ map datagram_line ds) header (numbered 4 ds) = record {
       after_head = end_line header.named ∷ service_line header.service ∷ map datagram_line ds;
       at_end = 2;
       at_service = 3;
@@ -206,13 +209,14 @@ canonical_is_read header ds port lawful unnamed short =
       port = port;
       each = bodies 4 ds lawful unnamed;
     } in (
-      head_line ∷ end_line header.named ∷ service_line header.service ∷ (map datagram_line ds ++ total_line (length ds) ∷ []),
-      stands-whole_lines _ (Nothing header) (numbered 4 ds)
-          (All-cons IsWholeLine head_line (end_line header.named ∷ service_line header.service ∷ (map datagram_line ds ++ total_line (length ds) ∷ [])) (record { no_end = no_lf_text head_line refl; narrow = lit≤ tt })
-          (All-cons IsWholeLine (end_line header.named) (service_line header.service ∷ (map datagram_line ds ++ total_line (length ds) ∷ [])) (end_whole header.named)
-          (All-cons IsWholeLine (service_line header.service) (map datagram_line ds ++ total_line (length ds) ∷ []) (number_whole (codes "service ") header.service (lit≤ tt) (no_lf_text (codes "service ") refl) (omega (arith, port.1)))
-          (All-append IsWholeLine (map datagram_line ds) (total_line (length ds) ∷ []) (lines_whole ds lawful)
-          (All-cons IsWholeLine (total_line (length ds)) [] (number_whole (codes "total ") (length ds) (lit≤ tt) (no_lf_text (codes "total ") refl) few) (All-nil IsWholeLine))))))
+      One,
+      head_line One ∷ end_line header.named ∷ service_line header.service ∷ (map datagram_line ds ++ total_line (length ds) ∷ []),
+      stands-whole_lines _ (Nothing One header) (numbered 4 ds)
+          (All-cons (IsWholeLine 131070) (head_line One) (end_line header.named ∷ service_line header.service ∷ (map datagram_line ds ++ total_line (length ds) ∷ [])) (record { no_end = no_lf_text (head_line One) refl; narrow = lit≤ tt })
+          (All-cons (IsWholeLine 131070) (end_line header.named) (service_line header.service ∷ (map datagram_line ds ++ total_line (length ds) ∷ [])) (end_whole header.named)
+          (All-cons (IsWholeLine 131070) (service_line header.service) (map datagram_line ds ++ total_line (length ds) ∷ []) (number_whole (codes "service ") header.service (lit≤ tt) (no_lf_text (codes "service ") refl) (omega (arith, port.1)))
+          (All-append (IsWholeLine 131070) (map datagram_line ds) (total_line (length ds) ∷ []) (lines_whole ds lawful)
+          (All-cons (IsWholeLine 131070) (total_line (length ds)) [] (number_whole (codes "total ") (length ds) (lit≤ tt) (no_lf_text (codes "total ") refl) few) (All-nil (IsWholeLine 131070)))))))
           short
-          (head_line ∷ end_line header.named ∷ service_line header.service ∷ map datagram_line ds, rw count refl, says),
+          (head_line One ∷ end_line header.named ∷ service_line header.service ∷ map datagram_line ds, rw count refl, says),
     )

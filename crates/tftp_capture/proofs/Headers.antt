@@ -1,15 +1,16 @@
 -- The header of a text, line by line.
-use Rattle.std.proofs.Common.{◌≡◌, ◌≢◌, ℕ, ◌+◌, ◌-◌, ◌^◌, inl, inr, Bool, true, false, not, bytes_eq, true≢false, List, [], ◌∷◌, ◌++◌, length, Option, None, Some, Ok, Err, refl, sym, ap, ◌∙◌, arith, append_assoc, length-append}
+use Rattle.std.proofs.Common.{◌≡◌, ◌≢◌, ℕ, ◌+◌, ◌-◌, ◌^◌, ◌≤◌, lit≤, inl, inr, List, [], ◌∷◌, ◌++◌, length, Option, None, Some, Ok, Err, refl, sym, ap, ◌∙◌, subst, arith, append_assoc, length-append}
 use Rattle.std.specs.Io.KnownBytes.{Consumes, IsAtEnd, prepend_known}
-use Rattle.std.proofs.lemmas.Slice.Eq.{bytes_eq-Decides}
 use Rattle.std.proofs.KnownBytes.{Consumes-trans}
 use Rattle.tftp_packet.specs.declared.kinds.End.{End}
 use Rattle.tftp_capture.specs.declared.fault.TextFault.TheVariants.{BadHeader, BadEnd, BadService, Truncated}
 use Rattle.tftp_capture.specs.declared.fault.CaptureFault.{CaptureFault}
 use Rattle.tftp_capture.specs.declared.fault.CaptureFault.TheVariants as faults
+use Rattle.tftp_capture.specs.declared.version.Version.{Version}
+use Rattle.tftp_capture.specs.declared.version.Version.TheVariants.{One, Two}
 use Rattle.tftp_capture.specs.declared.stop.Stop.{Stop}
 use Rattle.tftp_capture.specs.declared.stop.Stop.TheVariants.{Text, Read, Memory}
-use Rattle.tftp_capture.specs.CaptureText.{Due, IsPort, Says, Stands, end_line, head_line, service_line, whole_lines}
+use Rattle.tftp_capture.specs.CaptureText.{Due, IsPort, Says, Stands, end_line, head_line, longest, longest_line, service_line, whole_lines}
 use Rattle.tftp_capture.specs.CaptureText.Due.{Head, EndLine, ServiceLine, Body}
 use Rattle.tftp_capture.specs.History.{FailsToBegin, FaultTells, HasService, IsAtTextEnd, IsReadFault, MemoryTells}
 use Rattle.tftp_capture.specs.Lines.{LeavesEnd, LineEnds, LineState, ReachesLine, fault_at}
@@ -25,6 +26,7 @@ pub record Begun (k0 k1 : Option (List ℕ)) (state : LineState) (due : Due) : T
   pub stands : Stands text lines [] due []
   pub line_count : state.count ≡ length lines
   pub byte_count : state.taken ≡ length text
+  pub limit : longest_line state.version ≡ longest due
 
 -- these bytes were taken, and have the fault
 pub record Tells (k0 k1 : Option (List ℕ)) (ahead : List ℕ) (fault : CaptureFault) : Type 0 where
@@ -33,7 +35,7 @@ pub record Tells (k0 k1 : Option (List ℕ)) (ahead : List ℕ) (fault : Capture
   pub tells : FaultTells fault text []
   pub memory : MemoryTells fault text ahead []
 
-pub head_stop : (k0 k1 : Option (List ℕ)) (line bytes ahead : List ℕ) (stop : Stop) → Consumes k0 k1 bytes → LineEnds {T = Unit {0}} (Err stop) line (2 ^ 40 - 0) bytes → LeavesEnd {T = Unit {0}} (Err stop) (2 ^ 40 - 0) bytes ahead
+pub head_stop : (k0 k1 : Option (List ℕ)) (line bytes ahead : List ℕ) (stop : Stop) → Consumes k0 k1 bytes → LineEnds {T = Unit {0}} (Err stop) line 131070 (2 ^ 40 - 0) bytes → LeavesEnd {T = Unit {0}} (Err stop) (2 ^ 40 - 0) bytes ahead
     → Tells k0 k1 ahead (fault_at stop 1)
 head_stop k0 k1 line bytes ahead stop consumed ends leaves = record {
   text = bytes;
@@ -42,7 +44,7 @@ head_stop k0 k1 line bytes ahead stop consumed ends leaves = record {
   memory = memory_in_line [] [] Head [] (λ o. o) stands-nothing line bytes ahead stop ends leaves;
 }
 
-pub head_bad : (k0 k1 : Option (List ℕ)) (line bytes ahead : List ℕ) → Consumes k0 k1 bytes → LineEnds {T = Unit {0}} (Ok tt) line (2 ^ 40 - 0) bytes → line ≢ head_line → Tells k0 k1 ahead (faults.Text 1 BadHeader)
+pub head_bad : (k0 k1 : Option (List ℕ)) (line bytes ahead : List ℕ) → Consumes k0 k1 bytes → LineEnds {T = Unit {0}} (Ok tt) line 131070 (2 ^ 40 - 0) bytes → ((version : Version) → line ≢ head_line version) → Tells k0 k1 ahead (faults.Text 1 BadHeader)
 head_bad k0 k1 line bytes ahead consumed ends other = record {
   text = bytes;
   consumed = consumed;
@@ -50,102 +52,119 @@ head_bad k0 k1 line bytes ahead consumed ends other = record {
   memory = tt;
 }
 
-pub head_ok : (k0 k1 : Option (List ℕ)) (state : LineState) (bytes : List ℕ) → Consumes k0 k1 bytes → LineEnds {T = Unit {0}} (Ok tt) state.line (2 ^ 40 - 0) bytes → state.line ≡ head_line
-    → state.taken ≡ 0 + length state.line + 1 → state.count ≡ 0 + 1 → Begun k0 k1 state EndLine
-head_ok k0 k1 state bytes consumed ends is taken count = record {
+-- no version has shorter lines than the first
+no_shorter : (version : Version) → 131070 ≤ longest_line version
+no_shorter One = lit≤ tt
+no_shorter Two = lit≤ tt
+
+-- what is held once the version is known
+abbrev pub in_version : Version → LineState → LineState
+in_version version state = record { ahead = state.ahead; line = state.line; taken = state.taken; count = state.count; version = version }
+
+known_head : (k0 k1 : Option (List ℕ)) (version : Version) (state : LineState) (bytes : List ℕ) → Consumes k0 k1 bytes → LineEnds {T = Unit {0}} (Ok tt) state.line 131070 (2 ^ 40 - 0) bytes → state.line ≡ head_line version
+    → state.taken ≡ 0 + length state.line + 1 → state.count ≡ 0 + 1 → Begun k0 k1 (in_version version state) (EndLine version)
+known_head k0 k1 version state bytes consumed ends is taken count = record {
   text = bytes;
   lines = state.line ∷ [];
   consumed = consumed;
-  stands = rw ends.0 (stands-line [] state.line [] Head EndLine [] [] (2 ^ 40 - 0) ends.1 ends.2 stands-nothing (rw is says-head));
+  stands = rw ends.0 (stands-line [] state.line [] Head (EndLine version) [] [] (2 ^ 40 - 0) (no_shorter version) ends.1 ends.2 stands-nothing (rw is (says-head version)));
   line_count = count;
   byte_count = omega (arith, taken, ap length ends.0, length-append state.line (10 ∷ []));
+  limit = refl;
 }
+
+pub head_ok : (k0 r : Option (List ℕ)) (version : Version) (state known : LineState) (bytes : List ℕ) → Consumes k0 (prepend_known state.ahead r) bytes → LineEnds {T = Unit {0}} (Ok tt) state.line 131070 (2 ^ 40 - 0) bytes
+    → state.line ≡ head_line version → state.taken ≡ 0 + length state.line + 1 → state.count ≡ 0 + 1 → known ≡ in_version version state → Begun k0 (prepend_known known.ahead r) known (EndLine version)
+head_ok k0 r version state known bytes consumed ends is taken count e =
+    subst (λ s. Begun k0 (prepend_known s.ahead r) s (EndLine version)) (sym e) (known_head k0 (prepend_known state.ahead r) version state bytes consumed ends is taken count)
 
 module _ (k0 k1 k2 : Option (List ℕ)) (old new : LineState) (due : Due) (skippable : IsSkippable due) (begun : Begun k0 k1 old due) where
   pub said_stop : (stop : Stop) → ReachesLine {T = Unit {0}} (Err stop) old new k1 k2 → Tells k0 k2 new.ahead (fault_at stop (new.count + 1))
   said_stop stop reach = record {
     text = begun.text ++ (whole_lines reach.skipped ++ reach.bytes);
     consumed = Consumes-trans _ _ _ _ _ begun.consumed reach.consumed;
-    tells = stop_tells begun.text begun.lines due [] skippable begun.stands old new k1 k2 begun.byte_count stop reach begun.line_count;
-    memory = stop_memory begun.text begun.lines due [] skippable begun.stands old new k1 k2 begun.byte_count stop reach begun.line_count;
+    tells = stop_tells begun.text begun.lines due [] skippable begun.stands old new k1 k2 begun.byte_count begun.limit stop reach begun.line_count;
+    memory = stop_memory begun.text begun.lines due [] skippable begun.stands old new k1 k2 begun.byte_count begun.limit stop reach begun.line_count;
   }
 
   module _ (reach : ReachesLine {T = Unit {0}} (Ok tt) old new k1 k2) where
-    pub next_begun : (due' : Due) → Says ((begun.lines ++ reach.skipped) ++ new.line ∷ []) due' [] → Begun k0 k2 new due'
-    next_begun due' says =
-        let before = reached begun.text begun.lines due [] skippable begun.stands old new k1 k2 begun.byte_count (Ok tt) reach in
+    pub next_begun : (due' : Due) → longest due ≡ longest due' → Says ((begun.lines ++ reach.skipped) ++ new.line ∷ []) due' [] → Begun k0 k2 new due'
+    next_begun due' alike says =
+        let before = reached begun.text begun.lines due [] skippable begun.stands old new k1 k2 begun.byte_count begun.limit (Ok tt) reach in
         let after = stands-line (begun.text ++ whole_lines reach.skipped) new.line (begun.lines ++ reach.skipped) due due' [] []
-        (2 ^ 40 - length (begun.text ++ whole_lines reach.skipped))
-        (part_is begun.text begun.lines due [] skippable begun.stands old new k1 k2 begun.byte_count reach begun.line_count)
-        (within_is begun.text begun.lines due [] skippable begun.stands old new k1 k2 begun.byte_count reach begun.line_count)
+        (2 ^ 40 - length (begun.text ++ whole_lines reach.skipped)) (omega (arith, alike))
+        (part_is begun.text begun.lines due [] skippable begun.stands old new k1 k2 begun.byte_count begun.limit reach begun.line_count)
+        (within_is begun.text begun.lines due [] skippable begun.stands old new k1 k2 begun.byte_count begun.limit reach begun.line_count)
         before says in
         record {
           text = begun.text ++ (whole_lines reach.skipped ++ reach.bytes);
           lines = (begun.lines ++ reach.skipped) ++ new.line ∷ [];
           consumed = Consumes-trans _ _ _ _ _ begun.consumed reach.consumed;
-          stands = rw (taken_is begun.text begun.lines due [] skippable begun.stands old new k1 k2 begun.byte_count reach begun.line_count) after;
-          line_count = number_is begun.text begun.lines due [] skippable begun.stands old new k1 k2 begun.byte_count reach begun.line_count ∙ sym (length-append (begun.lines ++ reach.skipped) (new.line ∷ []));
-          byte_count = bytes_are begun.text begun.lines due [] skippable begun.stands old new k1 k2 begun.byte_count reach begun.line_count;
+          stands = rw (taken_is begun.text begun.lines due [] skippable begun.stands old new k1 k2 begun.byte_count begun.limit reach begun.line_count) after;
+          line_count = number_is begun.text begun.lines due [] skippable begun.stands old new k1 k2 begun.byte_count begun.limit reach begun.line_count ∙ sym (length-append (begun.lines ++ reach.skipped) (new.line ∷ []));
+          byte_count = bytes_are begun.text begun.lines due [] skippable begun.stands old new k1 k2 begun.byte_count begun.limit reach begun.line_count;
+          limit = ap longest_line reach.version ∙ begun.limit ∙ alike;
         }
 
     pub says_before : Says (begun.lines ++ reach.skipped) due []
-    says_before = (reached begun.text begun.lines due [] skippable begun.stands old new k1 k2 begun.byte_count (Ok tt) reach).says
+    says_before = (reached begun.text begun.lines due [] skippable begun.stands old new k1 k2 begun.byte_count begun.limit (Ok tt) reach).says
 
 -- the second line that says something
-pub end_bad : (k0 k1 k2 : Option (List ℕ)) (old new : LineState) → Begun k0 k1 old EndLine → ReachesLine {T = Unit {0}} (Ok tt) old new k1 k2 → ((named : End) → new.line ≢ end_line named) → Tells k0 k2 new.ahead (faults.Text new.count BadEnd)
-end_bad k0 k1 k2 old new begun reach other =
-    let before = reached begun.text begun.lines EndLine [] tt begun.stands old new k1 k2 begun.byte_count (Ok tt) reach in
-    let within = within_is begun.text begun.lines EndLine [] tt begun.stands old new k1 k2 begun.byte_count reach begun.line_count in
-    let wrong = fault_at_end (begun.text ++ whole_lines reach.skipped) (begun.lines ++ reach.skipped) EndLine [] (λ o. o) before new.line BadEnd
-    (part_is begun.text begun.lines EndLine [] tt begun.stands old new k1 k2 begun.byte_count reach begun.line_count)
+pub end_bad : (k0 k1 k2 : Option (List ℕ)) (version : Version) (old new : LineState) → Begun k0 k1 old (EndLine version) → ReachesLine {T = Unit {0}} (Ok tt) old new k1 k2 → ((named : End) → new.line ≢ end_line named) → Tells k0 k2 new.ahead (faults.Text new.count BadEnd)
+end_bad k0 k1 k2 version old new begun reach other =
+    let before = reached begun.text begun.lines (EndLine version) [] tt begun.stands old new k1 k2 begun.byte_count begun.limit (Ok tt) reach in
+    let within = within_is begun.text begun.lines (EndLine version) [] tt begun.stands old new k1 k2 begun.byte_count begun.limit reach begun.line_count in
+    let wrong = fault_at_end (begun.text ++ whole_lines reach.skipped) (begun.lines ++ reach.skipped) (EndLine version) [] (λ o. o) before new.line BadEnd
+    (part_is begun.text begun.lines (EndLine version) [] tt begun.stands old new k1 k2 begun.byte_count begun.limit reach begun.line_count)
     (omega (arith, within, length-append (begun.text ++ whole_lines reach.skipped) new.line), refl, (refl, reach.said, other)) in
     record {
       text = begun.text ++ (whole_lines reach.skipped ++ reach.bytes);
       consumed = Consumes-trans _ _ _ _ _ begun.consumed reach.consumed;
-      tells = rw (taken_is begun.text begun.lines EndLine [] tt begun.stands old new k1 k2 begun.byte_count reach begun.line_count, number_is begun.text begun.lines EndLine [] tt begun.stands old new k1 k2 begun.byte_count reach begun.line_count) wrong;
+      tells = rw (taken_is begun.text begun.lines (EndLine version) [] tt begun.stands old new k1 k2 begun.byte_count begun.limit reach begun.line_count, number_is begun.text begun.lines (EndLine version) [] tt begun.stands old new k1 k2 begun.byte_count begun.limit reach begun.line_count) wrong;
       memory = tt;
     }
 
-pub end_ok : (k0 k1 k2 : Option (List ℕ)) (old new : LineState) (named : End) → Begun k0 k1 old EndLine → ReachesLine {T = Unit {0}} (Ok tt) old new k1 k2 → new.line ≡ end_line named → Begun k0 k2 new (ServiceLine named)
-end_ok k0 k1 k2 old new named begun reach is =
-    next_begun k0 k1 k2 old new EndLine tt begun reach (ServiceLine named)
-    (rw is (says-end (begun.lines ++ reach.skipped) named (says_before k0 k1 k2 old new EndLine tt begun reach)))
+pub end_ok : (k0 k1 k2 : Option (List ℕ)) (version : Version) (old new : LineState) (named : End) → Begun k0 k1 old (EndLine version) → ReachesLine {T = Unit {0}} (Ok tt) old new k1 k2 → new.line ≡ end_line named → Begun k0 k2 new (ServiceLine version named)
+end_ok k0 k1 k2 version old new named begun reach is =
+    next_begun k0 k1 k2 old new (EndLine version) tt begun reach (ServiceLine version named) refl
+    (rw is (says-end version (begun.lines ++ reach.skipped) named (says_before k0 k1 k2 old new (EndLine version) tt begun reach)))
 
 -- the third
-pub service_bad : (k0 k1 k2 : Option (List ℕ)) (old new : LineState) (named : End) → Begun k0 k1 old (ServiceLine named) → ReachesLine {T = Unit {0}} (Ok tt) old new k1 k2
+pub service_bad : (k0 k1 k2 : Option (List ℕ)) (version : Version) (old new : LineState) (named : End) → Begun k0 k1 old (ServiceLine version named) → ReachesLine {T = Unit {0}} (Ok tt) old new k1 k2
     → ((port : ℕ) → IsPort port → new.line ≢ service_line port) → Tells k0 k2 new.ahead (faults.Text new.count BadService)
-service_bad k0 k1 k2 old new named begun reach other =
-    let before = reached begun.text begun.lines (ServiceLine named) [] tt begun.stands old new k1 k2 begun.byte_count (Ok tt) reach in
-    let within = within_is begun.text begun.lines (ServiceLine named) [] tt begun.stands old new k1 k2 begun.byte_count reach begun.line_count in
-    let wrong = fault_at_end (begun.text ++ whole_lines reach.skipped) (begun.lines ++ reach.skipped) (ServiceLine named) [] (λ o. o) before new.line BadService
-    (part_is begun.text begun.lines (ServiceLine named) [] tt begun.stands old new k1 k2 begun.byte_count reach begun.line_count)
+service_bad k0 k1 k2 version old new named begun reach other =
+    let before = reached begun.text begun.lines (ServiceLine version named) [] tt begun.stands old new k1 k2 begun.byte_count begun.limit (Ok tt) reach in
+    let within = within_is begun.text begun.lines (ServiceLine version named) [] tt begun.stands old new k1 k2 begun.byte_count begun.limit reach begun.line_count in
+    let wrong = fault_at_end (begun.text ++ whole_lines reach.skipped) (begun.lines ++ reach.skipped) (ServiceLine version named) [] (λ o. o) before new.line BadService
+    (part_is begun.text begun.lines (ServiceLine version named) [] tt begun.stands old new k1 k2 begun.byte_count begun.limit reach begun.line_count)
     (omega (arith, within, length-append (begun.text ++ whole_lines reach.skipped) new.line), refl, (refl, reach.said, other)) in
     record {
       text = begun.text ++ (whole_lines reach.skipped ++ reach.bytes);
       consumed = Consumes-trans _ _ _ _ _ begun.consumed reach.consumed;
-      tells = rw (taken_is begun.text begun.lines (ServiceLine named) [] tt begun.stands old new k1 k2 begun.byte_count reach begun.line_count, number_is begun.text begun.lines (ServiceLine named) [] tt begun.stands old new k1 k2 begun.byte_count reach begun.line_count) wrong;
+      tells = rw (taken_is begun.text begun.lines (ServiceLine version named) [] tt begun.stands old new k1 k2 begun.byte_count begun.limit reach begun.line_count, number_is begun.text begun.lines (ServiceLine version named) [] tt begun.stands old new k1 k2 begun.byte_count begun.limit reach begun.line_count) wrong;
       memory = tt;
     }
 
-pub service_ok : (k0 k1 k2 : Option (List ℕ)) (old new : LineState) (named : End) (port : ℕ) → Begun k0 k1 old (ServiceLine named) → ReachesLine {T = Unit {0}} (Ok tt) old new k1 k2 → IsPort port → new.line ≡ service_line port
-    → Begun k0 k2 new (Body (record { named = named; service = port }))
-service_ok k0 k1 k2 old new named port begun reach h is =
-    next_begun k0 k1 k2 old new (ServiceLine named) tt begun reach (Body (record { named = named; service = port }))
-    (rw is (says-service (begun.lines ++ reach.skipped) named port h (says_before k0 k1 k2 old new (ServiceLine named) tt begun reach)))
+pub service_ok : (k0 k1 k2 : Option (List ℕ)) (version : Version) (old new : LineState) (named : End) (port : ℕ) → Begun k0 k1 old (ServiceLine version named) → ReachesLine {T = Unit {0}} (Ok tt) old new k1 k2 → IsPort port → new.line ≡ service_line port
+    → Begun k0 k2 new (Body version (record { named = named; service = port }))
+service_ok k0 k1 k2 version old new named port begun reach h is =
+    next_begun k0 k1 k2 old new (ServiceLine version named) tt begun reach (Body version (record { named = named; service = port })) refl
+    (rw is (says-service version (begun.lines ++ reach.skipped) named port h (says_before k0 k1 k2 old new (ServiceLine version named) tt begun reach)))
 
 -- the third line stands where it was read
-pub service_at : (k0 k1 k2 : Option (List ℕ)) (old new : LineState) (named : End) (port : ℕ) (begun : Begun k0 k1 old (ServiceLine named)) (reach : ReachesLine {T = Unit {0}} (Ok tt) old new k1 k2) (h : IsPort port) (is : new.line ≡ service_line port)
-    → HasService (service_ok k0 k1 k2 old new named port begun reach h is).text (record { named = named; service = port }) new.count
+pub service_at : (k0 k1 k2 : Option (List ℕ)) (version : Version) (old new : LineState) (named : End) (port : ℕ) (begun : Begun k0 k1 old (ServiceLine version named)) (reach : ReachesLine {T = Unit {0}} (Ok tt) old new k1 k2) (h : IsPort port) (is : new.line ≡ service_line port)
+    → HasService (service_ok k0 k1 k2 version old new named port begun reach h is).text (record { named = named; service = port }) new.count
 unfolding service_ok next_begun
-service_at k0 k1 k2 old new named port begun reach h is =
-    let before = says_before k0 k1 k2 old new (ServiceLine named) tt begun reach in
-    let number : 2 + length before.0 ≡ new.count = omega (arith, number_is begun.text begun.lines (ServiceLine named) [] tt begun.stands old new k1 k2 begun.byte_count reach begun.line_count, ap length before.2) in
+service_at k0 k1 k2 version old new named port begun reach h is =
+    let before = says_before k0 k1 k2 old new (ServiceLine version named) tt begun reach in
+    let number : 2 + length before.0 ≡ new.count = omega (arith, number_is begun.text begun.lines (ServiceLine version named) [] tt begun.stands old new k1 k2 begun.byte_count begun.limit reach begun.line_count, ap length before.2) in
     record {
+      version = version;
       lines = (begun.lines ++ reach.skipped) ++ new.line ∷ [];
       after_head = before.0 ++ service_line port ∷ [];
       at_end = before.1;
       others = [];
-      divided = (service_ok k0 k1 k2 old new named port begun reach h is).stands.divided;
+      divided = (service_ok k0 k1 k2 version old new named port begun reach h is).stands.divided;
       begins = ap (λ l. (begun.lines ++ reach.skipped) ++ l ∷ []) is ∙ ap (λ l. l ++ service_line port ∷ []) before.2;
       are = said-push 2 before.0 (service_line port) refl ∙ ap (λ l. l ++ (2 + length before.0, service_line port) ∷ []) before.3 ∙ ap (λ n. (before.1, end_line named) ∷ (n, service_line port) ∷ []) number;
     }
@@ -198,14 +217,3 @@ pub at_read : (stop : Stop) (n : ℕ) → IsReadFault (fault_at stop n) → stop
 at_read (Text fault) n h = absurd h
 at_read Read n h = refl
 at_read Memory n h = absurd h
-
--- ---- the answer of `!=`
-
-pub ne_true : (a b : List ℕ) (r : Bool) → r ≡ not (bytes_eq a b) → r ≡ true → a ≢ b
-ne_true a b r is h e = true≢false (sym h ∙ is ∙ ap not ((bytes_eq-Decides a b).1 e))
-
-pub ne_false : (a b : List ℕ) (r : Bool) → r ≡ not (bytes_eq a b) → r ≡ false → a ≡ b
-ne_false a b r is h =
-    let same : not (bytes_eq a b) ≡ false → bytes_eq a b ≡ true =
-    elim (bytes_eq a b) as (λ v. not v ≡ false → v ≡ true) [ true ↦ λ _. refl | false ↦ λ e. absurd (true≢false e) ] in
-    (bytes_eq-Decides a b).0 (same (sym is ∙ h))

@@ -1,17 +1,19 @@
 -- What the pieces of a line say, and what is wrong with them.
-use Rattle.std.proofs.Common.{◌≡◌, ◌≢◌, ℕ, ◌≤◌, ◌==◌, true, false, List, [], ◌∷◌, length, codes, decimal, Option, None, Some, Err, MatchOption, is_some, true≢false, refl, sym, ap, ◌∙◌, subst, arith, IsUtf8}
+use Rattle.std.proofs.Common.{◌≡◌, ◌≢◌, ℕ, ◌≤◌, ◌==◌, true, false, List, [], ◌∷◌, length, codes, decimal, Option, None, Some, Err, MatchOption, is_some, true≢false, refl, sym, ap, ◌∙◌, subst, arith, lit≤, IsUtf8}
 use Rattle.std.specs.List.{join_with_byte}
 use Rattle.std.proofs.lemmas.List.Splits.{length-slice_split, join_with_byte-slice_split}
 use Rattle.std.proofs.lemmas.Fmt.{IsAscii-decimal}
 use Rattle.std.proofs.lemmas.Str.{IsUtf8-from_ascii}
-use Rattle.tftp_packet.specs.Host.{no_host}
+use Rattle.tftp_packet.specs.Host.{IsHost}
 use Rattle.tftp_packet.specs.declared.kinds.Dir.{Dir}
 use Rattle.tftp_packet.specs.declared.kinds.Dir.TheVariants.{In, Out}
-use Rattle.tftp_capture.specs.declared.fault.TextFault.TheVariants.{BadHeader, BadEnd, BadService, LineTooLong, BadLine, BadPort, BadHex, PayloadTooLong, TotalWrong, Truncated, TrailingText, TextTooLong}
+use Rattle.tftp_capture.specs.declared.fault.TextFault.TheVariants.{BadHeader, BadEnd, BadService, LineTooLong, BadLine, BadPort, BadHost, BadHex, PayloadTooLong, TotalWrong, Truncated, TrailingText, TextTooLong}
 use Rattle.tftp_capture.specs.declared.stop.Stop.{Stop}
 use Rattle.tftp_capture.specs.declared.stop.Stop.TheVariants.{Text, Read, Memory}
-use Rattle.tftp_capture.specs.Fields.{DatagramEnds, PayloadEnds}
-use Rattle.tftp_capture.specs.CaptureText.{dir_word, pieces, total_line, BodyFault, HasFields, SpellsPort}
+use Rattle.tftp_capture.specs.Fields.{BodyEnds, DatagramEnds, PayloadEnds, TotalEnds}
+use Rattle.tftp_capture.specs.CaptureText.{dir_word, pieces, total_line, AreFields, BodyFault, HasFields, HasPorts, SpellsPort}
+use Rattle.tftp_capture.specs.declared.version.Version.{Version}
+use Rattle.tftp_capture.specs.declared.version.Version.TheVariants.{One, Two}
 
 pub some_piece : (xs : List ℕ) → 1 ≤ length (pieces xs)
 some_piece xs = omega (arith, length-slice_split (λ b. b == 32) xs)
@@ -20,41 +22,90 @@ pub dir_not_total : (dir : Dir) → dir_word dir ≢ codes "total"
 dir_not_total In e = absurd (omega (arith, ap length e))
 dir_not_total Out e = absurd (omega (arith, ap length e))
 
--- a first word that is a direction, and not three pieces after it
-pub bad_fields : (count : ℕ) (line : List ℕ) (dir : Dir) (rest : List (List ℕ)) → pieces line ≡ dir_word dir ∷ rest → length rest ≢ 3 → BodyFault count line BadLine
-bad_fields count line dir rest is few = (
-  λ word local remote digits h. few (omega (arith, ap length (sym is ∙ h.cut))),
+-- ---- the fields of a datagram's line
+
+-- the number of pieces
+abbrev pub width : Version → ℕ
+width One = 4
+width Two = 5
+
+pub fields_width : (version : Version) (ps : List (List ℕ)) (word local host remote digits : List ℕ) → AreFields version ps word local host remote digits → length ps ≡ width version
+fields_width One ps word local host remote digits p = ap length p.0
+fields_width Two ps word local host remote digits p = ap length p
+
+four_pieces : (version : Version) → 4 ≤ width version
+four_pieces One = lit≤ tt
+four_pieces Two = lit≤ tt
+
+pub fields_word : (version : Version) (first : List ℕ) (ps : List (List ℕ)) (word local host remote digits : List ℕ) → AreFields version (first ∷ ps) word local host remote digits → first ≡ word
+fields_word One first ps word local host remote digits p = let is : first ∷ ps ≡ word ∷ local ∷ remote ∷ digits ∷ [] = p.0 in cc
+fields_word Two first ps word local host remote digits p = let is : first ∷ ps ≡ word ∷ local ∷ host ∷ remote ∷ digits ∷ [] = p in cc
+
+-- pieces are one word and one list of fields
+pub fields_same : (version : Version) (ps : List (List ℕ)) (w l h r d w' l' h' r' d' : List ℕ) → AreFields version ps w l h r d → AreFields version ps w' l' h' r' d' → (w ≡ w') × (l ≡ l') × (h ≡ h') × (r ≡ r') × (d ≡ d')
+fields_same One ps w l h r d w' l' h' r' d' p q =
+    let cut : w ∷ l ∷ r ∷ d ∷ [] ≡ w' ∷ l' ∷ r' ∷ d' ∷ [] = sym p.0 ∙ q.0 in
+    (cc, cc, p.1 ∙ sym q.1, cc, cc)
+fields_same Two ps w l h r d w' l' h' r' d' p q =
+    let cut : w ∷ l ∷ h ∷ r ∷ d ∷ [] ≡ w' ∷ l' ∷ h' ∷ r' ∷ d' ∷ [] = sym p ∙ q in
+    (cc, cc, cc, cc, cc)
+
+-- ---- what is wrong with the pieces
+
+-- a first word that is a direction, and no fields
+pub bad_fields : (version : Version) (count : ℕ) (line : List ℕ) (dir : Dir) (rest : List (List ℕ)) → pieces line ≡ dir_word dir ∷ rest
+    → ((local host remote digits : List ℕ) → AreFields version (dir_word dir ∷ rest) (dir_word dir) local host remote digits → ⊥) → BodyFault version count line BadLine
+bad_fields version count line dir rest is none = (
+  λ word local host remote digits h.
+      let cut : AreFields version (dir_word dir ∷ rest) word local host remote digits = rw is at h.cut in
+      let same : dir_word dir ≡ word = fields_word version (dir_word dir) rest word local host remote digits cut in
+      none local host remote digits (subst (λ w. AreFields version (dir_word dir ∷ rest) w local host remote digits) (sym same) cut),
   λ number e. dir_not_total dir (let same : dir_word dir ∷ rest ≡ codes "total" ∷ number ∷ [] = sym is ∙ e in cc),
 )
 
 -- one piece
-pub bad_single : (count : ℕ) (line : List ℕ) → pieces line ≡ line ∷ [] → BodyFault count line BadLine
-bad_single count line is = (
-  λ word local remote digits h. absurd (omega (arith, ap length (sym is ∙ h.cut))),
+pub bad_single : (version : Version) (count : ℕ) (line : List ℕ) → pieces line ≡ line ∷ [] → BodyFault version count line BadLine
+bad_single version count line is = (
+  λ word local host remote digits h. absurd (omega (arith, ap length is, fields_width version (pieces line) word local host remote digits h.cut, four_pieces version)),
   λ number e. absurd (omega (arith, ap length (sym is ∙ e))),
 )
 
 -- a first word that is neither a direction nor `total`
-pub bad_word : (count : ℕ) (line word : List ℕ) (rest : List (List ℕ)) → pieces line ≡ word ∷ rest → ((dir : Dir) → word ≢ dir_word dir) → word ≢ codes "total" → BodyFault count line BadLine
-bad_word count line word rest is no_dir no_total = (
-  λ first local remote digits h. let same : word ∷ rest ≡ first ∷ local ∷ remote ∷ digits ∷ [] = sym is ∙ h.cut in
-      let head : word ≡ first = cc in no_dir h.dir.0 (head ∙ h.dir.1),
+pub bad_word : (version : Version) (count : ℕ) (line word : List ℕ) (rest : List (List ℕ)) → pieces line ≡ word ∷ rest → ((dir : Dir) → word ≢ dir_word dir) → word ≢ codes "total" → BodyFault version count line BadLine
+bad_word version count line word rest is no_dir no_total = (
+  λ first local host remote digits h. no_dir h.dir.0 (fields_word version word rest first local host remote digits (rw is at h.cut) ∙ h.dir.1),
   λ number e. let same : word ∷ rest ≡ codes "total" ∷ number ∷ [] = sym is ∙ e in no_total cc,
 )
 
+-- a line of the total has no fields of a datagram
+pub total_no_fields : (version : Version) (line word local host remote digits : List ℕ) (rest : List (List ℕ)) → pieces line ≡ codes "total" ∷ rest → HasFields version line word local host remote digits → ⊥
+total_no_fields version line word local host remote digits rest is h =
+    dir_not_total h.dir.0 (sym h.dir.1 ∙ sym (fields_word version (codes "total") rest word local host remote digits (rw is at h.cut)))
+
 -- `total` and not one piece after it
-pub bad_total : (count : ℕ) (line : List ℕ) (rest : List (List ℕ)) → pieces line ≡ codes "total" ∷ rest → length rest ≢ 1 → BodyFault count line BadLine
-bad_total count line rest is few = (
-  λ word local remote digits h. let same : codes "total" ∷ rest ≡ word ∷ local ∷ remote ∷ digits ∷ [] = sym is ∙ h.cut in
-      let head : codes "total" ≡ word = cc in dir_not_total h.dir.0 (sym h.dir.1 ∙ sym head),
+pub bad_total : (version : Version) (count : ℕ) (line : List ℕ) (rest : List (List ℕ)) → pieces line ≡ codes "total" ∷ rest → length rest ≢ 1 → BodyFault version count line BadLine
+bad_total version count line rest is few = (
+  λ word local host remote digits h. total_no_fields version line word local host remote digits rest is h,
   λ number e. few (omega (arith, ap length (sym is ∙ e))),
 )
 
 pub is_total : (count : ℕ) (line : List ℕ) → pieces line ≡ codes "total" ∷ decimal count ∷ [] → line ≡ total_line count
 is_total count line is = sym (join_with_byte-slice_split 32 line) ∙ ap (join_with_byte 32) is
 
-pub has_fields : (line local remote digits : List ℕ) (dir : Dir) → pieces line ≡ dir_word dir ∷ local ∷ remote ∷ digits ∷ [] → HasFields line (dir_word dir) local remote digits
-has_fields line local remote digits dir is = record { cut = is; dir = (dir, refl) }
+pub has_ports : (version : Version) (line local host remote digits : List ℕ) (dir : Dir) (l r : ℕ) → AreFields version (pieces line) (dir_word dir) local host remote digits → SpellsPort local l → SpellsPort remote r → HasPorts version line host digits
+has_ports version line local host remote digits dir l r is sl sr = record {
+  word = dir_word dir;
+  local = local;
+  remote = remote;
+  fields = record { cut = is; dir = (dir, refl) };
+  local_port = (l, sl);
+  remote_port = (r, sr);
+}
+
+pub ports_same : (version : Version) (line host digits host' digits' : List ℕ) → HasPorts version line host digits → HasPorts version line host' digits' → (host ≡ host') × (digits ≡ digits')
+ports_same version line host digits host' digits' p q =
+    let same = fields_same version (pieces line) p.word p.local host p.remote digits q.word q.local host' q.remote digits' p.fields.cut q.fields.cut in
+    (same.2, same.4)
 
 pub cut_some : {P : Type 0} (first rest : P → List ℕ) (xs : List ℕ) (r : Option P) → MatchOption r (pieces xs ≡ xs ∷ []) (λ p. pieces xs ≡ first p ∷ pieces (rest p))
     → true ≡ is_some r → (a b : List ℕ) × (pieces xs ≡ a ∷ pieces b)
@@ -71,22 +122,29 @@ pub port_utf8 : (bytes : List ℕ) (port : ℕ) → SpellsPort bytes port → Is
 port_utf8 bytes port h = subst IsUtf8 (sym h.1) (IsUtf8-from_ascii _ (IsAscii-decimal port (omega (arith, h.0.1))))
 
 -- the last field spells no payload, or memory was refused for the one that it spells
-pub payload_stop : (count : ℕ) (line local remote digits : List ℕ) (dir : Dir) (l r : ℕ) → pieces line ≡ dir_word dir ∷ local ∷ remote ∷ digits ∷ [] → SpellsPort local l → SpellsPort remote r
-    → (stop : Stop) → PayloadEnds (Err stop) digits → DatagramEnds (Err stop) line count
-payload_stop count line local remote digits dir l r is sl sr (Text BadHex) p = (dir_word dir, local, remote, digits, l, r, has_fields line local remote digits dir is, sl, sr, p)
-payload_stop count line local remote digits dir l r is sl sr (Text PayloadTooLong) p = (dir_word dir, local, remote, digits, p.0, l, r, has_fields line local remote digits dir is, sl, sr, p.1, p.2)
-payload_stop count line local remote digits dir l r is sl sr Memory p = (
-  record { dir = dir; local = l; host = no_host; remote = r; payload = p.0 },
-  record { local = local; remote = remote; digits = digits; cut = is; host = refl; local_port = sl; remote_port = sr; payload = p.1; fits = p.2 },
+pub payload_stop : (version : Version) (count : ℕ) (line local host remote digits : List ℕ) (dir : Dir) (l r : ℕ) → AreFields version (pieces line) (dir_word dir) local host remote digits → SpellsPort local l → SpellsPort remote r → IsHost host
+    → (stop : Stop) → PayloadEnds (Err stop) digits → DatagramEnds version (Err stop) line count
+payload_stop version count line local host remote digits dir l r is sl sr sh (Text BadHex) p = (host, digits, has_ports version line local host remote digits dir l r is sl sr, sh, p)
+payload_stop version count line local host remote digits dir l r is sl sr sh (Text PayloadTooLong) p = (host, digits, p.0, has_ports version line local host remote digits dir l r is sl sr, sh, p.1, p.2)
+payload_stop version count line local host remote digits dir l r is sl sr sh Memory p = (
+  record { dir = dir; local = l; host = host; remote = r; payload = p.0 },
+  record { local = local; remote = remote; digits = digits; cut = is; local_port = sl; host = sh; remote_port = sr; payload = p.1; fits = p.2 },
 )
-payload_stop count line local remote digits dir l r is sl sr Read p = absurd p
-payload_stop count line local remote digits dir l r is sl sr (Text BadHeader) p = absurd p
-payload_stop count line local remote digits dir l r is sl sr (Text BadEnd) p = absurd p
-payload_stop count line local remote digits dir l r is sl sr (Text BadService) p = absurd p
-payload_stop count line local remote digits dir l r is sl sr (Text LineTooLong) p = absurd p
-payload_stop count line local remote digits dir l r is sl sr (Text BadLine) p = absurd p
-payload_stop count line local remote digits dir l r is sl sr (Text BadPort) p = absurd p
-payload_stop count line local remote digits dir l r is sl sr (Text TotalWrong) p = absurd p
-payload_stop count line local remote digits dir l r is sl sr (Text Truncated) p = absurd p
-payload_stop count line local remote digits dir l r is sl sr (Text TrailingText) p = absurd p
-payload_stop count line local remote digits dir l r is sl sr (Text TextTooLong) p = absurd p
+payload_stop version count line local host remote digits dir l r is sl sr sh Read p = absurd p
+payload_stop version count line local host remote digits dir l r is sl sr sh (Text BadHeader) p = absurd p
+payload_stop version count line local host remote digits dir l r is sl sr sh (Text BadEnd) p = absurd p
+payload_stop version count line local host remote digits dir l r is sl sr sh (Text BadService) p = absurd p
+payload_stop version count line local host remote digits dir l r is sl sr sh (Text LineTooLong) p = absurd p
+payload_stop version count line local host remote digits dir l r is sl sr sh (Text BadLine) p = absurd p
+payload_stop version count line local host remote digits dir l r is sl sr sh (Text BadPort) p = absurd p
+payload_stop version count line local host remote digits dir l r is sl sr sh (Text BadHost) p = absurd p
+payload_stop version count line local host remote digits dir l r is sl sr sh (Text TotalWrong) p = absurd p
+payload_stop version count line local host remote digits dir l r is sl sr sh (Text Truncated) p = absurd p
+payload_stop version count line local host remote digits dir l r is sl sr sh (Text TrailingText) p = absurd p
+payload_stop version count line local host remote digits dir l r is sl sr sh (Text TextTooLong) p = absurd p
+
+-- what is wrong with a line of the total is wrong with a line
+pub total_stop : (version : Version) (count : ℕ) (line : List ℕ) (stop : Stop) → TotalEnds version (Err stop) line count → BodyEnds version (Err stop) line count
+total_stop version count line (Text fault) p = p
+total_stop version count line Read p = absurd p
+total_stop version count line Memory p = absurd p

@@ -2,95 +2,113 @@
 use Rattle.std.proofs.Common.{◌≡◌, ◌≢◌, ℕ, ◌+◌, ◌^◌, ◌<◌, inl, inr, List, [], ◌∷◌, ◌++◌, length, codes, refl, sym, ap, ◌∙◌, subst, arith, length-append}
 use Rattle.std.proofs.lemmas.Bool.{cases_lt}
 use Rattle.tftp_capture.specs.declared.fault.TextFault.{TextFault}
-use Rattle.tftp_capture.specs.declared.fault.TextFault.TheVariants.{BadHeader, BadEnd, BadService, LineTooLong, BadLine, BadPort, BadHex, PayloadTooLong, TotalWrong, Truncated, TrailingText, TextTooLong}
-use Rattle.tftp_capture.specs.CaptureText.{BodyFault, ByteFault, Due, FailsAt, HasFault, HasFields, Header, IsCapture, IsOver, LineFault, Numbered, Reading, Reads, Says, SpellsPayload, SpellsPort, Stands, Unfinished, pieces}
+use Rattle.tftp_capture.specs.declared.fault.TextFault.TheVariants.{BadHeader, BadEnd, BadService, LineTooLong, BadLine, BadPort, BadHost, BadHex, PayloadTooLong, TotalWrong, Truncated, TrailingText, TextTooLong}
+use Rattle.tftp_capture.specs.CaptureText.{BodyFault, ByteFault, Due, FailsAt, HasFault, HasFields, HasPorts, Header, IsCapture, IsOver, LineFault, Numbered, Reading, Reads, Says, SpellsPayload, SpellsPort, Stands, Unfinished, pieces}
+use Rattle.tftp_capture.specs.declared.version.Version.{Version}
+use Rattle.tftp_packet.specs.Host.{IsHost}
 use Rattle.tftp_capture.specs.CaptureText.Due.{Head, EndLine, ServiceLine, Body, Nothing}
 use Rattle.tftp_capture.specs.CaptureText.Reading.{Capture, Fault}
+use Rattle.tftp_capture.proofs.Pieces.{fields_same, ports_same, total_no_fields}
 use Rattle.tftp_capture.proofs.Uniqueness.{no_longer, snoc_cases}
 use Rattle.tftp_capture.proofs.Walks.{head_or, says_same, tail_of}
 
 -- ---- one place has one fault
 
-data BodyIs (count : ℕ) (line : List ℕ) : TextFault → Type 0 where
-  b_line : BodyFault count line BadLine → BodyIs count line BadLine
-  b_port : BodyFault count line BadPort → BodyIs count line BadPort
-  b_hex : BodyFault count line BadHex → BodyIs count line BadHex
-  b_long : BodyFault count line PayloadTooLong → BodyIs count line PayloadTooLong
-  b_total : BodyFault count line TotalWrong → BodyIs count line TotalWrong
+data BodyIs (version : Version) (count : ℕ) (line : List ℕ) : TextFault → Type 0 where
+  b_line : BodyFault version count line BadLine → BodyIs version count line BadLine
+  b_port : BodyFault version count line BadPort → BodyIs version count line BadPort
+  b_host : BodyFault version count line BadHost → BodyIs version count line BadHost
+  b_hex : BodyFault version count line BadHex → BodyIs version count line BadHex
+  b_long : BodyFault version count line PayloadTooLong → BodyIs version count line PayloadTooLong
+  b_total : BodyFault version count line TotalWrong → BodyIs version count line TotalWrong
 
-body_is : (count : ℕ) (line : List ℕ) (fault : TextFault) → BodyFault count line fault → BodyIs count line fault
-body_is count line BadLine h = b_line h
-body_is count line BadPort h = b_port h
-body_is count line BadHex h = b_hex h
-body_is count line PayloadTooLong h = b_long h
-body_is count line TotalWrong h = b_total h
-body_is count line BadHeader h = absurd h
-body_is count line BadEnd h = absurd h
-body_is count line BadService h = absurd h
-body_is count line LineTooLong h = absurd h
-body_is count line Truncated h = absurd h
-body_is count line TrailingText h = absurd h
-body_is count line TextTooLong h = absurd h
+body_is : (version : Version) (count : ℕ) (line : List ℕ) (fault : TextFault) → BodyFault version count line fault → BodyIs version count line fault
+body_is version count line BadLine h = b_line h
+body_is version count line BadPort h = b_port h
+body_is version count line BadHost h = b_host h
+body_is version count line BadHex h = b_hex h
+body_is version count line PayloadTooLong h = b_long h
+body_is version count line TotalWrong h = b_total h
+body_is version count line BadHeader h = absurd h
+body_is version count line BadEnd h = absurd h
+body_is version count line BadService h = absurd h
+body_is version count line LineTooLong h = absurd h
+body_is version count line Truncated h = absurd h
+body_is version count line TrailingText h = absurd h
+body_is version count line TextTooLong h = absurd h
 
--- the pieces of a line with four fields are the same
-fields_same : (line w l r d w' l' r' d' : List ℕ) → HasFields line w l r d → HasFields line w' l' r' d' → (l ≡ l') × (r ≡ r') × (d ≡ d')
-fields_same line w l r d w' l' r' d' p q =
-    let cut : w ∷ l ∷ r ∷ d ∷ [] ≡ w' ∷ l' ∷ r' ∷ d' ∷ [] = sym p.cut ∙ q.cut in
-    (cc, cc, cc)
+module _ (version : Version) (count : ℕ) (line : List ℕ) where
+  fields_or_total : (word local host remote digits number : List ℕ) → HasFields version line word local host remote digits → pieces line ≡ codes "total" ∷ number ∷ [] → ⊥
+  fields_or_total word local host remote digits number p e = total_no_fields version line word local host remote digits (number ∷ []) e p
 
-fields_or_total : (line w l r d number : List ℕ) → HasFields line w l r d → pieces line ≡ codes "total" ∷ number ∷ [] → ⊥
-fields_or_total line w l r d number p e = absurd (omega (arith, ap length (sym p.cut ∙ e)))
+  ports_or_total : (host digits number : List ℕ) → HasPorts version line host digits → pieces line ≡ codes "total" ∷ number ∷ [] → ⊥
+  ports_or_total host digits number p e = fields_or_total p.word p.local host p.remote digits number p.fields e
 
-port_or_spelled : (line : List ℕ) (count : ℕ) (w l r d : List ℕ) (m n : ℕ) → BodyFault count line BadPort → HasFields line w l r d → SpellsPort l m → SpellsPort r n → ⊥
-port_or_spelled line count w l r d m n h p sm sn =
-    let same = fields_same line w l r d h.0 h.1 h.2 h.3 p h.4 in
-    h.5 m n (subst (λ x. SpellsPort x m) same.0 sm) (subst (λ x. SpellsPort x n) same.1 sn)
+  line_or_ports : (host digits : List ℕ) → BodyFault version count line BadLine → HasPorts version line host digits → ⊥
+  line_or_ports host digits h p = h.0 p.word p.local host p.remote digits p.fields
 
-hex_or_spelled : (line : List ℕ) (count : ℕ) (w l r d payload : List ℕ) → BodyFault count line BadHex → HasFields line w l r d → SpellsPayload d payload → ⊥
-hex_or_spelled line count w l r d payload h p s =
-    let same = fields_same line w l r d h.0 h.1 h.2 h.3 p h.6 in
-    h.9 payload (subst (λ x. SpellsPayload x payload) same.2 s)
+  port_or_ports : (host digits : List ℕ) → BodyFault version count line BadPort → HasPorts version line host digits → ⊥
+  port_or_ports host digits h p =
+      let same = fields_same version (pieces line) p.word p.local host p.remote digits h.0 h.1 h.2 h.3 h.4 p.fields.cut h.5.cut in
+      h.6 p.local_port.0 p.remote_port.0 (subst (λ l. SpellsPort l p.local_port.0) same.1 p.local_port.1) (subst (λ l. SpellsPort l p.remote_port.0) same.3 p.remote_port.1)
 
-body_same : (count : ℕ) (line : List ℕ) (f g : TextFault) → BodyIs count line f → BodyIs count line g → f ≡ g
-body_same count line _ _ (b_line h) (b_line k) = refl
-body_same count line _ _ (b_line h) (b_port k) = absurd (h.0 k.0 k.1 k.2 k.3 k.4)
-body_same count line _ _ (b_line h) (b_hex k) = absurd (h.0 k.0 k.1 k.2 k.3 k.6)
-body_same count line _ _ (b_line h) (b_long k) = absurd (h.0 k.0 k.1 k.2 k.3 k.7)
-body_same count line _ _ (b_line h) (b_total k) = absurd (h.1 k.0 k.1)
-body_same count line _ _ (b_port h) (b_line k) = absurd (k.0 h.0 h.1 h.2 h.3 h.4)
-body_same count line _ _ (b_port h) (b_port k) = refl
-body_same count line _ _ (b_port h) (b_hex k) = absurd (port_or_spelled line count k.0 k.1 k.2 k.3 k.4 k.5 h k.6 k.7 k.8)
-body_same count line _ _ (b_port h) (b_long k) = absurd (port_or_spelled line count k.0 k.1 k.2 k.3 k.5 k.6 h k.7 k.8 k.9)
-body_same count line _ _ (b_port h) (b_total k) = absurd (fields_or_total line h.0 h.1 h.2 h.3 k.0 h.4 k.1)
-body_same count line _ _ (b_hex h) (b_line k) = absurd (k.0 h.0 h.1 h.2 h.3 h.6)
-body_same count line _ _ (b_hex h) (b_port k) = absurd (port_or_spelled line count h.0 h.1 h.2 h.3 h.4 h.5 k h.6 h.7 h.8)
-body_same count line _ _ (b_hex h) (b_hex k) = refl
-body_same count line _ _ (b_hex h) (b_long k) = absurd (hex_or_spelled line count k.0 k.1 k.2 k.3 k.4 h k.7 k.10)
-body_same count line _ _ (b_hex h) (b_total k) = absurd (fields_or_total line h.0 h.1 h.2 h.3 k.0 h.6 k.1)
-body_same count line _ _ (b_long h) (b_line k) = absurd (k.0 h.0 h.1 h.2 h.3 h.7)
-body_same count line _ _ (b_long h) (b_port k) = absurd (port_or_spelled line count h.0 h.1 h.2 h.3 h.5 h.6 k h.7 h.8 h.9)
-body_same count line _ _ (b_long h) (b_hex k) = absurd (hex_or_spelled line count h.0 h.1 h.2 h.3 h.4 k h.7 h.10)
-body_same count line _ _ (b_long h) (b_long k) = refl
-body_same count line _ _ (b_long h) (b_total k) = absurd (fields_or_total line h.0 h.1 h.2 h.3 k.0 h.7 k.1)
-body_same count line _ _ (b_total h) (b_line k) = absurd (k.1 h.0 h.1)
-body_same count line _ _ (b_total h) (b_port k) = absurd (fields_or_total line k.0 k.1 k.2 k.3 h.0 k.4 h.1)
-body_same count line _ _ (b_total h) (b_hex k) = absurd (fields_or_total line k.0 k.1 k.2 k.3 h.0 k.6 h.1)
-body_same count line _ _ (b_total h) (b_long k) = absurd (fields_or_total line k.0 k.1 k.2 k.3 h.0 k.7 h.1)
-body_same count line _ _ (b_total h) (b_total k) = refl
+  host_or_named : (host digits : List ℕ) → BodyFault version count line BadHost → HasPorts version line host digits → IsHost host → ⊥
+  host_or_named host digits h p named = h.3 (subst IsHost (ports_same version line host digits h.0 h.1 p h.2).0 named)
+
+  hex_or_spelled : (host digits payload : List ℕ) → BodyFault version count line BadHex → HasPorts version line host digits → SpellsPayload digits payload → ⊥
+  hex_or_spelled host digits payload h p s = h.4 payload (subst (λ l. SpellsPayload l payload) (ports_same version line host digits h.0 h.1 p h.2).1 s)
+
+  body_same : (f g : TextFault) → BodyIs version count line f → BodyIs version count line g → f ≡ g
+  body_same _ _ (b_line h) (b_line k) = refl
+  body_same _ _ (b_line h) (b_port k) = absurd (h.0 k.0 k.1 k.2 k.3 k.4 k.5)
+  body_same _ _ (b_line h) (b_host k) = absurd (line_or_ports k.0 k.1 h k.2)
+  body_same _ _ (b_line h) (b_hex k) = absurd (line_or_ports k.0 k.1 h k.2)
+  body_same _ _ (b_line h) (b_long k) = absurd (line_or_ports k.0 k.1 h k.3)
+  body_same _ _ (b_line h) (b_total k) = absurd (h.1 k.0 k.1)
+  body_same _ _ (b_port h) (b_line k) = absurd (k.0 h.0 h.1 h.2 h.3 h.4 h.5)
+  body_same _ _ (b_port h) (b_port k) = refl
+  body_same _ _ (b_port h) (b_host k) = absurd (port_or_ports k.0 k.1 h k.2)
+  body_same _ _ (b_port h) (b_hex k) = absurd (port_or_ports k.0 k.1 h k.2)
+  body_same _ _ (b_port h) (b_long k) = absurd (port_or_ports k.0 k.1 h k.3)
+  body_same _ _ (b_port h) (b_total k) = absurd (fields_or_total h.0 h.1 h.2 h.3 h.4 k.0 h.5 k.1)
+  body_same _ _ (b_host h) (b_line k) = absurd (line_or_ports h.0 h.1 k h.2)
+  body_same _ _ (b_host h) (b_port k) = absurd (port_or_ports h.0 h.1 k h.2)
+  body_same _ _ (b_host h) (b_host k) = refl
+  body_same _ _ (b_host h) (b_hex k) = absurd (host_or_named k.0 k.1 h k.2 k.3)
+  body_same _ _ (b_host h) (b_long k) = absurd (host_or_named k.0 k.1 h k.3 k.4)
+  body_same _ _ (b_host h) (b_total k) = absurd (ports_or_total h.0 h.1 k.0 h.2 k.1)
+  body_same _ _ (b_hex h) (b_line k) = absurd (line_or_ports h.0 h.1 k h.2)
+  body_same _ _ (b_hex h) (b_port k) = absurd (port_or_ports h.0 h.1 k h.2)
+  body_same _ _ (b_hex h) (b_host k) = absurd (host_or_named h.0 h.1 k h.2 h.3)
+  body_same _ _ (b_hex h) (b_hex k) = refl
+  body_same _ _ (b_hex h) (b_long k) = absurd (hex_or_spelled k.0 k.1 k.2 h k.3 k.5)
+  body_same _ _ (b_hex h) (b_total k) = absurd (ports_or_total h.0 h.1 k.0 h.2 k.1)
+  body_same _ _ (b_long h) (b_line k) = absurd (line_or_ports h.0 h.1 k h.3)
+  body_same _ _ (b_long h) (b_port k) = absurd (port_or_ports h.0 h.1 k h.3)
+  body_same _ _ (b_long h) (b_host k) = absurd (host_or_named h.0 h.1 k h.3 h.4)
+  body_same _ _ (b_long h) (b_hex k) = absurd (hex_or_spelled h.0 h.1 h.2 k h.3 h.5)
+  body_same _ _ (b_long h) (b_long k) = refl
+  body_same _ _ (b_long h) (b_total k) = absurd (ports_or_total h.0 h.1 k.0 h.3 k.1)
+  body_same _ _ (b_total h) (b_line k) = absurd (k.1 h.0 h.1)
+  body_same _ _ (b_total h) (b_port k) = absurd (fields_or_total k.0 k.1 k.2 k.3 k.4 h.0 k.5 h.1)
+  body_same _ _ (b_total h) (b_host k) = absurd (ports_or_total k.0 k.1 h.0 k.2 h.1)
+  body_same _ _ (b_total h) (b_hex k) = absurd (ports_or_total k.0 k.1 h.0 k.2 h.1)
+  body_same _ _ (b_total h) (b_long k) = absurd (ports_or_total k.0 k.1 h.0 k.3 h.1)
+  body_same _ _ (b_total h) (b_total k) = refl
 
 line_same : (due : Due) (count : ℕ) (line : List ℕ) (f g : TextFault) → LineFault due count line f → LineFault due count line g → f ≡ g
 line_same Head count line f g p q = p.0 ∙ sym q.0
-line_same EndLine count line f g p q = p.0 ∙ sym q.0
-line_same (ServiceLine named) count line f g p q = p.0 ∙ sym q.0
-line_same (Body header) count line f g p q = body_same count line f g (body_is count line f p.1) (body_is count line g q.1)
-line_same (Nothing header) count line f g p q = absurd p
+line_same (EndLine version) count line f g p q = p.0 ∙ sym q.0
+line_same (ServiceLine version named) count line f g p q = p.0 ∙ sym q.0
+line_same (Body version header) count line f g p q = body_same version count line f g (body_is version count line f p.1) (body_is version count line g q.1)
+line_same (Nothing version header) count line f g p q = absurd p
 
 over_or_fault : (due : Due) (count : ℕ) (line : List ℕ) (f : TextFault) → IsOver due → LineFault due count line f → ⊥
 over_or_fault Head count line f o h = o
-over_or_fault EndLine count line f o h = o
-over_or_fault (ServiceLine named) count line f o h = o
-over_or_fault (Body header) count line f o h = o
-over_or_fault (Nothing header) count line f o h = h
+over_or_fault (EndLine version) count line f o h = o
+over_or_fault (ServiceLine version named) count line f o h = o
+over_or_fault (Body version header) count line f o h = o
+over_or_fault (Nothing version header) count line f o h = h
 
 data ByteIs (size : ℕ) (rest : List ℕ) (due : Due) (count byte : ℕ) : TextFault → Type 0 where
   too_long : size ≡ 2 ^ 40 → ByteIs size rest due count byte TextTooLong
@@ -108,6 +126,7 @@ byte_is size rest due count byte BadEnd h = content h.0 h.1 h.2
 byte_is size rest due count byte BadService h = content h.0 h.1 h.2
 byte_is size rest due count byte BadLine h = content h.0 h.1 h.2
 byte_is size rest due count byte BadPort h = content h.0 h.1 h.2
+byte_is size rest due count byte BadHost h = content h.0 h.1 h.2
 byte_is size rest due count byte BadHex h = content h.0 h.1 h.2
 byte_is size rest due count byte PayloadTooLong h = content h.0 h.1 h.2
 byte_is size rest due count byte TotalWrong h = content h.0 h.1 h.2
@@ -199,6 +218,7 @@ fault_is text ds line BadService h = wrong h.0 h.1 h.2 h.3 h.4
 fault_is text ds line LineTooLong h = wrong h.0 h.1 h.2 h.3 h.4
 fault_is text ds line BadLine h = wrong h.0 h.1 h.2 h.3 h.4
 fault_is text ds line BadPort h = wrong h.0 h.1 h.2 h.3 h.4
+fault_is text ds line BadHost h = wrong h.0 h.1 h.2 h.3 h.4
 fault_is text ds line BadHex h = wrong h.0 h.1 h.2 h.3 h.4
 fault_is text ds line PayloadTooLong h = wrong h.0 h.1 h.2 h.3 h.4
 fault_is text ds line TotalWrong h = wrong h.0 h.1 h.2 h.3 h.4
@@ -214,12 +234,13 @@ fault_same text ds1 ds2 l1 l2 f1 f2 (wrong r1 m1 b1 e1 p) (wrong r2 m2 b2 e2 q) 
 
 capture_or_fault : (text : List ℕ) (header : Header) (ds ds' : List Numbered) (line : ℕ) (fault : TextFault) → IsCapture text header ds → FaultIs text ds' line fault → ⊥
 capture_or_fault text header ds ds' line _ p (cut due q n) =
-    let at = stands_same text p.0 q.lines [] q.rest (Nothing header) due ds ds' p.1 q.stands in n (subst IsOver at.2 tt)
-capture_or_fault text header ds ds' line fault p (wrong r m b e q) = fails_or_stands r m text b ds' ds line fault p.0 [] (Nothing header) e q p.1
+    let at = stands_same text p.1 q.lines [] q.rest (Nothing p.0 header) due ds ds' p.2 q.stands in n (subst IsOver at.2 tt)
+capture_or_fault text header ds ds' line fault p (wrong r m b e q) = fails_or_stands r m text b ds' ds line fault p.1 [] (Nothing p.0 header) e q p.2
 
 pub reads_same : (text : List ℕ) (a b : Reading) → Reads text a → Reads text b → a ≡ b
 reads_same text (Capture h ds) (Capture h' ds') p q =
-    let at = stands_same text p.0 q.0 [] [] (Nothing h) (Nothing h') ds ds' p.1 q.1 in
+    let at = stands_same text p.1 q.1 [] [] (Nothing p.0 h) (Nothing q.0 h') ds ds' p.2 q.2 in
+    let same : Nothing p.0 h ≡ Nothing q.0 h' = at.2 in
     let header : h ≡ h' = cc in
     ap (λ x. Capture x ds) header ∙ ap (λ x. Capture h' x) at.3
 reads_same text (Capture h ds) (Fault ds' line fault) p q = absurd (capture_or_fault text h ds ds' line fault p (fault_is text ds' line fault q))

@@ -1,10 +1,10 @@
 -- Lines that say nothing, taken one after another.
-use Rattle.std.proofs.Common.{◌≡◌, ℕ, ◌+◌, ◌-◌, ◌^◌, ◌≤◌, true, false, List, [], ◌∷◌, ◌++◌, length, All, Option, Ok, Err, sym, ap, ◌∙◌, arith, append-nil, length-append, add-zero}
+use Rattle.std.proofs.Common.{◌≡◌, ℕ, ◌+◌, ◌-◌, ◌^◌, ◌≤◌, true, false, List, [], ◌∷◌, ◌++◌, length, All, Option, Ok, Err, refl, sym, ap, ◌∙◌, subst, arith, append-nil, length-append, add-zero}
 use Rattle.std.specs.Io.KnownBytes.{Consumes}
 use Rattle.std.proofs.KnownBytes.{Consumes-nil, Consumes-trans}
 use Rattle.std.proofs.lemmas.List.Concat.{flat_map-append}
 use Rattle.std.proofs.lemmas.List.Elements.{All-push, All-nil}
-use Rattle.tftp_capture.specs.CaptureText.{says_nothing, whole_lines}
+use Rattle.tftp_capture.specs.CaptureText.{longest_line, says_nothing, whole_lines}
 use Rattle.tftp_capture.specs.Lines.{IsSkipped, LeavesEnd, LineEnds, LineState, ReachesLine}
 use Rattle.tftp_capture.specs.declared.stop.Stop.{Stop}
 
@@ -14,39 +14,42 @@ whole_lines-push lines line = flat_map-append (λ (l : List ℕ). l ++ 10 ∷ []
 -- only lines that say nothing were taken
 pub record Skipped (old new : LineState) (before after : Option (List ℕ)) : Type 0 where
   pub skipped : List (List ℕ)
-  pub nothing : All IsSkipped skipped
+  pub nothing : All (IsSkipped (longest_line old.version)) skipped
   pub consumed : Consumes before after (whole_lines skipped)
   pub taken : new.taken ≡ old.taken + length (whole_lines skipped)
   pub count : new.count ≡ old.count + length skipped
+  pub version : new.version ≡ old.version
 
 pub skipped_none : (s : LineState) (k : Option (List ℕ)) → Skipped s s k k
 skipped_none s k = record {
   skipped = [];
-  nothing = All-nil IsSkipped;
+  nothing = All-nil (IsSkipped (longest_line s.version));
   consumed = Consumes-nil k;
   taken = sym (add-zero s.taken);
   count = sym (add-zero s.count);
+  version = refl;
 }
 
 pub skipped_more : (old mid new : LineState) (k0 k1 k2 : Option (List ℕ)) (room : ℕ) (bytes : List ℕ) → Skipped old mid k0 k1
-    → Consumes k1 k2 bytes → LineEnds {T = Unit {0}} (Ok tt) new.line room bytes → says_nothing new.line ≡ true
-    → new.taken ≡ mid.taken + length new.line + 1 → new.count ≡ mid.count + 1 → Skipped old new k0 k2
-skipped_more old mid new k0 k1 k2 room bytes s consumed ends nothing taken count =
+    → Consumes k1 k2 bytes → LineEnds {T = Unit {0}} (Ok tt) new.line (longest_line mid.version) room bytes → says_nothing new.line ≡ true
+    → new.taken ≡ mid.taken + length new.line + 1 → new.count ≡ mid.count + 1 → new.version ≡ mid.version → Skipped old new k0 k2
+skipped_more old mid new k0 k1 k2 room bytes s consumed ends nothing taken count same =
     let are = whole_lines-push s.skipped new.line in
     let size : length (whole_lines (s.skipped ++ new.line ∷ [])) ≡ length (whole_lines s.skipped) + (length new.line + 1) =
     ap length are ∙ length-append (whole_lines s.skipped) (new.line ++ 10 ∷ []) ∙ ap (λ n. length (whole_lines s.skipped) + n) (length-append new.line (10 ∷ [])) in
     record {
       skipped = s.skipped ++ new.line ∷ [];
-      nothing = All-push IsSkipped s.skipped new.line s.nothing (record { nothing = nothing; no_end = ends.1.no_end; narrow = ends.1.narrow });
+      nothing = All-push (IsSkipped (longest_line old.version)) s.skipped new.line s.nothing (record { nothing = nothing; no_end = ends.1.no_end; narrow = subst (λ v. length new.line ≤ longest_line v) s.version ends.1.narrow });
       consumed = rw are (Consumes-trans _ _ _ _ _ s.consumed (rw ends.0 at consumed));
       taken = omega (arith, s.taken, taken, size);
       count = omega (arith, s.count, count, length-append s.skipped (new.line ∷ []));
+      version = same ∙ s.version;
     }
 
 pub reaches_line : (old mid new : LineState) (k0 k1 k2 : Option (List ℕ)) (bytes : List ℕ) → Skipped old mid k0 k1 → mid.taken ≤ 2 ^ 40
-    → Consumes k1 k2 bytes → LineEnds {T = Unit {0}} (Ok tt) new.line (2 ^ 40 - mid.taken) bytes → says_nothing new.line ≡ false
-    → new.taken ≡ mid.taken + length new.line + 1 → new.count ≡ mid.count + 1 → ReachesLine {T = Unit {0}} (Ok tt) old new k0 k2
-reaches_line old mid new k0 k1 k2 bytes s short consumed ends said taken count =
+    → Consumes k1 k2 bytes → LineEnds {T = Unit {0}} (Ok tt) new.line (longest_line mid.version) (2 ^ 40 - mid.taken) bytes → says_nothing new.line ≡ false
+    → new.taken ≡ mid.taken + length new.line + 1 → new.count ≡ mid.count + 1 → new.version ≡ mid.version → ReachesLine {T = Unit {0}} (Ok tt) old new k0 k2
+reaches_line old mid new k0 k1 k2 bytes s short consumed ends said taken count same =
     let size : length bytes ≡ length new.line + 1 = ap length ends.0 ∙ length-append new.line (10 ∷ []) in
     record {
       skipped = s.skipped;
@@ -54,27 +57,29 @@ reaches_line old mid new k0 k1 k2 bytes s short consumed ends said taken count =
       nothing = s.nothing;
       consumed = Consumes-trans _ _ _ _ _ s.consumed consumed;
       short = rw (← s.taken) short;
-      ends = rw (← s.taken) ends;
+      ends = rw (← s.taken, ← s.version) ends;
       leaves = tt;
       said = said;
       taken = omega (arith, s.taken, taken, size);
       count = omega (arith, s.count, count);
       count_before = tt;
+      version = same ∙ s.version;
     }
 
 pub reaches_stop : (stop : Stop) (old mid new : LineState) (k0 k1 k2 : Option (List ℕ)) (bytes : List ℕ) → Skipped old mid k0 k1 → mid.taken ≤ 2 ^ 40
-    → Consumes k1 k2 bytes → LineEnds {T = Unit {0}} (Err stop) new.line (2 ^ 40 - mid.taken) bytes → LeavesEnd {T = Unit {0}} (Err stop) (2 ^ 40 - mid.taken) bytes new.ahead
-    → new.count ≡ mid.count → ReachesLine {T = Unit {0}} (Err stop) old new k0 k2
-reaches_stop stop old mid new k0 k1 k2 bytes s short consumed ends leaves count = record {
+    → Consumes k1 k2 bytes → LineEnds {T = Unit {0}} (Err stop) new.line (longest_line mid.version) (2 ^ 40 - mid.taken) bytes → LeavesEnd {T = Unit {0}} (Err stop) (2 ^ 40 - mid.taken) bytes new.ahead
+    → new.count ≡ mid.count → new.version ≡ mid.version → ReachesLine {T = Unit {0}} (Err stop) old new k0 k2
+reaches_stop stop old mid new k0 k1 k2 bytes s short consumed ends leaves count same = record {
   skipped = s.skipped;
   bytes = bytes;
   nothing = s.nothing;
   consumed = Consumes-trans _ _ _ _ _ s.consumed consumed;
   short = rw (← s.taken) short;
-  ends = rw (← s.taken) ends;
+  ends = rw (← s.taken, ← s.version) ends;
   leaves = rw (← s.taken) leaves;
   said = tt;
   taken = tt;
   count = tt;
   count_before = count ∙ s.count;
+  version = same ∙ s.version;
 }

@@ -6,20 +6,21 @@ use Rattle.std.proofs.KnownBytes.{Appends-trans}
 use Rattle.std.proofs.lemmas.List.{map-append}
 use Rattle.std.proofs.lemmas.List.Concat.{flat_map-append}
 use Rattle.hex.specs.Hex.{encode_lower, encode_with, lower_digits}
+use Rattle.tftp_capture.specs.declared.version.Version.TheVariants.{One}
 use Rattle.tftp_capture.specs.CaptureText.{Datagram, Header, datagram_line, dir_word, end_line, end_word, head_line, payload_text, service_line, text_of, total_line, whole_lines}
 use Rattle.tftp_capture.specs.Tally.{Gathers}
 use Rattle.tftp_capture.specs.Written.{HasWritten, WriterState, header_text}
 use Rattle.tftp_capture.proofs.Gathering.{gathers_more}
 use Rattle.tftp_capture.proofs.Skips.{whole_lines-push}
 
-three_lines : (named service : List ℕ) → (head_line ++ 10 ∷ codes "end ") ++ (named ++ ((10 ∷ codes "service ") ++ (service ++ 10 ∷ []))) ≡ whole_lines (head_line ∷ (codes "end " ++ named) ∷ (codes "service " ++ service) ∷ [])
+three_lines : (named service : List ℕ) → (head_line One ++ 10 ∷ codes "end ") ++ (named ++ ((10 ∷ codes "service ") ++ (service ++ 10 ∷ []))) ≡ whole_lines (head_line One ∷ (codes "end " ++ named) ∷ (codes "service " ++ service) ∷ [])
 three_lines named service =
-    ap (λ l. (head_line ++ 10 ∷ codes "end ") ++ l)
+    ap (λ l. (head_line One ++ 10 ∷ codes "end ") ++ l)
     (sym (append_assoc named (10 ∷ []) (codes "service " ++ (service ++ 10 ∷ []))) ∙ ap (λ l. (named ++ 10 ∷ []) ++ (codes "service " ++ l)) (sym (append-nil (service ++ 10 ∷ []))))
 
 pub header_pieces : (header : Header) (named service : List ℕ) → named ≡ end_word header.named → service ≡ decimal header.service
-    → (head_line ++ 10 ∷ codes "end ") ++ (named ++ ((10 ∷ codes "service ") ++ (service ++ 10 ∷ []))) ≡ header_text header
-header_pieces header named service e f = three_lines named service ∙ ap (λ l. whole_lines (head_line ∷ (codes "end " ++ l) ∷ (codes "service " ++ service) ∷ [])) e ∙ ap (λ l. whole_lines (head_line ∷ (codes "end " ++ end_word header.named) ∷ (codes "service " ++ l) ∷ [])) f
+    → (head_line One ++ 10 ∷ codes "end ") ++ (named ++ ((10 ∷ codes "service ") ++ (service ++ 10 ∷ []))) ≡ header_text header
+header_pieces header named service e f = three_lines named service ∙ ap (λ l. whole_lines (head_line One ∷ (codes "end " ++ l) ∷ (codes "service " ++ service) ∷ [])) e ∙ ap (λ l. whole_lines (head_line One ∷ (codes "end " ++ end_word header.named) ∷ (codes "service " ++ l) ∷ [])) f
 
 pub datagram_pieces : (d : Datagram) (word local remote : List ℕ) → word ≡ dir_word d.dir → local ≡ decimal d.local → remote ≡ decimal d.remote
     → (word ++ (codes " " ++ (local ++ (codes " " ++ (remote ++ codes " "))))) ++ (payload_text d.payload ++ 10 ∷ []) ≡ datagram_line d ++ 10 ∷ []
@@ -51,7 +52,7 @@ text_written start before now writer header datagrams h a =
     let lines = map datagram_line datagrams in
     let total : whole_lines (lines ++ total_line (length datagrams) ∷ []) ≡ whole_lines lines ++ (total_line (length datagrams) ++ 10 ∷ []) = whole_lines-push lines (total_line (length datagrams)) in
     let all : text_of header datagrams ≡ header_text header ++ whole_lines (lines ++ total_line (length datagrams) ∷ []) =
-    flat_map-append (λ (l : List ℕ). l ++ 10 ∷ []) (head_line ∷ end_line header.named ∷ service_line header.service ∷ []) (lines ++ total_line (length datagrams) ∷ []) in
+    flat_map-append (λ (l : List ℕ). l ++ 10 ∷ []) (head_line One ∷ end_line header.named ∷ service_line header.service ∷ []) (lines ++ total_line (length datagrams) ∷ []) in
     let are = h.text.are in
     let joined : text_of header datagrams ≡ h.text.written ++ (writer.held ++ (total_line writer.count ++ 10 ∷ [])) =
     all ∙ ap (λ l. header_text header ++ l) (total ∙ ap (λ n. whole_lines lines ++ (total_line n ++ 10 ∷ [])) (sym h.count))

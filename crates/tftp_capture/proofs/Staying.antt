@@ -1,7 +1,7 @@
 -- A fault that stays, whatever follows.
 use Rattle.std.proofs.Common.{◌≡◌, ◌≢◌, ℕ, List, ◌∷◌, ◌++◌, refl, ap, ◌∙◌, append_assoc}
 use Rattle.tftp_capture.specs.declared.fault.TextFault.{TextFault}
-use Rattle.tftp_capture.specs.declared.fault.TextFault.TheVariants.{BadHeader, BadEnd, BadService, LineTooLong, BadLine, BadPort, BadHex, PayloadTooLong, TotalWrong, Truncated, TrailingText, TextTooLong}
+use Rattle.tftp_capture.specs.declared.fault.TextFault.TheVariants.{BadHeader, BadEnd, BadService, LineTooLong, BadLine, BadPort, BadHost, BadHex, PayloadTooLong, TotalWrong, Truncated, TrailingText, TextTooLong}
 use Rattle.tftp_capture.specs.CaptureText.{HasFault, Numbered}
 
 more_after : (text more read rest : List ℕ) (byte : ℕ) → text ≡ read ++ byte ∷ rest → text ++ more ≡ read ++ byte ∷ (rest ++ more)
@@ -14,6 +14,7 @@ stays text more datagrams line BadService other h = (h.0, h.1 ++ more, h.2, more
 stays text more datagrams line LineTooLong other h = (h.0, h.1 ++ more, h.2, more_after text more h.0 h.1 h.2 h.3, h.4)
 stays text more datagrams line BadLine other h = (h.0, h.1 ++ more, h.2, more_after text more h.0 h.1 h.2 h.3, h.4)
 stays text more datagrams line BadPort other h = (h.0, h.1 ++ more, h.2, more_after text more h.0 h.1 h.2 h.3, h.4)
+stays text more datagrams line BadHost other h = (h.0, h.1 ++ more, h.2, more_after text more h.0 h.1 h.2 h.3, h.4)
 stays text more datagrams line BadHex other h = (h.0, h.1 ++ more, h.2, more_after text more h.0 h.1 h.2 h.3, h.4)
 stays text more datagrams line PayloadTooLong other h = (h.0, h.1 ++ more, h.2, more_after text more h.0 h.1 h.2 h.3, h.4)
 stays text more datagrams line TotalWrong other h = (h.0, h.1 ++ more, h.2, more_after text more h.0 h.1 h.2 h.3, h.4)

@@ -5,8 +5,9 @@ use Rattle.std.proofs.lemmas.List.Elements.{All-weaker, All-push, All-head, All-
 use Rattle.std.proofs.lemmas.List.Splits.{slice_split_at, slice_split_none}
 use Rattle.std.proofs.lemmas.Slice.Zip.{all_zipped_more}
 use Rattle.tftp_packet.specs.declared.kinds.End.{End}
-use Rattle.tftp_capture.specs.CaptureText.{Datagram, Due, Header, IsOver, IsPort, Numbered, SaysDatagram, Says, Stands, end_line, head_line, said, says_nothing, service_line, total_line, whole_lines}
+use Rattle.tftp_capture.specs.CaptureText.{Datagram, Due, Header, IsOver, IsPort, Numbered, SaysDatagram, Says, Stands, end_line, head_line, longest, said, says_nothing, service_line, total_line, whole_lines}
 use Rattle.tftp_capture.specs.CaptureText.Due.{Head, EndLine, ServiceLine, Body, Nothing}
+use Rattle.tftp_capture.specs.declared.version.Version.{Version}
 use Rattle.tftp_capture.specs.Lines.{HasNoEnd, IsPartOfLine, IsSkipped}
 
 -- ---- a text divided at LF
@@ -89,23 +90,23 @@ said-push_nothing n (l ∷ ls) line h =
 -- lines that say nothing may come
 abbrev pub IsSkippable : Due → Type 0
 IsSkippable Head = ⊥
-IsSkippable EndLine = Unit {0}
-IsSkippable (ServiceLine named) = Unit {0}
-IsSkippable (Body header) = Unit {0}
-IsSkippable (Nothing header) = ⊥
+IsSkippable (EndLine version) = Unit {0}
+IsSkippable (ServiceLine version named) = Unit {0}
+IsSkippable (Body version header) = Unit {0}
+IsSkippable (Nothing version header) = ⊥
 
 pub not_over : (due : Due) → IsSkippable due → IsOver due → ⊥
 not_over Head s o = s
-not_over EndLine s o = o
-not_over (ServiceLine named) s o = o
-not_over (Body header) s o = o
-not_over (Nothing header) s o = s
+not_over (EndLine version) s o = o
+not_over (ServiceLine version named) s o = o
+not_over (Body version header) s o = o
+not_over (Nothing version header) s o = s
 
 pub says-skip : (lines : List (List ℕ)) (line : List ℕ) (due : Due) (datagrams : List Numbered) → IsSkippable due → says_nothing line ≡ true → Says lines due datagrams → Says (lines ++ line ∷ []) due datagrams
 says-skip lines line Head datagrams s h p = absurd s
-says-skip lines line EndLine datagrams s h p = (p.0 ++ line ∷ [], ap (λ l. l ++ line ∷ []) p.1, said-push_nothing 2 p.0 line h ∙ p.2, p.3)
-says-skip lines line (ServiceLine named) datagrams s h p = (p.0 ++ line ∷ [], p.1, ap (λ l. l ++ line ∷ []) p.2, said-push_nothing 2 p.0 line h ∙ p.3, p.4)
-says-skip lines line (Body header) datagrams s h p = record {
+says-skip lines line (EndLine version) datagrams s h p = (p.0 ++ line ∷ [], ap (λ l. l ++ line ∷ []) p.1, said-push_nothing 2 p.0 line h ∙ p.2, p.3)
+says-skip lines line (ServiceLine version named) datagrams s h p = (p.0 ++ line ∷ [], p.1, ap (λ l. l ++ line ∷ []) p.2, said-push_nothing 2 p.0 line h ∙ p.3, p.4)
+says-skip lines line (Body version header) datagrams s h p = record {
   after_head = p.after_head ++ line ∷ [];
   at_end = p.at_end;
   at_service = p.at_service;
@@ -115,17 +116,17 @@ says-skip lines line (Body header) datagrams s h p = record {
   port = p.port;
   each = p.each;
 }
-says-skip lines line (Nothing header) datagrams s h p = absurd s
+says-skip lines line (Nothing version header) datagrams s h p = absurd s
 
-pub says-head : Says (head_line ∷ []) EndLine []
-says-head = ([], refl, refl, refl)
+pub says-head : (version : Version) → Says (head_line version ∷ []) (EndLine version) []
+says-head version = ([], refl, refl, refl)
 
-pub says-end : (lines : List (List ℕ)) (named : End) → Says lines EndLine [] → Says (lines ++ end_line named ∷ []) (ServiceLine named) []
-says-end lines named p = (p.0 ++ end_line named ∷ [], 2 + length p.0, ap (λ l. l ++ end_line named ∷ []) p.1, said-push 2 p.0 (end_line named) refl ∙ ap (λ l. l ++ (2 + length p.0, end_line named) ∷ []) p.2, refl)
+pub says-end : (version : Version) (lines : List (List ℕ)) (named : End) → Says lines (EndLine version) [] → Says (lines ++ end_line named ∷ []) (ServiceLine version named) []
+says-end version lines named p = (p.0 ++ end_line named ∷ [], 2 + length p.0, ap (λ l. l ++ end_line named ∷ []) p.1, said-push 2 p.0 (end_line named) refl ∙ ap (λ l. l ++ (2 + length p.0, end_line named) ∷ []) p.2, refl)
 
-pub says-service : (lines : List (List ℕ)) (named : End) (port : ℕ) → IsPort port → Says lines (ServiceLine named) []
-    → Says (lines ++ service_line port ∷ []) (Body (record { named = named; service = port })) []
-says-service lines named port h p = record {
+pub says-service : (version : Version) (lines : List (List ℕ)) (named : End) (port : ℕ) → IsPort port → Says lines (ServiceLine version named) []
+    → Says (lines ++ service_line port ∷ []) (Body version (record { named = named; service = port })) []
+says-service version lines named port h p = record {
   after_head = p.0 ++ service_line port ∷ [];
   at_end = p.1;
   at_service = 2 + length p.0;
@@ -136,9 +137,9 @@ says-service lines named port h p = record {
   each = tt;
 }
 
-pub says-datagram : (lines : List (List ℕ)) (line : List ℕ) (header : Header) (datagrams : List Numbered) (d : Datagram) → says_nothing line ≡ false → SaysDatagram line d
-    → Says lines (Body header) datagrams → Says (lines ++ line ∷ []) (Body header) (datagrams ++ (length lines + 1, d) ∷ [])
-says-datagram lines line header datagrams d h says p =
+pub says-datagram : (version : Version) (lines : List (List ℕ)) (line : List ℕ) (header : Header) (datagrams : List Numbered) (d : Datagram) → says_nothing line ≡ false → SaysDatagram version line d
+    → Says lines (Body version header) datagrams → Says (lines ++ line ∷ []) (Body version header) (datagrams ++ (length lines + 1, d) ∷ [])
+says-datagram version lines line header datagrams d h says p =
     let number : 2 + length p.after_head ≡ length lines + 1 = omega (arith, ap length p.begins) in
     record {
       after_head = p.after_head ++ line ∷ [];
@@ -148,11 +149,11 @@ says-datagram lines line header datagrams d h says p =
       begins = ap (λ l. l ++ line ∷ []) p.begins;
       are = said-push 2 p.after_head line h ∙ ap (λ l. l ++ (2 + length p.after_head, line) ∷ []) p.are;
       port = p.port;
-      each = all_zipped_more (λ (l : ℕ × List ℕ) (d : Numbered). (l.0 ≡ d.0) × SaysDatagram l.1 d.1) p.bodies datagrams (2 + length p.after_head, line) (length lines + 1, d) p.each (number, says);
+      each = all_zipped_more (λ (l : ℕ × List ℕ) (d : Numbered). (l.0 ≡ d.0) × SaysDatagram version l.1 d.1) p.bodies datagrams (2 + length p.after_head, line) (length lines + 1, d) p.each (number, says);
     }
 
-pub says-total : (lines : List (List ℕ)) (header : Header) (datagrams : List Numbered) → Says lines (Body header) datagrams → Says (lines ++ total_line (length datagrams) ∷ []) (Nothing header) datagrams
-says-total lines header datagrams p = (lines, refl, p)
+pub says-total : (version : Version) (lines : List (List ℕ)) (header : Header) (datagrams : List Numbered) → Says lines (Body version header) datagrams → Says (lines ++ total_line (length datagrams) ∷ []) (Nothing version header) datagrams
+says-total version lines header datagrams p = (lines, refl, p)
 
 -- ---- more bytes
 
@@ -166,7 +167,7 @@ stands-nothing = record {
   last = λ o. refl;
 }
 
-pub stands-part : (text bytes : List ℕ) (lines : List (List ℕ)) (due : Due) (datagrams : List Numbered) → (IsOver due → ⊥) → IsPartOfLine bytes (2 ^ 40 - length text)
+pub stands-part : (text bytes : List ℕ) (lines : List (List ℕ)) (due : Due) (datagrams : List Numbered) → (IsOver due → ⊥) → IsPartOfLine bytes (longest due) (2 ^ 40 - length text)
     → Stands text lines [] due datagrams → Stands (text ++ bytes) lines bytes due datagrams
 stands-part text bytes lines due datagrams not_yet part p = record {
   divided = at_ends-after text bytes lines [] bytes [] p.divided (at_ends-line bytes part.no_end);
@@ -177,27 +178,27 @@ stands-part text bytes lines due datagrams not_yet part p = record {
   last = λ o. absurd (not_yet o);
 }
 
-pub stands-line : (text line : List ℕ) (lines : List (List ℕ)) (due due' : Due) (datagrams datagrams' : List Numbered) (room : ℕ) → IsPartOfLine line room → length line < 2 ^ 40 - length text
+pub stands-line : (text line : List ℕ) (lines : List (List ℕ)) (due due' : Due) (datagrams datagrams' : List Numbered) (room : ℕ) → longest due ≤ longest due' → IsPartOfLine line (longest due) room → length line < 2 ^ 40 - length text
     → Stands text lines [] due datagrams → Says (lines ++ line ∷ []) due' datagrams' → Stands (text ++ (line ++ 10 ∷ [])) (lines ++ line ∷ []) [] due' datagrams'
-stands-line text line lines due due' datagrams datagrams' room part within p says = record {
+stands-line text line lines due due' datagrams datagrams' room wider part within p says = record {
   divided = at_ends-after text (line ++ 10 ∷ []) lines [] line ([] ∷ []) p.divided (at_ends-whole_line line part.no_end) ∙ sym (append_assoc lines (line ∷ []) ([] ∷ []));
   says = says;
   short = omega (arith, length-append text (line ++ 10 ∷ []), length-append line (10 ∷ []), p.short);
-  narrow = All-push (λ (l : List ℕ). length l ≤ 131070) lines line p.narrow part.narrow;
+  narrow = All-push (λ (l : List ℕ). length l ≤ longest due') lines line (All-weaker (λ (l : List ℕ). length l ≤ longest due) (λ (l : List ℕ). length l ≤ longest due') (λ l h. omega (arith, h, wider)) lines p.narrow) (omega (arith, part.narrow, wider));
   narrow_rest = omega arith;
   last = λ o. refl;
 }
 
-pub stands-skips : (text : List ℕ) (lines skipped : List (List ℕ)) (due : Due) (datagrams : List Numbered) → IsSkippable due → All IsSkipped skipped → length text + length (whole_lines skipped) ≤ 2 ^ 40
+pub stands-skips : (text : List ℕ) (lines skipped : List (List ℕ)) (due : Due) (datagrams : List Numbered) → IsSkippable due → All (IsSkipped (longest due)) skipped → length text + length (whole_lines skipped) ≤ 2 ^ 40
     → Stands text lines [] due datagrams → Stands (text ++ whole_lines skipped) (lines ++ skipped) [] due datagrams
 stands-skips text lines [] due datagrams s all short p = rw (append-nil text, append-nil lines) p
 stands-skips text lines (l ∷ ls) due datagrams s all short p =
-    let first = All-head IsSkipped l ls all in
+    let first = All-head (IsSkipped (longest due)) l ls all in
     let size : length (whole_lines (l ∷ ls)) ≡ (length l + 1) + length (whole_lines ls) =
     length-append (l ++ 10 ∷ []) (whole_lines ls) ∙ ap (λ n. n + length (whole_lines ls)) (length-append l (10 ∷ [])) in
     let within : length l < 2 ^ 40 - length text = omega arith in
-    let part : IsPartOfLine l (2 ^ 40) = record { no_end = first.no_end; narrow = first.narrow; short = omega (arith, first.narrow) } in
-    let one = stands-line text l lines due due datagrams datagrams (2 ^ 40) part within p (says-skip lines l due datagrams s first.nothing p.says) in
+    let part : IsPartOfLine l (longest due) (2 ^ 40) = record { no_end = first.no_end; narrow = first.narrow; short = omega (arith, within) } in
+    let one = stands-line text l lines due due datagrams datagrams (2 ^ 40) (omega arith) part within p (says-skip lines l due datagrams s first.nothing p.says) in
     let more : length (text ++ (l ++ 10 ∷ [])) + length (whole_lines ls) ≤ 2 ^ 40 = omega (arith, length-append text (l ++ 10 ∷ []), length-append l (10 ∷ [])) in
-    let rest = stands-skips (text ++ (l ++ 10 ∷ [])) (lines ++ l ∷ []) ls due datagrams s (All-tail IsSkipped l ls all) more one in
+    let rest = stands-skips (text ++ (l ++ 10 ∷ [])) (lines ++ l ∷ []) ls due datagrams s (All-tail (IsSkipped (longest due)) l ls all) more one in
     rw (append_assoc text (l ++ 10 ∷ []) (whole_lines ls), append_assoc lines (l ∷ []) ls) at rest

@@ -1,4 +1,5 @@
--- The capture text, version 1: which bytes stand for a header and datagrams, and what is wrong with any other text.
+-- The capture text: which bytes stand for a header and datagrams, and what is wrong with any other text. In version 2 a
+-- line of a datagram names the other host, in version 1 it does not.
 -- The whole text is divided at LF; what its lines say is said of whole lines.
 use Rattle.std.specs.Prelude.{◌≡◌, ◌≢◌, ℕ, ◌+◌, ◌^◌, ◌<◌, ◌≤◌, Bool, true, false, ◌⊎◌, ◌==◌, if◌then◌else◌, List, [], ◌∷◌, ◌++◌, length, map, All, flat_map, Ok, codes, decimal}
 use Rattle.std.specs.List.{slice_split, join_with_byte, AllZip}
@@ -9,7 +10,9 @@ use Rattle.tftp_packet.specs.declared.kinds.Dir.TheVariants.{In, Out}
 use Rattle.tftp_packet.specs.declared.kinds.End.{End}
 use Rattle.tftp_packet.specs.declared.kinds.End.TheVariants.{Client, Server}
 use Rattle.tftp_capture.specs.declared.fault.TextFault.{TextFault}
-use Rattle.tftp_capture.specs.declared.fault.TextFault.TheVariants.{BadHeader, BadEnd, BadService, LineTooLong, BadLine, BadPort, BadHex, PayloadTooLong, TotalWrong, Truncated, TrailingText, TextTooLong}
+use Rattle.tftp_capture.specs.declared.fault.TextFault.TheVariants.{BadHeader, BadEnd, BadService, LineTooLong, BadLine, BadPort, BadHost, BadHex, PayloadTooLong, TotalWrong, Truncated, TrailingText, TextTooLong}
+use Rattle.tftp_capture.specs.declared.version.Version.{Version}
+use Rattle.tftp_capture.specs.declared.version.Version.TheVariants.{One, Two}
 
 -- whose capture it is, and the port at which a server is asked
 pub record Header : Type 0 where
@@ -38,8 +41,9 @@ abbrev pub end_word : End → List ℕ
 end_word Client = codes "client"
 end_word Server = codes "server"
 
-abbrev pub head_line : List ℕ
-head_line = codes "tftp-capture 1"
+abbrev pub head_line : Version → List ℕ
+head_line One = codes "tftp-capture 1"
+head_line Two = codes "tftp-capture 2"
 
 abbrev pub end_line : End → List ℕ
 end_line named = codes "end " ++ end_word named
@@ -51,7 +55,7 @@ abbrev pub payload_text : List ℕ → List ℕ
 payload_text [] = codes "-"
 payload_text (b ∷ bs) = encode_lower (b ∷ bs)
 
--- the canonical line of a datagram: its four fields, a space between each two
+-- the canonical line of a datagram that names no host: its four fields, a space between each two
 abbrev pub datagram_line : Datagram → List ℕ
 datagram_line d = join_with_byte 32 (dir_word d.dir ∷ decimal d.local ∷ decimal d.remote ∷ payload_text d.payload ∷ [])
 
@@ -62,10 +66,10 @@ total_line count = codes "total " ++ decimal count
 abbrev pub whole_lines : List (List ℕ) → List ℕ
 whole_lines lines = flat_map (λ line. line ++ 10 ∷ []) lines
 
--- the canonical text
+-- the canonical text of datagrams that name no host, which is of version 1
 abbrev pub text_of : Header → List Datagram → List ℕ
 text_of header datagrams =
-    whole_lines (head_line ∷ end_line header.named ∷ service_line header.service ∷ (map datagram_line datagrams ++ total_line (length datagrams) ∷ []))
+    whole_lines (head_line One ∷ end_line header.named ∷ service_line header.service ∷ (map datagram_line datagrams ++ total_line (length datagrams) ∷ []))
 
 -- ---- what a line says
 
@@ -89,19 +93,33 @@ SpellsPort bytes port = IsPort port × (bytes ≡ decimal port)
 abbrev pub SpellsPayload : List ℕ → List ℕ → Type 0
 SpellsPayload bytes payload = ((bytes ≡ codes "-") × (payload ≡ [])) ⊎ ((payload ≢ []) × (decode_of bytes ≡ Ok payload))
 
--- the line has the four fields of a datagram's
-pub record HasFields (line word local remote digits : List ℕ) : Type 0 where
-  pub cut : pieces line ≡ word ∷ local ∷ remote ∷ digits ∷ []
+-- the pieces of a datagram's line are these fields; version 1 has no piece for the host, which is `-` there
+abbrev pub AreFields : Version → List (List ℕ) → (word local host remote digits : List ℕ) → Type 0
+AreFields One ps word local host remote digits = (ps ≡ word ∷ local ∷ remote ∷ digits ∷ []) × (host ≡ no_host)
+AreFields Two ps word local host remote digits = ps ≡ word ∷ local ∷ host ∷ remote ∷ digits ∷ []
+
+-- the line has the fields of a datagram's
+pub record HasFields (version : Version) (line word local host remote digits : List ℕ) : Type 0 where
+  pub cut : AreFields version (pieces line) word local host remote digits
   pub dir : (dir : Dir) × (word ≡ dir_word dir)
 
+-- the line has the fields of a datagram's, and its ports are ports
+pub record HasPorts (version : Version) (line host digits : List ℕ) : Type 0 where
+  pub word : List ℕ
+  pub local : List ℕ
+  pub remote : List ℕ
+  pub fields : HasFields version line word local host remote digits
+  pub local_port : (port : ℕ) × SpellsPort local port
+  pub remote_port : (port : ℕ) × SpellsPort remote port
+
 -- the line stands for the datagram
-pub record SaysDatagram (line : List ℕ) (d : Datagram) : Type 0 where
+pub record SaysDatagram (version : Version) (line : List ℕ) (d : Datagram) : Type 0 where
   pub local : List ℕ
   pub remote : List ℕ
   pub digits : List ℕ
-  pub cut : pieces line ≡ dir_word d.dir ∷ local ∷ remote ∷ digits ∷ []
-  pub host : d.host ≡ no_host
+  pub cut : AreFields version (pieces line) (dir_word d.dir) local d.host remote digits
   pub local_port : SpellsPort local d.local
+  pub host : IsHost d.host
   pub remote_port : SpellsPort remote d.remote
   pub payload : SpellsPayload digits d.payload
   pub fits : length d.payload ≤ 65527
@@ -116,34 +134,47 @@ said n (line ∷ lines) = if says_nothing line then said (n + 1) lines else ((n,
 -- what is due after some whole lines: the first line, the end line, the service line, a datagram or the total, nothing
 pub data Due : Type 0 where
   Head : Due
-  EndLine : Due
-  ServiceLine : (named : End) → Due
-  Body : (header : Header) → Due
-  Nothing : (header : Header) → Due
+  EndLine : (version : Version) → Due
+  ServiceLine : (version : Version) (named : End) → Due
+  Body : (version : Version) (header : Header) → Due
+  Nothing : (version : Version) (header : Header) → Due
+
+-- the most bytes of a line after the first, without its LF
+abbrev pub longest_line : Version → ℕ
+longest_line One = 131070
+longest_line Two = 131116
+
+-- the most bytes of a line where this is due
+abbrev pub longest : Due → ℕ
+longest Head = 131070
+longest (EndLine version) = longest_line version
+longest (ServiceLine version named) = longest_line version
+longest (Body version header) = longest_line version
+longest (Nothing version header) = longest_line version
 
 -- the lines said after the first are the end line, the service line, and a line for each datagram
-pub record SaysDatagrams (lines : List (List ℕ)) (header : Header) (datagrams : List Numbered) : Type 0 where
+pub record SaysDatagrams (version : Version) (lines : List (List ℕ)) (header : Header) (datagrams : List Numbered) : Type 0 where
   pub after_head : List (List ℕ)
   pub at_end : ℕ
   pub at_service : ℕ
   pub bodies : List (ℕ × List ℕ)
-  pub begins : lines ≡ head_line ∷ after_head
+  pub begins : lines ≡ head_line version ∷ after_head
   pub are : said 2 after_head ≡ (at_end, end_line header.named) ∷ (at_service, service_line header.service) ∷ bodies
   pub port : IsPort header.service
-  pub each : AllZip (λ line d. (line.0 ≡ d.0) × SaysDatagram line.1 d.1) bodies datagrams
+  pub each : AllZip (λ line d. (line.0 ≡ d.0) × SaysDatagram version line.1 d.1) bodies datagrams
 
 -- the whole lines say the datagrams, and this is due after them
 abbrev pub Says : List (List ℕ) → Due → List Numbered → Type 0
 Says lines Head datagrams = (lines ≡ []) × (datagrams ≡ [])
-Says lines EndLine datagrams = (after : List (List ℕ)) × (lines ≡ head_line ∷ after) × (said 2 after ≡ []) × (datagrams ≡ [])
-Says lines (ServiceLine named) datagrams = (after : List (List ℕ)) × (n : ℕ) × (lines ≡ head_line ∷ after) × (said 2 after ≡ (n, end_line named) ∷ []) × (datagrams ≡ [])
-Says lines (Body header) datagrams = SaysDatagrams lines header datagrams
-Says lines (Nothing header) datagrams = (before : List (List ℕ)) × (lines ≡ before ++ total_line (length datagrams) ∷ []) × SaysDatagrams before header datagrams
+Says lines (EndLine version) datagrams = (after : List (List ℕ)) × (lines ≡ head_line version ∷ after) × (said 2 after ≡ []) × (datagrams ≡ [])
+Says lines (ServiceLine version named) datagrams = (after : List (List ℕ)) × (n : ℕ) × (lines ≡ head_line version ∷ after) × (said 2 after ≡ (n, end_line named) ∷ []) × (datagrams ≡ [])
+Says lines (Body version header) datagrams = SaysDatagrams version lines header datagrams
+Says lines (Nothing version header) datagrams = (before : List (List ℕ)) × (lines ≡ before ++ total_line (length datagrams) ∷ []) × SaysDatagrams version before header datagrams
 
 -- ---- texts
 
 abbrev pub IsOver : Due → Type 0
-IsOver (Nothing header) = Unit {0}
+IsOver (Nothing version header) = Unit {0}
 IsOver _ = ⊥
 
 -- No byte of the text is wrong: divided at LF it has these whole lines, and this rest of a line that has not ended.
@@ -151,33 +182,34 @@ pub record Stands (text : List ℕ) (lines : List (List ℕ)) (rest : List ℕ) 
   pub divided : slice_split (λ b. b == 10) text ≡ lines ++ rest ∷ []
   pub says : Says lines due datagrams
   pub short : length text ≤ 2 ^ 40
-  pub narrow : All (λ line. length line ≤ 131070) lines
-  pub narrow_rest : length rest ≤ 131070
+  pub narrow : All (λ line. length line ≤ longest due) lines
+  pub narrow_rest : length rest ≤ longest due
   pub last : IsOver due → rest ≡ []
 
 -- what is wrong with the content of a line where a datagram or the total is due, after so many datagrams
-abbrev pub BodyFault : ℕ → List ℕ → TextFault → Type 0
-BodyFault count line BadLine = ((word local remote digits : List ℕ) → HasFields line word local remote digits → ⊥) × ((number : List ℕ) → pieces line ≢ codes "total" ∷ number ∷ [])
-BodyFault count line BadPort = (word local remote digits : List ℕ) × HasFields line word local remote digits × ((l r : ℕ) → SpellsPort local l → SpellsPort remote r → ⊥)
-BodyFault count line BadHex = (word local remote digits : List ℕ) × (l r : ℕ) × HasFields line word local remote digits × SpellsPort local l × SpellsPort remote r × ((payload : List ℕ) → SpellsPayload digits payload → ⊥)
-BodyFault count line PayloadTooLong = (word local remote digits payload : List ℕ) × (l r : ℕ) × HasFields line word local remote digits × SpellsPort local l × SpellsPort remote r × SpellsPayload digits payload × (65527 < length payload)
-BodyFault count line TotalWrong = (number : List ℕ) × (pieces line ≡ codes "total" ∷ number ∷ []) × (number ≢ decimal count)
-BodyFault count line _ = ⊥
+abbrev pub BodyFault : Version → ℕ → List ℕ → TextFault → Type 0
+BodyFault version count line BadLine = ((word local host remote digits : List ℕ) → HasFields version line word local host remote digits → ⊥) × ((number : List ℕ) → pieces line ≢ codes "total" ∷ number ∷ [])
+BodyFault version count line BadPort = (word local host remote digits : List ℕ) × HasFields version line word local host remote digits × ((l r : ℕ) → SpellsPort local l → SpellsPort remote r → ⊥)
+BodyFault version count line BadHost = (host digits : List ℕ) × HasPorts version line host digits × (IsHost host → ⊥)
+BodyFault version count line BadHex = (host digits : List ℕ) × HasPorts version line host digits × IsHost host × ((payload : List ℕ) → SpellsPayload digits payload → ⊥)
+BodyFault version count line PayloadTooLong = (host digits payload : List ℕ) × HasPorts version line host digits × IsHost host × SpellsPayload digits payload × (65527 < length payload)
+BodyFault version count line TotalWrong = (number : List ℕ) × (pieces line ≡ codes "total" ∷ number ∷ []) × (number ≢ decimal count)
+BodyFault version count line _ = ⊥
 
 -- what is wrong with the content of a whole line, by what was due
 abbrev pub LineFault : Due → ℕ → List ℕ → TextFault → Type 0
-LineFault Head count line fault = (fault ≡ BadHeader) × (line ≢ head_line)
-LineFault EndLine count line fault = (fault ≡ BadEnd) × (says_nothing line ≡ false) × ((named : End) → line ≢ end_line named)
-LineFault (ServiceLine named) count line fault = (fault ≡ BadService) × (says_nothing line ≡ false) × ((port : ℕ) → IsPort port → line ≢ service_line port)
-LineFault (Body header) count line fault = (says_nothing line ≡ false) × BodyFault count line fault
-LineFault (Nothing header) count line fault = ⊥
+LineFault Head count line fault = (fault ≡ BadHeader) × ((version : Version) → line ≢ head_line version)
+LineFault (EndLine version) count line fault = (fault ≡ BadEnd) × (says_nothing line ≡ false) × ((named : End) → line ≢ end_line named)
+LineFault (ServiceLine version named) count line fault = (fault ≡ BadService) × (says_nothing line ≡ false) × ((port : ℕ) → IsPort port → line ≢ service_line port)
+LineFault (Body version header) count line fault = (says_nothing line ≡ false) × BodyFault version count line fault
+LineFault (Nothing version header) count line fault = ⊥
 
 -- What is wrong with a byte that comes after a text of which no byte is wrong: while a line is read the first of
 -- TextTooLong, TrailingText and LineTooLong; at its LF what is wrong with its content.
 abbrev pub ByteFault : ℕ → List ℕ → Due → ℕ → ℕ → TextFault → Type 0
 ByteFault size rest due count byte TextTooLong = size ≡ 2 ^ 40
 ByteFault size rest due count byte TrailingText = (size < 2 ^ 40) × IsOver due
-ByteFault size rest due count byte LineTooLong = (size < 2 ^ 40) × (IsOver due → ⊥) × (length rest ≡ 131070) × (byte ≢ 10)
+ByteFault size rest due count byte LineTooLong = (size < 2 ^ 40) × (IsOver due → ⊥) × (length rest ≡ longest due) × (byte ≢ 10)
 ByteFault size rest due count byte Truncated = ⊥
 ByteFault size rest due count byte fault = (size < 2 ^ 40) × (byte ≡ 10) × LineFault due count rest fault
 
@@ -197,9 +229,9 @@ pub record Unfinished (text : List ℕ) (datagrams : List Numbered) (line : ℕ)
   pub stands : Stands text lines rest due datagrams
   pub at_line : line ≡ length lines + 1
 
--- the text has no fault, and says this
+-- the text has no fault, and says this, in one of the versions
 abbrev pub IsCapture : List ℕ → Header → List Numbered → Type 0
-IsCapture text header datagrams = (lines : List (List ℕ)) × Stands text lines [] (Nothing header) datagrams
+IsCapture text header datagrams = (version : Version) × (lines : List (List ℕ)) × Stands text lines [] (Nothing version header) datagrams
 
 -- the text's fault, its line, and the datagrams on the lines before it
 abbrev pub HasFault : List ℕ → List Numbered → ℕ → TextFault → Type 0
@@ -221,7 +253,7 @@ pub record Begins (text : List ℕ) (header : Header) (datagrams : List Numbered
   pub more : List ℕ
   pub lines : List (List ℕ)
   pub are : text ≡ read ++ more
-  pub stands : Stands read lines [] (Body header) datagrams
+  pub stands : (version : Version) × Stands read lines [] (Body version header) datagrams
 
 -- a list begins with another
 abbrev pub BeginsWith : {A : Type 0} → List A → List A → Type 0

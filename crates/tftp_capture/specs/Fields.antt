@@ -6,6 +6,7 @@ use Rattle.tftp_capture.specs.declared.stop.Stop.TheVariants.{Text, Read, Memory
 use Rattle.tftp_capture.specs.declared.datagram.Datagram.{Datagram as Owned}
 use Rattle.tftp_capture.specs.declared.datagram.Header.{Header as OwnedHeader}
 use Rattle.tftp_capture.specs.CaptureText.{Datagram, Header, BodyFault, SaysDatagram, SpellsPayload, total_line}
+use Rattle.tftp_capture.specs.declared.version.Version.{Version}
 
 -- the datagram that a value in memory is
 abbrev pub datagram_of : Owned → Datagram
@@ -25,23 +26,23 @@ PayloadEnds (Err Read) digits = ⊥
 PayloadEnds (Err Memory) digits = (payload : List ℕ) × SpellsPayload digits payload × (length payload ≤ 65527)
 
 -- what a line with a datagram's first word says, or what is wrong with it, after so many datagrams
-abbrev pub DatagramEnds : Result Owned Stop → List ℕ → ℕ → Type 0
-DatagramEnds (Ok d) line count = SaysDatagram line (datagram_of d)
-DatagramEnds (Err (Text fault)) line count = BodyFault count line fault
-DatagramEnds (Err Read) line count = ⊥
-DatagramEnds (Err Memory) line count = (d : Datagram) × SaysDatagram line d
+abbrev pub DatagramEnds : Version → Result Owned Stop → List ℕ → ℕ → Type 0
+DatagramEnds version (Ok d) line count = SaysDatagram version line (datagram_of d)
+DatagramEnds version (Err (Text fault)) line count = BodyFault version count line fault
+DatagramEnds version (Err Read) line count = ⊥
+DatagramEnds version (Err Memory) line count = (d : Datagram) × SaysDatagram version line d
 
 -- the same of a line with the total's first word
-abbrev pub TotalEnds : Result (Unit {0}) Stop → List ℕ → ℕ → Type 0
-TotalEnds (Ok _) line count = line ≡ total_line count
-TotalEnds (Err (Text fault)) line count = BodyFault count line fault
-TotalEnds (Err Read) line count = ⊥
-TotalEnds (Err Memory) line count = ⊥
+abbrev pub TotalEnds : Version → Result (Unit {0}) Stop → List ℕ → ℕ → Type 0
+TotalEnds version (Ok _) line count = line ≡ total_line count
+TotalEnds version (Err (Text fault)) line count = BodyFault version count line fault
+TotalEnds version (Err Read) line count = ⊥
+TotalEnds version (Err Memory) line count = ⊥
 
 -- what a line says, or what is wrong with it, where a datagram or the total is due after so many datagrams
-abbrev pub BodyEnds : Result (Option Owned) Stop → List ℕ → ℕ → Type 0
-BodyEnds (Ok (Some d)) line count = SaysDatagram line (datagram_of d)
-BodyEnds (Ok None) line count = line ≡ total_line count
-BodyEnds (Err (Text fault)) line count = BodyFault count line fault
-BodyEnds (Err Read) line count = ⊥
-BodyEnds (Err Memory) line count = (d : Datagram) × SaysDatagram line d
+abbrev pub BodyEnds : Version → Result (Option Owned) Stop → List ℕ → ℕ → Type 0
+BodyEnds version (Ok (Some d)) line count = SaysDatagram version line (datagram_of d)
+BodyEnds version (Ok None) line count = line ≡ total_line count
+BodyEnds version (Err (Text fault)) line count = BodyFault version count line fault
+BodyEnds version (Err Read) line count = ⊥
+BodyEnds version (Err Memory) line count = (d : Datagram) × SaysDatagram version line d

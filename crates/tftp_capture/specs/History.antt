@@ -7,6 +7,7 @@ use Rattle.tftp_capture.specs.declared.fault.CaptureFault.TheVariants.{Text, Rea
 use Rattle.tftp_capture.specs.declared.standing.Standing.{Standing}
 use Rattle.tftp_capture.specs.declared.standing.Standing.TheVariants.{Open, Over, Failed}
 use Rattle.tftp_capture.specs.declared.datagram.Datagram.{Datagram as Owned}
+use Rattle.tftp_capture.specs.declared.version.Version.{Version}
 use Rattle.std.specs.List.{slice_split}
 use Rattle.tftp_capture.specs.CaptureText.{Datagram, Header, Numbered, Due, Stands, Unfinished, IsCapture, IsOver, HasFault, said, head_line, end_line, service_line}
 use Rattle.tftp_capture.specs.CaptureText.Due.{Body}
@@ -25,7 +26,7 @@ pub record ReaderState : Type 0 where
 -- the reader goes on: what was taken are whole lines, after which a datagram or the total is due
 pub record GoesOn (header : Header) (state : LineState) (count : ℕ) (text : List ℕ) (datagrams : List Numbered) : Type 0 where
   pub lines : List (List ℕ)
-  pub stands : Stands text lines [] (Body header) datagrams
+  pub stands : Stands text lines [] (Body state.version header) datagrams
   pub line_count : state.count ≡ length lines
   pub byte_count : state.taken ≡ length text
   pub datagram_count : count ≡ length datagrams
@@ -46,10 +47,11 @@ pub record IsBeingRead (text ahead : List ℕ) (datagrams : List Numbered) (line
 
 -- memory was refused for the datagram that the line says, the last of the whole lines that were taken
 pub record SaysOneMore (text : List ℕ) (datagrams : List Numbered) (line : ℕ) : Type 0 where
+  pub version : Version
   pub header : Header
   pub datagram : Datagram
   pub lines : List (List ℕ)
-  pub stands : Stands text lines [] (Body header) (datagrams ++ (line, datagram) ∷ [])
+  pub stands : Stands text lines [] (Body version header) (datagrams ++ (line, datagram) ∷ [])
   pub at_line : line ≡ length lines
 
 -- what want of memory says of the bytes that were taken, of those ahead, and of the datagrams that were given before it:
@@ -69,12 +71,13 @@ WantTells (Failed fault) result text ahead datagrams = Unit {0}
 -- The text is whole lines: the first line, the end line, and on line n the service line, before any other line that
 -- says something.
 pub record HasService (text : List ℕ) (header : Header) (n : ℕ) : Type 0 where
+  pub version : Version
   pub lines : List (List ℕ)
   pub after_head : List (List ℕ)
   pub at_end : ℕ
   pub others : List (ℕ × List ℕ)
   pub divided : slice_split (λ b. b == 10) text ≡ lines ++ [] ∷ []
-  pub begins : lines ≡ head_line ∷ after_head
+  pub begins : lines ≡ head_line version ∷ after_head
   pub are : said 2 after_head ≡ (at_end, end_line header.named) ∷ (n, service_line header.service) ∷ others
 
 -- what the reader took and gave, by whether it goes on

@@ -1,11 +1,12 @@
 -- Where the lines of a reader end, in its bytes.
 use Rattle.std.specs.Prelude.{◌≡◌, ◌≢◌, ℕ, ◌+◌, ◌-◌, ◌^◌, ◌<◌, ◌≤◌, ◌⊎◌, true, false, List, [], ◌∷◌, ◌++◌, length, All, Option, Result, Ok, Err, OnOk, OnErr}
 use Rattle.std.specs.Io.KnownBytes.{Consumes}
-use Rattle.tftp_capture.specs.CaptureText.{says_nothing, whole_lines}
+use Rattle.tftp_capture.specs.CaptureText.{longest_line, says_nothing, whole_lines}
 use Rattle.tftp_capture.specs.declared.fault.TextFault.TheVariants.{LineTooLong, Truncated, TrailingText, TextTooLong}
 use Rattle.tftp_capture.specs.declared.fault.CaptureFault.{CaptureFault}
 use Rattle.tftp_capture.specs.declared.fault.CaptureFault.TheVariants as faults
 use Rattle.tftp_capture.specs.declared.stop.Stop.{Stop}
+use Rattle.tftp_capture.specs.declared.version.Version.{Version}
 use Rattle.tftp_capture.specs.declared.stop.Stop.TheVariants.{Text, Read, Memory}
 
 abbrev pub fault_at : Stop → ℕ → CaptureFault
@@ -25,22 +26,22 @@ pub record HasByteAt (bytes : List ℕ) (size : ℕ) (byte : ℕ) : Type 0 where
   pub no_end : HasNoEnd front
   pub sized : length front ≡ size
 
--- The bytes are part of a line that has not ended, for which there is room.
-pub record IsPartOfLine (bytes : List ℕ) (room : ℕ) : Type 0 where
+-- The bytes are part of a line of at most so many bytes that has not ended, for which there is room.
+pub record IsPartOfLine (bytes : List ℕ) (longest room : ℕ) : Type 0 where
   pub no_end : HasNoEnd bytes
-  pub narrow : length bytes ≤ 131070
+  pub narrow : length bytes ≤ longest
   pub short : length bytes ≤ room
 
--- What the bytes are that were taken to find the end of a line, where the text may have so many more bytes: the line
--- and its LF; or, where there is no line, what came up to the byte that can't stand there, or up to the text's end.
-abbrev pub LineEnds : {T : Type 0} → Result T Stop → List ℕ → ℕ → List ℕ → Type 0
-LineEnds (Ok _) line room bytes = (bytes ≡ line ++ 10 ∷ []) × IsPartOfLine line room × (length line < room)
-LineEnds (Err (Text LineTooLong)) line room bytes = (byte : ℕ) × HasByteAt bytes 131070 byte × (byte ≢ 10) × (131070 < room)
-LineEnds (Err (Text TextTooLong)) line room bytes = (byte : ℕ) × HasByteAt bytes room byte × (room ≤ 131070)
-LineEnds (Err (Text Truncated)) line room bytes = IsPartOfLine bytes room
-LineEnds (Err Read) line room bytes = IsPartOfLine bytes room
-LineEnds (Err Memory) line room bytes = IsPartOfLine bytes room
-LineEnds (Err (Text _)) line room bytes = ⊥
+-- What the bytes are that were taken to find the end of a line of at most `longest` bytes, where the text may have `room`
+-- more: the line and its LF; or, where there is no line, what came up to the byte that can't stand there, or up to the text's end.
+abbrev pub LineEnds : {T : Type 0} → Result T Stop → List ℕ → (longest room : ℕ) → List ℕ → Type 0
+LineEnds (Ok _) line longest room bytes = (bytes ≡ line ++ 10 ∷ []) × IsPartOfLine line longest room × (length line < room)
+LineEnds (Err (Text LineTooLong)) line longest room bytes = (byte : ℕ) × HasByteAt bytes longest byte × (byte ≢ 10) × (longest < room)
+LineEnds (Err (Text TextTooLong)) line longest room bytes = (byte : ℕ) × HasByteAt bytes room byte × (room ≤ longest)
+LineEnds (Err (Text Truncated)) line longest room bytes = IsPartOfLine bytes longest room
+LineEnds (Err Read) line longest room bytes = IsPartOfLine bytes longest room
+LineEnds (Err Memory) line longest room bytes = IsPartOfLine bytes longest room
+LineEnds (Err (Text _)) line longest room bytes = ⊥
 
 -- Where memory was refused in a line, all of it that was read is taken: nothing is ahead, or its LF is, for which the
 -- text has room.
@@ -52,32 +53,35 @@ LeavesEnd (Ok _) room bytes ahead = Unit {0}
 
 -- ---- lines, one after another
 
--- what a source of lines holds: bytes read ahead, the line last read, and how many bytes and lines were read
+-- what a source of lines holds: bytes read ahead, the line last read, how many bytes and lines were read, and the version
+-- of the lines that follow
 pub record LineState : Type 0 where
   pub ahead : List ℕ
   pub line : List ℕ
   pub taken : ℕ
   pub count : ℕ
+  pub version : Version
 
--- a whole line that says nothing
-pub record IsSkipped (line : List ℕ) : Type 0 where
+-- a whole line of at most so many bytes that says nothing
+pub record IsSkipped (longest : ℕ) (line : List ℕ) : Type 0 where
   pub nothing : says_nothing line ≡ true
   pub no_end : HasNoEnd line
-  pub narrow : length line ≤ 131070
+  pub narrow : length line ≤ longest
 
 -- lines that say nothing were taken, and then the bytes in which the next line that says something was looked for
 pub record ReachesLine {T : Type 0} (result : Result T Stop) (old new : LineState) (before after : Option (List ℕ)) : Type 0 where
   pub skipped : List (List ℕ)
   pub bytes : List ℕ
-  pub nothing : All IsSkipped skipped
+  pub nothing : All (IsSkipped (longest_line old.version)) skipped
   pub consumed : Consumes before after (whole_lines skipped ++ bytes)
   pub short : old.taken + length (whole_lines skipped) ≤ 2 ^ 40
-  pub ends : LineEnds result new.line (2 ^ 40 - (old.taken + length (whole_lines skipped))) bytes
+  pub ends : LineEnds result new.line (longest_line old.version) (2 ^ 40 - (old.taken + length (whole_lines skipped))) bytes
   pub leaves : LeavesEnd result (2 ^ 40 - (old.taken + length (whole_lines skipped))) bytes new.ahead
   pub said : OnOk result (says_nothing new.line ≡ false)
   pub taken : OnOk result (new.taken ≡ old.taken + length (whole_lines skipped) + length bytes)
   pub count : OnOk result (new.count ≡ old.count + length skipped + 1)
   pub count_before : OnErr result (new.count ≡ old.count + length skipped)
+  pub version : new.version ≡ old.version
 
 -- what the bytes are in which the end of the text was looked for
 abbrev pub TextEnds : {T : Type 0} → Result T Stop → ℕ → List ℕ → Type 0

@@ -1,5 +1,6 @@
 -- What a writer of captures holds, and for what header and datagrams it stands.
 use Rattle.std.specs.Prelude.{◌≡◌, ℕ, Bool, List, [], ◌∷◌, ◌++◌, length, map, Option}
+use Rattle.tftp_capture.specs.declared.version.Version.TheVariants.{One}
 use Rattle.tftp_capture.specs.Tally.{Gathers}
 use Rattle.tftp_capture.specs.CaptureText.{Header, Datagram, head_line, end_line, service_line, datagram_line, whole_lines}
 
@@ -11,7 +12,7 @@ pub record WriterState : Type 0 where
 
 -- the header's part of a text
 abbrev pub header_text : Header → List ℕ
-header_text header = whole_lines (head_line ∷ end_line header.named ∷ service_line header.service ∷ [])
+header_text header = whole_lines (head_line One ∷ end_line header.named ∷ service_line header.service ∷ [])
 
 -- The writer stands for a header and datagrams: their text, but for its total, was added to what was there at the
 -- start, or waits to be.

@@ -1,10 +1,11 @@
 use thiserror::Error;
 
-/// What is wrong with a capture text. The numbers are their order at one byte and on one line.
+/// What is wrong with a capture text. On one line a BadHost comes after a BadPort and before a BadHex; the others come in
+/// the order of their numbers.
 #[derive(Clone, Copy, Debug, PartialEq, Eq, Error)]
 pub enum TextFault {
-    /// The first line is not `tftp-capture 1`.
-    #[error("the first line is not `tftp-capture 1`")]
+    /// The first line is neither `tftp-capture 1` nor `tftp-capture 2`.
+    #[error("the first line is not `tftp-capture 1` or `tftp-capture 2`")]
     BadHeader = 1,
     /// The second line that says something is no `end` line.
     #[error("no `end` line")]
@@ -12,10 +13,10 @@ pub enum TextFault {
     /// The third line that says something is no `service` line with a port.
     #[error("no `service` line with a port")]
     BadService = 3,
-    /// A line, a comment too, has more than 131,070 bytes before its LF.
+    /// A line, a comment too, has more than 131,070 bytes before its LF, in version 2 after the first line 131,116.
     #[error("the line is too long")]
     LineTooLong = 4,
-    /// Cut at single spaces, the line is not `in` or `out` with four pieces, nor `total` with two.
+    /// Cut at single spaces, the line is not `in` or `out` with four pieces, in version 2 five, nor `total` with two.
     #[error("no datagram and no total")]
     BadLine = 5,
     /// A port is not 1 to 65535, or not written without leading zeros.
@@ -39,6 +40,9 @@ pub enum TextFault {
     /// A byte stands after the first 2^40.
     #[error("the text is too long")]
     TextTooLong = 12,
+    /// The host, which version 2 has, is not 1 to 45 signs.
+    #[error("no host")]
+    BadHost = 13,
 }
 
 /// Why no further datagram can be read, and at which line, counted from 1.

@@ -1,13 +1,14 @@
 ghost use Rattle.std.specs.Prelude.{◌≡◌, ◌≢◌, ◌∷◌, ℕ, List, [], codes, Err, MatchOption};
 ghost use Rattle.std.specs.List.{list_all};
 ghost use Rattle.std.specs.Char.{is_ascii_hexdigit};
-ghost use Rattle.tftp_capture.specs.CaptureText.{dir_word, end_line, service_line, pieces, IsPort, SpellsPort};
+ghost use Rattle.tftp_capture.specs.CaptureText.{dir_word, end_line, service_line, pieces, AreFields, IsPort, SpellsPort};
 ghost use Rattle.tftp_capture.specs.Fields.{BodyEnds, DatagramEnds, PayloadEnds, TotalEnds};
 
 use crate::datagram::Datagram;
 use crate::fault::TextFault;
 use crate::line::count_before;
 use crate::stop::Stop;
+use crate::version::Version;
 use hex::FromHexError;
 use itoa::Buffer;
 use std::alloc::Global;
@@ -114,30 +115,59 @@ fn payload(alloc: Global, digits: &[u8]) -> Result<Bytes, Stop>
     }
 }
 
-/// The datagram that the fields after its first word spell.
-fn datagram(alloc: Global, dir: Dir, fields: &[u8]) -> Result<Datagram, Stop>
-    ensures { (line : List ℕ) (count : ℕ) → pieces line ≡ dir_word dir ∷ pieces fields.now → DatagramEnds result line count }
+/// The fields of a datagram's line after its first word.
+#[derive(Clone, Copy)]
+struct Fields<'a> {
+    local: &'a [u8],
+    host: &'a [u8],
+    remote: &'a [u8],
+    digits: &'a [u8],
+}
+
+/// The fields after the first word; a line of version 1 has no piece for the host, which is `-` there.
+fn cut_fields(version: Version, text: &[u8]) -> Option<Fields<'_>>
+    ensures { (word : List ℕ) → MatchOption result
+        ((local host remote digits : List ℕ) → AreFields version (word ∷ pieces text.now) word local host remote digits → ⊥)
+        (λ fields. AreFields version (word ∷ pieces text.now) word fields.local.now fields.host.now fields.remote.now fields.digits.now) }
 {
-    let Some((local, rest)) = cut(fields) else {
-        return Err(Stop::Text(TextFault::BadLine));
+    let (local, rest) = cut(text)?;
+    let (host, rest) = match version {
+        Version::One => (b"-".as_slice(), rest),
+        Version::Two => cut(rest)?,
     };
-    let Some((remote, digits)) = cut(rest) else {
-        return Err(Stop::Text(TextFault::BadLine));
-    };
+    let (remote, digits) = cut(rest)?;
     if cut(digits).is_some() {
-        return Err(Stop::Text(TextFault::BadLine));
+        return None;
     }
-    let Some(local_port) = port(local) else {
+    Some(Fields {
+        local,
+        host,
+        remote,
+        digits,
+    })
+}
+
+/// The datagram that the fields after its first word spell.
+fn datagram(alloc: Global, version: Version, dir: Dir, text: &[u8]) -> Result<Datagram, Stop>
+    ensures { (line : List ℕ) (count : ℕ) → pieces line ≡ dir_word dir ∷ pieces text.now → DatagramEnds version result line count }
+{
+    let Some(fields) = cut_fields(version, text) else {
+        return Err(Stop::Text(TextFault::BadLine));
+    };
+    let Some(local_port) = port(fields.local) else {
         return Err(Stop::Text(TextFault::BadPort));
     };
-    let Some(remote_port) = port(remote) else {
+    let Some(remote_port) = port(fields.remote) else {
         return Err(Stop::Text(TextFault::BadPort));
     };
-    let payload = payload(alloc, digits)?;
+    let Some(remote_host) = Host::new(fields.host) else {
+        return Err(Stop::Text(TextFault::BadHost));
+    };
+    let payload = payload(alloc, fields.digits)?;
     Ok(Datagram {
         dir,
         local_port,
-        remote_host: Host::none(),
+        remote_host,
         remote_port,
         payload,
     })
@@ -145,7 +175,7 @@ fn datagram(alloc: Global, dir: Dir, fields: &[u8]) -> Result<Datagram, Stop>
 
 /// Whether the number of a total line is the number of the datagrams.
 fn total(fields: &[u8], count: u64) -> Result<(), Stop>
-    ensures { (line : List ℕ) → pieces line ≡ codes "total" ∷ pieces fields.now → TotalEnds result line count }
+    ensures { (version : Version) (line : List ℕ) → pieces line ≡ codes "total" ∷ pieces fields.now → TotalEnds version result line count }
 {
     if cut(fields).is_some() {
         return Err(Stop::Text(TextFault::BadLine));
@@ -159,14 +189,19 @@ fn total(fields: &[u8], count: u64) -> Result<(), Stop>
 }
 
 /// What a line says where a datagram or the total is due: a datagram, or none for the total.
-pub fn body_line(alloc: Global, line: &[u8], count: u64) -> Result<Option<Datagram>, Stop>
-    ensures { BodyEnds result line.now count }
+pub fn body_line(
+    alloc: Global,
+    version: Version,
+    line: &[u8],
+    count: u64,
+) -> Result<Option<Datagram>, Stop>
+    ensures { BodyEnds version result line.now count }
 {
     let Some((word, fields)) = cut(line) else {
         return Err(Stop::Text(TextFault::BadLine));
     };
     if let Some(dir) = dir_of(word) {
-        let datagram = datagram(alloc, dir, fields)?;
+        let datagram = datagram(alloc, version, dir, fields)?;
         return Ok(Some(datagram));
     }
     if word != b"total".as_slice() {

@@ -14,6 +14,7 @@ mod reader;
 mod standing;
 mod stop;
 mod tallied;
+mod version;
 mod whole;
 mod writer;
 

@@ -9,9 +9,6 @@ use crate::tallied::Tallied;
 use memchr::memchr;
 use std::io::Read;
 
-/// The most bytes of a line, without its LF.
-pub const LONGEST_LINE: usize = 131_070;
-
 /// How many bytes stand before the first of that value, or before the end where there is none.
 #[inline]
 pub fn count_before(bytes: &[u8], value: u8) -> usize
@@ -25,18 +22,19 @@ pub fn count_before(bytes: &[u8], value: u8) -> usize
     }
 }
 
-/// Reads a line, without its LF; the text may have `room` more bytes.
+/// Reads a line of at most `longest` bytes, without its LF; the text may have `room` more bytes.
 pub fn read_line<R: Read>(
     ahead: &mut Ahead,
     reader: &mut Tallied<R>,
     line: &mut Vec<u8>,
+    longest: usize,
     room: u64,
 ) -> Result<(), Stop>
     ensures ends { (bytes : List ℕ) × Consumes (prepend_known ahead.old (R.remaining reader.old.0)) (prepend_known ahead.new (R.remaining reader.new.0)) bytes
-        × LineEnds result line.new.items room bytes × LeavesEnd result room bytes ahead.new }
+        × LineEnds result line.new.items longest room bytes × LeavesEnd result room bytes ahead.new }
     ensures fits { OnOk result (length line.new.items < room) }
     ensures few { length ahead.new ≤ 4096 }
-    ensures bounded { vec_len line.new ≤ 131070 }
+    ensures bounded { vec_len line.new ≤ longest }
     ensures end { result ≡ Err (Stop.Text TextFault.Truncated) → IsAtEnd (prepend_known ahead.new (R.remaining reader.new.0)) }
     ensures read { result ≡ Err Stop.Read → reader.new.1 ≡ true }
     ensures drained { result ≡ Err Stop.Read → ahead.new ≡ [] }
@@ -55,12 +53,12 @@ pub fn read_line<R: Read>(
         let whole = count < held.len();
         let length = line.len() + count;
         let over = room < length as u64 || whole && room == length as u64;
-        if room <= LONGEST_LINE as u64 && over {
+        if room <= longest as u64 && over {
             let all = held.len();
             ahead.consume(all);
             return Err(Stop::Text(TextFault::TextTooLong));
         }
-        if length > LONGEST_LINE {
+        if length > longest {
             let all = held.len();
             ahead.consume(all);
             return Err(Stop::Text(TextFault::LineTooLong));

@@ -1,13 +1,14 @@
 ghost use Rattle.std.specs.Prelude.{◌≡◌, ◌≢◌, ◌+◌, ◌-◌, ◌^◌, ◌≤◌, ℕ, List, [], length, true, OnOk, OnErr};
 ghost use Rattle.std.specs.Io.KnownBytes.{prepend_known, Consumes, IsAtEnd};
 ghost use Rattle.tftp_capture.specs.Lines.{LeavesEnd, LineEnds, ReachesLine, TextEnds};
-ghost use Rattle.tftp_capture.specs.CaptureText.{says_nothing};
+ghost use Rattle.tftp_capture.specs.CaptureText.{longest_line, says_nothing};
 
 use crate::ahead::Ahead;
 use crate::fault::TextFault;
 use crate::line::read_line;
 use crate::stop::Stop;
 use crate::tallied::Tallied;
+use crate::version::Version;
 use std::alloc::Global;
 use std::io::Read;
 use std::marker::Model;
@@ -22,17 +23,19 @@ pub struct Lines {
     line: Vec<u8>,
     taken: u64,
     count: u64,
+    version: Version,
 }
 
 impl Model for Lines {
     ghost use Rattle.std.specs.Prelude.{◌^◌, ◌≤◌, length, vec_len};
+    ghost use Rattle.tftp_capture.specs.CaptureText.{longest_line};
     ghost use Rattle.tftp_capture.specs.Lines.{LineState};
 
     ghost Value = { LineState };
 
-    ghost view = { λ a. record { ahead = a.ahead; line = a.line.items; taken = a.taken; count = a.count } };
+    ghost view = { λ a. record { ahead = a.ahead; line = a.line.items; taken = a.taken; count = a.count; version = a.version } };
 
-    ghost invariant = { λ a. (vec_len a.line ≤ 131070) × (length a.ahead ≤ 4096) × (a.count ≤ a.taken) × (a.taken ≤ 2 ^ 40) };
+    ghost invariant = { λ a. (vec_len a.line ≤ longest_line a.version) × (length a.ahead ≤ 4096) × (a.count ≤ a.taken) × (a.taken ≤ 2 ^ 40) };
 }
 
 /// Whether a line is empty or a comment.
@@ -47,23 +50,40 @@ fn is_skipped(line: &[u8]) -> bool
 }
 
 impl Lines {
-    /// Nothing is read yet.
+    /// Nothing is read yet, and the first line may be as long as a line of version 1.
     pub fn new(alloc: Global) -> Self
-        ensures { result ≡ record { ahead = []; line = []; taken = 0; count = 0 } }
+        ensures { result ≡ record { ahead = []; line = []; taken = 0; count = 0; version = Version.One } }
     {
         Lines {
             ahead: Ahead::new(),
             line: Vec::new(alloc),
             taken: 0,
             count: 0,
+            version: Version::One,
         }
+    }
+
+    /// The lines that follow are of this version.
+    pub fn go_on_in(&mut self, version: Version)
+        requires first { self.old.version ≡ Version.One }
+        ensures { self.new ≡ record { ahead = self.old.ahead; line = self.old.line; taken = self.old.taken; count = self.old.count; version = version } }
+    {
+        self.version = version;
+    }
+
+    /// The version of the lines that follow.
+    #[inline]
+    pub fn version(&self) -> Version
+        ensures { result ≡ self.now.version }
+    {
+        self.version
     }
 
     /// The line last read, without its LF.
     #[inline]
     pub fn line(&self) -> &[u8]
         ensures value { result.now ≡ self.now.line }
-        ensures narrow { length self.now.line ≤ 131070 }
+        ensures narrow { length self.now.line ≤ longest_line self.now.version }
     {
         self.line.as_slice()
     }
@@ -82,10 +102,11 @@ impl Lines {
     /// Reads the next line.
     pub fn next<R: Read>(&mut self, reader: &mut Tallied<R>) -> Result<(), Stop>
         ensures ends { (bytes : List ℕ) × Consumes (prepend_known self.old.ahead (R.remaining reader.old.0)) (prepend_known self.new.ahead (R.remaining reader.new.0)) bytes
-            × LineEnds result self.new.line (2 ^ 40 - self.old.taken) bytes × LeavesEnd result (2 ^ 40 - self.old.taken) bytes self.new.ahead }
+            × LineEnds result self.new.line (longest_line self.old.version) (2 ^ 40 - self.old.taken) bytes × LeavesEnd result (2 ^ 40 - self.old.taken) bytes self.new.ahead }
         ensures taken { OnOk result (self.new.taken ≡ self.old.taken + length self.new.line + 1) }
         ensures count { OnOk result (self.new.count ≡ self.old.count + 1) }
         ensures same { OnErr result ((self.new.taken ≡ self.old.taken) × (self.new.count ≡ self.old.count)) }
+        ensures version { self.new.version ≡ self.old.version }
         ensures short { self.new.taken ≤ 2 ^ 40 }
         ensures short_before { self.old.taken ≤ 2 ^ 40 }
         ensures end { result ≡ Err (Stop.Text TextFault.Truncated) → IsAtEnd (prepend_known self.new.ahead (R.remaining reader.new.0)) }
@@ -93,8 +114,9 @@ impl Lines {
         ensures drained { result ≡ Err Stop.Read → self.new.ahead ≡ [] }
         ensures tally { result ≢ Err Stop.Read → reader.new.1 ≡ reader.old.1 }
     {
+        let longest = self.version.longest_line();
         let room = LONGEST_TEXT - self.taken;
-        read_line(&mut self.ahead, reader, &mut self.line, room)?;
+        read_line(&mut self.ahead, reader, &mut self.line, longest, room)?;
         self.taken += self.line.len() as u64 + 1;
         self.count += 1;
         Ok(())

@@ -11,12 +11,13 @@ use crate::lines::Lines;
 use crate::standing::Standing;
 use crate::stop::Stop;
 use crate::tallied::Tallied;
+use crate::version::Version;
 use std::alloc::Global;
 use std::io::Read;
 use std::marker::Model;
 
-/// A reader of a capture text: it holds one line of at most 131,070 bytes and at most 4,096 bytes
-/// read ahead.
+/// A reader of a capture text: it holds one line of at most 131,070 bytes, in version 2 of 131,116, and at most 4,096
+/// bytes read ahead.
 #[derive(Drop)]
 pub struct CaptureReader {
     header: Header,
@@ -58,9 +59,10 @@ impl CaptureReader {
         if let Err(stop) = lines.next(reader) {
             return Err(stop.at(1));
         }
-        if lines.line() != b"tftp-capture 1".as_slice() {
+        let Some(version) = Version::of(lines.line()) else {
             return Err(CaptureFault::Text(1, TextFault::BadHeader));
-        }
+        };
+        lines.go_on_in(version);
         if let Err(stop) = lines.next_said(reader) {
             return Err(stop.at(lines.count() + 1));
         }
@@ -172,7 +174,7 @@ fn read_on<R: Read>(
         return Err(stop.at(due));
     }
     let line = lines.count();
-    match body_line(alloc, lines.line(), count) {
+    match body_line(alloc, lines.version(), lines.line(), count) {
         Ok(Some(datagram)) => Ok(Some(datagram)),
         Ok(None) => match lines.finish(reader) {
             Ok(()) => Ok(None),

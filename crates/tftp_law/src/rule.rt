@@ -9,7 +9,7 @@ use tftp_packet::PacketFault;
 pub enum Rule {
     /// The port at the named end is not the transfer's (RFC 1350, section 4).
     ForeignPort,
-    /// The port at the other side is none that the datagram may go to (RFC 1350, section 4).
+    /// The host or the port at the other side is none that the datagram may go to (RFC 1350, section 4).
     WrongPort,
     /// A stray is answered by something else than ERROR 5 (RFC 1350, section 4).
     StrayAnswer,

@@ -1,6 +1,8 @@
 -- Main datagrams dress a view, by computation.
 use Rattle.std.proofs.Common.{◌≡◌, ℕ, ◌==◌, ◌&&◌, ◌||◌, Bool, true, false, ◌⊎◌, List, [], ◌∷◌, Any, map as each, reverse, inl, inr, refl, sym, subst}
 use Rattle.std.proofs.lemmas.Bool.{and_parts, or_cases, eqb-true, false≢true}
+use Rattle.std.proofs.lemmas.Slice.Eq.{bytes_eq-Decides}
+use Rattle.std.specs.Str.{bytes_eq}
 use Rattle.tftp_packet.specs.Spelling.{Spells}
 use Rattle.tftp_packet.specs.Message.{Message}
 use Rattle.tftp_packet.specs.declared.kinds.End.{End}
@@ -10,10 +12,12 @@ use Rattle.tftp_packet.specs.declared.kinds.Dir.TheVariants.{In, Out}
 use Rattle.tftp_ends.specs.CaptureText.{Datagram, Header, peer_of}
 use Rattle.tftp_ends.specs.Meaning.{Meaning, blksize_of, request_of}
 use Rattle.tftp_ends.specs.Blocks.{block}
+use Rattle.tftp_ends.specs.Ports.{same_peer}
 use Rattle.tftp_ends.specs.Machines.{MachinePacket, Req, Oack, Data, Ack, Deed, message_of, History}
 use Rattle.tftp_law.specs.Sides.{server_port, from_server}
 use Rattle.tftp_law.specs.Dress.{Main, Placed, Division, datagrams_of, view_in, TransferIds, HasClientId, HasServerId, GoesToServer, dir_of, packet_of, HaveParts, IsDressed}
 use Rattle.tftp_law.proofs.Divided.{any_first, any_later}
+use Rattle.tftp_law.proofs.RouteTests.{is_same}
 
 -- a datagram with the deed that it carries
 abbrev pub Carried : Type 0
@@ -32,18 +36,22 @@ same_dir _ _ = false
 
 abbrev pub has_client_id : End → TransferIds → Datagram → Bool
 has_client_id Client ids d = d.local == ids.own
-has_client_id Server ids d = peer_of d == ids.peer
+has_client_id Server ids d = same_peer (peer_of d) ids.peer
 
 abbrev pub has_server_id : End → TransferIds → Datagram → Bool
-has_server_id Client ids d = peer_of d == ids.peer
+has_server_id Client ids d = same_peer (peer_of d) ids.peer
 has_server_id Server ids d = d.local == ids.own
+
+abbrev pub asks_host : End → TransferIds → Datagram → Bool
+asks_host Client ids d = bytes_eq d.host ids.asked
+asks_host Server ids d = true
 
 abbrev pub came : Dir → List Carried → Bool
 came dir [] = false
 came dir (c ∷ cs) = same_dir c.0.dir dir || came dir cs
 
 abbrev pub goes_to_server : Header → TransferIds → List Carried → Datagram → MachinePacket → Bool
-goes_to_server header ids earlier d Req = server_port header.named d == header.service
+goes_to_server header ids earlier d Req = (server_port header.named d == header.service) && asks_host header.named ids d
 goes_to_server header ids earlier d _ = has_server_id header.named ids d && (same_dir d.dir (from_server header.named) || came (from_server header.named) earlier)
 
 abbrev pub are_main : Header → TransferIds → List Carried → Bool
@@ -77,11 +85,15 @@ dir_is Out In e = absurd (false≢true e)
 
 client_is : (e : End) (ids : TransferIds) (d : Datagram) → has_client_id e ids d ≡ true → HasClientId e ids d
 client_is Client ids d t = eqb-true d.local ids.own t
-client_is Server ids d t = eqb-true (peer_of d) ids.peer t
+client_is Server ids d t = is_same (peer_of d) ids.peer t
 
 server_is : (e : End) (ids : TransferIds) (d : Datagram) → has_server_id e ids d ≡ true → HasServerId e ids d
-server_is Client ids d t = eqb-true (peer_of d) ids.peer t
+server_is Client ids d t = is_same (peer_of d) ids.peer t
 server_is Server ids d t = eqb-true d.local ids.own t
+
+asks_is : (e : End) (ids : TransferIds) (d : Datagram) → asks_host e ids d ≡ true → e ≡ Client → d.host ≡ ids.asked
+asks_is Client ids d t e = (bytes_eq-Decides d.host ids.asked).0 t
+asks_is Server ids d t e = absurd (cc)
 
 came_is : (dir : Dir) (cs : List Carried) → came dir cs ≡ true → Any (λ (p : Placed). p.datagram.dir ≡ dir) (division_of cs)
 came_is dir [] e = absurd (false≢true e)
@@ -105,7 +117,9 @@ other_goes header ids earlier d e =
 
 goes_is : (header : Header) (ids : TransferIds) (earlier : List Carried) (d : Datagram) (p : MachinePacket) → goes_to_server header ids earlier d p ≡ true
     → GoesToServer header ids (division_of earlier) d p
-goes_is header ids earlier d Req e = eqb-true (server_port header.named d) header.service e
+goes_is header ids earlier d Req e =
+    let parts = and_parts (server_port header.named d == header.service) (asks_host header.named ids d) e in
+    (eqb-true (server_port header.named d) header.service parts.0, asks_is header.named ids d parts.1)
 goes_is header ids earlier d Oack e = other_goes header ids earlier d e
 goes_is header ids earlier d (Data k) e = other_goes header ids earlier d e
 goes_is header ids earlier d (Ack j) e = other_goes header ids earlier d e

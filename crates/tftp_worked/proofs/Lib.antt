@@ -3,6 +3,7 @@ mod Read
 mod ReadRuns
 mod ReadShown
 mod ReadVariants
+mod Hosts
 mod MoreShown
 mod Payloads
 mod Dressed

@@ -43,7 +43,7 @@ abbrev write_0 : Division
 write_0 = main offers_a (Sent Req) ∷ []
 
 offers_a_part : CarriesDeed at_client two_bytes_written two_bytes_written.file ids [] offers_a (Sent Req)
-offers_a_part = record { dir = refl; client = refl; server = refl; spells = write_spelled }
+offers_a_part = record { dir = refl; client = refl; server = (refl, λ e. refl); spells = write_spelled }
 
 abbrev write_1 : Division
 write_1 = main is_accepted (Took (Ack 0)) ∷ write_0
@@ -113,7 +113,7 @@ abbrev eights_0 : Division
 eights_0 = main asks_for_eights (Sent Req) ∷ []
 
 asks_for_eights_part : CarriesDeed at_client ten_bytes ten_bytes.file ids [] asks_for_eights (Sent Req)
-asks_for_eights_part = record { dir = refl; client = refl; server = refl; spells = eights_spelled }
+asks_for_eights_part = record { dir = refl; client = refl; server = (refl, λ e. refl); spells = eights_spelled }
 
 abbrev eights_1 : Division
 eights_1 = main agrees_to_eights (Took Oack) ∷ eights_0

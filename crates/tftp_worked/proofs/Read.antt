@@ -6,7 +6,7 @@ use Rattle.tftp_ends.specs.Meaning.{Meaning, request_of, blksize_of}
 use Rattle.tftp_ends.specs.Blocks.{block}
 use Rattle.tftp_ends.specs.Machines.{Deed, Sent, Took, MachinePacket, Req, Oack, Data, Ack, History, message_of}
 use Rattle.tftp_ends.specs.Worked.{two_bytes}
-use Rattle.tftp_law.specs.CaptureText.{Datagram}
+use Rattle.tftp_ends.specs.CaptureText.{Datagram, PeerId, peer_of}
 use Rattle.tftp_packet.specs.Spelling.{Spells}
 use Rattle.tftp_law.specs.Dress.{Part, Main, Stray, StrayAnswer, Placed, Division, datagrams_of, view_in, TransferIds, HasPart, HaveParts}
 use Rattle.tftp_worked.specs.Worked.{at_client, asks_for_a, brings_hi, acknowledges_hi, brings_more}
@@ -35,8 +35,8 @@ is_ack m wire p s = spelled_once acknowledges_hi.payload (message_of m wire p) (
 is_more : (m : Meaning) (wire : List ℕ) (p : MachinePacket) → Spells brings_more.payload (message_of m wire p) → message_of m wire p ≡ Message.Data 2 (codes "ii")
 is_more m wire p s = spelled_once brings_more.payload (message_of m wire p) (Message.Data 2 (codes "ii")) s more_spelled
 
-abbrev StraySomewhere : Division → ℕ → Type 0
-StraySomewhere division port = Any (λ p. (p.part ≡ Stray) × (p.datagram.remote ≡ port)) division
+abbrev StraySomewhere : Division → PeerId → Type 0
+StraySomewhere division peer = Any (λ p. (p.part ≡ Stray) × (peer_of p.datagram ≡ peer)) division
 
 -- the first datagram is the request
 asks : (m : Meaning) (wire : List ℕ) (ids : TransferIds) (part : Part) → HasPart at_client m wire ids [] asks_for_a part → (part ≡ Main (Sent Req)) × (request_of m ≡ request_of two_bytes)
@@ -49,7 +49,7 @@ asks m wire ids Stray h = let e = h.dir in absurd (cc)
 asks m wire ids StrayAnswer h = absurd (any_none _ h.there)
 
 -- the second is block 1, and shows the server's port
-brings : (m : Meaning) (wire : List ℕ) (ids : TransferIds) (q : Placed) (part : Part) → q.datagram ≡ asks_for_a → HasPart at_client m wire ids (q ∷ []) brings_hi part → (part ≡ Main (Took (Data 1))) × (block (blksize_of m) wire 1 ≡ codes "hi") × (41000 ≡ ids.peer)
+brings : (m : Meaning) (wire : List ℕ) (ids : TransferIds) (q : Placed) (part : Part) → q.datagram ≡ asks_for_a → HasPart at_client m wire ids (q ∷ []) brings_hi part → (part ≡ Main (Took (Data 1))) × (block (blksize_of m) wire 1 ≡ codes "hi") × (peer_of brings_hi ≡ ids.peer)
 brings m wire ids q (Main (Took (Data k))) is h =
     let e = same_block _ _ _ _ (is_hi m wire (Data k) h.spells) in
     (ap (λ x. Main (Took (Data x))) e.0, subst (λ x. block (blksize_of m) wire x ≡ codes "hi") e.0 e.1, h.server.0)
@@ -67,9 +67,9 @@ brings m wire ids q StrayAnswer is h = let e = h.dir in absurd (cc)
 pub record Begun (m : Meaning) (wire : List ℕ) (ids : TransferIds) (division : Division) : Type 0 where
   pub request : request_of m ≡ request_of two_bytes
   pub hi : block (blksize_of m) wire 1 ≡ codes "hi"
-  pub server : 41000 ≡ ids.peer
+  pub server : peer_of brings_hi ≡ ids.peer
   pub view : view_in division ≡ Took (Data 1) ∷ Sent Req ∷ []
-  pub no_stray : (port : ℕ) → StraySomewhere division port → ⊥
+  pub no_stray : (peer : PeerId) → StraySomewhere division peer → ⊥
 
 begun_pair : (m : Meaning) (wire : List ℕ) (ids : TransferIds) (p q : Placed) → p.datagram ≡ brings_hi → q.datagram ≡ asks_for_a → HaveParts at_client m wire ids (p ∷ q ∷ []) → Begun m wire ids (p ∷ q ∷ [])
 begun_pair m wire ids p q second first parts =
@@ -80,7 +80,7 @@ begun_pair m wire ids p q second first parts =
       hi = b.1;
       server = b.2;
       view = view_main p (Took (Data 1)) (q ∷ []) b.0 ∙ ap (λ rest. Took (Data 1) ∷ rest) (view_main q (Sent Req) [] a.0);
-      no_stray = λ port h. elim (any_cases _ p (q ∷ []) h) [
+      no_stray = λ peer h. elim (any_cases _ p (q ∷ []) h) [
         | inl here ↦ let e : Main (Took (Data 1)) ≡ Stray = sym b.0 ∙ here.0 in absurd (cc)
         | inr more ↦ elim (any_cases _ q [] more) [
           | inl here ↦ let e : Main (Sent Req) ≡ Stray = sym a.0 ∙ here.0 in absurd (cc)
@@ -104,7 +104,7 @@ acknowledged_as m wire ids earlier (Main (Sent Oack)) b h = let e = is_ack m wir
 acknowledged_as m wire ids earlier (Main (Sent (Data k))) b h = let e = is_ack m wire (Data k) h.spells in absurd (cc)
 acknowledged_as m wire ids earlier (Main (Took p)) b h = let e = h.dir in absurd (cc)
 acknowledged_as m wire ids earlier Stray b h = let e = h.dir in absurd (cc)
-acknowledged_as m wire ids earlier StrayAnswer b h = absurd (b.no_stray 41000 h.there)
+acknowledged_as m wire ids earlier StrayAnswer b h = absurd (b.no_stray (peer_of acknowledges_hi) h.there)
 
 -- or one more block
 more_as : (m : Meaning) (wire : List ℕ) (ids : TransferIds) (earlier : Division) (part : Part) → Begun m wire ids earlier → HasPart at_client m wire ids earlier brings_more part → part ≡ Main (Took (Data 2))

@@ -14,7 +14,7 @@ use Rattle.tftp_ends.proofs.Worked.{one_block, two_bytes_run, two_bytes_is_view,
 use Rattle.tftp_packet.specs.Spelling.{Spells}
 use Rattle.tftp_law.specs.Dress.{Main, Placed, Division, TransferIds, CarriesDeed, HaveParts, IsDressed}
 use Rattle.tftp_law.specs.Law.{IsSeen, IsLawful, ShowsBy, Shows}
-use Rattle.tftp_worked.specs.Worked.{at_client, asks_for_a, brings_hi, acknowledges_hi, one_block_read, read_without_its_ack, read_past_its_end}
+use Rattle.tftp_worked.specs.Worked.{at_client, server_host, asks_for_a, brings_hi, acknowledges_hi, one_block_read, read_without_its_ack, read_past_its_end}
 use Rattle.tftp_law.proofs.NothingAgreed.{two_bytes_fit}
 use Rattle.tftp_worked.proofs.Spelled.{request_spelled, hi_spelled, ack_spelled}
 use Rattle.tftp_law.proofs.Divided.{any_first}
@@ -22,7 +22,7 @@ use Rattle.tftp_worked.proofs.Read.{begun, Followed, acknowledged, more_came}
 use Rattle.tftp_worked.proofs.ReadRuns.{nothing_agreed, taken_in_wire, wire_is_hi, side_is_get, file_is_wire, meaning_is, hi_taken, no_ack_zero}
 
 abbrev pub ids : TransferIds
-ids = record { own = 40000; peer = 41000 }
+ids = record { own = 40000; peer = record { host = server_host; port = 41000 }; asked = server_host }
 
 abbrev pub begins : Division
 begins =
@@ -34,7 +34,7 @@ abbrev ends : Division
 ends = record { datagram = acknowledges_hi; part = Main (Sent (Ack 1)) } ∷ begins
 
 asks : CarriesDeed at_client two_bytes two_bytes.file ids [] asks_for_a (Sent Req)
-asks = record { dir = refl; client = refl; server = refl; spells = request_spelled }
+asks = record { dir = refl; client = refl; server = (refl, λ e. refl); spells = request_spelled }
 
 brings : CarriesDeed at_client two_bytes two_bytes.file ids (record { datagram = asks_for_a; part = Main (Sent Req) } ∷ []) brings_hi (Took (Data 1))
 brings = record {

@@ -1,8 +1,9 @@
 -- The worked read with a stray between, and as its server sees it.
-use Rattle.std.proofs.Common.{◌≡◌, [], ◌∷◌, inl, inr, refl, sym, subst, arith}
+use Rattle.std.proofs.Common.{◌≡◌, [], ◌∷◌, inl, inr, refl, sym, subst, ap, arith}
 use Rattle.tftp_packet.specs.Message.{Message}
 use Rattle.tftp_packet.specs.declared.kinds.Dir.TheVariants.{In, Out}
 use Rattle.tftp_ends.specs.Blocks.{block}
+use Rattle.tftp_ends.specs.CaptureText.{PeerId, peer_of}
 use Rattle.tftp_ends.specs.Machines.{Sent, Took, Req, Data, Ack}
 use Rattle.tftp_ends.specs.Worked.{two_bytes, two_bytes_view, two_bytes_server_view}
 use Rattle.tftp_ends.proofs.Defaults.{default_blksize}
@@ -10,7 +11,7 @@ use Rattle.tftp_ends.proofs.Worked.{one_block, two_bytes_is_view, two_bytes_comp
 use Rattle.tftp_packet.specs.Spelling.{Spells}
 use Rattle.tftp_law.specs.Dress.{Main, Stray, StrayAnswer, Placed, Division, TransferIds, IsMain, CarriesDeed, ComesAstray, AnswersStray, IsDressed}
 use Rattle.tftp_law.specs.Law.{IsSeen, Shows}
-use Rattle.tftp_worked.specs.Worked.{at_client, at_server, asks_for_a, brings_hi, acknowledges_hi, comes_astray, answers_stray, read_with_a_stray, is_asked_for_a, sends_hi, is_told, read_at_server}
+use Rattle.tftp_worked.specs.Worked.{at_client, at_server, client_host, asks_for_a, brings_hi, acknowledges_hi, comes_astray, answers_stray, read_with_a_stray, is_asked_for_a, sends_hi, is_told, read_at_server}
 use Rattle.tftp_worked.proofs.Spelled.{request_spelled, hi_spelled, ack_spelled, unknown_id_spelled}
 use Rattle.tftp_law.proofs.Divided.{any_first, any_later}
 use Rattle.tftp_law.proofs.NothingAgreed.{two_bytes_fit}
@@ -29,7 +30,7 @@ stray_part : ComesAstray at_client ids begins comes_astray
 stray_part = record {
   dir = refl;
   here = refl;
-  elsewhere = λ e. omega arith;
+  elsewhere = λ e. omega (arith, ap (λ (p : PeerId). p.port) e);
   after = any_first (λ (p : Placed). IsMain p.part × (p.datagram.dir ≡ In)) (record { datagram = brings_hi; part = Main (Took (Data 1)) }) (record { datagram = asks_for_a; part = Main (Sent Req) } ∷ []) ((Took (Data 1), refl), refl);
   no_request = λ e. absurd (cc);
 }
@@ -38,7 +39,7 @@ answer_part : AnswersStray at_client ids astray answers_stray
 answer_part = record {
   dir = refl;
   here = refl;
-  there = any_first (λ (p : Placed). (p.part ≡ Stray) × (p.datagram.remote ≡ 42000)) (record { datagram = comes_astray; part = Stray }) begins (refl, refl);
+  there = any_first (λ (p : Placed). (p.part ≡ Stray) × (peer_of p.datagram ≡ peer_of comes_astray)) (record { datagram = comes_astray; part = Stray }) begins (refl, refl);
   spells = ([], unknown_id_spelled);
 }
 
@@ -69,7 +70,7 @@ stray_is_shown = record {
 }
 
 abbrev server_ids : TransferIds
-server_ids = record { own = 3000; peer = 2000 }
+server_ids = record { own = 3000; peer = record { host = client_host; port = 2000 }; asked = [] }
 
 abbrev asked : Placed
 asked = record { datagram = is_asked_for_a; part = Main (Took Req) }
@@ -81,7 +82,7 @@ abbrev told : Placed
 told = record { datagram = is_told; part = Main (Took (Ack 1)) }
 
 asked_part : CarriesDeed at_server two_bytes two_bytes.file server_ids [] is_asked_for_a (Took Req)
-asked_part = record { dir = refl; client = refl; server = refl; spells = request_spelled }
+asked_part = record { dir = refl; client = refl; server = (refl, λ e. cc); spells = request_spelled }
 
 sent_part : CarriesDeed at_server two_bytes two_bytes.file server_ids (asked ∷ []) sends_hi (Sent (Data 1))
 sent_part = record {

@@ -8,6 +8,7 @@ use Rattle.tftp_packet.specs.declared.kinds.Side.TheVariants.{Get, Put}
 use Rattle.tftp_packet.specs.declared.kinds.Mode.TheVariants.{Octet}
 use Rattle.tftp_packet.specs.declared.kinds.End.TheVariants.{Client}
 use Rattle.tftp_ends.specs.Meaning.{Meaning, request_of, number_or, option_or, windowsize_of}
+use Rattle.tftp_ends.specs.CaptureText.{PeerId}
 use Rattle.tftp_ends.specs.Roles.{sender_of, receiver_of}
 use Rattle.tftp_ends.specs.Machines.{MachinePacket, Data, Ack, HasSent, HasTaken}
 use Rattle.tftp_ends.specs.Runs.{Step, view_of, IsRun}
@@ -19,7 +20,7 @@ use Rattle.tftp_ends.proofs.WorkedWindows.{four_of_both}
 use Rattle.tftp_law.specs.Dress.{TransferIds}
 use Rattle.tftp_law.specs.Law.{IsLawful, IsLawfulUpTo}
 use Rattle.tftp_law.proofs.Beginnings.{beginning_is_lawful, shown_is_lawful}
-use Rattle.tftp_worked.specs.Worked.{at_client}
+use Rattle.tftp_worked.specs.Worked.{at_client, server_host}
 use Rattle.tftp_worked.specs.WorkedWindows.{request, oack, block, ack, by_four, by_two, asks, goes, comes, before_overrun, block_seven, before_skip, block_two, window_out_of_order}
 use Rattle.tftp_worked.proofs.Payloads.{request_spells, oack_spells, data_spells, ack_spells, four_is, two_is, eight_by_two, Spelled, AllSpelled}
 use Rattle.tftp_worked.proofs.WindowsShown.{both_spell, six_shown}
@@ -57,7 +58,11 @@ overrun_spelled = (
   ),
 )
 
-overrun_near : (ids : TransferIds) → 41000 ≡ ids.peer → AllNear ids overrun
+-- where the server answers
+abbrev server : PeerId
+server = record { host = server_host; port = 41000 }
+
+overrun_near : (ids : TransferIds) → server ≡ ids.peer → AllNear ids overrun
 overrun_near ids e = (
   λ code text is. cc,
   λ _. e,
@@ -138,7 +143,7 @@ skips =
 pub skips_spelled : AllSpelled skips
 skips_spelled = (data_spells 2 (codes "22222222") refl, (oack_spells by_two eight_by_two refl two_is, (request_spells Put by_two eight_by_two refl two_is, tt)))
 
-skips_near : (ids : TransferIds) → 41000 ≡ ids.peer → AllNear ids skips
+skips_near : (ids : TransferIds) → server ≡ ids.peer → AllNear ids skips
 skips_near ids e = (λ code text is. cc, λ _. e, (λ code text is. cc, λ _. e, (λ code text is. cc, λ way. absurd (cc), tt)))
 
 abbrev is_not_first : MachinePacket → Bool

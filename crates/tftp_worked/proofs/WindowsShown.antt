@@ -17,7 +17,7 @@ use Rattle.tftp_nego.specs.Agreement.{MayAgree}
 use Rattle.tftp_law.specs.Fits.{Fits}
 use Rattle.tftp_law.specs.Dress.{TransferIds, IsDressed}
 use Rattle.tftp_law.specs.Law.{IsSeen, Shows}
-use Rattle.tftp_worked.specs.Worked.{at_client}
+use Rattle.tftp_worked.specs.Worked.{at_client, client_host}
 use Rattle.tftp_worked.specs.WorkedWindows.{request, oack, block, ack, by_eight, by_four, asks, goes, comes, answers, hears, is_asked, at_service, window_out_of_order, window_at_server, block_sent_again, window_sent_again}
 use Rattle.tftp_worked.proofs.Payloads.{request_spells, oack_spells, data_spells, ack_spells, eight_is, four_is}
 use Rattle.tftp_worked.proofs.Dressed.{Carried, dressed_by}
@@ -149,7 +149,7 @@ six_shown = record {
 -- ---- and at its server
 
 abbrev service_ids : TransferIds
-service_ids = record { own = 41000; peer = 40000 }
+service_ids = record { own = 41000; peer = record { host = client_host; port = 40000 }; asked = [] }
 
 abbrev six_at_server : List Carried
 six_at_server =

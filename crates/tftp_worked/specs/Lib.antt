@@ -1,3 +1,4 @@
 pub mod Worked
 pub mod WorkedWindows
 pub mod WorkedRules
+pub mod WorkedHosts

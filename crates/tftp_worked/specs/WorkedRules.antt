@@ -3,7 +3,7 @@ use Rattle.std.specs.Prelude.{ℕ, List, [], ◌∷◌, codes}
 use Rattle.tftp_packet.specs.Written.{Pair}
 use Rattle.tftp_packet.specs.declared.kinds.Dir.TheVariants.{In, Out}
 use Rattle.tftp_ends.specs.CaptureText.{Datagram}
-use Rattle.tftp_worked.specs.Worked.{asks_for_a, brings_hi}
+use Rattle.tftp_worked.specs.Worked.{server_host, asks_for_a, brings_hi}
 use Rattle.tftp_worked.specs.WorkedWindows.{request, oack, block, ack, by_eight, by_four, asks, goes, comes, answers, hears, is_asked}
 
 -- a write in lock step: block 1 once more after block 2
@@ -29,20 +29,20 @@ ack_zero = comes (ack 0)
 
 -- a read, and a block from another port
 abbrev pub comes_from_elsewhere : Datagram
-comes_from_elsewhere = record { dir = In; local = 40000; remote = 42000; payload = brings_hi.payload }
+comes_from_elsewhere = record { dir = In; local = 40000; host = server_host; remote = 42000; payload = brings_hi.payload }
 
 abbrev pub before_answering : List Datagram
 before_answering = asks_for_a ∷ brings_hi ∷ comes_from_elsewhere ∷ []
 
 -- an ACK to there, an ACK to a port that nothing came from, and a block that comes to another port
 abbrev pub acknowledges_stray : Datagram
-acknowledges_stray = record { dir = Out; local = 40000; remote = 42000; payload = ack 1 }
+acknowledges_stray = record { dir = Out; local = 40000; host = server_host; remote = 42000; payload = ack 1 }
 
 abbrev pub acknowledges_nobody : Datagram
-acknowledges_nobody = record { dir = Out; local = 40000; remote = 43000; payload = ack 1 }
+acknowledges_nobody = record { dir = Out; local = 40000; host = server_host; remote = 43000; payload = ack 1 }
 
 abbrev pub comes_to_another_port : Datagram
-comes_to_another_port = record { dir = In; local = 40001; remote = 41000; payload = brings_hi.payload }
+comes_to_another_port = record { dir = In; local = 40001; host = server_host; remote = 41000; payload = brings_hi.payload }
 
 -- a read with the largest window: block 65535 is as long as a block
 abbrev pub by_most : List Pair

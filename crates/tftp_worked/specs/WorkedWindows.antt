@@ -4,6 +4,7 @@ use Rattle.tftp_packet.specs.Written.{Pair, strings, pair_strings}
 use Rattle.tftp_packet.specs.declared.kinds.End.TheVariants.{Server}
 use Rattle.tftp_packet.specs.declared.kinds.Dir.TheVariants.{In, Out}
 use Rattle.tftp_ends.specs.CaptureText.{Datagram, Header}
+use Rattle.tftp_worked.specs.Worked.{server_host, client_host}
 
 -- payloads: a request for "a" in mode "octet", an OACK, a block and an ACK with a number of one byte (RFC 1350,
 -- section 5; RFC 2347)
@@ -30,13 +31,13 @@ by_two = (codes "blksize", codes "8") ∷ (codes "windowsize", codes "2") ∷ []
 
 -- at the client, whose port is 40000: to the service port, to the server's port, and from there
 abbrev pub asks : List ℕ → Datagram
-asks payload = record { dir = Out; local = 40000; remote = 69; payload = payload }
+asks payload = record { dir = Out; local = 40000; host = server_host; remote = 69; payload = payload }
 
 abbrev pub goes : List ℕ → Datagram
-goes payload = record { dir = Out; local = 40000; remote = 41000; payload = payload }
+goes payload = record { dir = Out; local = 40000; host = server_host; remote = 41000; payload = payload }
 
 abbrev pub comes : List ℕ → Datagram
-comes payload = record { dir = In; local = 40000; remote = 41000; payload = payload }
+comes payload = record { dir = In; local = 40000; host = server_host; remote = 41000; payload = payload }
 
 -- a read in a window of four blocks: block 3 comes late, and block 4 twice
 abbrev pub window_out_of_order : List Datagram
@@ -60,13 +61,13 @@ abbrev pub at_service : Header
 at_service = record { named = Server; service = 69 }
 
 abbrev pub answers : List ℕ → Datagram
-answers payload = record { dir = Out; local = 41000; remote = 40000; payload = payload }
+answers payload = record { dir = Out; local = 41000; host = client_host; remote = 40000; payload = payload }
 
 abbrev pub hears : List ℕ → Datagram
-hears payload = record { dir = In; local = 41000; remote = 40000; payload = payload }
+hears payload = record { dir = In; local = 41000; host = client_host; remote = 40000; payload = payload }
 
 abbrev pub is_asked : List ℕ → Datagram
-is_asked payload = record { dir = In; local = 69; remote = 40000; payload = payload }
+is_asked payload = record { dir = In; local = 69; host = client_host; remote = 40000; payload = payload }
 
 abbrev pub window_at_server : List Datagram
 window_at_server =

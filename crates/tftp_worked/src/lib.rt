@@ -2,5 +2,6 @@
 #![tactic(auto)]
 
 pub mod worked_cases;
+pub mod worked_hosts;
 pub mod worked_rules;
 pub mod worked_verdicts;

@@ -1,4 +1,4 @@
-//! Transfer ids: where a datagram belongs, by its ports (RFC 1350, section 4).
+//! Transfer ids: where a datagram belongs, by its ports and the other host (RFC 1350, section 4).
 
 ghost use Rattle.std.specs.Prelude.{◌≡◌, ◌&&◌, ◌==◌, ◌↔◌, List, IsTrue, MatchOption, option_map};
 ghost use Rattle.tftp_capture.specs.Fields.{datagram_of, header_of};
@@ -7,19 +7,37 @@ ghost use Rattle.tftp_ends.specs.Ports as Ports;
 ghost use Rattle.tftp_judge.specs.Heard.{newest_first};
 ghost use Rattle.tftp_law.specs.PortRules.{rule_of_port};
 
+use std::marker::Model;
 use tftp_capture::{Datagram, Header};
 use tftp_ends::Route;
 use tftp_law::Rule;
-use tftp_packet::{Dir, End, Packet, opcode, read_packet};
+use tftp_packet::{Dir, End, Host, Packet, opcode, read_packet};
 
-/// The port of the other side, by which alone a capture tells it (RFC 1350, section 4).
-type PeerId = u16;
+/// The other side of a datagram: a host, and a port there (RFC 1350, section 4). The same port at two hosts is two.
+#[derive(Clone, Copy, Debug, PartialEq, Eq)]
+struct PeerId {
+    host: Host,
+    port: u16,
+}
+
+impl Model for PeerId {
+    ghost use Rattle.tftp_ends.specs.CaptureText.{PeerId as Parts};
+
+    ghost Value = { Parts };
+
+    ghost view = { λ p. record { host = p.host; port = p.port } };
+
+    ghost inverse = { λ p. record { host = p.host; port = p.port } };
+}
 
 /// The other side of a datagram (RFC 1350, section 4).
 fn peer_of(datagram: &Datagram) -> PeerId
     ensures { result ≡ peer_of (datagram_of datagram.now) }
 {
-    datagram.remote_port
+    PeerId {
+        host: datagram.remote_host,
+        port: datagram.remote_port,
+    }
 }
 
 /// Whether the named end sent a datagram, and so from its own port (RFC 1350, section 4).
@@ -93,7 +111,7 @@ pub fn first_request<'a>(header: &Header, earlier: &'a [Datagram]) -> Option<&'a
     None
 }
 
-/// The first datagram that came in, the oldest first. At a client it fixes the server's port (RFC 1350, section 4).
+/// The first datagram that came in, the oldest first. At a client it fixes the server (RFC 1350, section 4).
 #[tactic(auto, using(crate::proofs::Scans::oldest_is_first))]
 fn first_in(earlier: &[Datagram]) -> Option<&Datagram>
     ensures { option_map (λ d. datagram_of d.now) result ≡ Ports.first_of Ports.comes_in (newest_first earlier.now) }
@@ -178,16 +196,16 @@ fn route_out(other: PeerId, earlier: &[Datagram], datagram: &Datagram) -> Route
     }
 }
 
-/// Where a datagram belongs at a client, by its own port, and by the server's where that is known (RFC 1350,
-/// section 4).
+/// Where a datagram belongs at a client, by its own port, by where it asked first, and by the server where that is
+/// known (RFC 1350, section 4).
 fn route_at_client(
-    header: &Header,
     own: u16,
+    asked: PeerId,
     server: Option<PeerId>,
     earlier: &[Datagram],
     datagram: &Datagram,
 ) -> Route
-    ensures { result ≡ Ports.route_at_client (header_of header.now) own server (newest_first earlier.now)
+    ensures { result ≡ Ports.route_at_client own asked server (newest_first earlier.now)
         (datagram_of datagram.now) }
 {
     if datagram.local_port != own {
@@ -195,7 +213,7 @@ fn route_at_client(
     }
     let is_request = begins_request(datagram);
     match (datagram.dir, server) {
-        (Dir::Out, _) if is_request && datagram.remote_port == header.service => Route::Request,
+        (Dir::Out, _) if is_request && peer_of(datagram) == asked => Route::Request,
         (Dir::Out, _) if is_request => Route::WrongPort,
         (Dir::Out, None) => Route::WrongPort,
         (Dir::Out, Some(other)) => route_out(other, earlier, datagram),
@@ -248,7 +266,7 @@ fn route_at_server(
     }
 }
 
-/// Where a datagram belongs after the first request, and after what fixed the server's port (RFC 1350, section 4).
+/// Where a datagram belongs after the first request, and after what fixed the server's side (RFC 1350, section 4).
 fn route_after(
     header: &Header,
     first: &Datagram,
@@ -260,8 +278,9 @@ fn route_after(
 {
     match header.named {
         End::Client => {
+            let asked = peer_of(first);
             let server = server_of(earlier);
-            route_at_client(header, first.local_port, server, earlier, datagram)
+            route_at_client(first.local_port, asked, server, earlier, datagram)
         }
         End::Server => {
             let client = peer_of(first);

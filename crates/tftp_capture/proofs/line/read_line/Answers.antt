@@ -4,7 +4,7 @@ use Rattle.std.proofs.lemmas.Grind.{common_steps}
 use Rattle.std.proofs.lemmas.List.Elements.{All-append}
 use Rattle.tftp_capture.proofs.Bytes.{end_ahead, taken_step, taken_all, byte_at, no_end_at, line_ended}
 use Rattle.tftp_capture.proofs.line.read_line.Goals as goal
-use Rattle.tftp_capture.proofs.line.read_line.Goals.{then-room-length, else-room-length+then-whole, else-room-length+else-whole, else-room-via-then-room+else-over, else-room-via-else-room}
+use Rattle.tftp_capture.proofs.line.read_line.Goals.{then-room-length, else-room-length+then-whole, else-room-length+else-whole, else-room-longest-via-then-room-longest+else-over, else-room-longest-via-else-room-longest}
 
 pub returns-then-over-clause-ends : goal.returns-then-over-clause-ends
 returns-then-over-clause-ends g c =
@@ -22,33 +22,33 @@ returns-then-over-clause-ends g c =
     let at = byte_at line held count c.args.room c.pieces.invariant.part.no_end (rw c.as_slice-held.ensures.value at c.count_before-count.ensures.none_before) low places.0 places.1 in (
       line ++ held,
       rw (c.consume.ensures.value, c.as_slice-held.ensures.value) (taken_all _ _ _ line held c.pieces.invariant.taken c.fill.ensures.kept),
-      (get_or held (c.args.room - length line) 0, at, c.if-room.true),
+      (get_or held (c.args.room - length line) 0, at, c.if-room-longest.true),
       tt,
     )
 
-pub returns-then-length-gt-LONGEST_LINE-clause-ends : goal.returns-then-length-gt-LONGEST_LINE-clause-ends
-returns-then-length-gt-LONGEST_LINE-clause-ends g c =
+pub returns-then-length-longest-clause-ends : goal.returns-then-length-longest-clause-ends
+returns-then-length-longest-clause-ends g c =
     let held = c.fill.new.self in
     let line = c.pieces.line.items in
     let count = c.count_before-count.result in
     let no_end = rw c.as_slice-held.ensures.value at c.count_before-count.ensures.none_before in
     let all : length c.as_slice-held.result.now ≡ length held = ap length c.as_slice-held.ensures.value in
-    let low : length line ≤ 131070 = c.pieces.invariant.part.narrow in
-    let high : 131070 < length line + count = omega arith in
-    let within : 131070 < length line + length held = omega arith in (
+    let low : length line ≤ c.args.longest = c.pieces.invariant.part.narrow in
+    let high : c.args.longest < length line + count = omega arith in
+    let within : c.args.longest < length line + length held = omega arith in (
       line ++ held,
-      rw (c.consume-then-length-gt-LONGEST_LINE.ensures.value, c.as_slice-held.ensures.value) (taken_all _ _ _ line held c.pieces.invariant.taken c.fill.ensures.kept),
+      rw (c.consume-then-length-longest.ensures.value, c.as_slice-held.ensures.value) (taken_all _ _ _ line held c.pieces.invariant.taken c.fill.ensures.kept),
       (
-        get_or held (131070 - length line) 0,
-        byte_at line held count 131070 c.pieces.invariant.part.no_end no_end low (omega arith) within,
-        no_end_at held count (131070 - length line) no_end (omega arith) (omega arith),
-        elim c.else-room.branch [
-          | else-room-via-then-room+else-over w ↦ elim c.if-room-length.branch [
+        get_or held (c.args.longest - length line) 0,
+        byte_at line held count c.args.longest c.pieces.invariant.part.no_end no_end low (omega arith) within,
+        no_end_at held count (c.args.longest - length line) no_end (omega arith) (omega arith),
+        elim c.else-room-longest.branch [
+          | else-room-longest-via-then-room-longest+else-over w ↦ elim c.if-room-length.branch [
             | then-room-length v ↦ grind (arith, nat_tests)
             | else-room-length+then-whole v ↦ grind (arith, nat_tests)
             | else-room-length+else-whole v ↦ grind (arith, nat_tests)
           ]
-          | else-room-via-else-room w ↦ omega arith
+          | else-room-longest-via-else-room-longest w ↦ omega arith
         ],
       ),
       tt,
@@ -66,13 +66,13 @@ returns-then-whole-2-clause-ends g c =
     let size : length c.extend_from_slice.new.self.items ≡ length line + count =
     ap length grew ∙ length-append line (take count held) ∙ ap (λ n. length line + n) (length-take-le count held (omega arith)) in
     let fits : length line + count < c.args.room =
-    elim c.else-room.branch [
-      | else-room-via-then-room+else-over w ↦ elim c.if-room-length.branch [
+    elim c.else-room-longest.branch [
+      | else-room-longest-via-then-room-longest+else-over w ↦ elim c.if-room-length.branch [
         | then-room-length v ↦ grind (arith, nat_tests)
         | else-room-length+then-whole v ↦ grind (arith, nat_tests)
         | else-room-length+else-whole v ↦ grind (arith, nat_tests)
       ]
-      | else-room-via-else-room w ↦ omega arith
+      | else-room-longest-via-else-room-longest w ↦ omega arith
     ] in (
       line ++ take (count + 1) held,
       rw c.consume-then-whole-2.ensures.value (taken_step _ _ _ line held (count + 1) c.pieces.invariant.taken c.fill.ensures.kept),
@@ -99,13 +99,13 @@ returns-then-is_err-2-clause-ends g c =
     let here : count < length held → get_or held count 0 ≡ 10 = rw c.as_slice-held.ensures.value at c.count_before-count.ensures.here in
     let size : length (line ++ take count held) ≡ length line + count = length-append line (take count held) ∙ ap (λ n. length line + n) (length-take-le count held upto) in
     let fits : (length line + count ≤ c.args.room) × (count < length held → length line + count < c.args.room) =
-    elim c.else-room.branch [
-      | else-room-via-then-room+else-over w ↦ elim c.if-room-length.branch [
+    elim c.else-room-longest.branch [
+      | else-room-longest-via-then-room-longest+else-over w ↦ elim c.if-room-length.branch [
         | then-room-length v ↦ (grind (arith, nat_tests), λ h. grind (arith, nat_tests))
         | else-room-length+then-whole v ↦ (grind (arith, nat_tests), λ h. grind (arith, nat_tests))
         | else-room-length+else-whole v ↦ (grind (arith, nat_tests), λ h. grind (arith, nat_tests))
       ]
-      | else-room-via-else-room w ↦ (omega arith, λ h. omega arith)
+      | else-room-longest-via-else-room-longest w ↦ (omega arith, λ h. omega arith)
     ] in (
       line ++ take count held,
       rw c.consume-then-is_err-2.ensures.value (taken_step _ _ _ line held count c.pieces.invariant.taken c.fill.ensures.kept),

@@ -6,9 +6,9 @@ use Rattle.tftp_capture.proofs.line.read_line.Given as goal
 abbrev pub invariant-pieces : goal.invariant-pieces
 invariant-pieces g l = record {
   tally : l.reader.1 ≡ l.fn.reader.1;
-  part : IsPartOfLine l.line.items l.room;
+  part : IsPartOfLine l.line.items l.longest l.room;
   taken : Consumes (prepend_known l.fn.ahead (g.R.Read.remaining l.fn.reader.0)) (prepend_known l.ahead (g.R.Read.remaining l.reader.0)) l.line.items;
 }
 
 abbrev pub decreases-pieces : goal.decreases-pieces
-decreases-pieces g l = 131070 - vec_len l.line
+decreases-pieces g l = l.longest - vec_len l.line

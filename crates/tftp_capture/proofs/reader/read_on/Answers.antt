@@ -1,3 +1,5 @@
+use Rattle.std.proofs.Common.{Err, subst}
+use Rattle.tftp_capture.specs.Fields.{BodyEnds}
 use Rattle.tftp_capture.proofs.Histories.{stop_answers, datagram_answers, capture_answers, end_answers, content_answers}
 use Rattle.tftp_capture.proofs.reader.read_on.Goals as goal
 
@@ -7,7 +9,7 @@ returns-in-Err-clause-answers g c = λ header text datagrams goes.
 
 pub returns-in-Ok-Some-clause-answers : goal.returns-in-Ok-Some-clause-answers
 returns-in-Ok-Some-clause-answers g c = λ header text datagrams goes.
-    let says = rw (c.in-Ok-Some.field-0-is, c.line.ensures.value) at c.in-Ok-Some.ensures in
+    let says = rw (c.in-Ok-Some.field-0-is, c.line.ensures.value, c.version.ensures) at c.in-Ok-Some.ensures in
     datagram_answers header c.args.lines.now c.next_said.new.self c.args.count text datagrams _ _ goes c.in_default.ensures.reaches c.in-Ok-Some.datagram says
 
 pub returns-in-Ok-clause-answers : goal.returns-in-Ok-clause-answers
@@ -23,6 +25,7 @@ returns-in-Err-finish-clause-answers g c = λ header text datagrams goes.
 
 pub returns-in-Err-body_line-clause-answers : goal.returns-in-Err-body_line-clause-answers
 returns-in-Err-body_line-clause-answers g c = λ header text datagrams goes.
-    let ends = rw c.line.ensures.value at c.in-Err-body_line.ensures in
+    let said : BodyEnds c.version.result (Err c.in-Err-body_line.stop) c.line.result.now c.args.count = c.in-Err-body_line.ensures in
+    let ends = subst (λ v. BodyEnds v (Err c.in-Err-body_line.stop) c.next_said.new.self.line c.args.count) c.version.ensures (rw c.line.ensures.value at said) in
     rw (c.at-in-Err-body_line.ensures, c.count-line.ensures.value)
     (content_answers header c.args.lines.now c.next_said.new.self c.args.count text datagrams _ _ goes c.in_default.ensures.reaches c.in-Err-body_line.stop ends)

@@ -8,5 +8,5 @@ lines-preserved g c =
     let nothing : says_nothing c.next.new.self.line ≡ true = search rules in
     record {
       tally = search rules;
-      skips = skipped_more _ c.lines.self c.next.new.self _ _ _ _ c.in_ok-next.ensures.ends.0 c.lines.invariant.skips c.in_ok-next.ensures.ends.1 c.in_ok-next.ensures.ends.2 nothing c.in_ok-next.ensures.taken c.in_ok-next.ensures.count;
+      skips = skipped_more _ c.lines.self c.next.new.self _ _ _ _ c.in_ok-next.ensures.ends.0 c.lines.invariant.skips c.in_ok-next.ensures.ends.1 c.in_ok-next.ensures.ends.2 nothing c.in_ok-next.ensures.taken c.in_ok-next.ensures.count c.in_ok-next.ensures.version;
     }
