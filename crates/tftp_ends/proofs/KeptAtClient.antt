@@ -5,7 +5,7 @@ use Rattle.std.proofs.lemmas.Bool.{false≢true}
 use Rattle.tftp_packet.specs.declared.kinds.End.TheVariants.{Client}
 use Rattle.tftp_ends.specs.CaptureText.{Datagram, Header, PeerId, peer_of}
 use Rattle.tftp_ends.specs.Ports.{same_peer, goes_out, comes_in, asks, first_of, or_this, route_of}
-use Rattle.tftp_ends.specs.KnownIds.{KnownIds, StandsFor, NotesStrays, is_noted, is_the, other_end, sides_of}
+use Rattle.tftp_ends.specs.KnownIds.{KnownIds, StandsFor, NotesStrays, is_noted, is_other, other_end, sides_of}
 use Rattle.tftp_ends.specs.declared.route.Route.{Route}
 use Rattle.tftp_ends.specs.declared.route.Route.TheVariants.{Request, Peer, Stray, StrayAnswer}
 use Rattle.tftp_ends.proofs.NotedPeers.{noted_first}
@@ -70,8 +70,8 @@ module _ (service : ℕ) (known : KnownIds) (earlier : List Datagram) (stands : 
       (rw (unknown, back) refl)
       (noted_first known.strays earlier d back unknown notes)
 
-  pub stray_apart : Stray ≡ route_of (at service) earlier d → is_the (peer_of d) (other_end Client known.asked known.answered) ≡ false
+  pub stray_apart : Stray ≡ route_of (at service) earlier d → is_other (peer_of d) (other_end Client known.asked known.answered) ≡ false
   stray_apart is = by (first_of comes_in earlier) refl (routed Stray is) where
-    by : (o : Option Datagram) → first_of comes_in earlier ≡ o → AtClient Stray (goes_out d) (option_map peer_of o) d → is_the (peer_of d) (other_end Client known.asked known.answered) ≡ false
+    by : (o : Option Datagram) → first_of comes_in earlier ≡ o → AtClient Stray (goes_out d) (option_map peer_of o) d → is_other (peer_of d) (other_end Client known.asked known.answered) ≡ false
     by None e told = absurd told
-    by (Some t) e told = ap (is_the (peer_of d)) (known_server t e) ∙ told.1
+    by (Some t) e told = ap (is_other (peer_of d)) (known_server t e) ∙ told.1

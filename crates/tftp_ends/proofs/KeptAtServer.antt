@@ -5,7 +5,7 @@ use Rattle.std.proofs.lemmas.Bool.{false≢true}
 use Rattle.tftp_packet.specs.declared.kinds.End.TheVariants.{Server}
 use Rattle.tftp_ends.specs.CaptureText.{Datagram, Header, PeerId, peer_of}
 use Rattle.tftp_ends.specs.Ports.{same_peer, goes_out, asks, first_of, or_this, route_of}
-use Rattle.tftp_ends.specs.KnownIds.{KnownIds, StandsFor, answers, is_noted, is_the, other_end, sides_of}
+use Rattle.tftp_ends.specs.KnownIds.{KnownIds, StandsFor, answers, is_noted, is_other, other_end, sides_of}
 use Rattle.tftp_ends.specs.declared.route.Route.{Route}
 use Rattle.tftp_ends.specs.declared.route.Route.TheVariants.{Request, Peer, Stray, StrayAnswer}
 use Rattle.tftp_ends.proofs.NotedPeers.{noted_out}
@@ -77,5 +77,5 @@ module _ (service : ℕ) (known : KnownIds) (earlier : List Datagram) (stands : 
       (rw (unknown, out, there) refl)
       (noted_out known.strays earlier d (other_end Server known.asked (Some (sides_of d))) out stands.strays)
 
-  pub stray_apart : Stray ≡ route_of (at service) earlier d → is_the (peer_of d) (other_end Server known.asked known.answered) ≡ false
-  stray_apart is = let told = routed Stray is in ap (is_the (peer_of d)) client_known ∙ told.1
+  pub stray_apart : Stray ≡ route_of (at service) earlier d → is_other (peer_of d) (other_end Server known.asked known.answered) ≡ false
+  stray_apart is = let told = routed Stray is in ap (is_other (peer_of d)) client_known ∙ told.1

@@ -7,7 +7,7 @@ use Rattle.tftp_packet.specs.declared.kinds.End.{End}
 use Rattle.tftp_packet.specs.declared.kinds.End.TheVariants.{Client, Server}
 use Rattle.tftp_ends.specs.CaptureText.{Datagram, Header, PeerId, peer_of}
 use Rattle.tftp_ends.specs.Ports.{same_peer, goes_out, comes_in, asks, begins_request, first_of, has_come_from, is_from_client, port_of_server, route_before, route_at_client, route_at_server, route_of}
-use Rattle.tftp_ends.specs.KnownIds.{KnownIds, StandsFor, NotesStrays, HasNumbers, HasNoRequest, answers, answer_of, is_noted, is_the, other_end, sides_of}
+use Rattle.tftp_ends.specs.KnownIds.{KnownIds, StandsFor, NotesStrays, HasNumbers, HasNoRequest, answers, answer_of, is_noted, is_other, other_end, sides_of}
 use Rattle.tftp_ends.specs.declared.route.Route.{Route}
 use Rattle.tftp_ends.specs.declared.route.Route.TheVariants.{Request, Peer, Stray, StrayAnswer, WrongPort, ForeignPort, NoStrayAnswer}
 use Rattle.tftp_ends.specs.declared.ports.PortFault.{PortFault}
@@ -127,7 +127,7 @@ module _ (known : KnownIds) (earlier : List Datagram) (d : Datagram) where
   answer_by Server service stands first some is out none = server.answer_stands service known earlier stands d first some is (is_true (goes_out d) out) none
 
   apart_by : (named : End) (service : ℕ) → StandsFor known (at named service) earlier → (first : Datagram) → first_of (asks (at named service)) earlier ≡ Some first
-      → Stray ≡ route_of (at named service) earlier d → is_the (peer_of d) (other_end named known.asked known.answered) ≡ false
+      → Stray ≡ route_of (at named service) earlier d → is_other (peer_of d) (other_end named known.asked known.answered) ≡ false
   apart_by Client service stands first some is = client.stray_apart service known earlier stands d first some is
   apart_by Server service stands first some is = server.stray_apart service known earlier stands d first some is
 

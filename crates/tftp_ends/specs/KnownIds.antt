@@ -24,12 +24,9 @@ peer_cmp = then_cmp (on (λ p. p.port) nat_cmp) (on (λ p. p.host) (slice_cmp na
 abbrev pub is_noted : PeerId → List PeerId → Bool
 is_noted peer strays = list_any (same_peer peer) strays
 
--- the two sides of a datagram, and what begins its payload
+-- the two sides of a datagram: a port at the named end, and the other side
 abbrev pub sides_of : Datagram → Sides
 sides_of d = record { local = d.local; peer = peer_of d }
-
-abbrev pub seen_of : Datagram → Seen
-seen_of d = record { dir = d.dir; sides = sides_of d; opcode = opcode_of d.payload }
 
 -- the datagram with these numbers and this payload
 abbrev pub datagram_as : Seen → List ℕ → Datagram
@@ -43,9 +40,9 @@ pub record KnownIds : Type 0 where
   pub answered : Option Sides
   pub strays : List PeerId
 
-abbrev pub is_the : PeerId → Option PeerId → Bool
-is_the peer None = false
-is_the peer (Some other) = same_peer peer other
+abbrev pub is_other : PeerId → Option PeerId → Bool
+is_other peer None = false
+is_other peer (Some other) = same_peer peer other
 
 -- The other end of the transfer, once it is known: the client is who asked, the server is who first answered.
 abbrev pub other_end : End → Option Sides → Option Sides → Option PeerId
@@ -64,7 +61,7 @@ first_answer named earlier (Some first) = first_of (answers named first) earlier
 
 -- a peer is noted exactly if something has come in from there, and it is not the other end
 abbrev pub NotesStrays : List PeerId → Option PeerId → List Datagram → Type 0
-NotesStrays strays other earlier = (peer : PeerId) → is_noted peer strays ≡ (has_come_from peer earlier && not (is_the peer other))
+NotesStrays strays other earlier = (peer : PeerId) → is_noted peer strays ≡ (has_come_from peer earlier && not (is_other peer other))
 
 -- These ids and strays are those of the datagrams that have passed. None has passed before the first request, since
 -- till then only a request may.

@@ -151,9 +151,8 @@ impl Ports {
         ensures passes { (h : Header) (earlier : List Datagram) (d : Datagram) → StandsFor self.old h earlier
             → HasNumbers d dir local host remote opcode
             → IfOk result (λ route. (HasNoRequest h earlier route → ⊥) → StandsFor self.new h (d ∷ earlier)) }
-        ensures waits { (h : Header) (earlier : List Datagram) (d : Datagram) → StandsFor self.old h earlier
-            → HasNumbers d dir local host remote opcode
-            → IfOk result (λ route. HasNoRequest h earlier route → self.new ≡ self.old) }
+        ensures waits { self.old.asked ≡ None → result ≡ Ok Route.Peer → self.new ≡ self.old }
+        ensures passing { IfOk result (λ route. answer_of route ≡ Ok route) }
         ensures err { OnErr result (self.new ≡ self.old) }
     {
         let peer = Peer { host, port: remote };
@@ -170,7 +169,8 @@ impl Ports {
         ensures stands { (h : Header) (earlier : List Datagram) (payload : List ℕ) → StandsFor self.old h earlier
             → route ≡ definitions.route_of h earlier (datagram_as seen.now payload)
             → IfOk result (λ _. (HasNoRequest h earlier route → ⊥) → StandsFor self.new h (datagram_as seen.now payload ∷ earlier)) }
-        ensures waits { IfOk result (λ _. self.old.asked ≡ None → route ≡ Route.Peer → self.new ≡ self.old) }
+        ensures waits { self.old.asked ≡ None → result ≡ Ok Route.Peer → self.new ≡ self.old }
+        ensures passing { IfOk result (λ passed. answer_of passed ≡ Ok passed) }
         ensures err { OnErr result (self.new ≡ self.old) }
     {
         match route {
