@@ -1,11 +1,15 @@
 //! Does one work of the libraries alone with what standard input has, so that it can be measured.
 #![tactic(auto)]
 
+mod ends;
+
+use ends::{Order, count_strays, deliver};
 use memchr::{memchr, memrchr};
 use std::alloc::Global;
 use std::io::{ErrorKind, Read, Write};
 use std::{env, io};
 use tftp_capture::{CaptureReader, Tallied};
+use tftp_ends::{MapDelivered, RingDelivered};
 use tftp_netascii::{Decoder, encode};
 
 /// The most bytes that are read at once.
@@ -19,8 +23,14 @@ enum Way {
     Copy,
 }
 
-/// The first word says which work it is: `netascii-decode`, `netascii-encode`, `copy`, `capture` or
-/// `hex`.
+/// How many bytes a block has where many are put into a store in order.
+const LARGE: u16 = 1542;
+
+/// The fewest bytes that a block has (RFC 2348).
+const SMALL: u16 = 8;
+
+/// The first word says which work it is: `netascii-decode`, `netascii-encode`, `copy`, `capture`, `hex`, one of the
+/// stores with `-large`, `-small` or `-reversed`, or `strays`.
 fn main(rt: HostRuntime) -> io::Result<()> {
     let alloc = rt.alloc();
     let words = env::args(&rt)?.collect::<Vec<String>>(alloc)?;
@@ -42,6 +52,26 @@ fn main(rt: HostRuntime) -> io::Result<()> {
             let count = decode_digits(alloc, &mut reader)?;
             println!(rt; "{count} fields of digits")
         }
+        "strays" => {
+            let count = count_strays(alloc, &mut reader)?;
+            println!(rt; "{count} datagrams of strays")
+        }
+        _ => {
+            let count = deliver_as(alloc, &mut reader, word)?;
+            println!(rt; "{count} bytes of blocks")
+        }
+    }
+}
+
+/// Puts the input's blocks into stores: the word says which store, of which blocks and in which order.
+fn deliver_as<R: Read>(alloc: Global, reader: &mut R, word: &str) -> io::Result<usize> {
+    match word {
+        "map-large" => deliver::<MapDelivered, R>(alloc, reader, LARGE, Order::Forward),
+        "map-small" => deliver::<MapDelivered, R>(alloc, reader, SMALL, Order::Forward),
+        "map-reversed" => deliver::<MapDelivered, R>(alloc, reader, SMALL, Order::Backward),
+        "ring-large" => deliver::<RingDelivered, R>(alloc, reader, LARGE, Order::Forward),
+        "ring-small" => deliver::<RingDelivered, R>(alloc, reader, SMALL, Order::Forward),
+        "ring-reversed" => deliver::<RingDelivered, R>(alloc, reader, SMALL, Order::Backward),
         _ => Err(io::Error::from(ErrorKind::InvalidInput)),
     }
 }
