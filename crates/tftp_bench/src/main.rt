@@ -2,8 +2,10 @@
 #![tactic(auto)]
 
 mod stores;
+mod strays;
 
 use crate::stores::{Order, fill_stores};
+use crate::strays::count_strays;
 use memchr::{memchr, memrchr};
 use std::alloc::Global;
 use std::io::{ErrorKind, Read, Write};
@@ -28,8 +30,8 @@ enum Way {
     Copy,
 }
 
-/// The first word says which work it is: `netascii-decode`, `netascii-encode`, `copy`, `capture`, `hex`, or a store and
-/// how it is filled, `map-large`, `map-small`, `map-reversed`, `ring-large`, `ring-small` or `ring-reversed`.
+/// The first word says which work it is: `netascii-decode`, `netascii-encode`, `copy`, `capture`, `hex`, `strays`, or a
+/// store and how it is filled, `map-large`, `map-small`, `map-reversed`, `ring-large`, `ring-small` or `ring-reversed`.
 fn main(rt: HostRuntime) -> io::Result<()> {
     let alloc = rt.alloc();
     let words = env::args(&rt)?.collect::<Vec<String>>(alloc)?;
@@ -50,6 +52,10 @@ fn main(rt: HostRuntime) -> io::Result<()> {
         "hex" => {
             let count = decode_digits(alloc, &mut reader)?;
             println!(rt; "{count} fields of digits")
+        }
+        "strays" => {
+            let count = count_strays(alloc, &mut reader)?;
+            println!(rt; "{count} datagrams of strays")
         }
         _ => {
             let count = fill_named(alloc, &mut reader, word)?;

@@ -64,7 +64,7 @@ fn put<D: Delivered>(alloc: Global, store: &mut D, number: u16, bytes: &[u8]) ->
 }
 
 /// Reads until the room is full or the input is at its end, and says how many bytes were read.
-fn fill<R: Read>(reader: &mut R, room: &mut [u8]) -> io::Result<usize>
+pub fn fill<R: Read>(reader: &mut R, room: &mut [u8]) -> io::Result<usize>
     ensures { IfOk result (λ count. count ≤ length room.new) }
 {
     let mut len = 0;

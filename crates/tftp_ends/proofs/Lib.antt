@@ -33,3 +33,9 @@ pub mod SenderRules
 pub mod ReceiverRules
 pub mod AllDone
 pub mod BeforeReply
+pub mod NotedPeers
+pub mod KeptIds
+pub mod RouteSides
+pub mod KeptAtClient
+pub mod KeptAtServer
+pub mod KeptSteps

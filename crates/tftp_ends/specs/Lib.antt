@@ -6,6 +6,7 @@ pub mod Machines
 pub mod Runs
 pub mod OneSide
 pub mod Ports
+pub mod KnownIds
 pub mod Rules
 pub mod Store
 pub mod Placed

@@ -13,6 +13,8 @@ mod netascii;
 #[cfg(test)]
 mod packets;
 #[cfg(test)]
+mod ports;
+#[cfg(test)]
 mod states;
 #[cfg(test)]
 mod stores;

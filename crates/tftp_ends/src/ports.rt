@@ -1,0 +1,302 @@
+ghost use Rattle.std.specs.Prelude.{◌≡◌, ◌≢◌, ◌&&◌, not, ℕ, false, List, [], ◌∷◌, Some, None, is_some, option_map, Ok, Err, IfOk, OnOk, OnErr};
+ghost use Rattle.tftp_packet.specs.Faults.{opcode_of};
+ghost use Rattle.tftp_ends.specs.CaptureText.{Datagram, Header};
+ghost use Rattle.tftp_ends.specs.Ports as definitions;
+ghost use Rattle.tftp_ends.specs.KnownIds.{
+  StandsFor,
+  NotesStrays,
+  HasNumbers,
+  HasNoRequest,
+  IsNewStray,
+  answer_of,
+  datagram_as,
+  is_noted,
+};
+
+use crate::route::Route;
+use crate::strays::{Peer, Strays};
+use std::alloc::{AllocError, Global};
+use std::convert::From;
+use std::marker::Model;
+use tftp_packet::{Dir, End, Host};
+
+/// Why a datagram is none of the transfer, nor a stray.
+#[derive(Clone, Copy, Debug, PartialEq, Eq)]
+pub enum PortFault {
+    /// The port at the named end is not the transfer's (RFC 1350, section 4).
+    ForeignPort,
+    /// The other side is none that it may go to (RFC 1350, section 4).
+    WrongPort,
+    /// Something else than an ERROR to where a stray came from (RFC 1350, section 4).
+    StrayAnswer,
+    /// No memory to note where a stray came from.
+    Memory,
+}
+
+impl From<AllocError> for PortFault {
+    ghost use Rattle.tftp_ends.specs.declared.ports.PortFault.{PortFault};
+
+    ghost from_gives = { λ _ fault. fault ≡ PortFault.Memory };
+
+    fn from(_error: AllocError) -> Self {
+        PortFault::Memory
+    }
+}
+
+/// The two sides of a datagram: a port at the named end, and the other side.
+#[derive(Clone, Copy)]
+struct Sides {
+    local: u16,
+    peer: Peer,
+}
+
+/// A datagram, as far as its route goes.
+#[derive(Clone, Copy)]
+struct Seen {
+    dir: Dir,
+    sides: Sides,
+    opcode: u16,
+}
+
+impl Seen {
+    fn begins_request(&self) -> bool
+        ensures { (payload : List ℕ) → opcode_of payload ≡ self.now.opcode
+            → result ≡ definitions.begins_request (datagram_as self.now payload) }
+    {
+        matches!(self.opcode, 1 | 2)
+    }
+
+    fn begins_error(&self) -> bool
+        ensures { (payload : List ℕ) → opcode_of payload ≡ self.now.opcode
+            → result ≡ definitions.begins_error (datagram_as self.now payload) }
+    {
+        self.opcode == 5
+    }
+
+    fn is_from_client(&self, named: End) -> bool
+        ensures { (payload : List ℕ) → result ≡ definitions.is_from_client named (datagram_as self.now payload) }
+    {
+        matches!(
+            (named, self.dir),
+            (End::Client, Dir::Out) | (End::Server, Dir::In)
+        )
+    }
+
+    fn port_of_server(&self, named: End) -> u16
+        ensures { (payload : List ℕ) → result ≡ definitions.port_of_server named (datagram_as self.now payload) }
+    {
+        match named {
+            End::Client => self.sides.peer.port,
+            End::Server => self.sides.local,
+        }
+    }
+}
+
+/// Which datagrams belong to a transfer, by their ports and the other host (RFC 1350, section 4). Kept are the ids that
+/// the datagrams before fixed, and where strays came from.
+#[derive(Drop)]
+pub struct Ports {
+    named: End,
+    service: u16,
+    /// Of the first request.
+    asked: Option<Sides>,
+    /// Of the first datagram from the server's side.
+    answered: Option<Sides>,
+    strays: Strays,
+}
+
+impl Model for Ports {
+    ghost use Rattle.tftp_ends.specs.KnownIds.{KnownIds};
+
+    ghost Value = { KnownIds };
+
+    ghost view = { λ p. record {
+      header = record { named = p.named; service = p.service };
+      asked = p.asked;
+      answered = p.answered;
+      strays = p.strays;
+    } };
+}
+
+impl Ports {
+    /// The ports of a transfer that nothing has passed of. Takes no memory.
+    pub fn new(alloc: Global, end: End, service: u16) -> Self
+        ensures { StandsFor result (record { named = end; service = service }) [] }
+    {
+        Ports {
+            named: end,
+            service,
+            asked: None,
+            answered: None,
+            strays: Strays::new(alloc),
+        }
+    }
+
+    /// Where a datagram belongs after those that have passed, or why it is none of them. `opcode` is that of its
+    /// payload, whose rest is not looked at. Takes memory for a stray from where none has come alone.
+    pub fn class(
+        &mut self,
+        dir: Dir,
+        local: u16,
+        host: Host,
+        remote: u16,
+        opcode: u16,
+    ) -> Result<Route, PortFault>
+        ensures answer { (h : Header) (earlier : List Datagram) (d : Datagram) → StandsFor self.old h earlier
+            → HasNumbers d dir local host remote opcode
+            → result ≢ Err PortFault.Memory → result ≡ answer_of (definitions.route_of h earlier d) }
+        ensures memory { (h : Header) (earlier : List Datagram) (d : Datagram) → StandsFor self.old h earlier
+            → HasNumbers d dir local host remote opcode
+            → result ≡ Err PortFault.Memory → IsNewStray h earlier d }
+        ensures passes { (h : Header) (earlier : List Datagram) (d : Datagram) → StandsFor self.old h earlier
+            → HasNumbers d dir local host remote opcode
+            → IfOk result (λ route. (HasNoRequest h earlier route → ⊥) → StandsFor self.new h (d ∷ earlier)) }
+        ensures waits { self.old.asked ≡ None → result ≡ Ok Route.Peer → self.new ≡ self.old }
+        ensures passing { IfOk result (λ route. answer_of route ≡ Ok route) }
+        ensures err { OnErr result (self.new ≡ self.old) }
+    {
+        let peer = Peer { host, port: remote };
+        let sides = Sides { local, peer };
+        let seen = Seen { dir, sides, opcode };
+        let route = self.route(&seen);
+        self.keep(&seen, route)
+    }
+
+    /// Keeps what a datagram of this route fixes, or where it came from, unless the route is a fault.
+    fn keep(&mut self, seen: &Seen, route: Route) -> Result<Route, PortFault>
+        ensures answer { result ≢ Err PortFault.Memory → result ≡ answer_of route }
+        ensures absent { result ≡ Err PortFault.Memory → (route ≡ Route.Stray) × (is_noted seen.now.sides.peer self.old.strays ≡ false) }
+        ensures stands { (h : Header) (earlier : List Datagram) (payload : List ℕ) → StandsFor self.old h earlier
+            → route ≡ definitions.route_of h earlier (datagram_as seen.now payload)
+            → IfOk result (λ _. (HasNoRequest h earlier route → ⊥) → StandsFor self.new h (datagram_as seen.now payload ∷ earlier)) }
+        ensures waits { self.old.asked ≡ None → result ≡ Ok Route.Peer → self.new ≡ self.old }
+        ensures passing { IfOk result (λ passed. answer_of passed ≡ Ok passed) }
+        ensures err { OnErr result (self.new ≡ self.old) }
+    {
+        match route {
+            Route::Request if self.asked.is_none() => self.asked = Some(seen.sides),
+            Route::Peer if self.is_first_answer(seen) => self.answered = Some(seen.sides),
+            Route::Request | Route::Peer => {}
+            Route::Stray => self.strays.note(seen.sides.peer)?,
+            Route::StrayAnswer => {}
+            Route::ForeignPort => return Err(PortFault::ForeignPort),
+            Route::WrongPort => return Err(PortFault::WrongPort),
+            Route::NoStrayAnswer => return Err(PortFault::StrayAnswer),
+        }
+        Ok(route)
+    }
+
+    /// Whether a datagram that goes this way is the first from the server's side, after a first request.
+    fn is_first_answer(&self, seen: &Seen) -> bool
+        ensures { (payload : List ℕ) → result ≡ (is_some self.now.asked && not (is_some self.now.answered)
+            && not (definitions.is_from_client self.now.header.named (datagram_as seen.now payload))) }
+    {
+        self.asked.is_some() && self.answered.is_none() && !seen.is_from_client(self.named)
+    }
+
+    /// Where a datagram belongs.
+    fn route(&self, seen: &Seen) -> Route
+        ensures { (h : Header) (earlier : List Datagram) (payload : List ℕ) → StandsFor self.now h earlier
+            → opcode_of payload ≡ seen.now.opcode
+            → result ≡ definitions.route_of h earlier (datagram_as seen.now payload) }
+    {
+        match &self.asked {
+            None => self.route_before(seen),
+            Some(first) => match self.named {
+                End::Client => self.route_at_client(first, seen),
+                End::Server => self.route_at_server(first, seen),
+            },
+        }
+    }
+
+    /// Where it belongs before the first request.
+    fn route_before(&self, seen: &Seen) -> Route
+        ensures { (payload : List ℕ) → opcode_of payload ≡ seen.now.opcode
+            → result ≡ definitions.route_before self.now.header (datagram_as seen.now payload) }
+    {
+        if !seen.is_from_client(self.named) || !seen.begins_request() {
+            Route::Peer
+        } else if seen.port_of_server(self.named) == self.service {
+            Route::Request
+        } else {
+            Route::WrongPort
+        }
+    }
+
+    /// Where it belongs at a client, after its first request.
+    fn route_at_client(&self, first: &Sides, seen: &Seen) -> Route
+        ensures { (earlier : List Datagram) (payload : List ℕ) → opcode_of payload ≡ seen.now.opcode
+            → NotesStrays self.now.strays (option_map (λ s. s.peer) self.now.answered) earlier
+            → result ≡ definitions.route_at_client first.now.local first.now.peer (option_map (λ s. s.peer) self.now.answered) earlier
+            (datagram_as seen.now payload) }
+    {
+        if seen.sides.local != first.local {
+            return Route::ForeignPort;
+        }
+        let is_request = seen.begins_request();
+        match (seen.dir, &self.answered) {
+            (Dir::Out, _) if is_request && seen.sides.peer == first.peer => Route::Request,
+            (Dir::Out, _) if is_request => Route::WrongPort,
+            (Dir::Out, None) => Route::WrongPort,
+            (Dir::Out, Some(answer)) => self.route_out(answer.peer, seen),
+            (Dir::In, Some(answer)) if seen.sides.peer != answer.peer => Route::Stray,
+            (Dir::In, _) => Route::Peer,
+        }
+    }
+
+    /// Where it belongs at a server, after its client's first request.
+    fn route_at_server(&self, first: &Sides, seen: &Seen) -> Route
+        ensures { (earlier : List Datagram) (payload : List ℕ) → opcode_of payload ≡ seen.now.opcode
+            → NotesStrays self.now.strays (Some first.now.peer) earlier
+            → result ≡ definitions.route_at_server self.now.header first.now.peer (option_map (λ s. s.local) self.now.answered) earlier
+            (datagram_as seen.now payload) }
+    {
+        let client = first.peer;
+        let is_request = seen.begins_request();
+        let is_to_service = is_request && seen.sides.local == self.service;
+        match (&self.answered, seen.dir) {
+            (None, Dir::Out) if seen.sides.peer == client => Route::Peer,
+            (None, Dir::Out) => Route::WrongPort,
+            (None, Dir::In) => self.route_to_service(client, seen),
+            (Some(own), Dir::Out) if seen.sides.local != own.local => Route::ForeignPort,
+            (Some(_), Dir::Out) => self.route_out(client, seen),
+            (Some(own), Dir::In) if seen.sides.local != own.local || is_to_service => {
+                self.route_to_service(client, seen)
+            }
+            (Some(_), Dir::In) if seen.sides.peer != client => Route::Stray,
+            (Some(_), Dir::In) if is_request => Route::WrongPort,
+            (Some(_), Dir::In) => Route::Peer,
+        }
+    }
+
+    /// What comes in at the service port of a server that has not answered, or answers from another port.
+    fn route_to_service(&self, client: Peer, seen: &Seen) -> Route
+        ensures { (payload : List ℕ) → opcode_of payload ≡ seen.now.opcode
+            → result ≡ definitions.route_to_service self.now.header client (datagram_as seen.now payload) }
+    {
+        if seen.sides.local != self.service || seen.sides.peer != client {
+            Route::ForeignPort
+        } else if seen.begins_request() {
+            Route::Request
+        } else {
+            Route::WrongPort
+        }
+    }
+
+    /// What goes out from the end's own port: to the other end, or in answer to a stray.
+    fn route_out(&self, other: Peer, seen: &Seen) -> Route
+        ensures { (earlier : List Datagram) (payload : List ℕ) → opcode_of payload ≡ seen.now.opcode
+            → NotesStrays self.now.strays (Some other) earlier
+            → result ≡ definitions.route_out other earlier (datagram_as seen.now payload) }
+    {
+        if seen.sides.peer == other {
+            Route::Peer
+        } else if !self.strays.have(seen.sides.peer) {
+            Route::WrongPort
+        } else if seen.begins_error() {
+            Route::StrayAnswer
+        } else {
+            Route::NoStrayAnswer
+        }
+    }
+}

@@ -1,0 +1,129 @@
+ghost use Rattle.std.specs.Prelude.{◌≡◌, ◌||◌, [], false, OnOk, OnErr};
+ghost use Rattle.tftp_ends.specs.CaptureText.{PeerId};
+ghost use Rattle.tftp_ends.specs.Ports.{same_peer};
+ghost use Rattle.tftp_ends.specs.KnownIds.{is_noted};
+
+use std::alloc::{AllocError, Global};
+use std::cmp::Ordering;
+use std::collections::BTreeSet;
+use std::marker::Model;
+use tftp_packet::Host;
+
+/// The other side of a datagram: a host, and a port there (RFC 1350, section 4).
+#[derive(Clone, Copy)]
+pub struct Peer {
+    pub host: Host,
+    pub port: u16,
+}
+
+impl Model for Peer {
+    ghost use Rattle.tftp_ends.specs.CaptureText.{PeerId};
+
+    ghost Value = { PeerId };
+
+    ghost view = { λ p. record { host = p.host; port = p.port } };
+
+    ghost inverse = { λ v. record { host = v.host; port = v.port } };
+}
+
+impl PartialEq for Peer {
+    ghost use Rattle.std.proofs.Common.{rules};
+    ghost use Rattle.std.specs.Cmp.Rules.{comparing};
+    ghost use Rattle.tftp_ends.specs.Ports.{same_peer};
+
+    ghost eq = { same_peer };
+
+    ghost laws = { Prim.search (comparing, rules) };
+
+    fn eq(&self, other: &Peer) -> bool {
+        self.port == other.port && self.host == other.host
+    }
+}
+
+impl Eq for Peer {
+    ghost use Rattle.std.proofs.Common.{rules};
+    ghost use Rattle.std.specs.Cmp.Rules.{comparing};
+
+    ghost laws = { Prim.search (comparing, rules) };
+}
+
+impl PartialOrd for Peer {
+    ghost use Rattle.std.specs.Cmp.{partial_order_from_own_ties};
+    ghost use Rattle.std.proofs.Common.{rules};
+    ghost use Rattle.std.specs.Cmp.Rules.{comparing};
+    ghost use Rattle.std.specs.Ordering.{as_partial_cmp};
+    ghost use Rattle.tftp_ends.specs.KnownIds.{peer_cmp};
+
+    ghost partial_cmp = { as_partial_cmp peer_cmp };
+
+    ghost laws = { partial_order_from_own_ties (Prim.search (comparing, rules)) (Prim.search (comparing, rules)) };
+
+    fn partial_cmp(&self, other: &Peer) -> Option<Ordering> {
+        Some(self.cmp(other))
+    }
+}
+
+/// By the port first: most strays have one host.
+impl Ord for Peer {
+    ghost use Rattle.std.proofs.Common.{rules};
+    ghost use Rattle.std.specs.Cmp.Rules.{comparing};
+    ghost use Rattle.tftp_ends.specs.KnownIds.{peer_cmp};
+
+    ghost cmp = { peer_cmp };
+
+    ghost total = { Prim.search (comparing, rules) };
+
+    ghost matches_partial_cmp = { Prim.search (comparing, rules) };
+
+    ghost matches_eq = { Prim.search (comparing, rules) };
+
+    fn cmp(&self, other: &Peer) -> Ordering {
+        match self.port.cmp(&other.port) {
+            Ordering::Equal => self.host.bytes().cmp(other.host.bytes()),
+            unequal => unequal,
+        }
+    }
+}
+
+/// The peers that strays came from.
+#[derive(Drop)]
+pub struct Strays {
+    peers: BTreeSet<Peer>,
+}
+
+impl Model for Strays {
+    ghost use Rattle.std.specs.Prelude.{List};
+    ghost use Rattle.tftp_ends.specs.CaptureText.{PeerId};
+
+    ghost Value = { List PeerId };
+
+    ghost view = { λ s. s.peers.keys };
+}
+
+impl Strays {
+    /// No peer. Takes no memory.
+    pub fn new(alloc: Global) -> Self
+        ensures { result ≡ [] }
+    {
+        Strays {
+            peers: BTreeSet::new(alloc),
+        }
+    }
+
+    /// Whether a stray came from this peer.
+    pub fn have(&self, peer: Peer) -> bool
+        ensures { result ≡ is_noted peer self.now }
+    {
+        self.peers.contains(&peer)
+    }
+
+    /// Notes that a stray came from this peer. Takes memory for a peer that was not noted alone.
+    pub fn note(&mut self, peer: Peer) -> Result<(), AllocError>
+        ensures ok { OnOk result ((other : PeerId) → is_noted other self.new ≡ (same_peer peer other || is_noted other self.old)) }
+        ensures err { OnErr result (self.new ≡ self.old) }
+        ensures absent { OnErr result (is_noted peer self.old ≡ false) }
+    {
+        self.peers.insert(peer)?;
+        Ok(())
+    }
+}

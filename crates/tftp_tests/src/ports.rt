@@ -1,0 +1,287 @@
+//! Where datagrams belong, by their ports and the other host, at both ends (RFC 1350, section 4).
+
+use std::test::Fail;
+use tftp_ends::{PortFault, Ports, Route};
+use tftp_packet::{Dir, End, Host};
+
+/// A datagram by its direction, its port at the named end, the other host, the port there and the
+/// opcode; and what is answered.
+type Row = (Dir, u16, &'static [u8], u16, u16, Result<Route, PortFault>);
+
+/// Asks where a datagram belongs, and again where a growth was refused: nothing may have changed.
+fn class(
+    ports: &mut Ports,
+    (dir, local, host, remote, opcode): (Dir, u16, Host, u16, u16),
+) -> Result<Route, PortFault> {
+    match ports.class(dir, local, host, remote, opcode) {
+        Err(PortFault::Memory) => ports.class(dir, local, host, remote, opcode),
+        answer => answer,
+    }
+}
+
+/// Fails unless each datagram has its answer after those before it.
+fn answers(rt: &HostRuntime, end: End, service: u16, rows: &[Row]) -> Result<(), Fail> {
+    let mut ports = Ports::new(rt.alloc(), end, service);
+    for (index, (dir, local, host, remote, opcode, wanted)) in rows.iter().enumerate() {
+        let Some(host) = Host::new(*host) else {
+            return Err(Fail::new("no host"));
+        };
+        let found = class(&mut ports, (*dir, *local, host, *remote, *opcode));
+        if found != *wanted {
+            return Err(Fail::from((index, found, *wanted)));
+        }
+    }
+    Ok(())
+}
+
+/// A read, a stray, and what answers it.
+const WITH_A_STRAY: [Row; 6] = [
+    (Dir::Out, 40000, b"-", 70, 1, Err(PortFault::WrongPort)),
+    (Dir::Out, 40000, b"-", 69, 1, Ok(Route::Request)),
+    (Dir::In, 40000, b"-", 41000, 3, Ok(Route::Peer)),
+    (Dir::In, 40000, b"-", 42000, 3, Ok(Route::Stray)),
+    (Dir::Out, 40000, b"-", 42000, 5, Ok(Route::StrayAnswer)),
+    (Dir::Out, 40000, b"-", 42000, 4, Err(PortFault::StrayAnswer)),
+];
+
+#[test]
+fn stray_is_answered_by_an_error(rt: HostRuntime) -> Result<(), Fail> {
+    answers(&rt, End::Client, 69, &WITH_A_STRAY)
+}
+
+/// Before the first request, before the server is known, and after.
+const AT_A_CLIENT: [Row; 23] = [
+    (Dir::In, 40000, b"-", 41000, 3, Ok(Route::Peer)),
+    (Dir::Out, 40000, b"-", 69, 4, Ok(Route::Peer)),
+    (Dir::Out, 40000, b"-", 70, 2, Err(PortFault::WrongPort)),
+    (Dir::Out, 40000, b"-", 69, 2, Ok(Route::Request)),
+    (Dir::Out, 40001, b"-", 69, 2, Err(PortFault::ForeignPort)),
+    (Dir::In, 40001, b"-", 44000, 4, Err(PortFault::ForeignPort)),
+    (Dir::Out, 40000, b"-", 69, 2, Ok(Route::Request)),
+    (Dir::Out, 40000, b"-", 70, 2, Err(PortFault::WrongPort)),
+    (Dir::Out, 40000, b"-", 41000, 3, Err(PortFault::WrongPort)),
+    (Dir::In, 40000, b"-", 41001, 4, Ok(Route::Peer)),
+    (Dir::Out, 40000, b"-", 41001, 3, Ok(Route::Peer)),
+    (Dir::In, 40000, b"-", 41001, 1, Ok(Route::Peer)),
+    (Dir::Out, 40000, b"-", 42000, 5, Err(PortFault::WrongPort)),
+    (Dir::In, 40000, b"-", 42000, 1, Ok(Route::Stray)),
+    (Dir::In, 40000, b"-", 41001, 4, Ok(Route::Peer)),
+    (Dir::In, 40000, b"-", 42000, 4, Ok(Route::Stray)),
+    (Dir::Out, 40000, b"-", 42000, 5, Ok(Route::StrayAnswer)),
+    (Dir::Out, 40000, b"-", 42000, 0, Err(PortFault::StrayAnswer)),
+    (Dir::Out, 40000, b"-", 42000, 1, Err(PortFault::WrongPort)),
+    (Dir::Out, 40000, b"-", 44000, 5, Err(PortFault::WrongPort)),
+    (Dir::Out, 40000, b"-", 41000, 3, Err(PortFault::WrongPort)),
+    (Dir::Out, 40000, b"-", 41001, 5, Ok(Route::Peer)),
+    (Dir::Out, 40000, b"-", 69, 1, Ok(Route::Request)),
+];
+
+#[test]
+fn client_knows_its_server(rt: HostRuntime) -> Result<(), Fail> {
+    answers(&rt, End::Client, 69, &AT_A_CLIENT)
+}
+
+/// Before the first request, before the server's own port is known, and after.
+const AT_A_SERVER: [Row; 27] = [
+    (Dir::Out, 3000, b"-", 2000, 3, Ok(Route::Peer)),
+    (Dir::In, 6970, b"-", 2000, 1, Err(PortFault::WrongPort)),
+    (Dir::In, 6969, b"-", 2000, 4, Ok(Route::Peer)),
+    (Dir::In, 6969, b"-", 2000, 1, Ok(Route::Request)),
+    (Dir::In, 6969, b"-", 2000, 2, Ok(Route::Request)),
+    (Dir::In, 6969, b"-", 2001, 1, Err(PortFault::ForeignPort)),
+    (Dir::In, 6969, b"-", 2000, 4, Err(PortFault::WrongPort)),
+    (Dir::In, 6969, b"-", 2001, 4, Err(PortFault::ForeignPort)),
+    (Dir::In, 3001, b"-", 2000, 4, Err(PortFault::ForeignPort)),
+    (Dir::Out, 3001, b"-", 2001, 3, Err(PortFault::WrongPort)),
+    (Dir::Out, 3001, b"-", 2000, 3, Ok(Route::Peer)),
+    (Dir::Out, 3000, b"-", 2000, 3, Err(PortFault::ForeignPort)),
+    (Dir::In, 3001, b"-", 2000, 4, Ok(Route::Peer)),
+    (Dir::In, 3001, b"-", 2000, 1, Err(PortFault::WrongPort)),
+    (Dir::In, 6969, b"-", 2000, 1, Ok(Route::Request)),
+    (Dir::In, 6969, b"-", 2001, 1, Err(PortFault::ForeignPort)),
+    (Dir::In, 6969, b"-", 2000, 4, Err(PortFault::WrongPort)),
+    (Dir::In, 6969, b"-", 2001, 4, Err(PortFault::ForeignPort)),
+    (Dir::In, 3000, b"-", 2000, 4, Err(PortFault::ForeignPort)),
+    (Dir::Out, 3001, b"-", 2002, 5, Err(PortFault::WrongPort)),
+    (Dir::In, 3001, b"-", 2002, 1, Ok(Route::Stray)),
+    (Dir::In, 3001, b"-", 2002, 4, Ok(Route::Stray)),
+    (Dir::Out, 3001, b"-", 2002, 5, Ok(Route::StrayAnswer)),
+    (Dir::Out, 3001, b"-", 2002, 1, Err(PortFault::StrayAnswer)),
+    (Dir::Out, 3001, b"-", 2001, 5, Err(PortFault::WrongPort)),
+    (Dir::Out, 3001, b"-", 2000, 3, Ok(Route::Peer)),
+    (Dir::In, 3001, b"-", 2000, 5, Ok(Route::Peer)),
+];
+
+#[test]
+fn server_knows_its_client(rt: HostRuntime) -> Result<(), Fail> {
+    answers(&rt, End::Server, 6969, &AT_A_SERVER)
+}
+
+/// A server that answers from its service port.
+const AT_THE_SERVICE_PORT: [Row; 9] = [
+    (Dir::In, 69, b"-", 2000, 1, Ok(Route::Request)),
+    (Dir::Out, 69, b"-", 2000, 3, Ok(Route::Peer)),
+    (Dir::In, 69, b"-", 2000, 1, Ok(Route::Request)),
+    (Dir::In, 69, b"-", 2000, 4, Ok(Route::Peer)),
+    (Dir::In, 69, b"-", 2001, 1, Err(PortFault::ForeignPort)),
+    (Dir::Out, 69, b"-", 2001, 5, Err(PortFault::WrongPort)),
+    (Dir::In, 69, b"-", 2001, 4, Ok(Route::Stray)),
+    (Dir::Out, 69, b"-", 2001, 5, Ok(Route::StrayAnswer)),
+    (Dir::Out, 70, b"-", 2000, 3, Err(PortFault::ForeignPort)),
+];
+
+#[test]
+fn server_answers_from_its_service_port(rt: HostRuntime) -> Result<(), Fail> {
+    answers(&rt, End::Server, 69, &AT_THE_SERVICE_PORT)
+}
+
+/// A stray from another host at the server's port, and a request to another host.
+const HOSTS_AT_A_CLIENT: [Row; 8] = [
+    (Dir::Out, 40000, b"10.0.0.1", 69, 1, Ok(Route::Request)),
+    (
+        Dir::Out,
+        40000,
+        b"10.0.0.2",
+        69,
+        1,
+        Err(PortFault::WrongPort),
+    ),
+    (Dir::In, 40000, b"10.0.0.1", 41000, 3, Ok(Route::Peer)),
+    (Dir::In, 40000, b"10.0.0.9", 41000, 3, Ok(Route::Stray)),
+    (
+        Dir::Out,
+        40000,
+        b"10.0.0.9",
+        41000,
+        5,
+        Ok(Route::StrayAnswer),
+    ),
+    (
+        Dir::Out,
+        40000,
+        b"10.0.0.9",
+        41000,
+        4,
+        Err(PortFault::StrayAnswer),
+    ),
+    (
+        Dir::Out,
+        40000,
+        b"10.0.0.8",
+        41000,
+        5,
+        Err(PortFault::WrongPort),
+    ),
+    (Dir::Out, 40000, b"10.0.0.1", 41000, 4, Ok(Route::Peer)),
+];
+
+/// A server that answers from another host than the one asked.
+const ANOTHER_HOST_ANSWERS: [Row; 5] = [
+    (Dir::Out, 40000, b"10.0.0.1", 69, 1, Ok(Route::Request)),
+    (Dir::In, 40000, b"10.0.0.2", 41000, 3, Ok(Route::Peer)),
+    (
+        Dir::Out,
+        40000,
+        b"10.0.0.1",
+        41000,
+        4,
+        Err(PortFault::WrongPort),
+    ),
+    (Dir::Out, 40000, b"10.0.0.2", 41000, 4, Ok(Route::Peer)),
+    (Dir::Out, 40000, b"10.0.0.1", 69, 1, Ok(Route::Request)),
+];
+
+#[test]
+fn client_compares_hosts(rt: HostRuntime) -> Result<(), Fail> {
+    answers(&rt, End::Client, 69, &HOSTS_AT_A_CLIENT)?;
+    answers(&rt, End::Client, 69, &ANOTHER_HOST_ANSWERS)
+}
+
+/// Two hosts with one port.
+const HOSTS_AT_A_SERVER: [Row; 9] = [
+    (Dir::In, 69, b"10.0.0.1", 2000, 1, Ok(Route::Request)),
+    (
+        Dir::In,
+        69,
+        b"10.0.0.2",
+        2000,
+        1,
+        Err(PortFault::ForeignPort),
+    ),
+    (
+        Dir::Out,
+        3000,
+        b"10.0.0.2",
+        2000,
+        3,
+        Err(PortFault::WrongPort),
+    ),
+    (Dir::Out, 3000, b"10.0.0.1", 2000, 3, Ok(Route::Peer)),
+    (Dir::In, 3000, b"10.0.0.2", 2000, 4, Ok(Route::Stray)),
+    (Dir::Out, 3000, b"10.0.0.2", 2000, 5, Ok(Route::StrayAnswer)),
+    (
+        Dir::Out,
+        3000,
+        b"10.0.0.3",
+        2000,
+        5,
+        Err(PortFault::WrongPort),
+    ),
+    (Dir::In, 3000, b"10.0.0.1", 2000, 4, Ok(Route::Peer)),
+    (
+        Dir::In,
+        69,
+        b"10.0.0.2",
+        2000,
+        1,
+        Err(PortFault::ForeignPort),
+    ),
+];
+
+#[test]
+fn server_compares_hosts(rt: HostRuntime) -> Result<(), Fail> {
+    answers(&rt, End::Server, 69, &HOSTS_AT_A_SERVER)
+}
+
+/// Whether a datagram between the client's port and a port of the host is answered so.
+fn belongs(
+    ports: &mut Ports,
+    dir: Dir,
+    host: Host,
+    remote: u16,
+    opcode: u16,
+    wanted: Route,
+) -> bool {
+    class(ports, (dir, 40000, host, remote, opcode)) == Ok(wanted)
+}
+
+#[test]
+fn client_notes_each_stray(rt: HostRuntime) -> Result<(), Fail> {
+    let mut ports = Ports::new(rt.alloc(), End::Client, 69);
+    let host = Host::none();
+    assert!(rt; belongs(&mut ports, Dir::Out, host, 69, 1, Route::Request));
+    assert!(rt; belongs(&mut ports, Dir::In, host, 65535, 3, Route::Peer));
+    for below in 1..65535u16 {
+        let remote = 65535 - below;
+        assert!(rt;
+            belongs(&mut ports, Dir::In, host, remote, 3, Route::Stray),
+            "{remote}"
+        );
+    }
+    for remote in 1..65535u16 {
+        assert!(rt;
+            belongs(&mut ports, Dir::In, host, remote, 3, Route::Stray),
+            "{remote}"
+        );
+        assert!(rt;
+            belongs(&mut ports, Dir::Out, host, remote, 5, Route::StrayAnswer),
+            "{remote}"
+        );
+    }
+    assert!(rt; belongs(&mut ports, Dir::In, host, 65535, 3, Route::Peer));
+    let Some(other) = Host::new(b"10.0.0.1") else {
+        return Err(Fail::new("no host"));
+    };
+    assert!(rt; class(&mut ports, (Dir::Out, 40000, other, 1, 5)) == Err(PortFault::WrongPort));
+    Ok(())
+}
