@@ -14,8 +14,9 @@ struct Span {
     len: usize,
 }
 
-/// The blocks above the front of a ring, each at its place. They share one vector, where each stands in the order in
-/// which it came. It is emptied when no place is left, so it never has more than the bytes of all blocks that have waited.
+/// The blocks above the front of a ring, each at its place. Their bytes stand in one vector, in the order in which they
+/// came, until no place is left: then it is emptied, and its room is used again. All that ever waited is part of one
+/// file, so the vector never outgrows that.
 #[derive(Drop)]
 pub(crate) struct Waiting {
     bytes: Vec<u8>,
@@ -128,7 +129,7 @@ impl Waiting {
     }
 }
 
-/// Puts a span at a place, which the row grows as far as.
+/// Puts a span at a place of the row, which grows as far as that.
 fn set_place(places: &mut VecDeque<Option<Span>>, place: usize, span: Span)
     requires room { place < deque_capacity places.old }
     ensures { places.new.items ≡ placed places.old.items place span }
