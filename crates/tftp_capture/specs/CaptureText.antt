@@ -177,7 +177,8 @@ abbrev pub IsOver : Due → Type 0
 IsOver (Nothing version header) = Unit {0}
 IsOver _ = ⊥
 
--- No byte of the text is wrong: divided at LF it has these whole lines, and this rest of a line that has not ended.
+-- No byte of the text is wrong: divided at LF it has these whole lines, and this rest of a line that has not ended. The
+-- first line is short, once it is whole, so it keeps the later lines' limit too.
 pub record Stands (text : List ℕ) (lines : List (List ℕ)) (rest : List ℕ) (due : Due) (datagrams : List Numbered) : Type 0 where
   pub divided : slice_split (λ b. b == 10) text ≡ lines ++ rest ∷ []
   pub says : Says lines due datagrams
@@ -247,7 +248,8 @@ abbrev pub Reads : List ℕ → Reading → Type 0
 Reads text (Capture header datagrams) = IsCapture text header datagrams
 Reads text (Fault datagrams line fault) = HasFault text datagrams line fault
 
--- the text begins with whole lines, of which no byte is wrong, that say the header and these datagrams
+-- the text begins with whole lines, of which no byte is wrong, that say the header and these datagrams in one of the
+-- versions
 pub record Begins (text : List ℕ) (header : Header) (datagrams : List Numbered) : Type 0 where
   pub read : List ℕ
   pub more : List ℕ

@@ -53,7 +53,7 @@ pub fn fault_comes_after_beginnings()
 
 /// A text of version 1 without a fault, and the same text in version 2 with `-` as each host, say the same header and the
 /// same datagrams on the same lines, where the second has at most 2^40 bytes.
-pub fn text_in_version_two_says_the_same()
+pub fn version_two_says_the_same()
     ensures { (text : List ℕ) (header : Header) (datagrams : List Numbered) → IsCapture text header datagrams → length (in_version_two text) ≤ 2 ^ 40
         → IsCapture (in_version_two text) header datagrams }
 {}
