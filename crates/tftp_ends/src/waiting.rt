@@ -16,7 +16,7 @@ struct Span {
 
 /// The blocks above the front of a ring, each at its place. Their bytes stand in one vector, in the order in which they
 /// came, until no place is left: then it is emptied, and its room is used again. All that ever waited is part of one
-/// file, so the vector never outgrows that.
+/// file, so the vector never has more bytes than that.
 #[derive(Drop)]
 pub(crate) struct Waiting {
     bytes: Vec<u8>,
