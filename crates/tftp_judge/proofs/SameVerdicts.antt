@@ -20,7 +20,7 @@ use Rattle.tftp_law.specs.Law.{IsLawful}
 use Rattle.tftp_judge.specs.TextVerdict.{AllLawful, IsCaptureBy, IsTextVerdict, unnumbered}
 use Rattle.tftp_judge.specs.Verdict.{IsVerdict}
 use Rattle.tftp_judge.specs.declared.verdict.Verdict.{Verdict}
-use Rattle.tftp_judge.specs.declared.verdict.Verdict.TheVariants.{Accepted, Unlawful, Incomplete, NormalTooLong}
+use Rattle.tftp_judge.specs.declared.verdict.Verdict.TheVariants.{Accepted, Unlawful, Aborted, Incomplete, NormalTooLong}
 use Rattle.tftp_judge.proofs.TextVerdicts.{captured_or_faulty, front_lawful, longer_unlawful}
 
 -- the lines of a text, and what is left after its last LF
@@ -46,6 +46,7 @@ module _ (one two : List ℕ) (h : Header) (ds : List Numbered) (first : IsCaptu
       let front = capture_has one h k ds es first begins in
       (h, ds, capture_begins two h ds second, longer_unlawful h ds es index rule front.1 (subst (λ x. IsVerdict x (unnumbered es) (Unlawful index rule)) front.0 is))
   same_verdict lines (Ok (Accepted m)) is = by_both (Accepted m) is
+  same_verdict lines (Ok (Aborted by code)) is = by_both (Aborted by code) is
   same_verdict lines (Ok (Incomplete count)) is = by_both (Incomplete count) is
   same_verdict lines (Ok NormalTooLong) is = by_both NormalTooLong is
   same_verdict lines (Err (Text line fault)) is = absurd (captured_or_faulty one h ds is.0.0 line fault first is.0.1)
