@@ -127,7 +127,7 @@ lines_say lines header ds p = record {
 
 -- ---- a text of version 1
 
-map_whole : (lines : List (List ℕ)) → All (Lacks 10) lines → All (Lacks 10) (map line_in_two lines)
+pub map_whole : (lines : List (List ℕ)) → All (Lacks 10) lines → All (Lacks 10) (map line_in_two lines)
 map_whole [] h = All-nil (Lacks 10)
 map_whole (l ∷ ls) h = All-cons (Lacks 10) (line_in_two l) (map line_in_two ls) (stays_whole l (All-head (Lacks 10) l ls h)) (map_whole ls (All-tail (Lacks 10) l ls h))
 
