@@ -120,8 +120,7 @@ impl<D: Delivered> ReceiverState<D> {
         Ok(())
     }
 
-    /// Keeps a block that comes in. After want of memory, which a block that is held never
-    /// meets, nothing has changed.
+    /// Keeps a block that comes in. After want of memory, which a block that is held never meets, nothing has changed.
     pub fn take_data(&mut self, alloc: Global, number: u16, bytes: &[u8]) -> Result<(), AllocError>
         requires { Fits self.old.terms self.old.held number bytes.now }
         ensures ok { (passed : List Datagram) (d : Datagram) → IsReceiverAfter self.old passed → Says d In (Data number bytes.now)

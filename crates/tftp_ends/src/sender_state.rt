@@ -126,8 +126,7 @@ impl<D: Delivered> SenderState<D> {
         Ok(())
     }
 
-    /// Keeps a block that goes out. After want of memory, which a block that is held never
-    /// meets, nothing has changed.
+    /// Keeps a block that goes out. After want of memory, which a block that is held never meets, nothing has changed.
     pub fn sent(&mut self, alloc: Global, number: u16, bytes: &[u8]) -> Result<(), AllocError>
         requires { MaySend self.old number bytes.now }
         ensures ok { (passed : List Datagram) (d : Datagram) → IsSenderAfter self.old passed → Says d Out (Data number bytes.now)

@@ -353,3 +353,36 @@ fn largest_window_on_a_map(rt: HostRuntime) -> Result<(), Fail> {
 fn largest_window_on_a_ring(rt: HostRuntime) -> Result<(), Fail> {
     largest_window::<RingDelivered>(&rt)
 }
+
+/// All blocks but the first wait, the highest before the others, and none waits once the first is there.
+fn whole_window<D: Delivered + Drop>(rt: &HostRuntime) -> Result<(), Fail> {
+    let mut receiver = ReceiverState::new(
+        Side::Get,
+        true,
+        8,
+        65535,
+        None,
+        D::new(rt.alloc(), 8, 65535),
+    );
+    acknowledge(&mut receiver, 0)?;
+    take(rt, &mut receiver, 65535, b".......")?;
+    for below in 1..65534u16 {
+        take(rt, &mut receiver, 65535 - below, b"........")?;
+    }
+    expect(receiver.store().pending() == 65534, "all wait")?;
+    expect(receiver.may_ack(1) == Err(EndFault::AckAhead), "ACK 1")?;
+    take(rt, &mut receiver, 1, b"........")?;
+    expect(receiver.store().pending() == 0, "none waits")?;
+    acknowledge(&mut receiver, 65535)?;
+    expect(receiver.done(), "done")
+}
+
+#[test]
+fn whole_window_on_a_map(rt: HostRuntime) -> Result<(), Fail> {
+    whole_window::<MapDelivered>(&rt)
+}
+
+#[test]
+fn whole_window_on_a_ring(rt: HostRuntime) -> Result<(), Fail> {
+    whole_window::<RingDelivered>(&rt)
+}
