@@ -6,6 +6,7 @@
     acks        a capture of acknowledgements alone, in lines of 25 bytes each
     file        a text whose lines end in LF
     wire        a text whose lines end in CR LF
+    ports       the ports 1 to 65534 in another order, and again, by two bytes each
 
 or generate.py lockstep BLOCKS: the capture of a lawful read of so many blocks of 512 bytes, the last one shorter, each
 block and each acknowledgement once: 1 + 2 * BLOCKS datagrams.
@@ -66,6 +67,12 @@ def comments(line, wanted):
     out.write(b"total 1\n")
 
 
+def ports(wanted):
+    """Each port once before it comes again, and those beside each other far apart."""
+    for turn in range(wanted // 2):
+        out.write((1 + turn * 40_503 % 65_534).to_bytes(2, "big"))
+
+
 kind, wanted = sys.argv[1], int(sys.argv[2])
 if kind == "capture":
     capture(wanted)
@@ -77,6 +84,8 @@ elif kind == "comments":
     comments(b"# this line says nothing\n", wanted)
 elif kind == "short":
     comments(b"#\n", wanted)
+elif kind == "ports":
+    ports(wanted)
 else:
     words = b"the quick brown fox jumps over the lazy dog and then it sleeps all day"
     line = words + (b"\n" if kind == "file" else b"\r\n")

@@ -29,8 +29,8 @@ const LARGE: u16 = 1542;
 /// The fewest bytes that a block has (RFC 2348).
 const SMALL: u16 = 8;
 
-/// The first word says which work it is: `netascii-decode`, `netascii-encode`, `copy`, `capture`, `hex`, one of the
-/// stores with `-large`, `-small` or `-reversed`, or `strays`.
+/// The first word says which work it is: `netascii-decode`, `netascii-encode`, `copy`, `capture`,
+/// `hex`, `strays`, or `map` or `ring` with `-large`, `-small` or `-reversed`.
 fn main(rt: HostRuntime) -> io::Result<()> {
     let alloc = rt.alloc();
     let words = env::args(&rt)?.collect::<Vec<String>>(alloc)?;
@@ -63,7 +63,8 @@ fn main(rt: HostRuntime) -> io::Result<()> {
     }
 }
 
-/// Puts the input's blocks into stores: the word says which store, of which blocks and in which order.
+/// Puts the input's blocks into stores: the word says which store, how large the blocks are and in
+/// which order they come.
 fn deliver_as<R: Read>(alloc: Global, reader: &mut R, word: &str) -> io::Result<usize> {
     match word {
         "map-large" => deliver::<MapDelivered, R>(alloc, reader, LARGE, Order::Forward),
