@@ -6,11 +6,13 @@
     acks        a capture of acknowledgements alone, in lines of 25 bytes each
     file        a text whose lines end in LF
     wire        a text whose lines end in CR LF
+    random      bytes of every value, the same each time
     ports       the ports 1 to 65534 in another order, and again, by two bytes each
 
 or generate.py lockstep BLOCKS: the capture of a lawful read of so many blocks of 512 bytes, the last one shorter, each
 block and each acknowledgement once: 1 + 2 * BLOCKS datagrams.
 """
+import random
 import sys
 
 HEADER = b"tftp-capture 1\nend client\nservice 69\nout 40000 69 000161006f6374657400\n"
@@ -86,6 +88,8 @@ elif kind == "short":
     comments(b"#\n", wanted)
 elif kind == "ports":
     ports(wanted)
+elif kind == "random":
+    out.write(random.Random(1350).randbytes(wanted))
 else:
     words = b"the quick brown fox jumps over the lazy dog and then it sleeps all day"
     line = words + (b"\n" if kind == "file" else b"\r\n")

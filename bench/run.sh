@@ -27,6 +27,19 @@ generate file 100000000
 measure "netascii encode" "$bench" netascii-encode
 measure "plain copy of the same" "$bench" copy
 
+# Blocks of 1,526 bytes, of which 65,535 are 100 MB, and of 8 bytes; reversed, all blocks of a window of 65,535 but the
+# first one wait.
+generate random 100000000
+for store in map ring; do
+    for blocks in large small reversed; do
+        measure "$store store, $blocks" "$bench" "$store-$blocks"
+    done
+done
+
+# 500,000 datagrams of 65,534 strays, by their ports.
+generate ports 1000000
+measure "strays" "$bench" strays
+
 for size in 100000000 1000000000; do
     generate capture "$size"
     measure "capture reader" "$bench" capture
@@ -37,18 +50,6 @@ done
 generate acks 100000000
 measure "tftp-audit show, acknowledgements" "$program" show
 measure "wc -l" wc -l
-
-# Both stores: large blocks in order, and blocks of 8 bytes in order and in windows of which the last block comes first.
-generate file 100000000
-for store in map ring; do
-    measure "$store store, blocks of 1,542 bytes" "$bench" "$store-large"
-    measure "$store store, blocks of 8 bytes" "$bench" "$store-small"
-    measure "$store store, the same in reversed windows" "$bench" "$store-reversed"
-done
-
-# The ports of 500,000 datagrams of 65,534 strays.
-generate ports 1000000
-measure "strays" "$bench" strays
 
 # The time of check grows with the square of the datagrams, here 101, 1,001 and 10,001.
 for blocks in 50 500 5000; do

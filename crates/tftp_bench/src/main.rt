@@ -1,9 +1,11 @@
 //! Does one work of the libraries alone with what standard input has, so that it can be measured.
 #![tactic(auto)]
 
-mod ends;
+mod stores;
+mod strays;
 
-use ends::{Order, count_strays, deliver};
+use crate::stores::{Order, fill_stores};
+use crate::strays::count_strays;
 use memchr::{memchr, memrchr};
 use std::alloc::Global;
 use std::io::{ErrorKind, Read, Write};
@@ -15,6 +17,11 @@ use tftp_netascii::{Decoder, encode};
 /// The most bytes that are read at once.
 const PIECE: usize = 65_536;
 
+/// How many bytes a block has in the stores: 65,535 of them are 100 MB, and the least that may be agreed (RFC 2348).
+const LARGE: u16 = 1526;
+
+const SMALL: u16 = 8;
+
 /// What becomes of each piece of the input.
 #[derive(Clone, Copy)]
 enum Way {
@@ -23,14 +30,8 @@ enum Way {
     Copy,
 }
 
-/// How many bytes a block has where many are put into a store in order.
-const LARGE: u16 = 1542;
-
-/// The fewest bytes that a block has (RFC 2348).
-const SMALL: u16 = 8;
-
-/// The first word says which work it is: `netascii-decode`, `netascii-encode`, `copy`, `capture`,
-/// `hex`, `strays`, or `map` or `ring` with `-large`, `-small` or `-reversed`.
+/// The first word says which work it is: `netascii-decode`, `netascii-encode`, `copy`, `capture`, `hex`, `strays`, or a
+/// store and how it is filled, `map-large`, `map-small`, `map-reversed`, `ring-large`, `ring-small` or `ring-reversed`.
 fn main(rt: HostRuntime) -> io::Result<()> {
     let alloc = rt.alloc();
     let words = env::args(&rt)?.collect::<Vec<String>>(alloc)?;
@@ -57,22 +58,22 @@ fn main(rt: HostRuntime) -> io::Result<()> {
             println!(rt; "{count} datagrams of strays")
         }
         _ => {
-            let count = deliver_as(alloc, &mut reader, word)?;
-            println!(rt; "{count} bytes of blocks")
+            let count = fill_named(alloc, &mut reader, word)?;
+            println!(rt; "{count} blocks")
         }
     }
 }
 
-/// Puts the input's blocks into stores: the word says which store, how large the blocks are and in
-/// which order they come.
-fn deliver_as<R: Read>(alloc: Global, reader: &mut R, word: &str) -> io::Result<usize> {
+/// Fills the stores that the word names: with large blocks or small ones in order, or with small ones in reversed
+/// windows.
+fn fill_named<R: Read>(alloc: Global, reader: &mut R, word: &str) -> io::Result<u64> {
     match word {
-        "map-large" => deliver::<MapDelivered, R>(alloc, reader, LARGE, Order::Forward),
-        "map-small" => deliver::<MapDelivered, R>(alloc, reader, SMALL, Order::Forward),
-        "map-reversed" => deliver::<MapDelivered, R>(alloc, reader, SMALL, Order::Backward),
-        "ring-large" => deliver::<RingDelivered, R>(alloc, reader, LARGE, Order::Forward),
-        "ring-small" => deliver::<RingDelivered, R>(alloc, reader, SMALL, Order::Forward),
-        "ring-reversed" => deliver::<RingDelivered, R>(alloc, reader, SMALL, Order::Backward),
+        "map-large" => fill_stores::<MapDelivered, R>(alloc, reader, LARGE, Order::Rising),
+        "map-small" => fill_stores::<MapDelivered, R>(alloc, reader, SMALL, Order::Rising),
+        "map-reversed" => fill_stores::<MapDelivered, R>(alloc, reader, SMALL, Order::Reversed),
+        "ring-large" => fill_stores::<RingDelivered, R>(alloc, reader, LARGE, Order::Rising),
+        "ring-small" => fill_stores::<RingDelivered, R>(alloc, reader, SMALL, Order::Rising),
+        "ring-reversed" => fill_stores::<RingDelivered, R>(alloc, reader, SMALL, Order::Reversed),
         _ => Err(io::Error::from(ErrorKind::InvalidInput)),
     }
 }
