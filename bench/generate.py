@@ -7,7 +7,7 @@
     file        a text whose lines end in LF
     wire        a text whose lines end in CR LF
     random      bytes of every value, the same each time
-    strays      two bytes for each datagram of a stray, its port: 65,534 ports in turn, in some order
+    ports       the ports 1 to 65534 in another order, and again, by two bytes each
 
 or generate.py lockstep BLOCKS: the capture of a lawful read of so many blocks of 512 bytes, the last one shorter, each
 block and each acknowledgement once: 1 + 2 * BLOCKS datagrams.
@@ -69,6 +69,12 @@ def comments(line, wanted):
     out.write(b"total 1\n")
 
 
+def ports(wanted):
+    """Each port once before it comes again, and those beside each other far apart."""
+    for turn in range(wanted // 2):
+        out.write((1 + turn * 40_503 % 65_534).to_bytes(2, "big"))
+
+
 kind, wanted = sys.argv[1], int(sys.argv[2])
 if kind == "capture":
     capture(wanted)
@@ -80,11 +86,8 @@ elif kind == "comments":
     comments(b"# this line says nothing\n", wanted)
 elif kind == "short":
     comments(b"#\n", wanted)
-elif kind == "strays":
-    ports = list(range(1, 65_535))
-    random.Random(1350).shuffle(ports)
-    for number in range(wanted // 2):
-        out.write(ports[number % len(ports)].to_bytes(2, "big"))
+elif kind == "ports":
+    ports(wanted)
 elif kind == "random":
     out.write(random.Random(1350).randbytes(wanted))
 else:

@@ -36,9 +36,9 @@ for store in map ring; do
     done
 done
 
-# 500,000 datagrams of 65,534 strays, which the ports of a client tell from the server's.
-generate strays 1000000
-measure "datagrams of strays" "$bench" strays
+# 500,000 datagrams of 65,534 strays, by their ports.
+generate ports 1000000
+measure "strays" "$bench" strays
 
 for size in 100000000 1000000000; do
     generate capture "$size"

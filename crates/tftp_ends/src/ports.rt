@@ -92,8 +92,8 @@ impl Seen {
     }
 }
 
-/// Which datagrams belong to a transfer, by their ports and the other host (RFC 1350, section 4). Kept are the ids that
-/// the datagrams before fixed, and where strays came from.
+/// Which datagrams belong to a transfer, by their ports and the other host (RFC 1350, section 4). It keeps the ids that
+/// the first datagrams fixed, and where strays came from.
 #[derive(Drop)]
 pub struct Ports {
     named: End,
@@ -132,8 +132,8 @@ impl Ports {
         }
     }
 
-    /// Where a datagram belongs after those that have passed, or why it is none of them. `opcode` is that of its
-    /// payload, whose rest is not looked at. Takes memory for a stray from where none has come alone.
+    /// Where a datagram belongs after those that have passed, or why it may not pass. Of its payload the opcode alone is
+    /// known. Takes memory only for a stray from where none has come.
     pub fn class(
         &mut self,
         dir: Dir,
@@ -162,7 +162,7 @@ impl Ports {
         self.keep(&seen, route)
     }
 
-    /// Keeps what a datagram of this route fixes, or where it came from, unless the route is a fault.
+    /// Keeps what a datagram of this route fixes, or that it is a stray, unless the route is a fault.
     fn keep(&mut self, seen: &Seen, route: Route) -> Result<Route, PortFault>
         ensures answer { result ≢ Err PortFault.Memory → result ≡ answer_of route }
         ensures absent { result ≡ Err PortFault.Memory → (route ≡ Route.Stray) × (is_noted seen.now.sides.peer self.old.strays ≡ false) }

@@ -117,7 +117,7 @@ impl Strays {
         self.peers.contains(&peer)
     }
 
-    /// Notes that a stray came from this peer. Takes memory for a peer that was not noted alone.
+    /// Notes that a stray came from this peer. Takes memory only for a peer that was not noted.
     pub fn note(&mut self, peer: Peer) -> Result<(), AllocError>
         ensures ok { OnOk result ((other : PeerId) → is_noted other self.new ≡ (same_peer peer other || is_noted other self.old)) }
         ensures err { OnErr result (self.new ≡ self.old) }
