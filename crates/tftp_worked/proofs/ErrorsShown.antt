@@ -6,7 +6,7 @@ use Rattle.tftp_packet.specs.OptionMap.{OptionMap}
 use Rattle.tftp_packet.specs.declared.kinds.Side.TheVariants.{Get}
 use Rattle.tftp_packet.specs.declared.kinds.Dir.TheVariants.{In, Out}
 use Rattle.tftp_packet.specs.declared.kinds.End.TheVariants.{Client}
-use Rattle.tftp_ends.specs.CaptureText.{Datagram}
+use Rattle.tftp_ends.specs.CaptureText.{Datagram, PeerId}
 use Rattle.tftp_ends.specs.Meaning.{Meaning, request_of, option_or, windowsize_of}
 use Rattle.tftp_ends.specs.Machines.{MachinePacket, Sent, Took, Req, Oack, Data, Ack, Error, History}
 use Rattle.tftp_ends.specs.OneSide.{IsOneSided}
@@ -25,7 +25,7 @@ use Rattle.tftp_law.proofs.Divided.{divided_more, divided_none, any_none, any_ca
 use Rattle.tftp_law.proofs.Spelled.{spelled_once}
 use Rattle.tftp_law.specs.Law.{IsSeen, IsLawful, Shows}
 use Rattle.tftp_law.proofs.NothingAgreed.{two_bytes_fit}
-use Rattle.tftp_worked.specs.Worked.{at_client, asks_for_a, brings_hi, acknowledges_hi}
+use Rattle.tftp_worked.specs.Worked.{at_client, asks_for_a, brings_hi, acknowledges_hi, server_host}
 use Rattle.tftp_worked.specs.WorkedWindows.{request, oack, block, ack, by_eight, asks, goes, comes, is_asked, at_service}
 use Rattle.tftp_worked.specs.WorkedErrors.{says_not_found, says_forbidden, stops, gives_up, read_refused, read_refused_twice, read_given_up, read_given_up_twice, stopped_at_the_end, stopped_after_the_end, block_after_error, before_late_answer, late_answer, only_offered, stops_unanswered}
 use Rattle.tftp_worked.proofs.Spelled.{request_spelled, hi_spelled, ack_spelled}
@@ -241,8 +241,12 @@ in_lock_step =
 abbrev late : List Spelled
 late = (late_answer, Message.Data 2 (codes "89")) ∷ (goes (ack 1), Message.Ack 1) ∷ stop ∷ in_lock_step
 
-late_near : (ids : TransferIds) → 41000 ≡ ids.peer → AllNear ids late
-late_near ids e = (
+-- where the server answers
+abbrev answers_from : PeerId
+answers_from = record { host = server_host; port = 41000 }
+
+late_near : (t : TransferIds) → answers_from ≡ t.peer → AllNear t late
+late_near t e = (
   λ text is. cc,
   λ _. e,
   (λ text is. cc, λ _. e, (λ text is. cc, λ _. e, (λ text is. cc, λ _. e, (λ text is. cc, λ _. e, (λ text is. cc, λ _. e, (λ text is. cc, λ way. absurd (cc), tt)))))),
