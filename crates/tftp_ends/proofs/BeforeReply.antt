@@ -3,7 +3,7 @@ use Rattle.std.proofs.Common.{◌≡◌, ◌↔◌, ℕ, List, length, inl, inr}
 use Rattle.tftp_packet.specs.Message.{Message, Request, Data, Ack, Error, Oack}
 use Rattle.tftp_packet.specs.declared.kinds.Side.TheVariants.{Get, Put}
 use Rattle.tftp_ends.specs.CaptureText.{Datagram}
-use Rattle.tftp_ends.specs.Rules.{HasWrongLength, BlockBreaks, AckBreaks, EndBroken, AckZeroWaits, BlocksWait, usable}
+use Rattle.tftp_ends.specs.Rules.{HasWrongLength, BlockBreaks, AckBreaks, EndBroken, AckZeroWaits, usable}
 use Rattle.tftp_ends.specs.States.{replied}
 use Rattle.tftp_ends.specs.declared.rule.EndRule.{EndRule}
 use Rattle.tftp_ends.specs.declared.rule.EndRule.TheVariants.{NotStarted, BlockZero, BeyondBlock65535, BlockLength, WindowOverrun, BlockSkipped, GoneBack, BlockChanged, AckAhead, AckZero}
