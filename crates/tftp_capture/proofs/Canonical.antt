@@ -57,7 +57,7 @@ is_no_lf b = not (b == 10)
 plain_text : (xs : List ℕ) → list_all is_plain xs ≡ true → All Plain xs
 plain_text xs h = (Decides-by_and is_plain Plain (list_all is_plain) (λ b. Decides-and _ _ (Decides-not _ (Decides-eqb b 32)) (Decides-not _ (Decides-eqb b 10))) refl (λ _ _. refl) xs).0 h
 
-no_lf_text : (xs : List ℕ) → list_all is_no_lf xs ≡ true → HasNoEnd xs
+pub no_lf_text : (xs : List ℕ) → list_all is_no_lf xs ≡ true → HasNoEnd xs
 no_lf_text xs h = (Decides-by_and is_no_lf (λ b. b ≢ 10) (list_all is_no_lf) (λ b. Decides-not _ (Decides-eqb b 10)) refl (λ _ _. refl) xs).0 h
 
 plain_payload : (bytes : List ℕ) → IsBytes bytes → All Plain (payload_text bytes)

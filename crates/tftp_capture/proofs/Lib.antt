@@ -7,11 +7,14 @@ pub mod Faults
 pub mod Gathering
 pub mod Headers
 pub mod Histories
+pub mod InTwo
+mod Named
 pub mod Pieces
 pub mod Readings
 pub mod Skips
 pub mod Spelling
 pub mod Staying
 pub mod Texts
+pub mod TwoTexts
 pub mod Uniqueness
 pub mod Walks

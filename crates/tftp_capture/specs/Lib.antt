@@ -2,6 +2,7 @@ pub mod CaptureText
 pub mod Drips
 pub mod Fields
 pub mod History
+pub mod InTwo
 pub mod Lines
 pub mod Tally
 pub mod Worked

@@ -1,9 +1,10 @@
--- A read of the file `a`, which holds `hi`, as it was recorded at the client.
+-- A read of the file `a`, which holds `hi`, as it was recorded at the client: in version 1, the same in version 2, and
+-- with the hosts named.
 use Rattle.std.specs.Prelude.{ℕ, List, [], ◌∷◌, ◌++◌, codes}
 use Rattle.tftp_packet.specs.Host.{no_host}
 use Rattle.tftp_packet.specs.declared.kinds.Dir.TheVariants.{In, Out}
 use Rattle.tftp_packet.specs.declared.kinds.End.TheVariants.{Client}
-use Rattle.tftp_capture.specs.CaptureText.{Datagram, Header}
+use Rattle.tftp_capture.specs.CaptureText.{Datagram, Header, Numbered}
 
 abbrev pub worked_header : Header
 worked_header = record { named = Client; service = 69 }
@@ -22,3 +23,22 @@ abbrev pub worked_text : List ℕ
 worked_text =
     line (codes "tftp-capture 1") ++ line (codes "end client") ++ line (codes "service 69") ++ line (codes "out 40000 69 000161006f6374657400") ++ line (codes "in 40000 41000 000300016869")
     ++ line (codes "out 40000 41000 00040001") ++ line (codes "total 3")
+
+-- the same text in version 2
+abbrev pub worked_text_in_two : List ℕ
+worked_text_in_two =
+    line (codes "tftp-capture 2") ++ line (codes "end client") ++ line (codes "service 69") ++ line (codes "out 40000 - 69 000161006f6374657400") ++ line (codes "in 40000 - 41000 000300016869")
+    ++ line (codes "out 40000 - 41000 00040001") ++ line (codes "total 3")
+
+-- a server that answers from another host
+abbrev pub named_text : List ℕ
+named_text =
+    line (codes "tftp-capture 2") ++ line (codes "# by name") ++ line (codes "end client") ++ line (codes "service 69") ++ line (codes "out 40000 tftp.example 69 000161006f6374657400") ++ line (codes "in 40000 192.0.2.7 41000 000300016869")
+    ++ line (codes "out 40000 192.0.2.7 41000 00040001") ++ line (codes "total 3")
+
+abbrev pub named_datagrams : List Numbered
+named_datagrams =
+    (5, record { dir = Out; local = 40000; host = codes "tftp.example"; remote = 69; payload = 0 ∷ 1 ∷ 97 ∷ 0 ∷ (codes "octet" ++ 0 ∷ []) })
+    ∷ (6, record { dir = In; local = 40000; host = codes "192.0.2.7"; remote = 41000; payload = 0 ∷ 3 ∷ 0 ∷ 1 ∷ codes "hi" })
+    ∷ (7, record { dir = Out; local = 40000; host = codes "192.0.2.7"; remote = 41000; payload = 0 ∷ 4 ∷ 0 ∷ 1 ∷ [] })
+    ∷ []

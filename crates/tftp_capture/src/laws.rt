@@ -1,6 +1,7 @@
 ghost use Rattle.std.specs.Prelude.{◌≡◌, ◌≢◌, ◌^◌, ◌≤◌, ◌⊎◌, ◌++◌, ℕ, List, All, length};
 ghost use Rattle.tftp_capture.specs.CaptureText.{text_of, Begins, BeginsWith, Datagram, Due, HasFault, Header, IsCapture, IsLawful, IsPort, Numbered, NamesNoHost, Reading, Reads, Unfinished, numbered};
-ghost use Rattle.tftp_capture.specs.Worked.{worked_datagrams, worked_header, worked_text};
+ghost use Rattle.tftp_capture.specs.InTwo.{in_version_two};
+ghost use Rattle.tftp_capture.specs.Worked.{named_datagrams, named_text, worked_datagrams, worked_header, worked_text, worked_text_in_two};
 
 use crate::fault::TextFault;
 
@@ -48,4 +49,21 @@ pub fn fault_comes_after_beginnings()
         → BeginsWith datagrams some }
     ensures unfinished { (text : List ℕ) (header : Header) (datagrams some : List Numbered) (line : ℕ) (due : Due) → Unfinished text datagrams line due → Begins text header some
         → BeginsWith datagrams some }
+{}
+
+/// A text of version 1 without a fault, and the same text in version 2 with `-` as each host, say the same header and the
+/// same datagrams on the same lines, where the second has at most 2^40 bytes.
+pub fn text_in_version_two_says_the_same()
+    ensures { (text : List ℕ) (header : Header) (datagrams : List Numbered) → IsCapture text header datagrams → length (in_version_two text) ≤ 2 ^ 40
+        → IsCapture (in_version_two text) header datagrams }
+{}
+
+/// The worked text in version 2, byte for byte: `-` before the other port of each datagram.
+pub fn worked_text_is_in_version_two()
+    ensures { in_version_two worked_text ≡ worked_text_in_two }
+{}
+
+/// A worked text of version 2, which says datagrams with their hosts.
+pub fn worked_text_names_hosts()
+    ensures { IsCapture named_text worked_header named_datagrams }
 {}

@@ -24,7 +24,9 @@ pub use fault::{CaptureFault, TextFault, WriteFault};
 pub use gathered::Gathered;
 pub use laws::{
     beginnings_agree, canonical_text_is_read, capture_has_its_beginnings,
-    fault_comes_after_beginnings, fault_stays, text_has_one_reading, worked_text_is_canonical,
+    fault_comes_after_beginnings, fault_stays, text_has_one_reading,
+    text_in_version_two_says_the_same, worked_text_is_canonical, worked_text_is_in_version_two,
+    worked_text_names_hosts,
 };
 pub use reader::CaptureReader;
 pub use tallied::Tallied;

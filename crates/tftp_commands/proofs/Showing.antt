@@ -3,11 +3,12 @@ use Rattle.std.proofs.Common.{◌≡◌, ◌≢◌, ◌⊎◌, inl, inr, ℕ, �
 use Rattle.std.specs.Io.KnownBytes.{prepend_known, Consumes, IsAtEnd}
 use Rattle.std.proofs.KnownBytes.{Consumes-trans}
 use Rattle.tftp_capture.specs.declared.fault.TextFault.{TextFault}
-use Rattle.tftp_capture.specs.declared.fault.TextFault.TheVariants.{BadHeader, BadEnd, BadService, LineTooLong, BadLine, BadPort, BadHex, PayloadTooLong, TotalWrong, Truncated, TrailingText, TextTooLong}
+use Rattle.tftp_capture.specs.declared.fault.TextFault.TheVariants.{BadHeader, BadEnd, BadService, LineTooLong, BadLine, BadPort, BadHost, BadHex, PayloadTooLong, TotalWrong, Truncated, TrailingText, TextTooLong}
 use Rattle.tftp_capture.specs.declared.fault.CaptureFault.{CaptureFault}
 use Rattle.tftp_capture.specs.declared.fault.CaptureFault.TheVariants.{Text, Read, Memory}
 use Rattle.tftp_capture.specs.declared.standing.Standing.TheVariants.{Open, Over, Failed}
 use Rattle.tftp_capture.specs.declared.datagram.Datagram.{Datagram as Owned}
+use Rattle.tftp_capture.specs.declared.version.Version.{Version}
 use Rattle.tftp_capture.specs.CaptureText.{Header, Numbered, Stands, IsCapture, HasFault}
 use Rattle.tftp_capture.specs.CaptureText.Due.{Body}
 use Rattle.tftp_capture.specs.Fields.{datagram_of}
@@ -62,8 +63,8 @@ consumed_none start now ahead taken p e = subst (Consumes start now) (ap (λ l. 
 
 -- ---- the datagrams so far
 
-begins : (header : Header) (lines : List (List ℕ)) (text more : List ℕ) (ds : List Numbered) → Stands text lines [] (Body header) ds → AreFirst (text ++ more) ds
-begins header lines text more ds stands = inr (header, record { read = text; more = more; lines = lines; are = refl; stands = stands })
+begins : (version : Version) (header : Header) (lines : List (List ℕ)) (text more : List ℕ) (ds : List Numbered) → Stands text lines [] (Body version header) ds → AreFirst (text ++ more) ds
+begins version header lines text more ds stands = inr (header, record { read = text; more = more; lines = lines; are = refl; stands = (version, stands) })
 
 -- ---- one datagram more
 
@@ -121,7 +122,7 @@ cut_here start mid now before c1 c2 old new w1 number d line failed cut s going 
         ending = Cut;
         lines = s.lines ++ line;
         are = next_line number s.datagrams s.lines (new.handed, datagram_of d) line s.counted s.are is;
-        ends = (begins new.header goes.lines (s.read ++ n.taken) new.lines.ahead _ goes.stands, clean, is_cut);
+        ends = (begins new.lines.version new.header goes.lines (s.read ++ n.taken) new.lines.ahead _ goes.stands, clean, is_cut);
         is = refl;
       },
       rw is_cut (part, refl),
@@ -156,6 +157,7 @@ truncated_or_not BadService = inr (λ e. cc)
 truncated_or_not LineTooLong = inr (λ e. cc)
 truncated_or_not BadLine = inr (λ e. cc)
 truncated_or_not BadPort = inr (λ e. cc)
+truncated_or_not BadHost = inr (λ e. cc)
 truncated_or_not BadHex = inr (λ e. cc)
 truncated_or_not PayloadTooLong = inr (λ e. cc)
 truncated_or_not TotalWrong = inr (λ e. cc)
@@ -188,7 +190,7 @@ shown_fault start mid now before c1 c2 old new w1 number failed cut result fault
     let n = next s.read s.datagrams (opened old s.read s.datagrams going s.stands) in
     let tells : FaultTells fault (s.read ++ n.taken) s.datagrams = rw stopped at n.stands in
     let p = Consumes-trans _ _ _ _ _ s.consumed n.consumed in
-    let first : AreFirst ((s.read ++ n.taken) ++ new.lines.ahead) s.datagrams = rw append_assoc (begins old.header s.stands.lines s.read (n.taken ++ new.lines.ahead) s.datagrams s.stands.stands) in
+    let first : AreFirst ((s.read ++ n.taken) ++ new.lines.ahead) s.datagrams = rw append_assoc (begins old.lines.version old.header s.stands.lines s.read (n.taken ++ new.lines.ahead) s.datagrams s.stands.stands) in
     let ended =
     fault_ends start now (s.read ++ n.taken) new.lines.ahead failed cut fault s.datagrams (consumed_ahead start now new.lines.ahead (s.read ++ n.taken) p)
     (λ h. consumed_end start now new.lines.ahead (s.read ++ n.taken) p (end h)) (λ h. consumed_none start now new.lines.ahead (s.read ++ n.taken) p (drained h)) tells first failing working in (

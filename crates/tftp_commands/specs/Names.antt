@@ -5,7 +5,7 @@ use Rattle.tftp_packet.specs.declared.kinds.Side.TheVariants.{Get, Put}
 use Rattle.tftp_packet.specs.declared.fault.PacketFault.{PacketFault}
 use Rattle.tftp_packet.specs.declared.fault.PacketFault.TheVariants.{Short, Opcode, AckLength, NoTerminator, OddOptions, EmptyOptionName, DuplicateOption, UnknownMode, MailMode, RequestTooLong}
 use Rattle.tftp_capture.specs.declared.fault.TextFault.{TextFault}
-use Rattle.tftp_capture.specs.declared.fault.TextFault.TheVariants.{BadHeader, BadEnd, BadService, LineTooLong, BadLine, BadPort, BadHex, PayloadTooLong, TotalWrong, Truncated, TrailingText, TextTooLong}
+use Rattle.tftp_capture.specs.declared.fault.TextFault.TheVariants.{BadHeader, BadEnd, BadService, LineTooLong, BadLine, BadPort, BadHost, BadHex, PayloadTooLong, TotalWrong, Truncated, TrailingText, TextTooLong}
 
 abbrev pub side_name : Side → List ℕ
 side_name Get = codes "get"
@@ -34,6 +34,7 @@ text_fault_name BadService = codes "BadService"
 text_fault_name LineTooLong = codes "LineTooLong"
 text_fault_name BadLine = codes "BadLine"
 text_fault_name BadPort = codes "BadPort"
+text_fault_name BadHost = codes "BadHost"
 text_fault_name BadHex = codes "BadHex"
 text_fault_name PayloadTooLong = codes "PayloadTooLong"
 text_fault_name TotalWrong = codes "TotalWrong"

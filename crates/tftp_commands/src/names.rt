@@ -75,6 +75,7 @@ pub fn text_fault_name(fault: TextFault) -> &'static [u8]
         TextFault::LineTooLong => b"LineTooLong",
         TextFault::BadLine => b"BadLine",
         TextFault::BadPort => b"BadPort",
+        TextFault::BadHost => b"BadHost",
         TextFault::BadHex => b"BadHex",
         TextFault::PayloadTooLong => b"PayloadTooLong",
         TextFault::TotalWrong => b"TotalWrong",

@@ -14,5 +14,6 @@ pub mod ByRuns
 pub mod OneVerdict
 pub mod Gatherings
 pub mod TextVerdicts
+mod SameVerdicts
 pub mod TextFound
 pub mod Stopped

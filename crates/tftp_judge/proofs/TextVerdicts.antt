@@ -7,7 +7,7 @@ use Rattle.tftp_capture.specs.History.{FaultTells}
 use Rattle.tftp_capture.specs.declared.fault.CaptureFault.{CaptureFault}
 use Rattle.tftp_capture.specs.declared.fault.CaptureFault.TheVariants.{Text, Read, Memory}
 use Rattle.tftp_capture.specs.declared.fault.TextFault.{TextFault}
-use Rattle.tftp_capture.specs.declared.fault.TextFault.TheVariants.{BadHeader, BadEnd, BadService, LineTooLong, BadLine, BadPort, BadHex, PayloadTooLong, TotalWrong, Truncated, TrailingText, TextTooLong}
+use Rattle.tftp_capture.specs.declared.fault.TextFault.TheVariants.{BadHeader, BadEnd, BadService, LineTooLong, BadLine, BadPort, BadHost, BadHex, PayloadTooLong, TotalWrong, Truncated, TrailingText, TextTooLong}
 use Rattle.tftp_capture.proofs.Beginnings.{agree, capture_has, fault_after, unfinished_has}
 use Rattle.tftp_capture.proofs.Readings.{reads_same}
 use Rattle.tftp_capture.proofs.Staying.{stays}
@@ -122,6 +122,7 @@ kinds (Err (Text line BadService)) = inl (λ e. cc)
 kinds (Err (Text line LineTooLong)) = inl (λ e. cc)
 kinds (Err (Text line BadLine)) = inl (λ e. cc)
 kinds (Err (Text line BadPort)) = inl (λ e. cc)
+kinds (Err (Text line BadHost)) = inl (λ e. cc)
 kinds (Err (Text line BadHex)) = inl (λ e. cc)
 kinds (Err (Text line PayloadTooLong)) = inl (λ e. cc)
 kinds (Err (Text line TotalWrong)) = inl (λ e. cc)
@@ -148,7 +149,7 @@ said_is text (Err (Read line)) of is = absurd of
 said_is text (Err (Memory line)) of is = absurd of
 
 -- what is unlawful of the first datagrams is so of all
-longer_unlawful : (h : Header) (ds es : List Numbered) (index : ℕ) (rule : Rule) → BeginsWith ds es → IsVerdict h (unnumbered es) (Unlawful index rule) → IsVerdict h (unnumbered ds) (Unlawful index rule)
+pub longer_unlawful : (h : Header) (ds es : List Numbered) (index : ℕ) (rule : Rule) → BeginsWith ds es → IsVerdict h (unnumbered es) (Unlawful index rule) → IsVerdict h (unnumbered ds) (Unlawful index rule)
 longer_unlawful h ds es index rule (rest, is) u = record {
   before = u.before;
   datagram = u.datagram;
@@ -177,7 +178,7 @@ unlawful_or_captured text i r h ds (k, es, begins, is) capture lawful =
 unlawful_or_faulty : (text : List ℕ) (i : ℕ) (r : Rule) → BeginsBy text (Unlawful i r) → AllLawful text → ⊥
 unlawful_or_faulty text i r (h, ds, begins, is) lawful = not_lawful h (unnumbered ds) i r is (lawful h ds begins)
 
-captured_or_faulty : (text : List ℕ) (h : Header) (ds es : List Numbered) (line : ℕ) (fault : TextFault) → IsCapture text h ds → HasFault text es line fault → ⊥
+pub captured_or_faulty : (text : List ℕ) (h : Header) (ds es : List Numbered) (line : ℕ) (fault : TextFault) → IsCapture text h ds → HasFault text es line fault → ⊥
 captured_or_faulty text h ds es line fault capture has = let same = reads_same text (Capture h ds) (Fault es line fault) capture has in cc
 
 both_captured : (text : List ℕ) (h k : Header) (ds es : List Numbered) (v w : Verdict) → IsCapture text h ds → IsCapture text k es → IsVerdict h (unnumbered ds) v → IsVerdict k (unnumbered es) w → v ≡ w

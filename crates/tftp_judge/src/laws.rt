@@ -1,6 +1,8 @@
 //! Laws of the definitions in `specs/`. Each is the contract of a function that does nothing.
 
-ghost use Rattle.std.specs.Prelude.{◌≡◌, ◌↔◌, ℕ, List, Result};
+ghost use Rattle.std.specs.Prelude.{◌≡◌, ◌↔◌, ◌^◌, ◌≤◌, ℕ, List, Result, length};
+ghost use Rattle.tftp_capture.specs.CaptureText.{IsCapture, Numbered};
+ghost use Rattle.tftp_capture.specs.InTwo.{in_version_two};
 ghost use Rattle.tftp_capture.specs.declared.fault.CaptureFault.{CaptureFault};
 ghost use Rattle.tftp_ends.specs.CaptureText.{Datagram, Header};
 ghost use Rattle.tftp_judge.specs.TextVerdict.{IsOfText, IsTextVerdict};
@@ -24,4 +26,11 @@ pub fn verdict_is_one()
 pub fn text_has_one_verdict()
     ensures { (text : List ℕ) (v w : Result Verdict CaptureFault) → IsOfText v → IsOfText w → IsTextVerdict text v
         → IsTextVerdict text w → v ≡ w }
+{}
+
+/// A text of version 1 without a fault, and the same text in version 2 with `-` as each host, have the same verdicts,
+/// where the second has at most 2^40 bytes.
+pub fn text_in_version_two_has_the_same_verdicts()
+    ensures { (text : List ℕ) (header : Header) (datagrams : List Numbered) (v : Result Verdict CaptureFault) → IsCapture text header datagrams
+        → length (in_version_two text) ≤ 2 ^ 40 → IsTextVerdict text v ↔ IsTextVerdict (in_version_two text) v }
 {}

@@ -11,6 +11,8 @@ use tftp_capture::{
 };
 use tftp_packet::{Dir, End};
 
+mod hosts;
+
 /// A read of the file `a`, which is `hi`, in one block (RFC 1350, sections 4 and 5).
 const READ: &[u8] =
     b"tftp-capture 1\nend client\nservice 69\nout 40000 69 000161006f6374657400\nin 40000 41000 000300016869\nout 40000 41000 00040001\ntotal 3\n";
@@ -48,10 +50,10 @@ fn gives(
     Ok(())
 }
 
-/// The text with its line `number`, counted from 1, changed.
-fn changed(rt: &HostRuntime, number: usize, line: &[u8]) -> Result<Vec<u8>, Fail> {
+/// A text of seven lines with its line `number`, counted from 1, changed.
+fn changed_in(rt: &HostRuntime, whole: &[u8], number: usize, line: &[u8]) -> Result<Vec<u8>, Fail> {
     let mut text = Vec::new(rt.alloc());
-    for (index, old) in READ.split(|byte| *byte == b'\n').enumerate() {
+    for (index, old) in whole.split(|byte| *byte == b'\n').enumerate() {
         if index == 7 {
             break;
         }
@@ -59,6 +61,11 @@ fn changed(rt: &HostRuntime, number: usize, line: &[u8]) -> Result<Vec<u8>, Fail
         text.push(b'\n')?;
     }
     Ok(text)
+}
+
+/// The text with its line `number`, counted from 1, changed.
+fn changed(rt: &HostRuntime, number: usize, line: &[u8]) -> Result<Vec<u8>, Fail> {
+    changed_in(rt, READ, number, line)
 }
 
 fn fails(rt: &HostRuntime, number: usize, line: &[u8], fault: TextFault) -> Result<(), Fail> {
@@ -86,7 +93,7 @@ fn a_read_is_read(rt: HostRuntime) -> Result<(), Fail> {
 
 #[test]
 fn each_fault_has_its_line(rt: HostRuntime) -> Result<(), Fail> {
-    fails(&rt, 1, b"tftp-capture 2", TextFault::BadHeader)?;
+    fails(&rt, 1, b"tftp-capture 3", TextFault::BadHeader)?;
     fails(&rt, 1, b"tftp-capture 1\r", TextFault::BadHeader)?;
     fails(&rt, 2, b"end peer", TextFault::BadEnd)?;
     fails(&rt, 2, b"total 3", TextFault::BadEnd)?;
@@ -94,6 +101,7 @@ fn each_fault_has_its_line(rt: HostRuntime) -> Result<(), Fail> {
     fails(&rt, 3, b"service 069", TextFault::BadService)?;
     fails(&rt, 3, b"service 69 ", TextFault::BadService)?;
     fails(&rt, 4, b"out 40000  69 00", TextFault::BadLine)?;
+    fails(&rt, 4, b"out 40000 - 69 00", TextFault::BadLine)?;
     fails(&rt, 4, b" ", TextFault::BadLine)?;
     fails(&rt, 4, b"\r", TextFault::BadLine)?;
     fails(&rt, 4, b"total", TextFault::BadLine)?;

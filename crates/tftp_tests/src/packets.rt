@@ -3,7 +3,7 @@
 use crate::views::{oack_of, request_of};
 use std::test::Fail;
 use tftp_packet::{
-    Bytes, Mode, Options, OptionsView, Packet, PacketFault, Side, Value, opcode, own_options,
+    Bytes, Host, Mode, Options, OptionsView, Packet, PacketFault, Side, Value, opcode, own_options,
     own_request, read_packet, same_options, same_request, write_oack, write_packet, write_request,
 };
 
@@ -214,6 +214,45 @@ fn bytes_are_a_vector(rt: HostRuntime) -> Result<(), Fail> {
     assert_eq!(rt; bytes.as_slice(), b"ab".as_slice());
     assert_eq!(rt; bytes.into_vec().as_slice(), b"ab".as_slice());
     Ok(())
+}
+
+/// Whether the bytes name a host, which has these bytes.
+fn names_host(bytes: &[u8]) -> bool {
+    match Host::new(bytes) {
+        Some(host) => host.bytes() == bytes,
+        None => false,
+    }
+}
+
+#[test]
+fn hosts_are_1_to_45_signs(rt: HostRuntime) {
+    let signs = [b'a'; 46];
+    for (count, taken) in [(0, false), (1, true), (45, true), (46, false)] {
+        let bytes = signs.get(..count).unwrap_or(b"");
+        assert_eq!(rt; names_host(bytes), taken, "{count}");
+    }
+    for (byte, taken) in [
+        (0, false),
+        (32, false),
+        (33, true),
+        (126, true),
+        (127, false),
+        (255, false),
+    ] {
+        assert_eq!(rt; names_host(&[byte]), taken, "{byte}");
+        assert_eq!(rt; names_host(&[b'a', byte, b'a']), taken, "{byte}");
+    }
+}
+
+#[test]
+fn hosts_are_compared_byte_by_byte(rt: HostRuntime) {
+    let host = Host::new(b"10.0.0.1");
+    assert!(rt; host == Host::new(b"10.0.0.1"));
+    assert!(rt; host != Host::new(b"10.0.0.2"));
+    assert!(rt; host != Host::new(b"10.0.0.10"));
+    assert!(rt; Host::new(b"a") != Host::new(b"A"));
+    assert_eq!(rt; Host::none().bytes(), b"-".as_slice());
+    assert!(rt; Some(Host::none()) == Host::new(b"-"));
 }
 
 /// A request to read with a name of so many bytes, and these bytes after its mode.

@@ -69,7 +69,7 @@ fn the_read_after_a_whole_text_fails(rt: HostRuntime) -> Result<(), Fail> {
 fn a_failed_read_in_a_wrong_text(rt: HostRuntime) -> Result<(), Fail> {
     for command in ["check", "show"] {
         let read = "fault line 1 Read\n";
-        fails_to_read(&rt, command, b"tftp-capture 2", usize::MAX, 2, read)?;
+        fails_to_read(&rt, command, b"tftp-capture 3", usize::MAX, 2, read)?;
     }
     let unlawful = format!(in rt.alloc(); "{CLIENT}{READ}\n{HI}\n{ACK_2}\n")?;
     let text = unlawful.as_bytes();
@@ -90,7 +90,7 @@ fn a_failed_read_in_a_wrong_text(rt: HostRuntime) -> Result<(), Fail> {
 /// A whole wrong line is a fault, and no further read is tried.
 #[test]
 fn a_fault_is_said_before_the_next_read(rt: HostRuntime) -> Result<(), Fail> {
-    let text = b"tftp-capture 2\n";
+    let text = b"tftp-capture 3\n";
     for command in ["check", "show"] {
         let mut reader = Tallied::new(DripReader::new(text, 1, 16, None));
         let mut writer = Tallied::new(DripWriter::new(rt.alloc(), ROOM, 1, 0, false)?);

@@ -55,7 +55,7 @@ fn is_read_of_hi(rt: &HostRuntime, text: &[u8]) -> Result<(), Fail> {
 }
 
 const HEADERS: [(usize, &str, &str); 13] = [
-    (1, "tftp-capture 2", "BadHeader"),
+    (1, "tftp-capture 3", "BadHeader"),
     (1, "tftp-capture 1\r", "BadHeader"),
     (1, "# x", "BadHeader"),
     (2, "end peer", "BadEnd"),
@@ -151,7 +151,7 @@ fn the_longest_lines(rt: HostRuntime) -> Result<(), Fail> {
 #[test]
 fn texts_that_end_too_early(rt: HostRuntime) -> Result<(), Fail> {
     is_fault(&rt, b"", 1, "Truncated")?;
-    is_fault(&rt, b"tftp-capture 2", 1, "Truncated")?;
+    is_fault(&rt, b"tftp-capture 3", 1, "Truncated")?;
     is_fault(&rt, CLIENT.as_bytes(), 4, "Truncated")?;
     let whole = read_of_hi(rt.alloc())?;
     let text = whole.as_slice();
