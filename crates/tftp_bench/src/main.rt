@@ -17,9 +17,10 @@ use tftp_netascii::{Decoder, encode};
 /// The most bytes that are read at once.
 const PIECE: usize = 65_536;
 
-/// How many bytes a block has in the stores: 65,535 of them are 100 MB, and the least that may be agreed (RFC 2348).
+/// How many bytes a large block has: 65,535 of them are 100 MB.
 const LARGE: u16 = 1526;
 
+/// How many bytes a small block has, the fewest that may be agreed (RFC 2348).
 const SMALL: u16 = 8;
 
 /// What becomes of each piece of the input.

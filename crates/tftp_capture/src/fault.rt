@@ -1,7 +1,7 @@
 use thiserror::Error;
 
-/// What is wrong with a capture text. On one line a BadHost comes after a BadPort and before a BadHex; the others come in
-/// the order of their numbers.
+/// What is wrong with a capture text. Of one byte the first is TextTooLong, then TrailingText, then LineTooLong; of one
+/// whole line BadHost comes after BadPort and before BadHex, and the others in the order of their numbers.
 #[derive(Clone, Copy, Debug, PartialEq, Eq, Error)]
 pub enum TextFault {
     /// The first line is neither `tftp-capture 1` nor `tftp-capture 2`.

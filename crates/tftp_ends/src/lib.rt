@@ -1,4 +1,5 @@
-//! The two ends of a transfer: what each may send, and the runs of both over a network.
+//! The two ends of a transfer: what each may send, the runs of both over a network, and what one end alone keeps: the
+//! transfer ids, the blocks, and the numbers that its rules go by.
 #![tactic(auto)]
 
 mod block_rules;

@@ -12,7 +12,9 @@ use tftp_packet::Host;
 /// The other side of a datagram: a host, and a port there (RFC 1350, section 4).
 #[derive(Clone, Copy)]
 pub struct Peer {
+    /// The host, by the bytes that name it.
     pub host: Host,
+    /// The port there.
     pub port: u16,
 }
 

@@ -162,7 +162,7 @@ pub record EndBreaks (h : Header) (earlier : List Datagram) (d : Datagram) (rule
 
 -- when a datagram breaks each rule
 abbrev pub Broken : Header → List Datagram → Datagram → Rule → Type 0
--- its ports are not the transfer's (RFC 1350, section 4)
+-- its ports or its host are not the transfer's (RFC 1350, section 4)
 Broken h earlier d ForeignPort = PortBroken h earlier d PortRule.Foreign
 Broken h earlier d WrongPort = PortBroken h earlier d PortRule.Wrong
 Broken h earlier d StrayAnswer = PortBroken h earlier d PortRule.BadAnswer

@@ -2,8 +2,6 @@
 
 ghost use Rattle.std.specs.Prelude.{◌≡◌, ◌↔◌, ℕ, List, reverse};
 ghost use Rattle.tftp_ends.specs.CaptureText.{Datagram, Header};
-ghost use Rattle.tftp_packet.specs.declared.kinds.End.{End};
-ghost use Rattle.tftp_ends.specs.Machines.{History};
 ghost use Rattle.tftp_ends.specs.Meaning.{Meaning};
 ghost use Rattle.tftp_ends.specs.OneSide.{IsOneSided};
 ghost use Rattle.tftp_law.specs.Dress.{TransferIds, Division, HaveParts, HavePartsBy, view_in};

@@ -1,7 +1,7 @@
 //! Worked cases of hosts, proved from the definitions alone: the same port at two hosts is two peers. Each is the contract
 //! of a function that does nothing.
 
-ghost use Rattle.std.specs.Prelude.{◌≡◌, [], ◌∷◌, reverse};
+ghost use Rattle.std.specs.Prelude.{◌≡◌, reverse};
 ghost use Rattle.tftp_ends.specs.Ports.{route_of};
 ghost use Rattle.tftp_ends.specs.Worked.{two_bytes};
 ghost use Rattle.tftp_ends.specs.declared.route.Route.TheVariants as Route;
