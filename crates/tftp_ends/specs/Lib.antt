@@ -15,6 +15,9 @@ pub mod Spans
 pub mod Kept
 pub mod States
 pub mod StatesKept
+pub mod Joined
+pub mod NamedEnd
+pub mod Parts
 pub mod Worked
 pub mod WorkedWindows
 pub mod WorkedErrors
