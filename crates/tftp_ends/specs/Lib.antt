@@ -17,7 +17,6 @@ pub mod States
 pub mod StatesKept
 pub mod Joined
 pub mod NamedEnd
-pub mod Parts
 pub mod Worked
 pub mod WorkedWindows
 pub mod WorkedErrors

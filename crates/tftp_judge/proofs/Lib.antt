@@ -1,21 +1,2 @@
-pub mod Told
-pub mod Numbers
-pub mod KeptBlocks
-pub mod Ended
-pub mod MessageFound
-pub mod TransferTold
 pub mod FirstAnswers
-pub mod Scans
-pub mod Judged
-pub mod BlockRules
-pub mod EndRules
 pub mod PassFound
-pub mod ByRuns
-pub mod Usable
-pub mod ErrorRules
-pub mod OneVerdict
-pub mod Gatherings
-pub mod TextVerdicts
-mod SameVerdicts
-pub mod TextFound
-pub mod Stopped

@@ -2,11 +2,11 @@
 use Rattle.std.specs.Prelude.{◌≡◌, ℕ, List}
 use Rattle.tftp_ends.specs.CaptureText.{Datagram}
 use Rattle.tftp_law.specs.Aborted.{FirstError, NoErrorPassed}
-use Rattle.tftp_judge.specs.declared.verdict.Verdict.{Verdict}
-use Rattle.tftp_judge.specs.declared.verdict.Verdict.TheVariants.{Aborted, Incomplete}
+use Rattle.tftp_judge.specs.declared.refusal.Refusal.{Refusal}
+use Rattle.tftp_judge.specs.declared.refusal.Refusal.TheVariants.{Aborted, Incomplete}
 
 -- by its first ERROR, or by how many datagrams there are
-abbrev pub IsUnfinished : List Datagram → ℕ → Verdict → Type 0
+abbrev pub IsUnfinished : List Datagram → ℕ → Refusal → Type 0
 IsUnfinished passed total (Aborted by code) = FirstError passed by code
 IsUnfinished passed total (Incomplete count) = NoErrorPassed passed × (count ≡ total)
 IsUnfinished passed total _ = ⊥

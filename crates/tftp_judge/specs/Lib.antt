@@ -1,9 +1,8 @@
 pub mod Verdict
 pub mod TextVerdict
-pub mod Gathered
-pub mod Heard
-pub mod Plain
-pub mod Numbers
-pub mod SentKinds
-pub mod Errors
 pub mod Ending
+pub mod Kept
+pub mod KeptCode
+pub mod Finds
+pub mod Parts
+pub mod Extracted

@@ -1,14 +1,24 @@
-//! The judge of captures: the verdict on a list of datagrams, and on a capture text.
+//! The judge of captures: the verdict on datagrams one by one, and on a capture text; and the file of a text.
 #![tactic(auto)]
 
-pub mod laws;
+mod course;
+mod errors;
+mod extraction;
+mod file;
+mod judging;
+mod kinds;
 mod meaning;
-mod plain;
+mod named_end;
+mod refusal;
+mod stop;
 mod text;
+mod transfer;
 mod verdict;
 
+pub use extraction::{OutFault, extract};
+pub use judging::Judge;
 pub use meaning::Meaning;
-pub use plain::judge;
+pub use refusal::Refusal;
 pub use text::judge_text;
 pub use tftp_law::{By, Rule};
 pub use verdict::Verdict;

@@ -1,17 +1,34 @@
-use crate::meaning::Meaning;
-use tftp_law::{By, Rule};
+use crate::refusal::Refusal;
+use std::convert::From;
+use tftp_capture::CaptureFault;
 
-/// What there is to say of the datagrams of a capture.
-#[derive(Debug, Drop)]
+/// Why a capture text is not accepted.
+#[derive(Clone, Copy, Debug, PartialEq, Eq)]
 pub enum Verdict {
-    /// A run of two ends shows them as one whole transfer, with this meaning.
-    Accepted(Meaning),
-    /// The first datagram with which no run is left, counted from 1, and the first rule in the order that it breaks.
-    Unlawful(u64, Rule),
-    /// A run shows them, and none as a whole transfer, which an ERROR ended: the end that sent the first one, and its code.
-    Aborted(By, u16),
-    /// A run shows them, and none as a whole transfer, which no ERROR ended; how many they are.
-    Incomplete(u64),
-    /// A run shows them as a whole transfer, of a text whose canonical form has more than 65535 blocks.
-    NormalTooLong,
+    /// The text's first fault, a failed read, or want of memory, with its line.
+    Capture(CaptureFault),
+    /// What its datagrams are refused for.
+    Refused(Refusal),
+}
+
+impl From<CaptureFault> for Verdict {
+    ghost use Rattle.std.specs.Prelude.{◌≡◌};
+    ghost use Rattle.tftp_judge.specs.declared.verdict.Verdict.{Verdict};
+
+    ghost from_gives = { λ fault verdict. verdict ≡ Verdict.Capture fault };
+
+    fn from(fault: CaptureFault) -> Self {
+        Verdict::Capture(fault)
+    }
+}
+
+impl From<Refusal> for Verdict {
+    ghost use Rattle.std.specs.Prelude.{◌≡◌};
+    ghost use Rattle.tftp_judge.specs.declared.verdict.Verdict.{Verdict};
+
+    ghost from_gives = { λ refusal verdict. verdict ≡ Verdict.Refused refusal };
+
+    fn from(refusal: Refusal) -> Self {
+        Verdict::Refused(refusal)
+    }
 }

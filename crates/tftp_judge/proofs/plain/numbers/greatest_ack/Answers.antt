@@ -1,7 +1,0 @@
-use Rattle.std.proofs.Common.{rules}
-use Rattle.tftp_judge.specs.Numbers.{ack_number}
-use Rattle.tftp_judge.proofs.Numbers.{greatest_left, greatest_ack_is}
-use Rattle.tftp_judge.proofs.plain.numbers.greatest_ack.Goals as goal
-
-pub returns : goal.returns
-returns c = λ passed tells. greatest_ack_is _ _ passed tells _ (greatest_left (ack_number c.args.dir) _ _ _ (search rules) c.loop-rest.invariant)

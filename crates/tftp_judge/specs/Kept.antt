@@ -1,0 +1,110 @@
+-- What the judge keeps of the datagrams that it has accepted, and for which datagrams that stands. The lists `earlier` and
+-- `passed` have the datagrams of the capture and those of the transfer, the newest first.
+use Rattle.std.specs.Prelude.{◌≡◌, ◌↔◌, ℕ, Bool, true, List, [], length, Option, Some, None, is_some}
+use Rattle.tftp_packet.specs.OptionMap.{OptionMap}
+use Rattle.tftp_packet.specs.Message.{Message, RequestParts}
+use Rattle.tftp_packet.specs.declared.kinds.Dir.{Dir}
+use Rattle.tftp_packet.specs.declared.kinds.Dir.TheVariants.{In, Out}
+use Rattle.tftp_packet.specs.declared.kinds.End.{End}
+use Rattle.tftp_ends.specs.CaptureText.{Datagram, Header}
+use Rattle.tftp_ends.specs.KnownIds.{KnownIds, StandsFor}
+use Rattle.tftp_ends.specs.NamedEnd.{NamedEnd, terms_of, IsEndAfter}
+use Rattle.tftp_ends.specs.Ports.{transfer_of}
+use Rattle.tftp_ends.specs.Rules.{Passed}
+use Rattle.tftp_ends.specs.States.{has_stopped, IsBeforeBlocks}
+use Rattle.tftp_law.specs.Aborted.{FirstError, NoErrorPassed}
+use Rattle.tftp_law.specs.MessageRules.{AckSent, BlockSent}
+use Rattle.tftp_law.specs.OneEnded.{OneEnded}
+use Rattle.tftp_law.specs.Rules.{Answer, Agrees, Begins, FirstAnswer, FirstAsked, NotAnswered, terms_after}
+use Rattle.tftp_law.specs.declared.by.By.{By}
+use Rattle.tftp_judge.specs.declared.refusal.Refusal.{Refusal}
+
+-- ---- ERRORs
+
+-- the code and the message of an ERROR
+abbrev pub ErrorText : Type 0
+ErrorText = ℕ × List ℕ
+
+pub record Errors : Type 0 where
+  pub sent : Option ErrorText  -- the one that went out, whenever
+  pub heard : Option ErrorText  -- the one that came in
+  pub first : Option (By × ℕ)  -- whose the first was, and its code
+
+-- every ERROR that went this way is this one, and it did go; or none did
+abbrev pub IsErrorOf : Dir → List Datagram → Option ErrorText → Type 0
+IsErrorOf dir passed None = (code : ℕ) (text : List ℕ) → Passed dir (Message.Error code text) passed → ⊥
+IsErrorOf dir passed (Some error) =
+    Passed dir (Message.Error error.0 error.1) passed
+    × ((code : ℕ) (text : List ℕ) → Passed dir (Message.Error code text) passed → (code ≡ error.0) × (text ≡ error.1))
+
+abbrev pub IsFirstError : List Datagram → Option (By × ℕ) → Type 0
+IsFirstError passed None = NoErrorPassed passed
+IsFirstError passed (Some error) = FirstError passed error.0 error.1
+
+pub record AreErrors (errors : Errors) (passed : List Datagram) : Type 0 where
+  pub sent : IsErrorOf Out passed errors.sent
+  pub heard : IsErrorOf In passed errors.heard
+  pub first : IsFirstError passed errors.first
+  pub stopped : has_stopped passed ≡ is_some errors.heard
+
+-- ---- the transfer
+
+-- how the request was answered, and the end that began with it: not yet, without an OACK, or by an OACK
+pub data Course : Type 0 where
+  Unanswered : Course
+  Begun : (end : NamedEnd) → Course
+  Agreed : (options : OptionMap) (end : NamedEnd) → Course
+
+pub record Transfer : Type 0 where
+  pub named : End
+  pub asked : RequestParts  -- the first request
+  pub course : Course
+  pub block_sent : Bool  -- the named end has sent a block
+  pub ack_sent : Bool  -- it has sent an ACK
+  pub errors : Errors
+
+-- the answer is the first one, and the end that began with it stands for these datagrams
+pub record HasBegun (h : Header) (asked : RequestParts) (passed : List Datagram) (answer : Answer) (end : NamedEnd) : Type 0 where
+  pub answered : FirstAnswer asked.side passed answer
+  pub terms : terms_of end ≡ terms_after h asked answer
+  pub after : IsEndAfter end passed
+
+abbrev pub IsCourse : Header → RequestParts → List Datagram → Course → Type 0
+IsCourse h asked passed Unanswered = NotAnswered asked.side passed × IsBeforeBlocks passed
+IsCourse h asked passed (Begun end) = HasBegun h asked passed Begins end
+IsCourse h asked passed (Agreed options end) = HasBegun h asked passed (Agrees options) end
+
+-- The transfer stands for these datagrams of it.
+pub record IsTransferAfter (t : Transfer) (h : Header) (passed : List Datagram) : Type 0 where
+  pub named : t.named ≡ h.named
+  pub course : IsCourse h t.asked passed t.course
+  pub block_sent : (t.block_sent ≡ true) ↔ BlockSent passed
+  pub ack_sent : (t.ack_sent ≡ true) ↔ AckSent passed
+  pub errors : AreErrors t.errors passed
+
+-- ---- the judge
+
+pub record Judge : Type 0 where
+  pub header : Header
+  pub ports : KnownIds
+  pub transfer : Option Transfer  -- from the first request on
+  pub fed : ℕ
+  pub refused : Option Refusal  -- what is answered for good
+
+-- no datagram has passed; or the first request has, and the transfer stands for those of it
+abbrev pub IsKept : Header → List Datagram → Option Transfer → Type 0
+IsKept h earlier None = earlier ≡ []
+IsKept h earlier (Some transfer) = FirstAsked h earlier transfer.asked × IsTransferAfter transfer h (transfer_of h earlier)
+
+-- what the judge keeps of these datagrams, but for how many they are
+pub record HasKept (j : Judge) (h : Header) (earlier : List Datagram) : Type 0 where
+  pub header : j.header ≡ h
+  pub ports : StandsFor j.ports h earlier
+  pub kept : IsKept h earlier j.transfer
+
+-- The judge stands for these datagrams: it has accepted them, and has refused none.
+pub record IsJudgeAfter (j : Judge) (h : Header) (earlier : List Datagram) : Type 0 where
+  pub lawful : OneEnded h earlier
+  pub has_kept : HasKept j h earlier
+  pub fed : j.fed ≡ length earlier
+  pub goes_on : j.refused ≡ None

@@ -1,0 +1,158 @@
+//! The ERRORs of a transfer (RFC 1350, section 7).
+
+ghost use Rattle.std.specs.Prelude.{◌≡◌, ◌↔◌, ℕ, List, [], ◌∷◌, IsTrue, OnOk, OnErr};
+ghost use Rattle.tftp_packet.specs.Message.{Message};
+ghost use Rattle.tftp_packet.specs.Meaning.{meaning};
+ghost use Rattle.tftp_ends.specs.CaptureText.{Datagram};
+ghost use Rattle.tftp_ends.specs.States.{has_stopped, Says};
+ghost use Rattle.tftp_law.specs.Aborted.{by_of as by_way};
+ghost use Rattle.tftp_law.specs.Rules.{GoesOn, IsError};
+ghost use Rattle.tftp_judge.specs.Ending.{IsUnfinished};
+ghost use Rattle.tftp_judge.specs.Kept.{AreErrors};
+
+use crate::refusal::Refusal;
+use std::alloc::{AllocError, Global};
+use std::marker::Model;
+use tftp_law::By;
+use tftp_packet::{Bytes, Dir, Packet};
+
+/// An ERROR that has passed (RFC 1350, section 5).
+#[derive(Drop)]
+pub struct ErrorText {
+    code: u16,
+    message: Bytes,
+}
+
+impl Model for ErrorText {
+    ghost use Rattle.tftp_judge.specs.Kept.{ErrorText};
+
+    ghost Value = { ErrorText };
+
+    ghost view = { λ e. (e.code, e.message) };
+}
+
+/// The ERROR of each end, and whose came first. An end that sends one sends no other (RFC 1350, section 7).
+#[derive(Drop)]
+pub struct Errors {
+    sent: Option<ErrorText>,
+    heard: Option<ErrorText>,
+    first: Option<(By, u16)>,
+}
+
+impl Model for Errors {
+    ghost use Rattle.tftp_judge.specs.Kept.{Errors};
+
+    ghost Value = { Errors };
+
+    ghost view = { λ e. record { sent = e.sent; heard = e.heard; first = e.first } };
+}
+
+/// Whether a packet is an ERROR (RFC 1350, section 5).
+fn is_error(packet: &Packet<'_>) -> bool
+    ensures { IsTrue result ↔ IsError (meaning packet.now) }
+{
+    matches!(packet, Packet::Error { .. })
+}
+
+/// The end that sent what went this way.
+fn by_of(dir: Dir) -> By
+    ensures { result ≡ by_way dir }
+{
+    match dir {
+        Dir::Out => By::Local,
+        Dir::In => By::Peer,
+    }
+}
+
+impl ErrorText {
+    /// Whether the packet is this ERROR (RFC 1350, section 5).
+    fn is(&self, packet: &Packet<'_>) -> bool
+        ensures { IsTrue result ↔ (meaning packet.now ≡ Message.Error self.now.0 self.now.1) }
+    {
+        match packet {
+            Packet::Error { code, message } => {
+                *code == self.code && *message == self.message.as_slice()
+            }
+            _ => false,
+        }
+    }
+}
+
+impl Errors {
+    /// Of a transfer that has had none.
+    pub fn none() -> Self
+        ensures { AreErrors result [] }
+    {
+        Errors {
+            sent: None,
+            heard: None,
+            first: None,
+        }
+    }
+
+    /// Whether the end that sends this packet goes on after its ERROR. What comes in and is no ERROR may have been sent
+    /// before it (RFC 1350, section 7).
+    pub fn goes_on(&self, dir: Dir, packet: &Packet<'_>) -> bool
+        ensures { (passed : List Datagram) → AreErrors self.now passed → (IsTrue result ↔ GoesOn passed dir (meaning packet.now)) }
+    {
+        match dir {
+            Dir::Out => match &self.sent {
+                Some(sent) => !sent.is(packet),
+                None => false,
+            },
+            Dir::In => match &self.heard {
+                Some(heard) => is_error(packet) && !heard.is(packet),
+                None => false,
+            },
+        }
+    }
+
+    /// Notes an ERROR that goes this way, after which its end has not gone on. Memory is taken for the first one that goes
+    /// this way alone; after want of it nothing has changed.
+    pub fn note(
+        &mut self,
+        alloc: Global,
+        dir: Dir,
+        code: u16,
+        message: &[u8],
+    ) -> Result<(), AllocError>
+        ensures ok { (passed : List Datagram) (d : Datagram) → AreErrors self.old passed → Says d dir (Message.Error code message.now)
+            → (GoesOn passed dir (Message.Error code message.now) → ⊥) → OnOk result (AreErrors self.new (d ∷ passed)) }
+        ensures err { OnErr result (self.new ≡ self.old) }
+    {
+        let kept = match dir {
+            Dir::Out => &mut self.sent,
+            Dir::In => &mut self.heard,
+        };
+        if kept.is_none() {
+            let mut bytes = Vec::new(alloc);
+            bytes.extend_from_slice(message)?;
+            *kept = Some(ErrorText {
+                code,
+                message: Bytes::of(bytes),
+            });
+        }
+        if self.first.is_none() {
+            self.first = Some((by_of(dir), code));
+        }
+        Ok(())
+    }
+
+    /// Whether one has come in.
+    pub fn has_heard(&self) -> bool
+        ensures { (passed : List Datagram) → AreErrors self.now passed → has_stopped passed ≡ result }
+    {
+        self.heard.is_some()
+    }
+
+    /// What there is to say of a transfer that is not whole, after so many datagrams: who ended it, or how many there are
+    /// (RFC 1350, section 7).
+    pub fn unfinished(&self, count: u64) -> Refusal
+        ensures { (passed : List Datagram) → AreErrors self.now passed → IsUnfinished passed count result }
+    {
+        match self.first {
+            Some((by, code)) => Refusal::Aborted(by, code),
+            None => Refusal::Incomplete(count),
+        }
+    }
+}

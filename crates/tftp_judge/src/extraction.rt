@@ -1,0 +1,64 @@
+ghost use Rattle.std.specs.Prelude.{◌≡◌, ℕ, List, Some, true, false, Result};
+ghost use Rattle.std.specs.Io.KnownBytes.{Consumes, IsAtEnd};
+ghost use Rattle.tftp_ends.specs.Meaning.{Meaning};
+ghost use Rattle.tftp_judge.specs.Extracted.{Extracts};
+ghost use Rattle.tftp_judge.specs.TextVerdict.{EndsText, IsTextVerdict, SaysReadFailed};
+ghost use Rattle.tftp_judge.specs.declared.verdict.Verdict.{Verdict as Refused};
+
+use crate::text::judge_text;
+use crate::verdict::Verdict;
+use std::alloc::Global;
+use std::convert::From;
+use std::io::{Read, Write};
+use tftp_capture::{Tallied, WriteFault, write_whole};
+
+/// Why a file was not written, or not whole.
+#[derive(Clone, Copy, Debug, PartialEq, Eq)]
+pub enum OutFault {
+    /// The text is not accepted, and nothing was written.
+    Verdict(Verdict),
+    /// A write failed. A part of the file, from its start, was written.
+    Write,
+}
+
+impl From<Verdict> for OutFault {
+    ghost use Rattle.std.specs.Prelude.{◌≡◌};
+    ghost use Rattle.tftp_judge.specs.declared.extraction.OutFault.{OutFault};
+
+    ghost from_gives = { λ verdict fault. fault ≡ OutFault.Verdict verdict };
+
+    fn from(verdict: Verdict) -> Self {
+        OutFault::Verdict(verdict)
+    }
+}
+
+impl From<WriteFault> for OutFault {
+    ghost use Rattle.std.specs.Prelude.{◌≡◌};
+    ghost use Rattle.tftp_judge.specs.declared.extraction.OutFault.{OutFault};
+
+    ghost from_gives = { λ _ fault. fault ≡ OutFault.Write };
+
+    fn from(_fault: WriteFault) -> Self {
+        OutFault::Write
+    }
+}
+
+/// Writes the file of a capture text that is accepted, and nothing of any other (RFC 1350, section 1). The whole text is
+/// judged before the first byte is written.
+pub fn extract<R: Read, W: Write>(
+    alloc: Global,
+    reader: &mut Tallied<R>,
+    writer: &mut Tallied<W>,
+) -> Result<(), OutFault>
+    requires reading { reader.old.1 ≡ false }
+    requires writing { writer.old.1 ≡ false }
+    ensures extracts { (read : List ℕ) × (said : Result Meaning Refused) × Consumes (R.remaining reader.old.0) (R.remaining reader.new.0) read
+        × IsTextVerdict read said × (EndsText said → IsAtEnd (R.remaining reader.new.0)) × (SaysReadFailed said → reader.new.1 ≡ true)
+        × (reader.new.1 ≡ true → SaysReadFailed said) × Extracts W.contents writer.old writer.new said result }
+    ensures whole { (text : List ℕ) → R.remaining reader.old.0 ≡ Some text → reader.new.1 ≡ false
+        → (said : Result Meaning Refused) × IsTextVerdict text said × Extracts W.contents writer.old writer.new said result }
+{
+    let meaning = judge_text(alloc, reader)?;
+    write_whole(writer, meaning.file())?;
+    Ok(())
+}

@@ -1,0 +1,60 @@
+//! The file of a whole transfer.
+
+ghost use Rattle.std.specs.Prelude.{◌≡◌, ◌/◌, ◌+◌, ◌≤◌, ℕ, List, length, MatchOption, IfOk};
+ghost use Rattle.tftp_ends.specs.Store.{IsHeldFront, IsJoin};
+ghost use Rattle.tftp_law.specs.Fits.{ReadsAs, written_wire};
+ghost use Rattle.tftp_netascii.specs.Netascii.{Reads};
+
+use std::alloc::{AllocError, Global};
+use tftp_ends::Delivered;
+use tftp_netascii::{Decoder, encoded_len};
+use tftp_packet::Mode;
+
+/// The file that the blocks up to the front carry (RFC 1350, section 1).
+pub fn file_of<D: Delivered + Drop>(
+    alloc: Global,
+    mode: Mode,
+    store: D,
+) -> Result<Vec<u8>, AllocError>
+    ensures { IfOk result (λ file. (front : ℕ) → IsHeldFront (D.held store) front
+        → (wire : List ℕ) × IsJoin (D.held store) front wire × ReadsAs mode wire file.items) }
+{
+    match mode {
+        Mode::Octet => store.into_wire(alloc),
+        Mode::Netascii => decoded(alloc, &store),
+    }
+}
+
+/// The file that the blocks up to the front read as in netascii, block by block (RFC 1350, section 1; RFC 764).
+fn decoded<D: Delivered + Drop>(alloc: Global, store: &D) -> Result<Vec<u8>, AllocError>
+    ensures { IfOk result (λ file. (front : ℕ) → IsHeldFront (D.held store.now) front
+        → (wire : List ℕ) × IsJoin (D.held store.now) front wire × Reads wire file.items) }
+{
+    let mut file = Vec::new(alloc);
+    let mut decoder = Decoder::new();
+    for number in 1..=store.front() {
+        if let Some(block) = store.block(number) {
+            decoder.feed(block, &mut file)?;
+        }
+    }
+    decoder.finish(&mut file)?;
+    Ok(file)
+}
+
+/// The number of blocks of the one wire that is written for a file; none where it is above 65535 (RFC 1350, section 5).
+pub fn written_blocks(mode: Mode, blksize: u16, file: &[u8]) -> Option<u16>
+    requires sized { 1 ≤ blksize }
+    ensures { MatchOption result (length (written_wire mode file.now) / blksize + 1 ≤ 65535 → ⊥)
+        (λ blocks. (blocks ≡ length (written_wire mode file.now) / blksize + 1) × (length (written_wire mode file.now) / blksize + 1 ≤ 65535)) }
+{
+    let length = match mode {
+        Mode::Octet => file.len() as u64,
+        Mode::Netascii => encoded_len(file),
+    };
+    let full = length / u64::from(blksize);
+    if full < 65535 {
+        Some(full as u16 + 1)
+    } else {
+        None
+    }
+}

@@ -1,0 +1,32 @@
+use std::alloc::AllocError;
+use std::convert::From;
+use tftp_law::{By, Rule};
+
+/// Why the datagrams of a capture are not accepted.
+#[derive(Clone, Copy, Debug, PartialEq, Eq)]
+pub enum Refusal {
+    /// The first datagram with which no run of two ends is left, counted from 1, and the first rule in the order that it
+    /// breaks.
+    Unlawful(u64, Rule),
+    /// A run shows them, and none as a whole transfer, which an ERROR ended: the end that sent the first one, and its code
+    /// (RFC 1350, section 7).
+    Aborted(By, u16),
+    /// A run shows them, and none as a whole transfer, which no ERROR ended; how many they are.
+    Incomplete(u64),
+    /// A run shows them as a whole transfer, of a text whose canonical form has more than 65535 blocks (RFC 1350, section
+    /// 5).
+    NormalTooLong,
+    /// A growth was refused. The datagrams so far are lawful.
+    Memory,
+}
+
+impl From<AllocError> for Refusal {
+    ghost use Rattle.std.specs.Prelude.{◌≡◌};
+    ghost use Rattle.tftp_judge.specs.declared.refusal.Refusal.{Refusal};
+
+    ghost from_gives = { λ _ refusal. refusal ≡ Refusal.Memory };
+
+    fn from(_error: AllocError) -> Self {
+        Refusal::Memory
+    }
+}

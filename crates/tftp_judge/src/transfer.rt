@@ -1,0 +1,346 @@
+ghost use Rattle.std.specs.Prelude.{◌≡◌, ◌≢◌, ◌≤◌, List, [], ◌∷◌, length, reverse, OnOk, IfErr, Err};
+ghost use Rattle.tftp_packet.specs.Message.{Message};
+ghost use Rattle.tftp_packet.specs.Spelling.{Spells};
+ghost use Rattle.tftp_packet.specs.Meaning.{meaning};
+ghost use Rattle.tftp_packet.specs.Written.{parts, map_of};
+ghost use Rattle.tftp_ends.specs.CaptureText.{Datagram, Header};
+ghost use Rattle.tftp_ends.specs.NamedEnd.{terms_of, IsEndAfter};
+ghost use Rattle.tftp_ends.specs.Ports.{transfer_of};
+ghost use Rattle.tftp_ends.specs.Roles.{author_of as author_by_way};
+ghost use Rattle.tftp_ends.specs.States.{IsBeforeBlocks, Says};
+ghost use Rattle.tftp_ends.specs.declared.terms.Reply.TheVariants.{NoReply, Plain};
+ghost use Rattle.tftp_law.specs.MessageRules.{MessageBreaks, FirstOackBreaks, LaterOackBreaks, OackBreaks, RequestBreaks, TermsBreak, rule_of_end as rule_by_end};
+ghost use Rattle.tftp_law.specs.OneEnded.{OneEnded, IsEnded};
+ghost use Rattle.tftp_law.specs.Rules.{Agrees, FirstAsked, GoesOn, IsWrongKind, plain_terms as plain_terms_of, terms_after};
+ghost use Rattle.tftp_judge.specs.Finds.{Finds, stop_of_fault, IsBlockOrAck};
+ghost use Rattle.tftp_judge.specs.Kept.{AreErrors, Unanswered, IsTransferAfter};
+ghost use Rattle.tftp_judge.specs.Verdict.{IsVerdictByRules};
+ghost use Rattle.tftp_judge.specs.declared.refusal.Refusal.{Refusal as RefusalKind};
+ghost use Rattle.tftp_judge.specs.declared.stop.Stop.{Stop as StopKind};
+
+use crate::course::Course;
+use crate::errors::Errors;
+use crate::file::{file_of, written_blocks};
+use crate::kinds::{author_of, is_wrong_kind};
+use crate::meaning::Meaning;
+use crate::named_end::NamedEnd;
+use crate::refusal::Refusal;
+use crate::stop::Stop;
+use std::alloc::Global;
+use std::marker::Model;
+use tftp_ends::{Delivered, EndRule, Reply, Terms};
+use tftp_law::Rule;
+use tftp_nego::{Agreed, NegoFault, agree, nothing_agreed};
+use tftp_packet::{
+    Dir, End, Mode, OptionsView, Packet, Request, RequestView, Side, same_options, same_request,
+};
+
+/// The transfer from its first request on: what was asked for and answered, the named end, and what it has sent.
+#[derive(Drop)]
+pub struct Transfer<D: Delivered + Drop> {
+    named: End,
+    asked: Request,
+    course: Course<D>,
+    block_sent: bool,
+    ack_sent: bool,
+    errors: Errors,
+}
+
+impl<D: Delivered + Drop> Model for Transfer<D> {
+    ghost use Rattle.tftp_judge.specs.Kept.{Transfer};
+    ghost use Rattle.std.specs.Coded.{codes};
+    ghost use Rattle.tftp_ends.specs.StatesKept.{sender_code, receiver_code};
+    ghost use Rattle.tftp_packet.specs.Owned.{options_code, parts_code};
+    ghost use Rattle.tftp_judge.specs.KeptCode.{course_of};
+
+    ghost Value = { Transfer };
+
+    ghost coded = { Prim.hlevel (codes, sender_code, receiver_code, options_code, parts_code) };
+
+    ghost view = { λ t. record {
+      named = t.named;
+      asked = t.asked;
+      course = course_of t.course;
+      block_sent = t.block_sent;
+      ack_sent = t.ack_sent;
+      errors = t.errors;
+    } };
+}
+
+impl<D: Delivered + Drop> Transfer<D> {
+    /// After the first request of a transfer that is captured at this end (RFC 1350, section 4). Takes no memory.
+    pub fn of(named: End, asked: Request) -> Self
+        ensures asked { result.asked ≡ asked }
+        ensures after { (h : Header) (d : Datagram) → h.named ≡ named → Spells d.payload (Message.Request asked)
+            → IsTransferAfter result h (d ∷ []) }
+    {
+        Transfer {
+            named,
+            asked,
+            course: Course::Unanswered,
+            block_sent: false,
+            ack_sent: false,
+            errors: Errors::none(),
+        }
+    }
+
+    /// What a packet breaks that comes after the first request; where it breaks no rule it is kept. Memory is taken for the
+    /// first OACK, a block that is not held and the first ERROR of an end.
+    pub fn pass(&mut self, alloc: Global, dir: Dir, packet: &Packet<'_>) -> Result<(), Stop>
+        ensures finds { (h : Header) (passed : List Datagram) (d : Datagram) → IsTransferAfter self.old h passed
+            → Says d dir (meaning packet.now)
+            → Finds (MessageBreaks h self.old.asked passed dir (meaning packet.now)) (IsTransferAfter self.new h (d ∷ passed)) result }
+        ensures asked { self.new.asked ≡ self.old.asked }
+    {
+        if is_wrong_kind(author_of(self.named, dir), self.asked.side(), packet) {
+            return Err(Stop::Broken(Rule::WrongKind));
+        }
+        if self.errors.goes_on(dir, packet) {
+            return Err(Stop::Broken(Rule::AfterError));
+        }
+        match packet {
+            Packet::Request(now) => self.pass_request(dir, now),
+            Packet::Error { code, message } => self.pass_error(alloc, dir, *code, message, packet),
+            Packet::Oack(oack) => self.pass_oack(alloc, dir, oack),
+            Packet::Data { .. } | Packet::Ack { .. } => self.pass_block(alloc, dir, packet),
+        }
+    }
+
+    /// A request after the first one: it is not that one again, or it comes after a block or an ACK of the client (RFC
+    /// 1350, section 4).
+    fn pass_request(&mut self, dir: Dir, now: &RequestView<'_>) -> Result<(), Stop>
+        ensures finds { (h : Header) (passed : List Datagram) (d : Datagram) → IsTransferAfter self.old h passed
+            → Says d dir (Message.Request (parts now.now))
+            → Finds (RequestBreaks self.old.asked passed dir (parts now.now)) (IsTransferAfter self.new h (d ∷ passed)) result }
+        ensures asked { self.new.asked ≡ self.old.asked }
+    {
+        if !same_request(&self.asked, now) {
+            return Err(Stop::Broken(Rule::RequestChanged));
+        }
+        if dir == Dir::Out && (self.block_sent || self.ack_sent) {
+            return Err(Stop::Broken(Rule::RequestAfterStart));
+        }
+        Ok(())
+    }
+
+    /// An ERROR breaks none of these rules (RFC 1350, section 7).
+    fn pass_error(
+        &mut self,
+        alloc: Global,
+        dir: Dir,
+        code: u16,
+        message: &[u8],
+        packet: &Packet<'_>,
+    ) -> Result<(), Stop>
+        requires { meaning packet.now ≡ Message.Error code message.now }
+        ensures ok { (h : Header) (passed : List Datagram) (d : Datagram) → IsTransferAfter self.old h passed
+            → Says d dir (Message.Error code message.now) → (GoesOn passed dir (Message.Error code message.now) → ⊥)
+            → OnOk result (IsTransferAfter self.new h (d ∷ passed)) }
+        ensures err { IfErr result (λ stop. stop ≡ StopKind.Memory) }
+        ensures asked { self.new.asked ≡ self.old.asked }
+    {
+        self.errors.note(alloc, dir, code, message)?;
+        self.course.pass(alloc, dir, packet)?;
+        Ok(())
+    }
+
+    /// An OACK, by how the request was answered before (RFC 2347).
+    fn pass_oack(&mut self, alloc: Global, dir: Dir, oack: &OptionsView<'_>) -> Result<(), Stop>
+        ensures finds { (h : Header) (passed : List Datagram) (d : Datagram) → IsTransferAfter self.old h passed
+            → Says d dir (Message.Oack (map_of oack.now))
+            → Finds (OackBreaks self.old.asked passed dir (map_of oack.now)) (IsTransferAfter self.new h (d ∷ passed)) result }
+        ensures asked { self.new.asked ≡ self.old.asked }
+    {
+        match &self.course {
+            Course::Begun(_) => Err(Stop::Broken(Rule::ReplyChanged)),
+            Course::Agreed(first, _) => self.later_oack(dir, first, oack),
+            Course::Unanswered => self.first_oack(alloc, oack),
+        }
+    }
+
+    /// What an OACK breaks after the first one: it is not that one again, or the server of a read sends it after a block
+    /// (RFC 2347).
+    fn later_oack(&self, dir: Dir, first: &Agreed, oack: &OptionsView<'_>) -> Result<(), Stop>
+        ensures { (h : Header) (passed : List Datagram) → IsTransferAfter self.now h passed
+            → Finds (LaterOackBreaks self.now.asked.side passed dir first.now (map_of oack.now)) (Unit {0}) result }
+    {
+        if !same_options(first.options(), oack) {
+            return Err(Stop::Broken(Rule::OackChanged));
+        }
+        if dir == Dir::Out && self.asked.side() == Side::Get && self.block_sent {
+            return Err(Stop::Broken(Rule::OackAfterStart));
+        }
+        Ok(())
+    }
+
+    /// What the first OACK breaks: it has no option, or one that may not be agreed (RFC 2347; RFC 2348; RFC 2349;
+    /// RFC 7440, section 3). Else the named end begins.
+    fn first_oack(&mut self, alloc: Global, oack: &OptionsView<'_>) -> Result<(), Stop>
+        requires { self.old.course ≡ Unanswered }
+        ensures finds { (h : Header) (passed : List Datagram) (d : Datagram) → IsTransferAfter self.old h passed
+            → Spells d.payload (Message.Oack (map_of oack.now))
+            → Finds (FirstOackBreaks self.old.asked (map_of oack.now)) (IsTransferAfter self.new h (d ∷ passed)) result }
+        ensures asked { self.new.asked ≡ self.old.asked }
+    {
+        let agreed = match agree(alloc, &self.asked, oack) {
+            Ok(agreed) => agreed,
+            Err(fault) => return Err(stop_of(fault)),
+        };
+        let end = self.begin(alloc, agreed_terms(self.named, &self.asked, &agreed));
+        self.course = Course::Agreed(agreed, end);
+        Ok(())
+    }
+
+    /// The named end, which begins with the first answer (RFC 1350, section 4; RFC 2347). Takes no memory.
+    fn begin(&self, alloc: Global, terms: Terms) -> NamedEnd<D>
+        requires replied { terms.reply ≢ NoReply }
+        requires blksize { 8 ≤ terms.blksize }
+        requires windowsize { 1 ≤ terms.windowsize }
+        ensures terms { terms_of result ≡ terms }
+        ensures before { (passed : List Datagram) → AreErrors self.now.errors passed → IsBeforeBlocks passed → IsEndAfter result passed }
+    {
+        let store = D::new(alloc, terms.blksize, terms.windowsize);
+        NamedEnd::new(terms, store, self.errors.has_heard())
+    }
+
+    /// A block or an ACK, by the rules of these (RFC 1350, sections 2, 4 and 5; RFC 7440, section 4).
+    fn pass_block(&mut self, alloc: Global, dir: Dir, packet: &Packet<'_>) -> Result<(), Stop>
+        requires { IsBlockOrAck (meaning packet.now) }
+        ensures finds { (h : Header) (passed : List Datagram) (d : Datagram) → IsTransferAfter self.old h passed
+            → Says d dir (meaning packet.now)
+            → (IsWrongKind (author_by_way h.named dir) self.old.asked.side (meaning packet.now) → ⊥)
+            → Finds (TermsBreak h self.old.asked passed (meaning packet.now)) (IsTransferAfter self.new h (d ∷ passed)) result }
+        ensures asked { self.new.asked ≡ self.old.asked }
+    {
+        if let Course::Unanswered = &self.course {
+            self.pass_answer(alloc, dir, packet)?;
+        } else {
+            if let Err(rule) = self.course.may_pass(packet) {
+                return Err(Stop::Broken(rule_of_end(rule)));
+            }
+            self.course.pass(alloc, dir, packet)?;
+        }
+        self.note_sent(dir, packet);
+        Ok(())
+    }
+
+    /// The first block of a read, or the ACK 0 of a write, which answers the request without an OACK (RFC 1350, section
+    /// 4).
+    fn pass_answer(&mut self, alloc: Global, dir: Dir, packet: &Packet<'_>) -> Result<(), Stop> {
+        if let (Side::Put, Packet::Data { .. }) = (self.asked.side(), packet) {
+            return Err(Stop::Broken(Rule::NotStarted));
+        }
+        let mut end = self.begin(alloc, plain_terms(self.named, self.asked.side()));
+        if let Err(rule) = end.may_pass(packet) {
+            return Err(Stop::Broken(rule_of_end(rule)));
+        }
+        end.pass(alloc, dir, packet)?;
+        self.course = Course::Begun(end);
+        Ok(())
+    }
+
+    /// What the transfer means, or why it is none that is whole, after so many datagrams.
+    pub fn finish(self, alloc: Global, count: u64) -> Result<Meaning, Refusal>
+        ensures verdict { (h : Header) (earlier : List Datagram) → OneEnded h earlier → FirstAsked h earlier self.asked
+            → IsTransferAfter self h (transfer_of h earlier) → count ≡ length earlier → IsVerdictByRules h (reverse earlier) result }
+        ensures memory { (h : Header) (earlier : List Datagram) → OneEnded h earlier → FirstAsked h earlier self.asked
+            → IsTransferAfter self h (transfer_of h earlier) → result ≡ Err RefusalKind.Memory → IsEnded h earlier }
+    {
+        let Transfer {
+            asked,
+            course,
+            errors,
+            ..
+        } = self;
+        let (agreed, end) = match course {
+            Course::Unanswered => return Err(errors.unfinished(count)),
+            Course::Begun(end) => (nothing_agreed(alloc), end),
+            Course::Agreed(agreed, end) => (agreed, end),
+        };
+        if !end.done() {
+            return Err(errors.unfinished(count));
+        }
+        let file = file_of(alloc, asked.mode(), end.into_store())?;
+        let Some(blocks) = written_blocks(asked.mode(), agreed.blksize(), file.as_slice()) else {
+            return Err(Refusal::NormalTooLong);
+        };
+        Ok(Meaning::of(asked, agreed.into_options(), file, blocks))
+    }
+
+    /// Notes what the named end has sent.
+    fn note_sent(&mut self, dir: Dir, packet: &Packet<'_>) {
+        if dir == Dir::Out {
+            match packet {
+                Packet::Data { .. } => self.block_sent = true,
+                Packet::Ack { .. } => self.ack_sent = true,
+                _ => {}
+            }
+        }
+    }
+}
+
+/// What is known where nothing is agreed (RFC 1350, section 2).
+fn plain_terms(named: End, side: Side) -> Terms
+    ensures { (h : Header) → h.named ≡ named → result ≡ plain_terms_of h side Plain }
+{
+    Terms {
+        named,
+        side,
+        reply: Reply::Plain,
+        blksize: 512,
+        windowsize: 1,
+        size: None,
+    }
+}
+
+/// What is known where these options are agreed (RFC 2348; RFC 2349; RFC 7440).
+fn agreed_terms(named: End, asked: &Request, agreed: &Agreed) -> Terms
+    ensures are { (h : Header) → h.named ≡ named → result ≡ terms_after h asked.now (Agrees agreed.now) }
+    ensures blksize { 8 ≤ result.blksize }
+    ensures windowsize { 1 ≤ result.windowsize }
+{
+    Terms {
+        named,
+        side: asked.side(),
+        reply: Reply::Oacked,
+        blksize: agreed.blksize(),
+        windowsize: agreed.windowsize(),
+        size: match asked.mode() {
+            Mode::Octet => agreed.tsize(),
+            Mode::Netascii => None,
+        },
+    }
+}
+
+/// Why an OACK that may not be agreed to does not pass (RFC 2347).
+fn stop_of(fault: NegoFault) -> Stop
+    ensures { result ≡ stop_of_fault fault }
+{
+    match fault {
+        NegoFault::OackEmpty => Stop::Broken(Rule::OackEmpty),
+        NegoFault::MulticastAgreed => Stop::Broken(Rule::MulticastAgreed),
+        NegoFault::OptionNotRequested => Stop::Broken(Rule::OptionNotRequested),
+        NegoFault::OptionOutsideProfile => Stop::Broken(Rule::OptionOutsideProfile),
+        NegoFault::OptionValue => Stop::Broken(Rule::OptionValue),
+        NegoFault::BeyondBlock65535 => Stop::Broken(Rule::BeyondBlock65535),
+        NegoFault::Memory => Stop::Memory,
+    }
+}
+
+/// A rule of blocks and acknowledgements (RFC 1350, section 2; RFC 7440, section 4) among all rules.
+fn rule_of_end(rule: EndRule) -> Rule
+    ensures { result ≡ rule_by_end rule }
+{
+    match rule {
+        EndRule::NotStarted => Rule::NotStarted,
+        EndRule::BlockZero => Rule::BlockZero,
+        EndRule::BeyondBlock65535 => Rule::BeyondBlock65535,
+        EndRule::BlockLength => Rule::BlockLength,
+        EndRule::WindowOverrun => Rule::WindowOverrun,
+        EndRule::BlockSkipped => Rule::BlockSkipped,
+        EndRule::GoneBack => Rule::GoneBack,
+        EndRule::BlockChanged => Rule::BlockChanged,
+        EndRule::AckAhead => Rule::AckAhead,
+        EndRule::AckZero => Rule::AckZero,
+    }
+}
