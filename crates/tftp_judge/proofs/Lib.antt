@@ -1,2 +1,3 @@
 pub mod FirstAnswers
 pub mod PassFound
+pub mod Accepting
