@@ -1,5 +1,6 @@
 -- The part of the named end, as code keeps it.
-use Rattle.std.specs.Prelude.{◌≡◌, ◌⊎◌, inl, inr, refl}
+use mathlib.Core.Logic.{inl, inr}
+use Rattle.std.specs.Prelude.{◌≡◌, ◌⊎◌, refl}
 use Rattle.std.specs.Coded.{Coded, code_by, coded⊎}
 use Rattle.tftp_ends.specs.NamedEnd.{NamedEnd, Sends, Receives}
 use Rattle.tftp_ends.specs.States.{Sender, Receiver}

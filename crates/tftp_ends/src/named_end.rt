@@ -1,13 +1,18 @@
-ghost use Rattle.std.specs.Prelude.{◌≡◌, ◌≢◌, ◌↔◌, ◌≤◌, List, ◌∷◌, IsTrue, true, OnOk, OnErr, IfErr};
+ghost use Rattle.std.specs.Prelude.{◌≡◌, ◌≢◌, ◌↔◌, ℕ, ◌≤◌, List, ◌∷◌, IsTrue, true, OnOk, OnErr, IfErr};
+ghost use Rattle.tftp_packet.specs.Message.{Data, Ack, Error};
 ghost use Rattle.tftp_packet.specs.Meaning.{meaning};
+ghost use Rattle.tftp_packet.specs.declared.kinds.Dir.TheVariants.{In};
 ghost use Rattle.tftp_ends.specs.CaptureText.{Datagram};
-ghost use Rattle.tftp_ends.specs.Rules.{EndBroken, FirstEndBroken};
+ghost use Rattle.tftp_ends.specs.Roles.{sender_of as sends};
+ghost use Rattle.tftp_ends.specs.Rules.{IsSender, IsReceiver, EndBroken, FirstEndBroken};
 ghost use Rattle.tftp_ends.specs.Store.{nothing_held};
 ghost use Rattle.tftp_ends.specs.States.{has_stopped, IsBeforeBlocks, Says};
 ghost use Rattle.tftp_ends.specs.NamedEnd.{
   terms_of,
   held_of,
   IsEndAfter,
+  IsEndWith,
+  stopped_end,
   IsEndDone,
   IsNewBlock,
   IsOfItsAuthor,
@@ -63,20 +68,63 @@ impl<D: Delivered> NamedEnd<D> {
         ensures terms { terms_of result ≡ terms }
         ensures before { (passed : List Datagram) → IsBeforeBlocks passed → has_stopped passed ≡ stopped → IsEndAfter result passed }
     {
-        let sender = match terms.side {
-            Side::Get => End::Server,
-            Side::Put => End::Client,
-        };
-        let oacked = terms.reply == Reply::Oacked;
-        let mut end = if terms.named == sender {
-            NamedEnd::sender(terms, oacked, store)
+        let mut end = if terms.named == sender_of(terms.side) {
+            NamedEnd::sender(terms, store)
         } else {
-            NamedEnd::receiver(terms, oacked, store)
+            NamedEnd::receiver(terms, store)
         };
         if stopped {
             end.peer_stopped();
         }
         end
+    }
+
+    /// The end that sends the file.
+    fn sender(terms: Terms, store: D) -> Self
+        requires sends { IsSender terms }
+        requires replied { terms.reply ≢ NoReply }
+        requires blksize { 8 ≤ terms.blksize }
+        requires windowsize { 1 ≤ terms.windowsize }
+        requires empty { D.held store ≡ nothing_held }
+        requires block_size { D.block_size store ≡ terms.blksize }
+        requires window { D.window store ≡ terms.windowsize }
+        ensures terms { terms_of result ≡ terms }
+        ensures before { (passed : List Datagram) → IsBeforeBlocks passed → IsEndWith (has_stopped passed) result passed }
+    {
+        NamedEnd {
+            part: Part::Sends(SenderState::new(
+                terms.side,
+                terms.reply == Reply::Oacked,
+                terms.blksize,
+                terms.windowsize,
+                terms.size,
+                store,
+            )),
+        }
+    }
+
+    /// The end that gets the file.
+    fn receiver(terms: Terms, store: D) -> Self
+        requires receives { IsReceiver terms }
+        requires replied { terms.reply ≢ NoReply }
+        requires blksize { 8 ≤ terms.blksize }
+        requires windowsize { 1 ≤ terms.windowsize }
+        requires empty { D.held store ≡ nothing_held }
+        requires block_size { D.block_size store ≡ terms.blksize }
+        requires window { D.window store ≡ terms.windowsize }
+        ensures terms { terms_of result ≡ terms }
+        ensures before { (passed : List Datagram) → IsBeforeBlocks passed → IsEndWith (has_stopped passed) result passed }
+    {
+        NamedEnd {
+            part: Part::Receives(ReceiverState::new(
+                terms.side,
+                terms.reply == Reply::Oacked,
+                terms.blksize,
+                terms.windowsize,
+                terms.size,
+                store,
+            )),
+        }
     }
 
     /// Whether a block or an ACK may pass, or the first rule that it breaks (RFC 1350, sections 2, 4 and 5; RFC 2347;
@@ -88,14 +136,38 @@ impl<D: Delivered> NamedEnd<D> {
             → IfErr result (FirstEndBroken (terms_of self.now) passed (meaning packet.now)) }
         ensures may { OnOk result (MayKeep self.now (meaning packet.now)) }
     {
-        match (&self.part, packet) {
-            (Part::Sends(sender), Packet::Data { block, bytes }) => sender.may_data(*block, bytes),
-            (Part::Sends(sender), Packet::Ack { block }) => sender.may_ack(*block),
-            (Part::Receives(receiver), Packet::Data { block, bytes }) => receiver.may_data(
-                *block, bytes,
-            ),
-            (Part::Receives(receiver), Packet::Ack { block }) => receiver.may_ack(*block),
-            _ => Ok(()),
+        match packet {
+            Packet::Data { block, bytes } => self.may_data(*block, bytes),
+            Packet::Ack { block } => self.may_ack(*block),
+            Packet::Request(_) | Packet::Oack(_) | Packet::Error { .. } => Ok(()),
+        }
+    }
+
+    /// Whether a block may pass, or the first rule that it breaks.
+    fn may_data(&self, number: u16, bytes: &[u8]) -> Result<(), EndFault>
+        ensures lawful { (passed : List Datagram) → IsEndAfter self.now passed
+            → OnOk result ((rule : Rule) → EndBroken (terms_of self.now) passed (Data number bytes.now) rule → ⊥) }
+        ensures first { (passed : List Datagram) → IsEndAfter self.now passed
+            → IfErr result (FirstEndBroken (terms_of self.now) passed (Data number bytes.now)) }
+        ensures may { OnOk result (MayKeep self.now (Data number bytes.now)) }
+    {
+        match &self.part {
+            Part::Sends(sender) => sender.may_data(number, bytes),
+            Part::Receives(receiver) => receiver.may_data(number, bytes),
+        }
+    }
+
+    /// Whether an ACK may pass, or the first rule that it breaks.
+    fn may_ack(&self, number: u16) -> Result<(), EndFault>
+        ensures lawful { (passed : List Datagram) → IsEndAfter self.now passed
+            → OnOk result ((rule : Rule) → EndBroken (terms_of self.now) passed (Ack number) rule → ⊥) }
+        ensures first { (passed : List Datagram) → IsEndAfter self.now passed
+            → IfErr result (FirstEndBroken (terms_of self.now) passed (Ack number)) }
+        ensures may { OnOk result (MayKeep self.now (Ack number)) }
+    {
+        match &self.part {
+            Part::Sends(sender) => sender.may_ack(number),
+            Part::Receives(receiver) => receiver.may_ack(number),
         }
     }
 
@@ -109,19 +181,58 @@ impl<D: Delivered> NamedEnd<D> {
         ensures absent { OnErr result (IsNewBlock self.old (meaning packet.now)) }
         ensures terms { terms_of self.new ≡ terms_of self.old }
     {
-        match (&mut self.part, packet) {
-            (Part::Sends(sender), Packet::Data { block, bytes }) => sender.sent(
-                alloc, *block, bytes,
-            )?,
-            (Part::Sends(sender), Packet::Ack { block }) => sender.got_ack(*block),
-            (Part::Receives(receiver), Packet::Data { block, bytes }) => receiver.take_data(
-                alloc, *block, bytes,
-            )?,
-            (Part::Receives(receiver), Packet::Ack { block }) => receiver.sent_ack(*block),
-            (_, Packet::Error { .. }) if dir == Dir::In => self.peer_stopped(),
-            _ => {}
+        match packet {
+            Packet::Data { block, bytes } => self.pass_data(alloc, *block, bytes)?,
+            Packet::Ack { block } => self.pass_ack(*block),
+            Packet::Error { .. } => {
+                if dir == Dir::In {
+                    self.peer_stopped();
+                }
+            }
+            Packet::Request(_) => {}
+            Packet::Oack(_) => {}
         }
         Ok(())
+    }
+
+    /// Keeps a block.
+    fn pass_data(&mut self, alloc: Global, number: u16, bytes: &[u8]) -> Result<(), AllocError>
+        requires { MayKeep self.old (Data number bytes.now) }
+        ensures ok { (passed : List Datagram) (d : Datagram) (dir : Dir) → IsEndAfter self.old passed → Says d dir (Data number bytes.now)
+            → IsOfItsAuthor (terms_of self.old) dir (Data number bytes.now) → OnOk result (IsEndAfter self.new (d ∷ passed)) }
+        ensures err { OnErr result (self.new ≡ self.old) }
+        ensures absent { OnErr result (IsNewBlock self.old (Data number bytes.now)) }
+        ensures terms { terms_of self.new ≡ terms_of self.old }
+    {
+        match &mut self.part {
+            Part::Sends(sender) => sender.sent(alloc, number, bytes),
+            Part::Receives(receiver) => receiver.take_data(alloc, number, bytes),
+        }
+    }
+
+    /// Notes an ACK.
+    fn pass_ack(&mut self, number: u16)
+        requires { MayKeep self.old (Ack number) }
+        ensures after { (passed : List Datagram) (d : Datagram) (dir : Dir) → IsEndAfter self.old passed → Says d dir (Ack number)
+            → IsOfItsAuthor (terms_of self.old) dir (Ack number) → IsEndAfter self.new (d ∷ passed) }
+        ensures terms { terms_of self.new ≡ terms_of self.old }
+    {
+        match &mut self.part {
+            Part::Sends(sender) => sender.got_ack(number),
+            Part::Receives(receiver) => receiver.sent_ack(number),
+        }
+    }
+
+    /// Notes that an ERROR comes in (RFC 1350, section 7).
+    fn peer_stopped(&mut self)
+        ensures after { (passed : List Datagram) (d : Datagram) (code : ℕ) (text : List ℕ) → IsEndAfter self.old passed
+            → Says d In (Error code text) → IsEndAfter self.new (d ∷ passed) }
+        ensures value { self.new ≡ stopped_end self.old }
+    {
+        match &mut self.part {
+            Part::Sends(sender) => sender.peer_stopped(),
+            Part::Receives(receiver) => receiver.peer_stopped(),
+        }
     }
 
     /// Whether the transfer is over at this end (RFC 1350, section 6).
@@ -144,5 +255,15 @@ impl<D: Delivered> NamedEnd<D> {
             Part::Sends(sender) => sender.into_store(),
             Part::Receives(receiver) => receiver.into_store(),
         }
+    }
+}
+
+/// The end that sends the file (RFC 1350, section 1).
+fn sender_of(side: Side) -> End
+    ensures { result ≡ sends side }
+{
+    match side {
+        Side::Get => End::Server,
+        Side::Put => End::Client,
     }
 }

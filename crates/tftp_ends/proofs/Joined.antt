@@ -9,7 +9,7 @@ use Rattle.tftp_packet.specs.Message.{Message}
 use Rattle.tftp_ends.specs.CaptureText.{Datagram}
 use Rattle.tftp_ends.specs.Blocks.{block, block_count}
 use Rattle.tftp_ends.specs.Rules.{HasPassed}
-use Rattle.tftp_law.specs.OneEnded.{IsJoined}
+use Rattle.tftp_ends.specs.Joined.{IsJoined}
 
 pub length_block : (b k : ℕ) (v : List ℕ) → length (block b v k) ≡ min b (length v - (k - 1) * b)
 length_block b k v = length-take b (drop ((k - 1) * b) v) ∙ ap (min b) (length-drop ((k - 1) * b) v)
