@@ -1,5 +1,5 @@
 -- The blocks that are held, joined, are a wire whose blocks they are.
-use Rattle.std.proofs.Common.{◌≡◌, ℕ, zero, suc, ◌+◌, ◌-◌, ◌*◌, ◌/◌, ◌<◌, ◌≤◌, List, ◌++◌, length, Some, None, inl, inr, refl, sym, subst, ap, ◌∙◌, arith}
+use Rattle.std.proofs.Common.{◌≡◌, ℕ, zero, suc, ◌+◌, ◌-◌, ◌*◌, ◌/◌, ◌<◌, ◌≤◌, List, length, Some, None, inl, inr, refl, sym, ap, ◌∙◌, arith}
 use Rattle.std.proofs.Math.Nat.{zero-mul, suc-mul}
 use Rattle.std.proofs.lemmas.Nat.{div-mul-add}
 use Rattle.std.proofs.lemmas.List.{length-append}
@@ -10,10 +10,9 @@ use Rattle.tftp_ends.specs.Blocks.{block, block_count}
 use Rattle.tftp_ends.specs.Joined.{IsJoined}
 use Rattle.tftp_ends.specs.Store.{Held, IsHeldFront, IsJoin}
 use Rattle.tftp_ends.specs.States.{AreBlocks, IsHeld}
-use Rattle.tftp_ends.specs.StatesKept.{IsSound, IsEnd, AreWholeBelow}
+use Rattle.tftp_ends.specs.StatesKept.{IsEnd, AreWholeBelow}
 use Rattle.tftp_ends.specs.declared.terms.Terms.{Terms}
 use Rattle.tftp_ends.proofs.Joined.{block_added, block_kept}
-use Rattle.tftp_ends.proofs.Orderly.{front_unique}
 
 -- whole blocks joined have this size
 join_size : (b : ℕ) (held : Held) (n : ℕ) (wire : List ℕ) → AreWholeBelow b held (n + 1) → IsJoin held n wire → length wire ≡ n * b

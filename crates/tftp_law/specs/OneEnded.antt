@@ -54,11 +54,6 @@ IsAgreed asked passed agreed =
     FirstAnswer asked.side passed (Agrees agreed)
     ⊎ ((agreed ≡ no_options) × ((options : OptionMap) → FirstAnswer asked.side passed (Agrees options) → ⊥))
 
--- the wire whose blocks have passed, up to the last
-pub record IsJoined (b : ℕ) (passed : List Datagram) (last : ℕ) (wire : List ℕ) : Type 0 where
-  pub count : block_count b wire ≡ last
-  pub blocks : (k : ℕ) → 1 ≤ k → k ≤ last → HasPassed (Message.Data k (block b wire k)) passed
-
 -- the datagrams break no rule, and are a whole transfer
 pub record IsEnded (h : Header) (earlier : List Datagram) : Type 0 where
   pub lawful : OneEnded h earlier
