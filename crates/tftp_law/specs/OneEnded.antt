@@ -1,15 +1,15 @@
 -- When the datagrams of a capture are lawful one after another, by the rules, and when they are a whole transfer.
 -- The list `earlier` has the datagrams that have passed, the newest first.
-use Rattle.std.specs.Prelude.{◌≡◌, ◌⊎◌, ℕ, ◌≤◌, List, [], ◌∷◌}
+use Rattle.std.specs.Prelude.{◌≡◌, ◌⊎◌, ℕ, List, [], ◌∷◌}
 use Rattle.tftp_packet.specs.OptionMap.{OptionMap, no_options}
 use Rattle.tftp_packet.specs.Message.{Message, RequestParts}
 use Rattle.tftp_packet.specs.Spelling.{Spells}
 use Rattle.tftp_ends.specs.CaptureText.{Datagram, Header}
 use Rattle.tftp_ends.specs.Meaning.{Meaning, request_of}
-use Rattle.tftp_ends.specs.Blocks.{block, block_count}
+pub use Rattle.tftp_ends.specs.Joined.{IsJoined}
 use Rattle.tftp_ends.specs.Ports.{route_of, transfer_of, SaysUnknownId}
 use Rattle.tftp_ends.specs.declared.route.Route.{Route}
-use Rattle.tftp_ends.specs.Rules.{Passed, HasPassed, IsFront, IsLast, IsSender, IsReceiver}
+use Rattle.tftp_ends.specs.Rules.{Passed, IsFront, IsLast, IsSender, IsReceiver}
 use Rattle.tftp_ends.specs.declared.terms.Terms.{Terms}
 use Rattle.tftp_packet.specs.declared.kinds.Dir.TheVariants.{In, Out}
 use Rattle.tftp_law.specs.Fits.{ReadsAs}

@@ -23,7 +23,7 @@ impl Model for Agreed {
 }
 
 impl Agreed {
-    ghost use Rattle.std.specs.Prelude.{◌≡◌, ◌↔◌, IsTrue, codes, option_and_then};
+    ghost use Rattle.std.specs.Prelude.{◌≡◌, ◌↔◌, ◌≤◌, IsTrue, codes, option_and_then};
     ghost use Rattle.std.specs.FinMap as map;
     ghost use Rattle.tftp_packet.specs.OptionMap.{no_options, number_in};
     ghost use Rattle.tftp_nego.specs.Agreed.{AreInRange};
@@ -40,7 +40,8 @@ impl Agreed {
     /// How many bytes a block has that is not the last: 8 to 65464, and 512 where nothing else is agreed
     /// (RFC 1350, section 2; RFC 2348).
     pub fn blksize(&self) -> u16
-        ensures { result ≡ option_or 512 self.now (codes "blksize") }
+        ensures value { result ≡ option_or 512 self.now (codes "blksize") }
+        ensures sized { (8 ≤ result) × (result ≤ 65464) }
     {
         match self.options.get(b"blksize") {
             Some(Value::Num(size)) => *size as u16,
@@ -51,7 +52,8 @@ impl Agreed {
     /// How many blocks may be sent after an acknowledged one: 1 to 65535, and 1 where nothing else is agreed
     /// (RFC 1350, section 2; RFC 7440, section 3).
     pub fn windowsize(&self) -> u16
-        ensures { result ≡ option_or 1 self.now (codes "windowsize") }
+        ensures value { result ≡ option_or 1 self.now (codes "windowsize") }
+        ensures sized { 1 ≤ result }
     {
         match self.options.get(b"windowsize") {
             Some(Value::Num(size)) => *size as u16,
@@ -92,6 +94,13 @@ impl Agreed {
         ensures { result.now ≡ self.now }
     {
         &self.options
+    }
+
+    /// The agreed options by their names. Takes no memory.
+    pub fn into_options(self) -> Options
+        ensures { result ≡ self }
+    {
+        self.options
     }
 }
 
