@@ -100,7 +100,8 @@ impl Agreed {
     pub fn into_options(self) -> Options
         ensures { result ≡ self }
     {
-        self.options
+        let Agreed { options } = self;
+        options
     }
 }
 
