@@ -80,7 +80,7 @@ impl Delivered for RingDelivered {
         // All growths come before the first change.
         let place = (number - self.front - 1) as usize;
         if place > 0 {
-            let waiting = self.waiting as usize * self.block_size as usize;
+            let waiting = usize::from(self.waiting) * usize::from(self.block_size);
             self.pending.hold(alloc, waiting, place, bytes)?;
             self.waiting += 1;
             return Ok(Placed::New);
