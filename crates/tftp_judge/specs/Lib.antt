@@ -4,5 +4,4 @@ pub mod Ending
 pub mod Kept
 pub mod KeptCode
 pub mod Finds
-pub mod Parts
 pub mod Extracted

@@ -3,9 +3,8 @@ ghost use Rattle.tftp_packet.specs.Meaning.{meaning};
 ghost use Rattle.tftp_ends.specs.CaptureText.{Datagram};
 ghost use Rattle.tftp_ends.specs.States.{Says};
 
-use crate::named_end::NamedEnd;
 use std::alloc::{AllocError, Global};
-use tftp_ends::{Delivered, EndFault};
+use tftp_ends::{Delivered, EndFault, NamedEnd};
 use tftp_nego::Agreed;
 use tftp_packet::{Dir, Packet};
 

@@ -8,7 +8,6 @@ mod file;
 mod judging;
 mod kinds;
 mod meaning;
-mod named_end;
 mod refusal;
 mod stop;
 mod text;

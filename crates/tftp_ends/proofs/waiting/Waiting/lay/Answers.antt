@@ -4,7 +4,7 @@ use Rattle.tftp_ends.specs.declared.waiting.Span.{Span}
 use Rattle.tftp_ends.specs.Slots.{placed}
 use Rattle.tftp_ends.specs.Spans.{shown, AreWithin}
 use Rattle.tftp_ends.proofs.Spans.{within_more, within_placed, shown_held}
-use Rattle.tftp_ends.proofs.waiting.Waiting.hold.Goals as goal
+use Rattle.tftp_ends.proofs.waiting.Waiting.lay.Goals as goal
 
 pub invariant_of-self-2 : goal.invariant_of-self-2
 invariant_of-self-2 c =
