@@ -1,2 +1,6 @@
 pub mod FirstAnswers
+mod FirstFaults
+mod Follows
 pub mod PassFound
+mod TextFound
+mod WantOfMemory
