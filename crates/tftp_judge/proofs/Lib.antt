@@ -1,2 +1,6 @@
 pub mod FirstAnswers
 pub mod PassFound
+pub mod Ended
+pub mod ByRuns
+pub mod ErrorsAside
+pub mod ErrorsNoted
