@@ -4,3 +4,4 @@ pub mod Ended
 pub mod ByRuns
 pub mod ErrorsAside
 pub mod ErrorsNoted
+pub mod BlocksDecoded
