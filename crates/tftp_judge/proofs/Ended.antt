@@ -55,7 +55,7 @@ small_ack dir j [] p = absurd p
 small_ack dir j (d ∷ passed) (inl (way, (bytes, (x, y, (small, also, is), text)))) = omega arith
 small_ack dir j (d ∷ passed) (inr before) = small_ack dir j passed before
 
-end_is : (named : End) (side : Side) → (named ≡ receiver_of side) ⊎ (named ≡ sender_of side)
+pub end_is : (named : End) (side : Side) → (named ≡ receiver_of side) ⊎ (named ≡ sender_of side)
 end_is Client Get = inl refl
 end_is Server Get = inr refl
 end_is Client Put = inr refl

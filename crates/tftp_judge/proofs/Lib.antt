@@ -5,3 +5,5 @@ pub mod ByRuns
 pub mod ErrorsAside
 pub mod ErrorsNoted
 pub mod BlocksDecoded
+pub mod WhoAcknowledges
+pub mod EndedTransfer
