@@ -5,3 +5,10 @@ pub mod PassFound
 pub mod Accepting
 mod TextFound
 mod WantOfMemory
+pub mod Ended
+pub mod ByRuns
+pub mod ErrorsAside
+pub mod ErrorsNoted
+pub mod BlocksDecoded
+pub mod WhoAcknowledges
+pub mod EndedTransfer
