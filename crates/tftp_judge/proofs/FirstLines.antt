@@ -1,10 +1,10 @@
 -- A capture begins with each of its first datagrams.
 use Rattle.std.proofs.Common.{◌≡◌, ℕ, ◌+◌, ◌^◌, ◌≤◌, ◌==◌, Bool, true, false, cond, List, [], ◌∷◌, ◌++◌, length, All, refl, sym, ap, ◌∙◌, subst, arith, append_assoc, append-nil, length-append}
 use Rattle.std.specs.List.{AllZip, join_with_byte, slice_split}
-use Rattle.std.proofs.lemmas.List.{flat_map-append}
+use Rattle.std.proofs.lemmas.List.Concat.{flat_map-append}
 use Rattle.std.proofs.lemmas.List.Elements.{All-cons, All-head, All-nil, All-tail}
 use Rattle.std.proofs.lemmas.List.Splits.{join_with_byte-slice_split}
-use Rattle.tftp_capture.specs.CaptureText.{Begins, BeginsWith, Header, IsCapture, Numbered, SaysDatagram, SaysDatagrams, Stands, end_line, head_line, longest_line, said, says_nothing, service_line, whole_lines}
+use Rattle.tftp_capture.specs.CaptureText.{Begins, BeginsWith, Header, IsCapture, Numbered, SaysDatagram, SaysDatagrams, end_line, head_line, longest_line, said, says_nothing, service_line, whole_lines}
 use Rattle.tftp_capture.specs.CaptureText.Due.{Body}
 use Rattle.tftp_capture.specs.declared.version.Version.{Version}
 use Rattle.tftp_capture.proofs.Beginnings.{capture_begins}
@@ -34,8 +34,7 @@ said_front n (l ∷ ls) (x ∷ xs) ys e =
           let more = said_front (n + 1) ls (x ∷ xs) ys k in
           (l ∷ more.0, more.1, ap (λ z. l ∷ z) more.2, ap (λ v. cond v (said (n + 1) more.0) ((n, l) ∷ said (n + 1) more.0)) (sym t) ∙ more.3)
       | false ↦ λ t k.
-          let more = said_front (n + 1) ls xs ys (tail_same (n, l) x (said (n + 1) ls) (xs ++ ys) k) in
-          (
+          let more = said_front (n + 1) ls xs ys (tail_same (n, l) x (said (n + 1) ls) (xs ++ ys) k) in (
             l ∷ more.0,
             more.1,
             ap (λ z. l ∷ z) more.2,
@@ -51,7 +50,7 @@ module _ (version : Version) where
   each_front : (bodies : List NumberedLine) (es rest : List Numbered) → Each bodies (es ++ rest) → (front others : List NumberedLine) × (bodies ≡ front ++ others) × Each front es
   each_front bodies [] rest z = ([], bodies, refl, tt)
   each_front [] (d ∷ es) rest z = absurd z
-  each_front (b ∷ bs) (d ∷ es) rest z = let more = each_front bs es rest z.1 in (b ∷ more.0, more.1, ap (λ x. b ∷ x) more.2, z.0, more.3)
+  each_front (b ∷ bs) (d ∷ es) rest z = let more = each_front bs es rest z.1 in (b ∷ more.0, more.1, ap (λ x. b ∷ x) more.2, (z.0, more.3))
 
 -- ---- texts
 
@@ -71,8 +70,7 @@ says_front : (version : Version) (lines : List (List ℕ)) (h : Header) (ds es r
 says_front version lines h ds es rest says is =
     let each = each_front version says.bodies es rest (subst (Each version says.bodies) is says.each) in
     let head : List NumberedLine = (says.at_end, end_line h.named) ∷ (says.at_service, service_line h.service) ∷ [] in
-    let after = said_front 2 says.after_head (head ++ each.0) each.1 (says.are ∙ ap (λ x. head ++ x) each.2) in
-    (
+    let after = said_front 2 says.after_head (head ++ each.0) each.1 (says.are ∙ ap (λ x. head ++ x) each.2) in (
       head_line version ∷ after.0,
       after.1,
       says.begins ∙ ap (λ x. head_line version ∷ x) after.2,

@@ -1,13 +1,13 @@
 -- A text has one verdict.
-use Rattle.std.proofs.Common.{◌≡◌, ℕ, inl, inr, List, [], ◌∷◌, ◌++◌, Result, Ok, Err, sym, ap, ◌∙◌, subst, append_assoc}
+use Rattle.std.proofs.Common.{◌≡◌, ℕ, inl, inr, List, ◌∷◌, ◌++◌, Result, Ok, Err, sym, ap, ◌∙◌, subst, append_assoc}
 use Rattle.std.proofs.lemmas.List.{map-append}
-use Rattle.tftp_capture.specs.CaptureText.{Begins, BeginsWith, HasFault, IsCapture, Numbered}
+use Rattle.tftp_capture.specs.CaptureText.{BeginsWith, HasFault, IsCapture, Numbered}
 use Rattle.tftp_capture.specs.CaptureText.Reading.{Capture, Fault}
 use Rattle.tftp_capture.specs.declared.fault.CaptureFault.TheVariants.{Text, Read, Memory}
 use Rattle.tftp_capture.specs.declared.fault.TextFault.{TextFault}
 use Rattle.tftp_capture.proofs.Beginnings.{agree, capture_has}
 use Rattle.tftp_capture.proofs.Readings.{reads_same}
-use Rattle.tftp_ends.specs.CaptureText.{Datagram, Header}
+use Rattle.tftp_ends.specs.CaptureText.{Header}
 use Rattle.tftp_ends.specs.Meaning.{Meaning}
 use Rattle.tftp_law.specs.Law.{IsLawful}
 use Rattle.tftp_law.specs.declared.rule.Rule.{Rule}
@@ -63,7 +63,7 @@ longer_unlawful h ds es index rule (rest, is) u = record {
 }
 
 abbrev Same : ℕ → Rule → ℕ → Rule → Type 0
-Same i r j q = _≡_ {A = Result Meaning Refusal} (Err (Unlawful i r)) (Err (Unlawful j q))
+Same i r j q = ◌≡◌ {A = Result Meaning Refusal} (Err (Unlawful i r)) (Err (Unlawful j q))
 
 both_unlawful : (text : List ℕ) (i j : ℕ) (r q : Rule) → BeginsBy text (Err (Unlawful i r)) → BeginsBy text (Err (Unlawful j q)) → Same i r j q
 both_unlawful text i j r q (h, ds, begins, is) (k, es, also, other) =
@@ -71,7 +71,7 @@ both_unlawful text i j r q (h, ds, begins, is) (k, es, also, other) =
     let there = subst (λ x. IsVerdict x (unnumbered es) (Err (Unlawful j q))) (sym same.0) other in
     elim same.1 as (λ _. Same i r j q) [
       | inl front ↦ one_verdict h (unnumbered ds) (Err (Unlawful i r)) (Err (Unlawful j q)) tt tt is (longer_unlawful h ds es j q front there)
-      | inr front ↦ one_verdict h (unnumbered es) (Err (Unlawful i r)) (Unlawful j q) (longer_unlawful h es ds i r front is) there
+      | inr front ↦ one_verdict h (unnumbered es) (Err (Unlawful i r)) (Err (Unlawful j q)) tt tt (longer_unlawful h es ds i r front is) there
     ]
 
 unlawful_or_captured : (text : List ℕ) (i : ℕ) (r : Rule) (h : Header) (ds : List Numbered) → BeginsBy text (Err (Unlawful i r)) → IsCapture text h ds → IsLawful h (unnumbered ds) → ⊥
