@@ -12,3 +12,7 @@ pub mod ErrorsNoted
 pub mod BlocksDecoded
 pub mod WhoAcknowledges
 pub mod EndedTransfer
+pub mod OneVerdict
+mod OneTextVerdict
+mod FirstLines
+mod SameVerdicts

@@ -7,6 +7,7 @@ mod extraction;
 mod file;
 mod judging;
 mod kinds;
+pub mod laws;
 mod meaning;
 mod refusal;
 mod stop;
