@@ -7,3 +7,4 @@ pub mod ErrorsNoted
 pub mod BlocksDecoded
 pub mod WhoAcknowledges
 pub mod EndedTransfer
+pub mod EndedJudge
