@@ -207,7 +207,7 @@ pub fits_by : (mode wanted : Mode) (size : ℕ) (agreed : OptionMap) (file writt
     → (length (written_wire mode file) / size + 1 ≤ 65535) ↔ (length (written_wire wanted written) / option_or 512 agreed (codes "blksize") + 1 ≤ 65535)
 fits_by mode wanted size agreed file written is sized same =
     let count : length (written_wire mode file) / size + 1 ≡ length (written_wire wanted written) / option_or 512 agreed (codes "blksize") + 1 =
-        ap (λ x. length (written_wire x file) / size + 1) is ∙ ap (λ x. length (written_wire wanted x) / size + 1) same ∙ ap (λ x. length (written_wire wanted written) / x + 1) sized in
+    ap (λ x. length (written_wire x file) / size + 1) is ∙ ap (λ x. length (written_wire wanted x) / size + 1) same ∙ ap (λ x. length (written_wire wanted written) / x + 1) sized in
     ((λ few. subst (λ n. n ≤ 65535) count few), (λ few. subst (λ n. n ≤ 65535) (sym count) few))
 
 -- ---- what is answered

@@ -72,6 +72,6 @@ returns-clause-verdict g c h earlier lawful first after counts =
     let meant = meant_by h earlier lawful c.args.self.asked first c.match-course.agreed.1 began.0 began.1 c.match-course.agreed.0 c.in_ok-file.file.items done holds began.2 file in
     let fits = fits_by c.mode-2.result c.args.self.asked.mode c.blksize.result c.match-course.agreed.0 c.as_slice.result.now c.in_ok-file.file.items (c.mode-2.ensures ∙ ap (λ (r : RequestParts). r.mode) asked) c.blksize.ensures.value c.as_slice.ensures.value in
     let is : meaning_from (c.args.self.asked, (c.match-course.agreed.0, c.in_ok-file.file.items)) ≡ c.of.result =
-        ap (λ (r : RequestParts). meaning_from (r, (c.match-course.agreed.0, c.in_ok-file.file.items))) (sym asked)
-        ∙ ap (λ (o : OptionMap). meaning_from (c.self.inside.asked, (o, c.in_ok-file.file.items))) (sym c.into_options.ensures) ∙ sym c.of.ensures in
+    ap (λ (r : RequestParts). meaning_from (r, (c.match-course.agreed.0, c.in_ok-file.file.items))) (sym asked)
+    ∙ ap (λ (o : OptionMap). meaning_from (c.self.inside.asked, (o, c.in_ok-file.file.items))) (sym c.into_options.ensures) ∙ sym c.of.ensures in
     subst (λ m. IsVerdictByRules h (reverse earlier) (Ok m)) is (meant_verdict h earlier (meaning_from (c.args.self.asked, (c.match-course.agreed.0, c.in_ok-file.file.items))) lawful meant (fits.0 c.in-Some.ensures.1))
