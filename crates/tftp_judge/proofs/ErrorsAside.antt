@@ -35,7 +35,7 @@ module _ (d : Datagram) (passed : List Datagram) (m : Message) (spells : Spells 
   stopped_aside = by d.dir refl m refl where
     by : (dir : Dir) → d.dir ≡ dir → (n : Message) → m ≡ n → has_stopped (d ∷ passed) ≡ has_stopped passed
     by Out way n is = stopped_out d passed way
-    by In way (Message.Request asked) is = stopped_with d m passed (way, spells) ∙ rw (is) no_request asked.side where
+    by In way (Message.Request asked) is = stopped_with d m passed (way, spells) ∙ rw (is) (no_request asked.side) where
       no_request : (side : Side) → ((side_opcode side == 5) || has_stopped passed) ≡ has_stopped passed
       no_request Get = refl
       no_request Put = refl

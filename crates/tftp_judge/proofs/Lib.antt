@@ -16,3 +16,4 @@ pub mod OneVerdict
 mod OneTextVerdict
 mod FirstLines
 mod SameVerdicts
+pub mod EndedJudge

@@ -1,6 +1,5 @@
 use Rattle.std.proofs.Common.{refl, ap}
 use Rattle.tftp_packet.specs.Meaning.{meaning}
-use Rattle.tftp_judge.proofs.ErrorsAside.{errors_aside}
 use Rattle.tftp_judge.proofs.errors.is_error.Goals as goal
 
 -- src/errors.rt:51:1
