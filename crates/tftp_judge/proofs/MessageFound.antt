@@ -1,6 +1,6 @@
--- What each of the plain judge's functions finds of a message is the first rule that it breaks.
+-- What is found of a message, by its kind, is the first rule that it breaks.
 use Rattle.std.proofs.Common.{◌≡◌, ◌≢◌, ◌⊎◌, ℕ, ◌+◌, ◌<◌, ◌≤◌, Bool, true, false, List, Ok, Err, inl, inr, refl, sym, subst, ap, ◌∙◌, arith}
-use Rattle.std.specs.Prelude.{Result}
+use Rattle.std.specs.Prelude.{Result, OnOk, IfErr}
 use Rattle.std.proofs.lemmas.Bool.{false≢true}
 use Rattle.tftp_packet.specs.OptionMap.{OptionMap, no_options}
 use Rattle.tftp_packet.specs.Message.{Message, RequestParts}
@@ -23,17 +23,26 @@ use Rattle.tftp_nego.specs.Faults.{FirstFault, number}
 use Rattle.tftp_nego.specs.declared.fault.NegoFault.{NegoFault}
 use Rattle.tftp_nego.proofs.Tested.{no_fault}
 use Rattle.tftp_law.specs.Rules.{number_of, Answer, Agrees, Begins, IsAnswer, NotAnswered, FirstAnswer, IsWrongKind, GoesOn, ClientWentOn}
-use Rattle.tftp_judge.specs.Plain.{Finds, stop_of_fault}
+use Rattle.tftp_judge.specs.Finds.{Finds, NoneBreaks, IsFirstOf, IsBlockOrAck, stop_of_fault}
 use Rattle.tftp_law.specs.MessageRules.{IsFirstAnswer, AreTermsAfter, RequestBreaks, FirstOackBreaks, LaterOackBreaks, OackBreaks, TermsBreak, KindBreaks, MessageBreaks, rule_of_end}
 use Rattle.tftp_law.specs.declared.rule.Rule.{Rule}
-use Rattle.tftp_judge.specs.declared.plain.stop.Stop.{Stop}
+use Rattle.tftp_judge.specs.declared.stop.Stop.{Stop}
 use Rattle.tftp_judge.proofs.FirstAnswers.{not_both, first_once, terms_once, block_answers}
 
--- rules that are broken in the same cases
-finds_by : (P Q : Rule → Type 0) → ((rule : Rule) → P rule → Q rule) → ((rule : Rule) → Q rule → P rule) → (r : Result (Unit {0}) Stop) → Finds P r → Finds Q r
-finds_by P Q there back (Ok x) found = λ rule q. found rule (back rule q)
-finds_by P Q there back (Err (Stop.Broken rule)) found = (there rule found.0, λ other low q. found.1 other low (back other q))
-finds_by P Q there back (Err Stop.Memory) found = tt
+-- rules that are broken in the same cases, and more that follows
+pub finds_by : (P Q : Rule → Type 0) (A B : Type 0) → ((rule : Rule) → P rule → Q rule) → ((rule : Rule) → Q rule → P rule) → (A → B) → (r : Result (Unit {0}) Stop) → Finds P A r → Finds Q B r
+finds_by P Q A B there back more (Ok x) found = ((λ rule q. found.0 rule (back rule q)), more found.1)
+finds_by P Q A B there back more (Err (Stop.Broken rule)) found = (there rule found.0, λ other low q. found.1 other low (back other q))
+finds_by P Q A B there back more (Err Stop.Memory) found = λ rule q. found rule (back rule q)
+
+-- want of memory, where none is broken
+pub finds_memory : (P : Rule → Type 0) (A : Type 0) (r : Result (Unit {0}) Stop) → (stop : Stop) × (r ≡ Err stop) × (stop ≡ Stop.Memory) → NoneBreaks P → Finds P A r
+finds_memory P A r is none = subst (Finds P A) (sym (is.1 ∙ ap (λ (s : Stop). Err s) is.2)) none
+
+-- what stops says nothing of what follows
+pub finds_stop : (P : Rule → Type 0) (A B : Type 0) (stop : Stop) → Finds P A (Err stop) → Finds P B (Err stop)
+finds_stop P A B (Stop.Broken rule) found = found
+finds_stop P A B Stop.Memory found = found
 
 -- ---- a request
 
@@ -43,8 +52,13 @@ module _ (asked : RequestParts) (passed : List Datagram) (dir : Dir) (now : Requ
   late_first same Rule.RequestAfterStart low b = omega arith
   late_first same other low b = absurd b
 
-  pub request_late : now ≡ asked → dir ≡ Out → ClientWentOn passed → Finds (RequestBreaks asked passed dir now) (Err (Stop.Broken Rule.RequestAfterStart))
+  pub request_late : now ≡ asked → dir ≡ Out → ClientWentOn passed → IsFirstOf (RequestBreaks asked passed dir now) Rule.RequestAfterStart
   request_late same out went = ((out, went), late_first same)
+
+  pub request_passes : now ≡ asked → (dir ≡ Out → ClientWentOn passed → ⊥) → NoneBreaks (RequestBreaks asked passed dir now)
+  request_passes same early Rule.RequestChanged b = b same
+  request_passes same early Rule.RequestAfterStart b = early b.0 b.1
+  request_passes same early other b = absurd b
 
 -- ---- the first OACK
 
@@ -83,16 +97,16 @@ module _ (asked : RequestParts) (oack : OptionMap) where
   fault_first f first Rule.BeyondBlock65535 low b = first.1 NegoFault.BeyondBlock65535 (in_order NegoFault.BeyondBlock65535 f low) b
   fault_first f first other low b = absurd b
 
-  pub fault_found : (f : NegoFault) → (f ≢ NegoFault.Memory → FirstFault asked oack f) → Finds (FirstOackBreaks asked oack) (Err (stop_of_fault f))
-  fault_found NegoFault.OackEmpty first = let is = first (λ e. cc) in (is.0, fault_first NegoFault.OackEmpty is)
-  fault_found NegoFault.MulticastAgreed first = let is = first (λ e. cc) in (is.0, fault_first NegoFault.MulticastAgreed is)
-  fault_found NegoFault.OptionNotRequested first = let is = first (λ e. cc) in (is.0, fault_first NegoFault.OptionNotRequested is)
-  fault_found NegoFault.OptionOutsideProfile first = let is = first (λ e. cc) in (is.0, fault_first NegoFault.OptionOutsideProfile is)
-  fault_found NegoFault.OptionValue first = let is = first (λ e. cc) in (is.0, fault_first NegoFault.OptionValue is)
-  fault_found NegoFault.BeyondBlock65535 first = let is = first (λ e. cc) in (is.0, fault_first NegoFault.BeyondBlock65535 is)
-  fault_found NegoFault.Memory first = tt
+  pub fault_found : (A : Type 0) (f : NegoFault) → (f ≢ NegoFault.Memory → FirstFault asked oack f) → (f ≡ NegoFault.Memory → NoneBreaks (FirstOackBreaks asked oack)) → Finds (FirstOackBreaks asked oack) A (Err (stop_of_fault f))
+  fault_found A NegoFault.OackEmpty first none = let is = first (λ e. cc) in (is.0, fault_first NegoFault.OackEmpty is)
+  fault_found A NegoFault.MulticastAgreed first none = let is = first (λ e. cc) in (is.0, fault_first NegoFault.MulticastAgreed is)
+  fault_found A NegoFault.OptionNotRequested first none = let is = first (λ e. cc) in (is.0, fault_first NegoFault.OptionNotRequested is)
+  fault_found A NegoFault.OptionOutsideProfile first none = let is = first (λ e. cc) in (is.0, fault_first NegoFault.OptionOutsideProfile is)
+  fault_found A NegoFault.OptionValue first none = let is = first (λ e. cc) in (is.0, fault_first NegoFault.OptionValue is)
+  fault_found A NegoFault.BeyondBlock65535 first none = let is = first (λ e. cc) in (is.0, fault_first NegoFault.BeyondBlock65535 is)
+  fault_found A NegoFault.Memory first none = none refl
 
-  pub none_of_agreed : oack ≢ no_options → MayAgree asked oack → (rule : Rule) → FirstOackBreaks asked oack rule → ⊥
+  pub none_of_agreed : oack ≢ no_options → MayAgree asked oack → NoneBreaks (FirstOackBreaks asked oack)
   none_of_agreed some may Rule.OackEmpty b = no_fault asked oack some may NegoFault.OackEmpty b
   none_of_agreed some may Rule.MulticastAgreed b = no_fault asked oack some may NegoFault.MulticastAgreed b
   none_of_agreed some may Rule.OptionNotRequested b = no_fault asked oack some may NegoFault.OptionNotRequested b
@@ -117,8 +131,8 @@ module _ (asked : RequestParts) (passed : List Datagram) (dir : Dir) (oack : Opt
     first_back Rule.OackAfterStart (out, get, (k, bytes, sent)) = block_answers Out k bytes passed sent (subst (λ side. NotAnswered side passed) get none)
     first_back rule b = b.1
 
-    pub first_oack_finds : (r : Result (Unit {0}) Stop) → Finds (FirstOackBreaks asked oack) r → Finds (OackBreaks asked passed dir oack) r
-    first_oack_finds = finds_by (FirstOackBreaks asked oack) (OackBreaks asked passed dir oack) first_there first_back
+    pub first_oack_finds : (A : Type 0) (r : Result (Unit {0}) Stop) → Finds (FirstOackBreaks asked oack) A r → Finds (OackBreaks asked passed dir oack) A r
+    first_oack_finds A = finds_by (FirstOackBreaks asked oack) (OackBreaks asked passed dir oack) A A first_there first_back (λ a. a)
 
   module _ (first : OptionMap) (answered : FirstAnswer asked.side passed (Agrees first)) where
     later_there : (rule : Rule) → LaterOackBreaks asked.side passed dir first oack rule → OackBreaks asked passed dir oack rule
@@ -135,26 +149,8 @@ module _ (asked : RequestParts) (passed : List Datagram) (dir : Dir) (oack : Opt
     later_back Rule.OackAfterStart b = b
     later_back rule b = absurd (not_both asked.side passed (Agrees first) b.0 answered)
 
-    later_finds : (r : Result (Unit {0}) Stop) → Finds (LaterOackBreaks asked.side passed dir first oack) r → Finds (OackBreaks asked passed dir oack) r
-    later_finds = finds_by (LaterOackBreaks asked.side passed dir first oack) (OackBreaks asked passed dir oack) later_there later_back
-
-  agrees_to : (side : Side) (given : OptionMap) (a : Answer) → IsAnswer side (Message.Oack given) a → a ≡ Agrees given
-  agrees_to Get given (Agrees options) is = ap Agrees (sym is)
-  agrees_to Put given (Agrees options) is = ap Agrees (sym is)
-  agrees_to Get given Begins is = absurd is
-  agrees_to Put given Begins is = absurd is
-
-  pub later_oack_finds : (first : OptionMap) (a : Answer) → FirstAnswer asked.side passed a → IsAnswer asked.side (Message.Oack first) a
-      → (r : Result (Unit {0}) Stop) → Finds (LaterOackBreaks asked.side passed dir first oack) r → Finds (OackBreaks asked passed dir oack) r
-  later_oack_finds first a answered is = later_finds first (subst (FirstAnswer asked.side passed) (agrees_to asked.side first a is) answered)
-
-  -- the same by a packet that is the first answer
-  pub later_by : (side other : Side) (p : Packet) (given : List Pair) → side ≡ asked.side → other ≡ asked.side → IsFirstAnswer side passed p → p ≡ packet.Oack given
-      → (r : Result (Unit {0}) Stop) → Finds (LaterOackBreaks other passed dir (map_of given) oack) r → Finds (OackBreaks asked passed dir oack) r
-  later_by side other p given e f answered is r found =
-      let (a, first, at) = subst (λ (x : Side). IsFirstAnswer x passed p) e answered in
-      later_oack_finds (map_of given) a first (subst (λ (q : Packet). IsAnswer asked.side (meaning q) a) is at) r
-      (subst (λ (x : Side). Finds (LaterOackBreaks x passed dir (map_of given) oack) r) f found)
+    pub later_oack_finds : (A B : Type 0) → (A → B) → (r : Result (Unit {0}) Stop) → Finds (LaterOackBreaks asked.side passed dir first oack) A r → Finds (OackBreaks asked passed dir oack) B r
+    later_oack_finds A B = finds_by (LaterOackBreaks asked.side passed dir first oack) (OackBreaks asked passed dir oack) A B later_there later_back
 
   from_ten : (rule : Rule) → OackBreaks asked passed dir oack rule → 10 ≤ number_of rule
   from_ten Rule.ReplyChanged b = omega arith
@@ -168,28 +164,8 @@ module _ (asked : RequestParts) (passed : List Datagram) (dir : Dir) (oack : Opt
   from_ten Rule.BeyondBlock65535 b = omega arith
   from_ten rule b = absurd b.1
 
-  pub reply_changed : FirstAnswer asked.side passed Begins → Finds (OackBreaks asked passed dir oack) (Err (Stop.Broken Rule.ReplyChanged))
+  pub reply_changed : FirstAnswer asked.side passed Begins → IsFirstOf (OackBreaks asked passed dir oack) Rule.ReplyChanged
   reply_changed begins = (begins, λ other low b. let high = from_ten other b in omega arith)
-
-  pub reply_changed_by : (side : Side) (p : Packet) → side ≡ asked.side → IsFirstAnswer side passed p → ((a : Answer) → IsAnswer side (meaning p) a → a ≡ Begins)
-      → Finds (OackBreaks asked passed dir oack) (Err (Stop.Broken Rule.ReplyChanged))
-  reply_changed_by side p e (a, first, is) begins =
-      reply_changed (subst (λ (x : Side). FirstAnswer x passed Begins) e (subst (FirstAnswer side passed) (begins a is) first))
-
--- what answers and is no OACK begins
-pub begins_by : (side : Side) (m : Message) (a : Answer) → ((options : OptionMap) → m ≡ Message.Oack options → ⊥) → IsAnswer side m a → a ≡ Begins
-begins_by Get (Message.Oack o) a other is = absurd (other o refl)
-begins_by Put (Message.Oack o) a other is = absurd (other o refl)
-begins_by Get (Message.Data k bytes) Begins other is = refl
-begins_by Get (Message.Data k bytes) (Agrees x) other is = absurd is
-begins_by Put (Message.Data k bytes) a other is = absurd is
-begins_by Put (Message.Ack j) Begins other is = refl
-begins_by Put (Message.Ack j) (Agrees x) other is = absurd is
-begins_by Get (Message.Ack j) a other is = absurd is
-begins_by Get (Message.Request r) a other is = absurd is
-begins_by Put (Message.Request r) a other is = absurd is
-begins_by Get (Message.Error code text) a other is = absurd is
-begins_by Put (Message.Error code text) a other is = absurd is
 
 -- ---- a block or an ACK
 
@@ -209,10 +185,10 @@ module _ (h : Header) (asked : RequestParts) (passed : List Datagram) (m : Messa
   same_terms : (e : EndRule) (u : Terms) → AreTermsAfter h asked passed u → EndBroken u passed m e → EndBroken t passed m e
   same_terms e u is b = subst (λ (v : Terms). EndBroken v passed m e) (terms_once h asked passed u t is known) b
 
-  pub no_end : ((e : EndRule) → EndBroken t passed m e → ⊥) → Finds (TermsBreak h asked passed m) (Ok tt)
+  pub no_end : ((e : EndRule) → EndBroken t passed m e → ⊥) → NoneBreaks (TermsBreak h asked passed m)
   no_end none rule (e, is, u, at, b) = none e (same_terms e u at b)
 
-  pub first_end : (e : EndRule) → FirstEndBroken t passed m e → Finds (TermsBreak h asked passed m) (Err (Stop.Broken (rule_of_end e)))
+  pub first_end : (e : EndRule) → FirstEndBroken t passed m e → IsFirstOf (TermsBreak h asked passed m) (rule_of_end e)
   first_end e first = ((e, refl, t, known, first.broken), below)
     where
       below : (other : Rule) → number_of other < number_of (rule_of_end e) → TermsBreak h asked passed m other → ⊥
@@ -253,7 +229,7 @@ kind_from h asked passed dir (Message.Ack j) rule b = terms_from h asked passed 
 
 -- the first rule is that of ERRORs
 pub gone_on : (h : Header) (asked : RequestParts) (passed : List Datagram) (dir : Dir) (m : Message) → (IsWrongKind (author_of h.named dir) asked.side m → ⊥) → GoesOn passed dir m
-    → Finds (MessageBreaks h asked passed dir m) (Err (Stop.Broken Rule.AfterError))
+    → IsFirstOf (MessageBreaks h asked passed dir m) Rule.AfterError
 gone_on h asked passed dir m right on = (inr (inl (refl, on)), below)
   where
     below : (other : Rule) → number_of other < 7 → MessageBreaks h asked passed dir m other → ⊥
@@ -270,8 +246,22 @@ module _ (h : Header) (asked : RequestParts) (passed : List Datagram) (dir : Dir
   kind_back rule (inr (inl (is, on))) = absurd (stays on)
   kind_back rule (inr (inr b)) = b
 
-  pub kind_finds : (r : Result (Unit {0}) Stop) → Finds (KindBreaks h asked passed dir m) r → Finds (MessageBreaks h asked passed dir m) r
-  kind_finds = finds_by (KindBreaks h asked passed dir m) (MessageBreaks h asked passed dir m) kind_there kind_back
+  pub kind_finds : (A : Type 0) (r : Result (Unit {0}) Stop) → Finds (KindBreaks h asked passed dir m) A r → Finds (MessageBreaks h asked passed dir m) A r
+  kind_finds A = finds_by (KindBreaks h asked passed dir m) (MessageBreaks h asked passed dir m) A A kind_there kind_back (λ a. a)
+
+-- an ERROR breaks none of them
+pub error_finds : (h : Header) (asked : RequestParts) (passed : List Datagram) (dir : Dir) (code : ℕ) (text : List ℕ) (A : Type 0) (r : Result (Unit {0}) Stop) → OnOk r A → IfErr r (λ stop. stop ≡ Stop.Memory)
+    → Finds (KindBreaks h asked passed dir (Message.Error code text)) A r
+error_finds h asked passed dir code text A (Ok x) a memory = ((λ rule b. b), a)
+error_finds h asked passed dir code text A (Err stop) a memory = finds_memory (KindBreaks h asked passed dir (Message.Error code text)) A (Err stop) (stop, refl, memory) (λ rule b. b)
+
+pub block_finds : (h : Header) (asked : RequestParts) (passed : List Datagram) (dir : Dir) (m : Message) (A : Type 0) (r : Result (Unit {0}) Stop) → IsBlockOrAck m → Finds (TermsBreak h asked passed m) A r
+    → Finds (KindBreaks h asked passed dir m) A r
+block_finds h asked passed dir (Message.Data k bytes) A r is found = found
+block_finds h asked passed dir (Message.Ack j) A r is found = found
+block_finds h asked passed dir (Message.Request now) A r is found = absurd is
+block_finds h asked passed dir (Message.Error code text) A r is found = absurd is
+block_finds h asked passed dir (Message.Oack oack) A r is found = absurd is
 
 -- the test of the kind, by the author and the side that were computed
 pub right_kind : (h : Header) (asked : RequestParts) (dir : Dir) (m : Message) (author : End) (side : Side) (b : Bool) → author ≡ author_of h.named dir → side ≡ asked.side → b ≡ false

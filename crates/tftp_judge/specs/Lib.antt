@@ -6,3 +6,4 @@ pub mod KeptCode
 pub mod Finds
 pub mod Parts
 pub mod Extracted
+pub mod Courses
