@@ -17,3 +17,6 @@ mod OneTextVerdict
 mod FirstLines
 mod SameVerdicts
 pub mod EndedJudge
+pub mod MessageFound
+pub mod StaysAfter
+pub mod Replied

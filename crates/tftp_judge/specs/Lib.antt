@@ -5,3 +5,4 @@ pub mod Kept
 pub mod KeptCode
 pub mod Finds
 pub mod Extracted
+pub mod Courses

@@ -1,7 +1,15 @@
-ghost use Rattle.std.specs.Prelude.{◌≡◌, List, ◌∷◌, OnOk, OnErr, IfErr};
+ghost use Rattle.std.specs.Prelude.{◌⊎◌, List, ◌∷◌, OnOk, IfErr};
+ghost use Rattle.tftp_packet.specs.Message.{RequestParts};
 ghost use Rattle.tftp_packet.specs.Meaning.{meaning};
-ghost use Rattle.tftp_ends.specs.CaptureText.{Datagram};
+ghost use Rattle.tftp_ends.specs.CaptureText.{Datagram, Header};
+ghost use Rattle.tftp_ends.specs.Roles.{author_of};
 ghost use Rattle.tftp_ends.specs.States.{Says};
+ghost use Rattle.tftp_law.specs.MessageRules.{TermsBreak, rule_of_end};
+ghost use Rattle.tftp_law.specs.Rules.{IsError, IsWrongKind};
+ghost use Rattle.tftp_judge.specs.Courses.{HasAnswer, MayKeepOn};
+ghost use Rattle.tftp_judge.specs.Finds.{NoneBreaks, IsFirstOf};
+ghost use Rattle.tftp_judge.specs.Kept.{IsCourse};
+ghost use Rattle.tftp_judge.specs.KeptCode.{course_of};
 
 use std::alloc::{AllocError, Global};
 use tftp_ends::{Delivered, EndFault, NamedEnd};
@@ -21,7 +29,14 @@ pub enum Course<D: Delivered + Drop> {
 
 impl<D: Delivered + Drop> Course<D> {
     /// Whether a block or an ACK may pass, or the first rule that it breaks, once the request was answered.
-    pub fn may_pass(&self, packet: &Packet<'_>) -> Result<(), EndFault> {
+    pub fn may_pass(&self, packet: &Packet<'_>) -> Result<(), EndFault>
+        ensures lawful { (h : Header) (asked : RequestParts) (passed : List Datagram) → HasAnswer (course_of self.now)
+            → IsCourse h asked passed (course_of self.now) → OnOk result (NoneBreaks (TermsBreak h asked passed (meaning packet.now))) }
+        ensures first { (h : Header) (asked : RequestParts) (passed : List Datagram) → HasAnswer (course_of self.now)
+            → IsCourse h asked passed (course_of self.now)
+            → IfErr result (λ rule. IsFirstOf (TermsBreak h asked passed (meaning packet.now)) (rule_of_end rule)) }
+        ensures may { OnOk result (MayKeepOn (course_of self.now) (meaning packet.now)) }
+    {
         match self {
             Course::Unanswered => Ok(()),
             Course::Begun(end) => end.may_pass(packet),
@@ -29,8 +44,14 @@ impl<D: Delivered + Drop> Course<D> {
         }
     }
 
-    /// Keeps a packet that passes this way.
-    pub fn pass(&mut self, alloc: Global, dir: Dir, packet: &Packet<'_>) -> Result<(), AllocError> {
+    /// Keeps a packet that passes this way. Before the request is answered that is an ERROR, which changes nothing here.
+    pub fn pass(&mut self, alloc: Global, dir: Dir, packet: &Packet<'_>) -> Result<(), AllocError>
+        requires { MayKeepOn (course_of self.old) (meaning packet.now) }
+        ensures ok { (h : Header) (asked : RequestParts) (passed : List Datagram) (d : Datagram)
+            → IsCourse h asked passed (course_of self.old) → Says d dir (meaning packet.now)
+            → (IsWrongKind (author_of h.named dir) asked.side (meaning packet.now) → ⊥)
+            → HasAnswer (course_of self.old) ⊎ IsError (meaning packet.now) → OnOk result (IsCourse h asked (d ∷ passed) (course_of self.new)) }
+    {
         match self {
             Course::Unanswered => Ok(()),
             Course::Begun(end) => end.pass(alloc, dir, packet),

@@ -1,4 +1,4 @@
-ghost use Rattle.std.specs.Prelude.{◌≡◌, ◌≢◌, ◌≤◌, List, [], ◌∷◌, length, reverse, OnOk, IfErr, Err};
+ghost use Rattle.std.specs.Prelude.{◌≡◌, ◌≢◌, ◌≤◌, ◌↔◌, IsTrue, true, List, [], ◌∷◌, length, reverse, OnOk, IfErr, Err};
 ghost use Rattle.tftp_packet.specs.Message.{Message};
 ghost use Rattle.tftp_packet.specs.Spelling.{Spells};
 ghost use Rattle.tftp_packet.specs.Meaning.{meaning};
@@ -9,11 +9,12 @@ ghost use Rattle.tftp_ends.specs.Ports.{transfer_of};
 ghost use Rattle.tftp_ends.specs.Roles.{author_of as author_by_way};
 ghost use Rattle.tftp_ends.specs.States.{IsBeforeBlocks, Says};
 ghost use Rattle.tftp_ends.specs.declared.terms.Reply.TheVariants.{NoReply, Plain};
-ghost use Rattle.tftp_law.specs.MessageRules.{MessageBreaks, FirstOackBreaks, LaterOackBreaks, OackBreaks, RequestBreaks, TermsBreak, rule_of_end as rule_by_end};
+ghost use Rattle.tftp_law.specs.MessageRules.{MessageBreaks, FirstOackBreaks, LaterOackBreaks, OackBreaks, RequestBreaks, TermsBreak, BlockSent, AckSent, rule_of_end as rule_by_end};
 ghost use Rattle.tftp_law.specs.OneEnded.{OneEnded, IsEnded};
-ghost use Rattle.tftp_law.specs.Rules.{Agrees, FirstAsked, GoesOn, IsWrongKind, plain_terms as plain_terms_of, terms_after};
+ghost use Rattle.tftp_law.specs.Rules.{Agrees, ClientWentOn, FirstAsked, GoesOn, IsWrongKind, plain_terms as plain_terms_of, terms_after};
 ghost use Rattle.tftp_judge.specs.Finds.{Finds, stop_of_fault, IsBlockOrAck};
-ghost use Rattle.tftp_judge.specs.Kept.{AreErrors, Unanswered, IsTransferAfter};
+ghost use Rattle.tftp_judge.specs.Courses.{HasAnswer, WaitsForReply, DiffersByCourse, DiffersBySent};
+ghost use Rattle.tftp_judge.specs.Kept.{AreErrors, Unanswered, IsCourse, IsTransferAfter};
 ghost use Rattle.tftp_judge.specs.Verdict.{IsVerdictByRules};
 ghost use Rattle.tftp_judge.specs.declared.refusal.Refusal.{Refusal as RefusalKind};
 ghost use Rattle.tftp_judge.specs.declared.stop.Stop.{Stop as StopKind};
@@ -116,7 +117,7 @@ impl<D: Delivered + Drop> Transfer<D> {
         if !same_request(&self.asked, now) {
             return Err(Stop::Broken(Rule::RequestChanged));
         }
-        if dir == Dir::Out && (self.block_sent || self.ack_sent) {
+        if dir == Dir::Out && self.client_went_on() {
             return Err(Stop::Broken(Rule::RequestAfterStart));
         }
         Ok(())
@@ -211,22 +212,38 @@ impl<D: Delivered + Drop> Transfer<D> {
             → Finds (TermsBreak h self.old.asked passed (meaning packet.now)) (IsTransferAfter self.new h (d ∷ passed)) result }
         ensures asked { self.new.asked ≡ self.old.asked }
     {
-        if let Course::Unanswered = &self.course {
-            self.pass_answer(alloc, dir, packet)?;
-        } else {
-            if let Err(rule) = self.course.may_pass(packet) {
-                return Err(Stop::Broken(rule_of_end(rule)));
-            }
-            self.course.pass(alloc, dir, packet)?;
-        }
+        self.keep_block(alloc, dir, packet)?;
         self.note_sent(dir, packet);
         Ok(())
     }
 
+    /// The named end keeps a block or an ACK that breaks no rule.
+    fn keep_block(&mut self, alloc: Global, dir: Dir, packet: &Packet<'_>) -> Result<(), Stop>
+        requires { IsBlockOrAck (meaning packet.now) }
+        ensures finds { (h : Header) (passed : List Datagram) (d : Datagram) → IsTransferAfter self.old h passed
+            → Says d dir (meaning packet.now)
+            → (IsWrongKind (author_by_way h.named dir) self.old.asked.side (meaning packet.now) → ⊥)
+            → Finds (TermsBreak h self.old.asked passed (meaning packet.now)) (IsCourse h self.old.asked (d ∷ passed) self.new.course) result }
+        ensures rest { DiffersByCourse self.old self.new }
+    {
+        match &self.course {
+            Course::Unanswered => self.pass_answer(alloc, dir, packet),
+            _ => self.pass_later(alloc, dir, packet),
+        }
+    }
+
     /// The first block of a read, or the ACK 0 of a write, which answers the request without an OACK (RFC 1350, section
     /// 4).
-    fn pass_answer(&mut self, alloc: Global, dir: Dir, packet: &Packet<'_>) -> Result<(), Stop> {
-        if let (Side::Put, Packet::Data { .. }) = (self.asked.side(), packet) {
+    fn pass_answer(&mut self, alloc: Global, dir: Dir, packet: &Packet<'_>) -> Result<(), Stop>
+        requires unanswered { self.old.course ≡ Unanswered }
+        requires kind { IsBlockOrAck (meaning packet.now) }
+        ensures finds { (h : Header) (passed : List Datagram) (d : Datagram) → IsTransferAfter self.old h passed
+            → Says d dir (meaning packet.now)
+            → (IsWrongKind (author_by_way h.named dir) self.old.asked.side (meaning packet.now) → ⊥)
+            → Finds (TermsBreak h self.old.asked passed (meaning packet.now)) (IsCourse h self.old.asked (d ∷ passed) self.new.course) result }
+        ensures rest { DiffersByCourse self.old self.new }
+    {
+        if waits_for_reply(self.asked.side(), packet) {
             return Err(Stop::Broken(Rule::NotStarted));
         }
         let mut end = self.begin(alloc, plain_terms(self.named, self.asked.side()));
@@ -235,6 +252,22 @@ impl<D: Delivered + Drop> Transfer<D> {
         }
         end.pass(alloc, dir, packet)?;
         self.course = Course::Begun(end);
+        Ok(())
+    }
+
+    /// A block or an ACK once the request was answered.
+    fn pass_later(&mut self, alloc: Global, dir: Dir, packet: &Packet<'_>) -> Result<(), Stop>
+        requires { HasAnswer self.old.course }
+        ensures finds { (h : Header) (passed : List Datagram) (d : Datagram) → IsTransferAfter self.old h passed
+            → Says d dir (meaning packet.now)
+            → (IsWrongKind (author_by_way h.named dir) self.old.asked.side (meaning packet.now) → ⊥)
+            → Finds (TermsBreak h self.old.asked passed (meaning packet.now)) (IsCourse h self.old.asked (d ∷ passed) self.new.course) result }
+        ensures rest { DiffersByCourse self.old self.new }
+    {
+        if let Err(rule) = self.course.may_pass(packet) {
+            return Err(Stop::Broken(rule_of_end(rule)));
+        }
+        self.course.pass(alloc, dir, packet)?;
         Ok(())
     }
 
@@ -266,8 +299,21 @@ impl<D: Delivered + Drop> Transfer<D> {
         Ok(Meaning::of(asked, agreed.into_options(), file, blocks))
     }
 
+    /// Whether the client at this end has sent a block or an ACK.
+    fn client_went_on(&self) -> bool
+        ensures { (h : Header) (passed : List Datagram) → IsTransferAfter self.now h passed → (IsTrue result ↔ ClientWentOn passed) }
+    {
+        self.block_sent || self.ack_sent
+    }
+
     /// Notes what the named end has sent.
-    fn note_sent(&mut self, dir: Dir, packet: &Packet<'_>) {
+    fn note_sent(&mut self, dir: Dir, packet: &Packet<'_>)
+        ensures block_sent { (passed : List Datagram) (d : Datagram) → Says d dir (meaning packet.now)
+            → ((self.old.block_sent ≡ true) ↔ BlockSent passed) → ((self.new.block_sent ≡ true) ↔ BlockSent (d ∷ passed)) }
+        ensures ack_sent { (passed : List Datagram) (d : Datagram) → Says d dir (meaning packet.now)
+            → ((self.old.ack_sent ≡ true) ↔ AckSent passed) → ((self.new.ack_sent ≡ true) ↔ AckSent (d ∷ passed)) }
+        ensures rest { DiffersBySent self.old self.new }
+    {
         if dir == Dir::Out {
             match packet {
                 Packet::Data { .. } => self.block_sent = true,
@@ -280,7 +326,10 @@ impl<D: Delivered + Drop> Transfer<D> {
 
 /// What is known where nothing is agreed (RFC 1350, section 2).
 fn plain_terms(named: End, side: Side) -> Terms
-    ensures { (h : Header) → h.named ≡ named → result ≡ plain_terms_of h side Plain }
+    ensures are { (h : Header) → h.named ≡ named → result ≡ plain_terms_of h side Plain }
+    ensures replied { result.reply ≢ NoReply }
+    ensures blksize { 8 ≤ result.blksize }
+    ensures windowsize { 1 ≤ result.windowsize }
 {
     Terms {
         named,
@@ -295,6 +344,7 @@ fn plain_terms(named: End, side: Side) -> Terms
 /// What is known where these options are agreed (RFC 2348; RFC 2349; RFC 7440).
 fn agreed_terms(named: End, asked: &Request, agreed: &Agreed) -> Terms
     ensures are { (h : Header) → h.named ≡ named → result ≡ terms_after h asked.now (Agrees agreed.now) }
+    ensures replied { result.reply ≢ NoReply }
     ensures blksize { 8 ≤ result.blksize }
     ensures windowsize { 1 ≤ result.windowsize }
 {
@@ -308,6 +358,16 @@ fn agreed_terms(named: End, asked: &Request, agreed: &Agreed) -> Terms
             Mode::Octet => agreed.tsize(),
             Mode::Netascii => None,
         },
+    }
+}
+
+/// Whether a packet is a block of a write, which waits for the reply (RFC 1350, section 4).
+fn waits_for_reply(side: Side, packet: &Packet<'_>) -> bool
+    ensures { IsTrue result ↔ WaitsForReply side (meaning packet.now) }
+{
+    match (side, packet) {
+        (Side::Put, Packet::Data { .. }) => true,
+        _ => false,
     }
 }
 

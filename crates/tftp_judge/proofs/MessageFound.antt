@@ -1,0 +1,270 @@
+-- What is found of a message, by its kind, is the first rule that it breaks.
+use Rattle.std.proofs.Common.{◌≡◌, ◌≢◌, ◌⊎◌, ℕ, ◌+◌, ◌<◌, ◌≤◌, Bool, true, false, List, Ok, Err, inl, inr, refl, sym, subst, ap, ◌∙◌, arith}
+use Rattle.std.specs.Prelude.{Result, OnOk, IfErr}
+use Rattle.std.proofs.lemmas.Bool.{false≢true}
+use Rattle.tftp_packet.specs.OptionMap.{OptionMap, no_options}
+use Rattle.tftp_packet.specs.Message.{Message, RequestParts}
+use Rattle.tftp_packet.specs.Meaning.{meaning}
+use Rattle.tftp_packet.specs.Written.{Pair, map_of}
+use Rattle.tftp_packet.specs.declared.packet.Packet.{Packet}
+use Rattle.tftp_packet.specs.declared.packet.Packet.TheVariants as packet
+use Rattle.tftp_packet.specs.declared.kinds.Side.{Side}
+use Rattle.tftp_packet.specs.declared.kinds.Side.TheVariants.{Get, Put}
+use Rattle.tftp_packet.specs.declared.kinds.End.{End}
+use Rattle.tftp_packet.specs.declared.kinds.Dir.{Dir}
+use Rattle.tftp_packet.specs.declared.kinds.Dir.TheVariants.{Out}
+use Rattle.tftp_ends.specs.CaptureText.{Datagram, Header}
+use Rattle.tftp_ends.specs.Roles.{author_of}
+use Rattle.tftp_ends.specs.Rules.{end_number, EndBroken, FirstEndBroken}
+use Rattle.tftp_ends.specs.declared.terms.Terms.{Terms}
+use Rattle.tftp_ends.specs.declared.rule.EndRule.{EndRule}
+use Rattle.tftp_nego.specs.Agreement.{MayAgree}
+use Rattle.tftp_nego.specs.Faults.{FirstFault, number}
+use Rattle.tftp_nego.specs.declared.fault.NegoFault.{NegoFault}
+use Rattle.tftp_nego.proofs.Tested.{no_fault}
+use Rattle.tftp_law.specs.Rules.{number_of, Answer, Agrees, Begins, IsAnswer, NotAnswered, FirstAnswer, IsWrongKind, GoesOn, ClientWentOn}
+use Rattle.tftp_judge.specs.Finds.{Finds, NoneBreaks, IsFirstOf, IsBlockOrAck, stop_of_fault}
+use Rattle.tftp_law.specs.MessageRules.{IsFirstAnswer, AreTermsAfter, RequestBreaks, FirstOackBreaks, LaterOackBreaks, OackBreaks, TermsBreak, KindBreaks, MessageBreaks, rule_of_end}
+use Rattle.tftp_law.specs.declared.rule.Rule.{Rule}
+use Rattle.tftp_judge.specs.declared.stop.Stop.{Stop}
+use Rattle.tftp_judge.proofs.FirstAnswers.{not_both, first_once, terms_once, block_answers}
+
+-- rules that are broken in the same cases, and more that follows
+pub finds_by : (P Q : Rule → Type 0) (A B : Type 0) → ((rule : Rule) → P rule → Q rule) → ((rule : Rule) → Q rule → P rule) → (A → B) → (r : Result (Unit {0}) Stop) → Finds P A r → Finds Q B r
+finds_by P Q A B there back more (Ok x) found = ((λ rule q. found.0 rule (back rule q)), more found.1)
+finds_by P Q A B there back more (Err (Stop.Broken rule)) found = (there rule found.0, λ other low q. found.1 other low (back other q))
+finds_by P Q A B there back more (Err Stop.Memory) found = λ rule q. found rule (back rule q)
+
+-- want of memory, where none is broken
+pub finds_memory : (P : Rule → Type 0) (A : Type 0) (r : Result (Unit {0}) Stop) → (stop : Stop) × (r ≡ Err stop) × (stop ≡ Stop.Memory) → NoneBreaks P → Finds P A r
+finds_memory P A r is none = subst (Finds P A) (sym (is.1 ∙ ap (λ (s : Stop). Err s) is.2)) none
+
+-- what stops says nothing of what follows
+pub finds_stop : (P : Rule → Type 0) (A B : Type 0) (stop : Stop) → Finds P A (Err stop) → Finds P B (Err stop)
+finds_stop P A B (Stop.Broken rule) found = found
+finds_stop P A B Stop.Memory found = found
+
+-- ---- a request
+
+module _ (asked : RequestParts) (passed : List Datagram) (dir : Dir) (now : RequestParts) where
+  late_first : now ≡ asked → (other : Rule) → number_of other < 9 → RequestBreaks asked passed dir now other → ⊥
+  late_first same Rule.RequestChanged low b = b same
+  late_first same Rule.RequestAfterStart low b = omega arith
+  late_first same other low b = absurd b
+
+  pub request_late : now ≡ asked → dir ≡ Out → ClientWentOn passed → IsFirstOf (RequestBreaks asked passed dir now) Rule.RequestAfterStart
+  request_late same out went = ((out, went), late_first same)
+
+  pub request_passes : now ≡ asked → (dir ≡ Out → ClientWentOn passed → ⊥) → NoneBreaks (RequestBreaks asked passed dir now)
+  request_passes same early Rule.RequestChanged b = b same
+  request_passes same early Rule.RequestAfterStart b = early b.0 b.1
+  request_passes same early other b = absurd b
+
+-- ---- the first OACK
+
+-- the faults' numbers among those of the rules
+abbrev fault_number : NegoFault → ℕ
+fault_number NegoFault.OackEmpty = 11
+fault_number NegoFault.MulticastAgreed = 12
+fault_number NegoFault.OptionNotRequested = 13
+fault_number NegoFault.OptionOutsideProfile = 14
+fault_number NegoFault.OptionValue = 15
+fault_number NegoFault.BeyondBlock65535 = 20
+fault_number NegoFault.Memory = 21
+
+spread : (f : NegoFault) → ((fault_number f ≡ number f + 10) × (number f ≤ 5)) ⊎ ((fault_number f ≡ number f + 14) × (6 ≤ number f))
+spread NegoFault.OackEmpty = inl (omega arith, omega arith)
+spread NegoFault.MulticastAgreed = inl (omega arith, omega arith)
+spread NegoFault.OptionNotRequested = inl (omega arith, omega arith)
+spread NegoFault.OptionOutsideProfile = inl (omega arith, omega arith)
+spread NegoFault.OptionValue = inl (omega arith, omega arith)
+spread NegoFault.BeyondBlock65535 = inr (omega arith, omega arith)
+spread NegoFault.Memory = inr (omega arith, omega arith)
+
+in_order : (g f : NegoFault) → fault_number g < fault_number f → number g < number f
+in_order g f low = elim (spread g) [
+  | inl a ↦ elim (spread f) [ inl b ↦ omega arith | inr b ↦ omega arith ]
+  | inr a ↦ elim (spread f) [ inl b ↦ omega arith | inr b ↦ omega arith ]
+]
+
+module _ (asked : RequestParts) (oack : OptionMap) where
+  fault_first : (f : NegoFault) → FirstFault asked oack f → (other : Rule) → number_of other < fault_number f → FirstOackBreaks asked oack other → ⊥
+  fault_first f first Rule.OackEmpty low b = first.1 NegoFault.OackEmpty (in_order NegoFault.OackEmpty f low) b
+  fault_first f first Rule.MulticastAgreed low b = first.1 NegoFault.MulticastAgreed (in_order NegoFault.MulticastAgreed f low) b
+  fault_first f first Rule.OptionNotRequested low b = first.1 NegoFault.OptionNotRequested (in_order NegoFault.OptionNotRequested f low) b
+  fault_first f first Rule.OptionOutsideProfile low b = first.1 NegoFault.OptionOutsideProfile (in_order NegoFault.OptionOutsideProfile f low) b
+  fault_first f first Rule.OptionValue low b = first.1 NegoFault.OptionValue (in_order NegoFault.OptionValue f low) b
+  fault_first f first Rule.BeyondBlock65535 low b = first.1 NegoFault.BeyondBlock65535 (in_order NegoFault.BeyondBlock65535 f low) b
+  fault_first f first other low b = absurd b
+
+  pub fault_found : (A : Type 0) (f : NegoFault) → (f ≢ NegoFault.Memory → FirstFault asked oack f) → (f ≡ NegoFault.Memory → NoneBreaks (FirstOackBreaks asked oack)) → Finds (FirstOackBreaks asked oack) A (Err (stop_of_fault f))
+  fault_found A NegoFault.OackEmpty first none = let is = first (λ e. cc) in (is.0, fault_first NegoFault.OackEmpty is)
+  fault_found A NegoFault.MulticastAgreed first none = let is = first (λ e. cc) in (is.0, fault_first NegoFault.MulticastAgreed is)
+  fault_found A NegoFault.OptionNotRequested first none = let is = first (λ e. cc) in (is.0, fault_first NegoFault.OptionNotRequested is)
+  fault_found A NegoFault.OptionOutsideProfile first none = let is = first (λ e. cc) in (is.0, fault_first NegoFault.OptionOutsideProfile is)
+  fault_found A NegoFault.OptionValue first none = let is = first (λ e. cc) in (is.0, fault_first NegoFault.OptionValue is)
+  fault_found A NegoFault.BeyondBlock65535 first none = let is = first (λ e. cc) in (is.0, fault_first NegoFault.BeyondBlock65535 is)
+  fault_found A NegoFault.Memory first none = none refl
+
+  pub none_of_agreed : oack ≢ no_options → MayAgree asked oack → NoneBreaks (FirstOackBreaks asked oack)
+  none_of_agreed some may Rule.OackEmpty b = no_fault asked oack some may NegoFault.OackEmpty b
+  none_of_agreed some may Rule.MulticastAgreed b = no_fault asked oack some may NegoFault.MulticastAgreed b
+  none_of_agreed some may Rule.OptionNotRequested b = no_fault asked oack some may NegoFault.OptionNotRequested b
+  none_of_agreed some may Rule.OptionOutsideProfile b = no_fault asked oack some may NegoFault.OptionOutsideProfile b
+  none_of_agreed some may Rule.OptionValue b = no_fault asked oack some may NegoFault.OptionValue b
+  none_of_agreed some may Rule.BeyondBlock65535 b = no_fault asked oack some may NegoFault.BeyondBlock65535 b
+  none_of_agreed some may rule b = absurd b
+
+-- ---- an OACK, by how the request was answered
+
+module _ (asked : RequestParts) (passed : List Datagram) (dir : Dir) (oack : OptionMap) where
+  module _ (none : NotAnswered asked.side passed) where
+    first_there : (rule : Rule) → FirstOackBreaks asked oack rule → OackBreaks asked passed dir oack rule
+    first_there Rule.ReplyChanged b = absurd b
+    first_there Rule.OackChanged b = absurd b
+    first_there Rule.OackAfterStart b = absurd b
+    first_there rule b = (none, b)
+
+    first_back : (rule : Rule) → OackBreaks asked passed dir oack rule → FirstOackBreaks asked oack rule
+    first_back Rule.ReplyChanged b = not_both asked.side passed Begins none b
+    first_back Rule.OackChanged (first, answered, apart) = not_both asked.side passed (Agrees first) none answered
+    first_back Rule.OackAfterStart (out, get, (k, bytes, sent)) = block_answers Out k bytes passed sent (subst (λ side. NotAnswered side passed) get none)
+    first_back rule b = b.1
+
+    pub first_oack_finds : (A : Type 0) (r : Result (Unit {0}) Stop) → Finds (FirstOackBreaks asked oack) A r → Finds (OackBreaks asked passed dir oack) A r
+    first_oack_finds A = finds_by (FirstOackBreaks asked oack) (OackBreaks asked passed dir oack) A A first_there first_back (λ a. a)
+
+  module _ (first : OptionMap) (answered : FirstAnswer asked.side passed (Agrees first)) where
+    later_there : (rule : Rule) → LaterOackBreaks asked.side passed dir first oack rule → OackBreaks asked passed dir oack rule
+    later_there Rule.OackChanged b = (first, answered, b)
+    later_there Rule.OackAfterStart b = b
+    later_there rule b = absurd b
+
+    agreed_once : (was : OptionMap) → FirstAnswer asked.side passed (Agrees was) → was ≡ first
+    agreed_once was is = let same : Agrees was ≡ Agrees first = first_once asked.side passed (Agrees was) (Agrees first) is answered in cc
+
+    later_back : (rule : Rule) → OackBreaks asked passed dir oack rule → LaterOackBreaks asked.side passed dir first oack rule
+    later_back Rule.ReplyChanged b = let same : Begins ≡ Agrees first = first_once asked.side passed Begins (Agrees first) b answered in absurd (cc)
+    later_back Rule.OackChanged (was, is, apart) = λ same. apart (same ∙ sym (agreed_once was is))
+    later_back Rule.OackAfterStart b = b
+    later_back rule b = absurd (not_both asked.side passed (Agrees first) b.0 answered)
+
+    pub later_oack_finds : (A B : Type 0) → (A → B) → (r : Result (Unit {0}) Stop) → Finds (LaterOackBreaks asked.side passed dir first oack) A r → Finds (OackBreaks asked passed dir oack) B r
+    later_oack_finds A B = finds_by (LaterOackBreaks asked.side passed dir first oack) (OackBreaks asked passed dir oack) A B later_there later_back
+
+  from_ten : (rule : Rule) → OackBreaks asked passed dir oack rule → 10 ≤ number_of rule
+  from_ten Rule.ReplyChanged b = omega arith
+  from_ten Rule.OackChanged b = omega arith
+  from_ten Rule.OackAfterStart b = omega arith
+  from_ten Rule.OackEmpty b = omega arith
+  from_ten Rule.MulticastAgreed b = omega arith
+  from_ten Rule.OptionNotRequested b = omega arith
+  from_ten Rule.OptionOutsideProfile b = omega arith
+  from_ten Rule.OptionValue b = omega arith
+  from_ten Rule.BeyondBlock65535 b = omega arith
+  from_ten rule b = absurd b.1
+
+  pub reply_changed : FirstAnswer asked.side passed Begins → IsFirstOf (OackBreaks asked passed dir oack) Rule.ReplyChanged
+  reply_changed begins = (begins, λ other low b. let high = from_ten other b in omega arith)
+
+-- ---- a block or an ACK
+
+number_is : (e : EndRule) → number_of (rule_of_end e) ≡ end_number e
+number_is EndRule.NotStarted = refl
+number_is EndRule.BlockZero = refl
+number_is EndRule.BeyondBlock65535 = refl
+number_is EndRule.BlockLength = refl
+number_is EndRule.WindowOverrun = refl
+number_is EndRule.BlockSkipped = refl
+number_is EndRule.GoneBack = refl
+number_is EndRule.BlockChanged = refl
+number_is EndRule.AckAhead = refl
+number_is EndRule.AckZero = refl
+
+module _ (h : Header) (asked : RequestParts) (passed : List Datagram) (m : Message) (t : Terms) (known : AreTermsAfter h asked passed t) where
+  same_terms : (e : EndRule) (u : Terms) → AreTermsAfter h asked passed u → EndBroken u passed m e → EndBroken t passed m e
+  same_terms e u is b = subst (λ (v : Terms). EndBroken v passed m e) (terms_once h asked passed u t is known) b
+
+  pub no_end : ((e : EndRule) → EndBroken t passed m e → ⊥) → NoneBreaks (TermsBreak h asked passed m)
+  no_end none rule (e, is, u, at, b) = none e (same_terms e u at b)
+
+  pub first_end : (e : EndRule) → FirstEndBroken t passed m e → IsFirstOf (TermsBreak h asked passed m) (rule_of_end e)
+  first_end e first = ((e, refl, t, known, first.broken), below)
+    where
+      below : (other : Rule) → number_of other < number_of (rule_of_end e) → TermsBreak h asked passed m other → ⊥
+      below other low (f, is, u, at, b) =
+          let here = number_is e in
+          let there = ap number_of is ∙ number_is f in
+          first.first f (omega arith) (same_terms f u at b)
+
+-- ---- any message
+
+end_from : (e : EndRule) → 18 ≤ number_of (rule_of_end e)
+end_from EndRule.NotStarted = omega arith
+end_from EndRule.BlockZero = omega arith
+end_from EndRule.BeyondBlock65535 = omega arith
+end_from EndRule.BlockLength = omega arith
+end_from EndRule.WindowOverrun = omega arith
+end_from EndRule.BlockSkipped = omega arith
+end_from EndRule.GoneBack = omega arith
+end_from EndRule.BlockChanged = omega arith
+end_from EndRule.AckAhead = omega arith
+end_from EndRule.AckZero = omega arith
+
+request_from : (asked : RequestParts) (passed : List Datagram) (dir : Dir) (now : RequestParts) (rule : Rule) → RequestBreaks asked passed dir now rule → 8 ≤ number_of rule
+request_from asked passed dir now Rule.RequestChanged b = omega arith
+request_from asked passed dir now Rule.RequestAfterStart b = omega arith
+request_from asked passed dir now rule b = absurd b
+
+terms_from : (h : Header) (asked : RequestParts) (passed : List Datagram) (m : Message) (rule : Rule) → TermsBreak h asked passed m rule → 8 ≤ number_of rule
+terms_from h asked passed m rule (e, is, t, at, b) = let high = end_from e in let same = ap number_of is in omega arith
+
+-- the rules of one kind stand behind that of ERRORs
+kind_from : (h : Header) (asked : RequestParts) (passed : List Datagram) (dir : Dir) (m : Message) (rule : Rule) → KindBreaks h asked passed dir m rule → 8 ≤ number_of rule
+kind_from h asked passed dir (Message.Request now) rule b = request_from asked passed dir now rule b
+kind_from h asked passed dir (Message.Error code text) rule b = absurd b
+kind_from h asked passed dir (Message.Oack oack) rule b = let high = from_ten asked passed dir oack rule b in omega arith
+kind_from h asked passed dir (Message.Data k bytes) rule b = terms_from h asked passed (Message.Data k bytes) rule b
+kind_from h asked passed dir (Message.Ack j) rule b = terms_from h asked passed (Message.Ack j) rule b
+
+-- the first rule is that of ERRORs
+pub gone_on : (h : Header) (asked : RequestParts) (passed : List Datagram) (dir : Dir) (m : Message) → (IsWrongKind (author_of h.named dir) asked.side m → ⊥) → GoesOn passed dir m
+    → IsFirstOf (MessageBreaks h asked passed dir m) Rule.AfterError
+gone_on h asked passed dir m right on = (inr (inl (refl, on)), below)
+  where
+    below : (other : Rule) → number_of other < 7 → MessageBreaks h asked passed dir m other → ⊥
+    below other low (inl (is, wrong)) = right wrong
+    below other low (inr (inl (is, on))) = let same = ap number_of is in omega (arith, low, same)
+    below other low (inr (inr b)) = let high = kind_from h asked passed dir m other b in omega (arith, low, high)
+
+module _ (h : Header) (asked : RequestParts) (passed : List Datagram) (dir : Dir) (m : Message) (right : IsWrongKind (author_of h.named dir) asked.side m → ⊥) (stays : GoesOn passed dir m → ⊥) where
+  kind_there : (rule : Rule) → KindBreaks h asked passed dir m rule → MessageBreaks h asked passed dir m rule
+  kind_there rule b = inr (inr b)
+
+  kind_back : (rule : Rule) → MessageBreaks h asked passed dir m rule → KindBreaks h asked passed dir m rule
+  kind_back rule (inl (is, wrong)) = absurd (right wrong)
+  kind_back rule (inr (inl (is, on))) = absurd (stays on)
+  kind_back rule (inr (inr b)) = b
+
+  pub kind_finds : (A : Type 0) (r : Result (Unit {0}) Stop) → Finds (KindBreaks h asked passed dir m) A r → Finds (MessageBreaks h asked passed dir m) A r
+  kind_finds A = finds_by (KindBreaks h asked passed dir m) (MessageBreaks h asked passed dir m) A A kind_there kind_back (λ a. a)
+
+-- an ERROR breaks none of them
+pub error_finds : (h : Header) (asked : RequestParts) (passed : List Datagram) (dir : Dir) (code : ℕ) (text : List ℕ) (A : Type 0) (r : Result (Unit {0}) Stop) → OnOk r A → IfErr r (λ stop. stop ≡ Stop.Memory)
+    → Finds (KindBreaks h asked passed dir (Message.Error code text)) A r
+error_finds h asked passed dir code text A (Ok x) a memory = ((λ rule b. b), a)
+error_finds h asked passed dir code text A (Err stop) a memory = finds_memory (KindBreaks h asked passed dir (Message.Error code text)) A (Err stop) (stop, refl, memory) (λ rule b. b)
+
+pub block_finds : (h : Header) (asked : RequestParts) (passed : List Datagram) (dir : Dir) (m : Message) (A : Type 0) (r : Result (Unit {0}) Stop) → IsBlockOrAck m → Finds (TermsBreak h asked passed m) A r
+    → Finds (KindBreaks h asked passed dir m) A r
+block_finds h asked passed dir (Message.Data k bytes) A r is found = found
+block_finds h asked passed dir (Message.Ack j) A r is found = found
+block_finds h asked passed dir (Message.Request now) A r is found = absurd is
+block_finds h asked passed dir (Message.Error code text) A r is found = absurd is
+block_finds h asked passed dir (Message.Oack oack) A r is found = absurd is
+
+-- the test of the kind, by the author and the side that were computed
+pub right_kind : (h : Header) (asked : RequestParts) (dir : Dir) (m : Message) (author : End) (side : Side) (b : Bool) → author ≡ author_of h.named dir → side ≡ asked.side → b ≡ false
+    → (IsWrongKind author side m → b ≡ true) → IsWrongKind (author_of h.named dir) asked.side m → ⊥
+right_kind h asked dir m author side b e f right tells wrong =
+    false≢true (sym right ∙ tells (subst (λ (a : End). IsWrongKind a side m) (sym e) (subst (λ (x : Side). IsWrongKind (author_of h.named dir) x m) (sym f) wrong)))

@@ -1,0 +1,200 @@
+-- What stays as it was when a datagram is added, by what it says.
+use Rattle.std.proofs.Common.{◌≡◌, ◌↔◌, ℕ, Bool, true, false, List, ◌∷◌, inl, inr, refl, sym, subst, ◌∙◌}
+use Rattle.tftp_packet.specs.OptionMap.{OptionMap}
+use Rattle.tftp_packet.specs.Message.{Message, RequestParts}
+use Rattle.tftp_packet.specs.Spelling.{Spells}
+use Rattle.tftp_packet.specs.declared.kinds.Side.{Side}
+use Rattle.tftp_packet.specs.declared.kinds.Side.TheVariants.{Get, Put}
+use Rattle.tftp_packet.specs.declared.kinds.End.{End}
+use Rattle.tftp_packet.specs.declared.kinds.End.TheVariants.{Client, Server}
+use Rattle.tftp_packet.specs.declared.kinds.Dir.{Dir}
+use Rattle.tftp_packet.specs.declared.kinds.Dir.TheVariants.{In, Out}
+use Rattle.tftp_ends.specs.CaptureText.{Datagram, Header}
+use Rattle.tftp_ends.specs.NamedEnd.{NamedEnd, Sends, Receives, terms_of, IsEndAfter}
+use Rattle.tftp_ends.specs.States.{IsBeforeBlocks, IsAside, Says}
+use Rattle.tftp_ends.proofs.AfterReceiver.{receiver_aside}
+use Rattle.tftp_ends.proofs.AfterSender.{sender_aside}
+use Rattle.tftp_ends.proofs.Passing.{another, another_way, in_not_out, aside_no_block, aside_no_ack}
+use Rattle.tftp_law.specs.MessageRules.{AckSent, BlockSent}
+use Rattle.tftp_law.specs.Rules.{Answer, Agrees, Begins, IsAnswer, IsWrongKind, NotAnswered, FirstAnswer, terms_after}
+use Rattle.tftp_law.proofs.Spelled.{spelled_once}
+use Rattle.tftp_judge.proofs.ErrorsAside.{errors_aside}
+use Rattle.tftp_judge.specs.Courses.{DiffersByCourse, DiffersBySent}
+use Rattle.tftp_judge.specs.Finds.{IsBlockOrAck}
+use Rattle.tftp_judge.specs.Kept.{Course, Unanswered, Begun, Agreed, HasBegun, IsCourse, Transfer, IsTransferAfter, Errors, AreErrors}
+
+-- a message of no such kind
+abbrev pub IsNoBlock : Message → Type 0
+IsNoBlock m = (k : ℕ) (bytes : List ℕ) → m ≡ Message.Data k bytes → ⊥
+
+abbrev pub IsNoAck : Message → Type 0
+IsNoAck m = (j : ℕ) → m ≡ Message.Ack j → ⊥
+
+abbrev pub IsNoError : Message → Type 0
+IsNoError m = (code : ℕ) (text : List ℕ) → m ≡ Message.Error code text → ⊥
+
+abbrev pub AnswersNothing : Side → Message → Type 0
+AnswersNothing side m = (answer : Answer) → IsAnswer side m answer → ⊥
+
+module _ (d : Datagram) (way : Dir) (m : Message) (passed : List Datagram) (says : Says d way m) where
+  pub still_unanswered : (side : Side) → AnswersNothing side m → NotAnswered side passed → NotAnswered side (d ∷ passed)
+  still_unanswered side other none =
+      ((λ answer now. other answer (subst (λ n. IsAnswer side n answer) (spelled_once d.payload now.0 m now.1 says.1) now.2)), none)
+
+  pub still_before_blocks : IsNoBlock m → IsNoAck m → IsBeforeBlocks passed → IsBeforeBlocks (d ∷ passed)
+  still_before_blocks no_block no_ack before = record {
+    no_block = λ k bytes p. before.no_block k bytes (elim p [
+      | inl came ↦ inl (another d way In m (Message.Data k bytes) passed says (no_block k bytes) came)
+      | inr went ↦ inr (another d way Out m (Message.Data k bytes) passed says (no_block k bytes) went)
+    ]);
+    no_ack = λ j p. before.no_ack j (elim p [
+      | inl came ↦ inl (another d way In m (Message.Ack j) passed says (no_ack j) came)
+      | inr went ↦ inr (another d way Out m (Message.Ack j) passed says (no_ack j) went)
+    ]);
+  }
+
+  -- what the named end has sent
+  pub block_flag_kept : (sent : Bool) → IsNoBlock m → (sent ≡ true) ↔ BlockSent passed → (sent ≡ true) ↔ BlockSent (d ∷ passed)
+  block_flag_kept sent no_block is = (
+    (λ yes. let was = is.0 yes in (was.0, was.1, inr was.2)),
+    (λ p. is.1 (p.0, p.1, another d way Out m (Message.Data p.0 p.1) passed says (no_block p.0 p.1) p.2)),
+  )
+
+  pub ack_flag_kept : (sent : Bool) → IsNoAck m → (sent ≡ true) ↔ AckSent passed → (sent ≡ true) ↔ AckSent (d ∷ passed)
+  ack_flag_kept sent no_ack is = (
+    (λ yes. let was = is.0 yes in (was.0, inr was.1)),
+    (λ p. is.1 (p.0, another d way Out m (Message.Ack p.0) passed says (no_ack p.0) p.1)),
+  )
+
+  pub block_flag_in : (sent : Bool) → way ≡ In → (sent ≡ true) ↔ BlockSent passed → (sent ≡ true) ↔ BlockSent (d ∷ passed)
+  block_flag_in sent came is = (
+    (λ yes. let was = is.0 yes in (was.0, was.1, inr was.2)),
+    (λ p. is.1 (p.0, p.1, another_way d way Out m (Message.Data p.0 p.1) passed says (λ e. in_not_out (sym came ∙ e)) p.2)),
+  )
+
+  pub ack_flag_in : (sent : Bool) → way ≡ In → (sent ≡ true) ↔ AckSent passed → (sent ≡ true) ↔ AckSent (d ∷ passed)
+  ack_flag_in sent came is = (
+    (λ yes. let was = is.0 yes in (was.0, inr was.1)),
+    (λ p. is.1 (p.0, another_way d way Out m (Message.Ack p.0) passed says (λ e. in_not_out (sym came ∙ e)) p.1)),
+  )
+
+-- ---- the end that began
+
+pub end_aside : (end : NamedEnd) (passed : List Datagram) (d : Datagram) (m : Message) → IsEndAfter end passed → Spells d.payload m → IsAside d.dir m → IsEndAfter end (d ∷ passed)
+end_aside (Sends s) passed d m after spells is = sender_aside s passed d m after spells is
+end_aside (Receives r) passed d m after spells is = receiver_aside r passed d m after spells is
+
+pub begun_more : (h : Header) (asked : RequestParts) (passed : List Datagram) (d : Datagram) (answer : Answer) (old new : NamedEnd) → HasBegun h asked passed answer old
+    → terms_of new ≡ terms_of old → IsEndAfter new (d ∷ passed) → HasBegun h asked (d ∷ passed) answer new
+begun_more h asked passed d answer old new begun same after = record { answered = inl begun.answered; terms = same ∙ begun.terms; after = after }
+
+module _ (h : Header) (asked : RequestParts) (passed : List Datagram) (d : Datagram) (m : Message) (spells : Spells d.payload m) (is : IsAside d.dir m) where
+  pub course_aside : (course : Course) → (course ≡ Unanswered → AnswersNothing asked.side m) → IsCourse h asked passed course → IsCourse h asked (d ∷ passed) course
+  course_aside Unanswered other kept = (
+    still_unanswered d d.dir m passed (refl, spells) asked.side (other refl) kept.0,
+    still_before_blocks d d.dir m passed (refl, spells) (aside_no_block d.dir m is) (aside_no_ack d.dir m is) kept.1,
+  )
+  course_aside (Begun end) other kept = begun_more h asked passed d Begins end end kept refl (end_aside end passed d m kept.after spells is)
+  course_aside (Agreed options end) other kept = begun_more h asked passed d (Agrees options) end end kept refl (end_aside end passed d m kept.after spells is)
+
+-- the whole transfer, where the message is no ERROR
+pub transfer_aside : (t : Transfer) (h : Header) (passed : List Datagram) (d : Datagram) (m : Message) → IsTransferAfter t h passed → Spells d.payload m → IsAside d.dir m → IsNoError m
+    → (t.course ≡ Unanswered → AnswersNothing t.asked.side m) → IsTransferAfter t h (d ∷ passed)
+transfer_aside t h passed d m after spells is no_error other = record {
+  named = after.named;
+  course = course_aside h t.asked passed d m spells is t.course other after.course;
+  block_sent = block_flag_kept d d.dir m passed (refl, spells) t.block_sent (aside_no_block d.dir m is) after.block_sent;
+  ack_sent = ack_flag_kept d d.dir m passed (refl, spells) t.ack_sent (aside_no_ack d.dir m is) after.ack_sent;
+  errors = errors_aside t.errors passed d m after.errors spells no_error;
+}
+
+-- ---- which messages answer
+
+pub request_answers_nothing : (side : Side) (now : RequestParts) → AnswersNothing side (Message.Request now)
+request_answers_nothing Get now answer is = absurd is
+request_answers_nothing Put now answer is = absurd is
+
+pub error_answers_nothing : (side : Side) (code : ℕ) (text : List ℕ) → AnswersNothing side (Message.Error code text)
+error_answers_nothing Get code text answer is = absurd is
+error_answers_nothing Put code text answer is = absurd is
+
+-- ---- by kind
+
+pub transfer_with_request : (t : Transfer) (h : Header) (passed : List Datagram) (d : Datagram) (now : RequestParts) → IsTransferAfter t h passed → Spells d.payload (Message.Request now)
+    → IsTransferAfter t h (d ∷ passed)
+transfer_with_request t h passed d now after spells =
+    transfer_aside t h passed d (Message.Request now) after spells tt (λ code text e. absurd (cc)) (λ e. request_answers_nothing t.asked.side now)
+
+pub transfer_with_later_oack : (t : Transfer) (h : Header) (passed : List Datagram) (d : Datagram) (oack options : OptionMap) (end : NamedEnd) → t.course ≡ Agreed options end → IsTransferAfter t h passed
+    → Spells d.payload (Message.Oack oack) → IsTransferAfter t h (d ∷ passed)
+transfer_with_later_oack t h passed d oack options end is after spells =
+    transfer_aside t h passed d (Message.Oack oack) after spells tt (λ code text e. absurd (cc)) (λ e. let no : Unanswered ≡ Agreed options end = sym e ∙ is in absurd (cc))
+
+-- ---- a block or an ACK that was kept
+
+pub is_no_error : (m : Message) → IsBlockOrAck m → IsNoError m
+is_no_error (Message.Data k bytes) is code text e = absurd (cc)
+is_no_error (Message.Ack j) is code text e = absurd (cc)
+is_no_error (Message.Request r) is code text e = absurd is
+is_no_error (Message.Error other words) is code text e = absurd is
+is_no_error (Message.Oack o) is code text e = absurd is
+
+pub transfer_kept : (old kept new : Transfer) (h : Header) (passed : List Datagram) (d : Datagram) (m : Message) → IsTransferAfter old h passed → Spells d.payload m → IsBlockOrAck m
+    → DiffersByCourse old kept → DiffersBySent kept new → IsCourse h old.asked (d ∷ passed) kept.course
+    → ((kept.block_sent ≡ true) ↔ BlockSent passed → (new.block_sent ≡ true) ↔ BlockSent (d ∷ passed))
+    → ((kept.ack_sent ≡ true) ↔ AckSent passed → (new.ack_sent ≡ true) ↔ AckSent (d ∷ passed))
+    → IsTransferAfter new h (d ∷ passed)
+transfer_kept old kept new h passed d m after spells is by_course by_sent course block_sent ack_sent = record {
+  named = by_sent.0 ∙ by_course.0 ∙ after.named;
+  course = subst (λ (a : RequestParts). IsCourse h a (d ∷ passed) new.course) (sym (by_sent.1 ∙ by_course.1)) (subst (IsCourse h old.asked (d ∷ passed)) (sym by_sent.2) course);
+  block_sent = block_sent (subst (λ (b : Bool). (b ≡ true) ↔ BlockSent passed) (sym by_course.2) after.block_sent);
+  ack_sent = ack_sent (subst (λ (b : Bool). (b ≡ true) ↔ AckSent passed) (sym by_course.3) after.ack_sent);
+  errors = subst (λ (e : Errors). AreErrors e (d ∷ passed)) (sym (by_sent.3 ∙ by_course.4)) (errors_aside old.errors passed d m after.errors spells (is_no_error m is));
+}
+
+-- ---- the first OACK
+
+pub transfer_agreed : (old : Transfer) (h : Header) (passed : List Datagram) (d : Datagram) (oack agreed : OptionMap) (end : NamedEnd) → IsTransferAfter old h passed → old.course ≡ Unanswered
+    → Spells d.payload (Message.Oack oack) → agreed ≡ oack → terms_of end ≡ terms_after h old.asked (Agrees agreed) → (IsBeforeBlocks passed → IsEndAfter end passed)
+    → IsTransferAfter (record { named = old.named; asked = old.asked; course = Agreed agreed end; block_sent = old.block_sent; ack_sent = old.ack_sent; errors = old.errors }) h (d ∷ passed)
+transfer_agreed old h passed d oack agreed end after unanswered spells same terms begun =
+    let kept = subst (IsCourse h old.asked passed) unanswered after.course in
+    record {
+      named = after.named;
+      course = record {
+        answered = inr (kept.0, (Message.Oack oack, spells, sym same));
+        terms = terms;
+        after = end_aside end passed d (Message.Oack oack) (begun kept.1) spells tt;
+      };
+      block_sent = block_flag_kept d d.dir (Message.Oack oack) passed (refl, spells) old.block_sent (λ k bytes e. absurd (cc)) after.block_sent;
+      ack_sent = ack_flag_kept d d.dir (Message.Oack oack) passed (refl, spells) old.ack_sent (λ j e. absurd (cc)) after.ack_sent;
+      errors = errors_aside old.errors passed d (Message.Oack oack) after.errors spells (λ code text e. absurd (cc));
+    }
+
+-- ---- an ERROR
+
+pub error_is_right : (author : End) (side : Side) (code : ℕ) (text : List ℕ) → IsWrongKind author side (Message.Error code text) → ⊥
+error_is_right Client Get code text wrong = wrong
+error_is_right Client Put code text wrong = wrong
+error_is_right Server Get code text wrong = wrong
+error_is_right Server Put code text wrong = wrong
+
+pub error_waits_for_none : (h : Header) (asked : RequestParts) (passed : List Datagram) (d : Datagram) (dir : Dir) (code : ℕ) (text : List ℕ) (course : Course) → course ≡ Unanswered
+    → Says d dir (Message.Error code text) → IsCourse h asked passed course → IsCourse h asked (d ∷ passed) course
+error_waits_for_none h asked passed d dir code text course unanswered says kept =
+    let was = subst (IsCourse h asked passed) unanswered kept in
+    subst (IsCourse h asked (d ∷ passed)) (sym unanswered) (
+      still_unanswered d dir (Message.Error code text) passed says asked.side (error_answers_nothing asked.side code text) was.0,
+      still_before_blocks d dir (Message.Error code text) passed says (λ k bytes e. absurd (cc)) (λ j e. absurd (cc)) was.1,
+    )
+
+pub transfer_with_error : (old : Transfer) (h : Header) (passed : List Datagram) (d : Datagram) (dir : Dir) (code : ℕ) (text : List ℕ) (course : Course) (errors : Errors) → IsTransferAfter old h passed
+    → Says d dir (Message.Error code text) → IsCourse h old.asked (d ∷ passed) course → AreErrors errors (d ∷ passed)
+    → IsTransferAfter (record { named = old.named; asked = old.asked; course = course; block_sent = old.block_sent; ack_sent = old.ack_sent; errors = errors }) h (d ∷ passed)
+transfer_with_error old h passed d dir code text course errors after says now are = record {
+  named = after.named;
+  course = now;
+  block_sent = block_flag_kept d dir (Message.Error code text) passed says old.block_sent (λ k bytes e. absurd (cc)) after.block_sent;
+  ack_sent = ack_flag_kept d dir (Message.Error code text) passed says old.ack_sent (λ j e. absurd (cc)) after.ack_sent;
+  errors = are;
+}

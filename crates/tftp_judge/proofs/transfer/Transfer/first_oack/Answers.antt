@@ -1,0 +1,35 @@
+use Rattle.std.proofs.Common.{◌≡◌, ◌∷◌, Err, refl, sym, subst, ap, ◌∙◌}
+use Rattle.tftp_packet.specs.Message.{RequestParts}
+use Rattle.tftp_packet.specs.OptionMap.{OptionMap, no_options}
+use Rattle.tftp_packet.specs.Written.{map_of}
+use Rattle.tftp_nego.specs.Agreement.{MayAgree}
+use Rattle.tftp_nego.specs.Faults.{FirstFault}
+use Rattle.tftp_law.specs.MessageRules.{FirstOackBreaks}
+use Rattle.tftp_law.specs.Rules.{Agrees, terms_after}
+use Rattle.tftp_judge.specs.Finds.{Finds}
+use Rattle.tftp_judge.specs.Kept.{Transfer, IsTransferAfter}
+use Rattle.tftp_judge.specs.declared.stop.Stop.{Stop}
+use Rattle.tftp_judge.proofs.MessageFound.{fault_found, none_of_agreed}
+use Rattle.tftp_judge.proofs.StaysAfter.{transfer_agreed}
+use Rattle.tftp_judge.proofs.transfer.Transfer.first_oack.Goals as goal
+
+pub returns-in-Err-clause-finds : goal.returns-in-Err-clause-finds
+returns-in-Err-clause-finds g c = λ h passed d after spells.
+    let asked_is = ap (λ (t : Transfer). t.asked) c.self.view_is in
+    subst (λ (stop : Stop). Finds (FirstOackBreaks c.args.self.now.asked (map_of c.args.oack.now)) (IsTransferAfter c.args.self.now h (d ∷ passed)) (Err stop)) (sym c.stop_of.ensures)
+    (fault_found c.args.self.now.asked (map_of c.args.oack.now) (IsTransferAfter c.args.self.now h (d ∷ passed)) c.in-Err.fault
+    (λ some. subst (λ (asked : RequestParts). FirstFault asked (map_of c.args.oack.now) c.in-Err.fault) asked_is ((c.in-Err.ensures.fault c.in-Err.fault some).0 refl))
+    (λ is. let may = c.in-Err.ensures.memory (ap (λ f. Err f) is) in none_of_agreed c.args.self.now.asked (map_of c.args.oack.now) may.0 (subst (λ (asked : RequestParts). MayAgree asked (map_of c.args.oack.now)) asked_is may.1)))
+
+pub returns-clause-finds : goal.returns-clause-finds
+returns-clause-finds g c = λ h passed d after spells.
+    let asked_is = ap (λ (t : Transfer). t.asked) c.self.view_is in
+    let was = subst (λ (t : Transfer). IsTransferAfter t h passed) (sym c.self.view_is) after in
+    let ok = c.in-Ok.ensures.ok in
+    (
+      none_of_agreed c.args.self.now.asked (map_of c.args.oack.now)
+      (λ e. ok.1 (ok.0 ∙ e))
+      (subst (λ (asked : RequestParts). MayAgree asked (map_of c.args.oack.now)) asked_is (subst (λ (o : OptionMap). MayAgree c.self.inside.asked o) ok.0 ok.2)),
+      transfer_agreed _ h passed d (map_of c.args.oack.now) c.in-Ok.agreed c.begin-end.result was (ap (λ (t : Transfer). t.course) c.self.view_is ∙ c.requires) spells ok.0
+      (c.begin-end.ensures.terms ∙ c.agreed_terms.ensures.are h (sym was.named)) (c.begin-end.ensures.before passed after.errors),
+    )

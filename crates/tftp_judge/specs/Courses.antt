@@ -1,0 +1,33 @@
+-- What may come by how the request was answered.
+use Rattle.std.specs.Prelude.{◌≡◌}
+use Rattle.tftp_packet.specs.Message.{Message, Data}
+use Rattle.tftp_packet.specs.declared.kinds.Side.{Side}
+use Rattle.tftp_packet.specs.declared.kinds.Side.TheVariants.{Put}
+use Rattle.tftp_ends.specs.NamedEnd.{MayKeep}
+use Rattle.tftp_judge.specs.Kept.{Course, Unanswered, Begun, Agreed, Transfer}
+
+-- the request is answered
+abbrev pub HasAnswer : Course → Type 0
+HasAnswer Unanswered = ⊥
+HasAnswer (Begun end) = Unit {0}
+HasAnswer (Agreed options end) = Unit {0}
+
+-- a message that the end may keep, where it has begun
+abbrev pub MayKeepOn : Course → Message → Type 0
+MayKeepOn Unanswered m = Unit {0}
+MayKeepOn (Begun end) m = MayKeep end m
+MayKeepOn (Agreed options end) m = MayKeep end m
+
+-- a block of a write, which waits for the reply (RFC 1350, section 4)
+abbrev pub WaitsForReply : Side → Message → Type 0
+WaitsForReply Put (Data k bytes) = Unit {0}
+WaitsForReply _ _ = ⊥
+
+-- only the course has changed
+abbrev pub DiffersByCourse : Transfer → Transfer → Type 0
+DiffersByCourse old new =
+    (new.named ≡ old.named) × (new.asked ≡ old.asked) × (new.block_sent ≡ old.block_sent) × (new.ack_sent ≡ old.ack_sent) × (new.errors ≡ old.errors)
+
+-- only what the named end has sent has changed
+abbrev pub DiffersBySent : Transfer → Transfer → Type 0
+DiffersBySent old new = (new.named ≡ old.named) × (new.asked ≡ old.asked) × (new.course ≡ old.course) × (new.errors ≡ old.errors)
