@@ -5,6 +5,8 @@ use Rattle.tftp_packet.specs.Message.{Message, RequestParts}
 use Rattle.tftp_packet.specs.Spelling.{Spells}
 use Rattle.tftp_packet.specs.declared.kinds.Side.{Side}
 use Rattle.tftp_packet.specs.declared.kinds.Side.TheVariants.{Get, Put}
+use Rattle.tftp_packet.specs.declared.kinds.End.{End}
+use Rattle.tftp_packet.specs.declared.kinds.End.TheVariants.{Client, Server}
 use Rattle.tftp_packet.specs.declared.kinds.Dir.{Dir}
 use Rattle.tftp_packet.specs.declared.kinds.Dir.TheVariants.{In, Out}
 use Rattle.tftp_ends.specs.CaptureText.{Datagram, Header}
@@ -14,7 +16,7 @@ use Rattle.tftp_ends.proofs.AfterReceiver.{receiver_aside}
 use Rattle.tftp_ends.proofs.AfterSender.{sender_aside}
 use Rattle.tftp_ends.proofs.Passing.{another, another_way, in_not_out, aside_no_block, aside_no_ack}
 use Rattle.tftp_law.specs.MessageRules.{AckSent, BlockSent}
-use Rattle.tftp_law.specs.Rules.{Answer, Agrees, Begins, IsAnswer, NotAnswered, FirstAnswer, terms_after}
+use Rattle.tftp_law.specs.Rules.{Answer, Agrees, Begins, IsAnswer, IsWrongKind, NotAnswered, FirstAnswer, terms_after}
 use Rattle.tftp_law.proofs.Spelled.{spelled_once}
 use Rattle.tftp_judge.proofs.ErrorsAside.{errors_aside}
 use Rattle.tftp_judge.specs.Courses.{DiffersByCourse, DiffersBySent}
@@ -170,6 +172,12 @@ transfer_agreed old h passed d oack agreed end after unanswered spells same term
     }
 
 -- ---- an ERROR
+
+pub error_is_right : (author : End) (side : Side) (code : ℕ) (text : List ℕ) → IsWrongKind author side (Message.Error code text) → ⊥
+error_is_right Client Get code text wrong = wrong
+error_is_right Client Put code text wrong = wrong
+error_is_right Server Get code text wrong = wrong
+error_is_right Server Put code text wrong = wrong
 
 pub error_waits_for_none : (h : Header) (asked : RequestParts) (passed : List Datagram) (d : Datagram) (dir : Dir) (code : ℕ) (text : List ℕ) (course : Course) → course ≡ Unanswered
     → Says d dir (Message.Error code text) → IsCourse h asked passed course → IsCourse h asked (d ∷ passed) course

@@ -1,4 +1,19 @@
+use Rattle.std.proofs.Common.{inr, sym, subst, ap}
+use Rattle.tftp_packet.specs.Message.{Message}
+use Rattle.tftp_packet.specs.Meaning.{meaning}
+use Rattle.tftp_packet.specs.Spelling.{Spells}
+use Rattle.tftp_ends.specs.Roles.{author_of}
+use Rattle.tftp_law.specs.Rules.{IsWrongKind}
+use Rattle.tftp_judge.specs.Kept.{Transfer, IsTransferAfter}
+use Rattle.tftp_judge.specs.KeptCode.{course_of}
+use Rattle.tftp_judge.proofs.StaysAfter.{error_is_right, transfer_with_error}
 use Rattle.tftp_judge.proofs.transfer.Transfer.pass_error.Goals as goal
 
 pub returns-clause-ok : goal.returns-clause-ok
-returns-clause-ok g c = ?
+returns-clause-ok g c = λ h passed d after says stays.
+    let was = subst (λ (t : Transfer). IsTransferAfter t h passed) (sym c.self.view_is) after in
+    let right = subst (λ (m : Message). IsWrongKind (author_of h.named c.args.dir) c.self.inside.asked.side m → ⊥) (sym c.requires)
+        (error_is_right (author_of h.named c.args.dir) c.self.inside.asked.side c.args.code c.args.message.now) in
+    transfer_with_error _ h passed d c.args.dir c.args.code c.args.message.now (course_of c.pass.new.self) c.note.new.self was says
+    (c.in_ok-pass.ensures.ok h c.self.inside.asked passed d was.course (says.0, subst (Spells d.payload) (sym c.requires) says.1) right (inr (c.args.code, c.args.message.now, c.requires)))
+    (c.in_ok-note.ensures.ok passed d was.errors says stays)
