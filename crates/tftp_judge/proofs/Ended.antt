@@ -34,8 +34,8 @@ use Rattle.tftp_law.proofs.OneMeaning.{one_meaning}
 use Rattle.tftp_law.specs.Settled.{AreOnce, HasOneLast}
 use Rattle.tftp_judge.specs.Ending.{IsUnfinished}
 use Rattle.tftp_judge.specs.Verdict.{IsVerdictByRules}
-use Rattle.tftp_judge.specs.declared.verdict.Verdict.{Verdict}
-use Rattle.tftp_judge.specs.declared.verdict.Verdict.TheVariants.{Aborted, Incomplete}
+use Rattle.tftp_judge.specs.declared.refusal.Refusal.{Refusal}
+use Rattle.tftp_judge.specs.declared.refusal.Refusal.TheVariants.{Aborted, Incomplete}
 
 pub front_one : (passed : List Datagram) (a b : ℕ) → IsFront passed a → IsFront passed b → a ≡ b
 front_one passed a b one other = elim (cases_lt a b) [
@@ -55,7 +55,7 @@ small_ack dir j [] p = absurd p
 small_ack dir j (d ∷ passed) (inl (way, (bytes, (x, y, (small, also, is), text)))) = omega arith
 small_ack dir j (d ∷ passed) (inr before) = small_ack dir j passed before
 
-end_is : (named : End) (side : Side) → (named ≡ receiver_of side) ⊎ (named ≡ sender_of side)
+pub end_is : (named : End) (side : Side) → (named ≡ receiver_of side) ⊎ (named ≡ sender_of side)
 end_is Client Get = inl refl
 end_is Server Get = inr refl
 end_is Client Put = inr refl
@@ -200,8 +200,8 @@ module _ (h : Header) (earlier : List Datagram) (lawful : OneEnded h earlier) (a
       )
 
 -- what there is to say of datagrams that break no rule and mean nothing
-pub unfinished_by : (h : Header) (datagrams : List Datagram) (total : ℕ) (v : Verdict) → OneEnded h (reverse datagrams) → ((m : Meaning) → Meant h (reverse datagrams) m → ⊥) → total ≡ length datagrams
-    → IsUnfinished (transfer_of h (reverse datagrams)) total v → IsVerdictByRules h datagrams v
+pub unfinished_by : (h : Header) (datagrams : List Datagram) (total : ℕ) (v : Refusal) → OneEnded h (reverse datagrams) → ((m : Meaning) → Meant h (reverse datagrams) m → ⊥) → total ≡ length datagrams
+    → IsUnfinished (transfer_of h (reverse datagrams)) total v → IsVerdictByRules h datagrams (Err v)
 unfinished_by h datagrams total (Aborted by code) lawful none is first = (lawful, none, first)
 unfinished_by h datagrams total (Incomplete count) lawful none is left = (lawful, none, left.0, left.1 ∙ is)
 unfinished_by h datagrams total v lawful none is other = absurd other

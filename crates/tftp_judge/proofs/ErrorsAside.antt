@@ -3,7 +3,6 @@ use Rattle.std.proofs.Common.{◌≡◌, ◌==◌, ◌||◌, ℕ, Bool, true, fa
 use Rattle.std.specs.Prelude.{is_some}
 use Rattle.tftp_packet.specs.Message.{Message}
 use Rattle.tftp_packet.specs.Spelling.{Spells, side_opcode}
-use Rattle.tftp_packet.proofs.Unique.{message_opcode}
 use Rattle.tftp_packet.specs.declared.kinds.Side.{Side}
 use Rattle.tftp_packet.specs.declared.kinds.Side.TheVariants.{Get, Put}
 use Rattle.tftp_packet.specs.declared.kinds.Dir.{Dir}
@@ -32,18 +31,17 @@ module _ (d : Datagram) (passed : List Datagram) (m : Message) (spells : Spells 
   first_aside None none = (no_error, none)
   first_aside (Some error) first = inl first
 
-  no_request : (side : Side) → ((side_opcode side == 5) || has_stopped passed) ≡ has_stopped passed
-  no_request Get = refl
-  no_request Put = refl
-
   stopped_aside : has_stopped (d ∷ passed) ≡ has_stopped passed
   stopped_aside = by d.dir refl m refl where
     by : (dir : Dir) → d.dir ≡ dir → (n : Message) → m ≡ n → has_stopped (d ∷ passed) ≡ has_stopped passed
     by Out way n is = stopped_out d passed way
-    by In way (Message.Request asked) is = stopped_with d m passed (way, spells) ∙ ap (λ (x : Message). (message_opcode x == 5) || has_stopped passed) is ∙ no_request asked.side
-    by In way (Message.Oack options) is = stopped_with d m passed (way, spells) ∙ ap (λ (x : Message). (message_opcode x == 5) || has_stopped passed) is
-    by In way (Message.Data k bytes) is = stopped_with d m passed (way, spells) ∙ ap (λ (x : Message). (message_opcode x == 5) || has_stopped passed) is
-    by In way (Message.Ack j) is = stopped_with d m passed (way, spells) ∙ ap (λ (x : Message). (message_opcode x == 5) || has_stopped passed) is
+    by In way (Message.Request asked) is = stopped_with d m passed (way, spells) ∙ rw (is) (no_request asked.side) where
+      no_request : (side : Side) → ((side_opcode side == 5) || has_stopped passed) ≡ has_stopped passed
+      no_request Get = refl
+      no_request Put = refl
+    by In way (Message.Oack options) is = stopped_with d m passed (way, spells) ∙ rw (is) refl
+    by In way (Message.Data k bytes) is = stopped_with d m passed (way, spells) ∙ rw (is) refl
+    by In way (Message.Ack j) is = stopped_with d m passed (way, spells) ∙ rw (is) refl
     by In way (Message.Error code text) is = absurd (other code text is)
 
 pub errors_aside : (errors : Errors) (passed : List Datagram) (d : Datagram) (m : Message) → AreErrors errors passed → Spells d.payload m

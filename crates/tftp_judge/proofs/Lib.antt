@@ -4,3 +4,10 @@ pub mod ErrorsAside
 pub mod MessageFound
 pub mod StaysAfter
 pub mod Replied
+pub mod Ended
+pub mod ByRuns
+pub mod ErrorsNoted
+pub mod BlocksDecoded
+pub mod WhoAcknowledges
+pub mod EndedTransfer
+pub mod EndedJudge

@@ -1,6 +1,6 @@
 //! The ERRORs of a transfer (RFC 1350, section 7).
 
-ghost use Rattle.std.specs.Prelude.{◌≡◌, ◌↔◌, ℕ, List, [], ◌∷◌, IsTrue, OnOk, OnErr};
+ghost use Rattle.std.specs.Prelude.{◌≡◌, ◌↔◌, ℕ, List, [], ◌∷◌, IsTrue, None, Some, OnOk, OnErr};
 ghost use Rattle.tftp_packet.specs.Message.{Message};
 ghost use Rattle.tftp_packet.specs.Meaning.{meaning};
 ghost use Rattle.tftp_ends.specs.CaptureText.{Datagram};
@@ -8,7 +8,7 @@ ghost use Rattle.tftp_ends.specs.States.{has_stopped, Says};
 ghost use Rattle.tftp_law.specs.Aborted.{by_of as by_way};
 ghost use Rattle.tftp_law.specs.Rules.{GoesOn, IsError};
 ghost use Rattle.tftp_judge.specs.Ending.{IsUnfinished};
-ghost use Rattle.tftp_judge.specs.Kept.{AreErrors};
+ghost use Rattle.tftp_judge.specs.Kept.{AreErrors, ErrorText as ErrorParts};
 
 use crate::refusal::Refusal;
 use std::alloc::{AllocError, Global};
@@ -62,6 +62,28 @@ fn by_of(dir: Dir) -> By
         Dir::Out => By::Local,
         Dir::In => By::Peer,
     }
+}
+
+/// Keeps an ERROR where none is kept. Memory is taken for the first one alone.
+fn keep_first(
+    alloc: Global,
+    kept: &mut Option<ErrorText>,
+    code: u16,
+    message: &[u8],
+) -> Result<(), AllocError>
+    ensures first { kept.old ≡ None → OnOk result (kept.new ≡ Some (code, message.now)) }
+    ensures later { (error : ErrorParts) → kept.old ≡ Some error → kept.new ≡ Some error }
+    ensures err { OnErr result (kept.new ≡ kept.old) }
+{
+    if kept.is_none() {
+        let mut bytes = Vec::new(alloc);
+        bytes.extend_from_slice(message)?;
+        *kept = Some(ErrorText {
+            code,
+            message: Bytes::of(bytes),
+        });
+    }
+    Ok(())
 }
 
 impl ErrorText {
@@ -120,17 +142,9 @@ impl Errors {
             → (GoesOn passed dir (Message.Error code message.now) → ⊥) → OnOk result (AreErrors self.new (d ∷ passed)) }
         ensures err { OnErr result (self.new ≡ self.old) }
     {
-        let kept = match dir {
-            Dir::Out => &mut self.sent,
-            Dir::In => &mut self.heard,
-        };
-        if kept.is_none() {
-            let mut bytes = Vec::new(alloc);
-            bytes.extend_from_slice(message)?;
-            *kept = Some(ErrorText {
-                code,
-                message: Bytes::of(bytes),
-            });
+        match dir {
+            Dir::Out => keep_first(alloc, &mut self.sent, code, message)?,
+            Dir::In => keep_first(alloc, &mut self.heard, code, message)?,
         }
         if self.first.is_none() {
             self.first = Some((by_of(dir), code));

@@ -32,8 +32,8 @@ fn decoded<D: Delivered + Drop>(alloc: Global, store: &D) -> Result<Vec<u8>, All
 {
     let mut file = Vec::new(alloc);
     let mut decoder = Decoder::new();
-    for number in 1..=store.front() {
-        if let Some(block) = store.block(number) {
+    for fed in 0..store.front() {
+        if let Some(block) = store.block(fed + 1) {
             decoder.feed(block, &mut file)?;
         }
     }
