@@ -6,3 +6,4 @@ pub mod Lines
 pub mod Showing
 pub mod Unlawful
 pub mod AbortedLine
+pub mod Extracting

@@ -3,8 +3,8 @@ use Rattle.std.proofs.Common.{◌≡◌, ℕ, List, ◌++◌, codes, decimal, sy
 use Rattle.tftp_law.specs.RuleNames.{rule_name}
 use Rattle.tftp_law.specs.Rules.{number_of}
 use Rattle.tftp_law.specs.declared.rule.Rule.{Rule}
-use Rattle.tftp_judge.specs.declared.verdict.Verdict.TheVariants.{Unlawful}
-use Rattle.tftp_commands.specs.Checked.{detail, verdict_line}
+use Rattle.tftp_judge.specs.declared.refusal.Refusal.TheVariants.{Unlawful}
+use Rattle.tftp_commands.specs.Checked.{detail, refusal_line}
 
 -- seven pieces, and one that is two
 joined : (p i q n s name a b d e : List ℕ) → a ++ b ≡ d → p ++ (i ++ (q ++ (n ++ (s ++ (name ++ (a ++ (b ++ e))))))) ≡ p ++ i ++ q ++ n ++ s ++ name ++ d ++ e
@@ -16,7 +16,7 @@ joined p i q n s name a b d e two =
 
 -- the pieces of the line are the line
 pub unlawful_pieces : (index : ℕ) (rule : Rule) (i n name a b : List ℕ) → i ≡ decimal index → n ≡ decimal (number_of rule) → name ≡ rule_name rule → a ++ b ≡ detail rule
-    → codes "refused datagram " ++ (i ++ (codes " rule " ++ (n ++ (codes " " ++ (name ++ (a ++ (b ++ codes "\n"))))))) ≡ verdict_line (Unlawful index rule)
+    → codes "refused datagram " ++ (i ++ (codes " rule " ++ (n ++ (codes " " ++ (name ++ (a ++ (b ++ codes "\n"))))))) ≡ refusal_line (Unlawful index rule)
 unlawful_pieces index rule i n name a b is_index is_number is_name two =
     joined (codes "refused datagram ") i (codes " rule ") n (codes " ") name a b (detail rule) (codes "\n") two
     ∙ ap (λ l. codes "refused datagram " ++ l ++ codes " rule " ++ n ++ codes " " ++ name ++ detail rule ++ codes "\n") is_index

@@ -3,5 +3,7 @@ pub mod Names
 pub mod Output
 pub mod Source
 pub mod Shown
+pub mod Judged
 pub mod Checked
+pub mod Extracted
 pub mod Run

@@ -1,8 +1,9 @@
--- What a run of the program prints, by its words and by what it was given.
+-- What a run of the program writes, by its words and by what it was given.
 use Rattle.std.specs.Prelude.{◌≡◌, ◌⊎◌, ℕ, List, Bool, length}
 use Rattle.tftp_commands.specs.declared.status.Status.TheVariants as status
-use Rattle.tftp_commands.specs.declared.words.Action.TheVariants.{Check, Show}
+use Rattle.tftp_commands.specs.declared.words.Action.TheVariants.{Check, Show, Extract}
 use Rattle.tftp_commands.specs.Checked.{IsChecked}
+use Rattle.tftp_commands.specs.Extracted.{IsExtracted}
 use Rattle.tftp_commands.specs.Output.{Output, memory_line, usage_line}
 use Rattle.tftp_commands.specs.Shown.{IsShown}
 use Rattle.tftp_commands.specs.Source.{Source}
@@ -18,4 +19,5 @@ IsRefused words output =
 pub record IsOutput (words : List (List ℕ)) (source : Source) (cut : Bool) (output : Output) : Type 0 where
   pub check : IsCommand Check words → IsChecked source output
   pub show : IsCommand Show words → IsShown source cut output
+  pub extract : IsCommand Extract words → IsExtracted source output
   pub none : IsNoCommand words → IsRefused words output

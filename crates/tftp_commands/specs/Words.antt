@@ -2,12 +2,15 @@
 use Rattle.std.specs.Prelude.{◌≡◌, ℕ, List, [], ◌∷◌, codes}
 use Rattle.clap.specs.Simple.{App, new_app, with_subcommand}
 use Rattle.tftp_commands.specs.declared.words.Action.{Action}
-use Rattle.tftp_commands.specs.declared.words.Action.TheVariants.{Check, Show}
+use Rattle.tftp_commands.specs.declared.words.Action.TheVariants.{Check, Show, Extract}
+use Rattle.tftp_commands.specs.declared.words.UsageFault.{UsageFault}
+use Rattle.tftp_commands.specs.declared.words.UsageFault.TheVariants as usage
 
 -- the word that names a command
 abbrev pub name_of : Action → List ℕ
 name_of Check = codes "check"
 name_of Show = codes "show"
+name_of Extract = codes "extract"
 
 -- the words are the program's name, whatever it is, and that of the command
 abbrev pub IsCommand : Action → List (List ℕ) → Type 0
@@ -16,6 +19,13 @@ IsCommand action words = (program : List ℕ) × (words ≡ program ∷ name_of 
 abbrev pub IsNoCommand : List (List ℕ) → Type 0
 IsNoCommand words = (action : Action) → IsCommand action words → ⊥
 
+-- how it is told that memory was wanting for a command's words: of a file nothing is said
+abbrev pub memory_fault : Action → UsageFault
+memory_fault Check = usage.Memory
+memory_fault Show = usage.Memory
+memory_fault Extract = usage.Silent
+
 -- what the command line may be
 abbrev pub audit_app : App
-audit_app = with_subcommand (with_subcommand (new_app (codes "tftp-audit")) (new_app (codes "check")).top) (new_app (codes "show")).top
+audit_app =
+    with_subcommand (with_subcommand (with_subcommand (new_app (codes "tftp-audit")) (new_app (codes "check")).top) (new_app (codes "show")).top) (new_app (codes "extract")).top

@@ -5,16 +5,15 @@ ghost use Rattle.tftp_commands.specs.Checked.{IsChecked, checked};
 ghost use Rattle.tftp_commands.specs.Output.{IsWritten, Output};
 ghost use Rattle.tftp_commands.specs.Source.{Source, given};
 
-use crate::faults::put_fault;
 use crate::output::write_out;
 use crate::status::Status;
-use crate::verdicts::{put_verdict, status_of};
+use crate::verdicts::{put_accepted, put_verdict, status_of};
 use std::alloc::Global;
 use std::io::{Read, Write};
-use tftp_capture::{CaptureFault, Gathered, Tallied};
-use tftp_judge::{Verdict, judge_text};
+use tftp_capture::{Gathered, Tallied};
+use tftp_judge::{Meaning, Verdict, judge_text};
 
-/// Judges a capture text, and says the verdict, or why there is none, in one line.
+/// Judges a capture text, and says in one line what it means, or why it is not accepted.
 pub fn check<R: Read, W: Write>(
     alloc: Global,
     reader: &mut Tallied<R>,
@@ -29,29 +28,29 @@ pub fn check<R: Read, W: Write>(
         → (output : Output) × IsChecked (given text) output × IsWritten (W.contents writer.old.0) (W.contents writer.new.0) writer.new.1 output result }
 {
     match judge_text(alloc, reader) {
-        Ok(verdict) => say_verdict(writer, &verdict),
-        Err(fault) => say_fault(writer, fault),
+        Ok(meaning) => say_accepted(writer, &meaning),
+        Err(verdict) => say_verdict(writer, verdict),
     }
 }
 
-fn say_verdict<W: Write>(writer: &mut Tallied<W>, verdict: &Verdict) -> Status
+fn say_accepted<W: Write>(writer: &mut Tallied<W>, meaning: &Meaning) -> Status
     requires { writer.old.1 ≡ false }
-    ensures { IsWritten (W.contents writer.old.0) (W.contents writer.new.0) writer.new.1 (checked (Ok verdict.now)) result }
+    ensures { IsWritten (W.contents writer.old.0) (W.contents writer.new.0) writer.new.1 (checked (Ok meaning.now)) result }
 {
     let mut gathered = Gathered::new();
-    match put_verdict(&mut gathered, writer, verdict) {
-        Ok(()) => write_out(gathered, writer, status_of(verdict)),
+    match put_accepted(&mut gathered, writer, meaning) {
+        Ok(()) => write_out(gathered, writer, Status::Success),
         Err(_) => Status::Fault,
     }
 }
 
-fn say_fault<W: Write>(writer: &mut Tallied<W>, fault: CaptureFault) -> Status
+fn say_verdict<W: Write>(writer: &mut Tallied<W>, verdict: Verdict) -> Status
     requires { writer.old.1 ≡ false }
-    ensures { IsWritten (W.contents writer.old.0) (W.contents writer.new.0) writer.new.1 (checked (Err fault)) result }
+    ensures { IsWritten (W.contents writer.old.0) (W.contents writer.new.0) writer.new.1 (checked (Err verdict)) result }
 {
     let mut gathered = Gathered::new();
-    match put_fault(&mut gathered, writer, fault) {
-        Ok(()) => write_out(gathered, writer, Status::Fault),
+    match put_verdict(&mut gathered, writer, verdict) {
+        Ok(()) => write_out(gathered, writer, status_of(verdict)),
         Err(_) => Status::Fault,
     }
 }

@@ -1,7 +1,8 @@
-//! The commands of the auditor: words and a capture text in, lines and a status out.
+//! The commands of the auditor: words and a capture text in, lines or a file and a status out.
 #![tactic(auto)]
 
 mod check;
+mod extract;
 mod faults;
 mod names;
 mod output;

@@ -6,6 +6,7 @@ ghost use Rattle.tftp_commands.specs.Source.{Source, given};
 ghost use Rattle.tftp_commands.specs.Words.{IsNoCommand};
 
 use crate::check::check;
+use crate::extract::extract;
 use crate::output::say;
 use crate::show::show;
 use crate::status::Status;
@@ -16,7 +17,7 @@ use std::io::{Read, Write};
 use tftp_capture::Tallied;
 
 /// Runs the command that the words name, the first of which is the program's name: reads a capture text, and writes
-/// lines. After a write that fails nothing more is written.
+/// lines, or a file. After a write that fails nothing more is written.
 pub fn run<S: AsStr, R: Read, W: Write>(
     alloc: Global,
     words: &[S],
@@ -43,7 +44,9 @@ pub fn run<S: AsStr, R: Read, W: Write>(
     match action_of(alloc, words) {
         Ok(Action::Check) => check(alloc, reader, writer),
         Ok(Action::Show) => show(alloc, reader, writer),
+        Ok(Action::Extract) => extract(alloc, reader, writer),
         Err(UsageFault::Usage) => say(writer, b"fault usage\n"),
         Err(UsageFault::Memory) => say(writer, b"fault memory\n"),
+        Err(UsageFault::Silent) => Status::Fault,
     }
 }

@@ -1,45 +1,44 @@
 ghost use Rattle.std.specs.Prelude.{◌≡◌, ◌++◌, false};
 ghost use Rattle.tftp_capture.specs.Tally.{Adds};
-ghost use Rattle.tftp_judge.specs.declared.verdict.Verdict.{Verdict};
-ghost use Rattle.tftp_commands.specs.Checked.{accepted_line, detail, verdict_line, verdict_status};
+ghost use Rattle.tftp_judge.specs.declared.refusal.Refusal.{Refusal};
+ghost use Rattle.tftp_commands.specs.Checked.{accepted_line, detail, refusal_line, verdict_line, verdict_status};
 
+use crate::faults::put_fault;
 use crate::names::{by_name, mode_name, packet_fault_name, side_name};
 use crate::status::Status;
 use itoa::Buffer;
 use std::io::Write;
 use tftp_capture::{Gathered, Tallied, WriteFault};
-use tftp_judge::{By, Meaning, Rule, Verdict};
+use tftp_judge::{By, Meaning, Refusal, Rule, Verdict};
 
-/// The status that goes with a verdict.
-pub fn status_of(verdict: &Verdict) -> Status
-    ensures { result ≡ verdict_status verdict.now }
+/// The status that goes with a text that is not accepted.
+pub fn status_of(verdict: Verdict) -> Status
+    ensures { result ≡ verdict_status verdict }
 {
     match verdict {
-        Verdict::Accepted(_) => Status::Success,
-        Verdict::Unlawful(..) | Verdict::Aborted(..) => Status::Refused,
-        Verdict::Incomplete(_) | Verdict::NormalTooLong => Status::Refused,
+        Verdict::Capture(_) | Verdict::Refused(Refusal::Memory) => Status::Fault,
+        Verdict::Refused(Refusal::Unlawful(..) | Refusal::Aborted(..)) => Status::Refused,
+        Verdict::Refused(Refusal::Incomplete(_) | Refusal::NormalTooLong) => Status::Refused,
     }
 }
 
-/// Adds the line of a verdict.
+/// Adds the line of a text that is not accepted.
 pub fn put_verdict<W: Write>(
     gathered: &mut Gathered,
     writer: &mut Tallied<W>,
-    verdict: &Verdict,
+    verdict: Verdict,
 ) -> Result<(), WriteFault>
     requires clean { writer.old.1 ≡ false }
-    ensures adds { Adds W.contents writer.old writer.new result gathered.old gathered.new (verdict_line verdict.now) }
+    ensures adds { Adds W.contents writer.old writer.new result gathered.old gathered.new (verdict_line verdict) }
 {
     match verdict {
-        Verdict::Accepted(meaning) => put_accepted(gathered, writer, meaning),
-        Verdict::Unlawful(index, rule) => put_unlawful(gathered, writer, *index, *rule),
-        Verdict::Aborted(by, code) => put_aborted(gathered, writer, *by, *code),
-        Verdict::Incomplete(count) => put_incomplete(gathered, writer, *count),
-        Verdict::NormalTooLong => gathered.add(writer, b"too long when normal\n"),
+        Verdict::Capture(fault) => put_fault(gathered, writer, fault),
+        Verdict::Refused(refusal) => put_refusal(gathered, writer, refusal),
     }
 }
 
-fn put_accepted<W: Write>(
+/// Adds the line of a text that is accepted.
+pub fn put_accepted<W: Write>(
     gathered: &mut Gathered,
     writer: &mut Tallied<W>,
     meaning: &Meaning,
@@ -65,6 +64,23 @@ fn put_accepted<W: Write>(
     )
 }
 
+fn put_refusal<W: Write>(
+    gathered: &mut Gathered,
+    writer: &mut Tallied<W>,
+    refusal: Refusal,
+) -> Result<(), WriteFault>
+    requires clean { writer.old.1 ≡ false }
+    ensures adds { Adds W.contents writer.old writer.new result gathered.old gathered.new (refusal_line refusal) }
+{
+    match refusal {
+        Refusal::Unlawful(index, rule) => put_unlawful(gathered, writer, index, rule),
+        Refusal::Aborted(by, code) => put_aborted(gathered, writer, by, code),
+        Refusal::Incomplete(count) => put_incomplete(gathered, writer, count),
+        Refusal::NormalTooLong => gathered.add(writer, b"too long when normal\n"),
+        Refusal::Memory => gathered.add(writer, b"fault memory\n"),
+    }
+}
+
 fn put_unlawful<W: Write>(
     gathered: &mut Gathered,
     writer: &mut Tallied<W>,
@@ -72,7 +88,7 @@ fn put_unlawful<W: Write>(
     rule: Rule,
 ) -> Result<(), WriteFault>
     requires clean { writer.old.1 ≡ false }
-    ensures adds { Adds W.contents writer.old writer.new result gathered.old gathered.new (verdict_line (Verdict.Unlawful index rule)) }
+    ensures adds { Adds W.contents writer.old writer.new result gathered.old gathered.new (refusal_line (Refusal.Unlawful index rule)) }
 {
     let mut index_buffer = Buffer::new();
     let mut number_buffer = Buffer::new();
@@ -110,7 +126,7 @@ fn put_aborted<W: Write>(
     code: u16,
 ) -> Result<(), WriteFault>
     requires clean { writer.old.1 ≡ false }
-    ensures adds { Adds W.contents writer.old writer.new result gathered.old gathered.new (verdict_line (Verdict.Aborted by code)) }
+    ensures adds { Adds W.contents writer.old writer.new result gathered.old gathered.new (refusal_line (Refusal.Aborted by code)) }
 {
     let mut buffer = Buffer::new();
     gathered.add_all(
@@ -131,7 +147,7 @@ fn put_incomplete<W: Write>(
     count: u64,
 ) -> Result<(), WriteFault>
     requires clean { writer.old.1 ≡ false }
-    ensures adds { Adds W.contents writer.old writer.new result gathered.old gathered.new (verdict_line (Verdict.Incomplete count)) }
+    ensures adds { Adds W.contents writer.old writer.new result gathered.old gathered.new (refusal_line (Refusal.Incomplete count)) }
 {
     let mut buffer = Buffer::new();
     gathered.add_all(

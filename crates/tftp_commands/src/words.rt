@@ -1,6 +1,6 @@
-ghost use Rattle.std.specs.Prelude.{◌≡◌, length, map, true, IfOk, IfErr, ◌⊎◌};
+ghost use Rattle.std.specs.Prelude.{◌≡◌, ◌≢◌, codes, length, map, true, IfOk, IfErr, ◌⊎◌};
 ghost use Rattle.clap.specs.Words.{kind_of, takes};
-ghost use Rattle.tftp_commands.specs.Words.{audit_app, IsCommand};
+ghost use Rattle.tftp_commands.specs.Words.{audit_app, memory_fault, IsCommand};
 
 use clap::error::ErrorKind;
 use clap::{ArgMatches, Command, Error};
@@ -14,6 +14,8 @@ pub enum Action {
     Check,
     /// Say what datagrams a capture has.
     Show,
+    /// Write the file of a capture.
+    Extract,
 }
 
 /// Why a command line names no command.
@@ -23,6 +25,8 @@ pub enum UsageFault {
     Usage,
     /// The parse found no memory.
     Memory,
+    /// The parse found no memory, and the words ask for a file, beside which nothing is said.
+    Silent,
 }
 
 fn parsed<'a, S: AsStr>(alloc: Global, words: &'a [S]) -> Result<ArgMatches<'a>, Error>
@@ -30,9 +34,11 @@ fn parsed<'a, S: AsStr>(alloc: Global, words: &'a [S]) -> Result<ArgMatches<'a>,
 {
     let check = Command::new(alloc, "check");
     let show = Command::new(alloc, "show");
+    let extract = Command::new(alloc, "extract");
     let command = Command::new(alloc, "tftp-audit")
         .subcommand(check)?
-        .subcommand(show)?;
+        .subcommand(show)?
+        .subcommand(extract)?;
     command.try_get_matches_from(words)
 }
 
@@ -40,21 +46,37 @@ fn parsed<'a, S: AsStr>(alloc: Global, words: &'a [S]) -> Result<ArgMatches<'a>,
 /// words, nothing is parsed.
 pub fn action_of<S: AsStr>(alloc: Global, words: &[S]) -> Result<Action, UsageFault>
     ensures ok { IfOk result (λ a. IsCommand a (map S.text words.now)) }
-    ensures only { (a : Action) → IsCommand a (map S.text words.now) → (result ≡ Ok a) ⊎ (result ≡ Err UsageFault.Memory) }
+    ensures only { (a : Action) → IsCommand a (map S.text words.now) → (result ≡ Ok a) ⊎ (result ≡ Err (memory_fault a)) }
+    ensures file { result ≡ Err UsageFault.Silent → IsCommand Action.Extract (map S.text words.now) }
     ensures two { result ≡ Err UsageFault.Memory → length words.now ≡ 2 }
 {
     if words.len() != 2 {
         return Err(UsageFault::Usage);
     }
+    let word = words[1].as_str();
     if let Err(e) = parsed(alloc, words) {
-        return Err(match e.kind() {
-            ErrorKind::OutOfMemory => UsageFault::Memory,
-            _ => UsageFault::Usage,
-        });
+        return Err(fault_of(word, e.kind()));
     }
-    match words[1].as_str() {
+    match word {
         "check" => Ok(Action::Check),
         "show" => Ok(Action::Show),
+        "extract" => Ok(Action::Extract),
         _ => Err(UsageFault::Usage),
+    }
+}
+
+/// Why the words were not parsed, by the second of them.
+fn fault_of(word: &str, kind: ErrorKind) -> UsageFault
+    ensures usage { kind ≢ ErrorKind.OutOfMemory → result ≡ UsageFault.Usage }
+    ensures silent { kind ≡ ErrorKind.OutOfMemory → word.now ≡ codes "extract" → result ≡ UsageFault.Silent }
+    ensures memory { kind ≡ ErrorKind.OutOfMemory → word.now ≢ codes "extract" → result ≡ UsageFault.Memory }
+    ensures file { result ≡ UsageFault.Silent → word.now ≡ codes "extract" }
+{
+    match kind {
+        ErrorKind::OutOfMemory => match word {
+            "extract" => UsageFault::Silent,
+            _ => UsageFault::Memory,
+        },
+        _ => UsageFault::Usage,
     }
 }

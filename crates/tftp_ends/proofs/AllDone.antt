@@ -5,10 +5,14 @@ use Rattle.tftp_packet.specs.Message.{Ack}
 use Rattle.tftp_packet.specs.declared.kinds.Dir.TheVariants.{In, Out}
 use Rattle.tftp_ends.specs.CaptureText.{Datagram}
 use Rattle.tftp_ends.specs.Rules.{Passed, IsLast}
-use Rattle.tftp_ends.specs.Store.{Held, IsHeldFront}
-use Rattle.tftp_ends.specs.States.{AreBlocks, Sender, Receiver, IsSenderAfter, IsReceiverAfter, IsAllAnswered, IsAllTaken}
+use Rattle.tftp_ends.specs.Store.{Held, IsHeldFront, IsJoin}
+use Rattle.tftp_ends.specs.States.{AreBlocks, IsHeld, Sender, Receiver, IsSenderAfter, IsReceiverAfter, IsAllAnswered, IsAllTaken}
 use Rattle.tftp_ends.specs.StatesKept.{IsSound, IsSoundSender, IsSoundReceiver, IsEnd}
 use Rattle.tftp_ends.specs.declared.terms.Terms.{Terms}
+use Rattle.tftp_ends.specs.Joined.{IsJoined}
+use Rattle.tftp_ends.specs.NamedEnd.{Sends, Receives, HoldsWire}
+use Rattle.tftp_ends.proofs.HeldWire.{joined_held, last_is_front}
+use Rattle.tftp_ends.proofs.Orderly.{front_unique}
 use Rattle.tftp_ends.proofs.SoundStates.{held_from_one, front_reaches}
 use Rattle.tftp_ends.proofs.ReceiverRules.{front_is, front_one}
 
@@ -33,6 +37,15 @@ module _ (t : Terms) (held : Held) (passed : List Datagram) (blocks : AreBlocks 
     | inr agreed ↦ let at = agreed.2 in omega arith
   ]
 
+  -- where all blocks up to it are held, they are the whole wire
+  holds : ((k : ℕ) → 1 ≤ k → k ≤ last → IsHeld held k) → (front : ℕ) (wire : List ℕ) → IsHeldFront held front → IsJoin held front wire
+      → IsLast t passed front × IsJoined t.blksize passed front wire
+  holds all front wire is join =
+      let same : last ≡ front = front_unique held last front (last_is_front t held passed blocks last end_there end_from_one all) is in (
+        subst (IsLast t passed) same end_is,
+        subst (λ n. IsJoined t.blksize passed n wire) same (joined_held t held passed blocks last end_there end_from_one wire (subst (λ n. IsJoin held n wire) (sym same) join)),
+      )
+
 -- ---- the sender
 
 module _ (s : Sender) (sound : IsSoundSender s) (passed : List Datagram) (after : IsSenderAfter s passed) (last : ℕ) (end_there : IsEnd s.terms s.held last) where
@@ -56,6 +69,17 @@ module _ (s : Sender) (sound : IsSoundSender s) (passed : List Datagram) (after 
       let most = none_above in
       let low = sound.answered in
       omega arith
+
+  sent_up_to : last ≡ s.answered → (k : ℕ) → 1 ≤ k → k ≤ last → IsHeld s.held k
+  sent_up_to is k one most =
+      let low = sound.answered in
+      elim sound.sent [
+        | inl none ↦ absurd (omega (arith, none))
+        | inr held ↦ sound.in_order k s.usable_top held one (omega arith)
+      ]
+
+  pub sender_holds : last ≡ s.answered → HoldsWire (Sends s) passed
+  sender_holds is = holds s.terms s.held passed after.blocks sound.sound last end_there (sent_up_to is)
 
   pub sender_done : (n : ℕ) → n ≡ s.answered → IsTrue (nat_eq last n) ↔ IsAllAnswered s.terms passed
   sender_done n is = ((λ e. all_answered (eqb-true last n e ∙ is)), (λ all. eq-eqb last n (answered_all all ∙ sym is)))
@@ -91,6 +115,9 @@ module _ (r : Receiver) (sound : IsSoundReceiver r) (passed : List Datagram) (af
 
   pub receiver_done : (n m : ℕ) → n ≡ front → m ≡ r.acked → last ≡ n → IsTrue (nat_eq last m) ↔ IsAllTaken r.terms passed
   receiver_done n m is_front is whole = ((λ e. all_taken (whole ∙ is_front) (eqb-true last m e ∙ is)), (λ all. eq-eqb last m (taken_all all ∙ sym is)))
+
+  pub receiver_holds : last ≡ front → HoldsWire (Receives r) passed
+  receiver_holds whole = holds r.terms r.held passed after.blocks sound.sound last end_there (λ k one most. at.below k one (omega arith))
 
   pub receiver_not_done : (n : ℕ) → n ≡ front → (last ≡ n → ⊥) → IsTrue (nat_eq last n) ↔ IsAllTaken r.terms passed
   receiver_not_done n is apart = ((λ e. absurd (apart (eqb-true last n e))), (λ all. absurd (apart (taken_whole all ∙ sym is))))

@@ -32,6 +32,8 @@ module _ (t : Terms) (held : Held) (sound : IsSound t held) (size : ℕ) (is : t
     by_block = short_there;
     by_size = λ other equal. ap (λ n. n / t.blksize + 1) (one_size t size other is equal);
     most = none_above;
+    whole = λ k bytes there below. elim (sound.sized size k bytes is there) [ inl whole ↦ whole.1 | inr last ↦ absurd (omega arith) ];
+    short = λ bytes there. let less = less_than_size size t.blksize sound.blksize in elim (sound.sized size (size / t.blksize + 1) bytes is there) [ inl whole ↦ absurd (omega arith) | inr last ↦ omega arith ];
   }
 
   pub right_by_size : (k long : ℕ) → HasLengthBySize t.blksize size k long → HasRightLength t held k long
@@ -81,6 +83,8 @@ end_by_block t held last none top = record {
   by_block = top.only;
   by_size = λ size is. absurd (no_size_some t size none is);
   most = top.most;
+  whole = top.whole;
+  short = λ bytes there. let both : Some bytes ≡ Some top.short.0 = sym there ∙ top.short.1 in let same : bytes ≡ top.short.0 = cc in let less = top.short.2 in rw same less;
 }
 
 pub right_by_block : (t : Terms) (held : Held) (k long : ℕ) → t.size ≡ None → long ≤ t.blksize → EndsThere t.blksize held k long → HasRightLength t held k long

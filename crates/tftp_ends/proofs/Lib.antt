@@ -29,8 +29,11 @@ pub mod SoundStates
 pub mod FirstRules
 pub mod EndLengths
 pub mod AfterReceiver
+pub mod EndsAside
 pub mod SenderRules
 pub mod ReceiverRules
+pub mod Joined
+pub mod HeldWire
 pub mod AllDone
 pub mod BeforeReply
 pub mod NotedPeers

@@ -259,3 +259,9 @@ pub filled_rest : (os : Slots) → slice_index_or os 0 None ≡ None → filled 
 filled_rest [] e = refl
 filled_rest (None ∷ os) e = refl
 filled_rest (Some x ∷ os) e = absurd (cc)
+
+-- ---- a place behind the others
+
+pub placed_behind : {X : Type 0} (slots : List (Option X)) (block : X) → placed slots (length slots) block ≡ slots ++ Some block ∷ []
+placed_behind [] block = refl
+placed_behind (slot ∷ slots) block = ap (λ rest. slot ∷ rest) (placed_behind slots block)

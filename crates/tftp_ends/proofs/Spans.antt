@@ -87,3 +87,14 @@ pub shown_held : (bs xs : List ℕ) (ps : List (Option Span)) (i : ℕ) (s : Spa
 shown_held bs xs ps i s within start len = shown_placed (bs ++ xs) ps i s
     ∙ ap (λ t. placed t i (part (bs ++ xs) s)) (shown_more bs xs ps within)
     ∙ ap (placed (shown bs ps) i) (part_last bs xs s start len)
+
+-- ---- a place without a block behind the others
+
+pub within_gap : (n : ℕ) (ps : List (Option Span)) → AreWithin n ps → AreWithin n (ps ++ None ∷ [])
+within_gap n [] within = tt
+within_gap n (None ∷ ps) within = within_gap n ps within
+within_gap n (Some s ∷ ps) within = (within.0, within_gap n ps within.1)
+
+pub shown_gap : (bs : List ℕ) (ps : List (Option Span)) → shown bs (ps ++ None ∷ []) ≡ shown bs ps ++ None ∷ []
+shown_gap bs [] = refl
+shown_gap bs (p ∷ ps) = ap (λ t. option_map (part bs) p ∷ t) (shown_gap bs ps)

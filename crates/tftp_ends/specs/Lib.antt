@@ -17,6 +17,7 @@ pub mod States
 pub mod StatesKept
 pub mod Joined
 pub mod NamedEnd
+pub mod Parts
 pub mod Worked
 pub mod WorkedWindows
 pub mod WorkedErrors

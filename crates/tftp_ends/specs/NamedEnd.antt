@@ -1,6 +1,6 @@
 -- What the named end keeps from the reply on, whichever end it is, and for which datagrams that stands. The list `passed`
 -- has the datagrams of the transfer that have passed at this end, the newest first.
-use Rattle.std.specs.Prelude.{◌≡◌, ℕ, ◌≤◌, List, None}
+use Rattle.std.specs.Prelude.{◌≡◌, ℕ, ◌≤◌, Bool, List, None, if◌then◌else◌}
 use Rattle.std.specs.FinMap as map
 use Rattle.tftp_packet.specs.Message.{Message, Data, Ack}
 use Rattle.tftp_packet.specs.declared.kinds.Dir.{Dir}
@@ -9,7 +9,7 @@ use Rattle.tftp_ends.specs.Roles.{sender_of, receiver_of, author_of}
 use Rattle.tftp_ends.specs.Joined.{IsJoined}
 use Rattle.tftp_ends.specs.Rules.{IsLast}
 use Rattle.tftp_ends.specs.Store.{Held, IsHeldFront, IsJoin}
-use Rattle.tftp_ends.specs.States.{Sender, Receiver, IsSenderAfter, IsReceiverAfter, IsAllAnswered, IsAllTaken, MaySend, MayAcknowledge, Fits}
+use Rattle.tftp_ends.specs.States.{Sender, Receiver, stopped_sender, stopped_receiver, IsSenderAfter, IsReceiverAfter, IsAllAnswered, IsAllTaken, MaySend, MayAcknowledge, Fits}
 use Rattle.tftp_ends.specs.declared.terms.Terms.{Terms}
 
 -- the state of the sender or of the receiver
@@ -29,6 +29,15 @@ held_of (Receives r) = r.held
 abbrev pub IsEndAfter : NamedEnd → List Datagram → Type 0
 IsEndAfter (Sends s) passed = IsSenderAfter s passed
 IsEndAfter (Receives r) passed = IsReceiverAfter r passed
+
+-- the same, when an ERROR comes in
+abbrev pub stopped_end : NamedEnd → NamedEnd
+stopped_end (Sends s) = Sends (stopped_sender s)
+stopped_end (Receives r) = Receives (stopped_receiver r)
+
+-- The end stands for these datagrams, once it is told whether an ERROR came in among them.
+abbrev pub IsEndWith : Bool → NamedEnd → List Datagram → Type 0
+IsEndWith stopped end passed = IsEndAfter (if stopped then stopped_end end else end) passed
 
 -- a message that the end may keep
 abbrev pub MayKeep : NamedEnd → Message → Type 0

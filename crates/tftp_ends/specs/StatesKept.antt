@@ -45,11 +45,16 @@ pub record IsSoundReceiver (r : Receiver) : Type 0 where
 
 -- ---- what the blocks tell of the last one
 
+-- each block that is held below the last is whole
+abbrev pub AreWholeBelow : ℕ → Held → ℕ → Type 0
+AreWholeBelow b held last = (k : ℕ) (bytes : List ℕ) → map.get held k ≡ Some bytes → k < last → length bytes ≡ b
+
 -- the last block is held, and none above it
 pub record IsShortTop (b : ℕ) (held : Held) (last : ℕ) : Type 0 where
   pub short : IsHeldLast b held last
   pub only : (other : ℕ) → IsHeldLast b held other → other ≡ last
   pub most : (k : ℕ) → IsHeld held k → k ≤ last
+  pub whole : AreWholeBelow b held last
 
 abbrev pub AreWhole : ℕ → Held → Type 0
 AreWhole b held = (k : ℕ) (bytes : List ℕ) → map.get held k ≡ Some bytes → b ≤ length bytes
@@ -60,6 +65,8 @@ pub record IsEnd (t : Terms) (held : Held) (last : ℕ) : Type 0 where
   pub by_block : (other : ℕ) → IsHeldLast t.blksize held other → other ≡ last
   pub by_size : (size : ℕ) → t.size ≡ Some size → last ≡ size / t.blksize + 1
   pub most : (k : ℕ) → IsHeld held k → k ≤ last
+  pub whole : AreWholeBelow t.blksize held last
+  pub short : (bytes : List ℕ) → map.get held last ≡ Some bytes → length bytes < t.blksize
 
 -- nothing tells which block is the last
 pub record HasNoEnd (t : Terms) (held : Held) : Type 0 where

@@ -4,7 +4,8 @@ ghost use Rattle.tftp_packet.specs.Message.{Data, Ack, Error};
 ghost use Rattle.tftp_packet.specs.declared.kinds.Dir.TheVariants.{In, Out};
 ghost use Rattle.tftp_ends.specs.CaptureText.{Datagram};
 ghost use Rattle.tftp_ends.specs.Store.{nothing_held};
-ghost use Rattle.tftp_ends.specs.Rules.{EndBroken, FirstEndBroken};
+ghost use Rattle.tftp_ends.specs.Rules.{IsReceiver, EndBroken, FirstEndBroken};
+ghost use Rattle.tftp_ends.specs.NamedEnd.{Receives, HoldsWire};
 ghost use Rattle.tftp_ends.specs.States.{
   has_stopped,
   receiver_terms,
@@ -128,6 +129,7 @@ impl<D: Delivered> ReceiverState<D> {
         ensures err { OnErr result (self.new ≡ self.old) }
         ensures absent { OnErr result (map.get self.old.held number ≡ None) }
         ensures terms { self.new.terms ≡ self.old.terms }
+        ensures receives { IsReceiver self.old.terms }
     {
         self.store.put(alloc, number, bytes)?;
         Ok(())
@@ -157,6 +159,7 @@ impl<D: Delivered> ReceiverState<D> {
         ensures after { (passed : List Datagram) (d : Datagram) → IsReceiverAfter self.old passed → Says d Out (Ack number)
             → IsReceiverAfter self.new (d ∷ passed) }
         ensures terms { self.new.terms ≡ self.old.terms }
+        ensures receives { IsReceiver self.old.terms }
     {
         self.acked = self.acked.max(number);
         if self.stopped {
@@ -181,8 +184,9 @@ impl<D: Delivered> ReceiverState<D> {
 
     /// Whether all blocks have come and are acknowledged (RFC 1350, section 6).
     pub fn done(&self) -> bool
-        ensures { (passed : List Datagram) → IsReceiverAfter self.now passed
+        ensures done { (passed : List Datagram) → IsReceiverAfter self.now passed
             → (IsTrue result ↔ IsAllTaken self.now.terms passed) }
+        ensures whole { (passed : List Datagram) → IsReceiverAfter self.now passed → result ≡ true → HoldsWire (Receives self.now) passed }
     {
         match last_block(&self.terms, &self.store) {
             Some(last) => { last == u64::from(self.store.front()) && last == u64::from(self.acked) }

@@ -67,7 +67,7 @@ impl Delivered for RingDelivered {
         )
     }
 
-    fn put(&mut self, _alloc: Global, number: u16, bytes: &[u8]) -> Result<Placed, AllocError> {
+    fn put(&mut self, alloc: Global, number: u16, bytes: &[u8]) -> Result<Placed, AllocError> {
         match self.block(number) {
             Some(held) => {
                 if held == bytes {
@@ -80,7 +80,8 @@ impl Delivered for RingDelivered {
         // All growths come before the first change.
         let place = (number - self.front - 1) as usize;
         if place > 0 {
-            self.pending.hold(place, bytes)?;
+            let waiting = usize::from(self.waiting) * usize::from(self.block_size);
+            self.pending.hold(alloc, waiting, place, bytes)?;
             self.waiting += 1;
             return Ok(Placed::New);
         }

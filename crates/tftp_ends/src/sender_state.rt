@@ -4,7 +4,8 @@ ghost use Rattle.tftp_packet.specs.Message.{Data, Ack, Error};
 ghost use Rattle.tftp_packet.specs.declared.kinds.Dir.TheVariants.{In, Out};
 ghost use Rattle.tftp_ends.specs.CaptureText.{Datagram};
 ghost use Rattle.tftp_ends.specs.Store.{nothing_held};
-ghost use Rattle.tftp_ends.specs.Rules.{EndBroken, FirstEndBroken};
+ghost use Rattle.tftp_ends.specs.Rules.{IsSender, EndBroken, FirstEndBroken};
+ghost use Rattle.tftp_ends.specs.NamedEnd.{Sends, HoldsWire};
 ghost use Rattle.tftp_ends.specs.States.{
   has_stopped,
   sender_terms,
@@ -134,6 +135,7 @@ impl<D: Delivered> SenderState<D> {
         ensures err { OnErr result (self.new ≡ self.old) }
         ensures absent { OnErr result (map.get self.old.held number ≡ None) }
         ensures terms { self.new.terms ≡ self.old.terms }
+        ensures sends { IsSender self.old.terms }
     {
         self.store.put(alloc, number, bytes)?;
         if !self.stopped {
@@ -166,6 +168,7 @@ impl<D: Delivered> SenderState<D> {
         ensures after { (passed : List Datagram) (d : Datagram) → IsSenderAfter self.old passed → Says d In (Ack number)
             → IsSenderAfter self.new (d ∷ passed) }
         ensures terms { self.new.terms ≡ self.old.terms }
+        ensures sends { IsSender self.old.terms }
     {
         self.answered = self.answered.max(number);
         if number == 0 {
@@ -186,8 +189,9 @@ impl<D: Delivered> SenderState<D> {
 
     /// Whether all blocks are acknowledged (RFC 1350, section 6).
     pub fn done(&self) -> bool
-        ensures { (passed : List Datagram) → IsSenderAfter self.now passed
+        ensures done { (passed : List Datagram) → IsSenderAfter self.now passed
             → (IsTrue result ↔ IsAllAnswered self.now.terms passed) }
+        ensures whole { (passed : List Datagram) → IsSenderAfter self.now passed → result ≡ true → HoldsWire (Sends self.now) passed }
     {
         match last_block(&self.terms, &self.store) {
             Some(last) => last == u64::from(self.answered),

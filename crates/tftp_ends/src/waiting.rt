@@ -1,4 +1,4 @@
-ghost use Rattle.std.specs.Prelude.{◌≡◌, ◌+◌, ◌*◌, ◌≤◌, ◌<◌, ◌++◌, ℕ, List, [], ◌∷◌, None, Some, true, false, option_map, OnOk, OnErr, length, drop, slice_index_or};
+ghost use Rattle.std.specs.Prelude.{◌≡◌, ◌+◌, ◌*◌, ◌≤◌, ◌<◌, ◌++◌, ℕ, List, [], ◌∷◌, None, Some, true, false, option_map, IfOk, OnOk, OnErr, length, drop, slice_index_or};
 ghost use Rattle.std.specs.Vec.{vec_capacity};
 ghost use Rattle.std.specs.VecDeque.{deque_capacity};
 ghost use Rattle.tftp_ends.specs.Slots.{placed, leading, IsEven};
@@ -6,6 +6,9 @@ ghost use Rattle.tftp_ends.specs.Slots.{placed, leading, IsEven};
 use std::alloc::{AllocError, Global};
 use std::collections::VecDeque;
 use std::marker::Model;
+
+/// How many bytes more than twice those of the blocks that wait are kept before their room is given back.
+const SPARE: usize = 1 << 20;
 
 /// Where a block lies in the bytes of all that wait.
 #[derive(Clone, Copy)]
@@ -15,8 +18,8 @@ struct Span {
 }
 
 /// The blocks above the front of a ring, each at its place. Their bytes stand in one vector, in the order in which they
-/// came, until no place is left: then it is emptied, and its room is used again. All that ever waited is part of one
-/// file, so the vector never has more bytes than that.
+/// came, until no place is left: then it is emptied, and its room is used again. Where blocks wait all the time, it is
+/// packed when more than half of it is of blocks that have left, so it stays within twice the bytes that wait, and some.
 #[derive(Drop)]
 pub(crate) struct Waiting {
     bytes: Vec<u8>,
@@ -64,8 +67,30 @@ impl Waiting {
         }
     }
 
-    /// Puts a block at a place. There are then as many places as that at least.
-    pub(crate) fn hold(&mut self, place: usize, block: &[u8]) -> Result<(), AllocError>
+    /// Puts a block at a place. There are then as many places as that at least. `waiting` is how many bytes wait: where
+    /// most of the bytes are of blocks that have left, their room is given back first.
+    pub(crate) fn hold(
+        &mut self,
+        alloc: Global,
+        waiting: usize,
+        place: usize,
+        block: &[u8],
+    ) -> Result<(), AllocError>
+        requires place { place < 65535 }
+        requires length { length self.old ≤ 65535 }
+        requires waiting { waiting ≤ 65535 * 65535 }
+        ensures ok { OnOk result (self.new ≡ placed self.old place block.now) }
+        ensures err { OnErr result (self.new ≡ self.old) }
+    {
+        if self.bytes.len() / 2 > waiting + SPARE {
+            let packed = self.packed(alloc)?;
+            *self = packed;
+        }
+        self.lay(place, block)
+    }
+
+    /// Puts a block at a place, behind the bytes of all others.
+    fn lay(&mut self, place: usize, block: &[u8]) -> Result<(), AllocError>
         requires { place < 65535 }
         ensures ok { OnOk result (self.new ≡ placed self.old place block.now) }
         ensures err { OnErr result (self.new ≡ self.old) }
@@ -78,6 +103,36 @@ impl Waiting {
         let len = block.len();
         set_place(&mut self.places, place, Span { start, len });
         Ok(())
+    }
+
+    /// The same places, with no bytes but those of their blocks.
+    fn packed(&self, alloc: Global) -> Result<Self, AllocError>
+        requires { length self.now ≤ 65535 }
+        ensures { IfOk result (λ packed. packed ≡ self.now) }
+    {
+        let mut packed = Waiting::new(alloc);
+        for place in 0..self.places.len() {
+            packed.add(self.get(place))?;
+        }
+        Ok(packed)
+    }
+
+    /// Adds a place behind the others.
+    fn add(&mut self, block: Option<&[u8]>) -> Result<(), AllocError>
+        requires { length self.old < 65535 }
+        ensures { OnOk result (self.new ≡ self.old ++ option_map (λ b. b.now) block.entry ∷ []) }
+    {
+        match block {
+            Some(bytes) => {
+                let place = self.len();
+                self.lay(place, bytes)
+            }
+            None => {
+                self.places.reserve(1)?;
+                self.places.push_back_reserved(None);
+                Ok(())
+            }
+        }
     }
 
     /// The bytes of the blocks that follow the first place without a gap.

@@ -1,13 +1,22 @@
 pub mod FirstAnswers
+mod FirstFaults
+mod Follows
 pub mod PassFound
-pub mod ErrorsAside
-pub mod MessageFound
-pub mod StaysAfter
-pub mod Replied
+pub mod Accepting
+mod TextFound
+mod WantOfMemory
 pub mod Ended
 pub mod ByRuns
+pub mod ErrorsAside
 pub mod ErrorsNoted
 pub mod BlocksDecoded
 pub mod WhoAcknowledges
 pub mod EndedTransfer
+pub mod OneVerdict
+mod OneTextVerdict
+mod FirstLines
+mod SameVerdicts
 pub mod EndedJudge
+pub mod MessageFound
+pub mod StaysAfter
+pub mod Replied

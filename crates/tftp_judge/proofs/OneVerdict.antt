@@ -1,16 +1,18 @@
 -- A capture has one verdict, by the runs of two ends.
-use Rattle.std.proofs.Common.{◌≡◌, ◌⊎◌, ℕ, ◌+◌, ◌-◌, List, [], ◌∷◌, ◌++◌, length, get_or, inl, inr, refl, sym, subst, ap, ◌∙◌, append_assoc}
+use Rattle.std.proofs.Common.{◌≡◌, ◌⊎◌, ℕ, ◌+◌, ◌-◌, List, [], ◌∷◌, ◌++◌, length, get_or, Result, Ok, Err, inl, inr, refl, sym, subst, ap, ◌∙◌, append_assoc}
 use Rattle.std.specs.Prelude.{reverse}
 use Rattle.tftp_packet.specs.declared.fault.PacketFault.{PacketFault}
 use Rattle.tftp_packet.specs.declared.fault.PacketFault.TheVariants.{Short}
 use Rattle.tftp_packet.proofs.FaultOrder.{first_fault_unique}
 use Rattle.tftp_ends.specs.CaptureText.{Datagram, Header}
 use Rattle.tftp_law.specs.Rules.{number_of, Broken, FirstBroken}
+use Rattle.tftp_law.specs.declared.by.By.{By}
 use Rattle.tftp_law.specs.declared.rule.Rule.{Rule}
 use Rattle.tftp_law.specs.Law.{IsLawful}
-use Rattle.tftp_judge.specs.Verdict.{IsUnlawfulAt, IsVerdict}
-use Rattle.tftp_judge.specs.declared.verdict.Verdict.{Verdict}
-use Rattle.tftp_judge.specs.declared.verdict.Verdict.TheVariants.{Accepted, Unlawful, Aborted, Incomplete, NormalTooLong}
+use Rattle.tftp_ends.specs.Meaning.{Meaning}
+use Rattle.tftp_judge.specs.Verdict.{IsSaid, IsUnlawfulAt, IsVerdict}
+use Rattle.tftp_judge.specs.declared.refusal.Refusal.{Refusal}
+use Rattle.tftp_judge.specs.declared.refusal.Refusal.TheVariants.{Unlawful, Aborted, Incomplete, NormalTooLong, Memory}
 use Rattle.tftp_ends.specs.Ports.{transfer_of}
 use Rattle.tftp_law.proofs.FirstError.{one_first, none_first}
 use Rattle.tftp_law.proofs.Beginnings.{beginning_is_lawful}
@@ -156,31 +158,54 @@ one_place h ds i j r q u v = by (ordered u.before v.before u.datagram v.datagram
 
 -- ---- the verdict
 
-pub one_verdict : (h : Header) (ds : List Datagram) (v w : Verdict) → IsVerdict h ds v → IsVerdict h ds w → v ≡ w
-one_verdict h ds (Accepted m) (Accepted n) one other = ap Accepted (one_shown h ds m n one.1 other.1)
-one_verdict h ds (Accepted m) (Unlawful j q) one other = absurd (not_lawful h ds j q other one.0)
-one_verdict h ds (Accepted m) (Aborted by code) one other = absurd (other.1 m one.1)
-one_verdict h ds (Accepted m) (Incomplete c) one other = absurd (other.1 m one.1)
-one_verdict h ds (Accepted m) NormalTooLong one other = absurd (other.2 m one.1 one.2)
-one_verdict h ds (Unlawful i r) (Accepted n) one other = absurd (not_lawful h ds i r one other.0)
-one_verdict h ds (Unlawful i r) (Unlawful j q) one other = one_place h ds i j r q one other
-one_verdict h ds (Unlawful i r) (Aborted by code) one other = absurd (not_lawful h ds i r one other.0)
-one_verdict h ds (Unlawful i r) (Incomplete c) one other = absurd (not_lawful h ds i r one other.0)
-one_verdict h ds (Unlawful i r) NormalTooLong one other = absurd (not_lawful h ds i r one other.0)
-one_verdict h ds (Aborted by code) (Accepted n) one other = absurd (one.1 n other.1)
-one_verdict h ds (Aborted by code) (Unlawful j q) one other = absurd (not_lawful h ds j q other one.0)
-one_verdict h ds (Aborted by code) (Aborted also other_code) one other =
-    let same = one_first (transfer_of h (reverse ds)) by also code other_code one.2 other.2 in
-    ap (λ b. Aborted b code) same.0 ∙ ap (Aborted also) same.1
-one_verdict h ds (Aborted by code) (Incomplete c) one other = absurd (none_first (transfer_of h (reverse ds)) other.2 by code one.2)
-one_verdict h ds (Aborted by code) NormalTooLong one other = absurd (one.1 other.1.0 other.1.1)
-one_verdict h ds (Incomplete c) (Accepted n) one other = absurd (one.1 n other.1)
-one_verdict h ds (Incomplete c) (Unlawful j q) one other = absurd (not_lawful h ds j q other one.0)
-one_verdict h ds (Incomplete c) (Aborted by code) one other = absurd (none_first (transfer_of h (reverse ds)) one.2 by code other.2)
-one_verdict h ds (Incomplete c) (Incomplete e) one other = ap Incomplete (one.3 ∙ sym other.3)
-one_verdict h ds (Incomplete c) NormalTooLong one other = absurd (one.1 other.1.0 other.1.1)
-one_verdict h ds NormalTooLong (Accepted n) one other = absurd (one.2 n other.1 other.2)
-one_verdict h ds NormalTooLong (Unlawful j q) one other = absurd (not_lawful h ds j q other one.0)
-one_verdict h ds NormalTooLong (Aborted by code) one other = absurd (other.1 one.1.0 one.1.1)
-one_verdict h ds NormalTooLong (Incomplete c) one other = absurd (other.1 one.1.0 one.1.1)
-one_verdict h ds NormalTooLong NormalTooLong one other = refl
+-- of lawful datagrams
+module _ (h : Header) (ds : List Datagram) where
+  aborted_or : (by : By) (code : ℕ) (w : Refusal) → IsSaid (Err w) → IsVerdict h ds (Err (Aborted by code)) → IsVerdict h ds (Err w) → Aborted by code ≡ w
+  aborted_or by code (Unlawful j q) said one other = absurd (not_lawful h ds j q other one.0)
+  aborted_or by code (Aborted also other_code) said one other =
+      let same = one_first (transfer_of h (reverse ds)) by also code other_code one.2 other.2 in
+      ap (λ b. Aborted b code) same.0 ∙ ap (Aborted also) same.1
+  aborted_or by code (Incomplete c) said one other = absurd (none_first (transfer_of h (reverse ds)) other.2 by code one.2)
+  aborted_or by code NormalTooLong said one other = absurd (one.1 other.1.0 other.1.1)
+  aborted_or by code Memory said one other = absurd said
+
+  incomplete_or : (c : ℕ) (w : Refusal) → IsSaid (Err w) → IsVerdict h ds (Err (Incomplete c)) → IsVerdict h ds (Err w) → Incomplete c ≡ w
+  incomplete_or c (Unlawful j q) said one other = absurd (not_lawful h ds j q other one.0)
+  incomplete_or c (Aborted by code) said one other = absurd (none_first (transfer_of h (reverse ds)) one.2 by code other.2)
+  incomplete_or c (Incomplete e) said one other = ap Incomplete (one.3 ∙ sym other.3)
+  incomplete_or c NormalTooLong said one other = absurd (one.1 other.1.0 other.1.1)
+  incomplete_or c Memory said one other = absurd said
+
+  too_long_or : (w : Refusal) → IsSaid (Err w) → IsVerdict h ds (Err NormalTooLong) → IsVerdict h ds (Err w) → NormalTooLong ≡ w
+  too_long_or (Unlawful j q) said one other = absurd (not_lawful h ds j q other one.0)
+  too_long_or (Aborted by code) said one other = absurd (other.1 one.1.0 one.1.1)
+  too_long_or (Incomplete c) said one other = absurd (other.1 one.1.0 one.1.1)
+  too_long_or NormalTooLong said one other = refl
+  too_long_or Memory said one other = absurd said
+
+  unlawful_or : (i : ℕ) (r : Rule) (w : Refusal) → IsSaid (Err w) → IsVerdict h ds (Err (Unlawful i r)) → IsVerdict h ds (Err w) → Unlawful i r ≡ w
+  unlawful_or i r (Unlawful j q) said one other = one_place h ds i j r q one other
+  unlawful_or i r (Aborted by code) said one other = absurd (not_lawful h ds i r one other.0)
+  unlawful_or i r (Incomplete c) said one other = absurd (not_lawful h ds i r one other.0)
+  unlawful_or i r NormalTooLong said one other = absurd (not_lawful h ds i r one other.0)
+  unlawful_or i r Memory said one other = absurd said
+
+  one_refusal : (v w : Refusal) → IsSaid (Err v) → IsSaid (Err w) → IsVerdict h ds (Err v) → IsVerdict h ds (Err w) → v ≡ w
+  one_refusal (Unlawful i r) w said also one other = unlawful_or i r w also one other
+  one_refusal (Aborted by code) w said also one other = aborted_or by code w also one other
+  one_refusal (Incomplete c) w said also one other = incomplete_or c w also one other
+  one_refusal NormalTooLong w said also one other = too_long_or w also one other
+  one_refusal Memory w said also one other = absurd said
+
+  not_refused : (m : Meaning) (w : Refusal) → IsSaid (Err w) → IsVerdict h ds (Ok m) → IsVerdict h ds (Err w) → ⊥
+  not_refused m (Unlawful j q) said one other = not_lawful h ds j q other one.0
+  not_refused m (Aborted by code) said one other = other.1 m one.1
+  not_refused m (Incomplete c) said one other = other.1 m one.1
+  not_refused m NormalTooLong said one other = other.2 m one.1 one.2
+  not_refused m Memory said one other = said
+
+  pub one_verdict : (v w : Result Meaning Refusal) → IsSaid v → IsSaid w → IsVerdict h ds v → IsVerdict h ds w → v ≡ w
+  one_verdict (Ok m) (Ok n) said also one other = ap Ok (one_shown h ds m n one.1 other.1)
+  one_verdict (Ok m) (Err w) said also one other = absurd (not_refused m w also one other)
+  one_verdict (Err v) (Ok n) said also one other = absurd (not_refused n v said other one)
+  one_verdict (Err v) (Err w) said also one other = ap Err (one_refusal v w said also one other)

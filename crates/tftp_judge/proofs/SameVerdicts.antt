@@ -4,10 +4,9 @@ use Rattle.std.specs.List.{join_with_byte, slice_split}
 use Rattle.std.proofs.lemmas.List.{length-map}
 use Rattle.std.proofs.lemmas.List.Elements.{All-cons, All-tail}
 use Rattle.tftp_capture.specs.declared.version.Version.TheVariants.{Two}
-use Rattle.tftp_capture.specs.CaptureText.{IsCapture, Numbered, head_line}
+use Rattle.tftp_capture.specs.CaptureText.{Begins, IsCapture, Numbered, head_line}
 use Rattle.tftp_capture.specs.CaptureText.Due.{Nothing}
 use Rattle.tftp_capture.specs.CaptureText.Reading.{Capture}
-use Rattle.tftp_capture.specs.declared.fault.CaptureFault.{CaptureFault}
 use Rattle.tftp_capture.specs.declared.fault.CaptureFault.TheVariants.{Text, Read, Memory}
 use Rattle.tftp_capture.specs.InTwo.{in_version_two, line_in_two, lines_in_two}
 use Rattle.tftp_capture.proofs.Beginnings.{capture_begins, capture_has}
@@ -16,12 +15,16 @@ use Rattle.tftp_capture.proofs.InTwo.{Lacks, cut_again, parts_lack}
 use Rattle.tftp_capture.proofs.TwoTexts.{map_whole, says_the_same}
 use Rattle.tftp_capture.proofs.Readings.{reads_same}
 use Rattle.tftp_ends.specs.CaptureText.{Header}
+use Rattle.tftp_ends.specs.Meaning.{Meaning}
 use Rattle.tftp_law.specs.Law.{IsLawful}
-use Rattle.tftp_judge.specs.TextVerdict.{AllLawful, IsCaptureBy, IsTextVerdict, unnumbered}
+use Rattle.tftp_judge.specs.TextVerdict.{AllLawful, IsCaptureBy, IsTextVerdict, LawfulBefore, unnumbered}
 use Rattle.tftp_judge.specs.Verdict.{IsVerdict}
 use Rattle.tftp_judge.specs.declared.verdict.Verdict.{Verdict}
-use Rattle.tftp_judge.specs.declared.verdict.Verdict.TheVariants.{Accepted, Unlawful, Aborted, Incomplete, NormalTooLong}
-use Rattle.tftp_judge.proofs.TextVerdicts.{captured_or_faulty, front_lawful, longer_unlawful}
+use Rattle.tftp_judge.specs.declared.verdict.Verdict.TheVariants as verdict
+use Rattle.tftp_judge.specs.declared.refusal.Refusal.{Refusal}
+use Rattle.tftp_judge.specs.declared.refusal.Refusal.TheVariants.{Unlawful, Aborted, Incomplete, NormalTooLong, Memory as NoMemory}
+use Rattle.tftp_judge.proofs.FirstLines.{capture_begins_front}
+use Rattle.tftp_judge.proofs.OneTextVerdict.{captured_or_faulty, front_lawful, longer_unlawful}
 
 -- the lines of a text, and what is left after its last LF
 abbrev pub line_count : List ℕ → ℕ
@@ -34,27 +37,39 @@ module _ (one two : List ℕ) (h : Header) (ds : List Numbered) (first : IsCaptu
       let front = capture_has two h k ds es second begins in
       subst (λ x. IsLawful x (unnumbered es)) (sym front.0) (front_lawful h ds es (lawful h ds (capture_begins one h ds first)) front.1)
 
-  by_both : (v : Verdict) → IsCaptureBy one v → IsCaptureBy two v
+  -- what one begins with, the other begins with
+  both_begin : (k : Header) (es : List Numbered) → Begins two k es → (k ≡ h) × Begins one h es
+  both_begin k es begins = let front = capture_has two h k ds es second begins in (front.0, capture_begins_front one h ds es first front.1)
+
+  before_both : (line : ℕ) → LawfulBefore one line → LawfulBefore two line
+  before_both line lawful k es begins before =
+      let both = both_begin k es begins in
+      subst (λ x. IsLawful x (unnumbered es)) (sym both.0) (lawful h es both.1 before)
+
+  by_both : (v : Result Meaning Refusal) → IsCaptureBy one v → IsCaptureBy two v
   by_both v (k, es, capture, is) =
       let same = reads_same one (Capture k es) (Capture h ds) capture first in
       let header : k ≡ h = cc in
       let list : es ≡ ds = cc in
       (h, ds, second, subst (λ x. IsVerdict h (unnumbered x) v) list (subst (λ x. IsVerdict x (unnumbered es) v) header is))
 
-  pub same_verdict : line_count one ≡ line_count two → (v : Result Verdict CaptureFault) → IsTextVerdict one v → IsTextVerdict two v
-  same_verdict lines (Ok (Unlawful index rule)) (k, es, begins, is) =
+  pub same_verdict : line_count one ≡ line_count two → (v : Result Meaning Verdict) → IsTextVerdict one v → IsTextVerdict two v
+  same_verdict lines (Ok m) is = by_both (Ok m) is
+  same_verdict lines (Err (verdict.Refused (Unlawful index rule))) (k, es, begins, is) =
       let front = capture_has one h k ds es first begins in
-      (h, ds, capture_begins two h ds second, longer_unlawful h ds es index rule front.1 (subst (λ x. IsVerdict x (unnumbered es) (Unlawful index rule)) front.0 is))
-  same_verdict lines (Ok (Accepted m)) is = by_both (Accepted m) is
-  same_verdict lines (Ok (Aborted by code)) is = by_both (Aborted by code) is
-  same_verdict lines (Ok (Incomplete count)) is = by_both (Incomplete count) is
-  same_verdict lines (Ok NormalTooLong) is = by_both NormalTooLong is
-  same_verdict lines (Err (Text line fault)) is = absurd (captured_or_faulty one h ds is.0.0 line fault first is.0.1)
-  same_verdict lines (Err (Read line)) ((es, due, ends), lawful) =
+      (h, ds, capture_begins two h ds second, longer_unlawful h ds es index rule front.1 (subst (λ x. IsVerdict x (unnumbered es) (Err (Unlawful index rule))) front.0 is))
+  same_verdict lines (Err (verdict.Refused (Aborted by code))) is = by_both (Err (Aborted by code)) is
+  same_verdict lines (Err (verdict.Refused (Incomplete count))) is = by_both (Err (Incomplete count)) is
+  same_verdict lines (Err (verdict.Refused NormalTooLong)) is = by_both (Err NormalTooLong) is
+  same_verdict lines (Err (verdict.Refused NoMemory)) (k, es, begins, is) =
+      let front = capture_has one h k ds es first begins in
+      (h, es, capture_begins_front two h ds es second front.1, subst (λ x. IsLawful x (unnumbered es)) front.0 is)
+  same_verdict lines (Err (verdict.Capture (Text line fault))) is = absurd (captured_or_faulty one h ds is.0.0 line fault first is.0.1)
+  same_verdict lines (Err (verdict.Capture (Read line))) ((es, due, ends), lawful) =
       let here : line_count one ≡ length ends.lines + 1 = ap length ends.stands.divided ∙ length-append ends.lines (ends.rest ∷ []) in
       let there : line_count two ≡ length second.1 + 1 = ap length second.2.divided ∙ length-append second.1 ([] ∷ []) in
       ((ds, Nothing second.0 h, record { lines = second.1; rest = []; stands = second.2; at_line = ends.at_line ∙ sym here ∙ lines ∙ there }), all_lawful lawful)
-  same_verdict lines (Err (Memory line)) is = tt
+  same_verdict lines (Err (verdict.Capture (Memory line))) is = before_both line is
 
 -- ---- in version 2
 
@@ -70,7 +85,7 @@ lines_stay text h ds capture =
     let count : line_count text ≡ length capture.1 + 1 = ap length capture.2.divided ∙ length-append capture.1 ([] ∷ []) in
     as_many (slice_split (λ b. b == 10) text) (omega arith) (parts_lack 10 text)
 
-pub same_in_two : (text : List ℕ) (h : Header) (ds : List Numbered) (v : Result Verdict CaptureFault) → IsCapture text h ds → length (in_version_two text) ≤ 2 ^ 40 → IsTextVerdict text v ↔ IsTextVerdict (in_version_two text) v
+pub same_in_two : (text : List ℕ) (h : Header) (ds : List Numbered) (v : Result Meaning Verdict) → IsCapture text h ds → length (in_version_two text) ≤ 2 ^ 40 → IsTextVerdict text v ↔ IsTextVerdict (in_version_two text) v
 same_in_two text h ds v capture short =
     let two = says_the_same text h ds capture short in
     let lines = lines_stay text h ds capture in

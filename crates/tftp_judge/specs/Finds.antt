@@ -2,10 +2,11 @@
 use Rattle.std.specs.Prelude.{◌≡◌, ◌+◌, ◌<◌, ℕ, List, ◌∷◌, length, Result, Ok, Err}
 use Rattle.tftp_packet.specs.Message.{Message, Data, Ack}
 use Rattle.tftp_ends.specs.CaptureText.{Datagram, Header}
+use Rattle.tftp_ends.specs.declared.ports.PortFault.{PortFault}
 use Rattle.tftp_law.specs.OneEnded.{Passes}
 use Rattle.tftp_law.specs.Rules.{number_of, FirstBroken}
 use Rattle.tftp_law.specs.declared.rule.Rule.{Rule}
-use Rattle.tftp_law.specs.declared.rule.Rule.TheVariants.{OackEmpty, MulticastAgreed, OptionNotRequested, OptionOutsideProfile, OptionValue, BeyondBlock65535}
+use Rattle.tftp_law.specs.declared.rule.Rule.TheVariants.{ForeignPort, WrongPort, StrayAnswer, OackEmpty, MulticastAgreed, OptionNotRequested, OptionOutsideProfile, OptionValue, BeyondBlock65535}
 use Rattle.tftp_nego.specs.declared.fault.NegoFault.{NegoFault}
 use Rattle.tftp_judge.specs.declared.refusal.Refusal.{Refusal}
 use Rattle.tftp_judge.specs.declared.refusal.Refusal.TheVariants as refusal
@@ -52,3 +53,10 @@ stop_of_fault NegoFault.OptionOutsideProfile = Broken OptionOutsideProfile
 stop_of_fault NegoFault.OptionValue = Broken OptionValue
 stop_of_fault NegoFault.BeyondBlock65535 = Broken BeyondBlock65535
 stop_of_fault NegoFault.Memory = Memory
+
+-- why a datagram does not pass by its ports, among all reasons
+abbrev pub stop_by_port : PortFault → Stop
+stop_by_port PortFault.ForeignPort = Broken ForeignPort
+stop_by_port PortFault.WrongPort = Broken WrongPort
+stop_by_port PortFault.StrayAnswer = Broken StrayAnswer
+stop_by_port PortFault.Memory = Memory

@@ -4,6 +4,5 @@ pub mod Ending
 pub mod Kept
 pub mod KeptCode
 pub mod Finds
-pub mod Parts
 pub mod Extracted
 pub mod Courses

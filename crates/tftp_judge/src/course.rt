@@ -11,9 +11,8 @@ ghost use Rattle.tftp_judge.specs.Finds.{NoneBreaks, IsFirstOf};
 ghost use Rattle.tftp_judge.specs.Kept.{IsCourse};
 ghost use Rattle.tftp_judge.specs.KeptCode.{course_of};
 
-use crate::named_end::NamedEnd;
 use std::alloc::{AllocError, Global};
-use tftp_ends::{Delivered, EndFault};
+use tftp_ends::{Delivered, EndFault, NamedEnd};
 use tftp_nego::Agreed;
 use tftp_packet::{Dir, Packet};
 

@@ -1,9 +1,10 @@
-ghost use Rattle.std.specs.Prelude.{◌≡◌, ◌+◌, ◌^◌, ◌<◌, List, [], ◌∷◌, reverse, length, None, Some, OnOk, IfErr, Ok, Err};
+ghost use Rattle.std.specs.Prelude.{◌≡◌, ◌↔◌, ◌+◌, ◌^◌, ◌<◌, List, [], ◌∷◌, reverse, true, None, Some, IsTrue, OnOk, IfErr, Err};
 ghost use Rattle.tftp_capture.specs.Fields.{datagram_of, header_of};
 ghost use Rattle.tftp_ends.specs.CaptureText.{Datagram as DatagramParts, Header as HeaderParts};
-ghost use Rattle.tftp_law.specs.OneEnded.{Passes, IsEnded};
-ghost use Rattle.tftp_judge.specs.Finds.{FindsOf, Refuses};
-ghost use Rattle.tftp_judge.specs.Kept.{HasKept, IsJudgeAfter};
+ghost use Rattle.tftp_ends.specs.Ports.{route_of, is_of_transfer, SaysUnknownId};
+ghost use Rattle.tftp_law.specs.OneEnded.{OneEnded, Passes, IsEnded};
+ghost use Rattle.tftp_judge.specs.Finds.{FindsOf, Refuses, stop_by_port};
+ghost use Rattle.tftp_judge.specs.Kept.{HasKept, IsJudgeAfter, IsKept};
 ghost use Rattle.tftp_judge.specs.Verdict.{IsVerdict};
 ghost use Rattle.tftp_judge.specs.declared.refusal.Refusal.{Refusal as RefusalKind};
 
@@ -132,6 +133,7 @@ impl<D: Delivered + Drop> Judge<D> {
     fn pass(&mut self, alloc: Global, datagram: &Datagram) -> Result<(), Stop>
         ensures finds { (h : HeaderParts) (earlier : List DatagramParts) → IsJudgeAfter self.old h earlier
             → FindsOf h earlier (datagram_of datagram.now) (HasKept self.new h (datagram_of datagram.now ∷ earlier)) result }
+        ensures header { self.new.header ≡ self.old.header }
         ensures fed { self.new.fed ≡ self.old.fed }
         ensures refused { self.new.refused ≡ self.old.refused }
     {
@@ -148,7 +150,13 @@ impl<D: Delivered + Drop> Judge<D> {
         };
         match route {
             Route::Request | Route::Peer => self.pass_message(alloc, route, datagram.dir, payload),
-            Route::StrayAnswer if !says_unknown_id(payload) => Err(Stop::Broken(Rule::StrayAnswer)),
+            Route::StrayAnswer => {
+                if says_unknown_id(payload) {
+                    Ok(())
+                } else {
+                    Err(Stop::Broken(Rule::StrayAnswer))
+                }
+            }
             _ => Ok(()),
         }
     }
@@ -160,7 +168,15 @@ impl<D: Delivered + Drop> Judge<D> {
         route: Route,
         dir: Dir,
         payload: &[u8],
-    ) -> Result<(), Stop> {
+    ) -> Result<(), Stop>
+        ensures finds { (h : HeaderParts) (earlier : List DatagramParts) (d : DatagramParts) → self.old.header ≡ h → OneEnded h earlier
+            → IsKept h earlier self.old.transfer → route ≡ route_of h earlier d → is_of_transfer route ≡ true → d.dir ≡ dir → d.payload ≡ payload.now
+            → FindsOf h earlier d (IsKept h (d ∷ earlier) self.new.transfer) result }
+        ensures header { self.new.header ≡ self.old.header }
+        ensures ports { self.new.ports ≡ self.old.ports }
+        ensures fed { self.new.fed ≡ self.old.fed }
+        ensures refused { self.new.refused ≡ self.old.refused }
+    {
         if self.transfer.is_none() && route == Route::Peer {
             return Err(Stop::Broken(Rule::NoRequest));
         }
@@ -181,7 +197,9 @@ impl<D: Delivered + Drop> Judge<D> {
 }
 
 /// Why a datagram does not pass by its ports (RFC 1350, section 4).
-fn stop_of_port(fault: PortFault) -> Stop {
+fn stop_of_port(fault: PortFault) -> Stop
+    ensures { result ≡ stop_by_port fault }
+{
     match fault {
         PortFault::ForeignPort => Stop::Broken(Rule::ForeignPort),
         PortFault::WrongPort => Stop::Broken(Rule::WrongPort),
@@ -191,6 +209,11 @@ fn stop_of_port(fault: PortFault) -> Stop {
 }
 
 /// Whether a payload is ERROR 5, "Unknown transfer ID" (RFC 1350, section 5).
-fn says_unknown_id(payload: &[u8]) -> bool {
-    matches!(read_packet(payload), Ok(Packet::Error { code: 5, .. }))
+fn says_unknown_id(payload: &[u8]) -> bool
+    ensures { (d : DatagramParts) → d.payload ≡ payload.now → (IsTrue result ↔ SaysUnknownId d) }
+{
+    match read_packet(payload) {
+        Ok(packet) => matches!(packet, Packet::Error { code: 5, .. }),
+        Err(_) => false,
+    }
 }

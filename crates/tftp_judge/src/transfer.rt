@@ -24,12 +24,11 @@ use crate::errors::Errors;
 use crate::file::{file_of, written_blocks};
 use crate::kinds::{author_of, is_wrong_kind};
 use crate::meaning::Meaning;
-use crate::named_end::NamedEnd;
 use crate::refusal::Refusal;
 use crate::stop::Stop;
 use std::alloc::Global;
 use std::marker::Model;
-use tftp_ends::{Delivered, EndRule, Reply, Terms};
+use tftp_ends::{Delivered, EndRule, NamedEnd, Reply, Terms};
 use tftp_law::Rule;
 use tftp_nego::{Agreed, NegoFault, agree, nothing_agreed};
 use tftp_packet::{

@@ -8,7 +8,7 @@ use Rattle.tftp_ends.specs.Blocks.{block, block_count}
 use Rattle.tftp_ends.specs.Rules.{HasPassed, IsLast, BlockBreaks, HasWrongLength, IsNotLengthOf}
 use Rattle.tftp_ends.specs.declared.rule.EndRule.{EndRule}
 use Rattle.tftp_ends.specs.declared.terms.Terms.{Terms}
-use Rattle.tftp_law.proofs.Joined.{length_block, whole_block, last_block}
+use Rattle.tftp_ends.proofs.Joined.{length_block, whole_block, last_block}
 
 module _ (wire : List ℕ) (t : Terms) (some : 0 < t.blksize) (numbered : block_count t.blksize wire ≤ 65535) (size : (size : ℕ) → t.size ≡ Some size → length wire ≡ size)
     (passed : List Datagram) (blocks : (k : ℕ) (bytes : List ℕ) → HasPassed (Message.Data k bytes) passed → (1 ≤ k) × (k ≤ block_count t.blksize wire) × (bytes ≡ block t.blksize wire k)) where

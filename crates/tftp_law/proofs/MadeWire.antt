@@ -12,7 +12,7 @@ use Rattle.tftp_ends.specs.CaptureText.{Datagram}
 use Rattle.tftp_ends.specs.Blocks.{block, block_count}
 use Rattle.tftp_ends.specs.Rules.{Passed, HasPassed, IsLast, LastIsUnknown}
 use Rattle.tftp_ends.specs.declared.terms.Terms.{Terms}
-use Rattle.tftp_law.proofs.Joined.{block_added, block_kept, size_more}
+use Rattle.tftp_ends.proofs.Joined.{block_added, block_kept, size_more}
 use Rattle.tftp_law.proofs.HighestNumbers.{AllSpelled, has_block, high_of}
 use Rattle.tftp_law.proofs.Settled.{Settled, known_last, last_one}
 

@@ -24,7 +24,7 @@ use Rattle.tftp_law.specs.Accord.{Starts, AreRouted}
 use Rattle.tftp_law.specs.Rules.{FirstAsked, Agrees, Begins, NotAnswered, plain_terms, terms_after}
 use Rattle.tftp_law.specs.OneEnded.{IsAgreed, IsJoined, Meant}
 use Rattle.tftp_law.proofs.FirstAnswered.{first_one, not_both}
-use Rattle.tftp_law.proofs.Joined.{last_block}
+use Rattle.tftp_ends.proofs.Joined.{last_block}
 use Rattle.tftp_law.proofs.PassedIsDone.{told_passed}
 use Rattle.tftp_law.proofs.FirstReply.{sent_data}
 use Rattle.tftp_law.proofs.FirstSpelled.{request_spelled}

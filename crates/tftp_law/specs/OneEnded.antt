@@ -1,15 +1,15 @@
 -- When the datagrams of a capture are lawful one after another, by the rules, and when they are a whole transfer.
 -- The list `earlier` has the datagrams that have passed, the newest first.
-use Rattle.std.specs.Prelude.{◌≡◌, ◌⊎◌, ℕ, ◌≤◌, List, [], ◌∷◌}
+use Rattle.std.specs.Prelude.{◌≡◌, ◌⊎◌, ℕ, List, [], ◌∷◌}
 use Rattle.tftp_packet.specs.OptionMap.{OptionMap, no_options}
 use Rattle.tftp_packet.specs.Message.{Message, RequestParts}
 use Rattle.tftp_packet.specs.Spelling.{Spells}
 use Rattle.tftp_ends.specs.CaptureText.{Datagram, Header}
 use Rattle.tftp_ends.specs.Meaning.{Meaning, request_of}
-use Rattle.tftp_ends.specs.Blocks.{block, block_count}
+pub use Rattle.tftp_ends.specs.Joined.{IsJoined}
 use Rattle.tftp_ends.specs.Ports.{route_of, transfer_of, SaysUnknownId}
 use Rattle.tftp_ends.specs.declared.route.Route.{Route}
-use Rattle.tftp_ends.specs.Rules.{Passed, HasPassed, IsFront, IsLast, IsSender, IsReceiver}
+use Rattle.tftp_ends.specs.Rules.{Passed, IsFront, IsLast, IsSender, IsReceiver}
 use Rattle.tftp_ends.specs.declared.terms.Terms.{Terms}
 use Rattle.tftp_packet.specs.declared.kinds.Dir.TheVariants.{In, Out}
 use Rattle.tftp_law.specs.Fits.{ReadsAs}
@@ -53,11 +53,6 @@ abbrev pub IsAgreed : RequestParts → List Datagram → OptionMap → Type 0
 IsAgreed asked passed agreed =
     FirstAnswer asked.side passed (Agrees agreed)
     ⊎ ((agreed ≡ no_options) × ((options : OptionMap) → FirstAnswer asked.side passed (Agrees options) → ⊥))
-
--- the wire whose blocks have passed, up to the last
-pub record IsJoined (b : ℕ) (passed : List Datagram) (last : ℕ) (wire : List ℕ) : Type 0 where
-  pub count : block_count b wire ≡ last
-  pub blocks : (k : ℕ) → 1 ≤ k → k ≤ last → HasPassed (Message.Data k (block b wire k)) passed
 
 -- the datagrams break no rule, and are a whole transfer
 pub record IsEnded (h : Header) (earlier : List Datagram) : Type 0 where

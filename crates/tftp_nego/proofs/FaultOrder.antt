@@ -1,5 +1,5 @@
 -- The faults stand in one order, so the first one is one.
-use Rattle.std.proofs.Common.{◌≡◌, ◌⊎◌, inl, inr, ℕ, ◌<◌, refl, arith}
+use Rattle.std.proofs.Common.{◌≡◌, inl, inr, ◌<◌, refl, arith}
 use Rattle.std.proofs.lemmas.Bool.{cases_lt}
 use Rattle.tftp_packet.specs.OptionMap.{OptionMap}
 use Rattle.tftp_packet.specs.Message.{RequestParts}

@@ -23,7 +23,7 @@ impl Model for Agreed {
 }
 
 impl Agreed {
-    ghost use Rattle.std.specs.Prelude.{◌≡◌, ◌≤◌, ◌↔◌, IsTrue, codes, option_and_then};
+    ghost use Rattle.std.specs.Prelude.{◌≡◌, ◌↔◌, ◌≤◌, IsTrue, codes, option_and_then};
     ghost use Rattle.std.specs.FinMap as map;
     ghost use Rattle.tftp_packet.specs.OptionMap.{no_options, number_in};
     ghost use Rattle.tftp_nego.specs.Agreed.{AreInRange};
@@ -88,20 +88,20 @@ impl Agreed {
         self.options.is_empty()
     }
 
-    /// The agreed options by their names. Takes no memory.
-    pub fn into_options(self) -> Options
-        ensures { result ≡ self }
-    {
-        let Agreed { options } = self;
-        options
-    }
-
     /// The agreed options by their names.
     #[inline]
     pub fn options(&self) -> &Options
         ensures { result.now ≡ self.now }
     {
         &self.options
+    }
+
+    /// The agreed options by their names. Takes no memory.
+    pub fn into_options(self) -> Options
+        ensures { result ≡ self }
+    {
+        let Agreed { options } = self;
+        options
     }
 }
 

@@ -1,5 +1,5 @@
 -- Worked verdicts of transfers in which an ERROR is sent.
-use Rattle.std.proofs.Common.{◌≡◌, ℕ, List, [], ◌∷◌, ◌++◌, ◌+◌, length, reverse, codes, inl, inr, refl}
+use Rattle.std.proofs.Common.{◌≡◌, ℕ, List, [], ◌∷◌, ◌++◌, ◌+◌, length, reverse, codes, inl, inr, Ok, Err, refl}
 use Rattle.tftp_packet.specs.declared.kinds.Side.TheVariants.{Get}
 use Rattle.tftp_ends.specs.CaptureText.{Datagram, Header}
 use Rattle.tftp_ends.specs.Meaning.{Meaning}
@@ -14,7 +14,7 @@ use Rattle.tftp_law.specs.Rules.{plain_terms}
 use Rattle.tftp_law.specs.declared.rule.Rule.{Rule}
 use Rattle.tftp_law.proofs.TwoEnds.{whole}
 use Rattle.tftp_judge.specs.Verdict.{IsVerdict}
-use Rattle.tftp_judge.specs.declared.verdict.Verdict.TheVariants.{Accepted, Unlawful, Aborted}
+use Rattle.tftp_judge.specs.declared.refusal.Refusal.TheVariants.{Unlawful, Aborted}
 use Rattle.tftp_worked.specs.Worked.{at_client, acknowledges_hi}
 use Rattle.tftp_worked.specs.WorkedErrors.{says_forbidden, read_refused, read_refused_twice, read_given_up, read_given_up_twice, stopped_at_the_end, stopped_after_the_end, block_after_error, before_late_answer, late_answer}
 use Rattle.tftp_worked.proofs.Spelled.{request_spelled, hi_spelled}
@@ -27,7 +27,7 @@ use Rattle.tftp_worked.proofs.Unfinished.{no_errors, means_nothing}
 use Rattle.tftp_worked.proofs.ErrorsShown.{refused_lawful, refused_again_lawful, given_up_lawful, given_up_again_lawful, stopped_shown, stopped_after_shown, after_lawful, late_lawful, another_is_unlawful, ack_is_unlawful, late_is_unlawful}
 use Rattle.tftp_worked.proofs.Verdicts.{accepted}
 
-aborted : (h : Header) (ds : List Datagram) (by : By) (code : ℕ) → IsLawful h ds → ((m : Meaning) → Meant h (reverse ds) m → ⊥) → IsAborted h (reverse ds) by code → IsVerdict h ds (Aborted by code)
+aborted : (h : Header) (ds : List Datagram) (by : By) (code : ℕ) → IsLawful h ds → ((m : Meaning) → Meant h (reverse ds) m → ⊥) → IsAborted h (reverse ds) by code → IsVerdict h ds (Err (Aborted by code))
 aborted h ds by code lawful nothing first = (lawful, (λ m shown. nothing m ((whole h m ds).1 shown)), first)
 
 -- ---- ended by the server
@@ -35,15 +35,15 @@ aborted h ds by code lawful nothing first = (lawful, (λ m shown. nothing m ((wh
 refused_first : IsAborted at_client (reverse read_refused) Peer 1
 refused_first = inr (no_errors (plain_asks ∷ []) (request_spelled, tt) refl, (refl, codes "File not found", not_found_spelled))
 
-pub refused_verdict : IsVerdict at_client read_refused (Aborted Peer 1)
+pub refused_verdict : IsVerdict at_client read_refused (Err (Aborted Peer 1))
 refused_verdict = aborted at_client read_refused Peer 1 refused_lawful
     (means_nothing at_client (not_found ∷ plain_asks ∷ []) (not_found_spelled, (request_spelled, tt)) (plain_terms at_client Get NoReply) refl refl refl refl) refused_first
 
-pub refused_again_verdict : IsVerdict at_client read_refused_twice (Aborted Peer 1)
+pub refused_again_verdict : IsVerdict at_client read_refused_twice (Err (Aborted Peer 1))
 refused_again_verdict = aborted at_client read_refused_twice Peer 1 refused_again_lawful
     (means_nothing at_client (not_found ∷ not_found ∷ plain_asks ∷ []) (not_found_spelled, (not_found_spelled, (request_spelled, tt))) (plain_terms at_client Get NoReply) refl refl refl refl) (inl refused_first)
 
-pub after_verdict : IsVerdict at_client block_after_error (Aborted Peer 0)
+pub after_verdict : IsVerdict at_client block_after_error (Err (Aborted Peer 0))
 after_verdict = aborted at_client block_after_error Peer 0 after_lawful
     (means_nothing at_client (after_news ++ read_by_eight.es) after_spelled read_by_eight.terms
     (fixed_terms at_client (after_news ++ read_by_eight.es) read_by_eight.asked read_by_eight.answer read_by_eight.terms (fixed_all at_client after_news read_by_eight.es read_by_eight.asked read_by_eight.answer read_by_eight.fixed) read_by_eight.is)
@@ -55,27 +55,27 @@ after_verdict = aborted at_client block_after_error Peer 0 after_lawful
 given_up_first : IsAborted at_client (reverse read_given_up) Local 3
 given_up_first = inr (no_errors (plain_hi ∷ plain_asks ∷ []) begun_spelled refl, (refl, [], full_spelled))
 
-pub given_up_verdict : IsVerdict at_client read_given_up (Aborted Local 3)
+pub given_up_verdict : IsVerdict at_client read_given_up (Err (Aborted Local 3))
 given_up_verdict = aborted at_client read_given_up Local 3 given_up_lawful
     (means_nothing at_client (full ∷ plain_hi ∷ plain_asks ∷ []) (full_spelled, begun_spelled) (plain_terms at_client Get Plain) refl refl refl refl) given_up_first
 
-pub given_up_again_verdict : IsVerdict at_client read_given_up_twice (Aborted Local 3)
+pub given_up_again_verdict : IsVerdict at_client read_given_up_twice (Err (Aborted Local 3))
 given_up_again_verdict = aborted at_client read_given_up_twice Local 3 given_up_again_lawful
     (means_nothing at_client (full ∷ plain_hi ∷ full ∷ plain_hi ∷ plain_asks ∷ []) (full_spelled, (hi_spelled, (full_spelled, begun_spelled))) (plain_terms at_client Get Plain) refl refl refl refl)
     (inl (inl given_up_first))
 
 -- ---- whole all the same
 
-pub stopped_verdict : IsVerdict at_client stopped_at_the_end (Accepted two_bytes)
+pub stopped_verdict : IsVerdict at_client stopped_at_the_end (Ok two_bytes)
 stopped_verdict = accepted at_client two_bytes stopped_at_the_end stopped_shown
 
-pub stopped_after_verdict : IsVerdict at_client stopped_after_the_end (Accepted two_bytes)
+pub stopped_after_verdict : IsVerdict at_client stopped_after_the_end (Ok two_bytes)
 stopped_after_verdict = accepted at_client two_bytes stopped_after_the_end stopped_after_shown
 
 -- ---- unlawful
 
 unlawful_last : (h : Header) (before : List Datagram) (d : Datagram) (rule : Rule) → IsLawful h before → (IsLawful h (before ++ d ∷ []) → ⊥) → IsRefused h (reverse before) d rule → (index : ℕ) → index ≡ length before + 1
-    → IsVerdict h (before ++ d ∷ []) (Unlawful index rule)
+    → IsVerdict h (before ++ d ∷ []) (Err (Unlawful index rule))
 unlawful_last h before d rule lawful unlawful refused index is = record {
   before = before;
   datagram = d;
@@ -87,11 +87,11 @@ unlawful_last h before d rule lawful unlawful refused index is = record {
   broken = refused.broken;
 }
 
-pub another_verdict : IsVerdict at_client (read_refused ++ says_forbidden ∷ []) (Unlawful 3 Rule.AfterError)
+pub another_verdict : IsVerdict at_client (read_refused ++ says_forbidden ∷ []) (Err (Unlawful 3 Rule.AfterError))
 another_verdict = unlawful_last at_client read_refused says_forbidden Rule.AfterError refused_lawful another_is_unlawful another_refused 3 refl
 
-pub ack_verdict : IsVerdict at_client (read_given_up ++ acknowledges_hi ∷ []) (Unlawful 4 Rule.AfterError)
+pub ack_verdict : IsVerdict at_client (read_given_up ++ acknowledges_hi ∷ []) (Err (Unlawful 4 Rule.AfterError))
 ack_verdict = unlawful_last at_client read_given_up acknowledges_hi Rule.AfterError given_up_lawful ack_is_unlawful ack_refused 4 refl
 
-pub late_verdict : IsVerdict at_client (before_late_answer ++ late_answer ∷ []) (Unlawful 7 Rule.WindowOverrun)
+pub late_verdict : IsVerdict at_client (before_late_answer ++ late_answer ∷ []) (Err (Unlawful 7 Rule.WindowOverrun))
 late_verdict = unlawful_last at_client before_late_answer late_answer Rule.WindowOverrun late_lawful late_is_unlawful late_refused 7 refl

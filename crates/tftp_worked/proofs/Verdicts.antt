@@ -1,5 +1,5 @@
 -- Worked verdicts, from the runs and the rules.
-use Rattle.std.proofs.Common.{List, [], ◌∷◌, ◌++◌, reverse, refl}
+use Rattle.std.proofs.Common.{List, [], ◌∷◌, ◌++◌, reverse, Ok, Err, refl}
 use Rattle.tftp_ends.specs.CaptureText.{Datagram, Header}
 use Rattle.tftp_ends.specs.Meaning.{Meaning}
 use Rattle.tftp_ends.specs.Worked.{two_bytes}
@@ -7,7 +7,7 @@ use Rattle.tftp_ends.specs.WorkedWindows.{six_blocks}
 use Rattle.tftp_law.specs.declared.rule.Rule.{Rule}
 use Rattle.tftp_law.specs.Law.{Shows}
 use Rattle.tftp_judge.specs.Verdict.{IsVerdict, IsVerdictByRules}
-use Rattle.tftp_judge.specs.declared.verdict.Verdict.TheVariants.{Accepted, Unlawful, Incomplete}
+use Rattle.tftp_judge.specs.declared.refusal.Refusal.TheVariants.{Unlawful, Incomplete}
 use Rattle.tftp_law.specs.Aborted.{IsNotAborted}
 use Rattle.tftp_worked.specs.Worked.{at_client, one_block_read, read_without_its_ack}
 use Rattle.tftp_worked.proofs.RefusedMore.{plain_asks, plain_hi}
@@ -22,22 +22,22 @@ use Rattle.tftp_worked.proofs.Unlawful.{overrun_is_first, overrun_is_unlawful}
 use Rattle.tftp_worked.proofs.Refused.{overrun_refused}
 use Rattle.tftp_worked.proofs.Accepted.{plain_passes, plain_meant}
 
-pub accepted : (header : Header) (m : Meaning) (datagrams : List Datagram) → Shows header m datagrams → IsVerdict header datagrams (Accepted m)
+pub accepted : (header : Header) (m : Meaning) (datagrams : List Datagram) → Shows header m datagrams → IsVerdict header datagrams (Ok m)
 accepted header m datagrams shows = (shown_is_lawful header m datagrams shows, (shows.wire, shows.shown), shows.writable)
 
-pub read_accepted : IsVerdict at_client one_block_read (Accepted two_bytes)
+pub read_accepted : IsVerdict at_client one_block_read (Ok two_bytes)
 read_accepted = accepted at_client two_bytes one_block_read read_is_shown
 
-pub window_accepted : IsVerdict at_client window_out_of_order (Accepted six_blocks)
+pub window_accepted : IsVerdict at_client window_out_of_order (Ok six_blocks)
 window_accepted = accepted at_client six_blocks window_out_of_order six_shown
 
 begin_has_no_error : IsNotAborted at_client (reverse read_without_its_ack)
 begin_has_no_error = no_errors (plain_hi ∷ plain_asks ∷ []) begun_spelled refl
 
-pub begin_incomplete : IsVerdict at_client read_without_its_ack (Incomplete 2)
+pub begin_incomplete : IsVerdict at_client read_without_its_ack (Err (Incomplete 2))
 begin_incomplete = (begin_is_lawful, (λ m shown. begin_shows_nothing m shown.0 shown.1), begin_has_no_error, refl)
 
-pub overrun_verdict : IsVerdict at_client (before_overrun ++ block_seven ∷ []) (Unlawful 8 Rule.WindowOverrun)
+pub overrun_verdict : IsVerdict at_client (before_overrun ++ block_seven ∷ []) (Err (Unlawful 8 Rule.WindowOverrun))
 overrun_verdict = record {
   before = before_overrun;
   datagram = block_seven;
@@ -49,10 +49,10 @@ overrun_verdict = record {
   broken = overrun_refused.broken;
 }
 
-pub read_by_rules : IsVerdictByRules at_client one_block_read (Accepted two_bytes)
+pub read_by_rules : IsVerdictByRules at_client one_block_read (Ok two_bytes)
 read_by_rules = (plain_passes, plain_meant, read_is_shown.writable)
 
-pub overrun_by_rules : IsVerdictByRules at_client (before_overrun ++ block_seven ∷ []) (Unlawful 8 Rule.WindowOverrun)
+pub overrun_by_rules : IsVerdictByRules at_client (before_overrun ++ block_seven ∷ []) (Err (Unlawful 8 Rule.WindowOverrun))
 overrun_by_rules = record {
   before = before_overrun;
   datagram = block_seven;

@@ -1,8 +1,8 @@
 use Rattle.std.proofs.Common.{[], Err, refl, ap, ◌∙◌}
 use Rattle.std.proofs.lemmas.List.{length-map}
-use Rattle.std.proofs.KnownBytes.{Consumes-nil}
-use Rattle.tftp_commands.specs.declared.words.Action.TheVariants.{Check, Show}
-use Rattle.tftp_commands.proofs.Commands.{check_output, memory_output, no_command, show_output, usage_output}
+use Rattle.std.proofs.KnownBytes.{Appends-nil, Consumes-nil}
+use Rattle.tftp_commands.specs.declared.words.Action.TheVariants.{Check, Show, Extract}
+use Rattle.tftp_commands.proofs.Commands.{check_output, extract_output, memory_output, no_command, no_file, show_output, silent_output, usage_output}
 use Rattle.tftp_commands.proofs.session.run.Goals as goal
 
 pub returns-in-Ok-Check-clause-said : goal.returns-in-Ok-Check-clause-said
@@ -35,6 +35,21 @@ returns-in-Ok-Show-clause-whole g c = λ text tells clean.
 pub returns-in-Ok-Show-clause-untouched : goal.returns-in-Ok-Show-clause-untouched
 returns-in-Ok-Show-clause-untouched g c = λ none. absurd (none Show (rw c.in-Ok-Show.field-0-is at c.in-Ok-Show.ensures.ok))
 
+pub returns-in-Ok-Extract-clause-said : goal.returns-in-Ok-Extract-clause-said
+returns-in-Ok-Extract-clause-said g c =
+    let is = rw c.in-Ok-Extract.field-0-is at c.in-Ok-Extract.ensures.ok in
+    let said = c.extract.ensures.said in
+    (said.0, said.1, said.2, extract_output _ _ _ said.1 is said.3, said.4)
+
+pub returns-in-Ok-Extract-clause-whole : goal.returns-in-Ok-Extract-clause-whole
+returns-in-Ok-Extract-clause-whole g c = λ text tells clean.
+    let is = rw c.in-Ok-Extract.field-0-is at c.in-Ok-Extract.ensures.ok in
+    let said = c.extract.ensures.whole text tells clean in
+    (said.0, extract_output _ _ _ said.0 is said.1, said.2)
+
+pub returns-in-Ok-Extract-clause-untouched : goal.returns-in-Ok-Extract-clause-untouched
+returns-in-Ok-Extract-clause-untouched g c = λ none. absurd (none Extract (rw c.in-Ok-Extract.field-0-is at c.in-Ok-Extract.ensures.ok))
+
 pub returns-in-Err-Usage-clause-said : goal.returns-in-Err-Usage-clause-said
 returns-in-Err-Usage-clause-said g c =
     let none = no_command _ c.action_of.result (c.in-Err-Usage.is ∙ ap Err c.in-Err-Usage.field-0-is) c.action_of.ensures.only in
@@ -48,9 +63,22 @@ returns-in-Err-Usage-clause-whole g c = λ text tells clean.
 pub returns-in-Err-Memory-clause-said : goal.returns-in-Err-Memory-clause-said
 returns-in-Err-Memory-clause-said g c =
     let two = c.action_of.ensures.two (c.in-Err-Memory.is ∙ ap Err c.in-Err-Memory.field-0-is) in
-    ([], _, Consumes-nil _, memory_output _ _ _ (length-map c.args.words.now g.S.AsStr.text ∙ two) c.requires.reading, c.say-in-Err-Memory.ensures)
+    ([], _, Consumes-nil _, memory_output _ _ _ (length-map c.args.words.now g.S.AsStr.text ∙ two) (no_file _ c.action_of.result (c.in-Err-Memory.is ∙ ap Err c.in-Err-Memory.field-0-is) c.action_of.ensures.only) c.requires.reading, c.say-in-Err-Memory.ensures)
 
 pub returns-in-Err-Memory-clause-whole : goal.returns-in-Err-Memory-clause-whole
 returns-in-Err-Memory-clause-whole g c = λ text tells clean.
     let two = c.action_of.ensures.two (c.in-Err-Memory.is ∙ ap Err c.in-Err-Memory.field-0-is) in
-    (_, memory_output _ _ _ (length-map c.args.words.now g.S.AsStr.text ∙ two) refl, c.say-in-Err-Memory.ensures)
+    (_, memory_output _ _ _ (length-map c.args.words.now g.S.AsStr.text ∙ two) (no_file _ c.action_of.result (c.in-Err-Memory.is ∙ ap Err c.in-Err-Memory.field-0-is) c.action_of.ensures.only) refl, c.say-in-Err-Memory.ensures)
+
+pub returns-in-Err-Silent-clause-said : goal.returns-in-Err-Silent-clause-said
+returns-in-Err-Silent-clause-said g c =
+    let is = c.action_of.ensures.file (c.in-Err-Silent.is ∙ ap Err c.in-Err-Silent.field-0-is) in
+    ([], _, Consumes-nil _, silent_output _ _ _ is c.requires.reading, rw c.requires.writing (Appends-nil _, refl))
+
+pub returns-in-Err-Silent-clause-whole : goal.returns-in-Err-Silent-clause-whole
+returns-in-Err-Silent-clause-whole g c = λ text tells clean.
+    let is = c.action_of.ensures.file (c.in-Err-Silent.is ∙ ap Err c.in-Err-Silent.field-0-is) in
+    (_, silent_output _ _ _ is refl, rw c.requires.writing (Appends-nil _, refl))
+
+pub returns-in-Err-Silent-clause-untouched : goal.returns-in-Err-Silent-clause-untouched
+returns-in-Err-Silent-clause-untouched g c = λ none. refl

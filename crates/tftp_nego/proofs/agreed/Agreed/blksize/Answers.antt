@@ -10,4 +10,4 @@ overflow_cast-result c =
 
 pub returns-in-Some-Num-clause-sized : goal.returns-in-Some-Num-clause-sized
 returns-in-Some-Num-clause-sized c =
-    blksize_range c.in-Some-Num.size (c.self.invariant (codes "blksize") c.in-Some-Num.size (sym c.in-Some-Num.ensures ∙ ap (λ v. Some (shown v)) c.in-Some-Num.field-0-is))
+    let bounds = blksize_range c.in-Some-Num.size (c.self.invariant (codes "blksize") c.in-Some-Num.size (sym c.in-Some-Num.ensures ∙ ap (λ v. Some (shown v)) c.in-Some-Num.field-0-is)) in bounds

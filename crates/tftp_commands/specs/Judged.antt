@@ -1,0 +1,14 @@
+-- What there is to say of the text that a run reads.
+use Rattle.std.specs.Prelude.{◌≡◌, ◌↔◌, true, Result}
+use Rattle.std.specs.Io.KnownBytes.{IsAtEnd}
+use Rattle.tftp_ends.specs.Meaning.{Meaning}
+use Rattle.tftp_judge.specs.TextVerdict.{EndsText, IsTextVerdict, SaysReadFailed}
+use Rattle.tftp_judge.specs.declared.verdict.Verdict.{Verdict}
+use Rattle.tftp_commands.specs.Source.{Source}
+
+-- This is what there is to say of what was read. What is said of a whole text, and the fault Truncated, come at the
+-- source's end; and that a read failed is said exactly where one did.
+pub record IsJudged (source : Source) (said : Result Meaning Verdict) : Type 0 where
+  pub is_said : IsTextVerdict source.read said
+  pub at_end : EndsText said → IsAtEnd source.left
+  pub failed : SaysReadFailed said ↔ (source.failed ≡ true)

@@ -1,0 +1,18 @@
+use Rattle.std.proofs.Common.{sym, subst, ap, ◌∙◌, OnOk, List}
+use Rattle.tftp_packet.specs.Message.{Data}
+use Rattle.tftp_ends.specs.CaptureText.{Datagram}
+use Rattle.tftp_ends.specs.Rules.{EndBroken}
+use Rattle.tftp_ends.specs.NamedEnd.{NamedEnd, terms_of, IsEndAfter}
+use Rattle.tftp_ends.specs.Parts.{end_of}
+use Rattle.tftp_ends.specs.declared.rule.EndRule.{EndRule}
+use Rattle.tftp_ends.proofs.named_end.NamedEnd.may_data.Goals as goal
+
+pub returns-in-Sends-clause-lawful : goal.returns-in-Sends-clause-lawful
+returns-in-Sends-clause-lawful g c =
+    subst (λ (e : NamedEnd). (passed : List Datagram) → IsEndAfter e passed → OnOk c.may_data.result ((rule : EndRule) → EndBroken (terms_of e) passed (Data c.args.number c.args.bytes.now) rule → ⊥))
+    (sym (ap end_of c.in-Sends.is) ∙ c.self.view_is) c.may_data.ensures.lawful
+
+pub returns-in-Receives-clause-lawful : goal.returns-in-Receives-clause-lawful
+returns-in-Receives-clause-lawful g c =
+    subst (λ (e : NamedEnd). (passed : List Datagram) → IsEndAfter e passed → OnOk c.may_data-in-Receives.result ((rule : EndRule) → EndBroken (terms_of e) passed (Data c.args.number c.args.bytes.now) rule → ⊥))
+    (sym (ap end_of c.in-Receives.is) ∙ c.self.view_is) c.may_data-in-Receives.ensures.lawful

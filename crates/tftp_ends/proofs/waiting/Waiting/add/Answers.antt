@@ -1,0 +1,23 @@
+use Rattle.std.proofs.Common.{sym, subst, ap, ◌∙◌, ◌≡◌, ◌++◌, ◌∷◌, [], length, None, option_map, OnOk}
+use Rattle.tftp_ends.specs.Slots.{placed}
+use Rattle.tftp_ends.specs.Spans.{shown, AreWithin}
+use Rattle.tftp_ends.proofs.Places.{placed_behind}
+use Rattle.tftp_ends.proofs.Spans.{within_gap, shown_gap}
+use Rattle.tftp_ends.proofs.waiting.Waiting.add.Goals as goal
+
+pub returns-in-Some : goal.returns-in-Some
+returns-in-Some c =
+    subst (λ slots. OnOk c.lay.result (c.lay.new.self ≡ slots))
+    (ap (λ n. placed c.args.self.now n c.in-Some.bytes.now) c.len-place.ensures ∙ placed_behind c.args.self.now c.in-Some.bytes.now
+    ∙ ap (λ block. c.args.self.now ++ option_map (λ b. b.now) block ∷ []) (sym c.in-Some.is)) c.lay.ensures.ok
+
+pub invariant_of-self-in-None : goal.invariant_of-self-in-None
+invariant_of-self-in-None c =
+    subst (AreWithin (length c.self.inside.bytes.items)) (sym (c.push_back_reserved.ensures.items ∙ ap (λ ps. ps ++ None ∷ []) c.in_ok-reserve-in-None.ensures.items))
+    (within_gap _ c.self.inside.places.items c.self.invariant)
+
+pub returns-in_ok-reserve-in-None : goal.returns-in_ok-reserve-in-None
+returns-in_ok-reserve-in-None c =
+    ap (shown c.self.inside.bytes.items) (c.push_back_reserved.ensures.items ∙ ap (λ ps. ps ++ None ∷ []) c.in_ok-reserve-in-None.ensures.items)
+    ∙ shown_gap c.self.inside.bytes.items c.self.inside.places.items ∙ ap (λ slots. slots ++ None ∷ []) c.self.view_is
+    ∙ ap (λ block. c.args.self.now ++ option_map (λ b. b.now) block ∷ []) (sym c.in-None.is)

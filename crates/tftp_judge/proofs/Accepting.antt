@@ -1,0 +1,340 @@
+-- What one more datagram does to what the judge keeps.
+use Rattle.std.proofs.Common.{◌≡◌, ◌⊎◌, ℕ, ◌<◌, ◌≤◌, Bool, true, false, List, [], ◌∷◌, Option, Some, None, Ok, Err, inl, inr, refl, sym, subst, ap, ◌∙◌, arith}
+use Rattle.std.specs.Prelude.{◌&&◌, ◌==◌, ◌≢◌, Result, IfOk, if◌then◌else◌}
+use Rattle.std.proofs.lemmas.Bool.{false≢true}
+use Rattle.tftp_packet.specs.Message.{Message, RequestParts}
+use Rattle.tftp_packet.specs.Spelling.{Spells}
+use Rattle.tftp_packet.specs.Faults.{FirstFault}
+use Rattle.tftp_packet.specs.declared.fault.PacketFault.{PacketFault}
+use Rattle.tftp_packet.specs.declared.kinds.Dir.{Dir}
+use Rattle.tftp_ends.specs.CaptureText.{Datagram, Header}
+use Rattle.tftp_ends.specs.KnownIds.{KnownIds, StandsFor, HasNoRequest, IsNewStray, answer_of}
+use Rattle.tftp_ends.specs.Ports.{asks, first_of, or_this, begins_request, is_from_client, port_of_server, route_before, route_of, is_of_transfer, transfer_of, SaysUnknownId, PortRule, PortBroken}
+use Rattle.tftp_ends.specs.declared.ports.PortFault.{PortFault}
+use Rattle.tftp_ends.specs.declared.route.Route.{Route}
+use Rattle.tftp_law.specs.OneEnded.{OneEnded, Passes}
+use Rattle.tftp_law.specs.Rules.{number_of, Broken, FirstAsked, FirstBroken}
+use Rattle.tftp_law.specs.declared.rule.Rule.{Rule}
+use Rattle.tftp_law.proofs.FirstRequests.{before_is, asks_is, first_stays, first_spells}
+use Rattle.tftp_law.specs.MessageRules.{MessageBreaks}
+use Rattle.tftp_law.proofs.OneMessage.{first_by, lawful_by}
+use Rattle.tftp_judge.specs.Finds.{Finds, FindsOf, stop_by_port}
+use Rattle.tftp_judge.specs.declared.stop.Stop.{Stop}
+use Rattle.tftp_judge.specs.Kept.{Judge, Transfer, HasKept, IsKept, IsTransferAfter}
+use Rattle.tftp_judge.proofs.PassFound.{off_passes, main_passes, first_lawful}
+
+-- ---- routes
+
+pub transfer_kept : (h : Header) (earlier : List Datagram) (d : Datagram) → is_of_transfer (route_of h earlier d) ≡ true → transfer_of h (d ∷ earlier) ≡ d ∷ transfer_of h earlier
+transfer_kept h earlier d is = ap (λ b. if b then d ∷ transfer_of h earlier else transfer_of h earlier) is
+
+pub transfer_same : (h : Header) (earlier : List Datagram) (d : Datagram) → is_of_transfer (route_of h earlier d) ≡ false → transfer_of h (d ∷ earlier) ≡ transfer_of h earlier
+transfer_same h earlier d is = ap (λ b. if b then d ∷ transfer_of h earlier else transfer_of h earlier) is
+
+-- an answer tells the route
+pub ok_route : (r route : Route) → Ok route ≡ answer_of r → r ≡ route
+ok_route Route.Request route e = cc
+ok_route Route.Peer route e = cc
+ok_route Route.Stray route e = cc
+ok_route Route.StrayAnswer route e = cc
+ok_route Route.ForeignPort route e = absurd (cc)
+ok_route Route.WrongPort route e = absurd (cc)
+ok_route Route.NoStrayAnswer route e = absurd (cc)
+
+-- a route that passes breaks no rule of ports, but what answers a stray may
+passing_by : (r : Route) → answer_of r ≡ Ok r → (r ≡ Route.ForeignPort → ⊥) × (r ≡ Route.WrongPort → ⊥) × (r ≡ Route.NoStrayAnswer → ⊥)
+passing_by Route.Request e = (λ x. cc, λ x. cc, λ x. cc)
+passing_by Route.Peer e = (λ x. cc, λ x. cc, λ x. cc)
+passing_by Route.Stray e = (λ x. cc, λ x. cc, λ x. cc)
+passing_by Route.StrayAnswer e = (λ x. cc, λ x. cc, λ x. cc)
+passing_by Route.ForeignPort e = absurd (cc)
+passing_by Route.WrongPort e = absurd (cc)
+passing_by Route.NoStrayAnswer e = absurd (cc)
+
+-- ---- the first rules
+
+low_rule : (r : Rule) → number_of r < 3 → (r ≡ Rule.ForeignPort) ⊎ (r ≡ Rule.WrongPort)
+low_rule Rule.ForeignPort low = inl refl
+low_rule Rule.WrongPort low = inr refl
+low_rule Rule.StrayAnswer low = absurd (omega arith)
+low_rule Rule.NoRequest low = absurd (omega arith)
+low_rule (Rule.Malformed fault) low = absurd (omega arith)
+low_rule Rule.WrongKind low = absurd (omega arith)
+low_rule Rule.AfterError low = absurd (omega arith)
+low_rule Rule.RequestChanged low = absurd (omega arith)
+low_rule Rule.RequestAfterStart low = absurd (omega arith)
+low_rule Rule.ReplyChanged low = absurd (omega arith)
+low_rule Rule.OackEmpty low = absurd (omega arith)
+low_rule Rule.MulticastAgreed low = absurd (omega arith)
+low_rule Rule.OptionNotRequested low = absurd (omega arith)
+low_rule Rule.OptionOutsideProfile low = absurd (omega arith)
+low_rule Rule.OptionValue low = absurd (omega arith)
+low_rule Rule.OackChanged low = absurd (omega arith)
+low_rule Rule.OackAfterStart low = absurd (omega arith)
+low_rule Rule.NotStarted low = absurd (omega arith)
+low_rule Rule.BlockZero low = absurd (omega arith)
+low_rule Rule.BeyondBlock65535 low = absurd (omega arith)
+low_rule Rule.BlockLength low = absurd (omega arith)
+low_rule Rule.WindowOverrun low = absurd (omega arith)
+low_rule Rule.BlockSkipped low = absurd (omega arith)
+low_rule Rule.GoneBack low = absurd (omega arith)
+low_rule Rule.BlockChanged low = absurd (omega arith)
+low_rule Rule.AckAhead low = absurd (omega arith)
+low_rule Rule.AckZero low = absurd (omega arith)
+
+lower_rule : (r : Rule) → number_of r < 5 → (number_of r < 3) ⊎ ((r ≡ Rule.StrayAnswer) ⊎ (r ≡ Rule.NoRequest))
+lower_rule Rule.ForeignPort low = inl (omega arith)
+lower_rule Rule.WrongPort low = inl (omega arith)
+lower_rule Rule.StrayAnswer low = inr (inl refl)
+lower_rule Rule.NoRequest low = inr (inr refl)
+lower_rule (Rule.Malformed fault) low = absurd (omega arith)
+lower_rule Rule.WrongKind low = absurd (omega arith)
+lower_rule Rule.AfterError low = absurd (omega arith)
+lower_rule Rule.RequestChanged low = absurd (omega arith)
+lower_rule Rule.RequestAfterStart low = absurd (omega arith)
+lower_rule Rule.ReplyChanged low = absurd (omega arith)
+lower_rule Rule.OackEmpty low = absurd (omega arith)
+lower_rule Rule.MulticastAgreed low = absurd (omega arith)
+lower_rule Rule.OptionNotRequested low = absurd (omega arith)
+lower_rule Rule.OptionOutsideProfile low = absurd (omega arith)
+lower_rule Rule.OptionValue low = absurd (omega arith)
+lower_rule Rule.OackChanged low = absurd (omega arith)
+lower_rule Rule.OackAfterStart low = absurd (omega arith)
+lower_rule Rule.NotStarted low = absurd (omega arith)
+lower_rule Rule.BlockZero low = absurd (omega arith)
+lower_rule Rule.BeyondBlock65535 low = absurd (omega arith)
+lower_rule Rule.BlockLength low = absurd (omega arith)
+lower_rule Rule.WindowOverrun low = absurd (omega arith)
+lower_rule Rule.BlockSkipped low = absurd (omega arith)
+lower_rule Rule.GoneBack low = absurd (omega arith)
+lower_rule Rule.BlockChanged low = absurd (omega arith)
+lower_rule Rule.AckAhead low = absurd (omega arith)
+lower_rule Rule.AckZero low = absurd (omega arith)
+
+module _ (h : Header) (earlier : List Datagram) (d : Datagram) where
+  foreign_first : route_of h earlier d ≡ Route.ForeignPort → FirstBroken h earlier d Rule.ForeignPort
+  foreign_first is = record { broken = is; first = below } where
+    below : (other : Rule) → number_of other < 1 → Broken h earlier d other → ⊥
+    below other low b = elim (low_rule other (omega arith)) [
+      | inl same ↦ let n = ap number_of same in omega arith
+      | inr same ↦ let n = ap number_of same in omega arith
+    ]
+
+  wrong_first : route_of h earlier d ≡ Route.WrongPort → FirstBroken h earlier d Rule.WrongPort
+  wrong_first is = record { broken = is; first = below } where
+    below : (other : Rule) → number_of other < 2 → Broken h earlier d other → ⊥
+    below other low b = elim (low_rule other (omega arith)) [
+      | inl same ↦ let at : route_of h earlier d ≡ Route.ForeignPort = subst (Broken h earlier d) same b in absurd (cc)
+      | inr same ↦ let n = ap number_of same in omega arith
+    ]
+
+  pub stray_first : PortBroken h earlier d PortRule.BadAnswer → FirstBroken h earlier d Rule.StrayAnswer
+  stray_first is = record { broken = is; first = below } where
+    at : (r : Route) → (r ≡ Route.NoStrayAnswer) ⊎ (r ≡ Route.StrayAnswer) → (r ≡ Route.ForeignPort → ⊥) × (r ≡ Route.WrongPort → ⊥)
+    at r (inl e) = (λ x. cc, λ x. cc)
+    at r (inr e) = (λ x. cc, λ x. cc)
+
+    one_of : (route_of h earlier d ≡ Route.NoStrayAnswer) ⊎ (route_of h earlier d ≡ Route.StrayAnswer)
+    one_of = elim is [ inl none ↦ inl none | inr bad ↦ inr bad.0 ]
+
+    below : (other : Rule) → number_of other < 3 → Broken h earlier d other → ⊥
+    below other low b = elim (low_rule other low) [
+      | inl same ↦ (at (route_of h earlier d) one_of).0 (subst (Broken h earlier d) same b)
+      | inr same ↦ (at (route_of h earlier d) one_of).1 (subst (Broken h earlier d) same b)
+    ]
+
+  -- a fault tells the rule
+  port_first_by : (r : Route) → route_of h earlier d ≡ r → (fault : PortFault) → Err fault ≡ answer_of r → (rule : Rule) → (After : Type 0) → FindsOf h earlier d After (Err (stop_by_port fault))
+  port_first_by Route.Request is fault e rule After = absurd (cc)
+  port_first_by Route.Peer is fault e rule After = absurd (cc)
+  port_first_by Route.Stray is fault e rule After = absurd (cc)
+  port_first_by Route.StrayAnswer is fault e rule After = absurd (cc)
+  port_first_by Route.ForeignPort is fault e rule After = let same : PortFault.ForeignPort ≡ fault = cc in subst (λ f. FindsOf h earlier d After (Err (stop_by_port f))) same (foreign_first is)
+  port_first_by Route.WrongPort is fault e rule After = let same : PortFault.WrongPort ≡ fault = cc in subst (λ f. FindsOf h earlier d After (Err (stop_by_port f))) same (wrong_first is)
+  port_first_by Route.NoStrayAnswer is fault e rule After = let same : PortFault.StrayAnswer ≡ fault = cc in subst (λ f. FindsOf h earlier d After (Err (stop_by_port f))) same (stray_first (inl is))
+
+  pub port_first : (fault : PortFault) (After : Type 0) → Err fault ≡ answer_of (route_of h earlier d) → FindsOf h earlier d After (Err (stop_by_port fault))
+  port_first fault After e = port_first_by (route_of h earlier d) refl fault e Rule.ForeignPort After
+
+  -- what passes by its route and is none of the transfer
+  pub strays_pass : (route : Route) → route_of h earlier d ≡ route → answer_of route ≡ Ok route → is_of_transfer route ≡ false → (route ≡ Route.StrayAnswer → PortBroken h earlier d PortRule.BadAnswer → ⊥) → Passes h earlier d
+  strays_pass route is passing off answers = off_passes h earlier d (ap is_of_transfer is ∙ off) kept where
+    none : (route ≡ Route.ForeignPort → ⊥) × (route ≡ Route.WrongPort → ⊥) × (route ≡ Route.NoStrayAnswer → ⊥)
+    none = passing_by route passing
+
+    kept : (port : PortRule) → PortBroken h earlier d port → ⊥
+    kept PortRule.Foreign b = none.0 (sym is ∙ b)
+    kept PortRule.Wrong b = none.1 (sym is ∙ b)
+    kept PortRule.BadAnswer (inl b) = none.2 (sym is ∙ b)
+    kept PortRule.BadAnswer (inr b) = answers (sym is ∙ b.0) (inr b)
+
+  main_first : is_of_transfer (route_of h earlier d) ≡ true → (other : Rule) → number_of other < 4 → Broken h earlier d other → ⊥
+  main_first on other low b = elim (lower_rule other (omega arith)) [
+    | inl lower ↦ elim (low_rule other lower) [
+      | inl same ↦ let at : route_of h earlier d ≡ Route.ForeignPort = subst (Broken h earlier d) same b in false≢true (sym (ap is_of_transfer at) ∙ on)
+      | inr same ↦ let at : route_of h earlier d ≡ Route.WrongPort = subst (Broken h earlier d) same b in false≢true (sym (ap is_of_transfer at) ∙ on)
+    ]
+    | inr (inl same) ↦ elim (subst (Broken h earlier d) same b) [
+      | inl at ↦ false≢true (sym (ap is_of_transfer at) ∙ on)
+      | inr at ↦ false≢true (sym (ap is_of_transfer at.0) ∙ on)
+    ]
+    | inr (inr same) ↦ let n = ap number_of same in omega arith
+  ]
+
+  pub no_request_first : first_of (asks h) earlier ≡ None → route_of h earlier d ≡ Route.Peer → FirstBroken h earlier d Rule.NoRequest
+  no_request_first none is = record { broken = (none, is); first = main_first (ap is_of_transfer is) }
+
+  pub malformed_first : (fault : PacketFault) → is_of_transfer (route_of h earlier d) ≡ true → FirstFault d.payload fault
+      → (first_of (asks h) earlier ≡ None → route_of h earlier d ≡ Route.Peer → ⊥) → FirstBroken h earlier d (Rule.Malformed fault)
+  malformed_first fault on is begun = record { broken = (on, is); first = below } where
+    below : (other : Rule) → number_of other < 5 → Broken h earlier d other → ⊥
+    below other low b = elim (lower_rule other low) [
+      | inl lower ↦ main_first on other (omega arith) b
+      | inr (inl same) ↦ let n = ap number_of same in main_first on other (omega arith) b
+      | inr (inr same) ↦ let is = subst (Broken h earlier d) same b in begun is.0 is.1
+    ]
+
+-- ---- what is kept
+
+-- before the first request, a datagram that passes is one of the transfer
+before_off : (b c : Bool) → is_of_transfer (if b then (if c then Route.Request else Route.WrongPort) else Route.Peer) ≡ false → (if b then (if c then Route.Request else Route.WrongPort) else Route.Peer) ≡ Route.WrongPort
+before_off true true e = absurd (false≢true (sym e))
+before_off true false e = refl
+before_off false c e = absurd (false≢true (sym e))
+
+pub off_kept : (h : Header) (earlier : List Datagram) (d : Datagram) (t : Option Transfer) → IsKept h earlier t → is_of_transfer (route_of h earlier d) ≡ false → (route_of h earlier d ≡ Route.WrongPort → ⊥)
+    → IsKept h (d ∷ earlier) t
+off_kept h earlier d None none off right =
+    let start : first_of (asks h) earlier ≡ None = ap (first_of (asks h)) none in
+    let is = before_is h earlier d start in
+    absurd (right (is ∙ before_off (is_from_client h.named d && begins_request d) (port_of_server h.named d == h.service) (ap is_of_transfer (sym is) ∙ off)))
+off_kept h earlier d (Some t) (first, after) off right = (
+  (first.0, first_stays (asks h) d first.0 earlier first.1, first.2),
+  subst (IsTransferAfter t h) (sym (transfer_same h earlier d off)) after,
+)
+
+pub main_kept : (h : Header) (earlier : List Datagram) (d : Datagram) (t : Transfer) → is_of_transfer (route_of h earlier d) ≡ true → FirstAsked h earlier t.asked
+    → IsTransferAfter t h (d ∷ transfer_of h earlier) → IsKept h (d ∷ earlier) (Some t)
+main_kept h earlier d t on first after = (
+  (first.0, first_stays (asks h) d first.0 earlier first.1, first.2),
+  subst (IsTransferAfter t h) (sym (transfer_kept h earlier d on)) after,
+)
+
+-- the first request
+pub first_kept : (h : Header) (earlier : List Datagram) (d : Datagram) (t : Transfer) → earlier ≡ [] → route_of h earlier d ≡ Route.Request → Spells d.payload (Message.Request t.asked)
+    → IsTransferAfter t h (d ∷ []) → IsKept h (d ∷ earlier) (Some t)
+first_kept h earlier d t none is spells after =
+    let start : first_of (asks h) earlier ≡ None = ap (first_of (asks h)) none in
+    let asked = asks_is h earlier d start is in (
+      (d, ap (λ o. or_this o (asks h d) d) start ∙ ap (λ b. or_this None b d) asked, spells),
+      subst (IsTransferAfter t h) (sym (transfer_kept h earlier d (ap is_of_transfer is) ∙ ap (λ ds. d ∷ transfer_of h ds) none)) after,
+    )
+
+-- nothing was asked for exactly where nothing is kept
+pub kept_first : (h : Header) (earlier : List Datagram) (t : Transfer) → IsKept h earlier (Some t) → first_of (asks h) earlier ≡ None → ⊥
+kept_first h earlier t (first, after) none = cc
+
+-- ---- a message
+
+found_by : (h : Header) (earlier : List Datagram) (d : Datagram) (m : Message) (t new : Transfer) → is_of_transfer (route_of h earlier d) ≡ true → Spells d.payload m → IsKept h earlier (Some t)
+    → new.asked ≡ t.asked → (r : Result (Unit {0}) Stop) → Finds (MessageBreaks h t.asked (transfer_of h earlier) d.dir m) (IsTransferAfter new h (d ∷ transfer_of h earlier)) r
+    → FindsOf h earlier d (IsKept h (d ∷ earlier) (Some new)) r
+found_by h earlier d m t new on spells (first, after) same (Ok _) (none, next) = (
+  main_passes h earlier d m on spells (lawful_by h earlier d m t.asked on spells first none),
+  main_kept h earlier d new on (subst (FirstAsked h earlier) (sym same) first) next,
+)
+found_by h earlier d m t new on spells (first, after) same (Err (Stop.Broken rule)) found = first_by h earlier d m t.asked on spells first rule found.0 found.1
+found_by h earlier d m t new on spells (first, after) same (Err Stop.Memory) none = main_passes h earlier d m on spells (lawful_by h earlier d m t.asked on spells first none)
+
+pub message_found : (h : Header) (earlier : List Datagram) (d : Datagram) (dir : Dir) (m : Message) (t new : Transfer) → d.dir ≡ dir → is_of_transfer (route_of h earlier d) ≡ true → Spells d.payload m → IsKept h earlier (Some t)
+    → new.asked ≡ t.asked → (r : Result (Unit {0}) Stop) → Finds (MessageBreaks h t.asked (transfer_of h earlier) dir m) (IsTransferAfter new h (d ∷ transfer_of h earlier)) r
+    → FindsOf h earlier d (IsKept h (d ∷ earlier) (Some new)) r
+message_found h earlier d dir m t new way on spells kept same r found =
+    found_by h earlier d m t new on spells kept same r
+    (subst (λ (w : Dir). Finds (MessageBreaks h t.asked (transfer_of h earlier) w m) (IsTransferAfter new h (d ∷ transfer_of h earlier)) r) (sym way) found)
+
+pub off_route : (r : Route) → (r ≡ Route.Request → ⊥) → (r ≡ Route.Peer → ⊥) → is_of_transfer r ≡ false
+off_route Route.Request a b = absurd (a refl)
+off_route Route.Peer a b = absurd (b refl)
+off_route Route.Stray a b = refl
+off_route Route.StrayAnswer a b = refl
+off_route Route.ForeignPort a b = refl
+off_route Route.WrongPort a b = refl
+off_route Route.NoStrayAnswer a b = refl
+
+main_route : (r : Route) → is_of_transfer r ≡ true → (r ≡ Route.Peer → ⊥) → r ≡ Route.Request
+main_route Route.Request on other = refl
+main_route Route.Peer on other = absurd (other refl)
+main_route Route.Stray on other = absurd (false≢true on)
+main_route Route.StrayAnswer on other = absurd (false≢true on)
+main_route Route.ForeignPort on other = absurd (false≢true on)
+main_route Route.WrongPort on other = absurd (false≢true on)
+main_route Route.NoStrayAnswer on other = absurd (false≢true on)
+
+module _ (h : Header) (earlier : List Datagram) (d : Datagram) (m : Message) (none : earlier ≡ []) (on : is_of_transfer (route_of h earlier d) ≡ true) (other : route_of h earlier d ≡ Route.Peer → ⊥)
+    (spells : Spells d.payload m) where
+  nothing : (ds : List Datagram) → ds ≡ [] → (asked : RequestParts) → FirstAsked h ds asked → ⊥
+  nothing ds e asked (x, first, s) = let at : first_of (asks h) ds ≡ None = ap (first_of (asks h)) e in absurd (cc)
+
+  pub first_passes : OneEnded h earlier → Passes h earlier d
+  first_passes one = main_passes h earlier d m on spells (first_lawful h earlier d m on spells one (nothing earlier none) (λ _ peer. other peer))
+
+  pub first_is_request : (asked : RequestParts) × (m ≡ Message.Request asked)
+  first_is_request = first_spells h earlier d m (ap (first_of (asks h)) none) (main_route (route_of h earlier d) on other) spells
+
+pub request_found : (h : Header) (earlier : List Datagram) (d : Datagram) (t : Transfer) → OneEnded h earlier → earlier ≡ [] → is_of_transfer (route_of h earlier d) ≡ true → (route_of h earlier d ≡ Route.Peer → ⊥)
+    → Spells d.payload (Message.Request t.asked) → IsTransferAfter t h (d ∷ []) → Passes h earlier d × IsKept h (d ∷ earlier) (Some t)
+request_found h earlier d t one none on other spells after = (
+  first_passes h earlier d (Message.Request t.asked) none on other spells one,
+  first_kept h earlier d t none (main_route (route_of h earlier d) on other) spells after,
+)
+
+-- ---- a datagram, by its ports
+
+-- what its ports say of it, and that they are kept where it passes
+pub record Routed (h : Header) (earlier : List Datagram) (d : Datagram) (after : KnownIds) (route : Route) : Type 0 where
+  pub is : route_of h earlier d ≡ route
+  pub passing : answer_of route ≡ Ok route
+  pub ports : Passes h earlier d → StandsFor after h (d ∷ earlier)
+
+pub routed_by : (h : Header) (earlier : List Datagram) (d : Datagram) (after : KnownIds) (result : Result Route PortFault) (route : Route) → result ≡ Ok route
+    → (result ≢ Err PortFault.Memory → result ≡ answer_of (route_of h earlier d)) → IfOk result (λ r. (HasNoRequest h earlier r → ⊥) → StandsFor after h (d ∷ earlier)) → IfOk result (λ r. answer_of r ≡ Ok r)
+    → Routed h earlier d after route
+routed_by h earlier d after result route ok answer passes passing =
+    let is = ok_route (route_of h earlier d) route (sym ok ∙ answer (λ e. cc)) in
+    record {
+      is = is;
+      passing = subst (λ (r : Result Route PortFault). IfOk r (λ x. answer_of x ≡ Ok x)) ok passing;
+      ports = λ lawful. subst (λ (r : Result Route PortFault). IfOk r (λ x. (HasNoRequest h earlier x → ⊥) → StandsFor after h (d ∷ earlier))) ok passes
+          (λ none. lawful.lawful Rule.NoRequest (none.0, is ∙ none.1));
+    }
+
+-- what is found of a message is found of the judge
+pub judged_found : (h : Header) (earlier : List Datagram) (d : Datagram) (new : Judge) → new.header ≡ h → (Passes h earlier d → StandsFor new.ports h (d ∷ earlier)) → (r : Result (Unit {0}) Stop)
+    → FindsOf h earlier d (IsKept h (d ∷ earlier) new.transfer) r → FindsOf h earlier d (HasKept new h (d ∷ earlier)) r
+judged_found h earlier d new header ports (Ok _) (passes, kept) = (passes, record { header = header; ports = ports passes; kept = kept })
+judged_found h earlier d new header ports (Err (Stop.Broken rule)) found = found
+judged_found h earlier d new header ports (Err Stop.Memory) found = found
+
+pub stray_found : (h : Header) (earlier : List Datagram) (d : Datagram) (new : Judge) (route : Route) → Routed h earlier d new.ports route → is_of_transfer route ≡ false → (route ≡ Route.StrayAnswer → SaysUnknownId d)
+    → new.header ≡ h → IsKept h earlier new.transfer → Passes h earlier d × HasKept new h (d ∷ earlier)
+stray_found h earlier d new route routed off answers header kept =
+    let passes = strays_pass h earlier d route routed.is routed.passing off (λ stray bad. elim bad [
+      | inl none ↦ (passing_by route routed.passing).2 (sym routed.is ∙ none)
+      | inr never ↦ never.1 (answers stray)
+    ]) in (
+      passes,
+      record {
+        header = header;
+        ports = routed.ports passes;
+        kept = off_kept h earlier d new.transfer kept (ap is_of_transfer routed.is ∙ off) (passes.lawful Rule.WrongPort);
+      },
+    )
+
+-- what does not pass by its ports; or a stray, for which memory is wanting
+pub fault_found : (h : Header) (earlier : List Datagram) (d : Datagram) (After : Type 0) (result : Result Route PortFault) (fault : PortFault) → result ≡ Err fault
+    → (result ≢ Err PortFault.Memory → result ≡ answer_of (route_of h earlier d)) → (result ≡ Err PortFault.Memory → IsNewStray h earlier d) → FindsOf h earlier d After (Err (stop_by_port fault))
+fault_found h earlier d After result PortFault.ForeignPort is answer memory = port_first h earlier d PortFault.ForeignPort After (sym is ∙ answer (λ e. let same = sym is ∙ e in cc))
+fault_found h earlier d After result PortFault.WrongPort is answer memory = port_first h earlier d PortFault.WrongPort After (sym is ∙ answer (λ e. let same = sym is ∙ e in cc))
+fault_found h earlier d After result PortFault.StrayAnswer is answer memory = port_first h earlier d PortFault.StrayAnswer After (sym is ∙ answer (λ e. let same = sym is ∙ e in cc))
+fault_found h earlier d After result PortFault.Memory is answer memory = strays_pass h earlier d Route.Stray (memory is).0 refl refl (λ stray bad. absurd (cc))

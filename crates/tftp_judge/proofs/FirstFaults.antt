@@ -1,0 +1,126 @@
+-- What is said of a text by its first fault.
+use Rattle.std.proofs.Common.{◌≡◌, ◌≢◌, ℕ, ◌<◌, ◌⊎◌, inl, inr, List, [], ◌∷◌, ◌++◌, length, All, Result, Ok, Err, refl, sym, ap, ◌∙◌, subst, arith, append_assoc, append-nil}
+use Rattle.std.proofs.lemmas.List.{map-append}
+use Rattle.tftp_capture.specs.CaptureText.{Begins, BeginsWith, Numbered}
+use Rattle.tftp_capture.specs.History.{FaultTells, MemoryTells}
+use Rattle.tftp_capture.specs.declared.fault.CaptureFault.{CaptureFault}
+use Rattle.tftp_capture.specs.declared.fault.CaptureFault.TheVariants.{Text, Read, Memory}
+use Rattle.tftp_capture.specs.declared.fault.TextFault.TheVariants.{BadHeader, BadEnd, BadService, LineTooLong, BadLine, BadPort, BadHost, BadHex, PayloadTooLong, TotalWrong, Truncated, TrailingText, TextTooLong}
+use Rattle.tftp_capture.proofs.Beginnings.{agree, fault_after, unfinished_has}
+use Rattle.tftp_capture.proofs.Staying.{stays}
+use Rattle.tftp_ends.specs.CaptureText.{Header}
+use Rattle.tftp_ends.specs.Meaning.{Meaning}
+use Rattle.tftp_law.specs.Law.{IsLawful}
+use Rattle.tftp_law.proofs.Beginnings.{beginning_is_lawful, empty_is_lawful}
+use Rattle.tftp_judge.specs.TextVerdict.{EndsText, IsFaultOf, SaysReadFailed, unnumbered}
+use Rattle.tftp_judge.specs.declared.refusal.Refusal.TheVariants as refusal
+use Rattle.tftp_judge.specs.declared.verdict.Verdict.{Verdict}
+use Rattle.tftp_judge.specs.declared.verdict.Verdict.TheVariants.{Capture, Refused}
+use Rattle.tftp_judge.proofs.WantOfMemory.{before_want}
+
+-- ---- what is said stays, whatever follows
+
+-- what a text begins with, a longer one begins with
+pub begins_longer : (text more : List ℕ) (header : Header) (datagrams : List Numbered) → Begins text header datagrams → Begins (text ++ more) header datagrams
+begins_longer text more header datagrams b = record {
+  read = b.read;
+  more = b.more ++ more;
+  lines = b.lines;
+  are = ap (λ l. l ++ more) b.are ∙ append_assoc b.read b.more more;
+  stands = b.stands;
+}
+
+-- what is said of the bytes before the reader has seen the text's end
+abbrev pub FaultStays : CaptureFault → Type 0
+FaultStays (Text line fault) = fault ≢ Truncated
+FaultStays (Read line) = ⊥
+FaultStays (Memory line) = Unit {0}
+
+abbrev pub MayGoOn : Result Meaning Verdict → Type 0
+MayGoOn (Ok m) = ⊥
+MayGoOn (Err (Refused (refusal.Unlawful index rule))) = Unit {0}
+MayGoOn (Err (Refused (refusal.Aborted by code))) = ⊥
+MayGoOn (Err (Refused (refusal.Incomplete count))) = ⊥
+MayGoOn (Err (Refused refusal.NormalTooLong)) = ⊥
+MayGoOn (Err (Refused refusal.Memory)) = Unit {0}
+MayGoOn (Err (Capture fault)) = FaultStays fault
+
+fault_kinds : (fault : CaptureFault) → FaultStays fault ⊎ (EndsText (Err (Capture fault)) ⊎ SaysReadFailed (Err (Capture fault)))
+fault_kinds (Read line) = inr (inr tt)
+fault_kinds (Memory line) = inl tt
+fault_kinds (Text line BadHeader) = inl (λ e. cc)
+fault_kinds (Text line BadEnd) = inl (λ e. cc)
+fault_kinds (Text line BadService) = inl (λ e. cc)
+fault_kinds (Text line LineTooLong) = inl (λ e. cc)
+fault_kinds (Text line BadLine) = inl (λ e. cc)
+fault_kinds (Text line BadPort) = inl (λ e. cc)
+fault_kinds (Text line BadHost) = inl (λ e. cc)
+fault_kinds (Text line BadHex) = inl (λ e. cc)
+fault_kinds (Text line PayloadTooLong) = inl (λ e. cc)
+fault_kinds (Text line TotalWrong) = inl (λ e. cc)
+fault_kinds (Text line Truncated) = inr (inl refl)
+fault_kinds (Text line TrailingText) = inl (λ e. cc)
+fault_kinds (Text line TextTooLong) = inl (λ e. cc)
+
+-- each answer may go on, or ends the text, or is that a read failed
+pub kinds : (r : Result Meaning Verdict) → MayGoOn r ⊎ (EndsText r ⊎ SaysReadFailed r)
+kinds (Ok m) = inr (inl tt)
+kinds (Err (Refused (refusal.Unlawful index rule))) = inl tt
+kinds (Err (Refused (refusal.Aborted by code))) = inr (inl tt)
+kinds (Err (Refused (refusal.Incomplete count))) = inr (inl tt)
+kinds (Err (Refused refusal.NormalTooLong)) = inr (inl tt)
+kinds (Err (Refused refusal.Memory)) = inl tt
+kinds (Err (Capture fault)) = fault_kinds fault
+
+-- ---- before a fault there are lawful datagrams only
+
+abbrev pub LawfulIn : List ℕ → List Numbered → Type 0
+LawfulIn text ds = (h : Header) (es : List Numbered) → Begins text h es → BeginsWith ds es → IsLawful h (unnumbered es)
+
+-- the datagrams that come first of lawful ones are lawful
+front_lawful : (h : Header) (ds es : List Numbered) → IsLawful h (unnumbered ds) → BeginsWith ds es → IsLawful h (unnumbered es)
+front_lawful h ds es lawful (rest, is) =
+    beginning_is_lawful h (unnumbered es) (unnumbered rest) (subst (IsLawful h) (ap unnumbered is ∙ map-append (λ (n : Numbered). n.1) es rest) lawful)
+
+-- the datagrams before the fault are known, and lawful
+pub lawful_in : (text : List ℕ) (h : Header) (ds : List Numbered) → Begins text h ds → IsLawful h (unnumbered ds) → LawfulIn text ds
+lawful_in text h ds begins lawful other es also front =
+    subst (λ x. IsLawful x (unnumbered es)) (agree text h other ds es begins also).0 (front_lawful h ds es lawful front)
+
+none_front : (es rest : List Numbered) → [] ≡ es ++ rest → es ≡ []
+none_front [] rest e = refl
+none_front (n ∷ es) rest e = absurd (omega (arith, ap length e))
+
+-- there are no datagrams before the fault
+pub none_in : (text : List ℕ) → LawfulIn text []
+none_in text h es begins (rest, is) = subst (λ x. IsLawful h (unnumbered x)) (sym (none_front es rest is)) (empty_is_lawful h)
+
+-- where memory was wanting, the datagrams on the lines before are these
+abbrev BeforeWant : CaptureFault → List ℕ → List Numbered → Type 0
+BeforeWant (Text line fault) text ds = Unit {0}
+BeforeWant (Read line) text ds = Unit {0}
+BeforeWant (Memory line) text ds = (header : Header) (es : List Numbered) → Begins text header es → All (λ d. d.0 < line) es → BeginsWith ds es
+
+before_fault : (text more ahead : List ℕ) (ds : List Numbered) (fault : CaptureFault) → MemoryTells fault text ahead ds → BeforeWant fault (text ++ more) ds
+before_fault text more ahead ds (Text line fault) tells = tt
+before_fault text more ahead ds (Read line) tells = tt
+before_fault text more ahead ds (Memory line) tells = before_want text more ahead ds line tells
+
+by_fault : (text : List ℕ) (ds : List Numbered) (fault : CaptureFault) → FaultTells fault text ds → BeforeWant fault text ds → LawfulIn text ds → IsFaultOf text fault
+by_fault text ds (Text line fault) tells want lawful = ((ds, tells), λ h es begins. lawful h es begins (fault_after text h ds es line fault tells begins))
+by_fault text ds (Read line) tells want lawful = ((ds, tells.0, tells.1), λ h es begins. lawful h es begins (unfinished_has text h ds es line tells.0 tells.1 begins))
+by_fault text ds (Memory line) tells want lawful = λ h es begins before. lawful h es begins (want h es begins before)
+
+stays_on : (text more : List ℕ) (ds : List Numbered) (fault : CaptureFault) → FaultStays fault → FaultTells fault text ds → FaultTells fault (text ++ more) ds
+stays_on text more ds (Text line fault) other tells = stays text more ds line fault other tells
+stays_on text more ds (Read line) other tells = absurd other
+stays_on text more ds (Memory line) other tells = tt
+
+module _ (text ahead : List ℕ) (ds : List Numbered) (fault : CaptureFault) (tells : FaultTells fault text ds) (memory : MemoryTells fault text ahead ds) where
+  -- of the bytes up to the fault
+  pub fault_here : LawfulIn text ds → IsFaultOf text fault
+  fault_here lawful = by_fault text ds fault tells (subst (λ t. BeforeWant fault t ds) (append-nil text) (before_fault text [] ahead ds fault memory)) lawful
+
+  -- and of those that follow
+  pub fault_longer : (more : List ℕ) → FaultStays fault → LawfulIn (text ++ more) ds → IsFaultOf (text ++ more) fault
+  fault_longer more may lawful = by_fault (text ++ more) ds fault (stays_on text more ds fault may tells) (before_fault text more ahead ds fault memory) lawful

@@ -1,0 +1,39 @@
+use Rattle.std.proofs.Common.{◌≡◌, true, List, [], Option, Some, None, rules, sym, subst, ap, ◌∙◌}
+use Rattle.std.proofs.lemmas.Bool.{false≢true}
+use Rattle.tftp_packet.specs.Message.{Message, RequestParts}
+use Rattle.tftp_packet.specs.Meaning.{meaning}
+use Rattle.tftp_packet.specs.Spelling.{Spells}
+use Rattle.tftp_packet.specs.Written.{parts}
+use Rattle.tftp_packet.specs.declared.packet.Packet.{Packet}
+use Rattle.tftp_ends.specs.CaptureText.{Datagram, Header}
+use Rattle.tftp_ends.specs.Ports.{route_of, is_of_transfer, transfer_of}
+use Rattle.tftp_ends.specs.declared.route.Route.{Route}
+use Rattle.tftp_judge.specs.Kept.{Judge, Transfer, IsKept}
+use Rattle.tftp_judge.proofs.Accepting.{message_found, request_found}
+use Rattle.tftp_judge.proofs.judging.Judge.pass_message.Goals as goal
+use Rattle.tftp_judge.proofs.judging.Judge.pass_message.Goals.{else-is_none-via-then-is_none+else-eq, else-is_none-via-else-is_none}
+
+pub returns-in-Some-default-clause-finds : goal.returns-in-Some-default-clause-finds
+returns-in-Some-default-clause-finds g c = λ h earlier d at one kept is on dir payload.
+    let routed : is_of_transfer (route_of h earlier d) ≡ true = ap is_of_transfer (sym is) ∙ on in
+    let spells : Spells d.payload (meaning c.in-Ok.packet) = subst (λ (bytes : List _). Spells bytes (meaning c.in-Ok.packet)) (sym payload) c.in-Ok.ensures.found in
+    let there : c.args.self.now.transfer ≡ Some c.in-Some-default.transfer = cc in
+    let kept_now : IsKept h earlier (Some c.in-Some-default.transfer) = subst (λ (t : Option Transfer). IsKept h earlier t) there kept in
+    message_found h earlier d c.args.dir (meaning c.in-Ok.packet) c.in-Some-default.transfer c.pass.new.self dir routed spells kept_now c.pass.ensures.asked c.pass.result
+    (c.pass.ensures.finds h (transfer_of h earlier) d kept_now.1 (dir, spells))
+
+pub returns-in_ok-asked-in-None-Request-clause-finds : goal.returns-in_ok-asked-in-None-Request-clause-finds
+returns-in_ok-asked-in-None-Request-clause-finds g c = λ h earlier d at one kept is on dir payload.
+    let routed : is_of_transfer (route_of h earlier d) ≡ true = ap is_of_transfer (sym is) ∙ on in
+    let there : c.args.self.now.transfer ≡ None = cc in
+    let none : earlier ≡ [] = subst (λ (t : Option Transfer). IsKept h earlier t) there kept in
+    let asked : parts c.in-None-Request.asked ≡ c.in_ok-asked-in-None-Request.asked = search rules in
+    let spells : Spells d.payload (Message.Request c.in_ok-asked-in-None-Request.asked) =
+    subst (λ (r : RequestParts). Spells d.payload (Message.Request r)) asked
+    (subst (λ (p : Packet). Spells d.payload (meaning p)) c.in-None-Request.is-1 (subst (λ (bytes : List _). Spells bytes (meaning c.in-Ok.packet)) (sym payload) c.in-Ok.ensures.found)) in
+    let other : route_of h earlier d ≡ Route.Peer → ⊥ = λ peer. elim c.else-is_none.branch [
+      | else-is_none-via-then-is_none+else-eq w ↦ let same : c.args.route ≡ Route.Peer = is ∙ peer in false≢true (rw same at w.if-eq.ensures)
+      | else-is_none-via-else-is_none w ↦ search rules
+    ] in
+    request_found h earlier d c.of.result one none routed other (subst (λ (r : RequestParts). Spells d.payload (Message.Request r)) (sym c.of.ensures.asked) spells)
+    (c.of.ensures.after h d (ap (λ (x : Header). x.named) (sym at) ∙ sym (ap (λ (j : Judge). j.header.named) c.self.view_is)) spells)

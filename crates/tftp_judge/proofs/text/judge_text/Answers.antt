@@ -1,0 +1,176 @@
+use Rattle.std.proofs.Common.{◌≡◌, ◌⊎◌, Bool, false, List, [], Ok, Some, None, Err, ap, ◌∙◌, reverse, subst, inl, inr, arith}
+use Rattle.std.specs.Io.KnownBytes.{prepend_known}
+use Rattle.std.proofs.lemmas.Result.{err_from_is_err_and}
+use Rattle.tftp_capture.specs.History.{IsReadFault, IsReadStanding}
+use Rattle.tftp_judge.specs.Kept.{IsJudgeAfter}
+use Rattle.tftp_judge.specs.TextVerdict.{unnumbered}
+use Rattle.tftp_judge.specs.declared.verdict.Verdict.TheVariants.{Capture}
+use Rattle.tftp_judge.proofs.Follows.{Follows, follows_on, found_fault, found_meaning, found_refused, found_unfinished}
+use Rattle.tftp_judge.proofs.TextFound.{Found, found_ended, found_judged, found_no_header, found_tally, found_whole}
+use Rattle.tftp_judge.proofs.text.judge_text.Given.{Over}
+use Rattle.tftp_judge.proofs.text.judge_text.Goals as goal
+
+still_clean : (new old : Bool) → ⊥ ⊎ (new ≡ old) → old ≡ false → new ≡ false
+still_clean new old (inl x) e = absurd x
+still_clean new old (inr same) e = same ∙ e
+
+clean_or : (Reads : Type 0) (new old : Bool) → Reads ⊎ (new ≡ old) → old ≡ false → Reads ⊎ (new ≡ false)
+clean_or Reads new old (inl reads) e = inl reads
+clean_or Reads new old (inr same) e = inr (same ∙ e)
+
+-- ---- the header is not read
+
+no_header : (g : Over) (c : goal.After-from_residual g) → Found (g.R.Read.remaining c.args.reader.now.0) (g.R.Read.remaining c.begin.new.reader.0) c.begin.new.reader.1 c.from_residual.result
+no_header g c =
+    let p = err_from_is_err_and c.from_residual.result c.from_residual.ensures.1 in
+    let e = c.in_err-capture.ensures in
+    rw (p.1, p.2)
+    (found_no_header (g.R.Read.remaining c.args.reader.now.0) (g.R.Read.remaining c.begin.new.reader.0) c.begin.new.reader.1 c.in_err-capture.field-0.0 e.err e.end e.read e.tally)
+
+pub returns-in_err-capture-clause-judged : goal.returns-in_err-capture-clause-judged
+returns-in_err-capture-clause-judged g c = found_judged _ _ _ _ (no_header g c)
+
+pub returns-in_err-capture-clause-whole : goal.returns-in_err-capture-clause-whole
+returns-in_err-capture-clause-whole g c = found_whole _ _ _ _ (no_header g c)
+
+-- ---- the loop
+
+pub loop-judge-init : goal.loop-judge-init
+loop-judge-init g c =
+    let e = c.in_ok-capture.ensures in
+    let begun = e.ok in
+    record {
+      goes = e.open;
+      clean = e.clean;
+      lines = omega (arith, c.new-judge.ensures.fed, e.line);
+      follows = record {
+        taken = begun.0;
+        datagrams = [];
+        consumed = begun.1;
+        goes_on = begun.2;
+        accepted = subst (λ h. IsJudgeAfter c.new-judge.result h []) c.header.ensures c.new-judge.ensures;
+      };
+    }
+
+pub next-requires : goal.next-requires
+next-requires g c = record { told = λ reads. absurd (subst IsReadStanding c.loop-judge.invariant.goes reads) }
+
+-- the reader has stopped
+stopped : (g : Over) (c : goal.After-drop-capture-inside g) → Found (g.R.Read.remaining c.args.reader.now.0) (g.R.Read.remaining c.next.new.reader.0) c.next.new.reader.1 c.from_residual-in_err-datagram.result
+stopped g c =
+    let p = err_from_is_err_and c.from_residual-in_err-datagram.result c.from_residual-in_err-datagram.ensures.1 in
+    let e = c.in_err-datagram.ensures in
+    let fault = c.in_err-datagram.field-0.0 in
+    let i = c.loop-judge.invariant in
+    rw (p.1, p.2)
+    (found_fault (g.R.Read.remaining c.args.reader.now.0) (prepend_known c.loop-judge.capture.lines.ahead (g.R.Read.remaining c.loop-judge.reader.0)) (g.R.Read.remaining c.next.new.reader.0) c.loop-judge.capture c.next.new.self
+    c.loop-judge.judge i.goes i.follows fault c.next.new.reader.1 e.continues e.standing (e.cut i.goes) (e.drained i.goes) e.read
+    (clean_or (IsReadFault fault) c.next.new.reader.1 c.loop-judge.reader.1 e.tally i.clean))
+
+pub returns-in_err-datagram-clause-judged : goal.returns-in_err-datagram-clause-judged
+returns-in_err-datagram-clause-judged g c = found_judged _ _ _ _ (stopped g c)
+
+pub returns-in_err-datagram-clause-ended : goal.returns-in_err-datagram-clause-ended
+returns-in_err-datagram-clause-ended g c = found_ended _ _ _ _ (stopped g c)
+
+pub returns-in_err-datagram-clause-tally : goal.returns-in_err-datagram-clause-tally
+returns-in_err-datagram-clause-tally g c = found_tally _ _ _ _ (stopped g c)
+
+pub returns-in_err-datagram-clause-whole : goal.returns-in_err-datagram-clause-whole
+returns-in_err-datagram-clause-whole g c = found_whole _ _ _ _ (stopped g c)
+
+-- ---- a datagram was read
+
+pub feed-requires : goal.feed-requires
+feed-requires g c =
+    let rises = rw c.in-Some.is at c.in_ok-datagram.ensures.rises in
+    record { few = omega (arith, c.loop-judge.invariant.lines, rises, c.in_ok-datagram.ensures.line) }
+
+-- the judge has refused it
+refused : (g : Over) (c : goal.After-drop-capture-inside-in_err-feed g) → Found (g.R.Read.remaining c.args.reader.now.0) (g.R.Read.remaining c.next.new.reader.0) c.next.new.reader.1 c.from_residual-in_err-feed.result
+refused g c =
+    let p = err_from_is_err_and c.from_residual-in_err-feed.result c.from_residual-in_err-feed.ensures.1 in
+    let e = c.in_ok-datagram.ensures in
+    let i = c.loop-judge.invariant in
+    rw (p.1, p.2)
+    (found_refused (g.R.Read.remaining c.args.reader.now.0) (prepend_known c.loop-judge.capture.lines.ahead (g.R.Read.remaining c.loop-judge.reader.0)) (g.R.Read.remaining c.next.new.reader.0) c.loop-judge.capture c.next.new.self
+    c.loop-judge.judge i.goes i.follows c.in-Some.datagram (rw c.in-Some.is at e.continues) (rw c.in-Some.is at e.standing) e.header c.in_err-feed.field-0.0 c.next.new.reader.1
+    (still_clean c.next.new.reader.1 c.loop-judge.reader.1 e.tally i.clean) (c.in_err-feed.ensures.refuses c.loop-judge.capture.header (reverse (unnumbered i.follows.datagrams)) i.follows.accepted))
+
+pub returns-in_err-feed-clause-judged : goal.returns-in_err-feed-clause-judged
+returns-in_err-feed-clause-judged g c = found_judged _ _ _ _ (refused g c)
+
+pub returns-in_err-feed-clause-ended : goal.returns-in_err-feed-clause-ended
+returns-in_err-feed-clause-ended g c = found_ended _ _ _ _ (refused g c)
+
+pub returns-in_err-feed-clause-tally : goal.returns-in_err-feed-clause-tally
+returns-in_err-feed-clause-tally g c = found_tally _ _ _ _ (refused g c)
+
+pub returns-in_err-feed-clause-whole : goal.returns-in_err-feed-clause-whole
+returns-in_err-feed-clause-whole g c = found_whole _ _ _ _ (refused g c)
+
+pub loop-judge-smaller : goal.loop-judge-smaller
+loop-judge-smaller g c =
+    let rises = rw c.in-Some.is at c.in_ok-datagram.ensures.rises in
+    omega (arith, rises, c.in_ok-datagram.ensures.line)
+
+pub loop-judge-preserved : goal.loop-judge-preserved
+loop-judge-preserved g c =
+    let e = c.in_ok-datagram.ensures in
+    let i = c.loop-judge.invariant in
+    let rises = rw c.in-Some.is at e.rises in
+    let ready = rw c.in-Some.is at e.standing in
+    record {
+      goes = ready;
+      clean = still_clean c.next.new.reader.1 c.loop-judge.reader.1 e.tally i.clean;
+      lines = omega (arith, i.lines, rises, c.in_ok-feed.ensures.counts);
+      follows = follows_on (g.R.Read.remaining c.args.reader.now.0) (prepend_known c.loop-judge.capture.lines.ahead (g.R.Read.remaining c.loop-judge.reader.0)) (g.R.Read.remaining c.next.new.reader.0) c.loop-judge.capture c.next.new.self
+          c.loop-judge.judge i.goes i.follows c.in-Some.datagram (rw c.in-Some.is at e.continues) ready e.header c.feed.new.self
+          (c.in_ok-feed.ensures.accepts c.loop-judge.capture.header (reverse (unnumbered i.follows.datagrams)) i.follows.accepted).1;
+    }
+
+-- ---- the text has ended
+
+unfinished : (g : Over) (c : goal.After-drop-capture-inside-in_err-finish g) → Found (g.R.Read.remaining c.args.reader.now.0) (g.R.Read.remaining c.next.new.reader.0) c.next.new.reader.1 c.from_residual-in_err-finish.result
+unfinished g c =
+    let p = err_from_is_err_and c.from_residual-in_err-finish.result c.from_residual-in_err-finish.ensures.1 in
+    let e = c.in_ok-datagram.ensures in
+    let i = c.loop-judge.invariant in
+    let none = c.in_default.is in
+    rw (p.1, p.2)
+    (found_unfinished (g.R.Read.remaining c.args.reader.now.0) (prepend_known c.loop-judge.capture.lines.ahead (g.R.Read.remaining c.loop-judge.reader.0)) (g.R.Read.remaining c.next.new.reader.0) c.loop-judge.capture c.next.new.self
+    c.loop-judge.judge i.goes i.follows (rw none at e.continues) (rw none at e.standing) e.header (e.end i.goes (ap Ok none)) c.next.new.reader.1
+    (still_clean c.next.new.reader.1 c.loop-judge.reader.1 e.tally i.clean) c.in_err-finish.field-0.0 c.in_err-finish.ensures.verdict)
+
+pub returns-in_err-finish-clause-judged : goal.returns-in_err-finish-clause-judged
+returns-in_err-finish-clause-judged g c = found_judged _ _ _ _ (unfinished g c)
+
+pub returns-in_err-finish-clause-ended : goal.returns-in_err-finish-clause-ended
+returns-in_err-finish-clause-ended g c = found_ended _ _ _ _ (unfinished g c)
+
+pub returns-in_err-finish-clause-tally : goal.returns-in_err-finish-clause-tally
+returns-in_err-finish-clause-tally g c = found_tally _ _ _ _ (unfinished g c)
+
+pub returns-in_err-finish-clause-whole : goal.returns-in_err-finish-clause-whole
+returns-in_err-finish-clause-whole g c = found_whole _ _ _ _ (unfinished g c)
+
+meant : (g : Over) (c : goal.After-drop-capture-inside-2 g) → Found (g.R.Read.remaining c.args.reader.now.0) (g.R.Read.remaining c.next.new.reader.0) c.next.new.reader.1 (Ok c.in_ok-finish.field-0)
+meant g c =
+    let e = c.in_ok-datagram.ensures in
+    let i = c.loop-judge.invariant in
+    let none = c.in_default.is in
+    found_meaning (g.R.Read.remaining c.args.reader.now.0) (prepend_known c.loop-judge.capture.lines.ahead (g.R.Read.remaining c.loop-judge.reader.0)) (g.R.Read.remaining c.next.new.reader.0) c.loop-judge.capture c.next.new.self
+    c.loop-judge.judge i.goes i.follows (rw none at e.continues) (rw none at e.standing) e.header (e.end i.goes (ap Ok none)) c.next.new.reader.1
+    (still_clean c.next.new.reader.1 c.loop-judge.reader.1 e.tally i.clean) c.in_ok-finish.field-0 c.in_ok-finish.ensures.verdict
+
+pub returns-clause-judged : goal.returns-clause-judged
+returns-clause-judged g c = found_judged _ _ _ _ (meant g c)
+
+pub returns-clause-ended : goal.returns-clause-ended
+returns-clause-ended g c = found_ended _ _ _ _ (meant g c)
+
+pub returns-clause-tally : goal.returns-clause-tally
+returns-clause-tally g c = found_tally _ _ _ _ (meant g c)
+
+pub returns-clause-whole : goal.returns-clause-whole
+returns-clause-whole g c = found_whole _ _ _ _ (meant g c)
