@@ -1,10 +1,14 @@
+use Rattle.std.proofs.Common.{◌≡◌, inl, inr, subst, ap}
 use Rattle.std.proofs.lemmas.Result.{on_ok_weaker}
 use Rattle.tftp_packet.specs.Meaning.{meaning}
-use Rattle.tftp_ends.specs.CaptureText.{Datagram}
+use Rattle.tftp_packet.specs.Spelling.{Spells}
 use Rattle.tftp_ends.specs.NamedEnd.{terms_of}
 use Rattle.tftp_law.specs.Rules.{Agrees, Begins}
 use Rattle.tftp_judge.proofs.Replied.{of_author}
-use Rattle.tftp_judge.proofs.StaysAfter.{begun_more}
+use Rattle.tftp_judge.specs.Courses.{HasAnswer}
+use Rattle.tftp_judge.specs.Kept.{Unanswered}
+use Rattle.tftp_judge.specs.KeptCode.{course_of}
+use Rattle.tftp_judge.proofs.StaysAfter.{begun_more, error_waits_for_none}
 use Rattle.tftp_judge.proofs.course.Course.pass.Goals as goal
 
 pub returns-in-Begun : goal.returns-in-Begun
@@ -24,4 +28,11 @@ returns-in-Agreed g c = record {
 }
 
 pub returns-in-Unanswered : goal.returns-in-Unanswered
-returns-in-Unanswered g c = ?
+returns-in-Unanswered g c = record {
+  ok = λ h asked passed d kept says right either.
+      let is : course_of c.args.self.now ≡ Unanswered = ap course_of c.in-Unanswered.is in
+      elim either [
+        | inl answered ↦ absurd (subst HasAnswer is answered)
+        | inr error ↦ error_waits_for_none h asked passed d c.args.dir error.0 error.1 (course_of c.args.self.now) is (says.0, subst (Spells d.payload) error.2 says.1) kept
+      ];
+}

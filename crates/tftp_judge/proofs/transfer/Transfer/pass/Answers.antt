@@ -10,7 +10,7 @@ use Rattle.tftp_ends.specs.Roles.{author_of}
 use Rattle.tftp_law.specs.MessageRules.{KindBreaks}
 use Rattle.tftp_law.specs.Rules.{GoesOn}
 use Rattle.tftp_judge.specs.Finds.{Finds, IsBlockOrAck}
-use Rattle.tftp_judge.specs.Kept.{Transfer, IsTransferAfter}
+use Rattle.tftp_judge.specs.Kept.{Transfer, Errors, AreErrors, IsTransferAfter}
 use Rattle.tftp_judge.proofs.MessageFound.{kind_finds, right_kind, error_finds, block_finds}
 use Rattle.tftp_judge.proofs.transfer.Transfer.pass.Goals as goal
 
@@ -21,7 +21,7 @@ returns-in-Request-clause-finds g c = λ h passed d after says.
     let author = c.author_of.ensures ∙ ap (λ (n : End). author_of n c.args.dir) (ap (λ (t : Transfer). t.named) c.self.view_is ∙ after.named) in
     let side = c.side.ensures ∙ ap (λ (t : Transfer). t.asked.side) c.self.view_is in
     let right = right_kind h asked c.args.dir m c.author_of.result c.side.result c.is_wrong_kind.result author side c.if-is_wrong_kind.false c.is_wrong_kind.ensures.1 in
-    let stays : GoesOn passed c.args.dir m → ⊥ = λ on. false≢true (sym c.if-goes_on.false ∙ (c.goes_on.ensures passed after.errors).1 on) in
+    let stays : GoesOn passed c.args.dir m → ⊥ = λ on. false≢true (sym c.if-goes_on.false ∙ (c.goes_on.ensures passed (subst (λ (e : Errors). AreErrors e passed) (sym (ap (λ (t : Transfer). t.errors) c.self.view_is)) after.errors)).1 on) in
     let told = subst (λ (p : Packet). Spells d.payload (meaning p)) c.in-Request.is says.1 in
     kind_finds h asked passed c.args.dir m right stays (IsTransferAfter c.pass_request.new.self h (d ∷ passed)) c.pass_request.result
     (subst (λ (p : Packet). Finds (KindBreaks h asked passed c.args.dir (meaning p)) (IsTransferAfter c.pass_request.new.self h (d ∷ passed)) c.pass_request.result) (sym c.in-Request.is)
@@ -34,7 +34,7 @@ returns-in-Error-clause-finds g c = λ h passed d after says.
     let author = c.author_of.ensures ∙ ap (λ (n : End). author_of n c.args.dir) (ap (λ (t : Transfer). t.named) c.self.view_is ∙ after.named) in
     let side = c.side.ensures ∙ ap (λ (t : Transfer). t.asked.side) c.self.view_is in
     let right = right_kind h asked c.args.dir m c.author_of.result c.side.result c.is_wrong_kind.result author side c.if-is_wrong_kind.false c.is_wrong_kind.ensures.1 in
-    let stays : GoesOn passed c.args.dir m → ⊥ = λ on. false≢true (sym c.if-goes_on.false ∙ (c.goes_on.ensures passed after.errors).1 on) in
+    let stays : GoesOn passed c.args.dir m → ⊥ = λ on. false≢true (sym c.if-goes_on.false ∙ (c.goes_on.ensures passed (subst (λ (e : Errors). AreErrors e passed) (sym (ap (λ (t : Transfer). t.errors) c.self.view_is)) after.errors)).1 on) in
     let told = subst (λ (p : Packet). Spells d.payload (meaning p)) c.in-Error.is says.1 in
     let still = subst (λ (p : Packet). GoesOn passed c.args.dir (meaning p) → ⊥) c.in-Error.is stays in
     kind_finds h asked passed c.args.dir m right stays (IsTransferAfter c.pass_error.new.self h (d ∷ passed)) c.pass_error.result
@@ -49,7 +49,7 @@ returns-in-Oack-clause-finds g c = λ h passed d after says.
     let author = c.author_of.ensures ∙ ap (λ (n : End). author_of n c.args.dir) (ap (λ (t : Transfer). t.named) c.self.view_is ∙ after.named) in
     let side = c.side.ensures ∙ ap (λ (t : Transfer). t.asked.side) c.self.view_is in
     let right = right_kind h asked c.args.dir m c.author_of.result c.side.result c.is_wrong_kind.result author side c.if-is_wrong_kind.false c.is_wrong_kind.ensures.1 in
-    let stays : GoesOn passed c.args.dir m → ⊥ = λ on. false≢true (sym c.if-goes_on.false ∙ (c.goes_on.ensures passed after.errors).1 on) in
+    let stays : GoesOn passed c.args.dir m → ⊥ = λ on. false≢true (sym c.if-goes_on.false ∙ (c.goes_on.ensures passed (subst (λ (e : Errors). AreErrors e passed) (sym (ap (λ (t : Transfer). t.errors) c.self.view_is)) after.errors)).1 on) in
     let told = subst (λ (p : Packet). Spells d.payload (meaning p)) c.in-Oack.is says.1 in
     kind_finds h asked passed c.args.dir m right stays (IsTransferAfter c.pass_oack.new.self h (d ∷ passed)) c.pass_oack.result
     (subst (λ (p : Packet). Finds (KindBreaks h asked passed c.args.dir (meaning p)) (IsTransferAfter c.pass_oack.new.self h (d ∷ passed)) c.pass_oack.result) (sym c.in-Oack.is)
@@ -62,7 +62,7 @@ returns-in-Data-clause-finds g c = λ h passed d after says.
     let author = c.author_of.ensures ∙ ap (λ (n : End). author_of n c.args.dir) (ap (λ (t : Transfer). t.named) c.self.view_is ∙ after.named) in
     let side = c.side.ensures ∙ ap (λ (t : Transfer). t.asked.side) c.self.view_is in
     let right = right_kind h asked c.args.dir m c.author_of.result c.side.result c.is_wrong_kind.result author side c.if-is_wrong_kind.false c.is_wrong_kind.ensures.1 in
-    let stays : GoesOn passed c.args.dir m → ⊥ = λ on. false≢true (sym c.if-goes_on.false ∙ (c.goes_on.ensures passed after.errors).1 on) in
+    let stays : GoesOn passed c.args.dir m → ⊥ = λ on. false≢true (sym c.if-goes_on.false ∙ (c.goes_on.ensures passed (subst (λ (e : Errors). AreErrors e passed) (sym (ap (λ (t : Transfer). t.errors) c.self.view_is)) after.errors)).1 on) in
     let kind : IsBlockOrAck m = elim c.in-Data.is [
       | inl block ↦ subst (λ (p : Packet). IsBlockOrAck (meaning p)) (sym block.2) tt
       | inr ack ↦ subst (λ (p : Packet). IsBlockOrAck (meaning p)) (sym ack.1) tt
