@@ -15,12 +15,20 @@ const HEADER: Header = Header {
 
 /// Payloads: a read of the file `a`, block 1 with `hi`, block 2 with `22`, and their ACKs (RFC 1350, section 5).
 const READ: &[u8] = b"\x00\x01a\x00octet\x00";
+
 const HI: &[u8] = b"\x00\x03\x00\x01hi";
+
 const BLOCK_2: &[u8] = b"\x00\x03\x00\x0222";
+
 const ACK_1: &[u8] = b"\x00\x04\x00\x01";
 
 /// A datagram at port 40000 of the client.
-fn datagram(alloc: Global, dir: Dir, remote_port: u16, payload: &[u8]) -> Result<Datagram, AllocError> {
+fn datagram(
+    alloc: Global,
+    dir: Dir,
+    remote_port: u16,
+    payload: &[u8],
+) -> Result<Datagram, AllocError> {
     Ok(Datagram {
         dir,
         local_port: 40000,
@@ -31,7 +39,11 @@ fn datagram(alloc: Global, dir: Dir, remote_port: u16, payload: &[u8]) -> Result
 }
 
 /// Feeds a judge that has not yet accepted 2^40 datagrams.
-fn fed<D: Delivered + Drop>(alloc: Global, judge: &mut Judge<D>, datagram: &Datagram) -> Result<(), Refusal> {
+fn fed<D: Delivered + Drop>(
+    alloc: Global,
+    judge: &mut Judge<D>,
+    datagram: &Datagram,
+) -> Result<(), Refusal> {
     if judge.fed() >= 1 << 40 {
         return Err(Refusal::Memory);
     }
@@ -85,7 +97,7 @@ fn accepts<D: Delivered + Drop>(rt: &HostRuntime) -> Result<(), Fail> {
         return Err(Fail::new("another count"));
     }
     match judge.finish(alloc) {
-        Ok(meaning) if meaning.file() == b"hi" => Ok(()),
+        Ok(meaning) if meaning.file() == b"hi".as_slice() => Ok(()),
         _ => Err(Fail::new("another end")),
     }
 }

@@ -1,6 +1,7 @@
 use super::{
-    ACK_0, ACK_1, ACK_2, ACKED_1, ACKED_2, CLIENT, HI, IN_1, IN_2, IN_22, IN_3, IN_4, OACK_4_BY_8, OACK_BY_8, OUT_1, OUT_22, READ,
-    READ_4_BY_8, READ_BY_8, ROOM, WRITE_BY_8, capture, read_of_hi, says,
+    ACK_0, ACK_1, ACK_2, ACKED_1, ACKED_2, CLIENT, HI, IN_1, IN_2, IN_3, IN_4, IN_22, OACK_4_BY_8,
+    OACK_BY_8, OUT_1, OUT_22, READ, READ_4_BY_8, READ_BY_8, ROOM, WRITE_BY_8, capture, read_of_hi,
+    says,
 };
 use std::test::Fail;
 use tftp_capture::{DripReader, DripWriter, Tallied};
@@ -14,16 +15,36 @@ const FILES: [File; 5] = [
     (&[READ, "in 40000 41000 00030001", ACK_1], ""),
     (
         &[
-            READ_4_BY_8, OACK_4_BY_8, ACK_0, IN_1, IN_2, IN_4, ACK_2, IN_3, IN_4, "in 40000 41000 000300053535353535353535",
-            "in 40000 41000 00030006363636", "out 40000 41000 00040006",
+            READ_4_BY_8,
+            OACK_4_BY_8,
+            ACK_0,
+            IN_1,
+            IN_2,
+            IN_4,
+            ACK_2,
+            IN_3,
+            IN_4,
+            "in 40000 41000 000300053535353535353535",
+            "in 40000 41000 00030006363636",
+            "out 40000 41000 00040006",
         ],
         "1111111122222222333333334444444455555555666",
     ),
-    (&[WRITE_BY_8, OACK_BY_8, OUT_1, ACKED_1, OUT_1, OUT_22, ACKED_2], "1111111122"),
     (
         &[
-            "out 40000 69 000161006e6574617363696900626c6b73697a65003800", OACK_BY_8, ACK_0, "in 40000 41000 00030001616263646566670d",
-            ACK_1, "in 40000 41000 000300020a68", ACK_2,
+            WRITE_BY_8, OACK_BY_8, OUT_1, ACKED_1, OUT_1, OUT_22, ACKED_2,
+        ],
+        "1111111122",
+    ),
+    (
+        &[
+            "out 40000 69 000161006e6574617363696900626c6b73697a65003800",
+            OACK_BY_8,
+            ACK_0,
+            "in 40000 41000 00030001616263646566670d",
+            ACK_1,
+            "in 40000 41000 000300020a68",
+            ACK_2,
         ],
         "abcdefg\nh",
     ),
@@ -42,7 +63,18 @@ fn files_of_accepted_captures(rt: HostRuntime) -> Result<(), Fail> {
 const NONE: [(&[&str], u8); 4] = [
     (&[], 1),
     (&[READ, HI], 1),
-    (&[READ_BY_8, OACK_BY_8, ACK_0, IN_1, ACK_1, IN_22, "in 40000 41000 000300023333"], 1),
+    (
+        &[
+            READ_BY_8,
+            OACK_BY_8,
+            ACK_0,
+            IN_1,
+            ACK_1,
+            IN_22,
+            "in 40000 41000 000300023333",
+        ],
+        1,
+    ),
     (&[READ, "in 40000 41000 0005000100"], 1),
 ];
 
@@ -57,10 +89,22 @@ fn nothing_of_others(rt: HostRuntime) -> Result<(), Fail> {
 }
 
 /// Fails unless the command writes this and ends as a fault, where a write or a read with this number fails.
-fn is_cut(rt: &HostRuntime, text: &[u8], read_fails: u64, write_fails: u64, written: &[u8]) -> Result<(), Fail> {
+fn is_cut(
+    rt: &HostRuntime,
+    text: &[u8],
+    read_fails: u64,
+    write_fails: u64,
+    written: &[u8],
+) -> Result<(), Fail> {
     let mut reader = Tallied::new(DripReader::new(text, usize::MAX, read_fails, None));
     let mut writer = Tallied::new(DripWriter::new(rt.alloc(), ROOM, 7, write_fails, false)?);
-    let code = run(rt.alloc(), &["tftp-audit", "extract"], &mut reader, &mut writer).code();
+    let code = run(
+        rt.alloc(),
+        &["tftp-audit", "extract"],
+        &mut reader,
+        &mut writer,
+    )
+    .code();
     if writer.into_inner().taken() == written && code == 2 {
         Ok(())
     } else {
@@ -85,10 +129,22 @@ fn refusals_end_the_reading(rt: HostRuntime) -> Result<(), Fail> {
     for _ in 0..4096 {
         text.extend_from_slice(b"#\n")?;
     }
-    for (command, line) in [("check", b"refused datagram 2 rule 22 WindowOverrun\n".as_slice()), ("extract", b"".as_slice())] {
+    for (command, line) in [
+        (
+            "check",
+            b"refused datagram 2 rule 22 WindowOverrun\n".as_slice(),
+        ),
+        ("extract", b"".as_slice()),
+    ] {
         let mut reader = Tallied::new(DripReader::new(text.as_slice(), 1, text.len() as u64, None));
         let mut writer = Tallied::new(DripWriter::new(rt.alloc(), ROOM, ROOM, 0, false)?);
-        let code = run(rt.alloc(), &["tftp-audit", command], &mut reader, &mut writer).code();
+        let code = run(
+            rt.alloc(),
+            &["tftp-audit", command],
+            &mut reader,
+            &mut writer,
+        )
+        .code();
         let failed = reader.failed();
         if writer.into_inner().taken() != line || code != 1 || failed {
             return Err(Fail::new("another output, or a read that failed"));
