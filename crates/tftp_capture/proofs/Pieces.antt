@@ -1,5 +1,5 @@
 -- What the pieces of a line say, and what is wrong with them.
-use Rattle.std.proofs.Common.{◌≡◌, ◌≢◌, ℕ, ◌≤◌, ◌==◌, true, false, List, [], ◌∷◌, length, codes, decimal, Option, None, Some, Err, MatchOption, is_some, true≢false, refl, sym, ap, ◌∙◌, subst, arith, lit≤, IsUtf8}
+use Rattle.std.proofs.Common.{◌≡◌, ◌≢◌, ℕ, ◌≤◌, ◌==◌, true, false, List, [], ◌∷◌, length, codes, decimal, Option, None, Some, Err, MatchOption, Result, Ok, is_some, true≢false, refl, sym, ap, ◌∙◌, subst, arith, lit≤, IsUtf8}
 use Rattle.std.specs.List.{join_with_byte}
 use Rattle.std.proofs.lemmas.List.Splits.{length-slice_split, join_with_byte-slice_split}
 use Rattle.std.proofs.lemmas.Fmt.{IsAscii-decimal}
@@ -10,7 +10,7 @@ use Rattle.tftp_packet.specs.declared.kinds.Dir.TheVariants.{In, Out}
 use Rattle.tftp_capture.specs.declared.fault.TextFault.TheVariants.{BadHeader, BadEnd, BadService, LineTooLong, BadLine, BadPort, BadHost, BadHex, PayloadTooLong, TotalWrong, Truncated, TrailingText, TextTooLong}
 use Rattle.tftp_capture.specs.declared.stop.Stop.{Stop}
 use Rattle.tftp_capture.specs.declared.stop.Stop.TheVariants.{Text, Read, Memory}
-use Rattle.tftp_capture.specs.Fields.{BodyEnds, DatagramEnds, PayloadEnds, TotalEnds}
+use Rattle.tftp_capture.specs.Fields.{BodyEnds, DatagramEnds, PayloadEnds, TotalEnds, filled}
 use Rattle.tftp_capture.specs.CaptureText.{dir_word, pieces, total_line, AreFields, BodyFault, HasFields, HasPorts, SpellsPort}
 use Rattle.tftp_capture.specs.declared.version.Version.{Version}
 use Rattle.tftp_capture.specs.declared.version.Version.TheVariants.{One, Two}
@@ -142,6 +142,14 @@ payload_stop version count line local host remote digits dir l r is sl sr sh (Te
 payload_stop version count line local host remote digits dir l r is sl sr sh (Text Truncated) p = absurd p
 payload_stop version count line local host remote digits dir l r is sl sr sh (Text TrailingText) p = absurd p
 payload_stop version count line local host remote digits dir l r is sl sr sh (Text TextTooLong) p = absurd p
+
+-- the datagram that was filled with the payload, or why there is none
+pub payload_ends : (version : Version) (count : ℕ) (line local host remote digits : List ℕ) (dir : Dir) (l r : ℕ) → AreFields version (pieces line) (dir_word dir) local host remote digits → SpellsPort local l → SpellsPort remote r → IsHost host
+    → (ended : Result (Unit {0}) Stop) (payload : List ℕ) → PayloadEnds (filled ended payload) digits
+    → DatagramEnds version (filled ended (record { dir = dir; local_port = l; remote_host = host; remote_port = r; payload = payload })) line count
+payload_ends version count line local host remote digits dir l r is sl sr sh (Ok _) payload p =
+    record { local = local; remote = remote; digits = digits; cut = is; local_port = sl; host = sh; remote_port = sr; payload = p.0; fits = p.1 }
+payload_ends version count line local host remote digits dir l r is sl sr sh (Err stop) payload p = payload_stop version count line local host remote digits dir l r is sl sr sh stop p
 
 -- what is wrong with a line of the total is wrong with a line
 pub total_stop : (version : Version) (count : ℕ) (line : List ℕ) (stop : Stop) → TotalEnds version (Err stop) line count → BodyEnds version (Err stop) line count

@@ -2,16 +2,16 @@ ghost use Rattle.std.specs.Prelude.{◌≡◌, ◌≢◌, ◌∷◌, ℕ, List, 
 ghost use Rattle.std.specs.List.{list_all};
 ghost use Rattle.std.specs.Char.{is_ascii_hexdigit};
 ghost use Rattle.tftp_capture.specs.CaptureText.{dir_word, end_line, service_line, pieces, AreFields, IsPort, SpellsPort};
-ghost use Rattle.tftp_capture.specs.Fields.{BodyEnds, DatagramEnds, PayloadEnds, TotalEnds};
+ghost use Rattle.tftp_capture.specs.Fields.{BodyEnds, DatagramEnds, PayloadEnds, TotalEnds, filled, filled_if};
 
 use crate::datagram::Datagram;
+use crate::digits::decode;
 use crate::fault::TextFault;
 use crate::line::count_before;
 use crate::stop::Stop;
 use crate::version::Version;
 use hex::FromHexError;
 use itoa::Buffer;
-use std::alloc::Global;
 use tftp_packet::{Bytes, Dir, End, Host};
 
 /// The most bytes of a payload: the 65,535 that a UDP length counts, less the header's 8 (RFC 768).
@@ -99,17 +99,18 @@ fn refused(digits: &[u8]) -> Stop
     Stop::Memory
 }
 
-/// The payload that is spelled.
-fn payload(alloc: Global, digits: &[u8]) -> Result<Bytes, Stop>
-    ensures { PayloadEnds result digits.now }
+/// Fills a payload with the bytes that are spelled, in the memory that it has.
+fn fill_payload(digits: &[u8], payload: &mut Vec<u8>) -> Result<(), Stop>
+    ensures { PayloadEnds (filled result payload.new.items) digits.now }
 {
     if digits == b"-".as_slice() {
-        return Ok(Bytes::of(Vec::new(alloc)));
+        payload.clear();
+        return Ok(());
     }
-    match hex::decode(alloc, digits) {
-        Ok(bytes) if bytes.is_empty() => Err(Stop::Text(TextFault::BadHex)),
-        Ok(bytes) if bytes.len() > LONGEST_PAYLOAD => Err(Stop::Text(TextFault::PayloadTooLong)),
-        Ok(bytes) => Ok(Bytes::of(bytes)),
+    match decode(digits, payload) {
+        Ok(()) if payload.is_empty() => Err(Stop::Text(TextFault::BadHex)),
+        Ok(()) if payload.len() > LONGEST_PAYLOAD => Err(Stop::Text(TextFault::PayloadTooLong)),
+        Ok(()) => Ok(()),
         Err(FromHexError::OutOfMemory) => Err(refused(digits)),
         Err(_) => Err(Stop::Text(TextFault::BadHex)),
     }
@@ -147,9 +148,14 @@ fn cut_fields(version: Version, text: &[u8]) -> Option<Fields<'_>>
     })
 }
 
-/// The datagram that the fields after its first word spell.
-fn datagram(alloc: Global, version: Version, dir: Dir, text: &[u8]) -> Result<Datagram, Stop>
-    ensures { (line : List ℕ) (count : ℕ) → pieces line ≡ dir_word dir ∷ pieces text.now → DatagramEnds version result line count }
+/// Fills a datagram with what the fields after its first word spell. After a fault it is one of which nothing is said.
+fn fill_datagram(
+    version: Version,
+    dir: Dir,
+    text: &[u8],
+    datagram: &mut Datagram,
+) -> Result<(), Stop>
+    ensures { (line : List ℕ) (count : ℕ) → pieces line ≡ dir_word dir ∷ pieces text.now → DatagramEnds version (filled result datagram.new) line count }
 {
     let Some(fields) = cut_fields(version, text) else {
         return Err(Stop::Text(TextFault::BadLine));
@@ -163,14 +169,16 @@ fn datagram(alloc: Global, version: Version, dir: Dir, text: &[u8]) -> Result<Da
     let Some(remote_host) = Host::new(fields.host) else {
         return Err(Stop::Text(TextFault::BadHost));
     };
-    let payload = payload(alloc, fields.digits)?;
-    Ok(Datagram {
+    let mut payload = datagram.payload.take();
+    let ended = fill_payload(fields.digits, &mut payload);
+    *datagram = Datagram {
         dir,
         local_port,
         remote_host,
         remote_port,
-        payload,
-    })
+        payload: Bytes::of(payload),
+    };
+    ended
 }
 
 /// Whether the number of a total line is the number of the datagrams.
@@ -188,25 +196,26 @@ fn total(fields: &[u8], count: u64) -> Result<(), Stop>
     }
 }
 
-/// What a line says where a datagram or the total is due: a datagram, or none for the total.
+/// What a line says where a datagram or the total is due: a datagram, with which the caller's is filled, or none for the
+/// total.
 pub fn body_line(
-    alloc: Global,
     version: Version,
     line: &[u8],
     count: u64,
-) -> Result<Option<Datagram>, Stop>
-    ensures { BodyEnds version result line.now count }
+    datagram: &mut Datagram,
+) -> Result<bool, Stop>
+    ensures { BodyEnds version (filled_if result datagram.new) line.now count }
 {
     let Some((word, fields)) = cut(line) else {
         return Err(Stop::Text(TextFault::BadLine));
     };
     if let Some(dir) = dir_of(word) {
-        let datagram = datagram(alloc, version, dir, fields)?;
-        return Ok(Some(datagram));
+        fill_datagram(version, dir, fields, datagram)?;
+        return Ok(true);
     }
     if word != b"total".as_slice() {
         return Err(Stop::Text(TextFault::BadLine));
     }
     total(fields, count)?;
-    Ok(None)
+    Ok(false)
 }
