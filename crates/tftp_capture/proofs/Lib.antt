@@ -12,6 +12,7 @@ pub mod Nibbles
 pub mod Pairs
 pub mod Payloads
 pub mod Pieces
+pub mod Ports
 pub mod Readings
 pub mod Skips
 pub mod Spelling

@@ -1,9 +1,7 @@
 -- What the pieces of a line say, and what is wrong with them.
-use Rattle.std.proofs.Common.{◌≡◌, ◌≢◌, ℕ, ◌≤◌, ◌==◌, true, false, List, [], ◌∷◌, length, codes, decimal, Option, None, Some, Err, MatchOption, Result, Ok, is_some, true≢false, refl, sym, ap, ◌∙◌, subst, arith, lit≤, IsUtf8}
+use Rattle.std.proofs.Common.{◌≡◌, ◌≢◌, ℕ, ◌≤◌, ◌==◌, true, false, List, [], ◌∷◌, length, codes, decimal, Option, None, Some, Err, MatchOption, Result, Ok, is_some, true≢false, refl, sym, ap, ◌∙◌, subst, arith, lit≤}
 use Rattle.std.specs.List.{join_with_byte}
 use Rattle.std.proofs.lemmas.List.Splits.{length-slice_split, join_with_byte-slice_split}
-use Rattle.std.proofs.lemmas.Fmt.{IsAscii-decimal}
-use Rattle.std.proofs.lemmas.Str.{IsUtf8-from_ascii}
 use Rattle.tftp_packet.specs.Host.{IsHost}
 use Rattle.tftp_packet.specs.declared.kinds.Dir.{Dir}
 use Rattle.tftp_packet.specs.declared.kinds.Dir.TheVariants.{In, Out}
@@ -116,10 +114,6 @@ pub cut_none : {P : Type 0} (first rest : P → List ℕ) (xs : List ℕ) (r : O
     → false ≡ is_some r → pieces xs ≡ xs ∷ []
 cut_none first rest xs None m e = m
 cut_none first rest xs (Some p) m e = absurd (true≢false (sym e))
-
--- the text of a port is UTF-8, and `parse` reads the port
-pub port_utf8 : (bytes : List ℕ) (port : ℕ) → SpellsPort bytes port → IsUtf8 bytes
-port_utf8 bytes port h = subst IsUtf8 (sym h.1) (IsUtf8-from_ascii _ (IsAscii-decimal port (omega (arith, h.0.1))))
 
 -- the last field spells no payload, or memory was refused for the one that it spells
 pub payload_stop : (version : Version) (count : ℕ) (line local host remote digits : List ℕ) (dir : Dir) (l r : ℕ) → AreFields version (pieces line) (dir_word dir) local host remote digits → SpellsPort local l → SpellsPort remote r → IsHost host

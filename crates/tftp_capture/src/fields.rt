@@ -33,15 +33,17 @@ fn cut(text: &[u8]) -> Option<(&[u8], &[u8])>
 fn port(text: &[u8]) -> Option<u16>
     ensures { MatchOption result ((port : ℕ) → SpellsPort text.now port → ⊥) (SpellsPort text.now) }
 {
-    let Ok(digits) = str::from_utf8(text) else {
+    if text.is_empty() || text[0] == b'0' {
         return None;
-    };
-    let Ok(number) = digits.parse::<u16>() else {
-        return None;
-    };
-    let mut buffer = Buffer::new();
-    if number == 0 || buffer.format(number).as_bytes() != text {
-        return None;
+    }
+    let mut number: u16 = 0;
+    for byte in text {
+        if !byte.is_ascii_digit() {
+            return None;
+        }
+        number = number
+            .checked_mul(10)?
+            .checked_add(u16::from(*byte - b'0'))?;
     }
     Some(number)
 }
