@@ -10,7 +10,7 @@ use memchr::{memchr, memrchr};
 use std::alloc::Global;
 use std::io::{ErrorKind, Read, Write};
 use std::{env, io};
-use tftp_capture::{CaptureReader, Tallied};
+use tftp_capture::{CaptureReader, Datagram, Tallied};
 use tftp_ends::{MapDelivered, RingDelivered};
 use tftp_netascii::{Decoder, encode};
 
@@ -114,10 +114,11 @@ fn count_datagrams<R: Read + Drop>(alloc: Global, reader: R) -> io::Result<u64> 
     let Ok(mut capture) = CaptureReader::begin(alloc, &mut reader) else {
         return Err(io::Error::from(ErrorKind::InvalidData));
     };
+    let mut datagram = Datagram::empty(alloc);
     for count in 0..u64::MAX {
-        match capture.next(alloc, &mut reader) {
-            Ok(Some(_)) => {}
-            Ok(None) => return Ok(count),
+        match capture.next_into(&mut reader, &mut datagram) {
+            Ok(true) => {}
+            Ok(false) => return Ok(count),
             Err(_) => break,
         }
     }
