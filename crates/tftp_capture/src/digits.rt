@@ -1,5 +1,5 @@
-ghost use Rattle.std.specs.Prelude.{◌≡◌, ◌≢◌, ◌*◌, ◌⊎◌, false, true, length, Ok, Err, IsErr, IfErr, OnOk, MatchResult};
-ghost use Rattle.hex.specs.Hex.{decode_of, decode_sized};
+ghost use Rattle.std.specs.Prelude.{◌≡◌, ◌*◌, ◌<◌, ◌⊎◌, false, true, length, slice_index, Ok, Err, IsErr, IfErr, OnOk, MatchResult};
+ghost use Rattle.hex.specs.Hex.{decode_of, decode_sized, encode_lower, lower_digits};
 ghost use Rattle.hex.specs.declared.error.FromHexError.TheVariants.{OutOfMemory};
 ghost use Rattle.tftp_capture.specs.Digits.{IsNibble};
 
@@ -57,4 +57,31 @@ pub fn decode(digits: &[u8], bytes: &mut Vec<u8>) -> Result<(), FromHexError>
 {
     bytes.resize(digits.len() / 2, 0)?;
     decode_to_slice(digits, bytes.as_mut_slice())
+}
+
+/// The lower-case digit of a value.
+#[inline(always)]
+fn digit(value: u8) -> u8
+    requires { value < 16 }
+    ensures { result ≡ slice_index lower_digits value }
+{
+    if value < 10 {
+        value + b'0'
+    } else {
+        value + (b'a' - 10)
+    }
+}
+
+/// Writes each byte as two digits, in lower case.
+pub fn encode(bytes: &[u8], digits: &mut [u8])
+    requires { length digits.old ≡ 2 * length bytes.now }
+    ensures { digits.new ≡ encode_lower bytes.now }
+{
+    for i in 0..bytes.len() {
+        let byte = bytes[i];
+        let high = digit(byte / 16);
+        let low = digit(byte % 16);
+        digits[2 * i] = high;
+        digits[2 * i + 1] = low;
+    }
 }
