@@ -8,7 +8,7 @@ use Rattle.tftp_packet.specs.declared.kinds.Dir.TheVariants.{In, Out}
 use Rattle.tftp_capture.specs.declared.fault.TextFault.TheVariants.{BadHeader, BadEnd, BadService, LineTooLong, BadLine, BadPort, BadHost, BadHex, PayloadTooLong, TotalWrong, Truncated, TrailingText, TextTooLong}
 use Rattle.tftp_capture.specs.declared.stop.Stop.{Stop}
 use Rattle.tftp_capture.specs.declared.stop.Stop.TheVariants.{Text, Read, Memory}
-use Rattle.tftp_capture.specs.Fields.{BodyEnds, DatagramEnds, PayloadEnds, TotalEnds, filled}
+use Rattle.tftp_capture.specs.Fields.{BeginWithFields, BodyEnds, DatagramEnds, PayloadEnds, TotalEnds, filled}
 use Rattle.tftp_capture.specs.CaptureText.{dir_word, pieces, total_line, AreFields, BodyFault, HasFields, HasPorts, SpellsPort}
 use Rattle.tftp_capture.specs.declared.version.Version.{Version}
 use Rattle.tftp_capture.specs.declared.version.Version.TheVariants.{One, Two}
@@ -114,6 +114,18 @@ pub cut_none : {P : Type 0} (first rest : P → List ℕ) (xs : List ℕ) (r : O
     → false ≡ is_some r → pieces xs ≡ xs ∷ []
 cut_none first rest xs None m e = m
 cut_none first rest xs (Some p) m e = absurd (true≢false (sym e))
+
+-- the fields and digits of one piece
+pub whole_fields : (version : Version) (ps : List (List ℕ)) (word local host remote digits : List ℕ) → BeginWithFields version ps word local host remote (pieces digits) → pieces digits ≡ digits ∷ []
+    → AreFields version ps word local host remote digits
+whole_fields One ps word local host remote digits p one = (p.0 ∙ ap (λ l. word ∷ local ∷ remote ∷ l) one, p.1)
+whole_fields Two ps word local host remote digits p one = p ∙ ap (λ l. word ∷ local ∷ host ∷ remote ∷ l) one
+
+-- where they are more pieces, the line has one too many
+pub too_many : (version : Version) (ps : List (List ℕ)) (word local host remote a b : List ℕ) (rest : List (List ℕ)) → BeginWithFields version ps word local host remote rest → rest ≡ a ∷ pieces b
+    → (w l h r d : List ℕ) → AreFields version ps w l h r d → ⊥
+too_many One ps word local host remote a b rest p more w l h r d q = absurd (omega (arith, ap length p.0, ap length more, some_piece b, ap length q.0))
+too_many Two ps word local host remote a b rest p more w l h r d q = absurd (omega (arith, ap length p, ap length more, some_piece b, ap length q))
 
 -- the last field spells no payload, or memory was refused for the one that it spells
 pub payload_stop : (version : Version) (count : ℕ) (line local host remote digits : List ℕ) (dir : Dir) (l r : ℕ) → AreFields version (pieces line) (dir_word dir) local host remote digits → SpellsPort local l → SpellsPort remote r → IsHost host

@@ -1,8 +1,8 @@
-ghost use Rattle.std.specs.Prelude.{◌≡◌, ◌≢◌, ◌∷◌, ℕ, List, [], codes, Err, MatchOption};
+ghost use Rattle.std.specs.Prelude.{◌≡◌, ◌≢◌, ◌∷◌, ℕ, List, [], codes, Err, MatchOption, OnOk};
 ghost use Rattle.std.specs.List.{list_all};
 ghost use Rattle.std.specs.Char.{is_ascii_hexdigit};
 ghost use Rattle.tftp_capture.specs.CaptureText.{dir_word, end_line, service_line, pieces, AreFields, IsPort, SpellsPort};
-ghost use Rattle.tftp_capture.specs.Fields.{BodyEnds, DatagramEnds, PayloadEnds, TotalEnds, filled, filled_if};
+ghost use Rattle.tftp_capture.specs.Fields.{BeginWithFields, BodyEnds, DatagramEnds, PayloadEnds, TotalEnds, filled, filled_if};
 
 use crate::datagram::Datagram;
 use crate::digits::decode;
@@ -118,7 +118,7 @@ fn fill_payload(digits: &[u8], payload: &mut Vec<u8>) -> Result<(), Stop>
     }
 }
 
-/// The fields of a datagram's line after its first word.
+/// The fields of a datagram's line after its first word; the last one reaches to the line's end, spaces and all.
 #[derive(Clone, Copy)]
 struct Fields<'a> {
     local: &'a [u8],
@@ -131,7 +131,7 @@ struct Fields<'a> {
 fn cut_fields(version: Version, text: &[u8]) -> Option<Fields<'_>>
     ensures { (word : List ℕ) → MatchOption result
         ((local host remote digits : List ℕ) → AreFields version (word ∷ pieces text.now) word local host remote digits → ⊥)
-        (λ fields. AreFields version (word ∷ pieces text.now) word fields.local.now fields.host.now fields.remote.now fields.digits.now) }
+        (λ fields. BeginWithFields version (word ∷ pieces text.now) word fields.local.now fields.host.now fields.remote.now (pieces fields.digits.now)) }
 {
     let (local, rest) = cut(text)?;
     let (host, rest) = match version {
@@ -139,9 +139,6 @@ fn cut_fields(version: Version, text: &[u8]) -> Option<Fields<'_>>
         Version::Two => cut(rest)?,
     };
     let (remote, digits) = cut(rest)?;
-    if cut(digits).is_some() {
-        return None;
-    }
     Some(Fields {
         local,
         host,
@@ -150,18 +147,12 @@ fn cut_fields(version: Version, text: &[u8]) -> Option<Fields<'_>>
     })
 }
 
-/// Fills a datagram with what the fields after its first word spell. After a fault it is one of which nothing is said.
-fn fill_datagram(
-    version: Version,
-    dir: Dir,
-    text: &[u8],
-    datagram: &mut Datagram,
-) -> Result<(), Stop>
-    ensures { (line : List ℕ) (count : ℕ) → pieces line ≡ dir_word dir ∷ pieces text.now → DatagramEnds version (filled result datagram.new) line count }
+/// Fills a datagram with what the fields spell. After a fault it is one of which nothing is said.
+fn fill_with(dir: Dir, fields: Fields<'_>, datagram: &mut Datagram) -> Result<(), Stop>
+    ensures ends { (version : Version) (line : List ℕ) (count : ℕ) → AreFields version (pieces line) (dir_word dir) fields.entry.local.now fields.entry.host.now fields.entry.remote.now fields.entry.digits.now
+        → DatagramEnds version (filled result datagram.new) line count }
+    ensures whole { OnOk result (pieces fields.entry.digits.now ≡ fields.entry.digits.now ∷ []) }
 {
-    let Some(fields) = cut_fields(version, text) else {
-        return Err(Stop::Text(TextFault::BadLine));
-    };
     let Some(local_port) = port(fields.local) else {
         return Err(Stop::Text(TextFault::BadPort));
     };
@@ -180,6 +171,26 @@ fn fill_datagram(
         remote_port,
         payload: Bytes::of(payload),
     };
+    ended
+}
+
+/// Fills a datagram with what the text after the first word says. Where the last field spells a payload it is one
+/// piece; only where something is wrong is it looked through for a space.
+fn fill_datagram(
+    version: Version,
+    dir: Dir,
+    text: &[u8],
+    datagram: &mut Datagram,
+) -> Result<(), Stop>
+    ensures { (line : List ℕ) (count : ℕ) → pieces line ≡ dir_word dir ∷ pieces text.now → DatagramEnds version (filled result datagram.new) line count }
+{
+    let Some(fields) = cut_fields(version, text) else {
+        return Err(Stop::Text(TextFault::BadLine));
+    };
+    let ended = fill_with(dir, fields, datagram);
+    if ended.is_err() && cut(fields.digits).is_some() {
+        return Err(Stop::Text(TextFault::BadLine));
+    }
     ended
 }
 
