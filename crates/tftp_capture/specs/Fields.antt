@@ -1,5 +1,6 @@
 -- What the fields of a line spell.
 use Rattle.std.specs.Prelude.{◌≡◌, true, false, Bool, ℕ, ◌<◌, ◌≤◌, List, ◌∷◌, length, Option, Some, None, Result, Ok, Err}
+use Rattle.tftp_packet.specs.Host.{no_host}
 use Rattle.tftp_capture.specs.declared.fault.TextFault.TheVariants.{BadHex, PayloadTooLong}
 use Rattle.tftp_capture.specs.declared.stop.Stop.{Stop}
 use Rattle.tftp_capture.specs.declared.stop.Stop.TheVariants.{Text, Read, Memory}
@@ -8,7 +9,6 @@ use Rattle.tftp_capture.specs.declared.datagram.Header.{Header as OwnedHeader}
 use Rattle.tftp_capture.specs.CaptureText.{Datagram, Header, BodyFault, SaysDatagram, SpellsPayload, total_line}
 use Rattle.tftp_capture.specs.declared.version.Version.{Version}
 use Rattle.tftp_capture.specs.declared.version.Version.TheVariants.{One, Two}
-use Rattle.tftp_packet.specs.Host.{no_host}
 
 -- the datagram that a value in memory is
 abbrev pub datagram_of : Owned → Datagram
