@@ -169,10 +169,10 @@ fn write_datagrams<R: Read, W: Write + Drop>(reader: &mut R, writer: W) -> io::R
 }
 
 /// Decodes the last field of each line by the hex crate into one buffer, and counts those that are
-/// hex. Lines and fields are found by memchr, and nothing else is looked at. A line longer than a
-/// piece ends the work.
+/// hex. Lines and fields are found by memchr, and nothing else is looked at. A line longer than two
+/// pieces ends the work.
 fn decode_digits<R: Read>(alloc: Global, reader: &mut R) -> io::Result<u64> {
-    let mut held = vec![in alloc; 0u8; PIECE]?;
+    let mut held = vec![in alloc; 0u8; 2 * PIECE]?;
     let mut bytes = vec![in alloc; 0u8; PIECE]?;
     let mut len = 0;
     let mut fields = 0u64;
