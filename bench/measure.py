@@ -1,4 +1,5 @@
-"""Prints how fast a command is on the bytes of a file, by processor time, the best of three runs.
+"""Prints how fast a command is on the bytes of a file, by processor time, the best of three runs, and its time in those
+of `wc -l` and of `cat`, which are run on the same bytes in turn with it.
 
     measure.py NAME FILE COMMAND [WORD ..]
 """
@@ -11,7 +12,7 @@ import time
 name, path, command = sys.argv[1], sys.argv[2], sys.argv[3:]
 size = os.path.getsize(path)
 # What writes a text is to write it nowhere; any other's answer is printed.
-WRITES_TEXT = ("copy", "netascii-decode", "netascii-encode", "show")
+WRITES_TEXT = ("cat", "copy", "netascii-decode", "netascii-encode", "show")
 
 
 def figures(number):
@@ -29,7 +30,7 @@ def most_resident(process):
     return 0
 
 
-def run():
+def run(command):
     """The time in seconds, the most resident memory in bytes, and what was printed."""
     with open(path, "rb") as given, tempfile.TemporaryFile() as taken:
         out = subprocess.DEVNULL if command[-1] in WRITES_TEXT else taken
@@ -48,15 +49,25 @@ def run():
         return usage.ru_utime + usage.ru_stime, most, taken.read().decode().strip()
 
 
-runs = [run() for _ in range(3)]
-# The system may count no time at all for a short run.
-seconds = max(1e-6, min(it[0] for it in runs))
+def seconds_of(runs):
+    """The best time."""
+    # The system may count no time at all for a short run.
+    return max(1e-6, min(it[0] for it in runs))
+
+
+runs, lines, copies = [], [], []
+for _ in range(3):
+    runs.append(run(command))
+    lines.append(run(["wc", "-l"]))
+    copies.append(run(["cat"]))
+seconds = seconds_of(runs)
 memory = max(it[1] for it in runs)
 answer = runs[0][2]
 # Of a run that is over at once the memory is not seen.
 held = f"{memory / 1e6:.1f} MB of memory " if seconds > 0.05 else ""
 print(
     f"{name}: {figures(seconds)} s, {figures(size / seconds / 1e6)} MB/s, {figures(seconds / size * 1e9)} ns a byte,"
+    f" {figures(seconds / seconds_of(lines))} times wc -l, {figures(seconds / seconds_of(copies))} times cat,"
     f" {held}for {figures(size / 1e6)} MB" + (f": {answer}" if answer else ""),
     flush=True,
 )

@@ -10,9 +10,10 @@ use memchr::{memchr, memrchr};
 use std::alloc::Global;
 use std::io::{ErrorKind, Read, Write};
 use std::{env, io};
-use tftp_capture::{CaptureReader, Tallied};
+use tftp_capture::{CaptureReader, CaptureWriter, Datagram, Header, Tallied};
 use tftp_ends::{MapDelivered, RingDelivered};
 use tftp_netascii::{Decoder, encode};
+use tftp_packet::{Dir, End};
 
 /// The most bytes that are read at once.
 const PIECE: usize = 65_536;
@@ -23,6 +24,12 @@ const LARGE: u16 = 1526;
 /// How many bytes a small block has, the fewest that may be agreed (RFC 2348).
 const SMALL: u16 = 8;
 
+/// How many bytes the largest block has (RFC 2348).
+const LARGEST: usize = 65_464;
+
+/// The most datagrams that are written.
+const MOST: u64 = 1 << 40;
+
 /// What becomes of each piece of the input.
 #[derive(Clone, Copy)]
 enum Way {
@@ -31,8 +38,9 @@ enum Way {
     Copy,
 }
 
-/// The first word says which work it is: `netascii-decode`, `netascii-encode`, `copy`, `capture`, `hex`, `strays`, or a
-/// store and how it is filled, `map-large`, `map-small`, `map-reversed`, `ring-large`, `ring-small` or `ring-reversed`.
+/// The first word says which work it is: `netascii-decode`, `netascii-encode`, `copy`, `capture`, `write`, `hex`,
+/// `strays`, or a store and how it is filled, `map-large`, `map-small`, `map-reversed`, `ring-large`, `ring-small` or
+/// `ring-reversed`.
 fn main(rt: HostRuntime) -> io::Result<()> {
     let alloc = rt.alloc();
     let words = env::args(&rt)?.collect::<Vec<String>>(alloc)?;
@@ -49,6 +57,10 @@ fn main(rt: HostRuntime) -> io::Result<()> {
         "capture" => {
             let count = count_datagrams(alloc, reader)?;
             println!(rt; "{count} datagrams")
+        }
+        "write" => {
+            write_datagrams(&mut reader, writer)?;
+            Ok(())
         }
         "hex" => {
             let count = decode_digits(alloc, &mut reader)?;
@@ -114,21 +126,53 @@ fn count_datagrams<R: Read + Drop>(alloc: Global, reader: R) -> io::Result<u64> 
     let Ok(mut capture) = CaptureReader::begin(alloc, &mut reader) else {
         return Err(io::Error::from(ErrorKind::InvalidData));
     };
+    let mut datagram = Datagram::empty(alloc);
     for count in 0..u64::MAX {
-        match capture.next(alloc, &mut reader) {
-            Ok(Some(_)) => {}
-            Ok(None) => return Ok(count),
+        match capture.next_into(&mut reader, &mut datagram) {
+            Ok(true) => {}
+            Ok(false) => return Ok(count),
             Err(_) => break,
         }
     }
     Err(io::Error::from(ErrorKind::InvalidData))
 }
 
+/// Writes a capture whose datagrams carry the input, as many bytes each as a block may have at most (RFC 2348), and
+/// counts them.
+fn write_datagrams<R: Read, W: Write + Drop>(reader: &mut R, writer: W) -> io::Result<u64> {
+    let mut writer = Tallied::new(writer);
+    let header = Header {
+        named: End::Client,
+        service: 69,
+    };
+    let Ok(mut capture) = CaptureWriter::begin(&mut writer, &header) else {
+        return Err(io::Error::from(ErrorKind::Other));
+    };
+    let mut piece = [0u8; LARGEST];
+    for count in 0..MOST {
+        let size = reader.read(&mut piece)?;
+        if size == 0 {
+            return match capture.close(&mut writer) {
+                Ok(()) => Ok(count),
+                Err(_) => Err(io::Error::from(ErrorKind::Other)),
+            };
+        }
+        let payload = &piece[..size];
+        if capture
+            .put(&mut writer, Dir::In, 40_000, 41_000, payload)
+            .is_err()
+        {
+            break;
+        }
+    }
+    Err(io::Error::from(ErrorKind::Other))
+}
+
 /// Decodes the last field of each line by the hex crate into one buffer, and counts those that are
-/// hex. Lines and fields are found by memchr, and nothing else is looked at. A line longer than a
-/// piece ends the work.
+/// hex. Lines and fields are found by memchr, and nothing else is looked at. A line longer than two
+/// pieces ends the work.
 fn decode_digits<R: Read>(alloc: Global, reader: &mut R) -> io::Result<u64> {
-    let mut held = vec![in alloc; 0u8; PIECE]?;
+    let mut held = vec![in alloc; 0u8; 2 * PIECE]?;
     let mut bytes = vec![in alloc; 0u8; PIECE]?;
     let mut len = 0;
     let mut fields = 0u64;

@@ -2,14 +2,17 @@ pub mod Beginnings
 pub mod Bytes
 pub mod Canonical
 pub mod Cuts
-pub mod Digits
 pub mod Faults
 pub mod Gathering
 pub mod Headers
 pub mod Histories
 pub mod InTwo
 mod Named
+pub mod Nibbles
+pub mod Pairs
+pub mod Payloads
 pub mod Pieces
+pub mod Ports
 pub mod Readings
 pub mod Skips
 pub mod Spelling

@@ -1,16 +1,14 @@
 -- What the pieces of a line say, and what is wrong with them.
-use Rattle.std.proofs.Common.{◌≡◌, ◌≢◌, ℕ, ◌≤◌, ◌==◌, true, false, List, [], ◌∷◌, length, codes, decimal, Option, None, Some, Err, MatchOption, is_some, true≢false, refl, sym, ap, ◌∙◌, subst, arith, lit≤, IsUtf8}
+use Rattle.std.proofs.Common.{◌≡◌, ◌≢◌, ℕ, ◌≤◌, ◌==◌, true, false, List, [], ◌∷◌, length, codes, decimal, Option, None, Some, Err, MatchOption, Result, Ok, is_some, true≢false, refl, sym, ap, ◌∙◌, subst, arith, lit≤}
 use Rattle.std.specs.List.{join_with_byte}
 use Rattle.std.proofs.lemmas.List.Splits.{length-slice_split, join_with_byte-slice_split}
-use Rattle.std.proofs.lemmas.Fmt.{IsAscii-decimal}
-use Rattle.std.proofs.lemmas.Str.{IsUtf8-from_ascii}
 use Rattle.tftp_packet.specs.Host.{IsHost}
 use Rattle.tftp_packet.specs.declared.kinds.Dir.{Dir}
 use Rattle.tftp_packet.specs.declared.kinds.Dir.TheVariants.{In, Out}
 use Rattle.tftp_capture.specs.declared.fault.TextFault.TheVariants.{BadHeader, BadEnd, BadService, LineTooLong, BadLine, BadPort, BadHost, BadHex, PayloadTooLong, TotalWrong, Truncated, TrailingText, TextTooLong}
 use Rattle.tftp_capture.specs.declared.stop.Stop.{Stop}
 use Rattle.tftp_capture.specs.declared.stop.Stop.TheVariants.{Text, Read, Memory}
-use Rattle.tftp_capture.specs.Fields.{BodyEnds, DatagramEnds, PayloadEnds, TotalEnds}
+use Rattle.tftp_capture.specs.Fields.{BeginWithFields, BodyEnds, DatagramEnds, PayloadEnds, TotalEnds, filled}
 use Rattle.tftp_capture.specs.CaptureText.{dir_word, pieces, total_line, AreFields, BodyFault, HasFields, HasPorts, SpellsPort}
 use Rattle.tftp_capture.specs.declared.version.Version.{Version}
 use Rattle.tftp_capture.specs.declared.version.Version.TheVariants.{One, Two}
@@ -117,9 +115,17 @@ pub cut_none : {P : Type 0} (first rest : P → List ℕ) (xs : List ℕ) (r : O
 cut_none first rest xs None m e = m
 cut_none first rest xs (Some p) m e = absurd (true≢false (sym e))
 
--- the text of a port is UTF-8, and `parse` reads the port
-pub port_utf8 : (bytes : List ℕ) (port : ℕ) → SpellsPort bytes port → IsUtf8 bytes
-port_utf8 bytes port h = subst IsUtf8 (sym h.1) (IsUtf8-from_ascii _ (IsAscii-decimal port (omega (arith, h.0.1))))
+-- the fields and digits of one piece
+pub whole_fields : (version : Version) (ps : List (List ℕ)) (word local host remote digits : List ℕ) → BeginWithFields version ps word local host remote (pieces digits) → pieces digits ≡ digits ∷ []
+    → AreFields version ps word local host remote digits
+whole_fields One ps word local host remote digits p one = (p.0 ∙ ap (λ l. word ∷ local ∷ remote ∷ l) one, p.1)
+whole_fields Two ps word local host remote digits p one = p ∙ ap (λ l. word ∷ local ∷ host ∷ remote ∷ l) one
+
+-- where they are more pieces, the line has one too many
+pub too_many : (version : Version) (ps : List (List ℕ)) (word local host remote a b : List ℕ) (rest : List (List ℕ)) → BeginWithFields version ps word local host remote rest → rest ≡ a ∷ pieces b
+    → (w l h r d : List ℕ) → AreFields version ps w l h r d → ⊥
+too_many One ps word local host remote a b rest p more w l h r d q = absurd (omega (arith, ap length p.0, ap length more, some_piece b, ap length q.0))
+too_many Two ps word local host remote a b rest p more w l h r d q = absurd (omega (arith, ap length p, ap length more, some_piece b, ap length q))
 
 -- the last field spells no payload, or memory was refused for the one that it spells
 pub payload_stop : (version : Version) (count : ℕ) (line local host remote digits : List ℕ) (dir : Dir) (l r : ℕ) → AreFields version (pieces line) (dir_word dir) local host remote digits → SpellsPort local l → SpellsPort remote r → IsHost host
@@ -142,6 +148,14 @@ payload_stop version count line local host remote digits dir l r is sl sr sh (Te
 payload_stop version count line local host remote digits dir l r is sl sr sh (Text Truncated) p = absurd p
 payload_stop version count line local host remote digits dir l r is sl sr sh (Text TrailingText) p = absurd p
 payload_stop version count line local host remote digits dir l r is sl sr sh (Text TextTooLong) p = absurd p
+
+-- the datagram that was filled with the payload, or why there is none
+pub payload_ends : (version : Version) (count : ℕ) (line local host remote digits : List ℕ) (dir : Dir) (l r : ℕ) → AreFields version (pieces line) (dir_word dir) local host remote digits → SpellsPort local l → SpellsPort remote r → IsHost host
+    → (ended : Result (Unit {0}) Stop) (payload : List ℕ) → PayloadEnds (filled ended payload) digits
+    → DatagramEnds version (filled ended (record { dir = dir; local_port = l; remote_host = host; remote_port = r; payload = payload })) line count
+payload_ends version count line local host remote digits dir l r is sl sr sh (Ok _) payload p =
+    record { local = local; remote = remote; digits = digits; cut = is; local_port = sl; host = sh; remote_port = sr; payload = p.0; fits = p.1 }
+payload_ends version count line local host remote digits dir l r is sl sr sh (Err stop) payload p = payload_stop version count line local host remote digits dir l r is sl sr sh stop p
 
 -- what is wrong with a line of the total is wrong with a line
 pub total_stop : (version : Version) (count : ℕ) (line : List ℕ) (stop : Stop) → TotalEnds version (Err stop) line count → BodyEnds version (Err stop) line count

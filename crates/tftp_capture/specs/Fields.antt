@@ -1,5 +1,6 @@
 -- What the fields of a line spell.
-use Rattle.std.specs.Prelude.{◌≡◌, ℕ, ◌<◌, ◌≤◌, List, length, Option, Some, None, Result, Ok, Err}
+use Rattle.std.specs.Prelude.{◌≡◌, true, false, Bool, ℕ, ◌<◌, ◌≤◌, List, ◌∷◌, length, Option, Some, None, Result, Ok, Err}
+use Rattle.tftp_packet.specs.Host.{no_host}
 use Rattle.tftp_capture.specs.declared.fault.TextFault.TheVariants.{BadHex, PayloadTooLong}
 use Rattle.tftp_capture.specs.declared.stop.Stop.{Stop}
 use Rattle.tftp_capture.specs.declared.stop.Stop.TheVariants.{Text, Read, Memory}
@@ -7,6 +8,7 @@ use Rattle.tftp_capture.specs.declared.datagram.Datagram.{Datagram as Owned}
 use Rattle.tftp_capture.specs.declared.datagram.Header.{Header as OwnedHeader}
 use Rattle.tftp_capture.specs.CaptureText.{Datagram, Header, BodyFault, SaysDatagram, SpellsPayload, total_line}
 use Rattle.tftp_capture.specs.declared.version.Version.{Version}
+use Rattle.tftp_capture.specs.declared.version.Version.TheVariants.{One, Two}
 
 -- the datagram that a value in memory is
 abbrev pub datagram_of : Owned → Datagram
@@ -15,6 +17,22 @@ datagram_of d = record { dir = d.dir; local = d.local_port; host = d.remote_host
 -- the header that a value in memory is
 abbrev pub header_of : OwnedHeader → Header
 header_of h = record { named = h.named; service = h.service }
+
+-- the answer of a call that fills what the caller holds: a success answers what is held then
+abbrev pub filled : {T E : Type 0} → Result (Unit {0}) E → T → Result T E
+filled (Ok _) held = Ok held
+filled (Err e) held = Err e
+
+-- the same of a call that also says whether there was anything
+abbrev pub filled_if : {T E : Type 0} → Result Bool E → T → Result (Option T) E
+filled_if (Ok true) held = Ok (Some held)
+filled_if (Ok false) held = Ok None
+filled_if (Err e) held = Err e
+
+-- the pieces of a line begin with these fields of a datagram's, but its digits; version 1 has no piece for the host
+abbrev pub BeginWithFields : Version → List (List ℕ) → (word local host remote : List ℕ) → List (List ℕ) → Type 0
+BeginWithFields One ps word local host remote rest = (ps ≡ word ∷ local ∷ remote ∷ rest) × (host ≡ no_host)
+BeginWithFields Two ps word local host remote rest = ps ≡ word ∷ local ∷ host ∷ remote ∷ rest
 
 -- a payload, or why the digits spell none that a datagram can carry
 abbrev pub PayloadEnds : Result (List ℕ) Stop → List ℕ → Type 0

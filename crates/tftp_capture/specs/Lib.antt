@@ -1,4 +1,5 @@
 pub mod CaptureText
+pub mod Digits
 pub mod Drips
 pub mod Fields
 pub mod History

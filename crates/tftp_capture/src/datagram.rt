@@ -1,3 +1,6 @@
+ghost use Rattle.std.specs.Prelude.{◌≡◌, []};
+
+use std::alloc::Global;
 use tftp_packet::{Bytes, Dir, End, Host};
 
 /// Whose capture it is.
@@ -22,4 +25,19 @@ pub struct Datagram {
     pub remote_port: u16,
     /// What it carried, at most 65,527 bytes.
     pub payload: Bytes,
+}
+
+impl Datagram {
+    /// A datagram without a payload, to be filled by a reader; it takes no memory.
+    pub fn empty(alloc: Global) -> Self
+        ensures { result.payload ≡ [] }
+    {
+        Datagram {
+            dir: Dir::In,
+            local_port: 1,
+            remote_host: Host::none(),
+            remote_port: 1,
+            payload: Bytes::of(Vec::new(alloc)),
+        }
+    }
 }

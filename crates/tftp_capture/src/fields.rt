@@ -1,17 +1,17 @@
-ghost use Rattle.std.specs.Prelude.{◌≡◌, ◌≢◌, ◌∷◌, ℕ, List, [], codes, Err, MatchOption};
+ghost use Rattle.std.specs.Prelude.{◌≡◌, ◌≢◌, ◌∷◌, ℕ, List, [], codes, Err, MatchOption, OnOk};
 ghost use Rattle.std.specs.List.{list_all};
 ghost use Rattle.std.specs.Char.{is_ascii_hexdigit};
 ghost use Rattle.tftp_capture.specs.CaptureText.{dir_word, end_line, service_line, pieces, AreFields, IsPort, SpellsPort};
-ghost use Rattle.tftp_capture.specs.Fields.{BodyEnds, DatagramEnds, PayloadEnds, TotalEnds};
+ghost use Rattle.tftp_capture.specs.Fields.{BeginWithFields, BodyEnds, DatagramEnds, PayloadEnds, TotalEnds, filled, filled_if};
 
 use crate::datagram::Datagram;
+use crate::digits::decode;
 use crate::fault::TextFault;
 use crate::line::count_before;
 use crate::stop::Stop;
 use crate::version::Version;
 use hex::FromHexError;
 use itoa::Buffer;
-use std::alloc::Global;
 use tftp_packet::{Bytes, Dir, End, Host};
 
 /// The most bytes of a payload: the 65,535 that a UDP length counts, less the header's 8 (RFC 768).
@@ -33,15 +33,17 @@ fn cut(text: &[u8]) -> Option<(&[u8], &[u8])>
 fn port(text: &[u8]) -> Option<u16>
     ensures { MatchOption result ((port : ℕ) → SpellsPort text.now port → ⊥) (SpellsPort text.now) }
 {
-    let Ok(digits) = str::from_utf8(text) else {
+    if text.is_empty() || text[0] == b'0' {
         return None;
-    };
-    let Ok(number) = digits.parse::<u16>() else {
-        return None;
-    };
-    let mut buffer = Buffer::new();
-    if number == 0 || buffer.format(number).as_bytes() != text {
-        return None;
+    }
+    let mut number: u16 = 0;
+    for byte in text {
+        if !byte.is_ascii_digit() {
+            return None;
+        }
+        number = number
+            .checked_mul(10)?
+            .checked_add(u16::from(*byte - b'0'))?;
     }
     Some(number)
 }
@@ -99,23 +101,24 @@ fn refused(digits: &[u8]) -> Stop
     Stop::Memory
 }
 
-/// The payload that is spelled.
-fn payload(alloc: Global, digits: &[u8]) -> Result<Bytes, Stop>
-    ensures { PayloadEnds result digits.now }
+/// Fills a payload with the bytes that are spelled, in the memory that it has.
+fn fill_payload(digits: &[u8], payload: &mut Vec<u8>) -> Result<(), Stop>
+    ensures { PayloadEnds (filled result payload.new.items) digits.now }
 {
     if digits == b"-".as_slice() {
-        return Ok(Bytes::of(Vec::new(alloc)));
+        payload.clear();
+        return Ok(());
     }
-    match hex::decode(alloc, digits) {
-        Ok(bytes) if bytes.is_empty() => Err(Stop::Text(TextFault::BadHex)),
-        Ok(bytes) if bytes.len() > LONGEST_PAYLOAD => Err(Stop::Text(TextFault::PayloadTooLong)),
-        Ok(bytes) => Ok(Bytes::of(bytes)),
+    match decode(digits, payload) {
+        Ok(()) if payload.is_empty() => Err(Stop::Text(TextFault::BadHex)),
+        Ok(()) if payload.len() > LONGEST_PAYLOAD => Err(Stop::Text(TextFault::PayloadTooLong)),
+        Ok(()) => Ok(()),
         Err(FromHexError::OutOfMemory) => Err(refused(digits)),
         Err(_) => Err(Stop::Text(TextFault::BadHex)),
     }
 }
 
-/// The fields of a datagram's line after its first word.
+/// The fields of a datagram's line after its first word; the last one reaches to the line's end, spaces and all.
 #[derive(Clone, Copy)]
 struct Fields<'a> {
     local: &'a [u8],
@@ -128,7 +131,7 @@ struct Fields<'a> {
 fn cut_fields(version: Version, text: &[u8]) -> Option<Fields<'_>>
     ensures { (word : List ℕ) → MatchOption result
         ((local host remote digits : List ℕ) → AreFields version (word ∷ pieces text.now) word local host remote digits → ⊥)
-        (λ fields. AreFields version (word ∷ pieces text.now) word fields.local.now fields.host.now fields.remote.now fields.digits.now) }
+        (λ fields. BeginWithFields version (word ∷ pieces text.now) word fields.local.now fields.host.now fields.remote.now (pieces fields.digits.now)) }
 {
     let (local, rest) = cut(text)?;
     let (host, rest) = match version {
@@ -136,9 +139,6 @@ fn cut_fields(version: Version, text: &[u8]) -> Option<Fields<'_>>
         Version::Two => cut(rest)?,
     };
     let (remote, digits) = cut(rest)?;
-    if cut(digits).is_some() {
-        return None;
-    }
     Some(Fields {
         local,
         host,
@@ -147,13 +147,12 @@ fn cut_fields(version: Version, text: &[u8]) -> Option<Fields<'_>>
     })
 }
 
-/// The datagram that the fields after its first word spell.
-fn datagram(alloc: Global, version: Version, dir: Dir, text: &[u8]) -> Result<Datagram, Stop>
-    ensures { (line : List ℕ) (count : ℕ) → pieces line ≡ dir_word dir ∷ pieces text.now → DatagramEnds version result line count }
+/// Fills a datagram with what the fields spell. After a fault it is one of which nothing is said.
+fn fill_with(dir: Dir, fields: Fields<'_>, datagram: &mut Datagram) -> Result<(), Stop>
+    ensures ends { (version : Version) (line : List ℕ) (count : ℕ) → AreFields version (pieces line) (dir_word dir) fields.entry.local.now fields.entry.host.now fields.entry.remote.now fields.entry.digits.now
+        → DatagramEnds version (filled result datagram.new) line count }
+    ensures whole { OnOk result (pieces fields.entry.digits.now ≡ fields.entry.digits.now ∷ []) }
 {
-    let Some(fields) = cut_fields(version, text) else {
-        return Err(Stop::Text(TextFault::BadLine));
-    };
     let Some(local_port) = port(fields.local) else {
         return Err(Stop::Text(TextFault::BadPort));
     };
@@ -163,14 +162,36 @@ fn datagram(alloc: Global, version: Version, dir: Dir, text: &[u8]) -> Result<Da
     let Some(remote_host) = Host::new(fields.host) else {
         return Err(Stop::Text(TextFault::BadHost));
     };
-    let payload = payload(alloc, fields.digits)?;
-    Ok(Datagram {
+    let mut payload = datagram.payload.take();
+    let ended = fill_payload(fields.digits, &mut payload);
+    *datagram = Datagram {
         dir,
         local_port,
         remote_host,
         remote_port,
-        payload,
-    })
+        payload: Bytes::of(payload),
+    };
+    ended
+}
+
+/// Fills a datagram with what the text after the first word says. Where the last field spells a payload it is one
+/// piece; only where something is wrong is it looked through for a space.
+fn fill_datagram(
+    version: Version,
+    dir: Dir,
+    text: &[u8],
+    datagram: &mut Datagram,
+) -> Result<(), Stop>
+    ensures { (line : List ℕ) (count : ℕ) → pieces line ≡ dir_word dir ∷ pieces text.now → DatagramEnds version (filled result datagram.new) line count }
+{
+    let Some(fields) = cut_fields(version, text) else {
+        return Err(Stop::Text(TextFault::BadLine));
+    };
+    let ended = fill_with(dir, fields, datagram);
+    if ended.is_err() && cut(fields.digits).is_some() {
+        return Err(Stop::Text(TextFault::BadLine));
+    }
+    ended
 }
 
 /// Whether the number of a total line is the number of the datagrams.
@@ -188,25 +209,26 @@ fn total(fields: &[u8], count: u64) -> Result<(), Stop>
     }
 }
 
-/// What a line says where a datagram or the total is due: a datagram, or none for the total.
+/// What a line says where a datagram or the total is due: a datagram, with which the caller's is filled, or none for the
+/// total.
 pub fn body_line(
-    alloc: Global,
     version: Version,
     line: &[u8],
     count: u64,
-) -> Result<Option<Datagram>, Stop>
-    ensures { BodyEnds version result line.now count }
+    datagram: &mut Datagram,
+) -> Result<bool, Stop>
+    ensures { BodyEnds version (filled_if result datagram.new) line.now count }
 {
     let Some((word, fields)) = cut(line) else {
         return Err(Stop::Text(TextFault::BadLine));
     };
     if let Some(dir) = dir_of(word) {
-        let datagram = datagram(alloc, version, dir, fields)?;
-        return Ok(Some(datagram));
+        fill_datagram(version, dir, fields, datagram)?;
+        return Ok(true);
     }
     if word != b"total".as_slice() {
         return Err(Stop::Text(TextFault::BadLine));
     }
     total(fields, count)?;
-    Ok(None)
+    Ok(false)
 }

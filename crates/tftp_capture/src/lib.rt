@@ -3,6 +3,7 @@
 
 mod ahead;
 mod datagram;
+mod digits;
 mod drip;
 mod fault;
 mod fields;

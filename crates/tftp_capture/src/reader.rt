@@ -1,7 +1,7 @@
 ghost use Rattle.std.specs.Prelude.{◌≡◌, ◌≢◌, ◌+◌, ◌^◌, ◌<◌, ◌≤◌, ◌⊎◌, ℕ, List, [], length, true, false, IfOk, IfErr, IfSome, IsErrAnd, OnOk};
 ghost use Rattle.std.specs.Io.KnownBytes.{prepend_known, Consumes, IsAtEnd};
 ghost use Rattle.tftp_capture.specs.CaptureText.{Header as HeaderParts, Numbered};
-ghost use Rattle.tftp_capture.specs.Fields.{header_of};
+ghost use Rattle.tftp_capture.specs.Fields.{filled_if, header_of};
 ghost use Rattle.tftp_capture.specs.History.{Answers, Continues, FailsToBegin, GivesNone, GoesOn, HasService, IsAtTextEnd, IsReadFault, IsReadStanding, KeepsAnswer, StandsFor, standing_after};
 
 use crate::datagram::{Datagram, Header};
@@ -110,20 +110,54 @@ impl CaptureReader {
         ensures fits { IfOk result (λ answer. IfSome answer (λ d. length d.payload ≤ 65527)) }
         ensures header { self.new.header ≡ self.old.header }
     {
+        let mut datagram = Datagram::empty(alloc);
+        match self.next_into(reader, &mut datagram) {
+            Ok(true) => Ok(Some(datagram)),
+            Ok(false) => Ok(None),
+            Err(fault) => Err(fault),
+        }
+    }
+
+    /// Reads the next datagram into what the caller holds, in the memory of its payload; false, for good, once the text
+    /// has ended without a fault. A fault is answered for good. Where no datagram was read, nothing is said of what the
+    /// caller holds.
+    pub fn next_into<R: Read>(
+        &mut self,
+        reader: &mut Tallied<R>,
+        datagram: &mut Datagram,
+    ) -> Result<bool, CaptureFault>
+        requires told { IsReadStanding self.old.standing → reader.old.1 ≡ true }
+        ensures continues { (text : List ℕ) (datagrams : List Numbered) → StandsFor self.old text datagrams
+            → Continues self.old self.new (prepend_known self.old.lines.ahead (R.remaining reader.old.0)) (prepend_known self.new.lines.ahead (R.remaining reader.new.0)) (filled_if result datagram.new) text datagrams }
+        ensures standing { self.new.standing ≡ standing_after (filled_if result datagram.new) }
+        ensures kept { KeepsAnswer self.old.standing (filled_if result datagram.new) }
+        ensures untouched { self.old.standing ≢ Standing.Open → (self.new ≡ self.old) × (reader.new ≡ reader.old) }
+        ensures end { self.old.standing ≡ Standing.Open → (filled_if result datagram.new) ≡ Ok None → IsAtEnd (prepend_known self.new.lines.ahead (R.remaining reader.new.0)) }
+        ensures cut { self.old.standing ≡ Standing.Open → IfErr (filled_if result datagram.new) (λ fault. IsAtTextEnd fault → IsAtEnd (prepend_known self.new.lines.ahead (R.remaining reader.new.0))) }
+        ensures read { IfErr (filled_if result datagram.new) (λ fault. IsReadFault fault → reader.new.1 ≡ true) }
+        ensures tally { IsErrAnd (filled_if result datagram.new) IsReadFault ⊎ (reader.new.1 ≡ reader.old.1) }
+        ensures drained { self.old.standing ≡ Standing.Open → IfErr (filled_if result datagram.new) (λ fault. IsReadFault fault → self.new.lines.ahead ≡ []) }
+        ensures told { IsReadStanding self.new.standing → reader.new.1 ≡ true }
+        ensures rises { IfOk (filled_if result datagram.new) (λ answer. IfSome answer (λ _. self.old.handed < self.new.handed)) }
+        ensures line { self.new.handed ≤ 2 ^ 40 }
+        ensures stays { GivesNone (filled_if result datagram.new) → self.new.handed ≡ self.old.handed }
+        ensures fits { IfOk (filled_if result datagram.new) (λ answer. IfSome answer (λ d. length d.payload ≤ 65527)) }
+        ensures header { self.new.header ≡ self.old.header }
+    {
         match self.standing {
             Standing::Open => {}
-            Standing::Over => return Ok(None),
+            Standing::Over => return Ok(false),
             Standing::Failed(fault) => return Err(fault),
         }
-        match read_on(&mut self.lines, alloc, reader, self.count) {
-            Ok(Some(datagram)) => {
+        match read_on(&mut self.lines, reader, self.count, datagram) {
+            Ok(true) => {
                 self.count += 1;
                 self.handed = self.lines.count();
-                Ok(Some(datagram))
+                Ok(true)
             }
-            Ok(None) => {
+            Ok(false) => {
                 self.standing = Standing::Over;
-                Ok(None)
+                Ok(false)
             }
             Err(fault) => {
                 self.standing = Standing::Failed(fault);
@@ -153,31 +187,31 @@ impl CaptureReader {
 /// Reads to the next datagram, or over the total to the text's end, after `count` datagrams.
 fn read_on<R: Read>(
     lines: &mut Lines,
-    alloc: Global,
     reader: &mut Tallied<R>,
     count: u64,
-) -> Result<Option<Datagram>, CaptureFault>
+    datagram: &mut Datagram,
+) -> Result<bool, CaptureFault>
     ensures answers { (header : HeaderParts) (text : List ℕ) (datagrams : List Numbered) → GoesOn header lines.old count text datagrams
-        → Answers (prepend_known lines.old.ahead (R.remaining reader.old.0)) (prepend_known lines.new.ahead (R.remaining reader.new.0)) result header lines.new count text datagrams }
-    ensures end { result ≡ Ok None → IsAtEnd (prepend_known lines.new.ahead (R.remaining reader.new.0)) }
-    ensures cut { IfErr result (λ fault. IsAtTextEnd fault → IsAtEnd (prepend_known lines.new.ahead (R.remaining reader.new.0))) }
-    ensures read { IfErr result (λ fault. IsReadFault fault → reader.new.1 ≡ true) }
-    ensures drained { IfErr result (λ fault. IsReadFault fault → lines.new.ahead ≡ []) }
-    ensures tally { IsErrAnd result IsReadFault ⊎ (reader.new.1 ≡ reader.old.1) }
-    ensures rises { IfOk result (λ answer. IfSome answer (λ _. lines.old.count < lines.new.count)) }
+        → Answers (prepend_known lines.old.ahead (R.remaining reader.old.0)) (prepend_known lines.new.ahead (R.remaining reader.new.0)) (filled_if result datagram.new) header lines.new count text datagrams }
+    ensures end { (filled_if result datagram.new) ≡ Ok None → IsAtEnd (prepend_known lines.new.ahead (R.remaining reader.new.0)) }
+    ensures cut { IfErr (filled_if result datagram.new) (λ fault. IsAtTextEnd fault → IsAtEnd (prepend_known lines.new.ahead (R.remaining reader.new.0))) }
+    ensures read { IfErr (filled_if result datagram.new) (λ fault. IsReadFault fault → reader.new.1 ≡ true) }
+    ensures drained { IfErr (filled_if result datagram.new) (λ fault. IsReadFault fault → lines.new.ahead ≡ []) }
+    ensures tally { IsErrAnd (filled_if result datagram.new) IsReadFault ⊎ (reader.new.1 ≡ reader.old.1) }
+    ensures rises { IfOk (filled_if result datagram.new) (λ answer. IfSome answer (λ _. lines.old.count < lines.new.count)) }
     ensures grows { lines.old.count ≤ lines.new.count }
     ensures few { lines.new.count ≤ 2 ^ 40 }
-    ensures fits { IfOk result (λ answer. IfSome answer (λ d. length d.payload ≤ 65527)) }
+    ensures fits { IfOk (filled_if result datagram.new) (λ answer. IfSome answer (λ d. length d.payload ≤ 65527)) }
 {
     if let Err(stop) = lines.next_said(reader) {
         let due = lines.count() + 1;
         return Err(stop.at(due));
     }
     let line = lines.count();
-    match body_line(alloc, lines.version(), lines.line(), count) {
-        Ok(Some(datagram)) => Ok(Some(datagram)),
-        Ok(None) => match lines.finish(reader) {
-            Ok(()) => Ok(None),
+    match body_line(lines.version(), lines.line(), count, datagram) {
+        Ok(true) => Ok(true),
+        Ok(false) => match lines.finish(reader) {
+            Ok(()) => Ok(false),
             Err(stop) => Err(stop.at(line + 1)),
         },
         Err(stop) => Err(stop.at(line)),

@@ -8,6 +8,7 @@ ghost use Rattle.tftp_capture.specs.Fields.{header_of};
 ghost use Rattle.tftp_capture.specs.Written.{header_text, HasWritten};
 
 use crate::datagram::Header;
+use crate::digits::encode;
 use crate::fault::WriteFault;
 use crate::gathered::Gathered;
 use crate::tallied::Tallied;
@@ -210,7 +211,7 @@ fn put_hex<W: Write>(
         let size = (payload.len() - done).min(BYTES_AT_ONCE);
         let piece = &payload[done..done + size];
         let text = &mut digits[..2 * size];
-        hex::encode_to_slice(piece, text).unwrap();
+        encode(piece, text);
         gathered.add(writer, text)?;
         done += size;
     }

@@ -1,6 +1,7 @@
-ghost use Rattle.std.specs.Prelude.{◌≡◌};
+ghost use Rattle.std.specs.Prelude.{◌≡◌, []};
 
 use std::marker::Model;
+use std::mem;
 
 /// Bytes on the heap, seen as their list.
 #[derive(Debug, Drop)]
@@ -38,5 +39,14 @@ impl Bytes {
     {
         let Bytes { bytes } = self;
         bytes
+    }
+
+    /// Hands the vector out, to be filled anew, and keeps an empty one; it takes no memory.
+    pub fn take(&mut self) -> Vec<u8>
+        ensures value { result.items ≡ self.old }
+        ensures empty { self.new ≡ [] }
+    {
+        let empty = Vec::new(*self.bytes.allocator());
+        mem::replace(&mut self.bytes, empty)
     }
 }

@@ -1,6 +1,6 @@
 use Rattle.std.proofs.Common.{◌≢◌, length, inl, inr, sym, ◌∙◌, arith}
 use Rattle.std.proofs.lemmas.Bool.Decides.{nat_tests}
-use Rattle.tftp_capture.proofs.Digits.{no_payload, some_payload}
+use Rattle.tftp_capture.proofs.Payloads.{no_payload, some_payload}
 use Rattle.tftp_capture.proofs.fields.refused.Goals as goal
 use Rattle.tftp_capture.proofs.fields.refused.Goals.{then-is_empty-via-then-is_empty, then-is_empty-via-else-is_empty+then-digits-eq1, then-is_empty-via-else-is_empty+else-digits-eq1+then-not-are_digits}
 

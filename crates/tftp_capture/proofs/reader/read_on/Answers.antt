@@ -7,19 +7,19 @@ pub returns-in-Err-clause-answers : goal.returns-in-Err-clause-answers
 returns-in-Err-clause-answers g c = λ header text datagrams goes.
     rw (c.at.ensures, c.count-due.ensures.value) (stop_answers header c.args.lines.now c.next_said.new.self c.args.count text datagrams _ _ goes c.in-Err.stop c.in-Err.ensures.reaches)
 
-pub returns-in-Ok-Some-clause-answers : goal.returns-in-Ok-Some-clause-answers
-returns-in-Ok-Some-clause-answers g c = λ header text datagrams goes.
-    let says = rw (c.in-Ok-Some.field-0-is, c.line.ensures.value, c.version.ensures) at c.in-Ok-Some.ensures in
-    datagram_answers header c.args.lines.now c.next_said.new.self c.args.count text datagrams _ _ goes c.in_default.ensures.reaches c.in-Ok-Some.datagram says
+pub returns-in-Ok-true-clause-answers : goal.returns-in-Ok-true-clause-answers
+returns-in-Ok-true-clause-answers g c = λ header text datagrams goes.
+    let says = rw (c.in-Ok-true.field-0-test, c.line.ensures.value, c.version.ensures) at c.in-Ok-true.ensures in
+    datagram_answers header c.args.lines.now c.next_said.new.self c.args.count text datagrams _ _ goes c.in_default.ensures.reaches c.body_line.new.datagram says
 
 pub returns-in-Ok-clause-answers : goal.returns-in-Ok-clause-answers
 returns-in-Ok-clause-answers g c = λ header text datagrams goes.
-    let is = rw (c.in-Ok-None.field-0-is, c.line.ensures.value) at c.in-Ok-None.ensures in
+    let is = rw (c.in-Ok-false.field-0-test, c.line.ensures.value) at c.in-Ok-false.ensures in
     capture_answers header c.args.lines.now c.next_said.new.self c.args.count text datagrams _ _ goes c.in_default.ensures.reaches c.finish.new.self _ _ is c.in-Ok.ensures.ends.1 c.in-Ok.ensures.ends.2
 
 pub returns-in-Err-finish-clause-answers : goal.returns-in-Err-finish-clause-answers
 returns-in-Err-finish-clause-answers g c = λ header text datagrams goes.
-    let is = rw (c.in-Ok-None.field-0-is, c.line.ensures.value) at c.in-Ok-None.ensures in
+    let is = rw (c.in-Ok-false.field-0-test, c.line.ensures.value) at c.in-Ok-false.ensures in
     rw (c.at-in-Err-finish.ensures, c.count-line.ensures.value)
     (end_answers header c.args.lines.now c.next_said.new.self c.args.count text datagrams _ _ goes c.in_default.ensures.reaches c.finish.new.self _ _ c.in-Err-finish.stop is c.in-Err-finish.ensures.ends.1 c.in-Err-finish.ensures.ends.2)
 

@@ -1,13 +1,17 @@
 -- Hex digits and the payload that they spell.
-use Rattle.std.proofs.Common.{◌≡◌, ◌≢◌, ℕ, ◌*◌, ◌%◌, ◌⊎◌, inl, inr, true, false, true≢false, List, [], ◌∷◌, length, codes, sym, ap, ◌∙◌, refl, arith}
+use Rattle.std.proofs.Common.{◌≡◌, ◌≢◌, ℕ, ◌*◌, ◌%◌, ◌==◌, ◌⊎◌, inl, inr, true, false, true≢false, List, [], ◌∷◌, length, codes, sym, ap, ◌∙◌, refl, arith}
+use Rattle.std.specs.Prelude.{Result, Ok, Err, OnOk, is_err}
 use Rattle.std.proofs.lemmas.Bool.Decides.{nat_tests}
 use Rattle.std.specs.List.{list_all, AllPass}
 use Rattle.std.specs.Char.{is_ascii_hexdigit}
 use Rattle.std.proofs.lemmas.List.Elements.{All-weaker}
+use Rattle.std.proofs.lemmas.List.Splits.{slice_split_none}
 use Rattle.std.proofs.lemmas.List.Sums.{AllPass-from_list_all, list_all-from_AllPass}
 use Rattle.hex.specs.Hex.{is_hex_digit}
 use Rattle.hex.proofs.HexLemmas.{decode_of-digits, decode_of-ok}
-use Rattle.tftp_capture.specs.CaptureText.{SpellsPayload}
+use Rattle.tftp_capture.specs.declared.stop.Stop.{Stop}
+use Rattle.tftp_capture.specs.CaptureText.{SpellsPayload, pieces}
+use Rattle.tftp_capture.specs.Fields.{PayloadEnds, filled}
 
 is_digit : (c : ℕ) → is_ascii_hexdigit c ≡ true → is_hex_digit c ≡ true
 is_digit c h = grind (arith, nat_tests)
@@ -39,3 +43,20 @@ no_payload digits payload other (inr s) wrong =
       | inr (inl odd) ↦ absurd (omega (arith, odd, is.0))
       | inr (inr other) ↦ true≢false (sym all ∙ other)
     ]
+
+digit_no_space : (c : ℕ) → is_hex_digit c ≡ true → (c == 32) ≡ false
+digit_no_space c h = grind (arith, nat_tests)
+
+-- what spells a payload is one piece
+pub payload_whole : (digits payload : List ℕ) → SpellsPayload digits payload → pieces digits ≡ digits ∷ []
+payload_whole digits payload (inl s) = rw s.0 refl
+payload_whole digits payload (inr s) = slice_split_none (λ b. b == 32) digits (All-weaker (λ c. is_hex_digit c ≡ true) (λ c. (c == 32) ≡ false) digit_no_space digits (decode_of-ok digits payload s.1).1)
+
+-- the same of digits by which a payload was filled
+pub filled_whole : (digits payload : List ℕ) (ended : Result (Unit {0}) Stop) → PayloadEnds (filled ended payload) digits → OnOk ended (pieces digits ≡ digits ∷ [])
+filled_whole digits payload (Ok _) p = payload_whole digits payload p.0
+filled_whole digits payload (Err _) p = tt
+
+pub ok_whole : (digits : List ℕ) (ended : Result (Unit {0}) Stop) → OnOk ended (pieces digits ≡ digits ∷ []) → is_err ended ≡ false → pieces digits ≡ digits ∷ []
+ok_whole digits (Ok _) p e = p
+ok_whole digits (Err _) p e = absurd (true≢false e)

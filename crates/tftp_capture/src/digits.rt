@@ -1,0 +1,87 @@
+ghost use Rattle.std.specs.Prelude.{◌≡◌, ◌*◌, ◌<◌, ◌⊎◌, false, true, length, slice_index, Ok, Err, IsErr, IfErr, OnOk, MatchResult};
+ghost use Rattle.hex.specs.Hex.{decode_of, decode_sized, encode_lower, lower_digits};
+ghost use Rattle.hex.specs.declared.error.FromHexError.TheVariants.{OutOfMemory};
+ghost use Rattle.tftp_capture.specs.Digits.{IsNibble};
+
+use hex::FromHexError;
+
+/// The value of a digit of either case, and 16 or more for every other byte.
+#[inline(always)]
+fn nibble(byte: u8) -> u8
+    ensures { IsNibble byte result }
+{
+    let digit = byte
+        .wrapping_add(0xff - b'9')
+        .saturating_sub(6)
+        .wrapping_sub(0xf0);
+    let letter = (byte & 0xdf).wrapping_sub(b'A').saturating_add(10);
+    digit.min(letter)
+}
+
+/// Decodes each pair of digits without a branch on any of them, and answers whether all are digits; where one is not,
+/// what was written is not specified.
+fn decode_pairs(digits: &[u8], bytes: &mut [u8]) -> bool
+    requires { length digits.now ≡ 2 * length bytes.old }
+    ensures decoded { result ≡ true → decode_of digits.now ≡ Ok bytes.new }
+    ensures refused { result ≡ false → IsErr (decode_of digits.now) }
+{
+    let mut most = 0u8;
+    let mut rest = digits;
+    for byte in bytes.iter_mut() {
+        let high = nibble(rest[0]);
+        let low = nibble(rest[1]);
+        most = most.max(high).max(low);
+        *byte = high.wrapping_mul(16).wrapping_add(low);
+        rest = rest.split_at(2).1;
+    }
+    most < 16
+}
+
+/// Decodes as `hex::decode_to_slice` does, which names what is wrong where no payload is spelled.
+fn decode_to_slice(digits: &[u8], bytes: &mut [u8]) -> Result<(), FromHexError>
+    ensures value { MatchResult (decode_sized digits.now (length bytes.old))
+        (λ decoded. (result ≡ Ok tt) × (bytes.new ≡ decoded))
+        (λ fault. result ≡ Err fault) }
+{
+    if digits.len() % 2 == 0 && digits.len() / 2 == bytes.len() && decode_pairs(digits, bytes) {
+        return Ok(());
+    }
+    hex::decode_to_slice(digits, bytes)
+}
+
+/// Decodes as `hex::decode` does, in the memory of a vector, which holds these bytes then and no others. After a fault
+/// what it holds is not specified.
+pub fn decode(digits: &[u8], bytes: &mut Vec<u8>) -> Result<(), FromHexError>
+    ensures ok { OnOk result (decode_of digits.now ≡ Ok bytes.new.items) }
+    ensures err { IfErr result (λ fault. (fault ≡ OutOfMemory) ⊎ (decode_of digits.now ≡ Err fault)) }
+{
+    bytes.resize(digits.len() / 2, 0)?;
+    decode_to_slice(digits, bytes.as_mut_slice())
+}
+
+/// The lower-case digit of a value.
+#[inline(always)]
+fn digit(value: u8) -> u8
+    requires { value < 16 }
+    ensures { result ≡ slice_index lower_digits value }
+{
+    if value < 10 {
+        value + b'0'
+    } else {
+        value + (b'a' - 10)
+    }
+}
+
+/// Writes each byte as two digits, in lower case.
+pub fn encode(bytes: &[u8], digits: &mut [u8])
+    requires { length digits.old ≡ 2 * length bytes.now }
+    ensures { digits.new ≡ encode_lower bytes.now }
+{
+    for i in 0..bytes.len() {
+        let byte = bytes[i];
+        let high = digit(byte / 16);
+        let low = digit(byte % 16);
+        digits[2 * i] = high;
+        digits[2 * i + 1] = low;
+    }
+}
