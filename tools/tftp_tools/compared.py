@@ -310,12 +310,10 @@ def ack_ahead(history: History, it: Datagram, fault: str) -> Lines:
     error = history.error("in")
     if history.is_receiver():
         missing, highest = history.front + 1, max(history.blocks, default=0)
-        lines = [f"{cap(blocks_to(history.front))} had come in." if history.front else "Block 1 had not come in."]
-        if missing < block:
-            later = f", though block {highest} had" if highest > history.front else ""
-            lines.append(f"Block {missing} had not{later}, and block {block} is acknowledged.")
-        else:
-            lines.append(f"Block {block}, which had not, is acknowledged.")
+        later = f", though block {highest} had" if highest > history.front else ""
+        lines = [f"{cap(blocks_to(history.front))} had come in, block {missing} had not{later}."]
+        lines = lines if history.front else [f"Block 1 had not come in{later}."]
+        lines.append(f"Block {block} is acknowledged.")
         if error and it.goes_out() and block == history.front + 1:
             lines.append(f"It follows the ERROR in {at(error)}, which is not acknowledged; this does no harm.")
         return lines
