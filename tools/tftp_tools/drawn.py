@@ -107,13 +107,13 @@ def span(blocks: list[int], thing: str) -> str:
     return f"{thing} {low:,}" if low == high else f"{thing} {low:,} to {high:,}"
 
 
-def told_fold(row: Fold) -> str:
+def told_fold(row: Fold) -> tuple[str, str]:
+    """What a fold has: how many datagrams, and which blocks."""
     packets = [rung.passed.packet for rung in row.rungs]
     data = [packet.block for packet in packets if isinstance(packet, Data)]
     acks = [packet.block for packet in packets if isinstance(packet, Ack)]
     told = [f"{count(len(row.rungs), 'datagram')}, {row.rungs[0].number():,} to {row.rungs[-1].number():,}"]
-    told += [span(data, "DATA")] if data else []
-    told += [span(acks, "ACK")] if acks else []
+    blocks = ([span(data, "DATA")] if data else []) + ([span(acks, "ACK")] if acks else [])
     for number, thing in (
         (sum(rung.is_repeat for rung in row.rungs), "repeated"),
         (sum(rung.passed.place != "main" for rung in row.rungs), "not of the transfer"),
@@ -121,7 +121,7 @@ def told_fold(row: Fold) -> str:
     ):
         if number:
             told.append(f"{number:,} {thing}" if number < len(row.rungs) else f"all {thing}")
-    return "; ".join(told)
+    return "; ".join(told), "; ".join(blocks)
 
 
 def colour(rung: Rung) -> str:
@@ -148,7 +148,9 @@ class Drawing:
         self.capture, self.history, self.verdict, self.by_time = capture, history, verdict, by_time
         self.parts: list[str] = []
         self.y, self.last_time = float(TOP), None
+        # where the blocks of a window stand, and whether some of it are in a fold
         self.window: list[float] = []
+        self.is_part = False
 
     def text(self, x: float, y: float, words: str, size: int = 12, fill: str = "#333333", anchor: str = "start") -> None:
         style = f'font-size="{size}" fill="{fill}" text-anchor="{anchor}" {FONT}'
@@ -176,6 +178,8 @@ class Drawing:
         now = float(time) if time is not None else None
         if self.by_time and now is not None and self.last_time is not None:
             distance = min(max((now - self.last_time) * PER_SECOND, LEAST), MOST)
+            if distance == MOST:
+                self.text((LEFT + RIGHT) / 2, self.y + MOST / 2, f"{now - self.last_time:.3f} s", 11, "#777777", "middle")
         self.y += distance
         self.last_time = now
 
@@ -195,7 +199,7 @@ class Drawing:
             self.text((LEFT + RIGHT) / 2, self.y - 5, clipped(self.label(rung), 62), 11, self.words(rung), "middle")
         self.margin(rung)
         self.parts.append("</g>")
-        self.bracket(rung, sender)
+        self.bracket(rung)
 
     def from_aside(self, rung: Rung, stroke: str) -> None:
         """An arrow between the named end and what is none of the two."""
@@ -229,21 +233,24 @@ class Drawing:
     def margin(self, rung: Rung) -> None:
         """Number, frame and time at the left."""
         datagram, fill = rung.passed.datagram, COLOURS["refused"] if rung.is_refused else "#777777"
-        frame = f"  frame {datagram.frame:,}" if datagram.frame is not None else ""
         first = self.capture.datagrams[0].time
-        time = ""
+        self.text(58, self.y + 4, f"{datagram.number:,}", 10, fill, "end")
+        if datagram.frame is not None:
+            self.text(68, self.y + 4, f"frame {datagram.frame:,}", 10, fill)
         if datagram.time is not None and first is not None:
-            time = f"  {float(datagram.time) - float(first):.4f} s"
-        self.text(14, self.y + 4, f"{datagram.number:,}{frame}{time}", 10, fill)
+            self.text(150, self.y + 4, f"{float(datagram.time) - float(first):.4f} s", 10, fill)
 
-    def bracket(self, rung: Rung, sender: str) -> None:
+    def data_sender(self) -> str:
+        return "server" if self.history.kind() == "get" else "client"
+
+    def bracket(self, rung: Rung) -> None:
         """The blocks of a window, which ends with the next ACK, are bracketed beside their sender."""
         if self.history.window() == 1 or rung.passed.place != "main":
             return
         if isinstance(rung.passed.packet, Data):
             self.window.append(self.y)
         elif isinstance(rung.passed.packet, Ack):
-            self.end_window("server" if sender == "client" else "client")
+            self.end_window(self.data_sender())
 
     def end_window(self, sender: str) -> None:
         if len(self.window) > 1:
@@ -251,18 +258,20 @@ class Drawing:
             x, top, bottom = self.side(sender) + 8 * outward, self.window[0] - 8, self.window[-1] + 4
             path = f"M {x} {top:.1f} h {6 * outward} V {bottom:.1f} h {-6 * outward}"
             self.parts.append(f'<path d="{path}" fill="none" stroke="#888888"/>')
-            if outward == 1:
-                self.text(x + 12, (top + bottom) / 2 + 4, f"window, {count(len(self.window), 'block')}", 10, "#777777")
-        self.window = []
+            words = "part of a window" if self.is_part else f"window: {count(len(self.window), 'block')}"
+            anchor = "start" if outward == 1 else "end"
+            self.text(x + 12 * outward, (top + bottom) / 2 + 4, words, 10, "#777777", anchor)
+        self.window, self.is_part = [], False
 
     def fold(self, row: Fold) -> None:
-        sender = self.capture.sender(row.rungs[0].passed.datagram)
-        self.end_window("server" if self.history.kind() == "get" else sender)
-        self.y += FOLDED - STEP / 2
-        top, fill = self.y - 15, "#f1f1f1"
-        box = f'x="{LEFT + 6}" y="{top:.1f}" width="{RIGHT - LEFT - 12}" height="24" rx="5"'
-        self.parts.append(f'<rect {box} fill="{fill}" stroke="#cccccc" stroke-dasharray="3 3"/>')
-        self.text((LEFT + RIGHT) / 2, self.y + 1, clipped(told_fold(row), 74), 10, "#555555", "middle")
+        self.is_part = True
+        self.end_window(self.data_sender())
+        self.is_part = True
+        self.y += FOLDED
+        box = f'x="{LEFT + 6}" y="{self.y - 32:.1f}" width="{RIGHT - LEFT - 12}" height="38" rx="5"'
+        self.parts.append(f'<rect {box} fill="#f1f1f1" stroke="#cccccc" stroke-dasharray="3 3"/>')
+        for words, y in zip(told_fold(row), (self.y - 16, self.y - 2)):
+            self.text((LEFT + RIGHT) / 2, y, clipped(words, 74), 10, "#555555", "middle")
         self.y += STEP / 4
         self.last_time = None
 
@@ -314,5 +323,5 @@ def draw(capture: Capture, verdict: Verdict, rows: int, by_time: bool) -> str:
             drawing.fold(row)
         else:
             drawing.rung(row)
-    drawing.end_window("server" if history.kind() == "get" else "client")
+    drawing.end_window(drawing.data_sender())
     return drawing.picture()
