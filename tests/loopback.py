@@ -12,6 +12,7 @@ import contextlib
 import dataclasses
 import os
 import pathlib
+import re
 import shutil
 import signal
 import subprocess
@@ -46,7 +47,10 @@ def named(program: str) -> Optional[str]:
 
 @dataclasses.dataclass(frozen=True)
 class Case:
-    """A recording: the server, what the clients do, and the verdict on each transfer, at the client and at the server."""
+    """A recording: the server, what the clients do, and of each transfer the verdicts at the client and at the server.
+
+    A verdict is a regular expression, since what passes in which order is not always the same.
+    """
 
     name: str
     server: str
@@ -54,6 +58,8 @@ class Case:
     verdicts: tuple[tuple[str, str], ...]
     # what the relay between the two does to datagrams, where there is one
     disturbed: tuple[tuple[str, int, str], ...] = ()
+    # the files that come over as others
+    spoilt: tuple[str, ...] = ()
 
 
 def read(blocks: int, size: int, mode: str = "octet") -> str:
@@ -142,6 +148,14 @@ CASES = (
         both(read(6, 1300), read(6, 1300)),
         (("server", 3, "lost"), ("client", 6, "repeated")),
     ),
+    # curl takes the second OACK for one of a new transfer, sends its second 512 bytes as block 1, and says nothing
+    Case(
+        "repeated-oack", HPA,
+        (f"{CURL} -T report.bin tftp://{RELAY}/report.bin",),
+        both("refused datagram 5 rule 25 BlockChanged", "refused datagram [45] rule 25 BlockChanged"),
+        (("server", 1, "repeated"),),
+        ("report.bin",),
+    ),
 )
 
 
@@ -195,6 +209,20 @@ def table(program: str, recording: pathlib.Path) -> tuple[list[list[str]], str]:
     return [line.split(None, 4) for line in done.stdout.splitlines()[1:]], done.stderr
 
 
+def are_wanted(case: Case, rows: list[list[str]]) -> bool:
+    """Whether the table has the verdicts of the case."""
+    wanted = [
+        (str(number), end, verdict)
+        for number, verdicts in enumerate(case.verdicts, 1)
+        for end, verdict in zip(("client", "server"), verdicts)
+    ]
+    same = len(rows) == len(wanted)
+    return same and all(
+        (number, end) == (row[1], row[2]) and re.fullmatch(verdict, row[4])
+        for row, (number, end, verdict) in zip(rows, wanted)
+    )
+
+
 def try_case(trial: Trial, program: str, case: Case, keep: pathlib.Path) -> None:
     with tempfile.TemporaryDirectory() as name:
         folder = pathlib.Path(name)
@@ -203,18 +231,13 @@ def try_case(trial: Trial, program: str, case: Case, keep: pathlib.Path) -> None
         recording = keep / f"loopback-{case.name}.pcap"
         record(case, recording, folder)
         got, told = table(program, recording)
-        wanted = [
-            [str(number), end, verdict]
-            for number, verdicts in enumerate(case.verdicts, 1)
-            for end, verdict in zip(("client", "server"), verdicts)
-        ]
-        trial.check(f"{case.name}, the verdicts", [[*row[1:3], row[4]] for row in got] == wanted, (got, told))
+        trial.check(f"{case.name}, the verdicts", are_wanted(case, got), (got, told))
         for place, sizes in (("client", SIZES), ("root", UPLOADS)):
             other = folder / ("root" if place == "client" else "client")
             for name in sizes:
                 copy = folder / place / name
                 same = not copy.exists() or copy.read_bytes() == (other / name).read_bytes()
-                trial.check(f"{case.name}, {name} came over as it was", same)
+                trial.check(f"{case.name}, {name} came over", same == (name not in case.spoilt))
 
 
 def missing(case: Case) -> list[str]:

@@ -66,9 +66,10 @@ def rungs_of(capture: Capture, verdict: Verdict) -> tuple[list[Rung], History]:
 
 def kept(rungs: list[Rung], rows: int) -> set[int]:
     """The places that are drawn one by one: the ends, what is about the refused one, and what is of note, in turn."""
+    judged = [at for at, rung in enumerate(rungs) if not rung.is_after]
+    if len(judged) <= rows:
+        return set(range(min(len(rungs), len(judged) + NEAR))) | set(range(max(0, len(rungs) - NEAR // 2), len(rungs)))
     last = len(rungs)
-    if last <= rows:
-        return set(range(last))
     places = set(range(EDGE)) | set(range(last - EDGE, last))
     for at, rung in enumerate(rungs):
         if rung.is_refused:
