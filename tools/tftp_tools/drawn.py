@@ -121,7 +121,7 @@ def told_fold(row: Fold) -> tuple[str, str]:
         (sum(rung.is_after for rung in row.rungs), "not judged"),
     ):
         if number:
-            told.append(f"{number:,} {thing}" if number < len(row.rungs) else f"all {thing}")
+            told.append(f"{number:,} {thing}" if number < len(row.rungs) else thing)
     return "; ".join(told), "; ".join(blocks)
 
 

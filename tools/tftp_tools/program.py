@@ -12,6 +12,7 @@ from .errors import Refused, told
 
 REFUSED = re.compile(r"refused datagram ([0-9]+) rule ([0-9]+) ([A-Za-z0-9]+)(?: ([A-Za-z]+))?")
 FAULT = re.compile(r"fault line ([0-9]+) ([A-Za-z]+)")
+KNOWN = re.compile("(accepted|refused|aborted|incomplete|too long|fault) [ -~]+")
 HERE = Path(__file__).resolve().parent.parent
 
 
@@ -51,6 +52,6 @@ def check(program: str, text: bytes) -> Verdict:
     with told(f"cannot run {program!r}"):
         done = subprocess.run([program, "check"], input=text, stdout=subprocess.PIPE, check=False)
     line = done.stdout.decode("ascii", "backslashreplace").rstrip("\n")
-    if not line or "\n" in line or done.returncode not in (0, 1, 2):
+    if not KNOWN.fullmatch(line) or done.returncode not in (0, 1, 2):
         raise Refused(f"{program!r} gave no verdict: it printed {line!r} and ended with status {done.returncode}")
     return Verdict(line, done.returncode)

@@ -105,7 +105,7 @@ LISTED = (
         " read", "RFC 1350, section 4, and RFC 2347, Negotiation Protocol",
         "a server that sends DATA beside its OACK; or the ACK 0 is missing in the capture",
     ),
-    Rule(19, "BlockZero", "blocks are numbered from 1", "RFC 1350, section 5", "a server that rolls over past 65535"),
+    Rule(19, "BlockZero", "blocks are numbered from 1", "RFC 1350, section 5", "a sender that numbers its blocks from 0"),
     Rule(
         20, "BeyondBlock65535", "a transfer has at most 65,535 blocks", f"{PROFILE}: the block number of RFC 1350,"
         " section 5, has two bytes, and no RFC says what comes after the last",
@@ -125,7 +125,7 @@ LISTED = (
     ),
     Rule(
         23, "BlockSkipped", "a sender sends its blocks one after another", "RFC 1350, section 5, and RFC 7440, section 4",
-        "datagrams are missing in the capture, or a server that rolls over",
+        "datagrams are missing in the capture",
     ),
     Rule(
         24, "GoneBack", "in lock step a sender does not send an earlier block again", "RFC 1350, section 2, as RFC"
