@@ -165,16 +165,68 @@ def try_notes(trial: Trial) -> None:
     trial.check("another service port, named", run(["-", "--service", 6969], elsewhere)[2] == 0)
 
 
-def pcap(*payloads: bytes, cut: int = 0, ends_early: int = 0) -> bytes:
-    """A recording of datagrams from a client to a server, raw IPv4; the last one is cut by so many bytes."""
+def udp(source: int, target: int, payload: bytes) -> bytes:
+    return struct.pack(">HHHH", source, target, 8 + len(payload), 0) + payload
+
+
+def ip(source: str, target: str, protocol: int, payload: bytes, number: int = 1, fragment: int = 0) -> bytes:
+    """A packet of IPv4; `fragment` has the sign that more follow and the offset."""
+    addresses = bytes(int(part) for host in (source, target) for part in host.split("."))
+    return struct.pack(">BBHHHBBH", 0x45, 0, 20 + len(payload), number, fragment, 64, protocol, 0) + addresses + payload
+
+
+def pcap_of(*packets: bytes, cut: int = 0) -> bytes:
+    """A recording of raw IP, a second after one another; the last packet is cut by so many bytes."""
     made = struct.pack("<IHHiIII", 0xA1B2C3D4, 2, 4, 0, 0, 65_535, 101)
-    for number, payload in enumerate(payloads, 1):
-        addresses = bytes((192, 0, 2, 7, 192, 0, 2, 1))
-        header = struct.pack(">BBHHHBBH", 0x45, 0, 28 + len(payload), number, 0, 64, 17, 0) + addresses
-        packet = header + struct.pack(">HHHH", 40_000, 69, 8 + len(payload), 0) + payload
-        kept = len(packet) - (cut if number == len(payloads) else 0)
-        made += struct.pack("<IIII", number, 0, kept, len(packet)) + packet[:kept]
+    for number, packet in enumerate(packets, 1):
+        kept = len(packet) - (cut if number == len(packets) else 0)
+        made += struct.pack("<IIII", number // 1000, number, kept, len(packet)) + packet[:kept]
+    return made
+
+
+def pcap(*payloads: bytes, cut: int = 0, ends_early: int = 0) -> bytes:
+    """A recording of datagrams from a client to a server."""
+    packets = [ip(C, S, 17, udp(40_000, 69, payload), number) for number, payload in enumerate(payloads, 1)]
+    made = pcap_of(*packets, cut=cut)
     return made[: len(made) - ends_early]
+
+
+def packets_of(datagrams: list[Datagram]) -> list[bytes]:
+    return [ip(it[0], it[2], 17, udp(it[1], it[3], it[4][0]), number) for number, it in enumerate(datagrams, 1)]
+
+
+def try_layers(trial: Trial, program: str, folder: pathlib.Path) -> None:
+    """Tunnels, fragments that come in any order or not at all, and datagrams that were recorded twice."""
+    path, words = folder / "layers.pcap", ["--check", "--end", "client", "--program", program]
+    inner = packets_of(transfer("a", 40_000, 41_000))
+    sound = "accepted get octet blocks 1 bytes 2"
+    head = b"\2\0\0\0\0\1\2\0\0\0\0\2\x08\0"
+    for name, packets in (
+        ("IP in IP", [ip("192.0.2.53", "192.0.2.54", 4, packet, 7) for packet in inner]),
+        ("GRE", [ip("192.0.2.53", "192.0.2.54", 47, b"\0\0\x08\0" + packet, 7) for packet in inner]),
+        ("VXLAN", [ip("192.0.2.53", "192.0.2.54", 17, udp(5000, 4789, bytes((8, 0, 0, 0, 0, 0, 5, 0)) + head + it)) for it in inner]),
+    ):
+        path.write_bytes(pcap_of(*packets))
+        output, told, status = run([*words, path])
+        trial.check(f"in {name}", (output.splitlines()[1].split(None, 4)[4], told, status) == (sound, "", 0), (output, told))
+    block = udp(41_000, 40_000, data(1, b"hi" + b"." * 509)[0])
+    pieces = [ip(S, C, 17, block[:400], 9, 0x2000), ip(S, C, 17, block[400:], 9, 50)]
+    for name, packets, wanted in (
+        ("fragments", [inner[0], *pieces, inner[2]], (sound.replace(" 2", " 511"), "", 0)),
+        ("fragments in reverse", [inner[0], *pieces[::-1], inner[2]], (sound.replace(" 2", " 511"), "", 0)),
+        (
+            "a lost fragment", [inner[0], pieces[0], inner[2]],
+            ("refused datagram 2 rule 2 WrongPort", "1 IP fragment of datagrams that are not in the recording whole: frame 2", 2),
+        ),
+        (
+            "each twice", [packet for packet in inner for _ in (0, 1)],
+            (sound, "3 datagrams recorded twice, as at the interface any; a verdict is then on a transfer that never was: frames 2, 4, 6", 2),
+        ),
+    ):
+        path.write_bytes(pcap_of(*packets))
+        output, told, status = run([*words, path])
+        told = told.replace(f"tftp-transfers: {path}: ", "").strip()
+        trial.check(name, (output.splitlines()[1].split(None, 4)[4], told, status) == wanted, (output, told, status))
 
 
 def try_unsound(trial: Trial, program: str, folder: pathlib.Path) -> None:
@@ -242,6 +294,7 @@ def main(program: str) -> int:
         try_recordings(trial, program)
         with tempfile.TemporaryDirectory() as folder:
             try_unsound(trial, program, pathlib.Path(folder))
+            try_layers(trial, program, pathlib.Path(folder))
     else:
         print("tshark is not installed, so the recordings of examples/ are not tried")
     return trial.end()
