@@ -57,7 +57,9 @@ RULES = (
     ),
     refused(
         4, "3 StrayAnswer",
-        capture(C, (C, READ), (S, data(1, b"hi")), (S, data(1, b"hi"), {"server": 42_000}), (C, ack(1), {"server": 42_000})),
+        capture(
+            C, (C, READ), (S, data(1, b"hi")), (S, data(1, b"hi"), {"server": 42_000}), (C, ack(1), {"server": 42_000})
+        ),
         "It goes to port 42000, which is not the other end: only ERROR 5 may go there.",
         "From there came datagram 3 (line 6): DATA, block 1, 2 bytes.",
     ),
@@ -73,7 +75,8 @@ RULES = (
     ),
     refused(
         4, "7 AfterError", capture(C, (C, READ), (S, data(1, b"hi")), (C, error(3, "disk full")), (C, ack(1))),
-        'Its sender had sent datagram 3 (line 6): ERROR, code 3 (disk full or allocation exceeded), message "disk full".',
+        "Its sender had sent datagram 3 (line 6): ERROR, code 3 (disk full or allocation exceeded), message"
+        ' "disk full".',
     ),
     refused(
         2, "8 RequestChanged", capture(C, (C, READ), (C, read_request("b", "octet", tsize=0))),
@@ -111,7 +114,9 @@ RULES = (
     ),
     refused(
         5, "17 OackAfterStart",
-        capture(S, (C, READ_IN_WINDOWS), (S, oack(**WINDOWED)), (C, ack(0)), (S, data(1, EIGHT)), (S, oack(**WINDOWED))),
+        capture(
+            S, (C, READ_IN_WINDOWS), (S, oack(**WINDOWED)), (C, ack(0)), (S, data(1, EIGHT)), (S, oack(**WINDOWED))
+        ),
         "The server had sent datagram 4 (line 7): DATA 1 (8 bytes).",
     ),
     refused(
@@ -125,7 +130,8 @@ RULES = (
         "33,553,920 bytes in blocks of 512 are 65,536 blocks; there are numbers for 65,535.",
     ),
     refused(
-        4, "21 BlockLength", capture(C, (C, READ_IN_WINDOWS), (S, oack(**WINDOWED)), (C, ack(0)), (S, data(1, EIGHT + b"9"))),
+        4, "21 BlockLength",
+        capture(C, (C, READ_IN_WINDOWS), (S, oack(**WINDOWED)), (C, ack(0)), (S, data(1, EIGHT + b"9"))),
         "The block size is 8 (datagram 2, line 5).", "This block has 9 bytes, which is more.",
     ),
     refused(
@@ -184,7 +190,8 @@ OTHERS = (
     Case(
         "refused datagram 3 rule 26 AckAhead", WITH_FRAMES.encode(),
         (
-            "line 10 of the text, frame 12 of the recording, 2026-11-23 06:09:52.000000 UTC, 0.568700 s after datagram 1.",
+            "line 10 of the text, frame 12 of the recording, 2026-11-23 06:09:52.000000 UTC, 0.568700 s after"
+            " datagram 1.",
             "out, from port 40000 of the client to 192.0.2.1 port 41000: ACK, acknowledges block 2.",
         ),
     ),

@@ -73,15 +73,19 @@ def try_small(trial: Trial, program: str) -> None:
     text = window_read().text()
     output, errors, status = run(words, text)
     picture = Picture(output)
-    trial.check("a small picture", (errors, status) == ("", 0) and picture.has("accepted get octet blocks 6 bytes 40"), errors)
+    line = "accepted get octet blocks 6 bytes 40"
+    trial.check("a small picture", (errors, status) == ("", 0) and picture.has(line), errors)
     trial.check("an arrow for each datagram", len(picture.heads) == text.count(b"\n") - 4, len(picture.heads))
-    trial.check("a repeat is grey", picture.heads.count(GREY) == 1 and picture.has("DATA 3 (8 bytes), again"), picture.heads)
-    trial.check("strays come from the side", picture.heads.count(BROWN) == 2 and picture.has("from 2001:db8::9 port 41000"))
+    heads = picture.heads
+    trial.check("a repeat is grey", heads.count(GREY) == 1 and picture.has("DATA 3 (8 bytes), again"), heads)
+    trial.check("strays come from the side", heads.count(BROWN) == 2 and picture.has("from 2001:db8::9 port 41000"))
     trial.check("signs of XML", picture.has('ERROR 5 "<stray> & \\x22more\\x22"'), picture.words)
-    trial.check("windows are bracketed", picture.has("window: 5 blocks") and picture.has("window: 2 blocks"), picture.words)
+    bracketed = picture.has("window: 5 blocks") and picture.has("window: 2 blocks")
+    trial.check("windows are bracketed", bracketed, picture.words)
     text = text.replace(b"00040006\n", b"00040007\n")
     picture = Picture(run(words, text)[0])
-    trial.check("the refused one is red", picture.heads.count(RED) == 1 and picture.has("ACK 7, rule 26 AckAhead"), picture.words)
+    is_red = picture.heads.count(RED) == 1 and picture.has("ACK 7, rule 26 AckAhead")
+    trial.check("the refused one is red", is_red, picture.words)
     made = Capture("server")
     made.put("client", write_request("a", "octet"))
     made.put("server", ack(0), ack(0), error(1, "x"), ack(1))
@@ -93,15 +97,19 @@ def try_large(trial: Trial, folder: pathlib.Path) -> None:
     """100,001 datagrams, with a stand-in for the program, which takes minutes for so many."""
     stand_in = folder / "program"
     text = lockstep(50_000)
-    for verdict, status, red in (("accepted get octet blocks 50000 bytes 1", 0, 0), ("refused datagram 70012 rule 26 AckAhead", 1, 1)):
+    for verdict, status, red in (
+        ("accepted get octet blocks 50000 bytes 1", 0, 0),
+        ("refused datagram 70012 rule 26 AckAhead", 1, 1),
+    ):
         stand_in.write_text(f"#!/bin/sh\ncat >/dev/null\necho '{verdict}'\nexit {status}\n")
         stand_in.chmod(0o755)
         output, errors, ended = run(["--program", stand_in], text)
         picture = Picture(output)
         sound = (errors, ended) == ("", 0) and len(picture.heads) <= 60 and picture.height < 2_000
-        trial.check(f"a large picture, {verdict}", sound and picture.heads.count(RED) == red, (len(picture.heads), picture.height))
+        size = len(picture.heads), picture.height
+        trial.check(f"a large picture, {verdict}", sound and picture.heads.count(RED) == red, size)
         fold = "69,987 datagrams, 13 to 69,999" if red else "99,977 datagrams, 13 to 99,989"
-        trial.check(f"what is folded, {verdict}", picture.has(fold), [words for words in picture.words if "datagrams" in words])
+        trial.check(f"what is folded, {verdict}", picture.has(fold), picture.words)
 
 
 def try_times(trial: Trial, program: str) -> None:
@@ -115,7 +123,8 @@ def try_times(trial: Trial, program: str) -> None:
         output, errors, status = run(["--by", way, "--program", program], text)
         picture = Picture(output)
         heights.append(picture.height)
-        trial.check(f"by {way}", (errors, status) == ("", 0) and picture.has("frame 4") and picture.has("1.0020 s"), errors)
+        margin = picture.has("frame 4") and picture.has("1.0020 s")
+        trial.check(f"by {way}", (errors, status) == ("", 0) and margin, errors)
     trial.check("by time the pause is drawn", picture.has("1.000 s") and heights[0] != heights[1], heights)
 
 
@@ -130,7 +139,8 @@ def main(program: str) -> int:
     told = "tftp-ladder: the picture has the datagrams before the fault alone: fault line 11 Truncated\n"
     trial.check("a text with a fault", (errors, status) == (told, 2) and len(Picture(output).heads) == 7, errors)
     got = run(["--program", program], b"tftp-capture 1\n")
-    trial.check("nothing to draw", got == ("", "tftp-ladder: there is no datagram to draw: fault line 2 Truncated\n", 2), got)
+    told = "tftp-ladder: there is no datagram to draw: fault line 2 Truncated\n"
+    trial.check("nothing to draw", got == ("", told, 2), got)
     got = run(["--rows", "1", "--program", program], cut)
     trial.check("too few rows", got[0] == "" and "usage: tftp-ladder" in got[1] and got[2] == 2, got)
     output, _, status = run(["--help"], b"")

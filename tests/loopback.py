@@ -1,10 +1,10 @@
-"""Makes recordings of real transfers over the loopback, in a network namespace of their own, and tries tftp-transfers on
-them: tftp-hpa, atftp and curl as clients, tftpd-hpa, atftpd and dnsmasq as servers, as far as they are installed.
+"""Makes recordings of real transfers over the loopback, in a network namespace of their own, and tries tftp-transfers
+on them: tftp-hpa, atftp and curl as clients, tftpd-hpa, atftpd and dnsmasq as servers, as far as they are installed.
 
     loopback.py PROGRAM [FOLDER]
 
-The recordings stay in FOLDER, where one is named. What is not installed is told, and not tried. Prints each case that is
-not as it should be, then a last line 'N passed, M failed'; status 1 if any failed.
+The recordings stay in FOLDER, where one is named. What is not installed is told, and not tried. Prints each case that
+is not as it should be, then a last line 'N passed, M failed'; status 1 if any failed.
 """
 from __future__ import annotations
 
@@ -79,12 +79,13 @@ HPA_6 = f"in.tftpd -L -c -u root -a [{SERVER_6}]:69 -s ROOT"
 ATFTPD = f"atftpd --daemon --no-fork --user root --group root --bind-address {SERVER} --no-multicast --logfile LOG ROOT"
 DNSMASQ = f"dnsmasq --no-daemon --conf-file=/dev/null --port=0 --enable-tftp --tftp-root=ROOT --listen-address={SERVER}"
 DNSMASQ += " --user=root --group=root --log-facility=LOG"
+SESSION = r"mode octet\nget boot.cfg\nget boot.cfg\nget missing.cfg\nget whole.img\nput upload.log\n"
 CURL = "curl -s -S --max-time 30"
 CASES = (
     # one port for all that a session of tftp asks for, with a missing file in it and one file twice
     Case(
         "session", HPA,
-        (rf"printf 'mode octet\nget boot.cfg\nget boot.cfg\nget missing.cfg\nget whole.img\nput upload.log\n' | tftp -4 {SERVER}",),
+        (f"printf '{SESSION}' | tftp -4 {SERVER}",),
         (
             *both(read(3, 1300), read(3, 1300)),
             ("refused datagram 3 rule 26 AckAhead", "refused datagram 3 rule 26 AckAhead"),
@@ -138,7 +139,11 @@ CASES = (
     # blocks that IP sends in fragments
     Case(
         "fragments", HPA,
-        (f"ip link set lo mtu 1500; {CURL} -o kernel.img --tftp-blksize 8192 tftp://{SERVER}/kernel.img; ip link set lo mtu 65536",),
+        (
+            "ip link set lo mtu 1500",
+            f"{CURL} -o kernel.img --tftp-blksize 8192 tftp://{SERVER}/kernel.img",
+            "ip link set lo mtu 65536",
+        ),
         both(read(2, 9000)),
     ),
     # between the two ends block 2 is lost once and ACK 3 comes twice; each leg is a transfer of its own

@@ -34,7 +34,8 @@ def try_verdicts(trial: Trial) -> None:
         row = f"| {rule.number} | {rule.name} | {rule.says} | {rule.whose} | {rule.usually} |"
         trial.check(f"rule {rule.number} in VERDICTS.md", row in lines, row)
         begins = f"| {rule.number} | {rule.name} | "
-        trial.check(f"rule {rule.number} in SPECIFICATION.md", any(line.startswith(begins) for line in specified), begins)
+        is_there = any(line.startswith(begins) for line in specified)
+        trial.check(f"rule {rule.number} in SPECIFICATION.md", is_there, begins)
     for name, meaning in PACKET_FAULTS.items():
         trial.check(f"{name} in VERDICTS.md", f"| {name} | {meaning} |" in lines)
     for name in MEANINGS:

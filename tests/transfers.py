@@ -9,6 +9,7 @@ from __future__ import annotations
 
 import os
 import pathlib
+import pty
 import shutil
 import struct
 import subprocess
@@ -32,13 +33,17 @@ LISTED = """number  client           server           kind  mode   file         
 5       192.0.2.1:34056  192.0.2.1:60212  put   octet  "upload.log"   -        10         26-35
 """
 QUOTED = "1 datagram left out: in messages of ICMP, which quote what had been sent (frame 18)"
+NOT_WHOLE = "1 IP fragment of datagrams that are not in the recording whole: frame 2"
+TWICE = "3 datagrams recorded twice, as at the interface any; a verdict is then on a transfer that never was"
+TWICE += ": frames 2, 4, 6"
 READ = read_request("a", "octet")
 Datagram = tuple[str, int, str, int, tuple[bytes, str]]
 
 
-def run(words: list[object], given: bytes = b"", **more: object) -> tuple[str, str, int]:
+def run(words: list[object], given: bytes = b"") -> tuple[str, str, int]:
     """What the script writes, what it writes as errors, and its status."""
-    done = subprocess.run([str(word) for word in (SCRIPT, *words)], input=given, capture_output=True, timeout=120, **more)
+    command = [str(word) for word in (SCRIPT, *words)]
+    done = subprocess.run(command, input=given, capture_output=True, timeout=120)
     return done.stdout.decode(), done.stderr.decode(), done.returncode
 
 
@@ -146,7 +151,8 @@ def try_splitting(trial: Trial) -> None:
     said = "transfer 1: at the server the text is of port 41000, with which the client went on; 2 datagrams between the"
     trial.check("the other answer is told", said in told, told)
     got = texts(numbered(transfer("a", 40_000, 69)), (1, "server"))
-    trial.check("a server on the service port", got == [[f"in 69 {C} 40000", f"out 69 {C} 40000", f"in 69 {C} 40000"]], got)
+    wanted = [[f"in 69 {C} 40000", f"out 69 {C} 40000", f"in 69 {C} 40000"]]
+    trial.check("a server on the service port", got == wanted, got)
 
 
 def try_notes(trial: Trial) -> None:
@@ -158,6 +164,9 @@ def try_notes(trial: Trial) -> None:
     before = [(S, 41_000, C, 40_000, data(9, b"old")), *two]
     _, told, status = run(["-"], numbered(before))
     trial.check("what came before the request", (told, status) == (said.replace("frame 4", "frame 1"), 0), told)
+    _, told, status = run(["-"], numbered(two, [0.0, 0.2, 0.1]))
+    said = "tftp-transfers: 1 datagram older than the one before; the recording's order is kept (frame 3)\n"
+    trial.check("a datagram that is older than the one before", (told, status) == (said, 0), told)
     elsewhere = numbered([(C, 40_000, S, 6969, READ)])
     said = "tftp-transfers: no request to port 69 among 1 datagram of UDP; requests go to port 6969 (frame 1): give it"
     got = run(["-"], elsewhere)
@@ -195,20 +204,26 @@ def packets_of(datagrams: list[Datagram]) -> list[bytes]:
     return [ip(it[0], it[2], 17, udp(it[1], it[3], it[4][0]), number) for number, it in enumerate(datagrams, 1)]
 
 
+def first_verdict(output: str) -> str:
+    """The verdict in the first row of a table."""
+    return output.splitlines()[1].split(None, 4)[4]
+
+
 def try_layers(trial: Trial, program: str, folder: pathlib.Path) -> None:
     """Tunnels, fragments that come in any order or not at all, and datagrams that were recorded twice."""
     path, words = folder / "layers.pcap", ["--check", "--end", "client", "--program", program]
     inner = packets_of(transfer("a", 40_000, 41_000))
     sound = "accepted get octet blocks 1 bytes 2"
-    head = b"\2\0\0\0\0\1\2\0\0\0\0\2\x08\0"
+    # the header of VXLAN, and that of Ethernet
+    head = bytes((8, 0, 0, 0, 0, 0, 5, 0)) + b"\2\0\0\0\0\1\2\0\0\0\0\2\x08\0"
     for name, packets in (
         ("IP in IP", [ip("192.0.2.53", "192.0.2.54", 4, packet, 7) for packet in inner]),
         ("GRE", [ip("192.0.2.53", "192.0.2.54", 47, b"\0\0\x08\0" + packet, 7) for packet in inner]),
-        ("VXLAN", [ip("192.0.2.53", "192.0.2.54", 17, udp(5000, 4789, bytes((8, 0, 0, 0, 0, 0, 5, 0)) + head + it)) for it in inner]),
+        ("VXLAN", [ip("192.0.2.53", "192.0.2.54", 17, udp(5000, 4789, head + packet)) for packet in inner]),
     ):
         path.write_bytes(pcap_of(*packets))
         output, told, status = run([*words, path])
-        trial.check(f"in {name}", (output.splitlines()[1].split(None, 4)[4], told, status) == (sound, "", 0), (output, told))
+        trial.check(f"in {name}", (first_verdict(output), told, status) == (sound, "", 0), (output, told))
     block = udp(41_000, 40_000, data(1, b"hi" + b"." * 509)[0])
     pieces = [ip(S, C, 17, block[:400], 9, 0x2000), ip(S, C, 17, block[400:], 9, 50)]
     for name, packets, wanted in (
@@ -216,17 +231,17 @@ def try_layers(trial: Trial, program: str, folder: pathlib.Path) -> None:
         ("fragments in reverse", [inner[0], *pieces[::-1], inner[2]], (sound.replace(" 2", " 511"), "", 0)),
         (
             "a lost fragment", [inner[0], pieces[0], inner[2]],
-            ("refused datagram 2 rule 2 WrongPort", "1 IP fragment of datagrams that are not in the recording whole: frame 2", 2),
+            ("refused datagram 2 rule 2 WrongPort", NOT_WHOLE, 2),
         ),
         (
             "each twice", [packet for packet in inner for _ in (0, 1)],
-            (sound, "3 datagrams recorded twice, as at the interface any; a verdict is then on a transfer that never was: frames 2, 4, 6", 2),
+            (sound, TWICE, 2),
         ),
     ):
         path.write_bytes(pcap_of(*packets))
         output, told, status = run([*words, path])
         told = told.replace(f"tftp-transfers: {path}: ", "").strip()
-        trial.check(name, (output.splitlines()[1].split(None, 4)[4], told, status) == wanted, (output, told, status))
+        trial.check(name, (first_verdict(output), told, status) == wanted, (output, told, status))
 
 
 def try_unsound(trial: Trial, program: str, folder: pathlib.Path) -> None:
@@ -236,19 +251,41 @@ def try_unsound(trial: Trial, program: str, folder: pathlib.Path) -> None:
     path.write_bytes(pcap(request, data(1, b"hello")[0], cut=3))
     said = "tftp-transfers: transfer 1: the recording has not all bytes of frame 2\n"
     output, told, status = run([path])
-    trial.check("a cut datagram, listed", said in told and status == 2 and output.count("\n") == 2, (output, told, status))
+    holds = said in told and status == 2 and output.count("\n") == 2
+    trial.check("a cut datagram, listed", holds, (output, told, status))
     output, told, status = run([path, 1, "client"])
     trial.check("a cut datagram, no text", output == "" and said in told and status == 2, (output, told, status))
     output, told, status = run(["--check", "--program", program, path])
     trial.check("a cut datagram, not judged", output.count("not judged") == 2 and status == 2, (output, told, status))
     path.write_bytes(pcap(request, request, ends_early=3))
     output, told, status = run([path])
-    trial.check("a recording that ends early", "cut short" in told and status == 2 and output != "", (output, told, status))
+    holds = "cut short" in told and status == 2 and output != ""
+    trial.check("a recording that ends early", holds, (output, told, status))
     output, told, status = run([path, 1, "client"])
     trial.check("a recording that ends early, no text", "cut short" in told and status == 2 and output == "", told)
     path.write_bytes(b"no recording at all\n" * 9)
     output, told, status = run([path])
     trial.check("no recording", output == "" and told.startswith("tftp-transfers: ") and status == 2, (told, status))
+
+
+ZONE = "line 1: 'fe80::1%eth0' has a zone, and a host of a capture text has none"
+
+
+def try_progress(trial: Trial) -> None:
+    """On a terminal it is told how far the reading of a long recording is, and only there."""
+    given = numbered(transfer("a", 40_000, 41_000)[:2] * 15_000)
+    trial.check("no progress without a terminal", run(["-"], given)[1] == "")
+    try:
+        ours, theirs = pty.openpty()
+    except OSError:
+        print("no terminal can be had here, so progress is not tried")
+        return
+    words = [str(SCRIPT), "-"]
+    done = subprocess.run(words, input=given, stdout=subprocess.PIPE, stderr=theirs, timeout=120)
+    os.close(theirs)
+    told = os.read(ours, 4096).decode()
+    os.close(ours)
+    trial.check("progress on a terminal", "20,000 datagrams read" in told and done.returncode == 0, told)
 
 
 def try_words(trial: Trial, program: str) -> None:
@@ -259,7 +296,7 @@ def try_words(trial: Trial, program: str) -> None:
         (["-"], b"", "no request to port 69 among 0 datagrams of UDP"),
         (["-"], b"a\tb\n", "line 1: there are not two addresses, two ports and a payload, with a tab between each two"),
         (["-"], given.replace(b"40000", b"0"), "line 1: '0' is no port from 1 to 65535"),
-        (["-"], given.replace(b"192.0.2.7", b"fe80::1%eth0"), "line 1: 'fe80::1%eth0' has a zone, and a host of a capture text has none"),
+        (["-"], given.replace(b"192.0.2.7", b"fe80::1%eth0"), ZONE),
         (["-"], given.replace(b"0001", b"000x", 1), "line 1: the payload is not hex of at most 65,527 bytes"),
     ):
         got = run(words, input_)
@@ -290,6 +327,7 @@ def main(program: str) -> int:
     try_splitting(trial)
     try_notes(trial)
     try_words(trial, program)
+    try_progress(trial)
     if shutil.which("tshark"):
         try_recordings(trial, program)
         with tempfile.TemporaryDirectory() as folder:

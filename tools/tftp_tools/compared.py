@@ -41,7 +41,8 @@ def foreign_port(history: History, it: Datagram, fault: str) -> Lines:
     if history.local is not None:
         lines.append(f"The transfer's port there is {history.local}{by_first(history)}.")
     if not history.at_client() and history.peer:
-        lines.append(f"The client is at {side(*history.peer)} ({first_request(history)}); this is with {side(*it.peer())}.")
+        client = f"The client is at {side(*history.peer)} ({first_request(history)})"
+        lines.append(f"{client}; this is with {side(*it.peer())}.")
     return lines
 
 
@@ -107,7 +108,8 @@ def after_error(history: History, it: Datagram, fault: str) -> Lines:
     error = history.error(it.way)
     if error is None:
         return []
-    return [f"Its sender had sent {at(error)}: {error.packet.told()}.", "After that it may send the same ERROR again alone."]
+    sent = f"Its sender had sent {at(error)}: {error.packet.told()}."
+    return [sent, "After that it may send the same ERROR again alone."]
 
 
 def request_changed(history: History, it: Datagram, fault: str) -> Lines:
@@ -198,7 +200,8 @@ def oack_after_start(history: History, it: Datagram, fault: str) -> Lines:
 def not_started(history: History, it: Datagram, fault: str) -> Lines:
     if history.kind() == "get":
         oack = f" ({inside(history.oack)})" if history.oack else ""
-        return [f"The server's OACK{oack} is answered by ACK 0 before the first block, and no ACK 0 stands before this."]
+        told = f"The server's OACK{oack} is answered by ACK 0 before the first block"
+        return [f"{told}, and no ACK 0 stands before this."]
     return ["The server answers the request of a write by ACK 0 or an OACK, and neither stands before this block."]
 
 
@@ -212,7 +215,8 @@ def block_zero(history: History, it: Datagram, fault: str) -> Lines:
 def beyond(history: History, it: Datagram, fault: str) -> Lines:
     packet = read_packet(it.payload)
     if isinstance(packet, Data):
-        return [f"Block {packet.block} is a whole block of {count(history.block_size(), 'byte')}, so another must follow it."]
+        whole = f"Block {packet.block} is a whole block of {count(history.block_size(), 'byte')}"
+        return [f"{whole}, so another must follow it."]
     _, agreed, lines = asked_and_agreed(history, it)
     size, block = number_of(agreed.get("tsize", "0")) or 0, number_of(agreed.get("blksize", "512")) or 512
     told = f"{count(size, 'byte')} in blocks of {block} are {size // block + 1:,} blocks"
@@ -220,7 +224,8 @@ def beyond(history: History, it: Datagram, fault: str) -> Lines:
 
 
 def terms(history: History) -> str:
-    where = f" ({inside(history.oack)})" if history.oack and history.number("blksize") else ", as no OACK agreed to another"
+    is_agreed = history.oack and history.number("blksize")
+    where = f" ({inside(history.oack)})" if history.oack and is_agreed else ", as no OACK agreed to another"
     return f"The block size is {history.block_size()}{where}."
 
 
@@ -265,8 +270,8 @@ def window_overrun(history: History, it: Datagram, fault: str) -> Lines:
     agreed = f" ({inside(history.oack)})" if history.oack and history.number("windowsize") else ", as none was agreed"
     over = block - base - window
     far = "one too far" if over == 1 else f"{over} too far"
-    lines = [f"{start}.", f"The window is {count(window, 'block')}{agreed}, so block {base + window} is the last that may come."]
-    return [*lines, f"Block {block} is {far}.", *after_the_error(history)]
+    most = f"The window is {count(window, 'block')}{agreed}, so block {base + window} is the last that may come."
+    return [f"{start}.", most, f"Block {block} is {far}.", *after_the_error(history)]
 
 
 def cap(text: str) -> str:
@@ -281,8 +286,8 @@ def after_the_error(history: History) -> Lines:
 
 def block_skipped(history: History, it: Datagram, fault: str) -> Lines:
     top, block = history.highest("DATA", "out"), block_of(Passed(it, read_packet(it.payload), "main"))
-    before = f"The highest block sent before it is {block_of(top)} in {at(top)}." if top else "No block was sent before it."
-    return [before, f"The next one is {(block_of(top) if top else 0) + 1}, and this is block {block}."]
+    sent = f"The highest block sent before it is {block_of(top)} in {at(top)}" if top else "No block was sent before it"
+    return [f"{sent}.", f"The next one is {(block_of(top) if top else 0) + 1}, and this is block {block}."]
 
 
 def gone_back(history: History, it: Datagram, fault: str) -> Lines:
@@ -299,7 +304,8 @@ def block_changed(history: History, it: Datagram, fault: str) -> Lines:
     if before is None or not isinstance(packet, Data):
         return []
     was, now = content_of(before), packet.content
-    lines = [f"Block {packet.block} had passed in {at(before)}, with {count(len(was), 'byte')}; now it has {count(len(now), 'byte')}."]
+    lengths = f"with {count(len(was), 'byte')}; now it has {count(len(now), 'byte')}"
+    lines = [f"Block {packet.block} had passed in {at(before)}, {lengths}."]
     place = next((n for n, pair in enumerate(zip(was, now)) if pair[0] != pair[1]), min(len(was), len(now)))
     then, there = words_of(was[place : place + 12]), words_of(now[place : place + 12])
     return [*lines, f"They differ from byte {place + 1} of the block on: {then} then, {there} now."]

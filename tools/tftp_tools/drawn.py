@@ -10,6 +10,7 @@ from typing import Union
 from xml.sax.saxutils import escape
 
 from .capture import Capture
+from .compared import side
 from .explained import transfer
 from .history import History, Passed, repeats
 from .packets import Ack, Data, Error, Oack, Request, count
@@ -153,7 +154,9 @@ class Drawing:
         self.window: list[float] = []
         self.is_part = False
 
-    def text(self, x: float, y: float, words: str, size: int = 12, fill: str = "#333333", anchor: str = "start") -> None:
+    def text(
+        self, x: float, y: float, words: str, size: int = 12, fill: str = "#333333", anchor: str = "start"
+    ) -> None:
         style = f'font-size="{size}" fill="{fill}" text-anchor="{anchor}" {FONT}'
         self.parts.append(f'<text x="{x:.1f}" y="{y:.1f}" {style}>{escape(words)}</text>')
 
@@ -180,7 +183,8 @@ class Drawing:
         if self.by_time and now is not None and self.last_time is not None:
             distance = min(max((now - self.last_time) * PER_SECOND, LEAST), MOST)
             if distance == MOST:
-                self.text((LEFT + RIGHT) / 2, self.y + MOST / 2, f"{now - self.last_time:.3f} s", 11, "#777777", "middle")
+                pause = f"{now - self.last_time:.3f} s"
+                self.text((LEFT + RIGHT) / 2, self.y + MOST / 2, pause, 11, "#777777", "middle")
         self.y += distance
         self.last_time = now
 
@@ -288,7 +292,7 @@ class Drawing:
 
     def ends(self) -> str:
         peer = self.history.peer
-        there = "" if peer is None else f", with port {peer[1]}" if peer[0] == "-" else f", with {peer[0]} port {peer[1]}"
+        there = f", with {side(*peer)}" if peer else ""
         total = count(len(self.capture.datagrams), "datagram")
         return f"port {self.history.local} of the {self.capture.end}{there}; {total}"
 
@@ -311,7 +315,8 @@ class Drawing:
         head = f'<svg xmlns="http://www.w3.org/2000/svg" width="{WIDTH}" height="{bottom:.0f}"'
         head += f' viewBox="0 0 {WIDTH} {bottom:.0f}">'
         title = f"<title>{escape(self.verdict.line)}</title>"
-        return "\n".join([head, title, '<rect width="100%" height="100%" fill="#ffffff"/>', *lines, *self.parts, "</svg>\n"])
+        ground = '<rect width="100%" height="100%" fill="#ffffff"/>'
+        return "\n".join([head, title, ground, *lines, *self.parts, "</svg>\n"])
 
 
 def draw(capture: Capture, verdict: Verdict, rows: int, by_time: bool) -> str:

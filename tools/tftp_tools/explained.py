@@ -135,7 +135,8 @@ def explain_accepted(capture: Capture) -> Told:
     if strays:
         told.append(("Strays", f"{count(strays, 'datagram')} of other endpoints, which are none of it."))
     if history.errors:
-        told.append(("ERROR", f"{at(history.errors[0])}: {history.errors[0].packet.told()}. The file was over by then."))
+        error = history.errors[0]
+        told.append(("ERROR", f"{at(error)}: {error.packet.told()}. The file came over whole all the same."))
     return told
 
 

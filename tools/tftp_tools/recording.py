@@ -2,6 +2,7 @@
 from __future__ import annotations
 
 import ipaddress
+import itertools
 import re
 import subprocess
 import sys
@@ -94,7 +95,6 @@ class Fields:
         self.quoted: list[int] = []
         self.pieces: dict[int, None] = {}
         self.without_ports: list[int] = []
-        self.backwards: list[int] = []
         self.twice: list[int] = []
         self.last: Optional[Recorded] = None
         self.last_id = ""
@@ -125,17 +125,15 @@ class Fields:
         payload = payload_of(values["udp.payload"].split(",")[-1])
         ends = endpoint_of(hosts[0], ports[0]), endpoint_of(hosts[1], ports[1])
         datagram = Recorded(frame, values["frame.time_epoch"], *ends, payload, max(length, 0))
-        self.note_order(datagram, values["ip.id"].split(",")[-1])
+        self.note_twice(datagram, values["ip.id"].split(",")[-1])
         return datagram
 
-    def note_order(self, datagram: Recorded, identification: str) -> None:
-        """Frames that are out of place: older than the frame before, or the same datagram of IP again."""
+    def note_twice(self, datagram: Recorded, identification: str) -> None:
+        """Whether it is the same datagram of IP as the one before."""
         last, self.last = self.last, datagram
         last_id, self.last_id = self.last_id, identification
         if last is None:
             return
-        if datagram.seconds() < last.seconds():
-            self.backwards.append(datagram.frame)
         same = last[2:] == datagram[2:] and identification == last_id
         if same and identification.strip("0x") and datagram.seconds() - last.seconds() < 0.01:
             self.twice.append(datagram.frame)
@@ -151,9 +149,6 @@ class Fields:
         if self.pieces:
             told = f"{count(len(self.pieces), 'IP fragment')} of datagrams that are not in the recording whole"
             self.notes.faults.append(f"{told}: {some_frames(list(self.pieces))}")
-        if self.backwards:
-            told = f"{count(len(self.backwards), 'datagram')} older than the one before; the recording's order is kept"
-            self.notes.remarks.append(f"{told}: {some_frames(self.backwards)}")
         if self.twice:
             told = "recorded twice, as at the interface any; a verdict is then on a transfer that never was"
             self.notes.faults.append(f"{count(len(self.twice), 'datagram')} {told}: {some_frames(self.twice)}")
@@ -243,12 +238,22 @@ def datagram_of_fields(number: int, line: str) -> Recorded:
     return Recorded(frame, time, source, target, payload, len(payload))
 
 
+def numbered_fields() -> Callable[[str], Optional[Recorded]]:
+    """Reads line after line, and tells of a wrong one which it is."""
+    numbers = itertools.count(1)
+
+    def read(line: str) -> Recorded:
+        number = next(numbers)
+        try:
+            return datagram_of_fields(number, line)
+        except Refused as why:
+            raise Refused(f"line {number}: {why}") from None
+
+    return read
+
+
 def read_fields() -> Iterator[Recorded]:
     """The datagrams of the fields on standard input, a line each."""
     with told("standard input cannot be read"):
         with open(0, encoding="ascii", errors="replace", newline="\n", closefd=False) as given:
-            for number, line in enumerate(given, 1):
-                try:
-                    yield datagram_of_fields(number, line)
-                except Refused as why:
-                    raise Refused(f"line {number}: {why}") from None
+            yield from read_lines(given, numbered_fields())

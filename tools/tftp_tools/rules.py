@@ -71,7 +71,10 @@ LISTED = (
         " Protocol",
         "two servers, or two processes of one, that answer the same request from one port",
     ),
-    Rule(11, "OackEmpty", "an OACK agrees to an option at least", "RFC 2347, Negotiation Protocol", "a fault of the server"),
+    Rule(
+        11, "OackEmpty", "an OACK agrees to an option at least", "RFC 2347, Negotiation Protocol",
+        "a fault of the server",
+    ),
     Rule(
         12, "MulticastAgreed", "multicast is not agreed", f"{PROFILE}: RFC 2090 is outside of it",
         "a multicast transfer of atftp and atftpd, which is not judged",
@@ -105,7 +108,10 @@ LISTED = (
         " read", "RFC 1350, section 4, and RFC 2347, Negotiation Protocol",
         "a server that sends DATA beside its OACK; or the ACK 0 is missing in the capture",
     ),
-    Rule(19, "BlockZero", "blocks are numbered from 1", "RFC 1350, section 5", "a sender that numbers its blocks from 0"),
+    Rule(
+        19, "BlockZero", "blocks are numbered from 1", "RFC 1350, section 5",
+        "a sender that numbers its blocks from 0",
+    ),
     Rule(
         20, "BeyondBlock65535", "a transfer has at most 65,535 blocks", f"{PROFILE}: the block number of RFC 1350,"
         " section 5, has two bytes, and no RFC says what comes after the last",
@@ -124,7 +130,8 @@ LISTED = (
         " for the next one (atftp's write); or ACKs are missing in the capture",
     ),
     Rule(
-        23, "BlockSkipped", "a sender sends its blocks one after another", "RFC 1350, section 5, and RFC 7440, section 4",
+        23, "BlockSkipped", "a sender sends its blocks one after another",
+        "RFC 1350, section 5, and RFC 7440, section 4",
         "datagrams are missing in the capture",
     ),
     Rule(

@@ -62,7 +62,8 @@ def wrong_hex(line: bytes) -> str:
 def wrong_fields(line: bytes, version: int) -> str:
     pieces, wanted = line.split(b" "), 4 if version == 1 else 5
     if pieces[0] in (b"in", b"out"):
-        told = f"it has {count(len(pieces), 'field')} between single spaces, and in version {version} there are {wanted}"
+        fields = count(len(pieces), "field")
+        told = f"it has {fields} between single spaces, and in version {version} there are {wanted}"
         empty = " (one of them is empty: two spaces, or one at the end)" if b"" in pieces else ""
         return told + empty
     if pieces[0] == b"total":

@@ -174,9 +174,14 @@ class Sorter:
         self.left_frames: list[int] = []
         self.elsewhere: dict[int, int] = {}
         self.unended: list[tuple[Transfer, Transfer]] = []
+        self.backwards: list[int] = []
+        self.last_seconds = 0.0
 
     def take(self, datagram: Recorded) -> None:
         self.read += 1
+        if datagram.seconds() < self.last_seconds:
+            self.backwards.append(datagram.frame)
+        self.last_seconds = datagram.seconds()
         if is_request(datagram.payload) and datagram.target.port == self.service:
             self.take_request(datagram)
             return
@@ -256,6 +261,9 @@ def sort_transfers(datagrams: Iterable[Recorded], service: int, notes: Notes) ->
     if sorter.left:
         told = f"{count(sorter.left, 'datagram')} of UDP of no transfer left out ({some_frames(sorter.left_frames)})"
         notes.remarks.append(f"{told}; requests also go to port {elsewhere}" if elsewhere else told)
+    if sorter.backwards:
+        told = f"{count(len(sorter.backwards), 'datagram')} older than the one before; the recording's order is kept"
+        notes.remarks.append(f"{told} ({some_frames(sorter.backwards)})")
     for last, transfer in sorter.unended:
         told = f"transfer {transfer.number} begins at the port of transfer {last.number}, whose end is not recorded"
         notes.remarks.append(told)
