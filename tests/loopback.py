@@ -31,6 +31,7 @@ SERVER, CLIENT, RELAY = "192.0.2.1", "192.0.2.7", "192.0.2.2"
 SERVER_6, CLIENT_6 = "2001:db8::1", "2001:db8::7"
 INSIDE = "TFTP_AUDIT_NAMESPACE"
 CLIENTS = ("curl", "tftp", "atftp")
+CLIENT_SECONDS = "60"
 ALWAYS = ("tshark", "tcpdump", "ip", "unshare")
 SIZES = {"boot.cfg": 1_300, "whole.img": 1_024, "kernel.img": 9_000, "empty.txt": 0}
 # What the clients send.
@@ -201,7 +202,7 @@ def record(case: Case, recording: pathlib.Path, folder: pathlib.Path) -> None:
             stack.enter_context(Relay(RELAY, SERVER, case.disturbed))
         for client in case.clients:
             subprocess.run(
-                client, shell=True, cwd=folder / "client", timeout=60, stdin=subprocess.DEVNULL,
+                ["timeout", CLIENT_SECONDS, "sh", "-c", client], cwd=folder / "client", stdin=subprocess.DEVNULL,
                 stdout=subprocess.DEVNULL, stderr=subprocess.DEVNULL,
             )
         time.sleep(1)
@@ -257,11 +258,10 @@ def enter_namespace(words: list[str]) -> int:
     if lacking:
         print(f"not installed, so nothing is recorded over the loopback: {', '.join(lacking)}")
         return 0
-    unshare = ["unshare", "--net"] if os.geteuid() == 0 else ["unshare", "--net", "--map-root-user"]
-    if subprocess.run([*unshare, "true"], stderr=subprocess.DEVNULL).returncode != 0:
-        print("no network namespace can be had here, so nothing is recorded over the loopback")
+    if subprocess.run(["unshare", "--net", "true"], stderr=subprocess.DEVNULL).returncode != 0:
+        print("no network namespace can be had here, as root can, so nothing is recorded over the loopback")
         return 0
-    return subprocess.run([*unshare, sys.executable, __file__, *words], env={**os.environ, INSIDE: "1"}).returncode
+    return subprocess.run(["unshare", "--net", sys.executable, __file__, *words], env={**os.environ, INSIDE: "1"}).returncode
 
 
 def main(program: str, folder: Optional[str]) -> int:

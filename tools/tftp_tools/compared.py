@@ -6,7 +6,7 @@ from typing import Optional
 
 from .capture import Datagram
 from .history import History, Passed, block_of, content_of
-from .packets import Ack, Data, Error, Oack, Options, Request, count, number_of, read_packet, words_of
+from .packets import Ack, Data, Oack, Options, Request, count, number_of, read_packet, words_of
 from .rules import PACKET_FAULTS
 
 FOUR = ("blksize", "timeout", "tsize", "windowsize")

@@ -35,7 +35,6 @@ class History:
     oack: Optional[Passed] = None
     reply: Optional[Passed] = None
     blocks: dict[int, Passed] = field(default_factory=dict)
-    strays: set[Peer] = field(default_factory=set)
     # the highest block, and the highest ACK, that went out or came in; what went out after an ERROR came in is apart
     high: dict[tuple[str, str], Passed] = field(default_factory=dict)
     errors: list[Passed] = field(default_factory=list)
@@ -126,8 +125,6 @@ class History:
         self.passed.append(passed)
         if place == "main":
             self.take_main(passed)
-        elif place == "stray":
-            self.strays.add(datagram.peer())
         return passed
 
     def begin(self, datagram: Datagram) -> None:

@@ -5,7 +5,6 @@ import re
 from dataclasses import dataclass
 from typing import Optional, Union
 
-NUMBERS = {"blksize", "timeout", "tsize", "windowsize"}
 # RFC 1350, section 5, and RFC 2347 for code 8.
 ERROR_CODES = {
     0: "not defined",

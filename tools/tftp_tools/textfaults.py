@@ -80,7 +80,7 @@ def wrong_port(line: bytes) -> str:
     return ""
 
 
-def wrong_sign(text: bytes, name: str, number: int, line: bytes) -> str:
+def wrong_sign(text: bytes, name: str, line: bytes) -> str:
     """Where in its line the fault is, in words, or nothing where the line tells it."""
     if line.endswith(b"\r") and name.startswith("Bad"):
         return "it ends in CR LF, and lines end in LF alone"
@@ -108,7 +108,7 @@ def explain_fault(text: bytes, number: int, name: str) -> list[tuple[str, str]]:
     if line is not None and (line or name != "Truncated"):
         told.append(("Line", told_line(line)))
     told.append(("Fault", f"{name}: {MEANINGS.get(name, 'see docs/SPECIFICATION.md')}."))
-    if line is not None and (where := wrong_sign(text, name, number, line)):
+    if line is not None and (where := wrong_sign(text, name, line)):
         told.append(("Sign", f"{where}."))
     if name == "Truncated":
         told.append(("Has", f"{count(len(read_capture(text).datagrams), 'datagram')} on whole lines before that."))
