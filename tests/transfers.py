@@ -131,6 +131,10 @@ def try_splitting(trial: Trial) -> None:
     asked_again = [two[0], *two[:3]]
     got = texts(numbered(asked_again), (1, "client"))
     trial.check("a repeated request begins no transfer", got == [[first[0], *first[:3]]], got)
+    lost = [*two[:2], *two[:3]]
+    got = texts(numbered(lost), (1, "server"))
+    wanted = [f"in 69 {C} 40000", f"out 41000 {C} 40000"] * 2 + [f"in 41000 {C} 40000"]
+    trial.check("a request that is repeated after a lost block", got == [wanted], got)
     changed = [two[0], *transfer("b", 40_000, 41_000)]
     _, told, status = run(["-"], numbered(changed))
     said = "tftp-transfers: transfer 2 begins at the port of transfer 1, whose end is not recorded\n"

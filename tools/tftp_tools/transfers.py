@@ -50,6 +50,7 @@ class Transfer:
     went_on_with: Optional[Endpoint] = None
     is_ended: bool = False
     block_size: int = DEFAULT_BLOCK
+    last_block: Optional[int] = None
     last_seconds: float = 0.0
 
     def other_side(self, datagram: Recorded) -> Endpoint:
@@ -77,6 +78,8 @@ class Transfer:
         elif isinstance(packet, Error):
             self.is_ended = True
         elif isinstance(packet, Data) and packet.block > 0 and len(packet.content) < self.block_size:
+            self.last_block = packet.block
+        elif isinstance(packet, Ack) and packet.block == self.last_block:
             self.is_ended = True
 
     def is_known(self, other: Endpoint, datagram: Recorded) -> bool:
