@@ -169,6 +169,10 @@ RULES = (
         "It follows the ERROR in datagram 2 (line 5), which is not acknowledged; this does no harm.",
     ),
     refused(
+        3, "26 AckAhead", capture(S, (C, READ), (S, error(1, "none")), (C, ack(1))),
+        "No block was sent before it.", "It follows the ERROR in datagram 2 (line 5), which is not acknowledged",
+    ),
+    refused(
         3, "27 AckZero", capture(C, (C, READ), (S, data(1, WHOLE)), (C, ack(0))),
         "The transfer is a read, and no OACK had passed, so there was nothing that ACK 0 could answer.",
     ),

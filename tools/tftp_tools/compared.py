@@ -320,12 +320,18 @@ def ack_ahead(history: History, it: Datagram, fault: str) -> Lines:
         lines = [f"{cap(blocks_to(history.front))} had come in, block {missing} had not{later}."]
         lines = lines if history.front else [f"Block 1 had not come in{later}."]
         lines.append(f"Block {block} is acknowledged.")
-        if error and it.goes_out() and block == history.front + 1:
-            lines.append(f"It follows the ERROR in {at(error)}, which is not acknowledged; this does no harm.")
-        return lines
+        return [*lines, *answers_error(error, block == missing)]
     top = history.highest("DATA", "out")
     sent = f"The highest block sent before it is {block_of(top)} in {at(top)}" if top else "No block was sent before it"
-    return [f"{sent}.", *after_the_error(history)]
+    is_next = block == (block_of(top) if top else 0) + 1
+    return [f"{sent}.", *after_the_error(history), *answers_error(history.error("out"), is_next)]
+
+
+def answers_error(error: Optional[Passed], is_next: bool) -> Lines:
+    """An ACK of the block that was awaited, after an ERROR of the other side, is an old client's answer to that."""
+    if error is None or not is_next:
+        return []
+    return [f"It follows the ERROR in {at(error)}, which is not acknowledged; this does no harm."]
 
 
 def ack_zero(history: History, it: Datagram, fault: str) -> Lines:
