@@ -1,6 +1,10 @@
 PREFIX = /usr/local
 PROGRAM = crates/tftp_audit/out/tftp_audit
 BENCH = crates/tftp_bench/out/tftp_bench
+SCRIPTS = tftp-transfers tftp-explain tftp-ladder
+BIN = $(DESTDIR)$(PREFIX)/bin
+LIB = $(DESTDIR)$(PREFIX)/lib/tftp-audit
+MAN = $(DESTDIR)$(PREFIX)/share/man/man1
 
 .PHONY: build test plants bench install
 
@@ -25,5 +29,13 @@ bench: build
 	@cd crates/tftp_bench && rt run -- copy </dev/null >/dev/null
 	sh bench/run.sh $(PROGRAM) $(BENCH)
 
+# The program alone in bin; the scripts beside their modules in lib, with links in bin; the manual pages.
 install: build
-	install -D -m 755 $(PROGRAM) "$(DESTDIR)$(PREFIX)/bin/tftp-audit"
+	install -D -m 755 $(PROGRAM) "$(BIN)/tftp-audit"
+	install -d "$(LIB)/tftp_tools" "$(MAN)"
+	install -m 644 tools/tftp_tools/*.py "$(LIB)/tftp_tools"
+	install -m 644 docs/man/*.1 "$(MAN)"
+	for script in $(SCRIPTS); do \
+		install -m 755 "tools/$$script" "$(LIB)/$$script" && \
+		ln -sf "../lib/tftp-audit/$$script" "$(BIN)/$$script" || exit 1; \
+	done

@@ -1,6 +1,7 @@
 #!/bin/sh
 # Tries the built program, tests/run.sh PROGRAM: the script tftp-audit with a stand-in for rt; each growth refused, each
-# read and each write failing, in turn; larger captures; and the recorded transfers of examples/, from their fields on.
+# read and each write failing, in turn; larger captures; the recorded transfers of examples/, from their fields on; the
+# scripts that lead from a recording to its verdicts and reasons; and what stands in the pages for readers.
 set -eu
 here=$(dirname "$0")
 shim=$(mktemp -d)
@@ -15,3 +16,13 @@ echo "large:"
 python3 "$here/large.py" "$1"
 echo "recordings:"
 python3 "$here/recordings.py" "$1"
+echo "tftp-transfers:"
+python3 "$here/transfers.py" "$1"
+echo "tftp-explain:"
+python3 "$here/explaining.py" "$1"
+echo "tftp-ladder:"
+python3 "$here/ladder.py" "$1"
+echo "loopback:"
+python3 "$here/loopback.py" "$1"
+echo "pages:"
+python3 "$here/pages.py" "$1"

@@ -58,6 +58,8 @@ class Scratch:
             (self.top / "crates" / part / "first.rt").write_text("first")
         for name in ("tftp-audit", "Makefile"):
             shutil.copy(TOP / name, self.top)
+        for name in ("tools", "docs/man"):
+            shutil.copytree(TOP / name, self.top / name)
         (self.top / "crates.txt").write_text("tftp_audit: tftp_low\n")
         for name, text, mode in (
             (self.top / "examples" / "one-block.capture", "an example", 0o644),
@@ -178,6 +180,20 @@ def failing(trial, scratch):
         trial.check(f"make {target}", scratch.make(target) == (0, "", False))
     same = scratch.installed().exists() and scratch.installed().read_bytes() == scratch.program.read_bytes()
     trial.check("make install", same)
+    installed_scripts(trial, scratch)
+
+
+def installed_scripts(trial, scratch):
+    """The scripts run from where they are installed, with the program beside them, and have their pages."""
+    folder = scratch.installed().parent
+    for name in ("tftp-transfers", "tftp-explain", "tftp-ladder"):
+        done = subprocess.run([folder / name, "--help"], capture_output=True, text=True)
+        trial.check(f"{name}, installed", done.returncode == 0 and done.stdout.startswith(f"usage: {name}"), done)
+        page = folder.parent / "share" / "man" / "man1" / f"{name}.1"
+        trial.check(f"{name}, its page installed", page.is_file())
+    done = subprocess.run([folder / "tftp-explain"], input="", capture_output=True, text=True)
+    holds = done.returncode == 2 and f"'{scratch.installed()}' gave no verdict" in done.stderr
+    trial.check("tftp-explain, installed, runs the program beside it", holds, done)
 
 
 def gates(trial, scratch):

@@ -1,0 +1,280 @@
+"""What tools/tftp-explain says of captures: one for each rule, and one for each other line of the program.
+
+    explaining.py PROGRAM
+
+Prints each case that is not as it should be, then a last line 'N passed, M failed'; status 1 if any failed.
+"""
+from __future__ import annotations
+
+import pathlib
+import subprocess
+import sys
+from dataclasses import dataclass
+
+from captures import Capture, ack, data, error, oack, read_request, write_request
+from trial import Trial
+
+TOP = pathlib.Path(__file__).resolve().parent.parent
+SCRIPT = TOP / "tools" / "tftp-explain"
+EIGHT, WHOLE = b"12345678", b"w" * 512
+READ, WRITE = read_request("a", "octet"), write_request("a", "octet")
+WINDOWED = {"blksize": 8, "windowsize": 4}
+READ_IN_WINDOWS = read_request("a", "octet", **WINDOWED)
+NO_ZERO = (b"\0\5\0\1no file", "ERROR without its zero")
+
+
+@dataclass(frozen=True)
+class Case:
+    """A capture, the line that is printed of it, and lines that stand in what is explained."""
+
+    line: str
+    text: bytes
+    told: tuple[str, ...]
+
+
+def capture(end: str, *steps: tuple[object, ...], **ports: int) -> bytes:
+    """The text of packets, each with its sender, and perhaps with ports of its own."""
+    made = Capture(end)
+    for sender, packet, *other in steps:
+        made.put(sender, packet, **(other[0] if other else {}))
+    return made.text()
+
+
+def refused(number: int, rule: str, text: bytes, *told: str) -> Case:
+    return Case(f"refused datagram {number} rule {rule}", text, told)
+
+
+C, S = "client", "server"
+RULES = (
+    refused(
+        3, "1 ForeignPort", capture(C, (C, READ), (S, data(1, b"hi")), (S, data(1, b"hi"), {"client": 40_001})),
+        "Its port at the client is 40001.", "The transfer's port there is 40000, fixed by datagram 1 (line 4).",
+    ),
+    refused(
+        3, "2 WrongPort", capture(C, (C, READ), (S, data(1, WHOLE)), (C, ack(1), {"server": 43_000})),
+        "It goes to port 43000, from where nothing had come.",
+        "The other end is at port 41000, fixed by datagram 2 (line 5).",
+    ),
+    refused(
+        4, "3 StrayAnswer",
+        capture(
+            C, (C, READ), (S, data(1, b"hi")), (S, data(1, b"hi"), {"server": 42_000}), (C, ack(1), {"server": 42_000})
+        ),
+        "It goes to port 42000, which is not the other end: only ERROR 5 may go there.",
+        "From there came datagram 3 (line 6): DATA, block 1, 2 bytes.",
+    ),
+    refused(1, "4 NoRequest", capture(C, (S, data(1, b"hi"))), "No request had passed before it"),
+    refused(
+        2, "5 Malformed NoTerminator", capture(C, (C, READ), (S, NO_ZERO)),
+        "The fault is NoTerminator: the zero byte that ends its last text is missing, or is not its last byte.",
+        "It has 11 bytes, the last is 0x65.",
+    ),
+    refused(
+        3, "6 WrongKind", capture(C, (C, READ), (S, data(1, WHOLE)), (C, data(1, b"hi"))),
+        "The transfer is a read (datagram 1, line 4): the server sends DATA and the client ACKs",
+    ),
+    refused(
+        4, "7 AfterError", capture(C, (C, READ), (S, data(1, b"hi")), (C, error(3, "disk full")), (C, ack(1))),
+        "Its sender had sent datagram 3 (line 6): ERROR, code 3 (disk full or allocation exceeded), message"
+        ' "disk full".',
+    ),
+    refused(
+        2, "8 RequestChanged", capture(C, (C, READ), (C, read_request("b", "octet", tsize=0))),
+        "The first request is datagram 1 (line 4).", 'Its name was "a", and is "b" now.',
+        "Its options was no options, and is tsize 0 now.",
+    ),
+    refused(
+        4, "9 RequestAfterStart", capture(C, (C, READ), (S, data(1, WHOLE)), (C, ack(1)), (C, READ)),
+        "The client had gone on: datagram 3 (line 6) is ACK 1.",
+    ),
+    refused(
+        3, "10 ReplyChanged", capture(C, (C, READ_IN_WINDOWS), (S, data(1, WHOLE)), (S, oack(**WINDOWED))),
+        "The first answer is datagram 2 (line 5): DATA 1 (512 bytes), so nothing was agreed.",
+    ),
+    refused(2, "11 OackEmpty", capture(C, (C, READ_IN_WINDOWS), (S, oack())), "Agreed to here: no options."),
+    refused(
+        2, "12 MulticastAgreed", capture(C, (C, read_request("a", "octet", multicast="")), (S, oack(multicast="1"))),
+        "Agreed to here: multicast 1.", "this project's profile: RFC 2090 is outside of it.",
+    ),
+    refused(
+        2, "13 OptionNotRequested", capture(C, (C, read_request("a", "octet", tsize=0)), (S, oack(tsize=5, blksize=8))),
+        "Asked for (datagram 1, line 4): tsize 0.", "Not asked for: blksize.",
+    ),
+    refused(
+        2, "14 OptionOutsideProfile", capture(C, (C, read_request("a", "octet", rollover=0)), (S, oack(rollover=0))),
+        "None of the four: rollover.",
+    ),
+    refused(
+        2, "15 OptionValue", capture(C, (C, read_request("a", "octet", blksize=512)), (S, oack(blksize=1024))),
+        "blksize: asked 512, agreed 1024: it is larger than what was asked for.",
+    ),
+    refused(
+        3, "16 OackChanged", capture(C, (C, READ_IN_WINDOWS), (S, oack(**WINDOWED)), (S, oack(blksize=8))),
+        "The first OACK is datagram 2 (line 5): blksize 8, windowsize 4; now blksize 8.",
+    ),
+    refused(
+        5, "17 OackAfterStart",
+        capture(
+            S, (C, READ_IN_WINDOWS), (S, oack(**WINDOWED)), (C, ack(0)), (S, data(1, EIGHT)), (S, oack(**WINDOWED))
+        ),
+        "The server had sent datagram 4 (line 7): DATA 1 (8 bytes).",
+    ),
+    refused(
+        3, "18 NotStarted", capture(S, (C, READ_IN_WINDOWS), (S, oack(**WINDOWED)), (S, data(1, EIGHT))),
+        "The server's OACK (datagram 2, line 5) is answered by ACK 0 before the first block, and no ACK 0 stands",
+    ),
+    refused(2, "19 BlockZero", capture(C, (C, READ), (S, data(0, WHOLE))), "No block had passed before it."),
+    refused(
+        2, "20 BeyondBlock65535",
+        capture(C, (C, read_request("a", "octet", tsize=0)), (S, oack(tsize=33_553_920))),
+        "33,553,920 bytes in blocks of 512 are 65,536 blocks; there are numbers for 65,535.",
+    ),
+    refused(
+        4, "21 BlockLength",
+        capture(C, (C, READ_IN_WINDOWS), (S, oack(**WINDOWED)), (C, ack(0)), (S, data(1, EIGHT + b"9"))),
+        "The block size is 8 (datagram 2, line 5).", "This block has 9 bytes, which is more.",
+    ),
+    refused(
+        9, "22 WindowOverrun",
+        capture(
+            C, (C, READ_IN_WINDOWS), (S, oack(**WINDOWED)), (C, ack(0)), (S, data(1, EIGHT)), (S, data(2, EIGHT)),
+            (C, ack(2)), (S, data(3, EIGHT)), (S, data(4, EIGHT)), (S, data(7, EIGHT)),
+        ),
+        "Datagram 6 (line 9) acknowledged block 2.",
+        "The window is 4 blocks (datagram 2, line 5), so block 6 is the last that may come.", "Block 7 is one too far.",
+        "RFC 1350, section 2 (lock step), and RFC 7440, section 3.",
+    ),
+    refused(
+        5, "23 BlockSkipped",
+        capture(S, (C, READ_IN_WINDOWS), (S, oack(**WINDOWED)), (C, ack(0)), (S, data(1, EIGHT)), (S, data(3, EIGHT))),
+        "The highest block sent before it is 1 in datagram 4 (line 7).", "The next one is 2, and this is block 3.",
+    ),
+    refused(
+        6, "24 GoneBack",
+        capture(C, (C, WRITE), (S, ack(0)), (C, data(1, WHOLE)), (S, ack(1)), (C, data(2, WHOLE)), (C, data(1, WHOLE))),
+        "The highest block sent before it is 2 in datagram 5 (line 8).", "This is lock step: no window was agreed.",
+    ),
+    refused(
+        4, "25 BlockChanged",
+        capture(C, (C, READ), (S, data(1, WHOLE)), (C, ack(1)), (S, data(1, WHOLE[:511] + b"x"))),
+        "Block 1 had passed in datagram 2 (line 5), with 512 bytes; now it has 512 bytes.",
+        'They differ from byte 512 of the block on: "w" then, "x" now.',
+    ),
+    refused(
+        3, "26 AckAhead", capture(C, (C, READ), (S, data(1, WHOLE)), (C, ack(2))),
+        "Block 1 had come in, block 2 had not.", "Block 2 is acknowledged.",
+    ),
+    refused(
+        3, "26 AckAhead", capture(C, (C, READ), (S, error(1, "none")), (C, ack(1))),
+        "It follows the ERROR in datagram 2 (line 5), which is not acknowledged; this does no harm.",
+    ),
+    refused(
+        3, "26 AckAhead", capture(S, (C, READ), (S, error(1, "none")), (C, ack(1))),
+        "No block was sent before it.", "It follows the ERROR in datagram 2 (line 5), which is not acknowledged",
+    ),
+    refused(
+        3, "27 AckZero", capture(C, (C, READ), (S, data(1, WHOLE)), (C, ack(0))),
+        "The transfer is a read, and no OACK had passed, so there was nothing that ACK 0 could answer.",
+    ),
+)
+WITH_FRAMES = """tftp-capture 2
+# frame 1 time 1795414191.431300000
+end client
+service 69
+# frame 7 time 1795414191.431300000
+out 40000 192.0.2.1 69 000161006f6374657400
+# frame 9 time 1795414191.432806000
+in 40000 192.0.2.1 41000 000300016869
+# frame 12 time 1795414192.000000000
+out 40000 192.0.2.1 41000 00040002
+total 3
+"""
+SOUND = capture(C, (C, READ), (S, data(1, b"hi")), (C, ack(1)))
+OTHERS = (
+    Case(
+        "refused datagram 3 rule 26 AckAhead", WITH_FRAMES.encode(),
+        (
+            "line 10 of the text, frame 12 of the recording, 2026-11-23 06:09:52.000000 UTC, 0.568700 s after"
+            " datagram 1.",
+            "out, from port 40000 of the client to 192.0.2.1 port 41000: ACK, acknowledges block 2.",
+        ),
+    ),
+    Case("accepted get octet blocks 1 bytes 2", SOUND, ('a read of "a" in mode octet, at the client', "3 datagrams.")),
+    Case(
+        "aborted by peer code 1", capture(C, (C, READ), (S, error(1, "File not found"))),
+        ('ERROR, code 1 (file not found), message "File not found".', "the server. No rule was broken."),
+    ),
+    Case(
+        "aborted by local code 3", capture(S, (C, WRITE), (S, ack(0)), (C, data(1, WHOLE)), (S, error(3, "full"))),
+        ("the server. No rule was broken.", "block 1 came in; the highest ACK sent is 0 in datagram 2 (line 5)."),
+    ),
+    Case("incomplete after 0", capture(C), ("the request, and all that follows it.",)),
+    Case("incomplete after 2", capture(C, (C, READ), (C, READ)), ("an answer to the request, which passed 2 times.",)),
+    Case(
+        "incomplete after 3", capture(C, (C, READ), (S, data(1, WHOLE)), (C, ack(1))),
+        ("block 2 and what follows: none was shorter than a block (512 bytes).",),
+    ),
+    Case("incomplete after 2", capture(C, (C, READ), (S, data(1, b"hi"))), ("the ACK of the last block, 1.",)),
+    Case(
+        "incomplete after 5",
+        capture(C, (C, READ_IN_WINDOWS), (S, oack(**WINDOWED)), (C, ack(0)), (S, data(2, EIGHT)), (S, data(3, b""))),
+        ("block 1, though block 3 came in datagram 5 (line 8).",),
+    ),
+    Case(
+        "incomplete after 3", capture(S, (C, READ), (S, data(1, WHOLE)), (C, READ)),
+        ("the highest block sent is block 1 in datagram 2 (line 5)", "the ACK of block 1, and what follows it."),
+    ),
+    Case("incomplete after 2", capture(S, (C, READ), (S, data(1, b"hi"))), ("the ACK of the last block, 1.",)),
+    Case("fault line 7 Truncated", SOUND.replace(b"total 3\n", b""), ("3 datagrams on whole lines before that.",)),
+    Case("fault line 1 BadHeader", SOUND.replace(b"\n", b"\r\n"), ("it ends in CR LF, and lines end in LF alone.",)),
+    Case("fault line 2 BadEnd", SOUND.replace(b"client", b"peer"), ('"end peer"',)),
+    Case("fault line 3 BadService", SOUND.replace(b"69\n", b"0\n", 1), ('"service 0"',)),
+    Case("fault line 4 BadLine", SOUND.replace(b"out 40000 69", b"out 40000  69"), ("it has 5 fields between single",)),
+    Case("fault line 4 BadPort", SOUND.replace(b"40000", b"040000"), ('the port "040000", from sign 5 on, is none.',)),
+    Case("fault line 5 BadHex", SOUND.replace(b"6869", b"68x9"), ('sign 26 is "x", where a hex digit is due.',)),
+    Case("fault line 5 BadHex", SOUND.replace(b"6869", b"686"), ("the payload has 11 hex digits",)),
+    Case("fault line 7 TotalWrong", SOUND.replace(b"total 3", b"total 4"), ("3 datagrams stand before it.",)),
+    Case("fault line 8 TrailingText", SOUND + b"#", ("nothing may stand behind the total line.",)),
+)
+
+
+def run(words: list[object], given: bytes = b"") -> tuple[str, str, int]:
+    """What the script writes, what it writes as errors, and its status."""
+    done = subprocess.run([str(word) for word in (SCRIPT, *words)], input=given, capture_output=True, timeout=60)
+    return done.stdout.decode(), done.stderr.decode(), done.returncode
+
+
+def plain(text: str) -> str:
+    """Its words, however they are laid out."""
+    return " ".join(text.split())
+
+
+def try_cases(trial: Trial, program: str) -> None:
+    status = {"accepted": 0, "fault": 2}
+    for case in (*RULES, *OTHERS):
+        output, errors, ended = run(["--program", program], case.text)
+        line, _, rest = output.partition("\n\n")
+        sound = line == case.line and errors == "" and ended == status.get(line.split()[0], 1)
+        trial.check(f"tftp-explain, {case.line}", sound, (output, errors, ended))
+        for words in case.told:
+            trial.check(f"tftp-explain, {case.line}, {words!r}", plain(words) in plain(rest), output)
+
+
+def main(program: str) -> int:
+    trial = Trial()
+    tried = {int(case.line.split()[4]) for case in RULES}
+    trial.check("each rule is tried", tried == set(range(1, 28)), tried)
+    try_cases(trial, program)
+    for words, told in (
+        (["/no/such/file"], "cannot read the file '/no/such/file': No such file or directory"),
+        (["--program", "/no/such/program"], "cannot run '/no/such/program': No such file or directory"),
+        (["--program", "/bin/true"], "'/bin/true' gave no verdict: it printed '' and ended with status 0"),
+    ):
+        got = run(words, SOUND)
+        trial.check(f"tftp-explain {words}", got == ("", f"tftp-explain: {told}\n", 2), got)
+    output, _, status = run(["--help"])
+    trial.check("tftp-explain --help", status == 0 and output.startswith("usage: tftp-explain"), output)
+    return trial.end()
+
+
+sys.exit(main(sys.argv[1]))

@@ -1,0 +1,151 @@
+"""The pictures of tools/tftp-ladder: which arrows they have, in which colours, and what is folded.
+
+    ladder.py PROGRAM
+
+Prints each case that is not as it should be, then a last line 'N passed, M failed'; status 1 if any failed.
+"""
+from __future__ import annotations
+
+import pathlib
+import subprocess
+import sys
+import tempfile
+import xml.etree.ElementTree as ElementTree
+
+from captures import Capture, ack, blocks, data, error, oack, read_request, write_request
+from trial import Trial
+
+TOP = pathlib.Path(__file__).resolve().parent.parent
+SCRIPT = TOP / "tools" / "tftp-ladder"
+SVG = "{http://www.w3.org/2000/svg}"
+RED, GREY, BROWN, PALE = "#d40000", "#a5a5a5", "#8a6d3b", "#c9c9c9"
+WINDOWED = {"blksize": 8, "windowsize": 4}
+
+
+def run(words: list[object], given: bytes) -> tuple[str, str, int]:
+    """What the script writes, what it writes as errors, and its status."""
+    done = subprocess.run([str(word) for word in (SCRIPT, *words)], input=given, capture_output=True, timeout=120)
+    return done.stdout.decode(), done.stderr.decode(), done.returncode
+
+
+class Picture:
+    """What is drawn."""
+
+    def __init__(self, text: str) -> None:
+        self.root = ElementTree.fromstring(text)
+        self.words = [each.text or "" for each in self.root.iter(f"{SVG}text")]
+        self.heads = [each.get("fill") for each in self.root.iter(f"{SVG}polygon")]
+        self.height = int(self.root.get("height", "0"))
+
+    def has(self, words: str) -> bool:
+        return any(words in text for text in self.words)
+
+
+def window_read() -> Capture:
+    """A read in windows, with a repeated block, a stray and its answer."""
+    made = Capture("client", version=2)
+    made.put("client", read_request("boot.img", "octet", **WINDOWED))
+    made.put("server", oack(**WINDOWED))
+    made.put("client", ack(0))
+    wire = blocks(b"12345678" * 5, 8)
+    made.put("server", *wire[:4], wire[2])
+    made.put("server", data(9, b"stray"), host=made.THIRD_HOST)
+    made.put("client", error(5, "<stray> & \"more\""), host=made.THIRD_HOST)
+    made.put("client", ack(4))
+    made.put("server", *wire[4:])
+    made.put("client", ack(6))
+    return made
+
+
+def lockstep(count: int) -> bytes:
+    made = Capture("client")
+    made.put("client", read_request("boot.img", "octet"))
+    for number in range(1, count):
+        made.put("server", data(number, b"w" * 512))
+        made.put("client", ack(number))
+    made.put("server", data(count, b"the end"))
+    made.put("client", ack(count))
+    return made.text()
+
+
+def try_small(trial: Trial, program: str) -> None:
+    words = ["--program", program]
+    text = window_read().text()
+    output, errors, status = run(words, text)
+    picture = Picture(output)
+    line = "accepted get octet blocks 6 bytes 40"
+    trial.check("a small picture", (errors, status) == ("", 0) and picture.has(line), errors)
+    trial.check("an arrow for each datagram", len(picture.heads) == text.count(b"\n") - 4, len(picture.heads))
+    heads = picture.heads
+    trial.check("a repeat is grey", heads.count(GREY) == 1 and picture.has("DATA 3 (8 bytes), again"), heads)
+    trial.check("strays come from the side", heads.count(BROWN) == 2 and picture.has("from 2001:db8::9 port 41000"))
+    trial.check("signs of XML", picture.has('ERROR 5 "<stray> & \\x22more\\x22"'), picture.words)
+    bracketed = picture.has("window: 5 blocks") and picture.has("window: 2 blocks")
+    trial.check("windows are bracketed", bracketed, picture.words)
+    text = text.replace(b"00040006\n", b"00040007\n")
+    picture = Picture(run(words, text)[0])
+    is_red = picture.heads.count(RED) == 1 and picture.has("ACK 7, rule 26 AckAhead")
+    trial.check("the refused one is red", is_red, picture.words)
+    made = Capture("server")
+    made.put("client", write_request("a", "octet"))
+    made.put("server", ack(0), ack(0), error(1, "x"), ack(1))
+    picture = Picture(run(words, made.text())[0])
+    trial.check("at the server", picture.has("server (recorded here)") and picture.heads.count(RED) == 1, picture.words)
+
+
+def try_large(trial: Trial, folder: pathlib.Path) -> None:
+    """100,001 datagrams, with a stand-in for the program, which takes minutes for so many."""
+    stand_in = folder / "program"
+    text = lockstep(50_000)
+    for verdict, status, red in (
+        ("accepted get octet blocks 50000 bytes 1", 0, 0),
+        ("refused datagram 70012 rule 26 AckAhead", 1, 1),
+    ):
+        stand_in.write_text(f"#!/bin/sh\ncat >/dev/null\necho '{verdict}'\nexit {status}\n")
+        stand_in.chmod(0o755)
+        output, errors, ended = run(["--program", stand_in], text)
+        picture = Picture(output)
+        sound = (errors, ended) == ("", 0) and len(picture.heads) <= 60 and picture.height < 2_000
+        size = len(picture.heads), picture.height
+        trial.check(f"a large picture, {verdict}", sound and picture.heads.count(RED) == red, size)
+        fold = "69,987 datagrams, 13 to 69,999" if red else "99,977 datagrams, 13 to 99,989"
+        trial.check(f"what is folded, {verdict}", picture.has(fold), picture.words)
+
+
+def try_times(trial: Trial, program: str) -> None:
+    """Time downwards: a pause of a second is longer than one of a millisecond, and is told."""
+    lines = lockstep(3).decode().splitlines()
+    times = ["0.000", "0.001", "0.002", "1.002", "1.003", "1.004", "1.005"]
+    timed = [f"# frame {number} time {time}\n{line}" for number, (time, line) in enumerate(zip(times, lines[3:-1]), 1)]
+    text = "\n".join([*lines[:3], *timed, lines[-1], ""]).encode()
+    heights = []
+    for way in ("number", "time"):
+        output, errors, status = run(["--by", way, "--program", program], text)
+        picture = Picture(output)
+        heights.append(picture.height)
+        margin = picture.has("frame 4") and picture.has("1.0020 s")
+        trial.check(f"by {way}", (errors, status) == ("", 0) and margin, errors)
+    trial.check("by time the pause is drawn", picture.has("1.000 s") and heights[0] != heights[1], heights)
+
+
+def main(program: str) -> int:
+    trial = Trial()
+    try_small(trial, program)
+    with tempfile.TemporaryDirectory() as folder:
+        try_large(trial, pathlib.Path(folder))
+    try_times(trial, program)
+    cut = lockstep(3).replace(b"total 7\n", b"")
+    output, errors, status = run(["--program", program], cut)
+    told = "tftp-ladder: the picture has the datagrams before the fault alone: fault line 11 Truncated\n"
+    trial.check("a text with a fault", (errors, status) == (told, 2) and len(Picture(output).heads) == 7, errors)
+    got = run(["--program", program], b"tftp-capture 1\n")
+    told = "tftp-ladder: there is no datagram to draw: fault line 2 Truncated\n"
+    trial.check("nothing to draw", got == ("", told, 2), got)
+    got = run(["--rows", "1", "--program", program], cut)
+    trial.check("too few rows", got[0] == "" and "usage: tftp-ladder" in got[1] and got[2] == 2, got)
+    output, _, status = run(["--help"], b"")
+    trial.check("tftp-ladder --help", status == 0 and output.startswith("usage: tftp-ladder"), output)
+    return trial.end()
+
+
+sys.exit(main(sys.argv[1]))

@@ -1,0 +1,285 @@
+"""Makes recordings of real transfers over the loopback, in a network namespace of their own, and tries tftp-transfers
+on them: tftp-hpa, atftp and curl as clients, tftpd-hpa, atftpd and dnsmasq as servers, as far as they are installed.
+
+    loopback.py PROGRAM [FOLDER]
+
+The recordings stay in FOLDER, where one is named. What is not installed is told, and not tried. Prints each case that
+is not as it should be, then a last line 'N passed, M failed'; status 1 if any failed.
+"""
+from __future__ import annotations
+
+import contextlib
+import dataclasses
+import os
+import pathlib
+import re
+import shutil
+import signal
+import subprocess
+import sys
+import tempfile
+import time
+from collections.abc import Iterator
+from typing import Optional
+
+from relay import Relay
+from trial import Trial
+
+TOP = pathlib.Path(__file__).resolve().parent.parent
+SCRIPT = TOP / "tools" / "tftp-transfers"
+SERVER, CLIENT, RELAY = "192.0.2.1", "192.0.2.7", "192.0.2.2"
+SERVER_6, CLIENT_6 = "2001:db8::1", "2001:db8::7"
+INSIDE = "TFTP_AUDIT_NAMESPACE"
+CLIENTS = ("curl", "tftp", "atftp")
+CLIENT_SECONDS = "60"
+ALWAYS = ("tshark", "tcpdump", "ip", "unshare")
+SIZES = {"boot.cfg": 1_300, "whole.img": 1_024, "kernel.img": 9_000, "empty.txt": 0}
+# What the clients send.
+UPLOADS = {"upload.log": 1_536, "report.bin": 5_000}
+
+
+def named(program: str) -> Optional[str]:
+    """Where a program stands; the servers' one common name is that of tftpd-hpa here."""
+    found = shutil.which(program, path=f"{os.environ['PATH']}:/usr/sbin:/sbin")
+    if found and program == "in.tftpd" and pathlib.Path(found).resolve().name == "atftpd":
+        return None
+    return found
+
+
+@dataclasses.dataclass(frozen=True)
+class Case:
+    """A recording: the server, what the clients do, and of each transfer the verdicts at the client and at the server.
+
+    A verdict is a regular expression, since what passes in which order is not always the same.
+    """
+
+    name: str
+    server: str
+    clients: tuple[str, ...]
+    verdicts: tuple[tuple[str, str], ...]
+    # what the relay between the two does to datagrams, where there is one
+    disturbed: tuple[tuple[str, int, str], ...] = ()
+    # the files that come over as others
+    spoilt: tuple[str, ...] = ()
+
+
+def read(blocks: int, size: int, mode: str = "octet") -> str:
+    return f"accepted get {mode} blocks {blocks} bytes {size}"
+
+
+def write(blocks: int, size: int, mode: str = "octet") -> str:
+    return f"accepted put {mode} blocks {blocks} bytes {size}"
+
+
+def both(*verdicts: str) -> tuple[tuple[str, str], ...]:
+    return tuple((verdict, verdict) for verdict in verdicts)
+
+
+HPA = f"in.tftpd -L -c -u root -a {SERVER}:69 -s ROOT"
+HPA_6 = f"in.tftpd -L -c -u root -a [{SERVER_6}]:69 -s ROOT"
+ATFTPD = f"atftpd --daemon --no-fork --user root --group root --bind-address {SERVER} --no-multicast --logfile LOG ROOT"
+DNSMASQ = f"dnsmasq --no-daemon --conf-file=/dev/null --port=0 --enable-tftp --tftp-root=ROOT --listen-address={SERVER}"
+DNSMASQ += " --user=root --group=root --log-facility=LOG"
+SESSION = r"mode octet\nget boot.cfg\nget boot.cfg\nget missing.cfg\nget whole.img\nput upload.log\n"
+CURL = "curl -s -S --max-time 30"
+CASES = (
+    # one port for all that a session of tftp asks for, with a missing file in it and one file twice
+    Case(
+        "session", HPA,
+        (f"printf '{SESSION}' | tftp -4 {SERVER}",),
+        (
+            *both(read(3, 1300), read(3, 1300)),
+            ("refused datagram 3 rule 26 AckAhead", "refused datagram 3 rule 26 AckAhead"),
+            *both(read(3, 1024), write(4, 1536)),
+        ),
+    ),
+    Case(
+        "curl-hpa", HPA,
+        (
+            f"{CURL} --interface {CLIENT} -o kernel.img --tftp-blksize 1400 tftp://{SERVER}/kernel.img",
+            f"{CURL} --interface {CLIENT} -o boot.cfg --tftp-no-options tftp://{SERVER}/boot.cfg",
+            f"{CURL} --interface {CLIENT} -T report.bin tftp://{SERVER}/report.bin",
+            f"{CURL} --interface {CLIENT} -o missing.cfg tftp://{SERVER}/missing.cfg",
+        ),
+        (
+            *both(read(7, 9000), read(3, 1300), write(10, 5000)),
+            ("aborted by peer code 1", "aborted by local code 1"),
+        ),
+    ),
+    Case(
+        "curl-hpa-6", HPA_6,
+        (
+            f"{CURL} --interface {CLIENT_6} -o kernel.img --tftp-blksize 1024 tftp://[{SERVER_6}]/kernel.img",
+            f"{CURL} --interface {CLIENT_6} -T report.bin tftp://[{SERVER_6}]/report.bin",
+        ),
+        both(read(9, 9000), write(10, 5000)),
+    ),
+    Case(
+        "atftp-atftpd", ATFTPD,
+        (
+            f'atftp -g -r kernel.img -l kernel.img --option "blksize 512" --option "windowsize 4" {SERVER}',
+            f'atftp -g -r boot.cfg -l boot.cfg --option "windowsize 8" --option "tsize 0" {SERVER}',
+            f"atftp -p -l report.bin -r report.bin {SERVER}",
+        ),
+        both(read(18, 9000), read(3, 1300), write(10, 5000)),
+    ),
+    Case(
+        "dnsmasq", DNSMASQ,
+        (
+            f"atftp -g -r kernel.img -l kernel.img --option 'blksize 1024' --option 'timeout 5' {SERVER}",
+            f"tftp -4 -m octet {SERVER} -c get boot.cfg",
+            f"{CURL} -o whole.img tftp://{SERVER}/whole.img",
+        ),
+        both(read(9, 9000), read(3, 1300), read(3, 1024)),
+    ),
+    Case(
+        "dnsmasq-single-port", f"{DNSMASQ} --tftp-single-port",
+        (f"{CURL} -o kernel.img tftp://{SERVER}/kernel.img", f"{CURL} -o boot.cfg tftp://{SERVER}/boot.cfg"),
+        both(read(18, 9000), read(3, 1300)),
+    ),
+    # blocks that IP sends in fragments
+    Case(
+        "fragments", HPA,
+        (
+            "ip link set lo mtu 1500",
+            f"{CURL} -o kernel.img --tftp-blksize 8192 tftp://{SERVER}/kernel.img",
+            "ip link set lo mtu 65536",
+        ),
+        both(read(2, 9000)),
+    ),
+    # between the two ends block 2 is lost once and ACK 3 comes twice; each leg is a transfer of its own
+    Case(
+        "lost-and-repeated", HPA,
+        (f"{CURL} -o boot.cfg --tftp-blksize 256 tftp://{RELAY}/boot.cfg",),
+        both(read(6, 1300), read(6, 1300)),
+        (("server", 3, "lost"), ("client", 6, "repeated")),
+    ),
+    # curl takes the second OACK for one of a new transfer, sends its second 512 bytes as block 1, and says nothing
+    Case(
+        "repeated-oack", HPA,
+        (f"{CURL} -T report.bin tftp://{RELAY}/report.bin",),
+        both("refused datagram 5 rule 25 BlockChanged", "refused datagram [45] rule 25 BlockChanged"),
+        (("server", 1, "repeated"),),
+        ("report.bin",),
+    ),
+)
+
+
+def make_files(folder: pathlib.Path) -> None:
+    root, client = folder / "root", folder / "client"
+    for place, sizes in ((root, SIZES), (client, UPLOADS)):
+        place.mkdir()
+        place.chmod(0o777)
+        for name, size in sizes.items():
+            text = b"".join(b"%s line %05d\n" % (name.encode(), number) for number in range(size // 16 + 1))
+            (place / name).write_bytes(text[:size])
+            (place / name).chmod(0o666)
+
+
+@contextlib.contextmanager
+def running(command: str, folder: pathlib.Path, ready: str = "") -> Iterator[None]:
+    """A program that runs meanwhile, and is ended then."""
+    words = command.replace("ROOT", str(folder / "root")).replace("LOG", str(folder / "log")).split()
+    words[0] = named(words[0]) or words[0]
+    with subprocess.Popen(words, stdout=subprocess.DEVNULL, stderr=subprocess.PIPE, text=True) as process:
+        if ready and process.stderr:
+            while ready not in process.stderr.readline() and process.poll() is None:
+                pass
+        time.sleep(0.4)
+        try:
+            yield
+        finally:
+            process.send_signal(signal.SIGINT if ready else signal.SIGTERM)
+            time.sleep(0.2)
+            if process.poll() is None and not ready:
+                process.kill()
+
+
+def record(case: Case, recording: pathlib.Path, folder: pathlib.Path) -> None:
+    recorder = f"tcpdump -i lo -s 0 -U -Z root -w {recording} udp or icmp or icmp6 or ip[6:2]&0x3fff!=0"
+    with running(recorder, folder, "listening on"), running(case.server, folder), contextlib.ExitStack() as stack:
+        if case.disturbed:
+            stack.enter_context(Relay(RELAY, SERVER, case.disturbed))
+        for client in case.clients:
+            subprocess.run(
+                ["timeout", CLIENT_SECONDS, "sh", "-c", client], cwd=folder / "client", stdin=subprocess.DEVNULL,
+                stdout=subprocess.DEVNULL, stderr=subprocess.DEVNULL,
+            )
+        time.sleep(1)
+
+
+def table(program: str, recording: pathlib.Path) -> tuple[list[list[str]], str]:
+    """The rows of the verdicts, and what is told."""
+    words = [str(SCRIPT), "--check", "--program", program, str(recording)]
+    done = subprocess.run(words, capture_output=True, text=True, timeout=60)
+    return [line.split(None, 4) for line in done.stdout.splitlines()[1:]], done.stderr
+
+
+def are_wanted(case: Case, rows: list[list[str]]) -> bool:
+    """Whether the table has the verdicts of the case."""
+    wanted = [
+        (str(number), end, verdict)
+        for number, verdicts in enumerate(case.verdicts, 1)
+        for end, verdict in zip(("client", "server"), verdicts)
+    ]
+    same = len(rows) == len(wanted)
+    return same and all(
+        (number, end) == (row[1], row[2]) and re.fullmatch(verdict, row[4])
+        for row, (number, end, verdict) in zip(rows, wanted)
+    )
+
+
+def try_case(trial: Trial, program: str, case: Case, keep: pathlib.Path) -> None:
+    with tempfile.TemporaryDirectory() as name:
+        folder = pathlib.Path(name)
+        folder.chmod(0o755)
+        make_files(folder)
+        recording = keep / f"loopback-{case.name}.pcap"
+        record(case, recording, folder)
+        got, told = table(program, recording)
+        trial.check(f"{case.name}, the verdicts", are_wanted(case, got), (got, told))
+        for place, sizes in (("client", SIZES), ("root", UPLOADS)):
+            other = folder / ("root" if place == "client" else "client")
+            for name in sizes:
+                copy = folder / place / name
+                same = not copy.exists() or copy.read_bytes() == (other / name).read_bytes()
+                trial.check(f"{case.name}, {name} came over", same == (name not in case.spoilt))
+
+
+def missing(case: Case) -> list[str]:
+    """The programs of a case that are not installed."""
+    wanted = {case.server.split()[0]} | {word for text in case.clients for word in text.split() if word in CLIENTS}
+    return sorted(word for word in wanted if not named(word))
+
+
+def enter_namespace(words: list[str]) -> int:
+    """Runs this script again where the loopback is its own."""
+    lacking = [name for name in ALWAYS if not named(name)]
+    if lacking:
+        print(f"not installed, so nothing is recorded over the loopback: {', '.join(lacking)}")
+        return 0
+    if subprocess.run(["unshare", "--net", "true"], stderr=subprocess.DEVNULL).returncode != 0:
+        print("no network namespace can be had here, as root can, so nothing is recorded over the loopback")
+        return 0
+    return subprocess.run(["unshare", "--net", sys.executable, __file__, *words], env={**os.environ, INSIDE: "1"}).returncode
+
+
+def main(program: str, folder: Optional[str]) -> int:
+    subprocess.run(["ip", "link", "set", "lo", "up"], check=True)
+    for address in (f"{SERVER}/32", f"{CLIENT}/32", f"{RELAY}/32", f"{SERVER_6}/128", f"{CLIENT_6}/128"):
+        subprocess.run(["ip", "addr", "add", address, "dev", "lo"], check=True)
+    trial = Trial()
+    with tempfile.TemporaryDirectory() as scratch:
+        for case in CASES:
+            lacking = missing(case)
+            if lacking:
+                print(f"{case.name} is not tried, since it is not installed: {', '.join(lacking)}")
+            else:
+                try_case(trial, program, case, pathlib.Path(folder or scratch).resolve())
+    return trial.end()
+
+
+if __name__ == "__main__":
+    if INSIDE in os.environ:
+        sys.exit(main(sys.argv[1], sys.argv[2] if len(sys.argv) > 2 else None))
+    sys.exit(enter_namespace(sys.argv[1:]))

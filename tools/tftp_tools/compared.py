@@ -1,0 +1,350 @@
+"""With what the rule that a datagram broke compared it, and where that stands in the capture."""
+from __future__ import annotations
+
+from collections.abc import Callable
+from typing import Optional
+
+from .capture import Datagram
+from .history import History, Passed, block_of, content_of
+from .packets import Ack, Data, Oack, Options, Request, count, number_of, read_packet, words_of
+from .rules import PACKET_FAULTS
+
+FOUR = ("blksize", "timeout", "tsize", "windowsize")
+MOST_BLOCKS = 65_535
+Lines = list[str]
+
+
+def at(passed: Passed) -> str:
+    return passed.datagram.place()
+
+
+def inside(passed: Passed) -> str:
+    """The same between brackets."""
+    return passed.datagram.place().replace(" (", ", ").rstrip(")")
+
+
+def blocks_to(front: int) -> str:
+    """The blocks from 1 on, up to this one."""
+    return f"blocks 1 to {front}" if front > 1 else "block 1"
+
+
+def side(host: str, port: int) -> str:
+    return f"port {port}" if host == "-" else f"{host} port {port}"
+
+
+def shown(options: Options) -> str:
+    return ", ".join(f"{name} {value}" for name, value in options) or "no options"
+
+
+def foreign_port(history: History, it: Datagram, fault: str) -> Lines:
+    lines = [f"Its port at the {history.capture.end} is {it.local}."]
+    if history.local is not None:
+        lines.append(f"The transfer's port there is {history.local}{by_first(history)}.")
+    if not history.at_client() and history.peer:
+        client = f"The client is at {side(*history.peer)} ({first_request(history)})"
+        lines.append(f"{client}; this is with {side(*it.peer())}.")
+    return lines
+
+
+def by_first(history: History) -> str:
+    """What fixed the port of the named end."""
+    ours = (passed for passed in history.passed if passed.place == "main" and passed.datagram.local == history.local)
+    first = next((passed for passed in ours if passed.datagram.goes_out()), None)
+    return f", fixed by {at(first)}" if first else ""
+
+
+def first_request(history: History) -> str:
+    return inside(history.request) if history.request else "no request yet"
+
+
+def wrong_port(history: History, it: Datagram, fault: str) -> Lines:
+    service = history.capture.service
+    if history.at_client() and isinstance(read_packet(it.payload), Request):
+        asked = f" of {history.asked}" if history.asked not in (None, "-") else ""
+        return [f"It goes to {side(it.host, it.remote)}; requests go to the service port {service}{asked}."]
+    if not it.goes_out():
+        return [f"It comes to the service port {service}, where requests of the client alone may come."]
+    lines = [f"It goes to {side(it.host, it.remote)}, from where nothing had come."]
+    if history.peer:
+        fixed = first_in(history)
+        lines.append(f"The other end is at {side(*history.peer)}{f', fixed by {at(fixed)}' if fixed else ''}.")
+    return lines
+
+
+def first_in(history: History) -> Optional[Passed]:
+    return next((p for p in history.passed if p.place == "main" and not p.datagram.goes_out()), None)
+
+
+def stray_answer(history: History, it: Datagram, fault: str) -> Lines:
+    stray = next((p for p in history.passed if p.place == "stray" and p.datagram.peer() == it.peer()), None)
+    lines = [f"It goes to {side(*it.peer())}, which is not the other end: only ERROR 5 may go there."]
+    if stray:
+        lines.append(f"From there came {at(stray)}: {stray.packet.told()}.")
+    if history.peer:
+        fixed = first_in(history)
+        lines.append(f"The other end is at {side(*history.peer)}{f', fixed by {at(fixed)}' if fixed else ''}.")
+    return lines
+
+
+def no_request(history: History, it: Datagram, fault: str) -> Lines:
+    return ["No request had passed before it, so nothing is known of the transfer."]
+
+
+def malformed(history: History, it: Datagram, fault: str) -> Lines:
+    lines = [f"The fault is {fault}: {PACKET_FAULTS.get(fault, 'see docs/SPECIFICATION.md')}."]
+    if it.payload:
+        lines.append(f"It has {count(len(it.payload), 'byte')}, the last is 0x{it.payload[-1]:02x}.")
+    return lines
+
+
+def wrong_kind(history: History, it: Datagram, fault: str) -> Lines:
+    kind = "read" if history.kind() == "get" else "write"
+    sender, receiver = ("server", "client") if kind == "read" else ("client", "server")
+    told = f"The transfer is a {kind} ({first_request(history)}): the {sender} sends DATA and the {receiver} ACKs"
+    return [f"{told}, and an OACK is the server's."]
+
+
+def after_error(history: History, it: Datagram, fault: str) -> Lines:
+    error = history.error(it.way)
+    if error is None:
+        return []
+    sent = f"Its sender had sent {at(error)}: {error.packet.told()}."
+    return [sent, "After that it may send the same ERROR again alone."]
+
+
+def request_changed(history: History, it: Datagram, fault: str) -> Lines:
+    first, now = history.request, read_packet(it.payload)
+    if first is None or not isinstance(first.packet, Request) or not isinstance(now, Request):
+        return []
+    was, lines = first.packet, [f"The first request is {at(first)}."]
+    for what, before, after in (
+        ("kind", was.kind, now.kind), ("name", was.name, now.name), ("mode", was.mode, now.mode),
+        ("options", shown(tuple(sorted(was.options))), shown(tuple(sorted(now.options)))),
+    ):
+        if before != after:
+            lines.append(f"Its {what} was {before}, and is {after} now.")
+    return lines
+
+
+def request_after_start(history: History, it: Datagram, fault: str) -> Lines:
+    gone_on = (p for p in history.passed if p.place == "main" and isinstance(p.packet, (Ack, Data)))
+    first = next((p for p in gone_on if p.datagram.goes_out()), None)
+    return [f"The client had gone on: {at(first)} is {first.packet.short()}."] if first else []
+
+
+def reply_changed(history: History, it: Datagram, fault: str) -> Lines:
+    reply = history.reply
+    return [f"The first answer is {at(reply)}: {reply.packet.short()}, so nothing was agreed."] if reply else []
+
+
+def asked_and_agreed(history: History, it: Datagram) -> tuple[dict[str, str], dict[str, str], Lines]:
+    packet = read_packet(it.payload)
+    agreed = packet.options if isinstance(packet, Oack) else ()
+    lines = [f"Asked for ({first_request(history)}): {shown(history.options())}.", f"Agreed to here: {shown(agreed)}."]
+    return dict(history.options()), dict(agreed), lines
+
+
+def oack_empty(history: History, it: Datagram, fault: str) -> Lines:
+    return asked_and_agreed(history, it)[2]
+
+
+def not_requested(history: History, it: Datagram, fault: str) -> Lines:
+    asked, agreed, lines = asked_and_agreed(history, it)
+    return [*lines, f"Not asked for: {', '.join(name for name in agreed if name not in asked)}."]
+
+
+def outside_profile(history: History, it: Datagram, fault: str) -> Lines:
+    _, agreed, lines = asked_and_agreed(history, it)
+    return [*lines, f"None of the four: {', '.join(name for name in agreed if name not in FOUR)}."]
+
+
+def option_value(history: History, it: Datagram, fault: str) -> Lines:
+    asked, agreed, lines = asked_and_agreed(history, it)
+    for name, value in agreed.items():
+        if name in FOUR and name in asked and (why := value_fault(name, asked[name], value, history.kind())):
+            lines.append(f"{name}: asked {asked[name]}, agreed {value}: {why}.")
+    return lines
+
+
+RANGES = {"blksize": (8, 65_464), "timeout": (1, 255), "tsize": (0, 2**64 - 1), "windowsize": (1, 65_535)}
+
+
+def value_fault(name: str, asked: str, agreed: str, kind: str) -> str:
+    """Why a value may not answer the one that was asked for, or nothing."""
+    low, high = RANGES[name]
+    first, second = number_of(asked), number_of(agreed)
+    for what, number in (("asked for", first), ("agreed", second)):
+        if number is None or not low <= number <= high:
+            return f"what is {what} is no number from {low} to {high}"
+    assert first is not None and second is not None
+    if name in ("blksize", "windowsize") and second > first:
+        return "it is larger than what was asked for"
+    if name == "timeout" and second != first:
+        return "it is another one than what was asked for"
+    if name == "tsize" and kind == "put" and second != first:
+        return "it is another size than the client's"
+    return ""
+
+
+def oack_changed(history: History, it: Datagram, fault: str) -> Lines:
+    packet = read_packet(it.payload)
+    now = shown(packet.options) if isinstance(packet, Oack) else ""
+    return [f"The first OACK is {at(history.oack)}: {shown(history.agreed())}; now {now}."] if history.oack else []
+
+
+def oack_after_start(history: History, it: Datagram, fault: str) -> Lines:
+    sent = history.highest("DATA", "out")
+    return [f"The server had sent {at(sent)}: {sent.packet.short()}."] if sent else []
+
+
+def not_started(history: History, it: Datagram, fault: str) -> Lines:
+    if history.kind() == "get":
+        oack = f" ({inside(history.oack)})" if history.oack else ""
+        told = f"The server's OACK{oack} is answered by ACK 0 before the first block"
+        return [f"{told}, and no ACK 0 stands before this."]
+    return ["The server answers the request of a write by ACK 0 or an OACK, and neither stands before this block."]
+
+
+def block_zero(history: History, it: Datagram, fault: str) -> Lines:
+    highest = max(history.blocks, default=0)
+    if highest == 0:
+        return ["No block had passed before it."]
+    return [f"The highest block before it is {highest} in {at(history.blocks[highest])}."]
+
+
+def beyond(history: History, it: Datagram, fault: str) -> Lines:
+    packet = read_packet(it.payload)
+    if isinstance(packet, Data):
+        whole = f"Block {packet.block} is a whole block of {count(history.block_size(), 'byte')}"
+        return [f"{whole}, so another must follow it."]
+    _, agreed, lines = asked_and_agreed(history, it)
+    size, block = number_of(agreed.get("tsize", "0")) or 0, number_of(agreed.get("blksize", "512")) or 512
+    told = f"{count(size, 'byte')} in blocks of {block} are {size // block + 1:,} blocks"
+    return [*lines, f"{told}; there are numbers for {MOST_BLOCKS:,}."]
+
+
+def terms(history: History) -> str:
+    is_agreed = history.oack and history.number("blksize")
+    where = f" ({inside(history.oack)})" if history.oack and is_agreed else ", as no OACK agreed to another"
+    return f"The block size is {history.block_size()}{where}."
+
+
+def block_length(history: History, it: Datagram, fault: str) -> Lines:
+    packet, lines = read_packet(it.payload), [terms(history)]
+    if not isinstance(packet, Data):
+        return lines
+    length, size, last = len(packet.content), history.block_size(), history.last_block()
+    if length > size:
+        return [*lines, f"This block has {count(length, 'byte')}, which is more."]
+    if last is None:
+        highest = max(history.blocks, default=0)
+        told = f"This block has {count(length, 'byte')}, so it would be the last one"
+        return [*lines, f"{told}, but block {highest} has passed in {at(history.blocks[highest])}."]
+    lines.append(f"The last block is {last}{last_from(history, last)}.")
+    if packet.block > last:
+        return [*lines, f"This is block {packet.block}, after the last one."]
+    if packet.block < last:
+        return [*lines, f"This is block {packet.block}, before the last one, and has {count(length, 'byte')} only."]
+    agreed = history.size()
+    should = f"{agreed % size}" if agreed is not None else f"fewer than {size}"
+    return [*lines, f"It has {count(length, 'byte')} and should have {should}."]
+
+
+def last_from(history: History, last: int) -> str:
+    """How the last block is known."""
+    size = history.size()
+    if size is not None and history.oack:
+        return f", by the size of {count(size, 'byte')} that was agreed ({inside(history.oack)})"
+    if last in history.blocks:
+        short = history.blocks[last]
+        return f", since it has {count(len(content_of(short)), 'byte')} in {at(short)}"
+    return ""
+
+
+def window_overrun(history: History, it: Datagram, fault: str) -> Lines:
+    way = "out" if history.is_receiver() else "in"
+    acked, window = history.highest("ACK", way), history.window()
+    block = block_of(Passed(it, read_packet(it.payload), "main"))
+    base = block_of(acked) if acked else 0
+    start = f"{cap(at(acked))} acknowledged block {base}" if acked else "No block was acknowledged before it"
+    agreed = f" ({inside(history.oack)})" if history.oack and history.number("windowsize") else ", as none was agreed"
+    over = block - base - window
+    far = "one too far" if over == 1 else f"{over} too far"
+    most = f"The window is {count(window, 'block')}{agreed}, so block {base + window} is the last that may come."
+    return [f"{start}.", most, f"Block {block} is {far}.", *after_the_error(history)]
+
+
+def cap(text: str) -> str:
+    return text[:1].upper() + text[1:]
+
+
+def after_the_error(history: History) -> Lines:
+    """What went out after the other end's ERROR counts for nothing in the rules that read what went out."""
+    error = history.error("in")
+    return [f"The other end's ERROR came in {at(error)}: what went out after it is not counted."] if error else []
+
+
+def block_skipped(history: History, it: Datagram, fault: str) -> Lines:
+    top, block = history.highest("DATA", "out"), block_of(Passed(it, read_packet(it.payload), "main"))
+    sent = f"The highest block sent before it is {block_of(top)} in {at(top)}" if top else "No block was sent before it"
+    return [f"{sent}.", f"The next one is {(block_of(top) if top else 0) + 1}, and this is block {block}."]
+
+
+def gone_back(history: History, it: Datagram, fault: str) -> Lines:
+    top = history.highest("DATA", "out")
+    if top is None:
+        return []
+    agreed = "no window was agreed" if not history.number("windowsize") else "the agreed window is 1"
+    return [f"The highest block sent before it is {block_of(top)} in {at(top)}.", f"This is lock step: {agreed}."]
+
+
+def block_changed(history: History, it: Datagram, fault: str) -> Lines:
+    packet = read_packet(it.payload)
+    before = history.blocks.get(packet.block) if isinstance(packet, Data) else None
+    if before is None or not isinstance(packet, Data):
+        return []
+    was, now = content_of(before), packet.content
+    lengths = f"with {count(len(was), 'byte')}; now it has {count(len(now), 'byte')}"
+    lines = [f"Block {packet.block} had passed in {at(before)}, {lengths}."]
+    place = next((n for n, pair in enumerate(zip(was, now)) if pair[0] != pair[1]), min(len(was), len(now)))
+    then, there = words_of(was[place : place + 12]), words_of(now[place : place + 12])
+    return [*lines, f"They differ from byte {place + 1} of the block on: {then} then, {there} now."]
+
+
+def ack_ahead(history: History, it: Datagram, fault: str) -> Lines:
+    block = block_of(Passed(it, read_packet(it.payload), "main"))
+    error = history.error("in")
+    if history.is_receiver():
+        missing, highest = history.front + 1, max(history.blocks, default=0)
+        later = f", though block {highest} had" if highest > history.front else ""
+        lines = [f"{cap(blocks_to(history.front))} had come in, block {missing} had not{later}."]
+        lines = lines if history.front else [f"Block 1 had not come in{later}."]
+        lines.append(f"Block {block} is acknowledged.")
+        return [*lines, *answers_error(error, block == missing)]
+    top = history.highest("DATA", "out")
+    sent = f"The highest block sent before it is {block_of(top)} in {at(top)}" if top else "No block was sent before it"
+    is_next = block == (block_of(top) if top else 0) + 1
+    return [f"{sent}.", *after_the_error(history), *answers_error(history.error("out"), is_next)]
+
+
+def answers_error(error: Optional[Passed], is_next: bool) -> Lines:
+    """An ACK of the block that was awaited, after an ERROR of the other side, is an old client's answer to that."""
+    if error is None or not is_next:
+        return []
+    return [f"It follows the ERROR in {at(error)}, which is not acknowledged; this does no harm."]
+
+
+def ack_zero(history: History, it: Datagram, fault: str) -> Lines:
+    if history.kind() == "get":
+        return ["The transfer is a read, and no OACK had passed, so there was nothing that ACK 0 could answer."]
+    oack = f" ({inside(history.oack)})" if history.oack else ""
+    return [f"The server answered by an OACK{oack}, so ACK 0 may come only once a block has, and none had."]
+
+
+COMPARED: dict[int, Callable[[History, Datagram, str], Lines]] = {
+    1: foreign_port, 2: wrong_port, 3: stray_answer, 4: no_request, 5: malformed, 6: wrong_kind, 7: after_error,
+    8: request_changed, 9: request_after_start, 10: reply_changed, 11: oack_empty, 12: oack_empty, 13: not_requested,
+    14: outside_profile, 15: option_value, 16: oack_changed, 17: oack_after_start, 18: not_started, 19: block_zero,
+    20: beyond, 21: block_length, 22: window_overrun, 23: block_skipped, 24: gone_back, 25: block_changed,
+    26: ack_ahead, 27: ack_zero,
+}
