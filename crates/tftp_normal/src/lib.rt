@@ -1,0 +1,4 @@
+//! The normal capture: the one that is written for a meaning.
+#![tactic(auto)]
+
+pub mod laws;
