@@ -11,3 +11,4 @@ pub mod Lawful
 pub mod TextLength
 pub mod Texts
 pub mod Filled
+pub mod Computed

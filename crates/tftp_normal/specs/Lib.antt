@@ -1,3 +1,4 @@
 pub mod CanBeWritten
 pub mod Normal
 pub mod Accepted
+pub mod Worked
