@@ -10,5 +10,5 @@ pub mod Written
 pub mod Lawful
 pub mod TextLength
 pub mod Texts
-pub mod Filled
+pub mod Taken
 pub mod Computed

@@ -2,3 +2,4 @@ pub mod CanBeWritten
 pub mod Normal
 pub mod Accepted
 pub mod Worked
+pub mod WireLeft

@@ -2,4 +2,5 @@
 #![tactic(auto)]
 
 pub mod laws;
+mod wire_blocks;
 pub mod worked;
