@@ -7,7 +7,6 @@ ghost use Rattle.tftp_netascii.specs.Netascii.{canonical_bytes};
 ghost use Rattle.tftp_law.specs.Fits.{written_wire};
 ghost use Rattle.tftp_normal.specs.WireLeft.{bytes_of};
 
-use std::alloc::AllocError;
 use std::marker::Model;
 use tftp_packet::Mode;
 
@@ -40,7 +39,7 @@ impl<'a> Model for WireBlocks<'a> {
 }
 
 impl<'a> WireBlocks<'a> {
-    ghost use Rattle.std.specs.Prelude.{◌≡◌, [], ◌++◌, take, drop, IfNone, OnOk};
+    ghost use Rattle.std.specs.Prelude.{◌≡◌, ◌≤◌, [], ◌++◌, length, take, drop, IfNone};
     ghost use Rattle.tftp_law.specs.Fits.{written_wire};
     ghost use Rattle.tftp_normal.specs.WireLeft.{bytes_of};
 
@@ -55,32 +54,35 @@ impl<'a> WireBlocks<'a> {
         }
     }
 
-    /// Adds the next block to a payload, so many bytes or all that are left. It takes memory where the payload has no room.
-    pub(crate) fn add_next(&mut self, size: usize, payload: &mut Vec<u8>) -> Result<(), AllocError>
-        ensures block { OnOk result (payload.new.items ≡ payload.old.items ++ take size self.old) }
-        ensures rest { OnOk result (self.new ≡ drop size self.old) }
+    /// Fills a block from its front with what comes next, as far as it goes, and tells how many bytes those are.
+    pub(crate) fn fill(&mut self, block: &mut [u8]) -> usize
+        ensures within { result ≤ length block.old }
+        ensures filled { take result block.new ≡ take (length block.old) self.old }
+        ensures rest { self.new ≡ drop (length block.old) self.old }
     {
         if self.mode == Mode::Netascii {
-            return self.add_bytes(size, payload);
+            return self.fill_bytes(block);
         }
-        let (block, rest) = self.file.split_at(size.min(self.file.len()));
-        payload.extend_from_slice(block)?;
+        let size = block.len().min(self.file.len());
+        let (bytes, rest) = self.file.split_at(size);
+        block[..size].copy_from_slice(bytes);
         self.file = rest;
-        Ok(())
+        size
     }
 
-    /// Adds so many bytes, or all that are left, one after another.
-    fn add_bytes(&mut self, size: usize, payload: &mut Vec<u8>) -> Result<(), AllocError>
-        ensures block { OnOk result (payload.new.items ≡ payload.old.items ++ take size self.old) }
-        ensures rest { OnOk result (self.new ≡ drop size self.old) }
+    /// Fills a block byte by byte.
+    fn fill_bytes(&mut self, block: &mut [u8]) -> usize
+        ensures within { result ≤ length block.old }
+        ensures filled { take result block.new ≡ take (length block.old) self.old }
+        ensures rest { self.new ≡ drop (length block.old) self.old }
     {
-        for _ in 0..size {
+        for index in 0..block.len() {
             match self.next_byte() {
-                Some(byte) => payload.push(byte)?,
-                None => return Ok(()),
+                Some(byte) => block[index] = byte,
+                None => return index,
             }
         }
-        Ok(())
+        block.len()
     }
 
     /// The next byte.
