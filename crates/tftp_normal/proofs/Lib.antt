@@ -10,5 +10,7 @@ pub mod Written
 pub mod Lawful
 pub mod TextLength
 pub mod Texts
+pub mod Payloads
+pub mod Putting
 pub mod Taken
 pub mod Computed

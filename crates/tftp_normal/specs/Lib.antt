@@ -3,3 +3,5 @@ pub mod Normal
 pub mod Accepted
 pub mod Worked
 pub mod WireLeft
+pub mod Transfer
+pub mod Writing

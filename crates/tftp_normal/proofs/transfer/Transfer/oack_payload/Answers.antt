@@ -1,0 +1,5 @@
+use Rattle.tftp_normal.proofs.Payloads.{oack_short, short_result}
+use Rattle.tftp_normal.proofs.transfer.Transfer.oack_payload.Goals as goal
+
+pub returns-clause-short : goal.returns-clause-short
+returns-clause-short c = short_result c.args.self.now c.self.invariant.can c.write_oack.result c.write_oack.ensures
