@@ -13,18 +13,18 @@ use Rattle.tftp_ends.proofs.OneSided.{view_one_sided}
 use Rattle.tftp_ends.specs.CaptureText.{Datagram, Header}
 use Rattle.tftp_law.specs.Law.{ShowsBy}
 
-opening_length : (side : Side) (agreed : ℕ) → length (opening_on side agreed) ≡ opening_count side agreed
+pub opening_length : (side : Side) (agreed : ℕ) → length (opening_on side agreed) ≡ opening_count side agreed
 opening_length Get zero = refl
 opening_length Get (suc more) = refl
 opening_length Put zero = refl
 opening_length Put (suc more) = refl
 
-blocks_length : (k more : ℕ) → length (blocks_after k more) ≡ more
+pub blocks_length : (k more : ℕ) → length (blocks_after k more) ≡ more
 blocks_length k zero = refl
 blocks_length k (suc more) = ap suc (blocks_length (k + 1) more)
 
 -- so many windows after block k are just enough for n blocks
-windows_length : (w n k count : ℕ) → k ≤ n → n ≤ k + count * w → k + count * w < n + w → length (windows_after w n k count) ≡ n - k + count
+pub windows_length : (w n k count : ℕ) → k ≤ n → n ≤ k + count * w → k + count * w < n + w → length (windows_after w n k count) ≡ n - k + count
 windows_length w n k zero low enough few = let none = zero-mul w in omega (arith, enough)
 windows_length w n k (suc more) low enough few =
     let size : suc more * w ≡ more * w + w = suc-mul more w in

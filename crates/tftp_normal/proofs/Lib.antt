@@ -12,5 +12,6 @@ pub mod TextLength
 pub mod Texts
 pub mod Payloads
 pub mod Putting
+pub mod BlocksPut
 pub mod Taken
 pub mod Computed
