@@ -13,5 +13,6 @@ pub mod Texts
 pub mod Payloads
 pub mod Putting
 pub mod BlocksPut
+pub mod WindowsPut
 pub mod Taken
 pub mod Computed

@@ -21,6 +21,10 @@ dir_from Server = In
 abbrev pub sent_by : End → List ℕ → Datagram
 sent_by author payload = record { dir = dir_from author; local = 50000; host = no_host; remote = 50001; payload = payload }
 
+-- the request, which goes to the service port
+abbrev pub asked_by : List ℕ → Datagram
+asked_by payload = record { dir = Out; local = 50000; host = no_host; remote = 69; payload = payload }
+
 -- the datagrams of packets
 abbrev pub datagrams_of : Meaning → List MachinePacket → List Datagram
 datagrams_of m packets = each (normal_datagram m) packets

@@ -14,6 +14,7 @@ pub enum WritingFault {
 }
 
 impl From<WriteFault> for WritingFault {
+    ghost use Rattle.std.specs.Prelude.{◌≡◌};
     ghost use Rattle.tftp_normal.specs.declared.fault.WritingFault.{WritingFault};
 
     ghost from_gives = { λ _ fault. fault ≡ WritingFault.Write };
@@ -24,6 +25,7 @@ impl From<WriteFault> for WritingFault {
 }
 
 impl From<AllocError> for WritingFault {
+    ghost use Rattle.std.specs.Prelude.{◌≡◌};
     ghost use Rattle.tftp_normal.specs.declared.fault.WritingFault.{WritingFault};
 
     ghost from_gives = { λ _ fault. fault ≡ WritingFault.Memory };
