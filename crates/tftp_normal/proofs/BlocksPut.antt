@@ -1,5 +1,5 @@
 -- The blocks of a window that are put one after another.
-use Rattle.std.proofs.Common.{◌≡◌, ℕ, zero, suc, ◌+◌, ◌-◌, ◌*◌, ◌<◌, ◌≤◌, List, [], ◌∷◌, ◌++◌, length, length-append, take, drop, Option, refl, sym, subst, ap, ◌∙◌, arith, suc-mul, drop-drop}
+use Rattle.std.proofs.Common.{◌≡◌, ℕ, zero, suc, ◌+◌, ◌-◌, ◌*◌, ◌<◌, ◌≤◌, List, [], ◌∷◌, ◌++◌, length, length-append, take, drop, Option, refl, sym, subst, ap, ◌∙◌, arith, suc-mul, zero-mul, drop-drop}
 use Rattle.std.proofs.lemmas.List.{length-map}
 use Rattle.tftp_packet.specs.Message.{Message}
 use Rattle.tftp_packet.specs.Canonical.{canonical}
@@ -73,3 +73,9 @@ putting_count c0 c1 s t rest all p =
     let same = ap length p.whole in
     let count = p.put.count in
     omega (arith, both, same, count)
+
+pub left_at_start : (m : Meaning) → wire_of m ≡ drop (0 * blksize_of m) (wire_of m)
+left_at_start m = let none : 0 ≡ 0 * blksize_of m = sym (zero-mul (blksize_of m)) in ap (λ i. drop i (wire_of m)) none
+
+pub blocks_counted : (m : Meaning) (c0 c1 : Option (List ℕ)) (s t : WriterState) (k more : ℕ) → HasPut c0 c1 s t (datagrams_of m (blocks_after k more)) → t.count ≡ s.count + more
+blocks_counted m c0 c1 s t k more p = let count = p.count in let size = length-blocks m k more in omega (arith, count, size)

@@ -35,15 +35,15 @@ module _ (m : Meaning) where
       let held = windows_hold n w some in
       record { count = windows_of m; enough = omega (arith, held.0); few = omega (arith, held.1); putting = putting_first c s all_windows going }
 
-  -- the next window: its blocks, its ACK, and what is left then
-  record Front (c0 c1 : Option (List ℕ)) (s t : WriterState) (k : ℕ) : Type 0 where
+  -- the next window, up to a block: its blocks, its ACK, and what is left then
+  record Front (c0 c1 : Option (List ℕ)) (s t : WriterState) (k last : ℕ) : Type 0 where
     count : ℕ
-    later : k < min (k + w) n
-    enough : n ≤ min (k + w) n + count * w
-    few : min (k + w) n + count * w < n + w
-    putting : Putting c0 c1 s t (datagrams_of m (blocks_after k (min (k + w) n - k)) ++ (normal_datagram m (Ack (min (k + w) n)) ∷ datagrams_of m (windows_after w n (min (k + w) n) count))) all_windows
+    later : k < last
+    enough : n ≤ last + count * w
+    few : last + count * w < n + w
+    putting : Putting c0 c1 s t (datagrams_of m (blocks_after k (last - k)) ++ (normal_datagram m (Ack last) ∷ datagrams_of m (windows_after w n last count))) all_windows
 
-  front_by : (c0 c1 : Option (List ℕ)) (s t : WriterState) (k count : ℕ) → k < n → n ≤ k + count * w → k + count * w < n + w → Putting c0 c1 s t (datagrams_of m (windows_after w n k count)) all_windows → Front c0 c1 s t k
+  front_by : (c0 c1 : Option (List ℕ)) (s t : WriterState) (k count : ℕ) → k < n → n ≤ k + count * w → k + count * w < n + w → Putting c0 c1 s t (datagrams_of m (windows_after w n k count)) all_windows → Front c0 c1 s t k (min (k + w) n)
   front_by c0 c1 s t k zero low enough few p = let none = zero-mul w in absurd (omega (arith, low, enough, none))
   front_by c0 c1 s t k (suc more) low enough few p =
       let size : suc more * w ≡ more * w + w = suc-mul more w in
@@ -58,12 +58,9 @@ module _ (m : Meaning) where
             (map-append (normal_datagram m) (blocks_after k (min (k + w) n - k)) (Ack (min (k + w) n) ∷ windows_after w n (min (k + w) n) more)) p;
       }
 
-  module _ (c0 c1 : Option (List ℕ)) (s t : WriterState) (k : ℕ) (low : k < n) (left : WindowsLeft c0 c1 s t k) where
-    front : Front c0 c1 s t k
-    front = front_by c0 c1 s t k left.count low left.enough left.few left.putting
-
-    abbrev last : ℕ
-    last = min (k + w) n
+  module _ (c0 c1 : Option (List ℕ)) (s t : WriterState) (k : ℕ) (low : k < n) (last : ℕ) (at : last ≡ min (k + w) n) (left : WindowsLeft c0 c1 s t k) where
+    front : Front c0 c1 s t k last
+    front = subst (Front c0 c1 s t k) (sym at) (front_by c0 c1 s t k left.count low left.enough left.few left.putting)
 
     abbrev blocks : List Datagram
     blocks = datagrams_of m (blocks_after k (last - k))

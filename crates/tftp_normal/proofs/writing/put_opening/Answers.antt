@@ -22,12 +22,12 @@ returns-in_err-put_from-in-Get-false g c = ?
 
 -- src/writing.rt:132:1
 pub returns-in_ok-put_from-in-Get-false : goal.returns-in_ok-put_from-in-Get-false
-returns-in_ok-put_from-in-Get-false g c = ?
+returns-in_ok-put_from-in-Get-false g c = let x : ℕ = c.in-Get-false.ensures' in ?
 
 -- src/writing.rt:132:1
 pub returns-in-Put-true : goal.returns-in-Put-true
-returns-in-Put-true g c = ?
+returns-in-Put-true g c = let x : ℕ = c.in-Put-true.is-0 in ?
 
 -- src/writing.rt:132:1
 pub returns-in-Put-false : goal.returns-in-Put-false
-returns-in-Put-false g c = ?
+returns-in-Put-false g c = let x : ℕ = c.in-Put-false.ensures in ?
