@@ -14,5 +14,6 @@ pub mod Payloads
 pub mod Putting
 pub mod BlocksPut
 pub mod WindowsPut
+pub mod OpeningPut
 pub mod Taken
 pub mod Computed

@@ -41,6 +41,9 @@ module _ {W E : Type 0} (contents : W → Option (List ℕ)) where
     subst (λ l. AppendsPrefix (contents t0.0) (contents t2.0) (s.held ++ l)) (sym (lines_both ds es)) (prefix_after _ _ _ s.held t.held (lines_of ds) (lines_of es) p.gathers q.1),
   )
 
+  pub puts_same : (t0 t1 : W × Bool) (r : Result (Unit {0}) E) (s u : WriterState) (ds es : List Datagram) → ds ≡ es → Puts contents t0 t1 r s u ds → Puts contents t0 t1 r s u es
+  puts_same t0 t1 r s u ds es is p = subst (Puts contents t0 t1 r s u) is p
+
   pub puts_one : (t0 t1 : W × Bool) (r : Result (Unit {0}) E) (s u : WriterState) (d : Datagram) → Adds contents t0 t1 r s.held u.held (datagram_line d ++ 10 ∷ []) → OnOk r (u.count ≡ s.count + 1) → u.failed ≡ is_err r
       → Puts contents t0 t1 r s u (d ∷ [])
   puts_one t0 t1 (Ok x) s u d adds counted failed = (
