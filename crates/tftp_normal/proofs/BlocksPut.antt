@@ -1,0 +1,81 @@
+-- The blocks of a window that are put one after another.
+use Rattle.std.proofs.Common.{◌≡◌, ℕ, zero, suc, ◌+◌, ◌-◌, ◌*◌, ◌<◌, ◌≤◌, List, [], ◌∷◌, ◌++◌, length, length-append, take, drop, Option, refl, sym, subst, ap, ◌∙◌, arith, suc-mul, zero-mul, drop-drop}
+use Rattle.std.proofs.lemmas.List.{length-map}
+use Rattle.tftp_packet.specs.Message.{Message}
+use Rattle.tftp_packet.specs.Canonical.{canonical}
+use Rattle.tftp_packet.specs.declared.kinds.End.{End}
+use Rattle.tftp_packet.specs.declared.kinds.End.TheVariants.{Client, Server}
+use Rattle.tftp_capture.specs.Tally.{AppendsPrefix}
+use Rattle.tftp_capture.specs.Written.{WriterState}
+use Rattle.tftp_ends.specs.CaptureText.{Datagram}
+use Rattle.tftp_ends.specs.Meaning.{Meaning, blksize_of}
+use Rattle.tftp_ends.specs.Blocks.{block}
+use Rattle.tftp_ends.specs.Machines.{MachinePacket, Oack, Data, Ack, message_of, sender_of, receiver_of}
+use Rattle.tftp_law.specs.Dress.{dir_of}
+use Rattle.tftp_normal.specs.CanBeWritten.{wire_of}
+use Rattle.tftp_normal.specs.Normal.{blocks_after, deed_of_client, normal_datagram}
+use Rattle.tftp_normal.specs.Writing.{dir_from, sent_by, datagrams_of, lines_of, HasPut}
+use Rattle.tftp_normal.proofs.Lengths.{blocks_length}
+use Rattle.tftp_normal.proofs.Putting.{Putting, putting_next, putting_failed}
+
+dir_is : (e : End) (p : MachinePacket) → dir_from e ≡ dir_of (deed_of_client e p)
+dir_is Client p = refl
+dir_is Server p = refl
+
+module _ (m : Meaning) where
+  pub data_datagram : (k : ℕ) → sent_by (sender_of m.side) (canonical (message_of m (wire_of m) (Data k))) ≡ normal_datagram m (Data k)
+  data_datagram k =
+      ap (λ d. record { dir = d; local = 50000; host = 45 ∷ []; remote = 50001; payload = canonical (message_of m (wire_of m) (Data k)) }) (dir_is (sender_of m.side) (Data k))
+
+  pub ack_datagram : (j : ℕ) → sent_by (receiver_of m.side) (canonical (Message.Ack j)) ≡ normal_datagram m (Ack j)
+  ack_datagram j = ap (λ d. record { dir = d; local = 50000; host = 45 ∷ []; remote = 50001; payload = canonical (Message.Ack j) }) (dir_is (receiver_of m.side) (Ack j))
+
+  -- what the next packet has
+  pub next_packet : (k size : ℕ) (left : List ℕ) → size ≡ blksize_of m → left ≡ drop (k * blksize_of m) (wire_of m) → take size left ≡ block (blksize_of m) (wire_of m) (k + 1)
+  next_packet k size left e f =
+      let at : k ≡ k + 1 - 1 = omega arith in
+      ap (λ n. take n left) e ∙ ap (take (blksize_of m)) f ∙ ap (λ i. take (blksize_of m) (drop (i * blksize_of m) (wire_of m))) at
+
+  pub next_left : (k size : ℕ) (left : List ℕ) → size ≡ blksize_of m → left ≡ drop (k * blksize_of m) (wire_of m) → drop size left ≡ drop ((k + 1) * blksize_of m) (wire_of m)
+  next_left k size left e f =
+      let more : suc k * blksize_of m ≡ k * blksize_of m + blksize_of m = suc-mul k (blksize_of m) in
+      let one : k + 1 ≡ suc k = omega arith in
+      let at : k * blksize_of m + blksize_of m ≡ (k + 1) * blksize_of m = sym more ∙ ap (λ i. i * blksize_of m) (sym one) in
+      ap (λ n. drop n left) e ∙ ap (drop (blksize_of m)) f ∙ drop-drop (blksize_of m) (k * blksize_of m) (wire_of m) ∙ ap (λ i. drop i (wire_of m)) at
+
+  pub blocks_step : (k last : ℕ) → k < last → blocks_after k (last - k) ≡ Data (k + 1) ∷ blocks_after (k + 1) (last - (k + 1))
+  blocks_step k last low = let more : last - k ≡ suc (last - (k + 1)) = omega (arith, low) in ap (blocks_after k) more
+
+  pub blocks_done : (k : ℕ) (last : ℕ) → last ≤ k → blocks_after k (last - k) ≡ []
+  blocks_done k last low = let none : last - k ≡ 0 = omega (arith, low) in ap (blocks_after k) none
+
+  pub length-blocks : (k more : ℕ) → length (datagrams_of m (blocks_after k more)) ≡ more
+  length-blocks k more = length-map (blocks_after k more) (normal_datagram m) ∙ blocks_length k more
+
+  module _ (c0 c1 : Option (List ℕ)) (s t : WriterState) (k last : ℕ) (all : List Datagram) (low : k < last) (p : Putting c0 c1 s t (datagrams_of m (blocks_after k (last - k))) all) where
+    -- with the next block at the front
+    pub step_putting : Putting c0 c1 s t (normal_datagram m (Data (k + 1)) ∷ datagrams_of m (blocks_after (k + 1) (last - (k + 1)))) all
+    step_putting = subst (λ ps. Putting c0 c1 s t (datagrams_of m ps) all) (blocks_step k last low) p
+
+    pub step_put : (c2 : Option (List ℕ)) (u : WriterState) (d : Datagram) → d ≡ normal_datagram m (Data (k + 1)) → HasPut c1 c2 t u (d ∷ []) → Putting c0 c2 s u (datagrams_of m (blocks_after (k + 1) (last - (k + 1)))) all
+    step_put c2 u d is put =
+        putting_next c0 c1 c2 s t u (normal_datagram m (Data (k + 1)) ∷ []) (datagrams_of m (blocks_after (k + 1) (last - (k + 1)))) all step_putting (subst (λ x. HasPut c1 c2 t u (x ∷ [])) is put)
+
+    pub step_failed : (c2 : Option (List ℕ)) (d : Datagram) → d ≡ normal_datagram m (Data (k + 1)) → AppendsPrefix c1 c2 (t.held ++ lines_of (d ∷ [])) → AppendsPrefix c0 c2 (s.held ++ lines_of all)
+    step_failed c2 d is put =
+        putting_failed c0 c1 c2 s t (normal_datagram m (Data (k + 1)) ∷ []) (datagrams_of m (blocks_after (k + 1) (last - (k + 1)))) all step_putting
+        (subst (λ x. AppendsPrefix c1 c2 (t.held ++ lines_of (x ∷ []))) is put)
+
+-- how many are counted
+pub putting_count : (c0 c1 : Option (List ℕ)) (s t : WriterState) (rest all : List Datagram) → Putting c0 c1 s t rest all → t.count + length rest ≡ s.count + length all
+putting_count c0 c1 s t rest all p =
+    let both = length-append p.done rest in
+    let same = ap length p.whole in
+    let count = p.put.count in
+    omega (arith, both, same, count)
+
+pub left_at_start : (m : Meaning) → wire_of m ≡ drop (0 * blksize_of m) (wire_of m)
+left_at_start m = let none : 0 ≡ 0 * blksize_of m = sym (zero-mul (blksize_of m)) in ap (λ i. drop i (wire_of m)) none
+
+pub blocks_counted : (m : Meaning) (c0 c1 : Option (List ℕ)) (s t : WriterState) (k more : ℕ) → HasPut c0 c1 s t (datagrams_of m (blocks_after k more)) → t.count ≡ s.count + more
+blocks_counted m c0 c1 s t k more p = let count = p.count in let size = length-blocks m k more in omega (arith, count, size)

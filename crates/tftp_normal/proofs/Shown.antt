@@ -1,0 +1,174 @@
+-- The normal capture shows its meaning at the client, so it determines it.
+use Rattle.std.proofs.Common.{◌≡◌, ℕ, zero, suc, List, [], ◌∷◌, ◌++◌, map as each, reverse, append_assoc, append-nil, inl, inr, refl, sym, subst, ap, ◌∙◌, arith}
+use Rattle.std.proofs.lemmas.List.{reverse-append}
+use Rattle.std.specs.FinMap as finite
+use Rattle.std.specs.FinMap.{len-empty, empty_of_len}
+use Rattle.std.specs.Ordering.{nat_cmp}
+use Rattle.std.specs.Cmp.Lexicographic.{slice_cmp}
+use Rattle.tftp_packet.specs.OptionMap.{OptionValue}
+use Rattle.tftp_packet.specs.declared.kinds.Side.{Side}
+use Rattle.tftp_packet.specs.declared.kinds.Side.TheVariants.{Get, Put}
+use Rattle.tftp_packet.specs.declared.kinds.End.TheVariants.{Client, Server}
+use Rattle.tftp_ends.specs.Meaning.{Meaning, NothingAgreed, SomethingAgreed, windowsize_of}
+use Rattle.tftp_ends.specs.Roles.{sender_of, receiver_of}
+use Rattle.tftp_ends.specs.Machines.{MachinePacket, Req, Oack, Data, Ack, Sent, Took, MaySendReq, MayAckZeroOn}
+use Rattle.tftp_ends.specs.OneSide.{LetsAckZeroOn}
+use Rattle.tftp_ends.specs.Runs.{IsComplete}
+use Rattle.tftp_ends.proofs.HistoryTests.{none_sent}
+use Rattle.tftp_ends.proofs.Members.{contains_first, contains_cases, contains_none}
+use Rattle.tftp_ends.proofs.MadeRuns.{one_sided_view}
+use Rattle.tftp_law.specs.Dress.{Division, view_in, datagrams_of}
+use Rattle.tftp_law.specs.Law.{ShowsBy, Shows}
+use Rattle.tftp_law.proofs.TwoEnds.{one}
+use Rattle.tftp_normal.specs.CanBeWritten.{wire_of, blocks_of, CanBeWritten}
+use Rattle.tftp_normal.specs.Normal.{windows_of, opening_on, opening, windows_after, normal_packets, normal_datagram, normal_datagrams, normal_header}
+use Rattle.tftp_normal.proofs.Shortest.{windows_hold}
+use Rattle.tftp_normal.proofs.Going.{ids, place, after, after_both, Going, windows, ack_spells, answer_first}
+
+module _ (m : Meaning) (can : CanBeWritten m) where
+  asks : MaySendReq Client []
+  asks = record { client = refl; no_error = none_sent [] refl; no_data = λ k at. contains_none (Sent (Data k)) at; no_ack = λ j at. contains_none (Sent (Ack j)) at }
+
+  nothing : finite.len m.agreed ≡ 0 → NothingAgreed m
+  nothing none = empty_of_len m.agreed none
+
+  something : (more : ℕ) → finite.len m.agreed ≡ suc more → SomethingAgreed m
+  something more some none = let e : finite.len m.agreed ≡ 0 = ap finite.len none ∙ len-empty (slice_cmp nat_cmp) OptionValue in absurd (omega (arith, some, e))
+
+  opened : (side : Side) → m.side ≡ side → (agreed : ℕ) → finite.len m.agreed ≡ agreed → Going m side 0 0 (after m side [] (opening_on side agreed))
+  opened Get is zero none = record {
+    own = (asks, tt);
+    parts = (record { dir = refl; client = refl; server = (refl, λ _. refl); spells = can.request.0 }, tt);
+    started = inl (nothing none, contains_first (Sent Req) []);
+    no_error = refl;
+    going = refl;
+    acked = inl refl;
+    passed = λ i from to. absurd (omega (arith, from, to));
+    below = λ i at. elim (contains_cases (Sent Req) [] (Took (Data i)) at) [ inl same ↦ absurd (cc) | inr before ↦ absurd (contains_none (Took (Data i)) before) ];
+    answered = inl (refl, refl);
+  }
+  opened Get is (suc more) some = record {
+    own = (
+      record {
+        receiver = sym (ap receiver_of is);
+        no_error = none_sent (Took Oack ∷ Sent Req ∷ []) refl;
+        zero = λ _. subst (λ s. MayAckZeroOn s m (Took Oack ∷ Sent Req ∷ [])) (sym is) (something more some, contains_first (Took Oack) (Sent Req ∷ []));
+        taken = λ k from to. absurd (omega (arith, from, to));
+      },
+      (record { client = refl; agreed = something more some; asked = contains_first (Sent Req) [] }, (asks, tt)),
+    );
+    parts = (
+      record { dir = refl; client = refl; server = (refl, inr (answer_first (place m Get Oack) (place m Get Req ∷ []) refl)); spells = ack_spells m can 0 (omega arith) },
+      (
+        record { dir = refl; client = refl; server = (refl, inl refl); spells = (can.oack (something more some)).0 },
+        (record { dir = refl; client = refl; server = (refl, λ _. refl); spells = can.request.0 }, tt),
+      ),
+    );
+    started = inr (something more some, contains_first (Sent (Ack 0)) (Took Oack ∷ Sent Req ∷ []));
+    no_error = refl;
+    going = refl;
+    acked = inl refl;
+    passed = λ i from to. absurd (omega (arith, from, to));
+    below = λ i at. elim (contains_cases (Sent (Ack 0)) (Took Oack ∷ Sent Req ∷ []) (Took (Data i)) at) [
+      | inl same ↦ absurd (cc)
+      | inr b ↦ elim (contains_cases (Took Oack) (Sent Req ∷ []) (Took (Data i)) b) [
+        | inl same ↦ absurd (cc)
+        | inr b2 ↦ elim (contains_cases (Sent Req) [] (Took (Data i)) b2) [ inl same ↦ absurd (cc) | inr before ↦ absurd (contains_none (Took (Data i)) before) ]
+      ]
+    ];
+    answered = inl (refl, refl);
+  }
+  opened Put is zero none = record {
+    own = (
+      record {
+        sender = sym (ap sender_of is);
+        zero = λ _. subst (λ s. LetsAckZeroOn s m (Sent Req ∷ [])) (sym is) (inl (nothing none, contains_first (Sent Req) []));
+        sent = λ k from to. absurd (omega (arith, from, to));
+      },
+      (asks, tt),
+    );
+    parts = (
+      record { dir = refl; client = refl; server = (refl, inl refl); spells = ack_spells m can 0 (omega arith) },
+      (record { dir = refl; client = refl; server = (refl, λ _. refl); spells = can.request.0 }, tt),
+    );
+    started = inl (nothing none, contains_first (Took (Ack 0)) (Sent Req ∷ []));
+    no_error = refl;
+    going = refl;
+    acked = inl refl;
+    passed = λ i from to. absurd (omega (arith, from, to));
+    below = λ i at. elim (contains_cases (Took (Ack 0)) (Sent Req ∷ []) (Sent (Data i)) at) [
+      | inl same ↦ absurd (cc)
+      | inr b ↦ elim (contains_cases (Sent Req) [] (Sent (Data i)) b) [ inl same ↦ absurd (cc) | inr before ↦ absurd (contains_none (Sent (Data i)) before) ]
+    ];
+    answered = inr (answer_first (place m Put (Ack 0)) (place m Put Req ∷ []) refl);
+  }
+  opened Put is (suc more) some = record {
+    own = (record { client = refl; agreed = something more some; asked = contains_first (Sent Req) [] }, (asks, tt));
+    parts = (
+      record { dir = refl; client = refl; server = (refl, inl refl); spells = (can.oack (something more some)).0 },
+      (record { dir = refl; client = refl; server = (refl, λ _. refl); spells = can.request.0 }, tt),
+    );
+    started = inr (something more some, contains_first (Took Oack) (Sent Req ∷ []));
+    no_error = refl;
+    going = refl;
+    acked = inl refl;
+    passed = λ i from to. absurd (omega (arith, from, to));
+    below = λ i at. elim (contains_cases (Took Oack) (Sent Req ∷ []) (Sent (Data i)) at) [
+      | inl same ↦ absurd (cc)
+      | inr b ↦ elim (contains_cases (Sent Req) [] (Sent (Data i)) b) [ inl same ↦ absurd (cc) | inr before ↦ absurd (contains_none (Sent (Data i)) before) ]
+    ];
+    answered = inr (answer_first (place m Put Oack) (place m Put Req ∷ []) refl);
+  }
+
+  abbrev division : Division
+  division = after m m.side [] (normal_packets m)
+
+  gone : Going m m.side (blocks_of m) (blocks_of m) division
+  gone =
+      let first = opened m.side refl (finite.len m.agreed) refl in
+      let held = windows_hold (blocks_of m) (windowsize_of m) can.window_size in
+      let all = windows m can m.side refl (windows_of m) 0 (after m m.side [] (opening m)) first (omega arith) (omega (arith, held.0)) (omega (arith, held.1)) in
+      subst (Going m m.side (blocks_of m) (blocks_of m)) (sym (after_both m m.side [] (opening m) (windows_after (windowsize_of m) (blocks_of m) 0 (windows_of m)))) all
+
+  complete : (side : Side) → m.side ≡ side → Going m side (blocks_of m) (blocks_of m) division → IsComplete m (wire_of m) Client (view_in division)
+  complete Get is g = record {
+    took = λ receives k from to. g.passed k from to;
+    acknowledged = λ receives. elim g.acked [ inl none ↦ absurd (omega (arith, none)) | inr some ↦ some ];
+    was_told = λ sends. (let other : Client ≡ Server = sends ∙ ap sender_of is in absurd (cc));
+  }
+  complete Put is g = record {
+    took = λ receives. (let other : Client ≡ Server = receives ∙ ap receiver_of is in absurd (cc));
+    acknowledged = λ receives. (let other : Client ≡ Server = receives ∙ ap receiver_of is in absurd (cc));
+    was_told = λ sends. elim g.acked [ inl none ↦ absurd (omega (arith, none)) | inr some ↦ some ];
+  }
+
+  turned : (earlier : Division) (ps : List MachinePacket) → datagrams_of (after m m.side earlier ps) ≡ reverse (each (normal_datagram m) ps) ++ datagrams_of earlier
+  turned earlier [] = refl
+  turned earlier (p ∷ ps) =
+      turned (place m m.side p ∷ earlier) ps
+      ∙ sym (append_assoc (reverse (each (normal_datagram m) ps)) (normal_datagram m p ∷ []) (datagrams_of earlier))
+      ∙ ap (λ l. l ++ datagrams_of earlier) (sym (reverse-append (normal_datagram m p ∷ []) (each (normal_datagram m) ps)))
+
+  pub shown : ShowsBy normal_header m (wire_of m) (normal_datagrams m)
+  shown = record {
+    seen = record {
+      fits = can.fits;
+      view = view_in division;
+      run = one_sided_view m (wire_of m) Client (view_in division) gone.own;
+      dressed = record {
+        ids = ids;
+        division = division;
+        whole = turned [] (normal_packets m) ∙ append-nil (reverse (normal_datagrams m));
+        main = refl;
+        parts = gone.parts;
+      };
+    };
+    complete = complete m.side refl gone;
+  }
+
+  pub shows : Shows normal_header m (normal_datagrams m)
+  shows = record { writable = can.fits.numbered; wire = wire_of m; shown = shown }
+
+-- a capture shows one meaning, so the normal one determines its meaning
+pub injective : (m o : Meaning) → CanBeWritten m → CanBeWritten o → normal_datagrams m ≡ normal_datagrams o → m ≡ o
+injective m o can other same = one normal_header (normal_datagrams m) m o (shows m can) (subst (Shows normal_header o) (sym same) (shows o other))

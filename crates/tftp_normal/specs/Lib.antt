@@ -1,0 +1,7 @@
+pub mod CanBeWritten
+pub mod Normal
+pub mod Accepted
+pub mod Worked
+pub mod WireLeft
+pub mod Transfer
+pub mod Writing

@@ -1,0 +1,30 @@
+-- A transfer that is to be written, by its parts in memory, and the DATA of its wire in turn (RFC 1350, section 2).
+use Rattle.std.specs.Prelude.{◌≡◌, ℕ, ◌-◌, ◌≤◌, List, length, take}
+use Rattle.tftp_ends.specs.Meaning.{Meaning}
+use Rattle.tftp_law.specs.Owned.{meaning_from}
+use Rattle.tftp_normal.specs.CanBeWritten.{blocks_of, CanBeWritten}
+use Rattle.tftp_normal.specs.declared.transfer.Transfer.TheInside as transfer
+use Rattle.tftp_normal.specs.declared.data_packets.DataPackets.TheInside as packets
+
+abbrev pub meaning_in : transfer.Inside → Meaning
+meaning_in t = meaning_from (t.request.now, (t.agreed.now, t.file.now))
+
+-- it can be written, and has so many blocks
+pub record IsToBeWritten (t : transfer.Inside) : Type 0 where
+  pub can : CanBeWritten (meaning_in t)
+  pub counted : t.blocks ≡ blocks_of (meaning_in t)
+
+-- what contracts see of the DATA in turn: what is left of the wire, the size of a block, and the packet that was made last
+pub record DataState : Type 0 where
+  pub left : List ℕ
+  pub size : ℕ
+  pub packet : List ℕ
+
+abbrev pub state_of : packets.Inside → DataState
+state_of p = record { left = p.blocks; size = length p.buffer.items - 4; packet = take p.len p.buffer.items }
+
+-- a packet goes into a datagram, with the opcode and the number of its block
+pub record HasRoom (p : packets.Inside) : Type 0 where
+  pub head : 4 ≤ length p.buffer.items
+  pub short : length p.buffer.items ≤ 65468
+  pub within : p.len ≤ length p.buffer.items

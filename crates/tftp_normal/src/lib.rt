@@ -1,0 +1,12 @@
+//! The normal capture: the one that is written for a meaning.
+#![tactic(auto)]
+
+mod data_packets;
+mod fault;
+pub mod laws;
+mod transfer;
+mod wire_blocks;
+pub mod worked;
+mod writing;
+
+pub use fault::WritingFault;

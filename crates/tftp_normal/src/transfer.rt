@@ -1,0 +1,136 @@
+//! What is to be written, by its parts.
+
+use std::alloc::{AllocError, Global};
+use std::marker::Model;
+use tftp_packet::{Mode, Options, Request, Side, Value, write_oack, write_request};
+
+/// A transfer that can be written, and the number of the blocks of its wire.
+#[derive(Drop)]
+pub(crate) struct Transfer<'a> {
+    request: &'a Request,
+    agreed: &'a Options,
+    file: &'a [u8],
+    blocks: u16,
+}
+
+impl<'a> Model for Transfer<'a> {
+    ghost use Rattle.tftp_ends.specs.Meaning.{Meaning};
+    ghost use Rattle.tftp_normal.specs.Transfer.{meaning_in, IsToBeWritten};
+    ghost use Rattle.tftp_law.specs.Owned.{meaning_code};
+
+    ghost Value = { Meaning };
+
+    ghost coded = { meaning_code };
+
+    ghost view = { λ transfer. meaning_in transfer };
+
+    ghost invariant = { λ transfer. IsToBeWritten transfer };
+}
+
+impl<'a> Transfer<'a> {
+    ghost use Rattle.std.specs.Prelude.{◌≡◌, ◌≢◌, ◌↔◌, ◌+◌, ◌≤◌, min, length, IfOk, IsTrue};
+    ghost use Rattle.std.specs.FinMap as map;
+    ghost use Rattle.tftp_packet.specs.Message.{Message};
+    ghost use Rattle.tftp_packet.specs.Canonical.{canonical};
+    ghost use Rattle.tftp_ends.specs.Meaning.{request_of, blksize_of, windowsize_of};
+    ghost use Rattle.tftp_law.specs.Owned.{meaning_from};
+    ghost use Rattle.tftp_normal.specs.CanBeWritten.{blocks_of, CanBeWritten};
+    ghost use Rattle.tftp_normal.specs.Normal.{normal_count};
+
+    /// Takes the parts, and no memory.
+    pub(crate) fn of(request: &'a Request, agreed: &'a Options, file: &'a [u8], blocks: u16) -> Self
+        requires can { CanBeWritten (meaning_from (request.now, (agreed.now, file.now))) }
+        requires counted { blocks ≡ blocks_of (meaning_from (request.now, (agreed.now, file.now))) }
+        ensures { result ≡ meaning_from (request.now, (agreed.now, file.now)) }
+    {
+        Transfer {
+            request,
+            agreed,
+            file,
+            blocks,
+        }
+    }
+
+    /// Which way the file goes.
+    pub(crate) fn side(&self) -> Side
+        ensures { result ≡ self.now.side }
+    {
+        self.request.side()
+    }
+
+    /// How the file goes over the wire.
+    pub(crate) fn mode(&self) -> Mode
+        ensures { result ≡ self.now.mode }
+    {
+        self.request.mode()
+    }
+
+    /// The bytes of the file.
+    pub(crate) fn file(&self) -> &'a [u8]
+        ensures { result.now ≡ self.now.file }
+    {
+        self.file
+    }
+
+    /// How many blocks the wire has.
+    pub(crate) fn blocks(&self) -> u16
+        ensures count { result ≡ blocks_of self.now }
+        ensures few { normal_count self.now ≤ 131073 }
+    {
+        self.blocks
+    }
+
+    /// Whether nothing is agreed.
+    pub(crate) fn is_plain(&self) -> bool
+        ensures { IsTrue result ↔ (map.len self.now.agreed ≡ 0) }
+    {
+        self.agreed.is_empty()
+    }
+
+    /// How many bytes a block has that is not the last (RFC 2348).
+    pub(crate) fn block_size(&self) -> u16
+        ensures size { result ≡ blksize_of self.now }
+        ensures most { result ≤ 65464 }
+    {
+        match self.agreed.get(b"blksize") {
+            Some(Value::Num(size)) => *size as u16,
+            _ => 512,
+        }
+    }
+
+    /// How many blocks a window has that is not the last (RFC 7440).
+    pub(crate) fn window_size(&self) -> u64
+        ensures size { result ≡ windowsize_of self.now }
+        ensures some { 1 ≤ result }
+    {
+        match self.agreed.get(b"windowsize") {
+            Some(Value::Num(size)) => *size,
+            _ => 1,
+        }
+    }
+
+    /// The last block of the window after an acknowledged block.
+    pub(crate) fn window_end(&self, acked: u16) -> u16
+        requires { acked ≤ blocks_of self.now }
+        ensures { result ≡ min (acked + windowsize_of self.now) (blocks_of self.now) }
+    {
+        let left = u64::from(self.blocks() - acked);
+        acked + left.min(self.window_size()) as u16
+    }
+
+    /// The bytes of the request.
+    pub(crate) fn request_payload(&self, alloc: Global) -> Result<Vec<u8>, AllocError>
+        ensures bytes { IfOk result (λ payload. payload.items ≡ canonical (Message.Request (request_of self.now))) }
+        ensures short { IfOk result (λ payload. length payload.items ≤ 65527) }
+    {
+        write_request(alloc, self.request)
+    }
+
+    /// The bytes of the OACK (RFC 2347).
+    pub(crate) fn oack_payload(&self, alloc: Global) -> Result<Vec<u8>, AllocError>
+        ensures bytes { IfOk result (λ payload. payload.items ≡ canonical (Message.Oack self.now.agreed)) }
+        ensures short { IfOk result (λ payload. map.len self.now.agreed ≢ 0 → length payload.items ≤ 65527) }
+    {
+        write_oack(alloc, self.agreed)
+    }
+}

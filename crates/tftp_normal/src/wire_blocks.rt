@@ -1,0 +1,115 @@
+//! The wire that is written for a file, block by block, without a copy of it.
+
+ghost use Rattle.std.specs.Prelude.{◌≡◌, [], ◌∷◌, ◌++◌, OnOk, MatchOption};
+ghost use Rattle.std.specs.Prelude.{take, drop};
+ghost use Rattle.tftp_packet.specs.declared.kinds.Mode.TheVariants.{Octet, Netascii};
+ghost use Rattle.tftp_netascii.specs.Netascii.{canonical_bytes};
+ghost use Rattle.tftp_law.specs.Fits.{written_wire};
+ghost use Rattle.tftp_normal.specs.WireLeft.{bytes_of};
+
+use std::marker::Model;
+use tftp_packet::Mode;
+
+/// Makes a carriage return alone of the CR before it (RFC 764).
+const NUL: u8 = b'\0';
+
+/// The end of a line in a file, and on the wire together with the CR before it (RFC 764).
+const LF: u8 = b'\n';
+
+/// The first byte of each pair (RFC 764).
+const CR: u8 = b'\r';
+
+/// What is left of a wire. A block may end between the two bytes of a pair.
+#[derive(Drop)]
+pub(crate) struct WireBlocks<'a> {
+    mode: Mode,
+    file: &'a [u8],
+    second: Option<u8>,
+}
+
+impl<'a> Model for WireBlocks<'a> {
+    ghost use Rattle.std.specs.Prelude.{ℕ, List};
+    ghost use Rattle.tftp_normal.specs.WireLeft.{left_of, HasNoPair};
+
+    ghost Value = { List ℕ };
+
+    ghost view = { λ blocks. left_of blocks };
+
+    ghost invariant = { λ blocks. HasNoPair blocks };
+}
+
+impl<'a> WireBlocks<'a> {
+    ghost use Rattle.std.specs.Prelude.{◌≡◌, ◌≤◌, [], ◌++◌, length, take, drop, IfNone};
+    ghost use Rattle.tftp_law.specs.Fits.{written_wire};
+    ghost use Rattle.tftp_normal.specs.WireLeft.{bytes_of};
+
+    /// The whole wire of a file.
+    pub(crate) fn new(mode: Mode, file: &'a [u8]) -> Self
+        ensures { result ≡ written_wire mode file.now }
+    {
+        WireBlocks {
+            mode,
+            file,
+            second: None,
+        }
+    }
+
+    /// Fills a block from its front with what comes next, as far as it goes, and tells how many bytes those are.
+    pub(crate) fn fill(&mut self, block: &mut [u8]) -> usize
+        ensures within { result ≤ length block.old }
+        ensures filled { take result block.new ≡ take (length block.old) self.old }
+        ensures rest { self.new ≡ drop (length block.old) self.old }
+    {
+        if self.mode == Mode::Netascii {
+            return self.fill_bytes(block);
+        }
+        let size = block.len().min(self.file.len());
+        let (bytes, rest) = self.file.split_at(size);
+        block[..size].copy_from_slice(bytes);
+        self.file = rest;
+        size
+    }
+
+    /// Fills a block byte by byte.
+    fn fill_bytes(&mut self, block: &mut [u8]) -> usize
+        ensures within { result ≤ length block.old }
+        ensures filled { take result block.new ≡ take (length block.old) self.old }
+        ensures rest { self.new ≡ drop (length block.old) self.old }
+    {
+        for index in 0..block.len() {
+            match self.next_byte() {
+                Some(byte) => block[index] = byte,
+                None => return index,
+            }
+        }
+        block.len()
+    }
+
+    /// The next byte.
+    fn next_byte(&mut self) -> Option<u8>
+        ensures next { self.old ≡ bytes_of result ++ self.new }
+        ensures none { IfNone result (self.old ≡ []) }
+    {
+        if let Some(byte) = self.second {
+            self.second = None;
+            return Some(byte);
+        }
+        let (byte, rest) = self.file.split_first()?;
+        let (first, second) = spelled(self.mode, *byte);
+        self.file = rest;
+        self.second = second;
+        Some(first)
+    }
+}
+
+/// How a byte of a file goes over the wire.
+fn spelled(mode: Mode, byte: u8) -> (u8, Option<u8>)
+    ensures spelled { result.0 ∷ bytes_of result.1 ≡ written_wire mode (byte ∷ []) }
+    ensures alone { mode ≡ Octet → result.1 ≡ None }
+{
+    match (mode, byte) {
+        (Mode::Netascii, LF) => (CR, Some(LF)),
+        (Mode::Netascii, CR) => (CR, Some(NUL)),
+        _ => (byte, None),
+    }
+}

@@ -1,0 +1,173 @@
+//! The normal capture, written datagram by datagram.
+
+ghost use Rattle.std.specs.Prelude.{◌≡◌, ◌≢◌, ◌+◌, ◌-◌, ◌*◌, ◌^◌, ◌≤◌, [], ◌∷◌, length, drop, true, false, OnOk, Err};
+ghost use Rattle.std.specs.FinMap as map;
+ghost use Rattle.std.specs.Io.KnownBytes.{Appends};
+ghost use Rattle.tftp_packet.specs.Message.{Message};
+ghost use Rattle.tftp_packet.specs.Canonical.{canonical};
+ghost use Rattle.tftp_packet.specs.declared.kinds.End.{End};
+ghost use Rattle.tftp_capture.specs.Tally.{AppendsPrefix, Writes};
+ghost use Rattle.tftp_ends.specs.Meaning.{Meaning, request_of, blksize_of, windowsize_of};
+ghost use Rattle.tftp_ends.specs.Machines.{sender_of};
+ghost use Rattle.tftp_normal.specs.CanBeWritten.{wire_of, blocks_of};
+ghost use Rattle.tftp_normal.specs.Normal.{opening, blocks_after, windows_after, windows_of, normal_count, normal_text};
+ghost use Rattle.tftp_normal.specs.Writing.{asked_by, sent_by, datagrams_of, Puts};
+
+use crate::data_packets::DataPackets;
+use crate::fault::WritingFault;
+use crate::transfer::Transfer;
+use crate::wire_blocks::WireBlocks;
+use std::alloc::Global;
+use std::io::Write;
+use tftp_capture::{CaptureWriter, Header, Tallied, WriteFault};
+use tftp_packet::{Dir, End, Side};
+
+/// The client's own port.
+const CLIENT_PORT: u16 = 50_000;
+
+/// The server's own port (RFC 1350, section 4).
+const SERVER_PORT: u16 = 50_001;
+
+/// The port at which a server is asked (RFC 1350, section 4).
+const SERVICE_PORT: u16 = 69;
+
+/// Puts a datagram between the two ends' own ports.
+fn put_from<W: Write>(
+    author: End,
+    payload: &[u8],
+    capture: &mut CaptureWriter,
+    writer: &mut Tallied<W>,
+) -> Result<(), WriteFault>
+    requires clean { writer.old.1 ≡ false }
+    requires going { capture.old.failed ≡ false }
+    requires few { capture.old.count + 1 ≤ 2 ^ 40 }
+    requires short { length payload.now ≤ 65527 }
+    ensures { Puts W.contents writer.old writer.new result capture.old capture.new (sent_by author payload.now ∷ []) }
+{
+    let dir = match author {
+        End::Client => Dir::Out,
+        End::Server => Dir::In,
+    };
+    capture.put(writer, dir, CLIENT_PORT, SERVER_PORT, payload)
+}
+
+/// Puts the acknowledgement of a block, or of block 0 (RFC 1350, section 5).
+fn put_ack<W: Write>(
+    author: End,
+    block: u16,
+    capture: &mut CaptureWriter,
+    writer: &mut Tallied<W>,
+) -> Result<(), WriteFault>
+    requires clean { writer.old.1 ≡ false }
+    requires going { capture.old.failed ≡ false }
+    requires few { capture.old.count + 1 ≤ 2 ^ 40 }
+    ensures { Puts W.contents writer.old writer.new result capture.old capture.new (sent_by author (canonical (Message.Ack block)) ∷ []) }
+{
+    let [high, low] = block.to_be_bytes();
+    put_from(author, &[0, 4, high, low], capture, writer)
+}
+
+/// Puts the blocks of a window, after one block and up to another.
+fn put_blocks<W: Write>(
+    transfer: &Transfer<'_>,
+    packets: &mut DataPackets<'_>,
+    acked: u16,
+    last: u16,
+    capture: &mut CaptureWriter,
+    writer: &mut Tallied<W>,
+) -> Result<(), WriteFault>
+    requires clean { writer.old.1 ≡ false }
+    requires going { capture.old.failed ≡ false }
+    requires order { acked ≤ last }
+    requires few { capture.old.count + (last - acked) ≤ 2 ^ 40 }
+    requires size { packets.old.size ≡ blksize_of transfer.now }
+    requires left { packets.old.left ≡ drop (acked * blksize_of transfer.now) (wire_of transfer.now) }
+    ensures puts { Puts W.contents writer.old writer.new result capture.old capture.new (datagrams_of transfer.now (blocks_after acked (last - acked))) }
+    ensures size { packets.new.size ≡ packets.old.size }
+    ensures left { OnOk result (packets.new.left ≡ drop (last * blksize_of transfer.now) (wire_of transfer.now)) }
+{
+    let author = match transfer.side() {
+        Side::Get => End::Server,
+        Side::Put => End::Client,
+    };
+    let mut block = acked;
+    while block < last {
+        block += 1;
+        packets.fill(block);
+        put_from(author, packets.packet(), capture, writer)?;
+    }
+    Ok(())
+}
+
+/// Puts the windows one after another, each with the acknowledgement of its last block (RFC 7440, section 4).
+fn put_windows<W: Write>(
+    transfer: &Transfer<'_>,
+    packets: &mut DataPackets<'_>,
+    capture: &mut CaptureWriter,
+    writer: &mut Tallied<W>,
+) -> Result<(), WriteFault>
+    requires clean { writer.old.1 ≡ false }
+    requires going { capture.old.failed ≡ false }
+    requires window { 1 ≤ windowsize_of transfer.now }
+    requires few { capture.old.count + length (datagrams_of transfer.now (windows_after (windowsize_of transfer.now) (blocks_of transfer.now) 0 (windows_of transfer.now))) ≤ 2 ^ 40 }
+    requires size { packets.old.size ≡ blksize_of transfer.now }
+    requires left { packets.old.left ≡ wire_of transfer.now }
+    ensures { Puts W.contents writer.old writer.new result capture.old capture.new (datagrams_of transfer.now (windows_after (windowsize_of transfer.now) (blocks_of transfer.now) 0 (windows_of transfer.now))) }
+{
+    let author = match transfer.side() {
+        Side::Get => End::Client,
+        Side::Put => End::Server,
+    };
+    let mut acked = 0;
+    while acked < transfer.blocks() {
+        let last = transfer.window_end(acked);
+        put_blocks(transfer, packets, acked, last, capture, writer)?;
+        put_ack(author, last, capture, writer)?;
+        acked = last;
+    }
+    Ok(())
+}
+
+/// Puts the request and what answers it (RFC 1350, section 4; RFC 2347).
+fn put_opening<W: Write>(
+    transfer: &Transfer<'_>,
+    request: &[u8],
+    oack: &[u8],
+    capture: &mut CaptureWriter,
+    writer: &mut Tallied<W>,
+) -> Result<(), WriteFault>
+    requires clean { writer.old.1 ≡ false }
+    requires going { capture.old.failed ≡ false }
+    requires few { capture.old.count + 3 ≤ 2 ^ 40 }
+    requires request { request.now ≡ canonical (Message.Request (request_of transfer.now)) }
+    requires request_short { length request.now ≤ 65527 }
+    requires oack { oack.now ≡ canonical (Message.Oack transfer.now.agreed) }
+    requires oack_short { map.len transfer.now.agreed ≢ 0 → length oack.now ≤ 65527 }
+    ensures { Puts W.contents writer.old writer.new result capture.old capture.new (datagrams_of transfer.now (opening transfer.now)) }
+{
+    put_request(request, capture, writer)?;
+    match (transfer.side(), transfer.is_plain()) {
+        (Side::Get, true) => Ok(()),
+        (Side::Get, false) => {
+            put_from(End::Server, oack, capture, writer)?;
+            put_ack(End::Client, 0, capture, writer)
+        }
+        (Side::Put, true) => put_ack(End::Server, 0, capture, writer),
+        (Side::Put, false) => put_from(End::Server, oack, capture, writer),
+    }
+}
+
+/// Puts the request, which goes to the service port.
+fn put_request<W: Write>(
+    request: &[u8],
+    capture: &mut CaptureWriter,
+    writer: &mut Tallied<W>,
+) -> Result<(), WriteFault>
+    requires clean { writer.old.1 ≡ false }
+    requires going { capture.old.failed ≡ false }
+    requires few { capture.old.count + 1 ≤ 2 ^ 40 }
+    requires short { length request.now ≤ 65527 }
+    ensures { Puts W.contents writer.old writer.new result capture.old capture.new (asked_by request.now ∷ []) }
+{
+    capture.put(writer, Dir::Out, CLIENT_PORT, SERVICE_PORT, request)
+}
