@@ -29,6 +29,5 @@ module _ (j : Judge) (h : Header) (earlier : List Datagram) (after : IsJudgeAfte
   said_of_nothing count is counts =
       let none : earlier ≡ [] = subst (IsKept h earlier) is after.has_kept.kept in
       (verdict h (reverse earlier) (Err (Incomplete count))).1 (
-        unfinished_verdict h earlier count (Incomplete count) after.lawful (λ m meant. nothing_asked h (request_of m) (subst (λ ds. FirstAsked h ds (request_of m)) none meant.asked)) (counts ∙ after.fed)
-        (subst (λ ds. NoErrorPassed (transfer_of h ds)) (sym none) tt, refl),
-      )
+      unfinished_verdict h earlier count (Incomplete count) after.lawful (λ m meant. nothing_asked h (request_of m) (subst (λ ds. FirstAsked h ds (request_of m)) none meant.asked)) (counts ∙ after.fed)
+      (subst (λ ds. NoErrorPassed (transfer_of h ds)) (sym none) tt, refl))

@@ -1,4 +1,4 @@
-//! Tests of the public calls of the libraries, in a module for each library, and nothing else. They stand here so
+//! Tests of the public calls of the libraries below the judge, in a module for each library, and nothing else. They stand here so
 //! that no library is proved a second time for its tests.
 #![tactic(auto)]
 
@@ -6,8 +6,6 @@
 mod agreements;
 #[cfg(test)]
 mod captures;
-#[cfg(test)]
-mod commands;
 #[cfg(test)]
 mod netascii;
 #[cfg(test)]
@@ -18,7 +16,5 @@ mod ports;
 mod states;
 #[cfg(test)]
 mod stores;
-#[cfg(test)]
-mod verdicts;
 #[cfg(test)]
 mod views;

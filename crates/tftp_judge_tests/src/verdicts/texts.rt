@@ -21,8 +21,9 @@ fn answer(
 ) -> Result<Wanted, CaptureFault> {
     let mut reader = Tallied::new(DripReader::new(text, piece, fails_at, None));
     match judge_text(rt.alloc(), &mut reader) {
-        Ok(verdict) => Ok(found_of(&verdict)),
-        Err(fault) => Err(fault),
+        Ok(meaning) => Ok(found_of(&Ok(meaning))),
+        Err(Verdict::Refused(refusal)) => Ok(found_of(&Err(refusal))),
+        Err(Verdict::Capture(fault)) => Err(fault),
     }
 }
 
@@ -105,7 +106,7 @@ fn rules_have_names_and_numbers(rt: HostRuntime) {
 fn has_blocks(rt: &HostRuntime, text: &[u8], wanted: u16) -> Result<(), Fail> {
     let mut reader = Tallied::new(DripReader::new(text, usize::MAX, 0, None));
     match judge_text(rt.alloc(), &mut reader) {
-        Ok(Verdict::Accepted(meaning)) if meaning.blocks() == wanted => Ok(()),
+        Ok(meaning) if meaning.blocks() == wanted => Ok(()),
         _ => Err(Fail::new("another number of blocks, or none")),
     }
 }

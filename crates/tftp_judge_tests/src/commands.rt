@@ -6,6 +6,7 @@ use tftp_capture::{DripReader, DripWriter, Tallied};
 use tftp_commands::run;
 
 mod errors;
+mod extracts;
 mod failures;
 mod hosts;
 mod options;
