@@ -25,11 +25,10 @@ pub returns-clause-finds : goal.returns-clause-finds
 returns-clause-finds g c = λ h passed d after spells.
     let asked_is = ap (λ (t : Transfer). t.asked) c.self.view_is in
     let was = subst (λ (t : Transfer). IsTransferAfter t h passed) (sym c.self.view_is) after in
-    let ok = c.in-Ok.ensures.ok in
-    (
+    let ok = c.in-Ok.ensures.ok in (
       none_of_agreed c.args.self.now.asked (map_of c.args.oack.now)
-      (λ e. ok.1 (ok.0 ∙ e))
-      (subst (λ (asked : RequestParts). MayAgree asked (map_of c.args.oack.now)) asked_is (subst (λ (o : OptionMap). MayAgree c.self.inside.asked o) ok.0 ok.2)),
+          (λ e. ok.1 (ok.0 ∙ e))
+          (subst (λ (asked : RequestParts). MayAgree asked (map_of c.args.oack.now)) asked_is (subst (λ (o : OptionMap). MayAgree c.self.inside.asked o) ok.0 ok.2)),
       transfer_agreed _ h passed d (map_of c.args.oack.now) c.in-Ok.agreed c.begin-end.result was (ap (λ (t : Transfer). t.course) c.self.view_is ∙ c.requires) spells ok.0
-      (c.begin-end.ensures.terms ∙ c.agreed_terms.ensures.are h (sym was.named)) (c.begin-end.ensures.before passed after.errors),
+          (c.begin-end.ensures.terms ∙ c.agreed_terms.ensures.are h (sym was.named)) (c.begin-end.ensures.before passed after.errors),
     )

@@ -26,10 +26,10 @@ returns-in-Err-clause-finds g c = λ h passed d after says right.
     let kept = subst (IsCourse h asked passed) c.requires.unanswered after.course in
     let side : c.side.result ≡ asked.side = c.side.ensures ∙ ap (λ (t : Transfer). t.asked.side) c.self.view_is in
     let other : WaitsForReply asked.side (meaning c.args.packet.now) → ⊥ =
-        λ waits. false≢true (sym c.if-waits_for_reply.false ∙ c.waits_for_reply.ensures.1 (subst (λ (s : Side). WaitsForReply s (meaning c.args.packet.now)) (sym side) waits)) in
+    λ waits. false≢true (sym c.if-waits_for_reply.false ∙ c.waits_for_reply.ensures.1 (subst (λ (s : Side). WaitsForReply s (meaning c.args.packet.now)) (sym side) waits)) in
     let terms : terms_of c.begin-end.result ≡ plain_terms h asked.side Plain =
-        c.begin-end.ensures.terms ∙ c.plain_terms.ensures.are h (sym after.named ∙ sym (ap (λ (t : Transfer). t.named) c.self.view_is))
-        ∙ ap (λ (s : Side). plain_terms h s Plain) (c.side-2.ensures ∙ ap (λ (t : Transfer). t.asked.side) c.self.view_is) in
+    c.begin-end.ensures.terms ∙ c.plain_terms.ensures.are h (sym after.named ∙ sym (ap (λ (t : Transfer). t.named) c.self.view_is))
+    ∙ ap (λ (s : Side). plain_terms h s Plain) (c.side-2.ensures ∙ ap (λ (t : Transfer). t.asked.side) c.self.view_is) in
     subst (IsFirstOf (TermsBreak h asked passed (meaning c.args.packet.now))) (sym c.rule_of_end.ensures)
     (first_broken h asked passed kept.0 kept.1 (meaning c.args.packet.now) c.requires.kind other (terms_of c.begin-end.result) terms c.in-Err.rule
     (c.in-Err.ensures.first passed (c.begin-end.ensures.before passed after.errors kept.1)))
@@ -40,10 +40,10 @@ returns-in_err-pass-clause-finds g c = λ h passed d after says right.
     let kept = subst (IsCourse h asked passed) c.requires.unanswered after.course in
     let side : c.side.result ≡ asked.side = c.side.ensures ∙ ap (λ (t : Transfer). t.asked.side) c.self.view_is in
     let other : WaitsForReply asked.side (meaning c.args.packet.now) → ⊥ =
-        λ waits. false≢true (sym c.if-waits_for_reply.false ∙ c.waits_for_reply.ensures.1 (subst (λ (s : Side). WaitsForReply s (meaning c.args.packet.now)) (sym side) waits)) in
+    λ waits. false≢true (sym c.if-waits_for_reply.false ∙ c.waits_for_reply.ensures.1 (subst (λ (s : Side). WaitsForReply s (meaning c.args.packet.now)) (sym side) waits)) in
     let terms : terms_of c.begin-end.result ≡ plain_terms h asked.side Plain =
-        c.begin-end.ensures.terms ∙ c.plain_terms.ensures.are h (sym after.named ∙ sym (ap (λ (t : Transfer). t.named) c.self.view_is))
-        ∙ ap (λ (s : Side). plain_terms h s Plain) (c.side-2.ensures ∙ ap (λ (t : Transfer). t.asked.side) c.self.view_is) in
+    c.begin-end.ensures.terms ∙ c.plain_terms.ensures.are h (sym after.named ∙ sym (ap (λ (t : Transfer). t.named) c.self.view_is))
+    ∙ ap (λ (s : Side). plain_terms h s Plain) (c.side-2.ensures ∙ ap (λ (t : Transfer). t.asked.side) c.self.view_is) in
     let lawful = c.in_default.ensures.lawful passed (c.begin-end.ensures.before passed after.errors kept.1) in
     finds_memory _ _ c.from_residual.result (err_from_is_err_and c.from_residual.result c.from_residual.ensures.1)
     (none_broken h asked passed kept.0 kept.1 (meaning c.args.packet.now) c.requires.kind other (terms_of c.begin-end.result) terms lawful)
@@ -54,14 +54,13 @@ returns-clause-finds g c = λ h passed d after says right.
     let kept = subst (IsCourse h asked passed) c.requires.unanswered after.course in
     let side : c.side.result ≡ asked.side = c.side.ensures ∙ ap (λ (t : Transfer). t.asked.side) c.self.view_is in
     let other : WaitsForReply asked.side (meaning c.args.packet.now) → ⊥ =
-        λ waits. false≢true (sym c.if-waits_for_reply.false ∙ c.waits_for_reply.ensures.1 (subst (λ (s : Side). WaitsForReply s (meaning c.args.packet.now)) (sym side) waits)) in
+    λ waits. false≢true (sym c.if-waits_for_reply.false ∙ c.waits_for_reply.ensures.1 (subst (λ (s : Side). WaitsForReply s (meaning c.args.packet.now)) (sym side) waits)) in
     let terms : terms_of c.begin-end.result ≡ plain_terms h asked.side Plain =
-        c.begin-end.ensures.terms ∙ c.plain_terms.ensures.are h (sym after.named ∙ sym (ap (λ (t : Transfer). t.named) c.self.view_is))
-        ∙ ap (λ (s : Side). plain_terms h s Plain) (c.side-2.ensures ∙ ap (λ (t : Transfer). t.asked.side) c.self.view_is) in
+    c.begin-end.ensures.terms ∙ c.plain_terms.ensures.are h (sym after.named ∙ sym (ap (λ (t : Transfer). t.named) c.self.view_is))
+    ∙ ap (λ (s : Side). plain_terms h s Plain) (c.side-2.ensures ∙ ap (λ (t : Transfer). t.asked.side) c.self.view_is) in
     let begun = c.begin-end.ensures.before passed after.errors kept.1 in
-    let lawful = c.in_default.ensures.lawful passed begun in
-    (
+    let lawful = c.in_default.ensures.lawful passed begun in (
       none_broken h asked passed kept.0 kept.1 (meaning c.args.packet.now) c.requires.kind other (terms_of c.begin-end.result) terms lawful,
       has_begun h asked passed kept.0 kept.1 (meaning c.args.packet.now) c.requires.kind other (terms_of c.begin-end.result) terms lawful d c.args.dir says c.pass.new.self c.pass.ensures.terms
-      (c.in_ok-pass.ensures.ok passed d begun says (of_author h asked Begins (terms_of c.begin-end.result) c.args.dir (meaning c.args.packet.now) terms right)),
+          (c.in_ok-pass.ensures.ok passed d begun says (of_author h asked Begins (terms_of c.begin-end.result) c.args.dir (meaning c.args.packet.now) terms right)),
     )

@@ -15,9 +15,8 @@ returns-in_err-keep_block-clause-finds g c = λ h passed d after says right.
 
 pub returns-clause-finds : goal.returns-clause-finds
 returns-clause-finds g c = λ h passed d after says right.
-    let found = c.in_ok-keep_block.ensures.finds h passed d after says right in
-    (
+    let found = c.in_ok-keep_block.ensures.finds h passed d after says right in (
       found.0,
       transfer_kept c.args.self.now c.keep_block.new.self c.note_sent.new.self h passed d (meaning c.args.packet.now) after says.1 c.requires
-      c.keep_block.ensures.rest c.note_sent.ensures.rest found.1 (c.note_sent.ensures.block_sent passed d says) (c.note_sent.ensures.ack_sent passed d says),
+          c.keep_block.ensures.rest c.note_sent.ensures.rest found.1 (c.note_sent.ensures.block_sent passed d says) (c.note_sent.ensures.ack_sent passed d says),
     )

@@ -13,7 +13,7 @@ pub returns-clause-ok : goal.returns-clause-ok
 returns-clause-ok g c = λ h passed d after says stays.
     let was = subst (λ (t : Transfer). IsTransferAfter t h passed) (sym c.self.view_is) after in
     let right = subst (λ (m : Message). IsWrongKind (author_of h.named c.args.dir) c.self.inside.asked.side m → ⊥) (sym c.requires)
-        (error_is_right (author_of h.named c.args.dir) c.self.inside.asked.side c.args.code c.args.message.now) in
+    (error_is_right (author_of h.named c.args.dir) c.self.inside.asked.side c.args.code c.args.message.now) in
     transfer_with_error _ h passed d c.args.dir c.args.code c.args.message.now (course_of c.pass.new.self) c.note.new.self was says
     (c.in_ok-pass.ensures.ok h c.self.inside.asked passed d was.course (says.0, subst (Spells d.payload) (sym c.requires) says.1) right (inr (c.args.code, c.args.message.now, c.requires)))
     (c.in_ok-note.ensures.ok passed d was.errors says stays)

@@ -16,8 +16,7 @@ returns-then-client_went_on-clause-finds g c = λ h passed d after says.
 
 pub returns-clause-finds : goal.returns-clause-finds
 returns-clause-finds g c = λ h passed d after says.
-    let same : parts c.args.now.now ≡ c.args.self.now.asked = sym (c.same_request.ensures.0 c.if-not-same_request.false) ∙ ap (λ (t : Transfer). t.asked) c.self.view_is in
-    (
+    let same : parts c.args.now.now ≡ c.args.self.now.asked = sym (c.same_request.ensures.0 c.if-not-same_request.false) ∙ ap (λ (t : Transfer). t.asked) c.self.view_is in (
       request_passes c.args.self.now.asked passed c.args.dir (parts c.args.now.now) same (λ out went. elim c.else-eq.branch [
         | else-eq-via-then-eq+else-client_went_on w ↦ false≢true (sym w.if-client_went_on.false ∙ (w.client_went_on.ensures h passed after).1 went)
         | else-eq-via-else-eq w ↦ absurd (search rules)
