@@ -171,3 +171,32 @@ fn put_request<W: Write>(
 {
     capture.put(writer, Dir::Out, CLIENT_PORT, SERVICE_PORT, request)
 }
+
+/// Writes a normal capture whose packets are at hand. It takes no memory.
+fn write_capture<W: Write>(
+    transfer: &Transfer<'_>,
+    request: &[u8],
+    oack: &[u8],
+    packets: &mut DataPackets<'_>,
+    writer: &mut Tallied<W>,
+) -> Result<(), WriteFault>
+    requires clean { writer.old.1 ≡ false }
+    requires window { 1 ≤ windowsize_of transfer.now }
+    requires few { normal_count transfer.now ≤ 131073 }
+    requires size { packets.old.size ≡ blksize_of transfer.now }
+    requires left { packets.old.left ≡ wire_of transfer.now }
+    requires request { request.now ≡ canonical (Message.Request (request_of transfer.now)) }
+    requires request_short { length request.now ≤ 65527 }
+    requires oack { oack.now ≡ canonical (Message.Oack transfer.now.agreed) }
+    requires oack_short { map.len transfer.now.agreed ≢ 0 → length oack.now ≤ 65527 }
+    ensures { Writes W.contents writer.old writer.new result (normal_text transfer.now) }
+{
+    let header = Header {
+        named: End::Client,
+        service: SERVICE_PORT,
+    };
+    let mut capture = CaptureWriter::begin(writer, &header)?;
+    put_opening(transfer, request, oack, &mut capture, writer)?;
+    put_windows(transfer, packets, &mut capture, writer)?;
+    capture.close(writer)
+}
