@@ -1,5 +1,5 @@
 -- The text of a normal capture: its header, what opens the transfer, the windows, and the total.
-use Rattle.std.proofs.Common.{◌≡◌, ℕ, zero, suc, ◌+◌, ◌≤◌, List, [], ◌∷◌, ◌++◌, length, length-append, map as each, Option, Result, Ok, Err, OnOk, Bool, refl, sym, subst, ap, ◌∙◌, arith, append_assoc, append-nil}
+use Rattle.std.proofs.Common.{◌≡◌, ℕ, zero, suc, ◌+◌, ◌≤◌, List, [], ◌∷◌, ◌++◌, length, length-append, map as each, Option, Result, Ok, Err, OnOk, Bool, sym, subst, ap, ◌∙◌, arith, append_assoc, append-nil}
 use Rattle.std.proofs.lemmas.List.{map-append, length-map}
 use Rattle.std.proofs.lemmas.List.Concat.{flat_map-append}
 use Rattle.std.specs.FinMap as map
@@ -15,7 +15,7 @@ use Rattle.tftp_capture.proofs.Skips.{whole_lines-push}
 use Rattle.tftp_ends.specs.CaptureText.{Datagram}
 use Rattle.tftp_ends.specs.Meaning.{Meaning, windowsize_of}
 use Rattle.tftp_normal.specs.CanBeWritten.{blocks_of}
-use Rattle.tftp_normal.specs.Normal.{opening, windows_after, windows_of, normal_packets, normal_datagram, normal_datagrams, normal_header, normal_text, normal_count, opening_count}
+use Rattle.tftp_normal.specs.Normal.{opening, windows_after, windows_of, normal_datagram, normal_datagrams, normal_header, normal_text, normal_count, opening_count}
 use Rattle.tftp_normal.specs.Writing.{datagrams_of, lines_of, HasPut}
 use Rattle.tftp_normal.proofs.Lengths.{opening_length, counted}
 use Rattle.tftp_normal.proofs.Putting.{lines_both}
