@@ -1,5 +1,5 @@
 -- The blocks of a window that are put one after another.
-use Rattle.std.proofs.Common.{◌≡◌, ℕ, zero, suc, ◌+◌, ◌-◌, ◌*◌, ◌<◌, ◌≤◌, List, [], ◌∷◌, ◌++◌, length, length-append, take, drop, Option, refl, sym, subst, ap, ◌∙◌, arith, suc-mul, zero-mul, drop-drop}
+use Rattle.std.proofs.Common.{◌≡◌, ℕ, suc, ◌+◌, ◌-◌, ◌*◌, ◌<◌, ◌≤◌, List, [], ◌∷◌, ◌++◌, length, length-append, take, drop, Option, refl, sym, subst, ap, ◌∙◌, arith, suc-mul, zero-mul, drop-drop}
 use Rattle.std.proofs.lemmas.List.{length-map}
 use Rattle.tftp_packet.specs.Message.{Message}
 use Rattle.tftp_packet.specs.Canonical.{canonical}
@@ -10,7 +10,7 @@ use Rattle.tftp_capture.specs.Written.{WriterState}
 use Rattle.tftp_ends.specs.CaptureText.{Datagram}
 use Rattle.tftp_ends.specs.Meaning.{Meaning, blksize_of}
 use Rattle.tftp_ends.specs.Blocks.{block}
-use Rattle.tftp_ends.specs.Machines.{MachinePacket, Oack, Data, Ack, message_of, sender_of, receiver_of}
+use Rattle.tftp_ends.specs.Machines.{MachinePacket, Data, Ack, message_of, sender_of, receiver_of}
 use Rattle.tftp_law.specs.Dress.{dir_of}
 use Rattle.tftp_normal.specs.CanBeWritten.{wire_of}
 use Rattle.tftp_normal.specs.Normal.{blocks_after, deed_of_client, normal_datagram}

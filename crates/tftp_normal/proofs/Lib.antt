@@ -15,5 +15,6 @@ pub mod Putting
 pub mod BlocksPut
 pub mod WindowsPut
 pub mod OpeningPut
+pub mod TextPut
 pub mod Taken
 pub mod Computed

@@ -30,7 +30,6 @@ module _ (m : Meaning) (request oack : List ℕ) (asked : request ≡ canonical 
   acks : (side : Side) → side ≡ m.side → normal_datagram m (Ack 0) ≡ sent_by (receiver_of side) (canonical (Message.Ack 0))
   acks side is = sym (ack_datagram m 0) ∙ ap (λ s. sent_by (receiver_of s) (canonical (Message.Ack 0))) (sym is)
 
-
   begins_on : (side : Side) (agreed : ℕ) → (rest : List Datagram) × (datagrams_of m (opening_on side agreed) ≡ normal_datagram m Req ∷ rest)
   begins_on Get zero = ([], refl)
   begins_on Get (suc more) = (normal_datagram m Oack ∷ normal_datagram m (Ack 0) ∷ [], refl)

@@ -1,5 +1,5 @@
 -- Datagrams that are put one after another.
-use Rattle.std.proofs.Common.{◌≡◌, ℕ, ◌+◌, List, [], ◌∷◌, ◌++◌, length, length-append, map as each, Option, Result, Ok, Err, OnOk, is_err, IsErr, Bool, true, false, true≢false, refl, sym, subst, ap, ◌∙◌, arith, append-nil, append_assoc}
+use Rattle.std.proofs.Common.{◌≡◌, ℕ, ◌+◌, List, [], ◌∷◌, ◌++◌, length-append, map as each, Option, Result, Ok, Err, OnOk, is_err, IsErr, Bool, true, false, true≢false, refl, sym, subst, ap, ◌∙◌, arith, append-nil, append_assoc}
 use Rattle.std.proofs.lemmas.List.{map-append}
 use Rattle.std.proofs.lemmas.List.Concat.{flat_map-append}
 use Rattle.tftp_capture.specs.CaptureText.{datagram_line, whole_lines}

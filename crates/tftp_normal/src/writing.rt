@@ -9,8 +9,9 @@ ghost use Rattle.tftp_packet.specs.declared.kinds.End.{End};
 ghost use Rattle.tftp_capture.specs.Tally.{AppendsPrefix, Writes};
 ghost use Rattle.tftp_ends.specs.Meaning.{Meaning, request_of, blksize_of, windowsize_of};
 ghost use Rattle.tftp_ends.specs.Machines.{sender_of};
-ghost use Rattle.tftp_normal.specs.CanBeWritten.{wire_of, blocks_of};
+ghost use Rattle.tftp_normal.specs.CanBeWritten.{wire_of, blocks_of, CanBeWritten};
 ghost use Rattle.tftp_normal.specs.Normal.{opening, blocks_after, windows_after, windows_of, normal_count, normal_text};
+ghost use Rattle.tftp_normal.specs.declared.fault.WritingFault.{WritingFault};
 ghost use Rattle.tftp_normal.specs.Writing.{asked_by, sent_by, datagrams_of, Puts};
 
 use crate::data_packets::DataPackets;
@@ -170,4 +171,59 @@ fn put_request<W: Write>(
     ensures { Puts W.contents writer.old writer.new result capture.old capture.new (asked_by request.now ∷ []) }
 {
     capture.put(writer, Dir::Out, CLIENT_PORT, SERVICE_PORT, request)
+}
+
+/// Writes a normal capture whose packets are at hand. It takes no memory.
+fn write_capture<W: Write>(
+    transfer: &Transfer<'_>,
+    request: &[u8],
+    oack: &[u8],
+    packets: &mut DataPackets<'_>,
+    writer: &mut Tallied<W>,
+) -> Result<(), WriteFault>
+    requires clean { writer.old.1 ≡ false }
+    requires window { 1 ≤ windowsize_of transfer.now }
+    requires few { normal_count transfer.now ≤ 131073 }
+    requires size { packets.old.size ≡ blksize_of transfer.now }
+    requires left { packets.old.left ≡ wire_of transfer.now }
+    requires request { request.now ≡ canonical (Message.Request (request_of transfer.now)) }
+    requires request_short { length request.now ≤ 65527 }
+    requires oack { oack.now ≡ canonical (Message.Oack transfer.now.agreed) }
+    requires oack_short { map.len transfer.now.agreed ≢ 0 → length oack.now ≤ 65527 }
+    ensures { Writes W.contents writer.old writer.new result (normal_text transfer.now) }
+{
+    let header = Header {
+        named: End::Client,
+        service: SERVICE_PORT,
+    };
+    let mut capture = CaptureWriter::begin(writer, &header)?;
+    put_opening(transfer, request, oack, &mut capture, writer)?;
+    put_windows(transfer, packets, &mut capture, writer)?;
+    capture.close(writer)
+}
+
+/// Writes the normal capture of a transfer. It takes all memory that it needs before it writes.
+pub(crate) fn write_normal<W: Write>(
+    alloc: Global,
+    transfer: &Transfer<'_>,
+    writer: &mut Tallied<W>,
+) -> Result<(), WritingFault>
+    requires clean { writer.old.1 ≡ false }
+    requires can { CanBeWritten transfer.now }
+    ensures ok { OnOk result ((writer.new.1 ≡ false) × Appends (W.contents writer.old.0) (W.contents writer.new.0) (normal_text transfer.now)) }
+    ensures write { result ≡ Err WritingFault.Write → (writer.new.1 ≡ true) × AppendsPrefix (W.contents writer.old.0) (W.contents writer.new.0) (normal_text transfer.now) }
+    ensures memory { result ≡ Err WritingFault.Memory → writer.new ≡ writer.old }
+{
+    let request = transfer.request_payload(alloc)?;
+    let oack = transfer.oack_payload(alloc)?;
+    let wire = WireBlocks::new(transfer.mode(), transfer.file());
+    let mut packets = DataPackets::new(alloc, wire, transfer.block_size())?;
+    write_capture(
+        transfer,
+        request.as_slice(),
+        oack.as_slice(),
+        &mut packets,
+        writer,
+    )?;
+    Ok(())
 }

@@ -1,11 +1,11 @@
-use Rattle.std.proofs.Common.{rules, ◌≡◌, ◌-◌, ◌<◌, ◌≤◌, ◌+◌, length, take, ap, sym, ◌∙◌, arith, [], ◌∷◌}
+use Rattle.std.proofs.Common.{rules, ◌≡◌, ◌-◌, ◌<◌, ◌+◌, ap, ◌∙◌, arith}
 use Rattle.tftp_packet.specs.Message.{Message}
 use Rattle.tftp_packet.specs.Canonical.{canonical}
 use Rattle.tftp_ends.specs.Machines.{Data, sender_of}
-use Rattle.tftp_normal.specs.Normal.{blocks_after, normal_datagram}
-use Rattle.tftp_normal.specs.Writing.{sent_by, datagrams_of}
-use Rattle.tftp_normal.proofs.Putting.{puts_err, putting_failed}
-use Rattle.tftp_normal.proofs.BlocksPut.{data_datagram, next_packet, next_left, step_putting, step_put, step_failed, length-blocks, putting_count, blocks_step}
+use Rattle.tftp_normal.specs.Normal.{normal_datagram}
+use Rattle.tftp_normal.specs.Writing.{sent_by}
+use Rattle.tftp_normal.proofs.Putting.{puts_err}
+use Rattle.tftp_normal.proofs.BlocksPut.{data_datagram, next_packet, next_left, step_putting, step_put, step_failed, length-blocks, putting_count}
 use Rattle.tftp_normal.proofs.writing.put_blocks.Goals as goal
 use Rattle.tftp_normal.proofs.writing.put_blocks.Goals.{in-Get, in-Put}
 

@@ -1,4 +1,4 @@
-use Rattle.std.proofs.Common.{rules, ◌≡◌, ◌+◌, ◌-◌, ◌^◌, ◌<◌, ◌≤◌, false, sym, subst, ap, ◌∙◌, arith}
+use Rattle.std.proofs.Common.{rules, ◌≡◌, ◌+◌, ◌-◌, ◌^◌, ◌<◌, ◌≤◌, subst, ap, ◌∙◌, arith}
 use Rattle.tftp_packet.specs.Message.{Message}
 use Rattle.tftp_packet.specs.Canonical.{canonical}
 use Rattle.tftp_ends.specs.Machines.{Ack, receiver_of}
@@ -7,7 +7,7 @@ use Rattle.tftp_normal.specs.Normal.{normal_datagram}
 use Rattle.tftp_normal.specs.Writing.{sent_by}
 use Rattle.tftp_normal.proofs.Putting.{puts_err}
 use Rattle.tftp_normal.proofs.BlocksPut.{ack_datagram, left_at_start, blocks_counted}
-use Rattle.tftp_normal.proofs.WindowsPut.{windows_first, window_count_fits, window_later, window_failed, ack_failed, window_put, windows_done}
+use Rattle.tftp_normal.proofs.WindowsPut.{windows_first, window_count_fits, window_failed, ack_failed, window_put, windows_done}
 use Rattle.tftp_normal.proofs.writing.put_windows.Goals as goal
 use Rattle.tftp_normal.proofs.writing.put_windows.Goals.{in-Get, in-Put}
 
