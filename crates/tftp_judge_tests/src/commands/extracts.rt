@@ -84,8 +84,9 @@ fn nothing_of_others(rt: HostRuntime) -> Result<(), Fail> {
         let text = capture(rt.alloc(), CLIENT, datagrams)?;
         says(&rt, "extract", text.as_slice(), "", status)?;
     }
-    let text = read_of_hi(rt.alloc())?;
-    says(&rt, "extract", &text[..text.len() - 1], "", 2)
+    let mut text = read_of_hi(rt.alloc())?;
+    text.pop();
+    says(&rt, "extract", text.as_slice(), "", 2)
 }
 
 /// Fails unless the command writes this and ends as a fault, where a write or a read with this number fails.
@@ -125,7 +126,7 @@ fn a_part_where_a_write_fails(rt: HostRuntime) -> Result<(), Fail> {
 #[test]
 fn refusals_end_the_reading(rt: HostRuntime) -> Result<(), Fail> {
     let mut text = capture(rt.alloc(), CLIENT, &[READ, "in 40000 41000 000300026869"])?;
-    text.truncate(text.len() - b"total 2\n".len());
+    text.truncate(text.len().saturating_sub(8));
     for _ in 0..4096 {
         text.extend_from_slice(b"#\n")?;
     }
