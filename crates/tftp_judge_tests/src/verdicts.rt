@@ -92,7 +92,7 @@ fn file_is(rt: &HostRuntime, text: &[u8], file: &[u8]) -> Result<(), Fail> {
     let (header, datagrams) = capture_of(rt, text)?;
     let by_map = judged::<MapDelivered>(rt.alloc(), &header, &datagrams);
     let by_ring = judged::<RingDelivered>(rt.alloc(), &header, &datagrams);
-    match (by_map, by_ring) {
+    match (&by_map, &by_ring) {
         (Ok(one), Ok(other)) if one.file() == file && other.file() == file => Ok(()),
         _ => Err(Fail::new("another file, or none")),
     }
