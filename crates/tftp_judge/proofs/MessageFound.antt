@@ -4,12 +4,7 @@ use Rattle.std.specs.Prelude.{Result, OnOk, IfErr}
 use Rattle.std.proofs.lemmas.Bool.{false≢true}
 use Rattle.tftp_packet.specs.OptionMap.{OptionMap, no_options}
 use Rattle.tftp_packet.specs.Message.{Message, RequestParts}
-use Rattle.tftp_packet.specs.Meaning.{meaning}
-use Rattle.tftp_packet.specs.Written.{Pair, map_of}
-use Rattle.tftp_packet.specs.declared.packet.Packet.{Packet}
-use Rattle.tftp_packet.specs.declared.packet.Packet.TheVariants as packet
 use Rattle.tftp_packet.specs.declared.kinds.Side.{Side}
-use Rattle.tftp_packet.specs.declared.kinds.Side.TheVariants.{Get, Put}
 use Rattle.tftp_packet.specs.declared.kinds.End.{End}
 use Rattle.tftp_packet.specs.declared.kinds.Dir.{Dir}
 use Rattle.tftp_packet.specs.declared.kinds.Dir.TheVariants.{Out}
@@ -22,9 +17,9 @@ use Rattle.tftp_nego.specs.Agreement.{MayAgree}
 use Rattle.tftp_nego.specs.Faults.{FirstFault, number}
 use Rattle.tftp_nego.specs.declared.fault.NegoFault.{NegoFault}
 use Rattle.tftp_nego.proofs.Tested.{no_fault}
-use Rattle.tftp_law.specs.Rules.{number_of, Answer, Agrees, Begins, IsAnswer, NotAnswered, FirstAnswer, IsWrongKind, GoesOn, ClientWentOn}
+use Rattle.tftp_law.specs.Rules.{number_of, Agrees, Begins, NotAnswered, FirstAnswer, IsWrongKind, GoesOn, ClientWentOn}
 use Rattle.tftp_judge.specs.Finds.{Finds, NoneBreaks, IsFirstOf, IsBlockOrAck, stop_of_fault}
-use Rattle.tftp_law.specs.MessageRules.{IsFirstAnswer, AreTermsAfter, RequestBreaks, FirstOackBreaks, LaterOackBreaks, OackBreaks, TermsBreak, KindBreaks, MessageBreaks, rule_of_end}
+use Rattle.tftp_law.specs.MessageRules.{AreTermsAfter, RequestBreaks, FirstOackBreaks, LaterOackBreaks, OackBreaks, TermsBreak, KindBreaks, MessageBreaks, rule_of_end}
 use Rattle.tftp_law.specs.declared.rule.Rule.{Rule}
 use Rattle.tftp_judge.specs.declared.stop.Stop.{Stop}
 use Rattle.tftp_judge.proofs.FirstAnswers.{not_both, first_once, terms_once, block_answers}

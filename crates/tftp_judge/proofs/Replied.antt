@@ -1,5 +1,5 @@
 -- The block or the ACK that answers a request without an OACK, and what comes once a request is answered.
-use Rattle.std.proofs.Common.{◌≡◌, ◌↔◌, ℕ, ◌<◌, ◌≤◌, List, ◌∷◌, inl, inr, refl, sym, subst, ap, ◌∙◌, arith}
+use Rattle.std.proofs.Common.{◌≡◌, ◌↔◌, ℕ, ◌≤◌, List, ◌∷◌, inl, inr, refl, sym, subst, ap, ◌∙◌, arith}
 use Rattle.std.proofs.lemmas.Bool.{cases_lt}
 use Rattle.tftp_packet.specs.Message.{Message, RequestParts}
 use Rattle.tftp_packet.specs.declared.kinds.Side.{Side}
@@ -19,7 +19,7 @@ use Rattle.tftp_ends.specs.declared.terms.Terms.{Terms}
 use Rattle.tftp_ends.proofs.BeforeReply.{read_alike, ack_put_alike}
 use Rattle.tftp_ends.proofs.Passing.{none_greatest, usable_passed}
 use Rattle.tftp_law.specs.MessageRules.{AreTermsAfter, TermsBreak, rule_of_end}
-use Rattle.tftp_law.specs.Rules.{Answer, Agrees, Begins, IsAnswer, IsWrongKind, NotAnswered, FirstAnswer, plain_terms, terms_after}
+use Rattle.tftp_law.specs.Rules.{Answer, Agrees, Begins, IsAnswer, IsWrongKind, NotAnswered, plain_terms, terms_after}
 use Rattle.tftp_law.specs.declared.rule.Rule.{Rule}
 use Rattle.tftp_judge.specs.Courses.{WaitsForReply}
 use Rattle.tftp_judge.specs.Finds.{NoneBreaks, IsFirstOf, IsBlockOrAck}

@@ -1,5 +1,5 @@
 -- What stays as it was when a datagram is added, by what it says.
-use Rattle.std.proofs.Common.{◌≡◌, ◌↔◌, ℕ, Bool, true, false, List, ◌∷◌, inl, inr, refl, sym, subst, ◌∙◌}
+use Rattle.std.proofs.Common.{◌≡◌, ◌↔◌, ℕ, Bool, true, List, ◌∷◌, inl, inr, refl, sym, subst, ◌∙◌}
 use Rattle.tftp_packet.specs.OptionMap.{OptionMap}
 use Rattle.tftp_packet.specs.Message.{Message, RequestParts}
 use Rattle.tftp_packet.specs.Spelling.{Spells}
@@ -16,7 +16,7 @@ use Rattle.tftp_ends.proofs.AfterReceiver.{receiver_aside}
 use Rattle.tftp_ends.proofs.AfterSender.{sender_aside}
 use Rattle.tftp_ends.proofs.Passing.{another, another_way, in_not_out, aside_no_block, aside_no_ack}
 use Rattle.tftp_law.specs.MessageRules.{AckSent, BlockSent}
-use Rattle.tftp_law.specs.Rules.{Answer, Agrees, Begins, IsAnswer, IsWrongKind, NotAnswered, FirstAnswer, terms_after}
+use Rattle.tftp_law.specs.Rules.{Answer, Agrees, Begins, IsAnswer, IsWrongKind, NotAnswered, terms_after}
 use Rattle.tftp_law.proofs.Spelled.{spelled_once}
 use Rattle.tftp_judge.proofs.ErrorsAside.{errors_aside}
 use Rattle.tftp_judge.specs.Courses.{DiffersByCourse, DiffersBySent}

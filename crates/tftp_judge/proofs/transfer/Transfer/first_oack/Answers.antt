@@ -1,11 +1,10 @@
-use Rattle.std.proofs.Common.{◌≡◌, ◌∷◌, Err, refl, sym, subst, ap, ◌∙◌}
+use Rattle.std.proofs.Common.{◌∷◌, Err, refl, sym, subst, ap, ◌∙◌}
 use Rattle.tftp_packet.specs.Message.{RequestParts}
-use Rattle.tftp_packet.specs.OptionMap.{OptionMap, no_options}
+use Rattle.tftp_packet.specs.OptionMap.{OptionMap}
 use Rattle.tftp_packet.specs.Written.{map_of}
 use Rattle.tftp_nego.specs.Agreement.{MayAgree}
 use Rattle.tftp_nego.specs.Faults.{FirstFault}
 use Rattle.tftp_law.specs.MessageRules.{FirstOackBreaks}
-use Rattle.tftp_law.specs.Rules.{Agrees, terms_after}
 use Rattle.tftp_judge.specs.Finds.{Finds}
 use Rattle.tftp_judge.specs.Kept.{Transfer, IsTransferAfter}
 use Rattle.tftp_judge.specs.declared.stop.Stop.{Stop}

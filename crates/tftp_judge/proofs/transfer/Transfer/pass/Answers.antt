@@ -1,9 +1,7 @@
-use Rattle.std.proofs.Common.{◌≡◌, ◌∷◌, inl, inr, sym, subst, ap, ◌∙◌}
+use Rattle.std.proofs.Common.{◌∷◌, inl, inr, sym, subst, ap, ◌∙◌}
 use Rattle.std.proofs.lemmas.Bool.{false≢true}
-use Rattle.tftp_packet.specs.Message.{Message}
 use Rattle.tftp_packet.specs.Meaning.{meaning}
 use Rattle.tftp_packet.specs.Spelling.{Spells}
-use Rattle.tftp_packet.specs.Written.{parts, map_of}
 use Rattle.tftp_packet.specs.declared.kinds.End.{End}
 use Rattle.tftp_packet.specs.declared.packet.Packet.{Packet}
 use Rattle.tftp_ends.specs.Roles.{author_of}

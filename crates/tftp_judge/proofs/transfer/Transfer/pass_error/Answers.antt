@@ -1,6 +1,5 @@
-use Rattle.std.proofs.Common.{inr, sym, subst, ap}
+use Rattle.std.proofs.Common.{inr, sym, subst}
 use Rattle.tftp_packet.specs.Message.{Message}
-use Rattle.tftp_packet.specs.Meaning.{meaning}
 use Rattle.tftp_packet.specs.Spelling.{Spells}
 use Rattle.tftp_ends.specs.Roles.{author_of}
 use Rattle.tftp_law.specs.Rules.{IsWrongKind}

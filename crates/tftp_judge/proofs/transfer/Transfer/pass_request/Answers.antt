@@ -1,8 +1,6 @@
 use Rattle.std.proofs.Common.{◌≡◌, sym, ap, rules, ◌∙◌}
 use Rattle.std.proofs.lemmas.Bool.{false≢true}
 use Rattle.tftp_packet.specs.Written.{parts}
-use Rattle.tftp_packet.specs.declared.kinds.Dir.TheVariants.{Out}
-use Rattle.tftp_law.specs.Rules.{ClientWentOn}
 use Rattle.tftp_judge.specs.Kept.{Transfer}
 use Rattle.tftp_judge.proofs.MessageFound.{request_late, request_passes}
 use Rattle.tftp_judge.proofs.StaysAfter.{transfer_with_request}
