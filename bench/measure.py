@@ -1,4 +1,5 @@
-"""Prints how fast a command is on the bytes of a file, by processor time, the best of three runs.
+"""Prints how fast a command is on the bytes of a file, by processor time, the best of three runs, and its time in those
+of `wc -l` and of `cat`, which are run on the same bytes in turn with it.
 
     measure.py NAME FILE COMMAND [WORD ..]
 """
@@ -8,10 +9,9 @@ import sys
 import tempfile
 import time
 
-name, path, command = sys.argv[1], sys.argv[2], sys.argv[3:]
-size = os.path.getsize(path)
-# What writes a text is to write it nowhere; any other's answer is printed.
-WRITES_TEXT = ("copy", "netascii-decode", "netascii-encode", "show")
+LINES, COPY = ["wc", "-l"], ["cat"]
+# What writes a text or a file is to write it nowhere; any other's answer is printed.
+WRITES_TEXT = ("cat", "copy", "extract", "netascii-decode", "netascii-encode", "show")
 
 
 def figures(number):
@@ -29,8 +29,8 @@ def most_resident(process):
     return 0
 
 
-def run():
-    """The time in seconds, the most resident memory in bytes, and what was printed."""
+def run(path, command, pause=0.005):
+    """The time in seconds, the most resident memory in bytes, by a look after each pause, and what was printed."""
     with open(path, "rb") as given, tempfile.TemporaryFile() as taken:
         out = subprocess.DEVNULL if command[-1] in WRITES_TEXT else taken
         child = subprocess.Popen(command, stdin=given, stdout=out)
@@ -40,23 +40,36 @@ def run():
             ended, status, usage = os.wait4(child.pid, os.WNOHANG)
             if ended:
                 break
-            time.sleep(0.005)
+            time.sleep(pause)
         child.returncode = os.waitstatus_to_exitcode(status)
         if child.returncode:
-            sys.exit(f"{name}: ended with status {child.returncode}")
+            sys.exit(f"{' '.join(command)}: ended with status {child.returncode}")
         taken.seek(0)
         return usage.ru_utime + usage.ru_stime, most, taken.read().decode().strip()
 
 
-runs = [run() for _ in range(3)]
-# The system may count no time at all for a short run.
-seconds = max(1e-6, min(it[0] for it in runs))
-memory = max(it[1] for it in runs)
-answer = runs[0][2]
-# Of a run that is over at once the memory is not seen.
-held = f"{memory / 1e6:.1f} MB of memory " if seconds > 0.05 else ""
-print(
-    f"{name}: {figures(seconds)} s, {figures(size / seconds / 1e6)} MB/s, {figures(seconds / size * 1e9)} ns a byte,"
-    f" {held}for {figures(size / 1e6)} MB" + (f": {answer}" if answer else ""),
-    flush=True,
-)
+def best_of(turns, path, *commands):
+    """For each command its best time, and the memory and the answer of its runs; the commands run in turn."""
+    runs = [[run(path, command) for command in commands] for _ in range(turns)]
+    # The system may count no time at all for a short run.
+    return [
+        (max(1e-6, min(it[0] for it in of_one)), max(it[1] for it in of_one), of_one[0][2]) for of_one in zip(*runs)
+    ]
+
+
+def main(name, path, command):
+    size = os.path.getsize(path)
+    (seconds, memory, answer), lines, copy = best_of(3, path, command, LINES, COPY)
+    # Of a run that is over at once the memory is not seen.
+    held = f"{memory / 1e6:.1f} MB of memory " if seconds > 0.05 else ""
+    print(
+        f"{name}: {figures(seconds)} s, {figures(size / seconds / 1e6)} MB/s,"
+        f" {figures(seconds / size * 1e9)} ns a byte,"
+        f" {figures(seconds / lines[0])} times wc -l, {figures(seconds / copy[0])} times cat,"
+        f" {held}for {figures(size / 1e6)} MB" + (f": {answer}" if answer else ""),
+        flush=True,
+    )
+
+
+if __name__ == "__main__":
+    main(sys.argv[1], sys.argv[2], sys.argv[3:])

@@ -1,7 +1,8 @@
 #!/bin/sh
-# How fast the program and the libraries are, and the most memory that they take, each beside other programs on the
-# same bytes: bench/run.sh PROGRAM BENCH, where BENCH is the program of crates/tftp_bench. The texts, of up to 1 GB,
-# stand in a folder that is removed at the end.
+# How fast the program and the libraries are, and the most memory that they take, each beside `wc -l` and `cat` on the
+# same bytes: bench/run.sh PROGRAM BENCH, where BENCH is the program of crates/tftp_bench. First a table of the
+# program's commands (commands.sh), then a line for each call of the libraries. The texts, of up to 1 GB, stand in a
+# folder that is removed at the end.
 set -eu
 here=$(dirname "$0")
 program=$1
@@ -11,7 +12,7 @@ trap 'rm -rf "$folder"' EXIT
 text=$folder/text
 
 generate() {
-    python3 "$here/generate.py" "$1" "$2" >"$text"
+    python3 "$here/generate.py" "$@" >"$text"
 }
 
 measure() {
@@ -19,6 +20,8 @@ measure() {
     shift
     python3 "$here/measure.py" "$name" "$text" "$@"
 }
+
+sh "$here/commands.sh" "$program"
 
 generate wire 100000000
 measure "netascii decode" "$bench" netascii-decode
@@ -40,26 +43,22 @@ done
 generate ports 1000000
 measure "strays" "$bench" strays
 
-for size in 100000000 1000000000; do
-    generate capture "$size"
-    measure "capture reader" "$bench" capture
-    measure "hex crate alone" "$bench" hex
-    measure "wc -l" wc -l
-    measure "tftp-audit show" "$program" show
+# Blocks of the usual size, of the size that RFC 2348 names for Ethernet, and of the most that may be agreed.
+for block in 512 1428 65464; do
+    generate capture 100000000 "$block"
+    measure "capture reader, blocks of $block" "$bench" capture
+    measure "hex crate alone, blocks of $block" "$bench" hex
+    measure "wc -l, blocks of $block" wc -l
+    measure "cat, blocks of $block" cat
 done
+generate capture 1000000000
+measure "capture reader, 1 GB" "$bench" capture
 generate acks 100000000
+measure "capture reader, acknowledgements" "$bench" capture
 measure "tftp-audit show, acknowledgements" "$program" show
-measure "wc -l" wc -l
-
-# The time of check grows with the square of the datagrams, here 101, 1,001 and 10,001.
-for blocks in 50 500 5000; do
-    generate lockstep "$blocks"
-    measure "tftp-audit check" "$program" check
-done
 
 # 40 million lines, and as many of the shortest.
 generate comments 1000000000
 measure "capture reader, comment lines" "$bench" capture
-measure "wc -l" wc -l
 generate short 80000000
 measure "capture reader, lines of # alone" "$bench" capture
