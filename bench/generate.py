@@ -1,6 +1,10 @@
 """Writes what the benchmarks read, with about so many bytes: generate.py KIND BYTES, and KIND is one of
 
-    capture     the capture of a lawful read in blocks of 512 bytes, or of as many as a third word says
+    capture     the capture of a lawful read in blocks of 512 bytes in lock step, or of as many bytes as a third word
+                says, and in windows of as many blocks as a fourth word says
+    netascii    that of a read in netascii: lines of 76 signs, in blocks of 1,428 bytes in lock step
+    reversed    that of a read of 65,535 blocks of 8 bytes in one window, whose first block comes last
+    strays      that of a read of one block, among 524,272 datagrams of 65,534 strays, told by their ports
     comments    a capture of one datagram among comment lines of 25 bytes each
     short       the same with comment lines of 2 bytes each
     acks        a capture of acknowledgements alone, in lines of 25 bytes each
@@ -9,17 +13,20 @@
     random      bytes of every value, the same each time
     ports       the ports 1 to 65534 in another order, and again, by two bytes each
 
-or generate.py lockstep BLOCKS: the capture of a lawful read of so many blocks of 512 bytes, the last one shorter, each
-block and each acknowledgement once: 1 + 2 * BLOCKS datagrams. The bytes of the blocks are random, as those of firmware
-are, and the same each time.
+The bytes of the blocks are random, as those of firmware are, and the same each time; the last block is shorter. There
+are at most 65,535 blocks: in a larger capture each block comes several times before its acknowledgement, and the blocks
+of `reversed` come round and round. The strays of a larger capture are longer; the least has 12.6 MB.
 """
+import base64
 import random
 import sys
 
 HEADER = b"tftp-capture 1\nend client\nservice 69\n"
-REQUEST = b"\0\1a\0octet\0"
-# The blocks of a read whose request names no size (RFC 1350).
-USUAL = 512
+# The blocks of a read whose request names no size (RFC 1350), and their number at most.
+USUAL, MOST = 512, 65_535
+# The most bytes of a block in one frame of Ethernet (RFC 2348), and the least that may be agreed.
+FRAME, LEAST = 1_428, 8
+SERVER = 41_000
 AT_ONCE = 10_000
 out = sys.stdout.buffer
 chance = random.Random(1350)
@@ -32,41 +39,87 @@ def repeat(line, count):
     out.write(line * (count % AT_ONCE))
 
 
-def head(size=USUAL):
-    """The header and the request, with the size of a block agreed where it is not the usual one: how many datagrams."""
-    if size == USUAL:
-        out.write(HEADER + f"out 40000 69 {REQUEST.hex()}\n".encode())
+def head(size=USUAL, window=1, mode=b"octet"):
+    """The header and the request, with the sizes agreed that are not the usual ones: how many datagrams."""
+    options = b"" if size == USUAL else b"blksize\0%d\0" % size
+    options += b"" if window == 1 else b"windowsize\0%d\0" % window
+    request = b"\0\1a\0" + mode + b"\0" + options
+    out.write(HEADER + f"out 40000 69 {request.hex()}\n".encode())
+    if not options:
         return 1
-    option = b"blksize\0%d\0" % size
-    out.write(HEADER + f"out 40000 69 {(REQUEST + option).hex()}\n".encode())
-    out.write(f"in 40000 41000 0006{option.hex()}\n".encode() + ack_line(0))
+    out.write(f"in 40000 {SERVER} 0006{options.hex()}\n".encode() + ack_line(0))
     return 3
 
 
-def data_line(number, block):
-    return f"in 40000 41000 0003{number:04x}{block.hex()}\n".encode()
+def data_line(number, block, port=SERVER):
+    return f"in 40000 {port} 0003{number:04x}{block.hex()}\n".encode()
 
 
 def ack_line(number):
-    return f"out 40000 41000 0004{number:04x}\n".encode()
+    return f"out 40000 {SERVER} 0004{number:04x}\n".encode()
 
 
-def lockstep(blocks, times=1, size=USUAL):
-    """A read of so many blocks, in which each block but the last comes so many times."""
-    before = head(size)
+def total_line(count):
+    return f"total {count}\n".encode()
+
+
+def capture(wanted, size=USUAL, window=1):
+    """A read of many blocks, each as often as is needed, in windows of so many."""
+    data, ack = len(data_line(1, bytes(size))), len(ack_line(1))
+    times = 1 + wanted // ((MOST - 1) * data)
+    blocks = 1 + max(1, wanted * window // (window * times * data + ack))
+    before, acks = head(size, window), 0
     for number in range(1, blocks):
         out.write(data_line(number, chance.randbytes(size)) * times)
-        out.write(ack_line(number))
+        if number % window == 0:
+            out.write(ack_line(number))
+            acks += 1
     out.write(data_line(blocks, b"hi") + ack_line(blocks))
-    out.write(f"total {before + (blocks - 1) * (times + 1) + 2}\n".encode())
+    out.write(total_line(before + (blocks - 1) * times + acks + 2))
 
 
-def capture(wanted, size):
-    """A read of many blocks."""
-    data, ack = len(data_line(1, bytes(size))), len(ack_line(1))
-    # Where the blocks' numbers would be used up, each of them comes so many times.
-    times = 1 + wanted // (65_534 * (data + ack))
-    lockstep(1 + max(1, wanted // (times * data + ack)), times, size)
+def text_lines(size):
+    """About so many bytes of a text file, in lines of 76 random signs and an LF."""
+    return base64.encodebytes(chance.randbytes(size * 57 // 77))
+
+
+def netascii(wanted):
+    """A read of a text file."""
+    each = len(data_line(1, bytes(FRAME))) + len(ack_line(1))
+    wire = text_lines(wanted * FRAME // each).replace(b"\n", b"\r\n")
+    before, blocks = head(FRAME, mode=b"netascii"), len(wire) // FRAME + 1
+    if blocks > MOST:
+        sys.exit(f"generate.py: {blocks} blocks, and there are numbers for {MOST}")
+    for number in range(1, blocks + 1):
+        out.write(data_line(number, wire[(number - 1) * FRAME : number * FRAME]) + ack_line(number))
+    out.write(total_line(before + 2 * blocks))
+
+
+def backwards(wanted):
+    """A read in one window: all blocks but the first, round and round, and the first one at the end."""
+    file = chance.randbytes(MOST * LEAST - 1)
+    lines = [data_line(1 + at // LEAST, file[at : at + LEAST]) for at in range(0, len(file), LEAST)]
+    turn = b"".join(lines[:0:-1])
+    turns = max(1, wanted // len(turn))
+    before = head(LEAST, MOST)
+    for _ in range(turns):
+        out.write(turn)
+    out.write(lines[0] + ack_line(MOST))
+    out.write(total_line(before + turns * (MOST - 1) + 2))
+
+
+def strays(wanted):
+    """A read of one block, and between it and its acknowledgement blocks from each other port, eight from each."""
+    others, turns = [port for port in range(1, 65_536) if port != SERVER], 8
+    shortest = len(data_line(1, b"", 10_000))
+    size = max(0, wanted // (len(others) * turns) - shortest) // 2
+    before = head()
+    out.write(data_line(1, b"hi"))
+    for _ in range(turns):
+        chance.shuffle(others)
+        for port in others:
+            out.write(data_line(1, chance.randbytes(size), port))
+    out.write(ack_line(1) + total_line(before + 2 + turns * len(others)))
 
 
 def acks(wanted):
@@ -74,14 +127,14 @@ def acks(wanted):
     line = ack_line(1)
     before = head()
     repeat(line, wanted // len(line))
-    out.write(f"total {before + wanted // len(line)}\n".encode())
+    out.write(total_line(before + wanted // len(line)))
 
 
 def comments(line, wanted):
     """A capture of a request alone."""
     before = head()
     repeat(line, wanted // len(line))
-    out.write(f"total {before}\n".encode())
+    out.write(total_line(before))
 
 
 def ports(wanted):
@@ -92,9 +145,13 @@ def ports(wanted):
 
 kind, wanted = sys.argv[1], int(sys.argv[2])
 if kind == "capture":
-    capture(wanted, int(sys.argv[3]) if len(sys.argv) > 3 else USUAL)
-elif kind == "lockstep":
-    lockstep(wanted)
+    capture(wanted, *(int(word) for word in sys.argv[3:]))
+elif kind == "netascii":
+    netascii(wanted)
+elif kind == "reversed":
+    backwards(wanted)
+elif kind == "strays":
+    strays(wanted)
 elif kind == "acks":
     acks(wanted)
 elif kind == "comments":

@@ -9,10 +9,9 @@ import sys
 import tempfile
 import time
 
-name, path, command = sys.argv[1], sys.argv[2], sys.argv[3:]
-size = os.path.getsize(path)
-# What writes a text is to write it nowhere; any other's answer is printed.
-WRITES_TEXT = ("cat", "copy", "netascii-decode", "netascii-encode", "show")
+LINES, COPY = ["wc", "-l"], ["cat"]
+# What writes a text or a file is to write it nowhere; any other's answer is printed.
+WRITES_TEXT = ("cat", "copy", "extract", "netascii-decode", "netascii-encode", "show")
 
 
 def figures(number):
@@ -30,8 +29,8 @@ def most_resident(process):
     return 0
 
 
-def run(command):
-    """The time in seconds, the most resident memory in bytes, and what was printed."""
+def run(path, command, pause=0.005):
+    """The time in seconds, the most resident memory in bytes, by a look after each pause, and what was printed."""
     with open(path, "rb") as given, tempfile.TemporaryFile() as taken:
         out = subprocess.DEVNULL if command[-1] in WRITES_TEXT else taken
         child = subprocess.Popen(command, stdin=given, stdout=out)
@@ -41,33 +40,36 @@ def run(command):
             ended, status, usage = os.wait4(child.pid, os.WNOHANG)
             if ended:
                 break
-            time.sleep(0.005)
+            time.sleep(pause)
         child.returncode = os.waitstatus_to_exitcode(status)
         if child.returncode:
-            sys.exit(f"{name}: ended with status {child.returncode}")
+            sys.exit(f"{' '.join(command)}: ended with status {child.returncode}")
         taken.seek(0)
         return usage.ru_utime + usage.ru_stime, most, taken.read().decode().strip()
 
 
-def seconds_of(runs):
-    """The best time."""
+def best_of(turns, path, *commands):
+    """For each command its best time, and the memory and the answer of its runs; the commands run in turn."""
+    runs = [[run(path, command) for command in commands] for _ in range(turns)]
     # The system may count no time at all for a short run.
-    return max(1e-6, min(it[0] for it in runs))
+    return [
+        (max(1e-6, min(it[0] for it in of_one)), max(it[1] for it in of_one), of_one[0][2]) for of_one in zip(*runs)
+    ]
 
 
-runs, lines, copies = [], [], []
-for _ in range(3):
-    runs.append(run(command))
-    lines.append(run(["wc", "-l"]))
-    copies.append(run(["cat"]))
-seconds = seconds_of(runs)
-memory = max(it[1] for it in runs)
-answer = runs[0][2]
-# Of a run that is over at once the memory is not seen.
-held = f"{memory / 1e6:.1f} MB of memory " if seconds > 0.05 else ""
-print(
-    f"{name}: {figures(seconds)} s, {figures(size / seconds / 1e6)} MB/s, {figures(seconds / size * 1e9)} ns a byte,"
-    f" {figures(seconds / seconds_of(lines))} times wc -l, {figures(seconds / seconds_of(copies))} times cat,"
-    f" {held}for {figures(size / 1e6)} MB" + (f": {answer}" if answer else ""),
-    flush=True,
-)
+def main(name, path, command):
+    size = os.path.getsize(path)
+    (seconds, memory, answer), lines, copy = best_of(3, path, command, LINES, COPY)
+    # Of a run that is over at once the memory is not seen.
+    held = f"{memory / 1e6:.1f} MB of memory " if seconds > 0.05 else ""
+    print(
+        f"{name}: {figures(seconds)} s, {figures(size / seconds / 1e6)} MB/s,"
+        f" {figures(seconds / size * 1e9)} ns a byte,"
+        f" {figures(seconds / lines[0])} times wc -l, {figures(seconds / copy[0])} times cat,"
+        f" {held}for {figures(size / 1e6)} MB" + (f": {answer}" if answer else ""),
+        flush=True,
+    )
+
+
+if __name__ == "__main__":
+    main(sys.argv[1], sys.argv[2], sys.argv[3:])

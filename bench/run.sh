@@ -1,7 +1,8 @@
 #!/bin/sh
 # How fast the program and the libraries are, and the most memory that they take, each beside `wc -l` and `cat` on the
-# same bytes: bench/run.sh PROGRAM BENCH, where BENCH is the program of crates/tftp_bench. The texts, of up to 1 GB,
-# stand in a folder that is removed at the end.
+# same bytes: bench/run.sh PROGRAM BENCH, where BENCH is the program of crates/tftp_bench. First a table of the
+# program's commands (commands.sh), then a line for each call of the libraries. The texts, of up to 1 GB, stand in a
+# folder that is removed at the end.
 set -eu
 here=$(dirname "$0")
 program=$1
@@ -19,6 +20,8 @@ measure() {
     shift
     python3 "$here/measure.py" "$name" "$text" "$@"
 }
+
+sh "$here/commands.sh" "$program"
 
 generate wire 100000000
 measure "netascii decode" "$bench" netascii-decode
@@ -45,22 +48,14 @@ for block in 512 1428 65464; do
     generate capture 100000000 "$block"
     measure "capture reader, blocks of $block" "$bench" capture
     measure "hex crate alone, blocks of $block" "$bench" hex
-    measure "tftp-audit show, blocks of $block" "$program" show
     measure "wc -l, blocks of $block" wc -l
     measure "cat, blocks of $block" cat
 done
 generate capture 1000000000
 measure "capture reader, 1 GB" "$bench" capture
-measure "tftp-audit show, 1 GB" "$program" show
 generate acks 100000000
 measure "capture reader, acknowledgements" "$bench" capture
 measure "tftp-audit show, acknowledgements" "$program" show
-
-# The time of check grows with the square of the datagrams, here 101, 1,001 and 10,001.
-for blocks in 50 500 5000; do
-    generate lockstep "$blocks"
-    measure "tftp-audit check" "$program" check
-done
 
 # 40 million lines, and as many of the shortest.
 generate comments 1000000000

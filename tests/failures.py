@@ -14,7 +14,7 @@ import sys
 from captures import Capture, ack, blocks, data, error, netascii, oack, read_request, write_request
 from trial import Trial
 
-COMMANDS = ("check", "show")
+COMMANDS = ("check", "show", "extract")
 # What `show` says of the lines of a text begins at this one.
 FIRST_DATAGRAM_LINE = 4
 USAGE = (b"fault usage\n", 2)
@@ -24,10 +24,12 @@ NOTHING = (b"", 2)
 LEAST_PIECE = 2_048
 # Words after the program's name that are no command, and words of which one is no UTF-8.
 NO_COMMANDS = (
-    [], [""], ["Check"], ["chec"], ["check "], ["--check"], ["extract"], ["help"], ["--help"], ["-h"], ["--version"],
-    ["check", "show"], ["show", "show"], ["check", ""], ["show", "--help"], ["help", "check"], ["--", "check"],
+    [], [""], ["Check"], ["chec"], ["check "], ["--check"], ["extrac"], ["extracts"], ["Extract"], ["extract\n"],
+    ["help"], ["--help"], ["-h"], ["--version"], ["check", "show"], ["show", "show"], ["check", "extract"],
+    ["extract", "extract"], ["check", ""], ["extract", ""], ["show", "--help"], ["extract", "--help"],
+    ["help", "check"], ["help", "extract"], ["--", "check"], ["--", "extract"],
 )
-NO_WORDS = ([b"\xff"], [b"check\xc3"], ["check", b"\xff"])
+NO_WORDS = ([b"\xff"], [b"check\xc3"], [b"extract\xc3"], ["check", b"\xff"])
 
 
 @dataclasses.dataclass(frozen=True)
@@ -40,10 +42,17 @@ class Case:
     rows: tuple
     # what `check` prints of the text as a whole, and its status
     verdict: tuple = ()
+    # the file of which the capture was made, where it is accepted
+    file: bytes = b""
     # the line of the first unlawful datagram, if there is one
     unlawful: int = 0
     # the line and the name of what is wrong with the text, if anything is
     wrong: tuple = ()
+
+    def last_line(self, command):
+        """The line behind which nothing is read, where there is one before the text's end."""
+        unlawful = self.unlawful if command != "show" else 0
+        return min((line for line in (unlawful, *self.wrong[:1]) if line), default=None)
 
     def output(self, command, taken=None, ending="Truncated"):
         """What is printed, and the status, where the text ends after so many bytes or, if at all, so.
@@ -59,33 +68,36 @@ class Case:
         said = b"fault line %d %s\n" % (fault[0], fault[1].encode()) if fault else b""
         if command == "show":
             return b"".join(self.rows[: max(0, sound - FIRST_DATAGRAM_LINE + 1)]) + said, 2 if fault else 0
-        if fault and not 0 < self.unlawful <= sound:
-            return said, 2
-        return self.verdict
+        judged = self.verdict if not fault or 0 < self.unlawful <= sound else (said, 2)
+        if command == "extract":
+            return b"" if judged[1] else self.file, judged[1]
+        return judged
 
     def outputs_without_memory(self, command):
         """What may be printed, and the status, where a growth is refused."""
         shown = range(len(self.rows) + 1) if command == "show" else range(1)
-        cut = {(b"".join(self.rows[:count]) + MEMORY, 2) for count in shown}
-        # Without memory for its words the program says nothing.
-        return cut | {self.output(command), NOTHING}
+        told = {(b"".join(self.rows[:count]) + MEMORY, 2) for count in shown if command != "extract"}
+        # Without memory for its words the program says nothing, nor does `extract` without any other.
+        return told | {self.output(command), NOTHING}
 
 
 def text_of(*lines):
     return b"".join(line + b"\n" for line in (b"tftp-capture 1", b"end client", b"service 69", *lines))
 
 
-def case_of(name, capture, line):
-    """A whole capture, and the line that `check` prints of it."""
+def case_of(name, capture, line, file=b""):
+    """A whole capture, the line that `check` prints of it, and the file that it was made of."""
     verdict = f"{line}\n".encode(), 0 if line.startswith("accepted") else 1
-    return Case(name, capture.text(), tuple(capture.rows), verdict)
+    return Case(name, capture.text(), tuple(capture.rows), verdict, file)
 
 
 def texts():
     """Texts of version 1, sound and with faults."""
     request = b"out 40000 69 000161006f6374657400"
     block = b"in 40000 41000 000300016869"
+    past = b"in 40000 41000 000300026869"
     ack = b"out 40000 41000 00040001"
+    overrun = b"refused datagram 2 rule 22 WindowOverrun\n", 1
     rows = (b"1 out RRQ\n", b"2 in DATA 1 2\n", b"3 out ACK 1\n")
     return (
         Case(
@@ -93,13 +105,35 @@ def texts():
             text_of(request, block, ack, b"total 3"),
             rows,
             (b"accepted get octet blocks 1 bytes 2\n", 0),
+            b"hi",
+        ),
+        Case(
+            "a read of an empty file",
+            text_of(request, b"in 40000 41000 00030001", ack, b"total 3"),
+            (rows[0], b"2 in DATA 1 0\n", rows[2]),
+            (b"accepted get octet blocks 1 bytes 0\n", 0),
         ),
         Case(
             "a block past the window",
-            text_of(request, b"in 40000 41000 000300026869", b"total 2"),
+            text_of(request, past, b"total 2"),
             (rows[0], b"2 in DATA 2 2\n"),
-            (b"refused datagram 2 rule 22 WindowOverrun\n", 1),
+            overrun,
             unlawful=5,
+        ),
+        Case(
+            "a block past the window before bad hex",
+            text_of(request, past, ack + b"0", b"total 3"),
+            (rows[0], b"2 in DATA 2 2\n"),
+            overrun,
+            unlawful=5,
+            wrong=(6, "BadHex"),
+        ),
+        Case(
+            "a block past the window after bad hex",
+            text_of(request, block + b"0", past, b"total 3"),
+            rows[:1],
+            unlawful=6,
+            wrong=(5, "BadHex"),
         ),
         Case("no acknowledgement", text_of(request, block, b"total 2"), rows[:2], (b"incomplete after 2\n", 1)),
         Case(
@@ -124,7 +158,7 @@ def with_hosts():
     strays.put("server", data(1, b"hi"), host=strays.THIRD_HOST)
     strays.put("client", error(5, ""), host=strays.THIRD_HOST)
     strays.put("client", ack(1))
-    sound = case_of("strays of a third host", strays, "accepted get octet blocks 1 bytes 2")
+    sound = case_of("strays of a third host", strays, "accepted get octet blocks 1 bytes 2", b"hi")
     yield sound
     wrong = sound.text.replace(b" %s " % strays.THIRD_HOST.encode(), b" a\tb ", 1)
     yield Case("a host that is none", wrong, tuple(strays.rows[:2]), wrong=(6, "BadHost"))
@@ -152,7 +186,7 @@ def hundred_blocks(file, sizes):
     many.put("client", read_request("boot.img", "octet", **sizes))
     many.put("server", oack(**sizes))
     many.put("client", ack(0))
-    wire = blocks(file * 80, 8)
+    wire = blocks(file, 8)
     for at in range(0, len(wire), 4):
         many.put("server", *wire[at : at + 4])
         many.put("client", ack(min(at + 4, len(wire))))
@@ -169,7 +203,7 @@ def transfers():
     agreed.put("client", ack(0))
     agreed.put("server", first, second)
     agreed.put("client", ack(2))
-    yield case_of("options agreed", agreed, "accepted get octet blocks 2 bytes 10")
+    yield case_of("options agreed", agreed, "accepted get octet blocks 2 bytes 10", file)
     repeated = Capture("server")
     repeated.put("client", write_request("notes", "octet", blksize=8, other="x"))
     repeated.put("client", write_request("notes", "OCTET", OTHER="x", BLKSIZE="08"))
@@ -177,16 +211,18 @@ def transfers():
     for packet in (first, second):
         repeated.put("client", packet)
         repeated.put("server", ack(int(packet[1].split()[1])))
-    yield case_of("a repeated request and a repeated OACK", repeated, "accepted put octet blocks 2 bytes 10")
+    yield case_of("a repeated request and a repeated OACK", repeated, "accepted put octet blocks 2 bytes 10", file)
     text = Capture("client")
     text.put("client", read_request("notes", "netascii", blksize=8))
     text.put("server", oack(blksize=8))
     text.put("client", ack(0))
-    for packet in blocks(netascii(b"line 1\rx\nline 2\n\n"), 8):
+    notes = b"line 1\rx\nline 2\n\n"
+    for packet in blocks(netascii(notes), 8):
         text.put("server", packet)
         text.put("client", ack(int(packet[1].split()[1])))
-    yield case_of("netascii", text, "accepted get netascii blocks 3 bytes 17")
-    yield case_of("a hundred blocks", hundred_blocks(file, sizes), "accepted get octet blocks 101 bytes 800")
+    yield case_of("netascii", text, "accepted get netascii blocks 3 bytes 17", notes)
+    many = hundred_blocks(file * 80, sizes)
+    yield case_of("a hundred blocks", many, "accepted get octet blocks 101 bytes 800", file * 80)
     other = Capture("client")
     other.put("client", read_request("a", "octet", blksize=8), read_request("b", "octet", blksize=8))
     yield case_of("another request", other, "refused datagram 2 rule 8 RequestChanged")
@@ -202,7 +238,7 @@ def strays():
         ports.put("server", data(1, b"hi"), server=port)
         ports.put("client", answer, server=port)
     ports.put("client", ack(1))
-    yield case_of("strays", ports, "accepted get octet blocks 1 bytes 2")
+    yield case_of("strays", ports, "accepted get octet blocks 1 bytes 2", b"hi")
     hosts = Capture("server", version=2)
     hosts.put("client", read_request("a", "octet"))
     hosts.put("server", data(1, b"hi"))
@@ -210,7 +246,7 @@ def strays():
         hosts.put("client", ack(1), host=host)
         hosts.put("server", answer, host=host)
     hosts.put("client", ack(1))
-    yield case_of("strays of other hosts", hosts, "accepted get octet blocks 1 bytes 2")
+    yield case_of("strays of other hosts", hosts, "accepted get octet blocks 1 bytes 2", b"hi")
 
 
 def errors():
@@ -254,7 +290,7 @@ class ProgramTrial(Trial):
         self.check(name, got[1] and got[0] in outputs, got)
 
     def refuse_growths(self, name, words, given, output, outputs):
-        """Each growth refused, until a run meets no refusal; that one prints `output`. How many told want of memory."""
+        """Each growth refused, until a run meets no refusal: that one's is `output`. How many told want of memory."""
         told = 0
         for turn in range(1, 10_000):
             got = self.run(words, given, REFUSE=turn)
@@ -262,23 +298,30 @@ class ProgramTrial(Trial):
                 self.expect(f"{name}, no growth refused", got, output)
                 return told
             self.expect(f"{name}, growth {turn} refused", got, *outputs)
-            told += got[0][0].endswith(MEMORY)
+            told += got[0] == NOTHING if words == ["extract"] else got[0][0].endswith(MEMORY)
         self.check(f"{name}, growths", False, "no end")
         return told
 
     def fail_writes(self, name, words, given, output):
-        """Each write failing, or taking nothing, of one byte a write."""
+        """Each write failing, or taking nothing, of one byte a write; and none is made behind the last byte."""
         self.expect(f"{name}, one byte a call", self.run(words, given, ONE_BYTE=1), output)
-        for turn in range(1, len(output[0]) + 1):
+        for turn in range(1, len(output[0]) + 2):
+            is_made = turn <= len(output[0])
             for way in ("FAIL_WRITE", "EMPTY_WRITE"):
                 got = self.run(words, given, ONE_BYTE=1, **{way: turn})
-                self.expect(f"{name}, {way} {turn}", got, (output[0][: turn - 1], 2))
+                self.expect(f"{name}, {way} {turn}", got, (output[0][: turn - 1], 2) if is_made else output)
+                self.check(f"{name}, {way} {turn}, is made", got[2] == is_made, got)
 
     def fail_reads(self, case, command):
-        """Each read failing, of one byte a read, the one after the whole text too."""
+        """Each read failing, of one byte a read, the one after the whole text too; and none is made behind the line of a
+        fault, or of an unlawful datagram."""
+        last = case.last_line(command)
         for taken in range(len(case.text) + 1):
             got = self.run([command], case.text, ONE_BYTE=1, FAIL_READ=taken + 1)
-            self.expect(f"{command}, {case.name}, read {taken + 1}", got, case.output(command, taken, "Read"))
+            name = f"{command}, {case.name}, read {taken + 1}"
+            self.expect(name, got, case.output(command, taken, "Read"))
+            is_made = last is None or case.text[:taken].count(b"\n") < last
+            self.check(f"{name}, is made", got[2] == is_made, got)
 
     def cut(self, case, command):
         """The text cut after each of its bytes."""
@@ -290,7 +333,7 @@ class ProgramTrial(Trial):
         name, output = f"{command}, {case.name}", case.output(command)
         self.expect(name, self.run([command], case.text), output)
         told = self.refuse_growths(name, [command], case.text, output, case.outputs_without_memory(command))
-        self.check(f"{name}, want of memory", told > 0, "is never told")
+        self.check(f"{name}, want of memory", told > 0, "is never met")
 
     def try_case(self, case, command):
         name, output = f"{command}, {case.name}", case.output(command)

@@ -1,5 +1,6 @@
 """Larger captures on the built program: thousands of datagrams with options and a window, in netascii, between strays
-of a third host, or ended by an ERROR; and a netascii file that is just too long in canonical text, or just not.
+of a third host, or ended by an ERROR; as many blocks as there may be, of random bytes; and a netascii file that is just
+too long in canonical text, or just not. What is extracted is compared with the file that the capture was made of.
 
     large.py PROGRAM
 
@@ -7,6 +8,7 @@ Prints each case that is not as it should be, then a last line 'N passed, M fail
 """
 import concurrent.futures
 import os
+import random
 import subprocess
 import sys
 
@@ -16,6 +18,8 @@ from trial import Trial
 
 COUNT = 10_000
 AGREED = {"blksize": 8, "windowsize": 7}
+# The most blocks that there are numbers for, and their size where none is agreed (RFC 1350).
+MOST_BLOCKS, USUAL_SIZE = 65_535, 512
 
 
 def fill(capture, sender, last):
@@ -98,41 +102,85 @@ def line_ends(length):
     return capture
 
 
+def in_lock_step(wire):
+    """A write at the server, of these blocks one by one."""
+    capture = captures.Capture("server")
+    capture.put("client", write_request("boot.img", "octet"))
+    capture.put("server", ack(0))
+    for number, packet in enumerate(wire, 1):
+        capture.put("client", packet)
+        capture.put("server", ack(number))
+    return capture
+
+
+def backwards(wire):
+    """A read at the client of these blocks in one window, of which the last comes first."""
+    capture = captures.Capture("client")
+    options = {"blksize": 8, "windowsize": 65_535}
+    capture.put("client", read_request("boot.img", "octet", **options))
+    capture.put("server", oack(**options))
+    capture.put("client", ack(0))
+    capture.put("server", *reversed(wire))
+    capture.put("client", ack(len(wire)))
+    return capture
+
+
+def judged(name, text, line, status, file=b""):
+    """What is tried on a text of which `check` prints this line: the file is extracted only where it is accepted."""
+    yield name, "check", text, f"{line}\n".encode(), status
+    yield name, "extract", text, file, status
+
+
 def with_another_last(name, capture, sender, packet, rule):
     """The same capture with this packet as its last datagram, which breaks the rule."""
     capture.lines.pop()
     capture.put(sender, packet)
-    refused = f"refused datagram {COUNT} rule {rule}\n".encode()
-    return f"{name}, another last datagram", "check", capture.text(), refused, 1
+    yield from judged(f"{name}, another last datagram", capture.text(), f"refused datagram {COUNT} rule {rule}", 1)
 
 
 def whole(name, capture, kind, wire, file, change):
     """What is tried on a whole capture: a name, the command, the text, what is printed and the status."""
     count = len(wire) // AGREED["blksize"] + 1
-    accepted = f"accepted {kind} blocks {count} bytes {len(file)}\n".encode()
     text, half = capture.text(), COUNT // 2
-    yield name, "check", text, accepted, 0
+    yield from judged(name, text, f"accepted {kind} blocks {count} bytes {len(file)}", 0, file)
     yield name, "show", text, b"".join(capture.rows), 0
-    yield f"{name}, its first half", "check", capture.text(half), b"incomplete after %d\n" % half, 1
+    yield from judged(f"{name}, its first half", capture.text(half), f"incomplete after {half}", 1)
     wrong = text.replace(b"total %d" % COUNT, b"total %d" % (COUNT - 1))
-    yield f"{name}, a wrong total", "check", wrong, b"fault line %d TotalWrong\n" % (COUNT + 4), 2
-    yield with_another_last(name, capture, "server", *change)
+    yield from judged(f"{name}, a wrong total", wrong, f"fault line {COUNT + 4} TotalWrong", 2)
+    yield from with_another_last(name, capture, "server", *change)
 
 
 def aborted(name, capture, by, change):
     """What is tried on a capture that ends by ERRORs."""
-    yield name, "check", capture.text(), f"aborted by {by}\n".encode(), 1
+    yield from judged(name, capture.text(), f"aborted by {by}", 1)
     yield name, "show", capture.text(), b"".join(capture.rows), 0
-    yield with_another_last(name, capture, *change, "7 AfterError")
+    yield from with_another_last(name, capture, *change, "7 AfterError")
+
+
+def of_most_blocks():
+    """What is tried on captures of as many blocks as there may be, of random bytes that are the same each time."""
+    chance, accepted = random.Random(1350), f"blocks {MOST_BLOCKS} bytes"
+    file = chance.randbytes(MOST_BLOCKS * USUAL_SIZE - 1)
+    capture = in_lock_step(blocks(file, USUAL_SIZE))
+    yield from judged("the most blocks", capture.text(), f"accepted put octet {accepted} {len(file)}", 0, file)
+    capture.lines[-2:] = []
+    capture.put("client", data(MOST_BLOCKS, file[1 - USUAL_SIZE :] + b"!"))
+    beyond = f"refused datagram {2 * MOST_BLOCKS + 1} rule 20 BeyondBlock65535"
+    yield from judged("one byte too many", capture.text(), beyond, 1)
+    file = chance.randbytes(MOST_BLOCKS * 8 - 1)
+    capture = backwards(blocks(file, 8))
+    yield from judged("the last first", capture.text(), f"accepted get octet {accepted} {len(file)}", 0, file)
 
 
 def cases():
     image = b"".join(b"%06d\n" % number for number in range(8_150))
     notes = b"".join((b"%d\n", b"a\r\n%d", b"\r%d\r", b"\n\n%d")[number % 4] % number for number in range(7_600))
     # Bare line ends are one byte each on the wire and two in canonical text, which has at most 65,535 blocks of 8.
-    yield "line ends, too many", "check", line_ends(262_140).text(), b"too long when normal\n", 1
-    accepted = b"accepted get netascii blocks 65535 bytes 262139\n"
-    yield "line ends, as many as there may be", "check", line_ends(262_139).text(), accepted, 0
+    yield from judged("line ends, too many", line_ends(262_140).text(), "too long when normal", 1)
+    accepted = "accepted get netascii blocks 65535 bytes 262139"
+    as_many = line_ends(262_139).text()
+    yield from judged("line ends, as many as there may be", as_many, accepted, 0, b"\n" * 262_139)
+    yield from of_most_blocks()
     change = data(1, b"another!"), "25 BlockChanged"
     yield from whole("a read with a window", at_receiver(image), "get octet", image, image, change)
     yield from whole("a read among hosts", among_hosts(image), "get octet", image, image, change)

@@ -15,7 +15,26 @@ from trial import Trial
 
 TOP = pathlib.Path(__file__).resolve().parent.parent
 SCRIPT = TOP / "tools" / "capture-text"
-# What the client stored or sent had 1,300, 2,500, 1,024, 1,292, 921 and 1,570 bytes.
+
+
+def lines(text, numbers, size):
+    """The first so many bytes of a file of this line, with these numbers in it."""
+    return "".join(text.format(number) for number in numbers).encode()[:size]
+
+
+# What the client stored or sent, of 1,300, 2,500, 1,024, 1,292, 921 and 1,570 bytes.
+FILES = {
+    "recorded-read": lines("# line {:03} of the boot configuration of this board\n", range(1, 27), 1_300),
+    "recorded-options": lines(
+        "kernel image, line {:04}: nothing that boots, only bytes to count\n", range(1, 40), 2_500
+    ),
+    "recorded-write": "".join(
+        f"{turn:02}:{turn * 7 % 60:02} sensor {turn % 4} reads {turn * turn % 97}\n" for turn in range(43)
+    ).encode()[:1_024],
+    "recorded-window": lines("menu item {}\n", range(1, 101), 1_292),
+    "recorded-netascii": lines("note {}: line ends and\rreturns\n", range(1, 31), 921),
+    "recorded-stray": lines("boot line {}\n", range(120), 1_570),
+}
 RECORDINGS = (
     (
         "recorded-read",
@@ -58,10 +77,10 @@ RECORDINGS = (
         + ("out ACK 2", "in DATA 3 512", "out ACK 3", "in DATA 4 34", "out ACK 4"),
     ),
 )
-# Captures that were not recorded, and what is said of them.
+# Captures that were not recorded, what is said of them, and the file of the one that is accepted.
 WRITTEN_BY_HAND = (
-    ("one-block", "accepted get octet blocks 1 bytes 2", 0, ("out RRQ", "in DATA 1 2", "out ACK 1")),
-    ("missing-file", "aborted by peer code 1", 1, ("out RRQ", "in ERROR 1")),
+    ("one-block", "accepted get octet blocks 1 bytes 2", 0, ("out RRQ", "in DATA 1 2", "out ACK 1"), b"hi"),
+    ("missing-file", "aborted by peer code 1", 1, ("out RRQ", "in ERROR 1"), b""),
 )
 CLIENT = ("client", "192.0.2.7", "69")
 CLIENT_6 = ("client", "2001:db8::7", "69")
@@ -203,10 +222,12 @@ def run(command, given):
     return done.stdout, done.stderr, done.returncode
 
 
-def try_capture(trial, program, name, capture, verdict, status, rows):
-    """Of the capture the program says this."""
+def try_capture(trial, program, name, capture, verdict, status, rows, file):
+    """Of the capture the program says this, and this is the file that it extracts, where it is accepted."""
     got = run([program, "check"], capture)
     trial.check(f"{name}, check", got == (f"{verdict}\n".encode(), b"", status), got)
+    got = run([program, "extract"], capture)
+    trial.check(f"{name}, extract", got == (file, b"", status), got)
     got = run([program, "show"], capture)
     shown = "".join(f"{number} {row}\n" for number, row in enumerate(rows, 1))
     trial.check(f"{name}, show", got == (shown.encode(), b"", 0), got)
@@ -217,10 +238,10 @@ def try_recording(trial, program, name, words, verdict, rows):
     fields, capture = ((TOP / "examples" / f"{name}.{form}").read_bytes() for form in ("fields", "capture"))
     got = run([SCRIPT, *words], fields)
     trial.check(f"{name}, capture-text", got == (capture, b"", 0), got)
-    try_capture(trial, program, name, capture, verdict, 0, rows)
+    try_capture(trial, program, name, capture, verdict, 0, rows, FILES[name])
     got = run([SCRIPT, *words, "hosts"], fields)
     trial.check(f"{name}, capture-text with hosts", got[1:] == (b"", 0), got)
-    try_capture(trial, program, f"{name} with hosts", got[0], verdict, 0, rows)
+    try_capture(trial, program, f"{name} with hosts", got[0], verdict, 0, rows, FILES[name])
 
 
 def broken_pipe():
@@ -251,9 +272,9 @@ def main(program):
     trial = Trial()
     for recording in RECORDINGS:
         try_recording(trial, program, *recording)
-    for name, verdict, status, rows in WRITTEN_BY_HAND:
+    for name, *said in WRITTEN_BY_HAND:
         capture = (TOP / "examples" / f"{name}.capture").read_bytes()
-        try_capture(trial, program, name, capture, verdict, status, rows)
+        try_capture(trial, program, name, capture, *said)
     for words, fields, text in (*WRITTEN, *(((*words, "hosts"), *rest) for words, *rest in WITH_HOSTS)):
         got = run([SCRIPT, *words], fields.encode())
         trial.check(f"capture-text {words} of {fields!r}", got == (text.encode(), b"", 0), got)
