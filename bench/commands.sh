@@ -33,4 +33,4 @@ rows "netascii, blocks of 1,428 in lock step" "10 100" netascii
 rows "65,535 blocks of 8 in a reversed window" "3 10 100" reversed
 # No stray is shorter than the line of an empty block.
 rows "524,272 strays of 65,534 peers" "13 100" strays
-echo "Each block of 512 comes twice before its ACK in 100 MB, 15 times in 1000 MB; the blocks of 8 come round and round."
+echo "In 100 MB each block of 512 comes twice before its ACK, in 1000 MB 15 times; blocks of 8 come round and round."

@@ -313,8 +313,8 @@ class ProgramTrial(Trial):
                 self.check(f"{name}, {way} {turn}, is made", got[2] == is_made, got)
 
     def fail_reads(self, case, command):
-        """Each read failing, of one byte a read, the one after the whole text too; and none is made behind the line of a
-        fault, or of an unlawful datagram."""
+        """Each read failing, of one byte a read, the one after the whole text too; and none is made behind the line of
+        a fault, or of an unlawful datagram."""
         last = case.last_line(command)
         for taken in range(len(case.text) + 1):
             got = self.run([command], case.text, ONE_BYTE=1, FAIL_READ=taken + 1)
