@@ -42,7 +42,7 @@ exec out/tftp_audit "$@"
 TRIED = "echo tests were run >>\"$CALLS\"\n"
 SAYS_TIME = "tftp-audit: proving and building the program: about a quarter of an hour"
 NOT_BUILT = "tftp-audit: the program was not built, so nothing is run\n"
-HINT = "tftp-audit: call it as ./tftp-audit check|show [FILE]"
+HINT = "tftp-audit: call it as ./tftp-audit check|extract|show [FILE]"
 
 
 class Scratch:
@@ -161,7 +161,7 @@ def failing(trial, scratch):
     """A build that fails beside an older program."""
     old = scratch.program.read_bytes(), scratch.program.stat().st_mtime_ns
     scratch.source.write_text("broken")
-    for words in (["check"], ["check"], ["show"], ["--build"], ["extract"], ["check", "tests/run.sh"]):
+    for words in (["check"], ["check"], ["show"], ["--build"], ["extrac"], ["check", "tests/run.sh"]):
         got = scratch.run(*words)
         trial.refuses(f"a failed build, {words}", got, "error: broken\n" + NOT_BUILT, 1)
     for target in ("build", "install"):
@@ -243,6 +243,8 @@ def files(trial, scratch):
         trial.runs(f"check {name}", got, "mended", 0, given="its text")
     got = scratch.run("show", folder / "the capture")
     trial.runs("show and a file", got, "mended", 0, words="1 words show", given="its text", status=2)
+    got = scratch.run("extract", folder / "the capture")
+    trial.runs("extract and a file", got, "mended", 0, words="1 words extract", given="its text", status=2)
     for name in ("missing", folder, ""):
         got = scratch.run("check", name, given="other")
         trial.refuses(f"check {name}", got, f"tftp-audit: cannot read the file '{name}'\n")
@@ -281,7 +283,7 @@ def has_terminals():
 
 def wrong_words(trial, scratch):
     is_tried = has_terminals()
-    for words in ([], [""], ["help"], ["--help"], ["Check"], ["extract", "x"], ["check", "x", "y"], ["--build", "x"]):
+    for words in ([], [""], ["help"], ["--help"], ["Check"], ["extrac", "x"], ["check", "x", "y"], ["--build", "x"]):
         said = f"{len(words)} words {' '.join(words)}"
         # the stand-in's program looks at its first word alone
         status = 0 if words[:1] == ["check"] else 2
