@@ -78,18 +78,21 @@ fn refusals_are_for_good(rt: HostRuntime) -> Result<(), Fail> {
     refuses_for_good::<RingDelivered>(&rt)
 }
 
+/// The datagrams of the read of `hi`, with a stray: the way, the port at the other side and the payload of each.
+const READ_OF_HI: [(Dir, u16, &[u8]); 4] = [
+    (Dir::Out, 69, READ),
+    (Dir::In, 41000, HI),
+    (Dir::In, 42000, HI),
+    (Dir::Out, 41000, ACK_1),
+];
+
 /// The read of `hi` is accepted, and each datagram counts, strays too.
 fn accepts<D: Delivered + Drop>(rt: &HostRuntime) -> Result<(), Fail> {
     let alloc = rt.alloc();
     let mut judge: Judge<D> = Judge::new(alloc, &HEADER);
-    let datagrams = [
-        datagram(alloc, Dir::Out, 69, READ)?,
-        datagram(alloc, Dir::In, 41000, HI)?,
-        datagram(alloc, Dir::In, 42000, HI)?,
-        datagram(alloc, Dir::Out, 41000, ACK_1)?,
-    ];
-    for datagram in &datagrams {
-        if fed(alloc, &mut judge, datagram).is_err() {
+    for (dir, remote_port, payload) in READ_OF_HI {
+        let datagram = datagram(alloc, dir, remote_port, payload)?;
+        if fed(alloc, &mut judge, &datagram).is_err() {
             return Err(Fail::new("a datagram is refused"));
         }
     }
