@@ -1,5 +1,5 @@
-//! Tests of the public calls of the libraries below the judge, in a module for each library, and nothing else. They stand here so
-//! that no library is proved a second time for its tests.
+//! Tests of the public calls of the libraries below the judge, in a module for each library, and nothing else. They
+//! stand here so that no library is proved a second time for its tests.
 #![tactic(auto)]
 
 #[cfg(test)]
