@@ -31,7 +31,6 @@ pub mod HighestNumbers
 pub mod FirstError
 pub mod Settled
 pub mod OneMeaning
-pub mod Joined
 pub mod BlockLengths
 pub mod MadeWire
 pub mod MadeMeaning
@@ -51,3 +50,8 @@ pub mod EarlierList
 pub mod RulesDivide
 pub mod EndedIsComplete
 pub mod TwoEnds
+pub mod EachOf
+pub mod Needed
+pub mod Passed
+pub mod OwnBytes
+pub mod Written

@@ -13,3 +13,4 @@ pub mod Settled
 pub mod Owned
 pub mod Accord
 pub mod Divides
+pub mod CanBeWritten

@@ -1,6 +1,6 @@
 //! Laws of the definitions in `specs/`. Each is the contract of a function that does nothing.
 
-ghost use Rattle.std.specs.Prelude.{◌≡◌, ◌≢◌, ◌⊎◌, ℕ, List, [], ◌∷◌, ◌++◌};
+ghost use Rattle.std.specs.Prelude.{◌≡◌, ◌≢◌, ◌≤◌, ◌⊎◌, ℕ, List, [], ◌∷◌, ◌++◌, All, length};
 ghost use Rattle.tftp_packet.specs.OptionMap.{OptionMap, no_options};
 ghost use Rattle.tftp_packet.specs.Message.{RequestParts};
 ghost use Rattle.tftp_nego.specs.Agreement.{MayAgree};
@@ -8,6 +8,7 @@ ghost use Rattle.tftp_nego.specs.Faults.{Holds};
 ghost use Rattle.tftp_nego.specs.declared.fault.NegoFault.{NegoFault};
 ghost use Rattle.tftp_ends.specs.Meaning.{Meaning};
 ghost use Rattle.tftp_law.specs.CaptureText.{Datagram, Header};
+ghost use Rattle.tftp_law.specs.CanBeWritten.{CanBeWritten};
 ghost use Rattle.tftp_law.specs.Law.{Shows, IsLawful, IsLawfulUpTo};
 ghost use Rattle.tftp_law.specs.Rules.{number_of, FirstBroken};
 ghost use Rattle.tftp_law.specs.declared.rule.Rule.{Rule};
@@ -71,4 +72,10 @@ pub fn beginnings_are_lawful()
 pub fn first_unlawful_datagram_is_one()
     ensures { (header : Header) (datagrams : List Datagram) (i j : ℕ) → IsLawfulUpTo header datagrams i
         → IsLawfulUpTo header datagrams j → i ≡ j }
+{}
+
+/// Whatever a capture shows can be written, where no payload is longer than a packet of UDP holds.
+pub fn shown_meaning_can_be_written()
+    ensures { (h : Header) (m : Meaning) (datagrams : List Datagram) → All (λ (d : Datagram). length d.payload ≤ 65527) datagrams
+        → Shows h m datagrams → CanBeWritten m }
 {}

@@ -12,7 +12,7 @@ use Rattle.tftp_ends.specs.Meaning.{Meaning, blksize_of}
 use Rattle.tftp_ends.specs.Blocks.{block}
 use Rattle.tftp_ends.specs.Machines.{MachinePacket, Data, Ack, message_of, sender_of, receiver_of}
 use Rattle.tftp_law.specs.Dress.{dir_of}
-use Rattle.tftp_normal.specs.CanBeWritten.{wire_of}
+use Rattle.tftp_law.specs.CanBeWritten.{wire_of}
 use Rattle.tftp_normal.specs.Normal.{blocks_after, deed_of_client, normal_datagram}
 use Rattle.tftp_normal.specs.Writing.{dir_from, sent_by, datagrams_of, lines_of, HasPut}
 use Rattle.tftp_normal.proofs.Lengths.{blocks_length}

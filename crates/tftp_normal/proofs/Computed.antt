@@ -12,7 +12,7 @@ use Rattle.tftp_ends.specs.Worked.{two_bytes, eight_a_block}
 use Rattle.tftp_ends.specs.WorkedWindows.{eight_by_four, six_blocks}
 use Rattle.tftp_ends.specs.Blocks.{block_count}
 use Rattle.tftp_ends.specs.Machines.{MachinePacket, Req, Oack, Data, Ack}
-use Rattle.tftp_normal.specs.CanBeWritten.{blocks_of}
+use Rattle.tftp_law.specs.CanBeWritten.{blocks_of}
 use Rattle.tftp_normal.specs.Normal.{normal_datagrams, normal_count, normal_packets, normal_datagram, normal_header, normal_text, opening_on, opening_count, windows_after, window_count}
 use Rattle.tftp_capture.specs.CaptureText.{text_of}
 use Rattle.hex.specs.Hex.{encode_with}

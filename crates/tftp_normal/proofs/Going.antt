@@ -18,8 +18,8 @@ use Rattle.tftp_ends.proofs.HistoryTests.{all_sent, is_no_error, none_sent}
 use Rattle.tftp_ends.proofs.Stops.{stopped, heard_all}
 use Rattle.tftp_ends.proofs.Members.{contains_first, contains_later, contains_cases}
 use Rattle.tftp_law.specs.Dress.{Placed, Main, TransferIds, Division, view_in, dir_of, packet_of, HaveParts}
-use Rattle.tftp_normal.proofs.Lists.{all_take, all_drop}
-use Rattle.tftp_normal.specs.CanBeWritten.{wire_of, blocks_of, CanBeWritten}
+use Rattle.tftp_law.proofs.EachOf.{all_take, all_drop}
+use Rattle.tftp_law.specs.CanBeWritten.{wire_of, blocks_of, CanBeWritten}
 use Rattle.tftp_normal.specs.Normal.{blocks_after, windows_after, author, deed_of_client, client_deed, normal_remote, normal_header}
 
 abbrev pub ids : TransferIds

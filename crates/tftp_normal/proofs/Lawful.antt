@@ -1,5 +1,5 @@
 -- Each datagram of the normal capture can stand in a text, and they are few.
-use Rattle.std.proofs.Common.{◌≡◌, ℕ, zero, suc, ◌+◌, ◌-◌, ◌*◌, ◌<◌, ◌≤◌, min, ◌∷◌, length, length-take, drop, refl, ap, ◌∙◌, arith, suc-mul, div-lt_iff_lt-mul, le-mul_of_pos_right}
+use Rattle.std.proofs.Common.{◌≡◌, ℕ, zero, suc, ◌+◌, ◌-◌, ◌*◌, ◌<◌, ◌≤◌, min, List, [], ◌∷◌, length, length-take, drop, refl, ap, ◌∙◌, arith, suc-mul, div-lt_iff_lt-mul, le-mul_of_pos_right}
 use Rattle.std.specs.List.{AllByRecursion}
 use Rattle.std.specs.FinMap as finite
 use Rattle.std.specs.FinMap.{len-empty}
@@ -13,10 +13,16 @@ use Rattle.tftp_capture.specs.CaptureText.{IsLawful}
 use Rattle.tftp_packet.specs.Host.{IsHost, no_host}
 use Rattle.tftp_ends.specs.Meaning.{Meaning, SomethingAgreed, blksize_of, windowsize_of}
 use Rattle.tftp_ends.specs.Machines.{MachinePacket, Req, Oack, Data, Ack, Error, message_of}
-use Rattle.tftp_normal.specs.CanBeWritten.{wire_of, blocks_of, CanBeWritten}
+use Rattle.tftp_law.specs.CanBeWritten.{wire_of, blocks_of, CanBeWritten}
 use Rattle.tftp_normal.specs.Normal.{windows_of, opening_on, opening, blocks_after, windows_after, normal_packets, normal_remote, normal_datagram, normal_datagrams, opening_count, normal_count}
-use Rattle.tftp_normal.proofs.Lists.{Bytes, at_each, all_both, all_each}
+use Rattle.hex.specs.Hex.{IsBytes}
+use Rattle.tftp_law.proofs.EachOf.{Bytes, all_both, all_each}
 use Rattle.tftp_normal.proofs.Going.{data_spells, ack_spells}
+
+at_each : (bytes : List ℕ) → Bytes bytes → IsBytes bytes
+at_each [] all i = omega arith
+at_each (b ∷ bytes) all zero = all.0
+at_each (b ∷ bytes) all (suc i) = at_each bytes all.1 i
 
 dash_is_host : IsHost no_host
 dash_is_host = record { some = omega arith; few = omega arith; signs = ((omega arith, omega arith), tt) }

@@ -6,10 +6,10 @@ use Rattle.tftp_packet.specs.declared.kinds.Side.{Side}
 use Rattle.tftp_packet.specs.declared.kinds.Side.TheVariants.{Get, Put}
 use Rattle.tftp_ends.specs.Meaning.{Meaning, windowsize_of}
 use Rattle.tftp_ends.specs.Machines.{Ack}
-use Rattle.tftp_normal.specs.CanBeWritten.{wire_of, blocks_of}
+use Rattle.tftp_law.specs.CanBeWritten.{wire_of, blocks_of}
 use Rattle.tftp_normal.specs.Normal.{windows_of, opening, opening_on, blocks_after, windows_after, normal_packets, normal_datagram, normal_datagrams, opening_count, normal_count}
-use Rattle.tftp_normal.proofs.Shortest.{windows_hold, some, count_is_least}
-use Rattle.tftp_ends.proofs.OneSided.{view_one_sided}
+use Rattle.tftp_law.proofs.Passed.{some_window}
+use Rattle.tftp_normal.proofs.Shortest.{windows_hold, count_is_least}
 use Rattle.tftp_ends.specs.CaptureText.{Datagram, Header}
 use Rattle.tftp_law.specs.Law.{ShowsBy}
 
@@ -40,12 +40,6 @@ counted m some =
     let first = opening_length m.side (finite.len m.agreed) in
     let all = length-append (opening m) (windows_after (windowsize_of m) (blocks_of m) 0 (windows_of m)) in
     length-map (normal_packets m) (normal_datagram m) ∙ omega (arith, windows, first, all)
-
--- a window has a block, since block 1 has passed
-pub some_window : (h : Header) (m : Meaning) (wire : List ℕ) (datagrams : List Datagram) → ShowsBy h m wire datagrams → 1 ≤ windowsize_of m
-some_window h m wire datagrams shown =
-    let seen = shown.seen in
-    some m wire h.named seen.view (view_one_sided m wire h.named seen.view seen.run) shown.complete
 
 pub shortest : (h : Header) (m : Meaning) (datagrams : List Datagram) → ShowsBy h m (wire_of m) datagrams → length (normal_datagrams m) ≤ length datagrams
 shortest h m datagrams shown =

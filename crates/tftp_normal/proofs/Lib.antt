@@ -1,12 +1,8 @@
-pub mod Lists
 pub mod Counted
-pub mod Needed
 pub mod Shortest
 pub mod Lengths
 pub mod Going
 pub mod Shown
-pub mod OwnBytes
-pub mod Written
 pub mod Lawful
 pub mod TextLength
 pub mod Texts

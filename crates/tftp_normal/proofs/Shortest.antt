@@ -10,8 +10,6 @@ use Rattle.tftp_packet.specs.OptionMap.{OptionValue}
 use Rattle.tftp_packet.specs.declared.kinds.Side.{Side}
 use Rattle.tftp_packet.specs.declared.kinds.Side.TheVariants.{Get, Put}
 use Rattle.tftp_packet.specs.declared.kinds.End.{End}
-use Rattle.tftp_packet.specs.declared.kinds.End.TheVariants.{Client, Server}
-use Rattle.tftp_ends.specs.Roles.{sender_of, receiver_of}
 use Rattle.tftp_ends.specs.CaptureText.{Datagram, Header}
 use Rattle.tftp_ends.specs.Meaning.{Meaning, NothingAgreed, blksize_of, windowsize_of}
 use Rattle.tftp_ends.specs.Blocks.{block_count}
@@ -22,11 +20,11 @@ use Rattle.tftp_ends.proofs.Members.{contains_first, contains_later, contains_ca
 use Rattle.tftp_ends.proofs.OneSided.{view_one_sided}
 use Rattle.tftp_law.specs.Dress.{Part, Main, Stray, StrayAnswer, Division, view_in, packet_of}
 use Rattle.tftp_law.specs.Law.{ShowsBy}
-use Rattle.tftp_law.proofs.Moments.{acknowledged_was_sent}
-use Rattle.tftp_normal.specs.CanBeWritten.{wire_of}
+use Rattle.tftp_law.specs.CanBeWritten.{wire_of}
 use Rattle.tftp_normal.specs.Normal.{window_count, opening_count, normal_count}
 use Rattle.tftp_normal.proofs.Counted.{at_least}
-use Rattle.tftp_normal.proofs.Needed.{HasPassed, let_go, opened_get, opened_put}
+use Rattle.tftp_law.proofs.Passed.{each_block, last_ack, first, some_block}
+use Rattle.tftp_law.proofs.Needed.{HasPassed, let_go, opened_get, opened_put}
 
 contains_map : {A B : Type 0} (f : A → B) (x : A) (xs : List A) → Contains xs x → Contains (each f xs) (f x)
 contains_map f x [] at = absurd (contains_none x at)
@@ -59,12 +57,6 @@ in_window w i j some low high =
     let down : i ≤ j / w = (le-div_iff_mul-le some).1 (omega arith) in
     omega arith
 
-which_part : (e : End) (side : Side) → (e ≡ sender_of side) ⊎ (e ≡ receiver_of side)
-which_part Client Get = inr refl
-which_part Client Put = inl refl
-which_part Server Get = inl refl
-which_part Server Put = inr refl
-
 get_count : (agreed : ℕ) → opening_count Get agreed ≤ 3
 get_count zero = omega arith
 get_count (suc more) = omega arith
@@ -92,23 +84,8 @@ module _ (m : Meaning) (wire : List ℕ) (e : End) (v : History) (own : IsOneSid
   abbrev c : ℕ
   c = window_count w n
 
-  pub each_block : (k : ℕ) → 1 ≤ k → k ≤ n → HasPassed v (Data k)
-  each_block k low high = elim (which_part e m.side) [
-    | inl sends ↦ inl (acknowledged_was_sent m wire e v own n k (complete.was_told sends) low high)
-    | inr takes ↦ inr (complete.took takes k low high)
-  ]
-
-  last_ack : HasPassed v (Ack n)
-  last_ack = elim (which_part e m.side) [
-    | inl sends ↦ inr (complete.was_told sends)
-    | inr takes ↦ inl (complete.acknowledged takes)
-  ]
-
-  pub first : HasPassed v (Data 1)
-  first = each_block 1 (omega arith) (omega arith)
-
-  pub some : 1 ≤ w
-  some = let (a, given, less, near) = let_go m wire e v own 1 (omega arith) first in omega (arith, less, near)
+  some : 1 ≤ w
+  some = some_block m wire e v own complete
 
   -- for each window, from 0, the ACK that the next one, or the end, needs
   window_ack : (i : ℕ) → i < c → (j : ℕ) × HasPassed v (Ack (suc j)) × (i * w < suc j) × (suc j ≤ i * w + w)
@@ -118,9 +95,9 @@ module _ (m : Meaning) (wire : List ℕ) (e : End) (v : History) (own : IsOneSid
       let within : suc i * w ≤ c * w = mul-le-mul_right w low in
       elim (cases_lt (suc i * w) n) [
         | inl next ↦
-            let (a, given, less, near) = let_go m wire e v own (suc i * w + 1) (omega arith) (each_block (suc i * w + 1) (omega arith) (omega (arith, next))) in
+            let (a, given, less, near) = let_go m wire e v own (suc i * w + 1) (omega arith) (each_block m wire e v own complete (suc i * w + 1) (omega arith) (omega (arith, next))) in
             elim given [ inl none ↦ absurd (omega (arith, none, near, more, some)) | inr passed ↦ by a passed (omega (arith, near, more)) (omega (arith, less, more)) ]
-        | inr end ↦ by n last_ack (omega (arith, within, more, held.1)) (omega (arith, end, more))
+        | inr end ↦ by n (last_ack m wire e v own complete) (omega (arith, within, more, held.1)) (omega (arith, end, more))
       ]
     where
       by : (a : ℕ) → HasPassed v (Ack a) → i * w < a → a ≤ i * w + w → (j : ℕ) × HasPassed v (Ack (suc j)) × (i * w < suc j) × (suc j ≤ i * w + w)
@@ -140,7 +117,7 @@ module _ (m : Meaning) (wire : List ℕ) (e : End) (v : History) (own : IsOneSid
     base : HasPassed v Req → (i : ℕ) → i < n + c + 1 → Contains (each number v) i
     base asked zero low = passed_number Req asked
     base asked (suc i) low = elim (cases_lt i n) [
-      | inl block ↦ passed_number (Data (suc i)) (each_block (suc i) (omega arith) (omega (arith, block)))
+      | inl block ↦ passed_number (Data (suc i)) (each_block m wire e v own complete (suc i) (omega arith) (omega (arith, block)))
       | inr more ↦
           let (j, passed, above, under) = window_ack (i - n) (omega (arith, low, more)) in
           let is : n + 1 + j / w ≡ suc i = (let at = in_window w (i - n) j some above under in omega (arith, at, more)) in
@@ -174,14 +151,14 @@ module _ (m : Meaning) (wire : List ℕ) (e : End) (v : History) (own : IsOneSid
   get_none asked = enough 0 (n + c + 1) (base 0 asked)
 
   by_side : (side : Side) → m.side ≡ side → opening_count side (finite.len m.agreed) + n + c ≤ length v
-  by_side Get is = let (asked, answer) = opened_get m wire e v own is 1 first in elim answer [
+  by_side Get is = let (asked, answer) = opened_get m wire e v own is 1 (first m wire e v own complete) in elim answer [
     | inl none ↦
         let low = nothing_get (finite.len m.agreed) (ap finite.len none ∙ len-empty (slice_cmp nat_cmp) OptionValue) in
         let all = get_none asked in
         omega (arith, low, all)
     | inr some ↦ let low = get_count (finite.len m.agreed) in let all = get_some asked some.0 some.1 in omega (arith, low, all)
   ]
-  by_side Put is = let (asked, answer) = opened_put m wire e v own is 1 first in let all = put_one asked answer in omega (arith, all)
+  by_side Put is = let (asked, answer) = opened_put m wire e v own is 1 (first m wire e v own complete) in let all = put_one asked answer in omega (arith, all)
 
   pub needed : opening_count m.side (finite.len m.agreed) + n + c ≤ length v
   needed = by_side m.side refl

@@ -20,7 +20,7 @@ use Rattle.tftp_ends.proofs.MadeRuns.{one_sided_view}
 use Rattle.tftp_law.specs.Dress.{Division, view_in, datagrams_of}
 use Rattle.tftp_law.specs.Law.{ShowsBy, Shows}
 use Rattle.tftp_law.proofs.TwoEnds.{one}
-use Rattle.tftp_normal.specs.CanBeWritten.{wire_of, blocks_of, CanBeWritten}
+use Rattle.tftp_law.specs.CanBeWritten.{wire_of, blocks_of, CanBeWritten}
 use Rattle.tftp_normal.specs.Normal.{windows_of, opening_on, opening, windows_after, normal_packets, normal_datagram, normal_datagrams, normal_header}
 use Rattle.tftp_normal.proofs.Shortest.{windows_hold}
 use Rattle.tftp_normal.proofs.Going.{ids, place, after, after_both, Going, windows, ack_spells, answer_first}

@@ -14,7 +14,7 @@ use Rattle.tftp_capture.proofs.Gathering.{gathers_more, gathers_prefix, prefix_o
 use Rattle.tftp_capture.proofs.Skips.{whole_lines-push}
 use Rattle.tftp_ends.specs.CaptureText.{Datagram}
 use Rattle.tftp_ends.specs.Meaning.{Meaning, windowsize_of}
-use Rattle.tftp_normal.specs.CanBeWritten.{blocks_of}
+use Rattle.tftp_law.specs.CanBeWritten.{blocks_of}
 use Rattle.tftp_normal.specs.Normal.{opening, windows_after, windows_of, normal_datagram, normal_datagrams, normal_header, normal_text, normal_count, opening_count}
 use Rattle.tftp_normal.specs.Writing.{datagrams_of, lines_of, HasPut}
 use Rattle.tftp_normal.proofs.Lengths.{opening_length, counted}

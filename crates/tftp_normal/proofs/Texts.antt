@@ -12,14 +12,14 @@ use Rattle.tftp_ends.specs.Meaning.{Meaning}
 use Rattle.tftp_ends.specs.Machines.{MachinePacket}
 use Rattle.tftp_law.specs.Law.{Shows}
 use Rattle.tftp_law.proofs.TwoEnds.{one}
-use Rattle.tftp_normal.specs.CanBeWritten.{CanBeWritten}
+use Rattle.tftp_law.specs.CanBeWritten.{CanBeWritten}
 use Rattle.tftp_normal.specs.Normal.{normal_packets, normal_datagram, normal_datagrams, normal_header, normal_text}
 use Rattle.tftp_normal.specs.Accepted.{IsAccepted}
 use Rattle.tftp_normal.proofs.Lawful.{lawful, few}
 use Rattle.tftp_normal.proofs.Lengths.{counted}
 use Rattle.tftp_normal.proofs.TextLength.{text_fits}
 use Rattle.tftp_normal.proofs.Shown.{shows}
-use Rattle.tftp_normal.proofs.Written.{can_be_written}
+use Rattle.tftp_law.proofs.Written.{can_be_written}
 
 -- the datagrams of a capture, without the numbers of their lines
 abbrev unnumbered : List Numbered → List Datagram

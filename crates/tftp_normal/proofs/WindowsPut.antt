@@ -6,7 +6,7 @@ use Rattle.tftp_capture.specs.Written.{WriterState}
 use Rattle.tftp_ends.specs.CaptureText.{Datagram}
 use Rattle.tftp_ends.specs.Meaning.{Meaning, windowsize_of}
 use Rattle.tftp_ends.specs.Machines.{Ack}
-use Rattle.tftp_normal.specs.CanBeWritten.{blocks_of}
+use Rattle.tftp_law.specs.CanBeWritten.{blocks_of}
 use Rattle.tftp_normal.specs.Normal.{windows_of, blocks_after, windows_after, normal_datagram}
 use Rattle.tftp_normal.specs.Writing.{datagrams_of, lines_of, HasPut}
 use Rattle.tftp_normal.proofs.Shortest.{windows_hold}

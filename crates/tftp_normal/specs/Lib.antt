@@ -1,4 +1,3 @@
-pub mod CanBeWritten
 pub mod Normal
 pub mod Accepted
 pub mod Worked

@@ -13,7 +13,7 @@ use Rattle.tftp_ends.specs.CaptureText.{Datagram, Header}
 use Rattle.tftp_ends.specs.Meaning.{Meaning, windowsize_of}
 use Rattle.tftp_ends.specs.Machines.{MachinePacket, Req, Oack, Data, Ack, Deed, Sent, Took, message_of, sender_of, receiver_of}
 use Rattle.tftp_law.specs.Dress.{dir_of}
-use Rattle.tftp_normal.specs.CanBeWritten.{wire_of, blocks_of}
+use Rattle.tftp_law.specs.CanBeWritten.{wire_of, blocks_of}
 
 -- how many windows of w blocks hold n blocks
 abbrev pub window_count : (w n : ℕ) → ℕ

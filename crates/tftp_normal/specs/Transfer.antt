@@ -2,7 +2,7 @@
 use Rattle.std.specs.Prelude.{◌≡◌, ℕ, ◌-◌, ◌≤◌, List, length, take}
 use Rattle.tftp_ends.specs.Meaning.{Meaning}
 use Rattle.tftp_law.specs.Owned.{meaning_from}
-use Rattle.tftp_normal.specs.CanBeWritten.{blocks_of, CanBeWritten}
+use Rattle.tftp_law.specs.CanBeWritten.{blocks_of, CanBeWritten}
 use Rattle.tftp_normal.specs.declared.transfer.Transfer.TheInside as transfer
 use Rattle.tftp_normal.specs.declared.data_packets.DataPackets.TheInside as packets
 

@@ -4,7 +4,7 @@ ghost use Rattle.std.specs.Prelude.{◌≡◌, ◌^◌, ◌≤◌, ◌↔◌, �
 ghost use Rattle.tftp_capture.specs.CaptureText.{Datagram, Header, IsCapture, IsLawful as IsLawfulDatagram, NamesNoHost, numbered};
 ghost use Rattle.tftp_ends.specs.Meaning.{Meaning, windowsize_of};
 ghost use Rattle.tftp_law.specs.Law.{Shows, ShowsBy};
-ghost use Rattle.tftp_normal.specs.CanBeWritten.{wire_of, CanBeWritten};
+ghost use Rattle.tftp_law.specs.CanBeWritten.{wire_of, CanBeWritten};
 ghost use Rattle.tftp_normal.specs.Normal.{normal_datagrams, normal_header, normal_text, normal_count};
 ghost use Rattle.tftp_normal.specs.Accepted.{IsAccepted};
 
@@ -28,12 +28,6 @@ pub fn normal_capture_shows_its_meaning()
 /// So two meanings have two normal captures.
 pub fn normal_capture_has_one_meaning()
     ensures { (m o : Meaning) → CanBeWritten m → CanBeWritten o → normal_datagrams m ≡ normal_datagrams o → m ≡ o }
-{}
-
-/// Whatever a capture shows can be written, where no payload is longer than a packet of UDP holds.
-pub fn shown_meaning_can_be_written()
-    ensures { (h : Header) (m : Meaning) (datagrams : List Datagram) → All (λ (d : Datagram). length d.payload ≤ 65527) datagrams
-        → Shows h m datagrams → CanBeWritten m }
 {}
 
 /// The normal text is a capture text: each datagram can stand in one and names no host, the text is within its limit, and

@@ -34,7 +34,7 @@ impl<'a> Transfer<'a> {
     ghost use Rattle.tftp_packet.specs.Canonical.{canonical};
     ghost use Rattle.tftp_ends.specs.Meaning.{request_of, blksize_of, windowsize_of};
     ghost use Rattle.tftp_law.specs.Owned.{meaning_from};
-    ghost use Rattle.tftp_normal.specs.CanBeWritten.{blocks_of, CanBeWritten};
+    ghost use Rattle.tftp_law.specs.CanBeWritten.{blocks_of, CanBeWritten};
     ghost use Rattle.tftp_normal.specs.Normal.{normal_count};
 
     /// Takes the parts, and no memory.

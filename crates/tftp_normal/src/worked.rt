@@ -6,7 +6,7 @@ ghost use Rattle.tftp_packet.specs.declared.kinds.Side.TheVariants.{Get};
 ghost use Rattle.tftp_ends.specs.Meaning.{Meaning, NothingAgreed, windowsize_of};
 ghost use Rattle.tftp_ends.specs.Worked.{two_bytes};
 ghost use Rattle.tftp_ends.specs.WorkedWindows.{six_blocks};
-ghost use Rattle.tftp_normal.specs.CanBeWritten.{blocks_of};
+ghost use Rattle.tftp_law.specs.CanBeWritten.{blocks_of};
 ghost use Rattle.tftp_normal.specs.Normal.{normal_datagrams, normal_text, normal_count};
 ghost use Rattle.tftp_normal.specs.Worked.{
   two_bytes_datagrams,

@@ -9,7 +9,7 @@ ghost use Rattle.tftp_packet.specs.declared.kinds.End.{End};
 ghost use Rattle.tftp_capture.specs.Tally.{AppendsPrefix, Writes};
 ghost use Rattle.tftp_ends.specs.Meaning.{Meaning, request_of, blksize_of, windowsize_of};
 ghost use Rattle.tftp_ends.specs.Machines.{sender_of};
-ghost use Rattle.tftp_normal.specs.CanBeWritten.{wire_of, blocks_of, CanBeWritten};
+ghost use Rattle.tftp_law.specs.CanBeWritten.{wire_of, blocks_of, CanBeWritten};
 ghost use Rattle.tftp_normal.specs.Normal.{opening, blocks_after, windows_after, windows_of, normal_count, normal_text};
 ghost use Rattle.tftp_normal.specs.declared.fault.WritingFault.{WritingFault};
 ghost use Rattle.tftp_normal.specs.Writing.{asked_by, sent_by, datagrams_of, Puts};

@@ -1,6 +1,6 @@
 use Rattle.std.proofs.Common.{◌≡◌, ◌-◌, ◌*◌, ◌≤◌, drop, false}
 use Rattle.tftp_ends.specs.Meaning.{blksize_of}
-use Rattle.tftp_normal.specs.CanBeWritten.{wire_of}
+use Rattle.tftp_law.specs.CanBeWritten.{wire_of}
 use Rattle.tftp_normal.specs.Normal.{blocks_after}
 use Rattle.tftp_normal.specs.Writing.{datagrams_of}
 use Rattle.tftp_normal.proofs.Putting.{Putting}

@@ -2,7 +2,7 @@ use Rattle.std.proofs.Common.{rules, ◌≡◌, ◌+◌, ◌-◌, ◌^◌, ◌<�
 use Rattle.tftp_packet.specs.Message.{Message}
 use Rattle.tftp_packet.specs.Canonical.{canonical}
 use Rattle.tftp_ends.specs.Machines.{Ack, receiver_of}
-use Rattle.tftp_normal.specs.CanBeWritten.{blocks_of}
+use Rattle.tftp_law.specs.CanBeWritten.{blocks_of}
 use Rattle.tftp_normal.specs.Normal.{normal_datagram}
 use Rattle.tftp_normal.specs.Writing.{sent_by}
 use Rattle.tftp_normal.proofs.Putting.{puts_err}

@@ -4,7 +4,7 @@ use Rattle.tftp_packet.specs.declared.kinds.Mode.{Mode}
 use Rattle.tftp_packet.specs.declared.kinds.Mode.TheVariants.{Octet, Netascii}
 use Rattle.tftp_netascii.specs.Netascii.{Reads, end, line_end, bare_return, itself}
 use Rattle.tftp_ends.specs.Blocks.{block, block_count}
-use Rattle.tftp_normal.proofs.Lists.{Bytes, all_both, drop_all}
+use Rattle.tftp_law.proofs.EachOf.{Bytes, all_both, drop_all}
 use Rattle.tftp_law.specs.Fits.{ReadsAs}
 
 -- a wire of at most so many blocks after the first j

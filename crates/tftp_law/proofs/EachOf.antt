@@ -2,7 +2,6 @@
 use Rattle.std.proofs.Common.{◌≡◌, ℕ, zero, suc, ◌<◌, ◌≤◌, List, [], ◌∷◌, ◌++◌, map as each, length, take, drop, reverse, Contains, inl, inr, refl, sym, subst, arith}
 use Rattle.std.proofs.lemmas.List.{reverse-append}
 use Rattle.std.specs.List.{AllByRecursion}
-use Rattle.hex.specs.Hex.{IsBytes}
 use Rattle.tftp_ends.proofs.Members.{contains_cases, contains_none}
 
 module _ {X : Type 0} (P : X → Type 0) where
@@ -35,11 +34,6 @@ all_each P Q f turn (x ∷ xs) all = (turn x all.0, all_each P Q f turn xs all.1
 -- each element is a byte
 abbrev pub Bytes : List ℕ → Type 0
 Bytes bytes = AllByRecursion (λ b. b < 256) bytes
-
-pub at_each : (bytes : List ℕ) → Bytes bytes → IsBytes bytes
-at_each [] all i = omega arith
-at_each (b ∷ bytes) all zero = all.0
-at_each (b ∷ bytes) all (suc i) = at_each bytes all.1 i
 
 pub drop_all : {X : Type 0} (i : ℕ) (xs : List X) → length xs ≤ i → drop i xs ≡ []
 drop_all zero [] low = refl

@@ -26,13 +26,12 @@ use Rattle.tftp_law.specs.Law.{Shows}
 use Rattle.tftp_packet.proofs.CanonicalLaws.{spells_again, shortest as canonical_shortest}
 use Rattle.tftp_netascii.proofs.CanonicalLemmas.{Reads-canonical}
 use Rattle.tftp_nego.proofs.Numbers.{map_in_range, blksize_range}
-use Rattle.tftp_normal.specs.CanBeWritten.{wire_of, HasPayload, CanBeWritten}
-use Rattle.tftp_normal.proofs.Lists.{Bytes, all_both, all_contains, all_reverse}
-use Rattle.tftp_normal.proofs.Needed.{HasPassed, opened_get, opened_put}
-use Rattle.tftp_normal.proofs.Shortest.{first, each_block}
-use Rattle.tftp_normal.proofs.OwnBytes.{block_bytes, file_bytes}
+use Rattle.tftp_law.specs.CanBeWritten.{wire_of, HasPayload, CanBeWritten}
+use Rattle.tftp_law.proofs.EachOf.{Bytes, all_both, all_contains, all_reverse}
+use Rattle.tftp_law.proofs.Needed.{HasPassed, opened_get, opened_put}
+use Rattle.tftp_law.proofs.Passed.{first, each_block, some_window}
+use Rattle.tftp_law.proofs.OwnBytes.{block_bytes, file_bytes}
 use Rattle.tftp_ends.specs.Blocks.{block, block_count}
-use Rattle.tftp_normal.proofs.Lengths.{some_window}
 
 -- a datagram of the list spells the packet of each deed
 module _ (h : Header) (m : Meaning) (wire : List ℕ) (ids : TransferIds) where
