@@ -9,7 +9,6 @@ pub mod Ended
 pub mod ByRuns
 pub mod ErrorsAside
 pub mod ErrorsNoted
-pub mod BlocksDecoded
 pub mod WhoAcknowledges
 pub mod EndedTransfer
 pub mod OneVerdict

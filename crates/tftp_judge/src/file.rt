@@ -3,14 +3,13 @@
 ghost use Rattle.std.specs.Prelude.{◌≡◌, ◌/◌, ◌+◌, ◌≤◌, ℕ, List, length, MatchOption, IfOk};
 ghost use Rattle.tftp_ends.specs.Store.{IsHeldFront, IsJoin};
 ghost use Rattle.tftp_law.specs.Fits.{ReadsAs, written_wire};
-ghost use Rattle.tftp_netascii.specs.Netascii.{Reads};
 
 use std::alloc::{AllocError, Global};
 use tftp_ends::Delivered;
-use tftp_netascii::{Decoder, encoded_len};
+use tftp_netascii::{decode_in_place, encoded_len};
 use tftp_packet::Mode;
 
-/// The file that the blocks up to the front carry (RFC 1350, section 1).
+/// The file that the blocks up to the front carry (RFC 1350, section 1). In netascii it is read where their bytes stand.
 pub fn file_of<D: Delivered + Drop>(
     alloc: Global,
     mode: Mode,
@@ -19,25 +18,10 @@ pub fn file_of<D: Delivered + Drop>(
     ensures { IfOk result (λ file. (front : ℕ) → IsHeldFront (D.held store) front
         → (wire : List ℕ) × IsJoin (D.held store) front wire × ReadsAs mode wire file.items) }
 {
-    match mode {
-        Mode::Octet => store.into_wire(alloc),
-        Mode::Netascii => decoded(alloc, &store),
+    let mut file = store.into_wire(alloc)?;
+    if mode == Mode::Netascii {
+        decode_in_place(&mut file);
     }
-}
-
-/// The file that the blocks up to the front read as in netascii, block by block (RFC 1350, section 1; RFC 764).
-fn decoded<D: Delivered + Drop>(alloc: Global, store: &D) -> Result<Vec<u8>, AllocError>
-    ensures { IfOk result (λ file. (front : ℕ) → IsHeldFront (D.held store.now) front
-        → (wire : List ℕ) × IsJoin (D.held store.now) front wire × Reads wire file.items) }
-{
-    let mut file = Vec::new(alloc);
-    let mut decoder = Decoder::new();
-    for fed in 0..store.front() {
-        if let Some(block) = store.block(fed + 1) {
-            decoder.feed(block, &mut file)?;
-        }
-    }
-    decoder.finish(&mut file)?;
     Ok(file)
 }
 

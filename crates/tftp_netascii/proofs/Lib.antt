@@ -1,3 +1,5 @@
 pub mod ReadsLemmas
 pub mod DecoderLemmas
 pub mod CanonicalLemmas
+pub mod RunReads
+pub mod Moved

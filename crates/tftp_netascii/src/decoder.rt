@@ -3,9 +3,8 @@
 ghost use Rattle.std.specs.Prelude.{◌≡◌, ℕ, ◌+◌, ◌<◌, ◌≤◌, List, [], ◌++◌, false, length, vec_len, vec_capacity, IfOk, OnOk, OnErr, IsOk};
 ghost use Rattle.tftp_netascii.specs.Netascii.{Reads};
 ghost use Rattle.tftp_netascii.specs.Decoder.{StandsFor, held_count};
-ghost use Rattle.tftp_netascii.specs.Runs.{ReadsAfterReturn};
 
-use crate::runs::{CR, LF, NUL, split_at_return};
+use crate::runs::{CR, after_return, split_at_return};
 use std::alloc::{AllocError, Global};
 use std::marker::Model;
 
@@ -95,17 +94,6 @@ impl Default for Decoder {
 
     fn default() -> Self {
         Self::new()
-    }
-}
-
-/// What a CR stands for by the bytes after it, and those of them that are still to be read.
-fn after_return(rest: &[u8]) -> (u8, &[u8])
-    ensures { ReadsAfterReturn rest.now result.0 result.1.now }
-{
-    match rest {
-        [LF, after @ ..] => (LF, after),
-        [NUL, after @ ..] => (CR, after),
-        _ => (CR, rest),
     }
 }
 

@@ -1,10 +1,13 @@
 //! Writing netascii for the wire.
 
-ghost use Rattle.std.specs.Prelude.{◌≡◌, ◌==◌, ◌||◌, [], count_by, length, IfOk, IsOk};
+ghost use Rattle.std.specs.Prelude.{◌≡◌, ◌==◌, ◌||◌, ◌≤◌, [], count_by, length, IfOk, IsOk};
 ghost use Rattle.tftp_netascii.specs.Netascii.{canonical_wire, lf, cr};
 
 use crate::runs::{CR, LF, NUL, split_at_control};
 use std::alloc::{AllocError, Global};
+
+/// How many bytes are counted at once.
+const PIECE: usize = 255;
 
 /// The text that a file is sent as: each LF as CR LF, and each CR as CR NUL (RFC 764). An empty
 /// file takes no memory.
@@ -35,5 +38,24 @@ pub fn encoded_len(file: &[u8]) -> u64
 fn control_count(file: &[u8]) -> usize
     ensures { result ≡ count_by (λ byte. byte == lf || byte == cr) file.now }
 {
-    file.iter().filter(|byte| matches!(**byte, LF | CR)).count()
+    let mut count = 0;
+    let mut rest = file;
+    while !rest.is_empty() {
+        let (piece, after) = rest.split_at(rest.len().min(PIECE));
+        count += usize::from(controls_in(piece));
+        rest = after;
+    }
+    count
+}
+
+/// The same of a piece. The count fits a byte, so that the processor looks at many bytes at once.
+fn controls_in(piece: &[u8]) -> u8
+    requires { length piece.now ≤ 255 }
+    ensures { result ≡ count_by (λ byte. byte == lf || byte == cr) piece.now }
+{
+    let mut count = 0;
+    for byte in piece {
+        count += u8::from(*byte == LF || *byte == CR);
+    }
+    count
 }

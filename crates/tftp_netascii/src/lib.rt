@@ -4,12 +4,14 @@
 
 mod decoder;
 mod encoder;
+mod in_place;
 mod laws;
 mod pieces;
 mod runs;
 
 pub use decoder::{Decoder, decode};
 pub use encoder::{encode, encoded_len};
+pub use in_place::decode_in_place;
 pub use laws::{
     canonical_wires_are_written_again, canonical_wires_read_as_their_files,
     every_history_has_one_decoder, every_wire_reads_as_one_file, worked_examples,

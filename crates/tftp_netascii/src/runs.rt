@@ -2,7 +2,9 @@
 
 ghost use Rattle.std.specs.Prelude.{◌≡◌, ◌⊎◌, ◌≢◌, ◌∷◌, ◌++◌, All, IfSome, IfNone};
 ghost use Rattle.tftp_netascii.specs.Netascii.{lf, cr};
-ghost use Rattle.tftp_netascii.specs.Runs.{IsPlain};
+ghost use Rattle.tftp_netascii.specs.Runs.{IsPlain, ReadsAfterReturn};
+
+use memchr::memchr;
 
 /// Makes a carriage return alone of the CR before it (RFC 764).
 pub(crate) const NUL: u8 = b'\0';
@@ -19,7 +21,7 @@ pub(crate) fn split_at_return(wire: &[u8]) -> Option<(&[u8], &[u8])>
     ensures run { IfSome result (λ parts. All (λ byte. byte ≢ cr) parts.0.now) }
     ensures none { IfNone result (All (λ byte. byte ≢ cr) wire.now) }
 {
-    let at = wire.iter().position(|byte| *byte == CR)?;
+    let at = memchr(CR, wire)?;
     Some((&wire[..at], &wire[at + 1..]))
 }
 
@@ -32,4 +34,15 @@ pub(crate) fn split_at_control(file: &[u8]) -> Option<(&[u8], u8, &[u8])>
 {
     let at = file.iter().position(|byte| matches!(*byte, LF | CR))?;
     Some((&file[..at], file[at], &file[at + 1..]))
+}
+
+/// What a CR stands for by the bytes after it, and those of them that are still to be read.
+pub(crate) fn after_return(rest: &[u8]) -> (u8, &[u8])
+    ensures { ReadsAfterReturn rest.now result.0 result.1.now }
+{
+    match rest {
+        [LF, after @ ..] => (LF, after),
+        [NUL, after @ ..] => (CR, after),
+        _ => (CR, rest),
+    }
 }
