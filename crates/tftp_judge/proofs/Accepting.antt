@@ -20,7 +20,7 @@ use Rattle.tftp_law.specs.MessageRules.{MessageBreaks}
 use Rattle.tftp_law.proofs.OneMessage.{first_by, lawful_by}
 use Rattle.tftp_judge.specs.Finds.{Finds, FindsOf, stop_by_port}
 use Rattle.tftp_judge.specs.declared.stop.Stop.{Stop}
-use Rattle.tftp_judge.specs.Kept.{Judge, Transfer, HasKept, IsKept, IsTransferAfter}
+use Rattle.tftp_judge.specs.Kept.{Keeper, Transfer, HasKept, IsKept, IsTransferAfter}
 use Rattle.tftp_judge.proofs.PassFound.{off_passes, main_passes, first_lawful}
 
 -- ---- routes
@@ -309,14 +309,14 @@ routed_by h earlier d after result route ok answer passes passing =
           (λ none. lawful.lawful Rule.NoRequest (none.0, is ∙ none.1));
     }
 
--- what is found of a message is found of the judge
-pub judged_found : (h : Header) (earlier : List Datagram) (d : Datagram) (new : Judge) → new.header ≡ h → (Passes h earlier d → StandsFor new.ports h (d ∷ earlier)) → (r : Result (Unit {0}) Stop)
+-- what is found of a message is found of the datagram
+pub keeper_found : (h : Header) (earlier : List Datagram) (d : Datagram) (new : Keeper) → new.header ≡ h → (Passes h earlier d → StandsFor new.ports h (d ∷ earlier)) → (r : Result (Unit {0}) Stop)
     → FindsOf h earlier d (IsKept h (d ∷ earlier) new.transfer) r → FindsOf h earlier d (HasKept new h (d ∷ earlier)) r
-judged_found h earlier d new header ports (Ok _) (passes, kept) = (passes, record { header = header; ports = ports passes; kept = kept })
-judged_found h earlier d new header ports (Err (Stop.Broken rule)) found = found
-judged_found h earlier d new header ports (Err Stop.Memory) found = found
+keeper_found h earlier d new header ports (Ok _) (passes, kept) = (passes, record { header = header; ports = ports passes; kept = kept })
+keeper_found h earlier d new header ports (Err (Stop.Broken rule)) found = found
+keeper_found h earlier d new header ports (Err Stop.Memory) found = found
 
-pub stray_found : (h : Header) (earlier : List Datagram) (d : Datagram) (new : Judge) (route : Route) → Routed h earlier d new.ports route → is_of_transfer route ≡ false → (route ≡ Route.StrayAnswer → SaysUnknownId d)
+pub stray_found : (h : Header) (earlier : List Datagram) (d : Datagram) (new : Keeper) (route : Route) → Routed h earlier d new.ports route → is_of_transfer route ≡ false → (route ≡ Route.StrayAnswer → SaysUnknownId d)
     → new.header ≡ h → IsKept h earlier new.transfer → Passes h earlier d × HasKept new h (d ∷ earlier)
 stray_found h earlier d new route routed off answers header kept =
     let passes = strays_pass h earlier d route routed.is routed.passing off (λ stray bad. elim bad [

@@ -1,8 +1,9 @@
 -- When a transfer is whole by what the named end keeps.
-use Rattle.std.proofs.Common.{◌≡◌, ◌↔◌, ◌⊎◌, ℕ, ◌+◌, ◌/◌, ◌<◌, ◌≤◌, zero, suc, List, [], ◌∷◌, length, Option, Some, None, Result, Ok, Err, IsErrAnd, codes, inl, inr, refl, sym, subst, ap, ◌∙◌, arith}
+use Rattle.std.proofs.Common.{◌≡◌, ◌↔◌, ◌⊎◌, ℕ, ◌+◌, ◌/◌, ◌<◌, ◌≤◌, zero, suc, List, [], ◌∷◌, length, All, Option, Some, None, Result, Ok, Err, IsErrAnd, codes, inl, inr, refl, sym, subst, ap, ◌∙◌, arith}
 use Rattle.std.specs.Prelude.{reverse}
 use Rattle.std.specs.FinMap as map
 use Rattle.std.proofs.lemmas.List.{reverse-reverse, length-reverse}
+use Rattle.std.proofs.lemmas.List.Elements.{All-from_recursion, recursion_from_All}
 use Rattle.tftp_packet.specs.OptionMap.{OptionMap, no_options}
 use Rattle.tftp_packet.specs.declared.kinds.Mode.{Mode}
 use Rattle.std.proofs.lemmas.Bool.{cases_lt, cases_eq}
@@ -20,14 +21,18 @@ use Rattle.tftp_ends.specs.States.{AreBlocks, IsHeld, IsBeforeBlocks}
 use Rattle.tftp_ends.specs.Store.{Held, IsHeldFront, IsJoin}
 use Rattle.tftp_ends.specs.declared.terms.Terms.{Terms}
 use Rattle.tftp_ends.specs.declared.terms.Reply.TheVariants.{NoReply}
+use Rattle.tftp_law.specs.CanBeWritten.{CanBeWritten}
 use Rattle.tftp_law.specs.Fits.{ReadsAs, written_wire, IsWritable}
 use Rattle.tftp_law.specs.OneEnded.{OneEnded, IsAgreed, IsEnded, IsJoined, IsWhole, Meant}
 use Rattle.tftp_law.specs.Owned.{meaning_from}
 use Rattle.tftp_law.specs.Rules.{Answer, AreTerms, FirstAnswer, FirstAsked, NotAnswered, plain_terms, terms_after}
+use Rattle.tftp_law.proofs.EachOf.{all_reverse}
 use Rattle.tftp_law.proofs.FirstAnswered.{known_by, terms_one}
 use Rattle.tftp_law.proofs.OneMeaning.{one_meaning}
 use Rattle.tftp_law.proofs.Settled.{settled, last_one}
+use Rattle.tftp_law.proofs.TwoEnds.{whole}
 use Rattle.tftp_law.proofs.WhoSends.{two_parts}
+use Rattle.tftp_law.proofs.Written.{shown_can_be_written}
 use Rattle.tftp_judge.specs.Ending.{IsUnfinished}
 use Rattle.tftp_judge.specs.Kept.{Course, HasBegun, IsCourse, Transfer, IsTransferAfter}
 use Rattle.tftp_judge.specs.Verdict.{IsVerdictByRules}
@@ -211,6 +216,13 @@ fits_by mode wanted size agreed file written is sized same =
     ((λ few. subst (λ n. n ≤ 65535) count few), (λ few. subst (λ n. n ≤ 65535) (sym count) few))
 
 -- ---- what is answered
+
+-- what is meant, of payloads that go into packets of UDP, is shown by a run, and so it can be written
+pub can_be_written : (h : Header) (earlier : List Datagram) (m : Meaning) → All (λ (d : Datagram). length d.payload ≤ 65527) earlier → Meant h earlier m → IsWritable m → CanBeWritten m
+can_be_written h earlier m short meant fits =
+    let (wire, shown) = (whole h m (reverse earlier)).0 (subst (λ ds. Meant h ds m) (sym (reverse-reverse earlier)) meant) in
+    shown_can_be_written h m (reverse earlier) (All-from_recursion (λ (d : Datagram). length d.payload ≤ 65527) (reverse earlier) (all_reverse (λ (d : Datagram). length d.payload ≤ 65527) earlier (recursion_from_All (λ (d : Datagram). length d.payload ≤ 65527) earlier short)))
+    (record { writable = fits; wire = wire; shown = shown })
 
 pub meant_verdict : (h : Header) (earlier : List Datagram) (m : Meaning) → OneEnded h earlier → Meant h earlier m → IsWritable m → IsVerdictByRules h (reverse earlier) (Ok m)
 meant_verdict h earlier m lawful meant fits =

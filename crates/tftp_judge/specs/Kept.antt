@@ -1,6 +1,6 @@
 -- What the judge keeps of the datagrams that it has accepted, and for which datagrams that stands. The lists `earlier` and
 -- `passed` have the datagrams of the capture and those of the transfer, the newest first.
-use Rattle.std.specs.Prelude.{◌≡◌, ◌↔◌, ℕ, Bool, true, List, [], length, Option, Some, None, is_some}
+use Rattle.std.specs.Prelude.{◌≡◌, ◌↔◌, ◌≤◌, ℕ, Bool, true, List, [], All, length, Option, Some, None, is_some}
 use Rattle.tftp_packet.specs.OptionMap.{OptionMap}
 use Rattle.tftp_packet.specs.Message.{Message, RequestParts}
 use Rattle.tftp_packet.specs.declared.kinds.Dir.{Dir}
@@ -82,12 +82,22 @@ pub record IsTransferAfter (t : Transfer) (h : Header) (passed : List Datagram) 
   pub ack_sent : (t.ack_sent ≡ true) ↔ AckSent passed
   pub errors : AreErrors t.errors passed
 
+-- The datagrams break no rule, each payload goes into a packet of UDP, and the transfer is that of them.
+pub record IsTransferOf (t : Transfer) (h : Header) (earlier : List Datagram) : Type 0 where
+  pub lawful : OneEnded h earlier
+  pub short : All (λ (d : Datagram). length d.payload ≤ 65527) earlier
+  pub asked : FirstAsked h earlier t.asked
+  pub after : IsTransferAfter t h (transfer_of h earlier)
+
 -- ---- the judge
 
-pub record Judge : Type 0 where
+pub record Keeper : Type 0 where
   pub header : Header
   pub ports : KnownIds
   pub transfer : Option Transfer  -- from the first request on
+
+pub record Judge : Type 0 where
+  pub keeper : Keeper
   pub fed : ℕ
   pub refused : Option Refusal  -- what is answered for good
 
@@ -96,15 +106,20 @@ abbrev pub IsKept : Header → List Datagram → Option Transfer → Type 0
 IsKept h earlier None = earlier ≡ []
 IsKept h earlier (Some transfer) = FirstAsked h earlier transfer.asked × IsTransferAfter transfer h (transfer_of h earlier)
 
--- what the judge keeps of these datagrams, but for how many they are
-pub record HasKept (j : Judge) (h : Header) (earlier : List Datagram) : Type 0 where
-  pub header : j.header ≡ h
-  pub ports : StandsFor j.ports h earlier
-  pub kept : IsKept h earlier j.transfer
+-- what is kept of these datagrams
+pub record HasKept (k : Keeper) (h : Header) (earlier : List Datagram) : Type 0 where
+  pub header : k.header ≡ h
+  pub ports : StandsFor k.ports h earlier
+  pub kept : IsKept h earlier k.transfer
 
--- The judge stands for these datagrams: it has accepted them, and has refused none.
+-- The judge stands for these datagrams: it has accepted them, and has refused none. Each payload goes into a packet of UDP.
 pub record IsJudgeAfter (j : Judge) (h : Header) (earlier : List Datagram) : Type 0 where
   pub lawful : OneEnded h earlier
-  pub has_kept : HasKept j h earlier
+  pub short : All (λ (d : Datagram). length d.payload ≤ 65527) earlier
+  pub has_kept : HasKept j.keeper h earlier
   pub fed : j.fed ≡ length earlier
   pub goes_on : j.refused ≡ None
+
+-- there are datagrams for which the judge stands, unless it has refused one
+abbrev pub StandsForSome : Judge → Type 0
+StandsForSome j = j.refused ≡ None → (h : Header) × (earlier : List Datagram) × IsJudgeAfter j h earlier

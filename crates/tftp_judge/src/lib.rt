@@ -6,6 +6,7 @@ mod errors;
 mod extraction;
 mod file;
 mod judging;
+mod keeping;
 mod kinds;
 pub mod laws;
 mod meaning;

@@ -14,7 +14,7 @@ ghost use Rattle.tftp_law.specs.OneEnded.{OneEnded, IsEnded};
 ghost use Rattle.tftp_law.specs.Rules.{Agrees, ClientWentOn, FirstAsked, GoesOn, IsWrongKind, plain_terms as plain_terms_of, terms_after};
 ghost use Rattle.tftp_judge.specs.Finds.{Finds, stop_of_fault, IsBlockOrAck};
 ghost use Rattle.tftp_judge.specs.Courses.{HasAnswer, WaitsForReply, DiffersByCourse, DiffersBySent};
-ghost use Rattle.tftp_judge.specs.Kept.{AreErrors, Unanswered, IsCourse, IsTransferAfter};
+ghost use Rattle.tftp_judge.specs.Kept.{AreErrors, Unanswered, IsCourse, IsTransferAfter, IsTransferOf};
 ghost use Rattle.tftp_judge.specs.Verdict.{IsVerdictByRules};
 ghost use Rattle.tftp_judge.specs.declared.refusal.Refusal.{Refusal as RefusalKind};
 ghost use Rattle.tftp_judge.specs.declared.stop.Stop.{Stop as StopKind};
@@ -273,6 +273,7 @@ impl<D: Delivered + Drop> Transfer<D> {
 
     /// What the transfer means, or why it is none that is whole, after so many datagrams.
     pub fn finish(self, alloc: Global, count: u64) -> Result<Meaning, Refusal>
+        requires some { (h : Header) × (earlier : List Datagram) × IsTransferOf self h earlier }
         ensures verdict { (h : Header) (earlier : List Datagram) → OneEnded h earlier → FirstAsked h earlier self.asked
             → IsTransferAfter self h (transfer_of h earlier) → count ≡ length earlier → IsVerdictByRules h (reverse earlier) result }
         ensures memory { (h : Header) (earlier : List Datagram) → OneEnded h earlier → FirstAsked h earlier self.asked

@@ -84,7 +84,10 @@ returns-in_err-datagram-clause-whole g c = found_whole _ _ _ _ (stopped g c)
 pub feed-requires : goal.feed-requires
 feed-requires g c =
     let rises = rw c.in-Some.is at c.in_ok-datagram.ensures.rises in
-    record { few = omega (arith, c.loop-judge.invariant.lines, rises, c.in_ok-datagram.ensures.line) }
+    record {
+      few = omega (arith, c.loop-judge.invariant.lines, rises, c.in_ok-datagram.ensures.line);
+      short = rw c.in-Some.is at c.in_ok-datagram.ensures.fits;
+    }
 
 -- the judge has refused it
 refused : (g : Over) (c : goal.After-drop-capture-inside-in_err-feed g) → Found (g.R.Read.remaining c.args.reader.now.0) (g.R.Read.remaining c.next.new.reader.0) c.next.new.reader.1 c.from_residual-in_err-feed.result

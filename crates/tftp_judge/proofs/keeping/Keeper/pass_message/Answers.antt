@@ -8,10 +8,10 @@ use Rattle.tftp_packet.specs.declared.packet.Packet.{Packet}
 use Rattle.tftp_ends.specs.CaptureText.{Datagram, Header}
 use Rattle.tftp_ends.specs.Ports.{route_of, is_of_transfer, transfer_of}
 use Rattle.tftp_ends.specs.declared.route.Route.{Route}
-use Rattle.tftp_judge.specs.Kept.{Judge, Transfer, IsKept}
+use Rattle.tftp_judge.specs.Kept.{Keeper, Transfer, IsKept}
 use Rattle.tftp_judge.proofs.Accepting.{message_found, request_found}
-use Rattle.tftp_judge.proofs.judging.Judge.pass_message.Goals as goal
-use Rattle.tftp_judge.proofs.judging.Judge.pass_message.Goals.{else-is_none-via-then-is_none+else-eq, else-is_none-via-else-is_none}
+use Rattle.tftp_judge.proofs.keeping.Keeper.pass_message.Goals as goal
+use Rattle.tftp_judge.proofs.keeping.Keeper.pass_message.Goals.{else-is_none-via-then-is_none+else-eq, else-is_none-via-else-is_none}
 
 pub returns-in-Some-default-clause-finds : goal.returns-in-Some-default-clause-finds
 returns-in-Some-default-clause-finds g c = λ h earlier d at one kept is on dir payload.
@@ -36,4 +36,4 @@ returns-in_ok-asked-in-None-Request-clause-finds g c = λ h earlier d at one kep
       | else-is_none-via-else-is_none w ↦ search rules
     ] in
     request_found h earlier d c.of.result one none routed other (subst (λ (r : RequestParts). Spells d.payload (Message.Request r)) (sym c.of.ensures.asked) spells)
-    (c.of.ensures.after h d (ap (λ (x : Header). x.named) (sym at) ∙ sym (ap (λ (j : Judge). j.header.named) c.self.view_is)) spells)
+    (c.of.ensures.after h d (ap (λ (x : Header). x.named) (sym at) ∙ sym (ap (λ (k : Keeper). k.header.named) c.self.view_is)) spells)

@@ -3,7 +3,7 @@ use Rattle.std.specs.Prelude.{IsOkAnd}
 use Rattle.tftp_packet.specs.Message.{Message}
 use Rattle.tftp_packet.specs.Meaning.{meaning}
 use Rattle.tftp_packet.specs.Spelling.{Spells}
-use Rattle.tftp_judge.proofs.judging.says_unknown_id.Goals as goal
+use Rattle.tftp_judge.proofs.keeping.says_unknown_id.Goals as goal
 
 pub returns-in-Err : goal.returns-in-Err
 returns-in-Err c = λ d same. (

@@ -1,0 +1,145 @@
+ghost use Rattle.std.specs.Prelude.{◌≡◌, ◌↔◌, List, [], ◌∷◌, true, IsTrue};
+ghost use Rattle.tftp_capture.specs.Fields.{datagram_of, header_of};
+ghost use Rattle.tftp_ends.specs.CaptureText.{Datagram as DatagramParts, Header as HeaderParts};
+ghost use Rattle.tftp_ends.specs.Ports.{route_of, is_of_transfer, SaysUnknownId};
+ghost use Rattle.tftp_law.specs.OneEnded.{OneEnded};
+ghost use Rattle.tftp_judge.specs.Finds.{FindsOf, stop_by_port};
+ghost use Rattle.tftp_judge.specs.Kept.{HasKept, IsKept};
+
+use crate::stop::Stop;
+use crate::transfer::Transfer;
+use std::alloc::Global;
+use std::marker::Model;
+use tftp_capture::{Datagram, Header};
+use tftp_ends::{Delivered, PortFault, Ports, Route};
+use tftp_law::Rule;
+use tftp_packet::{Dir, Packet, opcode, own_request, read_packet};
+
+/// What is kept of the datagrams that have passed: the transfer ids, and the transfer from its first request on.
+#[derive(Drop)]
+pub struct Keeper<D: Delivered + Drop> {
+    header: Header,
+    ports: Ports,
+    transfer: Option<Transfer<D>>,
+}
+
+impl<D: Delivered + Drop> Model for Keeper<D> {
+    ghost use Rattle.std.specs.Coded.{codes};
+    ghost use Rattle.tftp_ends.specs.StatesKept.{sender_code, receiver_code};
+    ghost use Rattle.tftp_packet.specs.Owned.{options_code, parts_code};
+    ghost use Rattle.tftp_capture.specs.Fields.{header_of};
+    ghost use Rattle.tftp_judge.specs.Kept.{Keeper};
+
+    ghost Value = { Keeper };
+
+    ghost coded = { Prim.hlevel (codes, sender_code, receiver_code, options_code, parts_code) };
+
+    ghost view = { λ k. record {
+      header = header_of k.header;
+      ports = k.ports;
+      transfer = k.transfer;
+    } };
+}
+
+impl<D: Delivered + Drop> Keeper<D> {
+    /// Before the first datagram of a capture with this header. Takes no memory.
+    pub fn new(alloc: Global, header: &Header) -> Self
+        ensures { HasKept result (header_of header.now) [] }
+    {
+        Keeper {
+            header: *header,
+            ports: Ports::new(alloc, header.named, header.service),
+            transfer: None,
+        }
+    }
+
+    /// What is found of a datagram after those that have passed; where it passes it is kept.
+    pub fn pass(&mut self, alloc: Global, datagram: &Datagram) -> Result<(), Stop>
+        ensures { (h : HeaderParts) (earlier : List DatagramParts) → OneEnded h earlier → HasKept self.old h earlier
+            → FindsOf h earlier (datagram_of datagram.now) (HasKept self.new h (datagram_of datagram.now ∷ earlier)) result }
+    {
+        let payload = datagram.payload.as_slice();
+        let route = match self.ports.class(
+            datagram.dir,
+            datagram.local_port,
+            datagram.remote_host,
+            datagram.remote_port,
+            opcode(payload),
+        ) {
+            Ok(route) => route,
+            Err(fault) => return Err(stop_of_port(fault)),
+        };
+        match route {
+            Route::Request | Route::Peer => self.pass_message(alloc, route, datagram.dir, payload),
+            Route::StrayAnswer => {
+                if says_unknown_id(payload) {
+                    Ok(())
+                } else {
+                    Err(Stop::Broken(Rule::StrayAnswer))
+                }
+            }
+            _ => Ok(()),
+        }
+    }
+
+    /// The transfer, if its first request has passed.
+    pub fn into_transfer(self) -> Option<Transfer<D>>
+        ensures { result ≡ self.transfer }
+    {
+        self.transfer
+    }
+
+    /// What is found of a datagram of the transfer.
+    fn pass_message(
+        &mut self,
+        alloc: Global,
+        route: Route,
+        dir: Dir,
+        payload: &[u8],
+    ) -> Result<(), Stop>
+        ensures finds { (h : HeaderParts) (earlier : List DatagramParts) (d : DatagramParts) → self.old.header ≡ h → OneEnded h earlier
+            → IsKept h earlier self.old.transfer → route ≡ route_of h earlier d → is_of_transfer route ≡ true → d.dir ≡ dir → d.payload ≡ payload.now
+            → FindsOf h earlier d (IsKept h (d ∷ earlier) self.new.transfer) result }
+        ensures header { self.new.header ≡ self.old.header }
+        ensures ports { self.new.ports ≡ self.old.ports }
+    {
+        if self.transfer.is_none() && route == Route::Peer {
+            return Err(Stop::Broken(Rule::NoRequest));
+        }
+        let packet = match read_packet(payload) {
+            Ok(packet) => packet,
+            Err(fault) => return Err(Stop::Broken(Rule::Malformed(fault))),
+        };
+        match (&mut self.transfer, &packet) {
+            (Some(transfer), _) => transfer.pass(alloc, dir, &packet),
+            (None, Packet::Request(asked)) => {
+                let asked = own_request(alloc, asked)?;
+                self.transfer = Some(Transfer::of(self.header.named, asked));
+                Ok(())
+            }
+            (None, _) => Err(Stop::Broken(Rule::NoRequest)),
+        }
+    }
+}
+
+/// Why a datagram does not pass by its ports (RFC 1350, section 4).
+fn stop_of_port(fault: PortFault) -> Stop
+    ensures { result ≡ stop_by_port fault }
+{
+    match fault {
+        PortFault::ForeignPort => Stop::Broken(Rule::ForeignPort),
+        PortFault::WrongPort => Stop::Broken(Rule::WrongPort),
+        PortFault::StrayAnswer => Stop::Broken(Rule::StrayAnswer),
+        PortFault::Memory => Stop::Memory,
+    }
+}
+
+/// Whether a payload is ERROR 5, "Unknown transfer ID" (RFC 1350, section 5).
+fn says_unknown_id(payload: &[u8]) -> bool
+    ensures { (d : DatagramParts) → d.payload ≡ payload.now → (IsTrue result ↔ SaysUnknownId d) }
+{
+    match read_packet(payload) {
+        Ok(packet) => matches!(packet, Packet::Error { code: 5, .. }),
+        Err(_) => false,
+    }
+}
