@@ -1,5 +1,4 @@
-use Rattle.std.proofs.Common.{◌≡◌, ◌+◌, ◌-◌, ◌≤◌, ℕ, List, ◌++◌, arith}
-use Rattle.tftp_ends.specs.Store.{IsHeldFront, IsJoin}
+use Rattle.std.proofs.Common.{arith}
 use Rattle.tftp_judge.proofs.BlocksDecoded.{next_decoded, front_there, all_decoded}
 use Rattle.tftp_judge.proofs.file.decoded.Goals as goal
 use Rattle.tftp_judge.proofs.file.decoded.Goals.{in-Some+in_ok-feed, in_default}
