@@ -6,24 +6,23 @@ use Rattle.std.proofs.lemmas.List.{reverse-reverse, length-reverse}
 use Rattle.std.proofs.lemmas.List.Elements.{All-from_recursion, recursion_from_All}
 use Rattle.tftp_packet.specs.OptionMap.{OptionMap, no_options}
 use Rattle.tftp_packet.specs.declared.kinds.Mode.{Mode}
-use Rattle.std.proofs.lemmas.Bool.{cases_lt, cases_eq}
+use Rattle.std.proofs.lemmas.Bool.{cases_eq}
 use Rattle.tftp_packet.specs.Message.{Message, RequestParts}
 use Rattle.tftp_packet.specs.declared.kinds.Dir.{Dir}
 use Rattle.tftp_packet.specs.declared.kinds.Dir.TheVariants.{In, Out}
-use Rattle.tftp_packet.specs.declared.kinds.End.{End}
 use Rattle.tftp_ends.specs.CaptureText.{Datagram, Header}
 use Rattle.tftp_ends.specs.Meaning.{Meaning, option_or}
 use Rattle.tftp_ends.specs.NamedEnd.{NamedEnd, Sends, Receives, terms_of, held_of, IsEndAfter, IsEndDone, HoldsWire}
 use Rattle.tftp_ends.specs.Ports.{transfer_of}
 use Rattle.tftp_ends.specs.Roles.{sender_of, receiver_of}
-use Rattle.tftp_ends.specs.Rules.{Passed, HasPassed, IsFront, IsLast}
+use Rattle.tftp_ends.specs.Rules.{Passed}
 use Rattle.tftp_ends.specs.States.{AreBlocks, IsHeld, IsBeforeBlocks}
 use Rattle.tftp_ends.specs.Store.{Held, IsHeldFront, IsJoin}
 use Rattle.tftp_ends.specs.declared.terms.Terms.{Terms}
 use Rattle.tftp_ends.specs.declared.terms.Reply.TheVariants.{NoReply}
 use Rattle.tftp_law.specs.CanBeWritten.{CanBeWritten}
 use Rattle.tftp_law.specs.Fits.{ReadsAs, written_wire, IsWritable}
-use Rattle.tftp_law.specs.OneEnded.{OneEnded, IsAgreed, IsEnded, IsJoined, IsWhole, Meant}
+use Rattle.tftp_law.specs.OneEnded.{OneEnded, IsAgreed, IsEnded, IsWhole, Meant}
 use Rattle.tftp_law.specs.Owned.{meaning_from}
 use Rattle.tftp_law.specs.Rules.{Answer, AreTerms, FirstAnswer, FirstAsked, NotAnswered, plain_terms, terms_after}
 use Rattle.tftp_law.proofs.EachOf.{all_reverse}

@@ -1,6 +1,5 @@
 -- A datagram that is no ERROR leaves what is kept of ERRORs as it is.
-use Rattle.std.proofs.Common.{◌≡◌, ◌==◌, ◌||◌, ℕ, Bool, true, false, List, ◌∷◌, Option, Some, None, inl, inr, refl, sym, ap, ◌∙◌}
-use Rattle.std.specs.Prelude.{is_some}
+use Rattle.std.proofs.Common.{◌≡◌, ◌==◌, ◌||◌, ℕ, List, ◌∷◌, Option, Some, None, inl, inr, refl, ◌∙◌}
 use Rattle.tftp_packet.specs.Message.{Message}
 use Rattle.tftp_packet.specs.Spelling.{Spells, side_opcode}
 use Rattle.tftp_packet.specs.declared.kinds.Side.{Side}

@@ -1,5 +1,5 @@
 -- What is kept of ERRORs after one more.
-use Rattle.std.proofs.Common.{◌≡◌, ◌⊎◌, ◌||◌, ℕ, Bool, true, false, List, ◌∷◌, Option, Some, None, inl, inr, refl, sym, subst, ap, ◌∙◌}
+use Rattle.std.proofs.Common.{◌≡◌, ◌⊎◌, ℕ, true, List, ◌∷◌, Option, Some, None, inl, inr, refl, sym, subst, ap, ◌∙◌}
 use Rattle.std.specs.Prelude.{is_some}
 use Rattle.std.proofs.lemmas.Bool.{cases_eq}
 use Rattle.tftp_packet.specs.Message.{Message}
@@ -7,7 +7,7 @@ use Rattle.tftp_packet.specs.declared.kinds.Dir.{Dir}
 use Rattle.tftp_packet.specs.declared.kinds.Dir.TheVariants.{In, Out}
 use Rattle.tftp_ends.specs.CaptureText.{Datagram}
 use Rattle.tftp_ends.specs.Rules.{Passed}
-use Rattle.tftp_ends.specs.States.{has_stopped, Says}
+use Rattle.tftp_ends.specs.States.{Says}
 use Rattle.tftp_ends.proofs.Passing.{another_way, in_not_out, out_not_in, stopped_out, stopped_with}
 use Rattle.tftp_law.specs.Aborted.{by_of}
 use Rattle.tftp_law.specs.Rules.{GoesOn}

@@ -1,5 +1,5 @@
 -- The judge stands for the datagrams that a reader of a text has given so far.
-use Rattle.std.proofs.Common.{◌≡◌, ℕ, ◌+◌, ◌⊎◌, inl, inr, Bool, true, false, true≢false, List, [], ◌∷◌, ◌++◌, length, reverse, Option, Some, None, Result, Ok, Err, refl, sym, ap, ◌∙◌, subst, append_assoc, append-nil}
+use Rattle.std.proofs.Common.{◌≡◌, ℕ, ◌+◌, ◌⊎◌, inl, inr, Bool, true, false, true≢false, List, [], ◌∷◌, ◌++◌, length, reverse, Option, Some, None, Result, Ok, Err, sym, ap, ◌∙◌, subst, append-nil}
 use Rattle.std.specs.Io.KnownBytes.{Consumes, IsAtEnd, prepend_known}
 use Rattle.std.proofs.KnownBytes.{Consumes-trans}
 use Rattle.std.proofs.lemmas.List.{length-reverse, map-append, reverse-append, reverse-reverse}
@@ -8,7 +8,6 @@ use Rattle.tftp_capture.specs.Fields.{datagram_of}
 use Rattle.tftp_capture.specs.History.{Continues, GoesOn, IsAtTextEnd, IsReadFault, ReaderState, StandingTells, StandsFor, WantTells, standing_after, with_answer}
 use Rattle.tftp_capture.specs.declared.datagram.Datagram.{Datagram as Owned}
 use Rattle.tftp_capture.specs.declared.fault.CaptureFault.{CaptureFault}
-use Rattle.tftp_capture.specs.declared.fault.CaptureFault.TheVariants as faults
 use Rattle.tftp_capture.specs.declared.standing.Standing.TheVariants.{Open, Over, Failed}
 use Rattle.tftp_capture.proofs.Beginnings.{begins_more, capture_begins}
 use Rattle.tftp_ends.specs.CaptureText.{Datagram, Header}
@@ -20,11 +19,10 @@ use Rattle.tftp_law.specs.declared.rule.Rule.{Rule}
 use Rattle.tftp_law.proofs.TwoEnds.{lawful}
 use Rattle.tftp_judge.specs.Finds.{Refuses}
 use Rattle.tftp_judge.specs.Kept.{IsJudgeAfter, Judge}
-use Rattle.tftp_judge.specs.TextVerdict.{BeginsBy, EndsText, IsTextVerdict, SaysReadFailed, unnumbered}
+use Rattle.tftp_judge.specs.TextVerdict.{EndsText, IsTextVerdict, unnumbered}
 use Rattle.tftp_judge.specs.Verdict.{IsUnlawfulAt, IsVerdict}
 use Rattle.tftp_judge.specs.declared.refusal.Refusal.{Refusal}
 use Rattle.tftp_judge.specs.declared.refusal.Refusal.TheVariants.{Unlawful, Aborted, Incomplete, NormalTooLong, Memory}
-use Rattle.tftp_judge.specs.declared.verdict.Verdict.{Verdict}
 use Rattle.tftp_judge.specs.declared.verdict.Verdict.TheVariants.{Capture, Refused}
 use Rattle.tftp_judge.proofs.FirstFaults.{MayGoOn, begins_longer, fault_here, fault_longer, lawful_in}
 use Rattle.tftp_judge.proofs.TextFound.{Found, closed, failed_or}

@@ -1,5 +1,5 @@
 -- What was found in the bytes of a reader.
-use Rattle.std.proofs.Common.{◌≡◌, ℕ, inl, inr, Bool, true, false, true≢false, List, [], ◌∷◌, ◌++◌, length, Option, Some, None, Result, Ok, Err, refl, sym, ap, ◌∙◌, subst, arith, append_assoc, append-nil}
+use Rattle.std.proofs.Common.{◌≡◌, ℕ, inl, inr, Bool, true, false, true≢false, List, [], ◌∷◌, ◌++◌, length, Option, Some, None, Result, Err, refl, sym, ap, ◌∙◌, subst, arith, append_assoc, append-nil}
 use Rattle.std.specs.Io.KnownBytes.{Consumes, IsAtEnd, prepend_known}
 use Rattle.tftp_capture.specs.History.{FailsToBegin, IsReadFault}
 use Rattle.tftp_capture.specs.declared.fault.CaptureFault.{CaptureFault}
@@ -7,7 +7,7 @@ use Rattle.tftp_capture.specs.declared.fault.CaptureFault.TheVariants.{Text, Rea
 use Rattle.tftp_ends.specs.Meaning.{Meaning}
 use Rattle.tftp_judge.specs.TextVerdict.{EndsText, IsTextVerdict, SaysReadFailed}
 use Rattle.tftp_judge.specs.declared.verdict.Verdict.{Verdict}
-use Rattle.tftp_judge.specs.declared.verdict.Verdict.TheVariants.{Capture, Refused}
+use Rattle.tftp_judge.specs.declared.verdict.Verdict.TheVariants.{Capture}
 use Rattle.tftp_judge.proofs.FirstFaults.{MayGoOn, fault_here, fault_longer, kinds, none_in}
 
 -- bytes were taken and some read ahead, none where a read failed or the text has ended

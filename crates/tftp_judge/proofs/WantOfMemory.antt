@@ -3,9 +3,8 @@ use Rattle.std.proofs.Common.{◌≡◌, ℕ, ◌+◌, ◌<◌, ◌≤◌, ◌�
 use Rattle.std.proofs.lemmas.List.Elements.{All-cons, All-head, All-nil, All-tail, All-weaker}
 use Rattle.tftp_capture.specs.CaptureText.{Begins, BeginsWith, Datagram, Due, Header, Numbered, Says, Stands, Unfinished}
 use Rattle.tftp_capture.specs.CaptureText.Due.{Head, EndLine, ServiceLine, Body, Nothing}
-use Rattle.tftp_capture.specs.History.{IsBeingRead, MemoryTells, SaysOneMore}
-use Rattle.tftp_capture.specs.declared.fault.CaptureFault.{CaptureFault}
-use Rattle.tftp_capture.specs.declared.fault.CaptureFault.TheVariants.{Text, Read, Memory}
+use Rattle.tftp_capture.specs.History.{MemoryTells, SaysOneMore}
+use Rattle.tftp_capture.specs.declared.fault.CaptureFault.TheVariants.{Memory}
 use Rattle.tftp_capture.proofs.Beginnings.{agree, begins_more, stands_more}
 use Rattle.tftp_capture.proofs.Texts.{at_ends-after, some_line}
 use Rattle.tftp_capture.proofs.Uniqueness.{snoc_cases}

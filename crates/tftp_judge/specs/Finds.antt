@@ -1,5 +1,5 @@
 -- What is found of one datagram or message, by the rules that it may break.
-use Rattle.std.specs.Prelude.{◌≡◌, ◌+◌, ◌<◌, ℕ, List, ◌∷◌, length, Result, Ok, Err}
+use Rattle.std.specs.Prelude.{◌≡◌, ◌+◌, ◌<◌, List, length, Result, Ok, Err}
 use Rattle.tftp_packet.specs.Message.{Message, Data, Ack}
 use Rattle.tftp_ends.specs.CaptureText.{Datagram, Header}
 use Rattle.tftp_ends.specs.declared.ports.PortFault.{PortFault}

@@ -7,14 +7,14 @@ use crate::meaning::Meaning;
 use crate::verdict::Verdict;
 use std::alloc::Global;
 use std::io::Read;
-use tftp_capture::{CaptureReader, Tallied};
+use tftp_capture::{CaptureReader, Datagram, Tallied};
 use tftp_ends::RingDelivered;
 
 /// What a capture text means, or why it is not accepted, by the runs of two ends (RFC 1350; RFC 2347; RFC 7440): the first
 /// unlawful datagram on the lines before the text's first fault, else that fault, else what there is to say of its
 /// datagrams. A fault is the text's first, a failed read, or want of memory, with its line, counted from 1. Each datagram
-/// is judged when it is read, and nothing is read after a refusal. The text may have 2^40 bytes; held are the blocks and
-/// a line.
+/// is judged when it is read, and nothing is read after a refusal. The text may have 2^40 bytes; held are the blocks, a
+/// line and the datagram on it, into whose memory the next one is read.
 pub fn judge_text<R: Read>(alloc: Global, reader: &mut Tallied<R>) -> Result<Meaning, Verdict>
     requires clean { reader.old.1 ≡ false }
     ensures judged { (read : List ℕ) × Consumes (R.remaining reader.old.0) (R.remaining reader.new.0) read × IsTextVerdict read result }
@@ -25,7 +25,8 @@ pub fn judge_text<R: Read>(alloc: Global, reader: &mut Tallied<R>) -> Result<Mea
 {
     let mut capture = CaptureReader::begin(alloc, reader)?;
     let mut judge: Judge<RingDelivered> = Judge::new(alloc, capture.header());
-    while let Some(datagram) = capture.next(alloc, reader)? {
+    let mut datagram = Datagram::empty(alloc);
+    while capture.next_into(reader, &mut datagram)? {
         judge.feed(alloc, &datagram)?;
     }
     Ok(judge.finish(alloc)?)

@@ -1,11 +1,10 @@
-use Rattle.std.proofs.Common.{◌≡◌, ◌⊎◌, Bool, false, List, [], Ok, Some, None, Err, ap, ◌∙◌, reverse, subst, inl, inr, arith}
+use Rattle.std.proofs.Common.{◌≡◌, ◌⊎◌, Bool, false, [], Ok, refl, ◌∙◌, reverse, subst, inl, inr, arith}
 use Rattle.std.specs.Io.KnownBytes.{prepend_known}
 use Rattle.std.proofs.lemmas.Result.{err_from_is_err_and}
 use Rattle.tftp_capture.specs.History.{IsReadFault, IsReadStanding}
 use Rattle.tftp_judge.specs.Kept.{IsJudgeAfter}
 use Rattle.tftp_judge.specs.TextVerdict.{unnumbered}
-use Rattle.tftp_judge.specs.declared.verdict.Verdict.TheVariants.{Capture}
-use Rattle.tftp_judge.proofs.Follows.{Follows, follows_on, found_fault, found_meaning, found_refused, found_unfinished}
+use Rattle.tftp_judge.proofs.Follows.{follows_on, found_fault, found_meaning, found_refused, found_unfinished}
 use Rattle.tftp_judge.proofs.TextFound.{Found, found_ended, found_judged, found_no_header, found_tally, found_whole}
 use Rattle.tftp_judge.proofs.text.judge_text.Given.{Over}
 use Rattle.tftp_judge.proofs.text.judge_text.Goals as goal
@@ -35,8 +34,8 @@ returns-in_err-capture-clause-whole g c = found_whole _ _ _ _ (no_header g c)
 
 -- ---- the loop
 
-pub loop-judge-init : goal.loop-judge-init
-loop-judge-init g c =
+pub loop-datagram-init : goal.loop-datagram-init
+loop-datagram-init g c =
     let e = c.in_ok-capture.ensures in
     let begun = e.ok in
     record {
@@ -52,53 +51,53 @@ loop-judge-init g c =
       };
     }
 
-pub next-requires : goal.next-requires
-next-requires g c = record { told = λ reads. absurd (subst IsReadStanding c.loop-judge.invariant.goes reads) }
+pub next_into-requires : goal.next_into-requires
+next_into-requires g c = record { told = λ reads. absurd (subst IsReadStanding c.loop-datagram.invariant.goes reads) }
 
 -- the reader has stopped
-stopped : (g : Over) (c : goal.After-drop-capture-inside g) → Found (g.R.Read.remaining c.args.reader.now.0) (g.R.Read.remaining c.next.new.reader.0) c.next.new.reader.1 c.from_residual-in_err-datagram.result
+stopped : (g : Over) (c : goal.After-drop-capture-inside g) → Found (g.R.Read.remaining c.args.reader.now.0) (g.R.Read.remaining c.next_into.new.reader.0) c.next_into.new.reader.1 c.from_residual-in_err-next_into.result
 stopped g c =
-    let p = err_from_is_err_and c.from_residual-in_err-datagram.result c.from_residual-in_err-datagram.ensures.1 in
-    let e = c.in_err-datagram.ensures in
-    let fault = c.in_err-datagram.field-0.0 in
-    let i = c.loop-judge.invariant in
+    let p = err_from_is_err_and c.from_residual-in_err-next_into.result c.from_residual-in_err-next_into.ensures.1 in
+    let e = c.in_err-next_into.ensures in
+    let fault = c.in_err-next_into.field-0.0 in
+    let i = c.loop-datagram.invariant in
     rw (p.1, p.2)
-    (found_fault (g.R.Read.remaining c.args.reader.now.0) (prepend_known c.loop-judge.capture.lines.ahead (g.R.Read.remaining c.loop-judge.reader.0)) (g.R.Read.remaining c.next.new.reader.0) c.loop-judge.capture c.next.new.self
-    c.loop-judge.judge i.goes i.follows fault c.next.new.reader.1 e.continues e.standing (e.cut i.goes) (e.drained i.goes) e.read
-    (clean_or (IsReadFault fault) c.next.new.reader.1 c.loop-judge.reader.1 e.tally i.clean))
+    (found_fault (g.R.Read.remaining c.args.reader.now.0) (prepend_known c.loop-datagram.capture.lines.ahead (g.R.Read.remaining c.loop-datagram.reader.0)) (g.R.Read.remaining c.next_into.new.reader.0) c.loop-datagram.capture c.next_into.new.self
+    c.loop-datagram.judge i.goes i.follows fault c.next_into.new.reader.1 e.continues e.standing (e.cut i.goes) (e.drained i.goes) e.read
+    (clean_or (IsReadFault fault) c.next_into.new.reader.1 c.loop-datagram.reader.1 e.tally i.clean))
 
-pub returns-in_err-datagram-clause-judged : goal.returns-in_err-datagram-clause-judged
-returns-in_err-datagram-clause-judged g c = found_judged _ _ _ _ (stopped g c)
+pub returns-in_err-next_into-clause-judged : goal.returns-in_err-next_into-clause-judged
+returns-in_err-next_into-clause-judged g c = found_judged _ _ _ _ (stopped g c)
 
-pub returns-in_err-datagram-clause-ended : goal.returns-in_err-datagram-clause-ended
-returns-in_err-datagram-clause-ended g c = found_ended _ _ _ _ (stopped g c)
+pub returns-in_err-next_into-clause-ended : goal.returns-in_err-next_into-clause-ended
+returns-in_err-next_into-clause-ended g c = found_ended _ _ _ _ (stopped g c)
 
-pub returns-in_err-datagram-clause-tally : goal.returns-in_err-datagram-clause-tally
-returns-in_err-datagram-clause-tally g c = found_tally _ _ _ _ (stopped g c)
+pub returns-in_err-next_into-clause-tally : goal.returns-in_err-next_into-clause-tally
+returns-in_err-next_into-clause-tally g c = found_tally _ _ _ _ (stopped g c)
 
-pub returns-in_err-datagram-clause-whole : goal.returns-in_err-datagram-clause-whole
-returns-in_err-datagram-clause-whole g c = found_whole _ _ _ _ (stopped g c)
+pub returns-in_err-next_into-clause-whole : goal.returns-in_err-next_into-clause-whole
+returns-in_err-next_into-clause-whole g c = found_whole _ _ _ _ (stopped g c)
 
 -- ---- a datagram was read
 
 pub feed-requires : goal.feed-requires
 feed-requires g c =
-    let rises = rw c.in-Some.is at c.in_ok-datagram.ensures.rises in
+    let rises = rw c.if-branch.true at c.in_ok-next_into.ensures.rises in
     record {
-      few = omega (arith, c.loop-judge.invariant.lines, rises, c.in_ok-datagram.ensures.line);
-      short = rw c.in-Some.is at c.in_ok-datagram.ensures.fits;
+      few = omega (arith, c.loop-datagram.invariant.lines, rises, c.in_ok-next_into.ensures.line);
+      short = rw c.if-branch.true at c.in_ok-next_into.ensures.fits;
     }
 
 -- the judge has refused it
-refused : (g : Over) (c : goal.After-drop-capture-inside-in_err-feed g) → Found (g.R.Read.remaining c.args.reader.now.0) (g.R.Read.remaining c.next.new.reader.0) c.next.new.reader.1 c.from_residual-in_err-feed.result
+refused : (g : Over) (c : goal.After-drop-capture-inside-in_err-feed g) → Found (g.R.Read.remaining c.args.reader.now.0) (g.R.Read.remaining c.next_into.new.reader.0) c.next_into.new.reader.1 c.from_residual-in_err-feed.result
 refused g c =
     let p = err_from_is_err_and c.from_residual-in_err-feed.result c.from_residual-in_err-feed.ensures.1 in
-    let e = c.in_ok-datagram.ensures in
-    let i = c.loop-judge.invariant in
+    let e = c.in_ok-next_into.ensures in
+    let i = c.loop-datagram.invariant in
     rw (p.1, p.2)
-    (found_refused (g.R.Read.remaining c.args.reader.now.0) (prepend_known c.loop-judge.capture.lines.ahead (g.R.Read.remaining c.loop-judge.reader.0)) (g.R.Read.remaining c.next.new.reader.0) c.loop-judge.capture c.next.new.self
-    c.loop-judge.judge i.goes i.follows c.in-Some.datagram (rw c.in-Some.is at e.continues) (rw c.in-Some.is at e.standing) e.header c.in_err-feed.field-0.0 c.next.new.reader.1
-    (still_clean c.next.new.reader.1 c.loop-judge.reader.1 e.tally i.clean) (c.in_err-feed.ensures.refuses c.loop-judge.capture.header (reverse (unnumbered i.follows.datagrams)) i.follows.accepted))
+    (found_refused (g.R.Read.remaining c.args.reader.now.0) (prepend_known c.loop-datagram.capture.lines.ahead (g.R.Read.remaining c.loop-datagram.reader.0)) (g.R.Read.remaining c.next_into.new.reader.0) c.loop-datagram.capture c.next_into.new.self
+    c.loop-datagram.judge i.goes i.follows c.next_into.new.datagram (rw c.if-branch.true at e.continues) (rw c.if-branch.true at e.standing) e.header c.in_err-feed.field-0.0 c.next_into.new.reader.1
+    (still_clean c.next_into.new.reader.1 c.loop-datagram.reader.1 (rw c.if-branch.true at e.tally) i.clean) (c.in_err-feed.ensures.refuses c.loop-datagram.capture.header (reverse (unnumbered i.follows.datagrams)) i.follows.accepted))
 
 pub returns-in_err-feed-clause-judged : goal.returns-in_err-feed-clause-judged
 returns-in_err-feed-clause-judged g c = found_judged _ _ _ _ (refused g c)
@@ -112,38 +111,38 @@ returns-in_err-feed-clause-tally g c = found_tally _ _ _ _ (refused g c)
 pub returns-in_err-feed-clause-whole : goal.returns-in_err-feed-clause-whole
 returns-in_err-feed-clause-whole g c = found_whole _ _ _ _ (refused g c)
 
-pub loop-judge-smaller : goal.loop-judge-smaller
-loop-judge-smaller g c =
-    let rises = rw c.in-Some.is at c.in_ok-datagram.ensures.rises in
-    omega (arith, rises, c.in_ok-datagram.ensures.line)
+pub loop-datagram-smaller : goal.loop-datagram-smaller
+loop-datagram-smaller g c =
+    let rises = rw c.if-branch.true at c.in_ok-next_into.ensures.rises in
+    omega (arith, rises, c.in_ok-next_into.ensures.line)
 
-pub loop-judge-preserved : goal.loop-judge-preserved
-loop-judge-preserved g c =
-    let e = c.in_ok-datagram.ensures in
-    let i = c.loop-judge.invariant in
-    let rises = rw c.in-Some.is at e.rises in
-    let ready = rw c.in-Some.is at e.standing in
+pub loop-datagram-preserved : goal.loop-datagram-preserved
+loop-datagram-preserved g c =
+    let e = c.in_ok-next_into.ensures in
+    let i = c.loop-datagram.invariant in
+    let rises = rw c.if-branch.true at e.rises in
+    let ready = rw c.if-branch.true at e.standing in
     record {
       goes = ready;
-      clean = still_clean c.next.new.reader.1 c.loop-judge.reader.1 e.tally i.clean;
+      clean = still_clean c.next_into.new.reader.1 c.loop-datagram.reader.1 (rw c.if-branch.true at e.tally) i.clean;
       lines = omega (arith, i.lines, rises, c.in_ok-feed.ensures.counts);
-      follows = follows_on (g.R.Read.remaining c.args.reader.now.0) (prepend_known c.loop-judge.capture.lines.ahead (g.R.Read.remaining c.loop-judge.reader.0)) (g.R.Read.remaining c.next.new.reader.0) c.loop-judge.capture c.next.new.self
-          c.loop-judge.judge i.goes i.follows c.in-Some.datagram (rw c.in-Some.is at e.continues) ready e.header c.feed.new.self
-          (c.in_ok-feed.ensures.accepts c.loop-judge.capture.header (reverse (unnumbered i.follows.datagrams)) i.follows.accepted).1;
+      follows = follows_on (g.R.Read.remaining c.args.reader.now.0) (prepend_known c.loop-datagram.capture.lines.ahead (g.R.Read.remaining c.loop-datagram.reader.0)) (g.R.Read.remaining c.next_into.new.reader.0) c.loop-datagram.capture c.next_into.new.self
+          c.loop-datagram.judge i.goes i.follows c.next_into.new.datagram (rw c.if-branch.true at e.continues) ready e.header c.feed.new.self
+          (c.in_ok-feed.ensures.accepts c.loop-datagram.capture.header (reverse (unnumbered i.follows.datagrams)) i.follows.accepted).1;
     }
 
 -- ---- the text has ended
 
-unfinished : (g : Over) (c : goal.After-drop-capture-inside-in_err-finish g) → Found (g.R.Read.remaining c.args.reader.now.0) (g.R.Read.remaining c.next.new.reader.0) c.next.new.reader.1 c.from_residual-in_err-finish.result
+unfinished : (g : Over) (c : goal.After-drop-capture-inside-in_err-finish g) → Found (g.R.Read.remaining c.args.reader.now.0) (g.R.Read.remaining c.next_into.new.reader.0) c.next_into.new.reader.1 c.from_residual-in_err-finish.result
 unfinished g c =
     let p = err_from_is_err_and c.from_residual-in_err-finish.result c.from_residual-in_err-finish.ensures.1 in
-    let e = c.in_ok-datagram.ensures in
-    let i = c.loop-judge.invariant in
-    let none = c.in_default.is in
+    let e = c.in_ok-next_into.ensures in
+    let i = c.loop-datagram.invariant in
+    let none = c.if-branch.false in
     rw (p.1, p.2)
-    (found_unfinished (g.R.Read.remaining c.args.reader.now.0) (prepend_known c.loop-judge.capture.lines.ahead (g.R.Read.remaining c.loop-judge.reader.0)) (g.R.Read.remaining c.next.new.reader.0) c.loop-judge.capture c.next.new.self
-    c.loop-judge.judge i.goes i.follows (rw none at e.continues) (rw none at e.standing) e.header (e.end i.goes (ap Ok none)) c.next.new.reader.1
-    (still_clean c.next.new.reader.1 c.loop-judge.reader.1 e.tally i.clean) c.in_err-finish.field-0.0 c.in_err-finish.ensures.verdict)
+    (found_unfinished (g.R.Read.remaining c.args.reader.now.0) (prepend_known c.loop-datagram.capture.lines.ahead (g.R.Read.remaining c.loop-datagram.reader.0)) (g.R.Read.remaining c.next_into.new.reader.0) c.loop-datagram.capture c.next_into.new.self
+    c.loop-datagram.judge i.goes i.follows (rw none at e.continues) (rw none at e.standing) e.header ((rw none at e.end) i.goes refl) c.next_into.new.reader.1
+    (still_clean c.next_into.new.reader.1 c.loop-datagram.reader.1 (rw none at e.tally) i.clean) c.in_err-finish.field-0.0 c.in_err-finish.ensures.verdict)
 
 pub returns-in_err-finish-clause-judged : goal.returns-in_err-finish-clause-judged
 returns-in_err-finish-clause-judged g c = found_judged _ _ _ _ (unfinished g c)
@@ -157,14 +156,14 @@ returns-in_err-finish-clause-tally g c = found_tally _ _ _ _ (unfinished g c)
 pub returns-in_err-finish-clause-whole : goal.returns-in_err-finish-clause-whole
 returns-in_err-finish-clause-whole g c = found_whole _ _ _ _ (unfinished g c)
 
-meant : (g : Over) (c : goal.After-drop-capture-inside-2 g) → Found (g.R.Read.remaining c.args.reader.now.0) (g.R.Read.remaining c.next.new.reader.0) c.next.new.reader.1 (Ok c.in_ok-finish.field-0)
+meant : (g : Over) (c : goal.After-drop-capture-inside-2 g) → Found (g.R.Read.remaining c.args.reader.now.0) (g.R.Read.remaining c.next_into.new.reader.0) c.next_into.new.reader.1 (Ok c.in_ok-finish.field-0)
 meant g c =
-    let e = c.in_ok-datagram.ensures in
-    let i = c.loop-judge.invariant in
-    let none = c.in_default.is in
-    found_meaning (g.R.Read.remaining c.args.reader.now.0) (prepend_known c.loop-judge.capture.lines.ahead (g.R.Read.remaining c.loop-judge.reader.0)) (g.R.Read.remaining c.next.new.reader.0) c.loop-judge.capture c.next.new.self
-    c.loop-judge.judge i.goes i.follows (rw none at e.continues) (rw none at e.standing) e.header (e.end i.goes (ap Ok none)) c.next.new.reader.1
-    (still_clean c.next.new.reader.1 c.loop-judge.reader.1 e.tally i.clean) c.in_ok-finish.field-0 c.in_ok-finish.ensures.verdict
+    let e = c.in_ok-next_into.ensures in
+    let i = c.loop-datagram.invariant in
+    let none = c.if-branch.false in
+    found_meaning (g.R.Read.remaining c.args.reader.now.0) (prepend_known c.loop-datagram.capture.lines.ahead (g.R.Read.remaining c.loop-datagram.reader.0)) (g.R.Read.remaining c.next_into.new.reader.0) c.loop-datagram.capture c.next_into.new.self
+    c.loop-datagram.judge i.goes i.follows (rw none at e.continues) (rw none at e.standing) e.header ((rw none at e.end) i.goes refl) c.next_into.new.reader.1
+    (still_clean c.next_into.new.reader.1 c.loop-datagram.reader.1 (rw none at e.tally) i.clean) c.in_ok-finish.field-0 c.in_ok-finish.ensures.verdict
 
 pub returns-clause-judged : goal.returns-clause-judged
 returns-clause-judged g c = found_judged _ _ _ _ (meant g c)

@@ -1,6 +1,6 @@
 use Rattle.std.specs.Prelude.{is_some}
 use Rattle.tftp_law.specs.declared.by.By.{By}
-use Rattle.std.proofs.Common.{◌≡◌, ℕ, List, ◌∷◌, true, false, true≢false, Option, None, Some, refl, sym, subst, ap, ◌∙◌}
+use Rattle.std.proofs.Common.{◌≡◌, ℕ, true, false, true≢false, Option, None, Some, sym, subst, ap, ◌∙◌}
 use Rattle.tftp_packet.specs.Message.{Message}
 use Rattle.tftp_law.specs.Aborted.{by_of as by_way}
 use Rattle.tftp_law.specs.Rules.{GoesOn}

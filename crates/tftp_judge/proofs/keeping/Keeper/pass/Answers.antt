@@ -1,11 +1,9 @@
-use Rattle.std.proofs.Common.{◌≡◌, ◌≢◌, true, false, List, ◌∷◌, Err, inl, inr, refl, sym, subst, ap, ◌∙◌}
+use Rattle.std.proofs.Common.{◌≡◌, true, ◌∷◌, Err, inl, inr, refl, sym, subst, ap, ◌∙◌}
 use Rattle.std.proofs.lemmas.Bool.{false≢true}
 use Rattle.tftp_packet.specs.Faults.{opcode_of}
 use Rattle.tftp_capture.specs.Fields.{datagram_of, header_of}
-use Rattle.tftp_ends.specs.CaptureText.{Datagram, Header}
 use Rattle.tftp_ends.specs.KnownIds.{KnownIds, StandsFor, HasNumbers}
 use Rattle.tftp_ends.specs.Ports.{is_of_transfer}
-use Rattle.tftp_ends.specs.declared.route.Route.{Route}
 use Rattle.tftp_judge.specs.Finds.{FindsOf}
 use Rattle.tftp_judge.specs.declared.stop.Stop.{Stop}
 use Rattle.tftp_judge.specs.Kept.{Keeper, IsKept}
