@@ -12,8 +12,9 @@ pub struct Meaning {
 
 impl Model for Meaning {
     ghost use Rattle.std.specs.Prelude.{◌≡◌};
-    ghost use Rattle.tftp_ends.specs.Meaning.{Meaning as Parts};
-    ghost use Rattle.tftp_law.specs.CanBeWritten.{blocks_of, CanBeWritten};
+    ghost use Rattle.tftp_ends.specs.Blocks.{block_count};
+    ghost use Rattle.tftp_ends.specs.Meaning.{Meaning as Parts, blksize_of};
+    ghost use Rattle.tftp_law.specs.Fits.{written_wire};
     ghost use Rattle.tftp_law.specs.Owned.{meaning_code, meaning_from};
 
     ghost Value = { Parts };
@@ -22,19 +23,19 @@ impl Model for Meaning {
 
     ghost view = { λ m. meaning_from (m.request, (m.agreed, m.file)) };
 
-    ghost invariant = { λ m. CanBeWritten (meaning_from (m.request, (m.agreed, m.file))) × (m.blocks ≡ blocks_of (meaning_from (m.request, (m.agreed, m.file)))) };
+    ghost invariant = { λ m. m.blocks ≡ block_count (blksize_of (meaning_from (m.request, (m.agreed, m.file)))) (written_wire m.request.mode m.file) };
 }
 
 impl Meaning {
     ghost use Rattle.std.specs.Prelude.{◌≡◌};
-    ghost use Rattle.tftp_ends.specs.Meaning.{request_of};
-    ghost use Rattle.tftp_law.specs.CanBeWritten.{blocks_of, CanBeWritten};
+    ghost use Rattle.tftp_ends.specs.Blocks.{block_count};
+    ghost use Rattle.tftp_ends.specs.Meaning.{blksize_of, request_of};
+    ghost use Rattle.tftp_law.specs.Fits.{written_wire};
     ghost use Rattle.tftp_law.specs.Owned.{meaning_from};
 
     /// Takes the parts over, and no memory. The number of the blocks is that of the canonical wire.
     pub(crate) fn of(request: Request, agreed: Options, file: Vec<u8>, blocks: u16) -> Self
-        requires can { CanBeWritten (meaning_from (request, (agreed, file.items))) }
-        requires counted { blocks ≡ blocks_of (meaning_from (request, (agreed, file.items))) }
+        requires counted { blocks ≡ block_count (blksize_of (meaning_from (request, (agreed, file.items)))) (written_wire request.mode file.items) }
         ensures { result ≡ meaning_from (request, (agreed, file.items)) }
     {
         Meaning {
@@ -70,12 +71,10 @@ impl Meaning {
     }
 
     /// How many blocks the canonical wire of the file has, the last one too (RFC 1350, section 2), which may be other than
-    /// those that came: in netascii a file has several wires. Whatever is meant can be written: the file fits on that wire,
-    /// and each of its packets goes into a datagram.
+    /// those that came: in netascii a file has several wires.
     #[inline]
     pub fn blocks(&self) -> u16
-        ensures count { result ≡ blocks_of self.now }
-        ensures can { CanBeWritten self.now }
+        ensures { result ≡ block_count (blksize_of self.now) (written_wire self.now.mode self.now.file) }
     {
         self.blocks
     }
