@@ -1,142 +1,129 @@
 -- What is printed, by the words.
-use Rattle.std.proofs.Common.{◌≡◌, ◌≢◌, ◌<◌, ◌⊎◌, inl, inr, ℕ, List, [], ◌∷◌, length, Bool, false, true≢false, Result, Ok, Err, codes, refl, sym, ap, ◌∙◌, arith}
-use Rattle.std.proofs.lemmas.List.Elements.{All-head}
-use Rattle.tftp_capture.specs.CaptureText.{Numbered}
-use Rattle.tftp_capture.specs.declared.fault.CaptureFault.TheVariants.{Memory}
+use Rattle.std.proofs.Common.{◌≡◌, ◌≢◌, ◌⊎◌, inl, inr, ℕ, List, [], ◌∷◌, length, Bool, false, Result, Ok, Err, codes, nat_eq, if◌then◌else◌, refl, sym, ap, ◌∙◌, subst, arith}
 use Rattle.tftp_commands.specs.declared.status.Status.TheVariants as status
 use Rattle.tftp_commands.specs.declared.words.Action.{Action}
-use Rattle.tftp_commands.specs.declared.words.Action.TheVariants.{Check, Show, Extract}
+use Rattle.tftp_commands.specs.declared.words.Action.TheVariants.{Check, Extract, Normal, Show, Count}
 use Rattle.tftp_commands.specs.declared.words.UsageFault.{UsageFault}
 use Rattle.tftp_commands.specs.declared.words.UsageFault.TheVariants as usage
-use Rattle.tftp_judge.specs.TextVerdict.{LawfulBefore}
-use Rattle.tftp_judge.specs.declared.verdict.Verdict.TheVariants.{Capture}
-use Rattle.tftp_law.proofs.Beginnings.{empty_is_lawful}
-use Rattle.tftp_commands.specs.Checked.{IsChecked}
-use Rattle.tftp_commands.specs.Extracted.{IsExtracted}
-use Rattle.tftp_commands.specs.Judged.{IsJudged}
 use Rattle.tftp_commands.specs.Output.{Output, memory_line, usage_line}
-use Rattle.tftp_commands.specs.Run.{IsOutput}
-use Rattle.tftp_commands.specs.Shown.{Faulty, IsShown}
+use Rattle.tftp_commands.specs.Run.{IsOutput, IsOutputOf}
 use Rattle.tftp_commands.specs.Source.{Source}
-use Rattle.tftp_commands.specs.Words.{IsCommand, IsNoCommand, memory_fault, name_of}
+use Rattle.tftp_commands.specs.Words.{IsCommand, IsNoCommand, IsQuiet, memory_fault, name_of}
+use Rattle.tftp_commands.proofs.Memory.{memory_said, silent_said}
 
--- how long the second word is
-abbrev second_length : List (List ℕ) → ℕ
-second_length [] = 0
-second_length (a ∷ []) = 0
-second_length (a ∷ b ∷ words) = length b
+-- ---- no words are two commands
 
-abbrev name_length : Action → ℕ
-name_length a = length (name_of a)
+abbrev second : List (List ℕ) → List ℕ
+second [] = []
+second (a ∷ []) = []
+second (a ∷ b ∷ words) = b
 
--- no words are two commands
-apart : (words : List (List ℕ)) (a b : Action) → name_length a ≢ name_length b → IsCommand a words → IsCommand b words → ⊥
-apart words a b other one two = other (ap second_length (sym one.1 ∙ two.1))
+-- the third letters of the commands differ
+abbrev third : List ℕ → ℕ
+third [] = 0
+third (a ∷ []) = 0
+third (a ∷ b ∷ []) = 0
+third (a ∷ b ∷ c ∷ word) = c
 
-pub check_output : (words : List (List ℕ)) (source : Source) (cut : Bool) (output : Output) → IsCommand Check words → IsChecked source output → IsOutput words source cut output
-check_output words source cut output is h = record {
-  check = λ _. h;
-  show = λ other. absurd (apart words Check Show (λ e. omega (arith, e)) is other);
-  extract = λ other. absurd (apart words Check Extract (λ e. omega (arith, e)) is other);
-  none = λ none. absurd (none Check is);
-}
+abbrev by_third : ℕ → Action
+by_third letter = if nat_eq letter 101 then Check else if nat_eq letter 116 then Extract else if nat_eq letter 114 then Normal else if nat_eq letter 111 then Show else Count
 
-pub show_output : (words : List (List ℕ)) (source : Source) (cut : Bool) (output : Output) → IsCommand Show words → IsShown source cut output → IsOutput words source cut output
-show_output words source cut output is h = record {
-  check = λ other. absurd (apart words Check Show (λ e. omega (arith, e)) other is);
-  show = λ _. h;
-  extract = λ other. absurd (apart words Show Extract (λ e. omega (arith, e)) is other);
-  none = λ none. absurd (none Show is);
-}
+told_by_third : (a : Action) → by_third (third (name_of a)) ≡ a
+told_by_third Check = refl
+told_by_third Extract = refl
+told_by_third Normal = refl
+told_by_third Show = refl
+told_by_third Count = refl
 
-pub extract_output : (words : List (List ℕ)) (source : Source) (cut : Bool) (output : Output) → IsCommand Extract words → IsExtracted source output → IsOutput words source cut output
-extract_output words source cut output is h = record {
-  check = λ other. absurd (apart words Check Extract (λ e. omega (arith, e)) other is);
-  show = λ other. absurd (apart words Show Extract (λ e. omega (arith, e)) other is);
-  extract = λ _. h;
-  none = λ none. absurd (none Extract is);
+one_command : (words : List (List ℕ)) (a b : Action) → IsCommand a words → IsCommand b words → a ≡ b
+one_command words a b one two = sym (told_by_third a) ∙ ap (λ ws. by_third (third (second ws))) (sym one.1 ∙ two.1) ∙ told_by_third b
+
+-- ---- the output
+
+pub command_output : (a : Action) (words : List (List ℕ)) (source : Source) (cut : Bool) (output : Output) → IsCommand a words → IsOutputOf a source cut output → IsOutput words source cut output
+command_output a words source cut output is h = record {
+  command = λ b other. subst (λ x. IsOutputOf x source cut output) (one_command words a b is other) h;
+  none = λ none. absurd (none a is);
 }
 
 pub usage_output : (words : List (List ℕ)) (source : Source) (cut : Bool) → IsNoCommand words → IsOutput words source cut (record { bytes = usage_line; status = status.Fault })
-usage_output words source cut none = record {
-  check = λ is. absurd (none Check is);
-  show = λ is. absurd (none Show is);
-  extract = λ is. absurd (none Extract is);
-  none = λ _. inl refl;
-}
+usage_output words source cut none = record { command = λ a is. absurd (none a is); none = λ _. inl refl }
 
--- ---- want of memory before anything is read
-
-no_line_before : (text : List ℕ) → LawfulBefore text 0
-no_line_before text h [] begins before = empty_is_lawful h
-no_line_before text h (d ∷ ds) begins before = absurd (omega (arith, All-head (λ (x : Numbered). x.0 < 0) d ds before))
-
-memory_judged : (source : Source) → source.failed ≡ false → IsJudged source (Err (Capture (Memory 0)))
-memory_judged source clean = record {
-  is_said = no_line_before source.read;
-  at_end = λ h. absurd h;
-  failed = (λ h. absurd h, λ is. absurd (true≢false (sym is ∙ clean)));
-}
-
-memory_checked : (source : Source) → source.failed ≡ false → IsChecked source (record { bytes = memory_line; status = status.Fault })
-memory_checked source clean = record { said = Err (Capture (Memory 0)); judged = memory_judged source clean; is = refl }
-
-memory_extracted : (source : Source) → source.failed ≡ false → IsExtracted source (record { bytes = []; status = status.Fault })
-memory_extracted source clean = record { said = Err (Capture (Memory 0)); judged = memory_judged source clean; is = refl }
-
-memory_shown : (source : Source) (cut : Bool) → source.failed ≡ false → IsShown source cut (record { bytes = memory_line; status = status.Fault })
-memory_shown source cut clean = record {
-  datagrams = [];
-  ending = Faulty (Memory 0);
-  lines = [];
-  are = refl;
-  ends = (inl refl, clean);
-  is = refl;
-}
-
-pub memory_output : (words : List (List ℕ)) (source : Source) (cut : Bool) → length words ≡ 2 → (IsCommand Extract words → ⊥) → source.failed ≡ false → IsOutput words source cut (record { bytes = memory_line; status = status.Fault })
-memory_output words source cut two other clean = record {
-  check = λ _. memory_checked source clean;
-  show = λ _. memory_shown source cut clean;
-  extract = λ is. absurd (other is);
+pub memory_output : (words : List (List ℕ)) (source : Source) (cut : Bool) → length words ≡ 2 → ((a : Action) → IsCommand a words → memory_fault a ≡ usage.Memory) → source.failed ≡ false
+    → IsOutput words source cut (record { bytes = memory_line; status = status.Fault })
+memory_output words source cut two told clean = record {
+  command = λ a is. memory_said a source cut (told a is) clean;
   none = λ _. inr (two, refl);
 }
 
-pub silent_output : (words : List (List ℕ)) (source : Source) (cut : Bool) → IsCommand Extract words → source.failed ≡ false → IsOutput words source cut (record { bytes = []; status = status.Fault })
-silent_output words source cut is clean = extract_output words source cut (record { bytes = []; status = status.Fault }) is (memory_extracted source clean)
+pub silent_output : (a : Action) (words : List (List ℕ)) (source : Source) (cut : Bool) → IsCommand a words → memory_fault a ≡ usage.Silent → source.failed ≡ false
+    → IsOutput words source cut (record { bytes = []; status = status.Fault })
+silent_output a words source cut is told clean = command_output a words source cut (record { bytes = []; status = status.Fault }) is (silent_said a source cut told clean)
 
 -- ---- by the fault of the words
 
-one_fault : (r : Result Action UsageFault) (f g : UsageFault) → r ≡ Err f → r ≡ Err g → f ≡ g
-one_fault r f g one other = cc
+abbrev Only : List (List ℕ) → Result Action UsageFault → Type 0
+Only words r = (a : Action) → IsCommand a words → (r ≡ Ok a) ⊎ (r ≡ Err (memory_fault a))
 
 -- a fault of the words is no want of memory
 no_memory : (a : Action) → usage.Usage ≡ memory_fault a → ⊥
 no_memory Check e = cc
-no_memory Show e = cc
 no_memory Extract e = cc
+no_memory Normal e = cc
+no_memory Show e = cc
+no_memory Count e = cc
+
+one_fault : (r : Result Action UsageFault) (f g : UsageFault) → r ≡ Err f → r ≡ Err g → f ≡ g
+one_fault r f g one other = cc
 
 -- nor a command
-neither : (r : Result Action UsageFault) (a : Action) → r ≡ Err usage.Usage → (r ≡ Ok a) ⊎ (r ≡ Err (memory_fault a)) → ⊥
-neither r a e (inl f) = cc
-neither r a e (inr f) = no_memory a (one_fault r usage.Usage (memory_fault a) e f)
+no_action : (r : Result Action UsageFault) (a : Action) (f : UsageFault) → r ≡ Err f → r ≡ Ok a → ⊥
+no_action r a f e other = cc
 
-pub no_command : (words : List (List ℕ)) (r : Result Action UsageFault) → r ≡ Err usage.Usage → ((a : Action) → IsCommand a words → (r ≡ Ok a) ⊎ (r ≡ Err (memory_fault a))) → IsNoCommand words
-no_command words r e only a is = neither r a e (only a is)
+pub no_command : (words : List (List ℕ)) (r : Result Action UsageFault) → r ≡ Err usage.Usage → Only words r → IsNoCommand words
+no_command words r e only a is = elim (only a is) [
+  | inl other ↦ no_action r a usage.Usage e other
+  | inr other ↦ no_memory a (one_fault r usage.Usage (memory_fault a) e other)
+]
 
-no_memory_line : (r : Result Action UsageFault) → r ≡ Err usage.Memory → (r ≡ Ok Extract) ⊎ (r ≡ Err usage.Silent) → ⊥
-no_memory_line r e (inl f) = cc
-no_memory_line r e (inr f) = cc
+-- the words of a command for which memory was wanting are those of one that says so
+pub memory_told : (words : List (List ℕ)) (r : Result Action UsageFault) → r ≡ Err usage.Memory → Only words r → (a : Action) → IsCommand a words → memory_fault a ≡ usage.Memory
+memory_told words r e only a is = elim (only a is) [
+  | inl other ↦ absurd (no_action r a usage.Memory e other)
+  | inr other ↦ one_fault r (memory_fault a) usage.Memory other e
+]
 
--- want of memory is not said of a file
-pub no_file : (words : List (List ℕ)) (r : Result Action UsageFault) → r ≡ Err usage.Memory → ((a : Action) → IsCommand a words → (r ≡ Ok a) ⊎ (r ≡ Err (memory_fault a))) → IsCommand Extract words → ⊥
-no_file words r e only is = no_memory_line r e (only Extract is)
+-- the command that the words name is the only one
+pub only_named : (a : Action) (words : List (List ℕ)) → IsCommand a words → Only words (Ok a)
+only_named a words is b other = inl (ap Ok (one_command words a b is other))
+
+-- a word that is no command's name
+pub no_name : (a : Action) (word : List ℕ) → word ≡ name_of a → word ≢ codes "check" → word ≢ codes "extract" → word ≢ codes "normal" → word ≢ codes "show" → word ≢ codes "count" → ⊥
+no_name Check word is check extract normal show count = check is
+no_name Extract word is check extract normal show count = extract is
+no_name Normal word is check extract normal show count = normal is
+no_name Show word is check extract normal show count = show is
+no_name Count word is check extract normal show count = count is
 
 -- how want of memory is told, by the word
-pub told_as : (a : Action) (r : UsageFault) (word : List ℕ) → word ≡ name_of a → (word ≡ codes "extract" → r ≡ usage.Silent) → (word ≢ codes "extract" → r ≡ usage.Memory) → r ≡ memory_fault a
-told_as Check r word is silent memory = memory (λ e. omega (arith, ap length (sym is ∙ e)))
-told_as Show r word is silent memory = memory (λ e. omega (arith, ap length (sym is ∙ e)))
-told_as Extract r word is silent memory = silent is
+
+other_length : (word name : List ℕ) → word ≡ name → length name ≢ 7 → length name ≢ 6 → IsQuiet word → ⊥
+other_length word name is seven six quiet = elim quiet [
+  | inl extract ↦ seven (sym (ap length is) ∙ ap length extract)
+  | inr normal ↦ six (sym (ap length is) ∙ ap length normal)
+]
+
+pub told_as : (a : Action) (r : UsageFault) (word : List ℕ) → word ≡ name_of a → (IsQuiet word → r ≡ usage.Silent) → ((IsQuiet word → ⊥) → r ≡ usage.Memory) → r ≡ memory_fault a
+told_as Check r word is silent memory = memory (other_length word (codes "check") is (λ e. omega (arith, e)) (λ e. omega (arith, e)))
+told_as Extract r word is silent memory = silent (inl is)
+told_as Normal r word is silent memory = silent (inr is)
+told_as Show r word is silent memory = memory (other_length word (codes "show") is (λ e. omega (arith, e)) (λ e. omega (arith, e)))
+told_as Count r word is silent memory = memory (other_length word (codes "count") is (λ e. omega (arith, e)) (λ e. omega (arith, e)))
+
+-- the command that a quiet word names
+pub quiet_command : (words : List (List ℕ)) (word : List ℕ) → IsQuiet word → (p : List ℕ) × (words ≡ p ∷ word ∷ []) → (a : Action) × IsCommand a words × (memory_fault a ≡ usage.Silent)
+quiet_command words word (inl extract) (p, are) = (Extract, (p, are ∙ ap (λ w. p ∷ w ∷ []) extract), refl)
+quiet_command words word (inr normal) (p, are) = (Normal, (p, are ∙ ap (λ w. p ∷ w ∷ []) normal), refl)
 
 pub same_word : (words : List (List ℕ)) (p q x y : List ℕ) → words ≡ p ∷ x ∷ [] → words ≡ q ∷ y ∷ [] → x ≡ y
 same_word words p q x y one other = cc

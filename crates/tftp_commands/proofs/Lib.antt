@@ -1,4 +1,5 @@
 pub mod Named
+pub mod Memory
 pub mod Commands
 pub mod Written
 pub mod FaultLines
@@ -7,3 +8,4 @@ pub mod Showing
 pub mod Unlawful
 pub mod AbortedLine
 pub mod Extracting
+pub mod Normalising

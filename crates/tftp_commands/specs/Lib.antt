@@ -6,4 +6,6 @@ pub mod Shown
 pub mod Judged
 pub mod Checked
 pub mod Extracted
+pub mod Normalised
+pub mod Counted
 pub mod Run

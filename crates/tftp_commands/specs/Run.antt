@@ -1,13 +1,24 @@
 -- What a run of the program writes, by its words and by what it was given.
 use Rattle.std.specs.Prelude.{◌≡◌, ◌⊎◌, ℕ, List, Bool, length}
 use Rattle.tftp_commands.specs.declared.status.Status.TheVariants as status
-use Rattle.tftp_commands.specs.declared.words.Action.TheVariants.{Check, Show, Extract}
+use Rattle.tftp_commands.specs.declared.words.Action.{Action}
+use Rattle.tftp_commands.specs.declared.words.Action.TheVariants.{Check, Extract, Normal, Show, Count}
 use Rattle.tftp_commands.specs.Checked.{IsChecked}
+use Rattle.tftp_commands.specs.Counted.{IsCounted}
 use Rattle.tftp_commands.specs.Extracted.{IsExtracted}
+use Rattle.tftp_commands.specs.Normalised.{IsNormalised}
 use Rattle.tftp_commands.specs.Output.{Output, memory_line, usage_line}
 use Rattle.tftp_commands.specs.Shown.{IsShown}
 use Rattle.tftp_commands.specs.Source.{Source}
 use Rattle.tftp_commands.specs.Words.{IsCommand, IsNoCommand}
+
+-- the output that there may be of a command, where `cut` says whether a write failed
+abbrev pub IsOutputOf : Action → Source → Bool → Output → Type 0
+IsOutputOf Check source cut output = IsChecked source output
+IsOutputOf Extract source cut output = IsExtracted source output
+IsOutputOf Normal source cut output = IsNormalised source output
+IsOutputOf Show source cut output = IsShown source cut output
+IsOutputOf Count source cut output = IsCounted source output
 
 -- that the words are no command; where they are two, for which a parse is needed, perhaps want of memory
 abbrev pub IsRefused : List (List ℕ) → Output → Type 0
@@ -15,9 +26,7 @@ IsRefused words output =
     (output ≡ record { bytes = usage_line; status = status.Fault })
     ⊎ ((length words ≡ 2) × (output ≡ record { bytes = memory_line; status = status.Fault }))
 
--- the output that there may be, where `cut` says whether a write failed
+-- the output that there may be of the words
 pub record IsOutput (words : List (List ℕ)) (source : Source) (cut : Bool) (output : Output) : Type 0 where
-  pub check : IsCommand Check words → IsChecked source output
-  pub show : IsCommand Show words → IsShown source cut output
-  pub extract : IsCommand Extract words → IsExtracted source output
+  pub command : (action : Action) → IsCommand action words → IsOutputOf action source cut output
   pub none : IsNoCommand words → IsRefused words output

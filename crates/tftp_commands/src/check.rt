@@ -44,7 +44,8 @@ fn say_accepted<W: Write>(writer: &mut Tallied<W>, meaning: &Meaning) -> Status
     }
 }
 
-fn say_verdict<W: Write>(writer: &mut Tallied<W>, verdict: Verdict) -> Status
+/// Says why a text is not accepted.
+pub fn say_verdict<W: Write>(writer: &mut Tallied<W>, verdict: Verdict) -> Status
     requires { writer.old.1 ≡ false }
     ensures { IsWritten (W.contents writer.old.0) (W.contents writer.new.0) writer.new.1 (checked (Err verdict)) result }
 {

@@ -1,10 +1,12 @@
-//! The commands of the auditor: words and a capture text in, lines or a file and a status out.
+//! The commands of the auditor: words and a capture text in, lines, a file or a normal text and a status out.
 #![tactic(auto)]
 
 mod check;
+mod count;
 mod extract;
 mod faults;
 mod names;
+mod normal;
 mod output;
 mod session;
 mod show;

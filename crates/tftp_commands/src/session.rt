@@ -6,7 +6,9 @@ ghost use Rattle.tftp_commands.specs.Source.{Source, given};
 ghost use Rattle.tftp_commands.specs.Words.{IsNoCommand};
 
 use crate::check::check;
+use crate::count::count;
 use crate::extract::extract;
+use crate::normal::normal;
 use crate::output::say;
 use crate::show::show;
 use crate::status::Status;
@@ -17,7 +19,7 @@ use std::io::{Read, Write};
 use tftp_capture::Tallied;
 
 /// Runs the command that the words name, the first of which is the program's name: reads a capture text, and writes
-/// lines, or a file. After a write that fails nothing more is written.
+/// lines, a file or a normal text. After a write that fails nothing more is written.
 pub fn run<S: AsStr, R: Read, W: Write>(
     alloc: Global,
     words: &[S],
@@ -43,8 +45,10 @@ pub fn run<S: AsStr, R: Read, W: Write>(
 {
     match action_of(alloc, words) {
         Ok(Action::Check) => check(alloc, reader, writer),
-        Ok(Action::Show) => show(alloc, reader, writer),
         Ok(Action::Extract) => extract(alloc, reader, writer),
+        Ok(Action::Normal) => normal(alloc, reader, writer),
+        Ok(Action::Show) => show(alloc, reader, writer),
+        Ok(Action::Count) => count(alloc, reader, writer),
         Err(UsageFault::Usage) => say(writer, b"fault usage\n"),
         Err(UsageFault::Memory) => say(writer, b"fault memory\n"),
         Err(UsageFault::Silent) => Status::Fault,

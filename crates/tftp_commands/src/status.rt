@@ -4,7 +4,8 @@ ghost use Rattle.tftp_commands.specs.Output.{code_of};
 /// How a run ended.
 #[derive(Clone, Copy, Debug, PartialEq, Eq)]
 pub enum Status {
-    /// The capture was accepted, and with `extract` its file written; or it was shown to its end.
+    /// The capture was accepted, and its file, normal text or count written where that was asked; or it was shown to its
+    /// end.
     Success,
     /// The capture breaks a rule, is no whole transfer, or has a text that no capture can carry in its canonical form.
     Refused,

@@ -1,6 +1,6 @@
-ghost use Rattle.std.specs.Prelude.{◌≡◌, ◌≢◌, codes, length, map, true, IfOk, IfErr, ◌⊎◌};
+ghost use Rattle.std.specs.Prelude.{◌≡◌, ◌≢◌, length, map, true, IfOk, IfErr, ◌⊎◌};
 ghost use Rattle.clap.specs.Words.{kind_of, takes};
-ghost use Rattle.tftp_commands.specs.Words.{audit_app, memory_fault, IsCommand};
+ghost use Rattle.tftp_commands.specs.Words.{audit_app, memory_fault, IsCommand, IsQuiet};
 
 use clap::error::ErrorKind;
 use clap::{ArgMatches, Command, Error};
@@ -12,10 +12,14 @@ use std::convert::AsStr;
 pub enum Action {
     /// Judge a capture, and say the verdict.
     Check,
-    /// Say what datagrams a capture has.
-    Show,
     /// Write the file of a capture.
     Extract,
+    /// Write the normal text of a capture.
+    Normal,
+    /// Say what datagrams a capture has.
+    Show,
+    /// Say how many datagrams the normal capture of a capture has.
+    Count,
 }
 
 /// Why a command line names no command.
@@ -25,7 +29,7 @@ pub enum UsageFault {
     Usage,
     /// The parse found no memory.
     Memory,
-    /// The parse found no memory, and the words ask for a file, beside which nothing is said.
+    /// The parse found no memory, and the words ask for a file or a normal text, beside which nothing is said.
     Silent,
 }
 
@@ -33,12 +37,16 @@ fn parsed<'a, S: AsStr>(alloc: Global, words: &'a [S]) -> Result<ArgMatches<'a>,
     ensures passes { IfErr result (λ e. takes audit_app (map S.text words.entry.now) ≡ true → kind_of e ≡ ErrorKind.OutOfMemory) }
 {
     let check = Command::new(alloc, "check");
-    let show = Command::new(alloc, "show");
     let extract = Command::new(alloc, "extract");
+    let normal = Command::new(alloc, "normal");
+    let show = Command::new(alloc, "show");
+    let count = Command::new(alloc, "count");
     let command = Command::new(alloc, "tftp-audit")
         .subcommand(check)?
+        .subcommand(extract)?
+        .subcommand(normal)?
         .subcommand(show)?
-        .subcommand(extract)?;
+        .subcommand(count)?;
     command.try_get_matches_from(words)
 }
 
@@ -47,7 +55,7 @@ fn parsed<'a, S: AsStr>(alloc: Global, words: &'a [S]) -> Result<ArgMatches<'a>,
 pub fn action_of<S: AsStr>(alloc: Global, words: &[S]) -> Result<Action, UsageFault>
     ensures ok { IfOk result (λ a. IsCommand a (map S.text words.now)) }
     ensures only { (a : Action) → IsCommand a (map S.text words.now) → (result ≡ Ok a) ⊎ (result ≡ Err (memory_fault a)) }
-    ensures file { result ≡ Err UsageFault.Silent → IsCommand Action.Extract (map S.text words.now) }
+    ensures quiet { result ≡ Err UsageFault.Silent → (a : Action) × IsCommand a (map S.text words.now) × (memory_fault a ≡ UsageFault.Silent) }
     ensures two { result ≡ Err UsageFault.Memory → length words.now ≡ 2 }
 {
     if words.len() != 2 {
@@ -59,8 +67,10 @@ pub fn action_of<S: AsStr>(alloc: Global, words: &[S]) -> Result<Action, UsageFa
     }
     match word {
         "check" => Ok(Action::Check),
-        "show" => Ok(Action::Show),
         "extract" => Ok(Action::Extract),
+        "normal" => Ok(Action::Normal),
+        "show" => Ok(Action::Show),
+        "count" => Ok(Action::Count),
         _ => Err(UsageFault::Usage),
     }
 }
@@ -68,13 +78,14 @@ pub fn action_of<S: AsStr>(alloc: Global, words: &[S]) -> Result<Action, UsageFa
 /// Why the words were not parsed, by the second of them.
 fn fault_of(word: &str, kind: ErrorKind) -> UsageFault
     ensures usage { kind ≢ ErrorKind.OutOfMemory → result ≡ UsageFault.Usage }
-    ensures silent { kind ≡ ErrorKind.OutOfMemory → word.now ≡ codes "extract" → result ≡ UsageFault.Silent }
-    ensures memory { kind ≡ ErrorKind.OutOfMemory → word.now ≢ codes "extract" → result ≡ UsageFault.Memory }
-    ensures file { result ≡ UsageFault.Silent → word.now ≡ codes "extract" }
+    ensures silent { kind ≡ ErrorKind.OutOfMemory → IsQuiet word.now → result ≡ UsageFault.Silent }
+    ensures memory { kind ≡ ErrorKind.OutOfMemory → (IsQuiet word.now → ⊥) → result ≡ UsageFault.Memory }
+    ensures quiet { result ≡ UsageFault.Silent → IsQuiet word.now }
 {
     match kind {
         ErrorKind::OutOfMemory => match word {
             "extract" => UsageFault::Silent,
+            "normal" => UsageFault::Silent,
             _ => UsageFault::Memory,
         },
         _ => UsageFault::Usage,

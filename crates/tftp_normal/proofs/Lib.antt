@@ -1,11 +1,14 @@
 pub mod Counted
 pub mod Shortest
 pub mod Lengths
+pub mod Windows
 pub mod Going
 pub mod Shown
 pub mod Lawful
 pub mod TextLength
 pub mod Texts
+pub mod Headline
+pub mod Normalising
 pub mod Payloads
 pub mod Putting
 pub mod BlocksPut

@@ -1,11 +1,16 @@
 use std::alloc::AllocError;
+use std::convert::From;
 use tftp_capture::WriteFault;
+use tftp_judge::Verdict;
 use thiserror::Error;
 
-/// Why a normal capture was not written to its end.
+/// Why a normal text was not written, or not whole.
 #[derive(Clone, Copy, Debug, PartialEq, Eq, Error)]
-pub enum WritingFault {
-    /// A write failed, or took no byte.
+pub enum NormalFault {
+    /// The text is not accepted, want of memory while it was judged included; nothing was written.
+    #[error("the text is not accepted")]
+    Verdict(Verdict),
+    /// A write failed, or took no byte. A part of the normal text, from its start, was written.
     #[error("a write failed")]
     Write,
     /// Memory was refused, before anything was written.
@@ -13,24 +18,35 @@ pub enum WritingFault {
     Memory,
 }
 
-impl From<WriteFault> for WritingFault {
+impl From<Verdict> for NormalFault {
     ghost use Rattle.std.specs.Prelude.{◌≡◌};
-    ghost use Rattle.tftp_normal.specs.declared.fault.WritingFault.{WritingFault};
+    ghost use Rattle.tftp_normal.specs.declared.fault.NormalFault.{NormalFault};
 
-    ghost from_gives = { λ _ fault. fault ≡ WritingFault.Write };
+    ghost from_gives = { λ verdict fault. fault ≡ NormalFault.Verdict verdict };
 
-    fn from(_fault: WriteFault) -> Self {
-        WritingFault::Write
+    fn from(verdict: Verdict) -> Self {
+        NormalFault::Verdict(verdict)
     }
 }
 
-impl From<AllocError> for WritingFault {
+impl From<WriteFault> for NormalFault {
     ghost use Rattle.std.specs.Prelude.{◌≡◌};
-    ghost use Rattle.tftp_normal.specs.declared.fault.WritingFault.{WritingFault};
+    ghost use Rattle.tftp_normal.specs.declared.fault.NormalFault.{NormalFault};
 
-    ghost from_gives = { λ _ fault. fault ≡ WritingFault.Memory };
+    ghost from_gives = { λ _ fault. fault ≡ NormalFault.Write };
+
+    fn from(_fault: WriteFault) -> Self {
+        NormalFault::Write
+    }
+}
+
+impl From<AllocError> for NormalFault {
+    ghost use Rattle.std.specs.Prelude.{◌≡◌};
+    ghost use Rattle.tftp_normal.specs.declared.fault.NormalFault.{NormalFault};
+
+    ghost from_gives = { λ _ fault. fault ≡ NormalFault.Memory };
 
     fn from(_fault: AllocError) -> Self {
-        WritingFault::Memory
+        NormalFault::Memory
     }
 }

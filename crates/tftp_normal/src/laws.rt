@@ -1,8 +1,9 @@
 //! What holds of the normal capture. Each law is the contract of a function that does nothing.
 
-ghost use Rattle.std.specs.Prelude.{◌≡◌, ◌^◌, ◌≤◌, ◌↔◌, ℕ, List, All, length};
+ghost use Rattle.std.specs.Prelude.{◌≡◌, ◌^◌, ◌≤◌, ◌↔◌, ℕ, List, All, Ok, length};
 ghost use Rattle.tftp_capture.specs.CaptureText.{Datagram, Header, IsCapture, IsLawful as IsLawfulDatagram, NamesNoHost, numbered};
 ghost use Rattle.tftp_ends.specs.Meaning.{Meaning, windowsize_of};
+ghost use Rattle.tftp_judge.specs.TextVerdict.{IsTextVerdict};
 ghost use Rattle.tftp_law.specs.Law.{Shows, ShowsBy};
 ghost use Rattle.tftp_law.specs.CanBeWritten.{wire_of, CanBeWritten};
 ghost use Rattle.tftp_normal.specs.Normal.{normal_datagrams, normal_header, normal_text, normal_count};
@@ -58,4 +59,15 @@ pub fn normal_text_is_its_own()
 /// Two texts that are accepted have one normal text exactly if they have one meaning.
 pub fn normal_texts_are_equal_as_meanings_are()
     ensures { (text other : List ℕ) (m o : Meaning) → IsAccepted text m → IsAccepted other o → normal_text m ≡ normal_text o ↔ m ≡ o }
+{}
+
+/// A capture text is accepted with a meaning exactly if some run of the two ends, over a network that loses, repeats and
+/// reorders, shows it at its named end as that one complete transfer; two accepted texts have equal normal texts exactly
+/// if their meanings are equal; and a normal text is accepted with its meaning and is its own normal text.
+pub fn accepted_texts_are_those_of_whole_runs()
+    ensures accepted { (text : List ℕ) (m : Meaning) → IsTextVerdict text (Ok m) ↔ IsAccepted text m }
+    ensures equal { (text other : List ℕ) (m o : Meaning) → IsTextVerdict text (Ok m) → IsTextVerdict other (Ok o)
+        → normal_text m ≡ normal_text o ↔ m ≡ o }
+    ensures normal { (text : List ℕ) (m : Meaning) → IsTextVerdict text (Ok m)
+        → IsTextVerdict (normal_text m) (Ok m) × ((o : Meaning) → IsTextVerdict (normal_text m) (Ok o) → normal_text o ≡ normal_text m) }
 {}

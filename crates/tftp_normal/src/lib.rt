@@ -4,9 +4,11 @@
 mod data_packets;
 mod fault;
 pub mod laws;
+mod normal;
 mod transfer;
 mod wire_blocks;
 pub mod worked;
 mod writing;
 
-pub use fault::WritingFault;
+pub use fault::NormalFault;
+pub use normal::{normal_capture, normal_count, normalise};

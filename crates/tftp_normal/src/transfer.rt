@@ -35,7 +35,7 @@ impl<'a> Transfer<'a> {
     ghost use Rattle.tftp_ends.specs.Meaning.{request_of, blksize_of, windowsize_of};
     ghost use Rattle.tftp_law.specs.Owned.{meaning_from};
     ghost use Rattle.tftp_law.specs.CanBeWritten.{blocks_of, CanBeWritten};
-    ghost use Rattle.tftp_normal.specs.Normal.{normal_count};
+    ghost use Rattle.tftp_normal.specs.Normal.{normal_count, opening_count};
 
     /// Takes the parts, and no memory.
     pub(crate) fn of(request: &'a Request, agreed: &'a Options, file: &'a [u8], blocks: u16) -> Self
@@ -106,6 +106,25 @@ impl<'a> Transfer<'a> {
         match self.agreed.get(b"windowsize") {
             Some(Value::Num(size)) => *size,
             _ => 1,
+        }
+    }
+
+    /// How many datagrams its normal capture has.
+    pub(crate) fn count(&self) -> u64
+        ensures count { result ≡ normal_count self.now }
+    {
+        let blocks = u64::from(self.blocks());
+        self.opening_len() + blocks + blocks.div_ceil(self.window_size())
+    }
+
+    /// How many datagrams pass before the first block.
+    fn opening_len(&self) -> u64
+        ensures { result ≡ opening_count self.now.side (map.len self.now.agreed) }
+    {
+        match (self.side(), self.is_plain()) {
+            (Side::Get, true) => 1,
+            (Side::Get, false) => 3,
+            (Side::Put, _) => 2,
         }
     }
 

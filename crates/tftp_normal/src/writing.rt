@@ -1,21 +1,20 @@
 //! The normal capture, written datagram by datagram.
 
-ghost use Rattle.std.specs.Prelude.{◌≡◌, ◌≢◌, ◌+◌, ◌-◌, ◌*◌, ◌^◌, ◌≤◌, [], ◌∷◌, length, drop, true, false, OnOk, Err};
+ghost use Rattle.std.specs.Prelude.{◌≡◌, ◌≢◌, ◌+◌, ◌-◌, ◌*◌, ◌^◌, ◌≤◌, [], ◌∷◌, length, drop, true, false, Ok, OnOk};
 ghost use Rattle.std.specs.FinMap as map;
-ghost use Rattle.std.specs.Io.KnownBytes.{Appends};
 ghost use Rattle.tftp_packet.specs.Message.{Message};
 ghost use Rattle.tftp_packet.specs.Canonical.{canonical};
 ghost use Rattle.tftp_packet.specs.declared.kinds.End.{End};
-ghost use Rattle.tftp_capture.specs.Tally.{AppendsPrefix, Writes};
+ghost use Rattle.tftp_capture.specs.Tally.{Writes};
 ghost use Rattle.tftp_ends.specs.Meaning.{Meaning, request_of, blksize_of, windowsize_of};
 ghost use Rattle.tftp_ends.specs.Machines.{sender_of};
 ghost use Rattle.tftp_law.specs.CanBeWritten.{wire_of, blocks_of, CanBeWritten};
 ghost use Rattle.tftp_normal.specs.Normal.{opening, blocks_after, windows_after, windows_of, normal_count, normal_text};
-ghost use Rattle.tftp_normal.specs.declared.fault.WritingFault.{WritingFault};
+ghost use Rattle.tftp_normal.specs.Normalised.{Normalises};
 ghost use Rattle.tftp_normal.specs.Writing.{asked_by, sent_by, datagrams_of, Puts};
 
 use crate::data_packets::DataPackets;
-use crate::fault::WritingFault;
+use crate::fault::NormalFault;
 use crate::transfer::Transfer;
 use crate::wire_blocks::WireBlocks;
 use std::alloc::Global;
@@ -207,12 +206,10 @@ pub(crate) fn write_normal<W: Write>(
     alloc: Global,
     transfer: &Transfer<'_>,
     writer: &mut Tallied<W>,
-) -> Result<(), WritingFault>
+) -> Result<(), NormalFault>
     requires clean { writer.old.1 ≡ false }
     requires can { CanBeWritten transfer.now }
-    ensures ok { OnOk result ((writer.new.1 ≡ false) × Appends (W.contents writer.old.0) (W.contents writer.new.0) (normal_text transfer.now)) }
-    ensures write { result ≡ Err WritingFault.Write → (writer.new.1 ≡ true) × AppendsPrefix (W.contents writer.old.0) (W.contents writer.new.0) (normal_text transfer.now) }
-    ensures memory { result ≡ Err WritingFault.Memory → writer.new ≡ writer.old }
+    ensures normalises { Normalises W.contents writer.old writer.new (Ok transfer.now) result }
 {
     let request = transfer.request_payload(alloc)?;
     let oack = transfer.oack_payload(alloc)?;

@@ -1,0 +1,117 @@
+-- What was written of a text whose normal text was asked for.
+use Rattle.std.proofs.Common.{◌≡◌, ℕ, List, Bool, true, false, true≢false, Option, Result, Ok, Err, refl, sym, ◌∙◌, subst}
+use Rattle.std.specs.Io.KnownBytes.{Consumes, IsAtEnd}
+use Rattle.std.proofs.KnownBytes.{Appends-nil}
+use Rattle.tftp_capture.specs.declared.fault.CaptureFault.TheVariants.{Memory}
+use Rattle.tftp_ends.specs.Meaning.{Meaning}
+use Rattle.tftp_judge.specs.TextVerdict.{EndsText, IsTextVerdict, SaysReadFailed}
+use Rattle.tftp_judge.specs.declared.verdict.Verdict.{Verdict}
+use Rattle.tftp_judge.specs.declared.verdict.Verdict.TheVariants.{Capture}
+use Rattle.tftp_normal.specs.Normalised.{Normalises}
+use Rattle.tftp_normal.specs.declared.fault.NormalFault.{NormalFault}
+use Rattle.tftp_normal.specs.declared.fault.NormalFault.TheVariants as fault
+use Rattle.tftp_commands.specs.declared.status.Status.{Status}
+use Rattle.tftp_commands.specs.declared.status.Status.TheVariants as status
+use Rattle.tftp_commands.specs.Checked.{verdict_status}
+use Rattle.tftp_commands.specs.Judged.{IsJudged}
+use Rattle.tftp_commands.specs.Normalised.{IsNormalised, normalised}
+use Rattle.tftp_commands.specs.Output.{IsWritten, Output}
+use Rattle.tftp_commands.specs.Source.{Source, given}
+use Rattle.tftp_commands.proofs.Memory.{memory_judged}
+
+abbrev pub status_after : Result (Unit {0}) NormalFault → Status
+status_after (Ok done) = status.Success
+status_after (Err fault.Write) = status.Fault
+status_after (Err fault.Memory) = status.Fault
+status_after (Err (fault.Verdict verdict)) = verdict_status verdict
+
+-- what is said in the end: of a text that is accepted, that memory was wanting to write it
+abbrev last_said : Meaning → Result (Unit {0}) NormalFault → Result Meaning Verdict
+last_said m (Ok done) = Ok m
+last_said m (Err fault.Write) = Ok m
+last_said m (Err fault.Memory) = Err (Capture (Memory 0))
+last_said m (Err (fault.Verdict verdict)) = Ok m
+
+abbrev pub told : Result Meaning Verdict → Result (Unit {0}) NormalFault → Result Meaning Verdict
+told (Ok m) result = last_said m result
+told (Err verdict) result = Err verdict
+
+not_true : (b : Bool) → (b ≡ true → ⊥) → b ≡ false
+not_true true none = absurd (none refl)
+not_true false none = refl
+
+judged_told : (source : Source) (said : Result Meaning Verdict) (result : Result (Unit {0}) NormalFault) → IsJudged source said → IsJudged source (told said result)
+judged_told source (Ok m) (Ok done) judged = judged
+judged_told source (Ok m) (Err fault.Write) judged = judged
+judged_told source (Ok m) (Err fault.Memory) judged = memory_judged source (not_true source.failed judged.failed.1)
+judged_told source (Ok m) (Err (fault.Verdict verdict)) judged = judged
+judged_told source (Err verdict) result judged = judged
+
+module _ {W : Type 0} (contents : W → Option (List ℕ)) (old new : W × Bool) where
+  -- nothing was written, and the status is that of what is said
+  untouched : (verdict : Verdict) → old.1 ≡ false → new ≡ old → IsWritten (contents old.0) (contents new.0) new.1 (normalised (Err verdict)) (verdict_status verdict)
+  untouched verdict clean same =
+      let here : IsWritten (contents old.0) (contents old.0) old.1 (normalised (Err verdict)) (verdict_status verdict) =
+      subst (λ b. IsWritten (contents old.0) (contents old.0) b (normalised (Err verdict)) (verdict_status verdict)) (sym clean) (Appends-nil (contents old.0), refl) in
+      subst (λ (w : W × Bool). IsWritten (contents old.0) (contents w.0) w.1 (normalised (Err verdict)) (verdict_status verdict)) (sym same) here
+
+  written : (said : Result Meaning Verdict) (result : Result (Unit {0}) NormalFault) → old.1 ≡ false → Normalises contents old new said result
+      → IsWritten (contents old.0) (contents new.0) new.1 (normalised (told said result)) (status_after result)
+  written (Ok m) (Ok done) clean is = subst (λ b. IsWritten (contents old.0) (contents new.0) b (normalised (Ok m)) status.Success) (sym is.0) (is.1, refl)
+  written (Ok m) (Err fault.Write) clean is = subst (λ b. IsWritten (contents old.0) (contents new.0) b (normalised (Ok m)) status.Fault) (sym is.0) (is.1, refl)
+  written (Ok m) (Err fault.Memory) clean is = untouched (Capture (Memory 0)) clean is
+  written (Ok m) (Err (fault.Verdict other)) clean is = absurd is
+  written (Err verdict) (Ok done) clean is = absurd is
+  written (Err verdict) (Err fault.Write) clean is = absurd is
+  written (Err verdict) (Err fault.Memory) clean is = absurd is
+  written (Err verdict) (Err (fault.Verdict other)) clean is =
+      subst (λ v. IsWritten (contents old.0) (contents new.0) new.1 (normalised (Err verdict)) (verdict_status v)) (sym is.0) (untouched verdict clean is.1)
+
+  -- what is said of a text that is not accepted is said once
+  same_failure : (one two : Result Meaning Verdict) (result : Result (Unit {0}) NormalFault) → Normalises contents old new one result → Normalises contents old new two result → SaysReadFailed two → SaysReadFailed one
+  same_failure one (Ok m) result is also h = absurd h
+  same_failure (Ok m) (Err verdict) (Ok done) is also h = absurd also
+  same_failure (Ok m) (Err verdict) (Err fault.Write) is also h = absurd also
+  same_failure (Ok m) (Err verdict) (Err fault.Memory) is also h = absurd also
+  same_failure (Ok m) (Err verdict) (Err (fault.Verdict other)) is also h = absurd is
+  same_failure (Err first) (Err verdict) (Ok done) is also h = absurd also
+  same_failure (Err first) (Err verdict) (Err fault.Write) is also h = absurd also
+  same_failure (Err first) (Err verdict) (Err fault.Memory) is also h = absurd also
+  same_failure (Err first) (Err verdict) (Err (fault.Verdict other)) is also h = subst (λ v. SaysReadFailed (Err v)) (sym also.0 ∙ is.0) h
+
+  module _ (before after : Option (List ℕ)) (failed : Bool) (result : Result (Unit {0}) NormalFault) (clean : old.1 ≡ false) where
+    -- what was said of what was read, as `normalise` tells it
+    abbrev pub Told : Type 0
+    Told =
+        (read : List ℕ) × (said : Result Meaning Verdict) × Consumes before after read × IsTextVerdict read said × (EndsText said → IsAtEnd after) × (SaysReadFailed said → failed ≡ true) × (failed ≡ true → SaysReadFailed said)
+        × Normalises contents old new said result
+
+    pub normalised_said : Told → (read : List ℕ) × (output : Output) × Consumes before after read × IsNormalised (record { read = read; left = after; failed = failed }) output
+        × IsWritten (contents old.0) (contents new.0) new.1 output (status_after result)
+    normalised_said (read, said, consumed, is_said, at_end, reads, tally, is) = (
+      read,
+      normalised (told said result),
+      consumed,
+      record {
+        said = told said result;
+        judged = judged_told (record { read = read; left = after; failed = failed }) said result (record { is_said = is_said; at_end = at_end; failed = (reads, tally) });
+        is = refl;
+      },
+      written said result clean is,
+    )
+
+    pub normalised_whole : Told → failed ≡ false → (text : List ℕ) → (said : Result Meaning Verdict) × IsTextVerdict text said × Normalises contents old new said result
+        → (output : Output) × IsNormalised (given text) output × IsWritten (contents old.0) (contents new.0) new.1 output (status_after result)
+    normalised_whole (read, one, consumed, is_said, at_end, reads, tally, was) sound text (said, is_text, is) = (
+      normalised (told said result),
+      record {
+        said = told said result;
+        judged = judged_told (given text) said result (record {
+          is_said = is_text;
+          at_end = λ ends. refl;
+          failed = (λ h. absurd (true≢false (sym (reads (same_failure one said result was is h)) ∙ sound)), λ e. absurd (true≢false (sym e)));
+        });
+        is = refl;
+      },
+      written said result clean is,
+    )

@@ -1,0 +1,25 @@
+-- What `count` prints of a capture text: one line, with how many datagrams its normal capture has, or why it is not
+-- accepted.
+use Rattle.std.specs.Prelude.{◌≡◌, ℕ, ◌++◌, List, codes, decimal, Result, Ok, Err}
+use Rattle.tftp_ends.specs.Meaning.{Meaning}
+use Rattle.tftp_judge.specs.declared.verdict.Verdict.{Verdict}
+use Rattle.tftp_normal.specs.Normal.{normal_count}
+use Rattle.tftp_commands.specs.declared.status.Status.TheVariants as status
+use Rattle.tftp_commands.specs.Checked.{checked}
+use Rattle.tftp_commands.specs.Judged.{IsJudged}
+use Rattle.tftp_commands.specs.Output.{Output}
+use Rattle.tftp_commands.specs.Source.{Source}
+
+abbrev pub counted_line : Meaning → List ℕ
+counted_line m = codes "normal datagrams " ++ decimal (normal_count m) ++ codes "\n"
+
+-- of a text that is not accepted the line and the status of `check`
+abbrev pub counted : Result Meaning Verdict → Output
+counted (Ok m) = record { bytes = counted_line m; status = status.Success }
+counted (Err verdict) = checked (Err verdict)
+
+-- the output is that of what there is to say of what was read
+pub record IsCounted (source : Source) (output : Output) : Type 0 where
+  pub said : Result Meaning Verdict
+  pub judged : IsJudged source said
+  pub is : output ≡ counted said

@@ -1,0 +1,22 @@
+-- What `normal` writes of a capture text: its normal text, and nothing where it is not accepted.
+use Rattle.std.specs.Prelude.{◌≡◌, [], Result, Ok, Err}
+use Rattle.tftp_ends.specs.Meaning.{Meaning}
+use Rattle.tftp_judge.specs.declared.verdict.Verdict.{Verdict}
+use Rattle.tftp_normal.specs.Normal.{normal_text}
+use Rattle.tftp_commands.specs.declared.status.Status.TheVariants as status
+use Rattle.tftp_commands.specs.Checked.{verdict_status}
+use Rattle.tftp_commands.specs.Judged.{IsJudged}
+use Rattle.tftp_commands.specs.Output.{Output}
+use Rattle.tftp_commands.specs.Source.{Source}
+
+-- the status is that of `check`
+abbrev pub normalised : Result Meaning Verdict → Output
+normalised (Ok m) = record { bytes = normal_text m; status = status.Success }
+normalised (Err verdict) = record { bytes = []; status = verdict_status verdict }
+
+-- The output is that of what there is to say of what was read; that memory was wanting is said too where it was to write
+-- what is accepted.
+pub record IsNormalised (source : Source) (output : Output) : Type 0 where
+  pub said : Result Meaning Verdict
+  pub judged : IsJudged source said
+  pub is : output ≡ normalised said

@@ -1,0 +1,65 @@
+ghost use Rattle.std.specs.Prelude.{◌≡◌, ℕ, List, Some, false, Ok};
+ghost use Rattle.std.specs.Io.KnownBytes.{Consumes};
+ghost use Rattle.tftp_capture.specs.Tally.{Adds};
+ghost use Rattle.tftp_law.specs.CanBeWritten.{CanBeWritten};
+ghost use Rattle.tftp_commands.specs.Counted.{IsCounted, counted, counted_line};
+ghost use Rattle.tftp_commands.specs.Output.{IsWritten, Output};
+ghost use Rattle.tftp_commands.specs.Source.{Source, given};
+
+use crate::check::say_verdict;
+use crate::output::write_out;
+use crate::status::Status;
+use itoa::Buffer;
+use std::alloc::Global;
+use std::io::{Read, Write};
+use tftp_capture::{Gathered, Tallied, WriteFault};
+use tftp_judge::{Meaning, judge_text};
+use tftp_normal::normal_count;
+
+/// Judges a capture text, and says in one line how many datagrams its normal capture has, or why it is not accepted.
+pub fn count<R: Read, W: Write>(
+    alloc: Global,
+    reader: &mut Tallied<R>,
+    writer: &mut Tallied<W>,
+) -> Status
+    requires reading { reader.old.1 ≡ false }
+    requires writing { writer.old.1 ≡ false }
+    ensures said { (read : List ℕ) × (output : Output) × Consumes (R.remaining reader.old.0) (R.remaining reader.new.0) read
+        × IsCounted (record { read = read; left = R.remaining reader.new.0; failed = reader.new.1 }) output
+        × IsWritten (W.contents writer.old.0) (W.contents writer.new.0) writer.new.1 output result }
+    ensures whole { (text : List ℕ) → R.remaining reader.old.0 ≡ Some text → reader.new.1 ≡ false
+        → (output : Output) × IsCounted (given text) output × IsWritten (W.contents writer.old.0) (W.contents writer.new.0) writer.new.1 output result }
+{
+    match judge_text(alloc, reader) {
+        Ok(meaning) => say_counted(writer, &meaning),
+        Err(verdict) => say_verdict(writer, verdict),
+    }
+}
+
+/// Says how many datagrams the normal capture has.
+fn say_counted<W: Write>(writer: &mut Tallied<W>, meaning: &Meaning) -> Status
+    requires clean { writer.old.1 ≡ false }
+    requires can { CanBeWritten meaning.now }
+    ensures { IsWritten (W.contents writer.old.0) (W.contents writer.new.0) writer.new.1 (counted (Ok meaning.now)) result }
+{
+    let mut gathered = Gathered::new();
+    match put_count(&mut gathered, writer, meaning) {
+        Ok(()) => write_out(gathered, writer, Status::Success),
+        Err(_) => Status::Fault,
+    }
+}
+
+/// Adds the line of the count.
+fn put_count<W: Write>(
+    gathered: &mut Gathered,
+    writer: &mut Tallied<W>,
+    meaning: &Meaning,
+) -> Result<(), WriteFault>
+    requires clean { writer.old.1 ≡ false }
+    requires can { CanBeWritten meaning.now }
+    ensures adds { Adds W.contents writer.old writer.new result gathered.old gathered.new (counted_line meaning.now) }
+{
+    let mut buffer = Buffer::new();
+    let number = buffer.format(normal_count(meaning));
+    gathered.add_all(writer, &[b"normal datagrams ", number.as_bytes(), b"\n"])
+}

@@ -1,0 +1,35 @@
+ghost use Rattle.std.specs.Prelude.{◌≡◌, ℕ, List, Some, false};
+ghost use Rattle.std.specs.Io.KnownBytes.{Consumes};
+ghost use Rattle.tftp_commands.specs.Normalised.{IsNormalised};
+ghost use Rattle.tftp_commands.specs.Output.{IsWritten, Output};
+ghost use Rattle.tftp_commands.specs.Source.{Source, given};
+
+use crate::status::Status;
+use crate::verdicts::status_of;
+use std::alloc::Global;
+use std::io::{Read, Write};
+use tftp_capture::Tallied;
+use tftp_normal::{NormalFault, normalise};
+
+/// Writes the normal text of a capture text that is accepted, and nothing beside it; of a text that is not accepted
+/// nothing is written, and so where memory is wanting.
+pub fn normal<R: Read, W: Write>(
+    alloc: Global,
+    reader: &mut Tallied<R>,
+    writer: &mut Tallied<W>,
+) -> Status
+    requires reading { reader.old.1 ≡ false }
+    requires writing { writer.old.1 ≡ false }
+    ensures said { (read : List ℕ) × (output : Output) × Consumes (R.remaining reader.old.0) (R.remaining reader.new.0) read
+        × IsNormalised (record { read = read; left = R.remaining reader.new.0; failed = reader.new.1 }) output
+        × IsWritten (W.contents writer.old.0) (W.contents writer.new.0) writer.new.1 output result }
+    ensures whole { (text : List ℕ) → R.remaining reader.old.0 ≡ Some text → reader.new.1 ≡ false
+        → (output : Output) × IsNormalised (given text) output × IsWritten (W.contents writer.old.0) (W.contents writer.new.0) writer.new.1 output result }
+{
+    match normalise(alloc, reader, writer) {
+        Ok(()) => Status::Success,
+        Err(NormalFault::Verdict(verdict)) => status_of(verdict),
+        Err(NormalFault::Write) => Status::Fault,
+        Err(NormalFault::Memory) => Status::Fault,
+    }
+}

@@ -1,0 +1,21 @@
+-- What is written of a capture text: the normal text of what it means, and nothing of any other.
+use Rattle.std.specs.Prelude.{◌≡◌, ℕ, Bool, true, false, List, Option, Result, Ok, Err}
+use Rattle.std.specs.Io.KnownBytes.{Appends}
+use Rattle.tftp_capture.specs.Tally.{AppendsPrefix}
+use Rattle.tftp_ends.specs.Meaning.{Meaning}
+use Rattle.tftp_judge.specs.declared.verdict.Verdict.{Verdict}
+use Rattle.tftp_normal.specs.declared.fault.NormalFault.{NormalFault}
+use Rattle.tftp_normal.specs.declared.fault.NormalFault.TheVariants as fault
+use Rattle.tftp_normal.specs.Normal.{normal_text}
+
+-- The normal text, whole, or where a write failed a part of it from its start; nothing where memory was wanting, or the
+-- text is not accepted.
+abbrev pub Normalises : {W : Type 0} → (W → Option (List ℕ)) → W × Bool → W × Bool → Result Meaning Verdict → Result (Unit {0}) NormalFault → Type 0
+Normalises contents old new (Ok m) (Ok done) = (new.1 ≡ false) × Appends (contents old.0) (contents new.0) (normal_text m)
+Normalises contents old new (Ok m) (Err fault.Write) = (new.1 ≡ true) × AppendsPrefix (contents old.0) (contents new.0) (normal_text m)
+Normalises contents old new (Ok m) (Err fault.Memory) = new ≡ old
+Normalises contents old new (Ok m) (Err (fault.Verdict verdict)) = ⊥
+Normalises contents old new (Err verdict) (Ok done) = ⊥
+Normalises contents old new (Err verdict) (Err fault.Write) = ⊥
+Normalises contents old new (Err verdict) (Err fault.Memory) = ⊥
+Normalises contents old new (Err verdict) (Err (fault.Verdict other)) = (other ≡ verdict) × (new ≡ old)

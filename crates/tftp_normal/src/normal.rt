@@ -1,0 +1,77 @@
+//! The calls that write normal texts, and the one that counts.
+
+ghost use Rattle.std.specs.Prelude.{◌≡◌, ℕ, List, Some, length, true, false, Result, Ok, OnOk};
+ghost use Rattle.std.specs.Io.KnownBytes.{Appends, Consumes, IsAtEnd};
+ghost use Rattle.tftp_ends.specs.Meaning.{Meaning as Parts};
+ghost use Rattle.tftp_judge.specs.TextVerdict.{EndsText, IsTextVerdict, SaysReadFailed};
+ghost use Rattle.tftp_judge.specs.declared.verdict.Verdict.{Verdict};
+ghost use Rattle.tftp_law.specs.CanBeWritten.{CanBeWritten};
+ghost use Rattle.tftp_normal.specs.Accepted.{IsAccepted};
+ghost use Rattle.tftp_normal.specs.Normal.{normal_count as count_of, normal_datagrams, normal_text};
+ghost use Rattle.tftp_normal.specs.Normalised.{Normalises};
+
+use crate::fault::NormalFault;
+use crate::transfer::Transfer;
+use crate::writing::write_normal;
+use std::alloc::Global;
+use std::io::{Read, Write};
+use tftp_capture::Tallied;
+use tftp_judge::{Meaning, judge_text};
+
+/// Writes the normal text of a meaning, and nothing else. It takes all memory that it needs before it writes, so with
+/// `Memory` nothing was written; it never answers `Verdict`.
+pub fn normal_capture<W: Write>(
+    alloc: Global,
+    meaning: &Meaning,
+    writer: &mut Tallied<W>,
+) -> Result<(), NormalFault>
+    requires writing { writer.old.1 ≡ false }
+    requires can { CanBeWritten meaning.now }
+    ensures normalises { Normalises W.contents writer.old writer.new (Ok meaning.now) result }
+{
+    write_normal(alloc, &transfer_of(meaning), writer)
+}
+
+/// Writes the normal text of a capture text that is accepted, and nothing of any other. The whole text is judged, and all
+/// memory is taken, before the first byte is written.
+pub fn normalise<R: Read, W: Write>(
+    alloc: Global,
+    reader: &mut Tallied<R>,
+    writer: &mut Tallied<W>,
+) -> Result<(), NormalFault>
+    requires reading { reader.old.1 ≡ false }
+    requires writing { writer.old.1 ≡ false }
+    ensures normalises { (read : List ℕ) × (said : Result Parts Verdict) × Consumes (R.remaining reader.old.0) (R.remaining reader.new.0) read
+        × IsTextVerdict read said × (EndsText said → IsAtEnd (R.remaining reader.new.0)) × (SaysReadFailed said → reader.new.1 ≡ true)
+        × (reader.new.1 ≡ true → SaysReadFailed said) × Normalises W.contents writer.old writer.new said result }
+    ensures whole { (text : List ℕ) → R.remaining reader.old.0 ≡ Some text → reader.new.1 ≡ false
+        → (said : Result Parts Verdict) × IsTextVerdict text said × Normalises W.contents writer.old writer.new said result }
+    ensures accepted { (text : List ℕ) → R.remaining reader.old.0 ≡ Some text
+        → OnOk result ((m : Parts) × IsAccepted text m × Appends (W.contents writer.old.0) (W.contents writer.new.0) (normal_text m)) }
+{
+    let meaning = judge_text(alloc, reader)?;
+    normal_capture(alloc, &meaning, writer)
+}
+
+/// How many datagrams the normal capture of a meaning has. It takes no memory.
+pub fn normal_count(meaning: &Meaning) -> u64
+    requires can { CanBeWritten meaning.now }
+    ensures count { result ≡ count_of meaning.now }
+    ensures datagrams { result ≡ length (normal_datagrams meaning.now) }
+{
+    transfer_of(meaning).count()
+}
+
+/// What is to be written for a meaning.
+fn transfer_of(meaning: &Meaning) -> Transfer<'_>
+    requires can { CanBeWritten meaning.now }
+    ensures meaning { result ≡ meaning.now }
+    ensures can { CanBeWritten result }
+{
+    Transfer::of(
+        meaning.request(),
+        meaning.agreed(),
+        meaning.file(),
+        meaning.blocks(),
+    )
+}
