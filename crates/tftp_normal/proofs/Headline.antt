@@ -3,20 +3,15 @@ use Rattle.std.proofs.Common.{◌≡◌, ◌↔◌, ℕ, List, Ok}
 use Rattle.tftp_ends.specs.Meaning.{Meaning}
 use Rattle.tftp_judge.specs.TextVerdict.{IsTextVerdict, unnumbered}
 use Rattle.tftp_law.proofs.Beginnings.{shown_is_lawful}
-use Rattle.tftp_law.specs.CanBeWritten.{CanBeWritten}
 use Rattle.tftp_normal.specs.Accepted.{IsAccepted}
 use Rattle.tftp_normal.specs.Normal.{normal_text}
-use Rattle.tftp_normal.proofs.Texts.{accepted_can, normal_accepted, normal_again, same_texts}
+use Rattle.tftp_normal.proofs.Texts.{normal_accepted, normal_again, same_texts}
 
 pub shown_text : (text : List ℕ) (m : Meaning) → IsTextVerdict text (Ok m) → IsAccepted text m
 shown_text text m (header, datagrams, says, (lawful, (wire, shown), writable)) = (header, datagrams, says, record { writable = writable; wire = wire; shown = shown })
 
 pub judged_text : (text : List ℕ) (m : Meaning) → IsAccepted text m → IsTextVerdict text (Ok m)
 judged_text text m (header, datagrams, says, shows) = (header, datagrams, says, (shown_is_lawful header m (unnumbered datagrams) shows, (shows.wire, shows.shown), shows.writable))
-
--- what a judge accepts can be written
-pub judged_can : (text : List ℕ) (m : Meaning) → IsTextVerdict text (Ok m) → CanBeWritten m
-judged_can text m said = accepted_can text m (shown_text text m said)
 
 pub accepted : (text : List ℕ) (m : Meaning) → IsTextVerdict text (Ok m) ↔ IsAccepted text m
 accepted text m = (shown_text text m, judged_text text m)

@@ -26,7 +26,6 @@ pub fn normal_capture<W: Write>(
     writer: &mut Tallied<W>,
 ) -> Result<(), NormalFault>
     requires writing { writer.old.1 ≡ false }
-    requires can { CanBeWritten meaning.now }
     ensures normalises { Normalises W.contents writer.old writer.new (Ok meaning.now) result }
 {
     write_normal(alloc, &transfer_of(meaning), writer)
@@ -55,7 +54,6 @@ pub fn normalise<R: Read, W: Write>(
 
 /// How many datagrams the normal capture of a meaning has. It takes no memory.
 pub fn normal_count(meaning: &Meaning) -> u64
-    requires can { CanBeWritten meaning.now }
     ensures count { result ≡ count_of meaning.now }
     ensures datagrams { result ≡ length (normal_datagrams meaning.now) }
 {
@@ -64,7 +62,6 @@ pub fn normal_count(meaning: &Meaning) -> u64
 
 /// What is to be written for a meaning.
 fn transfer_of(meaning: &Meaning) -> Transfer<'_>
-    requires can { CanBeWritten meaning.now }
     ensures meaning { result ≡ meaning.now }
     ensures can { CanBeWritten result }
 {

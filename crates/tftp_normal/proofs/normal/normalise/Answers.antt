@@ -1,9 +1,5 @@
-use Rattle.tftp_normal.proofs.Headline.{judged_can}
 use Rattle.tftp_normal.proofs.Normalising.{not_true, written_normal}
 use Rattle.tftp_normal.proofs.normal.normalise.Goals as goal
-
-pub normal_capture-requires-clause-can : goal.normal_capture-requires-clause-can
-normal_capture-requires-clause-can g c = let (read, consumed, said) = c.in_ok-meaning.ensures.judged in judged_can read c.in_ok-meaning.meaning said
 
 pub returns-clause-accepted : goal.returns-clause-accepted
 returns-clause-accepted g c = λ text tells.
