@@ -1,9 +1,8 @@
 -- What `check` prints of a capture text: one line, with what its datagrams mean, or why it is not accepted.
 use Rattle.std.specs.Prelude.{◌≡◌, ℕ, ◌++◌, List, [], length, codes, decimal, Result, Ok, Err}
 use Rattle.tftp_packet.specs.Spelling.{mode_name}
-use Rattle.tftp_ends.specs.Blocks.{block_count}
-use Rattle.tftp_ends.specs.Meaning.{Meaning, blksize_of}
-use Rattle.tftp_law.specs.Fits.{written_wire}
+use Rattle.tftp_ends.specs.Meaning.{Meaning}
+use Rattle.tftp_law.specs.CanBeWritten.{blocks_of}
 use Rattle.tftp_law.specs.RuleNames.{rule_name}
 use Rattle.tftp_law.specs.Rules.{number_of}
 use Rattle.tftp_law.specs.declared.rule.Rule.{Rule}
@@ -18,10 +17,6 @@ use Rattle.tftp_commands.specs.Judged.{IsJudged}
 use Rattle.tftp_commands.specs.Names.{by_name, packet_fault_name, side_name}
 use Rattle.tftp_commands.specs.Output.{Output, fault_line, memory_line}
 use Rattle.tftp_commands.specs.Source.{Source}
-
--- the number of blocks of the wire that carries the file in its canonical form
-abbrev pub blocks_of : Meaning → ℕ
-blocks_of m = block_count (blksize_of m) (written_wire m.mode m.file)
 
 -- the blocks are those of the canonical wire, the bytes those of the file
 abbrev pub accepted_line : Meaning → List ℕ

@@ -1,7 +1,6 @@
 ghost use Rattle.std.specs.Prelude.{◌≡◌, ℕ, List, Some, false, Ok};
 ghost use Rattle.std.specs.Io.KnownBytes.{Consumes};
 ghost use Rattle.tftp_capture.specs.Tally.{Adds};
-ghost use Rattle.tftp_law.specs.CanBeWritten.{CanBeWritten};
 ghost use Rattle.tftp_commands.specs.Counted.{IsCounted, counted, counted_line};
 ghost use Rattle.tftp_commands.specs.Output.{IsWritten, Output};
 ghost use Rattle.tftp_commands.specs.Source.{Source, given};
@@ -38,8 +37,7 @@ pub fn count<R: Read, W: Write>(
 
 /// Says how many datagrams the normal capture has.
 fn say_counted<W: Write>(writer: &mut Tallied<W>, meaning: &Meaning) -> Status
-    requires clean { writer.old.1 ≡ false }
-    requires can { CanBeWritten meaning.now }
+    requires { writer.old.1 ≡ false }
     ensures { IsWritten (W.contents writer.old.0) (W.contents writer.new.0) writer.new.1 (counted (Ok meaning.now)) result }
 {
     let mut gathered = Gathered::new();
@@ -55,8 +53,7 @@ fn put_count<W: Write>(
     writer: &mut Tallied<W>,
     meaning: &Meaning,
 ) -> Result<(), WriteFault>
-    requires clean { writer.old.1 ≡ false }
-    requires can { CanBeWritten meaning.now }
+    requires { writer.old.1 ≡ false }
     ensures adds { Adds W.contents writer.old writer.new result gathered.old gathered.new (counted_line meaning.now) }
 {
     let mut buffer = Buffer::new();
