@@ -37,13 +37,14 @@ pub fn show<R: Read, W: Write>(
         Ok(capture) => capture,
         Err(fault) => return finish(gathered, writer, Some(fault)),
     };
+    let mut datagram = Datagram::empty(alloc);
     let mut number = 0;
     loop {
-        let datagram = match capture.next(alloc, reader) {
-            Ok(Some(datagram)) => datagram,
-            Ok(None) => return finish(gathered, writer, None),
+        match capture.next_into(reader, &mut datagram) {
+            Ok(true) => {}
+            Ok(false) => return finish(gathered, writer, None),
             Err(fault) => return finish(gathered, writer, Some(fault)),
-        };
+        }
         number += 1;
         if put_datagram(&mut gathered, writer, number, &datagram).is_err() {
             return Status::Fault;

@@ -38,13 +38,13 @@ fn datagram(
     })
 }
 
-/// Feeds a judge that has not yet accepted 2^40 datagrams.
-fn fed<D: Delivered + Drop>(
+/// Feeds a judge that has not yet accepted 2^40 datagrams, one of at most 65,527 bytes.
+pub fn fed<D: Delivered + Drop>(
     alloc: Global,
     judge: &mut Judge<D>,
     datagram: &Datagram,
 ) -> Result<(), Refusal> {
-    if judge.fed() >= 1 << 40 {
+    if judge.fed() >= 1 << 40 || datagram.payload.as_slice().len() > 65_527 {
         return Err(Refusal::Memory);
     }
     judge.feed(alloc, datagram)

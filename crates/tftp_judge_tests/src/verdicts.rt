@@ -1,30 +1,12 @@
 //! Verdicts on lists of datagrams and on capture texts.
 
-use std::alloc::Global;
+use crate::judges::fed;
+use std::alloc::{AllocError, Global};
 use std::test::Fail;
-use tftp_capture::{CaptureReader, Datagram, DripReader, Header, Tallied};
-use tftp_ends::{Delivered, MapDelivered, RingDelivered};
-use tftp_judge::{By, Judge, Meaning, Refusal, Rule};
+use tftp_capture::{CaptureFault, CaptureReader, Datagram, DripReader, Header, Tallied};
+use tftp_ends::Delivered;
+use tftp_judge::{By, Judge, Meaning, Refusal, Rule, Verdict, judge_text};
 use tftp_packet::{Mode, Side};
-
-mod errors;
-mod files;
-mod options;
-mod reads;
-mod rules;
-mod texts;
-mod windows;
-
-/// What a capture is expected to be: whole, with its side, its mode and the number of its file's bytes; or not.
-#[derive(Clone, Copy, Debug, PartialEq, Eq)]
-pub enum Wanted {
-    Accepted(Side, Mode, u64),
-    Unlawful(u64, Rule),
-    Aborted(By, u16),
-    Incomplete(u64),
-    NormalTooLong,
-    Memory,
-}
 
 /// The header and the datagrams of a capture text, up to its end or its first fault.
 fn capture_of(rt: &HostRuntime, text: &[u8]) -> Result<(Header, Vec<Datagram>), Fail> {
@@ -44,21 +26,6 @@ fn capture_of(rt: &HostRuntime, text: &[u8]) -> Result<(Header, Vec<Datagram>), 
     Ok((header, datagrams))
 }
 
-/// What is found of what is expected.
-fn found_of(found: &Result<Meaning, Refusal>) -> Wanted {
-    match found {
-        Ok(meaning) => {
-            let request = meaning.request();
-            Wanted::Accepted(request.side(), request.mode(), meaning.file().len() as u64)
-        }
-        Err(Refusal::Unlawful(index, rule)) => Wanted::Unlawful(*index, *rule),
-        Err(Refusal::Aborted(by, code)) => Wanted::Aborted(*by, *code),
-        Err(Refusal::Incomplete(count)) => Wanted::Incomplete(*count),
-        Err(Refusal::NormalTooLong) => Wanted::NormalTooLong,
-        Err(Refusal::Memory) => Wanted::Memory,
-    }
-}
-
 /// What a judge on this store says of the datagrams.
 fn judged<D: Delivered + Drop>(
     alloc: Global,
@@ -67,33 +34,174 @@ fn judged<D: Delivered + Drop>(
 ) -> Result<Meaning, Refusal> {
     let mut judge: Judge<D> = Judge::new(alloc, header);
     for datagram in datagrams {
-        if judge.fed() >= 1 << 40 {
-            return Err(Refusal::Memory);
-        }
-        judge.feed(alloc, datagram)?;
+        fed(alloc, &mut judge, datagram)?;
     }
     judge.finish(alloc)
 }
 
-/// Fails unless a judge on each store says this of a capture text's datagrams.
-fn gives(rt: &HostRuntime, text: &[u8], wanted: Wanted) -> Result<(), Fail> {
-    let (header, datagrams) = capture_of(rt, text)?;
-    let by_map = found_of(&judged::<MapDelivered>(rt.alloc(), &header, &datagrams));
-    let by_ring = found_of(&judged::<RingDelivered>(rt.alloc(), &header, &datagrams));
-    if by_map == wanted && by_ring == wanted {
-        Ok(())
-    } else {
-        Err(Fail::from((by_map, by_ring, wanted)))
+/// The line of what is accepted.
+fn accepted_line(alloc: Global, meaning: &Meaning) -> Result<String, AllocError> {
+    let request = meaning.request();
+    let side = match request.side() {
+        Side::Get => "get",
+        Side::Put => "put",
+    };
+    let mode = match request.mode() {
+        Mode::Octet => "octet",
+        Mode::Netascii => "netascii",
+    };
+    let blocks = meaning.blocks();
+    let bytes = meaning.file().len();
+    format!(in alloc; "accepted {side} {mode} blocks {blocks} bytes {bytes}\n")
+}
+
+/// The line of what is not.
+fn refused_line(alloc: Global, refusal: Refusal) -> Result<String, AllocError> {
+    match refusal {
+        Refusal::Unlawful(index, Rule::Malformed(fault)) => {
+            let rule = Rule::Malformed(fault);
+            let (number, name) = (rule.number(), rule.name());
+            format!(in alloc; "refused datagram {index} rule {number} {name} {fault:?}\n")
+        }
+        Refusal::Unlawful(index, rule) => {
+            let (number, name) = (rule.number(), rule.name());
+            format!(in alloc; "refused datagram {index} rule {number} {name}\n")
+        }
+        Refusal::Aborted(By::Local, code) => format!(in alloc; "aborted by local code {code}\n"),
+        Refusal::Aborted(By::Peer, code) => format!(in alloc; "aborted by peer code {code}\n"),
+        Refusal::Incomplete(count) => format!(in alloc; "incomplete after {count}\n"),
+        Refusal::NormalTooLong => String::from_str(alloc, "too long when normal\n"),
+        Refusal::Memory => String::from_str(alloc, "fault memory\n"),
     }
 }
 
-/// Fails unless the capture text is accepted with this file.
-fn file_is(rt: &HostRuntime, text: &[u8], file: &[u8]) -> Result<(), Fail> {
+/// The line of a text's fault.
+fn fault_line(alloc: Global, fault: CaptureFault) -> Result<String, AllocError> {
+    match fault {
+        CaptureFault::Text(line, fault) => format!(in alloc; "fault line {line} {fault:?}\n"),
+        CaptureFault::Read(line) => format!(in alloc; "fault line {line} Read\n"),
+        CaptureFault::Memory(line) => format!(in alloc; "fault memory, line {line}\n"),
+    }
+}
+
+/// The line of what a judge answers.
+fn line_of(alloc: Global, found: &Result<Meaning, Refusal>) -> Result<String, AllocError> {
+    match found {
+        Ok(meaning) => accepted_line(alloc, meaning),
+        Err(refusal) => refused_line(alloc, *refusal),
+    }
+}
+
+/// The line of what `judge_text` answers to a text of which each read gives so many bytes, and one fails.
+fn verdict_line(
+    rt: &HostRuntime,
+    text: &[u8],
+    piece: usize,
+    fails_at: u64,
+) -> Result<String, AllocError> {
+    let mut reader = Tallied::new(DripReader::new(text, piece, fails_at, None));
+    match judge_text(rt.alloc(), &mut reader) {
+        Ok(meaning) => accepted_line(rt.alloc(), &meaning),
+        Err(Verdict::Refused(refusal)) => refused_line(rt.alloc(), refusal),
+        Err(Verdict::Capture(fault)) => fault_line(rt.alloc(), fault),
+    }
+}
+
+/// Fails unless this is what was found.
+fn is_line(found: String, wanted: &str) -> Result<(), Fail> {
+    if found.as_str() == wanted {
+        Ok(())
+    } else {
+        Err(Fail::from(found))
+    }
+}
+
+/// Fails unless a judge on this store says this of a capture text's datagrams.
+pub fn is_judged<D: Delivered + Drop>(
+    rt: &HostRuntime,
+    text: &[u8],
+    line: &str,
+) -> Result<(), Fail> {
     let (header, datagrams) = capture_of(rt, text)?;
-    let by_map = judged::<MapDelivered>(rt.alloc(), &header, &datagrams);
-    let by_ring = judged::<RingDelivered>(rt.alloc(), &header, &datagrams);
-    match (&by_map, &by_ring) {
-        (Ok(one), Ok(other)) if one.file() == file && other.file() == file => Ok(()),
+    let found = judged::<D>(rt.alloc(), &header, &datagrams);
+    is_line(line_of(rt.alloc(), &found)?, line)
+}
+
+/// Fails unless the capture text is accepted with this file, by a judge on this store.
+pub fn is_file<D: Delivered + Drop>(
+    rt: &HostRuntime,
+    text: &[u8],
+    file: &[u8],
+) -> Result<(), Fail> {
+    let (header, datagrams) = capture_of(rt, text)?;
+    match judged::<D>(rt.alloc(), &header, &datagrams) {
+        Ok(meaning) if meaning.file() == file => Ok(()),
         _ => Err(Fail::new("another file, or none")),
     }
+}
+
+/// Fails unless `judge_text` says this of a text, given whole and in pieces.
+pub fn is_verdict(rt: &HostRuntime, text: &[u8], line: &str) -> Result<(), Fail> {
+    for piece in [usize::MAX, 1, 7] {
+        is_line(verdict_line(rt, text, piece, 0)?, line)?;
+    }
+    Ok(())
+}
+
+/// The read of `hi` (RFC 1350, sections 4 and 5).
+const READ_OF_HI: &[u8] =
+    b"tftp-capture 1\nend client\nservice 69\nout 40000 69 000161006f6374657400\nin 40000 41000 000300016869\nout 40000 41000 00040001\ntotal 3\n";
+
+/// The same with block 2 for block 1, and a payload of one digit after it.
+const OVERRUN: &[u8] =
+    b"tftp-capture 1\nend client\nservice 69\nout 40000 69 000161006f6374657400\nin 40000 41000 000300026869\nout 40000 41000 0\ntotal 3\n";
+
+/// Texts, and what is said of each.
+const TEXTS: [(&[u8], &str); 7] = [
+    (READ_OF_HI, "accepted get octet blocks 1 bytes 2\n"),
+    (OVERRUN, "refused datagram 2 rule 22 WindowOverrun\n"),
+    (
+        b"tftp-capture 1\nend client\nservice 69\nout 40000 69 000161006f6374657400\nin 40000 41000 000300016869\nout 40000 41000 0\ntotal 3\n",
+        "fault line 6 BadHex\n",
+    ),
+    (
+        b"tftp-capture 1\nend client\nservice 69\ntotal 0\n",
+        "incomplete after 0\n",
+    ),
+    (
+        b"tftp-capture 1\nend client\nservice 69\nout 40000 69 000161006f6374657400\n",
+        "fault line 5 Truncated\n",
+    ),
+    (b"tftp-capture 1\nend peer\n", "fault line 2 BadEnd\n"),
+    (b"", "fault line 1 Truncated\n"),
+];
+
+#[test]
+fn texts_have_their_verdicts(rt: HostRuntime) -> Result<(), Fail> {
+    for (text, line) in TEXTS {
+        is_verdict(&rt, text, line)?;
+    }
+    Ok(())
+}
+
+/// Texts of which each read gives so many bytes, the read that fails, and what is said. The first has 132 bytes.
+const FAILED_READS: [(&[u8], usize, u64, &str); 5] = [
+    (READ_OF_HI, 1, 1, "fault line 1 Read\n"),
+    (READ_OF_HI, usize::MAX, 2, "fault line 8 Read\n"),
+    (READ_OF_HI, 1, 133, "fault line 8 Read\n"),
+    (
+        OVERRUN,
+        110,
+        2,
+        "refused datagram 2 rule 22 WindowOverrun\n",
+    ),
+    (OVERRUN, 60, 2, "fault line 4 Read\n"),
+];
+
+#[test]
+fn reads_that_fail_have_their_lines(rt: HostRuntime) -> Result<(), Fail> {
+    for (text, piece, fails_at, line) in FAILED_READS {
+        is_line(verdict_line(&rt, text, piece, fails_at)?, line)?;
+    }
+    Ok(())
 }

@@ -6,8 +6,8 @@ use std::io;
 use std::io::{ErrorKind, Read, Write};
 use std::test::Fail;
 use tftp_capture::{
-    CaptureFault, CaptureReader, CaptureWriter, DripReader, DripWriter, Gathered, Header, Tallied,
-    TextFault, WriteFault,
+    CaptureFault, CaptureReader, CaptureWriter, Datagram, DripReader, DripWriter, Gathered, Header,
+    Tallied, TextFault, WriteFault,
 };
 use tftp_packet::{Dir, End};
 
@@ -284,6 +284,63 @@ fn faults_and_the_end_are_answered_for_good(rt: HostRuntime) -> Result<(), Fail>
     }
     for _ in 0..3 {
         assert!(rt; matches!(capture.next(rt.alloc(), &mut reader), Ok(None)));
+    }
+    Ok(())
+}
+
+/// Fails unless the datagrams of the text, read into one that is held, carry these payloads.
+fn fills(rt: &HostRuntime, text: &[u8], payloads: &[&[u8]]) -> Result<(), Fail> {
+    let mut reader = Tallied::new(DripReader::new(text, 7, 0, None));
+    let mut capture = CaptureReader::begin(rt.alloc(), &mut reader).map_err(|_| Fail::from(
+        "begin",
+    ))?;
+    let mut held = Datagram::empty(rt.alloc());
+    for payload in payloads {
+        let more = capture.next_into(&mut reader, &mut held);
+        if more != Ok(true) || held.payload.as_slice() != *payload {
+            return Err(Fail::from(more));
+        }
+    }
+    for _ in 0..2 {
+        let more = capture.next_into(&mut reader, &mut held);
+        if more != Ok(false) {
+            return Err(Fail::from(more));
+        }
+    }
+    Ok(())
+}
+
+#[test]
+fn a_held_datagram_is_filled_anew(rt: HostRuntime) -> Result<(), Fail> {
+    fills(
+        &rt,
+        READ,
+        &[b"\0\x01a\0octet\0", b"\0\x03\0\x01hi", b"\0\x04\0\x01"],
+    )?;
+    fills(
+        &rt,
+        &changed(&rt, 5, b"in 1 2 -")?,
+        &[b"\0\x01a\0octet\0", b"", b"\0\x04\0\x01"],
+    )
+}
+
+#[test]
+fn a_fault_is_answered_for_good_to_who_holds_a_datagram(rt: HostRuntime) -> Result<(), Fail> {
+    let text = changed(&rt, 5, b"in 1 2 0g")?;
+    let mut reader = Tallied::new(DripReader::new(&text, 7, 0, None));
+    let mut capture = CaptureReader::begin(rt.alloc(), &mut reader).map_err(|_| Fail::from(
+        "begin",
+    ))?;
+    let mut held = Datagram::empty(rt.alloc());
+    assert_eq!(rt; capture.next_into(&mut reader, &mut held), Ok(true));
+    assert_eq!(rt; held.dir, Dir::Out);
+    assert_eq!(rt; (held.local_port, held.remote_port), (40_000, 69));
+    for _ in 0..3 {
+        assert_eq!(rt;
+            capture.next_into(&mut reader, &mut held),
+            Err(CaptureFault::Text(5, TextFault::BadHex))
+        );
+        assert_eq!(rt; capture.line(), 4);
     }
     Ok(())
 }

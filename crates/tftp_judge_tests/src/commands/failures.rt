@@ -1,9 +1,7 @@
-use super::{
-    ACCEPTED, ACK_2, CLIENT, HI, READ, ROOM, capture, many_datagrams, read_of_hi, shown_before,
-};
+use super::{ROOM, has_said, many_datagrams, ran, read_of_hi, shown_before};
+use crate::cases::{ACCEPTED, ACK_2, CLIENT, HI, READ, capture};
 use std::test::Fail;
-use tftp_capture::{DripReader, DripWriter, Tallied};
-use tftp_commands::run;
+use tftp_capture::{DripReader, DripWriter};
 
 /// Fails unless the command writes this, and ends with status 2, where the text comes in pieces of this size and this
 /// read, counted from 1, fails.
@@ -15,20 +13,10 @@ fn fails_to_read(
     read: u64,
     output: &str,
 ) -> Result<(), Fail> {
-    let mut reader = Tallied::new(DripReader::new(text, piece, read, None));
-    let mut writer = Tallied::new(DripWriter::new(rt.alloc(), ROOM, 1, 0, false)?);
-    let code = run(
-        rt.alloc(),
-        &["tftp-audit", command],
-        &mut reader,
-        &mut writer,
-    )
-    .code();
-    let written = writer.into_inner();
-    if code != 2 || !reader.failed() || written.taken() != output.as_bytes() {
-        return Err(Fail::from((piece, read, code, written.taken().len())));
-    }
-    Ok(())
+    let reader = DripReader::new(text, piece, read, None);
+    let writer = DripWriter::new(rt.alloc(), ROOM, 1, 0, false)?;
+    let it = ran(rt, &["tftp-audit", command], reader, writer);
+    has_said(&it, output, 2, true)
 }
 
 /// How many LFs there are.
@@ -75,16 +63,15 @@ fn a_failed_read_in_a_wrong_text(rt: HostRuntime) -> Result<(), Fail> {
     let text = unlawful.as_bytes();
     let shown = "1 out RRQ\n2 in DATA 1 2\n3 out ACK 2\nfault line 7 Read\n";
     fails_to_read(&rt, "show", text, usize::MAX, 2, shown)?;
-    let mut reader = Tallied::new(DripReader::new(text, usize::MAX, 2, None));
-    let mut writer = Tallied::new(DripWriter::new(rt.alloc(), ROOM, 1, 0, false)?);
-    let words = ["tftp-audit", "check"];
-    let status = run(rt.alloc(), &words, &mut reader, &mut writer);
-    assert_eq!(rt; status.code(), 1);
-    assert_eq!(rt;
-        writer.into_inner().taken(),
-        b"refused datagram 3 rule 26 AckAhead\n".as_slice()
-    );
-    Ok(())
+    let reader = DripReader::new(text, usize::MAX, 2, None);
+    let writer = DripWriter::new(rt.alloc(), ROOM, 1, 0, false)?;
+    let it = ran(&rt, &["tftp-audit", "check"], reader, writer);
+    has_said(
+        &it,
+        "refused datagram 3 rule 26 AckAhead\n",
+        1,
+        it.read_failed,
+    )
 }
 
 /// A whole wrong line is a fault, and no further read is tried.
@@ -92,17 +79,10 @@ fn a_failed_read_in_a_wrong_text(rt: HostRuntime) -> Result<(), Fail> {
 fn a_fault_is_said_before_the_next_read(rt: HostRuntime) -> Result<(), Fail> {
     let text = b"tftp-capture 3\n";
     for command in ["check", "show"] {
-        let mut reader = Tallied::new(DripReader::new(text, 1, 16, None));
-        let mut writer = Tallied::new(DripWriter::new(rt.alloc(), ROOM, 1, 0, false)?);
-        let words = ["tftp-audit", command];
-        let status = run(rt.alloc(), &words, &mut reader, &mut writer);
-        assert_eq!(rt; status.code(), 2, "{command}");
-        assert!(rt; !reader.failed(), "{command}");
-        assert_eq!(rt;
-            writer.into_inner().taken(),
-            b"fault line 1 BadHeader\n".as_slice(),
-            "{command}"
-        );
+        let reader = DripReader::new(text, 1, 16, None);
+        let writer = DripWriter::new(rt.alloc(), ROOM, 1, 0, false)?;
+        let it = ran(&rt, &["tftp-audit", command], reader, writer);
+        has_said(&it, "fault line 1 BadHeader\n", 2, false)?;
     }
     Ok(())
 }
@@ -118,19 +98,13 @@ fn taken_of(
     text: &[u8],
     (piece, write, none): Failing,
 ) -> Result<DripWriter, Fail> {
-    let mut reader = Tallied::new(DripReader::new(text, usize::MAX, 0, None));
-    let mut writer = Tallied::new(DripWriter::new(rt.alloc(), ROOM, piece, write, none)?);
-    let code = run(
-        rt.alloc(),
-        &["tftp-audit", command],
-        &mut reader,
-        &mut writer,
-    )
-    .code();
-    if code != 2 || !writer.failed() || reader.failed() {
-        return Err(Fail::from((piece, write, code, reader.failed())));
+    let reader = DripReader::new(text, usize::MAX, 0, None);
+    let writer = DripWriter::new(rt.alloc(), ROOM, piece, write, none)?;
+    let it = ran(rt, &["tftp-audit", command], reader, writer);
+    if it.status != 2 || !it.write_failed || it.read_failed {
+        return Err(Fail::from((piece, write, it.status, it.read_failed)));
     }
-    Ok(writer.into_inner())
+    Ok(it.written)
 }
 
 /// Fails unless what was written before that write of one byte stays, and nothing follows.

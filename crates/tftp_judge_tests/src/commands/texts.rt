@@ -1,4 +1,5 @@
-use super::{ACCEPTED, ACK_1, CLIENT, HI, READ, capture, read_of_hi, says, shown_before};
+use super::{read_of_hi, says, shown_before};
+use crate::cases::{ACCEPTED, ACK_1, CLIENT, HI, READ, capture};
 use std::alloc::{AllocError, Global};
 use std::test::Fail;
 
@@ -24,13 +25,8 @@ const LINES_WITH_HOSTS: [&str; 7] = [
     "total 3",
 ];
 
-/// The text of the read of `hi` with the line `number`, counted from 1, changed.
-fn changed(alloc: Global, number: usize, line: &str) -> Result<Vec<u8>, AllocError> {
-    changed_of(alloc, &LINES, number, line)
-}
-
 /// The text of these lines with the line `number`, counted from 1, changed.
-fn changed_of(
+fn changed(
     alloc: Global,
     lines: &[&str],
     number: usize,
@@ -54,19 +50,14 @@ fn is_fault(rt: &HostRuntime, text: &[u8], number: usize, fault: &str) -> Result
     says(rt, "show", text, shown.as_str(), 2)
 }
 
-/// Fails unless each changed line of the read of `hi` has its fault.
-fn all_are_faults(rt: &HostRuntime, cases: &[(usize, &str, &str)]) -> Result<(), Fail> {
-    all_are_faults_of(rt, &LINES, cases)
-}
-
 /// Fails unless each changed line of these has its fault.
-fn all_are_faults_of(
+fn all_are_faults(
     rt: &HostRuntime,
     lines: &[&str],
     cases: &[(usize, &str, &str)],
 ) -> Result<(), Fail> {
     for (number, line, fault) in cases {
-        let text = changed_of(rt.alloc(), lines, *number, line)?;
+        let text = changed(rt.alloc(), lines, *number, line)?;
         is_fault(rt, text.as_slice(), *number, fault)?;
     }
     Ok(())
@@ -107,12 +98,6 @@ const VERSIONS: [(usize, &str, &str); 3] = [
     (1, "tftp-capture 12", "BadHeader"),
 ];
 
-#[test]
-fn faults_of_the_header(rt: HostRuntime) -> Result<(), Fail> {
-    all_are_faults(&rt, &HEADERS)?;
-    all_are_faults(&rt, &VERSIONS)
-}
-
 const DATAGRAMS: [(usize, &str, &str); 15] = [
     (4, "out 40000 10.0.0.1 69 00", "BadLine"),
     (4, "out 40000  69 00", "BadLine"),
@@ -130,11 +115,6 @@ const DATAGRAMS: [(usize, &str, &str); 15] = [
     (5, "in 40000 41000 0", "BadHex"),
     (6, "out 40000 41000 --", "BadHex"),
 ];
-
-#[test]
-fn faults_of_datagrams(rt: HostRuntime) -> Result<(), Fail> {
-    all_are_faults(&rt, &DATAGRAMS)
-}
 
 const WITH_HOSTS: [(usize, &str, &str); 20] = [
     (2, "end client 10.0.0.1", "BadEnd"),
@@ -162,14 +142,17 @@ const WITH_HOSTS: [(usize, &str, &str); 20] = [
 /// In version 2 the host stands between the ports, and is judged after them and before the payload.
 #[test]
 fn faults_of_texts_with_hosts(rt: HostRuntime) -> Result<(), Fail> {
-    all_are_faults_of(&rt, &LINES_WITH_HOSTS, &WITH_HOSTS)?;
-    let first = changed(rt.alloc(), 1, "tftp-capture 2")?;
-    is_fault(&rt, first.as_slice(), 4, "BadLine")?;
-    let second = changed_of(rt.alloc(), &LINES_WITH_HOSTS, 1, "tftp-capture 1")?;
-    is_fault(&rt, second.as_slice(), 4, "BadLine")?;
+    all_are_faults(&rt, &LINES_WITH_HOSTS, &WITH_HOSTS)?;
+    for (lines, version) in [
+        (&LINES, "tftp-capture 2"),
+        (&LINES_WITH_HOSTS, "tftp-capture 1"),
+    ] {
+        let text = changed(rt.alloc(), lines, 1, version)?;
+        is_fault(&rt, text.as_slice(), 4, "BadLine")?;
+    }
     let host = "a".repeat(rt.alloc(), 46)?;
     let line = format!(in rt.alloc(); "out 40000 {host} 69 000161006f6374657400")?;
-    let third = changed_of(rt.alloc(), &LINES_WITH_HOSTS, 4, line.as_str())?;
+    let third = changed(rt.alloc(), &LINES_WITH_HOSTS, 4, line.as_str())?;
     is_fault(&rt, third.as_slice(), 4, "BadHost")
 }
 
@@ -184,8 +167,11 @@ const TOTALS: [(usize, &str, &str); 7] = [
 ];
 
 #[test]
-fn faults_of_the_total(rt: HostRuntime) -> Result<(), Fail> {
-    all_are_faults(&rt, &TOTALS)
+fn faults_of_texts(rt: HostRuntime) -> Result<(), Fail> {
+    for cases in [HEADERS.as_slice(), &VERSIONS, &DATAGRAMS, &TOTALS] {
+        all_are_faults(&rt, &LINES, cases)?;
+    }
+    Ok(())
 }
 
 /// A line of so many of one sign after its start.
@@ -194,86 +180,128 @@ fn long_line(alloc: Global, start: &str, sign: &str, count: usize) -> Result<Str
     format!(in alloc; "{start}{signs}")
 }
 
+/// Lines of so many of one sign: those that are changed, the number and the start of the changed one, the sign, how
+/// often, and the fault. In version 2 a line is too long from 131,117 bytes on, but the first one as in version 1.
+const LONG: [(&[&str], usize, &str, &str, usize, &str); 13] = [
+    (&LINES, 4, "in 1 1 ", "0", 131_056, "PayloadTooLong"),
+    (&LINES, 4, "in 1 1 ", "0", 131_055, "BadHex"),
+    (&LINES, 4, "in 1 1 ", "g", 131_056, "BadHex"),
+    (&LINES, 4, "#", "#", 131_070, "LineTooLong"),
+    (
+        &LINES_WITH_HOSTS,
+        4,
+        "in 1 a 1 ",
+        "0",
+        131_056,
+        "PayloadTooLong",
+    ),
+    (&LINES_WITH_HOSTS, 4, "in 1 a 1 ", "0", 131_055, "BadHex"),
+    (&LINES_WITH_HOSTS, 4, "in 1 a 1 ", "g", 131_056, "BadHex"),
+    (&LINES_WITH_HOSTS, 4, "in 1 a\t 1 ", "0", 131_056, "BadHost"),
+    (&LINES_WITH_HOSTS, 4, "in 1 ", "a", 131_111, "BadLine"),
+    (&LINES_WITH_HOSTS, 4, "in 1 ", "a", 131_112, "LineTooLong"),
+    (&LINES_WITH_HOSTS, 4, "#", "#", 131_116, "LineTooLong"),
+    (
+        &LINES_WITH_HOSTS,
+        1,
+        "tftp-capture 2",
+        " ",
+        131_056,
+        "BadHeader",
+    ),
+    (
+        &LINES_WITH_HOSTS,
+        1,
+        "tftp-capture 2",
+        " ",
+        131_057,
+        "LineTooLong",
+    ),
+];
+
 #[test]
 fn lines_and_payloads_that_are_too_long(rt: HostRuntime) -> Result<(), Fail> {
-    let cases = [
-        ("in 1 1 ", "0", 131_056, "PayloadTooLong"),
-        ("in 1 1 ", "0", 131_055, "BadHex"),
-        ("in 1 1 ", "g", 131_056, "BadHex"),
-        ("#", "#", 131_070, "LineTooLong"),
-    ];
-    for (start, sign, count, fault) in cases {
+    for (lines, number, start, sign, count, fault) in LONG {
         let line = long_line(rt.alloc(), start, sign, count)?;
-        let text = changed(rt.alloc(), 4, line.as_str())?;
-        is_fault(&rt, text.as_slice(), 4, fault)?;
-    }
-    Ok(())
-}
-
-/// In version 2 a line is too long from 131,117 bytes on, but the first one as in version 1.
-#[test]
-fn lines_and_payloads_that_are_too_long_with_hosts(rt: HostRuntime) -> Result<(), Fail> {
-    let cases = [
-        (4, "in 1 a 1 ", "0", 131_056, "PayloadTooLong"),
-        (4, "in 1 a 1 ", "0", 131_055, "BadHex"),
-        (4, "in 1 a 1 ", "g", 131_056, "BadHex"),
-        (4, "in 1 a\t 1 ", "0", 131_056, "BadHost"),
-        (4, "in 1 ", "a", 131_111, "BadLine"),
-        (4, "in 1 ", "a", 131_112, "LineTooLong"),
-        (4, "#", "#", 131_116, "LineTooLong"),
-        (1, "tftp-capture 2", " ", 131_056, "BadHeader"),
-        (1, "tftp-capture 2", " ", 131_057, "LineTooLong"),
-    ];
-    for (number, start, sign, count, fault) in cases {
-        let line = long_line(rt.alloc(), start, sign, count)?;
-        let text = changed_of(rt.alloc(), &LINES_WITH_HOSTS, number, line.as_str())?;
+        let text = changed(rt.alloc(), lines, number, line.as_str())?;
         is_fault(&rt, text.as_slice(), number, fault)?;
     }
     Ok(())
 }
 
-/// A payload of 65,527 bytes to a host of 45, and a comment, of 131,116 bytes each.
-#[test]
-fn the_longest_lines_with_hosts(rt: HostRuntime) -> Result<(), Fail> {
-    let host = "a".repeat(rt.alloc(), 45)?;
-    let start = format!(in rt.alloc(); "out 65535 {host} 65535 ")?;
-    let payload = long_line(rt.alloc(), start.as_str(), "0", 131_054)?;
-    let text = changed_of(rt.alloc(), &LINES_WITH_HOSTS, 6, payload.as_str())?;
-    let shown = "1 out RRQ\n2 in DATA 1 2\n3 out malformed Opcode\n";
-    says(&rt, "show", text.as_slice(), shown, 0)?;
-    let refused = "refused datagram 3 rule 1 ForeignPort\n";
-    says(&rt, "check", text.as_slice(), refused, 1)?;
-    let comment = long_line(rt.alloc(), "service 69\n#", "#", 131_115)?;
-    let text = changed_of(rt.alloc(), &LINES_WITH_HOSTS, 3, comment.as_str())?;
-    is_read_of_hi(&rt, text.as_slice())
-}
+/// Lines of the most bytes, likewise, and what `check` and `show` say, with the status of each: payloads of 65,527 bytes,
+/// in version 2 to a host of 45, and comments.
+const LONGEST: [(&[&str], usize, &str, &str, usize, (&str, u8), &str); 4] = [
+    (
+        &LINES,
+        5,
+        "in 40000 41000 ",
+        "0",
+        131_054,
+        ("refused datagram 2 rule 5 Malformed Opcode\n", 1),
+        "1 out RRQ\n2 in malformed Opcode\n3 out ACK 1\n",
+    ),
+    (
+        &LINES,
+        3,
+        "service 69\n#",
+        "#",
+        131_069,
+        (ACCEPTED, 0),
+        "1 out RRQ\n2 in DATA 1 2\n3 out ACK 1\n",
+    ),
+    (
+        &LINES_WITH_HOSTS,
+        6,
+        "out 65535 aaaaaaaaaaaaaaaaaaaaaaaaaaaaaaaaaaaaaaaaaaaaa 65535 ",
+        "0",
+        131_054,
+        ("refused datagram 3 rule 1 ForeignPort\n", 1),
+        "1 out RRQ\n2 in DATA 1 2\n3 out malformed Opcode\n",
+    ),
+    (
+        &LINES_WITH_HOSTS,
+        3,
+        "service 69\n#",
+        "#",
+        131_115,
+        (ACCEPTED, 0),
+        "1 out RRQ\n2 in DATA 1 2\n3 out ACK 1\n",
+    ),
+];
 
-/// One byte less than too long: a payload of 65,527 bytes, and a comment.
 #[test]
 fn the_longest_lines(rt: HostRuntime) -> Result<(), Fail> {
-    let payload = long_line(rt.alloc(), "in 40000 41000 ", "0", 131_054)?;
-    let text = changed(rt.alloc(), 5, payload.as_str())?;
-    let shown = "1 out RRQ\n2 in malformed Opcode\n3 out ACK 1\n";
-    says(&rt, "show", text.as_slice(), shown, 0)?;
-    let refused = "refused datagram 2 rule 5 Malformed Opcode\n";
-    says(&rt, "check", text.as_slice(), refused, 1)?;
-    let comment = long_line(rt.alloc(), "service 69\n#", "#", 131_069)?;
-    let text = changed(rt.alloc(), 3, comment.as_str())?;
-    is_read_of_hi(&rt, text.as_slice())
+    for (lines, number, start, sign, count, (said, status), shown) in LONGEST {
+        let line = long_line(rt.alloc(), start, sign, count)?;
+        let text = changed(rt.alloc(), lines, number, line.as_str())?;
+        says(&rt, "check", text.as_slice(), said, status)?;
+        says(&rt, "show", text.as_slice(), shown, 0)?;
+    }
+    Ok(())
 }
+
+/// Texts that end too early, and the line where they do.
+const SHORT: [(&str, usize); 7] = [
+    ("", 1),
+    ("tftp-capture 3", 1),
+    (CLIENT, 4),
+    ("tftp-capture 2", 1),
+    ("tftp-capture 2\n", 2),
+    (
+        "tftp-capture 1\nend client\nservice 69\nout 40000 69 000161006f6374657400\nin 40000 41000 000300016869\nout 40000 41000 00040001\n",
+        7,
+    ),
+    (
+        "tftp-capture 1\nend client\nservice 69\nout 40000 69 000161006f6374657400\nin 40000 41000 000300016869\nout 40000 41000 00040001\ntotal 3",
+        7,
+    ),
+];
 
 #[test]
 fn texts_that_end_too_early(rt: HostRuntime) -> Result<(), Fail> {
-    is_fault(&rt, b"", 1, "Truncated")?;
-    is_fault(&rt, b"tftp-capture 3", 1, "Truncated")?;
-    is_fault(&rt, CLIENT.as_bytes(), 4, "Truncated")?;
-    is_fault(&rt, b"tftp-capture 2", 1, "Truncated")?;
-    is_fault(&rt, b"tftp-capture 2\n", 2, "Truncated")?;
-    let whole = read_of_hi(rt.alloc())?;
-    let text = whole.as_slice();
-    for cut in [8, 1] {
-        let part = text.get(..text.len().saturating_sub(cut)).unwrap_or(text);
-        is_fault(&rt, part, 7, "Truncated")?;
+    for (text, line) in SHORT {
+        is_fault(&rt, text.as_bytes(), line, "Truncated")?;
     }
     Ok(())
 }
@@ -290,29 +318,30 @@ fn texts_that_go_on(rt: HostRuntime) -> Result<(), Fail> {
 }
 
 /// Comments, empty lines and hex digits of either case change nothing.
+const THE_SAME: [(&[&str], usize, &str); 6] = [
+    (&LINES, 3, "service 69\n# x"),
+    (&LINES, 1, "tftp-capture 1\n\n# any text\r\n\n"),
+    (&LINES, 6, "out 40000 41000 00040001\n#"),
+    (&LINES, 4, "out 40000 69 000161006F6374657400"),
+    (&LINES_WITH_HOSTS, 1, "tftp-capture 2\n\n# any text"),
+    (
+        &LINES_WITH_HOSTS,
+        4,
+        "# x\nout 40000 10.0.0.1 69 000161006F6374657400",
+    ),
+];
+
+/// A comment of bytes that are no text changes nothing either.
+const WITH_BYTES: &[u8] =
+    b"tftp-capture 1\n#\x00\x80\xff\nend client\nservice 69\nout 40000 69 000161006f6374657400\nin 40000 41000 000300016869\nout 40000 41000 00040001\ntotal 3\n";
+
 #[test]
 fn texts_that_say_the_same(rt: HostRuntime) -> Result<(), Fail> {
-    let cases = [
-        (3, "service 69\n# x"),
-        (1, "tftp-capture 1\n\n# any text\r\n\n"),
-        (6, "out 40000 41000 00040001\n#"),
-        (4, "out 40000 69 000161006F6374657400"),
-    ];
-    for (number, line) in cases {
-        let text = changed(rt.alloc(), number, line)?;
+    for (lines, number, line) in THE_SAME {
+        let text = changed(rt.alloc(), lines, number, line)?;
         is_read_of_hi(&rt, text.as_slice())?;
     }
-    for (number, line) in [
-        (1, "tftp-capture 2\n\n# any text"),
-        (4, "# x\nout 40000 10.0.0.1 69 000161006F6374657400"),
-    ] {
-        let text = changed_of(rt.alloc(), &LINES_WITH_HOSTS, number, line)?;
-        is_read_of_hi(&rt, text.as_slice())?;
-    }
-    let mut bytes = Vec::from_slice(rt.alloc(), b"tftp-capture 1\n#\x00\x80\xff\n")?;
-    let whole = read_of_hi(rt.alloc())?;
-    bytes.extend_from_slice(whole.as_slice().get(15..).unwrap_or(b""))?;
-    is_read_of_hi(&rt, bytes.as_slice())
+    is_read_of_hi(&rt, WITH_BYTES)
 }
 
 /// A datagram that breaks a rule comes before a fault of a later line, and `show` judges nothing.

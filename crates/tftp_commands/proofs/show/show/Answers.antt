@@ -9,50 +9,50 @@ returns-in-Err-clause-said g c = shown_nothing _ _ _ _ _ _ _ c.in-Err.fault c.in
 pub returns-in-Err-clause-whole : goal.returns-in-Err-clause-whole
 returns-in-Err-clause-whole g c = λ text tells clean. whole_text text _ _ _ _ _ _ _ tells clean (returns-in-Err-clause-said g c)
 
-pub returns-in-Ok-None-clause-said : goal.returns-in-Ok-None-clause-said
-returns-in-Ok-None-clause-said g c =
-    let inv = c.loop-datagram.invariant in
-    let answered = rw c.in-Ok-None.field-0-is at c.in-Ok-None.ensures in
-    shown_whole _ _ _ _ _ _ c.loop-datagram.capture c.next.new.self c.loop-datagram.gathered c.loop-datagram.number _ _ _ inv.shown inv.going answered.continues answered.standing
-    (answered.end inv.going refl) (other_side (λ h. h) answered.tally ∙ inv.reading) c.finish-in-Ok-None.ensures
+pub returns-in-Ok-false-clause-said : goal.returns-in-Ok-false-clause-said
+returns-in-Ok-false-clause-said g c =
+    let inv = c.loop-gathered.invariant in
+    let answered = rw c.in-Ok-false.field-0-test at c.in-Ok-false.ensures in
+    shown_whole _ _ _ _ _ _ c.loop-gathered.capture c.next_into.new.self c.loop-gathered.gathered c.loop-gathered.number _ _ _ inv.shown inv.going answered.continues answered.standing
+    (answered.end inv.going refl) (other_side (λ h. h) answered.tally ∙ inv.reading) c.finish-in-Ok-false.ensures
 
-pub returns-in-Ok-None-clause-whole : goal.returns-in-Ok-None-clause-whole
-returns-in-Ok-None-clause-whole g c = λ text tells clean. whole_text text _ _ _ _ _ _ _ tells clean (returns-in-Ok-None-clause-said g c)
+pub returns-in-Ok-false-clause-whole : goal.returns-in-Ok-false-clause-whole
+returns-in-Ok-false-clause-whole g c = λ text tells clean. whole_text text _ _ _ _ _ _ _ tells clean (returns-in-Ok-false-clause-said g c)
 
-pub returns-in-Err-next-clause-said : goal.returns-in-Err-next-clause-said
-returns-in-Err-next-clause-said g c =
-    let inv = c.loop-datagram.invariant in
-    let answered = c.in-Err-next.ensures in
-    shown_fault _ _ _ _ _ _ c.loop-datagram.capture c.next.new.self c.loop-datagram.gathered c.loop-datagram.number _ _ _ c.in-Err-next.fault inv.shown inv.going answered.continues answered.standing
-    (answered.cut inv.going) (answered.drained inv.going) answered.read (λ other. other_side other answered.tally ∙ inv.reading) c.finish-in-Err-next.ensures
+pub returns-in-Err-next_into-clause-said : goal.returns-in-Err-next_into-clause-said
+returns-in-Err-next_into-clause-said g c =
+    let inv = c.loop-gathered.invariant in
+    let answered = c.in-Err-next_into.ensures in
+    shown_fault _ _ _ _ _ _ c.loop-gathered.capture c.next_into.new.self c.loop-gathered.gathered c.loop-gathered.number _ _ _ c.in-Err-next_into.fault inv.shown inv.going answered.continues answered.standing
+    (answered.cut inv.going) (answered.drained inv.going) answered.read (λ other. other_side other answered.tally ∙ inv.reading) c.finish-in-Err-next_into.ensures
 
-pub returns-in-Err-next-clause-whole : goal.returns-in-Err-next-clause-whole
-returns-in-Err-next-clause-whole g c = λ text tells clean. whole_text text _ _ _ _ _ _ _ tells clean (returns-in-Err-next-clause-said g c)
+pub returns-in-Err-next_into-clause-whole : goal.returns-in-Err-next_into-clause-whole
+returns-in-Err-next_into-clause-whole g c = λ text tells clean. whole_text text _ _ _ _ _ _ _ tells clean (returns-in-Err-next_into-clause-said g c)
 
 pub returns-then-is_err-clause-said : goal.returns-then-is_err-clause-said
 returns-then-is_err-clause-said g c =
-    let inv = c.loop-datagram.invariant in
-    let answered = rw c.in-Ok-Some.field-0-is at c.in-Ok-Some.ensures in
+    let inv = c.loop-gathered.invariant in
+    let answered = rw c.in-Ok-true.field-0-test at c.in-Ok-true.ensures in
     let failed = sym c.is_err.ensures.value ∙ c.if-is_err.true in
     let put = c.put_datagram.ensures.adds in
-    let told = not_added g.W.Write.contents c.loop-datagram.writer c.put_datagram.new.writer c.put_datagram.result _ _ _ failed put.2 in
-    cut_here _ _ _ _ _ _ c.loop-datagram.capture c.next.new.self c.loop-datagram.gathered c.loop-datagram.number c.in-Ok-Some.datagram put.0 _ _ inv.shown inv.going answered.continues answered.standing
+    let told = not_added g.W.Write.contents c.loop-gathered.writer c.put_datagram.new.writer c.put_datagram.result _ _ _ failed put.2 in
+    cut_here _ _ _ _ _ _ c.loop-gathered.capture c.next_into.new.self c.loop-gathered.gathered c.loop-gathered.number c.next_into.new.datagram put.0 _ _ inv.shown inv.going answered.continues answered.standing
     (other_side (λ h. h) answered.tally ∙ inv.reading) told.0 put.1 told.1
 
 pub returns-then-is_err-clause-whole : goal.returns-then-is_err-clause-whole
 returns-then-is_err-clause-whole g c = λ text tells clean. whole_text text _ _ _ _ _ _ _ tells clean (returns-then-is_err-clause-said g c)
 
-pub loop-datagram-preserved : goal.loop-datagram-preserved
-loop-datagram-preserved g c =
-    let inv = c.loop-datagram.invariant in
-    let answered = rw c.in-Ok-Some.field-0-is at c.in-Ok-Some.ensures in
+pub loop-gathered-preserved : goal.loop-gathered-preserved
+loop-gathered-preserved g c =
+    let inv = c.loop-gathered.invariant in
+    let answered = rw c.in-Ok-true.field-0-test at c.in-Ok-true.ensures in
     let passed = sym c.is_err.ensures.value ∙ c.if-is_err.false in
     let put = c.put_datagram.ensures.adds in
-    let told = added g.W.Write.contents c.loop-datagram.writer c.put_datagram.new.writer c.put_datagram.result _ _ _ passed put.2 in
+    let told = added g.W.Write.contents c.loop-gathered.writer c.put_datagram.new.writer c.put_datagram.result _ _ _ passed put.2 in
     record {
       going = answered.standing;
       reading = other_side (λ h. h) answered.tally ∙ inv.reading;
       writing = told.0;
       few = omega (arith, inv.few, answered.rises);
-      shown = one_more _ _ _ _ _ _ c.loop-datagram.capture c.next.new.self c.loop-datagram.gathered c.put_datagram.new.gathered c.loop-datagram.number c.in-Ok-Some.datagram put.0 inv.shown inv.going answered.continues answered.standing put.1 told.1;
+      shown = one_more _ _ _ _ _ _ c.loop-gathered.capture c.next_into.new.self c.loop-gathered.gathered c.put_datagram.new.gathered c.loop-gathered.number c.next_into.new.datagram put.0 inv.shown inv.going answered.continues answered.standing put.1 told.1;
     }

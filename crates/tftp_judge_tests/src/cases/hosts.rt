@@ -1,4 +1,4 @@
-use super::{ACCEPTED, Case, all_are_checked_under, capture, says};
+use super::{ACCEPTED, Case, Table, all_hold, capture, holds};
 use std::test::Fail;
 
 const AT_CLIENT: &str = "tftp-capture 2\nend client\nservice 69\n";
@@ -22,6 +22,8 @@ const ACK_1_TO_2: &str = "out 40000 10.0.0.2 41000 00040001";
 /// A block of a third host, from the server's port.
 const STRAY: &str = "in 40000 10.0.0.9 41000 000300016869";
 
+/// A server may answer from another host than the one that was asked, and the client goes on with that one. Hosts are
+/// the same where their bytes are.
 const READS: [Case; 6] = [
     (&[READ, HI, ACK_1], ACCEPTED, 0),
     (&[READ, READ, HI, ACK_1], ACCEPTED, 0),
@@ -39,13 +41,7 @@ const READS: [Case; 6] = [
     ),
 ];
 
-/// A server may answer from another host than the one that was asked, and the client goes on with that one. Hosts are
-/// the same where their bytes are.
-#[test]
-fn the_host_that_answers(rt: HostRuntime) -> Result<(), Fail> {
-    all_are_checked_under(&rt, AT_CLIENT, &READS)
-}
-
+/// A request is repeated to the host that was asked, not to the one that answered.
 const REQUESTS: [Case; 2] = [
     (
         &[READ, READ_AT_2],
@@ -59,12 +55,7 @@ const REQUESTS: [Case; 2] = [
     ),
 ];
 
-/// A request is repeated to the host that was asked, not to the one that answered.
-#[test]
-fn requests_to_another_host(rt: HostRuntime) -> Result<(), Fail> {
-    all_are_checked_under(&rt, AT_CLIENT, &REQUESTS)
-}
-
+/// A third host is told from the server by its host, though its port is the server's. What comes first is the server's.
 const STRAYS: [Case; 7] = [
     (&[READ, HI, STRAY, ACK_1], ACCEPTED, 0),
     (
@@ -105,12 +96,6 @@ const STRAYS: [Case; 7] = [
     ),
 ];
 
-/// A third host is told from the server by its host, though its port is the server's. What comes first is the server's.
-#[test]
-fn strays_from_a_third_host(rt: HostRuntime) -> Result<(), Fail> {
-    all_are_checked_under(&rt, AT_CLIENT, &STRAYS)
-}
-
 /// A read that the client 10.0.0.7 asks for, what it gets, and its acknowledgement.
 const ASKED: &str = "in 69 10.0.0.7 40000 000161006f6374657400";
 
@@ -121,6 +106,7 @@ const ACKED: &str = "in 41000 10.0.0.7 40000 00040001";
 /// An acknowledgement of a third host, from the client's port.
 const STRAY_ACK: &str = "in 41000 10.0.0.8 40000 00040001";
 
+/// A server answers the client's host, and a request of another host is of another transfer.
 const SERVERS: [Case; 6] = [
     (&[ASKED, SENT, ACKED], ACCEPTED, 0),
     (
@@ -157,10 +143,17 @@ const SERVERS: [Case; 6] = [
     ),
 ];
 
-/// A server answers the client's host, and a request of another host is of another transfer.
+/// The tables, with the header of each.
+const TABLES: [Table; 4] = [
+    (AT_CLIENT, &READS),
+    (AT_CLIENT, &REQUESTS),
+    (AT_CLIENT, &STRAYS),
+    (AT_SERVER, &SERVERS),
+];
+
 #[test]
-fn hosts_at_the_server(rt: HostRuntime) -> Result<(), Fail> {
-    all_are_checked_under(&rt, AT_SERVER, &SERVERS)
+fn datagrams_of_several_hosts(rt: HostRuntime) -> Result<(), Fail> {
+    all_hold(&rt, &TABLES)
 }
 
 /// Any 1 to 45 signs but the space are a host.
@@ -173,15 +166,7 @@ fn names_of_hosts(rt: HostRuntime) -> Result<(), Fail> {
         let ack = format!(in rt.alloc(); "out 40000 {host} 41000 00040001")?;
         let datagrams = [read.as_str(), block.as_str(), ack.as_str()];
         let text = capture(rt.alloc(), AT_CLIENT, &datagrams)?;
-        says(&rt, "check", text.as_slice(), ACCEPTED, 0)?;
+        holds(&rt, text.as_slice(), ACCEPTED, 0)?;
     }
     Ok(())
-}
-
-/// `show` names no host.
-#[test]
-fn datagrams_of_several_hosts_are_shown(rt: HostRuntime) -> Result<(), Fail> {
-    let text = capture(rt.alloc(), AT_CLIENT, &[READ, HI, STRAY, ACK_1])?;
-    let lines = "1 out RRQ\n2 in DATA 1 2\n3 in DATA 1 2\n4 out ACK 1\n";
-    says(&rt, "show", text.as_slice(), lines, 0)
 }

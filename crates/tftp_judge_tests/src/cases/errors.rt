@@ -1,6 +1,6 @@
 use super::{
-    ACCEPTED, ACK_0, ACK_1, ACKED_0, ACKED_1, ACKED_2, Case, HI, IN_1, IN_2, OACK_BY_8, OUT_1,
-    OUT_2, READ, READ_BY_8, SERVER, WRITE_BY_8, all_are_checked, all_are_checked_under,
+    ACCEPTED, ACK_0, ACK_1, ACKED_0, ACKED_1, ACKED_2, CLIENT, Case, DISK_FULL, HI, IN_1, IN_2,
+    OACK_BY_8, OUT_1, OUT_2, READ, READ_BY_8, SERVER, Table, WRITE_BY_8, all_hold,
 };
 use std::test::Fail;
 
@@ -10,10 +10,8 @@ const NOT_FOUND: &str = "in 40000 41000 0005000100";
 /// The server ends the transfer for no stated reason.
 const STOPPED: &str = "in 40000 41000 0005000000";
 
-/// The client's disk is full.
-const DISK_FULL: &str = "out 40000 41000 0005000300";
-
-const BY_PEER: [Case; 7] = [
+/// An ERROR that comes in may come again, but not with another code or message.
+const BY_PEER: [Case; 8] = [
     (&[READ, NOT_FOUND], "aborted by peer code 1\n", 1),
     (&[READ, NOT_FOUND, NOT_FOUND], "aborted by peer code 1\n", 1),
     (
@@ -37,15 +35,11 @@ const BY_PEER: [Case; 7] = [
         "refused datagram 2 rule 5 Malformed NoTerminator\n",
         1,
     ),
+    (&[READ, NOT_FOUND, HI], "aborted by peer code 1\n", 1),
 ];
 
-/// An ERROR that comes in may come again, but not with another code or message.
-#[test]
-fn errors_that_come_in(rt: HostRuntime) -> Result<(), Fail> {
-    all_are_checked(&rt, &BY_PEER)
-}
-
-const BY_THIS_END: [Case; 8] = [
+/// After its ERROR an end sends nothing else, while what was on the way to it still comes.
+const BY_THIS_END: [Case; 10] = [
     (&[READ, HI, DISK_FULL], "aborted by local code 3\n", 1),
     (
         &[READ, HI, DISK_FULL, DISK_FULL],
@@ -82,15 +76,20 @@ const BY_THIS_END: [Case; 8] = [
         "aborted by local code 3\n",
         1,
     ),
+    (
+        &[READ, HI, DISK_FULL, HI, DISK_FULL],
+        "aborted by local code 3\n",
+        1,
+    ),
+    (
+        &[READ, HI, DISK_FULL, "in 40000 41000 0005000400"],
+        "aborted by local code 3\n",
+        1,
+    ),
 ];
 
-/// After its ERROR an end sends nothing else, while what was on the way to it still comes.
-#[test]
-fn errors_that_go_out(rt: HostRuntime) -> Result<(), Fail> {
-    all_are_checked(&rt, &BY_THIS_END)
-}
-
-const BESIDE_OTHER_RULES: [Case; 5] = [
+/// An ERROR is a datagram of the transfer, and what no end may send is no better after it.
+const BESIDE_OTHER_RULES: [Case; 6] = [
     (&[NOT_FOUND], "refused datagram 1 rule 4 NoRequest\n", 1),
     (
         &[READ, "out 40000 69 0005000300"],
@@ -112,26 +111,21 @@ const BESIDE_OTHER_RULES: [Case; 5] = [
         "refused datagram 4 rule 7 AfterError\n",
         1,
     ),
+    (
+        &[READ, HI, DISK_FULL, "out 40000 41000 0004000100"],
+        "refused datagram 4 rule 5 Malformed AckLength\n",
+        1,
+    ),
 ];
 
-/// An ERROR is a datagram of the transfer, and what no end may send is no better after it.
-#[test]
-fn errors_and_the_other_rules(rt: HostRuntime) -> Result<(), Fail> {
-    all_are_checked(&rt, &BESIDE_OTHER_RULES)
-}
-
+/// A whole transfer stays accepted.
 const COMPLETE: [Case; 3] = [
     (&[READ, HI, ACK_1, STOPPED], ACCEPTED, 0),
     (&[READ, HI, ACK_1, DISK_FULL], ACCEPTED, 0),
     (&[READ, HI, STOPPED, ACK_1], ACCEPTED, 0),
 ];
 
-/// A whole transfer stays accepted.
-#[test]
-fn errors_at_the_end_of_a_whole_transfer(rt: HostRuntime) -> Result<(), Fail> {
-    all_are_checked(&rt, &COMPLETE)
-}
-
+/// A stray's ERROR ends nothing, and a stray is still answered.
 const STRAYS: [Case; 3] = [
     (&[READ, HI, "in 40000 42000 0005000100", ACK_1], ACCEPTED, 0),
     (
@@ -152,13 +146,13 @@ const STRAYS: [Case; 3] = [
     ),
 ];
 
-/// A stray's ERROR ends nothing, and a stray is still answered.
-#[test]
-fn errors_of_strays(rt: HostRuntime) -> Result<(), Fail> {
-    all_are_checked(&rt, &STRAYS)
-}
+/// Block 1 with the digits 0 to 7, and block 2 with 8 and 9.
+const IN_01234567: &str = "in 40000 41000 000300013031323334353637";
 
-const READS_AFTERWARDS: [Case; 4] = [
+const IN_89: &str = "in 40000 41000 000300023839";
+
+/// The server sent its ERROR last: what this end sent after the ERROR had come was not yet there for what comes in.
+const READS_AFTERWARDS: [Case; 9] = [
     (
         &[READ_BY_8, OACK_BY_8, ACK_0, IN_1, ACK_1, STOPPED, IN_2],
         "aborted by peer code 0\n",
@@ -181,13 +175,56 @@ const READS_AFTERWARDS: [Case; 4] = [
         "aborted by peer code 0\n",
         1,
     ),
+    (
+        &[
+            READ_BY_8,
+            OACK_BY_8,
+            ACK_0,
+            IN_01234567,
+            ACK_1,
+            STOPPED,
+            IN_89,
+        ],
+        "aborted by peer code 0\n",
+        1,
+    ),
+    (
+        &[
+            READ_BY_8,
+            OACK_BY_8,
+            ACK_0,
+            IN_01234567,
+            STOPPED,
+            ACK_1,
+            IN_89,
+        ],
+        "refused datagram 7 rule 22 WindowOverrun\n",
+        1,
+    ),
+    (
+        &[
+            READ_BY_8,
+            OACK_BY_8,
+            ACK_0,
+            IN_01234567,
+            STOPPED,
+            ACK_1,
+            IN_01234567,
+        ],
+        "aborted by peer code 0\n",
+        1,
+    ),
+    (
+        &[READ_BY_8, OACK_BY_8, ACK_0, STOPPED, IN_01234567],
+        "aborted by peer code 0\n",
+        1,
+    ),
+    (
+        &[READ_BY_8, OACK_BY_8, STOPPED, ACK_0, IN_01234567],
+        "refused datagram 5 rule 18 NotStarted\n",
+        1,
+    ),
 ];
-
-/// The server sent its ERROR last: what this end sent after the ERROR had come was not yet there for what comes in.
-#[test]
-fn blocks_after_an_error(rt: HostRuntime) -> Result<(), Fail> {
-    all_are_checked(&rt, &READS_AFTERWARDS)
-}
 
 const WRITES_AFTERWARDS: [Case; 4] = [
     (
@@ -216,11 +253,6 @@ const WRITES_AFTERWARDS: [Case; 4] = [
     ),
 ];
 
-#[test]
-fn acknowledgements_after_an_error(rt: HostRuntime) -> Result<(), Fail> {
-    all_are_checked(&rt, &WRITES_AFTERWARDS)
-}
-
 /// A read of the file `a`, as the server is asked for it.
 const ASKED: &str = "in 69 40000 000161006f6374657400";
 
@@ -233,7 +265,24 @@ const AGREED: &str = "out 69 40000 0006626c6b73697a6500380077696e646f7773697a650
 /// The server has no such file.
 const ANSWERED: &str = "out 41000 40000 0005000100";
 
-const AT_SERVER: [Case; 6] = [
+/// A read with a block size of 8 and a window of 2, as the server is asked for it, and the OACK from the server's port.
+const ASKED_2_BY_8: &str =
+    "in 69 40000 000161006f6374657400626c6b73697a6500380077696e646f7773697a65003200";
+
+const AGREED_2_BY_8: &str = "out 41000 40000 0006626c6b73697a6500380077696e646f7773697a65003200";
+
+const SENT_1: &str = "out 41000 40000 000300013131313131313131";
+
+const SENT_HI: &str = "out 41000 40000 000300016869";
+
+const TAKEN_0: &str = "in 41000 40000 00040000";
+
+const TAKEN_1: &str = "in 41000 40000 00040001";
+
+const BROKEN_OFF: &str = "in 41000 40000 0005000000";
+
+/// A server answers a request by ERROR, again where the request comes again. Before it has answered no ERROR can come.
+const AT_SERVER: [Case; 10] = [
     (&[ASKED, ANSWERED], "aborted by local code 1\n", 1),
     (
         &[ASKED, ANSWERED, ASKED, ANSWERED],
@@ -260,10 +309,55 @@ const AT_SERVER: [Case; 6] = [
         "refused datagram 2 rule 2 WrongPort\n",
         1,
     ),
+    (
+        &[ASKED, SENT_HI, "in 41000 40000 0005000400", SENT_HI],
+        "aborted by peer code 4\n",
+        1,
+    ),
+    (
+        &["in 69 40000 000261006f6374657400", "in 69 40000 0005000000"],
+        "refused datagram 2 rule 2 WrongPort\n",
+        1,
+    ),
+    (
+        &[
+            ASKED_2_BY_8,
+            AGREED_2_BY_8,
+            TAKEN_0,
+            SENT_1,
+            BROKEN_OFF,
+            TAKEN_1,
+        ],
+        "aborted by peer code 0\n",
+        1,
+    ),
+    (
+        &[
+            ASKED_2_BY_8,
+            AGREED_2_BY_8,
+            TAKEN_0,
+            BROKEN_OFF,
+            SENT_1,
+            TAKEN_1,
+        ],
+        "refused datagram 6 rule 26 AckAhead\n",
+        1,
+    ),
 ];
 
-/// A server answers a request by ERROR, again where the request comes again. Before it has answered no ERROR can come.
+/// The tables, with the header of each.
+const TABLES: [Table; 8] = [
+    (CLIENT, &BY_PEER),
+    (CLIENT, &BY_THIS_END),
+    (CLIENT, &BESIDE_OTHER_RULES),
+    (CLIENT, &COMPLETE),
+    (CLIENT, &STRAYS),
+    (CLIENT, &READS_AFTERWARDS),
+    (CLIENT, &WRITES_AFTERWARDS),
+    (SERVER, &AT_SERVER),
+];
+
 #[test]
-fn errors_at_the_server(rt: HostRuntime) -> Result<(), Fail> {
-    all_are_checked_under(&rt, SERVER, &AT_SERVER)
+fn transfers_with_errors(rt: HostRuntime) -> Result<(), Fail> {
+    all_hold(&rt, &TABLES)
 }
