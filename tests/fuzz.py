@@ -3,10 +3,12 @@ what passes at one of them must be accepted with the meaning that it was made fr
 was cut or an ERROR ended it. Then datagrams and texts are changed: each must get one of the lines that there are, the
 same however the capture is written, in time, with nothing on standard error.
 
-    fuzz.py [--cases N] [--seconds S] [--seed SEED] [--jobs N] [--commands NAME,..] [--folder FOLDER] [--slower N] PROGRAM
+    fuzz.py [--cases N] [--seconds S] [--seed SEED] [--jobs N] [--commands NAME,..] [--folder FOLDER] [--slower N]
+            PROGRAM
 
-Case by case the seed is SEED and up; a case that fails is told with its own, and is run alone by `--cases 1 --seed` that.
-Its capture and what was printed are written to FOLDER. The last line is 'N passed, M failed'; status 1 if any failed.
+The first case has the seed SEED, and each further one the next number; a case that fails is told with its own, and is
+run alone by `--cases 1 --seed` and that. Its texts and what was printed of them are written to FOLDER. The last line is
+'N passed, M failed'; status 1 if any failed.
 """
 import argparse
 import collections
@@ -14,6 +16,7 @@ import concurrent.futures
 import itertools
 import os
 import pathlib
+import shlex
 import sys
 import tempfile
 import time
@@ -46,11 +49,12 @@ def write_failure(words, seed, number, failure):
     """The text of a run that failed, what was printed and what should have been, and how to see it again."""
     folder = words.folder / f"case-{seed}"
     folder.mkdir(parents=True, exist_ok=True)
-    (folder / f"{number}.capture").write_bytes(failure.text)
+    capture, program = folder / f"{number}.capture", shlex.quote(words.program)
+    capture.write_bytes(failure.text)
     (folder / f"{number}.told").write_text(
         f"{failure.name}: {failure.command}\nwanted {failure.wanted!r}\ngot {failure.got!r}\n"
-        f"again: {words.program} {failure.command} <{folder / f'{number}.capture'}\n"
-        f"the case alone: python3 {' '.join(sys.argv[:1])} --cases 1 --seed {seed} --commands {words.commands} {words.program}\n"
+        f"the run again: {program} {failure.command} <{shlex.quote(str(capture))}\n"
+        f"the case again: python3 {sys.argv[0]} --cases 1 --seed {seed} --commands {words.commands} {program}\n"
     )
 
 

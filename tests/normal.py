@@ -76,11 +76,18 @@ class Meaning:
 
     def count_line(self):
         """The line that `count` prints."""
-        return b"normal datagrams %d\n" % (self.normal_lines().count(b"\n"))
+        return b"normal datagrams %d\n" % self.normal_lines().count(b"\n")
 
     def normal_text(self):
         lines = self.normal_lines()
         return b"tftp-capture 1\nend client\nservice 69\n%stotal %d\n" % (lines, lines.count(b"\n"))
+
+    def outputs(self, verdict):
+        """What each command but `show` prints of a capture of this meaning, and its status, by the verdict on it."""
+        if verdict[1] != 0:
+            return outputs_of_refused(verdict)
+        texts = {"extract": self.file, "normal": self.normal_text(), "count": self.count_line()}
+        return {"check": verdict, **{command: (text, 0) for command, text in texts.items()}}
 
     def normal_lines(self):
         """The datagram lines of the normal capture."""
@@ -94,6 +101,7 @@ class Meaning:
         put(b"out", request + canonical(self.requested), SERVICE)
         if self.agreed:
             put(b"in", number(6) + canonical(self.agreed))
+        # what an OACK to a read, and a write without options, is answered by
         if bool(self.agreed) == (self.side == "get"):
             put(ack_way, number(4) + number(0))
         wire, count = self.canonical_wire(), self.block_count()
@@ -102,3 +110,24 @@ class Meaning:
             if block % self.window == 0 or block == count:
                 put(ack_way, number(4) + number(block))
         return bytes(lines)
+
+
+def outputs_of_refused(verdict):
+    """The same of a capture that is not accepted, whatever it means."""
+    return {"check": verdict, "extract": (b"", verdict[1]), "normal": (b"", verdict[1]), "count": verdict}
+
+
+def pairs_of(strings):
+    """The map that the strings of a request or of an OACK say."""
+    return {name.lower(): value_of(name.lower(), text) for name, text in zip(strings[::2], strings[1::2])}
+
+
+def meaning_of(text, file):
+    """What a capture text means by its first datagram, a request, and by its first OACK, if it carries this file."""
+    payloads = [line.split()[-1] for line in text.splitlines() if line.startswith((b"in ", b"out "))]
+    opcode, *rest = bytes.fromhex(payloads[0].decode())[1:]
+    name, mode, *requested = bytes(rest).split(b"\0")[:-1]
+    oack = next((payload for payload in payloads if payload.startswith(b"0006")), b"0006")
+    agreed = bytes.fromhex(oack.decode())[2:].split(b"\0")[:-1]
+    side = next(side for side, its in REQUEST_OPCODES.items() if its == opcode)
+    return Meaning(side, name, mode.decode().lower(), pairs_of(requested), pairs_of(agreed), file)

@@ -3,6 +3,7 @@ import collections
 import dataclasses
 import random
 
+from commands import SILENT
 from fuzzing import changes
 from fuzzing.further import further
 from fuzzing.lines import is_shown, is_verdict
@@ -10,9 +11,6 @@ from fuzzing.meanings import Spelling, chosen, meaning_of
 from fuzzing.program import MOST_PIECE
 from fuzzing.transfers import Transfer
 from fuzzing.views import View
-
-# What is printed and the status where a capture is not accepted, by the commands that write no line.
-SILENT = ("extract", "normal")
 
 
 @dataclasses.dataclass
@@ -59,19 +57,6 @@ class Trier:
         self.compare("in pieces", "check", text, self.program.run_in_pieces("check", pieces), wanted)
 
 
-def outputs_of(meaning, verdict, shown):
-    """What each command prints of a capture of this verdict, and its status."""
-    line, status = verdict
-    is_accepted = status == 0
-    return {
-        "check": verdict,
-        "show": (shown, 0),
-        "extract": (meaning.file if is_accepted else b"", status),
-        "normal": (meaning.normal_text() if is_accepted else b"", status),
-        "count": (meaning.count_line() if is_accepted else line, status),
-    }
-
-
 def view_of(chance):
     """What passed at one end of a transfer, and a view of the other end."""
     meaning, wire = meaning_of(chance)
@@ -88,7 +73,7 @@ def try_lawful(trier, chance):
     if chance.random() < 0.25:
         count = chance.randrange(whole + 1)
     verdict = view.expected(count)
-    outputs = outputs_of(view.meaning, verdict, view.shown(count))
+    outputs = {**view.meaning.outputs(verdict), "show": (view.shown(count), 0)}
     trier.met[f"lawful {verdict[0].split()[0].decode()}"] += 1
     text = view.capture.spelled(chance) if count == whole else view.capture.text(count)
     for command in chance.sample(sorted(outputs), 3):
@@ -102,8 +87,8 @@ def try_lawful(trier, chance):
         trier.expect("the other end", "check", other.capture.text(), other.expected(count))
     if chance.random() < 0.2:
         meaning = view.meaning
-        outputs = outputs_of(meaning, (meaning.line(), 0), b"")
-        for command in chance.sample(("check", "extract", "normal", "count"), 2):
+        outputs = meaning.outputs((meaning.line(), 0))
+        for command in chance.sample(sorted(outputs), 2):
             trier.expect("its normal text", command, meaning.normal_text(), outputs[command])
 
 

@@ -90,7 +90,8 @@ def changed_capture(chance, capture):
             end = {"client": "server", "server": "client"}[capture.end]
             capture = dataclasses.replace(capture, end=end)
         elif chance.random() < 0.04:
-            capture = dataclasses.replace(capture, service=chance.choice([it.peer[1] for it in capture.datagrams] or [69]))
+            ports = [it.peer[1] for it in capture.datagrams] or [69]
+            capture = dataclasses.replace(capture, service=chance.choice(ports))
         elif capture.datagrams:
             capture = dataclasses.replace(capture, datagrams=tuple(changed_list(chance, capture)))
     return capture
@@ -117,9 +118,9 @@ def renumbered(chance, capture):
 
 
 WORDS = (
-    b" ", b"\n", b"\r\n", b"\0", b"0", b"-", b"#", b"g", b"A", b"  ", b"65536", b"in ", b"out ", b"total ", b"total 3\n",
-    b"end client\n", b"end server\n", b"service 69\n", b"tftp-capture 1\n", b"tftp-capture 2\n", b"\xff", b"+", b"10.0.0.1 ",
-    b"tftp-capture 3\n", b"service 0\n", b"\n\n", b"a" * 46,
+    b" ", b"  ", b"\n", b"\n\n", b"\r\n", b"\0", b"\xff", b"0", b"-", b"#", b"+", b"g", b"A", b"65536", b"in ", b"out ",
+    b"tftp-capture 1\n", b"tftp-capture 2\n", b"tftp-capture 3\n", b"end client\n", b"end server\n", b"service 69\n",
+    b"service 0\n", b"total ", b"total 3\n", b"10.0.0.1 ", b"a" * 46,
 )
 
 

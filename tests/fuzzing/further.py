@@ -40,6 +40,11 @@ def broken_by_sending(passed, packet):
     return "23 BlockSkipped" if packet[1] > end.top + 1 else "24 GoneBack"
 
 
+def may_come_started(passed):
+    """Whether the other end may have been started to send DATA, by what this one had sent."""
+    return passed.meaning.side == "put" or not passed.meaning.agreed or "ack" in passed.before.sent
+
+
 def broken_by_coming(passed, packet):
     """The rule that the other end breaks where a packet of the transfer comes, whatever that end had taken."""
     end, kind, meaning, before = passed.end, packet[0], passed.meaning, passed.before
@@ -51,7 +56,7 @@ def broken_by_coming(passed, packet):
     if kind == "oack":
         return None if meaning.agreed else "10 ReplyChanged"
     if kind == "data":
-        if is_read and meaning.agreed and "ack" not in before.sent:
+        if not may_come_started(passed):
             return "18 NotStarted"
         return "22 WindowOverrun" if packet[1] > before.last_ack + end.window else None
     if kind == "ack" and packet[1] > before.top:
@@ -69,7 +74,7 @@ def packet_of(chance, passed):
     block = min(max(1, chance.choice(near)), end.blocks)
     errors = [error for error in (end.told, passed.heard) if error] + [("error", 3, b""), ("error", 0, b"x")]
     return chosen(
-        chance, (("request",), 2), (("oack",), 2), (("data", block), 5), (("ack", chance.choice((block, end.blocks))), 5),
+        chance, (("request",), 2), (("oack",), 2), (("data", block), 5), (("ack", block), 4), (("ack", end.blocks), 2),
         (("ack", 0), 2), (chance.choice(errors), 2),
     )
 
@@ -105,24 +110,24 @@ def another_request(chance, view, passed):
     )
     other = dataclasses.replace(meaning, **{part: value})
     is_sent = view.end == "client"
-    return view.of_payload(is_sent, spelled_request(chance, other)), after_own_error(passed, is_sent, "8 RequestChanged")
+    broken = after_own_error(passed, is_sent, "8 RequestChanged")
+    return view.of_payload(is_sent, spelled_request(chance, other)), broken
 
 
 def another_block(chance, view, passed):
     """A DATA with one thing wrong: its number is 0 or behind the last one's, it is too long, or it has other bytes."""
-    end, size = passed.end, view.meaning.size
-    is_sent = end.is_sender
-    is_started = end.is_started() if is_sent else view.meaning.side == "put" or not view.meaning.agreed or "ack" in passed.before.sent
-    block = chance.randint(1, max(1, end.top if is_sent else end.front))
+    end, size, is_sent = passed.end, view.meaning.size, passed.end.is_sender
+    is_started = end.is_started() if is_sent else may_come_started(passed)
+    high = end.top if is_sent else end.front
+    block = chance.randint(1, max(1, high))
     content = view.spelling.payload(("data", block))[4:]
-    has_passed = block <= (end.top if is_sent else end.front)
     is_last_known = end.blocks <= end.top or end.blocks in end.held
     way = chance.randrange(4)
     if way == 0:
         block, broken = 0, "19 BlockZero"
     elif way == 1 and is_last_known:
         block, broken = end.blocks + chance.choice((1, 2, 300)), "21 BlockLength"
-    elif way == 2 or not (has_passed and content):
+    elif way == 2 or block > high or not content:
         content, broken = bytes(size + 1), "21 BlockLength"
     else:
         content, broken = bytes([content[0] ^ 1]) + content[1:], "25 BlockChanged"
@@ -140,7 +145,8 @@ def another_oack(chance, view, passed):
         del agreed[name]
     else:
         agreed[name] = agreed[name] - 1 if agreed[name] > KNOWN[name][0] else agreed[name] + 1
-    return view.of_payload(is_sent, number(6) + spelled_options(chance, agreed)), after_own_error(passed, is_sent, "16 OackChanged")
+    broken = after_own_error(passed, is_sent, "16 OackChanged")
+    return view.of_payload(is_sent, number(6) + spelled_options(chance, agreed)), broken
 
 
 def wrong_ports(chance, view, passed):
@@ -160,7 +166,8 @@ def wrong_ports(chance, view, passed):
 def answer_of_stray(chance, view, passed):
     """What goes out to a stray's peer, and is no ERROR 5."""
     answers = [(payload, said) for payload, said in STRAYS if said != "ERROR 5"]
-    return dataclasses.replace(view.of_payload(True, *chance.choice(answers)), peer=chance.choice(passed.noted)), "3 StrayAnswer"
+    answer = view.of_payload(True, *chance.choice(answers))
+    return dataclasses.replace(answer, peer=chance.choice(passed.noted)), "3 StrayAnswer"
 
 
 def first_oack(chance, view, passed):
@@ -180,7 +187,8 @@ def first_oack(chance, view, passed):
     if b"tsize" in numbers and view.meaning.mode == "octet" and view.meaning.side == "get":
         ways.append(({b"tsize": 512 * 65_535}, "20 BeyondBlock65535"))
     options, broken = chance.choice(ways)
-    return view.of_payload(is_sent, number(6) + spelled_options(chance, options)), after_own_error(passed, is_sent, broken)
+    broken = after_own_error(passed, is_sent, broken)
+    return view.of_payload(is_sent, number(6) + spelled_options(chance, options)), broken
 
 
 def ways(view, passed):

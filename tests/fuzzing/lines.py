@@ -34,8 +34,8 @@ VERDICTS = tuple(
     )
 )
 ROW = re.compile(
-    f"([1-9][0-9]*) (in|out) (RRQ|WRQ|DATA {NUMBER} {NUMBER}|ACK {NUMBER}|ERROR {NUMBER}|OACK|malformed ({MALFORMED}))\n"
-    .encode()
+    f"([1-9][0-9]*) (in|out) (RRQ|WRQ|DATA {NUMBER} {NUMBER}|ACK {NUMBER}|ERROR {NUMBER}|OACK|malformed ({MALFORMED}))"
+    "\n".encode()
 )
 FAULTS = re.compile(FAULT.encode())
 

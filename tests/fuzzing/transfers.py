@@ -27,10 +27,10 @@ class Habit:
 
 
 def habit_of(chance):
-    is_plain = chance.random() < 0.4
-    if is_plain:
+    if chance.random() < 0.4:
         return Habit(1, chance.choice((0, 1)), chance.choice((0, 1)), 0, 0)
-    return Habit(*(chance.choice(odds) for odds in ((0.7, 0.95), (0, 0.5, 1), (0, 0.5, 1), (0, 0.1, 0.4), (0, 0.05, 0.3))))
+    odds = (0.7, 0.95), (0, 0.5, 1), (0, 0.5, 1), (0, 0.1, 0.4), (0, 0.05, 0.3)
+    return Habit(*map(chance.choice, odds))
 
 
 @dataclasses.dataclass
@@ -45,7 +45,7 @@ class Network:
 def network_of(chance):
     if chance.random() < 0.3:
         return Network(0, 0, 0)
-    return Network(*(chance.choice(odds) for odds in ((0, 0.05, 0.2), (0, 0.05, 0.2), (0, 0.1, 0.5))))
+    return Network(*map(chance.choice, ((0, 0.05, 0.2), (0, 0.05, 0.2), (0, 0.1, 0.5))))
 
 
 def window_after(end, base, chance, habit):

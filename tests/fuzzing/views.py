@@ -75,7 +75,8 @@ class Capture:
 def skipped(chance):
     """Lines that are skipped."""
     while chance.random() < 0.15:
-        yield chance.choice((b"", b"#", b"# total 3", b"#\0\xff\r", b"#" + chance.randbytes(9).replace(b"\n", b""))) + b"\n"
+        any_bytes = b"#" + chance.randbytes(9).replace(b"\n", b"")
+        yield chance.choice((b"", b"#", b"# total 3", b"#\0\xff\r", any_bytes)) + b"\n"
 
 
 def port_of(chance):
