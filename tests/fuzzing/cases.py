@@ -4,13 +4,14 @@ import dataclasses
 import random
 
 from commands import SILENT
-from fuzzing import changes
+from fuzzing import changes, faults
 from fuzzing.further import further
 from fuzzing.lines import is_shown, is_verdict
 from fuzzing.meanings import Spelling, chosen, meaning_of
 from fuzzing.program import MOST_PIECE
 from fuzzing.transfers import Transfer
 from fuzzing.views import View
+from normal import outputs_of_refused
 
 
 @dataclasses.dataclass
@@ -127,6 +128,19 @@ def try_prefixes(trier, capture, verdict):
         trier.failures.append(Failure("before the unlawful datagram", "check", text, (line, b"", status), "no refusal"))
 
 
+def try_faulty(trier, chance):
+    """A fault of the text behind the first datagrams of a lawful transfer, or in its header."""
+    view, _ = view_of(chance)
+    text, number, fault = faults.faulty(chance, view.capture)
+    line = b"fault line %d %s\n" % (number, fault.encode())
+    trier.met[f"faulty {fault}"] += 1
+    # a line is left over where the total line has been read, and so are those of the header
+    known = max(0, number - 4 - (fault == "TrailingText"))
+    outputs = {**outputs_of_refused((line, 2)), "show": (view.shown(known) + line, 2)}
+    for command in chance.sample(sorted(outputs), 2):
+        trier.expect("a fault", command, text, outputs[command])
+
+
 def try_further(trier, chance):
     """One more datagram after a lawful transfer or its first ones; the rule that it breaks is known."""
     view, _ = view_of(chance)
@@ -184,4 +198,7 @@ def try_changed_text(trier, chance):
 def try_case(trier, seed):
     """The case of this number."""
     chance = random.Random(seed)
-    chosen(chance, (try_lawful, 8), (try_further, 5), (try_changed, 5), (try_changed_text, 2))(trier, chance)
+    way = chosen(
+        chance, (try_lawful, 8), (try_further, 5), (try_faulty, 2), (try_changed, 5), (try_changed_text, 2)
+    )
+    way(trier, chance)
