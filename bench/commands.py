@@ -1,6 +1,6 @@
 """Prints rows of a table: how fast each command of the program is on a capture, by processor time, the best of five
-runs, and that time in those of `show`, `wc -l` and `cat`, which are run on the same bytes in turn with it; and the most
-memory that it takes, beside the size of the file that the capture carries.
+runs, and that time in those of `show`, `check`, `wc -l` and `cat`, which are run on the same bytes in turn with it; and
+the most memory that it takes, beside the size of the file that the capture carries.
 
     commands.py                           prints the table's head
     commands.py PROGRAM NAME CAPTURE      prints the rows of a capture
@@ -11,9 +11,10 @@ import sys
 from measure import COPY, LINES, best_of, figures, run
 
 RUNS = 5
+# `normal` joins them here once the program has it.
 COMMANDS = "show", "check", "extract"
-HEAD = "capture", "command", "s", "MB/s", "show", "wc -l", "cat", "memory", "file"
-WIDTHS = 46, 7, 8, 6, 6, 6, 6, 8, 8
+HEAD = "capture", "command", "s", "MB/s", "show", "check", "wc -l", "cat", "memory", "file"
+WIDTHS = 46, 7, 8, 6, 6, 6, 6, 6, 8, 8
 
 
 def row(*cells):
@@ -33,7 +34,7 @@ def main(program, name, path):
     *of_commands, lines, copy = best_of(RUNS, path, *commands, LINES, COPY)
     # `check` prints the number of the file's bytes last.
     file = int(of_commands[COMMANDS.index("check")][2].split()[-1])
-    bases = of_commands[COMMANDS.index("show")][0], lines[0], copy[0]
+    bases = *(of_commands[COMMANDS.index(command)][0] for command in ("show", "check")), lines[0], copy[0]
     for command, words, (seconds, memory, _) in zip(COMMANDS, commands, of_commands):
         ratios = (figures(seconds / base) for base in bases)
         memory = max(memory, most_memory(path, words))
@@ -44,5 +45,5 @@ def main(program, name, path):
 if len(sys.argv) > 1:
     main(*sys.argv[1:])
 else:
-    print("Times of the best of five runs, and how many of those of show, wc -l and cat on the same bytes they are:")
+    print("Times of the best of five runs, and how many of those of four others on the same bytes they are:")
     print(row(*HEAD), flush=True)

@@ -11,7 +11,7 @@ import time
 
 LINES, COPY = ["wc", "-l"], ["cat"]
 # What writes a text or a file is to write it nowhere; any other's answer is printed.
-WRITES_TEXT = ("cat", "copy", "extract", "netascii-decode", "netascii-encode", "show")
+WRITES_TEXT = ("cat", "copy", "extract", "netascii-decode", "netascii-encode", "normal", "show")
 
 
 def figures(number):

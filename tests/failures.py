@@ -12,9 +12,10 @@ import subprocess
 import sys
 
 from captures import Capture, ack, blocks, data, error, netascii, oack, read_request, write_request
+from commands import COMMANDS, SILENT
+from normal import meaning_of, outputs_of_refused
 from trial import Trial
 
-COMMANDS = ("check", "show", "extract")
 # What `show` says of the lines of a text begins at this one.
 FIRST_DATAGRAM_LINE = 4
 USAGE = (b"fault usage\n", 2)
@@ -27,9 +28,12 @@ NO_COMMANDS = (
     [], [""], ["Check"], ["chec"], ["check "], ["--check"], ["extrac"], ["extracts"], ["Extract"], ["extract\n"],
     ["help"], ["--help"], ["-h"], ["--version"], ["check", "show"], ["show", "show"], ["check", "extract"],
     ["extract", "extract"], ["check", ""], ["extract", ""], ["show", "--help"], ["extract", "--help"],
-    ["help", "check"], ["help", "extract"], ["--", "check"], ["--", "extract"],
+    ["help", "check"], ["help", "extract"], ["--", "check"], ["--", "extract"], ["norma"], ["normals"], ["Normal"],
+    ["normal\n"], ["--normal"], ["normal", "normal"], ["normal", ""], ["normal", "--help"], ["--", "normal"], ["coun"],
+    ["counts"], ["Count"], ["count "], ["--count"], ["count", "count"], ["check", "count"], ["count", "--help"],
+    ["help", "count"], ["--", "count"],
 )
-NO_WORDS = ([b"\xff"], [b"check\xc3"], [b"extract\xc3"], ["check", b"\xff"])
+NO_WORDS = ([b"\xff"], [b"check\xc3"], [b"extract\xc3"], [b"normal\xc3"], [b"count\xc3"], ["check", b"\xff"])
 
 
 @dataclasses.dataclass(frozen=True)
@@ -69,16 +73,19 @@ class Case:
         if command == "show":
             return b"".join(self.rows[: max(0, sound - FIRST_DATAGRAM_LINE + 1)]) + said, 2 if fault else 0
         judged = self.verdict if not fault or 0 < self.unlawful <= sound else (said, 2)
-        if command == "extract":
-            return b"" if judged[1] else self.file, judged[1]
-        return judged
+        if judged[1] == 0:
+            return meaning_of(self.text, self.file).outputs(judged)[command]
+        return outputs_of_refused(judged)[command]
 
     def outputs_without_memory(self, command):
         """What may be printed, and the status, where a growth is refused."""
         shown = range(len(self.rows) + 1) if command == "show" else range(1)
-        told = {(b"".join(self.rows[:count]) + MEMORY, 2) for count in shown if command != "extract"}
+        told = {(b"".join(self.rows[:count]) + MEMORY, 2) for count in shown if command not in SILENT}
+        output = self.output(command)
+        if command == "normal":
+            told |= {(output[0][:count], 2) for count in range(len(output[0]))}
         # Without memory for its words the program says nothing, nor does `extract` without any other.
-        return told | {self.output(command), NOTHING}
+        return told | {output, NOTHING}
 
 
 def text_of(*lines):
@@ -162,6 +169,29 @@ def with_hosts():
     yield sound
     wrong = sound.text.replace(b" %s " % strays.THIRD_HOST.encode(), b" a\tb ", 1)
     yield Case("a host that is none", wrong, tuple(strays.rows[:2]), wrong=(6, "BadHost"))
+
+
+def windows():
+    """Reads at the client: one by windows of four blocks that come out of order and twice, one with a stray between."""
+    sizes = {"blksize": 8, "windowsize": 4}
+    file = b"".join(b"%d" % block * 8 for block in range(1, 6)) + b"666"
+    wire = blocks(file, 8)
+    window = Capture("client")
+    window.put("client", read_request("a", "octet", **sizes))
+    window.put("server", oack(**sizes))
+    window.put("client", ack(0))
+    window.put("server", wire[0], wire[1], wire[3])
+    window.put("client", ack(2))
+    window.put("server", *wire[2:])
+    window.put("client", ack(6))
+    yield case_of("a window out of order", window, "accepted get octet blocks 6 bytes 43", file)
+    stray = Capture("client")
+    stray.put("client", read_request("a", "octet"))
+    stray.put("server", data(1, b"hi"))
+    stray.put("server", data(1, b"hi"), server=42_000)
+    stray.put("client", error(5, ""), server=42_000)
+    stray.put("client", ack(1))
+    yield case_of("a stray", stray, "accepted get octet blocks 1 bytes 2", b"hi")
 
 
 def with_errors():
@@ -298,7 +328,7 @@ class ProgramTrial(Trial):
                 self.expect(f"{name}, no growth refused", got, output)
                 return told
             self.expect(f"{name}, growth {turn} refused", got, *outputs)
-            told += got[0] == NOTHING if words == ["extract"] else got[0][0].endswith(MEMORY)
+            told += got[0][1] == 2 if words[0] in SILENT else got[0][0].endswith(MEMORY)
         self.check(f"{name}, growths", False, "no end")
         return told
 
@@ -366,7 +396,7 @@ class ProgramTrial(Trial):
 
 def main(program, folder):
     trial = ProgramTrial(program, pathlib.Path(folder))
-    for case in (*texts(), *with_hosts(), *with_errors()):
+    for case in (*texts(), *with_hosts(), *windows(), *with_errors()):
         for command in COMMANDS:
             trial.try_case(case, command)
     for case in (*transfers(), *strays(), *errors()):

@@ -14,6 +14,8 @@ import sys
 
 import captures
 from captures import ack, blocks, data, error, netascii, oack, read_request, write_request
+from commands import COMMANDS
+from normal import meaning_of, outputs_of_refused
 from trial import Trial
 
 COUNT = 10_000
@@ -126,9 +128,12 @@ def backwards(wire):
 
 
 def judged(name, text, line, status, file=b""):
-    """What is tried on a text of which `check` prints this line: the file is extracted only where it is accepted."""
-    yield name, "check", text, f"{line}\n".encode(), status
-    yield name, "extract", text, file, status
+    """What is tried on a text of which `check` prints this line, by each command that judges it."""
+    verdict = f"{line}\n".encode(), status
+    outputs = outputs_of_refused(verdict) if status else meaning_of(text, file).outputs(verdict)
+    for command, (output, ended) in outputs.items():
+        if command in COMMANDS:
+            yield name, command, text, output, ended
 
 
 def with_another_last(name, capture, sender, packet, rule):

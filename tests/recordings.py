@@ -11,6 +11,8 @@ import shlex
 import subprocess
 import sys
 
+from commands import COMMANDS
+from normal import meaning_of
 from trial import Trial
 
 TOP = pathlib.Path(__file__).resolve().parent.parent
@@ -223,14 +225,14 @@ def run(command, given):
 
 
 def try_capture(trial, program, name, capture, verdict, status, rows, file):
-    """Of the capture the program says this, and this is the file that it extracts, where it is accepted."""
-    got = run([program, "check"], capture)
-    trial.check(f"{name}, check", got == (f"{verdict}\n".encode(), b"", status), got)
-    got = run([program, "extract"], capture)
-    trial.check(f"{name}, extract", got == (file, b"", status), got)
-    got = run([program, "show"], capture)
+    """Of the capture the program says this, and this is the file that it carries, where it is accepted."""
+    outputs = meaning_of(capture, file).outputs((f"{verdict}\n".encode(), status))
     shown = "".join(f"{number} {row}\n" for number, row in enumerate(rows, 1))
-    trial.check(f"{name}, show", got == (shown.encode(), b"", 0), got)
+    outputs["show"] = shown.encode(), 0
+    for command in COMMANDS:
+        got = run([program, command], capture)
+        output, ended = outputs[command]
+        trial.check(f"{name}, {command}", got == (output, b"", ended), got)
 
 
 def try_recording(trial, program, name, words, verdict, rows):

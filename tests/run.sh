@@ -1,7 +1,8 @@
 #!/bin/sh
 # Tries the built program, tests/run.sh PROGRAM: the script tftp-audit with a stand-in for rt; each growth refused, each
-# read and each write failing, in turn; larger captures; the recorded transfers of examples/, from their fields on; the
-# scripts that lead from a recording to its verdicts and reasons; and what stands in the pages for readers.
+# read and each write failing, in turn; larger captures; simulated transfers and changes of them, for some seconds; the
+# recorded transfers of examples/, from their fields on; the scripts that lead from a recording to its verdicts and
+# reasons; and what stands in the pages for readers.
 set -eu
 here=$(dirname "$0")
 shim=$(mktemp -d)
@@ -14,6 +15,10 @@ echo "failures:"
 python3 "$here/failures.py" "$1" "$shim"
 echo "large:"
 python3 "$here/large.py" "$1"
+echo "fuzz:"
+python3 "$here/fuzz.py" --seconds 10 "$1"
+echo "a spoiled program, fuzzed:"
+python3 "$here/spoiled.py" "$1"
 echo "recordings:"
 python3 "$here/recordings.py" "$1"
 echo "tftp-transfers:"

@@ -14,6 +14,7 @@ import subprocess
 import sys
 import tempfile
 
+from commands import COMMANDS
 from trial import Trial
 
 TOP = pathlib.Path(__file__).resolve().parent.parent
@@ -42,7 +43,7 @@ exec out/tftp_audit "$@"
 TRIED = "echo tests were run >>\"$CALLS\"\n"
 SAYS_TIME = "tftp-audit: proving and building the program: about a quarter of an hour"
 NOT_BUILT = "tftp-audit: the program was not built, so nothing is run\n"
-HINT = "tftp-audit: call it as ./tftp-audit check|extract|show [FILE]"
+HINT = f"tftp-audit: call it as ./tftp-audit {'|'.join(COMMANDS)} [FILE]"
 
 
 class Scratch:
@@ -241,10 +242,9 @@ def files(trial, scratch):
     for name, where in ((folder / "the capture", None), ("the capture", folder), ("./the capture", folder)):
         got = scratch.run("check", name, folder=where, given="other")
         trial.runs(f"check {name}", got, "mended", 0, given="its text")
-    got = scratch.run("show", folder / "the capture")
-    trial.runs("show and a file", got, "mended", 0, words="1 words show", given="its text", status=2)
-    got = scratch.run("extract", folder / "the capture")
-    trial.runs("extract and a file", got, "mended", 0, words="1 words extract", given="its text", status=2)
+    for command in COMMANDS[1:]:
+        got = scratch.run(command, folder / "the capture")
+        trial.runs(f"{command} and a file", got, "mended", 0, words=f"1 words {command}", given="its text", status=2)
     for name in ("missing", folder, ""):
         got = scratch.run("check", name, given="other")
         trial.refuses(f"check {name}", got, f"tftp-audit: cannot read the file '{name}'\n")

@@ -1,0 +1,113 @@
+"""Fuzzes the built program. Two simulated ends make lawful transfers over a network that loses, repeats and reorders;
+what passes at one of them must be accepted with the meaning that it was made from, or be incomplete or aborted where it
+was cut or an ERROR ended it. Then datagrams and texts are changed: each must get one of the lines that there are, the
+same however the capture is written, in time, with nothing on standard error.
+
+    fuzz.py [--cases N] [--seconds S] [--seed SEED] [--jobs N] [--commands NAME,..] [--folder FOLDER] [--slower N]
+            PROGRAM
+
+The first case has the seed SEED, and each further one the next number; a case that fails is told with its own, and is
+run alone by `--cases 1 --seed` and that. Its texts and what was printed of them are written to FOLDER. The last line is
+'N passed, M failed'; status 1 if any failed.
+"""
+import argparse
+import collections
+import concurrent.futures
+import itertools
+import os
+import pathlib
+import shlex
+import sys
+import tempfile
+import time
+
+from commands import COMMANDS
+from fuzzing.cases import Trier, try_case
+from fuzzing.program import Program
+
+AT_ONCE = 50
+
+
+def words_of(arguments):
+    parser = argparse.ArgumentParser(prog="fuzz.py", description=__doc__.split("\n\n", maxsplit=1)[0])
+    parser.add_argument("--cases", type=int, default=10_000, help="how many cases are tried at the most")
+    parser.add_argument("--seconds", type=float, help="how long cases are begun")
+    parser.add_argument("--seed", type=int, help="the seed of the first case; each further one has the next number")
+    parser.add_argument("--jobs", type=int, default=1, help="how many processes try them")
+    parser.add_argument("--commands", default=",".join(COMMANDS), help="the program's commands that are tried")
+    parser.add_argument("--folder", type=pathlib.Path, help="where the failing cases are written")
+    parser.add_argument("--slower", type=float, default=1, help="how many times the usual time a run may take")
+    parser.add_argument("program")
+    words = parser.parse_args(arguments)
+    if words.seed is None:
+        words.seed = int.from_bytes(os.urandom(4), "big")
+    words.folder = words.folder or pathlib.Path(tempfile.gettempdir()) / f"tftp-audit-fuzz-{words.seed}"
+    return words
+
+
+def write_failure(words, seed, number, failure):
+    """The text of a run that failed, what was printed and what should have been, and how to see it again."""
+    folder = words.folder / f"case-{seed}"
+    folder.mkdir(parents=True, exist_ok=True)
+    capture, program = folder / f"{number}.capture", shlex.quote(words.program)
+    capture.write_bytes(failure.text)
+    (folder / f"{number}.told").write_text(
+        f"{failure.name}: {failure.command}\nwanted {failure.wanted!r}\ngot {failure.got!r}\n"
+        f"the run again: {program} {failure.command} <{shlex.quote(str(capture))}\n"
+        f"the case again: python3 {sys.argv[0]} --cases 1 --seed {seed} --commands {words.commands} {program}\n"
+    )
+
+
+def try_some(words, first, count):
+    """The failures of some cases, by their seeds, how many runs they took, and how often each verdict was met."""
+    program = Program(words.program, words.slower)
+    trier, failed = Trier(program, words.commands.split(",")), []
+    for seed in range(first, first + count):
+        trier.failures = []
+        try_case(trier, seed)
+        for number, failure in enumerate(trier.failures, 1):
+            write_failure(words, seed, number, failure)
+        if trier.failures:
+            failed.append((seed, trier.failures[0].name, trier.failures[0].command))
+    program.close()
+    return count, failed, program.runs, trier.met
+
+
+def chunks(words):
+    """The first seed and the number of cases of each piece of work, as long as there is time."""
+    begun, end = time.monotonic(), words.seed + words.cases
+    for first in range(words.seed, end, AT_ONCE):
+        if words.seconds is not None and time.monotonic() - begun > words.seconds:
+            return
+        yield words, first, min(AT_ONCE, end - first)
+
+
+def results(words):
+    """What came of each piece of work; few wait, so that none is begun when the time is over."""
+    with concurrent.futures.ProcessPoolExecutor(words.jobs) as pool:
+        waiting, work = collections.deque(), chunks(words)
+        for piece in itertools.islice(work, 2 * words.jobs):
+            waiting.append(pool.submit(try_some, *piece))
+        while waiting:
+            yield waiting.popleft().result()
+            for piece in itertools.islice(work, 1):
+                waiting.append(pool.submit(try_some, *piece))
+
+
+def main(arguments):
+    words = words_of(arguments)
+    print(f"seed {words.seed}", flush=True)
+    begun, cases, runs, failed, met = time.monotonic(), 0, 0, [], collections.Counter()
+    for count, some, its_runs, its_met in results(words):
+        cases, runs, met = cases + count, runs + its_runs, met + its_met
+        for seed, name, command in some:
+            print(f"case {seed}, {name}, {command}: see {words.folder / f'case-{seed}'}", flush=True)
+        failed += some
+    print(f"{cases} cases in {time.monotonic() - begun:.1f} s, {runs} runs of the program")
+    print(", ".join(f"{name.strip()} {count}" for name, count in sorted(met.items())))
+    print(f"{cases - len(failed)} passed, {len(failed)} failed")
+    return 1 if failed else 0
+
+
+if __name__ == "__main__":
+    sys.exit(main(sys.argv[1:]))

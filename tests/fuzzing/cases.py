@@ -1,0 +1,204 @@
+"""The cases: each is made by the chance of one number, and tried by some of the program's commands."""
+import collections
+import dataclasses
+import random
+
+from commands import SILENT
+from fuzzing import changes, faults
+from fuzzing.further import further
+from fuzzing.lines import is_shown, is_verdict
+from fuzzing.meanings import Spelling, chosen, meaning_of
+from fuzzing.program import MOST_PIECE
+from fuzzing.transfers import Transfer
+from fuzzing.views import View
+from normal import outputs_of_refused
+
+
+@dataclasses.dataclass
+class Failure:
+    """A run that was not as it should be."""
+
+    name: str
+    command: str
+    text: bytes
+    got: tuple
+    wanted: object
+
+
+class Trier:
+    """The runs of the cases, what was not as it should be, and how often each verdict was met."""
+
+    def __init__(self, program, commands):
+        self.program, self.commands = program, commands
+        self.failures, self.met = [], collections.Counter()
+
+    def expect(self, name, command, text, wanted):
+        """The command prints this of the text and ends with this status."""
+        if command in self.commands:
+            self.compare(name, command, text, self.program.run(command, text), wanted)
+
+    def compare(self, name, command, text, got, wanted):
+        if got != (wanted[0], b"", wanted[1]):
+            self.failures.append(Failure(name, command, text, got, wanted))
+
+    def judge(self, text):
+        """The line that `check` prints of any text and its status; it is one of those that there are."""
+        output, told, status = got = self.program.run("check", text)
+        if told or not is_verdict(output, status):
+            self.failures.append(Failure("a line of those that there are", "check", text, got, "a verdict"))
+        words = output.decode(errors="replace").split()
+        self.met[" ".join(words[:1] + words[3:5] if words[:1] == ["refused"] else words[:1] + words[3:4])] += 1
+        return output, status
+
+    def expect_in_pieces(self, chance, text, wanted):
+        """`check` prints the same of the text in pieces."""
+        cuts = sorted(chance.randrange(len(text) + 1) for _ in range(chance.randrange(1, 8)))
+        cuts = sorted({0, *cuts, *range(MOST_PIECE, len(text), MOST_PIECE), len(text)})
+        pieces = [text[at:to] for at, to in zip(cuts, cuts[1:])]
+        self.compare("in pieces", "check", text, self.program.run_in_pieces("check", pieces), wanted)
+
+
+def view_of(chance):
+    """What passed at one end of a transfer, and a view of the other end."""
+    meaning, wire = meaning_of(chance)
+    transfer, spelling = Transfer(chance, meaning, wire), Spelling(chance, meaning, wire)
+    transfer.run()
+    ends = chance.sample(("client", "server"), 2)
+    return [View(chance, meaning, wire, end, transfer.passed[end], spelling) for end in ends]
+
+
+def try_lawful(trier, chance):
+    """Whole and cut captures of lawful transfers."""
+    view, other = view_of(chance)
+    count = whole = len(view.capture.datagrams)
+    if chance.random() < 0.25:
+        count = chance.randrange(whole + 1)
+    verdict = view.expected(count)
+    outputs = {**view.meaning.outputs(verdict), "show": (view.shown(count), 0)}
+    trier.met[f"lawful {verdict[0].split()[0].decode()}"] += 1
+    text = view.capture.spelled(chance) if count == whole else view.capture.text(count)
+    for command in chance.sample(sorted(outputs), 3):
+        trier.expect("lawful", command, text, outputs[command])
+    if chance.random() < 0.1:
+        trier.expect_in_pieces(chance, text, verdict)
+    if chance.random() < 0.1:
+        trier.expect("renumbered", "check", changes.renumbered(chance, view.capture).text(count), verdict)
+    if chance.random() < 0.3:
+        count = len(other.capture.datagrams)
+        trier.expect("the other end", "check", other.capture.text(), other.expected(count))
+    if chance.random() < 0.2:
+        meaning = view.meaning
+        outputs = meaning.outputs((meaning.line(), 0))
+        for command in chance.sample(sorted(outputs), 2):
+            trier.expect("its normal text", command, meaning.normal_text(), outputs[command])
+
+
+def compare_commands(trier, chance, text, verdict):
+    """The other commands agree with what `check` said of any text."""
+    line, status = verdict
+    command = chance.choice([name for name in trier.commands if name != "check"])
+    output, told, ended = got = trier.program.run(command, text)
+    if command == "show":
+        is_fault = line.startswith(b"fault")
+        agrees = is_shown(output, ended) and (output.endswith(line) and ended == 2 or not is_fault)
+    elif status != 0:
+        agrees = (output, ended) == (b"" if command in SILENT else line, status)
+    elif command == "extract":
+        agrees = ended == 0 and len(output) == int(line.split()[-1])
+    elif command == "count":
+        agrees = ended == 0 and output.startswith(b"normal datagrams ")
+    else:
+        agrees = ended == 0
+        trier.expect("the normal text of a normal text", "normal", output, (output, 0))
+        trier.expect("the verdict of a normal text", "check", output, verdict)
+    if told or not agrees:
+        trier.failures.append(Failure(f"agrees with {line!r}", command, text, got, "as check says"))
+
+
+def try_prefixes(trier, capture, verdict):
+    """The first unlawful datagram is refused alike where the capture ends with it, and without it none is."""
+    words = verdict[0].split()
+    if words[:1] != [b"refused"]:
+        return
+    index = int(words[2])
+    trier.expect("up to the unlawful datagram", "check", capture.text(index), verdict)
+    text = capture.text(index - 1)
+    line, status = trier.judge(text)
+    if line.startswith((b"refused", b"fault")):
+        trier.failures.append(Failure("before the unlawful datagram", "check", text, (line, b"", status), "no refusal"))
+
+
+def try_faulty(trier, chance):
+    """A fault of the text behind the first datagrams of a lawful transfer, or in its header."""
+    view, _ = view_of(chance)
+    text, number, fault = faults.faulty(chance, view.capture)
+    line = b"fault line %d %s\n" % (number, fault.encode())
+    trier.met[f"faulty {fault}"] += 1
+    # a line is left over where the total line has been read, and so are those of the header
+    known = max(0, number - 4 - (fault == "TrailingText"))
+    outputs = {**outputs_of_refused((line, 2)), "show": (view.shown(known) + line, 2)}
+    for command in chance.sample(sorted(outputs), 2):
+        trier.expect("a fault", command, text, outputs[command])
+
+
+def try_further(trier, chance):
+    """One more datagram after a lawful transfer or its first ones; the rule that it breaks is known."""
+    view, _ = view_of(chance)
+    count = len(view.capture.datagrams)
+    if chance.random() < 0.6:
+        count = chance.randrange(count + 1)
+    found = further(chance, view, count)
+    if not found:
+        return
+    datagram, broken, passed = found
+    datagrams = (*view.capture.datagrams[:count], datagram)
+    capture = dataclasses.replace(view.capture, datagrams=datagrams)
+    verdict = passed.verdict(count + 1)
+    if broken:
+        verdict = f"refused datagram {count + 1} rule {broken}\n".encode(), 1
+        trier.met[f"further {broken}"] += 1
+    text = capture.spelled(chance) if chance.random() < 0.5 else capture.text()
+    trier.expect("one more", "check", text, verdict)
+    if chance.random() < 0.2:
+        compare_commands(trier, chance, text, verdict)
+
+
+def try_changed(trier, chance):
+    """Captures with changed datagrams: the verdict is one that is the same however the capture is written."""
+    view, _ = view_of(chance)
+    capture = changes.changed_capture(chance, view.capture)
+    text = capture.text()
+    verdict = trier.judge(text)
+    way = chance.randrange(6)
+    if way == 0:
+        trier.expect("in another spelling", "check", capture.spelled(chance), verdict)
+    elif way == 1:
+        trier.expect("renumbered", "check", changes.renumbered(chance, capture).text(), verdict)
+    elif way == 2 and capture.version == 1:
+        trier.expect("with hosts", "check", capture.with_hosts().text(), verdict)
+    elif way == 3 and chance.random() < 0.3:
+        trier.expect_in_pieces(chance, text, verdict)
+    elif way == 4:
+        try_prefixes(trier, capture, verdict)
+    compare_commands(trier, chance, text, verdict)
+
+
+def try_changed_text(trier, chance):
+    """Texts with changed bytes."""
+    view, _ = view_of(chance)
+    text = view.capture.spelled(chance)
+    for _ in range(chosen(chance, (1, 5), (2, 1), (4, 1))):
+        text = changes.changed_text(chance, text)
+    verdict = trier.judge(text)
+    if chance.random() < 0.1:
+        trier.expect_in_pieces(chance, text, verdict)
+    compare_commands(trier, chance, text, verdict)
+
+
+def try_case(trier, seed):
+    """The case of this number."""
+    chance = random.Random(seed)
+    way = chosen(
+        chance, (try_lawful, 8), (try_further, 5), (try_faulty, 2), (try_changed, 5), (try_changed_text, 2)
+    )
+    way(trier, chance)

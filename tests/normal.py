@@ -1,0 +1,133 @@
+"""The normal capture of a transfer, made from its meaning by the formats alone."""
+import dataclasses
+
+KNOWN = {b"blksize": (8, 65_464), b"timeout": (1, 255), b"tsize": (0, 2**64 - 1), b"windowsize": (1, 65_535)}
+USUAL_SIZE = 512
+CLIENT, SERVER, SERVICE = 50_000, 50_001, 69
+REQUEST_OPCODES = {"get": 1, "put": 2}
+
+
+def number(value):
+    return value.to_bytes(2, "big")
+
+
+def value_of(name, text):
+    """What an option's value means: a number of a known option in its range, or the bytes themselves."""
+    if name in KNOWN and text and all(sign in b"0123456789" for sign in text):
+        least, most = KNOWN[name]
+        if least <= int(text) <= most:
+            return int(text)
+    return text
+
+
+def text_of(value):
+    return b"%d" % value if isinstance(value, int) else value
+
+
+def encoded(file):
+    """The netascii text of a file: LF as CR LF, and CR as CR NUL."""
+    return file.replace(b"\r", b"\r\0").replace(b"\n", b"\r\n")
+
+
+def decoded(wire):
+    """The file that a netascii text reads as: CR LF is LF, CR NUL is CR, and every other byte is itself."""
+    file, at = bytearray(), 0
+    while at < len(wire):
+        pair = wire[at : at + 2]
+        file += {b"\r\n": b"\n", b"\r\0": b"\r"}.get(pair, wire[at : at + 1])
+        at += 2 if pair in (b"\r\n", b"\r\0") else 1
+    return bytes(file)
+
+
+def canonical(options):
+    """The pairs of an option map, in the order of their names."""
+    return b"".join(b"%s\0%s\0" % (name, text_of(options[name])) for name in sorted(options))
+
+
+@dataclasses.dataclass(frozen=True)
+class Meaning:
+    """What a whole transfer is: names of options are lower-case bytes, and values are numbers or bytes."""
+
+    side: str
+    name: bytes
+    mode: str
+    requested: dict
+    agreed: dict
+    file: bytes
+
+    @property
+    def size(self):
+        return self.agreed.get(b"blksize", USUAL_SIZE)
+
+    @property
+    def window(self):
+        return self.agreed.get(b"windowsize", 1)
+
+    def canonical_wire(self):
+        return encoded(self.file) if self.mode == "netascii" else self.file
+
+    def block_count(self):
+        return len(self.canonical_wire()) // self.size + 1
+
+    def line(self):
+        """The line that `check` prints."""
+        kind = f"{self.side} {self.mode}"
+        return f"accepted {kind} blocks {self.block_count()} bytes {len(self.file)}\n".encode()
+
+    def count_line(self):
+        """The line that `count` prints."""
+        return b"normal datagrams %d\n" % self.normal_lines().count(b"\n")
+
+    def normal_text(self):
+        lines = self.normal_lines()
+        return b"tftp-capture 1\nend client\nservice 69\n%stotal %d\n" % (lines, lines.count(b"\n"))
+
+    def outputs(self, verdict):
+        """What each command but `show` prints of a capture of this meaning, and its status, by the verdict on it."""
+        if verdict[1] != 0:
+            return outputs_of_refused(verdict)
+        texts = {"extract": self.file, "normal": self.normal_text(), "count": self.count_line()}
+        return {"check": verdict, **{command: (text, 0) for command, text in texts.items()}}
+
+    def normal_lines(self):
+        """The datagram lines of the normal capture."""
+        lines = bytearray()
+
+        def put(way, payload, server=SERVER):
+            lines.extend(b"%s %d %d %s\n" % (way, CLIENT, server, payload.hex().encode()))
+
+        data_way, ack_way = (b"in", b"out") if self.side == "get" else (b"out", b"in")
+        request = number(REQUEST_OPCODES[self.side]) + b"%s\0%s\0" % (self.name, self.mode.encode())
+        put(b"out", request + canonical(self.requested), SERVICE)
+        if self.agreed:
+            put(b"in", number(6) + canonical(self.agreed))
+        # what an OACK to a read, and a write without options, is answered by
+        if bool(self.agreed) == (self.side == "get"):
+            put(ack_way, number(4) + number(0))
+        wire, count = self.canonical_wire(), self.block_count()
+        for block in range(1, count + 1):
+            put(data_way, number(3) + number(block) + wire[(block - 1) * self.size : block * self.size])
+            if block % self.window == 0 or block == count:
+                put(ack_way, number(4) + number(block))
+        return bytes(lines)
+
+
+def outputs_of_refused(verdict):
+    """The same of a capture that is not accepted, whatever it means."""
+    return {"check": verdict, "extract": (b"", verdict[1]), "normal": (b"", verdict[1]), "count": verdict}
+
+
+def pairs_of(strings):
+    """The map that the strings of a request or of an OACK say."""
+    return {name.lower(): value_of(name.lower(), text) for name, text in zip(strings[::2], strings[1::2])}
+
+
+def meaning_of(text, file):
+    """What a capture text means by its first datagram, a request, and by its first OACK, if it carries this file."""
+    payloads = [line.split()[-1] for line in text.splitlines() if line.startswith((b"in ", b"out "))]
+    opcode, *rest = bytes.fromhex(payloads[0].decode())[1:]
+    name, mode, *requested = bytes(rest).split(b"\0")[:-1]
+    oack = next((payload for payload in payloads if payload.startswith(b"0006")), b"0006")
+    agreed = bytes.fromhex(oack.decode())[2:].split(b"\0")[:-1]
+    side = next(side for side, its in REQUEST_OPCODES.items() if its == opcode)
+    return Meaning(side, name, mode.decode().lower(), pairs_of(requested), pairs_of(agreed), file)
