@@ -32,7 +32,7 @@ Reads-canonical (x ∷ f) =
     (cases_eq x 13))
     (cases_eq x 10)
 
-canonical_run : (run rest : List ℕ) → AllByRecursion IsPlain run → canonical_wire (run ++ rest) ≡ run ++ canonical_wire rest
+pub canonical_run : (run rest : List ℕ) → AllByRecursion IsPlain run → canonical_wire (run ++ rest) ≡ run ++ canonical_wire rest
 canonical_run [] rest plain = refl
 canonical_run (x ∷ run) rest plain =
     rw (canonical_bytes-plain x plain.0.0 plain.0.1) (ap (λ (w : List ℕ). x ∷ w) (canonical_run run rest plain.1))

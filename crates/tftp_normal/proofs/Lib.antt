@@ -17,3 +17,4 @@ pub mod OpeningPut
 pub mod TextPut
 pub mod Taken
 pub mod Computed
+pub mod Runs

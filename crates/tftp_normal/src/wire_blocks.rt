@@ -1,12 +1,14 @@
 //! The wire that is written for a file, block by block, without a copy of it.
 
-ghost use Rattle.std.specs.Prelude.{◌≡◌, [], ◌∷◌, ◌++◌, OnOk, MatchOption};
+ghost use Rattle.std.specs.Prelude.{◌≡◌, [], ◌∷◌, ◌++◌, ◌≤◌, All, length, OnOk, MatchOption};
 ghost use Rattle.std.specs.Prelude.{take, drop};
 ghost use Rattle.tftp_packet.specs.declared.kinds.Mode.TheVariants.{Octet, Netascii};
 ghost use Rattle.tftp_netascii.specs.Netascii.{canonical_bytes};
+ghost use Rattle.tftp_netascii.specs.Runs.{IsPlain};
 ghost use Rattle.tftp_law.specs.Fits.{written_wire};
 ghost use Rattle.tftp_normal.specs.WireLeft.{bytes_of};
 
+use memchr::memchr;
 use std::marker::Model;
 use tftp_packet::Mode;
 
@@ -70,19 +72,40 @@ impl<'a> WireBlocks<'a> {
         size
     }
 
-    /// Fills a block byte by byte.
+    /// Fills a block by runs of bytes that go as they are, and between them byte by byte.
     fn fill_bytes(&mut self, block: &mut [u8]) -> usize
         ensures within { result ≤ length block.old }
         ensures filled { take result block.new ≡ take (length block.old) self.old }
         ensures rest { self.new ≡ drop (length block.old) self.old }
     {
-        for index in 0..block.len() {
-            match self.next_byte() {
-                Some(byte) => block[index] = byte,
-                None => return index,
+        let mut filled = 0;
+        while filled < block.len() {
+            filled += self.fill_run(&mut block[filled..]);
+            if filled < block.len() {
+                match self.next_byte() {
+                    Some(byte) => block[filled] = byte,
+                    None => return filled,
+                }
+                filled += 1;
             }
         }
-        block.len()
+        filled
+    }
+
+    /// Fills a block from its front with the run of bytes that go as they are and come next, perhaps none.
+    fn fill_run(&mut self, block: &mut [u8]) -> usize
+        ensures within { result ≤ length block.old }
+        ensures filled { take result block.new ≡ take result self.old }
+        ensures rest { self.new ≡ drop result self.old }
+    {
+        if self.second.is_some() {
+            return 0;
+        }
+        let run = plain_run(self.file, block.len());
+        let (bytes, rest) = self.file.split_at(run);
+        block[..run].copy_from_slice(bytes);
+        self.file = rest;
+        run
     }
 
     /// The next byte.
@@ -112,4 +135,15 @@ fn spelled(mode: Mode, byte: u8) -> (u8, Option<u8>)
         (Mode::Netascii, CR) => (CR, Some(NUL)),
         _ => (byte, None),
     }
+}
+
+/// How many bytes, at most so many, come before the first that netascii spells by two.
+fn plain_run(file: &[u8], most: usize) -> usize
+    ensures within { result ≤ most }
+    ensures inside { result ≤ length file.now }
+    ensures plain { All IsPlain (take result file.now) }
+{
+    let near = &file[..file.len().min(most)];
+    let line = memchr(LF, near).unwrap_or(near.len());
+    memchr(CR, &near[..line]).unwrap_or(line)
 }
