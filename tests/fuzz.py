@@ -94,6 +94,19 @@ def results(words):
                 waiting.append(pool.submit(try_some, *piece))
 
 
+def by_number(name):
+    """The rules in the order of their numbers, and before them what has none."""
+    number, *words = name.split() or [""]
+    return (int(number), words) if number.isdigit() else (0, [name])
+
+
+def print_met(met):
+    """A line for each group of cases: what was met in it, and how often."""
+    for group in sorted({group for group, _ in met}):
+        names = sorted((name for its, name in met if its == group), key=by_number)
+        print(f"{group}: " + ", ".join(f"{name} {met[group, name]}" for name in names))
+
+
 def main(arguments):
     words = words_of(arguments)
     print(f"seed {words.seed}", flush=True)
@@ -104,7 +117,7 @@ def main(arguments):
             print(f"case {seed}, {name}, {command}: see {words.folder / f'case-{seed}'}", flush=True)
         failed += some
     print(f"{cases} cases in {time.monotonic() - begun:.1f} s, {runs} runs of the program")
-    print(", ".join(f"{name.strip()} {count}" for name, count in sorted(met.items())))
+    print_met(met)
     print(f"{cases - len(failed)} passed, {len(failed)} failed")
     return 1 if failed else 0
 
