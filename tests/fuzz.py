@@ -17,6 +17,7 @@ import itertools
 import os
 import pathlib
 import shlex
+import shutil
 import sys
 import tempfile
 import time
@@ -26,6 +27,7 @@ from fuzzing.cases import Trier, try_case
 from fuzzing.program import Program
 
 AT_ONCE = 50
+ALL_COMMANDS = {"check", "extract", "show", "normal", "count"}
 
 
 def words_of(arguments):
@@ -39,6 +41,12 @@ def words_of(arguments):
     parser.add_argument("--slower", type=float, default=1, help="how many times the usual time a run may take")
     parser.add_argument("program")
     words = parser.parse_args(arguments)
+    names = words.commands.split(",")
+    if not {"check"} <= set(names) <= ALL_COMMANDS:
+        parser.error(f"the commands are check and any of {', '.join(sorted(ALL_COMMANDS))}")
+    if not shutil.which(words.program):
+        parser.error(f"there is no program {words.program}")
+    words.program = shutil.which(words.program)
     if words.seed is None:
         words.seed = int.from_bytes(os.urandom(4), "big")
     words.folder = words.folder or pathlib.Path(tempfile.gettempdir()) / f"tftp-audit-fuzz-{words.seed}"
@@ -64,7 +72,10 @@ def try_some(words, first, count):
     trier, failed = Trier(program, words.commands.split(",")), []
     for seed in range(first, first + count):
         trier.failures = []
-        try_case(trier, seed)
+        try:
+            try_case(trier, seed)
+        except Exception as error:
+            raise RuntimeError(f"case {seed} cannot be tried") from error
         for number, failure in enumerate(trier.failures, 1):
             write_failure(words, seed, number, failure)
         if trier.failures:
