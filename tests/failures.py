@@ -387,6 +387,21 @@ class ProgramTrial(Trial):
             self.check(f"show, many lines, write {turn}", holds and output != whole, (len(output), status))
         self.check("show, many lines", False, "too many writes")
 
+    def normal_of_many(self):
+        """A longer normal text: after a write that fails nothing more is written."""
+        file = b"0123456789" * 80
+        text = hundred_blocks(file, {"blksize": 8, "windowsize": 4}).text()
+        whole = meaning_of(text, file).normal_text()
+        for turn in range(1, len(whole)):
+            got = self.run(["normal"], text, FAIL_WRITE=turn)
+            (output, status), clean, met = got
+            if not met:
+                self.expect("normal, many lines", got, (whole, 0))
+                return
+            holds = clean and status == 2 and whole.startswith(output) and output != whole
+            self.check(f"normal, many lines, write {turn}", holds, (len(output), status))
+        self.check("normal, many lines", False, "too many writes")
+
     def try_words(self, words):
         """Words that are no command are told before anything is read."""
         got = self.run(words, b"", FAIL_READ=1)
@@ -403,6 +418,8 @@ def main(program, folder):
         for command in COMMANDS:
             trial.try_growths(case, command)
     trial.show_in_pieces()
+    if "normal" in COMMANDS:
+        trial.normal_of_many()
     for words in NO_COMMANDS:
         trial.try_words(words)
     for words in NO_WORDS:

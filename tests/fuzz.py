@@ -17,6 +17,7 @@ import itertools
 import os
 import pathlib
 import shlex
+import shutil
 import sys
 import tempfile
 import time
@@ -26,6 +27,7 @@ from fuzzing.cases import Trier, try_case
 from fuzzing.program import Program
 
 AT_ONCE = 50
+ALL_COMMANDS = {"check", "extract", "show", "normal", "count"}
 
 
 def words_of(arguments):
@@ -39,6 +41,12 @@ def words_of(arguments):
     parser.add_argument("--slower", type=float, default=1, help="how many times the usual time a run may take")
     parser.add_argument("program")
     words = parser.parse_args(arguments)
+    names = words.commands.split(",")
+    if not {"check"} <= set(names) <= ALL_COMMANDS:
+        parser.error(f"the commands are check and any of {', '.join(sorted(ALL_COMMANDS))}")
+    if not shutil.which(words.program):
+        parser.error(f"there is no program {words.program}")
+    words.program = shutil.which(words.program)
     if words.seed is None:
         words.seed = int.from_bytes(os.urandom(4), "big")
     words.folder = words.folder or pathlib.Path(tempfile.gettempdir()) / f"tftp-audit-fuzz-{words.seed}"
@@ -64,7 +72,10 @@ def try_some(words, first, count):
     trier, failed = Trier(program, words.commands.split(",")), []
     for seed in range(first, first + count):
         trier.failures = []
-        try_case(trier, seed)
+        try:
+            try_case(trier, seed)
+        except Exception as error:
+            raise RuntimeError(f"case {seed} cannot be tried") from error
         for number, failure in enumerate(trier.failures, 1):
             write_failure(words, seed, number, failure)
         if trier.failures:
@@ -94,6 +105,19 @@ def results(words):
                 waiting.append(pool.submit(try_some, *piece))
 
 
+def by_number(name):
+    """The rules in the order of their numbers, and before them what has none."""
+    number, *words = name.split() or [""]
+    return (int(number), words) if number.isdigit() else (0, [name])
+
+
+def print_met(met):
+    """A line for each group of cases: what was met in it, and how often."""
+    for group in sorted({group for group, _ in met}):
+        names = sorted((name for its, name in met if its == group), key=by_number)
+        print(f"{group}: " + ", ".join(f"{name} {met[group, name]}" for name in names))
+
+
 def main(arguments):
     words = words_of(arguments)
     print(f"seed {words.seed}", flush=True)
@@ -104,7 +128,7 @@ def main(arguments):
             print(f"case {seed}, {name}, {command}: see {words.folder / f'case-{seed}'}", flush=True)
         failed += some
     print(f"{cases} cases in {time.monotonic() - begun:.1f} s, {runs} runs of the program")
-    print(", ".join(f"{name.strip()} {count}" for name, count in sorted(met.items())))
+    print_met(met)
     print(f"{cases - len(failed)} passed, {len(failed)} failed")
     return 1 if failed else 0
 

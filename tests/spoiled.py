@@ -1,5 +1,5 @@
-"""That the fuzzer tells of a program that is wrong: what the built program prints is spoiled, in one way at a time, and a
-case must fail soon; and a program that never ends is told of in time.
+"""That the fuzzer tells of a program that is wrong: what the built program prints is spoiled, in one way at a time, and
+a case must fail soon; and a program that never ends is told of in time.
 
     spoiled.py PROGRAM
 

@@ -47,8 +47,14 @@ class Trier:
         if told or not is_verdict(output, status):
             self.failures.append(Failure("a line of those that there are", "check", text, got, "a verdict"))
         words = output.decode(errors="replace").split()
-        self.met[" ".join(words[:1] + words[3:5] if words[:1] == ["refused"] else words[:1] + words[3:4])] += 1
+        # a refusal by its rule, and a fault by its name
+        told = {"refused": words[4:6], "fault": words[3:4]}.get(words[0] if words else "", words[:1])
+        self.meet("changed", *told)
         return output, status
+
+    def meet(self, group, *words):
+        """Counts a case of this group and of these words."""
+        self.met[group, " ".join(words)] += 1
 
     def expect_in_pieces(self, chance, text, wanted):
         """`check` prints the same of the text in pieces."""
@@ -75,7 +81,7 @@ def try_lawful(trier, chance):
         count = chance.randrange(whole + 1)
     verdict = view.expected(count)
     outputs = {**view.meaning.outputs(verdict), "show": (view.shown(count), 0)}
-    trier.met[f"lawful {verdict[0].split()[0].decode()}"] += 1
+    trier.meet("lawful", verdict[0].split()[0].decode())
     text = view.capture.spelled(chance) if count == whole else view.capture.text(count)
     for command in chance.sample(sorted(outputs), 3):
         trier.expect("lawful", command, text, outputs[command])
@@ -93,10 +99,22 @@ def try_lawful(trier, chance):
             trier.expect("its normal text", command, meaning.normal_text(), outputs[command])
 
 
+def compare_normal(trier, text, normal, verdict):
+    """The normal text of any accepted text is its own, is accepted with the same line and file, and has its count."""
+    trier.expect("the normal text of a normal text", "normal", normal, (normal, 0))
+    trier.expect("the verdict of a normal text", "check", normal, verdict)
+    trier.expect("the file of a normal text", "extract", normal, trier.program.run("extract", text)[::2])
+    total = normal.splitlines()[-1].split()[-1] if normal else b""
+    trier.expect("the count of a normal text", "count", text, (b"normal datagrams %s\n" % total, 0))
+
+
 def compare_commands(trier, chance, text, verdict):
     """The other commands agree with what `check` said of any text."""
     line, status = verdict
-    command = chance.choice([name for name in trier.commands if name != "check"])
+    others = [name for name in trier.commands if name != "check"]
+    if not others:
+        return
+    command = chance.choice(others)
     output, told, ended = got = trier.program.run(command, text)
     if command == "show":
         is_fault = line.startswith(b"fault")
@@ -109,8 +127,7 @@ def compare_commands(trier, chance, text, verdict):
         agrees = ended == 0 and output.startswith(b"normal datagrams ")
     else:
         agrees = ended == 0
-        trier.expect("the normal text of a normal text", "normal", output, (output, 0))
-        trier.expect("the verdict of a normal text", "check", output, verdict)
+        compare_normal(trier, text, output, verdict)
     if told or not agrees:
         trier.failures.append(Failure(f"agrees with {line!r}", command, text, got, "as check says"))
 
@@ -133,7 +150,7 @@ def try_faulty(trier, chance):
     view, _ = view_of(chance)
     text, number, fault = faults.faulty(chance, view.capture)
     line = b"fault line %d %s\n" % (number, fault.encode())
-    trier.met[f"faulty {fault}"] += 1
+    trier.meet("faulty", fault)
     # a line is left over where the total line has been read, and so are those of the header
     known = max(0, number - 4 - (fault == "TrailingText"))
     outputs = {**outputs_of_refused((line, 2)), "show": (view.shown(known) + line, 2)}
@@ -142,7 +159,7 @@ def try_faulty(trier, chance):
 
 
 def try_further(trier, chance):
-    """One more datagram after a lawful transfer or its first ones; the rule that it breaks is known."""
+    """A datagram or a few after a lawful transfer or its first ones; the rule that the last one breaks is known."""
     view, _ = view_of(chance)
     count = len(view.capture.datagrams)
     if chance.random() < 0.6:
@@ -150,13 +167,13 @@ def try_further(trier, chance):
     found = further(chance, view, count)
     if not found:
         return
-    datagram, broken, passed = found
-    datagrams = (*view.capture.datagrams[:count], datagram)
+    more, broken, passed = found
+    datagrams = (*view.capture.datagrams[:count], *more)
     capture = dataclasses.replace(view.capture, datagrams=datagrams)
-    verdict = passed.verdict(count + 1)
+    verdict = passed.verdict(len(datagrams))
+    trier.meet("one more", " ".join((broken or "0 lawful").split()[:2]))
     if broken:
-        verdict = f"refused datagram {count + 1} rule {broken}\n".encode(), 1
-        trier.met[f"further {broken}"] += 1
+        verdict = f"refused datagram {len(datagrams)} rule {broken}\n".encode(), 1
     text = capture.spelled(chance) if chance.random() < 0.5 else capture.text()
     trier.expect("one more", "check", text, verdict)
     if chance.random() < 0.2:

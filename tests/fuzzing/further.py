@@ -1,4 +1,4 @@
-"""One more datagram after those of a lawful transfer, and the rule that it breaks, if it breaks one.
+"""One more datagram or a few after those of a lawful transfer, and the rule that the last one breaks, if it breaks one.
 
 Each rule is asked only where the ends tell for certain: the answer to the request has passed, and the packet is one of
 this transfer, or has one thing wrong.
@@ -82,10 +82,35 @@ def packet_of(chance, passed):
 def of_transfer(chance, view, passed):
     """A packet of the transfer, which goes out or comes in."""
     packet, is_sent = packet_of(chance, passed), chance.random() < 0.5
+    if chance.random() < 0.9 and not may_send_kind(view.meaning, passed.end.is_client == is_sent, packet[0]):
+        is_sent = not is_sent
     broken = (broken_by_sending if is_sent else broken_by_coming)(passed, packet)
     if broken is None:
         passed.add(is_sent, packet)
     return view.dressed(is_sent, packet), broken
+
+
+def after_an_error(chance, view, passed):
+    """The other end's ERROR, some of what this end sends all the same, and what comes late, or can't have been sent."""
+    end, listed = passed.end, []
+
+    def put(is_sent, packet):
+        passed.add(is_sent, packet)
+        listed.append(view.dressed(is_sent, packet))
+
+    if not passed.heard:
+        put(False, ("error", chance.choice((0, 1, 8)), b"x"))
+    for _ in range(chance.randrange(4)):
+        own = ("data", end.top + 1) if end.is_sender else ("ack", chance.randint(end.last_ack, end.front))
+        if end.may_send(own):
+            put(True, own)
+    most = min(end.blocks, passed.before.last_ack + end.window + 2)
+    packet = ("ack", chance.randint(0, end.top)) if end.is_sender else ("data", chance.randint(1, most))
+    broken = broken_by_coming(passed, packet)
+    last = view.dressed(False, packet)
+    if broken is None:
+        passed.add(False, packet)
+    return *listed, last, broken
 
 
 def after_own_error(passed, is_sent, broken):
@@ -114,25 +139,46 @@ def another_request(chance, view, passed):
     return view.of_payload(is_sent, spelled_request(chance, other)), broken
 
 
-def another_block(chance, view, passed):
-    """A DATA with one thing wrong: its number is 0 or behind the last one's, it is too long, or it has other bytes."""
-    end, size, is_sent = passed.end, view.meaning.size, passed.end.is_sender
-    is_started = end.is_started() if is_sent else may_come_started(passed)
-    high = end.top if is_sent else end.front
-    block = chance.randint(1, max(1, high))
+def wrong_blocks(chance, view, passed):
+    """DATA with something wrong: a block's number, its bytes, and the rule that it breaks where DATA may pass."""
+    end, meaning = passed.end, view.meaning
+    size, window = meaning.size, end.window
+    high = end.top if end.is_sender else max(end.held, default=0)
+    is_told = meaning.mode == "octet" and b"tsize" in meaning.agreed
+    is_last_known = is_told or end.blocks <= high
+    past = (max(end.acknowledged) if end.is_sender else passed.before.last_ack) + window + chance.choice((1, 1, 2, 300))
+    yield 0, chance.randbytes(chance.choice((size, 0, size + 1))), "19 BlockZero"
+    yield chance.randint(1, min(high + window + 3, 65_000)), bytes(size + chance.choice((1, 1, 9))), "21 BlockLength"
+    if past < 65_535:
+        is_too_long = is_last_known and past >= end.blocks
+        yield past, chance.randbytes(size), "21 BlockLength" if is_too_long else "22 WindowOverrun"
+    if is_last_known:
+        behind = end.blocks + chance.choice((1, 2, 300))
+        yield behind, chance.randbytes(chance.choice((size, size - 1, 0))), "21 BlockLength"
+    elif end.is_sender and end.top + 2 <= max(end.acknowledged) + window < 65_535:
+        yield chance.randint(end.top + 2, max(end.acknowledged) + window), chance.randbytes(size), "23 BlockSkipped"
+    if high:
+        yield from wrong_bytes(chance, view, end, high)
+
+
+def wrong_bytes(chance, view, end, high):
+    """The same of a block that has passed, or is not the highest: fewer bytes, or others."""
+    block = chance.randint(1, high)
     content = view.spelling.payload(("data", block))[4:]
-    is_last_known = end.blocks <= end.top or end.blocks in end.held
-    way = chance.randrange(4)
-    if way == 0:
-        block, broken = 0, "19 BlockZero"
-    elif way == 1 and is_last_known:
-        block, broken = end.blocks + chance.choice((1, 2, 300)), "21 BlockLength"
-    elif way == 2 or block > high or not content:
-        content, broken = bytes(size + 1), "21 BlockLength"
-    else:
-        content, broken = bytes([content[0] ^ 1]) + content[1:], "25 BlockChanged"
-        if is_sent and end.window == 1 and block < end.top:
-            broken = "24 GoneBack"
+    if block < end.blocks:
+        yield block, content[: chance.randrange(len(content))], "21 BlockLength"
+    if content and (end.is_sender or block in end.held):
+        is_back = end.is_sender and end.window == 1 and block < end.top
+        at = chance.randrange(len(content))
+        other = content[:at] + bytes([content[at] ^ 1]) + content[at + 1 :]
+        yield block, other, "24 GoneBack" if is_back else "25 BlockChanged"
+
+
+def another_block(chance, view, passed):
+    """A DATA with something wrong."""
+    is_sent = passed.end.is_sender
+    is_started = passed.end.is_started() if is_sent else may_come_started(passed)
+    block, content, broken = chance.choice(list(wrong_blocks(chance, view, passed)))
     broken = after_own_error(passed, is_sent, broken if is_started else "18 NotStarted")
     return view.of_payload(is_sent, number(3) + number(block) + content), broken
 
@@ -198,7 +244,8 @@ def ways(view, passed):
         if "request" in passed.end.sent | passed.end.taken:
             yield from ((first_oack, 3), (another_request, 1))
         return
-    yield from ((of_transfer, 12), (malformed, 1), (another_request, 2), (another_block, 4), (wrong_ports, 2))
+    yield from ((of_transfer, 12), (after_an_error, 4), (malformed, 1), (another_request, 1))
+    yield from ((another_block, 6), (wrong_ports, 2))
     if view.meaning.agreed:
         yield another_oack, 2
     if passed.noted:
@@ -206,9 +253,10 @@ def ways(view, passed):
 
 
 def further(chance, view, count):
-    """A datagram after the first so many, the rule that it breaks or None, and what has passed then; or nothing."""
+    """Datagrams after the first so many, the rule that the last one breaks or None, and what has passed; or nothing."""
     passed = view.passed(count)
     tried = list(ways(view, passed))
     if not tried:
         return None
-    return *chosen(chance, *tried)(chance, view, passed), passed
+    *datagrams, broken = chosen(chance, *tried)(chance, view, passed)
+    return datagrams, broken, passed

@@ -117,7 +117,7 @@ class Transfer:
         self.passed = {name: [] for name in self.ends}
         self.under_way = []
         # the step before which an end breaks off, if it does
-        self.breaks = {name: chance.randrange(60) if chance.random() < 0.06 else None for name in self.ends}
+        self.breaks = {name: chance.randrange(30) if chance.random() < 0.12 else None for name in self.ends}
 
     def propose(self, name, packets):
         """The end sends those of the packets that it may send."""
