@@ -68,18 +68,52 @@ fn changed(rt: &HostRuntime, number: usize, line: &[u8]) -> Result<Vec<u8>, Fail
     changed_in(rt, READ, number, line)
 }
 
-fn fails(rt: &HostRuntime, number: usize, line: &[u8], fault: TextFault) -> Result<(), Fail> {
-    let text = changed(rt, number, line)?;
-    gives(rt, &text, Err(CaptureFault::Text(number as u64, fault)))
+/// A line that begins so, and goes on with that many of one byte.
+fn long(rt: &HostRuntime, start: &[u8], byte: u8, count: usize) -> Result<Vec<u8>, Fail> {
+    let mut line = Vec::from_slice(rt.alloc(), start)?;
+    for _ in 0..count {
+        line.push(byte)?;
+    }
+    Ok(line)
+}
+
+/// A line of a text, by its number, changed to this start and that many of one byte; and its fault.
+type Faulty = (usize, &'static [u8], (u8, usize), TextFault);
+
+/// Fails unless each changed line has its fault.
+fn all_fail(rt: &HostRuntime, whole: &[u8], rows: &[Faulty]) -> Result<(), Fail> {
+    for (number, start, (byte, count), fault) in rows {
+        let line = long(rt, start, *byte, *count)?;
+        let text = changed_in(rt, whole, *number, line.as_slice())?;
+        gives(
+            rt,
+            text.as_slice(),
+            Err(CaptureFault::Text(*number as u64, *fault)),
+        )?;
+    }
+    Ok(())
+}
+
+/// The same of a line that is changed without a fault; and the sum of the lines of the three datagrams.
+type Sound = (usize, &'static [u8], (u8, usize), u64);
+
+/// Fails unless each changed text has its three datagrams.
+fn all_pass(rt: &HostRuntime, whole: &[u8], rows: &[Sound]) -> Result<(), Fail> {
+    for (number, start, (byte, count), lines) in rows {
+        let line = long(rt, start, *byte, *count)?;
+        let text = changed_in(rt, whole, *number, line.as_slice())?;
+        gives(rt, text.as_slice(), Ok((3, *lines)))?;
+    }
+    Ok(())
 }
 
 #[test]
 fn a_read_is_read(rt: HostRuntime) -> Result<(), Fail> {
     gives(&rt, READ, Ok((3, 15)))?;
     let mut reader = Tallied::new(DripReader::new(READ, usize::MAX, 0, None));
-    let mut capture = CaptureReader::begin(rt.alloc(), &mut reader).map_err(|_| Fail::from(
-        "begin",
-    ))?;
+    let Ok(capture) = CaptureReader::begin(rt.alloc(), &mut reader) else {
+        return Err(Fail::new("begin"));
+    };
     assert_eq!(rt;
         *capture.header(),
         Header {
@@ -91,81 +125,57 @@ fn a_read_is_read(rt: HostRuntime) -> Result<(), Fail> {
     Ok(())
 }
 
+/// Lines that are wrong, or too long.
+const FAULTY: [Faulty; 29] = [
+    (1, b"tftp-capture 3", (b' ', 0), TextFault::BadHeader),
+    (1, b"tftp-capture 1\r", (b' ', 0), TextFault::BadHeader),
+    (2, b"end peer", (b' ', 0), TextFault::BadEnd),
+    (2, b"total 3", (b' ', 0), TextFault::BadEnd),
+    (3, b"service 0", (b' ', 0), TextFault::BadService),
+    (3, b"service 069", (b' ', 0), TextFault::BadService),
+    (3, b"service 69 ", (b' ', 0), TextFault::BadService),
+    (4, b"out 40000  69 00", (b' ', 0), TextFault::BadLine),
+    (4, b"out 40000 - 69 00", (b' ', 0), TextFault::BadLine),
+    (4, b" ", (b' ', 0), TextFault::BadLine),
+    (4, b"\r", (b' ', 0), TextFault::BadLine),
+    (4, b"total", (b' ', 0), TextFault::BadLine),
+    (4, b"total 3 ", (b' ', 0), TextFault::BadLine),
+    (4, b"out 040000 69 00", (b' ', 0), TextFault::BadPort),
+    (4, b"out 65536 69 00", (b' ', 0), TextFault::BadPort),
+    (4, b"out 1 0 00", (b' ', 0), TextFault::BadPort),
+    (4, b"out  69 00", (b' ', 0), TextFault::BadPort),
+    (4, b"out 1 69 ", (b' ', 0), TextFault::BadHex),
+    (4, b"out 40000 69 00016", (b' ', 0), TextFault::BadHex),
+    (4, b"out 40000 69 0g", (b' ', 0), TextFault::BadHex),
+    (7, b"total 4", (b' ', 0), TextFault::TotalWrong),
+    (7, b"total 03", (b' ', 0), TextFault::TotalWrong),
+    (7, b"total +3", (b' ', 0), TextFault::TotalWrong),
+    (7, b"total ", (b' ', 0), TextFault::TotalWrong),
+    (7, b"total x", (b' ', 0), TextFault::TotalWrong),
+    (4, b"in 1 1 ", (b'0', 131_056), TextFault::PayloadTooLong),
+    (4, b"in 1 1 ", (b'0', 131_055), TextFault::BadHex),
+    (4, b"in 1 1 ", (b'g', 131_056), TextFault::BadHex),
+    (4, b"#", (b'#', 131_070), TextFault::LineTooLong),
+];
+
 #[test]
 fn each_fault_has_its_line(rt: HostRuntime) -> Result<(), Fail> {
-    fails(&rt, 1, b"tftp-capture 3", TextFault::BadHeader)?;
-    fails(&rt, 1, b"tftp-capture 1\r", TextFault::BadHeader)?;
-    fails(&rt, 2, b"end peer", TextFault::BadEnd)?;
-    fails(&rt, 2, b"total 3", TextFault::BadEnd)?;
-    fails(&rt, 3, b"service 0", TextFault::BadService)?;
-    fails(&rt, 3, b"service 069", TextFault::BadService)?;
-    fails(&rt, 3, b"service 69 ", TextFault::BadService)?;
-    fails(&rt, 4, b"out 40000  69 00", TextFault::BadLine)?;
-    fails(&rt, 4, b"out 40000 - 69 00", TextFault::BadLine)?;
-    fails(&rt, 4, b" ", TextFault::BadLine)?;
-    fails(&rt, 4, b"\r", TextFault::BadLine)?;
-    fails(&rt, 4, b"total", TextFault::BadLine)?;
-    fails(&rt, 4, b"total 3 ", TextFault::BadLine)?;
-    fails(&rt, 4, b"out 040000 69 00", TextFault::BadPort)?;
-    fails(&rt, 4, b"out 65536 69 00", TextFault::BadPort)?;
-    fails(&rt, 4, b"out 1 0 00", TextFault::BadPort)?;
-    fails(&rt, 4, b"out  69 00", TextFault::BadPort)?;
-    fails(&rt, 4, b"out 1 69 ", TextFault::BadHex)?;
-    fails(&rt, 4, b"out 40000 69 00016", TextFault::BadHex)?;
-    fails(&rt, 4, b"out 40000 69 0g", TextFault::BadHex)?;
-    fails(&rt, 7, b"total 4", TextFault::TotalWrong)?;
-    fails(&rt, 7, b"total 03", TextFault::TotalWrong)?;
-    fails(&rt, 7, b"total +3", TextFault::TotalWrong)?;
-    fails(&rt, 7, b"total ", TextFault::TotalWrong)?;
-    fails(&rt, 7, b"total x", TextFault::TotalWrong)
+    all_fail(&rt, READ, &FAULTY)
 }
 
-/// A line that begins so, and goes on with that many of one byte.
-fn long(rt: &HostRuntime, start: &[u8], byte: u8, count: usize) -> Result<Vec<u8>, Fail> {
-    let mut line = Vec::from_slice(rt.alloc(), start)?;
-    for _ in 0..count {
-        line.push(byte)?;
-    }
-    Ok(line)
-}
+/// The longest payload and comment; comments and empty lines, which are no datagrams, and hex digits of either case.
+const SOUND: [Sound; 6] = [
+    (4, b"in 1 1 ", (b'0', 131_054), 15),
+    (3, b"service 69\n#", (b'#', 131_069), 18),
+    (3, b"service 69\n# x", (b' ', 0), 18),
+    (2, b"\n#\x00\xff\nend server", (b' ', 0), 21),
+    (6, b"out 1 2 -\n\n", (b' ', 0), 15),
+    (5, b"in 40000 41000 000300016A6B", (b' ', 0), 15),
+];
 
 #[test]
-fn long_lines_and_payloads(rt: HostRuntime) -> Result<(), Fail> {
-    fails(
-        &rt,
-        4,
-        &long(&rt, b"in 1 1 ", b'0', 131_056)?,
-        TextFault::PayloadTooLong,
-    )?;
-    fails(
-        &rt,
-        4,
-        &long(&rt, b"in 1 1 ", b'0', 131_055)?,
-        TextFault::BadHex,
-    )?;
-    fails(
-        &rt,
-        4,
-        &long(&rt, b"in 1 1 ", b'g', 131_056)?,
-        TextFault::BadHex,
-    )?;
-    gives(
-        &rt,
-        &changed(&rt, 4, &long(&rt, b"in 1 1 ", b'0', 131_054)?)?,
-        Ok((3, 15)),
-    )?;
-    fails(
-        &rt,
-        4,
-        &long(&rt, b"#", b'#', 131_070)?,
-        TextFault::LineTooLong,
-    )?;
-    gives(
-        &rt,
-        &changed(&rt, 3, &long(&rt, b"service 69\n#", b'#', 131_069)?)?,
-        Ok((3, 18)),
-    )?;
-    Ok(())
+fn lines_without_a_fault(rt: HostRuntime) -> Result<(), Fail> {
+    all_pass(&rt, READ, &SOUND)
 }
 
 /// The text cut to that many bytes, and more after it.
@@ -175,47 +185,24 @@ fn cut(rt: &HostRuntime, size: usize, more: &[u8]) -> Result<Vec<u8>, Fail> {
     Ok(text)
 }
 
-#[test]
-fn texts_that_end_too_early_or_go_on(rt: HostRuntime) -> Result<(), Fail> {
-    let whole = READ.len();
-    gives(&rt, b"", Err(CaptureFault::Text(1, TextFault::Truncated)))?;
-    for left in [8, 1] {
-        let length = whole.saturating_sub(left);
-        gives(
-            &rt,
-            &cut(&rt, length, b"")?,
-            Err(CaptureFault::Text(7, TextFault::Truncated)),
-        )?;
-    }
-    for more in [b"#\n".as_slice(), b"\n", b"x"] {
-        gives(
-            &rt,
-            &cut(&rt, whole, more)?,
-            Err(CaptureFault::Text(8, TextFault::TrailingText)),
-        )?;
-    }
-    gives(
-        &rt,
-        &cut(&rt, whole, &long(&rt, b"", b'a', 131_071)?)?,
-        Err(CaptureFault::Text(8, TextFault::TrailingText)),
-    )?;
-    Ok(())
-}
+/// How many bytes are cut from the text's end, what comes after it, and its line with the fault.
+const ENDS: [(usize, (&[u8], usize), u64, TextFault); 7] = [
+    (132, (b"", 0), 1, TextFault::Truncated),
+    (8, (b"", 0), 7, TextFault::Truncated),
+    (1, (b"", 0), 7, TextFault::Truncated),
+    (0, (b"#\n", 0), 8, TextFault::TrailingText),
+    (0, (b"\n", 0), 8, TextFault::TrailingText),
+    (0, (b"x", 0), 8, TextFault::TrailingText),
+    (0, (b"", 131_071), 8, TextFault::TrailingText),
+];
 
 #[test]
-fn comments_and_empty_lines_are_no_datagrams(rt: HostRuntime) -> Result<(), Fail> {
-    gives(&rt, &changed(&rt, 3, b"service 69\n# x")?, Ok((3, 18)))?;
-    gives(
-        &rt,
-        &changed(&rt, 2, b"\n#\x00\xff\nend server")?,
-        Ok((3, 21)),
-    )?;
-    gives(&rt, &changed(&rt, 6, b"out 1 2 -\n\n")?, Ok((3, 15)))?;
-    gives(
-        &rt,
-        &changed(&rt, 5, b"in 40000 41000 000300016A6B")?,
-        Ok((3, 15)),
-    )?;
+fn texts_that_end_too_early_or_go_on(rt: HostRuntime) -> Result<(), Fail> {
+    for (left, (start, count), line, fault) in ENDS {
+        let more = long(&rt, start, b'a', count)?;
+        let text = cut(&rt, READ.len().saturating_sub(left), more.as_slice())?;
+        gives(&rt, text.as_slice(), Err(CaptureFault::Text(line, fault)))?;
+    }
     Ok(())
 }
 
@@ -261,9 +248,9 @@ fn each_read_fails_in_turn(rt: HostRuntime) {
 #[test]
 fn faults_and_the_end_are_answered_for_good(rt: HostRuntime) -> Result<(), Fail> {
     let mut reader = Tallied::new(DripReader::new(READ, 80, 2, None));
-    let mut capture = CaptureReader::begin(rt.alloc(), &mut reader).map_err(|_| Fail::from(
-        "begin",
-    ))?;
+    let Ok(mut capture) = CaptureReader::begin(rt.alloc(), &mut reader) else {
+        return Err(Fail::new("begin"));
+    };
     assert!(rt; matches!(capture.next(rt.alloc(), &mut reader), Ok(Some(_))));
     for _ in 0..3 {
         assert!(rt;
@@ -275,9 +262,9 @@ fn faults_and_the_end_are_answered_for_good(rt: HostRuntime) -> Result<(), Fail>
         assert_eq!(rt; capture.line(), 4);
     }
     let mut reader = Tallied::new(DripReader::new(READ, usize::MAX, 0, None));
-    let mut capture = CaptureReader::begin(rt.alloc(), &mut reader).map_err(|_| Fail::from(
-        "begin",
-    ))?;
+    let Ok(mut capture) = CaptureReader::begin(rt.alloc(), &mut reader) else {
+        return Err(Fail::new("begin"));
+    };
     for line in 4..7 {
         assert!(rt; matches!(capture.next(rt.alloc(), &mut reader), Ok(Some(_))));
         assert_eq!(rt; capture.line(), line);
@@ -291,9 +278,9 @@ fn faults_and_the_end_are_answered_for_good(rt: HostRuntime) -> Result<(), Fail>
 /// Fails unless the datagrams of the text, read into one that is held, carry these payloads.
 fn fills(rt: &HostRuntime, text: &[u8], payloads: &[&[u8]]) -> Result<(), Fail> {
     let mut reader = Tallied::new(DripReader::new(text, 7, 0, None));
-    let mut capture = CaptureReader::begin(rt.alloc(), &mut reader).map_err(|_| Fail::from(
-        "begin",
-    ))?;
+    let Ok(mut capture) = CaptureReader::begin(rt.alloc(), &mut reader) else {
+        return Err(Fail::new("begin"));
+    };
     let mut held = Datagram::empty(rt.alloc());
     for payload in payloads {
         let more = capture.next_into(&mut reader, &mut held);
@@ -328,9 +315,9 @@ fn a_held_datagram_is_filled_anew(rt: HostRuntime) -> Result<(), Fail> {
 fn a_fault_is_answered_for_good_to_who_holds_a_datagram(rt: HostRuntime) -> Result<(), Fail> {
     let text = changed(&rt, 5, b"in 1 2 0g")?;
     let mut reader = Tallied::new(DripReader::new(&text, 7, 0, None));
-    let mut capture = CaptureReader::begin(rt.alloc(), &mut reader).map_err(|_| Fail::from(
-        "begin",
-    ))?;
+    let Ok(mut capture) = CaptureReader::begin(rt.alloc(), &mut reader) else {
+        return Err(Fail::new("begin"));
+    };
     let mut held = Datagram::empty(rt.alloc());
     assert_eq!(rt; capture.next_into(&mut reader, &mut held), Ok(true));
     assert_eq!(rt; held.dir, Dir::Out);
@@ -348,9 +335,9 @@ fn a_fault_is_answered_for_good_to_who_holds_a_datagram(rt: HostRuntime) -> Resu
 /// Fails unless the text's service line and its datagrams stand on these lines, and the last of them is named on.
 fn stands_on(rt: &HostRuntime, text: &[u8], service: u64, datagrams: &[u64]) -> Result<(), Fail> {
     let mut reader = Tallied::new(DripReader::new(text, 7, 0, None));
-    let mut capture = CaptureReader::begin(rt.alloc(), &mut reader).map_err(|_| Fail::from(
-        "begin",
-    ))?;
+    let Ok(mut capture) = CaptureReader::begin(rt.alloc(), &mut reader) else {
+        return Err(Fail::new("begin"));
+    };
     let mut last = capture.line();
     if last != service {
         return Err(Fail::from((last, service)));
@@ -371,17 +358,20 @@ fn stands_on(rt: &HostRuntime, text: &[u8], service: u64, datagrams: &[u64]) -> 
     Ok(())
 }
 
+/// A changed line of the text, by its number, and the lines of the service and of the datagrams then.
+const HANDED_OUT: [(usize, &[u8], u64, [u64; 3]); 4] = [
+    (1, b"tftp-capture 1", 3, [4, 5, 6]),
+    (2, b"\n#\x00\xff\nend server", 5, [6, 7, 8]),
+    (3, b"#\n\nservice 69\n#", 5, [7, 8, 9]),
+    (6, b"out 1 2 -\n\n#", 3, [4, 5, 6]),
+];
+
 #[test]
 fn the_line_is_that_of_what_was_handed_out(rt: HostRuntime) -> Result<(), Fail> {
-    stands_on(&rt, READ, 3, &[4, 5, 6])?;
-    stands_on(
-        &rt,
-        &changed(&rt, 2, b"\n#\x00\xff\nend server")?,
-        5,
-        &[6, 7, 8],
-    )?;
-    stands_on(&rt, &changed(&rt, 3, b"#\n\nservice 69\n#")?, 5, &[7, 8, 9])?;
-    stands_on(&rt, &changed(&rt, 6, b"out 1 2 -\n\n#")?, 3, &[4, 5, 6])?;
+    for (number, line, service, datagrams) in HANDED_OUT {
+        let text = changed(&rt, number, line)?;
+        stands_on(&rt, text.as_slice(), service, &datagrams)?;
+    }
     stands_on(
         &rt,
         b"tftp-capture 1\n#\nend client\n#\nservice 69\n#\ntotal 0\n",
@@ -399,9 +389,9 @@ fn the_line_stays_at_a_fault(rt: HostRuntime) -> Result<(), Fail> {
     ] {
         let text = changed(&rt, number, line)?;
         let mut reader = Tallied::new(DripReader::new(&text, 7, 0, None));
-        let mut capture = CaptureReader::begin(rt.alloc(), &mut reader).map_err(|_| Fail::from(
-            "begin",
-        ))?;
+        let Ok(mut capture) = CaptureReader::begin(rt.alloc(), &mut reader) else {
+            return Err(Fail::new("begin"));
+        };
         for _ in 4..number {
             assert!(rt; matches!(capture.next(rt.alloc(), &mut reader), Ok(Some(_))));
         }

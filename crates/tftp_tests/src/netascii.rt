@@ -1,154 +1,169 @@
-//! Netascii: texts and what they read as, whole and in pieces, and what files are written as.
+//! Netascii: texts and what they read as, whole and in pieces, and what files are written as. Where a growth is refused,
+//! the answer that is asked for again is the text's own.
 
-use std::alloc::AllocError;
+use std::alloc::{AllocError, Global};
 use std::test::Fail;
 use tftp_netascii::{Decoder, decode, decode_pieces, encode, encoded_len};
 
+/// Texts, and the files that they read as.
+const TEXTS: [(&[u8], &[u8]); 8] = [
+    (b"", b""),
+    (b"\r\n", b"\n"),
+    (b"\r\0", b"\r"),
+    (b"\rA", b"\rA"),
+    (b"\n", b"\n"),
+    (b"\r", b"\r"),
+    (b"\r\r\n", b"\r\n"),
+    (b"one\r\ntwo\0\r\0three", b"one\ntwo\0\rthree"),
+];
+
+/// The file of a text, asked for again where a growth was refused.
+fn decoded(alloc: Global, wire: &[u8]) -> Result<Vec<u8>, AllocError> {
+    match decode(alloc, wire) {
+        Ok(file) => Ok(file),
+        Err(AllocError) => decode(alloc, wire),
+    }
+}
+
 #[test]
 fn decodes_whole_texts(rt: HostRuntime) -> Result<(), Fail> {
-    let rows: [(&[u8], &[u8]); 8] = [
-        (b"", b""),
-        (b"\r\n", b"\n"),
-        (b"\r\0", b"\r"),
-        (b"\rA", b"\rA"),
-        (b"\n", b"\n"),
-        (b"\r", b"\r"),
-        (b"\r\r\n", b"\r\n"),
-        (b"one\r\ntwo\0\r\0three", b"one\ntwo\0\rthree"),
-    ];
-    for (wire, file) in rows {
-        assert_eq!(rt; decode(rt.alloc(), wire)?.as_slice(), file);
+    for (wire, file) in TEXTS {
+        assert_eq!(rt; decoded(rt.alloc(), wire)?.as_slice(), file);
     }
     Ok(())
 }
 
-#[test]
-fn holds_a_return_back(rt: HostRuntime) -> Result<(), Fail> {
-    let mut decoder = Decoder::new();
-    let mut file = Vec::new(rt.alloc());
-    decoder.feed(b"\r", &mut file)?;
-    assert!(rt; file.is_empty());
-    decoder.feed(b"\n", &mut file)?;
-    assert_eq!(rt; file.as_slice(), b"\n".as_slice());
+/// Files, and the texts that they are written as.
+const FILES: [(&[u8], &[u8]); 4] = [
+    (b"", b""),
+    (b"\r\n", b"\r\0\r\n"),
+    (b"\r\0", b"\r\0\0"),
+    (b"a", b"a"),
+];
 
-    // The decoder is as new after each end.
-    decoder.feed(b"\r", &mut file)?;
-    decoder.finish(&mut file)?;
-    assert_eq!(rt; file.as_slice(), b"\n\r".as_slice());
-    decoder.feed(b"\n", &mut file)?;
-    decoder.finish(&mut file)?;
-    assert_eq!(rt; file.as_slice(), b"\n\r\n".as_slice());
-    Ok(())
-}
-
-/// Bit i of `cuts` ends a piece after byte i.
-#[test]
-fn every_cut_gives_what_the_whole_gives(rt: HostRuntime) -> Result<(), Fail> {
-    for cuts in 0..64u32 {
-        let mut decoder = Decoder::new();
-        let mut file = Vec::new(rt.alloc());
-        let mut piece = Vec::new(rt.alloc());
-        let mut later_cuts = cuts;
-        for byte in b"\r\r\n\r\0\rA" {
-            piece.push(*byte)?;
-            if later_cuts & 1 == 1 {
-                decoder.feed(&piece, &mut file)?;
-                piece.clear();
-            }
-            later_cuts >>= 1;
-        }
-        decoder.feed(&piece, &mut file)?;
-        decoder.finish(&mut file)?;
-        assert_eq!(rt; file.as_slice(), b"\r\n\r\rA".as_slice(), "at cuts {cuts}");
+/// The text of a file, asked for again where a growth was refused.
+fn encoded(alloc: Global, file: &[u8]) -> Result<Vec<u8>, AllocError> {
+    match encode(alloc, file) {
+        Ok(wire) => Ok(wire),
+        Err(AllocError) => encode(alloc, file),
     }
-    Ok(())
-}
-
-/// Where one growth is refused, the answer that is asked for again is the text's own.
-#[test]
-fn decode_with_a_growth_refused(rt: HostRuntime) -> Result<(), Fail> {
-    let wire = b"\r\n";
-    let file = match decode(rt.alloc(), wire) {
-        Ok(file) => file,
-        Err(AllocError) => decode(rt.alloc(), wire)?,
-    };
-    assert_eq!(rt; file.as_slice(), b"\n".as_slice());
-    Ok(())
-}
-
-/// A piece that was refused can be fed again.
-#[test]
-fn feed_with_a_growth_refused(rt: HostRuntime) -> Result<(), Fail> {
-    let mut decoder = Decoder::new();
-    let mut file = Vec::new(rt.alloc());
-    if let Err(AllocError) = decoder.feed(b"a\r", &mut file) {
-        assert!(rt; file.is_empty());
-        decoder.feed(b"a\r", &mut file)?;
-    }
-    assert_eq!(rt; file.as_slice(), b"a".as_slice());
-    Ok(())
-}
-
-/// An end that was refused can be asked for again.
-#[test]
-fn finish_with_a_growth_refused(rt: HostRuntime) -> Result<(), Fail> {
-    let mut decoder = Decoder::new();
-    let mut file = Vec::new(rt.alloc());
-    if let Err(AllocError) = decoder.feed(b"\r", &mut file) {
-        decoder.feed(b"\r", &mut file)?;
-    }
-    let mut end = Vec::new(rt.alloc());
-    if let Err(AllocError) = decoder.finish(&mut end) {
-        assert!(rt; end.is_empty());
-        decoder.finish(&mut end)?;
-    }
-    assert_eq!(rt; end.as_slice(), b"\r".as_slice());
-    Ok(())
 }
 
 #[test]
 fn encodes_files(rt: HostRuntime) -> Result<(), Fail> {
-    let rows: [(&[u8], &[u8]); 4] = [
-        (b"", b""),
-        (b"\r\n", b"\r\0\r\n"),
-        (b"\r\0", b"\r\0\0"),
-        (b"a", b"a"),
-    ];
-    for (file, wire) in rows {
-        assert_eq!(rt; encode(rt.alloc(), file)?.as_slice(), wire);
+    for (file, wire) in FILES {
+        assert_eq!(rt; encoded(rt.alloc(), file)?.as_slice(), wire);
         assert_eq!(rt; encoded_len(file), wire.len() as u64);
     }
     Ok(())
 }
 
-/// Where one growth is refused, the answer that is asked for again is the file's own.
-#[test]
-fn encode_with_a_growth_refused(rt: HostRuntime) -> Result<(), Fail> {
-    let file = b"\r\n";
-    let wire = match encode(rt.alloc(), file) {
-        Ok(wire) => wire,
-        Err(AllocError) => encode(rt.alloc(), file)?,
-    };
-    assert_eq!(rt; wire.as_slice(), b"\r\0\r\n".as_slice());
-    Ok(())
+/// Texts in two pieces, and the files that they read as.
+const PIECES: [([&[u8]; 2], &[u8]); 2] = [([b"\r", b"\n"], b"\n"), ([b"a\r", b"\nb"], b"a\nb")];
+
+/// The file of a text in pieces, asked for again where a growth was refused.
+fn decoded_pieces(alloc: Global, pieces: &[&[u8]]) -> Result<Vec<u8>, AllocError> {
+    match decode_pieces(alloc, pieces) {
+        Ok(file) => Ok(file),
+        Err(AllocError) => decode_pieces(alloc, pieces),
+    }
 }
 
 #[test]
 fn joins_a_pair_that_was_cut(rt: HostRuntime) -> Result<(), Fail> {
-    let file = decode_pieces(rt.alloc(), &[b"\r".as_slice(), b"\n".as_slice()])?;
-    assert_eq!(rt; file.as_slice(), b"\n".as_slice());
+    for (pieces, file) in PIECES {
+        assert_eq!(rt; decoded_pieces(rt.alloc(), &pieces)?.as_slice(), file);
+    }
     Ok(())
 }
 
-/// Where one growth is refused, the answer that is asked for again is the text's own.
+/// Feeds a piece, again where a growth was refused: then nothing may have been written.
+fn fed(decoder: &mut Decoder, piece: &[u8], file: &mut Vec<u8>) -> Result<(), Fail> {
+    let before = file.len();
+    if let Err(AllocError) = decoder.feed(piece, file) {
+        if file.len() != before {
+            return Err(Fail::new("written without memory"));
+        }
+        decoder.feed(piece, file)?;
+    }
+    Ok(())
+}
+
+/// Ends a text, likewise.
+fn finished(decoder: &mut Decoder, file: &mut Vec<u8>) -> Result<(), Fail> {
+    let before = file.len();
+    if let Err(AllocError) = decoder.finish(file) {
+        if file.len() != before {
+            return Err(Fail::new("written without memory"));
+        }
+        decoder.finish(file)?;
+    }
+    Ok(())
+}
+
+/// Pieces of texts, each with whether the text ends after it, and all that was written by then. After an end the decoder
+/// is as new.
+const STEPS: [(&[u8], bool, &[u8]); 6] = [
+    (b"\r", false, b""),
+    (b"\n", false, b"\n"),
+    (b"\r", true, b"\n\r"),
+    (b"\n", true, b"\n\r\n"),
+    (b"a\r", false, b"\n\r\na"),
+    (b"", true, b"\n\r\na\r"),
+];
+
 #[test]
-fn decode_pieces_with_a_growth_refused(rt: HostRuntime) -> Result<(), Fail> {
-    let pieces = [b"a\r".as_slice(), b"\nb".as_slice()];
-    let file = match decode_pieces(rt.alloc(), &pieces) {
-        Ok(file) => file,
-        Err(AllocError) => decode_pieces(rt.alloc(), &pieces)?,
-    };
-    assert_eq!(rt; file.as_slice(), b"a\nb".as_slice());
+fn holds_a_return_back(rt: HostRuntime) -> Result<(), Fail> {
+    let mut decoder = Decoder::new();
+    let mut file = Vec::new(rt.alloc());
+    for (piece, ends, written) in STEPS {
+        fed(&mut decoder, piece, &mut file)?;
+        if ends {
+            finished(&mut decoder, &mut file)?;
+        }
+        assert_eq!(rt; file.as_slice(), written);
+    }
+    Ok(())
+}
+
+/// What the end gives is written into another vector too.
+#[test]
+fn a_return_is_written_at_the_end(rt: HostRuntime) -> Result<(), Fail> {
+    let mut decoder = Decoder::new();
+    let mut file = Vec::new(rt.alloc());
+    fed(&mut decoder, b"\r", &mut file)?;
+    let mut end = Vec::new(rt.alloc());
+    finished(&mut decoder, &mut end)?;
+    assert!(rt; file.is_empty());
+    assert_eq!(rt; end.as_slice(), b"\r".as_slice());
+    Ok(())
+}
+
+/// Bit i of `cuts` ends a piece after byte i.
+fn cut(alloc: Global, cuts: u32) -> Result<Vec<u8>, Fail> {
+    let mut decoder = Decoder::new();
+    let mut file = Vec::new(alloc);
+    let mut piece = Vec::new(alloc);
+    let mut later_cuts = cuts;
+    for byte in b"\r\r\n\r\0\rA" {
+        piece.push(*byte)?;
+        if later_cuts & 1 == 1 {
+            decoder.feed(&piece, &mut file)?;
+            piece.clear();
+        }
+        later_cuts >>= 1;
+    }
+    decoder.feed(&piece, &mut file)?;
+    decoder.finish(&mut file)?;
+    Ok(file)
+}
+
+#[test]
+fn every_cut_gives_what_the_whole_gives(rt: HostRuntime) -> Result<(), Fail> {
+    for cuts in 0..64u32 {
+        let file = cut(rt.alloc(), cuts)?;
+        assert_eq!(rt; file.as_slice(), b"\r\n\r\rA".as_slice(), "at cuts {cuts}");
+    }
     Ok(())
 }
 

@@ -44,11 +44,6 @@ const WITH_A_STRAY: [Row; 6] = [
     (Dir::Out, 40000, b"-", 42000, 4, Err(PortFault::StrayAnswer)),
 ];
 
-#[test]
-fn stray_is_answered_by_an_error(rt: HostRuntime) -> Result<(), Fail> {
-    answers(&rt, End::Client, 69, &WITH_A_STRAY)
-}
-
 /// Before the first request, before the server is known, and after.
 const AT_A_CLIENT: [Row; 23] = [
     (Dir::In, 40000, b"-", 41000, 3, Ok(Route::Peer)),
@@ -75,11 +70,6 @@ const AT_A_CLIENT: [Row; 23] = [
     (Dir::Out, 40000, b"-", 41001, 5, Ok(Route::Peer)),
     (Dir::Out, 40000, b"-", 69, 1, Ok(Route::Request)),
 ];
-
-#[test]
-fn client_knows_its_server(rt: HostRuntime) -> Result<(), Fail> {
-    answers(&rt, End::Client, 69, &AT_A_CLIENT)
-}
 
 /// Before the first request, before the server's own port is known, and after.
 const AT_A_SERVER: [Row; 27] = [
@@ -112,11 +102,6 @@ const AT_A_SERVER: [Row; 27] = [
     (Dir::In, 3001, b"-", 2000, 5, Ok(Route::Peer)),
 ];
 
-#[test]
-fn server_knows_its_client(rt: HostRuntime) -> Result<(), Fail> {
-    answers(&rt, End::Server, 6969, &AT_A_SERVER)
-}
-
 /// A server that answers from its service port.
 const AT_THE_SERVICE_PORT: [Row; 9] = [
     (Dir::In, 69, b"-", 2000, 1, Ok(Route::Request)),
@@ -129,11 +114,6 @@ const AT_THE_SERVICE_PORT: [Row; 9] = [
     (Dir::Out, 69, b"-", 2001, 5, Ok(Route::StrayAnswer)),
     (Dir::Out, 70, b"-", 2000, 3, Err(PortFault::ForeignPort)),
 ];
-
-#[test]
-fn server_answers_from_its_service_port(rt: HostRuntime) -> Result<(), Fail> {
-    answers(&rt, End::Server, 69, &AT_THE_SERVICE_PORT)
-}
 
 /// A stray from another host at the server's port, and a request to another host.
 const HOSTS_AT_A_CLIENT: [Row; 8] = [
@@ -191,12 +171,6 @@ const ANOTHER_HOST_ANSWERS: [Row; 5] = [
     (Dir::Out, 40000, b"10.0.0.1", 69, 1, Ok(Route::Request)),
 ];
 
-#[test]
-fn client_compares_hosts(rt: HostRuntime) -> Result<(), Fail> {
-    answers(&rt, End::Client, 69, &HOSTS_AT_A_CLIENT)?;
-    answers(&rt, End::Client, 69, &ANOTHER_HOST_ANSWERS)
-}
-
 /// Two hosts with one port.
 const HOSTS_AT_A_SERVER: [Row; 9] = [
     (Dir::In, 69, b"10.0.0.1", 2000, 1, Ok(Route::Request)),
@@ -238,9 +212,23 @@ const HOSTS_AT_A_SERVER: [Row; 9] = [
     ),
 ];
 
+/// The end, its service port, and what passes there.
+const ROWS: [(End, u16, &[Row]); 7] = [
+    (End::Client, 69, &WITH_A_STRAY),
+    (End::Client, 69, &AT_A_CLIENT),
+    (End::Server, 6969, &AT_A_SERVER),
+    (End::Server, 69, &AT_THE_SERVICE_PORT),
+    (End::Client, 69, &HOSTS_AT_A_CLIENT),
+    (End::Client, 69, &ANOTHER_HOST_ANSWERS),
+    (End::Server, 69, &HOSTS_AT_A_SERVER),
+];
+
 #[test]
-fn server_compares_hosts(rt: HostRuntime) -> Result<(), Fail> {
-    answers(&rt, End::Server, 69, &HOSTS_AT_A_SERVER)
+fn datagrams_belong_where_their_ports_say(rt: HostRuntime) -> Result<(), Fail> {
+    for (end, service, rows) in ROWS {
+        answers(&rt, end, service, rows)?;
+    }
+    Ok(())
 }
 
 /// Whether a datagram between the client's port and a port of the host is answered so.
@@ -255,33 +243,45 @@ fn belongs(
     class(ports, (dir, 40000, host, remote, opcode)) == Ok(wanted)
 }
 
+/// Fails unless a datagram of each port below the server's is a stray.
+fn all_are_strays(ports: &mut Ports) -> Result<(), Fail> {
+    for below in 1..65535u16 {
+        let remote = 65535 - below;
+        if !belongs(ports, Dir::In, Host::none(), remote, 3, Route::Stray) {
+            return Err(Fail::from(remote));
+        }
+    }
+    Ok(())
+}
+
+/// Fails unless each stray may come again, and be answered.
+fn all_are_answered(ports: &mut Ports) -> Result<(), Fail> {
+    for remote in 1..65535u16 {
+        if !belongs(ports, Dir::In, Host::none(), remote, 3, Route::Stray)
+            || !belongs(ports, Dir::Out, Host::none(), remote, 5, Route::StrayAnswer)
+        {
+            return Err(Fail::from(remote));
+        }
+    }
+    Ok(())
+}
+
 #[test]
 fn client_notes_each_stray(rt: HostRuntime) -> Result<(), Fail> {
     let mut ports = Ports::new(rt.alloc(), End::Client, 69);
     let host = Host::none();
-    assert!(rt; belongs(&mut ports, Dir::Out, host, 69, 1, Route::Request));
-    assert!(rt; belongs(&mut ports, Dir::In, host, 65535, 3, Route::Peer));
-    for below in 1..65535u16 {
-        let remote = 65535 - below;
-        assert!(rt;
-            belongs(&mut ports, Dir::In, host, remote, 3, Route::Stray),
-            "{remote}"
-        );
-    }
-    for remote in 1..65535u16 {
-        assert!(rt;
-            belongs(&mut ports, Dir::In, host, remote, 3, Route::Stray),
-            "{remote}"
-        );
-        assert!(rt;
-            belongs(&mut ports, Dir::Out, host, remote, 5, Route::StrayAnswer),
-            "{remote}"
-        );
-    }
-    assert!(rt; belongs(&mut ports, Dir::In, host, 65535, 3, Route::Peer));
+    let asked = belongs(&mut ports, Dir::Out, host, 69, 1, Route::Request);
+    let known = belongs(&mut ports, Dir::In, host, 65535, 3, Route::Peer);
+    all_are_strays(&mut ports)?;
+    all_are_answered(&mut ports)?;
+    let still = belongs(&mut ports, Dir::In, host, 65535, 3, Route::Peer);
     let Some(other) = Host::new(b"10.0.0.1") else {
         return Err(Fail::new("no host"));
     };
-    assert!(rt; class(&mut ports, (Dir::Out, 40000, other, 1, 5)) == Err(PortFault::WrongPort));
-    Ok(())
+    let refused = class(&mut ports, (Dir::Out, 40000, other, 1, 5));
+    if asked && known && still && refused == Err(PortFault::WrongPort) {
+        Ok(())
+    } else {
+        Err(Fail::from((asked, known, still, refused)))
+    }
 }

@@ -5,9 +5,28 @@ use std::test::Fail;
 use tftp_ends::{Delivered, EndFault, MapDelivered, ReceiverState, RingDelivered, SenderState};
 use tftp_packet::Side;
 
-fn expect(holds: bool, what: &'static str) -> Result<(), Fail> {
-    if holds { Ok(()) } else { Err(Fail::new(what)) }
+/// A call of a state, and what it answers.
+enum Step {
+    /// Whether a block may go out at a sender, or come in at a receiver.
+    May(u16, &'static [u8], Result<(), EndFault>),
+    /// Whether an ACK may come in, or go out.
+    MayAck(u16, Result<(), EndFault>),
+    /// A block that may pass does.
+    Data(u16, &'static [u8]),
+    /// An ACK that may pass does.
+    Ack(u16),
+    /// The other end's ERROR.
+    Stopped,
+    /// Whether the end is done.
+    Done(bool),
+    /// What the store holds of a block.
+    Block(u16, &'static [u8]),
+    /// The store's front, and how many blocks wait above it.
+    Front(u16, usize),
 }
+
+/// How a state begins: its side, whether an OACK was agreed, the block size, the window, and the size if it is agreed.
+type Start = (Side, bool, u16, u16, Option<u64>);
 
 /// Sends a block that may go out. Where a growth is refused the block still may, and is sent then.
 fn send<D: Delivered>(
@@ -73,316 +92,360 @@ fn acknowledge<D: Delivered>(receiver: &mut ReceiverState<D>, number: u16) -> Re
     }
 }
 
+/// Whether the call answers what is wanted, at a sender.
+fn sender_holds<D: Delivered>(
+    rt: &HostRuntime,
+    sender: &mut SenderState<D>,
+    step: &Step,
+) -> Result<bool, Fail> {
+    match step {
+        Step::May(number, bytes, wanted) => Ok(sender.may_data(*number, bytes) == *wanted),
+        Step::MayAck(number, wanted) => Ok(sender.may_ack(*number) == *wanted),
+        Step::Data(number, bytes) => {
+            send(rt, sender, *number, bytes)?;
+            Ok(true)
+        }
+        Step::Ack(number) => {
+            hear(sender, *number)?;
+            Ok(true)
+        }
+        Step::Stopped => {
+            sender.peer_stopped();
+            Ok(true)
+        }
+        Step::Done(done) => Ok(sender.done() == *done),
+        Step::Block(number, bytes) => Ok(sender.store().block(*number) == Some(*bytes)),
+        Step::Front(front, pending) => Ok(
+            sender.store().front() == *front && sender.store().pending() == *pending,
+        ),
+    }
+}
+
+/// Whether the call answers what is wanted, at a receiver.
+fn receiver_holds<D: Delivered>(
+    rt: &HostRuntime,
+    receiver: &mut ReceiverState<D>,
+    step: &Step,
+) -> Result<bool, Fail> {
+    match step {
+        Step::May(number, bytes, wanted) => Ok(receiver.may_data(*number, bytes) == *wanted),
+        Step::MayAck(number, wanted) => Ok(receiver.may_ack(*number) == *wanted),
+        Step::Data(number, bytes) => {
+            take(rt, receiver, *number, bytes)?;
+            Ok(true)
+        }
+        Step::Ack(number) => {
+            acknowledge(receiver, *number)?;
+            Ok(true)
+        }
+        Step::Stopped => {
+            receiver.peer_stopped();
+            Ok(true)
+        }
+        Step::Done(done) => Ok(receiver.done() == *done),
+        Step::Block(number, bytes) => Ok(receiver.store().block(*number) == Some(*bytes)),
+        Step::Front(front, pending) => Ok(
+            receiver.store().front() == *front && receiver.store().pending() == *pending,
+        ),
+    }
+}
+
 /// A server sends two blocks in a window of two, once its OACK is acknowledged.
-fn read_in_windows<D: Delivered + Drop>(rt: &HostRuntime) -> Result<(), Fail> {
-    let mut sender = SenderState::new(Side::Get, true, 8, 2, None, D::new(rt.alloc(), 8, 2));
-    expect(
-        sender.may_data(1, b"11111111") == Err(EndFault::NotStarted),
-        "not started",
-    )?;
-    expect(sender.may_ack(0) == Ok(()), "ACK 0")?;
-    hear(&mut sender, 0)?;
-    expect(
-        sender.may_data(2, b"22222222") == Err(EndFault::BlockSkipped),
-        "2 before 1",
-    )?;
-    expect(
-        sender.may_data(3, b"33333333") == Err(EndFault::WindowOverrun),
-        "3 of 2",
-    )?;
-    send(rt, &mut sender, 1, b"11111111")?;
-    send(rt, &mut sender, 2, b"22222222")?;
-    expect(sender.may_data(1, b"11111111") == Ok(()), "1 again")?;
-    expect(
-        sender.may_data(1, b"11111112") == Err(EndFault::BlockChanged),
-        "other 1",
-    )?;
-    expect(sender.may_ack(3) == Err(EndFault::AckAhead), "ACK 3")?;
-    hear(&mut sender, 1)?;
-    hear(&mut sender, 0)?;
-    send(rt, &mut sender, 3, b"33")?;
-    expect(!sender.done(), "3 is not acknowledged")?;
-    hear(&mut sender, 3)?;
-    expect(sender.done(), "done")?;
-    expect(sender.store().block(3) == Some(b"33"), "block 3")?;
-    expect(sender.into_store().highest() == 3, "three blocks")
-}
+const READ_IN_WINDOWS: [Step; 17] = [
+    Step::May(1, b"11111111", Err(EndFault::NotStarted)),
+    Step::MayAck(0, Ok(())),
+    Step::Ack(0),
+    Step::May(2, b"22222222", Err(EndFault::BlockSkipped)),
+    Step::May(3, b"33333333", Err(EndFault::WindowOverrun)),
+    Step::Data(1, b"11111111"),
+    Step::Data(2, b"22222222"),
+    Step::May(1, b"11111111", Ok(())),
+    Step::May(1, b"11111112", Err(EndFault::BlockChanged)),
+    Step::MayAck(3, Err(EndFault::AckAhead)),
+    Step::Ack(1),
+    Step::Ack(0),
+    Step::Data(3, b"33"),
+    Step::Done(false),
+    Step::Ack(3),
+    Step::Done(true),
+    Step::Block(3, b"33"),
+];
 
-#[test]
-fn read_in_windows_on_a_map(rt: HostRuntime) -> Result<(), Fail> {
-    read_in_windows::<MapDelivered>(&rt)
-}
-
-#[test]
-fn read_in_windows_on_a_ring(rt: HostRuntime) -> Result<(), Fail> {
-    read_in_windows::<RingDelivered>(&rt)
-}
-
-/// A server takes a block of a write before the one below it.
-fn written_out_of_order<D: Delivered + Drop>(rt: &HostRuntime) -> Result<(), Fail> {
-    let mut receiver = ReceiverState::new(Side::Put, true, 8, 4, None, D::new(rt.alloc(), 8, 4));
-    expect(receiver.may_ack(0) == Err(EndFault::AckZero), "ACK 0")?;
-    expect(
-        receiver.may_data(0, b"00000000") == Err(EndFault::BlockZero),
-        "block 0",
-    )?;
-    take(rt, &mut receiver, 2, b"22222222")?;
-    expect(receiver.may_ack(0) == Ok(()), "ACK 0 for block 1")?;
-    expect(receiver.may_ack(2) == Err(EndFault::AckAhead), "ACK 2")?;
-    expect(
-        receiver.may_data(2, b"222") == Err(EndFault::BlockLength),
-        "short 2",
-    )?;
-    take(rt, &mut receiver, 3, b"333")?;
-    take(rt, &mut receiver, 1, b"11111111")?;
-    expect(!receiver.done(), "3 is not acknowledged")?;
-    acknowledge(&mut receiver, 2)?;
-    expect(!receiver.done(), "3 is not acknowledged yet")?;
-    acknowledge(&mut receiver, 3)?;
-    expect(receiver.done(), "done")?;
-    expect(
-        receiver.may_data(4, b"44444444") == Err(EndFault::BlockLength),
-        "4 past the last",
-    )?;
-    expect(receiver.store().front() == 3, "front")?;
-    let wire = receiver.into_store().into_wire(rt.alloc())?;
-    expect(wire.as_slice() == b"1111111122222222333".as_slice(), "wire")
-}
-
-#[test]
-fn written_out_of_order_on_a_map(rt: HostRuntime) -> Result<(), Fail> {
-    written_out_of_order::<MapDelivered>(&rt)
-}
-
-#[test]
-fn written_out_of_order_on_a_ring(rt: HostRuntime) -> Result<(), Fail> {
-    written_out_of_order::<RingDelivered>(&rt)
-}
-
-/// What a receiver acknowledges after an ERROR has come in, the other end has not used; but it may be all there was.
-fn stopped_receiver<D: Delivered + Drop>(rt: &HostRuntime) -> Result<(), Fail> {
-    let mut receiver = ReceiverState::new(Side::Get, true, 8, 1, None, D::new(rt.alloc(), 8, 1));
-    expect(
-        receiver.may_data(1, b"11111111") == Err(EndFault::NotStarted),
-        "not started",
-    )?;
-    acknowledge(&mut receiver, 0)?;
-    take(rt, &mut receiver, 1, b"11111111")?;
-    receiver.peer_stopped();
-    acknowledge(&mut receiver, 1)?;
-    expect(
-        receiver.may_data(2, b"22222222") == Err(EndFault::WindowOverrun),
-        "2 after the ERROR",
-    )?;
-    expect(receiver.may_data(1, b"11111111") == Ok(()), "1 again")?;
-    receiver.peer_stopped();
-    expect(
-        receiver.may_data(2, b"22222222") == Err(EndFault::WindowOverrun),
-        "2 after two ERRORs",
-    )?;
-    let mut last = ReceiverState::new(Side::Get, true, 8, 1, None, D::new(rt.alloc(), 8, 1));
-    last.peer_stopped();
-    acknowledge(&mut last, 0)?;
-    expect(
-        last.may_data(1, b"1") == Err(EndFault::NotStarted),
-        "ACK 0 after the ERROR",
-    )
-}
-
-#[test]
-fn stopped_receiver_on_a_map(rt: HostRuntime) -> Result<(), Fail> {
-    stopped_receiver::<MapDelivered>(&rt)
-}
-
-#[test]
-fn stopped_receiver_on_a_ring(rt: HostRuntime) -> Result<(), Fail> {
-    stopped_receiver::<RingDelivered>(&rt)
-}
-
-/// A receiver that has all blocks is done by an ACK after the ERROR too, and a sender hears of no block that it sent
-/// then.
-fn stopped_at_the_end<D: Delivered + Drop>(rt: &HostRuntime) -> Result<(), Fail> {
-    let mut receiver = ReceiverState::new(
-        Side::Get,
-        false,
-        512,
-        1,
-        None,
-        D::new(rt.alloc(), 512, 1),
-    );
-    expect(receiver.may_ack(0) == Err(EndFault::AckZero), "ACK 0")?;
-    take(rt, &mut receiver, 1, b"hi")?;
-    receiver.peer_stopped();
-    expect(!receiver.done(), "not acknowledged")?;
-    acknowledge(&mut receiver, 1)?;
-    expect(receiver.done(), "done after the ERROR")?;
-    let mut sender = SenderState::new(Side::Put, false, 8, 1, None, D::new(rt.alloc(), 8, 1));
-    hear(&mut sender, 0)?;
-    send(rt, &mut sender, 1, b"11111111")?;
-    hear(&mut sender, 1)?;
-    sender.peer_stopped();
-    send(rt, &mut sender, 2, b"22")?;
-    expect(sender.may_ack(2) == Err(EndFault::AckAhead), "ACK 2")?;
-    sender.peer_stopped();
-    expect(sender.may_ack(2) == Err(EndFault::AckAhead), "ACK 2 again")?;
-    expect(
-        sender.may_data(1, b"11111111") == Err(EndFault::GoneBack),
-        "1 after 2 in lock step",
-    )?;
-    expect(!sender.done(), "block 2 is not acknowledged")
-}
-
-#[test]
-fn stopped_at_the_end_on_a_map(rt: HostRuntime) -> Result<(), Fail> {
-    stopped_at_the_end::<MapDelivered>(&rt)
-}
-
-#[test]
-fn stopped_at_the_end_on_a_ring(rt: HostRuntime) -> Result<(), Fail> {
-    stopped_at_the_end::<RingDelivered>(&rt)
-}
-
-/// An agreed size tells which block is the last, and how long it is.
-fn known_size<D: Delivered + Drop>(rt: &HostRuntime) -> Result<(), Fail> {
-    let mut receiver = ReceiverState::new(
-        Side::Put,
-        true,
-        8,
-        4,
-        Some(10),
-        D::new(rt.alloc(), 8, 4),
-    );
-    expect(
-        receiver.may_data(1, b"1111111") == Err(EndFault::BlockLength),
-        "short 1",
-    )?;
-    expect(
-        receiver.may_data(2, b"22222222") == Err(EndFault::BlockLength),
-        "whole 2",
-    )?;
-    expect(
-        receiver.may_data(2, b"2") == Err(EndFault::BlockLength),
-        "2 of one byte",
-    )?;
-    expect(
-        receiver.may_data(3, b"33333333") == Err(EndFault::BlockLength),
-        "3 past the last",
-    )?;
-    take(rt, &mut receiver, 2, b"22")?;
-    take(rt, &mut receiver, 1, b"11111111")?;
-    acknowledge(&mut receiver, 2)?;
-    expect(receiver.done(), "done")?;
-    let empty = ReceiverState::new(Side::Get, false, 8, 1, Some(0), D::new(rt.alloc(), 8, 1));
-    expect(empty.may_data(1, b"") == Ok(()), "an empty wire")?;
-    expect(
-        empty.may_data(1, b"1") == Err(EndFault::BlockLength),
-        "a byte of none",
-    )?;
-    let whole = ReceiverState::new(Side::Get, false, 8, 2, Some(8), D::new(rt.alloc(), 8, 2));
-    expect(whole.may_data(2, b"") == Ok(()), "an empty last block")?;
-    let most = ReceiverState::new(
-        Side::Get,
-        false,
-        8,
-        1,
-        Some(u64::MAX),
-        D::new(rt.alloc(), 8, 1),
-    );
-    expect(most.may_data(1, b"11111111") == Ok(()), "the first of many")?;
-    expect(
-        most.may_data(1, b"1") == Err(EndFault::BlockLength),
-        "a short one of many",
-    )
-}
-
-#[test]
-fn known_size_on_a_map(rt: HostRuntime) -> Result<(), Fail> {
-    known_size::<MapDelivered>(&rt)
-}
-
-#[test]
-fn known_size_on_a_ring(rt: HostRuntime) -> Result<(), Fail> {
-    known_size::<RingDelivered>(&rt)
-}
+/// A sender hears of no block that it sent after the ERROR.
+const STOPPED_SENDER: [Step; 10] = [
+    Step::Ack(0),
+    Step::Data(1, b"11111111"),
+    Step::Ack(1),
+    Step::Stopped,
+    Step::Data(2, b"22"),
+    Step::MayAck(2, Err(EndFault::AckAhead)),
+    Step::Stopped,
+    Step::MayAck(2, Err(EndFault::AckAhead)),
+    Step::May(1, b"11111111", Err(EndFault::GoneBack)),
+    Step::Done(false),
+];
 
 /// The largest window goes past the last number that a block can have.
-fn largest_window<D: Delivered + Drop>(rt: &HostRuntime) -> Result<(), Fail> {
-    let mut sender = SenderState::new(
-        Side::Put,
-        true,
-        8,
-        65535,
-        None,
-        D::new(rt.alloc(), 8, 65535),
-    );
-    send(rt, &mut sender, 1, b"11111111")?;
-    hear(&mut sender, 1)?;
-    expect(
-        sender.may_data(65535, b"1111111") == Err(EndFault::BlockSkipped),
-        "65535 after 1",
-    )?;
-    expect(
-        sender.may_data(65535, b"11111111") == Err(EndFault::BeyondBlock65535),
-        "a whole 65535",
-    )?;
-    let mut receiver = ReceiverState::new(
-        Side::Put,
-        true,
-        8,
-        65535,
-        None,
-        D::new(rt.alloc(), 8, 65535),
-    );
-    take(rt, &mut receiver, 65535, b"1111111")?;
-    take(rt, &mut receiver, 1, b"11111111")?;
-    acknowledge(&mut receiver, 1)?;
-    take(rt, &mut receiver, 65534, b"11111111")?;
-    expect(receiver.store().pending() == 2, "two wait")?;
-    expect(
-        receiver.may_data(65534, b"1111111") == Err(EndFault::BlockLength),
-        "short below the last",
-    )
+const LARGEST_SENDER: [Step; 4] = [
+    Step::Data(1, b"11111111"),
+    Step::Ack(1),
+    Step::May(65535, b"1111111", Err(EndFault::BlockSkipped)),
+    Step::May(65535, b"11111111", Err(EndFault::BeyondBlock65535)),
+];
+
+/// Senders, with the highest block that they have sent at the end.
+const SENDERS: [(&str, Start, &[Step], u16); 3] = [
+    (
+        "a read in windows",
+        (Side::Get, true, 8, 2, None),
+        &READ_IN_WINDOWS,
+        3,
+    ),
+    (
+        "a sender that is stopped",
+        (Side::Put, false, 8, 1, None),
+        &STOPPED_SENDER,
+        2,
+    ),
+    (
+        "a sender with the largest window",
+        (Side::Put, true, 8, 65535, None),
+        &LARGEST_SENDER,
+        1,
+    ),
+];
+
+/// A server takes a block of a write before the one below it.
+const WRITTEN_OUT_OF_ORDER: [Step; 15] = [
+    Step::MayAck(0, Err(EndFault::AckZero)),
+    Step::May(0, b"00000000", Err(EndFault::BlockZero)),
+    Step::Data(2, b"22222222"),
+    Step::MayAck(0, Ok(())),
+    Step::MayAck(2, Err(EndFault::AckAhead)),
+    Step::May(2, b"222", Err(EndFault::BlockLength)),
+    Step::Data(3, b"333"),
+    Step::Data(1, b"11111111"),
+    Step::Done(false),
+    Step::Ack(2),
+    Step::Done(false),
+    Step::Ack(3),
+    Step::Done(true),
+    Step::May(4, b"44444444", Err(EndFault::BlockLength)),
+    Step::Front(3, 0),
+];
+
+/// What a receiver acknowledges after an ERROR has come in, the other end has not used; but it may be all there was.
+const STOPPED_RECEIVER: [Step; 9] = [
+    Step::May(1, b"11111111", Err(EndFault::NotStarted)),
+    Step::Ack(0),
+    Step::Data(1, b"11111111"),
+    Step::Stopped,
+    Step::Ack(1),
+    Step::May(2, b"22222222", Err(EndFault::WindowOverrun)),
+    Step::May(1, b"11111111", Ok(())),
+    Step::Stopped,
+    Step::May(2, b"22222222", Err(EndFault::WindowOverrun)),
+];
+
+/// ACK 0 after the ERROR.
+const STOPPED_AT_ONCE: [Step; 3] = [
+    Step::Stopped,
+    Step::Ack(0),
+    Step::May(1, b"1", Err(EndFault::NotStarted)),
+];
+
+/// A receiver that has all blocks is done by an ACK after the ERROR too.
+const STOPPED_AT_THE_END: [Step; 6] = [
+    Step::MayAck(0, Err(EndFault::AckZero)),
+    Step::Data(1, b"hi"),
+    Step::Stopped,
+    Step::Done(false),
+    Step::Ack(1),
+    Step::Done(true),
+];
+
+/// An agreed size tells which block is the last, and how long it is.
+const KNOWN_SIZE: [Step; 8] = [
+    Step::May(1, b"1111111", Err(EndFault::BlockLength)),
+    Step::May(2, b"22222222", Err(EndFault::BlockLength)),
+    Step::May(2, b"2", Err(EndFault::BlockLength)),
+    Step::May(3, b"33333333", Err(EndFault::BlockLength)),
+    Step::Data(2, b"22"),
+    Step::Data(1, b"11111111"),
+    Step::Ack(2),
+    Step::Done(true),
+];
+
+const EMPTY: [Step; 2] = [
+    Step::May(1, b"", Ok(())),
+    Step::May(1, b"1", Err(EndFault::BlockLength)),
+];
+
+const ONE_WHOLE_BLOCK: [Step; 1] = [Step::May(2, b"", Ok(()))];
+
+const THE_LARGEST_SIZE: [Step; 2] = [
+    Step::May(1, b"11111111", Ok(())),
+    Step::May(1, b"1", Err(EndFault::BlockLength)),
+];
+
+const LARGEST_RECEIVER: [Step; 6] = [
+    Step::Data(65535, b"1111111"),
+    Step::Data(1, b"11111111"),
+    Step::Ack(1),
+    Step::Data(65534, b"11111111"),
+    Step::Front(1, 2),
+    Step::May(65534, b"1111111", Err(EndFault::BlockLength)),
+];
+
+/// Receivers, with the wire that they have at the end.
+const RECEIVERS: [(&str, Start, &[Step], &[u8]); 9] = [
+    (
+        "a write out of order",
+        (Side::Put, true, 8, 4, None),
+        &WRITTEN_OUT_OF_ORDER,
+        b"1111111122222222333",
+    ),
+    (
+        "a receiver that is stopped",
+        (Side::Get, true, 8, 1, None),
+        &STOPPED_RECEIVER,
+        b"11111111",
+    ),
+    (
+        "a receiver that is stopped at once",
+        (Side::Get, true, 8, 1, None),
+        &STOPPED_AT_ONCE,
+        b"",
+    ),
+    (
+        "a receiver that is stopped at its end",
+        (Side::Get, false, 512, 1, None),
+        &STOPPED_AT_THE_END,
+        b"hi",
+    ),
+    (
+        "a known size",
+        (Side::Put, true, 8, 4, Some(10)),
+        &KNOWN_SIZE,
+        b"1111111122",
+    ),
+    ("no bytes", (Side::Get, false, 8, 1, Some(0)), &EMPTY, b""),
+    (
+        "one whole block",
+        (Side::Get, false, 8, 2, Some(8)),
+        &ONE_WHOLE_BLOCK,
+        b"",
+    ),
+    (
+        "the largest size",
+        (Side::Get, false, 8, 1, Some(u64::MAX)),
+        &THE_LARGEST_SIZE,
+        b"",
+    ),
+    (
+        "a receiver with the largest window",
+        (Side::Put, true, 8, 65535, None),
+        &LARGEST_RECEIVER,
+        b"11111111",
+    ),
+];
+
+/// Fails unless each step answers what is wanted at a sender, which has then sent blocks up to this one.
+fn sends<D: Delivered + Drop>(
+    rt: &HostRuntime,
+    name: &'static str,
+    (side, oacked, blksize, windowsize, size): Start,
+    steps: &[Step],
+    highest: u16,
+) -> Result<(), Fail> {
+    if blksize < 8 || windowsize < 1 {
+        return Err(Fail::new(name));
+    }
+    let store = D::new(rt.alloc(), blksize, windowsize);
+    let mut sender = SenderState::new(side, oacked, blksize, windowsize, size, store);
+    for (index, step) in steps.iter().enumerate() {
+        if !sender_holds(rt, &mut sender, step)? {
+            return Err(Fail::from((name, index)));
+        }
+    }
+    if sender.into_store().highest() == highest {
+        Ok(())
+    } else {
+        Err(Fail::from((name, "the highest block")))
+    }
 }
 
-#[test]
-fn largest_window_on_a_map(rt: HostRuntime) -> Result<(), Fail> {
-    largest_window::<MapDelivered>(&rt)
-}
-
-#[test]
-fn largest_window_on_a_ring(rt: HostRuntime) -> Result<(), Fail> {
-    largest_window::<RingDelivered>(&rt)
+/// Fails unless each step answers what is wanted at a receiver, which then has this wire.
+fn receives<D: Delivered + Drop>(
+    rt: &HostRuntime,
+    name: &'static str,
+    (side, oacked, blksize, windowsize, size): Start,
+    steps: &[Step],
+    wire: &[u8],
+) -> Result<(), Fail> {
+    if blksize < 8 || windowsize < 1 {
+        return Err(Fail::new(name));
+    }
+    let store = D::new(rt.alloc(), blksize, windowsize);
+    let mut receiver = ReceiverState::new(side, oacked, blksize, windowsize, size, store);
+    for (index, step) in steps.iter().enumerate() {
+        if !receiver_holds(rt, &mut receiver, step)? {
+            return Err(Fail::from((name, index)));
+        }
+    }
+    if receiver.into_store().into_wire(rt.alloc())?.as_slice() == wire {
+        Ok(())
+    } else {
+        Err(Fail::from((name, "wire")))
+    }
 }
 
 /// All blocks but the first wait, the highest before the others, and none waits once the first is there.
 fn whole_window<D: Delivered + Drop>(rt: &HostRuntime) -> Result<(), Fail> {
-    let mut receiver = ReceiverState::new(
-        Side::Get,
-        true,
-        8,
-        65535,
-        None,
-        D::new(rt.alloc(), 8, 65535),
-    );
+    let store = D::new(rt.alloc(), 8, 65535);
+    let mut receiver = ReceiverState::new(Side::Get, true, 8, 65535, None, store);
     acknowledge(&mut receiver, 0)?;
     take(rt, &mut receiver, 65535, b".......")?;
     for below in 1..65534u16 {
         take(rt, &mut receiver, 65535 - below, b"........")?;
     }
-    expect(receiver.store().pending() == 65534, "all wait")?;
-    expect(receiver.may_ack(1) == Err(EndFault::AckAhead), "ACK 1")?;
+    let waiting = receiver.store().pending();
+    let early = receiver.may_ack(1);
     take(rt, &mut receiver, 1, b"........")?;
-    expect(receiver.store().pending() == 0, "none waits")?;
+    let left = receiver.store().pending();
     acknowledge(&mut receiver, 65535)?;
-    expect(receiver.done(), "done")
+    let done = receiver.done();
+    if waiting == 65534 && early == Err(EndFault::AckAhead) && left == 0 && done {
+        Ok(())
+    } else {
+        Err(Fail::from((waiting, early, left, done)))
+    }
+}
+
+/// Fails unless all senders on this store answer what is wanted.
+fn all_send<D: Delivered + Drop>(rt: &HostRuntime) -> Result<(), Fail> {
+    for (name, start, steps, highest) in SENDERS {
+        sends::<D>(rt, name, start, steps, highest)?;
+    }
+    Ok(())
+}
+
+/// Fails unless all receivers on this store answer what is wanted.
+fn all_receive<D: Delivered + Drop>(rt: &HostRuntime) -> Result<(), Fail> {
+    for (name, start, steps, wire) in RECEIVERS {
+        receives::<D>(rt, name, start, steps, wire)?;
+    }
+    whole_window::<D>(rt)
 }
 
 #[test]
-fn whole_window_on_a_map(rt: HostRuntime) -> Result<(), Fail> {
-    whole_window::<MapDelivered>(&rt)
+fn states_on_a_map(rt: HostRuntime) -> Result<(), Fail> {
+    all_send::<MapDelivered>(&rt)?;
+    all_receive::<MapDelivered>(&rt)
 }
 
 #[test]
-fn whole_window_on_a_ring(rt: HostRuntime) -> Result<(), Fail> {
-    whole_window::<RingDelivered>(&rt)
+fn states_on_a_ring(rt: HostRuntime) -> Result<(), Fail> {
+    all_send::<RingDelivered>(&rt)?;
+    all_receive::<RingDelivered>(&rt)
 }

@@ -4,8 +4,16 @@ use std::alloc::AllocError;
 use std::test::Fail;
 use tftp_ends::{Delivered, MapDelivered, Placed, RingDelivered};
 
-fn expect(holds: bool, what: &'static str) -> Result<(), Fail> {
-    if holds { Ok(()) } else { Err(Fail::new(what)) }
+/// A call of a store, and what it answers.
+enum Step {
+    /// A block is put.
+    Put(u16, &'static [u8], Placed),
+    /// Whether a block of this length is taken.
+    Takes(u16, usize, bool),
+    /// The front, the highest block and the number of those that wait.
+    Stands(u16, u16, usize),
+    /// What is held of a block.
+    Block(u16, Option<&'static [u8]>),
 }
 
 /// Puts a block that the store takes. Where a growth is refused nothing may have changed, and the block is put again.
@@ -40,104 +48,114 @@ fn stands<D: Delivered>(store: &D, front: u16, highest: u16, pending: usize) -> 
     store.front() == front && store.highest() == highest && store.pending() == pending
 }
 
+/// Whether the call answers what is wanted.
+fn holds<D: Delivered>(rt: &HostRuntime, store: &mut D, step: &Step) -> Result<bool, Fail> {
+    match step {
+        Step::Put(number, bytes, placed) => Ok(put(rt, store, *number, bytes)? == *placed),
+        Step::Takes(number, length, taken) => Ok(store.takes(*number, *length) == *taken),
+        Step::Stands(front, highest, pending) => Ok(stands(store, *front, *highest, *pending)),
+        Step::Block(number, bytes) => Ok(store.block(*number) == *bytes),
+    }
+}
+
 /// Four blocks of eight bytes, the last one before the two in the middle.
-fn four_blocks<D: Delivered + Drop>(rt: &HostRuntime) -> Result<(), Fail> {
-    let mut store = D::new(rt.alloc(), 8, 4);
-    expect(stands(&store, 0, 0, 0), "empty")?;
-    expect(!store.takes(0, 8), "block 0")?;
-    expect(put(rt, &mut store, 1, b"11111111")? == Placed::New, "new 1")?;
-    expect(
-        put(rt, &mut store, 1, b"11111111")? == Placed::Same,
-        "same 1",
-    )?;
-    expect(
-        put(rt, &mut store, 1, b"11111112")? == Placed::Differs,
-        "other 1",
-    )?;
-    expect(store.block(1) == Some(b"11111111"), "block 1")?;
-    expect(put(rt, &mut store, 4, b"44444444")? == Placed::New, "new 4")?;
-    expect(stands(&store, 1, 4, 1), "4 waits")?;
-    expect(store.block(3).is_none(), "no block 3")?;
-    expect(store.block(4) == Some(b"44444444"), "block 4")?;
-    expect(store.takes(5, 8), "takes 5")?;
-    expect(!store.takes(6, 8), "6 past the window")?;
-    expect(!store.takes(3, 7), "short 3")?;
-    expect(!store.takes(3, 9), "long 3")?;
-    expect(
-        put(rt, &mut store, 4, b"44444445")? == Placed::Differs,
-        "other 4",
-    )?;
-    expect(put(rt, &mut store, 2, b"22222222")? == Placed::New, "new 2")?;
-    expect(put(rt, &mut store, 3, b"33333333")? == Placed::New, "new 3")?;
-    expect(stands(&store, 4, 4, 0), "none waits")?;
-    let wire = store.into_wire(rt.alloc())?;
-    expect(
-        wire.as_slice() == b"11111111222222223333333344444444".as_slice(),
-        "wire",
-    )
-}
-
-#[test]
-fn map_keeps_four_blocks(rt: HostRuntime) -> Result<(), Fail> {
-    four_blocks::<MapDelivered>(&rt)
-}
-
-#[test]
-fn ring_keeps_four_blocks(rt: HostRuntime) -> Result<(), Fail> {
-    four_blocks::<RingDelivered>(&rt)
-}
+const FOUR_BLOCKS: [Step; 18] = [
+    Step::Stands(0, 0, 0),
+    Step::Takes(0, 8, false),
+    Step::Put(1, b"11111111", Placed::New),
+    Step::Put(1, b"11111111", Placed::Same),
+    Step::Put(1, b"11111112", Placed::Differs),
+    Step::Block(1, Some(b"11111111")),
+    Step::Put(4, b"44444444", Placed::New),
+    Step::Stands(1, 4, 1),
+    Step::Block(3, None),
+    Step::Block(4, Some(b"44444444")),
+    Step::Takes(5, 8, true),
+    Step::Takes(6, 8, false),
+    Step::Takes(3, 7, false),
+    Step::Takes(3, 9, false),
+    Step::Put(4, b"44444445", Placed::Differs),
+    Step::Put(2, b"22222222", Placed::New),
+    Step::Put(3, b"33333333", Placed::New),
+    Step::Stands(4, 4, 0),
+];
 
 /// A short block is the last one. What waits is not in the wire.
-fn short_block<D: Delivered + Drop>(rt: &HostRuntime) -> Result<(), Fail> {
+const SHORT_BLOCK: [Step; 9] = [
+    Step::Put(1, b"11111111", Placed::New),
+    Step::Put(3, b"333", Placed::New),
+    Step::Takes(4, 8, false),
+    Step::Takes(4, 3, false),
+    Step::Takes(3, 8, false),
+    Step::Takes(3, 4, true),
+    Step::Takes(2, 3, false),
+    Step::Put(3, b"3333", Placed::Differs),
+    Step::Stands(1, 3, 1),
+];
+
+/// Steps on a new store of blocks of eight bytes with a window of 4, and its wire at the end.
+const STEPS: [(&str, &[Step], &[u8]); 2] = [
+    (
+        "four blocks",
+        &FOUR_BLOCKS,
+        b"11111111222222223333333344444444",
+    ),
+    ("a short block", &SHORT_BLOCK, b"11111111"),
+];
+
+/// Fails unless each step answers what is wanted, and the wire is this.
+fn keeps<D: Delivered + Drop>(
+    rt: &HostRuntime,
+    name: &'static str,
+    steps: &[Step],
+    wire: &[u8],
+) -> Result<(), Fail> {
     let mut store = D::new(rt.alloc(), 8, 4);
-    expect(put(rt, &mut store, 1, b"11111111")? == Placed::New, "new 1")?;
-    expect(put(rt, &mut store, 3, b"333")? == Placed::New, "new 3")?;
-    expect(!store.takes(4, 8), "4 past the last")?;
-    expect(!store.takes(4, 3), "short 4")?;
-    expect(!store.takes(3, 8), "whole 3")?;
-    expect(store.takes(3, 4), "short 3")?;
-    expect(!store.takes(2, 3), "short 2")?;
-    expect(
-        put(rt, &mut store, 3, b"3333")? == Placed::Differs,
-        "other 3",
-    )?;
-    expect(stands(&store, 1, 3, 1), "3 waits")?;
-    let wire = store.into_wire(rt.alloc())?;
-    expect(wire.as_slice() == b"11111111".as_slice(), "wire")
-}
-
-#[test]
-fn map_knows_the_last_block(rt: HostRuntime) -> Result<(), Fail> {
-    short_block::<MapDelivered>(&rt)
-}
-
-#[test]
-fn ring_knows_the_last_block(rt: HostRuntime) -> Result<(), Fail> {
-    short_block::<RingDelivered>(&rt)
+    for (index, step) in steps.iter().enumerate() {
+        if !holds(rt, &mut store, step)? {
+            return Err(Fail::from((name, index)));
+        }
+    }
+    if store.into_wire(rt.alloc())?.as_slice() == wire {
+        Ok(())
+    } else {
+        Err(Fail::from((name, "wire")))
+    }
 }
 
 /// All blocks but the first wait, the highest before the others, and none waits once the first is there.
 fn whole_window<D: Delivered + Drop>(rt: &HostRuntime) -> Result<(), Fail> {
     let mut store = D::new(rt.alloc(), 8, 65535);
     for below in 0..65534u16 {
-        expect(
-            put(rt, &mut store, 65535 - below, b"........")? == Placed::New,
-            "new",
-        )?;
+        if put(rt, &mut store, 65535 - below, b"........")? != Placed::New {
+            return Err(Fail::from(below));
+        }
     }
-    expect(stands(&store, 0, 65535, 65534), "all wait")?;
-    expect(put(rt, &mut store, 1, b"........")? == Placed::New, "new 1")?;
-    expect(stands(&store, 65535, 65535, 0), "none waits")?;
-    let wire = store.into_wire(rt.alloc())?;
-    expect(wire.len() == 524280, "wire")
+    let waits = stands(&store, 0, 65535, 65534);
+    let last = put(rt, &mut store, 1, b"........")?;
+    let stands = stands(&store, 65535, 65535, 0);
+    let length = store.into_wire(rt.alloc())?.len();
+    if waits && last == Placed::New && stands && length == 524_280 {
+        Ok(())
+    } else {
+        Err(Fail::from((waits, last, stands, length)))
+    }
+}
+
+/// Fails unless the store keeps blocks as is wanted.
+fn keeps_all<D: Delivered + Drop>(rt: &HostRuntime) -> Result<(), Fail> {
+    for (name, steps, wire) in STEPS {
+        keeps::<D>(rt, name, steps, wire)?;
+    }
+    whole_window::<D>(rt)
 }
 
 #[test]
-fn map_keeps_a_whole_window_waiting(rt: HostRuntime) -> Result<(), Fail> {
-    whole_window::<MapDelivered>(&rt)
+fn map_keeps_blocks(rt: HostRuntime) -> Result<(), Fail> {
+    keeps_all::<MapDelivered>(&rt)
 }
 
 #[test]
-fn ring_keeps_a_whole_window_waiting(rt: HostRuntime) -> Result<(), Fail> {
-    whole_window::<RingDelivered>(&rt)
+fn ring_keeps_blocks(rt: HostRuntime) -> Result<(), Fail> {
+    keeps_all::<RingDelivered>(&rt)
 }

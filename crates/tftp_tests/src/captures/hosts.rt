@@ -1,4 +1,4 @@
-use super::{READ, changed, changed_in, gives, long};
+use super::{Faulty, READ, Sound, all_fail, all_pass, changed_in, gives};
 use std::test::Fail;
 use tftp_capture::{CaptureFault, CaptureReader, DripReader, Tallied, TextFault};
 
@@ -10,37 +10,110 @@ const NAMED: &[u8] =
 const HOSTS: &[u8] =
     b"tftp-capture 2\nend client\nservice 69\nout 40000 a.example 69 000161006f6374657400\nin 40000 # 41000 000300016869\nout 40000 - 41000 00040001\ntotal 3\n";
 
-/// The most signs of a host.
-const LONGEST: &[u8] = b"aaaaaaaaaaaaaaaaaaaaaaaaaaaaaaaaaaaaaaaaaaaaa";
-
-fn fails(rt: &HostRuntime, number: usize, line: &[u8], fault: TextFault) -> Result<(), Fail> {
-    let text = changed_in(rt, NAMED, number, line)?;
-    gives(rt, &text, Err(CaptureFault::Text(number as u64, fault)))
-}
-
-fn passes(rt: &HostRuntime, line: &[u8]) -> Result<(), Fail> {
-    gives(rt, &changed_in(rt, NAMED, 4, line)?, Ok((3, 15)))
-}
+/// Lines that are wrong, or too long: 46 signs are no host. A line has 131,116 bytes at most, the first one 131,070.
+const FAULTY: [Faulty; 32] = [
+    (1, b"tftp-capture 3", (b' ', 0), TextFault::BadHeader),
+    (1, b"tftp-capture 2 ", (b' ', 0), TextFault::BadHeader),
+    (2, b"end peer", (b' ', 0), TextFault::BadEnd),
+    (3, b"service - 69", (b' ', 0), TextFault::BadService),
+    (4, b"out 40000 69 00", (b' ', 0), TextFault::BadLine),
+    (4, b"out 40000 a b 69 00", (b' ', 0), TextFault::BadLine),
+    (4, b"out  40000 a 69 00", (b' ', 0), TextFault::BadLine),
+    (4, b"in", (b' ', 0), TextFault::BadLine),
+    (4, b"total - 3", (b' ', 0), TextFault::BadLine),
+    (4, b"out 0  69 0", (b' ', 0), TextFault::BadPort),
+    (4, b"out 1  0 0", (b' ', 0), TextFault::BadPort),
+    (4, b"out 1  69 0", (b' ', 0), TextFault::BadHost),
+    (4, b"out 1  69 00", (b' ', 0), TextFault::BadHost),
+    (4, b"out 1 a\x1fb 69 00", (b' ', 0), TextFault::BadHost),
+    (4, b"out 1 a\x7f 69 00", (b' ', 0), TextFault::BadHost),
+    (4, b"out 1 \xff 69 00", (b' ', 0), TextFault::BadHost),
+    (4, b"out 1 a\r 69 00", (b' ', 0), TextFault::BadHost),
+    (4, b"out 1 a 69 0", (b' ', 0), TextFault::BadHex),
+    (4, b"out 1 a 69 ", (b' ', 0), TextFault::BadHex),
+    (4, b"out 1 a 69 0g", (b' ', 0), TextFault::BadHex),
+    (7, b"total 4", (b' ', 0), TextFault::TotalWrong),
+    (
+        4,
+        b"out 40000 aaaaaaaaaaaaaaaaaaaaaaaaaaaaaaaaaaaaaaaaaaaaaa 69 000161006f6374657400",
+        (b' ', 0),
+        TextFault::BadHost,
+    ),
+    (
+        4,
+        b"out 65535 aaaaaaaaaaaaaaaaaaaaaaaaaaaaaaaaaaaaaaaaaaaaa 65535 ",
+        (b'0', 131_055),
+        TextFault::LineTooLong,
+    ),
+    (
+        4,
+        b"in 65535 aaaaaaaaaaaaaaaaaaaaaaaaaaaaaaaaaaaaaaaaaaaaa 65535 ",
+        (b'0', 131_055),
+        TextFault::BadHex,
+    ),
+    (
+        4,
+        b"in 65535 - 65535 ",
+        (b'0', 131_056),
+        TextFault::PayloadTooLong,
+    ),
+    (
+        4,
+        b"in 65535 aaaaaaaaaaaaaaaaaaaaaaaaaaaaaaaaaaaaaaaaaaaaaa 65535 ",
+        (b'0', 131_054),
+        TextFault::BadHost,
+    ),
+    (4, b"#", (b'#', 131_116), TextFault::LineTooLong),
+    (2, b"#", (b'#', 131_116), TextFault::LineTooLong),
+    (7, b"total 3", (b'#', 131_110), TextFault::LineTooLong),
+    (7, b"total 3", (b'#', 131_109), TextFault::TotalWrong),
+    (
+        1,
+        b"tftp-capture 2",
+        (b' ', 131_057),
+        TextFault::LineTooLong,
+    ),
+    (1, b"tftp-capture 2", (b' ', 131_056), TextFault::BadHeader),
+];
 
 #[test]
-fn a_text_of_version_2_is_read(rt: HostRuntime) -> Result<(), Fail> {
+fn each_fault_of_version_2_has_its_line(rt: HostRuntime) -> Result<(), Fail> {
+    all_fail(&rt, NAMED, &FAULTY)
+}
+
+/// Hosts of one and of 45 signs, comments, and the longest lines.
+const SOUND: [Sound; 6] = [
+    (4, b"in 1 ! 65535 -", (b' ', 0), 15),
+    (4, b"in 1 ~ 65535 AB", (b' ', 0), 15),
+    (3, b"#\n\nservice 69\n# in 1 2 3", (b' ', 0), 24),
+    (
+        4,
+        b"out 40000 aaaaaaaaaaaaaaaaaaaaaaaaaaaaaaaaaaaaaaaaaaaaa 69 00",
+        (b' ', 0),
+        15,
+    ),
+    (
+        4,
+        b"out 65535 aaaaaaaaaaaaaaaaaaaaaaaaaaaaaaaaaaaaaaaaaaaaa 65535 ",
+        (b'0', 131_054),
+        15,
+    ),
+    (3, b"service 69\n#", (b'#', 131_115), 18),
+];
+
+#[test]
+fn lines_of_version_2_without_a_fault(rt: HostRuntime) -> Result<(), Fail> {
     gives(&rt, NAMED, Ok((3, 15)))?;
     gives(&rt, HOSTS, Ok((3, 15)))?;
-    passes(&rt, b"in 1 ! 65535 -")?;
-    passes(&rt, b"in 1 ~ 65535 AB")?;
-    gives(
-        &rt,
-        &changed_in(&rt, NAMED, 3, b"#\n\nservice 69\n# in 1 2 3")?,
-        Ok((3, 24)),
-    )
+    all_pass(&rt, NAMED, &SOUND)
 }
 
 /// Fails unless the datagrams have these hosts, in order.
 fn names(rt: &HostRuntime, text: &[u8], hosts: &[&[u8]]) -> Result<(), Fail> {
     let mut reader = Tallied::new(DripReader::new(text, 7, 0, None));
-    let mut capture = CaptureReader::begin(rt.alloc(), &mut reader).map_err(|_| Fail::from(
-        "begin",
-    ))?;
+    let Ok(mut capture) = CaptureReader::begin(rt.alloc(), &mut reader) else {
+        return Err(Fail::new("begin"));
+    };
     for host in hosts {
         match capture.next(rt.alloc(), &mut reader) {
             Ok(Some(datagram)) if datagram.remote_host.bytes() == *host => {}
@@ -57,145 +130,16 @@ fn hosts_are_those_of_their_lines(rt: HostRuntime) -> Result<(), Fail> {
     names(&rt, READ, &[b"-", b"-", b"-"])
 }
 
+/// A text whose first line is that of the other version.
 #[test]
-fn each_fault_of_version_2_has_its_line(rt: HostRuntime) -> Result<(), Fail> {
-    gives(
-        &rt,
-        &changed(&rt, 1, b"tftp-capture 2")?,
-        Err(CaptureFault::Text(4, TextFault::BadLine)),
-    )?;
-    gives(
-        &rt,
-        &changed_in(&rt, NAMED, 1, b"tftp-capture 1")?,
-        Err(CaptureFault::Text(4, TextFault::BadLine)),
-    )?;
-    fails(&rt, 1, b"tftp-capture 3", TextFault::BadHeader)?;
-    fails(&rt, 1, b"tftp-capture 2 ", TextFault::BadHeader)?;
-    fails(&rt, 2, b"end peer", TextFault::BadEnd)?;
-    fails(&rt, 3, b"service - 69", TextFault::BadService)?;
-    fails(&rt, 4, b"out 40000 69 00", TextFault::BadLine)?;
-    fails(&rt, 4, b"out 40000 a b 69 00", TextFault::BadLine)?;
-    fails(&rt, 4, b"out  40000 a 69 00", TextFault::BadLine)?;
-    fails(&rt, 4, b"in", TextFault::BadLine)?;
-    fails(&rt, 4, b"total - 3", TextFault::BadLine)?;
-    fails(&rt, 4, b"out 0  69 0", TextFault::BadPort)?;
-    fails(&rt, 4, b"out 1  0 0", TextFault::BadPort)?;
-    fails(&rt, 4, b"out 1  69 0", TextFault::BadHost)?;
-    fails(&rt, 4, b"out 1  69 00", TextFault::BadHost)?;
-    fails(&rt, 4, b"out 1 a\x1fb 69 00", TextFault::BadHost)?;
-    fails(&rt, 4, b"out 1 a\x7f 69 00", TextFault::BadHost)?;
-    fails(&rt, 4, b"out 1 \xff 69 00", TextFault::BadHost)?;
-    fails(&rt, 4, b"out 1 a\r 69 00", TextFault::BadHost)?;
-    fails(&rt, 4, b"out 1 a 69 0", TextFault::BadHex)?;
-    fails(&rt, 4, b"out 1 a 69 ", TextFault::BadHex)?;
-    fails(&rt, 4, b"out 1 a 69 0g", TextFault::BadHex)?;
-    fails(&rt, 7, b"total 4", TextFault::TotalWrong)?;
-    gives(
-        &rt,
-        b"tftp-capture 2\nend client\n",
-        Err(CaptureFault::Text(3, TextFault::Truncated)),
-    )
-}
-
-#[test]
-fn a_host_of_46_signs_is_none(rt: HostRuntime) -> Result<(), Fail> {
-    let mut line = Vec::from_slice(rt.alloc(), b"out 40000 ")?;
-    line.extend_from_slice(LONGEST)?;
-    line.extend_from_slice(b" 69 00")?;
-    passes(&rt, &line)?;
-    line.clear();
-    line.extend_from_slice(b"out 40000 a")?;
-    line.extend_from_slice(LONGEST)?;
-    line.extend_from_slice(b" 69 000161006f6374657400")?;
-    fails(&rt, 4, &line, TextFault::BadHost)
-}
-
-/// The longest line of a datagram: this word and host, the longest ports, and that many digits.
-fn longest(rt: &HostRuntime, word: &[u8], host: &[u8], digits: usize) -> Result<Vec<u8>, Fail> {
-    let mut start = Vec::from_slice(rt.alloc(), word)?;
-    start.extend_from_slice(b" 65535 ")?;
-    start.extend_from_slice(host)?;
-    start.extend_from_slice(b" 65535 ")?;
-    long(rt, &start, b'0', digits)
-}
-
-#[test]
-fn lines_of_version_2_have_131116_bytes(rt: HostRuntime) -> Result<(), Fail> {
-    let line = longest(&rt, b"out", LONGEST, 131_054)?;
-    assert_eq!(rt; line.len(), 131_116);
-    passes(&rt, &line)?;
-    let line = longest(&rt, b"out", LONGEST, 131_055)?;
-    assert_eq!(rt; line.len(), 131_117);
-    fails(&rt, 4, &line, TextFault::LineTooLong)?;
-    fails(
-        &rt,
-        4,
-        &longest(&rt, b"in", LONGEST, 131_055)?,
-        TextFault::BadHex,
-    )?;
-    fails(
-        &rt,
-        4,
-        &longest(&rt, b"in", b"-", 131_056)?,
-        TextFault::PayloadTooLong,
-    )?;
-    let mut host = Vec::from_slice(rt.alloc(), LONGEST)?;
-    host.push(b'a')?;
-    fails(
-        &rt,
-        4,
-        &longest(&rt, b"in", &host, 131_054)?,
-        TextFault::BadHost,
-    )
-}
-
-#[test]
-fn comments_of_version_2_have_131116_bytes(rt: HostRuntime) -> Result<(), Fail> {
-    fails(
-        &rt,
-        4,
-        &long(&rt, b"#", b'#', 131_116)?,
-        TextFault::LineTooLong,
-    )?;
-    fails(
-        &rt,
-        2,
-        &long(&rt, b"#", b'#', 131_116)?,
-        TextFault::LineTooLong,
-    )?;
-    gives(
-        &rt,
-        &changed_in(&rt, NAMED, 3, &long(&rt, b"service 69\n#", b'#', 131_115)?)?,
-        Ok((3, 18)),
-    )?;
-    fails(
-        &rt,
-        7,
-        &long(&rt, b"total 3", b'#', 131_110)?,
-        TextFault::LineTooLong,
-    )?;
-    fails(
-        &rt,
-        7,
-        &long(&rt, b"total 3", b'#', 131_109)?,
-        TextFault::TotalWrong,
-    )
-}
-
-#[test]
-fn the_first_line_has_131070_bytes(rt: HostRuntime) -> Result<(), Fail> {
-    fails(
-        &rt,
-        1,
-        &long(&rt, b"tftp-capture 2", b' ', 131_057)?,
-        TextFault::LineTooLong,
-    )?;
-    fails(
-        &rt,
-        1,
-        &long(&rt, b"tftp-capture 2", b' ', 131_056)?,
-        TextFault::BadHeader,
-    )
+fn texts_of_another_version(rt: HostRuntime) -> Result<(), Fail> {
+    for (whole, line) in [(READ, b"tftp-capture 2"), (NAMED, b"tftp-capture 1")] {
+        let text = changed_in(&rt, whole, 1, line)?;
+        let fault = CaptureFault::Text(4, TextFault::BadLine);
+        gives(&rt, text.as_slice(), Err(fault))?;
+    }
+    let fault = CaptureFault::Text(3, TextFault::Truncated);
+    gives(&rt, b"tftp-capture 2\nend client\n", Err(fault))
 }
 
 /// With a growth refused the answer is the text's own, or want of memory on one of its lines.
