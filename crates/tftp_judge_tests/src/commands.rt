@@ -8,6 +8,7 @@ use tftp_commands::run;
 
 mod extracts;
 mod failures;
+mod normals;
 mod shows;
 mod texts;
 mod words;

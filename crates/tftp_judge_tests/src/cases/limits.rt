@@ -281,7 +281,7 @@ const NETASCII_MODE: &str = "6e65746173636969";
 
 /// As many blocks as there may be, the last one first; and a text of bare LFs, which are two bytes each when they are
 /// written, in half as many: with one more there would be block 65536.
-const WINDOWS: [(Window, &str, u8); 3] = [
+const WINDOWS: [(Window, &str, &str, u8); 3] = [
     (
         Window {
             mode: OCTET_MODE,
@@ -291,6 +291,7 @@ const WINDOWS: [(Window, &str, u8); 3] = [
             backwards: true,
         },
         "accepted get octet blocks 65535 bytes 524279\n",
+        "normal datagrams 65539\n",
         0,
     ),
     (
@@ -301,6 +302,7 @@ const WINDOWS: [(Window, &str, u8); 3] = [
             count: 32768,
             backwards: false,
         },
+        "too long when normal\n",
         "too long when normal\n",
         1,
     ),
@@ -313,15 +315,17 @@ const WINDOWS: [(Window, &str, u8); 3] = [
             backwards: false,
         },
         "accepted get netascii blocks 65535 bytes 262139\n",
+        "normal datagrams 65539\n",
         0,
     ),
 ];
 
 #[test]
 fn as_many_blocks_as_there_may_be(rt: HostRuntime) -> Result<(), Fail> {
-    for (window, line, status) in &WINDOWS {
+    for (window, line, count, status) in &WINDOWS {
         let text = window_text(rt.alloc(), window)?;
         holds(&rt, text.as_bytes(), line, *status)?;
+        says(&rt, "count", text.as_bytes(), count, *status)?;
     }
     Ok(())
 }
