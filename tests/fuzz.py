@@ -27,7 +27,6 @@ from fuzzing.cases import Trier, try_case
 from fuzzing.program import Program
 
 AT_ONCE = 50
-ALL_COMMANDS = {"check", "extract", "show", "normal", "count"}
 
 
 def words_of(arguments):
@@ -42,8 +41,8 @@ def words_of(arguments):
     parser.add_argument("program")
     words = parser.parse_args(arguments)
     names = words.commands.split(",")
-    if not {"check"} <= set(names) <= ALL_COMMANDS:
-        parser.error(f"the commands are check and any of {', '.join(sorted(ALL_COMMANDS))}")
+    if not {"check"} <= set(names) <= set(COMMANDS):
+        parser.error(f"the commands are check and any of {', '.join(COMMANDS)}")
     if not shutil.which(words.program):
         parser.error(f"there is no program {words.program}")
     words.program = shutil.which(words.program)
