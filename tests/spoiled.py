@@ -70,8 +70,8 @@ class Spoiled(Program):
         super().__init__(path)
         self.way = way
 
-    def run(self, command, text):
-        return self.way(command, *super().run(command, text))
+    def run(self, command, text, **shim):
+        return self.way(command, *super().run(command, text, **shim))
 
     def run_in_pieces(self, command, pieces):
         return self.way(command, *super().run_in_pieces(command, pieces))
