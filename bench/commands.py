@@ -11,8 +11,7 @@ import sys
 from measure import COPY, LINES, best_of, figures, run
 
 RUNS = 5
-# `normal` joins them here once the program has it.
-COMMANDS = "show", "check", "extract"
+COMMANDS = "show", "check", "extract", "normal"
 HEAD = "capture", "command", "s", "MB/s", "show", "check", "wc -l", "cat", "memory", "file"
 WIDTHS = 46, 7, 8, 6, 6, 6, 6, 6, 8, 8
 

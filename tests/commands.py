@@ -1,5 +1,5 @@
-"""The program's commands that the tests try; `normal` and `count` join them here once the program has them."""
+"""The program's commands that the tests try, in the order in which the script tftp-audit tells them."""
 
-COMMANDS = ("check", "extract", "show")
+COMMANDS = ("check", "extract", "normal", "show", "count")
 # Those that write no line of what there is to say of a capture.
 SILENT = ("extract", "normal")

@@ -418,8 +418,7 @@ def main(program, folder):
         for command in COMMANDS:
             trial.try_growths(case, command)
     trial.show_in_pieces()
-    if "normal" in COMMANDS:
-        trial.normal_of_many()
+    trial.normal_of_many()
     for words in NO_COMMANDS:
         trial.try_words(words)
     for words in NO_WORDS:

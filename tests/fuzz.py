@@ -4,7 +4,7 @@ was cut or an ERROR ended it. Then datagrams and texts are changed: each must ge
 same however the capture is written, in time, with nothing on standard error.
 
     fuzz.py [--cases N] [--seconds S] [--seed SEED] [--jobs N] [--commands NAME,..] [--folder FOLDER] [--slower N]
-            PROGRAM
+            [--refuse FILE] PROGRAM
 
 The first case has the seed SEED, and each further one the next number; a case that fails is told with its own, and is
 run alone by `--cases 1 --seed` and that. Its texts and what was printed of them are written to FOLDER. The last line is
@@ -27,7 +27,6 @@ from fuzzing.cases import Trier, try_case
 from fuzzing.program import Program
 
 AT_ONCE = 50
-ALL_COMMANDS = {"check", "extract", "show", "normal", "count"}
 
 
 def words_of(arguments):
@@ -39,14 +38,17 @@ def words_of(arguments):
     parser.add_argument("--commands", default=",".join(COMMANDS), help="the program's commands that are tried")
     parser.add_argument("--folder", type=pathlib.Path, help="where the failing cases are written")
     parser.add_argument("--slower", type=float, default=1, help="how many times the usual time a run may take")
+    parser.add_argument("--refuse", help="refuse.so, with which growths are refused, and reads and writes fail, too")
     parser.add_argument("program")
     words = parser.parse_args(arguments)
     names = words.commands.split(",")
-    if not {"check"} <= set(names) <= ALL_COMMANDS:
-        parser.error(f"the commands are check and any of {', '.join(sorted(ALL_COMMANDS))}")
+    if not {"check"} <= set(names) <= set(COMMANDS):
+        parser.error(f"the commands are check and any of {', '.join(COMMANDS)}")
     if not shutil.which(words.program):
         parser.error(f"there is no program {words.program}")
-    words.program = shutil.which(words.program)
+    if words.refuse and not os.path.isfile(words.refuse):
+        parser.error(f"there is no file {words.refuse}")
+    words.program, words.refuse = shutil.which(words.program), words.refuse and os.path.abspath(words.refuse)
     if words.seed is None:
         words.seed = int.from_bytes(os.urandom(4), "big")
     words.folder = words.folder or pathlib.Path(tempfile.gettempdir()) / f"tftp-audit-fuzz-{words.seed}"
@@ -62,13 +64,14 @@ def write_failure(words, seed, number, failure):
     (folder / f"{number}.told").write_text(
         f"{failure.name}: {failure.command}\nwanted {failure.wanted!r}\ngot {failure.got!r}\n"
         f"the run again: {program} {failure.command} <{shlex.quote(str(capture))}\n"
-        f"the case again: python3 {sys.argv[0]} --cases 1 --seed {seed} --commands {words.commands} {program}\n"
+        f"the case again: python3 {sys.argv[0]} --cases 1 --seed {seed} --commands {words.commands}"
+        f"{f' --refuse {shlex.quote(words.refuse)}' if words.refuse else ''} {program}\n"
     )
 
 
 def try_some(words, first, count):
     """The failures of some cases, by their seeds, how many runs they took, and how often each verdict was met."""
-    program = Program(words.program, words.slower)
+    program = Program(words.program, words.slower, words.refuse)
     trier, failed = Trier(program, words.commands.split(",")), []
     for seed in range(first, first + count):
         trier.failures = []

@@ -55,11 +55,10 @@ CHANGED = {
 
 def ways():
     """The ways of spoiling with their names: each is given the command, and what came of it."""
-    for name, (spoiled, old, new) in REPLACED.items():
-        if spoiled in COMMANDS:
-            yield name, lambda command, output, told, status, its=(spoiled, old, new): (
-                re.sub(*its[1:], output, count=1) if command == its[0] else output, told, status
-            )
+    for name, replaced in REPLACED.items():
+        yield name, lambda command, output, told, status, its=replaced: (
+            re.sub(*its[1:], output, count=1) if command == its[0] else output, told, status
+        )
     for name, change in CHANGED.items():
         yield name, lambda command, *got, its=change: its(*got)
 
@@ -71,8 +70,8 @@ class Spoiled(Program):
         super().__init__(path)
         self.way = way
 
-    def run(self, command, text):
-        return self.way(command, *super().run(command, text))
+    def run(self, command, text, **shim):
+        return self.way(command, *super().run(command, text, **shim))
 
     def run_in_pieces(self, command, pieces):
         return self.way(command, *super().run_in_pieces(command, pieces))

@@ -171,13 +171,49 @@ def try_further(trier, chance):
     datagrams = (*view.capture.datagrams[:count], *more)
     capture = dataclasses.replace(view.capture, datagrams=datagrams)
     verdict = passed.verdict(len(datagrams))
-    trier.meet("one more", " ".join((broken or "0 lawful").split()[:2]))
+    trier.meet("one more", " ".join((broken or "lawful").split()[:2]))
     if broken:
         verdict = f"refused datagram {len(datagrams)} rule {broken}\n".encode(), 1
     text = capture.spelled(chance) if chance.random() < 0.5 else capture.text()
     trier.expect("one more", "check", text, verdict)
     if chance.random() < 0.2:
         compare_commands(trier, chance, text, verdict)
+
+
+def is_cut_short(command, printed, whole):
+    """Whether a command may print this, in place of the whole, where a growth was refused."""
+    if command == "normal":
+        return whole.startswith(printed)
+    if command == "extract" or not printed:
+        return not printed
+    rows = printed.removesuffix(b"fault memory\n")
+    is_begun = command == "show" and whole.startswith(rows) and rows.endswith(b"\n")
+    return rows != printed and (not rows or is_begun)
+
+
+def try_failing(trier, chance):
+    """A growth that is refused, or a read or a write that fails, of one byte each."""
+    view, _ = view_of(chance)
+    count, text = len(view.capture.datagrams), view.capture.text()
+    outputs = {**view.meaning.outputs(view.expected(count)), "show": (view.shown(count), 0)}
+    command, way = chance.choice(trier.commands), chance.choice(("REFUSE", "FAIL_READ", "FAIL_WRITE"))
+    output, status = outputs[command]
+    trier.meet("failing", way)
+    if way == "REFUSE":
+        got = trier.program.run(command, text, REFUSE=chance.randrange(1, 60))
+        if not (got[1:] == (b"", 2) and is_cut_short(command, got[0], output)):
+            trier.compare(way, command, text, got, (output, status))
+    elif way == "FAIL_WRITE":
+        turn = chance.randrange(1, len(output) + 3)
+        got = trier.program.run(command, text, ONE_BYTE=1, FAIL_WRITE=turn)
+        trier.compare(way, command, text, got, (output[: turn - 1], 2) if turn <= len(output) else (output, status))
+    else:
+        taken = chance.randrange(len(text) + 1)
+        line = text[:taken].count(b"\n") + 1
+        fault = b"fault line %d Read\n" % line
+        wanted = {**outputs_of_refused((fault, 2)), "show": (view.shown(max(0, min(line - 4, count))) + fault, 2)}
+        got = trier.program.run(command, text, ONE_BYTE=1, FAIL_READ=taken + 1)
+        trier.compare(way, command, text, got, wanted[command])
 
 
 def try_changed(trier, chance):
@@ -215,7 +251,9 @@ def try_changed_text(trier, chance):
 def try_case(trier, seed):
     """The case of this number."""
     chance = random.Random(seed)
+    failing = 2 if trier.program.shim else 0
     way = chosen(
-        chance, (try_lawful, 8), (try_further, 5), (try_faulty, 2), (try_changed, 5), (try_changed_text, 2)
+        chance, (try_lawful, 8), (try_further, 5), (try_faulty, 2), (try_changed, 5), (try_changed_text, 2),
+        (try_failing, failing),
     )
     way(trier, chance)

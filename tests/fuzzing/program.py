@@ -35,18 +35,20 @@ def written(file):
 class Program:
     """A program and the files that stand for its standard input, output and errors."""
 
-    def __init__(self, path, slower=1):
-        self.path, self.slower, self.runs = path, slower, 0
+    def __init__(self, path, slower=1, shim=None):
+        self.path, self.slower, self.shim, self.runs = path, slower, shim, 0
         self.given, self.output, self.errors = (os.memfd_create(name) for name in ("given", "output", "errors"))
 
-    def started(self, command, given):
-        """The process, which reads this file."""
+    def started(self, command, given, **shim):
+        """The process, which reads this file; the words are for the library that makes its calls fail."""
         emptied(self.output)
         emptied(self.errors)
         self.runs += 1
         files = [(os.POSIX_SPAWN_DUP2, file, number) for number, file in enumerate((given, self.output, self.errors))]
         words = [self.path, command]
-        return os.posix_spawn(self.path, words, os.environ, file_actions=files, setsigdef=[signal.SIGPIPE])
+        preloaded = {"LD_PRELOAD": self.shim, **{name: str(value) for name, value in shim.items()}} if shim else {}
+        environment = {**os.environ, **preloaded}
+        return os.posix_spawn(self.path, words, environment, file_actions=files, setsigdef=[signal.SIGPIPE])
 
     def ended(self, process, size):
         """What it wrote as errors and its status; it is ended if it takes too long. The status is then None."""
@@ -59,11 +61,11 @@ class Program:
         status = os.waitstatus_to_exitcode(os.waitpid(process, 0)[1])
         return written(self.errors), status if is_over else None
 
-    def run(self, command, text):
+    def run(self, command, text, **shim):
         """What the command prints of a text, what it writes as errors, and its status."""
         emptied(self.given)
         os.pwrite(self.given, text, 0)
-        told, status = self.ended(self.started(command, self.given), len(text))
+        told, status = self.ended(self.started(command, self.given, **shim), len(text))
         return written(self.output), told, status
 
     def run_in_pieces(self, command, pieces):
