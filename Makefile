@@ -6,7 +6,7 @@ BIN = $(DESTDIR)$(PREFIX)/bin
 LIB = $(DESTDIR)$(PREFIX)/lib/tftp-audit
 MAN = $(DESTDIR)$(PREFIX)/share/man/man1
 
-.PHONY: build test plants bench install
+.PHONY: build test plants bench fuzz install
 
 # Proves the program and builds it, where its sources are not those that it was built of.
 build:
@@ -28,6 +28,12 @@ plants:
 bench: build
 	@cd crates/tftp_bench && rt run -- copy </dev/null >/dev/null
 	sh bench/run.sh $(PROGRAM) $(BENCH)
+
+# Simulated ends and networks, and changes of what passed, tried on the built program: make fuzz N=1000000 SEED=1.
+N = 10000
+JOBS = 2
+fuzz: build
+	python3 tests/fuzz.py --cases $(N) --jobs $(JOBS) $(if $(SEED),--seed $(SEED)) $(PROGRAM)
 
 # The program alone in bin; the scripts beside their modules in lib, with links in bin; the manual pages.
 install: build

@@ -1,4 +1,4 @@
-"""The program's commands that the tests try, in the order in which the script tftp-audit tells them."""
+"""The program's commands that the tests try."""
 
 COMMANDS = ("check", "extract", "normal", "show", "count")
 # Those that write no line of what there is to say of a capture.
