@@ -9,6 +9,7 @@ use tftp_ends::{MapDelivered, RingDelivered};
 mod errors;
 mod hosts;
 mod limits;
+mod normals;
 mod options;
 mod reads;
 mod rules;

@@ -53,9 +53,9 @@ const OACK_65464: &str = "in 40000 41000 0006626c6b73697a6500363534363400";
 
 const TOO_LONG: &str = "refused datagram 1 rule 5 Malformed RequestTooLong\n";
 
-/// Names of any length, though a request with options has 512 bytes at most; and blocks that are whole, so that an empty
-/// one follows.
-const LONG: [(Long, &str, u8); 11] = [
+/// Names of any length, though a request with options has 512 bytes at most; blocks that are whole, so that an empty one
+/// follows; and 511 bare LFs, which are written in two blocks.
+const LONG: [(Long, &str, u8); 12] = [
     (
         Long {
             header: CLIENT,
@@ -186,6 +186,18 @@ const LONG: [(Long, &str, u8); 11] = [
             after: &["in 65535 41000 000300016869", "out 65535 41000 00040001"],
         },
         ACCEPTED,
+        0,
+    ),
+    (
+        Long {
+            header: CLIENT,
+            before: &["out 40000 69 000161006e6574617363696900"],
+            start: BLOCK_1,
+            byte: ("0a", 511),
+            end: "",
+            after: &[ACK_1],
+        },
+        "accepted get netascii blocks 2 bytes 511\n",
         0,
     ),
 ];
