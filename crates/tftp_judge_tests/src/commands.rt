@@ -13,6 +13,8 @@ mod shows;
 mod texts;
 mod words;
 
+pub use normals::{is_normal, normal_text};
+
 /// What `show` says of its datagrams.
 const SHOWN: [&str; 3] = ["1 out RRQ\n", "2 in DATA 1 2\n", "3 out ACK 1\n"];
 

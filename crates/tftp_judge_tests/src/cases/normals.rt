@@ -3,6 +3,7 @@ use super::{
     OACK_4_BY_8, OACK_BY_8, OUT_1, OUT_22, READ, READ_4_BY_8, WRITE_4_BY_8, WRITE_BY_8, capture,
     holds,
 };
+use crate::commands::{is_normal, normal_text};
 use std::test::Fail;
 
 /// Headers of captures at a server that is asked at another port, and of version 2.
@@ -53,6 +54,8 @@ const OF_TEXT: &[&str] = &[
 ];
 
 const SIX_BLOCKS: &str = "accepted get octet blocks 6 bytes 43\n";
+
+const TEN_BYTES: &str = "accepted put octet blocks 2 bytes 10\n";
 
 const TWO_LINES: &str = "accepted get netascii blocks 2 bytes 9\n";
 
@@ -111,7 +114,7 @@ const BY_LF: &[&str] = &[
     ACK_2,
 ];
 
-const NORMALS: [Normal; 9] = [
+const NORMALS: [Normal; 13] = [
     (CLIENT, &[READ, HI, ACK_1], ACCEPTED, OF_HI),
     (
         AT_6969,
@@ -148,31 +151,37 @@ const NORMALS: [Normal; 9] = [
     (CLIENT, OF_SIX_BLOCKS, SIX_BLOCKS, OF_SIX_BLOCKS),
     (CLIENT, BY_PAIR, TWO_LINES, OF_TEXT),
     (CLIENT, BY_LF, TWO_LINES, OF_TEXT),
-];
-
-#[test]
-fn normal_texts_say_the_same(rt: HostRuntime) -> Result<(), Fail> {
-    for (header, datagrams, line, normal) in NORMALS {
-        let text = capture(rt.alloc(), header, datagrams)?;
-        holds(&rt, text.as_slice(), line, 0)?;
-        let text = capture(rt.alloc(), CLIENT, normal)?;
-        holds(&rt, text.as_slice(), line, 0)?;
-    }
-    Ok(())
-}
-
-/// Captures, what is said of each, and how many datagrams its normal text has.
-const COUNTS: [(&[&str], &str, u64); 6] = [
-    (&[READ, HI, ACK_1], ACCEPTED, 3),
-    (LOST, SIX_BLOCKS, 11),
     (
+        CLIENT,
+        &[
+            "out 40000 69 000161006e6574617363696900",
+            "in 40000 41000 000300010d41",
+            ACK_1,
+        ],
+        "accepted get netascii blocks 1 bytes 2\n",
+        &[
+            "out 50000 69 000161006e6574617363696900",
+            "in 50000 50001 000300010d0041",
+            "out 50000 50001 00040001",
+        ],
+    ),
+    (
+        CLIENT,
         &[
             WRITE_BY_8, OACK_BY_8, OUT_1, ACKED_1, OUT_1, OUT_22, ACKED_2,
         ],
-        "accepted put octet blocks 2 bytes 10\n",
-        6,
+        TEN_BYTES,
+        &[
+            "out 50000 69 000261006f6374657400626c6b73697a65003800",
+            "in 50000 50001 0006626c6b73697a65003800",
+            "out 50000 50001 000300013131313131313131",
+            "in 50000 50001 00040001",
+            "out 50000 50001 000300023232",
+            "in 50000 50001 00040002",
+        ],
     ),
     (
+        CLIENT,
         &[
             WRITE_4_BY_8,
             OACK_4_BY_8,
@@ -183,18 +192,43 @@ const COUNTS: [(&[&str], &str, u64); 6] = [
             OUT_22,
             ACKED_2,
         ],
-        "accepted put octet blocks 2 bytes 10\n",
-        5,
+        TEN_BYTES,
+        &[
+            "out 50000 69 000261006f6374657400626c6b73697a6500380077696e646f7773697a65003400",
+            "in 50000 50001 0006626c6b73697a6500380077696e646f7773697a65003400",
+            "out 50000 50001 000300013131313131313131",
+            "out 50000 50001 000300023232",
+            "in 50000 50001 00040002",
+        ],
     ),
-    (BY_PAIR, TWO_LINES, 7),
-    (BY_LF, TWO_LINES, 7),
+    (
+        CLIENT,
+        &[
+            "out 40000 69 000261006f6374657400",
+            "in 40000 41000 00040000",
+            "out 40000 41000 000300016869",
+            "in 40000 41000 00040001",
+        ],
+        "accepted put octet blocks 1 bytes 2\n",
+        &[
+            "out 50000 69 000261006f6374657400",
+            "in 50000 50001 00040000",
+            "out 50000 50001 000300016869",
+            "in 50000 50001 00040001",
+        ],
+    ),
 ];
 
+/// The normal text of each, which means the same and is its own normal text.
 #[test]
-fn normal_texts_are_counted(rt: HostRuntime) -> Result<(), Fail> {
-    for (datagrams, line, _count) in COUNTS {
-        let text = capture(rt.alloc(), CLIENT, datagrams)?;
-        holds(&rt, text.as_slice(), line, 0)?;
+fn normal_texts_of_accepted_captures(rt: HostRuntime) -> Result<(), Fail> {
+    for (header, datagrams, line, normal) in NORMALS {
+        let text = capture(rt.alloc(), header, datagrams)?;
+        let wanted = normal_text(rt.alloc(), normal)?;
+        for text in [text.as_slice(), wanted.as_bytes()] {
+            holds(&rt, text, line, 0)?;
+            is_normal(&rt, text, wanted.as_str(), normal.len())?;
+        }
     }
     Ok(())
 }

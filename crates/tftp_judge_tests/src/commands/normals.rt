@@ -1,219 +1,16 @@
 use super::{ROOM, ran, says};
-use crate::cases::{
-    ACK_0, ACK_1, ACK_2, ACKED_0, ACKED_1, ACKED_2, CLIENT, HI, IN_1, IN_2, IN_3, IN_4,
-    OACK_4_BY_8, OACK_BY_8, OUT_1, OUT_22, READ, READ_4_BY_8, WRITE_4_BY_8, WRITE_BY_8, capture,
-};
+use crate::cases::{ACK_1, ACK_2, CLIENT, HI, READ, capture};
 use std::alloc::{AllocError, Global};
 use std::test::Fail;
 use tftp_capture::{DripReader, DripWriter, Tallied};
 use tftp_judge::judge_text;
 use tftp_normal::{NormalFault, normal_capture, normal_count, normalise};
 
-/// A header and datagrams, and those of the normal capture.
-type Normal = (
-    &'static str,
-    &'static [&'static str],
-    &'static [&'static str],
-);
-
-/// The text at the client of hosts that are named, and the text at another service port.
-const WITH_HOSTS: &str = "tftp-capture 2\nend client\nservice 69\n";
-
-const AT_6969: &str = "tftp-capture 1\nend server\nservice 6969\n";
-
-/// A read of `hi`.
-const NORMAL_READ: &[&str] = &[
-    "out 50000 69 000161006f6374657400",
-    "in 50000 50001 000300016869",
-    "out 50000 50001 00040001",
-];
-
-/// A read of 43 bytes by windows of four blocks.
-const NORMAL_OF_SIX: &[&str] = &[
-    "out 50000 69 000161006f6374657400626c6b73697a6500380077696e646f7773697a65003400",
-    "in 50000 50001 0006626c6b73697a6500380077696e646f7773697a65003400",
-    "out 50000 50001 00040000",
-    "in 50000 50001 000300013131313131313131",
-    "in 50000 50001 000300023232323232323232",
-    "in 50000 50001 000300033333333333333333",
-    "in 50000 50001 000300043434343434343434",
-    "out 50000 50001 00040004",
-    "in 50000 50001 000300053535353535353535",
-    "in 50000 50001 00030006363636",
-    "out 50000 50001 00040006",
-];
-
-/// A text whose line end is cut by the end of a block.
+/// A read in text mode.
 const READ_TEXT: &str = "out 40000 69 000161006e6574617363696900";
 
-const READ_TEXT_BY_8: &str = "out 40000 69 000161006e6574617363696900626c6b73697a65003800";
-
-const NORMAL_TEXT: &[&str] = &[
-    "out 50000 69 000161006e6574617363696900626c6b73697a65003800",
-    "in 50000 50001 0006626c6b73697a65003800",
-    "out 50000 50001 00040000",
-    "in 50000 50001 00030001616263646566670d",
-    "out 50000 50001 00040001",
-    "in 50000 50001 000300020a68",
-    "out 50000 50001 00040002",
-];
-
-/// A CR before another byte is written as a CR and a NUL.
-const NORMAL_RETURN: &[&str] = &[
-    "out 50000 69 000161006e6574617363696900",
-    "in 50000 50001 000300010d0041",
-    "out 50000 50001 00040001",
-];
-
-const NORMALS: [Normal; 12] = [
-    (CLIENT, &[READ, HI, ACK_1], NORMAL_READ),
-    (
-        AT_6969,
-        &[
-            "in 6969 2000 000161004f4354455400",
-            "out 3000 2000 000300016869",
-            "in 3000 2000 00040001",
-        ],
-        NORMAL_READ,
-    ),
-    (
-        WITH_HOSTS,
-        &[
-            "out 40000 10.0.0.1 69 000161006f6374657400",
-            "in 40000 10.0.0.1 41000 000300016869",
-            "out 40000 10.0.0.1 41000 00040001",
-        ],
-        NORMAL_READ,
-    ),
-    (
-        WITH_HOSTS,
-        &[
-            "out 40000 10.0.0.1 69 000161006f6374657400",
-            "in 40000 10.0.0.2 41000 000300016869",
-            "out 40000 10.0.0.2 41000 00040001",
-        ],
-        NORMAL_READ,
-    ),
-    (
-        CLIENT,
-        &[
-            READ_4_BY_8,
-            OACK_4_BY_8,
-            ACK_0,
-            IN_1,
-            IN_2,
-            IN_4,
-            ACK_2,
-            IN_3,
-            IN_4,
-            "in 40000 41000 000300053535353535353535",
-            "in 40000 41000 00030006363636",
-            "out 40000 41000 00040006",
-        ],
-        NORMAL_OF_SIX,
-    ),
-    (
-        CLIENT,
-        &[
-            "out 40000 69 000161006f637465740057696e646f7753697a65003400424c4b53495a4500303800",
-            OACK_4_BY_8,
-            ACK_0,
-            IN_1,
-            IN_2,
-            IN_4,
-            ACK_2,
-            IN_3,
-            IN_4,
-            "in 40000 41000 000300053535353535353535",
-            "in 40000 41000 00030006363636",
-            "out 40000 41000 00040006",
-        ],
-        NORMAL_OF_SIX,
-    ),
-    (
-        CLIENT,
-        &[
-            READ_TEXT_BY_8,
-            OACK_BY_8,
-            ACK_0,
-            "in 40000 41000 00030001616263646566670d",
-            ACK_1,
-            "in 40000 41000 000300020a68",
-            ACK_2,
-        ],
-        NORMAL_TEXT,
-    ),
-    (
-        CLIENT,
-        &[
-            READ_TEXT_BY_8,
-            OACK_BY_8,
-            ACK_0,
-            "in 40000 41000 00030001616263646566670a",
-            ACK_1,
-            "in 40000 41000 0003000268",
-            ACK_2,
-        ],
-        NORMAL_TEXT,
-    ),
-    (
-        CLIENT,
-        &[READ_TEXT, "in 40000 41000 000300010d41", ACK_1],
-        NORMAL_RETURN,
-    ),
-    (
-        CLIENT,
-        &[
-            WRITE_BY_8, OACK_BY_8, OUT_1, ACKED_1, OUT_1, OUT_22, ACKED_2,
-        ],
-        &[
-            "out 50000 69 000261006f6374657400626c6b73697a65003800",
-            "in 50000 50001 0006626c6b73697a65003800",
-            "out 50000 50001 000300013131313131313131",
-            "in 50000 50001 00040001",
-            "out 50000 50001 000300023232",
-            "in 50000 50001 00040002",
-        ],
-    ),
-    (
-        CLIENT,
-        &[
-            WRITE_4_BY_8,
-            OACK_4_BY_8,
-            OUT_1,
-            OUT_22,
-            ACKED_0,
-            OUT_1,
-            OUT_22,
-            ACKED_2,
-        ],
-        &[
-            "out 50000 69 000261006f6374657400626c6b73697a6500380077696e646f7773697a65003400",
-            "in 50000 50001 0006626c6b73697a6500380077696e646f7773697a65003400",
-            "out 50000 50001 000300013131313131313131",
-            "out 50000 50001 000300023232",
-            "in 50000 50001 00040002",
-        ],
-    ),
-    (
-        CLIENT,
-        &[
-            "out 40000 69 000261006f6374657400",
-            "in 40000 41000 00040000",
-            "out 40000 41000 000300016869",
-            "in 40000 41000 00040001",
-        ],
-        &[
-            "out 50000 69 000261006f6374657400",
-            "in 50000 50001 00040000",
-            "out 50000 50001 000300016869",
-            "in 50000 50001 00040001",
-        ],
-    ),
-];
-
 /// The text of a normal capture.
-fn normal_text(alloc: Global, datagrams: &[&str]) -> Result<String, AllocError> {
+pub fn normal_text(alloc: Global, datagrams: &[&str]) -> Result<String, AllocError> {
     let mut text = String::from_str(alloc, CLIENT)?;
     for datagram in datagrams {
         text.push_str(datagram)?;
@@ -247,7 +44,7 @@ fn captured(rt: &HostRuntime, text: &[u8]) -> Result<(DripWriter, u64), AllocErr
 }
 
 /// Fails unless this is the normal text of a text, and as many its datagrams, by the commands and by the calls.
-fn is_normal(rt: &HostRuntime, text: &[u8], normal: &str, count: usize) -> Result<(), Fail> {
+pub fn is_normal(rt: &HostRuntime, text: &[u8], normal: &str, count: usize) -> Result<(), Fail> {
     let line = format!(in rt.alloc(); "normal datagrams {count}\n")?;
     says(rt, "normal", text, normal, 0)?;
     says(rt, "count", text, line.as_str(), 0)?;
@@ -261,18 +58,6 @@ fn is_normal(rt: &HostRuntime, text: &[u8], normal: &str, count: usize) -> Resul
     } else {
         Err(Fail::from((written.taken().len(), counted)))
     }
-}
-
-/// The normal text of each, which is its own normal text.
-#[test]
-fn normal_texts_of_accepted_captures(rt: HostRuntime) -> Result<(), Fail> {
-    for (header, datagrams, normal) in NORMALS {
-        let text = capture(rt.alloc(), header, datagrams)?;
-        let wanted = normal_text(rt.alloc(), normal)?;
-        is_normal(&rt, text.as_slice(), wanted.as_str(), normal.len())?;
-        is_normal(&rt, wanted.as_bytes(), wanted.as_str(), normal.len())?;
-    }
-    Ok(())
 }
 
 /// 511 line ends that came alone are two blocks when they are written: more datagrams than the capture's.
@@ -329,7 +114,14 @@ fn nothing_normal_of_others(rt: HostRuntime) -> Result<(), Fail> {
 #[test]
 fn a_part_of_the_normal_text_where_a_write_fails(rt: HostRuntime) -> Result<(), Fail> {
     let text = capture(rt.alloc(), CLIENT, &[READ, HI, ACK_1])?;
-    let normal = normal_text(rt.alloc(), NORMAL_READ)?;
+    let normal = normal_text(
+        rt.alloc(),
+        &[
+            "out 50000 69 000161006f6374657400",
+            "in 50000 50001 000300016869",
+            "out 50000 50001 00040001",
+        ],
+    )?;
     let whole = normal.as_bytes();
     for write in 1..=whole.len().div_ceil(7) {
         let reader = DripReader::new(text.as_slice(), usize::MAX, 0, None);
