@@ -7,7 +7,7 @@ import dataclasses
 
 from fuzzing.changes import changed_bytes
 from fuzzing.meanings import chosen, spelled_options, spelled_request
-from fuzzing.views import STRAYS, STRAY_REQUESTS
+from fuzzing.views import HOSTS, STRAYS, STRAY_REQUESTS
 from normal import KNOWN, number
 
 
@@ -72,7 +72,8 @@ def packet_of(chance, passed):
     end = passed.end
     near = (end.top, end.top + 1, end.top + 2, end.front, end.front + 1, end.last_ack + end.window + 1, 1, end.blocks)
     block = min(max(1, chance.choice(near)), end.blocks)
-    errors = [error for error in (end.told, passed.heard) if error] + [("error", 3, b""), ("error", 0, b"x")]
+    errors = [error for error in (end.told, passed.heard) if error]
+    errors += [("error", code, message + b"y") for _, code, message in errors] + [("error", 3, b""), ("error", 0, b"x")]
     return chosen(
         chance, (("request",), 2), (("oack",), 2), (("data", block), 5), (("ack", block), 4), (("ack", end.blocks), 2),
         (("ack", 0), 2), (chance.choice(errors), 2),
@@ -210,10 +211,15 @@ def wrong_ports(chance, view, passed):
 
 
 def answer_of_stray(chance, view, passed):
-    """What goes out to a stray's peer, and is no ERROR 5."""
+    """What goes out to a stray's peer and is no ERROR 5, or what goes to another host at a stray's port."""
     answers = [(payload, said) for payload, said in STRAYS if said != "ERROR 5"]
-    answer = view.of_payload(True, *chance.choice(answers))
-    return dataclasses.replace(answer, peer=chance.choice(passed.noted)), "3 StrayAnswer"
+    answer, peer = view.of_payload(True, *chance.choice(answers)), chance.choice(passed.noted)
+    known = {*passed.noted, view.server, view.client}
+    others = [(host, peer[1]) for host in HOSTS if (host, peer[1]) not in known]
+    if view.version == 2 and others and chance.random() < 0.5:
+        error = view.of_payload(True, b"\0\5\0\5\0", "ERROR 5")
+        return dataclasses.replace(chance.choice((answer, error)), peer=chance.choice(others)), "2 WrongPort"
+    return dataclasses.replace(answer, peer=peer), "3 StrayAnswer"
 
 
 def first_oack(chance, view, passed):
@@ -249,7 +255,7 @@ def ways(view, passed):
     if view.meaning.agreed:
         yield another_oack, 2
     if passed.noted:
-        yield answer_of_stray, 1
+        yield answer_of_stray, 3
 
 
 def further(chance, view, count):
