@@ -1,8 +1,8 @@
 #!/bin/sh
 # Tries the built program, tests/run.sh PROGRAM: the script tftp-audit with a stand-in for rt; each growth refused, each
-# read and each write failing, in turn; larger captures; simulated transfers and changes of them, for some seconds; the
-# recorded transfers of examples/, from their fields on; the scripts that lead from a recording to its verdicts and
-# reasons; and what stands in the pages for readers.
+# read and each write failing, in turn, and each growth in the tests of the libraries' calls; larger captures; simulated
+# transfers and changes of them, for some seconds; the recorded transfers of examples/, from their fields on; the scripts
+# that lead from a recording to its verdicts and reasons; and what stands in the pages for readers.
 set -eu
 here=$(dirname "$0")
 shim=$(mktemp -d)
@@ -13,6 +13,8 @@ echo "script:"
 python3 "$here/script.py"
 echo "failures:"
 python3 "$here/failures.py" "$1" "$shim"
+echo "growths of the libraries:"
+python3 "$here/growths.py" "$shim" "$here/../crates"
 echo "large:"
 python3 "$here/large.py" "$1"
 echo "fuzz:"

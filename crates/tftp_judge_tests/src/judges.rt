@@ -22,6 +22,9 @@ const BLOCK_2: &[u8] = b"\x00\x03\x00\x0222";
 
 const ACK_1: &[u8] = b"\x00\x04\x00\x01";
 
+/// What is told where a growth was refused.
+const NO_MEMORY: &str = "want of memory";
+
 /// A datagram at port 40000 of the client.
 fn datagram(
     alloc: Global,
@@ -92,8 +95,10 @@ fn accepts<D: Delivered + Drop>(rt: &HostRuntime) -> Result<(), Fail> {
     let mut judge: Judge<D> = Judge::new(alloc, &HEADER);
     for (dir, remote_port, payload) in READ_OF_HI {
         let datagram = datagram(alloc, dir, remote_port, payload)?;
-        if fed(alloc, &mut judge, &datagram).is_err() {
-            return Err(Fail::new("a datagram is refused"));
+        match fed(alloc, &mut judge, &datagram) {
+            Ok(()) => {}
+            Err(Refusal::Memory) => return Err(Fail::new(NO_MEMORY)),
+            Err(_) => return Err(Fail::new("a datagram is refused")),
         }
     }
     if judge.fed() != 4 {
@@ -101,6 +106,7 @@ fn accepts<D: Delivered + Drop>(rt: &HostRuntime) -> Result<(), Fail> {
     }
     match judge.finish(alloc) {
         Ok(meaning) if meaning.file() == b"hi".as_slice() => Ok(()),
+        Err(Refusal::Memory) => Err(Fail::new(NO_MEMORY)),
         _ => Err(Fail::new("another end")),
     }
 }

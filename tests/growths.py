@@ -1,0 +1,87 @@
+"""Refuses each growth of memory in turn in tests of the libraries' calls: growths.py SHIM CRATES, where SHIM is the
+folder of refuse.so and CRATES that of the crates, whose tests `rt test` and the gate leave as programs in out/.
+
+A test then passes, since the call that wanted memory is asked again, or it stops with want of memory and with nothing
+else; and the first run that meets no refusal passes. The program's commands are tried likewise by failures.py.
+"""
+import os
+import pathlib
+import re
+import subprocess
+import sys
+
+from trial import Trial
+
+# The tests whose calls take memory, by the beginnings of their names.
+TESTS = {
+    "tftp_tests": ("packets::", "netascii::", "agreements::", "stores::", "states::", "ports::", "captures::texts_"),
+    "tftp_judge_tests": ("judges::a_read_is_accepted",),
+}
+# A test that takes more growths than these is tried with as many, spread over all of them.
+MOST = 200
+PASSED = re.compile(rb"\s*test result: ok\s*")
+# What a test returns where memory was wanting, and how one stops that tells another answer than the one it wants.
+WANTS = re.compile(
+    rb"(error: AllocError|error: AllocFailed { \.\. }|want of memory|error: \(\d+, Err\(Memory\(\d+\)\), .*)\n"
+    rb"the test failed: its result gives status 1\n"
+    rb"|\ntest stopped at \S+\nMemory \[.*\]\n"
+)
+
+
+class GrowthTrial(Trial):
+    """The tests of one program."""
+
+    def __init__(self, shim, program):
+        super().__init__()
+        self.program, self.shim, self.met = program, shim / "refuse.so", shim / "met"
+
+    def names(self, beginnings):
+        listed = subprocess.run([self.program, "--list"], capture_output=True, check=True).stdout.decode()
+        names = [line.removesuffix(": test") for line in listed.splitlines() if line.endswith(": test")]
+        return [name for name in names if name.startswith(beginnings)]
+
+    def run(self, name, turn):
+        """What the test says, and whether a growth was refused."""
+        self.met.unlink(missing_ok=True)
+        environment = {"LD_PRELOAD": str(self.shim), "MET": str(self.met), "REFUSE": str(turn)}
+        done = subprocess.run([self.program, name], capture_output=True, env=environment, timeout=60)
+        return done.stdout + done.stderr, self.met.exists()
+
+    def last_growth(self, name):
+        """The number of the last growth of a test that meets no refusal."""
+        low, high = 0, 1
+        while self.run(name, high)[1]:
+            low, high = high, 4 * high
+        while high - low > 1:
+            middle = (low + high) // 2
+            low, high = (middle, high) if self.run(name, middle)[1] else (low, middle)
+        return low
+
+    def refuse(self, name):
+        """Each growth of the test refused in turn, and none."""
+        last = self.last_growth(name)
+        said, met = self.run(name, last + 1)
+        self.check(f"{name}, no growth refused", not met and PASSED.fullmatch(said), said)
+        for turn in sorted({1 + step * last // MOST for step in range(MOST)} if last > MOST else range(1, last + 1)):
+            said, met = self.run(name, turn)
+            self.check(f"{name}, growth {turn} refused", PASSED.fullmatch(said) or WANTS.fullmatch(said), said)
+
+
+def main(shim, crates):
+    failed = 0
+    for crate, beginnings in TESTS.items():
+        program = pathlib.Path(crates, crate, "out", f"{crate}_tests")
+        if not program.is_file():
+            print(f"the growths of {crate} are not tried, since it is not built")
+            continue
+        trial = GrowthTrial(pathlib.Path(shim), program)
+        names = trial.names(beginnings)
+        trial.check(f"{crate} has tests", names)
+        for name in names:
+            trial.refuse(name)
+        failed |= trial.end()
+    return failed
+
+
+if __name__ == "__main__":
+    sys.exit(main(*sys.argv[1:]))
