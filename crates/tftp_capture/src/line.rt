@@ -33,7 +33,7 @@ pub fn read_line<R: Read>(
     ensures ends { (bytes : List ℕ) × Consumes (prepend_known ahead.old (R.remaining reader.old.0)) (prepend_known ahead.new (R.remaining reader.new.0)) bytes
         × LineEnds result line.new.items longest room bytes × LeavesEnd result room bytes ahead.new }
     ensures fits { OnOk result (length line.new.items < room) }
-    ensures few { length ahead.new ≤ 4096 }
+    ensures few { length ahead.new ≤ 65536 }
     ensures bounded { vec_len line.new ≤ longest }
     ensures end { result ≡ Err (Stop.Text TextFault.Truncated) → IsAtEnd (prepend_known ahead.new (R.remaining reader.new.0)) }
     ensures read { result ≡ Err Stop.Read → reader.new.1 ≡ true }

@@ -35,7 +35,7 @@ impl Model for Lines {
 
     ghost view = { λ a. record { ahead = a.ahead; line = a.line.items; taken = a.taken; count = a.count; version = a.version } };
 
-    ghost invariant = { λ a. (vec_len a.line ≤ longest_line a.version) × (length a.ahead ≤ 4096) × (a.count ≤ a.taken) × (a.taken ≤ 2 ^ 40) };
+    ghost invariant = { λ a. (vec_len a.line ≤ longest_line a.version) × (length a.ahead ≤ 65536) × (a.count ≤ a.taken) × (a.taken ≤ 2 ^ 40) };
 }
 
 /// Whether a line is empty or a comment.
