@@ -1,6 +1,8 @@
-ghost use Rattle.std.specs.Prelude.{◌≡◌, ◌+◌, ◌≤◌, ◌++◌, [], length, false, flat_map, OnOk};
+ghost use Rattle.std.specs.Prelude.{◌≡◌, ◌+◌, ◌*◌, ◌≤◌, ◌++◌, [], length, false, flat_map, OnOk};
+ghost use Rattle.hex.specs.Hex.{encode_lower};
 ghost use Rattle.tftp_capture.specs.Tally.{Adds, Writes};
 
+use crate::digits::encode;
 use crate::fault::WriteFault;
 use crate::tallied::Tallied;
 use crate::whole::write_whole;
@@ -8,12 +10,12 @@ use std::io::Write;
 use std::marker::Model;
 
 /// The most bytes that wait.
-const ROOM: usize = 4096;
+const ROOM: usize = 65536;
 
-/// Bytes that wait to be written together, at most 4,096.
+/// Bytes that wait to be written together, at most 65,536.
 #[derive(Drop)]
 pub struct Gathered {
-    buf: [u8; 4096],
+    buf: [u8; 65536],
     len: usize,
 }
 
@@ -24,7 +26,7 @@ impl Model for Gathered {
 
     ghost view = { λ g. take g.len g.buf };
 
-    ghost invariant = { λ g. g.len ≤ 4096 };
+    ghost invariant = { λ g. g.len ≤ 65536 };
 }
 
 impl Gathered {
@@ -33,13 +35,13 @@ impl Gathered {
         ensures { result ≡ [] }
     {
         Gathered {
-            buf: [0; 4096],
+            buf: [0; 65536],
             len: 0,
         }
     }
 
     /// Adds a piece of any length: where there is no room for both, what waits is written first, and
-    /// then at once a piece of more than 4,096 bytes. After a fault only the writer tells what was
+    /// then at once a piece of more than 65,536 bytes. After a fault only the writer tells what was
     /// written.
     #[tactic(auto, using(crate::proofs::Gathering::writes_past, crate::proofs::Gathering::prefix_of))]
     pub fn add<W: Write>(&mut self, writer: &mut Tallied<W>, bytes: &[u8]) -> Result<(), WriteFault>
@@ -71,6 +73,25 @@ impl Gathered {
         Ok(())
     }
 
+    /// Adds the two lower-case hex digits of each byte, in their place; what waits is written whenever the room is full.
+    pub fn add_hex<W: Write>(
+        &mut self,
+        writer: &mut Tallied<W>,
+        bytes: &[u8],
+    ) -> Result<(), WriteFault>
+        requires clean { writer.old.1 ≡ false }
+        ensures adds { Adds W.contents writer.old writer.new result self.old self.new (encode_lower bytes.now) }
+    {
+        let mut done = 0;
+        while done < bytes.len() {
+            self.make_room(writer)?;
+            let size = (bytes.len() - done).min((ROOM - self.len) / 2);
+            self.push_hex(&bytes[done..done + size]);
+            done += size;
+        }
+        Ok(())
+    }
+
     /// Writes what waits; nothing waits then.
     pub fn write<W: Write>(&mut self, writer: &mut Tallied<W>) -> Result<(), WriteFault>
         requires clean { writer.old.1 ≡ false }
@@ -84,11 +105,34 @@ impl Gathered {
 
     /// Adds a piece for which there is room.
     fn push(&mut self, bytes: &[u8])
-        requires { length self.old + length bytes.now ≤ 4096 }
+        requires { length self.old + length bytes.now ≤ 65536 }
         ensures { self.new ≡ self.old ++ bytes.now }
     {
         let end = self.len + bytes.len();
         self.buf[self.len..end].copy_from_slice(bytes);
+        self.len = end;
+    }
+
+    /// Writes what waits where there is no room for two digits.
+    #[inline]
+    fn make_room<W: Write>(&mut self, writer: &mut Tallied<W>) -> Result<(), WriteFault>
+        requires clean { writer.old.1 ≡ false }
+        ensures adds { Adds W.contents writer.old writer.new result self.old self.new [] }
+        ensures room { OnOk result (length self.new + 2 ≤ 65536) }
+    {
+        if ROOM - self.len < 2 {
+            return self.write(writer);
+        }
+        Ok(())
+    }
+
+    /// Adds the digits of bytes, for which there is room.
+    fn push_hex(&mut self, bytes: &[u8])
+        requires { length self.old + 2 * length bytes.now ≤ 65536 }
+        ensures { self.new ≡ self.old ++ encode_lower bytes.now }
+    {
+        let end = self.len + 2 * bytes.len();
+        encode(bytes, &mut self.buf[self.len..end]);
         self.len = end;
     }
 }

@@ -16,8 +16,8 @@ use std::alloc::Global;
 use std::io::Read;
 use std::marker::Model;
 
-/// A reader of a capture text: it holds one line of at most 131,070 bytes, in version 2 of 131,116, and at most 4,096
-/// bytes read ahead.
+/// A reader of a capture text: it holds one line of at most 131,070 bytes, in version 2 of 131,116, and at most
+/// 65,536 bytes read ahead.
 #[derive(Drop)]
 pub struct CaptureReader {
     header: Header,

@@ -8,7 +8,6 @@ ghost use Rattle.tftp_capture.specs.Fields.{header_of};
 ghost use Rattle.tftp_capture.specs.Written.{header_text, HasWritten};
 
 use crate::datagram::Header;
-use crate::digits::encode;
 use crate::fault::WriteFault;
 use crate::gathered::Gathered;
 use crate::tallied::Tallied;
@@ -17,10 +16,7 @@ use std::io::Write;
 use std::marker::Model;
 use tftp_packet::{Dir, End};
 
-/// The bytes whose hex is one piece.
-const BYTES_AT_ONCE: usize = 2048;
-
-/// A writer of a capture text in its canonical form, which names no host: at most 4,096 bytes wait in it to be
+/// A writer of a capture text in its canonical form, which names no host: at most 65,536 bytes wait in it to be
 /// written.
 #[derive(Drop)]
 pub struct CaptureWriter {
@@ -193,27 +189,5 @@ fn put_payload<W: Write>(
     if payload.is_empty() {
         return gathered.add(writer, b"-");
     }
-    put_hex(gathered, writer, payload)
-}
-
-/// Two lower-case hex digits for each byte, in pieces.
-fn put_hex<W: Write>(
-    gathered: &mut Gathered,
-    writer: &mut Tallied<W>,
-    payload: &[u8],
-) -> Result<(), WriteFault>
-    requires clean { writer.old.1 ≡ false }
-    ensures adds { Adds W.contents writer.old writer.new result gathered.old gathered.new (encode_lower payload.now) }
-{
-    let mut digits = [0u8; 4096];
-    let mut done = 0;
-    while done < payload.len() {
-        let size = (payload.len() - done).min(BYTES_AT_ONCE);
-        let piece = &payload[done..done + size];
-        let text = &mut digits[..2 * size];
-        encode(piece, text);
-        gathered.add(writer, text)?;
-        done += size;
-    }
-    Ok(())
+    gathered.add_hex(writer, payload)
 }

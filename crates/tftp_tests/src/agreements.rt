@@ -5,6 +5,8 @@ use std::test::Fail;
 use tftp_nego::{Agreed, NegoFault, agree, nothing_agreed};
 use tftp_packet::own_request;
 
+mod faults;
+
 /// What an OACK answers to a request, both as payloads.
 fn answer(
     rt: &HostRuntime,
@@ -93,87 +95,6 @@ fn agrees_to_options(rt: HostRuntime) -> Result<(), Fail> {
                 assert!(rt; !agreed.options().is_empty(), "{oack:?}");
             }
             Err(fault) => assert!(rt; false, "{fault:?} {oack:?}"),
-        }
-    }
-    Ok(())
-}
-
-/// Requests and OACKs that may not, with the first fault.
-const REFUSED: [(&[u8], &[u8], NegoFault); 14] = [
-    (
-        b"\x00\x01a\x00octet\x00blksize\x007\x00",
-        b"\x00\x06blksize\x007\x00",
-        NegoFault::OptionValue,
-    ),
-    (
-        b"\x00\x01a\x00octet\x00timeout\x005\x00",
-        b"\x00\x06timeout\x006\x00",
-        NegoFault::OptionValue,
-    ),
-    (
-        b"\x00\x01a\x00octet\x00windowsize\x004\x00",
-        b"\x00\x06windowsize\x005\x00",
-        NegoFault::OptionValue,
-    ),
-    (
-        b"\x00\x02a\x00octet\x00tsize\x0010\x00",
-        b"\x00\x06tsize\x0011\x00",
-        NegoFault::OptionValue,
-    ),
-    (
-        b"\x00\x01a\x00octet\x00blksize\x00512\x00",
-        b"\x00\x06blksize\x001024\x00",
-        NegoFault::OptionValue,
-    ),
-    (
-        b"\x00\x01a\x00octet\x00",
-        b"\x00\x06blksize\x008\x00",
-        NegoFault::OptionNotRequested,
-    ),
-    (b"\x00\x01a\x00octet\x00", b"\x00\x06", NegoFault::OackEmpty),
-    (
-        b"\x00\x01a\x00octet\x00foo\x001\x00",
-        b"\x00\x06foo\x001\x00",
-        NegoFault::OptionOutsideProfile,
-    ),
-    (
-        b"\x00\x01a\x00octet\x00multicast\x00\x00",
-        b"\x00\x06multicast\x00\x00",
-        NegoFault::MulticastAgreed,
-    ),
-    (
-        b"\x00\x01a\x00octet\x00",
-        b"\x00\x06blksize\x008\x00MultiCast\x00\x00",
-        NegoFault::MulticastAgreed,
-    ),
-    (
-        b"\x00\x01a\x00octet\x00blksize\x008\x00tsize\x000\x00",
-        b"\x00\x06blksize\x008\x00tsize\x00524280\x00",
-        NegoFault::BeyondBlock65535,
-    ),
-    (
-        b"\x00\x01a\x00octet\x00tsize\x000\x00",
-        b"\x00\x06tsize\x0033553920\x00",
-        NegoFault::BeyondBlock65535,
-    ),
-    (
-        b"\x00\x01a\x00octet\x00tsize\x000\x00",
-        b"\x00\x06tsize\x0018446744073709551615\x00",
-        NegoFault::BeyondBlock65535,
-    ),
-    (
-        b"\x00\x01a\x00octet\x00tsize\x000\x00",
-        b"\x00\x06tsize\x0018446744073709551616\x00",
-        NegoFault::OptionValue,
-    ),
-];
-
-#[test]
-fn refuses_with_the_first_fault(rt: HostRuntime) -> Result<(), Fail> {
-    for (request, oack, want) in REFUSED {
-        match answer(&rt, request, oack)? {
-            Ok(_) => assert!(rt; false, "{oack:?}"),
-            Err(fault) => assert_eq!(rt; fault, want, "{oack:?}"),
         }
     }
     Ok(())

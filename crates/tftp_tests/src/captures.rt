@@ -11,6 +11,7 @@ use tftp_capture::{
 };
 use tftp_packet::{Dir, End};
 
+mod faults;
 mod hosts;
 
 /// A read of the file `a`, which is `hi`, in one block (RFC 1350, sections 4 and 5).
@@ -77,24 +78,8 @@ fn long(rt: &HostRuntime, start: &[u8], byte: u8, count: usize) -> Result<Vec<u8
     Ok(line)
 }
 
-/// A line of a text, by its number, changed to this start and that many of one byte; and its fault.
-type Faulty = (usize, &'static [u8], (u8, usize), TextFault);
-
-/// Fails unless each changed line has its fault.
-fn all_fail(rt: &HostRuntime, whole: &[u8], rows: &[Faulty]) -> Result<(), Fail> {
-    for (number, start, (byte, count), fault) in rows {
-        let line = long(rt, start, *byte, *count)?;
-        let text = changed_in(rt, whole, *number, line.as_slice())?;
-        gives(
-            rt,
-            text.as_slice(),
-            Err(CaptureFault::Text(*number as u64, *fault)),
-        )?;
-    }
-    Ok(())
-}
-
-/// The same of a line that is changed without a fault; and the sum of the lines of the three datagrams.
+/// A line of a text, by its number, changed to this start and that many of one byte; and the sum of the lines of the
+/// three datagrams.
 type Sound = (usize, &'static [u8], (u8, usize), u64);
 
 /// Fails unless each changed text has its three datagrams.
@@ -125,44 +110,6 @@ fn a_read_is_read(rt: HostRuntime) -> Result<(), Fail> {
     Ok(())
 }
 
-/// Lines that are wrong, or too long.
-const FAULTY: [Faulty; 29] = [
-    (1, b"tftp-capture 3", (b' ', 0), TextFault::BadHeader),
-    (1, b"tftp-capture 1\r", (b' ', 0), TextFault::BadHeader),
-    (2, b"end peer", (b' ', 0), TextFault::BadEnd),
-    (2, b"total 3", (b' ', 0), TextFault::BadEnd),
-    (3, b"service 0", (b' ', 0), TextFault::BadService),
-    (3, b"service 069", (b' ', 0), TextFault::BadService),
-    (3, b"service 69 ", (b' ', 0), TextFault::BadService),
-    (4, b"out 40000  69 00", (b' ', 0), TextFault::BadLine),
-    (4, b"out 40000 - 69 00", (b' ', 0), TextFault::BadLine),
-    (4, b" ", (b' ', 0), TextFault::BadLine),
-    (4, b"\r", (b' ', 0), TextFault::BadLine),
-    (4, b"total", (b' ', 0), TextFault::BadLine),
-    (4, b"total 3 ", (b' ', 0), TextFault::BadLine),
-    (4, b"out 040000 69 00", (b' ', 0), TextFault::BadPort),
-    (4, b"out 65536 69 00", (b' ', 0), TextFault::BadPort),
-    (4, b"out 1 0 00", (b' ', 0), TextFault::BadPort),
-    (4, b"out  69 00", (b' ', 0), TextFault::BadPort),
-    (4, b"out 1 69 ", (b' ', 0), TextFault::BadHex),
-    (4, b"out 40000 69 00016", (b' ', 0), TextFault::BadHex),
-    (4, b"out 40000 69 0g", (b' ', 0), TextFault::BadHex),
-    (7, b"total 4", (b' ', 0), TextFault::TotalWrong),
-    (7, b"total 03", (b' ', 0), TextFault::TotalWrong),
-    (7, b"total +3", (b' ', 0), TextFault::TotalWrong),
-    (7, b"total ", (b' ', 0), TextFault::TotalWrong),
-    (7, b"total x", (b' ', 0), TextFault::TotalWrong),
-    (4, b"in 1 1 ", (b'0', 131_056), TextFault::PayloadTooLong),
-    (4, b"in 1 1 ", (b'0', 131_055), TextFault::BadHex),
-    (4, b"in 1 1 ", (b'g', 131_056), TextFault::BadHex),
-    (4, b"#", (b'#', 131_070), TextFault::LineTooLong),
-];
-
-#[test]
-fn each_fault_has_its_line(rt: HostRuntime) -> Result<(), Fail> {
-    all_fail(&rt, READ, &FAULTY)
-}
-
 /// The longest payload and comment; comments and empty lines, which are no datagrams, and hex digits of either case.
 const SOUND: [Sound; 6] = [
     (4, b"in 1 1 ", (b'0', 131_054), 15),
@@ -176,34 +123,6 @@ const SOUND: [Sound; 6] = [
 #[test]
 fn lines_without_a_fault(rt: HostRuntime) -> Result<(), Fail> {
     all_pass(&rt, READ, &SOUND)
-}
-
-/// The text cut to that many bytes, and more after it.
-fn cut(rt: &HostRuntime, size: usize, more: &[u8]) -> Result<Vec<u8>, Fail> {
-    let mut text = Vec::from_slice(rt.alloc(), READ.get(..size).unwrap_or(READ))?;
-    text.extend_from_slice(more)?;
-    Ok(text)
-}
-
-/// How many bytes are cut from the text's end, what comes after it, and its line with the fault.
-const ENDS: [(usize, (&[u8], usize), u64, TextFault); 7] = [
-    (132, (b"", 0), 1, TextFault::Truncated),
-    (8, (b"", 0), 7, TextFault::Truncated),
-    (1, (b"", 0), 7, TextFault::Truncated),
-    (0, (b"#\n", 0), 8, TextFault::TrailingText),
-    (0, (b"\n", 0), 8, TextFault::TrailingText),
-    (0, (b"x", 0), 8, TextFault::TrailingText),
-    (0, (b"", 131_071), 8, TextFault::TrailingText),
-];
-
-#[test]
-fn texts_that_end_too_early_or_go_on(rt: HostRuntime) -> Result<(), Fail> {
-    for (left, (start, count), line, fault) in ENDS {
-        let more = long(&rt, start, b'a', count)?;
-        let text = cut(&rt, READ.len().saturating_sub(left), more.as_slice())?;
-        gives(&rt, text.as_slice(), Err(CaptureFault::Text(line, fault)))?;
-    }
-    Ok(())
 }
 
 #[test]
@@ -566,14 +485,14 @@ fn an_empty_and_the_longest_payload_are_written(rt: HostRuntime) -> Result<(), F
     Ok(())
 }
 
-/// Gathers the bytes in pieces of 100, of 4,096, of 4,097 and of what is left, and writes what waits.
+/// Gathers the bytes in pieces of 100, of 65,536, of 65,537 and of what is left, and writes what waits.
 fn gather(writer: &mut Tallied<DripWriter>, bytes: &[u8]) -> Result<(), WriteFault>
     requires { writer.old.1 ≡ false }
 {
     let mut gathered = Gathered::new();
     let (short, rest) = bytes.split_at(bytes.len().min(100));
-    let (full, rest) = rest.split_at(rest.len().min(4096));
-    let (long, rest) = rest.split_at(rest.len().min(4097));
+    let (full, rest) = rest.split_at(rest.len().min(65_536));
+    let (long, rest) = rest.split_at(rest.len().min(65_537));
     gathered.add(writer, short)?;
     gathered.add_all(writer, &[full, long, b"", rest])?;
     gathered.write(writer)
@@ -582,7 +501,7 @@ fn gather(writer: &mut Tallied<DripWriter>, bytes: &[u8]) -> Result<(), WriteFau
 #[test]
 fn pieces_of_any_length_are_gathered(rt: HostRuntime) -> Result<(), Fail> {
     let mut bytes = Vec::new(rt.alloc());
-    for index in 0..8303u32 {
+    for index in 0..131_183u32 {
         bytes.push((index % 251) as u8)?;
     }
     for piece in [usize::MAX, 1000, 7] {
@@ -591,7 +510,7 @@ fn pieces_of_any_length_are_gathered(rt: HostRuntime) -> Result<(), Fail> {
         assert!(rt; !writer.failed());
         assert_eq!(rt; writer.into_inner().taken(), bytes.as_slice());
     }
-    for (write, taken) in [(1, 0), (2, 100), (3, 4196), (4, 8293)] {
+    for (write, taken) in [(1, 0), (2, 100), (3, 65_636), (4, 131_173)] {
         for none in [false, true] {
             let drip = DripWriter::new(rt.alloc(), bytes.len(), usize::MAX, write, none)?;
             let mut writer = Tallied::new(drip);

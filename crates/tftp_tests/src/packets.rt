@@ -7,6 +7,8 @@ use tftp_packet::{
     own_request, read_packet, same_options, same_request, write_oack, write_packet, write_request,
 };
 
+mod faults;
+
 const ASKED: &[u8] = b"\x00\x01a\x00octet\x00WindowSize\x004\x00BLKSIZE\x0008\x00";
 
 const CANONICAL: &[u8] = b"\x00\x01a\x00octet\x00blksize\x008\x00windowsize\x004\x00";
@@ -44,43 +46,6 @@ fn ack_of(payload: &[u8]) -> Result<u16, Fail> {
     match read_packet(payload) {
         Ok(Packet::Ack { block }) => Ok(block),
         _ => Err(Fail::new("no ACK")),
-    }
-}
-
-#[test]
-fn refuses_what_is_no_packet(rt: HostRuntime) {
-    let cases: [(&[u8], PacketFault); 19] = [
-        (b"", PacketFault::Short),
-        (b"\x00", PacketFault::Short),
-        (b"\x00\x03", PacketFault::Short),
-        (b"\x00\x05\x00", PacketFault::Short),
-        (b"\x00\x00", PacketFault::Opcode),
-        (b"\x00\x07", PacketFault::Opcode),
-        (b"\x00\x04", PacketFault::AckLength),
-        (b"\x00\x04\x00\x01\x00", PacketFault::AckLength),
-        (b"\x00\x01", PacketFault::NoTerminator),
-        (b"\x00\x01a\x00", PacketFault::NoTerminator),
-        (b"\x00\x01a\x00octet", PacketFault::NoTerminator),
-        (b"\x00\x05\x00\x05no", PacketFault::NoTerminator),
-        (b"\x00\x05\x00\x05n\x00\x00", PacketFault::NoTerminator),
-        (
-            b"\x00\x01a\x00octet\x00blksize\x00",
-            PacketFault::OddOptions,
-        ),
-        (
-            b"\x00\x01a\x00octet\x00\x008\x00",
-            PacketFault::EmptyOptionName,
-        ),
-        (b"\x00\x01a\x00oct\x00", PacketFault::UnknownMode),
-        (b"\x00\x01a\x00mail\x00", PacketFault::MailMode),
-        (b"\x00\x01a\x00mail\x00b\x00", PacketFault::OddOptions),
-        (
-            b"\x00\x01a\x00octet\x00blksize\x008\x00blksize\x008\x00",
-            PacketFault::DuplicateOption,
-        ),
-    ];
-    for (payload, want) in cases {
-        assert_eq!(rt; fault_of(payload), Some(want), "{payload:?}");
     }
 }
 
@@ -271,11 +236,6 @@ fn limits_requests_with_options(rt: HostRuntime) -> Result<(), Fail> {
     let longest = long_request(&rt, 493, b"blksize\x008\x00")?;
     assert_eq!(rt; longest.len(), 512);
     assert_eq!(rt; fault_of(longest.as_slice()), None);
-    let longer = long_request(&rt, 494, b"blksize\x008\x00")?;
-    assert_eq!(rt;
-        fault_of(longer.as_slice()),
-        Some(PacketFault::RequestTooLong)
-    );
     let plain = long_request(&rt, 65_518, b"")?;
     assert_eq!(rt; plain.len(), 65_527);
     assert_eq!(rt; fault_of(plain.as_slice()), None);

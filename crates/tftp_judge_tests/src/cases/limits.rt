@@ -202,6 +202,23 @@ const LONG: [(Long, &str, u8); 12] = [
     ),
 ];
 
+/// A block of 512 bytes without the one that ends the read after it: nothing is normal yet.
+const WITHOUT_END: Long = Long {
+    header: CLIENT,
+    before: &[READ],
+    start: BLOCK_1,
+    byte: ("61", 512),
+    end: "",
+    after: &[ACK_1],
+};
+
+#[test]
+fn no_count_of_a_read_without_its_end(rt: HostRuntime) -> Result<(), Fail> {
+    let text = long_text(rt.alloc(), &WITHOUT_END)?;
+    says(&rt, "count", text.as_slice(), "incomplete after 3\n", 1)?;
+    says(&rt, "normal", text.as_slice(), "", 1)
+}
+
 #[test]
 fn long_names_and_blocks(rt: HostRuntime) -> Result<(), Fail> {
     for (long, line, status) in &LONG {

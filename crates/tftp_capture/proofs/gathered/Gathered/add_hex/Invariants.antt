@@ -1,15 +1,14 @@
 use Rattle.std.proofs.Common.{◌≡◌, ◌≤◌, ◌-◌, length, take, false}
 use Rattle.hex.specs.Hex.{encode_lower}
 use Rattle.tftp_capture.specs.Tally.{Gathers}
-use Rattle.tftp_capture.proofs.writer.put_hex.Given as goal
+use Rattle.tftp_capture.proofs.gathered.Gathered.add_hex.Given as goal
 
 abbrev pub invariant-loop-done : goal.invariant-loop-done
 invariant-loop-done g l = record {
   clean : l.writer.1 ≡ false;
-  within : l.done ≤ length l.payload;
-  sized : length l.digits ≡ 4096;
-  gathers : Gathers (g.W.Write.contents l.initial.writer.0) (g.W.Write.contents l.writer.0) l.initial.gathered l.gathered (encode_lower (take l.done l.payload));
+  within : l.done ≤ length l.bytes;
+  gathers : Gathers (g.W.Write.contents l.initial.writer.0) (g.W.Write.contents l.writer.0) l.initial.self l.self (encode_lower (take l.done l.bytes));
 }
 
 abbrev pub decreases-loop-done : goal.decreases-loop-done
-decreases-loop-done g l = length l.payload - l.done
+decreases-loop-done g l = length l.bytes - l.done
