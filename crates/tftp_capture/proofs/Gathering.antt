@@ -13,10 +13,6 @@ gathers_none c held = record { written = []; are = append-nil held; appended = A
 pub gathers_kept : (c : Option (List ℕ)) (held bytes : List ℕ) → Gathers c c held (held ++ bytes) bytes
 gathers_kept c held bytes = record { written = []; are = refl; appended = Appends-nil c }
 
--- what waited is written, and the piece waits
-pub gathers_written : (c d : Option (List ℕ)) (held bytes : List ℕ) → Appends c d held → Gathers c d held bytes bytes
-gathers_written c d held bytes p = record { written = held; are = refl; appended = p }
-
 pub gathers_more : (c0 c1 c2 : Option (List ℕ)) (h0 h1 h2 first second : List ℕ) → Gathers c0 c1 h0 h1 first → Gathers c1 c2 h1 h2 second → Gathers c0 c2 h0 h2 (first ++ second)
 gathers_more c0 c1 c2 h0 h1 h2 first second p q = record {
   written = p.written ++ q.written;

@@ -1,10 +1,8 @@
 -- A wire that is joined of blocks of any size.
-use Rattle.std.proofs.Common.{◌≡◌, ℕ, zero, suc, ◌+◌, ◌-◌, ◌*◌, ◌/◌, ◌<◌, ◌≤◌, min, List, ◌++◌, length, take, drop, inl, inr, sym, subst, ap, ◌∙◌, arith}
+use Rattle.std.proofs.Common.{◌≡◌, ℕ, zero, suc, ◌+◌, ◌-◌, ◌*◌, ◌/◌, ◌<◌, ◌≤◌, min, List, ◌++◌, length, take, drop, sym, subst, ap, ◌∙◌, arith}
 use Rattle.std.proofs.Math.Nat.{suc-mul, mul-le-mul_right, div-mul-le_self, lt-div-mul-add}
-use Rattle.std.proofs.lemmas.Nat.{div-mul-add}
 use Rattle.std.proofs.Math.Seq.{drop-append_seam}
 use Rattle.std.proofs.lemmas.List.{length-append, length-take, length-drop, take-append-le, drop-append-le, take_all}
-use Rattle.std.proofs.lemmas.Bool.{cases_lt}
 use Rattle.tftp_packet.specs.Message.{Message}
 use Rattle.tftp_ends.specs.CaptureText.{Datagram}
 use Rattle.tftp_ends.specs.Blocks.{block, block_count}
@@ -35,28 +33,12 @@ block_kept b (suc j) n w bytes low below size =
 abbrev pub Below : ℕ → List Datagram → List ℕ → ℕ → Type 0
 Below b passed w n = (k : ℕ) → 1 ≤ k → k < n → HasPassed (Message.Data k (block b w k)) passed
 
-pub below_more : (b n : ℕ) (passed : List Datagram) (w bytes : List ℕ) → 1 ≤ n → length w ≡ (n - 1) * b → Below b passed w n → HasPassed (Message.Data n bytes) passed → length bytes ≤ b
-    → Below b passed (w ++ bytes) (n + 1)
-below_more b n passed w bytes some size below next fits k low high = elim (cases_lt k n) [
-  | inl before ↦ subst (λ x. HasPassed (Message.Data k x) passed) (sym (block_kept b k n w bytes low before size)) (below k low before)
-  | inr after ↦
-      let is : n ≡ k = omega arith in
-      subst (λ i. HasPassed (Message.Data i (block b (w ++ bytes) i)) passed) is (subst (λ x. HasPassed (Message.Data n x) passed) (sym (block_added b n w bytes size fits)) next)
-]
-
 pub size_more : (b n : ℕ) (w bytes : List ℕ) → 1 ≤ n → length w ≡ (n - 1) * b → length bytes ≡ b → length (w ++ bytes) ≡ (n + 1 - 1) * b
 size_more b zero w bytes some size whole = absurd (omega arith)
 size_more b (suc j) w bytes some size whole =
     let now : suc j - 1 ≡ j = omega arith in
     let next : suc j + 1 - 1 ≡ suc j = omega arith in
     length-append w bytes ∙ ap (λ n. n + length bytes) (size ∙ ap (λ i. i * b) now) ∙ ap (λ n. j * b + n) whole ∙ sym (suc-mul j b) ∙ ap (λ i. i * b) (sym next)
-
-pub joined_all : (b last : ℕ) (passed : List Datagram) (w bytes : List ℕ) → 1 ≤ last → length w ≡ (last - 1) * b → Below b passed w last → HasPassed (Message.Data last bytes) passed → length bytes < b
-    → IsJoined b passed last (w ++ bytes)
-joined_all b last passed w bytes some size below next short = record {
-  count = ap (λ n. n / b + 1) (length-append w bytes ∙ ap (λ n. n + length bytes) size) ∙ ap (λ n. n + 1) (div-mul-add (last - 1) b (length bytes) short) ∙ omega arith;
-  blocks = λ k low high. below_more b last passed w bytes some size below next (omega arith) k low (omega arith);
-}
 
 -- ---- a joined wire has blocks of these lengths
 
@@ -93,6 +75,3 @@ not_last b last passed bytes some once has long low wire joined =
     let same = ap length (once last bytes (block b wire last) has (joined.blocks last low (omega arith))) in
     let short = last_block b last wire some joined.count in
     omega arith
-
-pub none_from_zero : (b : ℕ) (passed : List Datagram) (wire : List ℕ) → IsJoined b passed 0 wire → ⊥
-none_from_zero b passed wire joined = let count = joined.count in omega arith

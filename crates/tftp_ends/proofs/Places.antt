@@ -255,11 +255,6 @@ pub placed_first : (os : Slots) (x : List ℕ) → placed os 0 x ≡ Some x ∷ 
 placed_first [] x = refl
 placed_first (o ∷ os) x = refl
 
-pub filled_rest : (os : Slots) → slice_index_or os 0 None ≡ None → filled (drop 1 os) ≡ filled os
-filled_rest [] e = refl
-filled_rest (None ∷ os) e = refl
-filled_rest (Some x ∷ os) e = absurd (cc)
-
 -- ---- a place behind the others
 
 pub placed_behind : {X : Type 0} (slots : List (Option X)) (block : X) → placed slots (length slots) block ≡ slots ++ Some block ∷ []

@@ -22,11 +22,6 @@ within_placed n (Some t ∷ ps) zero s within fits = (fits, within.1)
 within_placed n (None ∷ ps) (suc i) s within fits = within_placed n ps i s within fits
 within_placed n (Some t ∷ ps) (suc i) s within fits = (within.0, within_placed n ps i s within.1 fits)
 
-pub within_rest : (n : ℕ) (ps : List (Option Span)) → AreWithin n ps → AreWithin n (drop 1 ps)
-within_rest n [] within = tt
-within_rest n (None ∷ ps) within = within
-within_rest n (Some s ∷ ps) within = within.1
-
 pub within_at : (n : ℕ) (ps : List (Option Span)) (i : ℕ) (s : Span) → AreWithin n ps → slice_index_or ps i None ≡ Some s → s.start + s.len ≤ n
 within_at n [] i s within e = absurd (cc)
 within_at n (None ∷ ps) zero s within e = absurd (cc)

@@ -4,8 +4,6 @@ use Rattle.std.specs.Prelude.{◌&&◌, ◌==◌, ◌≢◌, Result, IfOk, if◌
 use Rattle.std.proofs.lemmas.Bool.{false≢true}
 use Rattle.tftp_packet.specs.Message.{Message, RequestParts}
 use Rattle.tftp_packet.specs.Spelling.{Spells}
-use Rattle.tftp_packet.specs.Faults.{FirstFault}
-use Rattle.tftp_packet.specs.declared.fault.PacketFault.{PacketFault}
 use Rattle.tftp_packet.specs.declared.kinds.Dir.{Dir}
 use Rattle.tftp_ends.specs.CaptureText.{Datagram, Header}
 use Rattle.tftp_ends.specs.KnownIds.{KnownIds, StandsFor, HasNoRequest, IsNewStray, answer_of}
@@ -15,7 +13,7 @@ use Rattle.tftp_ends.specs.declared.route.Route.{Route}
 use Rattle.tftp_law.specs.OneEnded.{OneEnded, Passes}
 use Rattle.tftp_law.specs.Rules.{number_of, Broken, FirstAsked, FirstBroken}
 use Rattle.tftp_law.specs.declared.rule.Rule.{Rule}
-use Rattle.tftp_law.proofs.FirstRequests.{before_is, asks_is, first_stays, first_spells}
+use Rattle.tftp_law.proofs.FirstRequests.{before_is, asks_is, first_stays}
 use Rattle.tftp_law.specs.MessageRules.{MessageBreaks}
 use Rattle.tftp_law.proofs.OneMessage.{first_by, lawful_by}
 use Rattle.tftp_judge.specs.Finds.{Finds, FindsOf, stop_by_port}
@@ -82,35 +80,6 @@ low_rule Rule.BlockChanged low = absurd (omega arith)
 low_rule Rule.AckAhead low = absurd (omega arith)
 low_rule Rule.AckZero low = absurd (omega arith)
 
-lower_rule : (r : Rule) → number_of r < 5 → (number_of r < 3) ⊎ ((r ≡ Rule.StrayAnswer) ⊎ (r ≡ Rule.NoRequest))
-lower_rule Rule.ForeignPort low = inl (omega arith)
-lower_rule Rule.WrongPort low = inl (omega arith)
-lower_rule Rule.StrayAnswer low = inr (inl refl)
-lower_rule Rule.NoRequest low = inr (inr refl)
-lower_rule (Rule.Malformed fault) low = absurd (omega arith)
-lower_rule Rule.WrongKind low = absurd (omega arith)
-lower_rule Rule.AfterError low = absurd (omega arith)
-lower_rule Rule.RequestChanged low = absurd (omega arith)
-lower_rule Rule.RequestAfterStart low = absurd (omega arith)
-lower_rule Rule.ReplyChanged low = absurd (omega arith)
-lower_rule Rule.OackEmpty low = absurd (omega arith)
-lower_rule Rule.MulticastAgreed low = absurd (omega arith)
-lower_rule Rule.OptionNotRequested low = absurd (omega arith)
-lower_rule Rule.OptionOutsideProfile low = absurd (omega arith)
-lower_rule Rule.OptionValue low = absurd (omega arith)
-lower_rule Rule.OackChanged low = absurd (omega arith)
-lower_rule Rule.OackAfterStart low = absurd (omega arith)
-lower_rule Rule.NotStarted low = absurd (omega arith)
-lower_rule Rule.BlockZero low = absurd (omega arith)
-lower_rule Rule.BeyondBlock65535 low = absurd (omega arith)
-lower_rule Rule.BlockLength low = absurd (omega arith)
-lower_rule Rule.WindowOverrun low = absurd (omega arith)
-lower_rule Rule.BlockSkipped low = absurd (omega arith)
-lower_rule Rule.GoneBack low = absurd (omega arith)
-lower_rule Rule.BlockChanged low = absurd (omega arith)
-lower_rule Rule.AckAhead low = absurd (omega arith)
-lower_rule Rule.AckZero low = absurd (omega arith)
-
 module _ (h : Header) (earlier : List Datagram) (d : Datagram) where
   foreign_first : route_of h earlier d ≡ Route.ForeignPort → FirstBroken h earlier d Rule.ForeignPort
   foreign_first is = record { broken = is; first = below } where
@@ -168,32 +137,6 @@ module _ (h : Header) (earlier : List Datagram) (d : Datagram) where
     kept PortRule.BadAnswer (inl b) = none.2 (sym is ∙ b)
     kept PortRule.BadAnswer (inr b) = answers (sym is ∙ b.0) (inr b)
 
-  main_first : is_of_transfer (route_of h earlier d) ≡ true → (other : Rule) → number_of other < 4 → Broken h earlier d other → ⊥
-  main_first on other low b = elim (lower_rule other (omega arith)) [
-    | inl lower ↦ elim (low_rule other lower) [
-      | inl same ↦ let at : route_of h earlier d ≡ Route.ForeignPort = subst (Broken h earlier d) same b in false≢true (sym (ap is_of_transfer at) ∙ on)
-      | inr same ↦ let at : route_of h earlier d ≡ Route.WrongPort = subst (Broken h earlier d) same b in false≢true (sym (ap is_of_transfer at) ∙ on)
-    ]
-    | inr (inl same) ↦ elim (subst (Broken h earlier d) same b) [
-      | inl at ↦ false≢true (sym (ap is_of_transfer at) ∙ on)
-      | inr at ↦ false≢true (sym (ap is_of_transfer at.0) ∙ on)
-    ]
-    | inr (inr same) ↦ let n = ap number_of same in omega arith
-  ]
-
-  pub no_request_first : first_of (asks h) earlier ≡ None → route_of h earlier d ≡ Route.Peer → FirstBroken h earlier d Rule.NoRequest
-  no_request_first none is = record { broken = (none, is); first = main_first (ap is_of_transfer is) }
-
-  pub malformed_first : (fault : PacketFault) → is_of_transfer (route_of h earlier d) ≡ true → FirstFault d.payload fault
-      → (first_of (asks h) earlier ≡ None → route_of h earlier d ≡ Route.Peer → ⊥) → FirstBroken h earlier d (Rule.Malformed fault)
-  malformed_first fault on is begun = record { broken = (on, is); first = below } where
-    below : (other : Rule) → number_of other < 5 → Broken h earlier d other → ⊥
-    below other low b = elim (lower_rule other low) [
-      | inl lower ↦ main_first on other (omega arith) b
-      | inr (inl same) ↦ let n = ap number_of same in main_first on other (omega arith) b
-      | inr (inr same) ↦ let is = subst (Broken h earlier d) same b in begun is.0 is.1
-    ]
-
 -- ---- what is kept
 
 -- before the first request, a datagram that passes is one of the transfer
@@ -229,10 +172,6 @@ first_kept h earlier d t none is spells after =
       (d, ap (λ o. or_this o (asks h d) d) start ∙ ap (λ b. or_this None b d) asked, spells),
       subst (IsTransferAfter t h) (sym (transfer_kept h earlier d (ap is_of_transfer is) ∙ ap (λ ds. d ∷ transfer_of h ds) none)) after,
     )
-
--- nothing was asked for exactly where nothing is kept
-pub kept_first : (h : Header) (earlier : List Datagram) (t : Transfer) → IsKept h earlier (Some t) → first_of (asks h) earlier ≡ None → ⊥
-kept_first h earlier t (first, after) none = cc
 
 -- ---- a message
 
@@ -278,9 +217,6 @@ module _ (h : Header) (earlier : List Datagram) (d : Datagram) (m : Message) (no
 
   pub first_passes : OneEnded h earlier → Passes h earlier d
   first_passes one = main_passes h earlier d m on spells (first_lawful h earlier d m on spells one (nothing earlier none) (λ _ peer. other peer))
-
-  pub first_is_request : (asked : RequestParts) × (m ≡ Message.Request asked)
-  first_is_request = first_spells h earlier d m (ap (first_of (asks h)) none) (main_route (route_of h earlier d) on other) spells
 
 pub request_found : (h : Header) (earlier : List Datagram) (d : Datagram) (t : Transfer) → OneEnded h earlier → earlier ≡ [] → is_of_transfer (route_of h earlier d) ≡ true → (route_of h earlier d ≡ Route.Peer → ⊥)
     → Spells d.payload (Message.Request t.asked) → IsTransferAfter t h (d ∷ []) → Passes h earlier d × IsKept h (d ∷ earlier) (Some t)

@@ -159,9 +159,6 @@ module _ (asked : RequestParts) (passed : List Datagram) (dir : Dir) (oack : Opt
   from_ten Rule.BeyondBlock65535 b = omega arith
   from_ten rule b = absurd b.1
 
-  pub reply_changed : FirstAnswer asked.side passed Begins → IsFirstOf (OackBreaks asked passed dir oack) Rule.ReplyChanged
-  reply_changed begins = (begins, λ other low b. let high = from_ten other b in omega arith)
-
 -- ---- a block or an ACK
 
 number_is : (e : EndRule) → number_of (rule_of_end e) ≡ end_number e

@@ -14,7 +14,7 @@ use Rattle.tftp_ends.specs.NamedEnd.{NamedEnd, Sends, Receives, terms_of, IsEndA
 use Rattle.tftp_ends.specs.States.{IsBeforeBlocks, IsAside, Says}
 use Rattle.tftp_ends.proofs.AfterReceiver.{receiver_aside}
 use Rattle.tftp_ends.proofs.AfterSender.{sender_aside}
-use Rattle.tftp_ends.proofs.Passing.{another, another_way, in_not_out, aside_no_block, aside_no_ack}
+use Rattle.tftp_ends.proofs.Passing.{another, aside_no_block, aside_no_ack}
 use Rattle.tftp_law.specs.MessageRules.{AckSent, BlockSent}
 use Rattle.tftp_law.specs.Rules.{Answer, Agrees, Begins, IsAnswer, IsWrongKind, NotAnswered, terms_after}
 use Rattle.tftp_law.proofs.Spelled.{spelled_once}
@@ -64,18 +64,6 @@ module _ (d : Datagram) (way : Dir) (m : Message) (passed : List Datagram) (says
   ack_flag_kept sent no_ack is = (
     (λ yes. let was = is.0 yes in (was.0, inr was.1)),
     (λ p. is.1 (p.0, another d way Out m (Message.Ack p.0) passed says (no_ack p.0) p.1)),
-  )
-
-  pub block_flag_in : (sent : Bool) → way ≡ In → (sent ≡ true) ↔ BlockSent passed → (sent ≡ true) ↔ BlockSent (d ∷ passed)
-  block_flag_in sent came is = (
-    (λ yes. let was = is.0 yes in (was.0, was.1, inr was.2)),
-    (λ p. is.1 (p.0, p.1, another_way d way Out m (Message.Data p.0 p.1) passed says (λ e. in_not_out (sym came ∙ e)) p.2)),
-  )
-
-  pub ack_flag_in : (sent : Bool) → way ≡ In → (sent ≡ true) ↔ AckSent passed → (sent ≡ true) ↔ AckSent (d ∷ passed)
-  ack_flag_in sent came is = (
-    (λ yes. let was = is.0 yes in (was.0, inr was.1)),
-    (λ p. is.1 (p.0, another_way d way Out m (Message.Ack p.0) passed says (λ e. in_not_out (sym came ∙ e)) p.1)),
   )
 
 -- ---- the end that began

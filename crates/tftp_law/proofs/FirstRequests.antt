@@ -5,10 +5,6 @@ use Rattle.std.proofs.lemmas.Bool.{and_parts, or_cases, eqb-true, false≢true}
 use Rattle.tftp_packet.specs.Message.{Message, RequestParts}
 use Rattle.tftp_packet.specs.Spelling.{Spells}
 use Rattle.tftp_packet.specs.Faults.{opcode_of}
-use Rattle.tftp_packet.specs.Meaning.{meaning}
-use Rattle.tftp_packet.specs.Written.{WrittenRequest}
-use Rattle.tftp_packet.specs.declared.packet.Packet.{Packet}
-use Rattle.tftp_packet.specs.declared.packet.Packet.TheVariants as packet
 use Rattle.tftp_ends.specs.CaptureText.{Datagram, Header}
 use Rattle.tftp_ends.specs.Ports.{asks, first_of, or_this, begins_request, is_from_client, port_of_server, route_before, route_of, is_of_transfer, transfer_of}
 use Rattle.tftp_ends.specs.declared.route.Route.{Route}
@@ -146,17 +142,3 @@ module _ (h : Header) where
 
   pub none_asked : (ds : List Datagram) → OneEnded h ds → ((asked : RequestParts) → FirstAsked h ds asked → ⊥) → first_of (asks h) ds ≡ None
   none_asked ds one none = by_first (first_of (asks h) ds) ds refl one none
-
-  -- what is asked for first is what the first request spells
-  pub asked_of : (ds : List Datagram) (d : Datagram) → Some d ≡ first_of (asks h) ds → (asked : RequestParts) → FirstAsked h ds asked → Spells d.payload (Message.Request asked)
-  asked_of ds d is asked (e, at, s) =
-      let same : d ≡ e = some_same d e (is ∙ at) in
-      subst (λ (y : Datagram). Spells y.payload (Message.Request asked)) (sym same) s
-
--- a packet that says a request is one
-pub request_packet : (p : Packet) (asked : RequestParts) → meaning p ≡ Message.Request asked → ((request : WrittenRequest) → p ≡ packet.Request request → ⊥) → ⊥
-request_packet (packet.Request request) asked is never = never request refl
-request_packet (packet.Data block bytes) asked is never = cc
-request_packet (packet.Ack block) asked is never = cc
-request_packet (packet.Error code message) asked is never = cc
-request_packet (packet.Oack options) asked is never = cc

@@ -102,15 +102,6 @@ module _ (side : Side) (t : Terms) (passed : List Datagram) (s : Settled side t 
       plus_none : (n : ℕ) → n ≡ n + 0
       plus_none n = omega arith
 
-  -- the last block is short
-  last_short : (last : ℕ) → IsLast t passed last → (bytes : List ℕ) → HasPassed (Message.Data last bytes) passed → length bytes < t.blksize
-  last_short last known bytes p =
-      let fits = s.within last bytes p in
-      elim (cases_eq (length bytes) t.blksize) [
-        | inl full ↦ absurd (s.placed last last bytes p known (inr (inr (inl (refl, full)))))
-        | inr other ↦ omega (arith, other)
-      ]
-
   -- and has what is left of a size that was agreed
   last_left : (last : ℕ) → IsLast t passed last → (size : ℕ) → t.size ≡ Some size → (bytes : List ℕ) → HasPassed (Message.Data last bytes) passed → length bytes ≡ size % t.blksize
   last_left last known size is bytes p = elim (cases_eq (length bytes) (size % t.blksize)) [

@@ -21,9 +21,6 @@ use Rattle.tftp_law.proofs.FirstRequests.{first_stays}
 pub same_true : (a b : ℕ) → a ≡ b → (a == b) ≡ true
 same_true a b e = eq-eqb a b e
 
-other_false : (a b : ℕ) → (a ≡ b → ⊥) → (a == b) ≡ false
-other_false a b differs = false_from_ne_true (a == b) (λ e. differs (eqb-true a b e))
-
 pub out_true : (d : Datagram) → d.dir ≡ Out → goes_out d ≡ true
 out_true d e = rw e refl
 

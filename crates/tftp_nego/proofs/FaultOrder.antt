@@ -33,13 +33,6 @@ first_fault_unique request agreed f g p q = elim (cases_lt (number f) (number g)
 ]
 
 -- a fault that holds is the first where each that stands before it does not
-pub first_OackEmpty : (request : RequestParts) (agreed : OptionMap) → Holds OackEmpty request agreed → FirstFault request agreed OackEmpty
-first_OackEmpty request agreed h = (h, before)
-  where
-    before : (earlier : NegoFault) → number earlier < 1 → Holds earlier request agreed → ⊥
-    before OackEmpty below x = omega arith
-    before _ below x = absurd (omega arith)
-
 pub first_MulticastAgreed : (request : RequestParts) (agreed : OptionMap) → Holds MulticastAgreed request agreed → (Holds OackEmpty request agreed → ⊥) → FirstFault request agreed MulticastAgreed
 first_MulticastAgreed request agreed h n1 = (h, before)
   where

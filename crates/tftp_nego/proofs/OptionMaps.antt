@@ -70,8 +70,6 @@ pub some_in_map : (P : List ℕ → Type 0) (pairs : List Pair) → AreApart pai
 some_in_map P pairs apart some = some_of P (map_of pairs) pairs (map_has_each pairs apart) some
 
 -- ---- no option
-pub none_is_empty : map_of [] ≡ no_options
-none_is_empty = refl
 
 pub has_not_empty : (m : OptionMap) (name : List ℕ) → HasOption m name → m ≢ no_options
 has_not_empty m name (value, e) empty =

@@ -1,5 +1,5 @@
 -- The blocks of a window that are put one after another.
-use Rattle.std.proofs.Common.{◌≡◌, ℕ, suc, ◌+◌, ◌-◌, ◌*◌, ◌<◌, ◌≤◌, List, [], ◌∷◌, ◌++◌, length, length-append, take, drop, Option, refl, sym, subst, ap, ◌∙◌, arith, suc-mul, zero-mul, drop-drop}
+use Rattle.std.proofs.Common.{◌≡◌, ℕ, suc, ◌+◌, ◌-◌, ◌*◌, ◌<◌, List, [], ◌∷◌, ◌++◌, length, length-append, take, drop, Option, refl, sym, subst, ap, ◌∙◌, arith, suc-mul, zero-mul, drop-drop}
 use Rattle.std.proofs.lemmas.List.{length-map}
 use Rattle.tftp_packet.specs.Message.{Message}
 use Rattle.tftp_packet.specs.Canonical.{canonical}
@@ -45,9 +45,6 @@ module _ (m : Meaning) where
 
   pub blocks_step : (k last : ℕ) → k < last → blocks_after k (last - k) ≡ Data (k + 1) ∷ blocks_after (k + 1) (last - (k + 1))
   blocks_step k last low = let more : last - k ≡ suc (last - (k + 1)) = omega (arith, low) in ap (blocks_after k) more
-
-  pub blocks_done : (k : ℕ) (last : ℕ) → last ≤ k → blocks_after k (last - k) ≡ []
-  blocks_done k last low = let none : last - k ≡ 0 = omega (arith, low) in ap (blocks_after k) none
 
   pub length-blocks : (k more : ℕ) → length (datagrams_of m (blocks_after k more)) ≡ more
   length-blocks k more = length-map (blocks_after k more) (normal_datagram m) ∙ blocks_length k more

@@ -1,9 +1,9 @@
 -- Datagrams that are put one after another.
-use Rattle.std.proofs.Common.{◌≡◌, ℕ, ◌+◌, List, [], ◌∷◌, ◌++◌, length-append, map as each, Option, Result, Ok, Err, OnOk, is_err, IsErr, Bool, true, false, true≢false, refl, sym, subst, ap, ◌∙◌, arith, append-nil, append_assoc}
+use Rattle.std.proofs.Common.{◌≡◌, ℕ, List, [], ◌∷◌, ◌++◌, length-append, map as each, Option, Result, Ok, Err, IsErr, Bool, true, false, true≢false, refl, sym, subst, ap, ◌∙◌, arith, append-nil, append_assoc}
 use Rattle.std.proofs.lemmas.List.{map-append}
 use Rattle.std.proofs.lemmas.List.Concat.{flat_map-append}
 use Rattle.tftp_capture.specs.CaptureText.{datagram_line, whole_lines}
-use Rattle.tftp_capture.specs.Tally.{Adds, AppendsPrefix, Gathers}
+use Rattle.tftp_capture.specs.Tally.{AppendsPrefix, Gathers}
 use Rattle.tftp_capture.specs.Written.{WriterState}
 use Rattle.tftp_capture.proofs.Gathering.{gathers_none, gathers_more, gathers_prefix, prefix_after}
 use Rattle.tftp_ends.specs.CaptureText.{Datagram}
@@ -43,14 +43,6 @@ module _ {W E : Type 0} (contents : W → Option (List ℕ)) where
 
   pub puts_same : (t0 t1 : W × Bool) (r : Result (Unit {0}) E) (s u : WriterState) (ds es : List Datagram) → ds ≡ es → Puts contents t0 t1 r s u ds → Puts contents t0 t1 r s u es
   puts_same t0 t1 r s u ds es is p = subst (Puts contents t0 t1 r s u) is p
-
-  pub puts_one : (t0 t1 : W × Bool) (r : Result (Unit {0}) E) (s u : WriterState) (d : Datagram) → Adds contents t0 t1 r s.held u.held (datagram_line d ++ 10 ∷ []) → OnOk r (u.count ≡ s.count + 1) → u.failed ≡ is_err r
-      → Puts contents t0 t1 r s u (d ∷ [])
-  puts_one t0 t1 (Ok x) s u d adds counted failed = (
-    adds.0,
-    record { gathers = subst (Gathers (contents t0.0) (contents t1.0) s.held u.held) (sym (append-nil (datagram_line d ++ 10 ∷ []))) adds.1; count = counted; going = failed },
-  )
-  puts_one t0 t1 (Err e) s u d adds counted failed = (adds.0, subst (λ l. AppendsPrefix (contents t0.0) (contents t1.0) (s.held ++ l)) (sym (append-nil (datagram_line d ++ 10 ∷ []))) adds.1)
 
 -- ---- what was put of all that is to be put, and what is left
 

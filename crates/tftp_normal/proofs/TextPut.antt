@@ -1,11 +1,8 @@
 -- The text of a normal capture: its header, what opens the transfer, the windows, and the total.
-use Rattle.std.proofs.Common.{◌≡◌, ℕ, zero, suc, ◌+◌, ◌≤◌, List, [], ◌∷◌, ◌++◌, length, length-append, map as each, Option, Result, Ok, Err, OnOk, Bool, sym, subst, ap, ◌∙◌, arith, append_assoc, append-nil}
-use Rattle.std.proofs.lemmas.List.{map-append, length-map}
+use Rattle.std.proofs.Common.{◌≡◌, ℕ, ◌+◌, ◌≤◌, List, [], ◌∷◌, ◌++◌, length, length-append, map as each, Option, Result, Ok, Err, OnOk, Bool, sym, subst, ap, ◌∙◌, arith, append_assoc, append-nil}
+use Rattle.std.proofs.lemmas.List.{map-append}
 use Rattle.std.proofs.lemmas.List.Concat.{flat_map-append}
-use Rattle.std.specs.FinMap as map
 use Rattle.std.specs.Io.KnownBytes.{Appends}
-use Rattle.tftp_packet.specs.declared.kinds.Side.{Side}
-use Rattle.tftp_packet.specs.declared.kinds.Side.TheVariants.{Get, Put}
 use Rattle.tftp_capture.specs.declared.version.Version.TheVariants.{One}
 use Rattle.tftp_capture.specs.CaptureText.{datagram_line, head_line, end_line, service_line, total_line, whole_lines}
 use Rattle.tftp_capture.specs.Tally.{AppendsPrefix, Gathers, Writes}
@@ -15,16 +12,11 @@ use Rattle.tftp_capture.proofs.Skips.{whole_lines-push}
 use Rattle.tftp_ends.specs.CaptureText.{Datagram}
 use Rattle.tftp_ends.specs.Meaning.{Meaning, windowsize_of}
 use Rattle.tftp_law.specs.CanBeWritten.{blocks_of}
-use Rattle.tftp_normal.specs.Normal.{opening, windows_after, windows_of, normal_datagram, normal_datagrams, normal_header, normal_text, normal_count, opening_count}
+use Rattle.tftp_normal.specs.Normal.{opening, windows_after, windows_of, normal_datagram, normal_datagrams, normal_header, normal_text, normal_count}
 use Rattle.tftp_normal.specs.Writing.{datagrams_of, lines_of, HasPut}
-use Rattle.tftp_normal.proofs.Lengths.{opening_length, counted}
+use Rattle.tftp_normal.proofs.Lengths.{counted}
 use Rattle.tftp_normal.proofs.Putting.{lines_both}
 use Rattle.tftp_normal.proofs.WindowsPut.{all_windows}
-
-opening_few : (side : Side) (agreed : ℕ) → opening_count side agreed ≤ 3
-opening_few Get zero = omega arith
-opening_few Get (suc more) = omega arith
-opening_few Put agreed = omega arith
 
 module _ (m : Meaning) where
   abbrev openers : List Datagram
@@ -45,9 +37,6 @@ module _ (m : Meaning) where
       let push : whole_lines (lines ++ last ∷ []) ≡ lines_of (normal_datagrams m) ++ total = whole_lines-push lines last in
       let split : lines_of (normal_datagrams m) ≡ lines_of openers ++ lines_of (all_windows m) = ap lines_of both ∙ lines_both openers (all_windows m) in
       all ∙ ap (λ l. header_text normal_header ++ l) (push ∙ ap (λ l. l ++ total) split ∙ append_assoc (lines_of openers) (lines_of (all_windows m)) total)
-
-  pub few_opening : length openers ≤ 3
-  few_opening = let size = length-map (opening m) (normal_datagram m) in let three = opening_length m.side (map.len m.agreed) in let most = opening_few m.side (map.len m.agreed) in omega (arith, size, three, most)
 
   pub count_of_all : 1 ≤ windowsize_of m → length openers + length (all_windows m) ≡ normal_count m
   count_of_all some = sym (length-append openers (all_windows m)) ∙ sym (ap length both) ∙ counted m some

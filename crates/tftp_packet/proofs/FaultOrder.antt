@@ -60,14 +60,6 @@ first_Opcode payload h n0 = (h, before)
     before Short below x = n0 x
     before _ below x = absurd (omega arith)
 
-pub first_AckLength : (payload : List ℕ) → Holds AckLength payload → (Holds Short payload → ⊥) → (Holds Opcode payload → ⊥) → FirstFault payload AckLength
-first_AckLength payload h n0 n1 = (h, before)
-  where
-    before : (earlier : PacketFault) → number earlier < 3 → Holds earlier payload → ⊥
-    before Short below x = n0 x
-    before Opcode below x = n1 x
-    before _ below x = absurd (omega arith)
-
 pub first_NoTerminator : (payload : List ℕ) → Holds NoTerminator payload → (Holds Short payload → ⊥) → (Holds Opcode payload → ⊥) → (Holds AckLength payload → ⊥) → FirstFault payload NoTerminator
 first_NoTerminator payload h n0 n1 n2 = (h, before)
   where

@@ -1,20 +1,20 @@
 -- From what the parts of `read_packet` answer to what it promises.
-use Rattle.std.proofs.Common.{◌≡◌, ◌≢◌, ◌⊎◌, ◌↔◌, inl, inr, ℕ, ◌+◌, ◌-◌, ◌*◌, ◌<◌, ◌≤◌, List, [], ◌∷◌, sym, ◌∙◌, length, take, drop, get_or, ap, subst, arith, Fits, w8}
+use Rattle.std.proofs.Common.{◌≡◌, ◌≢◌, ◌↔◌, inl, inr, ℕ, ◌-◌, ◌<◌, ◌≤◌, List, [], ◌∷◌, sym, length, take, drop, get_or, ap, subst, arith, Fits, w8}
 use Rattle.std.specs.Prelude.{Result, Ok, Err, IfOk, IsOkAnd}
 use Rattle.std.specs.List.{AllByRecursion}
 use Rattle.std.proofs.lemmas.List.Elements.{recursion_from_All, All-from_get_or}
 use Rattle.std.proofs.lemmas.List.{take_all}
 use Rattle.tftp_packet.specs.Written.{IsString, terminated}
-use Rattle.tftp_packet.specs.Message.{Message, Error}
+use Rattle.tftp_packet.specs.Message.{Message}
 use Rattle.tftp_packet.specs.Meaning.{meaning}
-use Rattle.tftp_packet.specs.Spelling.{Spells, Layout}
+use Rattle.tftp_packet.specs.Spelling.{Spells}
 use Rattle.tftp_packet.specs.Faults.{Holds, FirstFault, opcode_of}
 use Rattle.tftp_packet.specs.AsWritten.{IsWritten}
 use Rattle.tftp_packet.specs.Reading.{Judges}
 use Rattle.tftp_packet.specs.declared.packet.Packet.{Packet}
 use Rattle.tftp_packet.specs.declared.fault.PacketFault.{PacketFault}
 use Rattle.tftp_packet.specs.declared.fault.PacketFault.TheVariants.{Short, Opcode, NoTerminator}
-use Rattle.tftp_packet.proofs.FaultOrder.{first_fault_unique, first_Short, first_Opcode, first_NoTerminator}
+use Rattle.tftp_packet.proofs.FaultOrder.{first_fault_unique, first_Short, first_NoTerminator}
 use Rattle.tftp_packet.proofs.Unique.{one_message}
 use Rattle.tftp_packet.proofs.NoFault.{no_fault}
 
@@ -42,13 +42,6 @@ fault_of payload (Err g) judged f = ((λ e. let same : g ≡ f = cc in subst (Fi
 pub judged_short : (payload : List ℕ) → length payload < 2 → FirstFault payload Short
 judged_short payload short = first_Short payload (inl short)
 
-pub judged_opcode : (payload : List ℕ) → 2 ≤ length payload → (opcode_of payload ≡ 0) ⊎ (6 < opcode_of payload) → FirstFault payload Opcode
-judged_opcode payload long is = first_Opcode payload is not_short
-  where
-    not_short : Holds Short payload → ⊥
-    not_short (inl short) = omega arith
-    not_short (inr (op, short)) = grind arith
-
 -- the bytes after an opcode
 pub after_opcode : (payload : List ℕ) (k : ℕ) → opcode_of payload ≡ k → 0 < k → k < 256 → AllByRecursion (λ b. b < 256) payload → payload ≡ 0 ∷ k ∷ take (length payload - 2) (drop 2 payload)
 after_opcode [] k is low high bytes = absurd (omega arith)
@@ -71,10 +64,6 @@ error_parts (x ∷ y ∷ u ∷ v ∷ rest) is bytes long =
     let same : y ≡ 5 = omega arith in
     let all : take (length (x ∷ y ∷ u ∷ v ∷ rest) - 4) rest ≡ rest = take_all (length (x ∷ y ∷ u ∷ v ∷ rest) - 4) rest (omega arith) in
     ((λ i. zero i ∷ same i ∷ u ∷ v ∷ sym all i), bytes.1.1.0, bytes.1.1.1.0)
-
-pub error_laid : (payload text message : List ℕ) (x y code : ℕ) → (payload ≡ 0 ∷ 5 ∷ x ∷ y ∷ text) × (x < 256) × (y < 256) → code ≡ x * 256 + y → IsString message → text ≡ terminated message
-    → Layout payload (Error code message)
-error_laid payload text message x y code parts is string e = (x, y, (parts.1, parts.2, omega arith), string, parts.0 ∙ ap (λ t. 0 ∷ 5 ∷ x ∷ y ∷ t) e)
 
 pub error_fault : (payload text : List ℕ) (x y : ℕ) → (payload ≡ 0 ∷ 5 ∷ x ∷ y ∷ text) × (x < 256) × (y < 256) → ((message : List ℕ) → IsString message → text ≢ terminated message)
     → FirstFault payload NoTerminator

@@ -18,7 +18,6 @@ use Rattle.tftp_packet.specs.OptionMap.{lower}
 use Rattle.tftp_packet.specs.Written.{Pair}
 use Rattle.tftp_packet.specs.Faults.{AnyOf, HasRepeat}
 use Rattle.tftp_packet.specs.Names.{HasTwo, HasTwoBeside}
-use Rattle.tftp_packet.proofs.Values.{bytes_eq_no}
 use Rattle.tftp_packet.proofs.Maps.{bytes_eq_yes}
 
 -- ---- the names of options
@@ -48,9 +47,6 @@ is_one key name = cond (bytes_eq name key) 1 0
 
 one_itself : (key : List ℕ) → is_one key key ≡ 1
 one_itself key = ap (λ b. cond b 1 0) (bytes_eq_yes key key refl)
-
-none_other : (key name : List ℕ) → (key ≡ name → ⊥) → is_one key name ≡ 0
-none_other key name other = ap (λ b. cond b 1 0) (bytes_eq_no name key (λ e. other (sym e)))
 
 one_or_none : (key name : List ℕ) → (key ≡ name) ⊎ (is_one key name ≡ 0)
 one_or_none key name = elim (cases_Bool (bytes_eq name key)) [ inl same ↦ inl (sym ((bytes_eq-Decides name key).0 same)) | inr other ↦ inr (ap (λ b. cond b 1 0) other) ]

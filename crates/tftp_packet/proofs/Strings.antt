@@ -101,9 +101,5 @@ zeros_of_strings (s ∷ all) p =
     ∙ ap (λ n. n + count_by (λ b. b == 0) (strings all)) (sum_by-append (λ b. cond (b == 0) 1 0) s (0 ∷ []) ∙ ap (λ n. n + 1) (zeros_of_string s p.0))
     ∙ ap (λ n. (0 + 1) + n) (zeros_of_strings all p.1) ∙ omega arith
 
--- bytes that are one string and its zero are so in one way
-pub only_unended : (s : List ℕ) → IsString s → (only : List ℕ) → IsString only → s ≢ terminated only
-only_unended s p only q e = string_has_no_zero s only [] p e
-
 pub only_more : (s rest bytes : List ℕ) → IsString s → bytes ≡ s ++ 0 ∷ rest → rest ≢ [] → (only : List ℕ) → IsString only → bytes ≢ terminated only
 only_more s rest bytes p e some only q is = some (split_unique s only rest [] p q (sym e ∙ is)).1

@@ -1,4 +1,4 @@
-use Rattle.std.proofs.Common.{rules, ◌≡◌, ◌<◌, ◌+◌, ◌-◌, ◌≤◌, [], ◌∷◌, ◌++◌, length, take, drop, sym, ap, ◌∙◌, arith, length-set}
+use Rattle.std.proofs.Common.{rules, ◌≡◌, ◌+◌, [], ◌∷◌, ◌++◌, length, take, drop, sym, ap, ◌∙◌, arith}
 use Rattle.std.proofs.lemmas.List.{drop-drop, take_more_set}
 use Rattle.std.proofs.lemmas.Slice.{take-put_mid_below, between-put_mid}
 use Rattle.tftp_normal.proofs.Taken.{take_next, drop_next, take_past, drop_past}

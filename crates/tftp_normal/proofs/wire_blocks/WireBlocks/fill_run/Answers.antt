@@ -1,4 +1,4 @@
-use Rattle.std.proofs.Common.{rules, ◌≡◌, None, ◌++◌, take, drop, length, length-take-le, sym, ap, ◌∙◌}
+use Rattle.std.proofs.Common.{rules, ◌≡◌, None, ◌++◌, take, drop, length-take-le, sym, ap, ◌∙◌}
 use Rattle.std.proofs.Math.Seq.{take-append_seam}
 use Rattle.tftp_law.specs.Fits.{written_wire}
 use Rattle.tftp_normal.specs.WireLeft.{bytes_of}
