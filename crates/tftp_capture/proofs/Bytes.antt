@@ -6,7 +6,7 @@ use Rattle.std.proofs.Math.Seq.{take-length}
 use Rattle.std.proofs.lemmas.List.{drop_all, take_more}
 use Rattle.std.proofs.lemmas.List.Elements.{All-append, All-take}
 use Rattle.std.proofs.lemmas.Bool.{cases_lt}
-use Rattle.tftp_capture.specs.Lines.{HasNoEnd, HasByteAt}
+use Rattle.tftp_capture.specs.Lines.{line_at, HasNoEnd, HasByteAt}
 
 pub consumed : (known : Option (List ℕ)) (held : List ℕ) (n : ℕ) → Consumes (prepend_known held known) (prepend_known (drop n held) known) (take n held)
 consumed None held n = tt
@@ -50,6 +50,10 @@ no_end_at held count k q low within =
 
 pub line_ended : (held : List ℕ) (count : ℕ) → count < length held → get_or held count 0 ≡ 10 → take (count + 1) held ≡ take count held ++ 10 ∷ []
 line_ended held count within is = take_more held count 0 within ∙ ap (λ b. take count held ++ b ∷ []) is
+
+-- a line that lies whole in what was read ahead
+pub line_lies : (n : ℕ) (gathered ahead : List ℕ) → line_at (n + 1) gathered ahead ≡ take n ahead
+line_lies n gathered ahead = let e : n + 1 ≡ suc n = omega arith in ap (λ k. line_at k gathered ahead) e
 
 -- all that was read ahead, which is not nothing
 pub taken_rest : (k0 known : Option (List ℕ)) (held : List ℕ) → Keeps k0 (prepend_known held known) → length held ≢ 0

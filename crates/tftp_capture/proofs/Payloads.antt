@@ -19,7 +19,7 @@ is_digit c h = grind (arith, nat_tests)
 digit_is : (c : ℕ) → is_hex_digit c ≡ true → is_ascii_hexdigit c ≡ true
 digit_is c h = grind (arith, nat_tests)
 
-no_bytes : (bytes : List ℕ) → length bytes ≡ 0 → bytes ≡ []
+pub no_bytes : (bytes : List ℕ) → length bytes ≡ 0 → bytes ≡ []
 no_bytes [] e = refl
 no_bytes (b ∷ bs) e = absurd (omega (arith, e))
 

@@ -1,5 +1,5 @@
 -- Where the lines of a reader end, in its bytes.
-use Rattle.std.specs.Prelude.{◌≡◌, ◌≢◌, ℕ, ◌+◌, ◌-◌, ◌^◌, ◌<◌, ◌≤◌, ◌⊎◌, true, false, List, [], ◌∷◌, ◌++◌, length, All, Option, Result, Ok, Err, OnOk, OnErr}
+use Rattle.std.specs.Prelude.{◌≡◌, ◌≢◌, ℕ, zero, suc, ◌+◌, ◌-◌, ◌^◌, ◌<◌, ◌≤◌, ◌⊎◌, true, false, List, [], ◌∷◌, ◌++◌, length, take, All, Option, Result, Ok, Err, OnOk, OnErr}
 use Rattle.std.specs.Io.KnownBytes.{Consumes}
 use Rattle.tftp_capture.specs.CaptureText.{longest_line, says_nothing, whole_lines}
 use Rattle.tftp_capture.specs.declared.fault.TextFault.TheVariants.{LineTooLong, Truncated, TrailingText, TextTooLong}
@@ -42,6 +42,16 @@ LineEnds (Err (Text Truncated)) line longest room bytes = IsPartOfLine bytes lon
 LineEnds (Err Read) line longest room bytes = IsPartOfLine bytes longest room
 LineEnds (Err Memory) line longest room bytes = IsPartOfLine bytes longest room
 LineEnds (Err (Text _)) line longest room bytes = ⊥
+
+-- how many of the bytes read ahead are a line with its LF that lies there
+abbrev pub bytes_lying : Result ℕ Stop → ℕ
+bytes_lying (Ok count) = count
+bytes_lying (Err stop) = 0
+
+-- a line that lies in the bytes read ahead with its LF, or where none does what was gathered
+abbrev pub line_at : (lies : ℕ) (gathered ahead : List ℕ) → List ℕ
+line_at zero gathered ahead = gathered
+line_at (suc count) gathered ahead = take count ahead
 
 -- Where memory was refused in a line, all of it that was read is taken: nothing is ahead, or its LF is, for which the
 -- text has room.

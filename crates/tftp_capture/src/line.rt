@@ -1,6 +1,6 @@
-ghost use Rattle.std.specs.Prelude.{◌≡◌, ◌≢◌, ◌<◌, ◌≤◌, ℕ, List, [], All, true, length, take, slice_index, vec_len, OnOk};
+ghost use Rattle.std.specs.Prelude.{◌≡◌, ◌≢◌, ◌+◌, ◌<◌, ◌≤◌, ℕ, List, [], All, true, length, take, drop, slice_index, vec_len, OnOk};
 ghost use Rattle.std.specs.Io.KnownBytes.{prepend_known, Consumes, IsAtEnd};
-ghost use Rattle.tftp_capture.specs.Lines.{LeavesEnd, LineEnds};
+ghost use Rattle.tftp_capture.specs.Lines.{bytes_lying, line_at, LeavesEnd, LineEnds};
 
 use crate::ahead::Ahead;
 use crate::fault::TextFault;
@@ -22,17 +22,21 @@ pub fn count_before(bytes: &[u8], value: u8) -> usize
     }
 }
 
-/// Reads a line of at most `longest` bytes, without its LF; the text may have `room` more bytes.
+/// Reads a line of at most `longest` bytes, without its LF; the text may have `room` more bytes. Where the line lies whole
+/// in what is read ahead it stays there, and the answer is how many bytes it has with its LF; else it is gathered in
+/// `line`, and the answer is 0.
 pub fn read_line<R: Read>(
     ahead: &mut Ahead,
     reader: &mut Tallied<R>,
     line: &mut Vec<u8>,
     longest: usize,
     room: u64,
-) -> Result<(), Stop>
-    ensures ends { (bytes : List ℕ) × Consumes (prepend_known ahead.old (R.remaining reader.old.0)) (prepend_known ahead.new (R.remaining reader.new.0)) bytes
-        × LineEnds result line.new.items longest room bytes × LeavesEnd result room bytes ahead.new }
-    ensures fits { OnOk result (length line.new.items < room) }
+) -> Result<usize, Stop>
+    ensures ends { (bytes : List ℕ) × Consumes (prepend_known ahead.old (R.remaining reader.old.0)) (prepend_known (drop (bytes_lying result) ahead.new) (R.remaining reader.new.0)) bytes
+        × LineEnds result (line_at (bytes_lying result) line.new.items ahead.new) longest room bytes × LeavesEnd result room bytes ahead.new }
+    ensures lies { bytes_lying result ≤ length ahead.new }
+    ensures fits { OnOk result (length (line_at (bytes_lying result) line.new.items ahead.new) < room) }
+    ensures narrow { bytes_lying result ≤ longest + 1 }
     ensures few { length ahead.new ≤ 65536 }
     ensures bounded { vec_len line.new ≤ longest }
     ensures end { result ≡ Err (Stop.Text TextFault.Truncated) → IsAtEnd (prepend_known ahead.new (R.remaining reader.new.0)) }
@@ -63,13 +67,16 @@ pub fn read_line<R: Read>(
             ahead.consume(all);
             return Err(Stop::Text(TextFault::LineTooLong));
         }
+        if whole && line.is_empty() {
+            return Ok(count + 1);
+        }
         if line.extend_from_slice(&held[..count]).is_err() {
             ahead.consume(count);
             return Err(Stop::Memory);
         }
         if whole {
             ahead.consume(count + 1);
-            return Ok(());
+            return Ok(0);
         }
         ahead.consume(count);
     }

@@ -16,10 +16,13 @@ use std::marker::Model;
 /// The most bytes of a text.
 const LONGEST_TEXT: u64 = 1 << 40;
 
-/// The lines of a text, one after another: at most one line and the bytes read ahead are held.
+/// The lines of a text, one after another: at most one line and the bytes read ahead are held. A line that lies whole
+/// in what is read ahead is handed out there; `lies` is then how many bytes it has with its LF, and 0 where the line was
+/// gathered.
 #[derive(Drop)]
 pub struct Lines {
     ahead: Ahead,
+    lies: usize,
     line: Vec<u8>,
     taken: u64,
     count: u64,
@@ -27,15 +30,15 @@ pub struct Lines {
 }
 
 impl Model for Lines {
-    ghost use Rattle.std.specs.Prelude.{◌^◌, ◌≤◌, length, vec_len};
+    ghost use Rattle.std.specs.Prelude.{◌+◌, ◌^◌, ◌≤◌, length, drop, vec_len};
     ghost use Rattle.tftp_capture.specs.CaptureText.{longest_line};
-    ghost use Rattle.tftp_capture.specs.Lines.{LineState};
+    ghost use Rattle.tftp_capture.specs.Lines.{line_at, LineState};
 
     ghost Value = { LineState };
 
-    ghost view = { λ a. record { ahead = a.ahead; line = a.line.items; taken = a.taken; count = a.count; version = a.version } };
+    ghost view = { λ a. record { ahead = drop a.lies a.ahead; line = line_at a.lies a.line.items a.ahead; taken = a.taken; count = a.count; version = a.version } };
 
-    ghost invariant = { λ a. (vec_len a.line ≤ longest_line a.version) × (length a.ahead ≤ 65536) × (a.count ≤ a.taken) × (a.taken ≤ 2 ^ 40) };
+    ghost invariant = { λ a. (vec_len a.line ≤ longest_line a.version) × (a.lies ≤ longest_line a.version + 1) × (a.lies ≤ length a.ahead) × (length a.ahead ≤ 65536) × (a.count ≤ a.taken) × (a.taken ≤ 2 ^ 40) };
 }
 
 /// Whether a line is empty or a comment.
@@ -56,6 +59,7 @@ impl Lines {
     {
         Lines {
             ahead: Ahead::new(),
+            lies: 0,
             line: Vec::new(alloc),
             taken: 0,
             count: 0,
@@ -85,7 +89,10 @@ impl Lines {
         ensures value { result.now ≡ self.now.line }
         ensures narrow { length self.now.line ≤ longest_line self.now.version }
     {
-        self.line.as_slice()
+        match self.lies {
+            0 => self.line.as_slice(),
+            lies => &self.ahead.as_slice()[..lies - 1],
+        }
     }
 
     /// How many lines were read.
@@ -114,10 +121,12 @@ impl Lines {
         ensures drained { result ≡ Err Stop.Read → self.new.ahead ≡ [] }
         ensures tally { result ≢ Err Stop.Read → reader.new.1 ≡ reader.old.1 }
     {
+        self.ahead.consume(self.lies);
+        self.lies = 0;
         let longest = self.version.longest_line();
         let room = LONGEST_TEXT - self.taken;
-        read_line(&mut self.ahead, reader, &mut self.line, longest, room)?;
-        self.taken += self.line.len() as u64 + 1;
+        self.lies = read_line(&mut self.ahead, reader, &mut self.line, longest, room)?;
+        self.taken += self.line().len() as u64 + 1;
         self.count += 1;
         Ok(())
     }
@@ -148,6 +157,8 @@ impl Lines {
         ensures drained { result ≡ Err Stop.Read → self.new.ahead ≡ [] }
         ensures tally { result ≢ Err Stop.Read → reader.new.1 ≡ reader.old.1 }
     {
+        self.ahead.consume(self.lies);
+        self.lies = 0;
         if self.ahead.fill(reader).is_err() {
             return Err(Stop::Read);
         }

@@ -50,6 +50,16 @@ returns-in-Err-next_said-2-clause-err g c =
     fails_to_begin (g.R.Read.remaining c.args.reader.now.0) (g.R.Read.remaining c.next_said-2.new.reader.0) c.next_said-2.new.self.ahead c.at-in-Err-next_said-2.result (λ h. c.in-Err-next_said-2.ensures.drained (ap Err (at_read c.in-Err-next_said-2.stop _ (rw c.at-in-Err-next_said-2.ensures at h)))) (λ h. c.in-Err-next_said-2.ensures.end (ap Err (at_text_end c.in-Err-next_said-2.stop _ (rw c.at-in-Err-next_said-2.ensures at h))))
     (rw (c.at-in-Err-next_said-2.ensures, c.count-in-Err-next_said-2.ensures.value) (said_stop _ _ _ c.next_said.new.self c.next_said-2.new.self (ServiceLine c.in-Some.version c.in-Some-end_of.named) tt named c.in-Err-next_said-2.stop c.in-Err-next_said-2.ensures.reaches))
 
+pub returns-in-Err-clause-end : goal.returns-in-Err-clause-end
+returns-in-Err-clause-end g c = λ h.
+    let stop = at_text_end c.in-Err.stop _ (rw c.at.ensures at h) in
+    at_end_rest _ c.next.new.self.ahead (c.in-Err.ensures.end (cc))
+
+pub returns-in-Err-next_said-clause-end : goal.returns-in-Err-next_said-clause-end
+returns-in-Err-next_said-clause-end g c = λ h.
+    let stop = at_text_end c.in-Err-next_said.stop _ (rw c.at-in-Err-next_said.ensures at h) in
+    at_end_rest _ c.next_said.new.self.ahead (c.in-Err-next_said.ensures.end (cc))
+
 pub returns-in-Err-next_said-2-clause-end : goal.returns-in-Err-next_said-2-clause-end
 returns-in-Err-next_said-2-clause-end g c = λ h.
     let stop = at_text_end c.in-Err-next_said-2.stop _ (rw c.at-in-Err-next_said-2.ensures at h) in
