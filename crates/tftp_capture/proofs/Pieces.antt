@@ -1,5 +1,5 @@
 -- What the pieces of a line say, and what is wrong with them.
-use Rattle.std.proofs.Common.{◌≡◌, ◌≢◌, ℕ, ◌≤◌, ◌==◌, true, false, List, [], ◌∷◌, length, codes, decimal, Option, None, Some, Err, MatchOption, Result, Ok, is_some, true≢false, refl, sym, ap, ◌∙◌, subst, arith, lit≤}
+use Rattle.std.proofs.Common.{◌≡◌, ◌≢◌, ℕ, ◌≤◌, ◌==◌, true, false, List, [], ◌∷◌, length, codes, decimal, Option, None, Some, Err, MatchOption, Result, Ok, is_some, true≢false, refl, sym, ap, ◌∙◌, subst, arith}
 use Rattle.std.specs.List.{join_with_byte}
 use Rattle.std.proofs.lemmas.List.Splits.{length-slice_split, join_with_byte-slice_split}
 use Rattle.tftp_packet.specs.Host.{IsHost}
@@ -21,19 +21,6 @@ dir_not_total In e = absurd (omega (arith, ap length e))
 dir_not_total Out e = absurd (omega (arith, ap length e))
 
 -- ---- the fields of a datagram's line
-
--- the number of pieces
-abbrev pub width : Version → ℕ
-width One = 4
-width Two = 5
-
-pub fields_width : (version : Version) (ps : List (List ℕ)) (word local host remote digits : List ℕ) → AreFields version ps word local host remote digits → length ps ≡ width version
-fields_width One ps word local host remote digits p = ap length p.0
-fields_width Two ps word local host remote digits p = ap length p
-
-four_pieces : (version : Version) → 4 ≤ width version
-four_pieces One = lit≤ tt
-four_pieces Two = lit≤ tt
 
 pub fields_word : (version : Version) (first : List ℕ) (ps : List (List ℕ)) (word local host remote digits : List ℕ) → AreFields version (first ∷ ps) word local host remote digits → first ≡ word
 fields_word One first ps word local host remote digits p = let is : first ∷ ps ≡ word ∷ local ∷ remote ∷ digits ∷ [] = p.0 in cc
@@ -59,20 +46,6 @@ bad_fields version count line dir rest is none = (
       let same : dir_word dir ≡ word = fields_word version (dir_word dir) rest word local host remote digits cut in
       none local host remote digits (subst (λ w. AreFields version (dir_word dir ∷ rest) w local host remote digits) (sym same) cut),
   λ number e. dir_not_total dir (let same : dir_word dir ∷ rest ≡ codes "total" ∷ number ∷ [] = sym is ∙ e in cc),
-)
-
--- one piece
-pub bad_single : (version : Version) (count : ℕ) (line : List ℕ) → pieces line ≡ line ∷ [] → BodyFault version count line BadLine
-bad_single version count line is = (
-  λ word local host remote digits h. absurd (omega (arith, ap length is, fields_width version (pieces line) word local host remote digits h.cut, four_pieces version)),
-  λ number e. absurd (omega (arith, ap length (sym is ∙ e))),
-)
-
--- a first word that is neither a direction nor `total`
-pub bad_word : (version : Version) (count : ℕ) (line word : List ℕ) (rest : List (List ℕ)) → pieces line ≡ word ∷ rest → ((dir : Dir) → word ≢ dir_word dir) → word ≢ codes "total" → BodyFault version count line BadLine
-bad_word version count line word rest is no_dir no_total = (
-  λ first local host remote digits h. no_dir h.dir.0 (fields_word version word rest first local host remote digits (rw is at h.cut) ∙ h.dir.1),
-  λ number e. let same : word ∷ rest ≡ codes "total" ∷ number ∷ [] = sym is ∙ e in no_total cc,
 )
 
 -- a line of the total has no fields of a datagram

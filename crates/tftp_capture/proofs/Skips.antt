@@ -1,12 +1,11 @@
 -- Lines that say nothing, taken one after another.
-use Rattle.std.proofs.Common.{◌≡◌, ℕ, ◌+◌, ◌-◌, ◌^◌, ◌≤◌, true, false, List, [], ◌∷◌, ◌++◌, length, All, Option, Ok, Err, refl, sym, ap, ◌∙◌, subst, arith, append-nil, length-append, add-zero}
+use Rattle.std.proofs.Common.{◌≡◌, ℕ, ◌+◌, ◌≤◌, true, List, [], ◌∷◌, ◌++◌, length, All, Option, Ok, ap, ◌∙◌, subst, arith, append-nil, length-append}
 use Rattle.std.specs.Io.KnownBytes.{Consumes}
-use Rattle.std.proofs.KnownBytes.{Consumes-nil, Consumes-trans}
+use Rattle.std.proofs.KnownBytes.{Consumes-trans}
 use Rattle.std.proofs.lemmas.List.Concat.{flat_map-append}
-use Rattle.std.proofs.lemmas.List.Elements.{All-push, All-nil}
+use Rattle.std.proofs.lemmas.List.Elements.{All-push}
 use Rattle.tftp_capture.specs.CaptureText.{longest_line, says_nothing, whole_lines}
-use Rattle.tftp_capture.specs.Lines.{IsSkipped, LeavesEnd, LineEnds, LineState, ReachesLine}
-use Rattle.tftp_capture.specs.declared.stop.Stop.{Stop}
+use Rattle.tftp_capture.specs.Lines.{IsSkipped, LineEnds, LineState}
 
 pub whole_lines-push : (lines : List (List ℕ)) (line : List ℕ) → whole_lines (lines ++ line ∷ []) ≡ whole_lines lines ++ (line ++ 10 ∷ [])
 whole_lines-push lines line = flat_map-append (λ (l : List ℕ). l ++ 10 ∷ []) lines (line ∷ []) ∙ ap (λ l. whole_lines lines ++ l) (append-nil (line ++ 10 ∷ []))
@@ -19,16 +18,6 @@ pub record Skipped (old new : LineState) (before after : Option (List ℕ)) : Ty
   pub taken : new.taken ≡ old.taken + length (whole_lines skipped)
   pub count : new.count ≡ old.count + length skipped
   pub version : new.version ≡ old.version
-
-pub skipped_none : (s : LineState) (k : Option (List ℕ)) → Skipped s s k k
-skipped_none s k = record {
-  skipped = [];
-  nothing = All-nil (IsSkipped (longest_line s.version));
-  consumed = Consumes-nil k;
-  taken = sym (add-zero s.taken);
-  count = sym (add-zero s.count);
-  version = refl;
-}
 
 pub skipped_more : (old mid new : LineState) (k0 k1 k2 : Option (List ℕ)) (room : ℕ) (bytes : List ℕ) → Skipped old mid k0 k1
     → Consumes k1 k2 bytes → LineEnds {T = Unit {0}} (Ok tt) new.line (longest_line mid.version) room bytes → says_nothing new.line ≡ true
@@ -45,41 +34,3 @@ skipped_more old mid new k0 k1 k2 room bytes s consumed ends nothing taken count
       count = omega (arith, s.count, count, length-append s.skipped (new.line ∷ []));
       version = same ∙ s.version;
     }
-
-pub reaches_line : (old mid new : LineState) (k0 k1 k2 : Option (List ℕ)) (bytes : List ℕ) → Skipped old mid k0 k1 → mid.taken ≤ 2 ^ 40
-    → Consumes k1 k2 bytes → LineEnds {T = Unit {0}} (Ok tt) new.line (longest_line mid.version) (2 ^ 40 - mid.taken) bytes → says_nothing new.line ≡ false
-    → new.taken ≡ mid.taken + length new.line + 1 → new.count ≡ mid.count + 1 → new.version ≡ mid.version → ReachesLine {T = Unit {0}} (Ok tt) old new k0 k2
-reaches_line old mid new k0 k1 k2 bytes s short consumed ends said taken count same =
-    let size : length bytes ≡ length new.line + 1 = ap length ends.0 ∙ length-append new.line (10 ∷ []) in
-    record {
-      skipped = s.skipped;
-      bytes = bytes;
-      nothing = s.nothing;
-      consumed = Consumes-trans _ _ _ _ _ s.consumed consumed;
-      short = rw (← s.taken) short;
-      ends = rw (← s.taken, ← s.version) ends;
-      leaves = tt;
-      said = said;
-      taken = omega (arith, s.taken, taken, size);
-      count = omega (arith, s.count, count);
-      count_before = tt;
-      version = same ∙ s.version;
-    }
-
-pub reaches_stop : (stop : Stop) (old mid new : LineState) (k0 k1 k2 : Option (List ℕ)) (bytes : List ℕ) → Skipped old mid k0 k1 → mid.taken ≤ 2 ^ 40
-    → Consumes k1 k2 bytes → LineEnds {T = Unit {0}} (Err stop) new.line (longest_line mid.version) (2 ^ 40 - mid.taken) bytes → LeavesEnd {T = Unit {0}} (Err stop) (2 ^ 40 - mid.taken) bytes new.ahead
-    → new.count ≡ mid.count → new.version ≡ mid.version → ReachesLine {T = Unit {0}} (Err stop) old new k0 k2
-reaches_stop stop old mid new k0 k1 k2 bytes s short consumed ends leaves count same = record {
-  skipped = s.skipped;
-  bytes = bytes;
-  nothing = s.nothing;
-  consumed = Consumes-trans _ _ _ _ _ s.consumed consumed;
-  short = rw (← s.taken) short;
-  ends = rw (← s.taken, ← s.version) ends;
-  leaves = rw (← s.taken) leaves;
-  said = tt;
-  taken = tt;
-  count = tt;
-  count_before = count ∙ s.count;
-  version = same ∙ s.version;
-}

@@ -1,5 +1,5 @@
 -- The lines of a text, in the pieces that are written.
-use Rattle.std.proofs.Common.{◌≡◌, ℕ, ◌+◌, ◌-◌, take-append-drop, ◌/◌, ◌%◌, slice_index, List, [], ◌∷◌, ◌++◌, length, map, take, drop, codes, decimal, Option, refl, sym, ap, ◌∙◌, arith, append_assoc, append-nil, length-append}
+use Rattle.std.proofs.Common.{◌≡◌, ℕ, ◌+◌, ◌-◌, ◌/◌, ◌%◌, slice_index, List, [], ◌∷◌, ◌++◌, length, map, take, drop, codes, decimal, Option, refl, sym, ap, ◌∙◌, arith, append_assoc, append-nil, length-append}
 use Rattle.std.specs.Io.KnownBytes.{Appends}
 use Rattle.std.proofs.Math.Seq.{take-add}
 use Rattle.std.proofs.KnownBytes.{Appends-trans}
@@ -30,9 +30,6 @@ pub encode-append : (xs ys : List ℕ) → encode_lower (xs ++ ys) ≡ encode_lo
 unfolding encode_with
 encode-append [] ys = refl
 encode-append (x ∷ xs) ys = ap (λ l. slice_index lower_digits (x / 16) ∷ slice_index lower_digits (x % 16) ∷ l) (encode-append xs ys)
-
-pub header_written : (start now : Option (List ℕ)) (writer : WriterState) (header : Header) → Gathers start now [] writer.held (header_text header) → writer.count ≡ 0 → HasWritten start now writer header []
-header_written start now writer header g e = record { text = rw append-nil g; count = e }
 
 pub datagram_written : (start before now : Option (List ℕ)) (old new : WriterState) (header : Header) (datagrams : List Datagram) (d : Datagram)
     → HasWritten start before old header datagrams → Gathers before now old.held new.held (datagram_line d ++ 10 ∷ []) → new.count ≡ old.count + 1 → HasWritten start now new header (datagrams ++ d ∷ [])
@@ -65,12 +62,6 @@ pub encode_more : (bytes : List ℕ) (done size : ℕ) → encode_lower (take (d
 encode_more bytes done size =
     let e : done + size - done ≡ size = omega arith in
     rw e (ap encode_lower (take-add done size bytes) ∙ encode-append (take done bytes) (take size (drop done bytes)))
-
-pub encode_rest : (bytes : List ℕ) (done size : ℕ) → encode_lower bytes ≡ encode_lower (take done bytes) ++ (encode_lower (take (done + size - done) (drop done bytes)) ++ encode_lower (drop (done + size) bytes))
-encode_rest bytes done size =
-    ap encode_lower (sym (take-append-drop (done + size) bytes)) ∙ encode-append (take (done + size) bytes) (drop (done + size) bytes)
-    ∙ ap (λ l. l ++ encode_lower (drop (done + size) bytes)) (encode_more bytes done size)
-    ∙ append_assoc (encode_lower (take done bytes)) (encode_lower (take (done + size - done) (drop done bytes))) (encode_lower (drop (done + size) bytes))
 
 pub encode-nil : encode_lower [] ≡ []
 unfolding encode_with

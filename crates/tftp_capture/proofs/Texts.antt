@@ -5,7 +5,7 @@ use Rattle.std.proofs.lemmas.List.Elements.{All-weaker, All-push, All-head, All-
 use Rattle.std.proofs.lemmas.List.Splits.{slice_split_at, slice_split_none}
 use Rattle.std.proofs.lemmas.Slice.Zip.{all_zipped_more}
 use Rattle.tftp_packet.specs.declared.kinds.End.{End}
-use Rattle.tftp_capture.specs.CaptureText.{Datagram, Due, Header, IsOver, IsPort, Numbered, SaysDatagram, Says, Stands, end_line, head_line, longest, said, says_nothing, service_line, total_line, whole_lines}
+use Rattle.tftp_capture.specs.CaptureText.{Datagram, Due, Header, IsOver, IsPort, Numbered, SaysDatagram, Says, Stands, end_line, head_line, longest, said, says_nothing, service_line, whole_lines}
 use Rattle.tftp_capture.specs.CaptureText.Due.{Head, EndLine, ServiceLine, Body, Nothing}
 use Rattle.tftp_capture.specs.declared.version.Version.{Version}
 use Rattle.tftp_capture.specs.Lines.{HasNoEnd, IsPartOfLine, IsSkipped}
@@ -34,9 +34,6 @@ some_line (x ∷ xs) =
 glue-onto_first : (x : ℕ) (s t : List ℕ) (ss ts : List (List ℕ)) → glue (onto_first x (s ∷ ss)) (t ∷ ts) ≡ onto_first x (glue (s ∷ ss) (t ∷ ts))
 glue-onto_first x s t [] ts = refl
 glue-onto_first x s t (r ∷ rs) ts = refl
-
-glue-cons : (s t : List ℕ) (ss ts : List (List ℕ)) (line : List ℕ) → glue (line ∷ s ∷ ss) (t ∷ ts) ≡ line ∷ glue (s ∷ ss) (t ∷ ts)
-glue-cons s t ss ts line = refl
 
 pub at_ends-append : (xs ys : List ℕ) → at_ends (xs ++ ys) ≡ glue (at_ends xs) (at_ends ys)
 at_ends-append [] ys = let other = some_line ys in rw other.2
@@ -151,9 +148,6 @@ says-datagram version lines line header datagrams d h says p =
       port = p.port;
       each = all_zipped_more (λ (l : ℕ × List ℕ) (d : Numbered). (l.0 ≡ d.0) × SaysDatagram version l.1 d.1) p.bodies datagrams (2 + length p.after_head, line) (length lines + 1, d) p.each (number, says);
     }
-
-pub says-total : (version : Version) (lines : List (List ℕ)) (header : Header) (datagrams : List Numbered) → Says lines (Body version header) datagrams → Says (lines ++ total_line (length datagrams) ∷ []) (Nothing version header) datagrams
-says-total version lines header datagrams p = (lines, refl, p)
 
 -- ---- more bytes
 

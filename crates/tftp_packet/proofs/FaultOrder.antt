@@ -53,13 +53,6 @@ first_Short payload h = (h, before)
     before MailMode below x = omega arith
     before RequestTooLong below x = omega arith
 
-pub first_Opcode : (payload : List ℕ) → Holds Opcode payload → (Holds Short payload → ⊥) → FirstFault payload Opcode
-first_Opcode payload h n0 = (h, before)
-  where
-    before : (earlier : PacketFault) → number earlier < 2 → Holds earlier payload → ⊥
-    before Short below x = n0 x
-    before _ below x = absurd (omega arith)
-
 pub first_NoTerminator : (payload : List ℕ) → Holds NoTerminator payload → (Holds Short payload → ⊥) → (Holds Opcode payload → ⊥) → (Holds AckLength payload → ⊥) → FirstFault payload NoTerminator
 first_NoTerminator payload h n0 n1 n2 = (h, before)
   where
