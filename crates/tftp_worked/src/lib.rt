@@ -4,4 +4,5 @@
 pub mod worked_cases;
 pub mod worked_hosts;
 pub mod worked_rules;
+pub mod worked_texts;
 pub mod worked_verdicts;
