@@ -1,5 +1,5 @@
-//! Worked cases of the law: what captures show by the runs of two ends, what they break by the rules, the verdicts, and what
-//! the commands write of whole texts.
+//! Worked cases of the law: what captures show by the runs of two ends, what they break by the rules, the verdicts, and
+//! what the commands write of whole texts.
 #![tactic(auto)]
 
 pub mod worked_cases;
