@@ -1,5 +1,5 @@
-//! Worked cases of whole texts: what there is to say of each, and what the commands write of it. Each is the contract of a
-//! function that does nothing.
+//! Worked cases of whole texts: what there is to say of each, and what the commands write of it. Each is the contract of
+//! a function that does nothing.
 
 ghost use Rattle.std.specs.Prelude.{◌++◌, false, Ok, Err, codes};
 ghost use Rattle.tftp_capture.specs.Worked.{line, worked_text};
@@ -19,8 +19,8 @@ ghost use Rattle.tftp_commands.specs.Shown.{IsShown};
 ghost use Rattle.tftp_commands.specs.Source.{given};
 ghost use Rattle.tftp_worked.specs.WorkedTexts.{overrun_text, unversioned_text, with_success, with_refusal, with_fault};
 
-/// The text of a read of one block is accepted with its meaning. A text is refused at its first unlawful datagram, and one
-/// with a fault has it as its verdict.
+/// The text of a read of one block is accepted with its meaning. A text is refused at its first unlawful datagram, and
+/// one with a fault has it as its verdict.
 pub fn texts_have_their_verdicts()
     ensures accepted { IsTextVerdict worked_text (Ok two_bytes) }
     ensures refused { IsTextVerdict overrun_text (Err (Refused (Unlawful 2 Rule.WindowOverrun))) }
