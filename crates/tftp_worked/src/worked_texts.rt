@@ -1,5 +1,5 @@
-//! Worked cases of whole texts: what there is to say of each, and what the commands write of it. Each is the contract of
-//! a function that does nothing.
+//! Worked cases of whole texts: what there is to say of each, and what the commands write of it. Each is the
+//! contract of a function that does nothing.
 
 ghost use Rattle.std.specs.Prelude.{◌++◌, false, Ok, Err, codes};
 ghost use Rattle.tftp_capture.specs.Worked.{line, worked_text};
