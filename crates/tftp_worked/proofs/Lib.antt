@@ -25,3 +25,6 @@ mod Verdicts
 mod Accepted
 mod ErrorsShown
 mod ErrorVerdicts
+mod TextsRead
+mod TextVerdicts
+mod TextsPrinted

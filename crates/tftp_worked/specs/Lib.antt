@@ -3,3 +3,4 @@ pub mod WorkedWindows
 pub mod WorkedRules
 pub mod WorkedHosts
 pub mod WorkedErrors
+pub mod WorkedTexts

@@ -1,0 +1,55 @@
+//! Worked cases of whole texts: what there is to say of each, and what the commands write of it. Each is the
+//! contract of a function that does nothing.
+
+ghost use Rattle.std.specs.Prelude.{◌++◌, false, Ok, Err, codes};
+ghost use Rattle.tftp_capture.specs.Worked.{line, worked_text};
+ghost use Rattle.tftp_capture.specs.declared.fault.CaptureFault.TheVariants.{Text};
+ghost use Rattle.tftp_capture.specs.declared.fault.TextFault.TheVariants.{BadHeader};
+ghost use Rattle.tftp_ends.specs.Worked.{two_bytes};
+ghost use Rattle.tftp_law.specs.declared.rule.Rule.{Rule};
+ghost use Rattle.tftp_judge.specs.TextVerdict.{IsTextVerdict};
+ghost use Rattle.tftp_judge.specs.declared.refusal.Refusal.TheVariants.{Unlawful};
+ghost use Rattle.tftp_judge.specs.declared.verdict.Verdict.TheVariants.{Capture, Refused};
+ghost use Rattle.tftp_normal.specs.Worked.{two_bytes_text};
+ghost use Rattle.tftp_commands.specs.Checked.{IsChecked};
+ghost use Rattle.tftp_commands.specs.Counted.{IsCounted};
+ghost use Rattle.tftp_commands.specs.Extracted.{IsExtracted};
+ghost use Rattle.tftp_commands.specs.Normalised.{IsNormalised};
+ghost use Rattle.tftp_commands.specs.Shown.{IsShown};
+ghost use Rattle.tftp_commands.specs.Source.{given};
+ghost use Rattle.tftp_worked.specs.WorkedTexts.{overrun_text, unversioned_text, with_success, with_refusal, with_fault};
+
+/// The text of a read of one block is accepted with its meaning. A text is refused at its first unlawful datagram, and
+/// one with a fault has it as its verdict.
+pub fn texts_have_their_verdicts()
+    ensures accepted { IsTextVerdict worked_text (Ok two_bytes) }
+    ensures refused { IsTextVerdict overrun_text (Err (Refused (Unlawful 2 Rule.WindowOverrun))) }
+    ensures fault { IsTextVerdict unversioned_text (Err (Capture (Text 1 BadHeader))) }
+{}
+
+/// What `check` prints of each, where the text was read whole.
+pub fn texts_are_checked()
+    ensures accepted { IsChecked (given worked_text) (with_success (line (codes "accepted get octet blocks 1 bytes 2"))) }
+    ensures refused { IsChecked (given overrun_text) (with_refusal (line (codes "refused datagram 2 rule 22 WindowOverrun"))) }
+    ensures fault { IsChecked (given unversioned_text) (with_fault (line (codes "fault line 1 BadHeader"))) }
+{}
+
+/// What `show` prints of the read, where no write failed: a line for each datagram.
+pub fn read_is_shown_by_lines()
+    ensures { IsShown (given worked_text) false (with_success (line (codes "1 out RRQ") ++ line (codes "2 in DATA 1 2") ++ line (codes "3 out ACK 1"))) }
+{}
+
+/// What `extract` writes of the read is its file.
+pub fn file_of_the_read_is_extracted()
+    ensures { IsExtracted (given worked_text) (with_success (codes "hi")) }
+{}
+
+/// What `normal` writes of the read is the same capture between the ports 50000 and 50001.
+pub fn read_is_normalised()
+    ensures { IsNormalised (given worked_text) (with_success two_bytes_text) }
+{}
+
+/// What `count` prints of the read: its normal capture has as many datagrams as it has.
+pub fn read_is_counted()
+    ensures { IsCounted (given worked_text) (with_success (line (codes "normal datagrams 3"))) }
+{}
