@@ -19,7 +19,7 @@ use Rattle.hex.specs.Hex.{IsBytes}
 use Rattle.tftp_law.proofs.EachOf.{Bytes, all_both, all_each}
 use Rattle.tftp_normal.proofs.Going.{data_spells, ack_spells}
 
-at_each : (bytes : List ℕ) → Bytes bytes → IsBytes bytes
+pub at_each : (bytes : List ℕ) → Bytes bytes → IsBytes bytes
 at_each [] all i = omega arith
 at_each (b ∷ bytes) all zero = all.0
 at_each (b ∷ bytes) all (suc i) = at_each bytes all.1 i

@@ -1,11 +1,11 @@
 -- What the worked texts say.
-use Rattle.std.proofs.Common.{◌≡◌, ℕ, zero, suc, ◌<◌, ◌≤◌, ◌^◌, lit≤, true, false, List, [], ◌∷◌, length, All, drop, codes, refl, sym, subst, arith}
+use Rattle.std.proofs.Common.{◌≡◌, ℕ, ◌<◌, ◌≤◌, ◌^◌, lit≤, true, false, List, [], ◌∷◌, length, All, drop, codes, refl, sym, subst}
 use Rattle.std.proofs.lemmas.Bool.{false≢true}
 use Rattle.std.proofs.lemmas.Slice.Eq.{bytes_eq-Decides}
 use Rattle.std.proofs.lemmas.List.Elements.{All-cons, All-nil}
 use Rattle.std.specs.List.{AllByRecursion}
 use Rattle.std.specs.Fmt.{digits}
-use Rattle.hex.specs.Hex.{encode_with, IsBytes}
+use Rattle.hex.specs.Hex.{encode_with}
 use Rattle.tftp_packet.specs.Host.{no_host}
 use Rattle.tftp_packet.specs.declared.kinds.Dir.{Dir}
 use Rattle.tftp_packet.specs.declared.kinds.Dir.TheVariants.{In, Out}
@@ -22,6 +22,7 @@ use Rattle.tftp_worked.specs.WorkedWindows.{block}
 use Rattle.tftp_worked.specs.WorkedTexts.{overrun_text, unversioned_text}
 use Rattle.tftp_worked.proofs.Payloads.{data_spells}
 use Rattle.tftp_worked.proofs.Spelled.{request_spelled, ack_spelled}
+use Rattle.tftp_normal.proofs.Lawful.{at_each}
 
 -- ---- the datagrams, which name no host
 
@@ -36,11 +37,6 @@ acknowledges = record { dir = Out; local = 40000; host = no_host; remote = 41000
 
 abbrev pub read_of : ℕ → List Datagram
 read_of k = asks ∷ brings k ∷ acknowledges ∷ []
-
-at_each : (bytes : List ℕ) → AllByRecursion (λ b. b < 256) bytes → IsBytes bytes
-at_each [] all i = omega arith
-at_each (b ∷ bytes) all zero = all.0
-at_each (b ∷ bytes) all (suc i) = at_each bytes all.1 i
 
 lawful : (dir : Dir) (remote : ℕ) (payload : List ℕ) → IsPort remote → AllByRecursion (λ b. b < 256) payload → length payload ≤ 65527
     → IsLawful (record { dir = dir; local = 40000; host = no_host; remote = remote; payload = payload })
