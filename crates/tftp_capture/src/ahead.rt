@@ -6,10 +6,10 @@ use std::io;
 use std::io::Read;
 use std::marker::Model;
 
-/// Bytes that were read ahead of their use, at most 65,536.
+/// Bytes that were read ahead of their use, at most 16,384.
 #[derive(Drop)]
 pub struct Ahead {
-    buf: [u8; 65536],
+    buf: [u8; 16384],
     start: usize,
     end: usize,
 }
@@ -21,7 +21,7 @@ impl Model for Ahead {
 
     ghost view = { λ a. drop a.start (take a.end a.buf) };
 
-    ghost invariant = { λ a. (a.start ≤ a.end) × (a.end ≤ 65536) };
+    ghost invariant = { λ a. (a.start ≤ a.end) × (a.end ≤ 16384) };
 }
 
 impl Ahead {
@@ -30,7 +30,7 @@ impl Ahead {
         ensures { result ≡ [] }
     {
         Ahead {
-            buf: [0; 65536],
+            buf: [0; 16384],
             start: 0,
             end: 0,
         }
@@ -40,7 +40,7 @@ impl Ahead {
     #[inline]
     pub fn as_slice(&self) -> &[u8]
         ensures value { result.now ≡ self.now }
-        ensures few { length self.now ≤ 65536 }
+        ensures few { length self.now ≤ 16384 }
     {
         &self.buf[self.start..self.end]
     }
@@ -50,14 +50,14 @@ impl Ahead {
     pub fn consume(&mut self, count: usize)
         requires { count ≤ length self.old }
         ensures value { self.new ≡ drop count self.old }
-        ensures few { length self.new ≤ 65536 }
+        ensures few { length self.new ≤ 16384 }
     {
         self.start += count;
     }
 
     /// Reads once where nothing is held; then nothing is held only at the reader's end.
     pub fn fill<R: Read>(&mut self, reader: &mut Tallied<R>) -> io::Result<()>
-        ensures few { length self.new ≤ 65536 }
+        ensures few { length self.new ≤ 16384 }
         ensures kept { Keeps (prepend_known self.old (R.remaining reader.old.0)) (prepend_known self.new (R.remaining reader.new.0)) }
         ensures end { IfOk result (λ _. length self.new ≡ 0 → IsAtEnd (prepend_known self.new (R.remaining reader.new.0))) }
         ensures ok { OnOk result (reader.new.1 ≡ reader.old.1) }

@@ -10,12 +10,12 @@ use std::io::Write;
 use std::marker::Model;
 
 /// The most bytes that wait.
-const ROOM: usize = 65536;
+const ROOM: usize = 16384;
 
-/// Bytes that wait to be written together, at most 65,536.
+/// Bytes that wait to be written together, at most 16,384.
 #[derive(Drop)]
 pub struct Gathered {
-    buf: [u8; 65536],
+    buf: [u8; 16384],
     len: usize,
 }
 
@@ -26,7 +26,7 @@ impl Model for Gathered {
 
     ghost view = { λ g. take g.len g.buf };
 
-    ghost invariant = { λ g. g.len ≤ 65536 };
+    ghost invariant = { λ g. g.len ≤ 16384 };
 }
 
 impl Gathered {
@@ -35,13 +35,13 @@ impl Gathered {
         ensures { result ≡ [] }
     {
         Gathered {
-            buf: [0; 65536],
+            buf: [0; 16384],
             len: 0,
         }
     }
 
     /// Adds a piece of any length: where there is no room for both, what waits is written first, and
-    /// then at once a piece of more than 65,536 bytes. After a fault only the writer tells what was
+    /// then at once a piece of more than 16,384 bytes. After a fault only the writer tells what was
     /// written.
     #[tactic(auto, using(crate::proofs::Gathering::writes_past, crate::proofs::Gathering::prefix_of))]
     pub fn add<W: Write>(&mut self, writer: &mut Tallied<W>, bytes: &[u8]) -> Result<(), WriteFault>
@@ -105,7 +105,7 @@ impl Gathered {
 
     /// Adds a piece for which there is room.
     fn push(&mut self, bytes: &[u8])
-        requires { length self.old + length bytes.now ≤ 65536 }
+        requires { length self.old + length bytes.now ≤ 16384 }
         ensures { self.new ≡ self.old ++ bytes.now }
     {
         let end = self.len + bytes.len();
@@ -118,7 +118,7 @@ impl Gathered {
     fn make_room<W: Write>(&mut self, writer: &mut Tallied<W>) -> Result<(), WriteFault>
         requires clean { writer.old.1 ≡ false }
         ensures adds { Adds W.contents writer.old writer.new result self.old self.new [] }
-        ensures room { OnOk result (length self.new + 2 ≤ 65536) }
+        ensures room { OnOk result (length self.new + 2 ≤ 16384) }
     {
         if ROOM - self.len < 2 {
             return self.write(writer);
@@ -128,7 +128,7 @@ impl Gathered {
 
     /// Adds the digits of bytes, for which there is room.
     fn push_hex(&mut self, bytes: &[u8])
-        requires { length self.old + 2 * length bytes.now ≤ 65536 }
+        requires { length self.old + 2 * length bytes.now ≤ 16384 }
         ensures { self.new ≡ self.old ++ encode_lower bytes.now }
     {
         let end = self.len + 2 * bytes.len();

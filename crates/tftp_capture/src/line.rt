@@ -37,7 +37,7 @@ pub fn read_line<R: Read>(
     ensures lies { bytes_lying result ≤ length ahead.new }
     ensures fits { OnOk result (length (line_at (bytes_lying result) line.new.items ahead.new) < room) }
     ensures narrow { bytes_lying result ≤ longest + 1 }
-    ensures few { length ahead.new ≤ 65536 }
+    ensures few { length ahead.new ≤ 16384 }
     ensures bounded { vec_len line.new ≤ longest }
     ensures end { result ≡ Err (Stop.Text TextFault.Truncated) → IsAtEnd (prepend_known ahead.new (R.remaining reader.new.0)) }
     ensures read { result ≡ Err Stop.Read → reader.new.1 ≡ true }

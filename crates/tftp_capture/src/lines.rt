@@ -38,7 +38,7 @@ impl Model for Lines {
 
     ghost view = { λ a. record { ahead = drop a.lies a.ahead; line = line_at a.lies a.line.items a.ahead; taken = a.taken; count = a.count; version = a.version } };
 
-    ghost invariant = { λ a. (vec_len a.line ≤ longest_line a.version) × (a.lies ≤ longest_line a.version + 1) × (a.lies ≤ length a.ahead) × (length a.ahead ≤ 65536) × (a.count ≤ a.taken) × (a.taken ≤ 2 ^ 40) };
+    ghost invariant = { λ a. (vec_len a.line ≤ longest_line a.version) × (a.lies ≤ longest_line a.version + 1) × (a.lies ≤ length a.ahead) × (length a.ahead ≤ 16384) × (a.count ≤ a.taken) × (a.taken ≤ 2 ^ 40) };
 }
 
 /// Whether a line is empty or a comment.

@@ -17,7 +17,7 @@ use std::io::Read;
 use std::marker::Model;
 
 /// A reader of a capture text: it holds one line of at most 131,070 bytes, in version 2 of 131,116, and at most
-/// 65,536 bytes read ahead.
+/// 16,384 bytes read ahead.
 #[derive(Drop)]
 pub struct CaptureReader {
     header: Header,

@@ -16,7 +16,7 @@ use std::io::Write;
 use std::marker::Model;
 use tftp_packet::{Dir, End};
 
-/// A writer of a capture text in its canonical form, which names no host: at most 65,536 bytes wait in it to be
+/// A writer of a capture text in its canonical form, which names no host: at most 16,384 bytes wait in it to be
 /// written.
 #[derive(Drop)]
 pub struct CaptureWriter {

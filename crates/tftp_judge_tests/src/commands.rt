@@ -19,7 +19,7 @@ pub use normals::{is_normal, normal_text};
 const SHOWN: [&str; 3] = ["1 out RRQ\n", "2 in DATA 1 2\n", "3 out ACK 1\n"];
 
 /// The room of a writer, more than any test writes.
-const ROOM: usize = 262_144;
+const ROOM: usize = 65_536;
 
 /// The text of the read of `hi`.
 fn read_of_hi(alloc: Global) -> Result<Vec<u8>, AllocError> {
@@ -36,16 +36,16 @@ fn shown_before(alloc: Global, number: usize, fault: &str) -> Result<String, All
     Ok(shown)
 }
 
-/// The text of a capture of many datagrams, and what `show` writes of it: more than two pieces of 65,536 bytes.
+/// The text of a capture of many datagrams, and what `show` writes of it: more than two pieces of 16,384 bytes.
 fn many_datagrams(alloc: Global) -> Result<(String, String), AllocError> {
     let mut text = String::from_str(alloc, CLIENT)?;
     let mut lines = String::new(alloc);
-    for number in 1..=7500u32 {
+    for number in 1..=2000u32 {
         text.push_str("in 40000 41000 0003007b3131313131313131\n")?;
         let line = format!(in alloc; "{number} in DATA 123 8\n")?;
         lines.push_str(line.as_str())?;
     }
-    text.push_str("total 7500\n")?;
+    text.push_str("total 2000\n")?;
     Ok((text, lines))
 }
 

@@ -485,14 +485,41 @@ fn an_empty_and_the_longest_payload_are_written(rt: HostRuntime) -> Result<(), F
     Ok(())
 }
 
-/// Gathers the bytes in pieces of 100, of 65,536, of 65,537 and of what is left, and writes what waits.
+/// Gathers two bytes as they are, and the others as digits, and writes what waits.
+fn gather_digits(writer: &mut Tallied<DripWriter>, bytes: &[u8]) -> Result<(), WriteFault>
+    requires { writer.old.1 ≡ false }
+{
+    let mut gathered = Gathered::new();
+    gathered.add(writer, b"- ")?;
+    gathered.add_hex(writer, bytes)?;
+    gathered.write(writer)
+}
+
+/// More digits than wait together.
+#[test]
+fn bytes_are_gathered_as_digits(rt: HostRuntime) -> Result<(), Fail> {
+    let mut bytes = Vec::from_slice(rt.alloc(), b"\x00\x1f")?;
+    let mut text = Vec::from_slice(rt.alloc(), b"- 001f")?;
+    for _ in 0..9000 {
+        bytes.push(0xab)?;
+        text.extend_from_slice(b"ab")?;
+    }
+    for piece in [usize::MAX, 7] {
+        let mut writer = Tallied::new(DripWriter::new(rt.alloc(), text.len(), piece, 0, false)?);
+        assert_eq!(rt; gather_digits(&mut writer, &bytes), Ok(()));
+        assert_eq!(rt; writer.into_inner().taken(), text.as_slice());
+    }
+    Ok(())
+}
+
+/// Gathers the bytes in pieces of 100, of 16,384, of 16,385 and of what is left, and writes what waits.
 fn gather(writer: &mut Tallied<DripWriter>, bytes: &[u8]) -> Result<(), WriteFault>
     requires { writer.old.1 ≡ false }
 {
     let mut gathered = Gathered::new();
     let (short, rest) = bytes.split_at(bytes.len().min(100));
-    let (full, rest) = rest.split_at(rest.len().min(65_536));
-    let (long, rest) = rest.split_at(rest.len().min(65_537));
+    let (full, rest) = rest.split_at(rest.len().min(16_384));
+    let (long, rest) = rest.split_at(rest.len().min(16_385));
     gathered.add(writer, short)?;
     gathered.add_all(writer, &[full, long, b"", rest])?;
     gathered.write(writer)
@@ -501,7 +528,7 @@ fn gather(writer: &mut Tallied<DripWriter>, bytes: &[u8]) -> Result<(), WriteFau
 #[test]
 fn pieces_of_any_length_are_gathered(rt: HostRuntime) -> Result<(), Fail> {
     let mut bytes = Vec::new(rt.alloc());
-    for index in 0..131_183u32 {
+    for index in 0..32_879u32 {
         bytes.push((index % 251) as u8)?;
     }
     for piece in [usize::MAX, 1000, 7] {
@@ -510,7 +537,7 @@ fn pieces_of_any_length_are_gathered(rt: HostRuntime) -> Result<(), Fail> {
         assert!(rt; !writer.failed());
         assert_eq!(rt; writer.into_inner().taken(), bytes.as_slice());
     }
-    for (write, taken) in [(1, 0), (2, 100), (3, 65_636), (4, 131_173)] {
+    for (write, taken) in [(1, 0), (2, 100), (3, 16_484), (4, 32_869)] {
         for none in [false, true] {
             let drip = DripWriter::new(rt.alloc(), bytes.len(), usize::MAX, write, none)?;
             let mut writer = Tallied::new(drip);

@@ -166,10 +166,10 @@ fn datagrams_that_are_not_written(rt: HostRuntime) -> Result<(), Fail> {
 
 /// Writes that fail, and the least and the most of what was taken before them.
 const FAILING: [(Failing, usize, usize); 8] = [
-    ((65_536, 1, false), 0, 0),
-    ((65_536, 1, true), 0, 0),
-    ((65_536, 2, false), 1, 65_536),
-    ((65_536, 2, true), 1, 65_536),
+    ((16_384, 1, false), 0, 0),
+    ((16_384, 1, true), 0, 0),
+    ((16_384, 2, false), 1, 16_384),
+    ((16_384, 2, true), 1, 16_384),
     ((1, 1, false), 0, 0),
     ((1, 2, false), 1, 1),
     ((1, 2, true), 1, 1),
