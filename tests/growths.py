@@ -14,7 +14,10 @@ from trial import Trial
 
 # The tests whose calls take memory, by the beginnings of their names.
 TESTS = {
-    "tftp_tests": ("packets::", "netascii::", "agreements::", "stores::", "states::", "ports::", "captures::texts_", "captures::faults::tr"),
+    "tftp_tests": (
+        *("packets::", "netascii::", "agreements::", "stores::", "states::", "ports::"),
+        *("captures::texts_", "captures::faults::tr"),
+    ),
     "tftp_judge_tests": ("judges::a_read_is_accepted",),
 }
 # A test that takes more growths than these is tried with as many, spread over all of them.
