@@ -5,6 +5,13 @@
     netascii    that of a read in netascii: lines of 76 signs, in blocks of 1,428 bytes in lock step
     reversed    that of a read of 65,535 blocks of 8 bytes in one window, whose first block comes last
     strays      that of a read of one block, among 524,272 datagrams of 65,534 strays, told by their ports
+    returns     that of a read in netascii, in blocks of 65,464 bytes, of a file that is CR alone
+    old         the same of a text with the line ends of old machines: lines of 79 signs that end in CR
+    requests    that of a read of one block whose request comes again and again, with as many options of unknown names as
+                a third word says, in at most 512 bytes
+    oacks       the request of a read and again and again the same OACK, of 64 options whose names have 1,020 bytes
+    hosts       a capture of version 2 of a read of one block among datagrams of strays, each from another host, of 45
+                bytes, in no order
     comments    a capture of one datagram among comment lines of 25 bytes each
     short       the same with comment lines of 2 bytes each
     acks        a capture of acknowledgements alone, in lines of 25 bytes each
@@ -26,7 +33,12 @@ HEADER = b"tftp-capture 1\nend client\nservice 69\n"
 USUAL, MOST = 512, 65_535
 # The most bytes of a block in one frame of Ethernet (RFC 2348), and the least that may be agreed.
 FRAME, LEAST = 1_428, 8
+# The largest block that may be agreed (RFC 2348).
+LARGEST = 65_464
 SERVER = 41_000
+REQUEST = b"\0\1a\0octet\0"
+# How many bytes the line of a datagram without content has that comes from a host of 45 bytes.
+LINE_OF_HOST = 62
 AT_ONCE = 10_000
 out = sys.stdout.buffer
 chance = random.Random(1350)
@@ -108,6 +120,47 @@ def backwards(wanted):
     out.write(total_line(before + turns * (MOST - 1) + 2))
 
 
+def netascii_wire(wanted, line):
+    """A read in netascii of about so many bytes of a wire that is this line again and again, in the largest blocks."""
+    blocks = max(2, wanted // (2 * LARGEST))
+    wire = (line * (blocks * LARGEST // len(line) + 1))[: (blocks - 1) * LARGEST + 2 * (LARGEST // 4)]
+    before = head(LARGEST, mode=b"netascii")
+    for number in range(1, blocks + 1):
+        out.write(data_line(number, wire[(number - 1) * LARGEST : number * LARGEST]) + ack_line(number))
+    out.write(total_line(before + 2 * blocks))
+
+
+def requests(wanted, options):
+    """A read of one block whose request has so many options, and comes again and again before the answer."""
+    names = (b"%c%c\0" % (97 + at // 16, 97 + at % 16) for at in range(options))
+    line = f"out 40000 69 {(REQUEST + b''.join(it + bytes(1) for it in names)).hex()}\n".encode()
+    times = max(1, wanted // len(line))
+    out.write(HEADER)
+    repeat(line, times)
+    out.write(data_line(1, b"hi") + ack_line(1) + total_line(times + 2))
+
+
+def oacks(wanted):
+    """A request, and the same OACK of 64 options with long names again and again, which is not lawful."""
+    options = b"".join(b"a" * 1_019 + bytes([128 + at, 0]) + b"1\0" for at in range(64))
+    line = f"in 40000 {SERVER} 0006{options.hex()}\n".encode()
+    times = max(1, wanted // len(line))
+    out.write(HEADER + f"out 40000 69 {REQUEST.hex()}\n".encode())
+    for _ in range(times):
+        out.write(line)
+    out.write(total_line(times + 1))
+
+
+def hosts(wanted):
+    """A read of one block, and in its midst a datagram from each of many hosts."""
+    line = f"in 40000 192.0.2.1 {SERVER} 00030001{b'hi'.hex()}\n".encode()
+    out.write(HEADER.replace(b"capture 1", b"capture 2") + f"out 40000 192.0.2.1 69 {REQUEST.hex()}\n".encode() + line)
+    others = [b"in 40000 %s 1000 -\n" % b"".join(b"%02x" % byte for byte in at.to_bytes(4, "big")).rjust(45, b"h") for at in range(wanted // LINE_OF_HOST)]
+    chance.shuffle(others)
+    out.write(b"".join(others))
+    out.write(f"out 40000 192.0.2.1 {SERVER} 00040001\n".encode() + total_line(3 + len(others)))
+
+
 def strays(wanted):
     """A read of one block, and between it and its acknowledgement blocks from each other port, eight from each."""
     others, turns = [port for port in range(1, 65_536) if port != SERVER], 8
@@ -152,6 +205,16 @@ elif kind == "reversed":
     backwards(wanted)
 elif kind == "strays":
     strays(wanted)
+elif kind == "returns":
+    netascii_wire(wanted, b"\r\0")
+elif kind == "old":
+    netascii_wire(wanted, bytes(chance.choices(range(97, 123), k=79)) + b"\r\0")
+elif kind == "requests":
+    requests(wanted, int(sys.argv[3]))
+elif kind == "oacks":
+    oacks(wanted)
+elif kind == "hosts":
+    hosts(wanted)
 elif kind == "acks":
     acks(wanted)
 elif kind == "comments":

@@ -42,6 +42,14 @@ impl Shelf<'_> {
     pub fn len(&self) -> usize { self.books.len() }
 }
 
+impl<'a> From<book::Book> for Shelf<'a> {
+    fn from(book: book::Book) -> Self { book.alone() }
+}
+
+impl From<Error> for Shelf<'_> {
+    fn from(_: Error) -> Self { Shelf { books: &[] } }
+}
+
 pub(crate) fn middle(n: u64) -> bool where u64: Copy requires { n < 9 } { low(n) }
 
 fn low(n: u64) -> bool { n < LIMIT[0] && '{' != '}' }
@@ -51,6 +59,7 @@ fn beside() -> u64 { 3 }
 }
 TOP, MIDDLE, LOW, BESIDE = "box::top", "box::shelf::middle", "box::shelf::low", "box::shelf::beside"
 LEN, READ = "box::shelf::Shelf::len", "box::shelf::ShelfRead::read"
+OF_BOOK, OF_ERROR = "box::shelf::ShelfFromBook::from", "box::shelf::ShelfFromError::from"
 
 CHECKED = """checked box::shelf::low, 1 of 4
 ./proofs/shelf/Shelf/len/Answers.antt:8:5: error: `returns-clause-size`: as printed, the two types differ
@@ -83,7 +92,7 @@ def changed(it):
 
 class Functions(unittest.TestCase):
     def test_functions_are_found_and_named_as_the_checker_does(self):
-        self.assertEqual(set(source.functions_of(SOURCES)), {TOP, MIDDLE, LOW, BESIDE, LEN, READ})
+        self.assertEqual(set(source.functions_of(SOURCES)), {TOP, MIDDLE, LOW, BESIDE, LEN, READ, OF_BOOK, OF_ERROR})
 
     def test_a_function_reaches_what_it_calls(self):
         reach = source.reachable(source.functions_of(SOURCES))
@@ -94,6 +103,10 @@ class Functions(unittest.TestCase):
 class Edits(unittest.TestCase):
     def test_an_edit_changes_the_function_that_it_stands_in(self):
         self.assertEqual(changed(edit("file: src/shelf.rt", "old: self.books.len()", "new: 0")), {LEN})
+
+    def test_two_conversions_to_one_type_are_two_functions(self):
+        self.assertEqual(changed(edit("file: src/shelf.rt", "old: book.alone()", "new: book.twice()")), {OF_BOOK})
+        self.assertEqual(changed(edit("file: src/shelf.rt", "old: books: &[] }", "new: books: &[1] }")), {OF_ERROR})
 
     def test_a_constant_changes_the_functions_that_name_it(self):
         self.assertEqual(changed(edit("file: src/shelf.rt", "old: [7, 8]", "new: [7, 9]")), {LOW})

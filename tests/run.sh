@@ -1,8 +1,9 @@
 #!/bin/sh
-# Tries the built program, tests/run.sh PROGRAM: the script tftp-audit with a stand-in for rt; each growth refused, each
-# read and each write failing, in turn, and each growth in the tests of the libraries' calls; larger captures; simulated
-# transfers and changes of them, for some seconds; the recorded transfers of examples/, from their fields on; the scripts
-# that lead from a recording to its verdicts and reasons; and what stands in the pages for readers.
+# Tries the built program, tests/run.sh PROGRAM: the script tftp-audit with a stand-in for rt; that each wrong body can
+# still be made; each growth refused, each read and each write failing, in turn, and each growth in the tests of the
+# libraries' calls; larger captures; simulated transfers and changes of them, for some seconds; the recorded transfers of
+# examples/, from their fields on; the scripts that lead from a recording to its verdicts and reasons; and what stands in
+# the pages for readers.
 set -eu
 here=$(dirname "$0")
 shim=$(mktemp -d)
@@ -11,8 +12,12 @@ export PYTHONDONTWRITEBYTECODE=1
 cc -O1 -shared -fPIC -o "$shim/refuse.so" "$here/refuse.c" -ldl
 echo "script:"
 python3 "$here/script.py"
+echo "wrong bodies:"
+python3 "$here/edits.py"
 echo "failures:"
 python3 "$here/failures.py" "$1" "$shim"
+echo "little stack and memory:"
+python3 "$here/limits.py" "$1"
 echo "growths of the libraries:"
 python3 "$here/growths.py" "$shim" "$here/../crates"
 echo "large:"

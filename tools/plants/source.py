@@ -7,6 +7,8 @@ ITEM = re.compile(r"\b(?:(?P<kind>mod|fn|trait|const|static)\s+(?P<name>\w+)|(?P
 # What stands right before the brace of a contract's clause, and not of a body.
 CLAUSE = re.compile(r"\b(?:requires|ensures|ghost|decreases)\*?\s*(?:\w+\s*:?\s*)?\Z")
 OPEN, CLOSED = "([{", ")]}"
+# The path of a type or a trait, and its last name.
+NAME = re.compile(r"(?<!['\w])(?:\w+::)*([A-Za-z_]\w*)")
 
 
 class Function:
@@ -57,13 +59,31 @@ def body_of(text, at):
 
 
 def owner_of(header):
-    """What the checker puts before the names of an impl's functions: its type's name, and its trait's."""
-    plain, shorter = header.replace("->", " "), None
-    while shorter != plain:
-        plain, shorter = re.sub(r"<[^<>]*>", " ", plain), plain
-    found = re.match(r"\s*(?:([\w:]+)\s+for\s+)?[&\s]*([\w:]+)", plain)
-    trait, owner = (found[1] or "", found[2]) if found else ("", "")
-    return owner.rpartition("::")[2] + trait.rpartition("::")[2]
+    """What the checker puts before the names of an impl's functions: its type's name, its trait's, and the names of the
+    types that the trait is given, as in `VerdictFromRefusal`."""
+    plain = header.replace("->", "  ").lstrip()
+    plain = plain[end_of_parameters(plain) :] if plain.startswith("<") else plain
+    trait, stands_for, owner = plain.partition(" for ")
+    if not stands_for:
+        trait, owner = "", trait
+    named, _, given = trait.partition("<")
+    return "".join(name_of(it) for it in (owner, named, *given.split(",")))
+
+
+def end_of_parameters(text):
+    """Where the parameters in angle brackets end with which a text begins."""
+    depth = 0
+    for at, sign in enumerate(text):
+        depth += (sign == "<") - (sign == ">")
+        if depth == 0:
+            return at + 1
+    return len(text)
+
+
+def name_of(text):
+    """The name of the first type or trait in a text, without its modules, or nothing; a lifetime is none."""
+    found = NAME.search(text)
+    return found[1] if found else ""
 
 
 class Source:

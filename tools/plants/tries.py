@@ -83,30 +83,48 @@ class Tries:
 
     def run(self, group):
         """Tries a group, and alone each edit of it that is not refused by the function that it changes."""
-        asked = self.asked(group.tries)
-        status, text = self.rooms.tried(self.crate, group.texts, asked) if asked else (None, "")
-        told = said.Said(self.crate, text)
-        if told.ended or len(group.tries) == 1:
-            for it in group.tries:
-                self.judge(it, told)
+        told = self.told_of(group.tries, group.texts)
+        if not told.ended and len(group.tries) > 1:
+            for half in (group.tries[::2], group.tries[1::2]):
+                self.run(Group(applied(half, self.texts), half))
             return
-        for half in (group.tries[::2], group.tries[1::2]):
-            self.run(Group(applied(half, self.texts), half))
+        misfit = [it for it in group.tries if self.is_misfit(it, told)]
+        if misfit:
+            self.run_misfit(misfit)
 
-    def judge(self, it, told):
-        """Says what came of an edit, by the check of its group or else by its own."""
+    def is_misfit(self, it, told):
+        """Whether an edit only takes away what written answers name; says else what came of it."""
+        if told.of(it.changes)[0] == said.NAMED:
+            return True
+        return self.judge(it, told, it.edit.applied(self.texts)) == said.NAMED
+
+    def run_misfit(self, tries):
+        """Tries again together those edits whose written answers fit no other body: without these the search has to tell."""
+        told = self.told_of(tries, self.unanswered(applied(tries, self.texts), tries))
+        for it in tries:
+            self.judge(it, told, self.unanswered(it.edit.applied(self.texts), [it]))
+            it.reason += " (its written answers fit no other body, and were left out)"
+
+    def told_of(self, tries, texts):
+        """What a check of the functions of these edits says, with all of the edits made."""
+        asked = self.asked(tries)
+        return said.Said(self.crate, self.rooms.tried(self.crate, texts, asked)[1] if asked else "")
+
+    def unanswered(self, texts, tries):
+        """Texts without the written answers of the functions that these edits change."""
+        symbols = {symbol for it in tries for symbol in it.changes}
+        return {file: text for file, text in texts.items() if not is_answer(file, symbols)}
+
+    def judge(self, it, told, texts):
+        """Says what came of an edit, by the check of its group or else by one of its own, of these texts; its word."""
         word, why = told.of(it.changes)
         if word != said.REFUSED:
-            word, why = self.alone(it, it.edit.applied(self.texts))
-        if word == said.NAMED:
-            # the answers fit no other body, so the search has to tell
-            texts = it.edit.applied(self.texts)
-            word, why = self.alone(it, {file: texts[file] for file in texts if not is_answer(file, it.changes)})
-            why += " (its written answers fit no other body, and were left out)"
+            word, why = self.alone(texts, it)
         it.is_refused, it.reason = word == said.REFUSED, why if word == said.REFUSED else f"{word}: {why}"
+        return word
 
-    def alone(self, it, texts):
-        """What a check of the whole crate with one edit says of it: a word, and the reason."""
+    def alone(self, texts, it):
+        """What a check of the whole crate in these texts, with one edit, says of it: a word, and the reason."""
         status, text = self.rooms.tried(self.crate, texts, [])
         told = said.Said(self.crate, text)
         if status is None:

@@ -1,0 +1,147 @@
+"""The built program with little stack and with little memory: each command answers right or says that memory is wanting,
+and is never ended by a signal.
+
+    limits.py PROGRAM
+
+Prints each case that is not as it should be, then a last line 'N passed, M failed'; status 1 if any failed.
+"""
+import resource
+import subprocess
+import sys
+from collections.abc import Iterator
+
+from captures import Capture, ack, blocks, data, oack, read_request
+from commands import COMMANDS, SILENT
+from normal import meaning_of, outputs_of_refused
+from trial import Trial
+
+# The least stack that the program is to run in, and the steps in which its memory is raised, in bytes.
+STACK, STEP = 100 * 1024, 32 * 1024
+# Behind so much more than the empty program needs each command has what it needs.
+ENOUGH = 64 * 1024 * 1024
+MEMORY = b"fault memory\n"
+Output = tuple[bytes, int]
+
+
+def named(count: int) -> dict[str, str]:
+    """So many options that are no known ones, with short names and empty values."""
+    letters = "abcdefghijklmnopqrstuvwxyz"
+    names = (a + b + c for a in letters for b in letters for c in letters)
+    return dict.fromkeys((next(names) for _ in range(count)), "")
+
+
+def read_of_two_bytes(count: int) -> Capture:
+    """A read of one block that asks for so many options and gets none."""
+    capture = Capture("client")
+    names = "abcdefghijklmnopqrstuvwxyz0123456789"
+    options = dict.fromkeys(list(names) + [a + b for a in names for b in names][: max(0, count - len(names))], "")
+    capture.put("client", read_request("a", "octet", **dict(list(options.items())[:count])))
+    capture.put("server", data(1, b"hi"))
+    capture.put("client", ack(1))
+    return capture
+
+
+def windowed() -> Capture:
+    """A read in blocks of 8 bytes and windows of 4."""
+    sizes, capture = {"blksize": 8, "windowsize": 4}, Capture("client")
+    wire = blocks(b"0123456789" * 4, 8)
+    capture.put("client", read_request("boot.img", "octet", **sizes))
+    capture.put("server", oack(**sizes))
+    capture.put("client", ack(0))
+    for at in range(0, len(wire), 4):
+        capture.put("server", *wire[at : at + 4])
+        capture.put("client", ack(min(at + 4, len(wire))))
+    return capture
+
+
+def unasked(count: int) -> Capture:
+    """A read whose OACK has so many options, of which none was asked for."""
+    capture = Capture("client")
+    capture.put("client", read_request("a", "octet"))
+    capture.put("server", oack(**named(count)))
+    return capture
+
+
+def outputs(capture: Capture, line: str, file: bytes) -> dict[str, Output]:
+    """What each command prints, and its status."""
+    verdict = f"{line}\n".encode(), 0 if line.startswith("accepted") else 1
+    by_command = outputs_of_refused(verdict) if verdict[1] else meaning_of(capture.text(), file).outputs(verdict)
+    return {**by_command, "show": (b"".join(capture.rows), 0)}
+
+
+def cases() -> Iterator[tuple[str, bytes, dict[str, Output]]]:
+    """A name, a text and what each command prints of it."""
+    told = [
+        ("windows", windowed(), "accepted get octet blocks 6 bytes 40", b"0123456789" * 4),
+        ("65 options", read_of_two_bytes(65), "accepted get octet blocks 1 bytes 2", b"hi"),
+        ("120 options", read_of_two_bytes(120), "accepted get octet blocks 1 bytes 2", b"hi"),
+        ("10,000 options", unasked(10_000), "refused datagram 2 rule 13 OptionNotRequested", b""),
+    ]
+    for name, capture, line, file in told:
+        yield name, capture.text(), outputs(capture, line, file)
+
+
+class LimitTrial(Trial):
+    """The runs of the program under limits of the system."""
+
+    def __init__(self, program: str) -> None:
+        super().__init__()
+        self.program = program
+
+    def run(self, words: list[str], given: bytes, limit: int, size: int) -> tuple[bytes, int, bytes]:
+        """What the program writes, its status (negative where a signal ended it), and what it writes of errors."""
+
+        def limited() -> None:
+            resource.setrlimit(limit, (size, size))
+
+        done = subprocess.run([self.program, *words], input=given, capture_output=True, preexec_fn=limited, timeout=60)
+        return done.stdout, done.returncode, done.stderr
+
+    def starts(self, size: int) -> bool:
+        """Whether the empty program ends as it should in so much memory: it is run without a word."""
+        try:
+            return self.run([], b"", resource.RLIMIT_AS, size)[1] == 2
+        except OSError:
+            return False
+
+    def least(self) -> int:
+        """The least memory, by steps, in which the empty program starts, there and from there on."""
+        low, high = 0, ENOUGH // STEP
+        while low < high:
+            middle = (low + high) // 2
+            low, high = (low, middle) if self.starts(middle * STEP) else (middle + 1, high)
+        return low * STEP
+
+    def may_want(self, command: str, rows: bytes, got: tuple[bytes, int, bytes]) -> bool:
+        """Whether want of memory was said, behind lines of `show` or a part of a text, or nothing with its status."""
+        written, status, errors = got
+        said = written.removesuffix(MEMORY) if command not in SILENT else written
+        return status == 2 and not errors and rows.startswith(said)
+
+    def little_memory(self, name: str, command: str, text: bytes, output: Output) -> None:
+        """Memory is raised until the answer is right, and it is then right twice in a row."""
+        size, right = self.least(), 0
+        while right < 2 and size < ENOUGH:
+            got = self.run([command], text, resource.RLIMIT_AS, size)
+            is_right = got == (*output, b"")
+            rows = output[0] if command in ("show", "normal", "extract") else b""
+            holds = is_right or self.may_want(command, rows, got)
+            self.check(f"{command}, {name}, {size // 1024} KB of memory", holds, got[1:] + (got[0][-80:],))
+            right, size = right + 1 if is_right else 0, size + STEP
+        self.check(f"{command}, {name}, memory", right == 2, "is never enough")
+
+    def try_case(self, name: str, text: bytes, by_command: dict[str, Output]) -> None:
+        for command in COMMANDS:
+            got = self.run([command], text, resource.RLIMIT_STACK, STACK)
+            self.check(f"{command}, {name}, little stack", got == (*by_command[command], b""), got[1:])
+            self.little_memory(name, command, text, by_command[command])
+
+
+def main(program: str) -> int:
+    trial = LimitTrial(program)
+    for name, text, by_command in cases():
+        trial.try_case(name, text, by_command)
+    return trial.end()
+
+
+sys.exit(main(sys.argv[1]))
