@@ -1,0 +1,278 @@
+"""The datagrams that tftp_datagrams lists of recordings: those of examples/ and generated ones, of all link types, both
+formats, tags, options, and fragments in any order. Each list is compared with what the recording was made of, and where
+tshark is installed with its fields.
+
+    datagrams.py PROGRAM [--cases N] [--seed S]
+
+Prints each case that is not as it should be, then a last line 'N passed, M failed'; status 1 if any failed.
+"""
+from __future__ import annotations
+
+import argparse
+import dataclasses
+import pathlib
+import random
+import shutil
+import subprocess
+import sys
+import tempfile
+
+import recorded
+from recorded import Datagram, Fragment, Frame, Interface
+from trial import Trial
+
+EXAMPLES = pathlib.Path(__file__).resolve().parent.parent / "examples"
+HOSTS = {
+    4: ("192.0.2.7", "192.0.2.1", "10.0.0.255", "127.0.0.1"),
+    6: ("2001:db8::7", "2001:db8::1", "fe80::1:0:0:9", "::1", "2001:db8:0:1:1:1:1:1", "::ffff:192.0.2.9"),
+}
+# Kinds of frames that are no datagram of UDP, or not a whole one.
+NOISE = ("another type", "another protocol", "a fragment of another protocol", "cut", "a wrong length", "port 0", "never whole")
+FIELDS = ("frame.number", "frame.time_epoch", "ip.src", "ip.dst", "ipv6.src", "ipv6.dst", "udp.srcport", "udp.dstport", "udp.length", "udp.payload")
+# What begins a file that is no recording.
+OTHERS = {
+    "empty": b"", "text": b"tftp-capture 1\nend client\n", "ELF": b"\x7fELF\2\1\1" + bytes(60),
+    "gzip": b"\x1f\x8b\x08\0" + bytes(60), "zeros": bytes(64), "four bytes": b"\xd4\xc3\xb2\xa1",
+}
+
+
+@dataclasses.dataclass
+class Made:
+    """A recording, the lines of its datagrams, and the numbers of the frames that are left out."""
+
+    file: bytes
+    rows: list[str]
+    left: list[int]
+
+
+def row(number: int, frame: Frame, it: Datagram) -> str:
+    """The line of a datagram whose last part is this frame."""
+    time = str(frame.time) if frame.is_timed else "-"
+    way = frame.direction if frame.direction != "unknown" else frame.flags
+    ends = it.source, it.source_port, it.target, it.target_port
+    return " ".join(str(word) for word in ("datagram", number, time, way, *ends, it.payload.hex() or "-"))
+
+
+class Maker:
+    """Makes the frames of a recording of one section or file."""
+
+    def __init__(self, chance: random.Random, links: list[int]) -> None:
+        self.chance, self.links, self.id, self.time = chance, links, 1, recorded.FIRST_TIME
+        # tshark puts only fragments of one VLAN together.
+        self.tags = chance.choice(recorded.TAGGED)
+
+    def datagram(self, most: int = 60) -> Datagram:
+        version = self.chance.choice((4, 4, 6))
+        source, target = self.chance.sample(HOSTS[version], 2)
+        ports = self.chance.randrange(1, 65_536), self.chance.choice((69, 4_000, 65_535))
+        return Datagram(source, ports[0], target, ports[1], self.chance.randbytes(self.chance.randrange(most)))
+
+    def packet(self, it: Datagram, content: bytes, protocol: int = recorded.UDP, part: Fragment | None = None) -> bytes:
+        if it.version == 4:
+            return recorded.ipv4(it, content, protocol, part, bytes(4 * self.chance.choice((0, 0, 1, 10))))
+        kinds = self.chance.choice(((), (), (recorded.HOP_BY_HOP,), (recorded.HOP_BY_HOP, recorded.ROUTING, recorded.DESTINATION)))
+        return recorded.ipv6(it, content, protocol, part, kinds)
+
+    def frame(self, packet: bytes, kind: int | None = None, links: list[int] | None = None) -> Frame:
+        link, way = self.chance.choice(links or self.links), self.chance.choice(tuple(recorded.DIRECTIONS))
+        is_cooked = link in (recorded.COOKED, recorded.COOKED_2)
+        self.time += recorded.MILLISECOND
+        content = recorded.carried(link, packet, self.chance, way if is_cooked else "unknown", kind, self.tags)
+        return Frame(link, content, self.time, way if is_cooked else "unknown")
+
+    def whole(self) -> list[tuple[Frame, Datagram | None]]:
+        """A datagram in one frame, with bytes behind it now and then."""
+        it = self.datagram()
+        surplus = self.chance.randbytes(self.chance.choice((0, 0, 0, 4)))
+        return [(self.frame(self.packet(it, recorded.udp(it, surplus=surplus))), it)]
+
+    def parted(self) -> list[tuple[Frame, Datagram | None]]:
+        """A datagram in fragments, in any order, one of them perhaps twice."""
+        it, self.id = self.datagram(3_000), self.id + 1
+        parts = recorded.parts_of(recorded.udp(it), recorded.EIGHT * self.chance.randrange(1 + len(it.payload) // 80, 200), self.id)
+        if len(parts) == 1:
+            return self.whole()
+        self.chance.shuffle(parts)
+        link = [self.chance.choice(self.links)]
+        frames = [self.frame(self.packet(it, content, part=part), links=link) for part, content in parts]
+        return [(frame, None) for frame in frames[:-1]] + [(frames[-1], it)]
+
+    def noise(self, kind: str) -> Frame:
+        """A frame that is no datagram, or not a whole one."""
+        it, self.id = self.datagram(), self.id + 1
+        content = recorded.udp(it)
+        if kind == "another type" and self.typed():
+            return self.frame(bytes(28), recorded.ARP, self.typed())
+        if kind == "a fragment of another protocol":
+            return self.frame(self.packet(it, bytes(16), recorded.ICMP, Fragment(self.id, 0, True)))
+        if kind == "cut":
+            whole = self.frame(self.packet(it, recorded.udp(dataclasses.replace(it, payload=bytes(80)))))
+            return dataclasses.replace(whole, content=whole.content[:-40], original=len(whole.content))
+        if kind == "a wrong length":
+            return self.frame(self.packet(it, recorded.udp(it, self.chance.choice((0, 7, 9 + len(it.payload))))))
+        if kind == "port 0":
+            return self.frame(self.packet(it, recorded.udp(dataclasses.replace(it, source_port=0))))
+        if kind == "never whole":
+            return self.frame(self.packet(it, bytes(24), part=Fragment(self.id, 8 * self.chance.randrange(3), True)))
+        return self.frame(self.packet(it, bytes(20), recorded.TCP))
+
+    def typed(self) -> list[int]:
+        """The links of this recording whose frames name what they carry."""
+        return [it for it in self.links if it in (recorded.ETHERNET, recorded.COOKED, recorded.COOKED_2)]
+
+    def frames(self, count: int) -> list[tuple[Frame, Datagram | None, bool]]:
+        """So many datagrams and as much noise: each frame with the datagram that it ends, and whether it is left out."""
+        streams: list[list[tuple[Frame, Datagram | None, bool]]] = []
+        for _ in range(count):
+            chosen = self.chance.random()
+            if chosen < 0.4:
+                streams.append([(frame, it, False) for frame, it in self.whole()])
+            elif chosen < 0.6:
+                streams.append([(frame, it, False) for frame, it in self.parted()])
+            else:
+                streams.append([(self.noise(self.chance.choice(NOISE)), None, True)])
+        places = [place for place, stream in enumerate(streams) for _ in stream]
+        self.chance.shuffle(places)
+        taken = [streams[place].pop(0) for place in places]
+        for place, (frame, _, _) in enumerate(taken):
+            frame.time = recorded.FIRST_TIME + place * recorded.MILLISECOND
+        return taken
+
+
+def made_pcap(chance: random.Random) -> Made:
+    """A file in the format pcap, in either order of bytes, in micro- or nanoseconds."""
+    maker = Maker(chance, [chance.choice(recorded.LINKS)])
+    taken = maker.frames(chance.randrange(20))
+    file = recorded.pcap([frame for frame, _, _ in taken], chance.choice("<>"), chance.random() < 0.5)
+    return listed(file, taken)
+
+
+def made_pcapng(chance: random.Random) -> Made:
+    """A file in the format pcapng, of one to three sections with one to three interfaces each."""
+    file, everything = b"", []
+    for _ in range(chance.randrange(1, 4)):
+        links = [chance.choice(recorded.LINKS) for _ in range(chance.randrange(1, 4))]
+        order, maker = chance.choice("<>"), Maker(chance, links)
+        interfaces = [Interface(link, chance.choice((None, 6, 9, 3, 0x80 | 20)), chance.choice((0, 0, 3_600))) for link in links]
+        taken, blocks = maker.frames(chance.randrange(12)), []
+        for frame, it, is_left in taken:
+            place = chance.choice([at for at, link in enumerate(links) if link == frame.link])
+            if frame.direction == "unknown":
+                frame.flags = chance.choice(tuple(recorded.DIRECTIONS))
+            # A simple packet block is of the first interface, and has no time and no length of its own.
+            frame.is_timed = bool(place) or frame.original is not None or chance.random() < 0.8
+            if not frame.is_timed:
+                frame.flags = "unknown"
+            frame.time = rounded(interfaces[place], frame.time)
+            blocks.append((place, frame))
+            if chance.random() < 0.2:
+                blocks.append((0, recorded.other_block(order, chance)))
+        file += recorded.section(order, interfaces, blocks, chance)
+        everything += taken
+    return listed(file, everything)
+
+
+def rounded(interface: Interface, time: int) -> int:
+    """The time that an interface's unit can say."""
+    unit = 6 if interface.unit is None else interface.unit
+    ticks = interface.ticks(time)
+    since = (ticks * 1_000_000_000) >> (unit & 127) if unit & 128 else ticks * 10 ** (9 - unit)
+    return since + interface.offset * 1_000_000_000
+
+
+def listed(file: bytes, taken: list[tuple[Frame, Datagram | None, bool]]) -> Made:
+    numbered = list(enumerate(taken, 1))
+    rows = [row(number, frame, it) for number, (frame, it, _) in numbered if it]
+    return Made(file, rows, [number for number, (_, _, is_left) in numbered if is_left])
+
+
+class DatagramTrial(Trial):
+    """The program's lists."""
+
+    def __init__(self, program: str) -> None:
+        super().__init__()
+        self.program, self.tshark = program, shutil.which("tshark")
+
+    def run(self, file: bytes) -> tuple[list[str], list[tuple[int, str]], str, int]:
+        """The lines of datagrams, the frames left out with their kinds, the line of a fault, and the status."""
+        done = subprocess.run([self.program], input=file, capture_output=True, timeout=120)
+        rows, left, fault = [], [], done.stderr.decode()
+        for line in done.stdout.decode().splitlines():
+            word, _, rest = line.partition(" ")
+            if word == "datagram":
+                rows.append(line)
+            elif word == "left":
+                number, kind = rest.split(" ", 1)
+                left.append((int(number), kind))
+            else:
+                fault += line
+        return rows, left, fault, done.returncode
+
+    def try_made(self, name: str, it: Made) -> None:
+        """A generated recording: its datagrams, what is left out, and the same of its beginning."""
+        rows, left, fault, status = self.run(it.file)
+        self.check(f"{name}, datagrams", rows == it.rows, difference(rows, it.rows))
+        self.check(f"{name}, left out", sorted({frame for frame, _ in left}) == it.left, (left, it.left))
+        self.check(f"{name}, its end", (fault, status) == ("", 0), (fault, status))
+        if self.tshark:
+            self.compare(name, it.file, rows)
+
+    def compare(self, name: str, file: bytes, rows: list[str]) -> None:
+        """The program's list beside the fields of tshark."""
+        with tempfile.NamedTemporaryFile(suffix=".pcap") as path:
+            path.write(file)
+            path.flush()
+            words = ["tshark", "-n", "-r", path.name, "-Y", "udp and not icmp and not icmpv6", "-o", "ip.defragment:TRUE", "-o", "ipv6.defragment:TRUE"]
+            words += ["--disable-protocol", "tftp", "-T", "fields", "-E", "separator=/t", "-E", "occurrence=l"]
+            done = subprocess.run(words + [word for it in FIELDS for word in ("-e", it)], capture_output=True, text=True, check=False)
+        fields = [dict(zip(FIELDS, line.split("\t"))) for line in done.stdout.splitlines()]
+        wanted = [told for told in (as_tshark(it) for it in fields) if told]
+        got = [" ".join(words[:2] + words[4:]) for words in (line.split() for line in rows)]
+        self.check(f"{name}, as tshark has it", got == wanted, difference(got, wanted))
+
+
+def as_tshark(it: dict[str, str]) -> str:
+    """A datagram of tshark's fields as a line without time and direction; nothing where ports or lengths are none. What
+    follows the UDP length is not of the datagram, where tshark's field has it too."""
+    length = int(it["udp.length"] or 0) - 8
+    payload = it["udp.payload"].replace(":", "")
+    if length < 0 or len(payload) < 2 * length or "0" in (it["udp.srcport"], it["udp.dstport"]):
+        return ""
+    hosts = it["ip.src"] or it["ipv6.src"], it["ip.dst"] or it["ipv6.dst"]
+    words = "datagram", it["frame.number"], hosts[0], it["udp.srcport"], hosts[1], it["udp.dstport"], payload[: 2 * length] or "-"
+    return " ".join(words)
+
+
+def difference(got: list[str], wanted: list[str]) -> str:
+    """The first lines that differ."""
+    for mine, other in zip(got + [""], wanted + [""]):
+        if mine != other:
+            return f"{mine[:150]!r}, and {other[:150]!r} was wanted"
+    return f"{len(got)} lines, and {len(wanted)} were wanted"
+
+
+def main() -> int:
+    form = argparse.ArgumentParser(description=__doc__, formatter_class=argparse.RawDescriptionHelpFormatter)
+    form.add_argument("program")
+    form.add_argument("--cases", type=int, default=40, metavar="N", help="so many generated recordings (40)")
+    form.add_argument("--seed", type=int, default=1_350, metavar="S", help="case i has the seed S plus i (1350)")
+    given = form.parse_args()
+    trial = DatagramTrial(given.program)
+    for path in sorted(EXAMPLES.glob("*.pcap*")):
+        file = path.read_bytes()
+        rows, left, fault, status = trial.run(file)
+        trial.check(f"{path.name}, its end", (fault, status) == ("", 0), (fault, status))
+        if trial.tshark:
+            trial.compare(path.name, file, rows)
+    for name, file in OTHERS.items():
+        rows, left, fault, status = trial.run(file)
+        trial.check(f"no recording: {name}", (rows, left, status) == ([], [], 2) and fault.endswith("NotARecording"), (rows, fault, status))
+    for case in range(given.cases):
+        chance = random.Random(given.seed + case)
+        make = chance.choice((made_pcap, made_pcapng))
+        trial.try_made(f"seed {given.seed + case}", make(chance))
+    return trial.end()
+
+
+if __name__ == "__main__":
+    sys.exit(main())

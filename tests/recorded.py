@@ -1,0 +1,206 @@
+"""Recordings made from datagrams by the formats alone: frames of each link type, IPv4 and IPv6, fragments, and files in
+the formats pcap and pcapng. What they hold is known before anything has read them.
+"""
+from __future__ import annotations
+
+import dataclasses
+import ipaddress
+import random
+import struct
+from typing import Optional, Union
+
+ETHERNET, NULL, RAW, LOOP, COOKED, COOKED_2 = 1, 0, 101, 108, 113, 276
+LINKS = (ETHERNET, NULL, RAW, LOOP, COOKED, COOKED_2)
+IPV4, IPV6, ARP = 0x0800, 0x86DD, 0x0806
+UDP, TCP, ICMP = 17, 6, 1
+HOP_BY_HOP, ROUTING, FRAGMENT, DESTINATION = 0, 43, 44, 60
+# Tags of IEEE 802.1Q and 802.1ad, and what was used before: none, one, two, three.
+TAGGED = ((), (0x8100,), (0x88A8, 0x8100), (0x9100, 0x88A8, 0x8100))
+DIRECTIONS = {"unknown": 0, "in": 1, "out": 2}
+# What Linux writes of a packet's way: to us, to all, to some, to another host, from us.
+COOKED_TYPES = {"in": (0,), "unknown": (1, 2, 3), "out": (4,)}
+FIRST_TIME = 1_700_000_000_000_000_000
+MILLISECOND = 1_000_000
+# What each fragment but the last carries is a multiple of this (RFC 791, section 3.2; RFC 8200, section 4.5).
+EIGHT = 8
+
+
+@dataclasses.dataclass(frozen=True)
+class Datagram:
+    """A UDP datagram, as it was sent."""
+
+    source: str
+    source_port: int
+    target: str
+    target_port: int
+    payload: bytes
+
+    @property
+    def version(self) -> int:
+        return ipaddress.ip_address(self.source).version
+
+    def packed(self) -> tuple[bytes, bytes]:
+        return ipaddress.ip_address(self.source).packed, ipaddress.ip_address(self.target).packed
+
+
+@dataclasses.dataclass(frozen=True)
+class Fragment:
+    """Where a part stands in what was sent, in bytes, and whether more follow."""
+
+    id: int
+    place: int
+    more: bool
+
+
+@dataclasses.dataclass
+class Frame:
+    """A frame as it was recorded: its bytes, how many it had, its time in nanoseconds since 1970, and its direction."""
+
+    link: int
+    content: bytes
+    time: int
+    direction: str = "unknown"
+    original: Optional[int] = None
+    flags: str = "unknown"
+    is_timed: bool = True
+
+
+def udp(it: Datagram, length: Optional[int] = None, surplus: bytes = b"") -> bytes:
+    """The header, the payload, and what stands behind it in IP (RFC 768)."""
+    size = 8 + len(it.payload) if length is None else length
+    return struct.pack("!HHHH", it.source_port, it.target_port, size, 0xBEEF) + it.payload + surplus
+
+
+def ipv4(it: Datagram, content: bytes, protocol: int = UDP, part: Optional[Fragment] = None, options: bytes = b"") -> bytes:
+    """A packet of IPv4, of whole words of options (RFC 791, section 3.1)."""
+    head, place = 5 + len(options) // 4, 0x4000
+    if part:
+        place = part.place // EIGHT | (0x2000 if part.more else 0)
+    size = 4 * head + len(content)
+    first = struct.pack("!BBHHHBBH", 0x40 | head, 0, size, part.id if part else 7, place, 64, protocol, 0)
+    return first + b"".join(it.packed()) + options + content
+
+
+def ipv6(it: Datagram, content: bytes, protocol: int = UDP, part: Optional[Fragment] = None, kinds: tuple[int, ...] = ()) -> bytes:
+    """A packet of IPv6 with extension headers of these kinds, of different sizes (RFC 8200)."""
+    headers, body = [(kind, bytes(6 + EIGHT * place)) for place, kind in enumerate(kinds)], b""
+    chain = [kind for kind, _ in headers] + ([FRAGMENT] if part else []) + [protocol]
+    for place, (_, rest) in enumerate(headers):
+        body += struct.pack("!BB", chain[place + 1], (len(rest) - 6) // EIGHT) + rest
+    if part:
+        body += struct.pack("!BBHI", protocol, 0, part.place | part.more, part.id)
+    return struct.pack("!IHBB", 6 << 28, len(body + content), chain[0], 64) + b"".join(it.packed()) + body + content
+
+
+def carried(
+    link: int, packet: bytes, chance: random.Random, direction: str, kind: Optional[int], tags: tuple[int, ...]
+) -> bytes:
+    """A frame of a link type that carries a packet of IP, or of another kind."""
+    is_four = packet[:1] and packet[0] >> 4 == 4
+    kind = (IPV4 if is_four else IPV6) if kind is None else kind
+    if link == ETHERNET:
+        front = bytes(range(12)) + b"".join(struct.pack("!HH", tag, 5) for tag in tags)
+        frame = front + struct.pack("!H", kind) + packet
+        return frame + bytes(max(0, 60 - len(frame)))
+    way = chance.choice(COOKED_TYPES[direction])
+    if link == COOKED:
+        return struct.pack("!HHH8sH", way, 1, 6, bytes(8), kind) + packet
+    if link == COOKED_2:
+        return struct.pack("!HHIHBB8s", kind, 0, 2, 1, way, 6, bytes(8)) + packet
+    family = 2 if is_four else chance.choice((24, 28, 30))
+    if link == LOOP:
+        return struct.pack("!I", family) + packet
+    if link == NULL:
+        return struct.pack(chance.choice("<>") + "I", family) + packet
+    return packet
+
+
+def parts_of(content: bytes, size: int, id: int) -> list[tuple[Fragment, bytes]]:
+    """What is sent in fragments of so many bytes, a multiple of eight."""
+    cuts = range(0, len(content), size)
+    return [(Fragment(id, at, at + size < len(content)), content[at : at + size]) for at in cuts]
+
+
+def pcap(frames: list[Frame], order: str = "<", is_nano: bool = False, snaplen: int = 262_144) -> bytes:
+    """A file of frames of one link type."""
+    link = frames[0].link if frames else ETHERNET
+    unit, magic = (1, 0xA1B23C4D) if is_nano else (1000, 0xA1B2C3D4)
+    file = struct.pack(f"{order}IHHiIII", magic, 2, 4, 0, 0, snaplen, link)
+    for it in frames:
+        seconds, fraction = divmod(it.time, 1_000_000_000)
+        head = seconds, fraction // unit, len(it.content), it.original or len(it.content)
+        file += struct.pack(f"{order}IIII", *head) + it.content
+    return file
+
+
+def block(order: str, kind: int, body: bytes) -> bytes:
+    """A block of pcapng: its type, its length, its body to a whole word, its length again."""
+    body += bytes(-len(body) % 4)
+    size = struct.pack(f"{order}I", 12 + len(body))
+    return struct.pack(f"{order}I", kind) + size + body + size
+
+
+def options(order: str, *pairs: tuple[int, bytes]) -> bytes:
+    """Options, each to a whole word, and their end; none where there is none."""
+    told = b"".join(struct.pack(f"{order}HH", code, len(value)) + value + bytes(-len(value) % 4) for code, value in pairs)
+    return told + bytes(4) if pairs else b""
+
+
+def other_block(order: str, chance: random.Random) -> bytes:
+    """A block that holds no frame: of names, of statistics, or of a type that nobody knows."""
+    counted = struct.pack(f"{order}III", 0, 0, 0) + options(order, (2, bytes(8)))
+    bodies = {4: bytes(4), 5: counted, 0x0BADB10C: chance.randbytes(4 * chance.randrange(9))}
+    kind = chance.choice(tuple(bodies))
+    return block(order, kind, bodies[kind])
+
+
+@dataclasses.dataclass
+class Interface:
+    """An interface of a section: its link type, its unit of time by the option's byte, its offset in seconds."""
+
+    link: int
+    unit: Optional[int] = None
+    offset: int = 0
+    snaplen: int = 0
+
+    def body(self, order: str) -> bytes:
+        told: list[tuple[int, bytes]] = [(2, b"eth0")]
+        if self.unit is not None:
+            told.append((9, bytes([self.unit])))
+        if self.offset:
+            told.append((14, struct.pack(f"{order}q", self.offset)))
+        return struct.pack(f"{order}HHI", self.link, 0, self.snaplen) + options(order, *told)
+
+    def ticks(self, time: int) -> int:
+        """A time in this interface's units since its offset."""
+        unit = 6 if self.unit is None else self.unit
+        since = time - self.offset * 1_000_000_000
+        return (since << (unit & 127)) // 1_000_000_000 if unit & 128 else since * 10**unit // 1_000_000_000
+
+
+Block = Union[Frame, bytes]
+
+
+def section(order: str, interfaces: list[Interface], blocks: list[tuple[int, Block]], chance: random.Random) -> bytes:
+    """A section of pcapng: its interfaces, and blocks: a frame of an interface, or another block's bytes."""
+    head = struct.pack(f"{order}IHHq", 0x1A2B3C4D, 1, 0, -1) + options(order, (4, b"a recorder"))
+    file = block(order, 0x0A0D0D0A, head)
+    file += b"".join(block(order, 1, it.body(order)) for it in interfaces)
+    for place, it in blocks:
+        file += it if isinstance(it, bytes) else packet_block(order, place, interfaces[place], it, chance)
+    return file
+
+
+def packet_block(order: str, place: int, interface: Interface, it: Frame, chance: random.Random) -> bytes:
+    """An enhanced packet block, or the obsolete or the simple one."""
+    content = it.content + bytes(-len(it.content) % 4)
+    original = it.original or len(it.content)
+    if not it.is_timed:
+        return block(order, 3, struct.pack(f"{order}I", original) + content)
+    high, low = divmod(interface.ticks(it.time), 1 << 32)
+    sizes = high, low, len(it.content), original
+    if it.flags == "unknown" and chance.random() < 0.2:
+        return block(order, 2, struct.pack(f"{order}HHIIII", place, 0, *sizes) + content)
+    told = [(2, struct.pack(f"{order}I", DIRECTIONS[it.flags]))] if it.flags != "unknown" else []
+    told += [(1, b"seen")] if chance.random() < 0.2 else []
+    return block(order, 6, struct.pack(f"{order}IIIII", place, *sizes) + content + options(order, *told))
