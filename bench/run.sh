@@ -22,6 +22,7 @@ measure() {
 }
 
 sh "$here/commands.sh" "$program"
+python3 "$here/worst.py" "$program" || echo "A text takes more than it may."
 
 generate wire 100000000
 measure "netascii decode" "$bench" netascii-decode
