@@ -1,5 +1,5 @@
 -- From what the parts of `read_packet` answer to what it promises.
-use Rattle.std.proofs.Common.{◌≡◌, ◌≢◌, ◌↔◌, inl, inr, ℕ, ◌-◌, ◌<◌, ◌≤◌, List, [], ◌∷◌, sym, length, take, drop, get_or, ap, subst, arith, Fits, w8}
+use Rattle.std.proofs.Common.{◌≡◌, ◌≢◌, ◌↔◌, inl, inr, ℕ, ◌+◌, ◌-◌, ◌*◌, ◌/◌, ◌%◌, ◌∙◌, ◌<◌, ◌≤◌, List, [], ◌∷◌, sym, length, take, drop, get_or, ap, subst, arith, Fits, w8}
 use Rattle.std.specs.Prelude.{Result, Ok, Err, IfOk, IsOkAnd}
 use Rattle.std.specs.List.{AllByRecursion}
 use Rattle.std.proofs.lemmas.List.Elements.{recursion_from_All, All-from_get_or}
@@ -7,7 +7,8 @@ use Rattle.std.proofs.lemmas.List.{take_all}
 use Rattle.tftp_packet.specs.Written.{IsString, terminated}
 use Rattle.tftp_packet.specs.Message.{Message}
 use Rattle.tftp_packet.specs.Meaning.{meaning}
-use Rattle.tftp_packet.specs.Spelling.{Spells}
+use Rattle.tftp_packet.specs.Spelling.{Spells, IsPair}
+use Rattle.byteorder.specs.Endian.{big_number}
 use Rattle.tftp_packet.specs.Faults.{Holds, FirstFault, opcode_of}
 use Rattle.tftp_packet.specs.AsWritten.{IsWritten}
 use Rattle.tftp_packet.specs.Reading.{Judges}
@@ -79,3 +80,29 @@ error_fault payload text x y parts never = first_NoTerminator payload (inr (inr 
     not_opcode : Holds Opcode payload → ⊥
     not_opcode (inl op) = omega (arith, five)
     not_opcode (inr op) = omega (arith, five)
+
+-- the number of bytes 2 and 3, and the bytes after them
+abbrev pub Numbered : List ℕ → ℕ → ℕ → Type 0
+Numbered payload k n =
+    ((x y : ℕ) × IsPair x y n × (payload ≡ 0 ∷ k ∷ x ∷ y ∷ take (length payload - 4) (drop 4 payload)))
+    × (payload ≡ 0 ∷ k ∷ n / 256 ∷ n % 256 ∷ take (length payload - 4) (drop 4 payload))
+
+pub numbered : (payload : List ℕ) (k n : ℕ) → opcode_of payload ≡ k → 0 < k → k < 256 → AllByRecursion (λ b. b < 256) payload → 4 ≤ length payload
+    → n ≡ big_number 2 (take (length payload - 2) (drop 2 payload)) → Numbered payload k n
+numbered [] k n is low high bytes long number = absurd (omega arith)
+numbered (x ∷ []) k n is low high bytes long number = absurd (omega arith)
+numbered (x ∷ y ∷ []) k n is low high bytes long number = absurd (omega arith)
+numbered (x ∷ y ∷ u ∷ []) k n is low high bytes long number = absurd (omega arith)
+numbered (x ∷ y ∷ u ∷ v ∷ rest) k n is low high bytes long number =
+    let zero : x ≡ 0 = omega arith in
+    let same : y ≡ k = omega arith in
+    let after : take (length (x ∷ y ∷ u ∷ v ∷ rest) - 2) (u ∷ v ∷ rest) ≡ u ∷ v ∷ rest = take_all (length (x ∷ y ∷ u ∷ v ∷ rest) - 2) (u ∷ v ∷ rest) (omega arith) in
+    let all : take (length (x ∷ y ∷ u ∷ v ∷ rest) - 4) rest ≡ rest = take_all (length (x ∷ y ∷ u ∷ v ∷ rest) - 4) rest (omega arith) in
+    let big : u < 256 = bytes.1.1.0 in
+    let little : v < 256 = bytes.1.1.1.0 in
+    let whole : n ≡ 256 * u + v = omega (arith, number ∙ ap (big_number 2) after) in
+    let upper : u ≡ n / 256 = omega arith in
+    let lower : v ≡ n % 256 = omega arith in (
+      (u, v, (big, little, whole), λ i. zero i ∷ same i ∷ u ∷ v ∷ sym all i),
+      λ i. zero i ∷ same i ∷ upper i ∷ lower i ∷ sym all i,
+    )

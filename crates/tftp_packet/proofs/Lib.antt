@@ -16,4 +16,5 @@ pub mod SameMaps
 pub mod CanonicalOptions
 pub mod CanonicalLaws
 pub mod NameOrder
+pub mod NameTable
 pub mod Hosts

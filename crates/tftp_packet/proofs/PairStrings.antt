@@ -3,6 +3,7 @@ use Rattle.std.proofs.Common.{◌≡◌, inl, inr, ℕ, suc, ◌*◌, ◌%◌, �
 use Rattle.std.specs.List.{AllByRecursion}
 use Rattle.tftp_packet.specs.Written.{IsString, AreStrings, strings, strings_of, pairs_of, Pair, pair_strings, pair_up, AreApart, SameName}
 use Rattle.tftp_packet.specs.Faults.{AnyOf, HasRepeat}
+use Rattle.tftp_packet.specs.NameTable.{StandsFirst}
 use Rattle.tftp_packet.proofs.Strings.{strings_of_front, strings_of_string, strings_of_strings}
 
 pub pair_strings_injective : (ps qs : List Pair) → pair_strings ps ≡ pair_strings qs → ps ≡ qs
@@ -70,6 +71,9 @@ pair_front name rest text after bytes p e q f =
     let long = ap length e ∙ length-append name (0 ∷ rest) in
     let longer = ap length f ∙ length-append text (0 ∷ after) in
     (ap pairs_of e ∙ ap pair_up (first ∙ ap (λ x. name ∷ x) second), omega arith)
+
+pub stands_first : (name rest text after bytes : List ℕ) → IsString name → bytes ≡ name ++ 0 ∷ rest → rest ≡ text ++ 0 ∷ after → StandsFirst bytes name after
+stands_first name rest text after bytes p e f = (p, (text, e ∙ ap (λ r. name ++ 0 ∷ r) f))
 
 -- strings that end, of which there are an even number, are the strings of the pairs that they hold
 pub held : (bytes : List ℕ) (all : List (List ℕ)) → bytes ≡ strings all → AreStrings all → (length all % 2 ≡ 1 → ⊥) → (bytes ≡ strings (pair_strings (pairs_of bytes))) × AreStrings (pair_strings (pairs_of bytes))

@@ -12,4 +12,5 @@ pub mod Owned
 pub mod Canonical
 pub mod Same
 pub mod Names
+pub mod NameTable
 pub mod Host

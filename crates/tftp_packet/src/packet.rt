@@ -12,6 +12,7 @@ use crate::kinds::Side;
 use crate::options::OptionsView;
 use crate::request::RequestView;
 use crate::text::only_string;
+use byteorder::{BigEndian, ByteOrder};
 
 /// A packet, whose bytes lie in the payload (RFC 1350, section 5).
 #[derive(Debug, Drop)]
@@ -33,9 +34,10 @@ pub enum Packet<'a> {
 pub fn opcode(payload: &[u8]) -> u16
     ensures { result ≡ opcode_of payload.now }
 {
-    match payload {
-        [high, low, ..] => u16::from_be_bytes([*high, *low]),
-        _ => 0,
+    if payload.len() < 2 {
+        0
+    } else {
+        BigEndian::read_u16(payload)
     }
 }
 
@@ -74,13 +76,13 @@ fn read_data(payload: &[u8]) -> Result<Packet<'_>, PacketFault>
     requires { opcode_of payload.now ≡ 3 }
     ensures { Judges payload.now result }
 {
-    match payload {
-        [_, _, high, low, bytes @ ..] => Ok(Packet::Data {
-            block: u16::from_be_bytes([*high, *low]),
-            bytes,
-        }),
-        _ => Err(PacketFault::Short),
+    if payload.len() < 4 {
+        return Err(PacketFault::Short);
     }
+    Ok(Packet::Data {
+        block: BigEndian::read_u16(&payload[2..]),
+        bytes: &payload[4..],
+    })
 }
 
 /// The acknowledgement that a payload spells (RFC 1350, section 5).
@@ -88,12 +90,12 @@ fn read_ack(payload: &[u8]) -> Result<Packet<'_>, PacketFault>
     requires { opcode_of payload.now ≡ 4 }
     ensures { Judges payload.now result }
 {
-    match payload {
-        [_, _, high, low] => Ok(Packet::Ack {
-            block: u16::from_be_bytes([*high, *low]),
-        }),
-        _ => Err(PacketFault::AckLength),
+    if payload.len() != 4 {
+        return Err(PacketFault::AckLength);
     }
+    Ok(Packet::Ack {
+        block: BigEndian::read_u16(&payload[2..]),
+    })
 }
 
 /// The error that a payload spells (RFC 1350, section 5).
@@ -101,12 +103,12 @@ fn read_error(payload: &[u8]) -> Result<Packet<'_>, PacketFault>
     requires { opcode_of payload.now ≡ 5 }
     ensures { Judges payload.now result }
 {
-    let [_, _, high, low, text @ ..] = payload else {
+    if payload.len() < 4 {
         return Err(PacketFault::Short);
-    };
-    match only_string(text) {
+    }
+    match only_string(&payload[4..]) {
         Some(message) => Ok(Packet::Error {
-            code: u16::from_be_bytes([*high, *low]),
+            code: BigEndian::read_u16(&payload[2..]),
             message,
         }),
         None => Err(PacketFault::NoTerminator),

@@ -3,9 +3,11 @@ ghost use Rattle.tftp_packet.specs.OptionMap.{lower};
 ghost use Rattle.tftp_packet.specs.Written.{IsString, terminated, pairs_of};
 ghost use Rattle.tftp_packet.specs.Spelling.{mode_name};
 ghost use Rattle.tftp_packet.specs.Faults.{EndsWithZero, ModeFault};
+ghost use Rattle.tftp_packet.specs.NameTable.{StandsFirst};
 
 use crate::fault::PacketFault;
 use crate::kinds::Mode;
+use memchr::memchr;
 
 /// The string that stands first, and the bytes after its zero byte; none where no byte is zero.
 pub fn split_string(bytes: &[u8]) -> Option<(&[u8], &[u8])>
@@ -13,19 +15,16 @@ pub fn split_string(bytes: &[u8]) -> Option<(&[u8], &[u8])>
         (IsString bytes.now)
         (λ parts. IsString parts.0.now × (bytes.now ≡ parts.0.now ++ 0 ∷ parts.1.now)) }
 {
-    for (i, byte) in bytes.iter().enumerate() {
-        if *byte == 0 {
-            return Some((&bytes[..i], &bytes[i + 1..]));
-        }
-    }
-    None
+    let end = memchr(0, bytes)?;
+    Some((&bytes[..end], &bytes[end + 1..]))
 }
 
 /// The option that stands first: its name, its value, and the bytes after it.
 pub fn split_pair(bytes: &[u8]) -> Option<(&[u8], &[u8], &[u8])>
     ensures { MatchOption result
         (pairs_of bytes.now ≡ [])
-        (λ parts. (pairs_of bytes.now ≡ (parts.0.now, parts.1.now) ∷ pairs_of parts.2.now) × (length parts.2.now < length bytes.now)) }
+        (λ parts. (pairs_of bytes.now ≡ (parts.0.now, parts.1.now) ∷ pairs_of parts.2.now) × (length parts.2.now < length bytes.now)
+            × StandsFirst bytes.now parts.0.now parts.2.now) }
 {
     let (name, rest) = split_string(bytes)?;
     let (text, after) = split_string(rest)?;

@@ -1,4 +1,4 @@
-ghost use Rattle.std.specs.Prelude.{◌≡◌, ◌++◌, ◌∷◌, ◌/◌, ◌%◌, IfOk, OnOk};
+ghost use Rattle.std.specs.Prelude.{◌≡◌, ◌++◌, ◌∷◌, [], ◌<◌, ◌/◌, ◌%◌, IfOk, OnOk};
 ghost use Rattle.tftp_packet.specs.Message.{Message};
 ghost use Rattle.tftp_packet.specs.Meaning.{meaning, HasStringMessage};
 ghost use Rattle.tftp_packet.specs.Written.{terminated, strings, pair_strings};
@@ -10,6 +10,7 @@ use crate::owned_options::{Options, own_options};
 use crate::owned_request::{Request, own_request};
 use crate::packet::Packet;
 use crate::value::Value;
+use byteorder::{BigEndian, ByteOrder};
 use itoa::Buffer;
 use std::alloc::{AllocError, Global};
 
@@ -35,7 +36,7 @@ pub fn write_packet(alloc: Global, packet: &Packet<'_>) -> Result<Vec<u8>, Alloc
 pub fn write_request(alloc: Global, request: &Request) -> Result<Vec<u8>, AllocError>
     ensures { IfOk result (λ v. v.items ≡ canonical (Message.Request request.now)) }
 {
-    let opcode = match request.side() {
+    let opcode: u16 = match request.side() {
         Side::Get => 1,
         Side::Put => 2,
     };
@@ -43,7 +44,7 @@ pub fn write_request(alloc: Global, request: &Request) -> Result<Vec<u8>, AllocE
         Mode::Octet => b"octet".as_slice(),
         Mode::Netascii => b"netascii".as_slice(),
     };
-    let mut out = Vec::from_slice(alloc, &[0, opcode])?;
+    let mut out = begin(alloc, opcode)?;
     write_string(&mut out, request.name())?;
     write_string(&mut out, mode)?;
     write_options(&mut out, request.options())?;
@@ -54,22 +55,35 @@ pub fn write_request(alloc: Global, request: &Request) -> Result<Vec<u8>, AllocE
 pub fn write_oack(alloc: Global, options: &Options) -> Result<Vec<u8>, AllocError>
     ensures { IfOk result (λ v. v.items ≡ canonical (Message.Oack options.now)) }
 {
-    let mut out = Vec::from_slice(alloc, &[0, 6])?;
+    let mut out = begin(alloc, 6)?;
     write_options(&mut out, options)?;
     Ok(out)
+}
+
+/// A packet that has its opcode alone (RFC 1350, section 5).
+fn begin(alloc: Global, opcode: u16) -> Result<Vec<u8>, AllocError>
+    requires { opcode < 256 }
+    ensures { IfOk result (λ v. v.items ≡ 0 ∷ opcode ∷ []) }
+{
+    let mut head = [0; 2];
+    BigEndian::write_u16(&mut head, opcode);
+    Vec::from_slice(alloc, &head)
 }
 
 /// An opcode, a number and bytes.
 fn write_numbered(
     alloc: Global,
-    opcode: u8,
+    opcode: u16,
     number: u16,
     bytes: &[u8],
 ) -> Result<Vec<u8>, AllocError>
+    requires { opcode < 256 }
     ensures { IfOk result (λ v. v.items ≡ 0 ∷ opcode ∷ number / 256 ∷ number % 256 ∷ bytes.now) }
 {
-    let [high, low] = number.to_be_bytes();
-    let mut out = Vec::from_slice(alloc, &[0, opcode, high, low])?;
+    let mut head = [0; 4];
+    BigEndian::write_u16(&mut head, opcode);
+    BigEndian::write_u16(&mut head[2..], number);
+    let mut out = Vec::from_slice(alloc, &head)?;
     out.extend_from_slice(bytes)?;
     Ok(out)
 }

@@ -1,0 +1,158 @@
+//! Whether a name stands twice among many: a table of places, found by hashes of the names.
+
+ghost use Rattle.std.specs.Prelude.{◌≡◌, ◌↔◌, ◌+◌, ◌-◌, ◌<◌, ◌≤◌, ◌⊎◌, ℕ, [], IsTrue, IfSome, IfNone, MatchBool, MatchOption, length, slice_index};
+ghost use Rattle.tftp_packet.specs.OptionMap.{lower};
+ghost use Rattle.tftp_packet.specs.Written.{pairs_of};
+ghost use Rattle.tftp_packet.specs.Faults.{AnyOf, HasRepeat};
+ghost use Rattle.tftp_packet.specs.NameTable.{string_first, first_slot, key_at, keys_of, IsHeld, IsFound, Tells, Holds};
+
+use crate::option_check::has_repeat_of_few;
+use crate::text::{split_pair, split_string};
+
+/// The slots in which a look may begin.
+const FIRST_SLOTS: usize = 8_192;
+
+/// In how many slots, one after another, a name is looked for.
+const TRIED: usize = 64;
+
+/// All slots.
+const SLOTS: usize = FIRST_SLOTS + TRIED;
+
+/// No more names are put into a table, so that a look ends soon.
+const MOST_NAMES: usize = 6_144;
+
+/// A table that has so few bytes of options, and not all of them, is crowded by hashes that are alike.
+const CROWDED: usize = 4_096;
+
+/// What a look into a table tells of a name.
+#[derive(Debug, Drop)]
+pub(crate) enum Slot {
+    /// The name is there.
+    Held,
+    /// The name is not there, and may be put into this slot.
+    Free(usize),
+    /// The name is not there, and has no room.
+    Full,
+}
+
+/// Whether two options have one name, letter case ignored. Takes no memory, and a hash of each name.
+#[inline(never)]
+pub(crate) fn has_repeat_of_many(bytes: &[u8]) -> bool
+    ensures { IsTrue result ↔ HasRepeat (pairs_of bytes.now) }
+{
+    let mut left = bytes;
+    while !left.is_empty() {
+        let mut table = [0; SLOTS];
+        let Some(rest) = fill(left, &mut table) else {
+            return true;
+        };
+        if has_one_of(left, &table, rest) {
+            return true;
+        }
+        if !rest.is_empty() && left.len() - rest.len() < CROWDED {
+            return has_repeat_of_few(rest);
+        }
+        left = rest;
+    }
+    false
+}
+
+/// Puts names into an empty table, as many as have room, and gives the options that are left; none where a name came twice.
+fn fill<'a>(bytes: &'a [u8], table: &mut [u16]) -> Option<&'a [u8]>
+    requires size { length table.old ≡ SLOTS }
+    requires empty { (t : ℕ) → slice_index table.old t ≡ 0 }
+    ensures twice { IfNone result (HasRepeat (pairs_of bytes.now)) }
+    ensures once { IfSome result (λ rest. Holds bytes.now table.new rest.now) }
+    ensures shorter { IfSome result (λ rest. length rest.now ≤ length bytes.now) }
+{
+    let mut count = 0;
+    let mut rest = bytes;
+    while let Some((name, _, after)) = split_pair(rest) {
+        let Ok(entry) = u16::try_from(bytes.len() - rest.len() + 1) else {
+            return Some(rest);
+        };
+        if count == MOST_NAMES {
+            return Some(rest);
+        }
+        match look(bytes, table, name) {
+            Slot::Held => return None,
+            Slot::Full => return Some(rest),
+            Slot::Free(slot) => table[slot] = entry,
+        }
+        count += 1;
+        rest = after;
+    }
+    Some(rest)
+}
+
+/// Whether one of the names that are left is in the table.
+fn has_one_of(bytes: &[u8], table: &[u16], rest: &[u8]) -> bool
+    requires { length table.now ≡ SLOTS }
+    ensures { MatchBool result (AnyOf (IsFound bytes.now table.now) (keys_of rest.now)) (AnyOf (IsHeld bytes.now table.now) (keys_of rest.now) → ⊥) }
+{
+    let mut left = rest;
+    while let Some((name, _, after)) = split_pair(left) {
+        if let Slot::Held = look(bytes, table, name) {
+            return true;
+        }
+        left = after;
+    }
+    false
+}
+
+/// Looks for a name in the table.
+fn look(bytes: &[u8], table: &[u16], name: &[u8]) -> Slot
+    requires { length table.now ≡ SLOTS }
+    ensures { Tells bytes.now table.now (lower name.now) result }
+{
+    let first = slot_of(name);
+    for slot in first..first + TRIED {
+        let entry = table[slot];
+        if entry == 0 {
+            return Slot::Free(slot);
+        }
+        if name_at(bytes, entry).eq_ignore_ascii_case(name) {
+            return Slot::Held;
+        }
+    }
+    Slot::Full
+}
+
+/// The name for which a slot stands.
+fn name_at(bytes: &[u8], entry: u16) -> &[u8]
+    ensures { lower result.now ≡ key_at bytes.now entry }
+{
+    let place = usize::from(entry).saturating_sub(1);
+    if place < bytes.len() {
+        first_string(&bytes[place..])
+    } else {
+        &[]
+    }
+}
+
+/// The bytes before the first zero byte, or all.
+fn first_string(bytes: &[u8]) -> &[u8]
+    ensures { result.now ≡ string_first bytes.now }
+{
+    match split_string(bytes) {
+        Some((first, _)) => first,
+        None => bytes,
+    }
+}
+
+#[tactic(auto, unfolding(crate::specs::NameTable::first_slot))]
+/// The first slot in which a name is looked for. Letter case counts for nothing.
+fn slot_of(name: &[u8]) -> usize
+    ensures slot { result ≡ first_slot (lower name.now) }
+    ensures within { result < FIRST_SLOTS }
+{
+    let mut hash: u64 = 0;
+    let mut left = name;
+    while let [byte, rest @ ..] = left {
+        hash = hash
+            .wrapping_add(u64::from(byte.to_ascii_lowercase()))
+            .wrapping_mul(0x9E37_79B9_7F4A_7C15);
+        left = rest;
+    }
+    (hash >> 51) as usize
+}
