@@ -7,9 +7,8 @@ use Rattle.tftp_packet.specs.Spelling.{Spells}
 use Rattle.tftp_packet.specs.declared.kinds.Dir.{Dir}
 use Rattle.tftp_ends.specs.CaptureText.{Datagram, Header}
 use Rattle.tftp_ends.specs.KnownIds.{KnownIds, StandsFor, HasNoRequest, IsNewStray, answer_of}
-use Rattle.tftp_ends.specs.Ports.{asks, first_of, or_this, begins_request, is_from_client, port_of_server, route_of, is_of_transfer, transfer_of, SaysUnknownId, PortRule, PortBroken}
+use Rattle.tftp_ends.specs.Ports.{Route, asks, first_of, or_this, begins_request, is_from_client, port_of_server, route_of, is_of_transfer, transfer_of, SaysUnknownId, PortRule, PortBroken}
 use Rattle.tftp_ends.specs.declared.ports.PortFault.{PortFault}
-use Rattle.tftp_ends.specs.declared.route.Route.{Route}
 use Rattle.tftp_law.specs.OneEnded.{OneEnded, Passes}
 use Rattle.tftp_law.specs.Rules.{number_of, Broken, FirstAsked, FirstBroken}
 use Rattle.tftp_law.specs.declared.rule.Rule.{Rule}

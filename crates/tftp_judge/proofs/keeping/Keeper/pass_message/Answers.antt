@@ -6,8 +6,7 @@ use Rattle.tftp_packet.specs.Spelling.{Spells}
 use Rattle.tftp_packet.specs.Written.{parts}
 use Rattle.tftp_packet.specs.declared.packet.Packet.{Packet}
 use Rattle.tftp_ends.specs.CaptureText.{Header}
-use Rattle.tftp_ends.specs.Ports.{route_of, is_of_transfer, transfer_of}
-use Rattle.tftp_ends.specs.declared.route.Route.{Route}
+use Rattle.tftp_ends.specs.Ports.{Route, route_of, is_of_transfer, transfer_of}
 use Rattle.tftp_judge.specs.Kept.{Keeper, Transfer, IsKept}
 use Rattle.tftp_judge.proofs.Accepting.{message_found, request_found}
 use Rattle.tftp_judge.proofs.keeping.Keeper.pass_message.Goals as goal
