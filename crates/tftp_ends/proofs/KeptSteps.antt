@@ -1,15 +1,16 @@
 -- What is kept tells the route of a datagram, and with it stands for one datagram more.
 use Rattle.std.proofs.Common.{◌≡◌, ◌⊎◌, inl, inr, ℕ, Bool, true, false, List, ◌∷◌, Option, Some, None, refl, sym, ap, subst, ◌∙◌, if◌then◌else◌}
-use Rattle.std.specs.Prelude.{◌≢◌, IfOk, ◌==◌, ◌&&◌, ◌||◌, not, is_some, option_map, Result, Ok, Err}
+use Rattle.std.specs.Prelude.{◌==◌, ◌&&◌, ◌||◌, not, is_some, option_map, Result, Ok, Err}
 use Rattle.std.proofs.lemmas.Bool.{false≢true, and_parts}
 use Rattle.tftp_packet.specs.declared.kinds.Dir.{Dir}
 use Rattle.tftp_packet.specs.declared.kinds.End.{End}
 use Rattle.tftp_packet.specs.declared.kinds.End.TheVariants.{Client, Server}
 use Rattle.tftp_ends.specs.CaptureText.{Datagram, Header, PeerId, peer_of}
-use Rattle.tftp_ends.specs.Ports.{same_peer, goes_out, comes_in, asks, begins_request, first_of, has_come_from, is_from_client, port_of_server, route_before, route_at_client, route_at_server, route_of}
-use Rattle.tftp_ends.specs.KnownIds.{KnownIds, StandsFor, NotesStrays, HasNumbers, HasNoRequest, answers, answer_of, is_noted, is_other, other_end, sides_of}
-use Rattle.tftp_ends.specs.declared.route.Route.{Route}
-use Rattle.tftp_ends.specs.declared.route.Route.TheVariants.{Request, Peer, Stray, StrayAnswer, WrongPort, ForeignPort, NoStrayAnswer}
+use Rattle.tftp_ends.specs.Ports.{Route, same_peer, goes_out, comes_in, asks, begins_request, first_of, has_come_from, is_from_client, port_of_server, route_before, route_at_client, route_at_server, route_of}
+use Rattle.tftp_ends.specs.KnownIds.{KnownIds, StandsFor, NotesStrays, HasNumbers, HasNoRequest, among_all, answers, answer_of, is_noted, is_other, other_end, sides_of}
+use Rattle.tftp_ends.specs.Ports.Route.{Request, Peer, Stray, StrayAnswer, WrongPort, ForeignPort, NoStrayAnswer}
+use Rattle.tftp_ends.specs.declared.route.Route.{Route as MayPass}
+use Rattle.tftp_ends.specs.declared.route.Route.TheVariants as may
 use Rattle.tftp_ends.specs.declared.ports.PortFault.{PortFault}
 use Rattle.tftp_ends.specs.declared.ports.Sides.{Sides}
 use Rattle.tftp_ends.proofs.KeptIds.{two_ways, answered_is, ComesFirst}
@@ -169,9 +170,9 @@ module _ (h : Header) (known : KnownIds) (earlier : List Datagram) (stands : Sta
     | inr some ↦ request_by known earlier d h.named h.service stands some.0 some.1 is
   ]
 
-  pub peer_stands : Peer ≡ route_of h earlier d → (HasNoRequest h earlier Peer → ⊥) → ComesFirst known known.header.named d ≡ false → StandsFor known h (d ∷ earlier)
+  pub peer_stands : Peer ≡ route_of h earlier d → (HasNoRequest h earlier d → ⊥) → ComesFirst known known.header.named d ≡ false → StandsFor known h (d ∷ earlier)
   peer_stands is has later = elim (two_ways (first_of (asks h) earlier)) [
-    | inl none ↦ absurd (has (none, refl))
+    | inl none ↦ absurd (has (none, sym is))
     | inr some ↦ peer_by known earlier d h.named h.service stands some.0 some.1 is (first_here ∙ later)
   ]
 
@@ -212,15 +213,21 @@ same_numbers d way own name port code has =
     λ i. record { dir = dir i; local = local i; host = host i; remote = remote i; payload = d.payload }
 
 -- what passes has its own route
-passing_is : (route passed : Route) → Ok passed ≡ answer_of route → passed ≡ route
-passing_is Request passed e = cc
-passing_is Peer passed e = cc
-passing_is Stray passed e = cc
-passing_is StrayAnswer passed e = cc
+pub passing_is : (route : Route) (passed : MayPass) → Ok passed ≡ answer_of route → among_all passed ≡ route
+passing_is Request passed e = let same : may.Request ≡ passed = cc in sym (ap among_all same)
+passing_is Peer passed e = let same : may.Peer ≡ passed = cc in sym (ap among_all same)
+passing_is Stray passed e = let same : may.Stray ≡ passed = cc in sym (ap among_all same)
+passing_is StrayAnswer passed e = let same : may.StrayAnswer ≡ passed = cc in sym (ap among_all same)
 passing_is ForeignPort passed e = absurd (cc)
 passing_is WrongPort passed e = absurd (cc)
 passing_is NoStrayAnswer passed e = absurd (cc)
 
-pub where_passed : (P : Route → Type 0) (route : Route) (result : Result Route PortFault) → (result ≢ Err PortFault.Memory → result ≡ answer_of route) → IfOk result (λ _. P route) → IfOk result P
-where_passed P route (Ok passed) answers holds = subst P (sym (passing_is route passed (answers (λ e. cc)))) holds
-where_passed P route (Err fault) answers holds = tt
+-- no route is want of memory
+pub route_takes_none : (route : Route) → Err PortFault.Memory ≡ answer_of route → ⊥
+route_takes_none Request e = cc
+route_takes_none Peer e = cc
+route_takes_none Stray e = cc
+route_takes_none StrayAnswer e = cc
+route_takes_none ForeignPort e = cc
+route_takes_none WrongPort e = cc
+route_takes_none NoStrayAnswer e = cc

@@ -10,8 +10,9 @@ use Rattle.tftp_packet.specs.declared.kinds.Dir.{Dir}
 use Rattle.tftp_packet.specs.declared.kinds.End.{End}
 use Rattle.tftp_packet.specs.declared.kinds.End.TheVariants.{Client, Server}
 use Rattle.tftp_ends.specs.CaptureText.{Datagram, Header, PeerId, peer_of}
-use Rattle.tftp_ends.specs.Ports.{same_peer, comes_in, goes_out, asks, first_of, has_come_from, route_of}
-use Rattle.tftp_ends.specs.declared.route.Route.{Route}
+use Rattle.tftp_ends.specs.Ports.{Route, same_peer, comes_in, goes_out, asks, first_of, has_come_from, route_of}
+use Rattle.tftp_ends.specs.declared.route.Route.{Route as MayPass}
+use Rattle.tftp_ends.specs.declared.route.Route.TheVariants as may
 use Rattle.tftp_ends.specs.declared.ports.PortFault.{PortFault}
 use Rattle.tftp_ends.specs.declared.ports.Seen.{Seen}
 use Rattle.tftp_ends.specs.declared.ports.Sides.{Sides}
@@ -80,17 +81,27 @@ pub record HasNumbers (d : Datagram) (way : Dir) (own : ℕ) (name : List ℕ) (
   pub remote : d.remote ≡ port
   pub opcode : opcode_of d.payload ≡ code
 
--- the answer that a route has: four routes pass, and the others are faults
-abbrev pub answer_of : Route → Result Route PortFault
+-- the answer that a route has: four routes may pass, and the others are faults
+abbrev pub answer_of : Route → Result MayPass PortFault
+answer_of Route.Request = Ok may.Request
+answer_of Route.Peer = Ok may.Peer
+answer_of Route.Stray = Ok may.Stray
+answer_of Route.StrayAnswer = Ok may.StrayAnswer
 answer_of Route.ForeignPort = Err PortFault.ForeignPort
 answer_of Route.WrongPort = Err PortFault.WrongPort
 answer_of Route.NoStrayAnswer = Err PortFault.StrayAnswer
-answer_of route = Ok route
+
+-- a route that may pass, among all routes
+abbrev pub among_all : MayPass → Route
+among_all may.Request = Route.Request
+among_all may.Peer = Route.Peer
+among_all may.Stray = Route.Stray
+among_all may.StrayAnswer = Route.StrayAnswer
 
 -- a stray from where none has come
 abbrev pub IsNewStray : Header → List Datagram → Datagram → Type 0
 IsNewStray h earlier d = (route_of h earlier d ≡ Route.Stray) × (has_come_from (peer_of d) earlier ≡ false)
 
 -- a datagram that is no request, before the first one
-abbrev pub HasNoRequest : Header → List Datagram → Route → Type 0
-HasNoRequest h earlier route = (first_of (asks h) earlier ≡ None) × (route ≡ Route.Peer)
+abbrev pub HasNoRequest : Header → List Datagram → Datagram → Type 0
+HasNoRequest h earlier d = (first_of (asks h) earlier ≡ None) × (route_of h earlier d ≡ Route.Peer)

@@ -11,8 +11,16 @@ use Rattle.tftp_packet.specs.declared.kinds.End.TheVariants.{Client, Server}
 use Rattle.tftp_packet.specs.declared.kinds.Dir.{Dir}
 use Rattle.tftp_packet.specs.declared.kinds.Dir.TheVariants.{In, Out}
 use Rattle.tftp_ends.specs.CaptureText.{Datagram, Header, PeerId, peer_of}
-use Rattle.tftp_ends.specs.declared.route.Route.{Route}
-use Rattle.tftp_ends.specs.declared.route.Route.TheVariants.{Request, Peer, Stray, StrayAnswer, ForeignPort, WrongPort, NoStrayAnswer}
+
+-- where a datagram belongs, or which rule of ports it breaks
+pub data Route : Type 0 where
+  Request : Route  -- a request, to the service port
+  Peer : Route  -- to or from the other end of the transfer
+  Stray : Route  -- from a host or a port that is not the other end's
+  StrayAnswer : Route  -- an ERROR to where a stray came from
+  ForeignPort : Route  -- the port at the named end is not the transfer's
+  WrongPort : Route  -- the host or the port at the other side is none that it may go to
+  NoStrayAnswer : Route  -- something else than an ERROR to where a stray came from
 
 abbrev pub goes_out : Datagram → Bool
 goes_out d = is_out d.dir where

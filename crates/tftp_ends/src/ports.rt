@@ -1,4 +1,4 @@
-ghost use Rattle.std.specs.Prelude.{◌≡◌, ◌≢◌, ◌&&◌, not, ℕ, false, List, [], ◌∷◌, Some, None, is_some, option_map, Ok, Err, IfOk, OnErr};
+ghost use Rattle.std.specs.Prelude.{◌≡◌, ◌≢◌, ◌&&◌, not, ℕ, false, List, [], ◌∷◌, Some, None, is_some, option_map, Ok, Err, OnOk, OnErr};
 ghost use Rattle.tftp_packet.specs.Faults.{opcode_of};
 ghost use Rattle.tftp_ends.specs.CaptureText.{Datagram, Header};
 ghost use Rattle.tftp_ends.specs.Ports as definitions;
@@ -8,6 +8,7 @@ ghost use Rattle.tftp_ends.specs.KnownIds.{
   HasNumbers,
   HasNoRequest,
   IsNewStray,
+  among_all,
   answer_of,
   datagram_as,
   is_noted,
@@ -150,27 +151,25 @@ impl Ports {
             → result ≡ Err PortFault.Memory → IsNewStray h earlier d }
         ensures passes { (h : Header) (earlier : List Datagram) (d : Datagram) → StandsFor self.old h earlier
             → HasNumbers d dir local host remote opcode
-            → IfOk result (λ route. (HasNoRequest h earlier route → ⊥) → StandsFor self.new h (d ∷ earlier)) }
+            → OnOk result ((HasNoRequest h earlier d → ⊥) → StandsFor self.new h (d ∷ earlier)) }
         ensures waits { self.old.asked ≡ None → result ≡ Ok Route.Peer → self.new ≡ self.old }
-        ensures passing { IfOk result (λ route. answer_of route ≡ Ok route) }
         ensures err { OnErr result (self.new ≡ self.old) }
     {
         let peer = Peer { host, port: remote };
         let sides = Sides { local, peer };
         let seen = Seen { dir, sides, opcode };
-        let route = self.route(&seen);
-        self.keep(&seen, route)
+        let route = self.route(&seen)?;
+        self.keep(&seen, route)?;
+        Ok(route)
     }
 
-    /// Keeps what a datagram of this route fixes, or that it is a stray, unless the route is a fault.
-    fn keep(&mut self, seen: &Seen, route: Route) -> Result<Route, PortFault>
-        ensures answer { result ≢ Err PortFault.Memory → result ≡ answer_of route }
-        ensures absent { result ≡ Err PortFault.Memory → (route ≡ Route.Stray) × (is_noted seen.now.sides.peer self.old.strays ≡ false) }
+    /// Keeps what a datagram of this route fixes, or that it is a stray.
+    fn keep(&mut self, seen: &Seen, route: Route) -> Result<(), AllocError>
         ensures stands { (h : Header) (earlier : List Datagram) (payload : List ℕ) → StandsFor self.old h earlier
-            → route ≡ definitions.route_of h earlier (datagram_as seen.now payload)
-            → IfOk result (λ _. (HasNoRequest h earlier route → ⊥) → StandsFor self.new h (datagram_as seen.now payload ∷ earlier)) }
-        ensures waits { self.old.asked ≡ None → result ≡ Ok Route.Peer → self.new ≡ self.old }
-        ensures passing { IfOk result (λ passed. answer_of passed ≡ Ok passed) }
+            → among_all route ≡ definitions.route_of h earlier (datagram_as seen.now payload)
+            → OnOk result ((HasNoRequest h earlier (datagram_as seen.now payload) → ⊥) → StandsFor self.new h (datagram_as seen.now payload ∷ earlier)) }
+        ensures absent { OnErr result ((route ≡ Route.Stray) × (is_noted seen.now.sides.peer self.old.strays ≡ false)) }
+        ensures waits { self.old.asked ≡ None → route ≡ Route.Peer → self.new ≡ self.old }
         ensures err { OnErr result (self.new ≡ self.old) }
     {
         match route {
@@ -179,11 +178,8 @@ impl Ports {
             Route::Request | Route::Peer => {}
             Route::Stray => self.strays.note(seen.sides.peer)?,
             Route::StrayAnswer => {}
-            Route::ForeignPort => return Err(PortFault::ForeignPort),
-            Route::WrongPort => return Err(PortFault::WrongPort),
-            Route::NoStrayAnswer => return Err(PortFault::StrayAnswer),
         }
-        Ok(route)
+        Ok(())
     }
 
     /// Whether a datagram that goes this way is the first from the server's side, after a first request.
@@ -195,10 +191,10 @@ impl Ports {
     }
 
     /// Where a datagram belongs.
-    fn route(&self, seen: &Seen) -> Route
+    fn route(&self, seen: &Seen) -> Result<Route, PortFault>
         ensures { (h : Header) (earlier : List Datagram) (payload : List ℕ) → StandsFor self.now h earlier
             → opcode_of payload ≡ seen.now.opcode
-            → result ≡ definitions.route_of h earlier (datagram_as seen.now payload) }
+            → result ≡ answer_of (definitions.route_of h earlier (datagram_as seen.now payload)) }
     {
         match &self.asked {
             None => self.route_before(seen),
@@ -210,93 +206,93 @@ impl Ports {
     }
 
     /// Where it belongs before the first request.
-    fn route_before(&self, seen: &Seen) -> Route
+    fn route_before(&self, seen: &Seen) -> Result<Route, PortFault>
         ensures { (payload : List ℕ) → opcode_of payload ≡ seen.now.opcode
-            → result ≡ definitions.route_before self.now.header (datagram_as seen.now payload) }
+            → result ≡ answer_of (definitions.route_before self.now.header (datagram_as seen.now payload)) }
     {
         if !seen.is_from_client(self.named) || !seen.begins_request() {
-            Route::Peer
+            Ok(Route::Peer)
         } else if seen.port_of_server(self.named) == self.service {
-            Route::Request
+            Ok(Route::Request)
         } else {
-            Route::WrongPort
+            Err(PortFault::WrongPort)
         }
     }
 
     /// Where it belongs at a client, after its first request.
-    fn route_at_client(&self, first: &Sides, seen: &Seen) -> Route
+    fn route_at_client(&self, first: &Sides, seen: &Seen) -> Result<Route, PortFault>
         ensures { (earlier : List Datagram) (payload : List ℕ) → opcode_of payload ≡ seen.now.opcode
             → NotesStrays self.now.strays (option_map (λ s. s.peer) self.now.answered) earlier
-            → result ≡ definitions.route_at_client first.now.local first.now.peer (option_map (λ s. s.peer) self.now.answered) earlier
-            (datagram_as seen.now payload) }
+            → result ≡ answer_of (definitions.route_at_client first.now.local first.now.peer (option_map (λ s. s.peer) self.now.answered) earlier
+            (datagram_as seen.now payload)) }
     {
         if seen.sides.local != first.local {
-            return Route::ForeignPort;
+            return Err(PortFault::ForeignPort);
         }
         let is_request = seen.begins_request();
         match (seen.dir, &self.answered) {
-            (Dir::Out, _) if is_request && seen.sides.peer == first.peer => Route::Request,
-            (Dir::Out, _) if is_request => Route::WrongPort,
-            (Dir::Out, None) => Route::WrongPort,
+            (Dir::Out, _) if is_request && seen.sides.peer == first.peer => Ok(Route::Request),
+            (Dir::Out, _) if is_request => Err(PortFault::WrongPort),
+            (Dir::Out, None) => Err(PortFault::WrongPort),
             (Dir::Out, Some(answer)) => self.route_out(answer.peer, seen),
-            (Dir::In, Some(answer)) if seen.sides.peer != answer.peer => Route::Stray,
-            (Dir::In, _) => Route::Peer,
+            (Dir::In, Some(answer)) if seen.sides.peer != answer.peer => Ok(Route::Stray),
+            (Dir::In, _) => Ok(Route::Peer),
         }
     }
 
     /// Where it belongs at a server, after its client's first request.
-    fn route_at_server(&self, first: &Sides, seen: &Seen) -> Route
+    fn route_at_server(&self, first: &Sides, seen: &Seen) -> Result<Route, PortFault>
         ensures { (earlier : List Datagram) (payload : List ℕ) → opcode_of payload ≡ seen.now.opcode
             → NotesStrays self.now.strays (Some first.now.peer) earlier
-            → result ≡ definitions.route_at_server self.now.header first.now.peer (option_map (λ s. s.local) self.now.answered) earlier
-            (datagram_as seen.now payload) }
+            → result ≡ answer_of (definitions.route_at_server self.now.header first.now.peer (option_map (λ s. s.local) self.now.answered) earlier
+            (datagram_as seen.now payload)) }
     {
         let client = first.peer;
         let is_request = seen.begins_request();
         let is_to_service = is_request && seen.sides.local == self.service;
         match (&self.answered, seen.dir) {
-            (None, Dir::Out) if seen.sides.peer == client => Route::Peer,
-            (None, Dir::Out) => Route::WrongPort,
+            (None, Dir::Out) if seen.sides.peer == client => Ok(Route::Peer),
+            (None, Dir::Out) => Err(PortFault::WrongPort),
             (None, Dir::In) => self.route_to_service(client, seen),
-            (Some(own), Dir::Out) if seen.sides.local != own.local => Route::ForeignPort,
+            (Some(own), Dir::Out) if seen.sides.local != own.local => Err(PortFault::ForeignPort),
             (Some(_), Dir::Out) => self.route_out(client, seen),
             (Some(own), Dir::In) if seen.sides.local != own.local || is_to_service => {
                 self.route_to_service(client, seen)
             }
-            (Some(_), Dir::In) if seen.sides.peer != client => Route::Stray,
-            (Some(_), Dir::In) if is_request => Route::WrongPort,
-            (Some(_), Dir::In) => Route::Peer,
+            (Some(_), Dir::In) if seen.sides.peer != client => Ok(Route::Stray),
+            (Some(_), Dir::In) if is_request => Err(PortFault::WrongPort),
+            (Some(_), Dir::In) => Ok(Route::Peer),
         }
     }
 
     /// What comes in at the service port of a server that has not answered, or answers from another port.
-    fn route_to_service(&self, client: Peer, seen: &Seen) -> Route
+    fn route_to_service(&self, client: Peer, seen: &Seen) -> Result<Route, PortFault>
         ensures { (payload : List ℕ) → opcode_of payload ≡ seen.now.opcode
-            → result ≡ definitions.route_to_service self.now.header client (datagram_as seen.now payload) }
+            → result ≡ answer_of (definitions.route_to_service self.now.header client (datagram_as seen.now payload)) }
     {
         if seen.sides.local != self.service || seen.sides.peer != client {
-            Route::ForeignPort
+            Err(PortFault::ForeignPort)
         } else if seen.begins_request() {
-            Route::Request
+            Ok(Route::Request)
         } else {
-            Route::WrongPort
+            Err(PortFault::WrongPort)
         }
     }
 
     /// What goes out from the end's own port: to the other end, or in answer to a stray.
-    fn route_out(&self, other: Peer, seen: &Seen) -> Route
+    fn route_out(&self, other: Peer, seen: &Seen) -> Result<Route, PortFault>
         ensures { (earlier : List Datagram) (payload : List ℕ) → opcode_of payload ≡ seen.now.opcode
             → NotesStrays self.now.strays (Some other) earlier
-            → result ≡ definitions.route_out other earlier (datagram_as seen.now payload) }
+            → result ≡ answer_of (definitions.route_out other earlier (datagram_as seen.now payload)) }
     {
         if seen.sides.peer == other {
-            Route::Peer
+            Ok(Route::Peer)
         } else if !self.strays.have(seen.sides.peer) {
-            Route::WrongPort
+            Err(PortFault::WrongPort)
         } else if seen.begins_error() {
-            Route::StrayAnswer
+            Ok(Route::StrayAnswer)
         } else {
-            Route::NoStrayAnswer
+            Err(PortFault::StrayAnswer)
         }
     }
 }

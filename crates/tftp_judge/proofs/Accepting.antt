@@ -1,15 +1,17 @@
 -- What one more datagram does to what the judge keeps.
 use Rattle.std.proofs.Common.{◌≡◌, ◌⊎◌, ◌<◌, Bool, true, false, List, [], ◌∷◌, Option, Some, None, Ok, Err, inl, inr, refl, sym, subst, ap, ◌∙◌, arith}
-use Rattle.std.specs.Prelude.{◌&&◌, ◌==◌, ◌≢◌, Result, IfOk, if◌then◌else◌}
+use Rattle.std.specs.Prelude.{◌&&◌, ◌==◌, ◌≢◌, Result, OnOk, if◌then◌else◌}
 use Rattle.std.proofs.lemmas.Bool.{false≢true}
 use Rattle.tftp_packet.specs.Message.{Message, RequestParts}
 use Rattle.tftp_packet.specs.Spelling.{Spells}
 use Rattle.tftp_packet.specs.declared.kinds.Dir.{Dir}
 use Rattle.tftp_ends.specs.CaptureText.{Datagram, Header}
-use Rattle.tftp_ends.specs.KnownIds.{KnownIds, StandsFor, HasNoRequest, IsNewStray, answer_of}
-use Rattle.tftp_ends.specs.Ports.{asks, first_of, or_this, begins_request, is_from_client, port_of_server, route_of, is_of_transfer, transfer_of, SaysUnknownId, PortRule, PortBroken}
+use Rattle.tftp_ends.specs.KnownIds.{KnownIds, StandsFor, HasNoRequest, IsNewStray, among_all, answer_of}
+use Rattle.tftp_ends.specs.Ports.{Route, asks, first_of, or_this, begins_request, is_from_client, port_of_server, route_of, is_of_transfer, transfer_of, SaysUnknownId, PortRule, PortBroken}
+use Rattle.tftp_ends.specs.declared.route.Route.{Route as MayPass}
+use Rattle.tftp_ends.specs.declared.route.Route.TheVariants as may
 use Rattle.tftp_ends.specs.declared.ports.PortFault.{PortFault}
-use Rattle.tftp_ends.specs.declared.route.Route.{Route}
+use Rattle.tftp_ends.proofs.KeptSteps.{passing_is}
 use Rattle.tftp_law.specs.OneEnded.{OneEnded, Passes}
 use Rattle.tftp_law.specs.Rules.{number_of, Broken, FirstAsked, FirstBroken}
 use Rattle.tftp_law.specs.declared.rule.Rule.{Rule}
@@ -29,25 +31,18 @@ transfer_kept h earlier d is = ap (λ b. if b then d ∷ transfer_of h earlier e
 pub transfer_same : (h : Header) (earlier : List Datagram) (d : Datagram) → is_of_transfer (route_of h earlier d) ≡ false → transfer_of h (d ∷ earlier) ≡ transfer_of h earlier
 transfer_same h earlier d is = ap (λ b. if b then d ∷ transfer_of h earlier else transfer_of h earlier) is
 
--- an answer tells the route
-pub ok_route : (r route : Route) → Ok route ≡ answer_of r → r ≡ route
-ok_route Route.Request route e = cc
-ok_route Route.Peer route e = cc
-ok_route Route.Stray route e = cc
-ok_route Route.StrayAnswer route e = cc
-ok_route Route.ForeignPort route e = absurd (cc)
-ok_route Route.WrongPort route e = absurd (cc)
-ok_route Route.NoStrayAnswer route e = absurd (cc)
+-- a route that may pass breaks no rule of ports, but what answers a stray may
+passing_by : (r : MayPass) → (among_all r ≡ Route.ForeignPort → ⊥) × (among_all r ≡ Route.WrongPort → ⊥) × (among_all r ≡ Route.NoStrayAnswer → ⊥)
+passing_by may.Request = (λ x. cc, λ x. cc, λ x. cc)
+passing_by may.Peer = (λ x. cc, λ x. cc, λ x. cc)
+passing_by may.Stray = (λ x. cc, λ x. cc, λ x. cc)
+passing_by may.StrayAnswer = (λ x. cc, λ x. cc, λ x. cc)
 
--- a route that passes breaks no rule of ports, but what answers a stray may
-passing_by : (r : Route) → answer_of r ≡ Ok r → (r ≡ Route.ForeignPort → ⊥) × (r ≡ Route.WrongPort → ⊥) × (r ≡ Route.NoStrayAnswer → ⊥)
-passing_by Route.Request e = (λ x. cc, λ x. cc, λ x. cc)
-passing_by Route.Peer e = (λ x. cc, λ x. cc, λ x. cc)
-passing_by Route.Stray e = (λ x. cc, λ x. cc, λ x. cc)
-passing_by Route.StrayAnswer e = (λ x. cc, λ x. cc, λ x. cc)
-passing_by Route.ForeignPort e = absurd (cc)
-passing_by Route.WrongPort e = absurd (cc)
-passing_by Route.NoStrayAnswer e = absurd (cc)
+pub peer_is : (r : MayPass) → among_all r ≡ Route.Peer → r ≡ may.Peer
+peer_is may.Request e = absurd (cc)
+peer_is may.Peer e = refl
+peer_is may.Stray e = absurd (cc)
+peer_is may.StrayAnswer e = absurd (cc)
 
 -- ---- the first rules
 
@@ -126,10 +121,10 @@ module _ (h : Header) (earlier : List Datagram) (d : Datagram) where
   port_first fault After e = port_first_by (route_of h earlier d) refl fault e Rule.ForeignPort After
 
   -- what passes by its route and is none of the transfer
-  pub strays_pass : (route : Route) → route_of h earlier d ≡ route → answer_of route ≡ Ok route → is_of_transfer route ≡ false → (route ≡ Route.StrayAnswer → PortBroken h earlier d PortRule.BadAnswer → ⊥) → Passes h earlier d
-  strays_pass route is passing off answers = off_passes h earlier d (ap is_of_transfer is ∙ off) kept where
-    none : (route ≡ Route.ForeignPort → ⊥) × (route ≡ Route.WrongPort → ⊥) × (route ≡ Route.NoStrayAnswer → ⊥)
-    none = passing_by route passing
+  pub strays_pass : (route : MayPass) → route_of h earlier d ≡ among_all route → is_of_transfer (among_all route) ≡ false → (among_all route ≡ Route.StrayAnswer → PortBroken h earlier d PortRule.BadAnswer → ⊥) → Passes h earlier d
+  strays_pass route is off answers = off_passes h earlier d (ap is_of_transfer is ∙ off) kept where
+    none : (among_all route ≡ Route.ForeignPort → ⊥) × (among_all route ≡ Route.WrongPort → ⊥) × (among_all route ≡ Route.NoStrayAnswer → ⊥)
+    none = passing_by route
 
     kept : (port : PortRule) → PortBroken h earlier d port → ⊥
     kept PortRule.Foreign b = none.0 (sym is ∙ b)
@@ -192,15 +187,6 @@ message_found h earlier d dir m t new way on spells kept same r found =
     found_by h earlier d m t new on spells kept same r
     (subst (λ (w : Dir). Finds (MessageBreaks h t.asked (transfer_of h earlier) w m) (IsTransferAfter new h (d ∷ transfer_of h earlier)) r) (sym way) found)
 
-pub off_route : (r : Route) → (r ≡ Route.Request → ⊥) → (r ≡ Route.Peer → ⊥) → is_of_transfer r ≡ false
-off_route Route.Request a b = absurd (a refl)
-off_route Route.Peer a b = absurd (b refl)
-off_route Route.Stray a b = refl
-off_route Route.StrayAnswer a b = refl
-off_route Route.ForeignPort a b = refl
-off_route Route.WrongPort a b = refl
-off_route Route.NoStrayAnswer a b = refl
-
 main_route : (r : Route) → is_of_transfer r ≡ true → (r ≡ Route.Peer → ⊥) → r ≡ Route.Request
 main_route Route.Request on other = refl
 main_route Route.Peer on other = absurd (other refl)
@@ -228,21 +214,16 @@ request_found h earlier d t one none on other spells after = (
 -- ---- a datagram, by its ports
 
 -- what its ports say of it, and that they are kept where it passes
-pub record Routed (h : Header) (earlier : List Datagram) (d : Datagram) (after : KnownIds) (route : Route) : Type 0 where
-  pub is : route_of h earlier d ≡ route
-  pub passing : answer_of route ≡ Ok route
+pub record Routed (h : Header) (earlier : List Datagram) (d : Datagram) (after : KnownIds) (route : MayPass) : Type 0 where
+  pub is : route_of h earlier d ≡ among_all route
   pub ports : Passes h earlier d → StandsFor after h (d ∷ earlier)
 
-pub routed_by : (h : Header) (earlier : List Datagram) (d : Datagram) (after : KnownIds) (result : Result Route PortFault) (route : Route) → result ≡ Ok route
-    → (result ≢ Err PortFault.Memory → result ≡ answer_of (route_of h earlier d)) → IfOk result (λ r. (HasNoRequest h earlier r → ⊥) → StandsFor after h (d ∷ earlier)) → IfOk result (λ r. answer_of r ≡ Ok r)
-    → Routed h earlier d after route
-routed_by h earlier d after result route ok answer passes passing =
-    let is = ok_route (route_of h earlier d) route (sym ok ∙ answer (λ e. cc)) in
+pub routed_by : (h : Header) (earlier : List Datagram) (d : Datagram) (after : KnownIds) (result : Result MayPass PortFault) (route : MayPass) → result ≡ Ok route
+    → (result ≢ Err PortFault.Memory → result ≡ answer_of (route_of h earlier d)) → OnOk result ((HasNoRequest h earlier d → ⊥) → StandsFor after h (d ∷ earlier)) → Routed h earlier d after route
+routed_by h earlier d after result route ok answer passes =
     record {
-      is = is;
-      passing = subst (λ (r : Result Route PortFault). IfOk r (λ x. answer_of x ≡ Ok x)) ok passing;
-      ports = λ lawful. subst (λ (r : Result Route PortFault). IfOk r (λ x. (HasNoRequest h earlier x → ⊥) → StandsFor after h (d ∷ earlier))) ok passes
-          (λ none. lawful.lawful Rule.NoRequest (none.0, is ∙ none.1));
+      is = sym (passing_is (route_of h earlier d) route (sym ok ∙ answer (λ e. cc)));
+      ports = λ lawful. subst (λ (r : Result MayPass PortFault). OnOk r ((HasNoRequest h earlier d → ⊥) → StandsFor after h (d ∷ earlier))) ok passes (λ none. lawful.lawful Rule.NoRequest none);
     }
 
 -- what is found of a message is found of the datagram
@@ -252,11 +233,11 @@ keeper_found h earlier d new header ports (Ok _) (passes, kept) = (passes, recor
 keeper_found h earlier d new header ports (Err (Stop.Broken rule)) found = found
 keeper_found h earlier d new header ports (Err Stop.Memory) found = found
 
-pub stray_found : (h : Header) (earlier : List Datagram) (d : Datagram) (new : Keeper) (route : Route) → Routed h earlier d new.ports route → is_of_transfer route ≡ false → (route ≡ Route.StrayAnswer → SaysUnknownId d)
+pub stray_found : (h : Header) (earlier : List Datagram) (d : Datagram) (new : Keeper) (route : MayPass) → Routed h earlier d new.ports route → is_of_transfer (among_all route) ≡ false → (among_all route ≡ Route.StrayAnswer → SaysUnknownId d)
     → new.header ≡ h → IsKept h earlier new.transfer → Passes h earlier d × HasKept new h (d ∷ earlier)
 stray_found h earlier d new route routed off answers header kept =
-    let passes = strays_pass h earlier d route routed.is routed.passing off (λ stray bad. elim bad [
-      | inl none ↦ (passing_by route routed.passing).2 (sym routed.is ∙ none)
+    let passes = strays_pass h earlier d route routed.is off (λ stray bad. elim bad [
+      | inl none ↦ (passing_by route).2 (sym routed.is ∙ none)
       | inr never ↦ never.1 (answers stray)
     ]) in (
       passes,
@@ -268,9 +249,9 @@ stray_found h earlier d new route routed off answers header kept =
     )
 
 -- what does not pass by its ports; or a stray, for which memory is wanting
-pub fault_found : (h : Header) (earlier : List Datagram) (d : Datagram) (After : Type 0) (result : Result Route PortFault) (fault : PortFault) → result ≡ Err fault
+pub fault_found : (h : Header) (earlier : List Datagram) (d : Datagram) (After : Type 0) (result : Result MayPass PortFault) (fault : PortFault) → result ≡ Err fault
     → (result ≢ Err PortFault.Memory → result ≡ answer_of (route_of h earlier d)) → (result ≡ Err PortFault.Memory → IsNewStray h earlier d) → FindsOf h earlier d After (Err (stop_by_port fault))
 fault_found h earlier d After result PortFault.ForeignPort is answer memory = port_first h earlier d PortFault.ForeignPort After (sym is ∙ answer (λ e. let same = sym is ∙ e in cc))
 fault_found h earlier d After result PortFault.WrongPort is answer memory = port_first h earlier d PortFault.WrongPort After (sym is ∙ answer (λ e. let same = sym is ∙ e in cc))
 fault_found h earlier d After result PortFault.StrayAnswer is answer memory = port_first h earlier d PortFault.StrayAnswer After (sym is ∙ answer (λ e. let same = sym is ∙ e in cc))
-fault_found h earlier d After result PortFault.Memory is answer memory = strays_pass h earlier d Route.Stray (memory is).0 refl refl (λ stray bad. absurd (cc))
+fault_found h earlier d After result PortFault.Memory is answer memory = strays_pass h earlier d may.Stray (memory is).0 refl (λ stray bad. absurd (cc))

@@ -30,7 +30,7 @@ module _ (Lawful Legal : List Datagram → Type 0) (Shown Said : Meaning → Lis
   carried h ds (Err (Aborted by code)) (lawful, none, is) = (there ds lawful, (λ m shown. none m (unsaid m ds shown)), is)
   carried h ds (Err (Incomplete count)) (lawful, none, going, is) = (there ds lawful, (λ m shown. none m (unsaid m ds shown)), going, is)
   carried h ds (Err NormalTooLong) (lawful, (m, shown), long) = (there ds lawful, (m, said m ds shown), λ n is writable. long n (unsaid n ds is) writable)
-  carried h ds (Err Memory) lawful = there ds lawful
+  carried h ds (Err (Memory count)) (lawful, ended, is) = (there ds lawful, ended, is)
 
 -- the law of two ends, and that of the rules
 pub verdict : (h : Header) (ds : List Datagram) (v : Result Meaning Refusal) → IsVerdict h ds v ↔ IsVerdictByRules h ds v

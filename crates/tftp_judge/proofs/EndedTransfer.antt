@@ -237,8 +237,11 @@ long_verdict h earlier m lawful meant long = (
     back : earlier ≡ reverse (reverse earlier)
     back = sym (reverse-reverse earlier)
 
-pub memory_verdict : (h : Header) (earlier : List Datagram) → OneEnded h earlier → IsVerdictByRules h (reverse earlier) (Err Memory)
-memory_verdict h earlier lawful = subst (OneEnded h) (sym (reverse-reverse earlier)) lawful
+pub memory_verdict : (h : Header) (earlier : List Datagram) (count : ℕ) → OneEnded h earlier → IsEnded h earlier → count ≡ length earlier → IsVerdictByRules h (reverse earlier) (Err (Memory count))
+memory_verdict h earlier count lawful ended is = (subst (OneEnded h) back lawful, subst (IsEnded h) back ended, is ∙ sym (length-reverse earlier))
+  where
+    back : earlier ≡ reverse (reverse earlier)
+    back = sym (reverse-reverse earlier)
 
 pub unfinished_verdict : (h : Header) (earlier : List Datagram) (total : ℕ) (refusal : Refusal) → OneEnded h earlier → ((m : Meaning) → Meant h earlier m → ⊥) → total ≡ length earlier
     → IsUnfinished (transfer_of h earlier) total refusal → IsVerdictByRules h (reverse earlier) (Err refusal)
@@ -248,7 +251,3 @@ unfinished_verdict h earlier total refusal lawful none is left =
   where
     back : earlier ≡ reverse (reverse earlier)
     back = sym (reverse-reverse earlier)
-
-pub wanting_verdict : (h : Header) (earlier : List Datagram) (said : Result Meaning Refusal) → OneEnded h earlier → IsErrAnd said (λ refusal. refusal ≡ Memory) → IsVerdictByRules h (reverse earlier) said
-wanting_verdict h earlier (Err refusal) lawful is = subst (λ r. IsVerdictByRules h (reverse earlier) (Err r)) (sym is) (memory_verdict h earlier lawful)
-wanting_verdict h earlier (Ok m) lawful is = absurd is

@@ -17,5 +17,6 @@ mod FirstLines
 mod SameVerdicts
 pub mod EndedJudge
 pub mod MessageFound
+pub mod NewMessages
 pub mod StaysAfter
 pub mod Replied

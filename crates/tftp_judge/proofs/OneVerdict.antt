@@ -167,42 +167,42 @@ module _ (h : Header) (ds : List Datagram) where
       ap (λ b. Aborted b code) same.0 ∙ ap (Aborted also) same.1
   aborted_or by code (Incomplete c) said one other = absurd (none_first (transfer_of h (reverse ds)) other.2 by code one.2)
   aborted_or by code NormalTooLong said one other = absurd (one.1 other.1.0 other.1.1)
-  aborted_or by code Memory said one other = absurd said
+  aborted_or by code (Memory n) said one other = absurd said
 
   incomplete_or : (c : ℕ) (w : Refusal) → IsSaid (Err w) → IsVerdict h ds (Err (Incomplete c)) → IsVerdict h ds (Err w) → Incomplete c ≡ w
   incomplete_or c (Unlawful j q) said one other = absurd (not_lawful h ds j q other one.0)
   incomplete_or c (Aborted by code) said one other = absurd (none_first (transfer_of h (reverse ds)) one.2 by code other.2)
   incomplete_or c (Incomplete e) said one other = ap Incomplete (one.3 ∙ sym other.3)
   incomplete_or c NormalTooLong said one other = absurd (one.1 other.1.0 other.1.1)
-  incomplete_or c Memory said one other = absurd said
+  incomplete_or c (Memory n) said one other = absurd said
 
   too_long_or : (w : Refusal) → IsSaid (Err w) → IsVerdict h ds (Err NormalTooLong) → IsVerdict h ds (Err w) → NormalTooLong ≡ w
   too_long_or (Unlawful j q) said one other = absurd (not_lawful h ds j q other one.0)
   too_long_or (Aborted by code) said one other = absurd (other.1 one.1.0 one.1.1)
   too_long_or (Incomplete c) said one other = absurd (other.1 one.1.0 one.1.1)
   too_long_or NormalTooLong said one other = refl
-  too_long_or Memory said one other = absurd said
+  too_long_or (Memory n) said one other = absurd said
 
   unlawful_or : (i : ℕ) (r : Rule) (w : Refusal) → IsSaid (Err w) → IsVerdict h ds (Err (Unlawful i r)) → IsVerdict h ds (Err w) → Unlawful i r ≡ w
   unlawful_or i r (Unlawful j q) said one other = one_place h ds i j r q one other
   unlawful_or i r (Aborted by code) said one other = absurd (not_lawful h ds i r one other.0)
   unlawful_or i r (Incomplete c) said one other = absurd (not_lawful h ds i r one other.0)
   unlawful_or i r NormalTooLong said one other = absurd (not_lawful h ds i r one other.0)
-  unlawful_or i r Memory said one other = absurd said
+  unlawful_or i r (Memory n) said one other = absurd said
 
   one_refusal : (v w : Refusal) → IsSaid (Err v) → IsSaid (Err w) → IsVerdict h ds (Err v) → IsVerdict h ds (Err w) → v ≡ w
   one_refusal (Unlawful i r) w said also one other = unlawful_or i r w also one other
   one_refusal (Aborted by code) w said also one other = aborted_or by code w also one other
   one_refusal (Incomplete c) w said also one other = incomplete_or c w also one other
   one_refusal NormalTooLong w said also one other = too_long_or w also one other
-  one_refusal Memory w said also one other = absurd said
+  one_refusal (Memory n) w said also one other = absurd said
 
   not_refused : (m : Meaning) (w : Refusal) → IsSaid (Err w) → IsVerdict h ds (Ok m) → IsVerdict h ds (Err w) → ⊥
   not_refused m (Unlawful j q) said one other = not_lawful h ds j q other one.0
   not_refused m (Aborted by code) said one other = other.1 m one.1
   not_refused m (Incomplete c) said one other = other.1 m one.1
   not_refused m NormalTooLong said one other = other.2 m one.1 one.2
-  not_refused m Memory said one other = said
+  not_refused m (Memory n) said one other = said
 
   pub one_verdict : (v w : Result Meaning Refusal) → IsSaid v → IsSaid w → IsVerdict h ds v → IsVerdict h ds w → v ≡ w
   one_verdict (Ok m) (Ok n) said also one other = ap Ok (one_shown h ds m n one.1 other.1)

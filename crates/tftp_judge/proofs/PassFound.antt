@@ -9,8 +9,7 @@ use Rattle.tftp_packet.specs.Written.{IsString, terminated}
 use Rattle.tftp_packet.specs.Spelling.{Spells, IsPair}
 use Rattle.tftp_packet.proofs.NoFault.{no_fault}
 use Rattle.tftp_ends.specs.CaptureText.{Datagram, Header}
-use Rattle.tftp_ends.specs.Ports.{asks, first_of, route_of, is_of_transfer, transfer_of, SaysUnknownId, PortRule, PortBroken}
-use Rattle.tftp_ends.specs.declared.route.Route.{Route}
+use Rattle.tftp_ends.specs.Ports.{Route, asks, first_of, route_of, is_of_transfer, transfer_of, SaysUnknownId, PortRule, PortBroken}
 use Rattle.tftp_ends.specs.declared.rule.EndRule.{EndRule}
 use Rattle.tftp_nego.specs.declared.fault.NegoFault.{NegoFault}
 use Rattle.tftp_law.specs.Rules.{FirstAsked, Says, GoesOn, ClientWentOn, FirstOack, EndBreaks, Broken}

@@ -3,7 +3,7 @@ use Rattle.std.specs.Prelude.{◌≡◌}
 use Rattle.tftp_packet.specs.Message.{Message, Data}
 use Rattle.tftp_packet.specs.declared.kinds.Side.{Side}
 use Rattle.tftp_packet.specs.declared.kinds.Side.TheVariants.{Put}
-use Rattle.tftp_ends.specs.NamedEnd.{MayKeep}
+use Rattle.tftp_ends.specs.NamedEnd.{IsNewBlock, MayKeep}
 use Rattle.tftp_judge.specs.Kept.{Course, Unanswered, Begun, Agreed, Transfer}
 
 -- the request is answered
@@ -17,6 +17,12 @@ abbrev pub MayKeepOn : Course → Message → Type 0
 MayKeepOn Unanswered m = Unit {0}
 MayKeepOn (Begun end) m = MayKeep end m
 MayKeepOn (Agreed options end) m = MayKeep end m
+
+-- a block that the end does not hold, once it has begun
+abbrev pub IsNewBlockOn : Course → Message → Type 0
+IsNewBlockOn Unanswered m = ⊥
+IsNewBlockOn (Begun end) m = IsNewBlock end m
+IsNewBlockOn (Agreed options end) m = IsNewBlock end m
 
 -- a block of a write, which waits for the reply (RFC 1350, section 4)
 abbrev pub WaitsForReply : Side → Message → Type 0

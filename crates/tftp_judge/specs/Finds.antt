@@ -8,6 +8,7 @@ use Rattle.tftp_law.specs.Rules.{number_of, FirstBroken}
 use Rattle.tftp_law.specs.declared.rule.Rule.{Rule}
 use Rattle.tftp_law.specs.declared.rule.Rule.TheVariants.{ForeignPort, WrongPort, StrayAnswer, OackEmpty, MulticastAgreed, OptionNotRequested, OptionOutsideProfile, OptionValue, BeyondBlock65535}
 use Rattle.tftp_nego.specs.declared.fault.NegoFault.{NegoFault}
+use Rattle.tftp_judge.specs.Memory.{TakesMemory}
 use Rattle.tftp_judge.specs.declared.refusal.Refusal.{Refusal}
 use Rattle.tftp_judge.specs.declared.refusal.Refusal.TheVariants as refusal
 use Rattle.tftp_judge.specs.declared.stop.Stop.{Stop}
@@ -32,10 +33,11 @@ FindsOf h earlier d After (Ok _) = Passes h earlier d × After
 FindsOf h earlier d After (Err (Broken rule)) = FirstBroken h earlier d rule
 FindsOf h earlier d After (Err Memory) = Passes h earlier d
 
--- the refusal of the datagram after those that were fed
+-- The refusal of the datagram after those that were fed. Memory is wanting only for one that breaks no rule, and for which
+-- memory is taken.
 abbrev pub Refuses : Header → List Datagram → Datagram → Refusal → Type 0
 Refuses h earlier d (refusal.Unlawful index rule) = (index ≡ length earlier + 1) × FirstBroken h earlier d rule
-Refuses h earlier d refusal.Memory = Passes h earlier d
+Refuses h earlier d (refusal.Memory count) = (count ≡ length earlier) × Passes h earlier d × TakesMemory h earlier d
 Refuses h earlier d _ = ⊥
 
 -- a block or an acknowledgement

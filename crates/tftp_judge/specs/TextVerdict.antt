@@ -1,12 +1,15 @@
 -- What there is to say of a capture text, by the runs of two ends.
-use Rattle.std.specs.Prelude.{List, ℕ, ◌<◌, All, map, Result, Ok, Err}
-use Rattle.tftp_capture.specs.CaptureText.{Begins, Due, HasFault, IsCapture, Numbered, Unfinished}
-use Rattle.tftp_capture.specs.History.{IsAtTextEnd, IsReadFault}
+use Rattle.std.specs.Prelude.{◌≡◌, ◌⊎◌, List, [], ◌∷◌, ◌++◌, ℕ, ◌<◌, ◌≤◌, All, length, map, reverse, Result, Ok, Err}
+use Rattle.tftp_capture.specs.CaptureText.{Begins, Due, HasFault, IsCapture, Numbered, Stands, Unfinished}
+use Rattle.tftp_capture.specs.CaptureText.Due.{Body}
+use Rattle.tftp_capture.specs.History.{IsAtTextEnd, IsReadFault, MemoryTells}
+use Rattle.tftp_capture.specs.declared.version.Version.{Version}
 use Rattle.tftp_capture.specs.declared.fault.CaptureFault.{CaptureFault}
 use Rattle.tftp_capture.specs.declared.fault.CaptureFault.TheVariants.{Text, Read, Memory}
 use Rattle.tftp_ends.specs.CaptureText.{Datagram, Header}
 use Rattle.tftp_ends.specs.Meaning.{Meaning}
 use Rattle.tftp_law.specs.Law.{IsLawful}
+use Rattle.tftp_judge.specs.Memory.{TakesMemory}
 use Rattle.tftp_judge.specs.Verdict.{IsVerdict}
 use Rattle.tftp_judge.specs.declared.refusal.Refusal.{Refusal}
 use Rattle.tftp_judge.specs.declared.refusal.Refusal.TheVariants as refusal
@@ -34,23 +37,69 @@ abbrev pub LawfulBefore : List ℕ → ℕ → Type 0
 LawfulBefore text line =
     (header : Header) (datagrams : List Numbered) → Begins text header datagrams → All (λ d. d.0 < line) datagrams → IsLawful header (unnumbered datagrams)
 
+-- ---- want of memory
+
+-- What was read is what was taken, and what a reader has read ahead of that: at most 16,384 bytes.
+abbrev pub IsReadTo : List ℕ → List ℕ → List ℕ → Type 0
+IsReadTo read taken ahead = (read ≡ taken ++ ahead) × (length ahead ≤ 16384)
+
+-- The reader wanted memory for this line: no byte that was taken is wrong, and the line is the one that was being read, or
+-- the last that was taken, which says a datagram.
+pub record WantsToRead (read : List ℕ) (line : ℕ) : Type 0 where
+  pub taken : List ℕ
+  pub ahead : List ℕ
+  pub datagrams : List Numbered
+  pub to : IsReadTo read taken ahead
+  pub tells : MemoryTells (Memory line) taken ahead datagrams
+
+-- The judge wanted memory for the last datagram on the lines that were taken, which has so many before it: with it they are
+-- lawful, and it is one for which memory is taken.
+pub record WantsToJudge (read : List ℕ) (count : ℕ) : Type 0 where
+  pub taken : List ℕ
+  pub ahead : List ℕ
+  pub to : IsReadTo read taken ahead
+  pub version : Version
+  pub lines : List (List ℕ)
+  pub header : Header
+  pub datagrams : List Numbered
+  pub last : Numbered
+  pub stands : Stands taken lines [] (Body version header) (datagrams ++ last ∷ [])
+  pub count_is : count ≡ length datagrams
+  pub lawful : IsLawful header (unnumbered (datagrams ++ last ∷ []))
+  pub takes : TakesMemory header (reverse (unnumbered datagrams)) last.1
+
+-- ---- what is said
+
 -- a fault of the text or its reader, after datagrams that are lawful
 abbrev pub IsFaultOf : List ℕ → CaptureFault → Type 0
 IsFaultOf text (Text line fault) = ((datagrams : List Numbered) × HasFault text datagrams line fault) × AllLawful text
 IsFaultOf text (Read line) = ((datagrams : List Numbered) × (due : Due) × Unfinished text datagrams line due) × AllLawful text
-IsFaultOf text (Memory line) = LawfulBefore text line
+IsFaultOf text (Memory line) = ((read more : List ℕ) × (text ≡ read ++ more) × WantsToRead read line) × LawfulBefore text line
 
 -- The first unlawful datagram on the lines before the text's first fault; else that fault; else what is said of the
--- datagrams. A text whose reading failed is what came before. Want of memory comes where the datagrams before it are
--- lawful.
+-- datagrams. A text whose reading failed is what came before. Want of memory may be said of each beginning of the text in
+-- which no byte is wrong and no datagram unlawful: of the line that was being read, of a datagram that takes memory, or of
+-- the meaning of all.
 abbrev pub IsTextVerdict : List ℕ → Result Meaning Verdict → Type 0
 IsTextVerdict text (Ok m) = IsCaptureBy text (Ok m)
 IsTextVerdict text (Err (Refused (refusal.Unlawful index rule))) = BeginsBy text (Err (refusal.Unlawful index rule))
 IsTextVerdict text (Err (Refused (refusal.Aborted by code))) = IsCaptureBy text (Err (refusal.Aborted by code))
 IsTextVerdict text (Err (Refused (refusal.Incomplete count))) = IsCaptureBy text (Err (refusal.Incomplete count))
 IsTextVerdict text (Err (Refused refusal.NormalTooLong)) = IsCaptureBy text (Err refusal.NormalTooLong)
-IsTextVerdict text (Err (Refused refusal.Memory)) = BeginsBy text (Err refusal.Memory)
+IsTextVerdict text (Err (Refused (refusal.Memory count))) = ((read more : List ℕ) × (text ≡ read ++ more) × WantsToJudge read count) ⊎ IsCaptureBy text (Err (refusal.Memory count))
 IsTextVerdict text (Err (Capture fault)) = IsFaultOf text fault
+
+-- The same of what was read, where that is all: what comes after the want of memory was read ahead.
+abbrev pub IsReadVerdict : List ℕ → Result Meaning Verdict → Type 0
+IsReadVerdict read (Err (Capture (Memory line))) = WantsToRead read line × LawfulBefore read line
+IsReadVerdict read (Err (Refused (refusal.Memory count))) = WantsToJudge read count ⊎ IsCaptureBy read (Err (refusal.Memory count))
+IsReadVerdict read r = IsTextVerdict read r
+
+-- want of memory
+abbrev pub WantsMemory : Result Meaning Verdict → Type 0
+WantsMemory (Err (Capture (Memory line))) = Unit {0}
+WantsMemory (Err (Refused (refusal.Memory count))) = Unit {0}
+WantsMemory _ = ⊥
 
 -- what is said only where the whole text was seen
 abbrev pub EndsText : Result Meaning Verdict → Type 0
@@ -59,7 +108,7 @@ EndsText (Err (Refused (refusal.Unlawful index rule))) = ⊥
 EndsText (Err (Refused (refusal.Aborted by code))) = Unit {0}
 EndsText (Err (Refused (refusal.Incomplete count))) = Unit {0}
 EndsText (Err (Refused refusal.NormalTooLong)) = Unit {0}
-EndsText (Err (Refused refusal.Memory)) = ⊥
+EndsText (Err (Refused (refusal.Memory count))) = ⊥
 EndsText (Err (Capture fault)) = IsAtTextEnd fault
 
 -- that a read failed
@@ -75,7 +124,7 @@ IsOfText (Err (Refused (refusal.Unlawful index rule))) = Unit {0}
 IsOfText (Err (Refused (refusal.Aborted by code))) = Unit {0}
 IsOfText (Err (Refused (refusal.Incomplete count))) = Unit {0}
 IsOfText (Err (Refused refusal.NormalTooLong)) = Unit {0}
-IsOfText (Err (Refused refusal.Memory)) = ⊥
+IsOfText (Err (Refused (refusal.Memory count))) = ⊥
 IsOfText (Err (Capture (Text line fault))) = Unit {0}
 IsOfText (Err (Capture (Read line))) = ⊥
 IsOfText (Err (Capture (Memory line))) = ⊥

@@ -8,7 +8,7 @@ use Rattle.tftp_law.specs.Fits.{IsWritable}
 use Rattle.tftp_law.specs.Law.{IsLawful, ShowsBy}
 use Rattle.tftp_law.specs.Rules.{FirstBroken}
 use Rattle.tftp_law.specs.declared.rule.Rule.{Rule}
-use Rattle.tftp_law.specs.OneEnded.{OneEnded, Meant}
+use Rattle.tftp_law.specs.OneEnded.{IsEnded, OneEnded, Meant}
 use Rattle.tftp_judge.specs.declared.refusal.Refusal.{Refusal}
 use Rattle.tftp_judge.specs.declared.refusal.Refusal.TheVariants.{Unlawful, Aborted, Incomplete, NormalTooLong, Memory}
 
@@ -24,7 +24,7 @@ pub record IsUnlawfulAt (Lawful : List Datagram → Type 0) (header : Header) (d
   pub unlawful : Lawful (before ++ datagram ∷ []) → ⊥
   pub broken : FirstBroken header (reverse before) datagram rule
 
--- Want of memory says of the datagrams only that they are lawful.
+-- Memory is wanting, after all datagrams, only where they are a whole transfer.
 abbrev pub IsVerdictBy : (List Datagram → Type 0) → (Meaning → List Datagram → Type 0) → Header → List Datagram → Result Meaning Refusal → Type 0
 IsVerdictBy Lawful Shown header datagrams (Ok m) = Lawful datagrams × Shown m datagrams × IsWritable m
 IsVerdictBy Lawful Shown header datagrams (Err (Unlawful index rule)) = IsUnlawfulAt Lawful header datagrams index rule
@@ -32,7 +32,7 @@ IsVerdictBy Lawful Shown header datagrams (Err (Aborted by code)) = Lawful datag
 IsVerdictBy Lawful Shown header datagrams (Err (Incomplete count)) =
     Lawful datagrams × ((m : Meaning) → Shown m datagrams → ⊥) × IsNotAborted header (reverse datagrams) × (count ≡ length datagrams)
 IsVerdictBy Lawful Shown header datagrams (Err NormalTooLong) = Lawful datagrams × ((m : Meaning) × Shown m datagrams) × ((m : Meaning) → Shown m datagrams → IsWritable m → ⊥)
-IsVerdictBy Lawful Shown header datagrams (Err Memory) = Lawful datagrams
+IsVerdictBy Lawful Shown header datagrams (Err (Memory count)) = Lawful datagrams × IsEnded header (reverse datagrams) × (count ≡ length datagrams)
 
 -- the verdict by the runs of two ends
 abbrev pub IsVerdict : Header → List Datagram → Result Meaning Refusal → Type 0
@@ -49,4 +49,4 @@ IsSaid (Err (Unlawful index rule)) = Unit {0}
 IsSaid (Err (Aborted by code)) = Unit {0}
 IsSaid (Err (Incomplete count)) = Unit {0}
 IsSaid (Err NormalTooLong) = Unit {0}
-IsSaid (Err Memory) = ⊥
+IsSaid (Err (Memory count)) = ⊥

@@ -1,4 +1,4 @@
-ghost use Rattle.std.specs.Prelude.{◌⊎◌, List, ◌∷◌, OnOk, IfErr};
+ghost use Rattle.std.specs.Prelude.{◌⊎◌, List, ◌∷◌, OnOk, IfErr, OnErr};
 ghost use Rattle.tftp_packet.specs.Message.{RequestParts};
 ghost use Rattle.tftp_packet.specs.Meaning.{meaning};
 ghost use Rattle.tftp_ends.specs.CaptureText.{Datagram, Header};
@@ -6,7 +6,7 @@ ghost use Rattle.tftp_ends.specs.Roles.{author_of};
 ghost use Rattle.tftp_ends.specs.States.{Says};
 ghost use Rattle.tftp_law.specs.MessageRules.{TermsBreak, rule_of_end};
 ghost use Rattle.tftp_law.specs.Rules.{IsError, IsWrongKind};
-ghost use Rattle.tftp_judge.specs.Courses.{HasAnswer, MayKeepOn};
+ghost use Rattle.tftp_judge.specs.Courses.{HasAnswer, IsNewBlockOn, MayKeepOn};
 ghost use Rattle.tftp_judge.specs.Finds.{NoneBreaks, IsFirstOf};
 ghost use Rattle.tftp_judge.specs.Kept.{IsCourse};
 ghost use Rattle.tftp_judge.specs.KeptCode.{course_of};
@@ -44,13 +44,14 @@ impl<D: Delivered + Drop> Course<D> {
         }
     }
 
-    /// Keeps a packet that passes this way. Before the request is answered that is an ERROR, which changes nothing here.
+    /// Keeps a packet that passes this way. Memory is taken for a block that is not held alone. Before the request is answered that is an ERROR, which changes nothing here.
     pub fn pass(&mut self, alloc: Global, dir: Dir, packet: &Packet<'_>) -> Result<(), AllocError>
         requires { MayKeepOn (course_of self.old) (meaning packet.now) }
         ensures ok { (h : Header) (asked : RequestParts) (passed : List Datagram) (d : Datagram)
             → IsCourse h asked passed (course_of self.old) → Says d dir (meaning packet.now)
             → (IsWrongKind (author_of h.named dir) asked.side (meaning packet.now) → ⊥)
             → HasAnswer (course_of self.old) ⊎ IsError (meaning packet.now) → OnOk result (IsCourse h asked (d ∷ passed) (course_of self.new)) }
+        ensures absent { OnErr result (IsNewBlockOn (course_of self.old) (meaning packet.now)) }
     {
         match self {
             Course::Unanswered => Ok(()),

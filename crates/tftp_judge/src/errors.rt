@@ -9,6 +9,7 @@ ghost use Rattle.tftp_law.specs.Aborted.{by_of as by_way};
 ghost use Rattle.tftp_law.specs.Rules.{GoesOn, IsError};
 ghost use Rattle.tftp_judge.specs.Ending.{IsUnfinished};
 ghost use Rattle.tftp_judge.specs.Kept.{AreErrors, ErrorText as ErrorParts};
+ghost use Rattle.tftp_judge.specs.Memory.{IsNew};
 
 use crate::refusal::Refusal;
 use std::alloc::{AllocError, Global};
@@ -74,6 +75,7 @@ fn keep_first(
     ensures first { kept.old ≡ None → OnOk result (kept.new ≡ Some (code, message.now)) }
     ensures later { (error : ErrorParts) → kept.old ≡ Some error → kept.new ≡ Some error }
     ensures err { OnErr result (kept.new ≡ kept.old) }
+    ensures absent { OnErr result (kept.old ≡ None) }
 {
     if kept.is_none() {
         let mut bytes = Vec::new(alloc);
@@ -141,6 +143,8 @@ impl Errors {
         ensures ok { (passed : List Datagram) (d : Datagram) → AreErrors self.old passed → Says d dir (Message.Error code message.now)
             → (GoesOn passed dir (Message.Error code message.now) → ⊥) → OnOk result (AreErrors self.new (d ∷ passed)) }
         ensures err { OnErr result (self.new ≡ self.old) }
+        ensures absent { (passed : List Datagram) → AreErrors self.old passed
+            → OnErr result (IsNew passed dir (Message.Error code message.now)) }
     {
         match dir {
             Dir::Out => keep_first(alloc, &mut self.sent, code, message)?,

@@ -1,4 +1,4 @@
-ghost use Rattle.std.specs.Prelude.{◌≡◌, ◌+◌, ◌^◌, ◌<◌, ◌≤◌, List, [], ◌∷◌, length, reverse, None, Some, OnOk, IfErr, Err};
+ghost use Rattle.std.specs.Prelude.{◌≡◌, ◌+◌, ◌^◌, ◌<◌, ◌≤◌, ℕ, List, [], ◌∷◌, length, reverse, None, Some, OnOk, IfErr, Err};
 ghost use Rattle.tftp_capture.specs.Fields.{datagram_of, header_of};
 ghost use Rattle.tftp_ends.specs.CaptureText.{Datagram as DatagramParts, Header as HeaderParts};
 ghost use Rattle.tftp_law.specs.OneEnded.{Passes, IsEnded};
@@ -53,9 +53,10 @@ impl<D: Delivered + Drop> Judge<D> {
     }
 
     /// Takes the next datagram: Ok exactly if it breaks no rule after those that were accepted, and so if a run of two ends
-    /// has them all. Else it answers the datagram's index, from 1, with the first rule that it breaks, or want of memory.
-    /// After a refusal it answers that one for good. Memory is taken for the first request, the first OACK, a block that is
-    /// not held, an ERROR and a stray from where none has come. A payload is at most what a packet of UDP holds.
+    /// has them all. Else it answers the datagram's index, from 1, with the first rule that it breaks, or want of memory
+    /// with the number of those before it. After a refusal it answers that one for good. Memory is taken for the first
+    /// request, the first OACK, a block that is not held, the first ERROR of a way and a stray from where none has come. A
+    /// payload is at most what a packet of UDP holds.
     pub fn feed(&mut self, alloc: Global, datagram: &Datagram) -> Result<(), Refusal>
         requires few { self.old.fed < 2 ^ 40 }
         requires short { length datagram.now.payload ≤ 65527 }
@@ -64,7 +65,7 @@ impl<D: Delivered + Drop> Judge<D> {
         ensures accepts { (h : HeaderParts) (earlier : List DatagramParts) → IsJudgeAfter self.old h earlier
             → OnOk result (Passes h earlier (datagram_of datagram.now) × IsJudgeAfter self.new h (datagram_of datagram.now ∷ earlier)) }
 
-        // Or the first rule that this one breaks; memory is wanting only where it breaks none.
+        // Or the first rule that this one breaks; memory is wanting only where it breaks none, and is one that takes some.
         ensures refuses { (h : HeaderParts) (earlier : List DatagramParts) → IsJudgeAfter self.old h earlier
             → IfErr result (Refuses h earlier (datagram_of datagram.now)) }
         ensures keeps { IfErr result (λ refusal. self.new.refused ≡ Some refusal) }
@@ -79,7 +80,7 @@ impl<D: Delivered + Drop> Judge<D> {
         if let Err(stop) = self.keeper.pass(alloc, datagram) {
             let refusal = match stop {
                 Stop::Broken(rule) => Refusal::Unlawful(self.fed + 1, rule),
-                Stop::Memory => Refusal::Memory,
+                Stop::Memory => Refusal::Memory(self.fed),
             };
             self.refused = Some(refusal);
             return Err(refusal);
@@ -99,8 +100,8 @@ impl<D: Delivered + Drop> Judge<D> {
     /// What the datagrams mean, or why they are not accepted. Memory is taken only of a whole transfer.
     pub fn finish(self, alloc: Global) -> Result<Meaning, Refusal>
         ensures verdict { (h : HeaderParts) (earlier : List DatagramParts) → IsJudgeAfter self h earlier → IsVerdict h (reverse earlier) result }
-        ensures memory { (h : HeaderParts) (earlier : List DatagramParts) → IsJudgeAfter self h earlier → result ≡ Err RefusalKind.Memory
-            → IsEnded h earlier }
+        ensures memory { (h : HeaderParts) (earlier : List DatagramParts) (count : ℕ) → IsJudgeAfter self h earlier
+            → result ≡ Err (RefusalKind.Memory count) → IsEnded h earlier }
         ensures for_good { (refusal : RefusalKind) → self.refused ≡ Some refusal → result ≡ Err refusal }
     {
         let Judge {

@@ -1,10 +1,13 @@
-ghost use Rattle.std.specs.Prelude.{◌≡◌, ◌↔◌, List, [], ◌∷◌, true, IsTrue};
+ghost use Rattle.std.specs.Prelude.{◌≡◌, ◌↔◌, List, [], ◌∷◌, true, IsTrue, Err};
 ghost use Rattle.tftp_capture.specs.Fields.{datagram_of, header_of};
 ghost use Rattle.tftp_ends.specs.CaptureText.{Datagram as DatagramParts, Header as HeaderParts};
+ghost use Rattle.tftp_ends.specs.KnownIds.{among_all};
 ghost use Rattle.tftp_ends.specs.Ports.{route_of, is_of_transfer, SaysUnknownId};
 ghost use Rattle.tftp_law.specs.OneEnded.{OneEnded};
 ghost use Rattle.tftp_judge.specs.Finds.{FindsOf, stop_by_port};
 ghost use Rattle.tftp_judge.specs.Kept.{HasKept, IsKept};
+ghost use Rattle.tftp_judge.specs.Memory.{TakesMemory};
+ghost use Rattle.tftp_judge.specs.declared.stop.Stop.{Stop as StopKind};
 
 use crate::stop::Stop;
 use crate::transfer::Transfer;
@@ -55,8 +58,10 @@ impl<D: Delivered + Drop> Keeper<D> {
 
     /// What is found of a datagram after those that have passed; where it passes it is kept.
     pub fn pass(&mut self, alloc: Global, datagram: &Datagram) -> Result<(), Stop>
-        ensures { (h : HeaderParts) (earlier : List DatagramParts) → OneEnded h earlier → HasKept self.old h earlier
+        ensures finds { (h : HeaderParts) (earlier : List DatagramParts) → OneEnded h earlier → HasKept self.old h earlier
             → FindsOf h earlier (datagram_of datagram.now) (HasKept self.new h (datagram_of datagram.now ∷ earlier)) result }
+        ensures memory { (h : HeaderParts) (earlier : List DatagramParts) → HasKept self.old h earlier → result ≡ Err StopKind.Memory
+            → TakesMemory h earlier (datagram_of datagram.now) }
     {
         let payload = datagram.payload.as_slice();
         let route = match self.ports.class(
@@ -78,7 +83,7 @@ impl<D: Delivered + Drop> Keeper<D> {
                     Err(Stop::Broken(Rule::StrayAnswer))
                 }
             }
-            _ => Ok(()),
+            Route::Stray => Ok(()),
         }
     }
 
@@ -98,8 +103,11 @@ impl<D: Delivered + Drop> Keeper<D> {
         payload: &[u8],
     ) -> Result<(), Stop>
         ensures finds { (h : HeaderParts) (earlier : List DatagramParts) (d : DatagramParts) → self.old.header ≡ h → OneEnded h earlier
-            → IsKept h earlier self.old.transfer → route ≡ route_of h earlier d → is_of_transfer route ≡ true → d.dir ≡ dir → d.payload ≡ payload.now
-            → FindsOf h earlier d (IsKept h (d ∷ earlier) self.new.transfer) result }
+            → IsKept h earlier self.old.transfer → among_all route ≡ route_of h earlier d → is_of_transfer (among_all route) ≡ true → d.dir ≡ dir
+            → d.payload ≡ payload.now → FindsOf h earlier d (IsKept h (d ∷ earlier) self.new.transfer) result }
+        ensures memory { (h : HeaderParts) (earlier : List DatagramParts) (d : DatagramParts) → IsKept h earlier self.old.transfer
+            → among_all route ≡ route_of h earlier d → is_of_transfer (among_all route) ≡ true → d.dir ≡ dir → d.payload ≡ payload.now
+            → result ≡ Err StopKind.Memory → TakesMemory h earlier d }
         ensures header { self.new.header ≡ self.old.header }
         ensures ports { self.new.ports ≡ self.old.ports }
     {

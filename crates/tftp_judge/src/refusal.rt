@@ -1,5 +1,3 @@
-use std::alloc::AllocError;
-use std::convert::From;
 use tftp_law::{By, Rule};
 
 /// Why the datagrams of a capture are not accepted.
@@ -16,17 +14,7 @@ pub enum Refusal {
     /// A run shows them as a whole transfer, of a text whose canonical form has more than 65535 blocks (RFC 1350, section
     /// 5).
     NormalTooLong,
-    /// A growth was refused. The datagrams so far are lawful.
-    Memory,
-}
-
-impl From<AllocError> for Refusal {
-    ghost use Rattle.std.specs.Prelude.{◌≡◌};
-    ghost use Rattle.tftp_judge.specs.declared.refusal.Refusal.{Refusal};
-
-    ghost from_gives = { λ _ refusal. refusal ≡ Refusal.Memory };
-
-    fn from(_error: AllocError) -> Self {
-        Refusal::Memory
-    }
+    /// A growth was refused, after so many datagrams, which are lawful: for the next one, which breaks no rule, or for the
+    /// meaning of all.
+    Memory(u64),
 }

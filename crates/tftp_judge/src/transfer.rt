@@ -1,4 +1,4 @@
-ghost use Rattle.std.specs.Prelude.{◌≡◌, ◌≢◌, ◌≤◌, ◌↔◌, IsTrue, true, List, [], ◌∷◌, length, reverse, OnOk, IfErr, Err};
+ghost use Rattle.std.specs.Prelude.{◌≡◌, ◌≢◌, ◌≤◌, ◌↔◌, IsTrue, true, ℕ, List, [], ◌∷◌, length, reverse, OnOk, OnErr, IfErr, Err};
 ghost use Rattle.tftp_packet.specs.Message.{Message};
 ghost use Rattle.tftp_packet.specs.Spelling.{Spells};
 ghost use Rattle.tftp_packet.specs.Meaning.{meaning};
@@ -14,6 +14,7 @@ ghost use Rattle.tftp_law.specs.OneEnded.{OneEnded, IsEnded};
 ghost use Rattle.tftp_law.specs.Rules.{Agrees, ClientWentOn, FirstAsked, GoesOn, IsWrongKind, plain_terms as plain_terms_of, terms_after};
 ghost use Rattle.tftp_judge.specs.Finds.{Finds, stop_of_fault, IsBlockOrAck};
 ghost use Rattle.tftp_judge.specs.Courses.{HasAnswer, WaitsForReply, DiffersByCourse, DiffersBySent};
+ghost use Rattle.tftp_judge.specs.Memory.{IsNew};
 ghost use Rattle.tftp_judge.specs.Kept.{AreErrors, Unanswered, IsCourse, IsTransferAfter, IsTransferOf};
 ghost use Rattle.tftp_judge.specs.Verdict.{IsVerdictByRules};
 ghost use Rattle.tftp_judge.specs.declared.refusal.Refusal.{Refusal as RefusalKind};
@@ -90,6 +91,8 @@ impl<D: Delivered + Drop> Transfer<D> {
         ensures finds { (h : Header) (passed : List Datagram) (d : Datagram) → IsTransferAfter self.old h passed
             → Says d dir (meaning packet.now)
             → Finds (MessageBreaks h self.old.asked passed dir (meaning packet.now)) (IsTransferAfter self.new h (d ∷ passed)) result }
+        ensures memory { (h : Header) (passed : List Datagram) → IsTransferAfter self.old h passed → result ≡ Err StopKind.Memory
+            → IsNew passed dir (meaning packet.now) }
         ensures asked { self.new.asked ≡ self.old.asked }
     {
         if is_wrong_kind(author_of(self.named, dir), self.asked.side(), packet) {
@@ -112,6 +115,7 @@ impl<D: Delivered + Drop> Transfer<D> {
         ensures finds { (h : Header) (passed : List Datagram) (d : Datagram) → IsTransferAfter self.old h passed
             → Says d dir (Message.Request (parts now.now))
             → Finds (RequestBreaks self.old.asked passed dir (parts now.now)) (IsTransferAfter self.new h (d ∷ passed)) result }
+        ensures takes_none { result ≢ Err StopKind.Memory }
         ensures asked { self.new.asked ≡ self.old.asked }
     {
         if !same_request(&self.asked, now) {
@@ -137,6 +141,8 @@ impl<D: Delivered + Drop> Transfer<D> {
             → Says d dir (Message.Error code message.now) → (GoesOn passed dir (Message.Error code message.now) → ⊥)
             → OnOk result (IsTransferAfter self.new h (d ∷ passed)) }
         ensures err { IfErr result (λ stop. stop ≡ StopKind.Memory) }
+        ensures absent { (h : Header) (passed : List Datagram) → IsTransferAfter self.old h passed
+            → OnErr result (IsNew passed dir (Message.Error code message.now)) }
         ensures asked { self.new.asked ≡ self.old.asked }
     {
         self.errors.note(alloc, dir, code, message)?;
@@ -149,6 +155,8 @@ impl<D: Delivered + Drop> Transfer<D> {
         ensures finds { (h : Header) (passed : List Datagram) (d : Datagram) → IsTransferAfter self.old h passed
             → Says d dir (Message.Oack (map_of oack.now))
             → Finds (OackBreaks self.old.asked passed dir (map_of oack.now)) (IsTransferAfter self.new h (d ∷ passed)) result }
+        ensures memory { (h : Header) (passed : List Datagram) → IsTransferAfter self.old h passed → result ≡ Err StopKind.Memory
+            → IsNew passed dir (Message.Oack (map_of oack.now)) }
         ensures asked { self.new.asked ≡ self.old.asked }
     {
         match &self.course {
@@ -161,8 +169,9 @@ impl<D: Delivered + Drop> Transfer<D> {
     /// What an OACK breaks after the first one: it is not that one again, or the server of a read sends it after a block
     /// (RFC 2347).
     fn later_oack(&self, dir: Dir, first: &Agreed, oack: &OptionsView<'_>) -> Result<(), Stop>
-        ensures { (h : Header) (passed : List Datagram) → IsTransferAfter self.now h passed
+        ensures finds { (h : Header) (passed : List Datagram) → IsTransferAfter self.now h passed
             → Finds (LaterOackBreaks self.now.asked.side passed dir first.now (map_of oack.now)) (Unit {0}) result }
+        ensures takes_none { result ≢ Err StopKind.Memory }
     {
         if !same_options(first.options(), oack) {
             return Err(Stop::Broken(Rule::OackChanged));
@@ -210,6 +219,8 @@ impl<D: Delivered + Drop> Transfer<D> {
             → Says d dir (meaning packet.now)
             → (IsWrongKind (author_by_way h.named dir) self.old.asked.side (meaning packet.now) → ⊥)
             → Finds (TermsBreak h self.old.asked passed (meaning packet.now)) (IsTransferAfter self.new h (d ∷ passed)) result }
+        ensures memory { (h : Header) (passed : List Datagram) → IsTransferAfter self.old h passed → result ≡ Err StopKind.Memory
+            → IsNew passed dir (meaning packet.now) }
         ensures asked { self.new.asked ≡ self.old.asked }
     {
         self.keep_block(alloc, dir, packet)?;
@@ -224,6 +235,8 @@ impl<D: Delivered + Drop> Transfer<D> {
             → Says d dir (meaning packet.now)
             → (IsWrongKind (author_by_way h.named dir) self.old.asked.side (meaning packet.now) → ⊥)
             → Finds (TermsBreak h self.old.asked passed (meaning packet.now)) (IsCourse h self.old.asked (d ∷ passed) self.new.course) result }
+        ensures memory { (h : Header) (passed : List Datagram) → IsTransferAfter self.old h passed → result ≡ Err StopKind.Memory
+            → IsNew passed dir (meaning packet.now) }
         ensures rest { DiffersByCourse self.old self.new }
     {
         match &self.course {
@@ -241,6 +254,8 @@ impl<D: Delivered + Drop> Transfer<D> {
             → Says d dir (meaning packet.now)
             → (IsWrongKind (author_by_way h.named dir) self.old.asked.side (meaning packet.now) → ⊥)
             → Finds (TermsBreak h self.old.asked passed (meaning packet.now)) (IsCourse h self.old.asked (d ∷ passed) self.new.course) result }
+        ensures memory { (h : Header) (passed : List Datagram) → IsTransferAfter self.old h passed → result ≡ Err StopKind.Memory
+            → IsNew passed dir (meaning packet.now) }
         ensures rest { DiffersByCourse self.old self.new }
     {
         if waits_for_reply(self.asked.side(), packet) {
@@ -262,6 +277,8 @@ impl<D: Delivered + Drop> Transfer<D> {
             → Says d dir (meaning packet.now)
             → (IsWrongKind (author_by_way h.named dir) self.old.asked.side (meaning packet.now) → ⊥)
             → Finds (TermsBreak h self.old.asked passed (meaning packet.now)) (IsCourse h self.old.asked (d ∷ passed) self.new.course) result }
+        ensures memory { (h : Header) (passed : List Datagram) → IsTransferAfter self.old h passed → result ≡ Err StopKind.Memory
+            → IsNew passed dir (meaning packet.now) }
         ensures rest { DiffersByCourse self.old self.new }
     {
         if let Err(rule) = self.course.may_pass(packet) {
@@ -277,7 +294,7 @@ impl<D: Delivered + Drop> Transfer<D> {
         ensures verdict { (h : Header) (earlier : List Datagram) → OneEnded h earlier → FirstAsked h earlier self.asked
             → IsTransferAfter self h (transfer_of h earlier) → count ≡ length earlier → IsVerdictByRules h (reverse earlier) result }
         ensures memory { (h : Header) (earlier : List Datagram) → OneEnded h earlier → FirstAsked h earlier self.asked
-            → IsTransferAfter self h (transfer_of h earlier) → result ≡ Err RefusalKind.Memory → IsEnded h earlier }
+            → IsTransferAfter self h (transfer_of h earlier) → (total : ℕ) → result ≡ Err (RefusalKind.Memory total) → IsEnded h earlier }
     {
         let Transfer {
             asked,
@@ -293,7 +310,10 @@ impl<D: Delivered + Drop> Transfer<D> {
         if !end.done() {
             return Err(errors.unfinished(count));
         }
-        let file = file_of(alloc, asked.mode(), end.into_store())?;
+        let file = match file_of(alloc, asked.mode(), end.into_store()) {
+            Ok(file) => file,
+            Err(_) => return Err(Refusal::Memory(count)),
+        };
         let Some(blocks) = written_blocks(asked.mode(), agreed.blksize(), file.as_slice()) else {
             return Err(Refusal::NormalTooLong);
         };

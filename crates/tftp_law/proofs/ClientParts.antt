@@ -6,8 +6,7 @@ use Rattle.tftp_packet.specs.declared.kinds.End.TheVariants.{Client}
 use Rattle.tftp_packet.specs.declared.kinds.Dir.TheVariants.{In, Out}
 use Rattle.tftp_ends.specs.CaptureText.{Datagram, Header, PeerId, peer_of}
 use Rattle.tftp_ends.specs.Machines.{Req, Oack, Data, Ack, Deed, Sent, Took, Error}
-use Rattle.tftp_ends.specs.Ports.{goes_out, comes_in, begins_request, asks, first_of, route_at_client, route_of}
-use Rattle.tftp_ends.specs.declared.route.Route.{Route}
+use Rattle.tftp_ends.specs.Ports.{Route, goes_out, comes_in, begins_request, asks, first_of, route_at_client, route_of}
 use Rattle.tftp_law.specs.Dress.{Part, Main, Stray, StrayAnswer, Division, datagrams_of, view_in, dir_of, packet_of, TransferIds, Saying, Carries, ComesAstray, AnswersStray, HasPartBy, HavePartsBy}
 use Rattle.tftp_law.specs.Accord.{packet_route, part_route, SaysAsBy, AreRoutedBy, Stands, Starts}
 use Rattle.tftp_law.proofs.FirstRequests.{asks_is, first_stays, first_passes}

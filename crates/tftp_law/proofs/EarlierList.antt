@@ -4,9 +4,8 @@ use Rattle.tftp_packet.specs.Message.{Message}
 use Rattle.tftp_ends.specs.CaptureText.{Datagram, Header}
 use Rattle.tftp_ends.specs.Meaning.{Meaning}
 use Rattle.tftp_ends.specs.Machines.{Req, Oack, Data, Ack, Error, Deed, Sent, Took, History, HasSent, HasTaken}
-use Rattle.tftp_ends.specs.Ports.{asks, first_of, route_of, is_of_transfer, transfer_of}
+use Rattle.tftp_ends.specs.Ports.{Route, asks, first_of, route_of, is_of_transfer, transfer_of}
 use Rattle.tftp_ends.specs.Rules.{HasPassed}
-use Rattle.tftp_ends.specs.declared.route.Route.{Route}
 use Rattle.tftp_ends.proofs.Members.{contains_first, contains_later}
 use Rattle.tftp_law.specs.Dress.{Part, Main, Stray, StrayAnswer, Division, datagrams_of, view_in}
 use Rattle.tftp_law.specs.Accord.{Accords, part_route, AreRouted}

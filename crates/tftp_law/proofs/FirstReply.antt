@@ -12,9 +12,8 @@ use Rattle.tftp_ends.specs.CaptureText.{Datagram, Header}
 use Rattle.tftp_ends.specs.Meaning.{Meaning, request_of, SomethingAgreed, NothingAgreed}
 use Rattle.tftp_ends.specs.Machines.{Req, Oack, Data, Ack, Deed, Sent, Took, History, HasSent, HasTaken, message_of, IsStartedOn, MayAckZeroOn, MaySend, Error}
 use Rattle.tftp_ends.specs.OneSide.{LetsStartOn, LetsAckZeroOn, MayCome, IsOneSided}
-use Rattle.tftp_ends.specs.Ports.{route_of, is_of_transfer, transfer_of}
+use Rattle.tftp_ends.specs.Ports.{Route, route_of, is_of_transfer, transfer_of}
 use Rattle.tftp_ends.specs.Rules.{Passed}
-use Rattle.tftp_ends.specs.declared.route.Route.{Route}
 use Rattle.tftp_packet.specs.OptionMap.{OptionMap}
 use Rattle.std.proofs.Common.{false}
 use Rattle.tftp_ends.specs.OneSide.{heard}

@@ -6,8 +6,7 @@ use Rattle.tftp_packet.specs.Message.{Message, RequestParts}
 use Rattle.tftp_packet.specs.Spelling.{Spells}
 use Rattle.tftp_packet.specs.Faults.{opcode_of}
 use Rattle.tftp_ends.specs.CaptureText.{Datagram, Header}
-use Rattle.tftp_ends.specs.Ports.{asks, first_of, or_this, begins_request, is_from_client, port_of_server, route_before, route_of, is_of_transfer, transfer_of}
-use Rattle.tftp_ends.specs.declared.route.Route.{Route}
+use Rattle.tftp_ends.specs.Ports.{Route, asks, first_of, or_this, begins_request, is_from_client, port_of_server, route_before, route_of, is_of_transfer, transfer_of}
 use Rattle.tftp_law.specs.Rules.{FirstAsked}
 use Rattle.tftp_law.specs.declared.rule.Rule.{Rule}
 use Rattle.tftp_law.specs.OneEnded.{IsRead, OneEnded}

@@ -7,8 +7,7 @@ use Rattle.tftp_ends.specs.Meaning.{Meaning, request_of, blksize_of}
 use Rattle.tftp_ends.specs.Blocks.{block_count}
 use Rattle.tftp_ends.specs.Machines.{Req, Oack, Data, Ack, Deed, Sent, Took, History, MaySend, Error}
 use Rattle.tftp_ends.specs.OneSide.{MayCome, IsOneSided}
-use Rattle.tftp_ends.specs.Ports.{asks, first_of}
-use Rattle.tftp_ends.specs.declared.route.Route.{Route}
+use Rattle.tftp_ends.specs.Ports.{Route, asks, first_of}
 use Rattle.tftp_law.specs.Dress.{Part, Main, Stray, StrayAnswer, Division, datagrams_of, packet_of}
 use Rattle.tftp_law.specs.Accord.{part_route, SaysAs, AreRouted}
 use Rattle.tftp_law.proofs.FirstRequests.{or_some, asks_route}

@@ -6,8 +6,7 @@ use Rattle.tftp_packet.specs.Spelling.{Spells}
 use Rattle.tftp_packet.specs.declared.kinds.Dir.{Dir}
 use Rattle.tftp_packet.specs.declared.kinds.Dir.TheVariants.{In, Out}
 use Rattle.tftp_ends.specs.CaptureText.{Datagram, Header}
-use Rattle.tftp_ends.specs.Ports.{route_of, is_of_transfer, transfer_of}
-use Rattle.tftp_ends.specs.declared.route.Route.{Route}
+use Rattle.tftp_ends.specs.Ports.{Route, route_of, is_of_transfer, transfer_of}
 use Rattle.tftp_ends.specs.Rules.{Passed, HasPassed, BlockPassed, IsGreatest, IsTop, IsAnswered, IsAcked, IsHigh, IsFront}
 use Rattle.tftp_law.specs.OneEnded.{IsRead, OneEnded}
 use Rattle.tftp_law.proofs.Spelled.{spelled_once}

@@ -12,8 +12,7 @@ use Rattle.tftp_ends.specs.CaptureText.{Datagram, Header}
 use Rattle.tftp_ends.specs.Meaning.{Meaning}
 use Rattle.tftp_ends.specs.Machines.{MachinePacket, Req, Oack, Data, Ack, Deed, Sent, Took, message_of, Error}
 use Rattle.tftp_ends.specs.OneSide.{IsOneSided}
-use Rattle.tftp_ends.specs.Ports.{asks, first_of, route_of, is_of_transfer}
-use Rattle.tftp_ends.specs.declared.route.Route.{Route}
+use Rattle.tftp_ends.specs.Ports.{Route, asks, first_of, route_of, is_of_transfer}
 use Rattle.tftp_packet.proofs.NoFault.{no_fault}
 use Rattle.tftp_law.specs.Dress.{Part, Main, Stray, StrayAnswer, Division, datagrams_of, view_in, dir_of, packet_of, TransferIds, says_of, HasPartBy, HavePartsBy, HaveParts}
 use Rattle.tftp_law.specs.Accord.{packet_route, part_route, SaysAsBy, AreRoutedBy, request_at, request_back, Starts}

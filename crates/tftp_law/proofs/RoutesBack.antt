@@ -8,8 +8,7 @@ use Rattle.tftp_packet.specs.declared.kinds.Dir.{Dir}
 use Rattle.tftp_packet.specs.declared.kinds.Dir.TheVariants.{In, Out}
 use Rattle.tftp_packet.specs.Faults.{opcode_of}
 use Rattle.tftp_ends.specs.CaptureText.{Datagram, Header, PeerId, peer_of}
-use Rattle.tftp_ends.specs.Ports.{goes_out, comes_in, begins_request, begins_error, is_from_client, port_of_server, asks, first_of, or_this, has_come_from, same_peer, route_out, route_at_client, route_to_service, route_at_server, route_after, route_of}
-use Rattle.tftp_ends.specs.declared.route.Route.{Route}
+use Rattle.tftp_ends.specs.Ports.{Route, goes_out, comes_in, begins_request, begins_error, is_from_client, port_of_server, asks, first_of, or_this, has_come_from, same_peer, route_out, route_at_client, route_to_service, route_at_server, route_after, route_of}
 use Rattle.tftp_law.specs.Dress.{Placed, Division, datagrams_of, dir_of}
 use Rattle.tftp_law.specs.Sides.{BeginsAsRequest}
 use Rattle.tftp_law.specs.Accord.{request_at}

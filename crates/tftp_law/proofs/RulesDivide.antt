@@ -13,8 +13,7 @@ use Rattle.tftp_ends.specs.CaptureText.{Datagram, Header, PeerId, peer_of}
 use Rattle.tftp_ends.specs.Meaning.{Meaning, request_of}
 use Rattle.tftp_ends.specs.Machines.{Req, Oack, Data, Ack, Error, Deed, Sent, Took, HasSent, HasTaken}
 use Rattle.tftp_ends.specs.OneSide.{IsOneSided}
-use Rattle.tftp_ends.specs.Ports.{goes_out, comes_in, begins_request, begins_error, is_from_client, asks, first_of, or_this, has_come_from, same_peer, route_out, route_at_client, route_to_service, route_at_server, route_after, route_of, is_of_transfer}
-use Rattle.tftp_ends.specs.declared.route.Route.{Route}
+use Rattle.tftp_ends.specs.Ports.{Route, goes_out, comes_in, begins_request, begins_error, is_from_client, asks, first_of, or_this, has_come_from, same_peer, route_out, route_at_client, route_to_service, route_at_server, route_after, route_of, is_of_transfer}
 use Rattle.tftp_ends.proofs.Members.{contains_none}
 use Rattle.tftp_law.proofs.Opening.{none_back}
 use Rattle.tftp_law.proofs.Unasked.{none_view}

@@ -11,9 +11,8 @@ use Rattle.tftp_ends.specs.CaptureText.{Datagram, Header}
 use Rattle.tftp_ends.specs.Meaning.{Meaning, request_of}
 use Rattle.tftp_ends.specs.Machines.{MachinePacket, Req, Oack, Data, Ack, Error, Deed, Sent, Took, History, message_of}
 use Rattle.tftp_ends.specs.OneSide.{IsOneSided}
-use Rattle.tftp_ends.specs.Ports.{asks, first_of, route_of, is_of_transfer, transfer_of, SaysUnknownId}
+use Rattle.tftp_ends.specs.Ports.{Route, asks, first_of, route_of, is_of_transfer, transfer_of, SaysUnknownId}
 use Rattle.tftp_ends.specs.Rules.{Passed}
-use Rattle.tftp_ends.specs.declared.route.Route.{Route}
 use Rattle.tftp_ends.proofs.Members.{contains_none}
 use Rattle.tftp_packet.proofs.NoFault.{no_fault}
 use Rattle.tftp_law.specs.Fits.{Fits}

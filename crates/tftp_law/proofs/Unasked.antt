@@ -6,8 +6,7 @@ use Rattle.tftp_packet.specs.declared.kinds.End.{End}
 use Rattle.tftp_packet.specs.declared.kinds.End.TheVariants.{Client, Server}
 use Rattle.tftp_packet.specs.declared.kinds.Dir.TheVariants.{In}
 use Rattle.tftp_ends.specs.CaptureText.{Datagram, Header, PeerId, peer_of}
-use Rattle.tftp_ends.specs.Ports.{comes_in, asks, first_of, has_come_from, same_peer, route_of}
-use Rattle.tftp_ends.specs.declared.route.Route.{Route}
+use Rattle.tftp_ends.specs.Ports.{Route, comes_in, asks, first_of, has_come_from, same_peer, route_of}
 use Rattle.tftp_law.specs.Dress.{Part, Main, Stray, StrayAnswer, Division, datagrams_of, view_in, packet_of, TransferIds, Saying, HasPartBy, HavePartsBy}
 use Rattle.tftp_law.specs.Accord.{packet_route, part_route, AreRoutedBy, request_at, Starts}
 use Rattle.tftp_law.proofs.FirstRequests.{or_none, asks_is}

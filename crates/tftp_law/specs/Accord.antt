@@ -8,9 +8,8 @@ use Rattle.tftp_ends.specs.CaptureText.{Datagram, Header}
 use Rattle.tftp_ends.specs.Meaning.{Meaning, request_of, blksize_of}
 use Rattle.tftp_ends.specs.Blocks.{block, block_count}
 use Rattle.tftp_ends.specs.Machines.{MachinePacket, Req, Oack, Data, Ack, Error, Deed, Sent, Took, History}
-use Rattle.tftp_ends.specs.Ports.{route_of, transfer_of, SaysUnknownId}
+use Rattle.tftp_ends.specs.Ports.{Route, route_of, transfer_of, SaysUnknownId}
 use Rattle.tftp_ends.specs.Rules.{HasPassed}
-use Rattle.tftp_ends.specs.declared.route.Route.{Route}
 use Rattle.tftp_law.specs.Fits.{Fits}
 use Rattle.tftp_law.specs.Dress.{Part, Main, Stray, StrayAnswer, Division, datagrams_of, dir_of, packet_of, Saying, says_of}
 use Rattle.tftp_law.specs.Rules.{FirstAsked, Agrees, Begins, FirstAnswer}

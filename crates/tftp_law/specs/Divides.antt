@@ -5,8 +5,7 @@ use Rattle.tftp_packet.specs.Message.{Message, RequestParts}
 use Rattle.tftp_packet.specs.Spelling.{Spells}
 use Rattle.tftp_ends.specs.CaptureText.{Datagram, Header}
 use Rattle.tftp_ends.specs.Machines.{MachinePacket, Req, Oack, Data, Ack, Error}
-use Rattle.tftp_ends.specs.Ports.{route_of}
-use Rattle.tftp_ends.specs.declared.route.Route.{Route}
+use Rattle.tftp_ends.specs.Ports.{Route, route_of}
 use Rattle.tftp_law.specs.Dress.{Division, datagrams_of, view_in, TransferIds, Saying, HavePartsBy}
 use Rattle.tftp_law.specs.Accord.{Starts}
 use Rattle.tftp_law.specs.Rules.{Broken, number_of}

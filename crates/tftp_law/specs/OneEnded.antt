@@ -7,8 +7,7 @@ use Rattle.tftp_packet.specs.Spelling.{Spells}
 use Rattle.tftp_ends.specs.CaptureText.{Datagram, Header}
 use Rattle.tftp_ends.specs.Meaning.{Meaning, request_of}
 pub use Rattle.tftp_ends.specs.Joined.{IsJoined}
-use Rattle.tftp_ends.specs.Ports.{route_of, transfer_of, SaysUnknownId}
-use Rattle.tftp_ends.specs.declared.route.Route.{Route}
+use Rattle.tftp_ends.specs.Ports.{Route, route_of, transfer_of, SaysUnknownId}
 use Rattle.tftp_ends.specs.Rules.{Passed, IsFront, IsLast, IsSender, IsReceiver}
 use Rattle.tftp_ends.specs.declared.terms.Terms.{Terms}
 use Rattle.tftp_packet.specs.declared.kinds.Dir.TheVariants.{In, Out}

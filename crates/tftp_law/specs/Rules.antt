@@ -17,8 +17,7 @@ use Rattle.tftp_packet.specs.declared.kinds.Dir.TheVariants.{Out}
 use Rattle.tftp_ends.specs.CaptureText.{Datagram, Header}
 use Rattle.tftp_ends.specs.Meaning.{option_or}
 use Rattle.tftp_ends.specs.Roles.{author_of}
-use Rattle.tftp_ends.specs.Ports.{asks, first_of, route_of, is_of_transfer, transfer_of, PortRule, PortBroken}
-use Rattle.tftp_ends.specs.declared.route.Route.{Route}
+use Rattle.tftp_ends.specs.Ports.{Route, asks, first_of, route_of, is_of_transfer, transfer_of, PortRule, PortBroken}
 use Rattle.tftp_ends.specs.Rules.{Passed, EndBroken}
 use Rattle.tftp_ends.specs.declared.terms.Reply.{Reply}
 use Rattle.tftp_ends.specs.declared.terms.Reply.TheVariants.{NoReply, Plain, Oacked}

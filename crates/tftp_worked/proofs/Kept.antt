@@ -15,8 +15,7 @@ use Rattle.tftp_packet.specs.declared.kinds.Dir.TheVariants.{In, Out}
 use Rattle.tftp_packet.proofs.NoFault.{no_fault}
 use Rattle.tftp_ends.specs.CaptureText.{Datagram, Header}
 use Rattle.tftp_ends.specs.Roles.{sender_of, author_of}
-use Rattle.tftp_ends.specs.Ports.{asks, first_of, route_of, transfer_of, SaysUnknownId}
-use Rattle.tftp_ends.specs.declared.route.Route.{Route}
+use Rattle.tftp_ends.specs.Ports.{Route, asks, first_of, route_of, transfer_of, SaysUnknownId}
 use Rattle.tftp_ends.specs.Rules.{Passed, HasPassed, BlockPassed, IsTop, IsHigh, IsLast, LastIsUnknown, IsNotLengthOf, HasWrongLength, BlocksWait, AckZeroWaits, IsSender, IsAckedAt, IsReachedAt, BlockBreaks, AckBreaks, EndBroken, usable}
 use Rattle.tftp_ends.specs.declared.terms.Terms.{Terms}
 use Rattle.tftp_ends.specs.declared.rule.EndRule.{EndRule}

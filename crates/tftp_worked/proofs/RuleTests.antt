@@ -10,8 +10,7 @@ use Rattle.tftp_packet.specs.declared.kinds.Dir.{Dir}
 use Rattle.tftp_packet.specs.declared.kinds.Dir.TheVariants.{In, Out}
 use Rattle.tftp_ends.specs.CaptureText.{Header}
 use Rattle.tftp_ends.specs.Roles.{sender_of, receiver_of, author_of}
-use Rattle.tftp_ends.specs.Ports.{route_of, is_of_transfer}
-use Rattle.tftp_ends.specs.declared.route.Route.{Route}
+use Rattle.tftp_ends.specs.Ports.{Route, route_of, is_of_transfer}
 use Rattle.tftp_ends.specs.declared.terms.Reply.{Reply}
 use Rattle.tftp_ends.specs.declared.terms.Reply.TheVariants.{NoReply, Plain, Oacked}
 use Rattle.tftp_ends.specs.declared.terms.Terms.{Terms}

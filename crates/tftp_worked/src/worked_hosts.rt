@@ -4,7 +4,7 @@
 ghost use Rattle.std.specs.Prelude.{◌≡◌, reverse};
 ghost use Rattle.tftp_ends.specs.Ports.{route_of};
 ghost use Rattle.tftp_ends.specs.Worked.{two_bytes};
-ghost use Rattle.tftp_ends.specs.declared.route.Route.TheVariants as Route;
+ghost use Rattle.tftp_ends.specs.Ports.Route as Route;
 ghost use Rattle.tftp_law.specs.Law.{Shows};
 ghost use Rattle.tftp_law.specs.OneEnded.{IsRefused};
 ghost use Rattle.tftp_law.specs.declared.rule.Rule.{Rule};

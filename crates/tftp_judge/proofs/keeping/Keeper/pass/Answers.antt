@@ -3,12 +3,12 @@ use Rattle.std.proofs.lemmas.Bool.{false≢true}
 use Rattle.tftp_packet.specs.Faults.{opcode_of}
 use Rattle.tftp_capture.specs.Fields.{datagram_of, header_of}
 use Rattle.tftp_ends.specs.CaptureText.{Datagram, Header}
-use Rattle.tftp_ends.specs.KnownIds.{KnownIds, StandsFor, HasNumbers}
+use Rattle.tftp_ends.specs.KnownIds.{KnownIds, StandsFor, HasNumbers, among_all}
 use Rattle.tftp_ends.specs.Ports.{is_of_transfer}
 use Rattle.tftp_judge.specs.Finds.{FindsOf}
 use Rattle.tftp_judge.specs.declared.stop.Stop.{Stop}
 use Rattle.tftp_judge.specs.Kept.{HasKept, Keeper}
-use Rattle.tftp_judge.proofs.Accepting.{Routed, fault_found, keeper_found, off_route, routed_by, stray_first, stray_found}
+use Rattle.tftp_judge.proofs.Accepting.{Routed, fault_found, keeper_found, routed_by, stray_first, stray_found}
 use Rattle.tftp_judge.proofs.keeping.Keeper.pass.Given.{Over}
 use Rattle.tftp_judge.proofs.keeping.Keeper.pass.Goals as goal
 use Rattle.tftp_judge.proofs.keeping.Keeper.pass.Goals.{then-says_unknown_id, else-says_unknown_id, After-opcode, In-Ok}
@@ -26,41 +26,41 @@ routed : (g : Over) (c : In-Ok g) (h : Header) (earlier : List Datagram) → Sta
     → Routed h earlier (datagram_of c.args.datagram.now) c.class.new.self c.in-Ok.route
 routed g c h earlier stands numbered =
     let d = datagram_of c.args.datagram.now in
-    routed_by h earlier d c.class.new.self c.class.result c.in-Ok.route c.in-Ok.is (c.class.ensures.answer h earlier d stands numbered) (c.class.ensures.passes h earlier d stands numbered) c.class.ensures.passing
+    routed_by h earlier d c.class.new.self c.class.result c.in-Ok.route c.in-Ok.is (c.class.ensures.answer h earlier d stands numbered) (c.class.ensures.passes h earlier d stands numbered)
 
-pub returns-in-Request : goal.returns-in-Request
-returns-in-Request g c h earlier lawful has =
+pub returns-in-Request-clause-finds : goal.returns-in-Request-clause-finds
+returns-in-Request-clause-finds g c h earlier lawful has =
     let d = datagram_of c.args.datagram.now in
-    let at = known g (goal.at.returns-in-Request g c).After-opcode h earlier has in
-    let by_ports = routed g (goal.at.returns-in-Request g c).In-Ok h earlier at.ports (numbers g (goal.at.returns-in-Request g c).After-opcode) in
-    let on : is_of_transfer c.in-Ok.route ≡ true = elim c.in-Request.is [ inl is ↦ ap is_of_transfer is | inr is ↦ ap is_of_transfer is ] in
+    let at = known g (goal.at.returns-in-Request-clause-finds g c).After-opcode h earlier has in
+    let by_ports = routed g (goal.at.returns-in-Request-clause-finds g c).In-Ok h earlier at.ports (numbers g (goal.at.returns-in-Request-clause-finds g c).After-opcode) in
+    let on : is_of_transfer (among_all c.in-Ok.route) ≡ true = elim c.in-Request.is [ inl is ↦ ap (λ r. is_of_transfer (among_all r)) is | inr is ↦ ap (λ r. is_of_transfer (among_all r)) is ] in
     keeper_found h earlier d c.pass_message.new.self (c.pass_message.ensures.header ∙ at.header) (λ passes. subst (λ (ids : KnownIds). StandsFor ids h (d ∷ earlier)) (sym c.pass_message.ensures.ports) (by_ports.ports passes)) c.pass_message.result
     (c.pass_message.ensures.finds h earlier d at.header lawful at.kept (sym by_ports.is) on refl (sym c.as_slice-payload.ensures))
 
-pub returns-after-says_unknown_id : goal.returns-after-says_unknown_id
-returns-after-says_unknown_id g c h earlier lawful has =
+pub returns-after-says_unknown_id-clause-finds : goal.returns-after-says_unknown_id-clause-finds
+returns-after-says_unknown_id-clause-finds g c h earlier lawful has =
     let d = datagram_of c.args.datagram.now in
-    let at = known g (goal.at.returns-after-says_unknown_id g c).After-opcode h earlier has in
-    let by_ports = routed g (goal.at.returns-after-says_unknown_id g c).In-Ok h earlier at.ports (numbers g (goal.at.returns-after-says_unknown_id g c).After-opcode) in
+    let at = known g (goal.at.returns-after-says_unknown_id-clause-finds g c).After-opcode h earlier has in
+    let by_ports = routed g (goal.at.returns-after-says_unknown_id-clause-finds g c).In-Ok h earlier at.ports (numbers g (goal.at.returns-after-says_unknown_id-clause-finds g c).After-opcode) in
     let says = c.says_unknown_id.ensures d (sym c.as_slice-payload.ensures) in
     elim c.if-says_unknown_id.branch [
       | then-says_unknown_id w ↦ rw w.result-is
-          (stray_found h earlier d _ c.in-Ok.route by_ports (ap is_of_transfer c.in-StrayAnswer.is) (λ _. says.0 w.if-says_unknown_id.true) at.header at.kept)
+          (stray_found h earlier d _ c.in-Ok.route by_ports (ap (λ r. is_of_transfer (among_all r)) c.in-StrayAnswer.is) (λ _. says.0 w.if-says_unknown_id.true) at.header at.kept)
       | else-says_unknown_id w ↦ rw w.result-is
-          (stray_first h earlier d (inr (by_ports.is ∙ c.in-StrayAnswer.is, λ unknown. false≢true (sym w.if-says_unknown_id.false ∙ says.1 unknown))))
+          (stray_first h earlier d (inr (by_ports.is ∙ ap among_all c.in-StrayAnswer.is, λ unknown. false≢true (sym w.if-says_unknown_id.false ∙ says.1 unknown))))
     ]
 
-pub returns-in_default : goal.returns-in_default
-returns-in_default g c h earlier lawful has =
+pub returns-in-Stray-clause-finds : goal.returns-in-Stray-clause-finds
+returns-in-Stray-clause-finds g c h earlier lawful has =
     let d = datagram_of c.args.datagram.now in
-    let at = known g (goal.at.returns-in_default g c).After-opcode h earlier has in
-    let by_ports = routed g (goal.at.returns-in_default g c).In-Ok h earlier at.ports (numbers g (goal.at.returns-in_default g c).After-opcode) in
-    stray_found h earlier d _ c.in-Ok.route by_ports (off_route c.in-Ok.route c.in_default.not-Request c.in_default.not-Peer) (λ stray. absurd (c.in_default.not-StrayAnswer stray)) at.header at.kept
+    let at = known g (goal.at.returns-in-Stray-clause-finds g c).After-opcode h earlier has in
+    let by_ports = routed g (goal.at.returns-in-Stray-clause-finds g c).In-Ok h earlier at.ports (numbers g (goal.at.returns-in-Stray-clause-finds g c).After-opcode) in
+    stray_found h earlier d _ c.in-Ok.route by_ports (ap (λ r. is_of_transfer (among_all r)) c.in-Stray.is) (λ answer. let same = sym (ap among_all c.in-Stray.is) ∙ answer in absurd (cc)) at.header at.kept
 
-pub returns-in-Err : goal.returns-in-Err
-returns-in-Err g c h earlier lawful has =
+pub returns-in-Err-clause-finds : goal.returns-in-Err-clause-finds
+returns-in-Err-clause-finds g c h earlier lawful has =
     let d = datagram_of c.args.datagram.now in
-    let stands = (known g (goal.at.returns-in-Err g c).After-opcode h earlier has).ports in
-    let numbered = numbers g (goal.at.returns-in-Err g c).After-opcode in
+    let stands = (known g (goal.at.returns-in-Err-clause-finds g c).After-opcode h earlier has).ports in
+    let numbered = numbers g (goal.at.returns-in-Err-clause-finds g c).After-opcode in
     (subst (λ (stop : Stop). FindsOf h earlier d (Unit {0}) (Err stop)) (sym c.stop_of_port.ensures)
     (fault_found h earlier d (Unit {0}) c.class.result c.in-Err.fault c.in-Err.is (c.class.ensures.answer h earlier d stands numbered) (c.class.ensures.memory h earlier d stands numbered)))

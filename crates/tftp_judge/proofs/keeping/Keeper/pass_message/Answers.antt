@@ -1,4 +1,4 @@
-use Rattle.std.proofs.Common.{◌≡◌, true, List, [], Option, Some, None, rules, sym, subst, ap, ◌∙◌}
+use Rattle.std.proofs.Common.{◌≡◌, true, List, [], Option, Some, None, inr, rules, sym, subst, ap, ◌∙◌}
 use Rattle.std.proofs.lemmas.Bool.{false≢true}
 use Rattle.tftp_packet.specs.Message.{Message, RequestParts}
 use Rattle.tftp_packet.specs.Meaning.{meaning}
@@ -6,10 +6,11 @@ use Rattle.tftp_packet.specs.Spelling.{Spells}
 use Rattle.tftp_packet.specs.Written.{parts}
 use Rattle.tftp_packet.specs.declared.packet.Packet.{Packet}
 use Rattle.tftp_ends.specs.CaptureText.{Header}
-use Rattle.tftp_ends.specs.Ports.{route_of, is_of_transfer, transfer_of}
-use Rattle.tftp_ends.specs.declared.route.Route.{Route}
+use Rattle.tftp_ends.specs.Ports.{Route, route_of, is_of_transfer, transfer_of}
+use Rattle.tftp_ends.specs.declared.route.Route.TheVariants as may
 use Rattle.tftp_judge.specs.Kept.{Keeper, Transfer, IsKept}
-use Rattle.tftp_judge.proofs.Accepting.{message_found, request_found}
+use Rattle.tftp_judge.specs.Memory.{IsNew}
+use Rattle.tftp_judge.proofs.Accepting.{message_found, peer_is, request_found}
 use Rattle.tftp_judge.proofs.keeping.Keeper.pass_message.Goals as goal
 use Rattle.tftp_judge.proofs.keeping.Keeper.pass_message.Goals.{else-is_none-via-then-is_none+else-eq, else-is_none-via-else-is_none}
 
@@ -32,8 +33,20 @@ returns-in_ok-asked-in-None-Request-clause-finds g c = λ h earlier d at one kep
     subst (λ (r : RequestParts). Spells d.payload (Message.Request r)) asked
     (subst (λ (p : Packet). Spells d.payload (meaning p)) c.in-None-Request.is-1 (subst (λ (bytes : List _). Spells bytes (meaning c.in-Ok.packet)) (sym payload) c.in-Ok.ensures.found)) in
     let other : route_of h earlier d ≡ Route.Peer → ⊥ = λ peer. elim c.else-is_none.branch [
-      | else-is_none-via-then-is_none+else-eq w ↦ let same : c.args.route ≡ Route.Peer = is ∙ peer in false≢true (rw same at w.if-eq.ensures)
+      | else-is_none-via-then-is_none+else-eq w ↦ let same : c.args.route ≡ may.Peer = peer_is c.args.route (is ∙ peer) in false≢true (rw same at w.if-eq.ensures)
       | else-is_none-via-else-is_none w ↦ search rules
     ] in
     request_found h earlier d c.of.result one none routed other (subst (λ (r : RequestParts). Spells d.payload (Message.Request r)) (sym c.of.ensures.asked) spells)
     (c.of.ensures.after h d (ap (λ (x : Header). x.named) (sym at) ∙ sym (ap (λ (k : Keeper). k.header.named) c.self.view_is)) spells)
+
+-- ---- want of memory
+
+pub returns-in-Some-default-clause-memory : goal.returns-in-Some-default-clause-memory
+returns-in-Some-default-clause-memory g c = λ h earlier d kept is on dir payload want.
+    let there : c.args.self.now.transfer ≡ Some c.in-Some-default.transfer = cc in
+    let kept_now : IsKept h earlier (Some c.in-Some-default.transfer) = subst (λ (t : Option Transfer). IsKept h earlier t) there kept in
+    inr (
+      meaning c.in-Ok.packet,
+      record { routed = ap is_of_transfer (sym is) ∙ on; spells = subst (λ (bytes : List _). Spells bytes (meaning c.in-Ok.packet)) (sym payload) c.in-Ok.ensures.found },
+      subst (λ w. IsNew (transfer_of h earlier) w (meaning c.in-Ok.packet)) (sym dir) (c.pass.ensures.memory h (transfer_of h earlier) kept_now.1 want),
+    )

@@ -13,7 +13,7 @@ use Rattle.tftp_law.specs.Rules.{FirstAsked}
 use Rattle.tftp_judge.specs.Kept.{Transfer, AreErrors, IsTransferAfter}
 use Rattle.tftp_judge.specs.Verdict.{IsVerdictByRules}
 use Rattle.tftp_judge.specs.KeptCode.{course_of}
-use Rattle.tftp_judge.proofs.EndedTransfer.{BeganBy, begun_by, agreed_to, unanswered_by, held_file, fits_by, unanswered_not_meant, undone_not_meant, ended_by, meant_by, can_be_written, meant_verdict, long_verdict, wanting_verdict, unfinished_verdict}
+use Rattle.tftp_judge.proofs.EndedTransfer.{BeganBy, begun_by, agreed_to, unanswered_by, held_file, fits_by, unanswered_not_meant, undone_not_meant, ended_by, meant_by, can_be_written, meant_verdict, long_verdict, memory_verdict, unfinished_verdict}
 use Rattle.tftp_judge.proofs.transfer.Transfer.finish.Given.{Over}
 use Rattle.tftp_judge.proofs.transfer.Transfer.finish.Goals as goal
 use Rattle.tftp_judge.proofs.transfer.Transfer.finish.Goals.{in-Begun, in-Agreed, After-done, After-written_blocks, After-into_options}
@@ -28,24 +28,24 @@ began g c h passed after = elim c.match-course.branch [
 -- ---- the file is that of a whole transfer
 
 abbrev meaning : (g : Over) → After-written_blocks g → Meaning
-meaning g c = meaning_from (c.args.self.asked, (c.match-course.agreed.0, c.in_ok-file.file.items))
+meaning g c = meaning_from (c.args.self.asked, (c.match-course.agreed.0, c.in-Ok.file.items))
 
 meant : (g : Over) (c : After-written_blocks g) (h : Header) (earlier : List Datagram) → OneEnded h earlier → FirstAsked h earlier c.args.self.asked → BeganBy h c.args.self.asked (transfer_of h earlier) c.match-course.agreed.0 c.match-course.agreed.1 → Meant h earlier (meaning g c)
 meant g c h earlier lawful first begun =
     let mode = ap (λ (t : Transfer). t.asked.mode) c.self.view_is in
-    let file = held_file _ _ _ _ c.in_ok-file.file.items c.into_store.ensures (c.mode.ensures ∙ mode) c.in_ok-file.ensures in
-    meant_by h earlier lawful c.args.self.asked first c.match-course.agreed.1 begun.0 begun.1 c.match-course.agreed.0 c.in_ok-file.file.items
+    let file = held_file _ _ _ _ c.in-Ok.file.items c.into_store.ensures (c.mode.ensures ∙ mode) c.in-Ok.ensures in
+    meant_by h earlier lawful c.args.self.asked first c.match-course.agreed.1 begun.0 begun.1 c.match-course.agreed.0 c.in-Ok.file.items
     ((c.done.ensures.done (transfer_of h earlier) begun.1.after).0 c.if-not-done.false) (c.done.ensures.whole (transfer_of h earlier) begun.1.after c.if-not-done.false) begun.2 file
 
 fits : (g : Over) (c : After-written_blocks g) → (length (written_wire c.mode-2.result c.as_slice.result.now) / c.blksize.result + 1 ≤ 65535) ↔ IsWritable (meaning g c)
 fits g c =
-    fits_by c.mode-2.result c.args.self.asked.mode c.blksize.result c.match-course.agreed.0 c.as_slice.result.now c.in_ok-file.file.items
+    fits_by c.mode-2.result c.args.self.asked.mode c.blksize.result c.match-course.agreed.0 c.as_slice.result.now c.in-Ok.file.items
     (c.mode-2.ensures ∙ ap (λ (t : Transfer). t.asked.mode) c.self.view_is) c.blksize.ensures.value c.as_slice.ensures.value
 
-made : (g : Over) (c : After-into_options g) → meaning_from (c.args.self.asked, (c.match-course.agreed.0, c.in_ok-file.file.items)) ≡ meaning_from (c.self.inside.asked, (c.into_options.result, c.in_ok-file.file.items))
+made : (g : Over) (c : After-into_options g) → meaning_from (c.args.self.asked, (c.match-course.agreed.0, c.in-Ok.file.items)) ≡ meaning_from (c.self.inside.asked, (c.into_options.result, c.in-Ok.file.items))
 made g c =
-    ap (λ (r : RequestParts). meaning_from (r, (c.match-course.agreed.0, c.in_ok-file.file.items))) (sym (ap (λ (t : Transfer). t.asked) c.self.view_is))
-    ∙ ap (λ (o : OptionMap). meaning_from (c.self.inside.asked, (o, c.in_ok-file.file.items))) (sym c.into_options.ensures)
+    ap (λ (r : RequestParts). meaning_from (r, (c.match-course.agreed.0, c.in-Ok.file.items))) (sym (ap (λ (t : Transfer). t.asked) c.self.view_is))
+    ∙ ap (λ (o : OptionMap). meaning_from (c.self.inside.asked, (o, c.in-Ok.file.items))) (sym c.into_options.ensures)
 
 -- ---- what is answered
 
@@ -62,12 +62,14 @@ returns-then-not-done-clause-verdict g c h earlier lawful first after counts =
     (undone_not_meant h earlier lawful c.args.self.asked first c.match-course.agreed.1 begun.0 begun.1 (λ done. true≢false (sym ((c.done.ensures.done (transfer_of h earlier) begun.1.after).1 done) ∙ c.if-not-done.true))) counts
     (c.unfinished-then-not-done.ensures (transfer_of h earlier) (subst (λ e. AreErrors e (transfer_of h earlier)) (sym (ap (λ (t : Transfer). t.errors) c.self.view_is)) after.errors))
 
-pub returns-in_err-file-clause-verdict : goal.returns-in_err-file-clause-verdict
-returns-in_err-file-clause-verdict g c h earlier lawful first after counts = wanting_verdict h earlier c.from_residual.result lawful c.from_residual.ensures.1
+pub returns-in-Err-clause-verdict : goal.returns-in-Err-clause-verdict
+returns-in-Err-clause-verdict g c h earlier lawful first after counts =
+    let begun = began g (goal.at.returns-in-Err-clause-verdict g c).After-done h (transfer_of h earlier) after in
+    memory_verdict h earlier c.args.count lawful (ended_by h earlier lawful c.args.self.asked first c.match-course.agreed.1 begun.0 begun.1 ((c.done.ensures.done (transfer_of h earlier) begun.1.after).0 c.if-not-done.false)) counts
 
-pub returns-in_err-file-clause-memory : goal.returns-in_err-file-clause-memory
-returns-in_err-file-clause-memory g c h earlier lawful first after is =
-    let begun = began g (goal.at.returns-in_err-file-clause-memory g c).After-done h (transfer_of h earlier) after in
+pub returns-in-Err-clause-memory : goal.returns-in-Err-clause-memory
+returns-in-Err-clause-memory g c h earlier lawful first after total is =
+    let begun = began g (goal.at.returns-in-Err-clause-memory g c).After-done h (transfer_of h earlier) after in
     ended_by h earlier lawful c.args.self.asked first c.match-course.agreed.1 begun.0 begun.1 ((c.done.ensures.done (transfer_of h earlier) begun.1.after).0 c.if-not-done.false)
 
 pub returns-in_default-clause-verdict : goal.returns-in_default-clause-verdict

@@ -1,5 +1,7 @@
 use Rattle.std.proofs.Common.{◌∷◌, inl, inr, sym, subst, ap, ◌∙◌}
 use Rattle.std.proofs.lemmas.Bool.{false≢true}
+use Rattle.std.specs.Prelude.{OnErr}
+use Rattle.tftp_packet.specs.Message.{Message}
 use Rattle.tftp_packet.specs.Meaning.{meaning}
 use Rattle.tftp_packet.specs.Spelling.{Spells}
 use Rattle.tftp_packet.specs.declared.kinds.End.{End}
@@ -9,6 +11,7 @@ use Rattle.tftp_law.specs.MessageRules.{KindBreaks}
 use Rattle.tftp_law.specs.Rules.{GoesOn}
 use Rattle.tftp_judge.specs.Finds.{Finds, IsBlockOrAck}
 use Rattle.tftp_judge.specs.Kept.{Transfer, Errors, AreErrors, IsTransferAfter}
+use Rattle.tftp_judge.specs.Memory.{IsNew}
 use Rattle.tftp_judge.proofs.MessageFound.{kind_finds, right_kind, error_finds, block_finds}
 use Rattle.tftp_judge.proofs.transfer.Transfer.pass.Goals as goal
 
@@ -67,3 +70,13 @@ returns-in-Data-clause-finds g c = λ h passed d after says.
     ] in
     kind_finds h asked passed c.args.dir m right stays (IsTransferAfter c.pass_block.new.self h (d ∷ passed)) c.pass_block.result
     (block_finds h asked passed c.args.dir m (IsTransferAfter c.pass_block.new.self h (d ∷ passed)) c.pass_block.result kind (c.pass_block.ensures.finds h passed d after says right))
+
+-- ---- want of memory
+
+pub returns-in-Error-clause-memory : goal.returns-in-Error-clause-memory
+returns-in-Error-clause-memory g c = λ h passed after is.
+    let new = subst (λ r. OnErr r (IsNew passed c.args.dir (Message.Error c.in-Error.code c.in-Error.message.now))) is (c.pass_error.ensures.absent h passed after) in
+    subst (λ (p : Packet). IsNew passed c.args.dir (meaning p)) (sym c.in-Error.is) new
+
+pub returns-in-Oack-clause-memory : goal.returns-in-Oack-clause-memory
+returns-in-Oack-clause-memory g c = λ h passed after is. subst (λ (p : Packet). IsNew passed c.args.dir (meaning p)) (sym c.in-Oack.is) (c.pass_oack.ensures.memory h passed after is)

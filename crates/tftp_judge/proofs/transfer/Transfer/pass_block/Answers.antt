@@ -1,4 +1,4 @@
-use Rattle.std.proofs.Common.{◌≡◌, ◌∷◌, Err, subst, rules}
+use Rattle.std.proofs.Common.{◌≡◌, ◌∷◌, Err, ◌∙◌, subst, rules}
 use Rattle.tftp_packet.specs.Meaning.{meaning}
 use Rattle.tftp_law.specs.MessageRules.{TermsBreak}
 use Rattle.tftp_judge.specs.Finds.{Finds}
@@ -20,3 +20,8 @@ returns-clause-finds g c = λ h passed d after says right.
       transfer_kept c.args.self.now c.keep_block.new.self c.note_sent.new.self h passed d (meaning c.args.packet.now) after says.1 c.requires
           c.keep_block.ensures.rest c.note_sent.ensures.rest found.1 (c.note_sent.ensures.block_sent passed d says) (c.note_sent.ensures.ack_sent passed d says),
     )
+
+pub returns-in_err-keep_block-clause-memory : goal.returns-in_err-keep_block-clause-memory
+returns-in_err-keep_block-clause-memory g c = λ h passed after is.
+    let same : Err c.in_err-keep_block.field-0.0 ≡ c.from_residual.result = search rules in
+    c.in_err-keep_block.ensures.memory h passed after (same ∙ is)

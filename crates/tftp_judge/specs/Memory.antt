@@ -1,0 +1,23 @@
+-- For which datagrams the judge takes memory. The lists `earlier` and `passed` have the datagrams of the capture and those
+-- of the transfer, the newest first.
+use Rattle.std.specs.Prelude.{◌≡◌, ◌⊎◌, ℕ, List, []}
+use Rattle.tftp_packet.specs.OptionMap.{OptionMap}
+use Rattle.tftp_packet.specs.Message.{Message}
+use Rattle.tftp_packet.specs.declared.kinds.Dir.{Dir}
+use Rattle.tftp_ends.specs.CaptureText.{Datagram, Header}
+use Rattle.tftp_ends.specs.KnownIds.{IsNewStray}
+use Rattle.tftp_ends.specs.Ports.{transfer_of}
+use Rattle.tftp_ends.specs.Rules.{HasPassed, Passed}
+use Rattle.tftp_law.specs.Rules.{Says}
+
+-- the first request, the first OACK, a block of which none with its number has passed, or the first ERROR that goes this way
+abbrev pub IsNew : List Datagram → Dir → Message → Type 0
+IsNew passed dir (Message.Request asked) = passed ≡ []
+IsNew passed dir (Message.Oack options) = (other : OptionMap) → HasPassed (Message.Oack other) passed → ⊥
+IsNew passed dir (Message.Data k bytes) = (other : List ℕ) → HasPassed (Message.Data k other) passed → ⊥
+IsNew passed dir (Message.Error code text) = (other : ℕ) (words : List ℕ) → Passed dir (Message.Error other words) passed → ⊥
+IsNew passed dir (Message.Ack j) = ⊥
+
+-- one of these messages of the transfer, or a stray from where none has come
+abbrev pub TakesMemory : Header → List Datagram → Datagram → Type 0
+TakesMemory h earlier d = IsNewStray h earlier d ⊎ ((m : Message) × Says h earlier d m × IsNew (transfer_of h earlier) d.dir m)
