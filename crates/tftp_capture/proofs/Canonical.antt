@@ -1,6 +1,6 @@
 -- The canonical text has no fault, and says its header and datagrams.
 use Rattle.std.proofs.Common.{◌≡◌, ◌≢◌, ℕ, suc, lit≤, not, ◌&&◌, ◌+◌, ◌^◌, ◌<◌, ◌≤◌, ◌==◌, Bool, true, false, List, [], ◌∷◌, ◌++◌, length, map, All, codes, decimal, Ok, inl, inr, refl, ap, ◌∙◌, arith, append_assoc, length-append, ne_eqb}
-use Rattle.std.specs.List.{AllZip, list_all}
+use Rattle.std.specs.List.{AllByRecursion, AllZip, list_all}
 use Rattle.std.specs.Str.Parse.{AllDigits}
 use Rattle.std.proofs.lemmas.Bool.Decides.{nat_tests, Decides-and, Decides-by_and, Decides-eqb, Decides-not}
 use Rattle.std.proofs.lemmas.Fmt.{decimal_is_IsNumeral, length-decimal-le}
@@ -9,12 +9,14 @@ use Rattle.std.proofs.lemmas.List.Elements.{All-append, All-cons, All-head, All-
 use Rattle.std.proofs.lemmas.List.Splits.{slice_split_at, slice_split_none}
 use Rattle.hex.specs.Hex.{decode_of, encode_lower, is_hex_digit, lower_digits, IsBytes}
 use Rattle.hex.proofs.HexLemmas.{decode_of-encode_lower, decode_of-ok, length-encode_with}
+use Rattle.tftp_packet.specs.Host.{IsSign}
 use Rattle.tftp_packet.specs.declared.kinds.Dir.{Dir}
 use Rattle.tftp_packet.specs.declared.kinds.Dir.TheVariants.{In, Out}
 use Rattle.tftp_packet.specs.declared.kinds.End.{End}
 use Rattle.tftp_packet.specs.declared.kinds.End.TheVariants.{Client, Server}
-use Rattle.tftp_capture.specs.CaptureText.{Datagram, Due, Header, IsCapture, IsLawful, IsPort, NamesNoHost, Numbered, SaysDatagram, SaysDatagrams, Says, Stands, datagram_line, dir_word, end_line, head_line, longest, SpellsPayload, numbered, payload_text, said, says_nothing, service_line, text_of, total_line, whole_lines}
-use Rattle.tftp_capture.specs.declared.version.Version.TheVariants.{One}
+use Rattle.tftp_capture.specs.CaptureText.{Datagram, Due, Header, IsCapture, IsLawful, IsPort, NamesNoHost, Numbered, SaysDatagram, SaysDatagrams, Says, Stands, datagram_line, dir_word, end_line, head_line, line_with_host, longest, longest_line, SpellsPayload, numbered, payload_text, said, says_nothing, service_line, text_of, text_with_hosts, total_line, whole_lines}
+use Rattle.tftp_capture.specs.declared.version.Version.{Version}
+use Rattle.tftp_capture.specs.declared.version.Version.TheVariants.{One, Two}
 use Rattle.tftp_capture.specs.CaptureText.Due.{Nothing}
 use Rattle.tftp_capture.specs.Lines.{HasNoEnd}
 use Rattle.tftp_capture.proofs.Texts.{at_ends}
@@ -67,6 +69,10 @@ plain_payload (b ∷ bs) h = plain_hex (encode_lower (b ∷ bs)) (b ∷ bs) (dec
 plain_dir : (dir : Dir) → All Plain (dir_word dir)
 plain_dir In = plain_text (codes "in") refl
 plain_dir Out = plain_text (codes "out") refl
+
+plain_signs : (xs : List ℕ) → AllByRecursion IsSign xs → All Plain xs
+plain_signs [] h = All-nil Plain
+plain_signs (b ∷ bs) h = All-cons Plain b bs (λ e. absurd (omega (arith, h.0.0, e)), λ e. absurd (omega (arith, h.0.0, e))) (plain_signs bs h.1)
 
 first_byte : (dir : Dir) (rest : List ℕ) → says_nothing (dir_word dir ++ rest) ≡ false
 first_byte In rest = refl
@@ -138,6 +144,64 @@ module _ (d : Datagram) (lawful : IsLawful d) where
   datagram_said : says_nothing (datagram_line d) ≡ false
   datagram_said = first_byte d.dir (32 ∷ (decimal d.local ++ 32 ∷ (decimal d.remote ++ 32 ∷ payload_text d.payload)))
 
+  -- the same in version 2
+
+  host_plain : All Plain d.host
+  host_plain = plain_signs d.host lawful.host.signs
+
+  -- the line from the host on
+  abbrev after_local : List ℕ
+  after_local = d.host ++ 32 ∷ (decimal d.remote ++ 32 ∷ payload_text d.payload)
+
+  host_says : SaysDatagram Two (line_with_host d) d
+  host_says = record {
+    local = decimal d.local;
+    remote = decimal d.remote;
+    digits = payload_text d.payload;
+    cut =
+        slice_split_at (λ b. b == 32) (dir_word d.dir) 32 (decimal d.local ++ 32 ∷ after_local) (no_space _ (plain_dir d.dir)) refl
+        ∙ ap (λ s. dir_word d.dir ∷ s)
+        (slice_split_at (λ b. b == 32) (decimal d.local) 32 after_local (no_space _ local_plain) refl
+        ∙ ap (λ s. decimal d.local ∷ s)
+        (slice_split_at (λ b. b == 32) d.host 32 (decimal d.remote ++ 32 ∷ payload_text d.payload) (no_space _ host_plain) refl
+        ∙ ap (λ s. d.host ∷ s)
+        (slice_split_at (λ b. b == 32) (decimal d.remote) 32 (payload_text d.payload) (no_space _ remote_plain) refl
+        ∙ ap (λ s. decimal d.remote ∷ s) (slice_split_none (λ b. b == 32) (payload_text d.payload) (no_space _ (plain_payload d.payload lawful.bytes))))));
+    local_port = (lawful.local, refl);
+    host = lawful.host;
+    remote_port = (lawful.remote, refl);
+    payload = spelled d.payload lawful.bytes;
+    fits = lawful.fits;
+  }
+
+  host_no_end : HasNoEnd (line_with_host d)
+  host_no_end =
+      All-append (λ b. b ≢ 10) (dir_word d.dir) _ (no_lf _ (plain_dir d.dir))
+      (space _ (All-append (λ b. b ≢ 10) (decimal d.local) _ (no_lf _ local_plain)
+      (space _ (All-append (λ b. b ≢ 10) d.host _ (no_lf _ host_plain)
+      (space _ (All-append (λ b. b ≢ 10) (decimal d.remote) _ (no_lf _ remote_plain) (space _ (no_lf _ (plain_payload d.payload lawful.bytes)))))))))
+
+  host_narrow : length (line_with_host d) ≤ 131116
+  host_narrow =
+      let p = short_payload d.payload lawful.fits in
+      let l = length-decimal-le 5 d.local (omega arith) (omega (arith, lawful.local.1)) (omega (arith, lawful.local.1)) in
+      let r = length-decimal-le 5 d.remote (omega arith) (omega (arith, lawful.remote.1)) (omega (arith, lawful.remote.1)) in
+      omega (
+        arith,
+        p,
+        l,
+        r,
+        lawful.host.few,
+        short_dir d.dir,
+        length-append (dir_word d.dir) (32 ∷ (decimal d.local ++ 32 ∷ after_local)),
+        length-append (decimal d.local) (32 ∷ after_local),
+        length-append d.host (32 ∷ (decimal d.remote ++ 32 ∷ payload_text d.payload)),
+        length-append (decimal d.remote) (32 ∷ payload_text d.payload),
+      )
+
+  host_said : says_nothing (line_with_host d) ≡ false
+  host_said = first_byte d.dir (32 ∷ (decimal d.local ++ 32 ∷ after_local))
+
 -- ---- whole lines
 
 -- a line of at most so many bytes that may stand in a text
@@ -171,17 +235,31 @@ length-numbered : (n : ℕ) (ds : List Datagram) → length (numbered n ds) ≡ 
 length-numbered n [] = refl
 length-numbered n (d ∷ ds) = ap suc (length-numbered (n + 1) ds)
 
-bodies : (n : ℕ) (ds : List Datagram) → All IsLawful ds → All NamesNoHost ds → AllZip (λ (l : ℕ × List ℕ) (d : Numbered). (l.0 ≡ d.0) × SaysDatagram One l.1 d.1) (said n (map datagram_line ds)) (numbered n ds)
-bodies n [] h u = tt
-bodies n (d ∷ ds) h u =
-    let lawful = All-head IsLawful d ds h in
-    rw (datagram_said d lawful) ((refl, datagram_says d lawful (All-head NamesNoHost d ds u)), bodies (n + 1) ds (All-tail IsLawful d ds h) (All-tail NamesNoHost d ds u))
+-- the canonical line of a datagram in a version says it
+record IsCanonical (version : Version) (line : Datagram → List ℕ) (d : Datagram) : Type 0 where
+  says : SaysDatagram version (line d) d
+  whole : IsWholeLine (longest_line version) (line d)
+  said : says_nothing (line d) ≡ false
 
-lines_whole : (ds : List Datagram) → All IsLawful ds → All (IsWholeLine 131070) (map datagram_line ds)
-lines_whole [] h = All-nil (IsWholeLine 131070)
-lines_whole (d ∷ ds) h =
+lines_in_one : (ds : List Datagram) → All IsLawful ds → All NamesNoHost ds → All (IsCanonical One datagram_line) ds
+lines_in_one [] h u = All-nil (IsCanonical One datagram_line)
+lines_in_one (d ∷ ds) h u =
     let lawful = All-head IsLawful d ds h in
-    All-cons (IsWholeLine 131070) (datagram_line d) (map datagram_line ds) (record { no_end = datagram_no_end d lawful; narrow = datagram_narrow d lawful }) (lines_whole ds (All-tail IsLawful d ds h))
+    All-cons (IsCanonical One datagram_line) d ds
+    (record { says = datagram_says d lawful (All-head NamesNoHost d ds u); whole = record { no_end = datagram_no_end d lawful; narrow = datagram_narrow d lawful }; said = datagram_said d lawful })
+    (lines_in_one ds (All-tail IsLawful d ds h) (All-tail NamesNoHost d ds u))
+
+lines_in_two : (ds : List Datagram) → All IsLawful ds → All (IsCanonical Two line_with_host) ds
+lines_in_two [] h = All-nil (IsCanonical Two line_with_host)
+lines_in_two (d ∷ ds) h =
+    let lawful = All-head IsLawful d ds h in
+    All-cons (IsCanonical Two line_with_host) d ds
+    (record { says = host_says d lawful; whole = record { no_end = host_no_end d lawful; narrow = host_narrow d lawful }; said = host_said d lawful })
+    (lines_in_two ds (All-tail IsLawful d ds h))
+
+wider : (version : Version) (line : List ℕ) → IsWholeLine 131070 line → IsWholeLine (longest_line version) line
+wider One line w = w
+wider Two line w = record { no_end = w.no_end; narrow = omega (arith, w.narrow) }
 
 end_whole : (named : End) → IsWholeLine 131070 (end_line named)
 end_whole Client = record { no_end = no_lf_text (codes "end client") refl; narrow = lit≤ tt }
@@ -194,29 +272,54 @@ number_whole word n short no_end small = record {
   narrow = omega (arith, length-append word (decimal n), length-decimal-le 20 n (omega arith) (omega arith) small);
 }
 
+head_whole : (version : Version) → IsWholeLine 131070 (head_line version)
+head_whole One = record { no_end = no_lf_text (head_line One) refl; narrow = lit≤ tt }
+head_whole Two = record { no_end = no_lf_text (head_line Two) refl; narrow = lit≤ tt }
+
+module _ (version : Version) (line : Datagram → List ℕ) where
+  bodies : (n : ℕ) (ds : List Datagram) → All (IsCanonical version line) ds → AllZip (λ (l : ℕ × List ℕ) (d : Numbered). (l.0 ≡ d.0) × SaysDatagram version l.1 d.1) (said n (map line ds)) (numbered n ds)
+  bodies n [] h = tt
+  bodies n (d ∷ ds) h =
+      let first = All-head (IsCanonical version line) d ds h in
+      rw first.said ((refl, first.says), bodies (n + 1) ds (All-tail (IsCanonical version line) d ds h))
+
+  lines_whole : (ds : List Datagram) → All (IsCanonical version line) ds → All (IsWholeLine (longest_line version)) (map line ds)
+  lines_whole [] h = All-nil (IsWholeLine (longest_line version))
+  lines_whole (d ∷ ds) h = All-cons (IsWholeLine (longest_line version)) (line d) (map line ds) (All-head (IsCanonical version line) d ds h).whole (lines_whole ds (All-tail (IsCanonical version line) d ds h))
+
+  whole_is_read : (header : Header) (ds : List Datagram) → IsPort header.service → All (IsCanonical version line) ds
+      → length (whole_lines (head_line version ∷ end_line header.named ∷ service_line header.service ∷ (map line ds ++ total_line (length ds) ∷ []))) ≤ 2 ^ 40
+      → IsCapture (whole_lines (head_line version ∷ end_line header.named ∷ service_line header.service ∷ (map line ds ++ total_line (length ds) ∷ []))) header (numbered 4 ds)
+  whole_is_read header ds port canonical short =
+      let count = length-numbered 4 ds in
+      let P = IsWholeLine (longest_line version) in
+      let bodies_last = map line ds ++ total_line (length ds) ∷ [] in
+      let lines = end_line header.named ∷ service_line header.service ∷ bodies_last in
+      let few : length ds < 2 ^ 64 = omega (arith, lines_le (head_line version ∷ lines), length-append (map line ds) (total_line (length ds) ∷ []), length-map ds line) in
+      let says : SaysDatagrams version (head_line version ∷ end_line header.named ∷ service_line header.service ∷ map line ds) header (numbered 4 ds) = record {
+        after_head = end_line header.named ∷ service_line header.service ∷ map line ds;
+        at_end = 2;
+        at_service = 3;
+        bodies = said 4 (map line ds);
+        begins = refl;
+        are = refl;
+        port = port;
+        each = bodies 4 ds canonical;
+      } in (
+        version,
+        head_line version ∷ lines,
+        stands-whole_lines _ (Nothing version header) (numbered 4 ds)
+            (All-cons P (head_line version) lines (wider version _ (head_whole version))
+            (All-cons P (end_line header.named) (service_line header.service ∷ bodies_last) (wider version _ (end_whole header.named))
+            (All-cons P (service_line header.service) bodies_last (wider version _ (number_whole (codes "service ") header.service (lit≤ tt) (no_lf_text (codes "service ") refl) (omega (arith, port.1))))
+            (All-append P (map line ds) (total_line (length ds) ∷ []) (lines_whole ds canonical)
+            (All-cons P (total_line (length ds)) [] (wider version _ (number_whole (codes "total ") (length ds) (lit≤ tt) (no_lf_text (codes "total ") refl) few)) (All-nil P))))))
+            short
+            (head_line version ∷ end_line header.named ∷ service_line header.service ∷ map line ds, rw count refl, says),
+      )
+
 pub canonical_is_read : (header : Header) (ds : List Datagram) → IsPort header.service → All IsLawful ds → All NamesNoHost ds → length (text_of header ds) ≤ 2 ^ 40 → IsCapture (text_of header ds) header (numbered 4 ds)
-canonical_is_read header ds port lawful unnamed short =
-    let count = length-numbered 4 ds in
-    let lines = end_line header.named ∷ service_line header.service ∷ (map datagram_line ds ++ total_line (length ds) ∷ []) in
-    let few : length ds < 2 ^ 64 = omega (arith, lines_le (head_line One ∷ lines), length-append (map datagram_line ds) (total_line (length ds) ∷ []), length-map ds datagram_line) in
-    let says : SaysDatagrams One (head_line One ∷ end_line header.named ∷ service_line header.service ∷ map datagram_line ds) header (numbered 4 ds) = record {
-      after_head = end_line header.named ∷ service_line header.service ∷ map datagram_line ds;
-      at_end = 2;
-      at_service = 3;
-      bodies = said 4 (map datagram_line ds);
-      begins = refl;
-      are = refl;
-      port = port;
-      each = bodies 4 ds lawful unnamed;
-    } in (
-      One,
-      head_line One ∷ end_line header.named ∷ service_line header.service ∷ (map datagram_line ds ++ total_line (length ds) ∷ []),
-      stands-whole_lines _ (Nothing One header) (numbered 4 ds)
-          (All-cons (IsWholeLine 131070) (head_line One) (end_line header.named ∷ service_line header.service ∷ (map datagram_line ds ++ total_line (length ds) ∷ [])) (record { no_end = no_lf_text (head_line One) refl; narrow = lit≤ tt })
-          (All-cons (IsWholeLine 131070) (end_line header.named) (service_line header.service ∷ (map datagram_line ds ++ total_line (length ds) ∷ [])) (end_whole header.named)
-          (All-cons (IsWholeLine 131070) (service_line header.service) (map datagram_line ds ++ total_line (length ds) ∷ []) (number_whole (codes "service ") header.service (lit≤ tt) (no_lf_text (codes "service ") refl) (omega (arith, port.1)))
-          (All-append (IsWholeLine 131070) (map datagram_line ds) (total_line (length ds) ∷ []) (lines_whole ds lawful)
-          (All-cons (IsWholeLine 131070) (total_line (length ds)) [] (number_whole (codes "total ") (length ds) (lit≤ tt) (no_lf_text (codes "total ") refl) few) (All-nil (IsWholeLine 131070)))))))
-          short
-          (head_line One ∷ end_line header.named ∷ service_line header.service ∷ map datagram_line ds, rw count refl, says),
-    )
+canonical_is_read header ds port lawful unnamed short = whole_is_read One datagram_line header ds port (lines_in_one ds lawful unnamed) short
+
+pub hosts_are_read : (header : Header) (ds : List Datagram) → IsPort header.service → All IsLawful ds → length (text_with_hosts header ds) ≤ 2 ^ 40 → IsCapture (text_with_hosts header ds) header (numbered 4 ds)
+hosts_are_read header ds port lawful short = whole_is_read Two line_with_host header ds port (lines_in_two ds lawful) short

@@ -6,56 +6,88 @@ use Rattle.std.proofs.KnownBytes.{Appends-trans}
 use Rattle.std.proofs.lemmas.List.{map-append}
 use Rattle.std.proofs.lemmas.List.Concat.{flat_map-append}
 use Rattle.hex.specs.Hex.{encode_lower, encode_with, lower_digits}
-use Rattle.tftp_capture.specs.declared.version.Version.TheVariants.{One}
-use Rattle.tftp_capture.specs.CaptureText.{Datagram, Header, datagram_line, dir_word, end_line, end_word, head_line, payload_text, service_line, text_of, total_line, whole_lines}
+use Rattle.tftp_capture.specs.declared.version.Version.{Version}
+use Rattle.tftp_capture.specs.declared.version.Version.TheVariants.{One, Two}
+use Rattle.tftp_capture.specs.CaptureText.{Datagram, Header, datagram_line, dir_word, end_line, end_word, head_line, line_with_host, payload_text, service_line, text_of, text_with_hosts, total_line, whole_lines}
 use Rattle.tftp_capture.specs.Tally.{Gathers}
-use Rattle.tftp_capture.specs.Written.{HasWritten, WriterState, header_text}
+use Rattle.tftp_capture.specs.Written.{HasWritten, HasWrittenHosts, WriterState, header_text_in}
 use Rattle.tftp_capture.proofs.Gathering.{gathers_more}
 use Rattle.tftp_capture.proofs.Skips.{whole_lines-push}
 
-three_lines : (named service : List ℕ) → (head_line One ++ 10 ∷ codes "end ") ++ (named ++ ((10 ∷ codes "service ") ++ (service ++ 10 ∷ []))) ≡ whole_lines (head_line One ∷ (codes "end " ++ named) ∷ (codes "service " ++ service) ∷ [])
-three_lines named service =
-    ap (λ l. (head_line One ++ 10 ∷ codes "end ") ++ l)
-    (sym (append_assoc named (10 ∷ []) (codes "service " ++ (service ++ 10 ∷ []))) ∙ ap (λ l. (named ++ 10 ∷ []) ++ (codes "service " ++ l)) (sym (append-nil (service ++ 10 ∷ []))))
+three_lines : (head named service : List ℕ) → head ++ ((10 ∷ codes "end ") ++ (named ++ ((10 ∷ codes "service ") ++ (service ++ 10 ∷ [])))) ≡ whole_lines (head ∷ (codes "end " ++ named) ∷ (codes "service " ++ service) ∷ [])
+three_lines head named service =
+    ap (λ l. head ++ ((10 ∷ codes "end ") ++ l)) (ap (λ l. named ++ ((10 ∷ codes "service ") ++ l)) (sym (append-nil (service ++ 10 ∷ []))) ∙ sym (append_assoc named (10 ∷ []) (codes "service " ++ ((service ++ 10 ∷ []) ++ []))))
+    ∙ sym (append_assoc head (10 ∷ []) ((codes "end " ++ named ++ 10 ∷ []) ++ ((codes "service " ++ service ++ 10 ∷ []) ++ [])))
 
-pub header_pieces : (header : Header) (named service : List ℕ) → named ≡ end_word header.named → service ≡ decimal header.service
-    → (head_line One ++ 10 ∷ codes "end ") ++ (named ++ ((10 ∷ codes "service ") ++ (service ++ 10 ∷ []))) ≡ header_text header
-header_pieces header named service e f = three_lines named service ∙ ap (λ l. whole_lines (head_line One ∷ (codes "end " ++ l) ∷ (codes "service " ++ service) ∷ [])) e ∙ ap (λ l. whole_lines (head_line One ∷ (codes "end " ++ end_word header.named) ∷ (codes "service " ++ l) ∷ [])) f
+pub header_pieces : (version : Version) (header : Header) (head named service : List ℕ) → head ≡ head_line version → named ≡ end_word header.named → service ≡ decimal header.service
+    → head ++ ((10 ∷ codes "end ") ++ (named ++ ((10 ∷ codes "service ") ++ (service ++ 10 ∷ [])))) ≡ header_text_in version header
+header_pieces version header head named service d e f = three_lines head named service ∙ cc
 
 pub datagram_pieces : (d : Datagram) (word local remote : List ℕ) → word ≡ dir_word d.dir → local ≡ decimal d.local → remote ≡ decimal d.remote
     → (word ++ (codes " " ++ (local ++ (codes " " ++ (remote ++ codes " "))))) ++ (payload_text d.payload ++ 10 ∷ []) ≡ datagram_line d ++ 10 ∷ []
 datagram_pieces d word local remote e f h = rw (e, f, h) (simp append_assoc)
+
+pub host_pieces : (d : Datagram) (word local host remote : List ℕ) → word ≡ dir_word d.dir → local ≡ decimal d.local → host ≡ d.host → remote ≡ decimal d.remote
+    → (word ++ (codes " " ++ (local ++ (codes " " ++ (host ++ (codes " " ++ (remote ++ codes " "))))))) ++ (payload_text d.payload ++ 10 ∷ []) ≡ line_with_host d ++ 10 ∷ []
+host_pieces d word local host remote e f i h = rw (e, f, i, h) (simp append_assoc)
 
 pub encode-append : (xs ys : List ℕ) → encode_lower (xs ++ ys) ≡ encode_lower xs ++ encode_lower ys
 unfolding encode_with
 encode-append [] ys = refl
 encode-append (x ∷ xs) ys = ap (λ l. slice_index lower_digits (x / 16) ∷ slice_index lower_digits (x % 16) ∷ l) (encode-append xs ys)
 
+-- ---- one more datagram, and the whole text, whatever the lines of datagrams are
+
+module _ (line : Datagram → List ℕ) where
+  line_written : (start before now : Option (List ℕ)) (old new front : List ℕ) (datagrams : List Datagram) (d : Datagram)
+      → Gathers start before [] old (front ++ whole_lines (map line datagrams)) → Gathers before now old new (line d ++ 10 ∷ []) → Gathers start now [] new (front ++ whole_lines (map line (datagrams ++ d ∷ [])))
+  line_written start before now old new front datagrams d h g =
+      let lines : whole_lines (map line (datagrams ++ d ∷ [])) ≡ whole_lines (map line datagrams) ++ (line d ++ 10 ∷ []) =
+      ap whole_lines (map-append line datagrams (d ∷ [])) ∙ whole_lines-push (map line datagrams) (line d) in
+      let all : front ++ whole_lines (map line (datagrams ++ d ∷ [])) ≡ (front ++ whole_lines (map line datagrams)) ++ (line d ++ 10 ∷ []) =
+      ap (λ l. front ++ l) lines ∙ sym (append_assoc front (whole_lines (map line datagrams)) (line d ++ 10 ∷ [])) in
+      rw all (gathers_more _ _ _ _ _ _ _ _ h g)
+
+  whole_written : (start before now : Option (List ℕ)) (writer : WriterState) (version : Version) (header : Header) (datagrams : List Datagram)
+      → Gathers start before [] writer.held (header_text_in version header ++ whole_lines (map line datagrams)) → writer.count ≡ length datagrams
+      → Appends before now (writer.held ++ (total_line writer.count ++ 10 ∷ []))
+      → Appends start now (whole_lines (head_line version ∷ end_line header.named ∷ service_line header.service ∷ (map line datagrams ++ total_line (length datagrams) ∷ [])))
+  whole_written start before now writer version header datagrams h counted a =
+      let lines = map line datagrams in
+      let head = header_text_in version header in
+      let total : whole_lines (lines ++ total_line (length datagrams) ∷ []) ≡ whole_lines lines ++ (total_line (length datagrams) ++ 10 ∷ []) = whole_lines-push lines (total_line (length datagrams)) in
+      let all : whole_lines (head_line version ∷ end_line header.named ∷ service_line header.service ∷ (lines ++ total_line (length datagrams) ∷ [])) ≡ head ++ whole_lines (lines ++ total_line (length datagrams) ∷ []) =
+      flat_map-append (λ (l : List ℕ). l ++ 10 ∷ []) (head_line version ∷ end_line header.named ∷ service_line header.service ∷ []) (lines ++ total_line (length datagrams) ∷ []) in
+      let joined : whole_lines (head_line version ∷ end_line header.named ∷ service_line header.service ∷ (lines ++ total_line (length datagrams) ∷ [])) ≡ h.written ++ (writer.held ++ (total_line writer.count ++ 10 ∷ [])) =
+      all ∙ ap (λ l. head ++ l) (total ∙ ap (λ n. whole_lines lines ++ (total_line n ++ 10 ∷ [])) (sym counted))
+      ∙ sym (append_assoc head (whole_lines lines) (total_line writer.count ++ 10 ∷ []))
+      ∙ ap (λ l. l ++ (total_line writer.count ++ 10 ∷ [])) h.are ∙ append_assoc h.written writer.held (total_line writer.count ++ 10 ∷ []) in
+      rw joined (Appends-trans _ _ _ _ _ h.appended a)
+
+one_more : (old new : WriterState) (datagrams : List Datagram) (d : Datagram) → new.count ≡ old.count + 1 → old.count ≡ length datagrams → new.count ≡ length (datagrams ++ d ∷ [])
+one_more old new datagrams d e h = e ∙ ap (λ n. n + 1) h ∙ sym (length-append datagrams (d ∷ []))
+
 pub datagram_written : (start before now : Option (List ℕ)) (old new : WriterState) (header : Header) (datagrams : List Datagram) (d : Datagram)
     → HasWritten start before old header datagrams → Gathers before now old.held new.held (datagram_line d ++ 10 ∷ []) → new.count ≡ old.count + 1 → HasWritten start now new header (datagrams ++ d ∷ [])
-datagram_written start before now old new header datagrams d h g e =
-    let lines : whole_lines (map datagram_line (datagrams ++ d ∷ [])) ≡ whole_lines (map datagram_line datagrams) ++ (datagram_line d ++ 10 ∷ []) =
-    ap whole_lines (map-append datagram_line datagrams (d ∷ [])) ∙ whole_lines-push (map datagram_line datagrams) (datagram_line d) in
-    let all : header_text header ++ whole_lines (map datagram_line (datagrams ++ d ∷ [])) ≡ (header_text header ++ whole_lines (map datagram_line datagrams)) ++ (datagram_line d ++ 10 ∷ []) =
-    ap (λ l. header_text header ++ l) lines ∙ sym (append_assoc (header_text header) (whole_lines (map datagram_line datagrams)) (datagram_line d ++ 10 ∷ [])) in
-    record {
-      text = rw all (gathers_more _ _ _ _ _ _ _ _ h.text g);
-      count = e ∙ ap (λ n. n + 1) h.count ∙ sym (length-append datagrams (d ∷ []));
-    }
+datagram_written start before now old new header datagrams d h g e = record {
+  text = line_written datagram_line start before now old.held new.held (header_text_in One header) datagrams d h.text g;
+  count = one_more old new datagrams d e h.count;
+}
+
+pub host_written : (start before now : Option (List ℕ)) (old new : WriterState) (header : Header) (datagrams : List Datagram) (d : Datagram)
+    → HasWrittenHosts start before old header datagrams → Gathers before now old.held new.held (line_with_host d ++ 10 ∷ []) → new.count ≡ old.count + 1 → HasWrittenHosts start now new header (datagrams ++ d ∷ [])
+host_written start before now old new header datagrams d h g e = record {
+  text = line_written line_with_host start before now old.held new.held (header_text_in Two header) datagrams d h.text g;
+  count = one_more old new datagrams d e h.count;
+}
 
 pub text_written : (start before now : Option (List ℕ)) (writer : WriterState) (header : Header) (datagrams : List Datagram)
     → HasWritten start before writer header datagrams → Appends before now (writer.held ++ (total_line writer.count ++ 10 ∷ [])) → Appends start now (text_of header datagrams)
-text_written start before now writer header datagrams h a =
-    let lines = map datagram_line datagrams in
-    let total : whole_lines (lines ++ total_line (length datagrams) ∷ []) ≡ whole_lines lines ++ (total_line (length datagrams) ++ 10 ∷ []) = whole_lines-push lines (total_line (length datagrams)) in
-    let all : text_of header datagrams ≡ header_text header ++ whole_lines (lines ++ total_line (length datagrams) ∷ []) =
-    flat_map-append (λ (l : List ℕ). l ++ 10 ∷ []) (head_line One ∷ end_line header.named ∷ service_line header.service ∷ []) (lines ++ total_line (length datagrams) ∷ []) in
-    let are = h.text.are in
-    let joined : text_of header datagrams ≡ h.text.written ++ (writer.held ++ (total_line writer.count ++ 10 ∷ [])) =
-    all ∙ ap (λ l. header_text header ++ l) (total ∙ ap (λ n. whole_lines lines ++ (total_line n ++ 10 ∷ [])) (sym h.count))
-    ∙ sym (append_assoc (header_text header) (whole_lines lines) (total_line writer.count ++ 10 ∷ []))
-    ∙ ap (λ l. l ++ (total_line writer.count ++ 10 ∷ [])) are ∙ append_assoc h.text.written writer.held (total_line writer.count ++ 10 ∷ []) in
-    rw joined (Appends-trans _ _ _ _ _ h.text.appended a)
+text_written start before now writer header datagrams h a = whole_written datagram_line start before now writer One header datagrams h.text h.count a
+
+pub hosts_written : (start before now : Option (List ℕ)) (writer : WriterState) (header : Header) (datagrams : List Datagram)
+    → HasWrittenHosts start before writer header datagrams → Appends before now (writer.held ++ (total_line writer.count ++ 10 ∷ [])) → Appends start now (text_with_hosts header datagrams)
+hosts_written start before now writer header datagrams h a = whole_written line_with_host start before now writer Two header datagrams h.text h.count a
 
 -- the digits of one more piece, and of the bytes after it
 pub encode_more : (bytes : List ℕ) (done size : ℕ) → encode_lower (take (done + size) bytes) ≡ encode_lower (take done bytes) ++ encode_lower (take (done + size - done) (drop done bytes))

@@ -59,6 +59,10 @@ payload_text (b ∷ bs) = encode_lower (b ∷ bs)
 abbrev pub datagram_line : Datagram → List ℕ
 datagram_line d = join_with_byte 32 (dir_word d.dir ∷ decimal d.local ∷ decimal d.remote ∷ payload_text d.payload ∷ [])
 
+-- the canonical line of a datagram in version 2: its five fields, the host among them, a space between each two
+abbrev pub line_with_host : Datagram → List ℕ
+line_with_host d = join_with_byte 32 (dir_word d.dir ∷ decimal d.local ∷ d.host ∷ decimal d.remote ∷ payload_text d.payload ∷ [])
+
 abbrev pub total_line : ℕ → List ℕ
 total_line count = codes "total " ++ decimal count
 
@@ -70,6 +74,11 @@ whole_lines lines = flat_map (λ line. line ++ 10 ∷ []) lines
 abbrev pub text_of : Header → List Datagram → List ℕ
 text_of header datagrams =
     whole_lines (head_line One ∷ end_line header.named ∷ service_line header.service ∷ (map datagram_line datagrams ++ total_line (length datagrams) ∷ []))
+
+-- the canonical text of datagrams with their hosts, which is of version 2
+abbrev pub text_with_hosts : Header → List Datagram → List ℕ
+text_with_hosts header datagrams =
+    whole_lines (head_line Two ∷ end_line header.named ∷ service_line header.service ∷ (map line_with_host datagrams ++ total_line (length datagrams) ∷ []))
 
 -- ---- what a line says
 

@@ -42,3 +42,16 @@ named_datagrams =
     ∷ (6, record { dir = In; local = 40000; host = codes "192.0.2.7"; remote = 41000; payload = 0 ∷ 3 ∷ 0 ∷ 1 ∷ codes "hi" })
     ∷ (7, record { dir = Out; local = 40000; host = codes "192.0.2.7"; remote = 41000; payload = 0 ∷ 4 ∷ 0 ∷ 1 ∷ [] })
     ∷ []
+
+-- the same datagrams, and their canonical text
+abbrev pub host_datagrams : List Datagram
+host_datagrams =
+    record { dir = Out; local = 40000; host = codes "tftp.example"; remote = 69; payload = 0 ∷ 1 ∷ 97 ∷ 0 ∷ (codes "octet" ++ 0 ∷ []) }
+    ∷ record { dir = In; local = 40000; host = codes "192.0.2.7"; remote = 41000; payload = 0 ∷ 3 ∷ 0 ∷ 1 ∷ codes "hi" }
+    ∷ record { dir = Out; local = 40000; host = codes "192.0.2.7"; remote = 41000; payload = 0 ∷ 4 ∷ 0 ∷ 1 ∷ [] }
+    ∷ []
+
+abbrev pub host_text : List ℕ
+host_text =
+    line (codes "tftp-capture 2") ++ line (codes "end client") ++ line (codes "service 69") ++ line (codes "out 40000 tftp.example 69 000161006f6374657400") ++ line (codes "in 40000 192.0.2.7 41000 000300016869")
+    ++ line (codes "out 40000 192.0.2.7 41000 00040001") ++ line (codes "total 3")

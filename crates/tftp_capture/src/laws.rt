@@ -1,7 +1,7 @@
 ghost use Rattle.std.specs.Prelude.{◌≡◌, ◌≢◌, ◌^◌, ◌≤◌, ◌⊎◌, ◌++◌, ℕ, List, All, length};
-ghost use Rattle.tftp_capture.specs.CaptureText.{text_of, Begins, BeginsWith, Datagram, Due, HasFault, Header, IsCapture, IsLawful, IsPort, Numbered, NamesNoHost, Reading, Reads, Unfinished, numbered};
+ghost use Rattle.tftp_capture.specs.CaptureText.{text_of, text_with_hosts, Begins, BeginsWith, Datagram, Due, HasFault, Header, IsCapture, IsLawful, IsPort, Numbered, NamesNoHost, Reading, Reads, Unfinished, numbered};
 ghost use Rattle.tftp_capture.specs.InTwo.{in_version_two};
-ghost use Rattle.tftp_capture.specs.Worked.{named_datagrams, named_text, worked_datagrams, worked_header, worked_text, worked_text_in_two};
+ghost use Rattle.tftp_capture.specs.Worked.{host_datagrams, host_text, named_datagrams, named_text, worked_datagrams, worked_header, worked_text, worked_text_in_two};
 
 use crate::fault::TextFault;
 
@@ -10,11 +10,18 @@ pub fn worked_text_is_canonical()
     ensures { text_of worked_header worked_datagrams ≡ worked_text }
 {}
 
-/// A canonical text, of datagrams that name no host, has no fault, and says its header and its datagrams, the first on
-/// line 4.
+/// The canonical text of version 2 of the same read, from a server that answers from another host, byte for byte.
+pub fn worked_text_with_hosts_is_canonical()
+    ensures { text_with_hosts worked_header host_datagrams ≡ host_text }
+{}
+
+/// A canonical text has no fault, and says its header and its datagrams, the first on line 4: in version 1 of datagrams
+/// that name no host, in version 2 of datagrams with any hosts.
 pub fn canonical_text_is_read()
-    ensures { (header : Header) (datagrams : List Datagram) → IsPort header.service → All IsLawful datagrams → All NamesNoHost datagrams → length (text_of header datagrams) ≤ 2 ^ 40
+    ensures one { (header : Header) (datagrams : List Datagram) → IsPort header.service → All IsLawful datagrams → All NamesNoHost datagrams → length (text_of header datagrams) ≤ 2 ^ 40
         → IsCapture (text_of header datagrams) header (numbered 4 datagrams) }
+    ensures two { (header : Header) (datagrams : List Datagram) → IsPort header.service → All IsLawful datagrams → length (text_with_hosts header datagrams) ≤ 2 ^ 40
+        → IsCapture (text_with_hosts header datagrams) header (numbered 4 datagrams) }
 {}
 
 /// A text with a fault, but Truncated, has it whatever follows.

@@ -8,6 +8,7 @@ mod drip;
 mod fault;
 mod fields;
 mod gathered;
+mod host_writer;
 mod laws;
 mod line;
 mod lines;
@@ -23,10 +24,12 @@ pub use datagram::{Datagram, Header};
 pub use drip::{DripReader, DripWriter};
 pub use fault::{CaptureFault, TextFault, WriteFault};
 pub use gathered::Gathered;
+pub use host_writer::HostCaptureWriter;
 pub use laws::{
     beginnings_agree, canonical_text_is_read, capture_has_its_beginnings,
     fault_comes_after_beginnings, fault_stays, text_has_one_reading, version_two_says_the_same,
     worked_text_is_canonical, worked_text_is_in_version_two, worked_text_names_hosts,
+    worked_text_with_hosts_is_canonical,
 };
 pub use reader::CaptureReader;
 pub use tallied::Tallied;

@@ -24,6 +24,16 @@ impl Version {
         }
     }
 
+    /// The first line of a text of this version, without its LF.
+    pub fn first_line(self) -> &'static [u8]
+        ensures { result.now ≡ head_line self }
+    {
+        match self {
+            Version::One => b"tftp-capture 1",
+            Version::Two => b"tftp-capture 2",
+        }
+    }
+
     /// The most bytes of a line after the first, without its LF.
     #[inline]
     pub fn longest_line(self) -> usize

@@ -5,12 +5,13 @@ ghost use Rattle.tftp_packet.specs.Host.{no_host};
 ghost use Rattle.tftp_capture.specs.Tally.{Adds, AppendsPrefix, Writes};
 ghost use Rattle.tftp_capture.specs.CaptureText.{datagram_line, payload_text, text_of, total_line, Datagram, Header as HeaderParts, IsPort};
 ghost use Rattle.tftp_capture.specs.Fields.{header_of};
-ghost use Rattle.tftp_capture.specs.Written.{header_text, HasWritten};
+ghost use Rattle.tftp_capture.specs.Written.{header_text, header_text_in, HasWritten};
 
 use crate::datagram::Header;
 use crate::fault::WriteFault;
 use crate::gathered::Gathered;
 use crate::tallied::Tallied;
+use crate::version::Version;
 use itoa::Buffer;
 use std::io::Write;
 use std::marker::Model;
@@ -45,7 +46,7 @@ impl CaptureWriter {
         ensures failed { OnErr result (writer.new.1 ≡ true) }
     {
         let mut gathered = Gathered::new();
-        put_header(&mut gathered, writer, header)?;
+        put_header(&mut gathered, writer, Version::One, header)?;
         Ok(CaptureWriter {
             gathered,
             count: 0,
@@ -111,14 +112,15 @@ impl CaptureWriter {
     }
 }
 
-/// The lines of the header.
-fn put_header<W: Write>(
+/// The lines of the header in a version.
+pub fn put_header<W: Write>(
     gathered: &mut Gathered,
     writer: &mut Tallied<W>,
+    version: Version,
     header: &Header,
 ) -> Result<(), WriteFault>
     requires clean { writer.old.1 ≡ false }
-    ensures adds { Adds W.contents writer.old writer.new result gathered.old gathered.new (header_text (header_of header.now)) }
+    ensures adds { Adds W.contents writer.old writer.new result gathered.old gathered.new (header_text_in version (header_of header.now)) }
 {
     let mut buffer = Buffer::new();
     let service = buffer.format(header.service).as_bytes();
@@ -129,7 +131,8 @@ fn put_header<W: Write>(
     gathered.add_all(
         writer,
         &[
-            b"tftp-capture 1\nend ",
+            version.first_line(),
+            b"\nend ",
             named,
             b"\nservice ",
             service,
@@ -164,7 +167,7 @@ fn put_datagram<W: Write>(
 }
 
 /// The line of the total.
-fn put_total<W: Write>(
+pub fn put_total<W: Write>(
     gathered: &mut Gathered,
     writer: &mut Tallied<W>,
     count: u64,
@@ -178,7 +181,7 @@ fn put_total<W: Write>(
 }
 
 /// The last field of a datagram's line.
-fn put_payload<W: Write>(
+pub fn put_payload<W: Write>(
     gathered: &mut Gathered,
     writer: &mut Tallied<W>,
     payload: &[u8],

@@ -1,6 +1,12 @@
+ghost use Rattle.std.specs.Prelude.{◌≡◌, false};
+
 use super::{READ, Sound, all_pass, changed_in, gives};
 use std::test::Fail;
-use tftp_capture::{CaptureFault, CaptureReader, DripReader, Tallied, TextFault};
+use tftp_capture::{
+    CaptureFault, CaptureReader, DripReader, DripWriter, Header, HostCaptureWriter, Tallied,
+    TextFault, WriteFault,
+};
+use tftp_packet::{Dir, End, Host};
 
 /// A read of the file `a`, which is `hi`, in one block, from a host that is named (RFC 1350, sections 4 and 5).
 pub const NAMED: &[u8] =
@@ -78,4 +84,36 @@ fn texts_of_version_2_with_a_growth_refused(rt: HostRuntime) {
         Err(CaptureFault::Memory(line)) => assert!(rt; 1 <= line && line <= 7),
         found => assert_eq!(rt; found, Ok((3, 15))),
     }
+}
+
+/// Writes the text of `NAMED`.
+fn write_named(writer: &mut Tallied<DripWriter>, host: &Host) -> Result<(), WriteFault>
+    requires { writer.old.1 ≡ false }
+{
+    let header = Header {
+        named: End::Client,
+        service: 69,
+    };
+    let mut capture = HostCaptureWriter::begin(writer, &header)?;
+    let request = b"\x00\x01a\x00octet\x00";
+    capture.put(writer, Dir::Out, 40_000, host, 69, request)?;
+    let data = b"\x00\x03\x00\x01hi";
+    capture.put(writer, Dir::In, 40_000, host, 41_000, data)?;
+    let ack = b"\x00\x04\x00\x01";
+    capture.put(writer, Dir::Out, 40_000, host, 41_000, ack)?;
+    capture.close(writer)
+}
+
+#[test]
+fn a_read_with_its_hosts_is_written(rt: HostRuntime) -> Result<(), Fail> {
+    let Some(host) = Host::new(b"10.0.0.1") else {
+        return Err(Fail::new("host"));
+    };
+    for piece in [usize::MAX, 1, 5] {
+        let mut writer = Tallied::new(DripWriter::new(rt.alloc(), NAMED.len(), piece, 0, false)?);
+        assert_eq!(rt; write_named(&mut writer, &host), Ok(()));
+        assert!(rt; !writer.failed());
+        assert_eq!(rt; writer.into_inner().taken(), NAMED);
+    }
+    Ok(())
 }

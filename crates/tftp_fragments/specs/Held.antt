@@ -1,0 +1,56 @@
+-- What is held of a packet's parts, and for which parts it stands.
+use Rattle.std.specs.Prelude.{◌≡◌, ℕ, ◌+◌, ◌-◌, ◌<◌, ◌≤◌, Bool, true, false, List, [], ◌∷◌, length, map, slice_index, slice_index_or, Option, Some, None}
+use Rattle.std.specs.List.{AllByRecursion}
+use Rattle.tftp_fragments.specs.declared.part.Part.{Part as Brought}
+use Rattle.tftp_fragments.specs.Whole.{Part, end_of, EndsRightly, Among, Covers}
+
+-- the part that a value in memory is
+abbrev pub part_of : Brought → Part
+part_of p = record { place = p.place; more = p.more; content = p.content.now }
+
+-- the content, a byte where a part brought one, up to the furthest end of a part; and whether the last part has come
+pub record Held : Type 0 where
+  pub cells : List (Option ℕ)
+  pub ended : Bool
+
+abbrev pub nothing_held : Held
+nothing_held = record { cells = []; ended = false }
+
+abbrev pub cell : Held → ℕ → Option ℕ
+cell h k = slice_index_or h.cells k None
+
+-- each byte of the part is held, and its end stands where it may
+pub record HoldsPart (h : Held) (p : Part) : Type 0 where
+  pub bytes : (i : ℕ) → i < length p.content → cell h (p.place + i) ≡ Some (slice_index p.content i)
+  pub within : end_of p ≤ length h.cells
+  pub last : p.more ≡ false → (h.ended ≡ true) × (end_of p ≡ length h.cells)
+  pub inner : p.more ≡ true → h.ended ≡ true → end_of p < length h.cells
+
+-- what is held is that of these parts, and of no other
+pub record StandsFor (h : Held) (parts : List Part) : Type 0 where
+  pub each : AllByRecursion (HoldsPart h) parts
+  pub brought : (k b : ℕ) → cell h k ≡ Some b → Among (λ p. Covers k p × (slice_index p.content (k - p.place) ≡ b)) parts
+  pub reach : 1 ≤ length h.cells → Among (λ p. end_of p ≡ length h.cells) parts
+  pub last : h.ended ≡ true → Among (λ p. p.more ≡ false) parts
+
+-- the part ends where it may: where the last one has come the content's size is known, and before that a last one ends
+-- behind all others
+abbrev pub EndsAgree : Held → Part → Type 0
+EndsAgree h p = (h.ended ≡ true → EndsRightly p.more (end_of p) (length h.cells)) × (h.ended ≡ false → p.more ≡ false → length h.cells < end_of p)
+
+-- the part may come to what is held: no byte differs, and the ends agree
+pub record Agrees (h : Held) (p : Part) : Type 0 where
+  pub bytes : (i b : ℕ) → i < length p.content → cell h (p.place + i) ≡ Some b → b ≡ slice_index p.content i
+  pub ends : EndsAgree h p
+
+-- all of the content is held
+pub record IsComplete (h : Held) : Type 0 where
+  pub last : h.ended ≡ true
+  pub full : (k : ℕ) → k < length h.cells → (b : ℕ) × (cell h k ≡ Some b)
+
+-- how a packet's parts are kept: all before the front is held, and the byte there is not
+pub record IsKept (cells : List (Option ℕ)) (front : ℕ) : Type 0 where
+  pub within : front ≤ length cells
+  pub before : (k : ℕ) → k < front → (b : ℕ) × (slice_index_or cells k None ≡ Some b)
+  pub here : front < length cells → slice_index_or cells front None ≡ None
+  pub few : length cells ≤ 65535

@@ -1,0 +1,10 @@
+/// A part of an IP packet's content, as a fragment brings it (RFC 791, section 3.2; RFC 8200, section 4.5).
+#[derive(Clone, Copy, Debug)]
+pub struct Part<'a> {
+    /// Where it begins in the content, in bytes.
+    pub place: u32,
+    /// Whether parts follow it.
+    pub more: bool,
+    /// Its bytes.
+    pub content: &'a [u8],
+}

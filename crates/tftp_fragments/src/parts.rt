@@ -1,0 +1,156 @@
+ghost use Rattle.std.specs.Prelude.{◌≡◌, ◌+◌, ◌<◌, ◌≤◌, ◌∷◌, ℕ, List, Option, Some, None, length, map, true, false, IfOk, OnOk, OnErr, IsTrue, ◌↔◌, slice_index, slice_index_or, take};
+ghost use Rattle.std.specs.List.{AllByRecursion};
+ghost use Rattle.tftp_fragments.specs.Whole.{Part as Piece, end_of, HasPart, Give};
+ghost use Rattle.tftp_fragments.specs.Held.{part_of, nothing_held, StandsFor, Agrees, EndsAgree, IsComplete};
+
+use crate::part::Part;
+use std::alloc::{AllocError, Global};
+use std::marker::Model;
+
+/// The parts of one packet's content that have come, each byte at its place.
+#[derive(Drop)]
+pub struct Parts {
+    cells: Vec<Option<u8>>,
+    front: usize,
+    ended: bool,
+}
+
+impl Model for Parts {
+    ghost use Rattle.tftp_fragments.specs.Held.{Held, IsKept};
+
+    ghost Value = { Held };
+
+    ghost view = { λ p. record { cells = p.cells.items; ended = p.ended } };
+
+    ghost invariant = { λ p. IsKept p.cells.items p.front };
+}
+
+impl Parts {
+    /// No part has come. Takes no memory.
+    pub fn new(alloc: Global) -> Self
+        ensures { result ≡ nothing_held }
+    {
+        Parts {
+            cells: Vec::new(alloc),
+            front: 0,
+            ended: false,
+        }
+    }
+
+    /// How many bytes there are up to the furthest end of a part.
+    pub fn reach(&self) -> usize
+        ensures value { result ≡ length self.now.cells }
+        ensures few { result ≤ 65535 }
+    {
+        self.cells.len()
+    }
+
+    /// Whether the part may be of the packet of those that have come.
+    pub fn agree(&self, part: &Part) -> bool
+        requires room { end_of (part_of part.now) ≤ 65535 }
+        ensures { IsTrue result ↔ Agrees self.now (part_of part.now) }
+    {
+        self.ends_agree(part) && !differ(&self.cells, part.place as usize, part.content)
+    }
+
+    /// Whether the part ends where it may.
+    fn ends_agree(&self, part: &Part) -> bool
+        requires room { end_of (part_of part.now) ≤ 65535 }
+        ensures { IsTrue result ↔ EndsAgree self.now (part_of part.now) }
+    {
+        let end = part.place as usize + part.content.len();
+        match (self.ended, part.more) {
+            (true, true) => end < self.cells.len(),
+            (true, false) => end == self.cells.len(),
+            (false, true) => true,
+            (false, false) => self.cells.len() < end,
+        }
+    }
+
+    /// Adds a part. It takes memory only where the part ends behind all others.
+    pub fn add(&mut self, part: &Part) -> Result<(), AllocError>
+        requires room { end_of (part_of part.now) ≤ 65535 }
+        requires agrees { Agrees self.old (part_of part.now) }
+        ensures ok { (parts : List Piece) → StandsFor self.old parts → OnOk result (StandsFor self.new (part_of part.now ∷ parts)) }
+        ensures err { OnErr result (self.new ≡ self.old) }
+        ensures beyond { OnErr result (length self.old.cells < end_of (part_of part.now)) }
+    {
+        let start = part.place as usize;
+        let end = start + part.content.len();
+        if self.cells.len() < end {
+            self.cells.resize(end, None)?;
+        }
+        write(&mut self.cells[start..end], part.content);
+        self.front = front_after(&self.cells, self.front);
+        if !part.more {
+            self.ended = true;
+        }
+        Ok(())
+    }
+
+    /// Whether all of the content has come.
+    pub fn are_whole(&self) -> bool
+        ensures { IsTrue result ↔ IsComplete self.now }
+    {
+        self.ended && self.front == self.cells.len()
+    }
+
+    /// The content.
+    pub fn content(&self, alloc: Global) -> Result<Vec<u8>, AllocError>
+        requires { IsComplete self.now }
+        ensures { IfOk result (λ content. self.now.cells ≡ map (λ b. Some b) content.items) }
+    {
+        let mut content = Vec::with_capacity(alloc, self.cells.len())?;
+        for cell in &self.cells {
+            match cell {
+                Some(byte) => content.push(*byte)?,
+                None => {}
+            }
+        }
+        Ok(content)
+    }
+}
+
+/// Whether a byte that is held is another than that of the content, which begins at a place.
+fn differ(cells: &[Option<u8>], place: usize, content: &[u8]) -> bool
+    requires { place + length content.now ≤ 65535 }
+    ensures same { result ≡ false → (i b : ℕ) → i < length content.now → slice_index_or cells.now (place + i) None ≡ Some b → b ≡ slice_index content.now i }
+    ensures other { result ≡ true → (i : ℕ) × (b : ℕ) × (i < length content.now) × (slice_index_or cells.now (place + i) None ≡ Some b) × (b ≡ slice_index content.now i → ⊥) }
+{
+    for (i, byte) in content.iter().enumerate() {
+        match cells.get(place + i) {
+            Some(Some(held)) => {
+                if held != byte {
+                    return true;
+                }
+            }
+            _ => {}
+        }
+    }
+    false
+}
+
+/// Writes the bytes into cells.
+fn write(cells: &mut [Option<u8>], bytes: &[u8])
+    requires { length cells.old ≡ length bytes.now }
+    ensures { cells.new ≡ map (λ b. Some b) bytes.now }
+{
+    for (i, byte) in bytes.iter().enumerate() {
+        cells[i] = Some(*byte);
+    }
+}
+
+/// The first cell from `from` on in which no byte is held.
+fn front_after(cells: &[Option<u8>], from: usize) -> usize
+    requires { from ≤ length cells.now }
+    ensures within { result ≤ length cells.now }
+    ensures after { from ≤ result }
+    ensures before { (k : ℕ) → from ≤ k → k < result → (b : ℕ) × (slice_index_or cells.now k None ≡ Some b) }
+    ensures here { result < length cells.now → slice_index_or cells.now result None ≡ None }
+{
+    let mut front = from;
+    while front < cells.len() && cells[front].is_some() {
+        front += 1;
+    }
+    front
+}
