@@ -9,3 +9,6 @@ pub mod Unlawful
 pub mod AbortedLine
 pub mod Extracting
 pub mod Normalising
+pub mod OneOutput
+pub mod OneShown
+pub mod OneRun

@@ -9,3 +9,4 @@ pub mod Extracted
 pub mod Normalised
 pub mod Counted
 pub mod Run
+pub mod One

@@ -5,6 +5,7 @@ mod check;
 mod count;
 mod extract;
 mod faults;
+pub mod laws;
 mod names;
 mod normal;
 mod output;

@@ -1,0 +1,102 @@
+-- What is shown is one, where memory was not wanting and no write failed.
+use Rattle.std.proofs.Common.{◌≡◌, ◌⊎◌, inl, inr, ℕ, ◌+◌, List, [], ◌∷◌, ◌++◌, codes, decimal, true, false, true≢false, refl, sym, ap, ◌∙◌, subst}
+use Rattle.tftp_packet.proofs.FaultOrder.{first_fault_unique}
+use Rattle.tftp_packet.proofs.NoFault.{no_fault}
+use Rattle.tftp_capture.specs.CaptureText.{Datagram, Due, HasFault, Header, IsCapture, Numbered, Stands, Unfinished, dir_word}
+use Rattle.tftp_capture.specs.CaptureText.Due.{Head, EndLine, ServiceLine, Body, Nothing}
+use Rattle.tftp_capture.specs.CaptureText.Reading.{Capture, Fault}
+use Rattle.tftp_capture.specs.declared.fault.CaptureFault.TheVariants.{Text, Read, Memory}
+use Rattle.tftp_capture.specs.declared.fault.TextFault.{TextFault}
+use Rattle.tftp_capture.specs.declared.fault.TextFault.TheVariants.{Truncated}
+use Rattle.tftp_capture.proofs.Readings.{reads_same}
+use Rattle.tftp_law.proofs.Spelled.{spelled_once}
+use Rattle.tftp_commands.specs.Names.{packet_fault_name}
+use Rattle.tftp_commands.specs.One.{IsNoMemoryEnding}
+use Rattle.tftp_commands.specs.Output.{Output}
+use Rattle.tftp_commands.specs.Shown.{AreLines, Cut, Ending, EndsBy, Faulty, IsDatagramLine, IsPayloadText, IsShown, Whole, last_line, message_text, status_of}
+use Rattle.tftp_commands.specs.Source.{Source}
+use Rattle.tftp_commands.proofs.OneOutput.{last_line_is}
+
+-- ---- the lines of datagrams
+
+one_text : (payload one other : List ℕ) → IsPayloadText payload one → IsPayloadText payload other → one ≡ other
+one_text payload one other (inl (m, spells, is)) (inl (n, also, too)) = is ∙ ap message_text (spelled_once payload m n spells also) ∙ sym too
+one_text payload one other (inl (m, spells, is)) (inr (f, first, too)) = absurd (no_fault payload m f spells.1 first.0)
+one_text payload one other (inr (f, first, is)) (inl (m, spells, too)) = absurd (no_fault payload m f spells.1 first.0)
+one_text payload one other (inr (f, first, is)) (inr (g, also, too)) = is ∙ ap (λ x. codes "malformed " ++ packet_fault_name x) (first_fault_unique payload f g first also) ∙ sym too
+
+one_line : (number : ℕ) (d : Datagram) (one other : List ℕ) → IsDatagramLine number d one → IsDatagramLine number d other → one ≡ other
+one_line number d one other (text, says, is) (words, also, too) =
+    is ∙ ap (λ t. decimal number ++ codes " " ++ dir_word d.dir ++ codes " " ++ t ++ codes "\n") (one_text d.payload text words says also) ∙ sym too
+
+one_lines : (number : ℕ) (ds : List Numbered) (one other : List ℕ) → AreLines number ds one → AreLines number ds other → one ≡ other
+one_lines number [] one other is too = is ∙ sym too
+one_lines number (d ∷ ds) one other (line, more, says, are, is) (row, rest, also, all, too) =
+    is ∙ ap (λ l. l ++ more) (one_line number d.1 line row says also) ∙ ap (λ l. row ++ l) (one_lines (number + 1) ds more rest are all) ∙ sym too
+
+-- ---- where a text ends whose reading failed
+
+over_is : (text : List ℕ) (ds : List Numbered) (line : ℕ) (due : Due) → Unfinished text ds line due → ((header : Header) × IsCapture text header ds) ⊎ HasFault text ds line Truncated
+over_is text ds line (Nothing version header) u = inl (header, (version, u.lines, subst (λ r. Stands text u.lines r (Nothing version header) ds) (u.stands.last tt) u.stands))
+over_is text ds line Head u = inr (Head, u, λ h. h)
+over_is text ds line (EndLine version) u = inr (EndLine version, u, λ h. h)
+over_is text ds line (ServiceLine version named) u = inr (ServiceLine version named, u, λ h. h)
+over_is text ds line (Body version header) u = inr (Body version header, u, λ h. h)
+
+both_captured : (text : List ℕ) (h k : Header) (ds es : List Numbered) → IsCapture text h ds → IsCapture text k es → ds ≡ es
+both_captured text h k ds es is also = let same = reads_same text (Capture h ds) (Capture k es) is also in cc
+
+captured_or_faulty : (text : List ℕ) (h : Header) (ds es : List Numbered) (line : ℕ) (fault : TextFault) → IsCapture text h ds → HasFault text es line fault → ⊥
+captured_or_faulty text h ds es line fault is has = let same = reads_same text (Capture h ds) (Fault es line fault) is has in cc
+
+both_faulty : (text : List ℕ) (ds es : List Numbered) (l m : ℕ) (f g : TextFault) → HasFault text ds l f → HasFault text es m g → (ds ≡ es) × (l ≡ m) × (f ≡ g)
+both_faulty text ds es l m f g has also = let same = reads_same text (Fault ds l f) (Fault es m g) has also in (cc, cc, cc)
+
+both_end : (text : List ℕ) (ds es : List Numbered) (l m : ℕ) → ((header : Header) × IsCapture text header ds) ⊎ HasFault text ds l Truncated → ((header : Header) × IsCapture text header es) ⊎ HasFault text es m Truncated → ds ≡ es
+both_end text ds es l m (inl (h, is)) (inl (k, also)) = both_captured text h k ds es is also
+both_end text ds es l m (inl (h, is)) (inr has) = absurd (captured_or_faulty text h ds es m Truncated is has)
+both_end text ds es l m (inr has) (inl (k, also)) = absurd (captured_or_faulty text k es ds l Truncated also has)
+both_end text ds es l m (inr has) (inr too) = (both_faulty text ds es l m Truncated Truncated has too).0
+
+-- ---- the ending
+
+-- how a showing ends where no write failed and memory was not wanting
+data Ends (source : Source) (ds : List Numbered) : Ending → Type 0 where
+  whole : (h : Header) → IsCapture source.read h ds → source.failed ≡ false → Ends source ds Whole
+  faulty : (line : ℕ) (fault : TextFault) → HasFault source.read ds line fault → source.failed ≡ false → Ends source ds (Faulty (Text line fault))
+  unread : (line : ℕ) (due : Due) → Unfinished source.read ds line due → source.failed ≡ true → Ends source ds (Faulty (Read line))
+
+ends_is : (source : Source) (ds : List Numbered) (e : Ending) → IsNoMemoryEnding e → EndsBy e source false ds → Ends source ds e
+ends_is source ds Whole fine ((h, is), end, clean) = whole h is clean
+ends_is source ds (Faulty (Text line fault)) fine (has, end, clean) = faulty line fault has clean
+ends_is source ds (Faulty (Read line)) fine ((due, ends), failed) = unread line due ends failed
+ends_is source ds (Faulty (Memory line)) fine ends = absurd fine
+ends_is source ds Cut fine (first, clean, cut) = absurd (true≢false (sym cut))
+
+read_or_not : (source : Source) → source.failed ≡ false → source.failed ≡ true → ⊥
+read_or_not source clean failed = true≢false (sym failed ∙ clean)
+
+one_end : (source : Source) (ds es : List Numbered) (e f : Ending) → Ends source ds e → Ends source es f → (ds ≡ es) × (e ≡ f)
+one_end source ds es _ _ (whole h is clean) (whole k also fine) = (both_captured source.read h k ds es is also, refl)
+one_end source ds es _ _ (whole h is clean) (faulty line fault has fine) = absurd (captured_or_faulty source.read h ds es line fault is has)
+one_end source ds es _ _ (whole h is clean) (unread line due ends failed) = absurd (read_or_not source clean failed)
+one_end source ds es _ _ (faulty line fault has clean) (whole k also fine) = absurd (captured_or_faulty source.read k es ds line fault also has)
+one_end source ds es _ _ (faulty l f has clean) (faulty m g also fine) =
+    let same = both_faulty source.read ds es l m f g has also in
+    (same.0, ap (λ x. Faulty (Text x f)) same.1 ∙ ap (λ x. Faulty (Text m x)) same.2)
+one_end source ds es _ _ (faulty line fault has clean) (unread other due ends failed) = absurd (read_or_not source clean failed)
+one_end source ds es _ _ (unread line due ends failed) (whole k also fine) = absurd (read_or_not source fine failed)
+one_end source ds es _ _ (unread line due ends failed) (faulty other fault has fine) = absurd (read_or_not source fine failed)
+one_end source ds es _ _ (unread l due ends failed) (unread m also stops broken) = (
+  both_end source.read ds es l m (over_is source.read ds l due ends) (over_is source.read es m also stops),
+  ap (λ x. Faulty (Read x)) (last_line_is source.read ds l due ends ∙ sym (last_line_is source.read es m also stops)),
+)
+
+abbrev shown : List ℕ → Ending → Output
+shown lines ending = record { bytes = lines ++ last_line ending; status = status_of ending }
+
+pub one_shown : (source : Source) (one other : Output) (first : IsShown source false one) (second : IsShown source false other) → IsNoMemoryEnding first.ending → IsNoMemoryEnding second.ending → one ≡ other
+one_shown source one other first second fine well =
+    let same = one_end source first.datagrams second.datagrams first.ending second.ending (ends_is source first.datagrams first.ending fine first.ends) (ends_is source second.datagrams second.ending well second.ends) in
+    let lines : first.lines ≡ second.lines = one_lines 1 second.datagrams first.lines second.lines (subst (λ (x : List Numbered). AreLines 1 x first.lines) same.0 first.are) second.are in
+    first.is ∙ ap (λ (l : List ℕ). shown l first.ending) lines ∙ ap (shown second.lines) same.1 ∙ sym second.is
