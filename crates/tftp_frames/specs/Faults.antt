@@ -1,5 +1,5 @@
 -- Why a frame is no IP packet that may carry UDP. The faults stand in the order in which they are tried.
-use Rattle.std.specs.Prelude.{◌≡◌, ◌<◌, ℕ, false, List, length, Some, None, Result, MatchResult}
+use Rattle.std.specs.Prelude.{◌≡◌, ◌<◌, ◌≤◌, ℕ, false, List, length, Some, None, Result, MatchResult}
 use Rattle.tftp_frames.specs.Link.{link_named, Linked, SpellsLink}
 use Rattle.tftp_frames.specs.Extension.{Reached}
 use Rattle.tftp_frames.specs.Ip.{HasHeader, size_of, total_of, Reaches, may_be_udp, SpellsIp}
@@ -20,6 +20,12 @@ HoldsIp Length network bytes = HasHeader network bytes × (total_of network byte
 HoldsIp Cut network bytes = HasHeader network bytes × (length bytes < total_of network bytes)
 HoldsIp Extension network bytes = HasHeader network bytes × ((r : Reached) → Reaches network bytes r → ⊥)
 HoldsIp _ network bytes = ⊥
+
+-- the fault of a length
+abbrev pub IsNotWhole : FrameFault → Network → List ℕ → Type 0
+IsNotWhole Length network bytes = total_of network bytes < size_of network bytes
+IsNotWhole Cut network bytes = (size_of network bytes ≤ total_of network bytes) × (length bytes < total_of network bytes)
+IsNotWhole _ network bytes = ⊥
 
 -- what a fault says of a frame
 abbrev pub Holds : FrameFault → ℕ → List ℕ → Type 0

@@ -93,11 +93,14 @@ packet_of direction network bytes r = record {
   packet = take (total_of network bytes) bytes;
 }
 
+-- the packet is as long as its header or longer, and all its bytes are there
+abbrev pub IsWhole : Network → List ℕ → Type 0
+IsWhole network bytes = (size_of network bytes ≤ total_of network bytes) × (total_of network bytes ≤ length bytes)
+
 -- the bytes begin with a whole packet of the network, which may carry UDP
 pub record SpellsIp (direction : Direction) (network : Network) (bytes : List ℕ) (p : Packet) : Type 0 where
   pub header : HasHeader network bytes
-  pub long : size_of network bytes ≤ total_of network bytes
-  pub whole : total_of network bytes ≤ length bytes
+  pub whole : IsWhole network bytes
   pub upper : Reached
   pub reaches : Reaches network bytes upper
   pub udp : may_be_udp network upper ≡ true

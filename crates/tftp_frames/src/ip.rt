@@ -1,7 +1,7 @@
-ghost use Rattle.std.specs.Prelude.{◌≡◌, ◌+◌, ◌≤◌, length, ◌↔◌, IsTrue, MatchOption};
+ghost use Rattle.std.specs.Prelude.{◌≡◌, ◌+◌, ◌≤◌, length, ◌↔◌, IsTrue, MatchOption, MatchResult};
 ghost use Rattle.tftp_frames.specs.Extension.{Reached};
-ghost use Rattle.tftp_frames.specs.Ip.{HasHeader, size_of, total_of, source_of, target_of, identification_of, ipv4_address, ipv6_address, part_of, held_of, Reaches, may_be_udp};
-ghost use Rattle.tftp_frames.specs.Faults.{JudgesIp};
+ghost use Rattle.tftp_frames.specs.Ip.{HasHeader, size_of, total_of, source_of, target_of, identification_of, ipv4_address, ipv6_address, part_of, held_of, Reaches, may_be_udp, IsWhole};
+ghost use Rattle.tftp_frames.specs.Faults.{JudgesIp, IsNotWhole};
 ghost use Rattle.tftp_frames.specs.Parts.{reached};
 
 use crate::extension::{Upper, is_extension_header, skip_extensions};
@@ -184,6 +184,22 @@ fn is_udp(network: Network, upper: &Upper<'_>) -> bool
     }
 }
 
+/// Whether the length that a header says is that of the header or more, and all its bytes are there.
+#[inline]
+fn check_length(network: Network, bytes: &[u8]) -> Result<(), FrameFault>
+    requires { HasHeader network bytes.now }
+    ensures { MatchResult result (λ _. IsWhole network bytes.now) (λ fault. IsNotWhole fault network bytes.now) }
+{
+    let total = total_length(network, bytes);
+    if total < header_length(network, bytes) {
+        return Err(FrameFault::Length);
+    }
+    if bytes.len() < total {
+        return Err(FrameFault::Cut);
+    }
+    Ok(())
+}
+
 /// The packet with which bytes begin, or the first fault.
 #[inline]
 pub fn read_ip(
@@ -196,30 +212,22 @@ pub fn read_ip(
     if !has_header(network, bytes) {
         return Err(FrameFault::Header);
     }
-    let upper = reach(network, bytes);
-    if let Some(found) = &upper
-        && !is_udp(network, found)
-    {
-        return Err(FrameFault::Protocol);
-    }
-    let total = total_length(network, bytes);
-    if total < header_length(network, bytes) {
-        return Err(FrameFault::Length);
-    }
-    if bytes.len() < total {
-        return Err(FrameFault::Cut);
-    }
-    let Some(found) = upper else {
+    let Some(upper) = reach(network, bytes) else {
+        check_length(network, bytes)?;
         return Err(FrameFault::Extension);
     };
+    if !is_udp(network, &upper) {
+        return Err(FrameFault::Protocol);
+    }
+    check_length(network, bytes)?;
     Ok(IpPacket {
         direction,
         source: source(network, bytes),
         target: target(network, bytes),
-        protocol: found.protocol,
+        protocol: upper.protocol,
         identification: identification(network, bytes),
-        fragment: found.fragment,
-        content: found.content,
-        packet: bytes.split_at(total).0,
+        fragment: upper.fragment,
+        content: upper.content,
+        packet: bytes.split_at(total_length(network, bytes)).0,
     })
 }

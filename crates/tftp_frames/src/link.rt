@@ -131,7 +131,9 @@ fn read_typed(direction: Direction, kind: u16, after: &[u8]) -> Option<LinkConte
         ((c : Linked) → CarriesTyped kind after.now c → ⊥)
         (λ found. CarriesTyped kind after.now (linked found) × (found.direction ≡ direction)) }
 {
-    let (last, content) = skip_tags(kind, after)?;
+    let Some((last, content)) = skip_tags(kind, after) else {
+        return None;
+    };
     Some(LinkContent {
         direction,
         network: network_of_type(last),

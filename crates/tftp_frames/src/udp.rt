@@ -26,7 +26,9 @@ fn udp_bytes(protocol: u8, content: &[u8]) -> Option<&[u8]>
         ((bytes : List ℕ) → HasUdp protocol content.now bytes → ⊥)
         (λ found. HasUdp protocol content.now found.now) }
 {
-    let upper = skip_extensions(protocol, content)?;
+    let Some(upper) = skip_extensions(protocol, content) else {
+        return None;
+    };
     if upper.protocol == UDP && upper.fragment.is_none() {
         Some(upper.content)
     } else {
