@@ -5,9 +5,9 @@ use Rattle.std.proofs.lemmas.Bool.{cases_lt, false≢true}
 use Rattle.tftp_frames.specs.Number.{at}
 use Rattle.tftp_frames.specs.Link.{Linked, SpellsLink, link_named}
 use Rattle.tftp_frames.specs.Extension.{Reached}
-use Rattle.tftp_frames.specs.Ip.{Packet, Reaches, held_of, may_be_udp, packet_of, SpellsIp}
+use Rattle.tftp_frames.specs.Ip.{Packet, HasHeader, size_of, total_of, Reaches, held_of, may_be_udp, packet_of, SpellsIp}
 use Rattle.tftp_frames.specs.Frame.{IsLinked, SpellsFrame}
-use Rattle.tftp_frames.specs.Faults.{Holds, HoldsIp, place, FirstFault, FirstIpFault, Judges, JudgesIp}
+use Rattle.tftp_frames.specs.Faults.{Holds, HoldsIp, place, FirstFault, FirstIpFault, IsNotWhole, Judges, JudgesIp}
 use Rattle.tftp_frames.specs.Parts.{shown}
 use Rattle.tftp_frames.specs.declared.link.LinkType.{LinkType}
 use Rattle.tftp_frames.specs.declared.link.Network.{Network}
@@ -132,3 +132,32 @@ only_of number frame (Err f) judged p s = absurd (no_fault number frame p f s ju
 pub fault_of : (number : ℕ) (frame : List ℕ) (r : Result IpPacket FrameFault) → Judges number frame r → (f : FrameFault) → (r ≡ Err f) ↔ FirstFault number frame f
 fault_of number frame (Ok found) judged f = ((λ e. absurd (let x : ⊥ = cc in x)), λ first. absurd (no_fault number frame (shown found) f judged first.0))
 fault_of number frame (Err g) judged f = ((λ e. let same : g ≡ f = cc in subst (FirstFault number frame) same judged), λ first. ap Err (first_one number frame g f judged first))
+
+-- ---- a packet that may be UDP, and whose length is wrong
+
+pub length_first : (network : Network) (bytes : List ℕ) (upper : Reached) (fault : FrameFault) → HasHeader network bytes → Reaches network bytes upper → may_be_udp network upper ≡ true → IsNotWhole fault network bytes → FirstIpFault network bytes fault
+length_first network bytes upper fault header reaches udp wrong = first fault wrong
+  where
+    no_other : HoldsIp Protocol network bytes → ⊥
+    no_other (again, (r, reaches_r, other)) = false≢true (sym other ∙ ap (may_be_udp network) (upper_one network bytes r upper reaches_r reaches) ∙ udp)
+
+    below_length : (f : FrameFault) → place f < 6 → HoldsIp f network bytes → ⊥
+    below_length Header below h = h header
+    below_length Protocol below h = no_other h
+    below_length Length below h = omega arith
+    below_length Cut below h = omega arith
+    below_length Extension below h = omega arith
+    below_length _ below h = h
+
+    below_cut : size_of network bytes ≤ total_of network bytes → (f : FrameFault) → place f < 7 → HoldsIp f network bytes → ⊥
+    below_cut long Header below h = h header
+    below_cut long Protocol below h = no_other h
+    below_cut long Length below h = omega (arith, h.1, long)
+    below_cut long Cut below h = omega arith
+    below_cut long Extension below h = omega arith
+    below_cut long _ below h = h
+
+    first : (f : FrameFault) → IsNotWhole f network bytes → FirstIpFault network bytes f
+    first Length short = ((header, short), below_length)
+    first Cut (long, cut) = ((header, cut), below_cut long)
+    first _ k = absurd k
