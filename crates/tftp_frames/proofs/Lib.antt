@@ -1,0 +1,6 @@
+pub mod Tags
+pub mod Extensions
+pub mod Links
+pub mod Uppers
+pub mod FaultOrder
+pub mod Datagrams

@@ -1,0 +1,19 @@
+-- What a packet carries.
+use Rattle.std.proofs.Common.{◌≡◌, ℕ, List, sym, subst}
+use Rattle.std.specs.Prelude.{Option, MatchOption}
+use Rattle.tftp_frames.specs.Number.{at}
+use Rattle.tftp_frames.specs.Extension.{Reached, ReachesOver}
+use Rattle.tftp_frames.specs.Ip.{Reaches, held_of}
+use Rattle.tftp_frames.specs.Parts.{reached}
+use Rattle.tftp_frames.specs.declared.extension.Upper.{Upper}
+use Rattle.tftp_frames.specs.declared.link.Network.{Network}
+use Rattle.tftp_frames.specs.declared.link.Network.TheVariants.{Ipv6}
+
+-- over the extension headers of IPv6
+pub over_extensions : (network : Network) (bytes content : List ℕ) (r : Option Upper) → network ≡ Ipv6 → content ≡ held_of network bytes
+    → MatchOption r ((x : Reached) → ReachesOver (at bytes 6) content x → ⊥) (λ found. ReachesOver (at bytes 6) content (reached found))
+    → MatchOption r ((x : Reached) → Reaches network bytes x → ⊥) (λ found. Reaches network bytes (reached found))
+over_extensions network bytes content r is held answers =
+    let Answers : List ℕ → Type 0 = λ x. MatchOption r ((y : Reached) → ReachesOver (at bytes 6) x y → ⊥) (λ found. ReachesOver (at bytes 6) x (reached found)) in
+    let six = subst (λ (n : Network). content ≡ held_of n bytes) is held in
+    subst (λ (n : Network). MatchOption r ((x : Reached) → Reaches n bytes x → ⊥) (λ found. Reaches n bytes (reached found))) (sym is) (subst Answers six answers)

@@ -1,0 +1,9 @@
+pub mod Number
+pub mod Tag
+pub mod Link
+pub mod Extension
+pub mod Ip
+pub mod Frame
+pub mod Udp
+pub mod Parts
+pub mod Faults

@@ -1,0 +1,41 @@
+-- Which contents of an IP packet are a UDP datagram (RFC 768), and why others are none.
+use Rattle.std.specs.Prelude.{◌≡◌, ◌≢◌, ◌⊎◌, ◌+◌, ◌-◌, ◌<◌, ◌≤◌, ℕ, List, length, take, drop, None, Result, MatchResult}
+use Rattle.tftp_frames.specs.Number.{pair}
+use Rattle.tftp_frames.specs.Extension.{ReachesOver}
+use Rattle.tftp_frames.specs.declared.packet.UdpDatagram.{UdpDatagram}
+use Rattle.tftp_frames.specs.declared.fault.UdpFault.{UdpFault}
+use Rattle.tftp_frames.specs.declared.fault.UdpFault.TheVariants.{Protocol, Header, Length, Port}
+
+-- the ports and the payload
+pub record Udp : Type 0 where
+  pub source_port : ℕ
+  pub target_port : ℕ
+  pub payload : List ℕ
+
+abbrev pub datagram : UdpDatagram → Udp
+datagram d = record { source_port = d.source_port; target_port = d.target_port; payload = d.payload.now }
+
+-- the content, which begins with a header of this number, has these bytes of UDP
+abbrev pub HasUdp : ℕ → List ℕ → List ℕ → Type 0
+HasUdp protocol content bytes = ReachesOver protocol content (record { protocol = 17; fragment = None; content = bytes })
+
+-- the length counts the header of 8 bytes in; what follows is not of the datagram
+abbrev pub IsSized : List ℕ → Type 0
+IsSized bytes = (8 ≤ pair bytes 4) × (pair bytes 4 ≤ length bytes)
+
+-- the ports, 0 none of them, and the payload
+abbrev pub SpellsUdp : ℕ → List ℕ → Udp → Type 0
+SpellsUdp protocol content udp =
+    (bytes : List ℕ) × HasUdp protocol content bytes × (8 ≤ length bytes) × IsSized bytes × (pair bytes 0 ≢ 0) × (pair bytes 2 ≢ 0)
+    × (udp ≡ record { source_port = pair bytes 0; target_port = pair bytes 2; payload = take (pair bytes 4 - 8) (drop 8 bytes) })
+
+-- what each fault says of a content
+abbrev pub HoldsUdp : UdpFault → ℕ → List ℕ → Type 0
+HoldsUdp Protocol protocol content = (bytes : List ℕ) → HasUdp protocol content bytes → ⊥
+HoldsUdp Header protocol content = (bytes : List ℕ) × HasUdp protocol content bytes × (length bytes < 8)
+HoldsUdp Length protocol content = (bytes : List ℕ) × HasUdp protocol content bytes × (8 ≤ length bytes) × ((pair bytes 4 < 8) ⊎ (length bytes < pair bytes 4))
+HoldsUdp Port protocol content = (bytes : List ℕ) × HasUdp protocol content bytes × (8 ≤ length bytes) × IsSized bytes × ((pair bytes 0 ≡ 0) ⊎ (pair bytes 2 ≡ 0))
+
+-- the datagram that the content is, or the fault
+abbrev pub JudgesUdp : ℕ → List ℕ → Result UdpDatagram UdpFault → Type 0
+JudgesUdp protocol content result = MatchResult result (λ d. SpellsUdp protocol content (datagram d)) (λ f. HoldsUdp f protocol content)

@@ -1,0 +1,47 @@
+use thiserror::Error;
+
+/// Why a frame is no IP packet that may carry UDP. Where several hold, the first in this order is answered.
+#[derive(Clone, Copy, Debug, PartialEq, Eq, Error)]
+pub enum FrameFault {
+    /// The link type is none of Ethernet, Linux cooked (1 and 2), raw IP, BSD NULL and BSD LOOP.
+    #[error("another link type")]
+    Link,
+    /// The frame ends before the link's header does, or in its tags (IEEE 802.1Q).
+    #[error("a frame that ends in the link's header")]
+    Frame,
+    /// The frame carries neither IPv4 nor IPv6.
+    #[error("not IP")]
+    Network,
+    /// There is no whole header of IPv4 (RFC 791, section 3.1) or IPv6 (RFC 8200, section 3).
+    #[error("no whole IP header")]
+    Header,
+    /// The packet carries another protocol than UDP.
+    #[error("not UDP")]
+    Protocol,
+    /// The packet's length is less than that of its header.
+    #[error("a length below that of the header")]
+    Length,
+    /// The recording has not all bytes of the packet.
+    #[error("cut")]
+    Cut,
+    /// The extension headers of IPv6 run beyond the packet (RFC 8200, section 4).
+    #[error("an extension header that runs beyond the packet")]
+    Extension,
+}
+
+/// Why the content of a whole IP packet is no UDP datagram. Where several hold, the first in this order is answered.
+#[derive(Clone, Copy, Debug, PartialEq, Eq, Error)]
+pub enum UdpFault {
+    /// The content is not of UDP, nor do extension headers lead to it.
+    #[error("not UDP")]
+    Protocol,
+    /// The content has fewer bytes than a UDP header, 8.
+    #[error("no whole UDP header")]
+    Header,
+    /// The length is below 8, or more than the content has (RFC 768).
+    #[error("a wrong UDP length")]
+    Length,
+    /// The source's or the target's port is 0, which no host can answer or is asked at.
+    #[error("port 0")]
+    Port,
+}

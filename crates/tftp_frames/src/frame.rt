@@ -1,0 +1,38 @@
+ghost use Rattle.std.specs.Prelude.{◌≡◌, ◌↔◌, IfOk, IsOkAnd};
+ghost use Rattle.tftp_frames.specs.Ip.{Packet};
+ghost use Rattle.tftp_frames.specs.Frame.{SpellsFrame};
+ghost use Rattle.tftp_frames.specs.Faults.{FirstFault, Judges};
+ghost use Rattle.tftp_frames.specs.Parts.{shown};
+ghost use Rattle.tftp_frames.specs.declared.fault.FrameFault.{FrameFault};
+
+use crate::fault::FrameFault;
+use crate::ip::read_ip;
+use crate::link::{link_type, read_link};
+use crate::packet::IpPacket;
+
+/// The IP packet, or the fragment of one, that a frame carries and that is of UDP, or may be. The number is that of the
+/// link type in the recording. It borrows the frame, and takes no memory. Checksums are not looked at.
+pub fn read_frame(link_number: u32, frame: &[u8]) -> Result<IpPacket<'_>, FrameFault>
+    ensures found { IfOk result (λ p. SpellsFrame link_number frame.now (shown p)) }
+    ensures only { (p : Packet) → SpellsFrame link_number frame.now p → IsOkAnd result (λ found. shown found ≡ p) }
+    ensures fault { (f : FrameFault) → (result ≡ Err f) ↔ FirstFault link_number frame.now f }
+{
+    judge_frame(link_number, frame)
+}
+
+/// The packet, or the first fault.
+#[inline]
+fn judge_frame(link_number: u32, frame: &[u8]) -> Result<IpPacket<'_>, FrameFault>
+    ensures { Judges link_number frame.now result }
+{
+    let Some(link) = link_type(link_number) else {
+        return Err(FrameFault::Link);
+    };
+    let Some(carried) = read_link(link, frame) else {
+        return Err(FrameFault::Frame);
+    };
+    let Some(network) = carried.network else {
+        return Err(FrameFault::Network);
+    };
+    read_ip(carried.direction, network, carried.content)
+}

@@ -1,0 +1,64 @@
+ghost use Rattle.std.specs.Prelude.{◌≡◌, ◌↔◌, IfOk, IsOkAnd, ℕ, List, MatchOption};
+ghost use Rattle.tftp_frames.specs.Udp.{Udp, SpellsUdp, HasUdp, HoldsUdp, JudgesUdp, datagram};
+ghost use Rattle.tftp_frames.specs.declared.fault.UdpFault.{UdpFault};
+
+use crate::extension::skip_extensions;
+use crate::fault::UdpFault;
+use crate::ip::UDP;
+use crate::number::pair_at;
+use crate::packet::UdpDatagram;
+
+/// The UDP datagram that the content of a whole packet is (RFC 768). The content begins with a header of the number
+/// `protocol`: 17, or that of an extension header, which a fragment of IPv6 may begin with. The checksum is not looked
+/// at.
+pub fn read_udp(protocol: u8, content: &[u8]) -> Result<UdpDatagram<'_>, UdpFault>
+    ensures found { IfOk result (λ d. SpellsUdp protocol content.now (datagram d)) }
+    ensures only { (d : Udp) → SpellsUdp protocol content.now d → IsOkAnd result (λ found. datagram found ≡ d) }
+    ensures fault { (f : UdpFault) → (result ≡ Err f) ↔ HoldsUdp f protocol content.now }
+{
+    judge_udp(protocol, content)
+}
+
+/// The bytes of UDP in a content; none where it has none.
+#[inline]
+fn udp_bytes(protocol: u8, content: &[u8]) -> Option<&[u8]>
+    ensures { MatchOption result
+        ((bytes : List ℕ) → HasUdp protocol content.now bytes → ⊥)
+        (λ found. HasUdp protocol content.now found.now) }
+{
+    let Some(upper) = skip_extensions(protocol, content) else {
+        return None;
+    };
+    if upper.protocol == UDP && upper.fragment.is_none() {
+        Some(upper.content)
+    } else {
+        None
+    }
+}
+
+/// The datagram, or the fault.
+#[inline]
+fn judge_udp(protocol: u8, content: &[u8]) -> Result<UdpDatagram<'_>, UdpFault>
+    ensures { JudgesUdp protocol content.now result }
+{
+    let Some(bytes) = udp_bytes(protocol, content) else {
+        return Err(UdpFault::Protocol);
+    };
+    if bytes.len() < 8 {
+        return Err(UdpFault::Header);
+    }
+    let length = usize::from(pair_at(bytes, 4));
+    if length < 8 || bytes.len() < length {
+        return Err(UdpFault::Length);
+    }
+    let source_port = pair_at(bytes, 0);
+    let target_port = pair_at(bytes, 2);
+    if source_port == 0 || target_port == 0 {
+        return Err(UdpFault::Port);
+    }
+    Ok(UdpDatagram {
+        source_port,
+        target_port,
+        payload: bytes.split_at(8).1.split_at(length - 8).0,
+    })
+}
