@@ -1,0 +1,233 @@
+-- Which datagrams of a recording are one transfer. Lists have the newest first. A datagram's place is a matter of those
+-- before it alone, so the place of each is known when it passes.
+use Rattle.std.specs.Prelude.{ℕ, ◌+◌, ◌==◌, ◌&&◌, ◌||◌, not, nat_le, max, Bool, true, false, List, [], ◌∷◌, length, Option, Some, None, option_map, if◌then◌else◌}
+use Rattle.std.specs.List.{list_any}
+use Rattle.tftp_ends.specs.Ports.{first_of}
+use Rattle.tftp_transfers.specs.declared.endpoint.Endpoint.{Endpoint}
+use Rattle.tftp_transfers.specs.Recording.{Recorded, same_address, same_endpoint, begins_request, is_ack_0, is_data_1, is_answer, goes, is_between, is_again}
+
+-- A transfer: how many datagrams of the recording came before the request that opened it, the endpoint that asked, and
+-- the one that was asked.
+pub record Transfer : Type 0 where
+  pub number : ℕ
+  pub client : Endpoint
+  pub asked : Endpoint
+
+-- where a datagram belongs
+pub data Place : Type 0 where
+  Asks : Transfer → Place  -- a request, which opened the transfer or repeats
+  Talks : Transfer → Place  -- between the transfer's client and another
+  Apart : Endpoint → Place  -- between this client and one with whom it has no transfer
+  Beside : Transfer → Place  -- between the transfer's server and another than its client
+  Nowhere : Place
+
+-- a datagram, the greatest time up to it, and its place
+pub record Placed : Type 0 where
+  pub datagram : Recorded
+  pub moment : ℕ
+  pub place : Place
+
+-- ---- tests of places
+
+abbrev pub is_request : Placed → Bool
+is_request p = by p.place where
+  by : Place → Bool
+  by (Asks x) = true
+  by _ = false
+
+abbrev pub is_apart : Placed → Bool
+is_apart p = by p.place where
+  by : Place → Bool
+  by (Apart c) = true
+  by _ = false
+
+-- it passed at this client's endpoint
+abbrev pub is_at : Endpoint → Placed → Bool
+is_at c p = by p.place where
+  by : Place → Bool
+  by (Asks x) = same_endpoint x.client c
+  by (Talks x) = same_endpoint x.client c
+  by (Apart a) = same_endpoint a c
+  by _ = false
+
+-- the transfer that it is of at its client, if it is of one
+abbrev pub transfer_of : Place → Option Transfer
+transfer_of (Asks x) = Some x
+transfer_of (Talks x) = Some x
+transfer_of _ = None
+
+-- the newest that passes the test
+abbrev pub newest_of : (Placed → Bool) → List Placed → Option Placed
+newest_of test [] = None
+newest_of test (p ∷ older) = if test p then Some p else newest_of test older
+
+-- ---- the line of a client: what passed at its endpoint since it was last silent for 300 s
+
+-- above 255 s, the longest timeout that two ends can agree on (RFC 2349)
+abbrev pub silence : ℕ
+silence = 300000000000
+
+-- the line, unless it has been silent until now
+abbrev pub live : ℕ → List Placed → List Placed
+live now [] = []
+live now (p ∷ older) = if nat_le now (p.moment + silence) then p ∷ older else []
+
+abbrev pub line : Endpoint → List Placed → List Placed
+line c [] = []
+line c (p ∷ older) = if is_at c p then p ∷ live p.moment (line c older) else line c older
+
+-- the transfer that was opened last
+abbrev pub latest_in : List Placed → Option Transfer
+latest_in line = by (newest_of is_request line) where
+  by : Option Placed → Option Transfer
+  by None = None
+  by (Some p) = transfer_of p.place
+
+-- what passed last between the client and another, requests aside
+abbrev pub talk_in : Endpoint → Endpoint → List Placed → Option Placed
+talk_in c o line = newest_of (λ p. not (is_request p) && is_between c o p.datagram) line
+
+-- ---- requests
+
+-- A service port: 69, one that was named, or one to which a request went before.
+abbrev pub is_service : List ℕ → List Placed → ℕ → Bool
+is_service named older port =
+    (port == 69) || list_any (λ n. n == port) named || list_any (λ p. is_request p && (p.datagram.target.port == port)) older
+
+-- A request goes to a service port; or it is one from its first byte to its last, and goes to an endpoint with which its
+-- client does not talk.
+abbrev pub asks : List ℕ → List Placed → ℕ → Recorded → Bool
+asks named older now d =
+    begins_request d.payload
+    && (is_service named older d.target.port
+    || (d.is_spelled && not (is_talk (talk_in d.source d.target (live now (line d.source older))))))
+  where
+    is_talk : Option Placed → Bool
+    is_talk None = false
+    is_talk (Some p) = true
+
+-- A request repeats the one that stands before it in the line, if that is the same. Any other opens a transfer.
+abbrev pub asked_in : ℕ → Recorded → List Placed → Transfer
+asked_in number d line = by (newest_of (λ p. not (is_apart p)) line) where
+  opened : Transfer
+  opened = record { number = number; client = d.source; asked = d.target }
+
+  again : Bool → Place → Transfer
+  again true (Asks x) = x
+  again _ _ = opened
+
+  by : Option Placed → Transfer
+  by None = opened
+  by (Some p) = again (is_again p.datagram d) p.place
+
+-- ---- what passes between a client and another endpoint, and is no request
+
+-- who first sent the client a datagram of this transfer
+abbrev pub answered_in : Transfer → List Placed → Option Endpoint
+answered_in x line = option_map (λ p. p.datagram.source) (first_of (λ p. answers p.place && same_endpoint p.datagram.target x.client) line) where
+  answers : Place → Bool
+  answers (Talks y) = y.number == x.number
+  answers _ = false
+
+-- the host that was asked, or that answered
+abbrev pub is_known_host : Transfer → Option Endpoint → Endpoint → Bool
+is_known_host x answered o = same_address o.address x.asked.address || by answered where
+  by : Option Endpoint → Bool
+  by None = false
+  by (Some first) = same_address o.address first.address
+
+-- the client's last word to it was ACK 0
+abbrev pub last_was_ack_0 : Endpoint → Endpoint → List Placed → Bool
+last_was_ack_0 c o line = by (newest_of (λ p. not (is_request p) && goes c o p.datagram) line) where
+  by : Option Placed → Bool
+  by None = false
+  by (Some p) = is_ack_0 p.datagram.payload
+
+-- it may be the first answer to the latest request: nobody has answered that yet
+abbrev pub may_answer : Endpoint → Endpoint → Option Endpoint → Recorded → Bool
+may_answer c o None d = goes o c d && is_answer d.payload
+may_answer c o (Some first) d = false
+
+-- DATA 1 to a client whose last word was ACK 0 answers that, and no request
+abbrev pub is_block_after_ack_0 : Endpoint → Endpoint → List Placed → Recorded → Bool
+is_block_after_ack_0 c o line d = is_data_1 d.payload && last_was_ack_0 c o line
+
+-- It is of the transfer that is talked of; the first between the two is of the latest one, and so is a first answer. Where
+-- the client speaks first to a host that was not asked and has not answered, the two are apart.
+abbrev pub place_at : Endpoint → Endpoint → List Placed → Recorded → Place
+place_at c o line d = by (latest_in line) where
+  of : Transfer → Option Placed → Place
+  of x None = if same_endpoint d.source c && not (is_known_host x (answered_in x line) o) then Apart c else Talks x
+  of x (Some p) = goes_on p.place where
+    goes_on : Place → Place
+    goes_on (Talks y) = if may_answer c o (answered_in x line) d && not (is_block_after_ack_0 c o line d) then Talks x else Talks y
+    goes_on other = other
+
+  by : Option Transfer → Place
+  by None = Nowhere
+  by (Some x) = of x (talk_in c o line)
+
+-- at the client that sent it, or at the one that it was sent to: a transfer comes before what is apart
+abbrev pub either : Place → Place → Place
+either (Talks x) other = Talks x
+either one (Talks y) = Talks y
+either Nowhere other = other
+either one other = one
+
+abbrev pub at_client : List Placed → ℕ → Recorded → Place
+at_client older now d =
+    either (place_at d.source d.target (live now (line d.source older)) d) (place_at d.target d.source (live now (line d.target older)) d)
+
+-- ---- what passes between a server and another than its client
+
+-- it was sent to a client
+abbrev pub was_sent_by : Endpoint → Placed → Bool
+was_sent_by o p = by p.place where
+  by : Place → Bool
+  by (Talks x) = goes o x.client p.datagram
+  by _ = false
+
+-- the transfer in which the endpoint last sent to a client, in the last 300 s
+abbrev pub served_by : Endpoint → ℕ → List Placed → Option Transfer
+served_by o now older = by (live now (sent (newest_of (was_sent_by o) older))) where
+  sent : Option Placed → List Placed
+  sent None = []
+  sent (Some p) = p ∷ []
+
+  by : List Placed → Option Transfer
+  by [] = None
+  by (p ∷ more) = transfer_of p.place
+
+abbrev pub beside : List ℕ → List Placed → ℕ → Recorded → Place
+beside named older now d = or_else (at d.source) (or_else (at d.target) Nowhere) where
+  at : Endpoint → Option Transfer
+  at o = if is_service named older o.port then None else served_by o now older
+
+  or_else : Option Transfer → Place → Place
+  or_else None other = other
+  or_else (Some x) other = Beside x
+
+-- ---- the whole recording
+
+abbrev pub place_of : List ℕ → List Placed → ℕ → Recorded → Place
+place_of named older now d =
+    if asks named older now d then Asks (asked_in (length older) d (live now (line d.source older)))
+    else otherwise (at_client older now d)
+  where
+    otherwise : Place → Place
+    otherwise Nowhere = beside named older now d
+    otherwise place = place
+
+abbrev pub clock : List Placed → ℕ
+clock [] = 0
+clock (p ∷ older) = p.moment
+
+-- one more datagram, after those that have their places
+abbrev pub and_then : List ℕ → List Placed → Recorded → List Placed
+and_then named older d =
+    record { datagram = d; moment = max d.time (clock older); place = place_of named older (max d.time (clock older)) d } ∷ older
+
+-- each datagram of a recording with its place; `named` are the service ports that were named
+abbrev pub placed : List ℕ → List Recorded → List Placed
+placed named [] = []
+placed named (d ∷ recorded) = and_then named (placed named recorded) d

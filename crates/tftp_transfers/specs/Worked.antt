@@ -1,0 +1,153 @@
+-- Recordings, the newest datagram first, with times in seconds.
+use Rattle.std.specs.Prelude.{ℕ, ◌*◌, true, false, List, [], ◌∷◌, ◌++◌, map, codes}
+use Rattle.tftp_transfers.specs.declared.endpoint.Address.TheVariants.{V4}
+use Rattle.tftp_transfers.specs.declared.endpoint.Endpoint.{Endpoint}
+use Rattle.tftp_transfers.specs.Recording.{Recorded}
+use Rattle.tftp_transfers.specs.Places.{Place, Placed, placed}
+
+abbrev pub at : ℕ → ℕ → Endpoint
+at host port = record { address = V4 (192 ∷ 0 ∷ 2 ∷ host ∷ []); port = port }
+
+-- a client, a server's service port and two of its others, another server, another client
+abbrev pub client : Endpoint
+client = at 7 40000
+
+abbrev pub service : Endpoint
+service = at 1 69
+
+abbrev pub server : Endpoint
+server = at 1 41000
+
+abbrev pub next_server : Endpoint
+next_server = at 1 41001
+
+abbrev pub stranger : Endpoint
+stranger = at 9 41000
+
+abbrev pub other_client : Endpoint
+other_client = at 8 40000
+
+abbrev pub second : ℕ
+second = 1000000000
+
+abbrev pub passes : ℕ → Endpoint → Endpoint → List ℕ → Recorded
+passes seconds source target payload = record { time = seconds * second; source = source; target = target; payload = payload; is_spelled = false }
+
+-- a request for this file
+abbrev pub read_of : List ℕ → List ℕ
+read_of name = 0 ∷ 1 ∷ name ++ 0 ∷ codes "octet" ++ 0 ∷ []
+
+abbrev pub requests : ℕ → Endpoint → Endpoint → List ℕ → Recorded
+requests seconds source target name = record { time = seconds * second; source = source; target = target; payload = read_of name; is_spelled = true }
+
+abbrev pub data_of : ℕ → List ℕ
+data_of block = 0 ∷ 3 ∷ 0 ∷ block ∷ 5 ∷ []
+
+abbrev pub ack_of : ℕ → List ℕ
+ack_of block = 0 ∷ 4 ∷ 0 ∷ block ∷ []
+
+abbrev pub error_of : ℕ → List ℕ
+error_of code = 0 ∷ 5 ∷ 0 ∷ code ∷ 0 ∷ []
+
+-- ---- what is read off: by datagram, the newest first, where it belongs and the number of the transfer
+
+pub data Where : Type 0 where
+  Request : ℕ → Where
+  Client : ℕ → Where
+  Apart : Where
+  Server : ℕ → Where
+  Nowhere : Where
+
+abbrev pub where_of : Placed → Where
+where_of p = by p.place where
+  by : Place → Where
+  by (Place.Asks x) = Request x.number
+  by (Place.Talks x) = Client x.number
+  by (Place.Apart c) = Apart
+  by (Place.Beside x) = Server x.number
+  by Place.Nowhere = Nowhere
+
+abbrev pub where_all : List Recorded → List Where
+where_all recorded = map where_of (placed [] recorded)
+
+-- A read of one byte; the client asks again before the answer is there, and a stranger sends it a block.
+abbrev pub asked_twice : List Recorded
+asked_twice =
+    passes 4 client server (ack_of 1)
+    ∷ passes 3 stranger client (data_of 7)
+    ∷ passes 2 server client (data_of 1)
+    ∷ requests 1 client service (codes "f")
+    ∷ requests 0 client service (codes "f")
+    ∷ []
+
+-- The same, but the answer comes before it asks again, and the stranger after.
+abbrev pub asked_after_answer : List Recorded
+asked_after_answer =
+    passes 4 client server (ack_of 1)
+    ∷ passes 3 stranger client (data_of 7)
+    ∷ requests 2 client service (codes "f")
+    ∷ passes 1 server client (data_of 1)
+    ∷ requests 0 client service (codes "f")
+    ∷ []
+
+-- Two files from one client's port; the server has one port, and is told of the last block of the first file late.
+abbrev pub one_port : List Recorded
+one_port =
+    passes 5 client server (ack_of 1)
+    ∷ passes 4 server client (data_of 1)
+    ∷ requests 3 client service (codes "g")
+    ∷ passes 2 client server (ack_of 1)
+    ∷ passes 1 server client (data_of 1)
+    ∷ requests 0 client service (codes "f")
+    ∷ []
+
+-- Two clients of equal ports read one file each; a third sends a block to the first one's server, which says so.
+abbrev pub two_clients : List Recorded
+two_clients =
+    passes 7 server (at 6 40000) (error_of 5)
+    ∷ passes 6 (at 6 40000) server (data_of 3)
+    ∷ passes 5 other_client next_server (ack_of 1)
+    ∷ passes 4 client server (ack_of 1)
+    ∷ passes 3 next_server other_client (data_of 1)
+    ∷ passes 2 server client (data_of 1)
+    ∷ requests 1 other_client service (codes "f")
+    ∷ requests 0 client service (codes "f")
+    ∷ []
+
+-- A machine is reset in the middle, and asks for the same from the same port; the old server's block comes late.
+abbrev pub reset : List Recorded
+reset =
+    passes 5 client next_server (ack_of 1)
+    ∷ passes 4 next_server client (data_of 1)
+    ∷ passes 3 server client (data_of 2)
+    ∷ requests 3 client service (codes "f")
+    ∷ passes 2 client server (ack_of 1)
+    ∷ passes 1 server client (data_of 1)
+    ∷ requests 0 client service (codes "f")
+    ∷ []
+
+-- Silence of 300 s and more ends the line: what then comes is of none, and the same request opens a transfer.
+abbrev pub silent : List Recorded
+silent =
+    requests 302 client service (codes "f")
+    ∷ passes 301 server client (data_of 1)
+    ∷ requests 0 client service (codes "f")
+    ∷ []
+
+-- Silence of 300 s does not.
+abbrev pub patient : List Recorded
+patient =
+    passes 600 server client (data_of 1)
+    ∷ requests 300 client service (codes "f")
+    ∷ requests 0 client service (codes "f")
+    ∷ []
+
+-- A whole request makes its port a service port; later one that is not whole goes there too. The client sends another
+-- host a datagram of another protocol.
+abbrev pub other_service : List Recorded
+other_service =
+    passes 3 client (at 5 53) (1 ∷ 1 ∷ 1 ∷ 1 ∷ [])
+    ∷ passes 2 other_client (at 1 1069) (0 ∷ 1 ∷ 102 ∷ [])
+    ∷ passes 1 server client (data_of 1)
+    ∷ requests 0 client (at 1 1069) (codes "f")
+    ∷ []
