@@ -1,0 +1,56 @@
+-- Two captures are consistent exactly if each breaks no rule and they are merged by what they say.
+use Rattle.std.proofs.Common.{ℕ, List, sym, subst, ◌↔◌}
+use Rattle.std.specs.Prelude.{reverse}
+use Rattle.tftp_ends.specs.Meaning.{Meaning}
+use Rattle.tftp_ends.specs.OneSide.{IsOneSided}
+use Rattle.tftp_ends.specs.Ports.{transfer_of}
+use Rattle.tftp_ends.proofs.OneSided.{view_one_sided}
+use Rattle.tftp_law.specs.CaptureText.{Datagram, Header}
+use Rattle.tftp_law.specs.Dress.{view_in}
+use Rattle.tftp_law.specs.Law.{IsSeen}
+use Rattle.tftp_law.proofs.Routed.{routed}
+use Rattle.tftp_law.proofs.TwoEnds.{seen}
+use Rattle.tftp_pair.specs.Captures.{Capture, AreConsistent}
+use Rattle.tftp_pair.specs.Messages.{AreMergedBy, AreLawfulAndMerged, passed_in}
+use Rattle.tftp_pair.proofs.Together.{client_seen, server_seen, seen_merged, together, each_lawful}
+use Rattle.tftp_pair.proofs.Spelt.{AreSpelt, spelt, deeds_merged, messages_merged}
+use Rattle.tftp_pair.proofs.CommonMeaning.{one_for_both}
+
+-- what a capture shows is spelt by what has passed in it
+seen_spelt : (h : Header) (m : Meaning) (wire : List ℕ) (ds : List Datagram) (s : IsSeen h m wire ds) → AreSpelt m wire s.view (transfer_of h (reverse ds))
+seen_spelt h m wire ds s =
+    let own = subst (IsOneSided m wire h.named) (sym s.dressed.main) (view_one_sided m wire h.named s.view s.run) in
+    let all = spelt h m wire s.dressed.division (routed h m wire s.dressed.ids s.dressed.division s.dressed.parts own) in
+    subst (λ v. AreSpelt m wire v (transfer_of h (reverse ds))) s.dressed.main
+    (subst (λ x. AreSpelt m wire (view_in s.dressed.division) (transfer_of h x)) s.dressed.whole all)
+
+pub merged_by_messages : (client server : Capture) → AreConsistent client server → AreMergedBy (passed_in client) (passed_in server)
+merged_by_messages client server (m, wire, x) =
+    let a = client_seen m wire client server x in
+    let b = server_seen m wire client server x in
+    messages_merged m wire a.view b.view (seen_merged m wire client server x) (passed_in client) (passed_in server)
+    (seen_spelt client.header m wire client.datagrams a) (seen_spelt server.header m wire server.datagrams b)
+
+pub consistent_by_messages : (client server : Capture) → AreLawfulAndMerged client server → AreConsistent client server
+consistent_by_messages client server x =
+    let (m, wire, acc_client, acc_server) = one_for_both client.header server.header (reverse client.datagrams) (reverse server.datagrams)
+    x.at_client x.at_server x.client_lawful x.server_lawful x.merged in
+    let a = seen client.header m wire client.datagrams x.client_lawful acc_client in
+    let b = seen server.header m wire server.datagrams x.server_lawful acc_server in
+    let merged = deeds_merged m m wire wire a.view b.view (passed_in client) (passed_in server)
+    (seen_spelt client.header m wire client.datagrams a) (seen_spelt server.header m wire server.datagrams b) x.merged in
+    (m, wire, together m wire client server x.at_client x.at_server a b merged)
+
+pub by_messages : (client server : Capture) → AreConsistent client server ↔ AreLawfulAndMerged client server
+by_messages client server = (
+  λ consistent.
+      let each = each_lawful client server consistent in
+      record {
+        at_client = consistent.2.at_client;
+        at_server = consistent.2.at_server;
+        client_lawful = each.0;
+        server_lawful = each.1;
+        merged = merged_by_messages client server consistent;
+      },
+  λ x. consistent_by_messages client server x,
+)

@@ -1,0 +1,12 @@
+pub mod TwoViews
+pub mod Together
+pub mod Counted
+pub mod Spelt
+pub mod Starting
+pub mod CommonMeaning
+pub mod ByMessages
+pub mod OneTransfer
+pub mod MatchedCaptures
+pub mod SentByKept
+pub mod PairVerdict
+pub mod Worked

@@ -1,0 +1,33 @@
+-- Two whole captures that are consistent mean the same transfer.
+use Rattle.std.proofs.Common.{◌≡◌, ℕ, List, sym, subst, ◌∙◌}
+use Rattle.std.specs.Prelude.{reverse}
+use Rattle.tftp_ends.specs.Meaning.{Meaning}
+use Rattle.tftp_ends.specs.OneSide.{IsOneSided}
+use Rattle.tftp_ends.specs.Runs.{IsComplete}
+use Rattle.tftp_ends.proofs.OneSided.{view_one_sided}
+use Rattle.tftp_law.specs.CaptureText.{Datagram, Header}
+use Rattle.tftp_law.specs.Law.{IsSeen}
+use Rattle.tftp_law.specs.Accord.{Accords}
+use Rattle.tftp_law.specs.OneEnded.{IsEnded, Meant}
+use Rattle.tftp_law.proofs.Routed.{routed}
+use Rattle.tftp_law.proofs.TwoEnds.{rules, meant_by}
+use Rattle.tftp_law.proofs.EndedIsComplete.{completed}
+use Rattle.tftp_law.proofs.OneMeaning.{one_meaning}
+use Rattle.tftp_pair.specs.Captures.{Capture, AreConsistent}
+use Rattle.tftp_pair.proofs.Together.{client_seen, server_seen}
+
+-- what is seen of a meaning, and is whole, means it
+seen_meant : (h : Header) (m : Meaning) (wire : List ℕ) (ds : List Datagram) → IsSeen h m wire ds → IsEnded h (reverse ds) → Meant h (reverse ds) m
+seen_meant h m wire ds s ended =
+    let own = subst (IsOneSided m wire h.named) (sym s.dressed.main) (view_one_sided m wire h.named s.view s.run) in
+    let routes = routed h m wire s.dressed.ids s.dressed.division s.dressed.parts own in
+    let acc = (rules h m wire ds s).1 in
+    let complete = completed h m wire s.dressed.division routes own (subst (Accords h m wire) (sym s.dressed.whole) acc) (subst (IsEnded h) (sym s.dressed.whole) ended) in
+    meant_by h m wire ds (record { seen = s; complete = subst (IsComplete m wire h.named) s.dressed.main complete })
+
+pub one_transfer : (client server : Capture) (m n : Meaning) → AreConsistent client server → Meant client.header (reverse client.datagrams) m → Meant server.header (reverse server.datagrams) n → m ≡ n
+one_transfer client server m n (x, wire, together) at_client at_server =
+    one_meaning client.header (reverse client.datagrams) m x at_client
+    (seen_meant client.header x wire client.datagrams (client_seen x wire client server together) at_client.ended)
+    ∙ one_meaning server.header (reverse server.datagrams) x n
+    (seen_meant server.header x wire server.datagrams (server_seen x wire client server together) at_server.ended) at_server

@@ -1,0 +1,8 @@
+pub mod Pair
+pub mod Captures
+pub mod Counts
+pub mod Messages
+pub mod MatchedCaptures
+pub mod SentByKept
+pub mod PairVerdict
+pub mod Worked
