@@ -189,17 +189,18 @@ memory_alone (faults.Memory line) text ahead m = elim m as (λ _. MemoryTells (f
   | inr s ↦ inr s
 ]
 
-pub fails_to_begin : (r0 r1 : Option (List ℕ)) (ahead : List ℕ) (fault : CaptureFault) → (IsReadFault fault → ahead ≡ []) → (IsAtTextEnd fault → IsAtEnd (prepend_known ahead r1))
+pub fails_to_begin : (r0 r1 : Option (List ℕ)) (ahead : List ℕ) (fault : CaptureFault) → length ahead ≤ 16384 → (IsReadFault fault → ahead ≡ []) → (IsAtTextEnd fault → IsAtEnd (prepend_known ahead r1))
     → Tells (prepend_known [] r0) (prepend_known ahead r1) ahead fault → FailsToBegin r0 r1 fault
-fails_to_begin None r1 ahead fault none end t = record { taken = t.text; ahead = []; consumed = tt; tells = t.tells; drained = λ _. refl; ended = λ _. refl; memory = memory_alone fault t.text ahead t.memory }
-fails_to_begin (Some x) None ahead fault none end t = absurd t.consumed
-fails_to_begin (Some x) (Some y) ahead fault none end t = record {
+fails_to_begin None r1 ahead fault near none end t = record { taken = t.text; ahead = []; consumed = tt; tells = t.tells; drained = λ _. refl; ended = λ _. refl; near = lit≤ tt; memory = memory_alone fault t.text ahead t.memory }
+fails_to_begin (Some x) None ahead fault near none end t = absurd t.consumed
+fails_to_begin (Some x) (Some y) ahead fault near none end t = record {
   taken = t.text;
   ahead = ahead;
   consumed = t.consumed ∙ sym (append_assoc t.text ahead y);
   tells = t.tells;
   drained = none;
   ended = λ h. none_ahead ahead y (end h);
+  near = near;
   memory = t.memory;
 }
 

@@ -1,5 +1,5 @@
 -- What a reader of captures holds, and for what bytes and datagrams it stands.
-use Rattle.std.specs.Prelude.{◌≡◌, ℕ, ◌+◌, ◌^◌, ◌<◌, ◌⊎◌, ◌==◌, List, [], ◌∷◌, ◌++◌, length, Option, Some, None, Result, Ok, Err}
+use Rattle.std.specs.Prelude.{◌≡◌, ℕ, ◌+◌, ◌^◌, ◌<◌, ◌≤◌, ◌⊎◌, ◌==◌, List, [], ◌∷◌, ◌++◌, length, Option, Some, None, Result, Ok, Err}
 use Rattle.std.specs.Io.KnownBytes.{Consumes}
 use Rattle.tftp_capture.specs.declared.fault.TextFault.TheVariants.{Truncated}
 use Rattle.tftp_capture.specs.declared.fault.CaptureFault.{CaptureFault}
@@ -140,7 +140,7 @@ IsAtTextEnd (Read line) = ⊥
 IsAtTextEnd (Memory line) = ⊥
 
 -- bytes were taken in which a header was looked for, and some more were read ahead, but none where a read failed or the
--- text has ended
+-- text has ended, and never more than 16,384
 pub record FailsToBegin (before after : Option (List ℕ)) (fault : CaptureFault) : Type 0 where
   pub taken : List ℕ
   pub ahead : List ℕ
@@ -148,6 +148,7 @@ pub record FailsToBegin (before after : Option (List ℕ)) (fault : CaptureFault
   pub tells : FaultTells fault taken []
   pub drained : IsReadFault fault → ahead ≡ []
   pub ended : IsAtTextEnd fault → ahead ≡ []
+  pub near : length ahead ≤ 16384
   pub memory : MemoryTells fault taken ahead []
 
 -- no datagram was given

@@ -119,6 +119,7 @@ impl Lines {
         ensures end { result ≡ Err (Stop.Text TextFault.Truncated) → IsAtEnd (prepend_known self.new.ahead (R.remaining reader.new.0)) }
         ensures read { result ≡ Err Stop.Read → reader.new.1 ≡ true }
         ensures drained { result ≡ Err Stop.Read → self.new.ahead ≡ [] }
+        ensures near { length self.new.ahead ≤ 16384 }
         ensures tally { result ≢ Err Stop.Read → reader.new.1 ≡ reader.old.1 }
     {
         self.ahead.consume(self.lies);
@@ -137,6 +138,7 @@ impl Lines {
         ensures end { result ≡ Err (Stop.Text TextFault.Truncated) → IsAtEnd (prepend_known self.new.ahead (R.remaining reader.new.0)) }
         ensures read { result ≡ Err Stop.Read → reader.new.1 ≡ true }
         ensures drained { result ≡ Err Stop.Read → self.new.ahead ≡ [] }
+        ensures near { length self.new.ahead ≤ 16384 }
         ensures tally { result ≢ Err Stop.Read → reader.new.1 ≡ reader.old.1 }
     {
         'lines: loop {
@@ -155,6 +157,7 @@ impl Lines {
         ensures end { OnOk result (IsAtEnd (prepend_known self.new.ahead (R.remaining reader.new.0))) }
         ensures read { result ≡ Err Stop.Read → reader.new.1 ≡ true }
         ensures drained { result ≡ Err Stop.Read → self.new.ahead ≡ [] }
+        ensures near { length self.new.ahead ≤ 16384 }
         ensures tally { result ≢ Err Stop.Read → reader.new.1 ≡ reader.old.1 }
     {
         self.ahead.consume(self.lies);

@@ -103,6 +103,7 @@ impl CaptureReader {
         ensures read { IfErr result (λ fault. IsReadFault fault → reader.new.1 ≡ true) }
         ensures tally { IsErrAnd result IsReadFault ⊎ (reader.new.1 ≡ reader.old.1) }
         ensures drained { self.old.standing ≡ Standing.Open → IfErr result (λ fault. IsReadFault fault → self.new.lines.ahead ≡ []) }
+        ensures near { self.old.standing ≡ Standing.Open → length self.new.lines.ahead ≤ 16384 }
         ensures told { IsReadStanding self.new.standing → reader.new.1 ≡ true }
         ensures rises { IfOk result (λ answer. IfSome answer (λ _. self.old.handed < self.new.handed)) }
         ensures line { self.new.handed ≤ 2 ^ 40 }
@@ -137,6 +138,7 @@ impl CaptureReader {
         ensures read { IfErr (filled_if result datagram.new) (λ fault. IsReadFault fault → reader.new.1 ≡ true) }
         ensures tally { IsErrAnd (filled_if result datagram.new) IsReadFault ⊎ (reader.new.1 ≡ reader.old.1) }
         ensures drained { self.old.standing ≡ Standing.Open → IfErr (filled_if result datagram.new) (λ fault. IsReadFault fault → self.new.lines.ahead ≡ []) }
+        ensures near { self.old.standing ≡ Standing.Open → length self.new.lines.ahead ≤ 16384 }
         ensures told { IsReadStanding self.new.standing → reader.new.1 ≡ true }
         ensures rises { IfOk (filled_if result datagram.new) (λ answer. IfSome answer (λ _. self.old.handed < self.new.handed)) }
         ensures line { self.new.handed ≤ 2 ^ 40 }
@@ -197,6 +199,7 @@ fn read_on<R: Read>(
     ensures cut { IfErr (filled_if result datagram.new) (λ fault. IsAtTextEnd fault → IsAtEnd (prepend_known lines.new.ahead (R.remaining reader.new.0))) }
     ensures read { IfErr (filled_if result datagram.new) (λ fault. IsReadFault fault → reader.new.1 ≡ true) }
     ensures drained { IfErr (filled_if result datagram.new) (λ fault. IsReadFault fault → lines.new.ahead ≡ []) }
+    ensures near { length lines.new.ahead ≤ 16384 }
     ensures tally { IsErrAnd (filled_if result datagram.new) IsReadFault ⊎ (reader.new.1 ≡ reader.old.1) }
     ensures rises { IfOk (filled_if result datagram.new) (λ answer. IfSome answer (λ _. lines.old.count < lines.new.count)) }
     ensures grows { lines.old.count ≤ lines.new.count }

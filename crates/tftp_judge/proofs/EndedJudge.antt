@@ -25,6 +25,12 @@ module _ (j : Judge) (h : Header) (earlier : List Datagram) (after : IsJudgeAfte
       let kept : FirstAsked h earlier t.asked × IsTransferAfter t h (transfer_of h earlier) = subst (IsKept h earlier) is after.has_kept.kept in
       (verdict h (reverse earlier) said).1 (by_rules after.lawful kept.0 kept.1)
 
+  -- what holds of the transfer that is kept
+  pub of_transfer : (P : Type 0) (t : Transfer) → j.keeper.transfer ≡ Some t → (OneEnded h earlier → FirstAsked h earlier t.asked → IsTransferAfter t h (transfer_of h earlier) → P) → P
+  of_transfer P t is by_rules =
+      let kept : FirstAsked h earlier t.asked × IsTransferAfter t h (transfer_of h earlier) = subst (IsKept h earlier) is after.has_kept.kept in
+      by_rules after.lawful kept.0 kept.1
+
   pub said_of_nothing : (count : ℕ) → j.keeper.transfer ≡ None → count ≡ j.fed → IsVerdict h (reverse earlier) (Err (Incomplete count))
   said_of_nothing count is counts =
       let none : earlier ≡ [] = subst (IsKept h earlier) is after.has_kept.kept in

@@ -1,5 +1,5 @@
 -- What is said of a text by its first fault.
-use Rattle.std.proofs.Common.{◌≡◌, ◌≢◌, ℕ, ◌<◌, ◌⊎◌, inl, inr, List, [], ◌∷◌, ◌++◌, length, All, Result, Ok, Err, refl, sym, ap, ◌∙◌, subst, arith, append_assoc, append-nil}
+use Rattle.std.proofs.Common.{◌≡◌, ◌≢◌, ℕ, ◌<◌, ◌≤◌, ◌⊎◌, inl, inr, List, [], ◌∷◌, ◌++◌, length, All, Result, Ok, Err, refl, sym, ap, ◌∙◌, subst, arith, append_assoc, append-nil}
 use Rattle.std.proofs.lemmas.List.{map-append}
 use Rattle.tftp_capture.specs.CaptureText.{Begins, BeginsWith, Numbered}
 use Rattle.tftp_capture.specs.History.{FaultTells, MemoryTells}
@@ -9,14 +9,11 @@ use Rattle.tftp_capture.specs.declared.fault.TextFault.TheVariants.{BadHeader, B
 use Rattle.tftp_capture.proofs.Beginnings.{agree, fault_after, unfinished_has}
 use Rattle.tftp_capture.proofs.Staying.{stays}
 use Rattle.tftp_ends.specs.CaptureText.{Header}
-use Rattle.tftp_ends.specs.Meaning.{Meaning}
 use Rattle.tftp_law.specs.Law.{IsLawful}
 use Rattle.tftp_law.proofs.Beginnings.{beginning_is_lawful, empty_is_lawful}
-use Rattle.tftp_judge.specs.TextVerdict.{EndsText, IsFaultOf, SaysReadFailed, unnumbered}
-use Rattle.tftp_judge.specs.declared.refusal.Refusal.TheVariants as refusal
-use Rattle.tftp_judge.specs.declared.verdict.Verdict.{Verdict}
-use Rattle.tftp_judge.specs.declared.verdict.Verdict.TheVariants.{Capture, Refused}
-use Rattle.tftp_judge.proofs.WantOfMemory.{before_want}
+use Rattle.tftp_judge.specs.TextVerdict.{EndsText, IsFaultOf, IsLineOf, IsReadVerdict, IsTextVerdict, SaysReadFailed, unnumbered}
+use Rattle.tftp_judge.specs.declared.verdict.Verdict.TheVariants.{Capture}
+use Rattle.tftp_judge.proofs.WantOfMemory.{before_want, line_of}
 
 -- ---- what is said stays, whatever follows
 
@@ -36,16 +33,7 @@ FaultStays (Text line fault) = fault ≢ Truncated
 FaultStays (Read line) = ⊥
 FaultStays (Memory line) = Unit {0}
 
-abbrev pub MayGoOn : Result Meaning Verdict → Type 0
-MayGoOn (Ok m) = ⊥
-MayGoOn (Err (Refused (refusal.Unlawful index rule))) = Unit {0}
-MayGoOn (Err (Refused (refusal.Aborted by code))) = ⊥
-MayGoOn (Err (Refused (refusal.Incomplete count))) = ⊥
-MayGoOn (Err (Refused refusal.NormalTooLong)) = ⊥
-MayGoOn (Err (Refused refusal.Memory)) = Unit {0}
-MayGoOn (Err (Capture fault)) = FaultStays fault
-
-fault_kinds : (fault : CaptureFault) → FaultStays fault ⊎ (EndsText (Err (Capture fault)) ⊎ SaysReadFailed (Err (Capture fault)))
+pub fault_kinds : (fault : CaptureFault) → FaultStays fault ⊎ (EndsText (Err (Capture fault)) ⊎ SaysReadFailed (Err (Capture fault)))
 fault_kinds (Read line) = inr (inr tt)
 fault_kinds (Memory line) = inl tt
 fault_kinds (Text line BadHeader) = inl (λ e. cc)
@@ -61,16 +49,6 @@ fault_kinds (Text line TotalWrong) = inl (λ e. cc)
 fault_kinds (Text line Truncated) = inr (inl refl)
 fault_kinds (Text line TrailingText) = inl (λ e. cc)
 fault_kinds (Text line TextTooLong) = inl (λ e. cc)
-
--- each answer may go on, or ends the text, or is that a read failed
-pub kinds : (r : Result Meaning Verdict) → MayGoOn r ⊎ (EndsText r ⊎ SaysReadFailed r)
-kinds (Ok m) = inr (inl tt)
-kinds (Err (Refused (refusal.Unlawful index rule))) = inl tt
-kinds (Err (Refused (refusal.Aborted by code))) = inr (inl tt)
-kinds (Err (Refused (refusal.Incomplete count))) = inr (inl tt)
-kinds (Err (Refused refusal.NormalTooLong)) = inr (inl tt)
-kinds (Err (Refused refusal.Memory)) = inl tt
-kinds (Err (Capture fault)) = fault_kinds fault
 
 -- ---- before a fault there are lawful datagrams only
 
@@ -95,21 +73,32 @@ none_front (n ∷ es) rest e = absurd (omega (arith, ap length e))
 pub none_in : (text : List ℕ) → LawfulIn text []
 none_in text h es begins (rest, is) = subst (λ x. IsLawful h (unnumbered x)) (sym (none_front es rest is)) (empty_is_lawful h)
 
--- where memory was wanting, the datagrams on the lines before are these
+-- what is known of the bytes ahead is known of none
+none_ahead : (text ahead : List ℕ) (ds : List Numbered) (line : ℕ) → MemoryTells (Memory line) text ahead ds → MemoryTells (Memory line) text [] ds
+none_ahead text ahead ds line (inl reading) = inl (record { due = reading.due; unfinished = reading.unfinished; goes_on = reading.goes_on; ends = inl refl })
+none_ahead text ahead ds line (inr said) = inr said
+
+pub told_alone : (text ahead : List ℕ) (ds : List Numbered) (fault : CaptureFault) → MemoryTells fault text ahead ds → MemoryTells fault text [] ds
+told_alone text ahead ds (Text line f) tells = tt
+told_alone text ahead ds (Read line) tells = tt
+told_alone text ahead ds (Memory line) tells = none_ahead text ahead ds line tells
+
+-- where memory was wanting, the line is one of the text's, and the datagrams on the lines before are these
 abbrev BeforeWant : CaptureFault → List ℕ → List Numbered → Type 0
 BeforeWant (Text line fault) text ds = Unit {0}
 BeforeWant (Read line) text ds = Unit {0}
-BeforeWant (Memory line) text ds = (header : Header) (es : List Numbered) → Begins text header es → All (λ d. d.0 < line) es → BeginsWith ds es
+BeforeWant (Memory line) text ds =
+    IsLineOf text line × ((header : Header) (es : List Numbered) → Begins text header es → All (λ d. d.0 < line) es → BeginsWith ds es)
 
 before_fault : (text more ahead : List ℕ) (ds : List Numbered) (fault : CaptureFault) → MemoryTells fault text ahead ds → BeforeWant fault (text ++ more) ds
 before_fault text more ahead ds (Text line fault) tells = tt
 before_fault text more ahead ds (Read line) tells = tt
-before_fault text more ahead ds (Memory line) tells = before_want text more ahead ds line tells
+before_fault text more ahead ds (Memory line) tells = (line_of text more ahead ds line tells, before_want text more ahead ds line tells)
 
 by_fault : (text : List ℕ) (ds : List Numbered) (fault : CaptureFault) → FaultTells fault text ds → BeforeWant fault text ds → LawfulIn text ds → IsFaultOf text fault
 by_fault text ds (Text line fault) tells want lawful = ((ds, tells), λ h es begins. lawful h es begins (fault_after text h ds es line fault tells begins))
 by_fault text ds (Read line) tells want lawful = ((ds, tells.0, tells.1), λ h es begins. lawful h es begins (unfinished_has text h ds es line tells.0 tells.1 begins))
-by_fault text ds (Memory line) tells want lawful = λ h es begins before. lawful h es begins (want h es begins before)
+by_fault text ds (Memory line) tells want lawful = (want.0, λ h es begins before. lawful h es begins (want.1 h es begins before))
 
 stays_on : (text more : List ℕ) (ds : List Numbered) (fault : CaptureFault) → FaultStays fault → FaultTells fault text ds → FaultTells fault (text ++ more) ds
 stays_on text more ds (Text line fault) other tells = stays text more ds line fault other tells
@@ -124,3 +113,18 @@ module _ (text ahead : List ℕ) (ds : List Numbered) (fault : CaptureFault) (te
   -- and of those that follow
   pub fault_longer : (more : List ℕ) → FaultStays fault → LawfulIn (text ++ more) ds → IsFaultOf (text ++ more) fault
   fault_longer more may lawful = by_fault (text ++ more) ds fault (stays_on text more ds fault may tells) (before_fault text more ahead ds fault memory) lawful
+
+  -- and of all that was read
+  pub fault_read : FaultStays fault → length ahead ≤ 16384 → LawfulIn (text ++ ahead) ds → IsReadVerdict (text ++ ahead) (Err (Capture fault))
+  fault_read may near lawful = read_by fault memory near (fault_longer ahead may lawful) where
+    read_by : (f : CaptureFault) → MemoryTells f text ahead ds → length ahead ≤ 16384 → IsFaultOf (text ++ ahead) f → IsReadVerdict (text ++ ahead) (Err (Capture f))
+    read_by (Text line f) told short is = is
+    read_by (Read line) told short is = is
+    read_by (Memory line) told short is = (record { taken = text; ahead = ahead; datagrams = ds; to = (refl, short); tells = told }, is.1)
+
+-- a fault that ends the text, or that a read failed, is said of what was read as of the text
+pub fault_alone : (text : List ℕ) (fault : CaptureFault) → IsTextVerdict text (Err (Capture fault)) → EndsText (Err (Capture fault)) ⊎ SaysReadFailed (Err (Capture fault)) → IsReadVerdict text (Err (Capture fault))
+fault_alone text (Text line f) is ends = is
+fault_alone text (Read line) is ends = is
+fault_alone text (Memory line) is (inl ends) = absurd ends
+fault_alone text (Memory line) is (inr reads) = absurd reads

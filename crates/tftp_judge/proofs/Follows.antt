@@ -1,11 +1,13 @@
 -- The judge stands for the datagrams that a reader of a text has given so far.
-use Rattle.std.proofs.Common.{◌≡◌, ℕ, ◌+◌, ◌⊎◌, inl, inr, Bool, true, false, true≢false, List, [], ◌∷◌, ◌++◌, length, reverse, Option, Some, None, Result, Ok, Err, sym, ap, ◌∙◌, subst, append-nil}
+use Rattle.std.proofs.Common.{◌≡◌, ℕ, ◌+◌, ◌≤◌, lit≤, ◌⊎◌, inl, inr, Bool, true, false, true≢false, List, [], ◌∷◌, ◌++◌, length, reverse, Option, Some, None, Result, Ok, Err, refl, sym, ap, ◌∙◌, subst, arith, append-nil}
 use Rattle.std.specs.Io.KnownBytes.{Consumes, IsAtEnd, prepend_known}
 use Rattle.std.proofs.KnownBytes.{Consumes-trans}
-use Rattle.std.proofs.lemmas.List.{length-reverse, map-append, reverse-append, reverse-reverse}
-use Rattle.tftp_capture.specs.CaptureText.{Begins, IsCapture, Numbered}
+use Rattle.std.proofs.lemmas.List.{length-map, length-reverse, map-append, reverse-append, reverse-reverse}
+use Rattle.tftp_capture.specs.CaptureText.{Begins, IsCapture, Numbered, Stands}
+use Rattle.tftp_capture.specs.CaptureText.Due.{Body}
+use Rattle.tftp_capture.specs.declared.version.Version.{Version}
 use Rattle.tftp_capture.specs.Fields.{datagram_of}
-use Rattle.tftp_capture.specs.History.{Continues, GoesOn, IsAtTextEnd, IsReadFault, ReaderState, StandingTells, StandsFor, WantTells, standing_after, with_answer}
+use Rattle.tftp_capture.specs.History.{Continues, GoesOn, IsAtTextEnd, IsReadFault, MemoryTells, ReaderState, StandingTells, StandsFor, WantTells, standing_after, with_answer}
 use Rattle.tftp_capture.specs.declared.datagram.Datagram.{Datagram as Owned}
 use Rattle.tftp_capture.specs.declared.fault.CaptureFault.{CaptureFault}
 use Rattle.tftp_capture.specs.declared.standing.Standing.TheVariants.{Open, Over, Failed}
@@ -19,13 +21,14 @@ use Rattle.tftp_law.specs.declared.rule.Rule.{Rule}
 use Rattle.tftp_law.proofs.TwoEnds.{lawful}
 use Rattle.tftp_judge.specs.Finds.{Refuses}
 use Rattle.tftp_judge.specs.Kept.{IsJudgeAfter, Judge}
-use Rattle.tftp_judge.specs.TextVerdict.{EndsText, IsTextVerdict, unnumbered}
+use Rattle.tftp_judge.specs.TextVerdict.{EndsText, IsReadVerdict, IsTextVerdict, SaysReadFailed, WantsToJudge, unnumbered}
+use Rattle.tftp_judge.specs.declared.verdict.Verdict.{Verdict}
 use Rattle.tftp_judge.specs.Verdict.{IsUnlawfulAt, IsVerdict}
 use Rattle.tftp_judge.specs.declared.refusal.Refusal.{Refusal}
 use Rattle.tftp_judge.specs.declared.refusal.Refusal.TheVariants.{Unlawful, Aborted, Incomplete, NormalTooLong, Memory}
 use Rattle.tftp_judge.specs.declared.verdict.Verdict.TheVariants.{Capture, Refused}
-use Rattle.tftp_judge.proofs.FirstFaults.{MayGoOn, begins_longer, fault_here, fault_longer, lawful_in}
-use Rattle.tftp_judge.proofs.TextFound.{Found, closed, failed_or}
+use Rattle.tftp_judge.proofs.FirstFaults.{begins_longer, lawful_in, told_alone}
+use Rattle.tftp_judge.proofs.TextFound.{Closed, Found, Stays, closed, failed_or, found_by_fault}
 
 -- bytes were taken, the reader goes on after the datagrams that it gave, and the judge stands for them
 pub record Follows (before now : Option (List ℕ)) (reader : ReaderState) (judge : Judge) : Type 0 where
@@ -66,48 +69,58 @@ unlawful_at h ds line d index rule passed number broken = record {
 lawful_with : (h : Header) (ds : List Numbered) (line : ℕ) (d : Datagram) → OneEnded h (reverse (unnumbered ds)) → Passes h (reverse (unnumbered ds)) d → IsLawful h (unnumbered (with_one ds line d))
 lawful_with h ds line d passed passes = (lawful h (unnumbered (with_one ds line d))).1 (subst (OneEnded h) (sym (newest_one ds line d)) (passes, passed))
 
--- what is said of a refusal, of the bytes that were taken and of more
-record SaysOfText (text : List ℕ) (refusal : Refusal) : Type 0 where
-  ends_not : EndsText (Err (Refused refusal)) → ⊥
-  is : (more : List ℕ) → IsTextVerdict (text ++ more) (Err (Refused refusal))
-  here : IsTextVerdict text (Err (Refused refusal))
+-- whole lines of which no byte is wrong say the header and these datagrams
+abbrev StandAs : List ℕ → List Numbered → Header → Type 0
+StandAs text ds h = (version : Version) × (lines : List (List ℕ)) × Stands text lines [] (Body version h) ds
 
-refused : (text : List ℕ) (h : Header) (ds : List Numbered) (line : ℕ) (d : Datagram) (refusal : Refusal) → OneEnded h (reverse (unnumbered ds)) → Begins text h (with_one ds line d)
-    → Refuses h (reverse (unnumbered ds)) d refusal → SaysOfText text refusal
-refused text h ds line d (Unlawful index rule) passed begins (number, broken) =
+begins_by : (text more : List ℕ) (ds : List Numbered) (h : Header) → StandAs text ds h → Begins (text ++ more) h ds
+begins_by text more ds h (version, lines, stands) = record { read = text; more = more; lines = lines; are = refl; stands = (version, stands) }
+
+-- memory was wanting for the last datagram
+wants_for : (text ahead : List ℕ) (h : Header) (ds : List Numbered) (line : ℕ) (d : Datagram) (count : ℕ) → OneEnded h (reverse (unnumbered ds)) → StandAs text (with_one ds line d) h → length ahead ≤ 16384
+    → Refuses h (reverse (unnumbered ds)) d (Memory count) → WantsToJudge (text ++ ahead) count
+wants_for text ahead h ds line d count passed (version, lines, stands) near (is, passes, takes) = record {
+  taken = text;
+  ahead = ahead;
+  to = (refl, near);
+  version = version;
+  lines = lines;
+  header = h;
+  datagrams = ds;
+  last = (line, d);
+  stands = stands;
+  count_is = is ∙ length-reverse (unnumbered ds) ∙ length-map ds (λ (n : Numbered). n.1);
+  lawful = lawful_with h ds line d passed passes;
+  takes = takes;
+}
+
+-- what is said of a refusal stays
+refused : (text ahead : List ℕ) (h : Header) (ds : List Numbered) (line : ℕ) (d : Datagram) (refusal : Refusal) → OneEnded h (reverse (unnumbered ds)) → StandAs text (with_one ds line d) h → length ahead ≤ 16384
+    → Refuses h (reverse (unnumbered ds)) d refusal → Stays text ahead (Err (Refused refusal)) × (EndsText (Err (Refused refusal)) → ⊥)
+refused text ahead h ds line d (Unlawful index rule) passed stand near (number, broken) =
     let at = unlawful_at h ds line d index rule passed number broken in
-    record {
-      ends_not = λ x. x;
-      is = λ more. (h, with_one ds line d, begins_longer text more h (with_one ds line d) begins, at);
-      here = (h, with_one ds line d, begins, at);
-    }
-refused text h ds line d Memory passed begins passes =
-    let fine = lawful_with h ds line d passed passes in
-    record {
-      ends_not = λ x. x;
-      is = λ more. (h, with_one ds line d, begins_longer text more h (with_one ds line d) begins, fine);
-      here = (h, with_one ds line d, begins, fine);
-    }
-refused text h ds line d (Aborted by code) passed begins other = absurd other
-refused text h ds line d (Incomplete count) passed begins other = absurd other
-refused text h ds line d NormalTooLong passed begins other = absurd other
+    (record {
+      longer = λ more. (h, with_one ds line d, begins_by text more (with_one ds line d) h stand, at);
+      read = (h, with_one ds line d, begins_by text ahead (with_one ds line d) h stand, at);
+    }, λ x. x)
+refused text ahead h ds line d (Memory count) passed stand near wants =
+    (record {
+      longer = λ more. inl (text, more, refl, subst (λ t. WantsToJudge t count) (append-nil text) (wants_for text [] h ds line d count passed stand (lit≤ tt) wants));
+      read = inl (wants_for text ahead h ds line d count passed stand near wants);
+    }, λ x. x)
+refused text ahead h ds line d (Aborted by code) passed stand near other = absurd other
+refused text ahead h ds line d (Incomplete count) passed stand near other = absurd other
+refused text ahead h ds line d NormalTooLong passed stand near other = absurd other
 
 -- ---- the text's end
 
-ended : (text : List ℕ) (h : Header) (ds : List Numbered) (refusal : Refusal) → IsCapture text h ds → IsVerdict h (unnumbered ds) (Err refusal) → IsTextVerdict text (Err (Refused refusal))
-ended text h ds (Unlawful index rule) capture is = (h, ds, capture_begins text h ds capture, is)
-ended text h ds (Aborted by code) capture is = (h, ds, capture, is)
-ended text h ds (Incomplete count) capture is = (h, ds, capture, is)
-ended text h ds NormalTooLong capture is = (h, ds, capture, is)
-ended text h ds Memory capture is = (h, ds, capture_begins text h ds capture, is)
-
-ended_on : (text more : List ℕ) (h : Header) (ds : List Numbered) (refusal : Refusal) → IsCapture text h ds → IsVerdict h (unnumbered ds) (Err refusal) → MayGoOn (Err (Refused refusal))
-    → IsTextVerdict (text ++ more) (Err (Refused refusal))
-ended_on text more h ds (Unlawful index rule) capture is may = (h, ds, begins_longer text more h ds (capture_begins text h ds capture), is)
-ended_on text more h ds (Aborted by code) capture is may = absurd may
-ended_on text more h ds (Incomplete count) capture is may = absurd may
-ended_on text more h ds NormalTooLong capture is may = absurd may
-ended_on text more h ds Memory capture is may = (h, ds, begins_longer text more h ds (capture_begins text h ds capture), is)
+ended : (text : List ℕ) (h : Header) (ds : List Numbered) (refusal : Refusal) → IsCapture text h ds → IsVerdict h (unnumbered ds) (Err refusal)
+    → IsTextVerdict text (Err (Refused refusal)) × IsReadVerdict text (Err (Refused refusal))
+ended text h ds (Unlawful index rule) capture is = ((h, ds, capture_begins text h ds capture, is), (h, ds, capture_begins text h ds capture, is))
+ended text h ds (Aborted by code) capture is = ((h, ds, capture, is), (h, ds, capture, is))
+ended text h ds (Incomplete count) capture is = ((h, ds, capture, is), (h, ds, capture, is))
+ended text h ds NormalTooLong capture is = ((h, ds, capture, is), (h, ds, capture, is))
+ended text h ds (Memory count) capture is = (inr (h, ds, capture, is), inr (h, ds, capture, is))
 
 -- ---- the reader's answers
 
@@ -117,6 +130,15 @@ clean_says failed P clean is = absurd (true≢false (sym is ∙ clean))
 clean_or : (fault : CaptureFault) (failed : Bool) → IsReadFault fault ⊎ (failed ≡ false) → (IsReadFault fault → ⊥) → failed ≡ false
 clean_or fault failed (inl reads) not = absurd (not reads)
 clean_or fault failed (inr clean) not = clean
+
+-- nothing is ahead, or what the reader holds
+near_of : (held ahead : List ℕ) → (ahead ≡ []) ⊎ (ahead ≡ held) → length held ≤ 16384 → length ahead ≤ 16384
+near_of held ahead (inl none) near = omega (arith, ap length none)
+near_of held ahead (inr same) near = omega (arith, ap length same, near)
+
+told_of : (text held ahead : List ℕ) (ds : List Numbered) (fault : CaptureFault) → (ahead ≡ []) ⊎ (ahead ≡ held) → MemoryTells fault text held ds → MemoryTells fault text ahead ds
+told_of text held ahead ds fault (inl none) tells = subst (λ l. MemoryTells fault text l ds) (sym none) (told_alone text held ds fault tells)
+told_of text held ahead ds fault (inr same) tells = subst (λ l. MemoryTells fault text l ds) (sym same) tells
 
 module _ (before now after : Option (List ℕ)) (old new : ReaderState) (judge : Judge) (ready : old.standing ≡ Open) (follows : Follows before now old judge) where
   abbrev rest : Option (List ℕ)
@@ -151,18 +173,19 @@ module _ (before now after : Option (List ℕ)) (old new : ReaderState) (judge :
   are_lawful = (lawful old.header (unnumbered follows.datagrams)).1 follows.accepted.lawful
 
   -- the reader has stopped
-  pub found_fault : (fault : CaptureFault) (failed : Bool) → Goes (Err fault) → new.standing ≡ Failed fault → (IsAtTextEnd fault → IsAtEnd rest) → (IsReadFault fault → new.lines.ahead ≡ []) → (IsReadFault fault → failed ≡ true)
-      → IsReadFault fault ⊎ (failed ≡ false) → Found before after failed (Err (Capture fault))
-  found_fault fault failed goes is end drained read tally =
+  pub found_fault : (fault : CaptureFault) (failed : Bool) → Goes (Err fault) → new.standing ≡ Failed fault → length new.lines.ahead ≤ 16384 → (IsAtTextEnd fault → IsAtEnd rest) → (IsReadFault fault → new.lines.ahead ≡ [])
+      → (IsReadFault fault → failed ≡ true) → IsReadFault fault ⊎ (failed ≡ false) → Found before after failed (Err (Capture fault))
+  found_fault fault failed goes is near end drained read tally =
       let text = all (Err fault) goes in
-      let told = tells (Err fault) goes is in
-      let memory = want (Err fault) goes in
       let first = begins (Err fault) goes in
+      let close = closed before after text new.lines.ahead (IsAtTextEnd fault) (IsReadFault fault) (consumed (Err fault) goes) end drained in
       record {
         taken = text;
-        closes = closed before after text new.lines.ahead (IsAtTextEnd fault) (IsReadFault fault) (consumed (Err fault) goes) end drained;
-        is = fault_here text new.lines.ahead follows.datagrams fault told memory (lawful_in text old.header follows.datagrams first are_lawful);
-        goes_on = λ more may. fault_longer text new.lines.ahead follows.datagrams fault told memory more may (lawful_in (text ++ more) old.header follows.datagrams (begins_longer text more old.header follows.datagrams first) are_lawful);
+        ahead = close.ahead;
+        consumed = close.consumed;
+        said = found_by_fault after text close.ahead follows.datagrams fault (tells (Err fault) goes is) (told_of text new.lines.ahead close.ahead follows.datagrams fault close.all_held (want (Err fault) goes)) (near_of new.lines.ahead close.ahead close.all_held near) close.ended close.drained
+            (λ more. lawful_in (text ++ more) old.header follows.datagrams (begins_longer text more old.header follows.datagrams first) are_lawful);
+        ended = λ h. (close.ended h).1;
         failing = read;
         tallied = failed_or fault failed (clean_or fault failed tally);
       }
@@ -170,18 +193,19 @@ module _ (before now after : Option (List ℕ)) (old new : ReaderState) (judge :
   -- a datagram was read
   module _ (d : Owned) (goes : Goes (Ok (Some d))) (open_still : new.standing ≡ Open) (same : new.header ≡ old.header) where
     -- which the judge refused
-    pub found_refused : (refusal : Refusal) (failed : Bool) → failed ≡ false → Refuses old.header (reverse (unnumbered follows.datagrams)) (datagram_of d) refusal → Found before after failed (Err (Refused refusal))
-    found_refused refusal failed clean is =
+    pub found_refused : (refusal : Refusal) (failed : Bool) → failed ≡ false → length new.lines.ahead ≤ 16384 → Refuses old.header (reverse (unnumbered follows.datagrams)) (datagram_of d) refusal → Found before after failed (Err (Refused refusal))
+    found_refused refusal failed clean near is =
         let text = all (Ok (Some d)) goes in
         let on = tells (Ok (Some d)) goes open_still in
-        let longer = begins_more text [] on.lines new.header (with_one follows.datagrams new.handed (datagram_of d)) on.stands in
-        let first = subst (λ h. Begins text h (with_one follows.datagrams new.handed (datagram_of d))) same (subst (λ t. Begins t new.header (with_one follows.datagrams new.handed (datagram_of d))) (append-nil text) longer) in
-        let says = refused text old.header follows.datagrams new.handed (datagram_of d) refusal follows.accepted.lawful first is in
+        let stand = subst (StandAs text (with_one follows.datagrams new.handed (datagram_of d))) same (new.lines.version, on.lines, on.stands) in
+        let close = closed before after text new.lines.ahead ⊥ ⊥ (consumed (Ok (Some d)) goes) (λ h. absurd h) (λ h. absurd h) in
+        let says = refused text close.ahead old.header follows.datagrams new.handed (datagram_of d) refusal follows.accepted.lawful stand (near_of new.lines.ahead close.ahead close.all_held near) is in
         record {
           taken = text;
-          closes = closed before after text new.lines.ahead (EndsText (Err (Refused refusal))) ⊥ (consumed (Ok (Some d)) goes) (λ h. absurd (says.ends_not h)) (λ h. absurd h);
-          is = says.here;
-          goes_on = λ more may. says.is more;
+          ahead = close.ahead;
+          consumed = close.consumed;
+          said = inl says.0;
+          ended = λ h. absurd (says.1 h);
           failing = λ h. absurd h;
           tallied = λ h. clean_says failed ⊥ clean h;
         }
@@ -207,22 +231,26 @@ module _ (before now after : Option (List ℕ)) (old new : ReaderState) (judge :
     verdict : (r : Result Meaning Refusal) → Finishes r → IsVerdict old.header (unnumbered follows.datagrams) r
     verdict r is = subst (λ ds. IsVerdict old.header ds r) (reverse-reverse (unnumbered follows.datagrams)) (is old.header (reverse (unnumbered follows.datagrams)) follows.accepted)
 
-    pub found_meaning : (m : Meaning) → Finishes (Ok m) → Found before after failed (Ok m)
-    found_meaning m is = record {
+    close : Closed before after (all (Ok None) goes) new.lines.ahead (Unit {0}) ⊥
+    close = closed before after (all (Ok None) goes) new.lines.ahead (Unit {0}) ⊥ (consumed (Ok None) goes) (λ h. end) (λ h. absurd h)
+
+    at_end : (r : Result Meaning Verdict) → IsTextVerdict (all (Ok None) goes) r → IsReadVerdict (all (Ok None) goes) r → (SaysReadFailed r → ⊥) → Found before after failed r
+    at_end r is read works = record {
       taken = all (Ok None) goes;
-      closes = closed before after (all (Ok None) goes) new.lines.ahead (Unit {0}) ⊥ (consumed (Ok None) goes) (λ h. end) (λ h. absurd h);
-      is = (old.header, follows.datagrams, captured, verdict (Ok m) is);
-      goes_on = λ more may. absurd may;
-      failing = λ h. absurd h;
-      tallied = λ h. clean_says failed ⊥ clean h;
+      ahead = close.ahead;
+      consumed = close.consumed;
+      said = inr (record { all = (close.ended tt).0; is = is; read = read; why = inl (close.ended tt).1 });
+      ended = λ h. (close.ended tt).1;
+      failing = λ h. absurd (works h);
+      tallied = λ h. clean_says failed (SaysReadFailed r) clean h;
     }
 
+    pub found_meaning : (m : Meaning) → Finishes (Ok m) → Found before after failed (Ok m)
+    found_meaning m is =
+        let said : IsTextVerdict (all (Ok None) goes) (Ok m) = (old.header, follows.datagrams, captured, verdict (Ok m) is) in
+        at_end (Ok m) said said (λ h. h)
+
     pub found_unfinished : (refusal : Refusal) → Finishes (Err refusal) → Found before after failed (Err (Refused refusal))
-    found_unfinished refusal is = record {
-      taken = all (Ok None) goes;
-      closes = closed before after (all (Ok None) goes) new.lines.ahead (EndsText (Err (Refused refusal))) ⊥ (consumed (Ok None) goes) (λ h. end) (λ h. absurd h);
-      is = ended (all (Ok None) goes) old.header follows.datagrams refusal captured (verdict (Err refusal) is);
-      goes_on = λ more may. ended_on (all (Ok None) goes) more old.header follows.datagrams refusal captured (verdict (Err refusal) is) may;
-      failing = λ h. absurd h;
-      tallied = λ h. clean_says failed ⊥ clean h;
-    }
+    found_unfinished refusal is =
+        let said = ended (all (Ok None) goes) old.header follows.datagrams refusal captured (verdict (Err refusal) is) in
+        at_end (Err (Refused refusal)) said.0 said.1 (λ h. h)

@@ -4,7 +4,8 @@ mod Follows
 pub mod PassFound
 pub mod Accepting
 mod TextFound
-mod WantOfMemory
+pub mod WantOfMemory
+pub mod ReadVerdicts
 pub mod Ended
 pub mod ByRuns
 pub mod ErrorsAside

@@ -1,5 +1,5 @@
 -- Two texts that are the same capture, in as many lines, have the same verdicts; so have a text and the same in version 2.
-use Rattle.std.proofs.Common.{◌≡◌, ℕ, ◌+◌, ◌^◌, ◌≤◌, ◌==◌, ◌↔◌, List, [], ◌∷◌, All, length, map as each, Result, Ok, Err, refl, sym, ap, ◌∙◌, subst, arith, length-append}
+use Rattle.std.proofs.Common.{◌≡◌, ℕ, ◌+◌, ◌^◌, ◌≤◌, ◌==◌, ◌↔◌, lit≤, inl, inr, List, [], ◌∷◌, ◌++◌, All, reverse, length, map as each, Result, Ok, Err, refl, sym, ap, ◌∙◌, subst, arith, append_assoc, append-nil, length-append}
 use Rattle.std.specs.List.{join_with_byte, slice_split}
 use Rattle.std.proofs.lemmas.List.{length-map}
 use Rattle.std.proofs.lemmas.List.Elements.{All-cons, All-tail}
@@ -17,7 +17,8 @@ use Rattle.tftp_capture.proofs.Readings.{reads_same}
 use Rattle.tftp_ends.specs.CaptureText.{Header}
 use Rattle.tftp_ends.specs.Meaning.{Meaning}
 use Rattle.tftp_law.specs.Law.{IsLawful}
-use Rattle.tftp_judge.specs.TextVerdict.{AllLawful, IsCaptureBy, IsTextVerdict, LawfulBefore, unnumbered}
+use Rattle.tftp_judge.specs.TextVerdict.{AllLawful, IsCaptureBy, IsTextVerdict, LawfulBefore, WantsToJudge, unnumbered}
+use Rattle.tftp_judge.specs.Memory.{TakesMemory}
 use Rattle.tftp_judge.specs.Verdict.{IsVerdict}
 use Rattle.tftp_judge.specs.declared.verdict.Verdict.{Verdict}
 use Rattle.tftp_judge.specs.declared.verdict.Verdict.TheVariants as verdict
@@ -53,6 +54,38 @@ module _ (one two : List ℕ) (h : Header) (ds : List Numbered) (first : IsCaptu
       let list : es ≡ ds = cc in
       (h, ds, second, subst (λ x. IsVerdict h (unnumbered x) v) list (subst (λ x. IsVerdict x (unnumbered es) v) header is))
 
+  -- memory was wanting for the same datagram
+  wants_both : (count : ℕ) (read more : List ℕ) → one ≡ read ++ more → WantsToJudge read count → (read more : List ℕ) × (two ≡ read ++ more) × WantsToJudge read count
+  wants_both count read more are wants =
+      let all = wants.datagrams ++ wants.last ∷ [] in
+      let begins : Begins one wants.header all = record {
+        read = wants.taken;
+        more = wants.ahead ++ more;
+        lines = wants.lines;
+        are = are ∙ ap (λ l. l ++ more) wants.to.0 ∙ append_assoc wants.taken wants.ahead more;
+        stands = (wants.version, wants.stands);
+      } in
+      let front = capture_has one h wants.header ds all first begins in
+      let other = capture_begins_front two h ds all second front.1 in (
+        other.read,
+        other.more,
+        other.are,
+        record {
+          taken = other.read;
+          ahead = [];
+          to = (sym (append-nil other.read), lit≤ tt);
+          version = other.stands.0;
+          lines = other.lines;
+          header = h;
+          datagrams = wants.datagrams;
+          last = wants.last;
+          stands = other.stands.1;
+          count_is = wants.count_is;
+          lawful = subst (λ x. IsLawful x (unnumbered all)) front.0 wants.lawful;
+          takes = subst (λ x. TakesMemory x (reverse (unnumbered wants.datagrams)) wants.last.1) front.0 wants.takes;
+        },
+      )
+
   pub same_verdict : line_count one ≡ line_count two → (v : Result Meaning Verdict) → IsTextVerdict one v → IsTextVerdict two v
   same_verdict lines (Ok m) is = by_both (Ok m) is
   same_verdict lines (Err (verdict.Refused (Unlawful index rule))) (k, es, begins, is) =
@@ -61,15 +94,14 @@ module _ (one two : List ℕ) (h : Header) (ds : List Numbered) (first : IsCaptu
   same_verdict lines (Err (verdict.Refused (Aborted by code))) is = by_both (Err (Aborted by code)) is
   same_verdict lines (Err (verdict.Refused (Incomplete count))) is = by_both (Err (Incomplete count)) is
   same_verdict lines (Err (verdict.Refused NormalTooLong)) is = by_both (Err NormalTooLong) is
-  same_verdict lines (Err (verdict.Refused NoMemory)) (k, es, begins, is) =
-      let front = capture_has one h k ds es first begins in
-      (h, es, capture_begins_front two h ds es second front.1, subst (λ x. IsLawful x (unnumbered es)) front.0 is)
+  same_verdict lines (Err (verdict.Refused (NoMemory count))) (inl (read, more, are, wants)) = inl (wants_both count read more are wants)
+  same_verdict lines (Err (verdict.Refused (NoMemory count))) (inr is) = inr (by_both (Err (NoMemory count)) is)
   same_verdict lines (Err (verdict.Capture (Text line fault))) is = absurd (captured_or_faulty one h ds is.0.0 line fault first is.0.1)
   same_verdict lines (Err (verdict.Capture (Read line))) ((es, due, ends), lawful) =
       let here : line_count one ≡ length ends.lines + 1 = ap length ends.stands.divided ∙ length-append ends.lines (ends.rest ∷ []) in
       let there : line_count two ≡ length second.1 + 1 = ap length second.2.divided ∙ length-append second.1 ([] ∷ []) in
       ((ds, Nothing second.0 h, record { lines = second.1; rest = []; stands = second.2; at_line = ends.at_line ∙ sym here ∙ lines ∙ there }), all_lawful lawful)
-  same_verdict lines (Err (verdict.Capture (Memory line))) is = before_both line is
+  same_verdict lines (Err (verdict.Capture (Memory line))) (of, before) = ((of.0, omega (arith, of.1, lines)), before_both line before)
 
 -- ---- in version 2
 

@@ -1,21 +1,25 @@
 -- What was found in the bytes of a reader.
-use Rattle.std.proofs.Common.{◌≡◌, ℕ, inl, inr, Bool, true, false, true≢false, List, [], ◌∷◌, ◌++◌, length, Option, Some, None, Result, Err, refl, sym, ap, ◌∙◌, subst, arith, append_assoc, append-nil}
+use Rattle.std.proofs.Common.{◌≡◌, ◌≤◌, ◌⊎◌, ℕ, inl, inr, Bool, true, false, true≢false, List, [], ◌∷◌, ◌++◌, length, Option, Some, None, Result, Ok, Err, refl, sym, ap, ◌∙◌, subst, arith, append_assoc, append-nil}
 use Rattle.std.specs.Io.KnownBytes.{Consumes, IsAtEnd, prepend_known}
-use Rattle.tftp_capture.specs.History.{FailsToBegin, IsReadFault}
+use Rattle.tftp_capture.specs.CaptureText.{Numbered}
+use Rattle.tftp_capture.specs.History.{FailsToBegin, FaultTells, IsAtTextEnd, IsReadFault, MemoryTells}
 use Rattle.tftp_capture.specs.declared.fault.CaptureFault.{CaptureFault}
 use Rattle.tftp_capture.specs.declared.fault.CaptureFault.TheVariants.{Text, Read, Memory}
 use Rattle.tftp_ends.specs.Meaning.{Meaning}
-use Rattle.tftp_judge.specs.TextVerdict.{EndsText, IsTextVerdict, SaysReadFailed}
+use Rattle.tftp_judge.specs.TextVerdict.{EndsText, IsOfText, IsReadVerdict, IsTextVerdict, SaysReadFailed, WantsMemory}
+use Rattle.tftp_judge.specs.declared.refusal.Refusal.TheVariants as refusal
 use Rattle.tftp_judge.specs.declared.verdict.Verdict.{Verdict}
-use Rattle.tftp_judge.specs.declared.verdict.Verdict.TheVariants.{Capture}
-use Rattle.tftp_judge.proofs.FirstFaults.{MayGoOn, fault_here, fault_longer, kinds, none_in}
+use Rattle.tftp_judge.specs.declared.verdict.Verdict.TheVariants.{Capture, Refused}
+use Rattle.tftp_judge.proofs.FirstFaults.{LawfulIn, fault_alone, fault_here, fault_kinds, fault_longer, fault_read, none_in}
+use Rattle.tftp_judge.proofs.OneTextVerdict.{one_text_verdict}
 
 -- bytes were taken and some read ahead, none where a read failed or the text has ended
-pub record Closed (before after : Option (List ℕ)) (taken : List ℕ) (AtEnd Drained : Type 0) : Type 0 where
+pub record Closed (before after : Option (List ℕ)) (taken held : List ℕ) (AtEnd Drained : Type 0) : Type 0 where
   pub ahead : List ℕ
   pub consumed : Consumes before after (taken ++ ahead)
   pub ended : AtEnd → (ahead ≡ []) × IsAtEnd after
   pub drained : Drained → ahead ≡ []
+  pub all_held : (ahead ≡ []) ⊎ (ahead ≡ held)
 
 no_front : (ahead rest : List ℕ) → ahead ++ rest ≡ [] → (ahead ≡ []) × (rest ≡ [])
 no_front [] rest e = (refl, e)
@@ -27,39 +31,60 @@ end_inside (Some rest) ahead e = (no_front ahead rest e).1
 
 -- what is read ahead is consumed too
 pub closed : (before after : Option (List ℕ)) (taken ahead : List ℕ) (AtEnd Drained : Type 0) → Consumes before (prepend_known ahead after) taken → (AtEnd → IsAtEnd (prepend_known ahead after)) → (Drained → ahead ≡ [])
-    → Closed before after taken AtEnd Drained
-closed None after taken ahead AtEnd Drained consumed end drained = record { ahead = []; consumed = tt; ended = λ h. (refl, end_inside after ahead (end h)); drained = λ h. refl }
+    → Closed before after taken ahead AtEnd Drained
+closed None after taken ahead AtEnd Drained consumed end drained = record { ahead = []; consumed = tt; ended = λ h. (refl, end_inside after ahead (end h)); drained = λ h. refl; all_held = inl refl }
 closed (Some x) None taken ahead AtEnd Drained consumed end drained = absurd consumed
 closed (Some x) (Some y) taken ahead AtEnd Drained consumed end drained = record {
   ahead = ahead;
   consumed = consumed ∙ sym (append_assoc taken ahead y);
   ended = λ h. no_front ahead y (end h);
   drained = drained;
+  all_held = inr refl;
 }
 
--- what is said of the bytes that were taken, and of more; and whether a read failed
+-- what is said of the bytes that were taken stays, whatever follows; and it is said of all that was read
+pub record Stays (taken ahead : List ℕ) (r : Result Meaning Verdict) : Type 0 where
+  pub longer : (more : List ℕ) → IsTextVerdict (taken ++ more) r
+  pub read : IsReadVerdict (taken ++ ahead) r
+
+-- what is said is said of the bytes that were taken alone, which are all; they are the text, or a read failed
+pub record Ends (after : Option (List ℕ)) (taken ahead : List ℕ) (r : Result Meaning Verdict) : Type 0 where
+  pub all : ahead ≡ []
+  pub is : IsTextVerdict taken r
+  pub read : IsReadVerdict taken r
+  pub why : IsAtEnd after ⊎ SaysReadFailed r
+
+-- what is said of the bytes that were read, and whether a read failed
 pub record Found (before after : Option (List ℕ)) (failed : Bool) (r : Result Meaning Verdict) : Type 0 where
   pub taken : List ℕ
-  pub closes : Closed before after taken (EndsText r) (SaysReadFailed r)
-  pub is : IsTextVerdict taken r
-  pub goes_on : (more : List ℕ) → MayGoOn r → IsTextVerdict (taken ++ more) r
+  pub ahead : List ℕ
+  pub consumed : Consumes before after (taken ++ ahead)
+  pub said : Stays taken ahead r ⊎ Ends after taken ahead r
+  pub ended : EndsText r → IsAtEnd after
   pub failing : SaysReadFailed r → failed ≡ true
   pub tallied : failed ≡ true → SaysReadFailed r
 
-module _ (before after : Option (List ℕ)) (failed : Bool) (r : Result Meaning Verdict) (found : Found before after failed r) where
-  -- of all the bytes that were consumed, where none were read ahead
-  none_more : found.closes.ahead ≡ [] → (read : List ℕ) × Consumes before after read × IsTextVerdict read r
-  none_more none = (found.taken, subst (Consumes before after) (ap (λ l. found.taken ++ l) none ∙ append-nil found.taken) found.closes.consumed, found.is)
+-- an answer is of the text, or that a read failed, or want of memory
+answers : (r : Result Meaning Verdict) → IsOfText r ⊎ (SaysReadFailed r ⊎ WantsMemory r)
+answers (Ok m) = inl tt
+answers (Err (Refused (refusal.Unlawful index rule))) = inl tt
+answers (Err (Refused (refusal.Aborted by code))) = inl tt
+answers (Err (Refused (refusal.Incomplete count))) = inl tt
+answers (Err (Refused refusal.NormalTooLong)) = inl tt
+answers (Err (Refused (refusal.Memory count))) = inr (inr tt)
+answers (Err (Capture (Text line fault))) = inl tt
+answers (Err (Capture (Read line))) = inr (inl tt)
+answers (Err (Capture (Memory line))) = inr (inr tt)
 
-  pub found_judged : (read : List ℕ) × Consumes before after read × IsTextVerdict read r
-  found_judged = elim (kinds r) as (λ _. (read : List ℕ) × Consumes before after read × IsTextVerdict read r) [
-    | inl may ↦ (found.taken ++ found.closes.ahead, found.closes.consumed, found.goes_on found.closes.ahead may)
-    | inr (inl ends) ↦ none_more (found.closes.ended ends).0
-    | inr (inr reads) ↦ none_more (found.closes.drained reads)
+module _ (before after : Option (List ℕ)) (failed : Bool) (r : Result Meaning Verdict) (found : Found before after failed r) where
+  pub found_judged : (read : List ℕ) × Consumes before after read × IsReadVerdict read r
+  found_judged = elim found.said as (λ _. (read : List ℕ) × Consumes before after read × IsReadVerdict read r) [
+    | inl stays ↦ (found.taken ++ found.ahead, found.consumed, stays.read)
+    | inr ends ↦ (found.taken, subst (Consumes before after) (ap (λ l. found.taken ++ l) ends.all ∙ append-nil found.taken) found.consumed, ends.read)
   ]
 
   pub found_ended : EndsText r → IsAtEnd after
-  found_ended ends = (found.closes.ended ends).1
+  found_ended = found.ended
 
   pub found_tally : failed ≡ true → SaysReadFailed r
   found_tally = found.tallied
@@ -70,17 +95,38 @@ module _ (before after : Option (List ℕ)) (failed : Bool) (r : Result Meaning 
 
   pub found_whole : (text : List ℕ) → before ≡ Some text → failed ≡ false → IsTextVerdict text r
   found_whole text all clean =
-      let (rest, left, are) = rest_of after text (found.taken ++ found.closes.ahead) (subst (λ b. Consumes b after (found.taken ++ found.closes.ahead)) all found.closes.consumed) in
-      elim (kinds r) as (λ _. IsTextVerdict text r) [
-        | inl may ↦
-            subst (λ t. IsTextVerdict t r) (sym (are ∙ append_assoc found.taken found.closes.ahead rest)) (found.goes_on (found.closes.ahead ++ rest) may)
-        | inr (inl ends) ↦
-            let over = found.closes.ended ends in
-            let none : rest ≡ [] = subst IsAtEnd left over.1 in
-            let whole : text ≡ found.taken = are ∙ ap (λ l. (found.taken ++ l) ++ rest) over.0 ∙ ap (λ l. l ++ rest) (append-nil found.taken) ∙ ap (λ l. found.taken ++ l) none ∙ append-nil found.taken in
-            subst (λ t. IsTextVerdict t r) (sym whole) found.is
-        | inr (inr reads) ↦ absurd (true≢false (sym (found.failing reads) ∙ clean))
+      let (rest, left, are) = rest_of after text (found.taken ++ found.ahead) (subst (λ b. Consumes b after (found.taken ++ found.ahead)) all found.consumed) in
+      elim found.said as (λ _. IsTextVerdict text r) [
+        | inl stays ↦ subst (λ t. IsTextVerdict t r) (sym (are ∙ append_assoc found.taken found.ahead rest)) (stays.longer (found.ahead ++ rest))
+        | inr ends ↦ elim ends.why as (λ _. IsTextVerdict text r) [
+          | inl over ↦
+              let none : rest ≡ [] = subst IsAtEnd left over in
+              let whole : text ≡ found.taken = are ∙ ap (λ l. (found.taken ++ l) ++ rest) ends.all ∙ ap (λ l. l ++ rest) (append-nil found.taken) ∙ ap (λ l. found.taken ++ l) none ∙ append-nil found.taken in
+              subst (λ t. IsTextVerdict t r) (sym whole) ends.is
+          | inr reads ↦ absurd (true≢false (sym (found.failing reads) ∙ clean))
+        ]
       ]
+
+  pub found_exact : (text : List ℕ) (v : Result Meaning Verdict) → before ≡ Some text → failed ≡ false → IsOfText v → IsTextVerdict text v → (r ≡ v) ⊎ WantsMemory r
+  found_exact text v all clean of is = elim (answers r) as (λ _. (r ≡ v) ⊎ WantsMemory r) [
+    | inl also ↦ inl (one_text_verdict text r v also of (found_whole text all clean) is)
+    | inr (inl reads) ↦ absurd (true≢false (sym (found.failing reads) ∙ clean))
+    | inr (inr wants) ↦ inr wants
+  ]
+
+-- ---- the kinds of faults
+
+-- a fault that stays whatever follows, or that is said of the bytes that were taken alone
+pub found_by_fault : (after : Option (List ℕ)) (text ahead : List ℕ) (ds : List Numbered) (fault : CaptureFault) → FaultTells fault text ds → MemoryTells fault text ahead ds → length ahead ≤ 16384
+    → (IsAtTextEnd fault → (ahead ≡ []) × IsAtEnd after) → (IsReadFault fault → ahead ≡ []) → ((more : List ℕ) → LawfulIn (text ++ more) ds) → Stays text ahead (Err (Capture fault)) ⊎ Ends after text ahead (Err (Capture fault))
+found_by_fault after text ahead ds fault tells memory near end drained lawful = elim (fault_kinds fault) as (λ _. Stays text ahead (Err (Capture fault)) ⊎ Ends after text ahead (Err (Capture fault))) [
+  | inl may ↦ inl (record { longer = λ more. fault_longer text ahead ds fault tells memory more may (lawful more); read = fault_read text ahead ds fault tells memory may near (lawful ahead) })
+  | inr (inl ends) ↦ inr (record { all = (end ends).0; is = here; read = fault_alone text fault here (inl ends); why = inl (end ends).1 })
+  | inr (inr reads) ↦ inr (record { all = drained reads; is = here; read = fault_alone text fault here (inr reads); why = inr reads })
+]
+  where
+    here : IsTextVerdict text (Err (Capture fault))
+    here = fault_here text ahead ds fault tells memory (subst (λ t. LawfulIn t ds) (append-nil text) (lawful []))
 
 -- ---- a text whose header is not read
 
@@ -94,9 +140,10 @@ pub found_no_header : (before after : Option (List ℕ)) (failed : Bool) (fault 
     → ((IsReadFault fault → ⊥) → failed ≡ false) → Found before after failed (Err (Capture fault))
 found_no_header before after failed fault fails end read clean = record {
   taken = fails.taken;
-  closes = record { ahead = fails.ahead; consumed = fails.consumed; ended = λ h. (fails.ended h, end h); drained = λ h. fails.drained h };
-  is = fault_here fails.taken fails.ahead [] fault fails.tells fails.memory (none_in fails.taken);
-  goes_on = λ more may. fault_longer fails.taken fails.ahead [] fault fails.tells fails.memory more may (none_in (fails.taken ++ more));
+  ahead = fails.ahead;
+  consumed = fails.consumed;
+  said = found_by_fault after fails.taken fails.ahead [] fault fails.tells fails.memory fails.near (λ h. (fails.ended h, end h)) fails.drained (λ more. none_in (fails.taken ++ more));
+  ended = end;
   failing = λ h. read h;
   tallied = failed_or fault failed clean;
 }

@@ -1,10 +1,13 @@
 -- Which datagrams stand on the lines before the one for which memory was wanting: those that were given.
-use Rattle.std.proofs.Common.{◌≡◌, ℕ, ◌+◌, ◌<◌, ◌≤◌, ◌⊎◌, inl, inr, List, [], ◌∷◌, ◌++◌, length, All, refl, sym, ap, ◌∙◌, subst, arith, append_assoc, append-nil}
+use Rattle.std.proofs.Common.{◌≡◌, ℕ, ◌+◌, ◌<◌, ◌≤◌, ◌⊎◌, inl, inr, List, [], ◌∷◌, ◌++◌, ◌==◌, length, length-append, All, refl, sym, ap, ◌∙◌, subst, arith, append_assoc, append-nil}
 use Rattle.std.proofs.lemmas.List.Elements.{All-cons, All-head, All-nil, All-tail, All-weaker}
 use Rattle.tftp_capture.specs.CaptureText.{Begins, BeginsWith, Datagram, Due, Header, Numbered, Says, Stands, Unfinished}
 use Rattle.tftp_capture.specs.CaptureText.Due.{Head, EndLine, ServiceLine, Body, Nothing}
 use Rattle.tftp_capture.specs.History.{MemoryTells, SaysOneMore}
 use Rattle.tftp_capture.specs.declared.fault.CaptureFault.TheVariants.{Memory}
+use Rattle.std.specs.List.{slice_split}
+use Rattle.tftp_law.proofs.Beginnings.{empty_is_lawful}
+use Rattle.tftp_judge.specs.TextVerdict.{IsLineOf, LawfulBefore}
 use Rattle.tftp_capture.proofs.Beginnings.{agree, begins_more, stands_more}
 use Rattle.tftp_capture.proofs.Texts.{at_ends-after, some_line}
 use Rattle.tftp_capture.proofs.Uniqueness.{snoc_cases}
@@ -135,3 +138,32 @@ pub before_want : (text more ahead : List ℕ) (ds : List Numbered) (line : ℕ)
     → BeginsWith ds es
 before_want text more ahead ds line (inl reading) header es begins before = while_reading text more ds es line header begins before reading.due reading.unfinished
 before_want text more ahead ds line (inr said) header es begins before = one_more text more ds es line header begins before said
+
+-- ---- the line is one of the text's
+
+split_length : (text more : List ℕ) (lines : List (List ℕ)) (rest : List ℕ) → slice_split (λ b. b == 10) text ≡ lines ++ rest ∷ [] → length lines + 1 ≤ length (slice_split (λ b. b == 10) (text ++ more))
+split_length text more lines rest divided =
+    let other = some_line more in
+    let parts = at_ends-after text more lines rest other.0 other.1 divided other.2 in
+    omega (arith, ap length parts, length-append lines ((rest ++ other.0) ∷ other.1))
+
+pub line_of : (text more ahead : List ℕ) (ds : List Numbered) (line : ℕ) → MemoryTells (Memory line) text ahead ds → IsLineOf (text ++ more) line
+line_of text more ahead ds line (inl reading) =
+    let there = split_length text more reading.unfinished.lines reading.unfinished.rest reading.unfinished.stands.divided in
+    (omega (arith, reading.unfinished.at_line), omega (arith, reading.unfinished.at_line, there))
+line_of text more ahead ds line (inr said) =
+    let there = split_length text more said.lines [] said.stands.divided in
+    (omega (arith, said.at_line, ap length said.stands.says.begins), omega (arith, said.at_line, there))
+
+-- every text may have a first line for which memory was wanting
+pub wants_first_line : (text : List ℕ) → IsLineOf text 1 × LawfulBefore text 1
+wants_first_line text = ((omega arith, at_least text), none) where
+  at_least : (bytes : List ℕ) → 1 ≤ length (slice_split (λ b. b == 10) bytes)
+  at_least bytes = let line = some_line bytes in omega (arith, ap length line.2)
+
+  none : LawfulBefore text 1
+  none h [] begins before = empty_is_lawful h
+  none h (d ∷ es) begins before =
+      let (more, is, from) = walk_adds Head 1 [] begins.lines (Body begins.stands.0 h) (d ∷ es) (says_walk begins.lines (Body begins.stands.0 h) (d ∷ es) begins.stands.1.says) in
+      let first = All-head (IsFrom 1) d es (subst (All (IsFrom 1)) (sym is) from) in
+      absurd (omega (arith, first, All-head (IsBefore 1) d es before))

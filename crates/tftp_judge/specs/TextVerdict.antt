@@ -1,5 +1,6 @@
 -- What there is to say of a capture text, by the runs of two ends.
-use Rattle.std.specs.Prelude.{◌≡◌, ◌⊎◌, List, [], ◌∷◌, ◌++◌, ℕ, ◌<◌, ◌≤◌, All, length, map, reverse, Result, Ok, Err}
+use Rattle.std.specs.List.{slice_split}
+use Rattle.std.specs.Prelude.{◌≡◌, ◌⊎◌, ◌==◌, List, [], ◌∷◌, ◌++◌, ℕ, ◌<◌, ◌≤◌, All, length, map, reverse, Result, Ok, Err}
 use Rattle.tftp_capture.specs.CaptureText.{Begins, Due, HasFault, IsCapture, Numbered, Stands, Unfinished}
 use Rattle.tftp_capture.specs.CaptureText.Due.{Body}
 use Rattle.tftp_capture.specs.History.{IsAtTextEnd, IsReadFault, MemoryTells}
@@ -70,16 +71,19 @@ pub record WantsToJudge (read : List ℕ) (count : ℕ) : Type 0 where
 
 -- ---- what is said
 
+-- the text has so many lines, with what is left after its last LF
+abbrev pub IsLineOf : List ℕ → ℕ → Type 0
+IsLineOf text line = (1 ≤ line) × (line ≤ length (slice_split (λ b. b == 10) text))
+
 -- a fault of the text or its reader, after datagrams that are lawful
 abbrev pub IsFaultOf : List ℕ → CaptureFault → Type 0
 IsFaultOf text (Text line fault) = ((datagrams : List Numbered) × HasFault text datagrams line fault) × AllLawful text
 IsFaultOf text (Read line) = ((datagrams : List Numbered) × (due : Due) × Unfinished text datagrams line due) × AllLawful text
-IsFaultOf text (Memory line) = ((read more : List ℕ) × (text ≡ read ++ more) × WantsToRead read line) × LawfulBefore text line
+IsFaultOf text (Memory line) = IsLineOf text line × LawfulBefore text line
 
 -- The first unlawful datagram on the lines before the text's first fault; else that fault; else what is said of the
--- datagrams. A text whose reading failed is what came before. Want of memory may be said of each beginning of the text in
--- which no byte is wrong and no datagram unlawful: of the line that was being read, of a datagram that takes memory, or of
--- the meaning of all.
+-- datagrams. A text whose reading failed is what came before. Want of memory may be said of a line before which the
+-- datagrams are lawful, of a datagram that takes memory after others with which it is lawful, or of the meaning of all.
 abbrev pub IsTextVerdict : List ℕ → Result Meaning Verdict → Type 0
 IsTextVerdict text (Ok m) = IsCaptureBy text (Ok m)
 IsTextVerdict text (Err (Refused (refusal.Unlawful index rule))) = BeginsBy text (Err (refusal.Unlawful index rule))

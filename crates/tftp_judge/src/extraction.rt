@@ -2,7 +2,7 @@ ghost use Rattle.std.specs.Prelude.{◌≡◌, ℕ, List, Some, true, false, Res
 ghost use Rattle.std.specs.Io.KnownBytes.{Consumes, IsAtEnd};
 ghost use Rattle.tftp_ends.specs.Meaning.{Meaning};
 ghost use Rattle.tftp_judge.specs.Extracted.{Extracts};
-ghost use Rattle.tftp_judge.specs.TextVerdict.{EndsText, IsTextVerdict, SaysReadFailed};
+ghost use Rattle.tftp_judge.specs.TextVerdict.{EndsText, IsReadVerdict, IsTextVerdict, SaysReadFailed};
 ghost use Rattle.tftp_judge.specs.declared.verdict.Verdict.{Verdict as Refused};
 
 use crate::text::judge_text;
@@ -53,7 +53,7 @@ pub fn extract<R: Read, W: Write>(
     requires reading { reader.old.1 ≡ false }
     requires writing { writer.old.1 ≡ false }
     ensures extracts { (read : List ℕ) × (said : Result Meaning Refused) × Consumes (R.remaining reader.old.0) (R.remaining reader.new.0) read
-        × IsTextVerdict read said × (EndsText said → IsAtEnd (R.remaining reader.new.0)) × (SaysReadFailed said → reader.new.1 ≡ true)
+        × IsReadVerdict read said × (EndsText said → IsAtEnd (R.remaining reader.new.0)) × (SaysReadFailed said → reader.new.1 ≡ true)
         × (reader.new.1 ≡ true → SaysReadFailed said) × Extracts W.contents writer.old writer.new said result }
     ensures whole { (text : List ℕ) → R.remaining reader.old.0 ≡ Some text → reader.new.1 ≡ false
         → (said : Result Meaning Refused) × IsTextVerdict text said × Extracts W.contents writer.old writer.new said result }

@@ -1,6 +1,8 @@
-ghost use Rattle.std.specs.Prelude.{◌≡◌, ℕ, List, Some, true, false};
+ghost use Rattle.std.specs.Prelude.{◌≡◌, ◌⊎◌, ℕ, List, Some, true, false, Result};
 ghost use Rattle.std.specs.Io.KnownBytes.{Consumes, IsAtEnd};
-ghost use Rattle.tftp_judge.specs.TextVerdict.{EndsText, IsTextVerdict, SaysReadFailed};
+ghost use Rattle.tftp_ends.specs.Meaning.{Meaning as MeaningParts};
+ghost use Rattle.tftp_judge.specs.TextVerdict.{EndsText, IsOfText, IsReadVerdict, IsTextVerdict, SaysReadFailed, WantsMemory};
+ghost use Rattle.tftp_judge.specs.declared.verdict.Verdict.{Verdict as VerdictKind};
 
 use crate::judging::Judge;
 use crate::meaning::Meaning;
@@ -17,11 +19,13 @@ use tftp_ends::RingDelivered;
 /// line and the datagram on it, into whose memory the next one is read.
 pub fn judge_text<R: Read>(alloc: Global, reader: &mut Tallied<R>) -> Result<Meaning, Verdict>
     requires clean { reader.old.1 ≡ false }
-    ensures judged { (read : List ℕ) × Consumes (R.remaining reader.old.0) (R.remaining reader.new.0) read × IsTextVerdict read result }
+    ensures judged { (read : List ℕ) × Consumes (R.remaining reader.old.0) (R.remaining reader.new.0) read × IsReadVerdict read result }
     ensures ended { EndsText result → IsAtEnd (R.remaining reader.new.0) }
     ensures read { SaysReadFailed result → reader.new.1 ≡ true }
     ensures tally { reader.new.1 ≡ true → SaysReadFailed result }
     ensures whole { (text : List ℕ) → R.remaining reader.old.0 ≡ Some text → reader.new.1 ≡ false → IsTextVerdict text result }
+    ensures exact { (text : List ℕ) (said : Result MeaningParts VerdictKind) → R.remaining reader.old.0 ≡ Some text → reader.new.1 ≡ false
+        → IsOfText said → IsTextVerdict text said → (result ≡ said) ⊎ WantsMemory result }
 {
     let mut capture = CaptureReader::begin(alloc, reader)?;
     let mut judge: Judge<RingDelivered> = Judge::new(alloc, capture.header());

@@ -5,7 +5,7 @@ use Rattle.tftp_capture.specs.History.{IsReadFault, IsReadStanding}
 use Rattle.tftp_judge.specs.Kept.{IsJudgeAfter}
 use Rattle.tftp_judge.specs.TextVerdict.{unnumbered}
 use Rattle.tftp_judge.proofs.Follows.{follows_on, found_fault, found_meaning, found_refused, found_unfinished}
-use Rattle.tftp_judge.proofs.TextFound.{Found, found_ended, found_judged, found_no_header, found_tally, found_whole}
+use Rattle.tftp_judge.proofs.TextFound.{Found, found_ended, found_exact, found_judged, found_no_header, found_tally, found_whole}
 use Rattle.tftp_judge.proofs.text.judge_text.Given.{Over}
 use Rattle.tftp_judge.proofs.text.judge_text.Goals as goal
 
@@ -31,6 +31,9 @@ returns-in_err-capture-clause-judged g c = found_judged _ _ _ _ (no_header g c)
 
 pub returns-in_err-capture-clause-whole : goal.returns-in_err-capture-clause-whole
 returns-in_err-capture-clause-whole g c = found_whole _ _ _ _ (no_header g c)
+
+pub returns-in_err-capture-clause-exact : goal.returns-in_err-capture-clause-exact
+returns-in_err-capture-clause-exact g c = found_exact _ _ _ _ (no_header g c)
 
 -- ---- the loop
 
@@ -63,7 +66,7 @@ stopped g c =
     let i = c.loop-datagram.invariant in
     rw (p.1, p.2)
     (found_fault (g.R.Read.remaining c.args.reader.now.0) (prepend_known c.loop-datagram.capture.lines.ahead (g.R.Read.remaining c.loop-datagram.reader.0)) (g.R.Read.remaining c.next_into.new.reader.0) c.loop-datagram.capture c.next_into.new.self
-    c.loop-datagram.judge i.goes i.follows fault c.next_into.new.reader.1 e.continues e.standing (e.cut i.goes) (e.drained i.goes) e.read
+    c.loop-datagram.judge i.goes i.follows fault c.next_into.new.reader.1 e.continues e.standing (e.near i.goes) (e.cut i.goes) (e.drained i.goes) e.read
     (clean_or (IsReadFault fault) c.next_into.new.reader.1 c.loop-datagram.reader.1 e.tally i.clean))
 
 pub returns-in_err-next_into-clause-judged : goal.returns-in_err-next_into-clause-judged
@@ -77,6 +80,9 @@ returns-in_err-next_into-clause-tally g c = found_tally _ _ _ _ (stopped g c)
 
 pub returns-in_err-next_into-clause-whole : goal.returns-in_err-next_into-clause-whole
 returns-in_err-next_into-clause-whole g c = found_whole _ _ _ _ (stopped g c)
+
+pub returns-in_err-next_into-clause-exact : goal.returns-in_err-next_into-clause-exact
+returns-in_err-next_into-clause-exact g c = found_exact _ _ _ _ (stopped g c)
 
 -- ---- a datagram was read
 
@@ -97,7 +103,7 @@ refused g c =
     rw (p.1, p.2)
     (found_refused (g.R.Read.remaining c.args.reader.now.0) (prepend_known c.loop-datagram.capture.lines.ahead (g.R.Read.remaining c.loop-datagram.reader.0)) (g.R.Read.remaining c.next_into.new.reader.0) c.loop-datagram.capture c.next_into.new.self
     c.loop-datagram.judge i.goes i.follows c.next_into.new.datagram (rw c.if-branch.true at e.continues) (rw c.if-branch.true at e.standing) e.header c.in_err-feed.field-0.0 c.next_into.new.reader.1
-    (still_clean c.next_into.new.reader.1 c.loop-datagram.reader.1 (rw c.if-branch.true at e.tally) i.clean) (c.in_err-feed.ensures.refuses c.loop-datagram.capture.header (reverse (unnumbered i.follows.datagrams)) i.follows.accepted))
+    (still_clean c.next_into.new.reader.1 c.loop-datagram.reader.1 (rw c.if-branch.true at e.tally) i.clean) (e.near i.goes) (c.in_err-feed.ensures.refuses c.loop-datagram.capture.header (reverse (unnumbered i.follows.datagrams)) i.follows.accepted))
 
 pub returns-in_err-feed-clause-judged : goal.returns-in_err-feed-clause-judged
 returns-in_err-feed-clause-judged g c = found_judged _ _ _ _ (refused g c)
@@ -110,6 +116,9 @@ returns-in_err-feed-clause-tally g c = found_tally _ _ _ _ (refused g c)
 
 pub returns-in_err-feed-clause-whole : goal.returns-in_err-feed-clause-whole
 returns-in_err-feed-clause-whole g c = found_whole _ _ _ _ (refused g c)
+
+pub returns-in_err-feed-clause-exact : goal.returns-in_err-feed-clause-exact
+returns-in_err-feed-clause-exact g c = found_exact _ _ _ _ (refused g c)
 
 pub loop-datagram-smaller : goal.loop-datagram-smaller
 loop-datagram-smaller g c =
@@ -156,6 +165,9 @@ returns-in_err-finish-clause-tally g c = found_tally _ _ _ _ (unfinished g c)
 pub returns-in_err-finish-clause-whole : goal.returns-in_err-finish-clause-whole
 returns-in_err-finish-clause-whole g c = found_whole _ _ _ _ (unfinished g c)
 
+pub returns-in_err-finish-clause-exact : goal.returns-in_err-finish-clause-exact
+returns-in_err-finish-clause-exact g c = found_exact _ _ _ _ (unfinished g c)
+
 meant : (g : Over) (c : goal.After-drop-capture-inside-2 g) → Found (g.R.Read.remaining c.args.reader.now.0) (g.R.Read.remaining c.next_into.new.reader.0) c.next_into.new.reader.1 (Ok c.in_ok-finish.field-0)
 meant g c =
     let e = c.in_ok-next_into.ensures in
@@ -176,3 +188,6 @@ returns-clause-tally g c = found_tally _ _ _ _ (meant g c)
 
 pub returns-clause-whole : goal.returns-clause-whole
 returns-clause-whole g c = found_whole _ _ _ _ (meant g c)
+
+pub returns-clause-exact : goal.returns-clause-exact
+returns-clause-exact g c = found_exact _ _ _ _ (meant g c)

@@ -1,0 +1,24 @@
+-- What is said of what was read is said of it as a text.
+use Rattle.std.proofs.Common.{◌≡◌, ℕ, inl, inr, List, [], ◌++◌, Result, Ok, Err, sym, ap, subst, ◌∙◌, append-nil}
+use Rattle.tftp_capture.specs.declared.fault.CaptureFault.TheVariants.{Text, Read, Memory}
+use Rattle.tftp_ends.specs.Meaning.{Meaning}
+use Rattle.tftp_judge.specs.TextVerdict.{IsLineOf, IsReadVerdict, IsTextVerdict, WantsToRead}
+use Rattle.tftp_judge.specs.declared.refusal.Refusal.TheVariants as refusal
+use Rattle.tftp_judge.specs.declared.verdict.Verdict.{Verdict}
+use Rattle.tftp_judge.specs.declared.verdict.Verdict.TheVariants.{Capture, Refused}
+use Rattle.tftp_judge.proofs.WantOfMemory.{line_of}
+
+line_read : (read : List ℕ) (line : ℕ) → WantsToRead read line → IsLineOf read line
+line_read read line wants = subst (λ t. IsLineOf t line) (sym wants.to.0) (line_of wants.taken wants.ahead wants.ahead wants.datagrams line wants.tells)
+
+pub read_is_text : (read : List ℕ) (r : Result Meaning Verdict) → IsReadVerdict read r → IsTextVerdict read r
+read_is_text read (Ok m) is = is
+read_is_text read (Err (Refused (refusal.Unlawful index rule))) is = is
+read_is_text read (Err (Refused (refusal.Aborted by code))) is = is
+read_is_text read (Err (Refused (refusal.Incomplete count))) is = is
+read_is_text read (Err (Refused refusal.NormalTooLong)) is = is
+read_is_text read (Err (Refused (refusal.Memory count))) (inl wants) = inl (read, [], sym (append-nil read), wants)
+read_is_text read (Err (Refused (refusal.Memory count))) (inr is) = inr is
+read_is_text read (Err (Capture (Text line fault))) is = is
+read_is_text read (Err (Capture (Read line))) is = is
+read_is_text read (Err (Capture (Memory line))) (wants, before) = (line_read read line wants, before)
