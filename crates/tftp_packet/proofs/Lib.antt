@@ -15,6 +15,7 @@ pub mod OwnedMaps
 pub mod SameMaps
 pub mod CanonicalOptions
 pub mod CanonicalLaws
+pub mod NameLists
 pub mod NameOrder
 pub mod NameTable
 pub mod Hosts

@@ -1,23 +1,25 @@
 -- Names in order: two are equal just where two side by side are.
-use Rattle.std.proofs.Common.{◌≡◌, inl, inr, ◌⊎◌, ℕ, suc, ◌+◌, ◌<◌, ◌≤◌, Bool, true, false, cond, List, [], ◌∷◌, ◌++◌, length, get_or, take, set, refl, sym, ap, subst, ◌∙◌, true≢false, append_assoc, nat_cmp, is_lt, arith}
-use Rattle.std.specs.Prelude.{bytes_eq, map as each, IsPermutation}
+use Rattle.std.proofs.Common.{◌≡◌, inl, inr, ◌⊎◌, ◌↔◌, ℕ, zero, suc, ◌+◌, ◌<◌, ◌≤◌, Bool, true, false, cond, List, [], ◌∷◌, ◌++◌, length, get_or, take, set, refl, sym, ap, subst, ◌∙◌, true≢false, append_assoc, nat_cmp, is_lt, arith}
+use Rattle.std.specs.Prelude.{bytes_eq, map as each, IsPermutation, Result, Ok, Err, is_ok, MatchBool}
 use Rattle.std.specs.List.{sum_by}
-use Rattle.std.specs.List.Sorted.{IsSortedBy}
+use Rattle.std.specs.List.Sorted.{IsSortedBy, IsSearchInRange, IsBinarySearchResult}
+use Rattle.std.specs.Cmp.{tied_itself}
 use Rattle.std.specs.Ordering.{ordering_reverse}
 use Rattle.std.specs.Cmp.Lexicographic.{slice_cmp}
 use Rattle.std.specs.declared.cmp.Ordering.{Ordering}
 use Rattle.std.specs.declared.cmp.Ordering.TheVariants.{Less, Equal, Greater}
 use Rattle.std.specs.FinMap.{nat_cmp-IsAntisymmetric, slice_cmp-IsAntisymmetric}
-use Rattle.std.proofs.lemmas.Bool.{cases_Bool}
+use Rattle.std.proofs.lemmas.Bool.{cases_Bool, cases_lt}
 use Rattle.std.proofs.lemmas.Cmp.{nat_list_cmp_total}
 use Rattle.std.proofs.lemmas.List.{map-append, take_more_set}
 use Rattle.std.proofs.lemmas.List.Sums.{sum_by-cons}
-use Rattle.std.proofs.lemmas.List.Sorted.{ranks_by, sorted_far, sum_by-IsPermutation}
+use Rattle.std.proofs.lemmas.List.Sorted.{ranks_by, sorted_far, searchable_from_sorted, sum_by-IsPermutation, IsPermutation-sym}
 use Rattle.std.proofs.lemmas.Slice.Eq.{bytes_eq-Decides}
 use Rattle.tftp_packet.specs.OptionMap.{lower}
 use Rattle.tftp_packet.specs.Written.{Pair}
 use Rattle.tftp_packet.specs.Faults.{AnyOf, HasRepeat}
-use Rattle.tftp_packet.specs.Names.{HasTwo, HasTwoBeside}
+use Rattle.tftp_packet.specs.Names.{HasTwo, HasTwoBeside, HasCommon}
+use Rattle.tftp_packet.proofs.NameLists.{any_of, two_of_common}
 use Rattle.tftp_packet.proofs.Maps.{bytes_eq_yes}
 
 -- ---- the names of options
@@ -84,6 +86,17 @@ two_moved xs ys moved two =
     let found = two_counted xs two in
     two_of_count found.0 ys (omega (arith, found.1, sum_by-IsPermutation (is_one found.0) xs ys moved))
 
+pub any_moved : (key : List ℕ) (xs ys : List (List ℕ)) → IsPermutation xs ys → AnyOf (λ later. key ≡ later) xs → AnyOf (λ later. key ≡ later) ys
+any_moved key xs ys moved any = any_counted key ys (omega (arith, counted key xs any, sum_by-IsPermutation (is_one key) xs ys moved))
+
+common_moved : (xs ys later : List (List ℕ)) → IsPermutation xs ys → HasCommon xs later → HasCommon ys later
+common_moved xs ys later moved common = any_of (λ key. AnyOf (λ x. key ≡ x) xs) (λ key. AnyOf (λ y. key ≡ y) ys) later (λ key any. any_moved key xs ys moved any) common
+
+-- what is asked of names in order is asked of them as they came
+pub common_decides : (b : Bool) (xs ys later : List (List ℕ)) → (b ≡ true) ↔ HasCommon ys later → (HasTwo ys → ⊥) → IsPermutation xs ys → MatchBool b (HasTwo (xs ++ later)) ((HasTwo xs → ⊥) × (HasCommon xs later → ⊥))
+common_decides true xs ys later is none moved = two_of_common xs later (common_moved ys xs later (IsPermutation-sym xs ys moved) (is.0 refl))
+common_decides false xs ys later is none moved = ((λ two. none (two_moved xs ys moved two)), λ common. true≢false (sym (is.1 (common_moved xs ys later moved common))))
+
 -- ---- order
 tied : (x y : List ℕ) (o : Ordering) → o ≡ slice_cmp nat_cmp x y → is_lt o ≡ false → is_lt (slice_cmp nat_cmp y x) ≡ false → x ≡ y
 tied x y Less e up down = absurd (true≢false up)
@@ -122,6 +135,31 @@ module _ {X : Type 0} (key : X → List ℕ) where
   beside_of_two (x ∷ []) up (inr later) = later
   beside_of_two (x ∷ y ∷ xs) up (inl here) = inl (beside_first x y xs up here)
   beside_of_two (x ∷ y ∷ xs) up (inr later) = inr (beside_of_two (y ∷ xs) (sorted_tail x (y ∷ xs) up) later)
+
+-- ---- a name is looked for among names in order
+module _ {X : Type 0} (key : X → List ℕ) where
+  any_at : (name : List ℕ) (xs : List X) (i : ℕ) → i < length xs → ((d : X) → name ≡ key (get_or xs i d)) → AnyOf (λ later. name ≡ later) (each key xs)
+  any_at name [] i h is = absurd (omega arith)
+  any_at name (x ∷ xs) zero h is = inl (is x)
+  any_at name (x ∷ xs) (suc i) h is = inr (any_at name xs i (omega arith) is)
+
+  no_order : (name : List ℕ) (x : X) (o : Ordering) → name ≡ key x → slice_cmp nat_cmp (key x) name ≡ o → o ≡ Equal
+  no_order name x o same is = sym is ∙ ap (slice_cmp nat_cmp (key x)) same ∙ tied_itself nat_list_cmp_total (key x)
+
+  pub searched_decides : (name : List ℕ) (xs : List X) (r : Result ℕ ℕ) (b : Bool) → b ≡ is_ok r → IsSearchInRange r (length xs) → IsBinarySearchResult (λ y. slice_cmp nat_cmp (key y) name) xs r → IsSortedBy (below key) xs
+      → (b ≡ true) ↔ AnyOf (λ later. name ≡ later) (each key xs)
+  searched_decides name xs (Ok i) b e range found up = ((λ is. any_at name xs i range (λ d. sym (slice_cmp-IsAntisymmetric nat_cmp-IsAntisymmetric (key (get_or xs i d)) name (found d)))), λ any. e)
+  searched_decides name [] (Err i) b e range found up = ((λ is. absurd (true≢false (sym is ∙ e))), λ any. absurd any)
+  searched_decides name (x ∷ xs) (Err i) b e range found up = (
+    (λ is. absurd (true≢false (sym is ∙ e))),
+    λ any.
+        let place = place_of_any key name (x ∷ xs) x any in
+        let point = found (searchable_from_sorted nat_list_cmp_total key (x ∷ xs) name up) in
+        elim (cases_lt place.0 i) [
+          | inl low ↦ absurd (let o = no_order name (get_or (x ∷ xs) place.0 x) Less place.2 (point.0 place.0 x (omega arith) low) in let f : ⊥ = cc in f)
+          | inr high ↦ absurd (let o = no_order name (get_or (x ∷ xs) place.0 x) Greater place.2 (point.1 place.0 x high place.1) in let f : ⊥ = cc in f)
+        ],
+  )
 
 -- ---- the end of one name
 pub ended : (xs ys : List ℕ) → (xs ≡ []) ⊎ (ys ≡ []) → nat_cmp (length xs) (length ys) ≡ slice_cmp nat_cmp (lower xs) (lower ys)

@@ -10,57 +10,8 @@ use Rattle.tftp_packet.specs.Written.{IsString, pairs_of}
 use Rattle.tftp_packet.specs.Faults.{AnyOf, HasRepeat}
 use Rattle.tftp_packet.specs.Names.{HasTwo}
 use Rattle.tftp_packet.specs.NameTable.{StandsFirst, keys_of, first_slot, string_first, key_at, IsHeld, IsFound, IsFree, StandForSome, Holds}
+use Rattle.tftp_packet.proofs.NameLists.{any_left, any_right, two_right, two_across, two_skipped, two_behind, all_more, any_of}
 use Rattle.tftp_packet.proofs.NameOrder.{two_of_repeat, repeat_of_two}
-
--- ---- lists
-any_left : {X : Type 0} (P : X → Type 0) (xs ys : List X) → AnyOf P xs → AnyOf P (xs ++ ys)
-any_left P [] ys any = absurd any
-any_left P (x ∷ xs) ys (inl here) = inl here
-any_left P (x ∷ xs) ys (inr later) = inr (any_left P xs ys later)
-
-any_right : {X : Type 0} (P : X → Type 0) (xs ys : List X) → AnyOf P ys → AnyOf P (xs ++ ys)
-any_right P [] ys any = any
-any_right P (x ∷ xs) ys any = inr (any_right P xs ys any)
-
-any_split : {X : Type 0} (P : X → Type 0) (xs ys : List X) → AnyOf P (xs ++ ys) → AnyOf P xs ⊎ AnyOf P ys
-any_split P [] ys any = inr any
-any_split P (x ∷ xs) ys (inl here) = inl (inl here)
-any_split P (x ∷ xs) ys (inr later) = elim (any_split P xs ys later) [ inl a ↦ inl (inr a) | inr b ↦ inr b ]
-
-two_right : (xs ys : List (List ℕ)) → HasTwo ys → HasTwo (xs ++ ys)
-two_right [] ys two = two
-two_right (x ∷ xs) ys two = inr (two_right xs ys two)
-
-two_across : (key : List ℕ) (xs ys : List (List ℕ)) → AnyOf (λ x. key ≡ x) xs → AnyOf (λ y. key ≡ y) ys → HasTwo (xs ++ ys)
-two_across key [] ys a b = absurd a
-two_across key (x ∷ xs) ys (inl here) b = inl (any_right (λ later. x ≡ later) xs ys (subst (λ k. AnyOf (λ y. k ≡ y) ys) here b))
-two_across key (x ∷ xs) ys (inr later) b = inr (two_across key xs ys later b)
-
-two_skipped : (key : List ℕ) (xs ys : List (List ℕ)) → HasTwo (xs ++ ys) → HasTwo (xs ++ key ∷ ys)
-two_skipped key [] ys two = inr two
-two_skipped key (x ∷ xs) ys (inl any) = elim (any_split (λ later. x ≡ later) xs ys any) [
-  | inl a ↦ inl (any_left (λ later. x ≡ later) xs (key ∷ ys) a)
-  | inr b ↦ inl (any_right (λ later. x ≡ later) xs (key ∷ ys) (inr b))
-]
-two_skipped key (x ∷ xs) ys (inr later) = inr (two_skipped key xs ys later)
-
--- two that are equal stand both behind, where none in front is equal to another
-two_behind : (xs ys : List (List ℕ)) → (HasTwo xs → ⊥) → ((key : List ℕ) → AnyOf (λ x. key ≡ x) xs → AnyOf (λ y. key ≡ y) ys → ⊥) → HasTwo (xs ++ ys) → HasTwo ys
-two_behind [] ys none apart two = two
-two_behind (x ∷ xs) ys none apart (inl any) = elim (any_split (λ later. x ≡ later) xs ys any) [
-  | inl a ↦ absurd (none (inl a))
-  | inr b ↦ absurd (apart x (inl refl) b)
-]
-two_behind (x ∷ xs) ys none apart (inr later) = two_behind xs ys (λ two. none (inr two)) (λ key a b. apart key (inr a) b) later
-
-all_more : {X : Type 0} (P : X → Type 0) (xs : List X) (x : X) → AllByRecursion P xs → P x → AllByRecursion P (xs ++ x ∷ [])
-all_more P [] x all p = (p, tt)
-all_more P (y ∷ xs) x all p = (all.0, all_more P xs x all.1 p)
-
-any_of : {X : Type 0} (P : X → Type 0) (Q : X → Type 0) (xs : List X) → ((x : X) → P x → Q x) → AnyOf P xs → AnyOf Q xs
-any_of P Q [] f any = any
-any_of P Q (x ∷ xs) f (inl here) = inl (f x here)
-any_of P Q (x ∷ xs) f (inr later) = inr (any_of P Q xs f later)
 
 -- ---- a name at its place
 string_front : (s rest : List ℕ) → IsString s → string_first (s ++ 0 ∷ rest) ≡ s
@@ -140,7 +91,7 @@ module _ (bytes table key : List ℕ) (slot entry : ℕ) (free : IsFree table ke
           | inl none ↦ inl (kept ∙ none)
           | inr any ↦ inr (any_left (λ name. key_at bytes (get_or (set table slot entry) t 0) ≡ name) names (key ∷ []) (any_of _ _ names (λ name e. ap (key_at bytes) kept ∙ e) any))
         ]
-      )
+        )
   ]
 
 among_held : (bytes table key : List ℕ) (names : List (List ℕ)) → AllByRecursion (IsHeld bytes table) names → AnyOf (λ name. key ≡ name) names → IsHeld bytes table key
@@ -203,6 +154,6 @@ module _ (bytes table rest : List ℕ) (holds : Holds bytes table rest) where
   rest_decides none = (
     (λ repeat. repeat_of_two (pairs_of bytes) (subst HasTwo holds.all (two_right holds.names (keys_of rest) (two_of_repeat (pairs_of rest) repeat)))),
     (λ repeat. repeat_of_two (pairs_of rest) (two_behind holds.names (keys_of rest) holds.apart
-    (λ key a b. none (any_of (λ y. key ≡ y) (IsHeld bytes table) (keys_of rest) (λ y e. subst (IsHeld bytes table) e (among_held bytes table key holds.names holds.held a)) b))
-    (subst HasTwo (sym holds.all) (two_of_repeat (pairs_of bytes) repeat)))),
+        (λ key a b. none (any_of (λ y. key ≡ y) (IsHeld bytes table) (keys_of rest) (λ y e. subst (IsHeld bytes table) e (among_held bytes table key holds.names holds.held a)) b))
+        (subst HasTwo (sym holds.all) (two_of_repeat (pairs_of bytes) repeat)))),
   )

@@ -12,3 +12,7 @@ abbrev pub HasTwoBeside : List (List ℕ) → Type 0
 HasTwoBeside [] = ⊥
 HasTwoBeside (name ∷ []) = ⊥
 HasTwoBeside (name ∷ next ∷ names) = (name ≡ next) ⊎ HasTwoBeside (next ∷ names)
+
+-- some later name is equal to one of these
+abbrev pub HasCommon : List (List ℕ) → List (List ℕ) → Type 0
+HasCommon names later = AnyOf (λ key. AnyOf (λ name. key ≡ name) names) later

@@ -6,6 +6,7 @@ mod fault;
 mod host;
 mod kinds;
 mod laws;
+mod name_order;
 mod name_table;
 mod option_check;
 mod options;

@@ -6,7 +6,7 @@ ghost use Rattle.tftp_packet.specs.Written.{pairs_of};
 ghost use Rattle.tftp_packet.specs.Faults.{AnyOf, HasRepeat};
 ghost use Rattle.tftp_packet.specs.NameTable.{string_first, first_slot, key_at, keys_of, IsHeld, IsFound, Tells, Holds};
 
-use crate::option_check::has_repeat_of_few;
+use crate::name_order::has_repeat_in_order;
 use crate::text::{split_pair, split_string};
 
 /// The slots in which a look may begin.
@@ -50,7 +50,7 @@ pub(crate) fn has_repeat_of_many(bytes: &[u8]) -> bool
             return true;
         }
         if !rest.is_empty() && left.len() - rest.len() < CROWDED {
-            return has_repeat_of_few(rest);
+            return has_repeat_in_order(rest);
         }
         left = rest;
     }

@@ -24,7 +24,7 @@ pub fn split_pair(bytes: &[u8]) -> Option<(&[u8], &[u8], &[u8])>
     ensures { MatchOption result
         (pairs_of bytes.now ≡ [])
         (λ parts. (pairs_of bytes.now ≡ (parts.0.now, parts.1.now) ∷ pairs_of parts.2.now) × (length parts.2.now < length bytes.now)
-            × StandsFirst bytes.now parts.0.now parts.2.now) }
+        × StandsFirst bytes.now parts.0.now parts.2.now) }
 {
     let (name, rest) = split_string(bytes)?;
     let (text, after) = split_string(rest)?;

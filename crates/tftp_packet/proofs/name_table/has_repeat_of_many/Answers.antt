@@ -12,7 +12,7 @@ returns-then-has_one_of c =
 pub returns-then-left-rest-lt-CROWDED : goal.returns-then-left-rest-lt-CROWDED
 returns-then-left-rest-lt-CROWDED c =
     let decides = rest_decides c.loop-left.left.now c.fill.new.table c.in-Some.rest.now c.in-Some.ensures.once c.if-has_one_of.ensures in
-    let few = c.has_repeat_of_few.ensures in
+    let few = c.has_repeat_in_order.ensures in
     ((λ is. c.loop-left.invariant.0 (decides.0 (few.0 is))), λ repeat. few.1 (decides.1 (c.loop-left.invariant.1 repeat)))
 
 pub loop-left-preserved : goal.loop-left-preserved

@@ -1,0 +1,15 @@
+use Rattle.std.proofs.Common.{◌≡◌, ◌≤◌, ◌<◌, ◌++◌, length, take}
+use Rattle.std.specs.Prelude.{map as each}
+use Rattle.tftp_packet.specs.OptionMap.{lower}
+use Rattle.tftp_packet.specs.NameTable.{keys_of}
+use Rattle.tftp_packet.proofs.name_order.gather.Given as goal
+
+-- the names so far, and those that are left, are all names
+abbrev pub invariant-loop-name : goal.invariant-loop-name
+invariant-loop-name l = (l.count ≤ length l.names)
+    × (each (λ name. lower name.now) (take l.count l.names) ++ keys_of l.rest ≡ keys_of l.bytes)
+    × (0 < l.count → length l.rest < length l.bytes)
+    × (length l.rest ≤ length l.bytes)
+
+abbrev pub decreases-loop-name : goal.decreases-loop-name
+decreases-loop-name l = length l.rest

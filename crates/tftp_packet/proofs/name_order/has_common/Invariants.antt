@@ -1,0 +1,13 @@
+use Rattle.std.proofs.Common.{◌↔◌, length}
+use Rattle.std.specs.Prelude.{map as each}
+use Rattle.tftp_packet.specs.OptionMap.{lower}
+use Rattle.tftp_packet.specs.Names.{HasCommon}
+use Rattle.tftp_packet.specs.NameTable.{keys_of}
+use Rattle.tftp_packet.proofs.name_order.has_common.Given as goal
+
+-- what is asked of all options is asked of those that are left
+abbrev pub invariant-loop-name : goal.invariant-loop-name
+invariant-loop-name l = HasCommon (each (λ name. lower name.now) l.names) (keys_of l.rest) ↔ HasCommon (each (λ name. lower name.now) l.names) (keys_of l.bytes)
+
+abbrev pub decreases-loop-name : goal.decreases-loop-name
+decreases-loop-name l = length l.rest

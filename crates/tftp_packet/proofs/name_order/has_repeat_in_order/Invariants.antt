@@ -1,0 +1,11 @@
+use Rattle.std.proofs.Common.{◌↔◌, length}
+use Rattle.tftp_packet.specs.Written.{pairs_of}
+use Rattle.tftp_packet.specs.Faults.{HasRepeat}
+use Rattle.tftp_packet.proofs.name_order.has_repeat_in_order.Given as goal
+
+-- what is asked of all options is asked of those that are left
+abbrev pub invariant-loop-left : goal.invariant-loop-left
+invariant-loop-left l = HasRepeat (pairs_of l.left) ↔ HasRepeat (pairs_of l.bytes)
+
+abbrev pub decreases-loop-left : goal.decreases-loop-left
+decreases-loop-left l = length l.left

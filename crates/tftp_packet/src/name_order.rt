@@ -1,0 +1,133 @@
+//! Whether a name stands twice among many, by sorting them: for names whose hashes are alike.
+
+ghost use Rattle.std.specs.Prelude.{◌≡◌, ◌↔◌, ◌≤◌, ◌<◌, ◌++◌, [], IsTrue, MatchBool, length, take, map as each};
+ghost use Rattle.std.specs.Ordering.{nat_cmp, is_lt};
+ghost use Rattle.std.specs.List.Sorted.{IsSortedBy};
+ghost use Rattle.std.specs.Cmp.Lexicographic.{slice_cmp};
+ghost use Rattle.tftp_packet.specs.OptionMap.{lower};
+ghost use Rattle.tftp_packet.specs.Written.{pairs_of};
+ghost use Rattle.tftp_packet.specs.Faults.{AnyOf, HasRepeat};
+ghost use Rattle.tftp_packet.specs.Names.{HasTwo, HasTwoBeside, HasCommon};
+ghost use Rattle.tftp_packet.specs.NameTable.{keys_of};
+
+use crate::text::split_pair;
+use std::cmp::Ordering;
+
+/// How many names are sorted at a time.
+const MOST_NAMES: usize = 1_024;
+
+/// Whether two options have one name, letter case ignored. Takes no memory: names are sorted by the thousand, and those after
+/// them are looked for among them.
+#[inline(never)]
+pub(crate) fn has_repeat_in_order(bytes: &[u8]) -> bool
+    ensures { IsTrue result ↔ HasRepeat (pairs_of bytes.now) }
+{
+    let mut left = bytes;
+    while !left.is_empty() {
+        let mut names: [&[u8]; MOST_NAMES] = [b""; MOST_NAMES];
+        let (count, rest) = gather(left, &mut names);
+        if count == 0 {
+            return false;
+        }
+        if has_equal(&mut names[..count], rest) {
+            return true;
+        }
+        left = rest;
+    }
+    false
+}
+
+/// Puts the first names into the array, as many as have room, and gives their number and the options that are left.
+fn gather<'a>(bytes: &'a [u8], names: &mut [&'a [u8]]) -> (usize, &'a [u8])
+    ensures within { result.0 ≤ length names.new }
+    ensures all { each (λ name. lower name.now) (take result.0 names.new) ++ keys_of result.1.now ≡ keys_of bytes.now }
+    ensures some { 0 < result.0 → length result.1.now < length bytes.now }
+    ensures none { result.0 ≡ 0 → 0 < length names.new → keys_of bytes.now ≡ [] }
+{
+    let mut count = 0;
+    let mut rest = bytes;
+    while let Some((name, _, after)) = split_pair(rest) {
+        if count == names.len() {
+            return (count, rest);
+        }
+        names[count] = name;
+        count += 1;
+        rest = after;
+    }
+    (count, rest)
+}
+
+/// Whether two of the names, or one of them and one that is left, are equal, letter case ignored. Leaves the names in order.
+fn has_equal(names: &mut [&[u8]], rest: &[u8]) -> bool
+    ensures { let keys = each (λ name. lower name.now) names.old in MatchBool result
+        (HasTwo (keys ++ keys_of rest.now))
+        ((HasTwo keys → ⊥) × (HasCommon keys (keys_of rest.now) → ⊥)) }
+{
+    names.sort_unstable_by(|name, other| compare_names(name, other));
+    has_two_beside(names) || has_common(names, rest)
+}
+
+/// Whether two names side by side are equal, letter case ignored.
+fn has_two_beside(names: &[&[u8]]) -> bool
+    ensures { IsTrue result ↔ HasTwoBeside (each (λ name. lower name.now) names.now) }
+{
+    let mut rest = names;
+    while let [name, after @ ..] = rest {
+        if let [next, ..] = after {
+            if name.eq_ignore_ascii_case(next) {
+                return true;
+            }
+        }
+        rest = after;
+    }
+    false
+}
+
+/// Whether one of the options has one of the names, which are in order.
+fn has_common(names: &[&[u8]], bytes: &[u8]) -> bool
+    requires { IsSortedBy (λ x y. is_lt (slice_cmp nat_cmp (lower x.now) (lower y.now))) names.now }
+    ensures { IsTrue result ↔ HasCommon (each (λ name. lower name.now) names.now) (keys_of bytes.now) }
+{
+    let mut rest = bytes;
+    while let Some((name, _, after)) = split_pair(rest) {
+        if is_among(names, name) {
+            return true;
+        }
+        rest = after;
+    }
+    false
+}
+
+/// Whether a name is among names in order.
+fn is_among(names: &[&[u8]], name: &[u8]) -> bool
+    requires { IsSortedBy (λ x y. is_lt (slice_cmp nat_cmp (lower x.now) (lower y.now))) names.now }
+    ensures { IsTrue result ↔ AnyOf (λ key. lower name.now ≡ key) (each (λ name. lower name.now) names.now) }
+{
+    names
+        .binary_search_by(|other| compare_names(other, name))
+        .is_ok()
+}
+
+/// The order of two names, letter case ignored.
+pub(crate) fn compare_names(name: &[u8], other: &[u8]) -> Ordering
+    ensures { result ≡ slice_cmp nat_cmp (lower name.now) (lower other.now) }
+{
+    let mut left = name;
+    let mut right = other;
+    while let [x, xs @ ..] = left {
+        let [y, ys @ ..] = right else {
+            return Ordering::Greater;
+        };
+        let order = x.to_ascii_lowercase().cmp(&y.to_ascii_lowercase());
+        if order != Ordering::Equal {
+            return order;
+        }
+        left = xs;
+        right = ys;
+    }
+    if right.is_empty() {
+        Ordering::Equal
+    } else {
+        Ordering::Less
+    }
+}
