@@ -7,9 +7,9 @@ use Rattle.tftp_worked.specs.Worked.{server_host, client_host, asks_for_a, bring
 use Rattle.tftp_worked.specs.WorkedErrors.{error}
 use Rattle.tftp_worked.specs.WorkedRules.{comes_from_elsewhere, acknowledges_stray}
 
--- at the server, once it has answered: from another port of the client's host, and ERROR 5 in answer
+-- at the server, once it has answered: an ACK from another port of the client's host, and ERROR 5 in answer
 abbrev pub strays_to_server : Datagram
-strays_to_server = record { dir = In; local = 3000; host = client_host; remote = 2001; payload = comes_astray.payload }
+strays_to_server = record { dir = In; local = 3000; host = client_host; remote = 2001; payload = is_told.payload }
 
 abbrev pub server_answers_stray : Datagram
 server_answers_stray = record { dir = Out; local = 3000; host = client_host; remote = 2001; payload = answers_stray.payload }
@@ -18,9 +18,6 @@ abbrev pub read_with_a_stray_at_server : List Datagram
 read_with_a_stray_at_server = is_asked_for_a ∷ sends_hi ∷ strays_to_server ∷ server_answers_stray ∷ is_told ∷ []
 
 -- ERROR 4, "Illegal TFTP operation", in answer to a stray, by the client and by the server
-abbrev pub after_a_stray : List Datagram
-after_a_stray = asks_for_a ∷ brings_hi ∷ comes_astray ∷ []
-
 abbrev pub answers_by_error_4 : Datagram
 answers_by_error_4 = record { dir = Out; local = 40000; host = server_host; remote = 42000; payload = error 4 [] }
 
