@@ -34,3 +34,4 @@ mod Malformed
 mod Strays
 mod OneOption
 mod Offers
+mod ByRules

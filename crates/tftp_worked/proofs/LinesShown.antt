@@ -1,5 +1,5 @@
 -- The worked reads in netascii are shown.
-use Rattle.std.proofs.Common.{◌≡◌, ◌≢◌, ℕ, ◌++◌, Bool, true, not, ◌==◌, List, [], ◌∷◌, codes, refl, subst, ap, ◌∙◌, arith}
+use Rattle.std.proofs.Common.{◌≡◌, ◌≢◌, ℕ, ◌++◌, true, not, ◌==◌, List, [], ◌∷◌, codes, refl, subst, ap, ◌∙◌, arith}
 use Rattle.std.proofs.lemmas.Bool.{true≢false, false≢true}
 use Rattle.std.proofs.lemmas.List.Elements.{All-from_recursion}
 use Rattle.tftp_packet.specs.Message.{Message}
@@ -21,7 +21,7 @@ use Rattle.tftp_law.specs.Dress.{IsDressed}
 use Rattle.tftp_law.specs.Fits.{Fits, IsWritable}
 use Rattle.tftp_law.specs.Law.{Shows}
 use Rattle.tftp_worked.specs.Worked.{at_client}
-use Rattle.tftp_worked.specs.WorkedWindows.{request_for, oack, block, ack, by_eight, goes, comes}
+use Rattle.tftp_worked.specs.WorkedWindows.{oack, block, ack, by_eight, goes, comes}
 use Rattle.tftp_worked.specs.WorkedNetascii.{two_lines, asks_for_lines, read_of_lines, read_of_bare_lines}
 use Rattle.tftp_worked.proofs.Payloads.{request_for_spells, oack_spells, data_spells, ack_spells, eight_is, all_from}
 use Rattle.tftp_worked.proofs.Dressed.{Carried, dressed_by}

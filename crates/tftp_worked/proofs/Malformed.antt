@@ -1,5 +1,5 @@
 -- Payloads that are no packets: no earlier rule is broken than the one that they break.
-use Rattle.std.proofs.Common.{◌≡◌, ◌≢◌, ◌⊎◌, ℕ, ◌<◌, Bool, true, false, List, [], ◌∷◌, length, codes, reverse, inl, inr, refl, sym, ap, ◌∙◌, arith, rules}
+use Rattle.std.proofs.Common.{◌≡◌, ◌<◌, true, List, [], codes, reverse, inl, inr, refl, sym, ap, ◌∙◌, arith, rules}
 use Rattle.std.proofs.lemmas.Bool.{false≢true}
 use Rattle.tftp_packet.specs.Faults.{FirstFault, Holds, number}
 use Rattle.tftp_packet.specs.declared.fault.PacketFault.{PacketFault}

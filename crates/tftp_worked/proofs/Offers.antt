@@ -1,5 +1,5 @@
 -- The worked requests and OACKs that break a rule.
-use Rattle.std.proofs.Common.{◌≡◌, ◌≢◌, ℕ, ◌<◌, ◌≤◌, Bool, true, List, [], ◌∷◌, length, codes, reverse, Option, Some, None, inl, inr, refl, sym, ap, ◌∙◌, subst, arith}
+use Rattle.std.proofs.Common.{◌≡◌, ◌≢◌, ℕ, ◌<◌, ◌≤◌, true, List, [], ◌∷◌, length, codes, reverse, Option, Some, None, inl, inr, refl, sym, ap, ◌∙◌, arith}
 use Rattle.std.proofs.lemmas.Bool.{false≢true}
 use Rattle.std.proofs.lemmas.Slice.Eq.{bytes_eq-Decides}
 use Rattle.std.specs.FinMap as map
@@ -12,9 +12,8 @@ use Rattle.tftp_packet.specs.declared.kinds.Mode.TheVariants.{Octet}
 use Rattle.tftp_nego.specs.Faults.{Holds}
 use Rattle.tftp_nego.specs.declared.fault.NegoFault.{NegoFault}
 use Rattle.tftp_ends.specs.CaptureText.{Datagram}
-use Rattle.tftp_ends.specs.Meaning.{request_of}
-use Rattle.tftp_ends.specs.Ports.{asks, first_of, route_of, is_of_transfer}
-use Rattle.tftp_ends.specs.Worked.{two_bytes, eight_a_block}
+use Rattle.tftp_ends.specs.Ports.{route_of, is_of_transfer}
+use Rattle.tftp_ends.specs.Worked.{eight_a_block}
 use Rattle.tftp_ends.specs.declared.terms.Terms.{Terms}
 use Rattle.tftp_ends.specs.declared.terms.Reply.TheVariants.{NoReply, Plain}
 use Rattle.tftp_ends.proofs.WorkedMore.{eight_for_blksize}
@@ -22,12 +21,12 @@ use Rattle.tftp_law.specs.Rules.{number_of, plain_terms, Broken, FirstOack}
 use Rattle.tftp_law.specs.OneEnded.{OneEnded, IsRefused}
 use Rattle.tftp_law.specs.declared.rule.Rule.{Rule}
 use Rattle.tftp_law.proofs.Spelled.{spelled_once}
-use Rattle.tftp_worked.specs.Worked.{at_client, asks_for_a, brings_hi, acknowledges_hi, one_block_read}
+use Rattle.tftp_worked.specs.Worked.{at_client, asks_for_a, acknowledges_hi, one_block_read}
 use Rattle.tftp_worked.specs.WorkedWindows.{request, oack, by_eight}
 use Rattle.tftp_worked.specs.WorkedRules.{only_asked}
 use Rattle.tftp_worked.specs.WorkedOffers.{asks_for_b, agrees_to_none, agrees_unasked, by_multicast, only_multicast_asked, agrees_to_multicast, by_foo, only_foo_asked, agrees_to_foo, only_512_asked, agrees_to_1024}
 use Rattle.tftp_worked.proofs.Spelled.{request_spelled, hi_spelled, ack_spelled}
-use Rattle.tftp_worked.proofs.Payloads.{Spelled, AllSpelled, datagrams, request_spells, request_for_spells, oack_spells, eight_is}
+use Rattle.tftp_worked.proofs.Payloads.{Spelled, AllSpelled, request_spells, request_for_spells, oack_spells, eight_is}
 use Rattle.tftp_worked.proofs.Passing.{asked_by, asked_is, asked_there, first_answer, first_asked, main_of, terms_of, unanswered_there}
 use Rattle.tftp_worked.proofs.Kept.{none_below, keeps_below}
 use Rattle.tftp_worked.proofs.Chains.{OackFine, first_oack_keeps, known_by, none_under, one_more}

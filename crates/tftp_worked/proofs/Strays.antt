@@ -1,13 +1,11 @@
 -- The worked captures with strays.
-use Rattle.std.proofs.Common.{◌≡◌, ℕ, ◌<◌, List, [], ◌∷◌, Some, None, codes, reverse, inl, inr, refl, sym, ap, arith}
+use Rattle.std.proofs.Common.{◌≡◌, ℕ, ◌<◌, List, [], ◌∷◌, Some, codes, reverse, inl, inr, refl, ap, arith}
 use Rattle.tftp_packet.specs.Message.{Message}
 use Rattle.tftp_packet.specs.Spelling.{Spells}
 use Rattle.tftp_packet.specs.declared.fault.PacketFault.TheVariants.{Short}
 use Rattle.tftp_packet.specs.declared.kinds.Side.TheVariants.{Get}
 use Rattle.tftp_packet.proofs.FaultOrder.{first_Short}
-use Rattle.tftp_ends.specs.Meaning.{request_of}
 use Rattle.tftp_ends.specs.Machines.{Sent, Took, Req, Data, Ack}
-use Rattle.tftp_ends.specs.Ports.{SaysUnknownId}
 use Rattle.tftp_ends.specs.Worked.{two_bytes, two_bytes_view, two_bytes_server_view}
 use Rattle.tftp_ends.specs.declared.terms.Reply.TheVariants.{NoReply, Plain}
 use Rattle.tftp_ends.proofs.Defaults.{default_blksize}

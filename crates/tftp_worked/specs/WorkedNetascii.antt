@@ -1,5 +1,5 @@
 -- Captures of a read in netascii, whose wire is a text that reads as the file (RFC 1350, section 1; RFC 764).
-use Rattle.std.specs.Prelude.{ℕ, List, [], ◌∷◌, ◌++◌, codes}
+use Rattle.std.specs.Prelude.{List, [], ◌∷◌, ◌++◌, codes}
 use Rattle.tftp_packet.specs.declared.kinds.Side.TheVariants.{Get}
 use Rattle.tftp_packet.specs.declared.kinds.Mode.TheVariants.{Netascii}
 use Rattle.tftp_ends.specs.CaptureText.{Datagram}
