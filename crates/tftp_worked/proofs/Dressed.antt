@@ -1,6 +1,6 @@
--- Main datagrams dress a view, by computation.
-use Rattle.std.proofs.Common.{◌≡◌, ℕ, ◌==◌, ◌&&◌, ◌||◌, Bool, true, false, ◌⊎◌, List, [], ◌∷◌, Any, map as each, reverse, inl, inr, refl, sym, subst}
-use Rattle.std.proofs.lemmas.Bool.{and_parts, or_cases, eqb-true, false≢true}
+-- Datagrams with their parts dress a view, by computation.
+use Rattle.std.proofs.Common.{◌≡◌, ℕ, ◌==◌, ◌&&◌, ◌||◌, not, Bool, true, false, ◌⊎◌, List, [], ◌∷◌, Any, map as each, reverse, inl, inr, refl, sym, subst, ap, ◌∙◌}
+use Rattle.std.proofs.lemmas.Bool.{and_parts, or_cases, eqb-true, eq-eqb, false≢true}
 use Rattle.std.proofs.lemmas.Slice.Eq.{bytes_eq-Decides}
 use Rattle.std.specs.Str.{bytes_eq}
 use Rattle.tftp_packet.specs.Spelling.{Spells}
@@ -9,15 +9,16 @@ use Rattle.tftp_packet.specs.declared.kinds.End.{End}
 use Rattle.tftp_packet.specs.declared.kinds.End.TheVariants.{Client, Server}
 use Rattle.tftp_packet.specs.declared.kinds.Dir.{Dir}
 use Rattle.tftp_packet.specs.declared.kinds.Dir.TheVariants.{In, Out}
-use Rattle.tftp_ends.specs.CaptureText.{Datagram, Header, peer_of}
+use Rattle.tftp_ends.specs.CaptureText.{Datagram, Header, PeerId, peer_of}
 use Rattle.tftp_ends.specs.Meaning.{Meaning, blksize_of, request_of}
 use Rattle.tftp_ends.specs.Blocks.{block}
-use Rattle.tftp_ends.specs.Ports.{same_peer}
+use Rattle.tftp_ends.specs.Ports.{same_peer, SaysUnknownId}
+use Rattle.tftp_ends.proofs.HistoryTests.{same_end}
 use Rattle.tftp_ends.specs.Machines.{MachinePacket, Req, Oack, Data, Ack, Error, Deed, message_of, History}
-use Rattle.tftp_law.specs.Sides.{server_port, from_server}
-use Rattle.tftp_law.specs.Dress.{Main, Placed, Division, datagrams_of, view_in, TransferIds, HasClientId, HasServerId, GoesToServer, dir_of, packet_of, HaveParts, IsDressed}
+use Rattle.tftp_law.specs.Sides.{server_port, from_server, BeginsAsRequest}
+use Rattle.tftp_law.specs.Dress.{Part, Main, Stray, StrayAnswer, Placed, Division, datagrams_of, view_in, TransferIds, HasClientId, HasServerId, GoesToServer, dir_of, packet_of, IsMain, HasPart, HaveParts, IsDressed}
 use Rattle.tftp_law.proofs.Divided.{any_first, any_later}
-use Rattle.tftp_law.proofs.RouteTests.{is_same}
+use Rattle.tftp_law.proofs.RouteTests.{apart_is, is_same}
 
 -- a datagram with the deed that it carries
 abbrev pub Carried : Type 0
@@ -46,19 +47,49 @@ abbrev pub asks_host : End → TransferIds → Datagram → Bool
 asks_host Client ids d = bytes_eq d.host ids.asked
 asks_host Server ids d = true
 
-abbrev pub came : Dir → List Carried → Bool
-came dir [] = false
-came dir (c ∷ cs) = same_dir c.0.dir dir || came dir cs
+-- ---- what came before
 
-abbrev pub goes_to_server : Header → TransferIds → List Carried → Datagram → MachinePacket → Bool
+abbrev pub came : Dir → Division → Bool
+came dir [] = false
+came dir (p ∷ ps) = same_dir p.datagram.dir dir || came dir ps
+
+abbrev pub is_main : Part → Bool
+is_main (Main deed) = true
+is_main _ = false
+
+abbrev pub is_stray : Part → Bool
+is_stray Stray = true
+is_stray _ = false
+
+abbrev pub main_came : Dir → Division → Bool
+main_came dir [] = false
+main_came dir (p ∷ ps) = (is_main p.part && same_dir p.datagram.dir dir) || main_came dir ps
+
+abbrev pub strayed_from : PeerId → Division → Bool
+strayed_from peer [] = false
+strayed_from peer (p ∷ ps) = (is_stray p.part && same_peer (peer_of p.datagram) peer) || strayed_from peer ps
+
+-- ---- the part of a datagram
+
+abbrev pub goes_to_server : Header → TransferIds → Division → Datagram → MachinePacket → Bool
 goes_to_server header ids earlier d Req = (server_port header.named d == header.service) && asks_host header.named ids d
 goes_to_server header ids earlier d _ = has_server_id header.named ids d && (same_dir d.dir (from_server header.named) || came (from_server header.named) earlier)
 
-abbrev pub are_main : Header → TransferIds → List Carried → Bool
-are_main header ids [] = true
-are_main header ids (c ∷ earlier) =
-    same_dir c.0.dir (dir_of c.1)
-    && (has_client_id header.named ids c.0 && (goes_to_server header ids earlier c.0 (packet_of c.1) && are_main header ids earlier))
+-- a server that goes on from the service port is asked there by others
+abbrev pub no_other_asks : Header → TransferIds → Bool
+no_other_asks header ids = not (same_end header.named Server) || not (ids.own == header.service)
+
+abbrev pub is_part : Header → TransferIds → Division → Datagram → Part → Bool
+is_part header ids earlier d (Main deed) =
+    same_dir d.dir (dir_of deed) && (has_client_id header.named ids d && goes_to_server header ids earlier d (packet_of deed))
+is_part header ids earlier d Stray =
+    same_dir d.dir In
+    && ((d.local == ids.own) && (not (same_peer (peer_of d) ids.peer) && (main_came (from_server header.named) earlier && no_other_asks header ids)))
+is_part header ids earlier d StrayAnswer = same_dir d.dir Out && ((d.local == ids.own) && strayed_from (peer_of d) earlier)
+
+abbrev pub are_parts : Header → TransferIds → Division → Bool
+are_parts header ids [] = true
+are_parts header ids (p ∷ earlier) = is_part header ids earlier p.datagram p.part && are_parts header ids earlier
 
 -- what a packet says, in blocks of b bytes
 abbrev pub says : ℕ → Meaning → List ℕ → MachinePacket → Message
@@ -68,9 +99,17 @@ says b m wire (Data k) = Message.Data k (block b wire k)
 says b m wire (Ack j) = Message.Ack j
 says b m wire (Error code text) = Message.Error code text
 
-abbrev pub AllSpell : ℕ → Meaning → List ℕ → List Carried → Type 0
-AllSpell b m wire [] = Unit {0}
-AllSpell b m wire (c ∷ cs) = Spells c.0.payload (says b m wire (packet_of c.1)) × AllSpell b m wire cs
+-- what a datagram spells as its part
+abbrev pub SpellsAs : ℕ → Meaning → List ℕ → Datagram → Part → Type 0
+SpellsAs b m wire d (Main deed) = Spells d.payload (says b m wire (packet_of deed))
+SpellsAs b m wire d Stray = Unit {0}
+SpellsAs b m wire d StrayAnswer = SaysUnknownId d
+
+abbrev pub AllSpellAs : ℕ → Meaning → List ℕ → Division → Type 0
+AllSpellAs b m wire [] = Unit {0}
+AllSpellAs b m wire (p ∷ ps) = SpellsAs b m wire p.datagram p.part × AllSpellAs b m wire ps
+
+-- ---- what the tests tell
 
 says_it : (m : Meaning) (wire : List ℕ) (p : MachinePacket) → says (blksize_of m) m wire p ≡ message_of m wire p
 says_it m wire Req = refl
@@ -97,28 +136,55 @@ asks_is : (e : End) (ids : TransferIds) (d : Datagram) → asks_host e ids d ≡
 asks_is Client ids d t e = (bytes_eq-Decides d.host ids.asked).0 t
 asks_is Server ids d t e = absurd (cc)
 
-came_is : (dir : Dir) (cs : List Carried) → came dir cs ≡ true → Any (λ (p : Placed). p.datagram.dir ≡ dir) (division_of cs)
-came_is dir [] e = absurd (false≢true e)
-came_is dir (c ∷ cs) e = elim (or_cases (same_dir c.0.dir dir) (came dir cs) e) [
-  | inl here ↦ any_first (λ (p : Placed). p.datagram.dir ≡ dir) (main c) (division_of cs) (dir_is c.0.dir dir here)
-  | inr more ↦ any_later (λ (p : Placed). p.datagram.dir ≡ dir) (main c) (division_of cs) (came_is dir cs more)
+any_came : (dir : Dir) (ps : Division) → came dir ps ≡ true → Any (λ (p : Placed). p.datagram.dir ≡ dir) ps
+any_came dir [] e = absurd (false≢true e)
+any_came dir (p ∷ ps) e = elim (or_cases (same_dir p.datagram.dir dir) (came dir ps) e) [
+  | inl here ↦ any_first (λ (q : Placed). q.datagram.dir ≡ dir) p ps (dir_is p.datagram.dir dir here)
+  | inr more ↦ any_later (λ (q : Placed). q.datagram.dir ≡ dir) p ps (any_came dir ps more)
+]
+
+main_is : (part : Part) → is_main part ≡ true → IsMain part
+main_is (Main deed) e = (deed, refl)
+main_is Stray e = absurd (false≢true e)
+main_is StrayAnswer e = absurd (false≢true e)
+
+stray_is : (part : Part) → is_stray part ≡ true → part ≡ Stray
+stray_is Stray e = refl
+stray_is (Main deed) e = absurd (false≢true e)
+stray_is StrayAnswer e = absurd (false≢true e)
+
+any_main : (dir : Dir) (ps : Division) → main_came dir ps ≡ true → Any (λ (p : Placed). IsMain p.part × (p.datagram.dir ≡ dir)) ps
+any_main dir [] e = absurd (false≢true e)
+any_main dir (p ∷ ps) e = elim (or_cases (is_main p.part && same_dir p.datagram.dir dir) (main_came dir ps) e) [
+  | inl here ↦
+      let parts = and_parts (is_main p.part) (same_dir p.datagram.dir dir) here in
+      any_first (λ (q : Placed). IsMain q.part × (q.datagram.dir ≡ dir)) p ps (main_is p.part parts.0, dir_is p.datagram.dir dir parts.1)
+  | inr more ↦ any_later (λ (q : Placed). IsMain q.part × (q.datagram.dir ≡ dir)) p ps (any_main dir ps more)
+]
+
+any_stray : (peer : PeerId) (ps : Division) → strayed_from peer ps ≡ true → Any (λ (p : Placed). (p.part ≡ Stray) × (peer_of p.datagram ≡ peer)) ps
+any_stray peer [] e = absurd (false≢true e)
+any_stray peer (p ∷ ps) e = elim (or_cases (is_stray p.part && same_peer (peer_of p.datagram) peer) (strayed_from peer ps) e) [
+  | inl here ↦
+      let parts = and_parts (is_stray p.part) (same_peer (peer_of p.datagram) peer) here in
+      any_first (λ (q : Placed). (q.part ≡ Stray) × (peer_of q.datagram ≡ peer)) p ps (stray_is p.part parts.0, is_same (peer_of p.datagram) peer parts.1)
+  | inr more ↦ any_later (λ (q : Placed). (q.part ≡ Stray) × (peer_of q.datagram ≡ peer)) p ps (any_stray peer ps more)
 ]
 
 -- what is no request
-other_goes : (header : Header) (ids : TransferIds) (earlier : List Carried) (d : Datagram)
+other_goes : (header : Header) (ids : TransferIds) (earlier : Division) (d : Datagram)
     → (has_server_id header.named ids d && (same_dir d.dir (from_server header.named) || came (from_server header.named) earlier)) ≡ true
-    → HasServerId header.named ids d × ((d.dir ≡ from_server header.named) ⊎ Any (λ (p : Placed). p.datagram.dir ≡ from_server header.named) (division_of earlier))
+    → HasServerId header.named ids d × ((d.dir ≡ from_server header.named) ⊎ Any (λ (p : Placed). p.datagram.dir ≡ from_server header.named) earlier)
 other_goes header ids earlier d e =
     let parts = and_parts (has_server_id header.named ids d) (same_dir d.dir (from_server header.named) || came (from_server header.named) earlier) e in (
       server_is header.named ids d parts.0,
       elim (or_cases (same_dir d.dir (from_server header.named)) (came (from_server header.named) earlier) parts.1) [
         | inl now ↦ inl (dir_is d.dir (from_server header.named) now)
-        | inr before ↦ inr (came_is (from_server header.named) earlier before)
+        | inr before ↦ inr (any_came (from_server header.named) earlier before)
       ],
     )
 
-goes_is : (header : Header) (ids : TransferIds) (earlier : List Carried) (d : Datagram) (p : MachinePacket) → goes_to_server header ids earlier d p ≡ true
-    → GoesToServer header ids (division_of earlier) d p
+goes_is : (header : Header) (ids : TransferIds) (earlier : Division) (d : Datagram) (p : MachinePacket) → goes_to_server header ids earlier d p ≡ true → GoesToServer header ids earlier d p
 goes_is header ids earlier d Req e =
     let parts = and_parts (server_port header.named d == header.service) (asks_host header.named ids d) e in
     (eqb-true (server_port header.named d) header.service parts.0, asks_is header.named ids d parts.1)
@@ -127,29 +193,71 @@ goes_is header ids earlier d (Data k) e = other_goes header ids earlier d e
 goes_is header ids earlier d (Ack j) e = other_goes header ids earlier d e
 goes_is header ids earlier d (Error code text) e = other_goes header ids earlier d e
 
-parts_are : (header : Header) (m : Meaning) (wire : List ℕ) (ids : TransferIds) (cs : List Carried) → are_main header ids cs ≡ true → AllSpell (blksize_of m) m wire cs
-    → HaveParts header m wire ids (division_of cs)
-parts_are header m wire ids [] e s = tt
-parts_are header m wire ids (c ∷ cs) e s =
-    let a = and_parts (same_dir c.0.dir (dir_of c.1)) (has_client_id header.named ids c.0 && (goes_to_server header ids cs c.0 (packet_of c.1) && are_main header ids cs)) e in
-    let b = and_parts (has_client_id header.named ids c.0) (goes_to_server header ids cs c.0 (packet_of c.1) && are_main header ids cs) a.1 in
-    let d = and_parts (goes_to_server header ids cs c.0 (packet_of c.1)) (are_main header ids cs) b.1 in (
-      record {
-        dir = dir_is c.0.dir (dir_of c.1) a.0;
-        client = client_is header.named ids c.0 b.0;
-        server = goes_is header ids cs c.0 (packet_of c.1) d.0;
-        spells = subst (Spells c.0.payload) (says_it m wire (packet_of c.1)) s.0;
-      },
-      parts_are header m wire ids cs d.1 s.1,
-    )
+-- what is not, is false
+not_is : (b : Bool) → not b ≡ true → b ≡ false
+not_is true e = sym e
+not_is false e = refl
 
-pub dressed_by : (header : Header) (m : Meaning) (wire : List ℕ) (b : ℕ) (ids : TransferIds) (cs : List Carried) (view : History) (datagrams : List Datagram)
-    → blksize_of m ≡ b → are_main header ids cs ≡ true → AllSpell b m wire cs → datagrams_of (division_of cs) ≡ reverse datagrams → view_in (division_of cs) ≡ view
+none_else_asks : (header : Header) (ids : TransferIds) (d : Datagram) → no_other_asks header ids ≡ true → header.named ≡ Server → ids.own ≡ header.service → BeginsAsRequest d.payload → ⊥
+none_else_asks header ids d e named own asks = elim (or_cases (not (same_end header.named Server)) (not (ids.own == header.service)) e) [
+  | inl client ↦ false≢true (sym (not_is (same_end header.named Server) client) ∙ ap (λ x. same_end x Server) named)
+  | inr elsewhere ↦ false≢true (sym (not_is (ids.own == header.service) elsewhere) ∙ eq-eqb ids.own header.service own)
+]
+
+part_is : (header : Header) (m : Meaning) (wire : List ℕ) (ids : TransferIds) (earlier : Division) (d : Datagram) (part : Part) → is_part header ids earlier d part ≡ true → SpellsAs (blksize_of m) m wire d part
+    → HasPart header m wire ids earlier d part
+part_is header m wire ids earlier d (Main deed) e s =
+    let a = and_parts (same_dir d.dir (dir_of deed)) (has_client_id header.named ids d && goes_to_server header ids earlier d (packet_of deed)) e in
+    let b = and_parts (has_client_id header.named ids d) (goes_to_server header ids earlier d (packet_of deed)) a.1 in
+    record {
+      dir = dir_is d.dir (dir_of deed) a.0;
+      client = client_is header.named ids d b.0;
+      server = goes_is header ids earlier d (packet_of deed) b.1;
+      spells = subst (Spells d.payload) (says_it m wire (packet_of deed)) s;
+    }
+part_is header m wire ids earlier d Stray e s =
+    let a = and_parts (same_dir d.dir In) ((d.local == ids.own) && (not (same_peer (peer_of d) ids.peer) && (main_came (from_server header.named) earlier && no_other_asks header ids))) e in
+    let b = and_parts (d.local == ids.own) (not (same_peer (peer_of d) ids.peer) && (main_came (from_server header.named) earlier && no_other_asks header ids)) a.1 in
+    let c = and_parts (not (same_peer (peer_of d) ids.peer)) (main_came (from_server header.named) earlier && no_other_asks header ids) b.1 in
+    let f = and_parts (main_came (from_server header.named) earlier) (no_other_asks header ids) c.1 in
+    record {
+      dir = dir_is d.dir In a.0;
+      here = eqb-true d.local ids.own b.0;
+      elsewhere = apart_is (peer_of d) ids.peer (not_is (same_peer (peer_of d) ids.peer) c.0);
+      after = any_main (from_server header.named) earlier f.0;
+      no_request = none_else_asks header ids d f.1;
+    }
+part_is header m wire ids earlier d StrayAnswer e s =
+    let a = and_parts (same_dir d.dir Out) ((d.local == ids.own) && strayed_from (peer_of d) earlier) e in
+    let b = and_parts (d.local == ids.own) (strayed_from (peer_of d) earlier) a.1 in
+    record {
+      dir = dir_is d.dir Out a.0;
+      here = eqb-true d.local ids.own b.0;
+      there = any_stray (peer_of d) earlier b.1;
+      spells = s;
+    }
+
+parts_are : (header : Header) (m : Meaning) (wire : List ℕ) (ids : TransferIds) (ps : Division) → are_parts header ids ps ≡ true → AllSpellAs (blksize_of m) m wire ps → HaveParts header m wire ids ps
+parts_are header m wire ids [] e s = tt
+parts_are header m wire ids (p ∷ ps) e s =
+    let a = and_parts (is_part header ids ps p.datagram p.part) (are_parts header ids ps) e in
+    (part_is header m wire ids ps p.datagram p.part a.0 s.0, parts_are header m wire ids ps a.1 s.1)
+
+-- ---- and so they dress it
+
+pub dressed_as : (header : Header) (m : Meaning) (wire : List ℕ) (b : ℕ) (ids : TransferIds) (division : Division) (view : History) (datagrams : List Datagram)
+    → blksize_of m ≡ b → are_parts header ids division ≡ true → AllSpellAs b m wire division → datagrams_of division ≡ reverse datagrams → view_in division ≡ view
     → IsDressed header m wire view datagrams
-dressed_by header m wire b ids cs view datagrams size e s whole main_is = record {
+dressed_as header m wire b ids division view datagrams size e s whole main_is = record {
   ids = ids;
-  division = division_of cs;
+  division = division;
   whole = whole;
   main = main_is;
-  parts = parts_are header m wire ids cs e (subst (λ n. AllSpell n m wire cs) (sym size) s);
+  parts = parts_are header m wire ids division e (subst (λ n. AllSpellAs n m wire division) (sym size) s);
 }
+
+-- where all are main ones
+pub dressed_by : (header : Header) (m : Meaning) (wire : List ℕ) (b : ℕ) (ids : TransferIds) (cs : List Carried) (view : History) (datagrams : List Datagram)
+    → blksize_of m ≡ b → are_parts header ids (division_of cs) ≡ true → AllSpellAs b m wire (division_of cs) → datagrams_of (division_of cs) ≡ reverse datagrams → view_in (division_of cs) ≡ view
+    → IsDressed header m wire view datagrams
+dressed_by header m wire b ids cs = dressed_as header m wire b ids (division_of cs)

@@ -162,10 +162,10 @@ other_request_refused = record {
   };
 }
 
-abbrev served : Spelled
+abbrev pub served : Spelled
 served = (is_asked_for_a, request)
 
-served_passes : OneEnded at_server (datagrams (served ∷ []))
+pub served_passes : OneEnded at_server (datagrams (served ∷ []))
 served_passes = one_more at_server None [] served tt request_spelled refl refl refl tt
 
 pub other_client_refused : IsRefused at_server (reverse only_is_asked) third_host_asks Rule.ForeignPort

@@ -28,3 +28,10 @@ mod ErrorVerdicts
 mod TextsRead
 mod TextVerdicts
 mod TextsPrinted
+mod Shown
+mod LinesShown
+mod Malformed
+mod Strays
+mod OneOption
+mod Offers
+mod ByRules

@@ -9,10 +9,11 @@ use Rattle.tftp_packet.specs.OptionMap.{OptionMap, Num, lower, value_of, is_know
 use Rattle.tftp_packet.specs.Message.{Message}
 use Rattle.tftp_ends.specs.CaptureText.{Datagram}
 use Rattle.tftp_packet.specs.Written.{IsString, AreStrings, Pair, pair_strings, AreNamed, SameName, AreApart, map_of}
-use Rattle.tftp_packet.specs.Spelling.{Spells, side_opcode}
+use Rattle.tftp_packet.specs.Spelling.{Spells, mode_name, side_opcode}
 use Rattle.tftp_packet.specs.declared.kinds.Side.{Side}
+use Rattle.tftp_packet.specs.declared.kinds.Mode.{Mode}
 use Rattle.tftp_packet.specs.declared.kinds.Mode.TheVariants.{Octet}
-use Rattle.tftp_worked.specs.WorkedWindows.{request, oack, block, ack, by_eight, by_four, by_two}
+use Rattle.tftp_worked.specs.WorkedWindows.{request, request_for, oack, block, ack, by_eight, by_four, by_two}
 use Rattle.tftp_worked.specs.WorkedErrors.{error}
 use Rattle.tftp_ends.specs.Worked.{eight_a_block}
 use Rattle.tftp_ends.specs.WorkedWindows.{eight_by_four}
@@ -72,32 +73,40 @@ apart_are (pair ∷ pairs) e =
 abbrev pub pairs_ok : List Pair → Bool
 pairs_ok pairs = list_all (λ (pair : Pair). is_some pair.0) pairs && are_apart pairs
 
+abbrev pub request_for_ok : List ℕ → List ℕ → Side → List Pair → Bool
+request_for_ok name mode_text side pairs =
+    all_bytes (request_for name mode_text (side_opcode side) pairs)
+    && (nat_le (length (request_for name mode_text (side_opcode side) pairs)) 512 && (list_all is_string (name ∷ mode_text ∷ pair_strings pairs) && pairs_ok pairs))
+
+pub request_for_spells : (name mode_text : List ℕ) (mode : Mode) (side : Side) (pairs : List Pair) (options : OptionMap) → request_for_ok name mode_text side pairs ≡ true → lower mode_text ≡ mode_name mode
+    → options ≡ map_of pairs → Spells (request_for name mode_text (side_opcode side) pairs) (Message.Request (record { side = side; name = name; mode = mode; options = options }))
+request_for_spells name mode_text mode side pairs options e named is =
+    let payload = request_for name mode_text (side_opcode side) pairs in
+    let strung = list_all is_string (name ∷ mode_text ∷ pair_strings pairs) && pairs_ok pairs in
+    let a = and_parts (all_bytes payload) (nat_le (length payload) 512 && strung) e in
+    let b = and_parts (nat_le (length payload) 512) strung a.1 in
+    let c = and_parts (list_all is_string (name ∷ mode_text ∷ pair_strings pairs)) (pairs_ok pairs) b.1 in
+    let d = and_parts (list_all (λ (pair : Pair). is_some pair.0) pairs) (are_apart pairs) c.1 in (
+      bytes_are payload a.0,
+      record {
+        mode_text = mode_text;
+        pairs = pairs;
+        bytes = refl;
+        strung = strings_are (name ∷ mode_text ∷ pair_strings pairs) c.0;
+        named = named_are pairs d.0;
+        apart = apart_are pairs d.1;
+        mode = named;
+        options = is;
+        short = λ some. leb-true (length payload) 512 b.0;
+      },
+    )
+
 abbrev pub request_ok : Side → List Pair → Bool
-request_ok side pairs =
-    all_bytes (request (side_opcode side) pairs)
-    && (nat_le (length (request (side_opcode side) pairs)) 512 && (list_all is_string (codes "a" ∷ codes "octet" ∷ pair_strings pairs) && pairs_ok pairs))
+request_ok side pairs = request_for_ok (codes "a") (codes "octet") side pairs
 
 pub request_spells : (side : Side) (pairs : List Pair) (options : OptionMap) → request_ok side pairs ≡ true → options ≡ map_of pairs
     → Spells (request (side_opcode side) pairs) (Message.Request (record { side = side; name = codes "a"; mode = Octet; options = options }))
-request_spells side pairs options e is =
-    let strung = list_all is_string (codes "a" ∷ codes "octet" ∷ pair_strings pairs) && pairs_ok pairs in
-    let a = and_parts (all_bytes (request (side_opcode side) pairs)) (nat_le (length (request (side_opcode side) pairs)) 512 && strung) e in
-    let b = and_parts (nat_le (length (request (side_opcode side) pairs)) 512) strung a.1 in
-    let c = and_parts (list_all is_string (codes "a" ∷ codes "octet" ∷ pair_strings pairs)) (pairs_ok pairs) b.1 in
-    let d = and_parts (list_all (λ (pair : Pair). is_some pair.0) pairs) (are_apart pairs) c.1 in (
-      bytes_are (request (side_opcode side) pairs) a.0,
-      record {
-        mode_text = codes "octet";
-        pairs = pairs;
-        bytes = refl;
-        strung = strings_are (codes "a" ∷ codes "octet" ∷ pair_strings pairs) c.0;
-        named = named_are pairs d.0;
-        apart = apart_are pairs d.1;
-        mode = refl;
-        options = is;
-        short = λ some. leb-true (length (request (side_opcode side) pairs)) 512 b.0;
-      },
-    )
+request_spells side pairs options e is = request_for_spells (codes "a") (codes "octet") Octet side pairs options e refl is
 
 abbrev pub oack_ok : List Pair → Bool
 oack_ok pairs = all_bytes (oack pairs) && (list_all is_string (pair_strings pairs) && pairs_ok pairs)

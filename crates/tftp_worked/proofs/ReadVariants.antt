@@ -69,7 +69,7 @@ stray_is_shown = record {
   shown = record { seen = seen_stray; complete = two_bytes_complete };
 }
 
-abbrev server_ids : TransferIds
+abbrev pub server_ids : TransferIds
 server_ids = record { own = 3000; peer = record { host = client_host; port = 2000 }; asked = [] }
 
 abbrev asked : Placed

@@ -40,7 +40,7 @@ plain_asks = (asks_for_a, Message.Request asked)
 abbrev pub plain_hi : Spelled
 plain_hi = (brings_hi, Message.Data 1 (codes "hi"))
 
-abbrev stray : Spelled
+abbrev pub stray : Spelled
 stray = (comes_from_elsewhere, Message.Data 1 (codes "hi"))
 
 pub plain_asked : OneEnded at_client (datagrams (plain_asks ∷ []))
@@ -49,7 +49,7 @@ plain_asked = one_more at_client None [] plain_asks tt request_spelled refl refl
 pub plain_begun : OneEnded at_client (datagrams (plain_hi ∷ plain_asks ∷ []))
 plain_begun = one_more at_client (Some (plain_terms at_client Get NoReply)) (plain_asks ∷ []) plain_hi (request_spelled, tt) hi_spelled refl refl refl plain_asked
 
-astray : OneEnded at_client (datagrams (stray ∷ plain_hi ∷ plain_asks ∷ []))
+pub astray : OneEnded at_client (datagrams (stray ∷ plain_hi ∷ plain_asks ∷ []))
 astray = one_more at_client (Some (plain_terms at_client Get Plain)) (plain_hi ∷ plain_asks ∷ []) stray (hi_spelled, (request_spelled, tt)) hi_spelled refl refl refl plain_begun
 
 pub stray_refused : IsRefused at_client (reverse before_answering) acknowledges_stray Rule.StrayAnswer

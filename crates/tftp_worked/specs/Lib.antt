@@ -4,3 +4,6 @@ pub mod WorkedRules
 pub mod WorkedHosts
 pub mod WorkedErrors
 pub mod WorkedTexts
+pub mod WorkedNetascii
+pub mod WorkedStrays
+pub mod WorkedOffers

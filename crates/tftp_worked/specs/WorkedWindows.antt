@@ -6,10 +6,13 @@ use Rattle.tftp_packet.specs.declared.kinds.Dir.TheVariants.{In, Out}
 use Rattle.tftp_ends.specs.CaptureText.{Datagram, Header}
 use Rattle.tftp_worked.specs.Worked.{server_host, client_host}
 
--- payloads: a request for "a" in mode "octet", an OACK, a block and an ACK with a number of one byte (RFC 1350,
--- section 5; RFC 2347)
+-- payloads: a request by its name, mode and options, one for "a" in mode "octet", an OACK, a block and an ACK with a
+-- number of one byte (RFC 1350, section 5; RFC 2347)
+abbrev pub request_for : List ℕ → List ℕ → ℕ → List Pair → List ℕ
+request_for name mode opcode pairs = 0 ∷ opcode ∷ strings (name ∷ mode ∷ pair_strings pairs)
+
 abbrev pub request : ℕ → List Pair → List ℕ
-request opcode pairs = 0 ∷ opcode ∷ strings (codes "a" ∷ codes "octet" ∷ pair_strings pairs)
+request opcode pairs = request_for (codes "a") (codes "octet") opcode pairs
 
 abbrev pub oack : List Pair → List ℕ
 oack pairs = 0 ∷ 6 ∷ strings (pair_strings pairs)

@@ -4,6 +4,8 @@
 
 pub mod worked_cases;
 pub mod worked_hosts;
+pub mod worked_offers;
 pub mod worked_rules;
+pub mod worked_strays;
 pub mod worked_texts;
 pub mod worked_verdicts;

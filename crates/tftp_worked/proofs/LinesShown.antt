@@ -1,0 +1,110 @@
+-- The worked reads in netascii are shown.
+use Rattle.std.proofs.Common.{◌≡◌, ◌≢◌, ℕ, ◌++◌, true, not, ◌==◌, List, [], ◌∷◌, codes, refl, subst, ap, ◌∙◌, arith}
+use Rattle.std.proofs.lemmas.Bool.{true≢false, false≢true}
+use Rattle.std.proofs.lemmas.List.Elements.{All-from_recursion}
+use Rattle.tftp_packet.specs.Message.{Message}
+use Rattle.tftp_packet.specs.Spelling.{Spells}
+use Rattle.tftp_packet.specs.declared.kinds.Side.TheVariants.{Get}
+use Rattle.tftp_packet.specs.declared.kinds.Mode.TheVariants.{Netascii}
+use Rattle.tftp_packet.specs.declared.kinds.End.TheVariants.{Client}
+use Rattle.tftp_netascii.specs.Netascii.{Reads}
+use Rattle.tftp_netascii.proofs.CanonicalLemmas.{Reads-canonical}
+use Rattle.tftp_netascii.proofs.RunReads.{run_to_end}
+use Rattle.tftp_ends.specs.Blocks.{block_count}
+use Rattle.tftp_ends.specs.Meaning.{request_of}
+use Rattle.tftp_ends.specs.Machines.{Sent, Took, Req, Oack, Data, Ack}
+use Rattle.tftp_ends.specs.Runs.{IsView, IsComplete}
+use Rattle.tftp_ends.specs.Worked.{eight_a_block, ten_bytes_view, ten_bytes_steps}
+use Rattle.tftp_ends.proofs.Computed.{Plan, IsPlan, run_is, complete_is}
+use Rattle.tftp_ends.proofs.WorkedMore.{blocks_of_eight, one_at_a_time, something_agreed}
+use Rattle.tftp_law.specs.Dress.{IsDressed}
+use Rattle.tftp_law.specs.Fits.{Fits, IsWritable}
+use Rattle.tftp_law.specs.Law.{Shows}
+use Rattle.tftp_worked.specs.Worked.{at_client}
+use Rattle.tftp_worked.specs.WorkedWindows.{oack, block, ack, by_eight, goes, comes}
+use Rattle.tftp_worked.specs.WorkedNetascii.{two_lines, asks_for_lines, read_of_lines, read_of_bare_lines}
+use Rattle.tftp_worked.proofs.Payloads.{request_for_spells, oack_spells, data_spells, ack_spells, eight_is, all_from}
+use Rattle.tftp_worked.proofs.Dressed.{Carried, dressed_by}
+use Rattle.tftp_worked.proofs.ReadShown.{ids}
+use Rattle.tftp_worked.proofs.Shown.{shown_by}
+use Rattle.tftp_worked.proofs.WindowsShown.{eight_may_be_agreed}
+
+-- two blocks of eight in lock step, whatever is in them
+
+abbrev plan : Plan
+plan = record { agreed = true; windowsize = 1; blocks = 2 }
+
+module _ (wire : List ℕ) (reads : Reads wire two_lines.file) (two : block_count 8 wire ≡ 2) where
+  is_plan : IsPlan two_lines wire plan
+  is_plan = record {
+    something = λ _. something_agreed;
+    nothing = λ e. absurd (true≢false e);
+    windowsize = one_at_a_time;
+    blocks = ap (λ b. block_count b wire) blocks_of_eight ∙ two;
+  }
+
+  fit : Fits two_lines wire
+  fit = record {
+    may_agree = eight_may_be_agreed (request_of two_lines) refl;
+    reads = reads;
+    size = λ mode size e. absurd (cc);
+    numbered = omega (arith, ap (λ b. block_count b wire) blocks_of_eight, two);
+  }
+
+  writable : IsWritable two_lines
+  writable = omega (arith, ap (λ b. block_count b (codes "abcdefg" ++ 13 ∷ 10 ∷ codes "h")) blocks_of_eight)
+
+  run : IsView two_lines wire Client ten_bytes_view
+  run = (ten_bytes_steps, run_is two_lines wire plan ten_bytes_steps is_plan refl, refl)
+
+  complete : IsComplete two_lines wire Client ten_bytes_view
+  complete = complete_is two_lines wire plan Client ten_bytes_view is_plan refl
+
+request_spells : Spells asks_for_lines.payload (Message.Request (request_of two_lines))
+request_spells = request_for_spells (codes "a") (codes "netascii") Netascii Get by_eight eight_a_block refl refl eight_is
+
+agrees : Spells (oack by_eight) (Message.Oack eight_a_block)
+agrees = oack_spells by_eight eight_a_block refl eight_is
+
+abbrev carried : List ℕ → List ℕ → List Carried
+carried first second =
+    (goes (ack 2), Sent (Ack 2))
+    ∷ (comes (block 2 second), Took (Data 2))
+    ∷ (goes (ack 1), Sent (Ack 1))
+    ∷ (comes (block 1 first), Took (Data 1))
+    ∷ (goes (ack 0), Sent (Ack 0))
+    ∷ (comes (oack by_eight), Took Oack)
+    ∷ (asks_for_lines, Sent Req)
+    ∷ []
+
+-- ---- a line end of two bytes
+
+abbrev wire : List ℕ
+wire = codes "abcdefg" ++ 13 ∷ 10 ∷ codes "h"
+
+wire_reads : Reads wire two_lines.file
+wire_reads = Reads-canonical two_lines.file
+
+dressed : IsDressed at_client two_lines wire ten_bytes_view read_of_lines
+dressed = dressed_by at_client two_lines wire 8 ids (carried (codes "abcdefg" ++ 13 ∷ []) (10 ∷ codes "h")) ten_bytes_view read_of_lines blocks_of_eight refl
+    (ack_spells 2 refl, (data_spells 2 (10 ∷ codes "h") refl, (ack_spells 1 refl, (data_spells 1 (codes "abcdefg" ++ 13 ∷ []) refl, (ack_spells 0 refl, (agrees, (request_spells, tt)))))))
+    refl refl
+
+pub lines_are_shown : Shows at_client two_lines read_of_lines
+lines_are_shown = shown_by at_client two_lines wire ten_bytes_view read_of_lines (fit wire wire_reads refl) (writable wire wire_reads refl) (run wire wire_reads refl) (complete wire wire_reads refl) dressed
+
+-- ---- a line end of one byte, which reads as itself
+
+abbrev bare_wire : List ℕ
+bare_wire = codes "abcdefg" ++ 10 ∷ codes "h"
+
+bare_reads : Reads bare_wire two_lines.file
+bare_reads = run_to_end bare_wire (All-from_recursion (λ x. x ≢ 13) bare_wire (all_from (λ x. not (x == 13)) (λ x. x ≢ 13) (λ x e is. false≢true (subst (λ n. not (n == 13) ≡ true) is e)) bare_wire refl))
+
+bare_dressed : IsDressed at_client two_lines bare_wire ten_bytes_view read_of_bare_lines
+bare_dressed = dressed_by at_client two_lines bare_wire 8 ids (carried (codes "abcdefg" ++ 10 ∷ []) (codes "h")) ten_bytes_view read_of_bare_lines blocks_of_eight refl
+    (ack_spells 2 refl, (data_spells 2 (codes "h") refl, (ack_spells 1 refl, (data_spells 1 (codes "abcdefg" ++ 10 ∷ []) refl, (ack_spells 0 refl, (agrees, (request_spells, tt)))))))
+    refl refl
+
+pub bare_lines_are_shown : Shows at_client two_lines read_of_bare_lines
+bare_lines_are_shown = shown_by at_client two_lines bare_wire ten_bytes_view read_of_bare_lines (fit bare_wire bare_reads refl) (writable bare_wire bare_reads refl) (run bare_wire bare_reads refl) (complete bare_wire bare_reads refl) bare_dressed

@@ -1,0 +1,55 @@
+-- Payloads that are no packets: no earlier rule is broken than the one that they break.
+use Rattle.std.proofs.Common.{◌≡◌, ◌<◌, true, List, [], codes, reverse, inl, inr, refl, sym, ap, ◌∙◌, arith, rules}
+use Rattle.std.proofs.lemmas.Bool.{false≢true}
+use Rattle.tftp_packet.specs.Faults.{FirstFault, Holds, number}
+use Rattle.tftp_packet.specs.declared.fault.PacketFault.{PacketFault}
+use Rattle.tftp_packet.specs.declared.fault.PacketFault.TheVariants.{Short, Opcode, AckLength, MailMode}
+use Rattle.tftp_packet.proofs.RequestCases.{mode_fault}
+use Rattle.tftp_ends.specs.CaptureText.{Datagram, Header}
+use Rattle.tftp_ends.specs.Ports.{route_of, is_of_transfer}
+use Rattle.tftp_law.specs.Rules.{number_of, Broken}
+use Rattle.tftp_law.specs.OneEnded.{IsRefused}
+use Rattle.tftp_law.specs.declared.rule.Rule.{Rule}
+use Rattle.tftp_worked.specs.Worked.{at_client, read_without_its_ack}
+use Rattle.tftp_worked.specs.WorkedOffers.{acknowledges_too_long, asks_for_mail}
+use Rattle.tftp_worked.proofs.RefusedMore.{plain_begun}
+
+module _ (h : Header) (earlier : List Datagram) (d : Datagram) (routed : is_of_transfer (route_of h earlier d) ≡ true) (asked : Broken h earlier d Rule.NoRequest → ⊥) where
+  -- a datagram of the transfer breaks no rule of ports
+  pub under_malformed : (rule : Rule) → number_of rule < 5 → Broken h earlier d rule → ⊥
+  under_malformed Rule.ForeignPort low b = false≢true (sym (ap is_of_transfer b) ∙ routed)
+  under_malformed Rule.WrongPort low b = false≢true (sym (ap is_of_transfer b) ∙ routed)
+  under_malformed Rule.StrayAnswer low (inl b) = false≢true (sym (ap is_of_transfer b) ∙ routed)
+  under_malformed Rule.StrayAnswer low (inr b) = false≢true (sym (ap is_of_transfer b.0) ∙ routed)
+  under_malformed Rule.NoRequest low b = asked b
+  under_malformed _ low b = omega arith
+
+-- ---- an ACK with a byte too many
+
+too_long : FirstFault acknowledges_too_long.payload AckLength
+too_long = ((refl, λ e. omega (arith, e)), before)
+  where
+    before : (earlier : PacketFault) → number earlier < 3 → Holds earlier acknowledges_too_long.payload → ⊥
+    before Short below (inl short) = omega arith
+    before Short below (inr (inl data_is, short)) = omega arith
+    before Short below (inr (inr error_is, short)) = omega arith
+    before Opcode below (inl none) = omega arith
+    before Opcode below (inr above) = omega arith
+    before _ below x = omega arith
+
+pub ack_length_refused : IsRefused at_client (reverse read_without_its_ack) acknowledges_too_long (Rule.Malformed AckLength)
+ack_length_refused = record {
+  lawful = plain_begun;
+  broken = record { broken = (refl, too_long); first = under_malformed at_client (reverse read_without_its_ack) acknowledges_too_long refl (λ none. let e = none.0 in cc) };
+}
+
+-- ---- a request in an obsolete mode
+
+mail_mode : FirstFault asks_for_mail.payload MailMode
+mail_mode = mode_fault 1 (inl refl) (codes "a") (codes "mail") [] _ (search rules) (search rules) refl [] refl tt tt tt MailMode refl
+
+pub mail_refused : IsRefused at_client [] asks_for_mail (Rule.Malformed MailMode)
+mail_refused = record {
+  lawful = tt;
+  broken = record { broken = (refl, mail_mode); first = under_malformed at_client [] asks_for_mail refl (λ none. let e = none.1 in cc) };
+}

@@ -1,0 +1,19 @@
+use Rattle.std.proofs.Common.{refl}
+use Rattle.tftp_law.specs.declared.rule.Rule.{Rule}
+use Rattle.tftp_worked.specs.Worked.{at_client}
+use Rattle.tftp_worked.specs.WorkedOffers.{only_multicast_asked, agrees_to_multicast, only_foo_asked, agrees_to_foo}
+use Rattle.tftp_worked.proofs.ByRules.{refused_verdict}
+use Rattle.tftp_worked.proofs.Offers.{foo_refused, multicast_refused}
+use Rattle.tftp_worked.proofs.worked_offers.oacks_keep_to_the_profile.Goals as goal
+
+pub returns-clause-multicast : goal.returns-clause-multicast
+returns-clause-multicast c = multicast_refused
+
+pub returns-clause-unknown : goal.returns-clause-unknown
+returns-clause-unknown c = foo_refused
+
+pub returns-clause-multicast_verdict : goal.returns-clause-multicast_verdict
+returns-clause-multicast_verdict c = refused_verdict at_client only_multicast_asked agrees_to_multicast Rule.MulticastAgreed 2 refl refl multicast_refused
+
+pub returns-clause-unknown_verdict : goal.returns-clause-unknown_verdict
+returns-clause-unknown_verdict c = refused_verdict at_client only_foo_asked agrees_to_foo Rule.OptionOutsideProfile 2 refl refl foo_refused

@@ -1,0 +1,13 @@
+use Rattle.std.proofs.Common.{refl}
+use Rattle.tftp_law.specs.declared.rule.Rule.{Rule}
+use Rattle.tftp_worked.specs.Worked.{at_client}
+use Rattle.tftp_worked.specs.WorkedOffers.{only_512_asked, agrees_to_1024}
+use Rattle.tftp_worked.proofs.ByRules.{refused_verdict}
+use Rattle.tftp_worked.proofs.Offers.{larger_refused}
+use Rattle.tftp_worked.proofs.worked_offers.oacks_raise_no_block_size.Goals as goal
+
+pub returns-clause-larger : goal.returns-clause-larger
+returns-clause-larger c = larger_refused
+
+pub returns-clause-verdict : goal.returns-clause-verdict
+returns-clause-verdict c = refused_verdict at_client only_512_asked agrees_to_1024 Rule.OptionValue 2 refl refl larger_refused

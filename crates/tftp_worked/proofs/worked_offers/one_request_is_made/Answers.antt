@@ -1,0 +1,20 @@
+use Rattle.std.proofs.Common.{refl}
+use Rattle.tftp_law.specs.declared.rule.Rule.{Rule}
+use Rattle.tftp_worked.specs.Worked.{at_client, asks_for_a, one_block_read}
+use Rattle.tftp_worked.specs.WorkedRules.{only_asked}
+use Rattle.tftp_worked.specs.WorkedOffers.{asks_for_b}
+use Rattle.tftp_worked.proofs.ByRules.{refused_verdict}
+use Rattle.tftp_worked.proofs.Offers.{changed_refused, late_request_refused}
+use Rattle.tftp_worked.proofs.worked_offers.one_request_is_made.Goals as goal
+
+pub returns-clause-another : goal.returns-clause-another
+returns-clause-another c = changed_refused
+
+pub returns-clause-late : goal.returns-clause-late
+returns-clause-late c = late_request_refused
+
+pub returns-clause-another_verdict : goal.returns-clause-another_verdict
+returns-clause-another_verdict c = refused_verdict at_client only_asked asks_for_b Rule.RequestChanged 2 refl refl changed_refused
+
+pub returns-clause-late_verdict : goal.returns-clause-late_verdict
+returns-clause-late_verdict c = refused_verdict at_client one_block_read asks_for_a Rule.RequestAfterStart 4 refl refl late_request_refused

@@ -1,0 +1,20 @@
+use Rattle.std.proofs.Common.{refl}
+use Rattle.tftp_law.specs.declared.rule.Rule.{Rule}
+use Rattle.tftp_worked.specs.Worked.{at_client, at_server}
+use Rattle.tftp_worked.specs.WorkedRules.{before_answering}
+use Rattle.tftp_worked.specs.WorkedStrays.{answers_by_error_4, after_a_stray_at_server, server_answers_by_error_4}
+use Rattle.tftp_worked.proofs.ByRules.{refused_verdict}
+use Rattle.tftp_worked.proofs.Strays.{error_4_refused, server_error_4_refused}
+use Rattle.tftp_worked.proofs.worked_strays.another_error_answers_no_stray.Goals as goal
+
+pub returns-clause-client : goal.returns-clause-client
+returns-clause-client c = error_4_refused
+
+pub returns-clause-server : goal.returns-clause-server
+returns-clause-server c = server_error_4_refused
+
+pub returns-clause-client_verdict : goal.returns-clause-client_verdict
+returns-clause-client_verdict c = refused_verdict at_client before_answering answers_by_error_4 Rule.StrayAnswer 4 refl refl error_4_refused
+
+pub returns-clause-server_verdict : goal.returns-clause-server_verdict
+returns-clause-server_verdict c = refused_verdict at_server after_a_stray_at_server server_answers_by_error_4 Rule.StrayAnswer 4 refl refl server_error_4_refused

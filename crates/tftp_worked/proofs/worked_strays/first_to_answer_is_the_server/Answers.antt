@@ -1,0 +1,23 @@
+use Rattle.std.proofs.Common.{refl}
+use Rattle.tftp_packet.specs.declared.fault.PacketFault.TheVariants.{Short}
+use Rattle.tftp_ends.specs.Worked.{two_bytes}
+use Rattle.tftp_law.specs.declared.rule.Rule.{Rule}
+use Rattle.tftp_worked.specs.Worked.{at_client, comes_astray}
+use Rattle.tftp_worked.specs.WorkedRules.{only_asked}
+use Rattle.tftp_worked.specs.WorkedStrays.{read_from_first_port}
+use Rattle.tftp_worked.proofs.ByRules.{refused_verdict}
+use Rattle.tftp_worked.proofs.Strays.{first_is_read, first_port_is_shown}
+use Rattle.tftp_worked.proofs.Verdicts.{accepted}
+use Rattle.tftp_worked.proofs.worked_strays.first_to_answer_is_the_server.Goals as goal
+
+pub returns-clause-shown : goal.returns-clause-shown
+returns-clause-shown c = first_port_is_shown
+
+pub returns-clause-accepted : goal.returns-clause-accepted
+returns-clause-accepted c = accepted at_client two_bytes read_from_first_port first_port_is_shown
+
+pub returns-clause-read : goal.returns-clause-read
+returns-clause-read c = first_is_read
+
+pub returns-clause-verdict : goal.returns-clause-verdict
+returns-clause-verdict c = refused_verdict at_client only_asked comes_astray (Rule.Malformed Short) 2 refl refl first_is_read

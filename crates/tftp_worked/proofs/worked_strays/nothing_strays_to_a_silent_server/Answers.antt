@@ -1,0 +1,14 @@
+use Rattle.std.proofs.Common.{refl}
+use Rattle.tftp_law.specs.declared.rule.Rule.{Rule}
+use Rattle.tftp_worked.specs.Worked.{at_server}
+use Rattle.tftp_worked.specs.WorkedHosts.{only_is_asked}
+use Rattle.tftp_worked.specs.WorkedStrays.{comes_to_service}
+use Rattle.tftp_worked.proofs.ByRules.{refused_verdict}
+use Rattle.tftp_worked.proofs.Strays.{other_port_refused}
+use Rattle.tftp_worked.proofs.worked_strays.nothing_strays_to_a_silent_server.Goals as goal
+
+pub returns-clause-refused : goal.returns-clause-refused
+returns-clause-refused c = other_port_refused
+
+pub returns-clause-verdict : goal.returns-clause-verdict
+returns-clause-verdict c = refused_verdict at_server only_is_asked comes_to_service Rule.ForeignPort 2 refl refl other_port_refused
