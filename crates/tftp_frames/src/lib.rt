@@ -5,6 +5,7 @@ mod extension;
 mod fault;
 mod frame;
 mod ip;
+mod laws;
 mod link;
 mod number;
 mod packet;
@@ -13,5 +14,9 @@ mod udp;
 
 pub use fault::{FrameFault, UdpFault};
 pub use frame::read_frame;
+pub use laws::{
+    content_is_one_datagram, first_fault_is_one, frame_spells_one_packet,
+    spelled_frame_has_no_fault, worked_datagrams, worked_faults, worked_frames,
+};
 pub use packet::{Direction, Fragment, IpPacket, UdpDatagram};
 pub use udp::read_udp;
