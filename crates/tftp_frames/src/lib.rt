@@ -1,6 +1,7 @@
 //! Frames of a network's recording: the IP packets that they carry, and the UDP datagrams of these.
 #![tactic(auto)]
 
+mod address;
 mod extension;
 mod fault;
 mod frame;
@@ -12,6 +13,7 @@ mod packet;
 mod tag;
 mod udp;
 
+pub use address::write_address;
 pub use fault::{FrameFault, UdpFault};
 pub use frame::read_frame;
 pub use laws::{
