@@ -161,3 +161,33 @@ length_first network bytes upper fault header reaches udp wrong = first fault wr
     first Length short = ((header, short), below_length)
     first Cut (long, cut) = ((header, cut), below_cut long)
     first _ k = absurd k
+
+-- ---- the faults of a frame that carries no packet
+
+pub frame_first : (number : ℕ) (frame : List ℕ) (link : LinkType) → link_named number ≡ Some link → ((c : Linked) → SpellsLink link frame c → ⊥) → FirstFault number frame Frame
+frame_first number frame link named none = ((link, named, none), earlier)
+  where
+    earlier : (f : FrameFault) → place f < 2 → Holds f number frame → ⊥
+    earlier Link below h = let no : ⊥ = cc (h, named) in no
+    earlier _ below h = omega arith
+
+pub network_first : (number : ℕ) (frame : List ℕ) (c : Linked) → IsLinked number frame c → c.network ≡ None → FirstFault number frame NotIp
+network_first number frame c carried no_ip = ((c, carried, no_ip), earlier)
+  where
+    earlier : (f : FrameFault) → place f < 3 → Holds f number frame → ⊥
+    earlier Link below h = let no : ⊥ = cc (h, carried.1) in no
+    earlier Frame below (link, named, none) =
+        let same : link ≡ carried.0 = cc (named, carried.1) in
+        none c (subst (λ (l : LinkType). SpellsLink l frame c) (sym same) carried.2)
+    earlier _ below h = omega arith
+
+pub protocol_first : (network : Network) (bytes : List ℕ) (upper : Reached) → HasHeader network bytes → Reaches network bytes upper → may_be_udp network upper ≡ false → FirstIpFault network bytes Protocol
+protocol_first network bytes upper header reaches other = ((header, (upper, reaches, other)), earlier)
+  where
+    earlier : (f : FrameFault) → place f < 5 → HoldsIp f network bytes → ⊥
+    earlier Header below h = h header
+    earlier Protocol below h = omega arith
+    earlier Length below h = omega arith
+    earlier Cut below h = omega arith
+    earlier Extension below h = omega arith
+    earlier _ below h = h

@@ -7,3 +7,4 @@ pub mod Frame
 pub mod Udp
 pub mod Parts
 pub mod Faults
+pub mod Worked

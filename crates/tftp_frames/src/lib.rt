@@ -1,17 +1,24 @@
 //! Frames of a network's recording: the IP packets that they carry, and the UDP datagrams of these.
 #![tactic(auto)]
 
+mod address;
 mod extension;
 mod fault;
 mod frame;
 mod ip;
+mod laws;
 mod link;
 mod number;
 mod packet;
 mod tag;
 mod udp;
 
+pub use address::write_address;
 pub use fault::{FrameFault, UdpFault};
 pub use frame::read_frame;
+pub use laws::{
+    content_is_one_datagram, first_fault_is_one, frame_spells_one_packet,
+    spelled_frame_has_no_fault, worked_datagrams, worked_faults, worked_frames,
+};
 pub use packet::{Direction, Fragment, IpPacket, UdpDatagram};
 pub use udp::read_udp;

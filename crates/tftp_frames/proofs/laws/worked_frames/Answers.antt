@@ -1,0 +1,121 @@
+use Rattle.std.proofs.Common.{◌++◌, [], ◌∷◌, inl, inr, refl, arith}
+use Rattle.std.specs.Prelude.{Some, None}
+use Rattle.tftp_frames.specs.Link.{Linked}
+use Rattle.tftp_frames.specs.declared.link.LinkType.TheVariants.{Null, Ethernet, Raw, Loop, Cooked, RawIpv4, RawIpv6, CookedTwo}
+use Rattle.tftp_frames.specs.declared.link.Network.TheVariants.{Ipv4, Ipv6}
+use Rattle.tftp_frames.specs.declared.packet.Direction.{Direction}
+use Rattle.tftp_frames.specs.declared.packet.Direction.TheVariants.{Unknown, In, Out}
+use Rattle.tftp_frames.specs.Worked.{udp_bytes_of_ipv6, ipv4_bytes, ipv4_with_options, ipv4_fragment, ipv6_with_extensions, ipv6_fragment, ipv6_part}
+use Rattle.tftp_frames.proofs.laws.worked_frames.Goals as goal
+
+pub returns-clause-tags : goal.returns-clause-tags
+returns-clause-tags c = (
+  record { direction = Unknown; network = Some Ipv4; content = ipv4_bytes ++ 0 ∷ 0 ∷ [] },
+  Ipv4,
+  (Ethernet, refl, (omega arith, refl, (2048, (2, (refl, omega arith, (refl, omega arith, (refl, refl, refl)))), refl))),
+  refl,
+  record {
+    header = (omega arith, refl, omega arith, omega arith);
+    whole = (omega arith, omega arith);
+    upper = _;
+    reaches = refl;
+    udp = refl;
+    packet = refl;
+  },
+)
+
+pub returns-clause-cooked : goal.returns-clause-cooked
+returns-clause-cooked c = (
+  record { direction = Out; network = Some Ipv4; content = ipv4_bytes },
+  Ipv4,
+  (Cooked, refl, (omega arith, refl, (2048, (0, (refl, refl, refl)), refl))),
+  refl,
+  record {
+    header = (omega arith, refl, omega arith, omega arith);
+    whole = (omega arith, omega arith);
+    upper = _;
+    reaches = refl;
+    udp = refl;
+    packet = refl;
+  },
+)
+
+pub returns-clause-cooked_two : goal.returns-clause-cooked_two
+returns-clause-cooked_two c = (
+  record { direction = In; network = Some Ipv4; content = ipv4_bytes },
+  Ipv4,
+  (CookedTwo, refl, (omega arith, refl, (2048, (0, (refl, refl, refl)), refl))),
+  refl,
+  record {
+    header = (omega arith, refl, omega arith, omega arith);
+    whole = (omega arith, omega arith);
+    upper = _;
+    reaches = refl;
+    udp = refl;
+    packet = refl;
+  },
+)
+
+pub returns-clause-options : goal.returns-clause-options
+returns-clause-options c = (
+  record { direction = Unknown; network = Some Ipv4; content = ipv4_with_options },
+  Ipv4,
+  (Raw, refl, (omega arith, refl, (refl, refl))),
+  refl,
+  record {
+    header = (omega arith, refl, omega arith, omega arith);
+    whole = (omega arith, omega arith);
+    upper = _;
+    reaches = refl;
+    udp = refl;
+    packet = refl;
+  },
+)
+
+pub returns-clause-part : goal.returns-clause-part
+returns-clause-part c = (
+  record { direction = Unknown; network = Some Ipv4; content = ipv4_fragment },
+  Ipv4,
+  (RawIpv4, refl, (omega arith, refl, (refl, refl))),
+  refl,
+  record {
+    header = (omega arith, refl, omega arith, omega arith);
+    whole = (omega arith, omega arith);
+    upper = _;
+    reaches = refl;
+    udp = refl;
+    packet = refl;
+  },
+)
+
+pub returns-clause-extensions : goal.returns-clause-extensions
+returns-clause-extensions c = (
+  record { direction = Unknown; network = Some Ipv6; content = ipv6_with_extensions },
+  Ipv6,
+  (RawIpv6, refl, (omega arith, refl, (refl, refl))),
+  refl,
+  record {
+    header = (omega arith, refl);
+    whole = (omega arith, omega arith);
+    upper = record { protocol = 17; fragment = None; content = udp_bytes_of_ipv6 };
+    reaches = (2, ((omega arith, omega arith, inl refl), ((omega arith, omega arith, inl refl), inl (refl, (λ e. omega arith), refl))));
+    udp = refl;
+    packet = refl;
+  },
+)
+
+pub returns-clause-ipv6_part : goal.returns-clause-ipv6_part
+returns-clause-ipv6_part c = (
+  record { direction = Unknown; network = Some Ipv6; content = ipv6_fragment },
+  Ipv6,
+  (Null, refl, (omega arith, refl, (refl, refl))),
+  refl,
+  record {
+    header = (omega arith, refl);
+    whole = (omega arith, omega arith);
+    upper = record { protocol = 17; fragment = ipv6_part.fragment; content = ipv6_part.content };
+    reaches = (0, inr (refl, omega arith, refl, refl));
+    udp = refl;
+    packet = refl;
+  },
+)

@@ -1,0 +1,60 @@
+ghost use Rattle.std.specs.Prelude.{◌≡◌, ◌∷◌, ◌++◌, [], ℕ, List, take, drop};
+ghost use Rattle.tftp_frames.specs.Ip.{Packet};
+ghost use Rattle.tftp_frames.specs.Frame.{SpellsFrame};
+ghost use Rattle.tftp_frames.specs.Faults.{Holds, FirstFault};
+ghost use Rattle.tftp_frames.specs.Udp.{Udp, SpellsUdp, HoldsUdp};
+ghost use Rattle.tftp_frames.specs.Worked.{udp_bytes, ipv4_bytes, ipv4_with_options, ipv4_fragment, ipv6_with_extensions, ipv6_fragment, two_tags, cooked_head, cooked_two_head, null_head, ipv4_packet, ipv4_part, ipv6_packet, ipv6_part, acknowledgement};
+ghost use Rattle.tftp_frames.specs.declared.fault.FrameFault.{FrameFault};
+ghost use Rattle.tftp_frames.specs.declared.fault.UdpFault.{UdpFault};
+ghost use Rattle.tftp_frames.specs.declared.packet.Direction.{Direction};
+
+/// A frame is one packet at most.
+pub fn frame_spells_one_packet()
+    ensures { (number : ℕ) (frame : List ℕ) (p q : Packet) → SpellsFrame number frame p → SpellsFrame number frame q → p ≡ q }
+{}
+
+/// A frame has at most one first fault.
+pub fn first_fault_is_one()
+    ensures { (number : ℕ) (frame : List ℕ) (f g : FrameFault) → FirstFault number frame f → FirstFault number frame g → f ≡ g }
+{}
+
+/// A frame that is a packet has none of the faults.
+pub fn spelled_frame_has_no_fault()
+    ensures { (number : ℕ) (frame : List ℕ) (p : Packet) (f : FrameFault) → SpellsFrame number frame p → Holds f number frame → ⊥ }
+{}
+
+/// A content is one datagram or has one fault, and never both.
+pub fn content_is_one_datagram()
+    ensures one { (protocol : ℕ) (content : List ℕ) (d e : Udp) → SpellsUdp protocol content d → SpellsUdp protocol content e → d ≡ e }
+    ensures fault { (protocol : ℕ) (content : List ℕ) (f g : UdpFault) → HoldsUdp f protocol content → HoldsUdp g protocol content → f ≡ g }
+    ensures apart { (protocol : ℕ) (content : List ℕ) (d : Udp) (f : UdpFault) → SpellsUdp protocol content d → HoldsUdp f protocol content → ⊥ }
+{}
+
+/// Worked examples: a packet in Ethernet with two tags and two bytes of padding, in Linux cooked, with options, and a
+/// fragment; and the same of IPv6.
+pub fn worked_frames()
+    ensures tags { SpellsFrame 1 (two_tags ++ ipv4_bytes ++ 0 ∷ 0 ∷ []) (ipv4_packet Direction.Unknown ipv4_bytes) }
+    ensures cooked { SpellsFrame 113 (cooked_head ++ ipv4_bytes) (ipv4_packet Direction.Out ipv4_bytes) }
+    ensures cooked_two { SpellsFrame 276 (cooked_two_head ++ ipv4_bytes) (ipv4_packet Direction.In ipv4_bytes) }
+    ensures options { SpellsFrame 101 ipv4_with_options (ipv4_packet Direction.Unknown ipv4_with_options) }
+    ensures part { SpellsFrame 228 ipv4_fragment ipv4_part }
+    ensures extensions { SpellsFrame 229 ipv6_with_extensions ipv6_packet }
+    ensures ipv6_part { SpellsFrame 0 (null_head ++ ipv6_fragment) ipv6_part }
+{}
+
+/// Worked examples: the first fault of a packet whose last byte was not recorded, of one of TCP (protocol 6), of ARP
+/// (0x0806) in Ethernet, and of a frame that ends in its first tag.
+pub fn worked_faults()
+    ensures cut { FirstFault 101 (take 31 ipv4_bytes) FrameFault.Cut }
+    ensures tcp { FirstFault 101 (take 9 ipv4_bytes ++ 6 ∷ drop 10 ipv4_bytes) FrameFault.Protocol }
+    ensures arp { FirstFault 1 (take 12 two_tags ++ 8 ∷ 6 ∷ []) FrameFault.Network }
+    ensures tag { FirstFault 1 (take 16 two_tags) FrameFault.Frame }
+{}
+
+/// Worked examples: the acknowledgement, with what follows it in the packet left out (RFC 768), and behind a header of
+/// destination options, as the whole content of an IPv6 packet has it; and port 0.
+pub fn worked_datagrams()
+    ensures plain { SpellsUdp 17 (udp_bytes ++ 255 ∷ 255 ∷ []) acknowledgement }
+    ensures behind { SpellsUdp 60 (17 ∷ 0 ∷ 1 ∷ 4 ∷ 0 ∷ 0 ∷ 0 ∷ 0 ∷ udp_bytes) acknowledgement }
+    ensures port { HoldsUdp UdpFault.Port 17 (0 ∷ 0 ∷ drop 2 udp_bytes) }
+{}
