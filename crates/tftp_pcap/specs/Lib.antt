@@ -1,0 +1,4 @@
+pub mod Numbers
+pub mod Times
+pub mod Frames
+pub mod Classic

@@ -1,0 +1,17 @@
+//! The frames of a recording: a classic recording (draft-ietf-opsawg-pcap) or one of blocks (draft-ietf-opsawg-pcapng),
+//! which of the two its first bytes tell.
+#![tactic(auto)]
+
+mod classic;
+mod fault;
+mod frame;
+mod layout;
+mod numbers;
+mod place;
+mod standing;
+mod times;
+
+pub use fault::{FaultKind, PcapFault};
+pub use frame::Direction;
+pub use layout::{Classic, Interface, Layout};
+pub use numbers::Order;
