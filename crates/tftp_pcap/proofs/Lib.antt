@@ -1,2 +1,4 @@
+pub mod Cuts
 pub mod Fours
+pub mod OptionCuts
 pub mod Records

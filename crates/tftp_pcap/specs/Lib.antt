@@ -2,3 +2,5 @@ pub mod Numbers
 pub mod Times
 pub mod Frames
 pub mod Classic
+pub mod Options
+pub mod Blocks

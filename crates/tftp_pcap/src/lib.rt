@@ -2,11 +2,13 @@
 //! which of the two its first bytes tell.
 #![tactic(auto)]
 
+mod blocks;
 mod classic;
 mod fault;
 mod frame;
 mod layout;
 mod numbers;
+mod options;
 mod place;
 mod standing;
 mod times;
