@@ -1,4 +1,5 @@
 pub mod Cuts
 pub mod Fours
 pub mod OptionCuts
+pub mod Packets
 pub mod Records

@@ -1,7 +1,7 @@
 -- Options, one after another.
-use Rattle.std.proofs.Common.{◌≡◌, ◌≢◌, ℕ, ◌+◌, ◌-◌, ◌*◌, ◌/◌, ◌%◌, ◌<◌, ◌≤◌, inl, inr, List, [], ◌∷◌, ◌++◌, length, take, drop, refl, sym, ap, ◌∙◌, append_assoc, arith}
+use Rattle.std.proofs.Common.{◌≡◌, ◌≢◌, ℕ, ◌+◌, ◌-◌, ◌*◌, ◌/◌, ◌%◌, ◌<◌, ◌≤◌, inl, inr, List, [], ◌∷◌, ◌++◌, length, take, drop, refl, sym, ap, ◌∙◌, subst, append_assoc, arith}
 use Rattle.std.specs.List.{slice_range}
-use Rattle.std.specs.Prelude.{◌⊎◌, ◌&&◌, ◌==◌, if◌then◌else◌, true, false, Option, Some, None, is_some, option_map}
+use Rattle.std.specs.Prelude.{Bool, IfSome, ◌⊎◌, ◌&&◌, ◌==◌, if◌then◌else◌, true, false, Option, Some, None, is_some, option_map}
 use Rattle.tftp_pcap.specs.Numbers.{two, short_at}
 use Rattle.tftp_pcap.specs.Options.{OptionParts, BeginsWithOption, EndsOptions, SpellsOptions, first_value}
 use Rattle.tftp_pcap.specs.declared.numbers.Order.{Order}
@@ -64,14 +64,18 @@ option_one order bytes o p rest more x y =
     let rests = cut_one x.padding y.padding rest more pads values.1 in
     (λ i. record { code = code i; value = values.0 i }, rests.1)
 
--- the bytes begin with an option, so there are options after it where there are any
-pub options_after : (order : Order) (bytes rest : List ℕ) (o : OptionParts) (os : List OptionParts) → BeginsWithOption order bytes o rest → SpellsOptions order bytes os → (more : List OptionParts) × SpellsOptions order rest more
-options_after order bytes rest o [] one (inl none) = absurd (let e = sym one.are ∙ none in let x : ⊥ = cc in x)
-options_after order bytes rest o [] one (inr (a, b, c, d, more, are, zero)) =
+-- the bytes begin with an option, so they do not end the options
+no_end : (order : Order) (bytes rest : List ℕ) (o : OptionParts) → BeginsWithOption order bytes o rest → EndsOptions order bytes → ⊥
+no_end order bytes rest o one (inl none) = let e = sym one.are ∙ none in let x : ⊥ = cc in x
+no_end order bytes rest o one (inr (a, b, c, d, more, are, zero)) =
     let e = sym one.are ∙ are in
     let ea : one.a ≡ a = cc in
     let eb : one.b ≡ b = cc in
-    absurd (one.some (one.code ∙ two_bytes_one order one.a one.b a b ea eb ∙ zero))
+    one.some (one.code ∙ two_bytes_one order one.a one.b a b ea eb ∙ zero)
+
+-- the bytes begin with an option, so there are options after it where there are any
+pub options_after : (order : Order) (bytes rest : List ℕ) (o : OptionParts) (os : List OptionParts) → BeginsWithOption order bytes o rest → SpellsOptions order bytes os → (more : List OptionParts) × SpellsOptions order rest more
+options_after order bytes rest o [] one ends = absurd (no_end order bytes rest o one ends)
 options_after order bytes rest o (p ∷ os) one (more, other, spelled) =
     let same = option_one order bytes o p rest more one other in
     (os, rw same.1 spelled)
@@ -120,3 +124,27 @@ module _ {A : Type 0} (f : A → List ℕ) (found : Option A) (code size : ℕ) 
 
   pub other_size : is_some found ≡ false → o.code ≡ code → length o.value ≢ size → option_map f found ≡ first_value code size (done ++ o ∷ [])
   other_size none p q = map_none f found none ∙ sym (first_now code size done o (sym is ∙ map_none f found none) ∙ ap (λ t. if t then Some o.value else None) (tests_size code size o p q))
+
+-- bytes are options in one way
+pub options_one : (order : Order) (bytes : List ℕ) (os ps : List OptionParts) → SpellsOptions order bytes os → SpellsOptions order bytes ps → os ≡ ps
+options_one order bytes [] [] x y = refl
+options_one order bytes [] (p ∷ ps) x (rest, one, more) = absurd (no_end order bytes rest p one x)
+options_one order bytes (o ∷ os) [] (rest, one, more) y = absurd (no_end order bytes rest o one y)
+options_one order bytes (o ∷ os) (p ∷ ps) (rest, one, left) (more, other, others) =
+    let same = option_one order bytes o p rest more one other in
+    let tails = options_one order more os ps (subst (λ (l : List ℕ). SpellsOptions order l os) same.1 left) others in
+    λ i. same.0 i ∷ tails i
+
+first_cases : (code size : ℕ) (o : OptionParts) (os : List OptionParts) (v : List ℕ) → Some v ≡ first_value code size (o ∷ os) → (Some v ≡ first_value code size os → length v ≡ size)
+    → (t : Bool) → (o.code == code && length o.value == size) ≡ t → length v ≡ size
+first_cases code size o os v e later true is =
+    let same : Some v ≡ Some o.value = e ∙ ap (λ t. if t then Some o.value else first_value code size os) is in
+    let value : v ≡ o.value = cc in
+    ap length value ∙ grind (arith, nat_tests)
+first_cases code size o os v e later false is = later (e ∙ ap (λ t. if t then Some o.value else first_value code size os) is)
+
+-- a value that was looked for has as many bytes as were asked
+pub first_sized : (code size : ℕ) (os : List OptionParts) (found : Option (List ℕ)) → found ≡ first_value code size os → IfSome found (λ v. length v ≡ size)
+first_sized code size os None e = tt
+first_sized code size [] (Some v) e = absurd (let x : ⊥ = cc in x)
+first_sized code size (o ∷ os) (Some v) e = first_cases code size o os v e (first_sized code size os (Some v)) (o.code == code && length o.value == size) refl

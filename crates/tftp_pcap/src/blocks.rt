@@ -1,8 +1,8 @@
-ghost use Rattle.std.specs.Prelude.{◌≡◌, ◌+◌, ◌≤◌, ◌<◌, ℕ, length, MatchOption, IfSome};
-ghost use Rattle.tftp_pcap.specs.Blocks.{SpellsEnhanced, SpellsInterface, SpellsObsolete, SpellsPacket, SpellsSimple, direction_by, long_at, offset_by, units_by};
+ghost use Rattle.std.specs.Prelude.{◌≡◌, ◌+◌, ◌≤◌, ◌<◌, ℕ, length, MatchOption, IfSome, drop, option_map};
+ghost use Rattle.tftp_pcap.specs.Blocks.{SpellsEnhanced, SpellsInterface, SpellsObsolete, SpellsPacket, SpellsSimple, SpellsTimed, direction_by, kept, long_at, offset_by, units_by};
 ghost use Rattle.tftp_pcap.specs.Frames.{FrameParts, frame_at};
 ghost use Rattle.tftp_pcap.specs.declared.layout.Interface.{Interface};
-ghost use Rattle.std.specs.Prelude.{option_map};
+
 
 use crate::frame::Direction;
 use crate::layout::Interface;
@@ -10,6 +10,15 @@ use crate::numbers::Order;
 use crate::options::find_option;
 use crate::place::Place;
 use crate::times::{time_of, units_of};
+
+/// The type of an enhanced packet block.
+pub const ENHANCED: u32 = 6;
+
+/// The type of a simple packet block.
+pub const SIMPLE: u32 = 3;
+
+/// The type of an obsolete packet block.
+pub const OBSOLETE: u32 = 2;
 
 /// The code of the option `if_tsresol`.
 const RESOLUTION: u16 = 9;
@@ -80,4 +89,121 @@ pub fn interface_of(order: Order, body: &[u8]) -> Option<Interface>
         units: units_by(resolution),
         offset: offset_by(order, offset),
     })
+}
+
+/// The frame of an enhanced packet block, or of an obsolete one, of an interface; none where the body is none.
+fn timed_of(order: Order, interface: Interface, body: &[u8]) -> Option<Place>
+    requires { 20 ≤ length body.now }
+    ensures timed { MatchOption result ((frame : FrameParts) → SpellsTimed order interface (drop 4 body.now) frame → ⊥)
+        (λ place. SpellsTimed order interface (drop 4 body.now) (frame_at place body.now)) }
+    ensures within { IfSome result (λ place. (place.start ≤ place.end) × (place.end ≤ length body.now)) }
+{
+    let high = order.number(body, 4) as u64;
+    let low = order.number(body, 8) as u64;
+    let captured = order.number(body, 12) as usize;
+    if captured > LONGEST_FRAME {
+        return None;
+    }
+    let padded = (captured + 3) / 4 * 4;
+    if body.len() < 20 + padded {
+        return None;
+    }
+    let Some(flags) = find_option(order, &body[20 + padded..], FLAGS, 4) else {
+        return None;
+    };
+    Some(Place {
+        link: interface.link,
+        time: time_of(interface, high * 0x1_0000_0000 + low),
+        direction: direction_by(order, flags),
+        original: order.number(body, 16),
+        start: 20,
+        end: 20 + captured,
+    })
+}
+
+/// The frame of an enhanced packet block; none where the body is none.
+fn enhanced_of(order: Order, interfaces: &[Interface], body: &[u8]) -> Option<Place>
+    ensures enhanced { MatchOption result ((frame : FrameParts) → SpellsEnhanced order interfaces.now body.now frame → ⊥)
+        (λ place. SpellsEnhanced order interfaces.now body.now (frame_at place body.now)) }
+    ensures within { IfSome result (λ place. (place.start ≤ place.end) × (place.end ≤ length body.now)) }
+{
+    if body.len() < 20 {
+        return None;
+    }
+    let place = order.number(body, 0) as usize;
+    if place >= interfaces.len() {
+        return None;
+    }
+    timed_of(order, interfaces[place], body)
+}
+
+/// The frame of an obsolete packet block; none where the body is none.
+fn obsolete_of(order: Order, interfaces: &[Interface], body: &[u8]) -> Option<Place>
+    ensures obsolete { MatchOption result ((frame : FrameParts) → SpellsObsolete order interfaces.now body.now frame → ⊥)
+        (λ place. SpellsObsolete order interfaces.now body.now (frame_at place body.now)) }
+    ensures within { IfSome result (λ place. (place.start ≤ place.end) × (place.end ≤ length body.now)) }
+{
+    if body.len() < 20 {
+        return None;
+    }
+    let place = order.short(body, 0) as usize;
+    if place >= interfaces.len() {
+        return None;
+    }
+    timed_of(order, interfaces[place], body)
+}
+
+/// The frame of a simple packet block, which has no time; none where the body is none.
+fn simple_of(order: Order, interfaces: &[Interface], body: &[u8]) -> Option<Place>
+    ensures simple { MatchOption result ((frame : FrameParts) → SpellsSimple order interfaces.now body.now frame → ⊥)
+        (λ place. SpellsSimple order interfaces.now body.now (frame_at place body.now)) }
+    ensures within { IfSome result (λ place. (place.start ≤ place.end) × (place.end ≤ length body.now)) }
+{
+    if body.len() < 4 || interfaces.is_empty() {
+        return None;
+    }
+    let interface = interfaces[0];
+    let original = order.number(body, 0);
+    let captured = kept(interface.longest, original) as usize;
+    if captured > LONGEST_FRAME || body.len() < 4 + (captured + 3) / 4 * 4 {
+        return None;
+    }
+    Some(Place {
+        link: interface.link,
+        time: None,
+        direction: Direction::Unknown,
+        original,
+        start: 4,
+        end: 4 + captured,
+    })
+}
+
+/// How many bytes of a frame of so many an interface keeps.
+fn kept(longest: u32, original: u32) -> u32
+    ensures { result ≡ kept longest original }
+{
+    if longest == 0 {
+        original
+    } else {
+        original.min(longest)
+    }
+}
+
+/// The frame that the body of a block of packets is, by the block's type; none where the body is none.
+pub fn packet_of(
+    order: Order,
+    interfaces: &[Interface],
+    kind: u32,
+    body: &[u8],
+) -> Option<Place>
+    ensures packet { MatchOption result ((frame : FrameParts) → SpellsPacket order interfaces.now kind body.now frame → ⊥)
+        (λ place. SpellsPacket order interfaces.now kind body.now (frame_at place body.now)) }
+    ensures within { IfSome result (λ place. (place.start ≤ place.end) × (place.end ≤ length body.now)) }
+{
+    match kind {
+        ENHANCED => enhanced_of(order, interfaces, body),
+        SIMPLE => simple_of(order, interfaces, body),
+        OBSOLETE => obsolete_of(order, interfaces, body),
+        _ => None,
+    }
 }
