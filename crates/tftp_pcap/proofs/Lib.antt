@@ -1,3 +1,4 @@
+pub mod Announced
 pub mod Cuts
 pub mod Fours
 pub mod OptionCuts

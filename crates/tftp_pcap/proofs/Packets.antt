@@ -1,14 +1,15 @@
 -- Interfaces and packets, from the bytes at their places.
-use Rattle.std.proofs.Common.{◌≡◌, ◌≢◌, ℕ, ◌+◌, ◌-◌, ◌*◌, ◌/◌, ◌%◌, ◌<◌, ◌≤◌, ◌^◌, List, [], ◌∷◌, ◌++◌, length, length-append, take, drop, get_or, refl, sym, ap, ◌∙◌, subst, append_assoc, arith}
+use Rattle.std.proofs.Common.{◌≡◌, ◌≢◌, inl, inr, ℕ, ◌+◌, ◌-◌, ◌*◌, ◌/◌, ◌%◌, ◌<◌, ◌≤◌, ◌^◌, List, [], ◌∷◌, ◌++◌, length, length-append, take, drop, get_or, refl, sym, ap, ◌∙◌, subst, append_assoc, arith}
 use Rattle.std.specs.List.{slice_range}
 use Rattle.std.specs.Prelude.{Option, Some, None, slice_get, MatchOption}
 use Rattle.tftp_pcap.specs.declared.frame.Direction.TheVariants.{Unknown}
 use Rattle.std.proofs.lemmas.List.{take_all, take-append-drop, length-take-le}
 use Rattle.tftp_pcap.specs.Numbers.{four, two, number_at, short_at, Spells}
 use Rattle.tftp_pcap.specs.Times.{time_of}
-use Rattle.tftp_pcap.specs.Frames.{FrameParts, longest_frame}
+use Rattle.tftp_pcap.specs.Frames.{FrameParts, frame_at, longest_frame}
+use Rattle.tftp_pcap.specs.declared.place.Place.{Place}
 use Rattle.tftp_pcap.specs.Options.{OptionParts, SpellsOptions, IsPadding, first_value}
-use Rattle.tftp_pcap.specs.Blocks.{SpellsInterface, SpellsTimed, SpellsEnhanced, SpellsObsolete, SpellsSimple, kept, units_by, offset_by, direction_by}
+use Rattle.tftp_pcap.specs.Blocks.{SpellsInterface, SpellsTimed, SpellsEnhanced, SpellsObsolete, SpellsSimple, SpellsPacket, kept, units_by, offset_by, direction_by}
 use Rattle.tftp_pcap.specs.declared.numbers.Order.{Order}
 use Rattle.tftp_pcap.specs.declared.layout.Interface.{Interface}
 use Rattle.tftp_pcap.specs.declared.frame.Direction.{Direction}
@@ -200,3 +201,33 @@ simple_spelled order interfaces (a ∷ b ∷ c ∷ d ∷ u) interface captured o
       direction = ap (λ (f : FrameParts). f.direction) is;
     }
 simple_spelled order interfaces _ interface captured original frame enough eo ec named few fits is = absurd (omega arith)
+
+-- ---- which block it is
+
+six : (order : Order) (interfaces : List Interface) (kind : ℕ) (body : List ℕ) (frame : FrameParts) → kind ≡ 6 → SpellsPacket order interfaces kind body frame → SpellsEnhanced order interfaces body frame
+six order interfaces kind body frame is (inl p) = p.1
+six order interfaces kind body frame is (inr (inl p)) = absurd (omega (arith, is, p.0))
+six order interfaces kind body frame is (inr (inr p)) = absurd (omega (arith, is, p.0))
+
+three : (order : Order) (interfaces : List Interface) (kind : ℕ) (body : List ℕ) (frame : FrameParts) → kind ≡ 3 → SpellsPacket order interfaces kind body frame → SpellsSimple order interfaces body frame
+three order interfaces kind body frame is (inl p) = absurd (omega (arith, is, p.0))
+three order interfaces kind body frame is (inr (inl p)) = p.1
+three order interfaces kind body frame is (inr (inr p)) = absurd (omega (arith, is, p.0))
+
+second : (order : Order) (interfaces : List Interface) (kind : ℕ) (body : List ℕ) (frame : FrameParts) → kind ≡ 2 → SpellsPacket order interfaces kind body frame → SpellsObsolete order interfaces body frame
+second order interfaces kind body frame is (inl p) = absurd (omega (arith, is, p.0))
+second order interfaces kind body frame is (inr (inl p)) = absurd (omega (arith, is, p.0))
+second order interfaces kind body frame is (inr (inr p)) = p.1
+
+module _ (order : Order) (interfaces : List Interface) (kind : ℕ) (body : List ℕ) (result : Option Place) where
+  pub as_six : kind ≡ 6 → MatchOption result ((frame : FrameParts) → SpellsEnhanced order interfaces body frame → ⊥) (λ p. SpellsEnhanced order interfaces body (frame_at p body))
+      → MatchOption result ((frame : FrameParts) → SpellsPacket order interfaces kind body frame → ⊥) (λ p. SpellsPacket order interfaces kind body (frame_at p body))
+  as_six is answer = answer_of result _ _ _ _ (λ never frame p. never frame (six order interfaces kind body frame is p)) (λ p spelled. inl (is, spelled)) answer
+
+  pub as_three : kind ≡ 3 → MatchOption result ((frame : FrameParts) → SpellsSimple order interfaces body frame → ⊥) (λ p. SpellsSimple order interfaces body (frame_at p body))
+      → MatchOption result ((frame : FrameParts) → SpellsPacket order interfaces kind body frame → ⊥) (λ p. SpellsPacket order interfaces kind body (frame_at p body))
+  as_three is answer = answer_of result _ _ _ _ (λ never frame p. never frame (three order interfaces kind body frame is p)) (λ p spelled. inr (inl (is, spelled))) answer
+
+  pub as_second : kind ≡ 2 → MatchOption result ((frame : FrameParts) → SpellsObsolete order interfaces body frame → ⊥) (λ p. SpellsObsolete order interfaces body (frame_at p body))
+      → MatchOption result ((frame : FrameParts) → SpellsPacket order interfaces kind body frame → ⊥) (λ p. SpellsPacket order interfaces kind body (frame_at p body))
+  as_second is answer = answer_of result _ _ _ _ (λ never frame p. never frame (second order interfaces kind body frame is p)) (λ p spelled. inr (inr (is, spelled))) answer

@@ -4,3 +4,5 @@ pub mod Frames
 pub mod Classic
 pub mod Options
 pub mod Blocks
+pub mod Pieces
+pub mod Sizes

@@ -5,11 +5,13 @@
 mod blocks;
 mod classic;
 mod fault;
+mod found;
 mod frame;
 mod layout;
 mod numbers;
 mod options;
 mod place;
+mod sizes;
 mod standing;
 mod times;
 
