@@ -20,6 +20,7 @@ mod version;
 mod whole;
 mod writer;
 
+pub use ahead::Ahead;
 pub use datagram::{Datagram, Header};
 pub use drip::{DripReader, DripWriter};
 pub use fault::{CaptureFault, TextFault, WriteFault};

@@ -1,0 +1,6 @@
+pub mod Announced
+pub mod Cuts
+pub mod Fours
+pub mod OptionCuts
+pub mod Packets
+pub mod Records

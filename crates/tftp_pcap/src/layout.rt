@@ -1,0 +1,36 @@
+use crate::numbers::Order;
+
+/// What the header of a classic recording says.
+#[derive(Clone, Copy, Debug, PartialEq, Eq)]
+pub struct Classic {
+    /// The order of the bytes of its numbers.
+    pub order: Order,
+    /// Whether the fractions of seconds are nanoseconds, and not microseconds.
+    pub nano: bool,
+    /// What the frames are: the link type, of 16 bits.
+    pub link: u32,
+}
+
+/// How the bytes that follow are laid out.
+#[derive(Clone, Copy, Debug, PartialEq, Eq)]
+pub enum Layout {
+    /// Nothing was read yet: a header is due.
+    Unopened,
+    /// Records follow, each of one frame.
+    Classic(Classic),
+    /// Blocks follow, whose numbers are in this order.
+    Blocks(Order),
+}
+
+/// What an interface block says of the frames that were recorded there.
+#[derive(Clone, Copy, Debug, PartialEq, Eq)]
+pub struct Interface {
+    /// What the frames are: the link type, of 16 bits.
+    pub link: u32,
+    /// How many bytes of a frame were kept at most; 0 where all were.
+    pub longest: u32,
+    /// How many units of its times are a second; 0 where that is more than 64 bits can count.
+    pub units: u64,
+    /// What is added to its times, in seconds: a signed number of 64 bits, as its bits are.
+    pub offset: u64,
+}

@@ -1,0 +1,21 @@
+//! The frames of a recording: a classic recording (draft-ietf-opsawg-pcap) or one of blocks (draft-ietf-opsawg-pcapng),
+//! which of the two its first bytes tell.
+#![tactic(auto)]
+
+mod blocks;
+mod classic;
+mod fault;
+mod found;
+mod frame;
+mod layout;
+mod numbers;
+mod options;
+mod place;
+mod sizes;
+mod standing;
+mod times;
+
+pub use fault::{FaultKind, PcapFault};
+pub use frame::Direction;
+pub use layout::{Classic, Interface, Layout};
+pub use numbers::Order;

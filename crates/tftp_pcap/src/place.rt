@@ -1,0 +1,18 @@
+use crate::frame::Direction;
+
+/// What a record or a block says of its frame, and where the frame's bytes lie in it.
+#[derive(Clone, Copy, Debug)]
+pub struct Place {
+    /// What the frame is.
+    pub link: u32,
+    /// When it was recorded.
+    pub time: Option<u64>,
+    /// Which way it went.
+    pub direction: Direction,
+    /// How many bytes it had.
+    pub original: u32,
+    /// How many bytes stand before it.
+    pub start: usize,
+    /// How many bytes stand before what follows it.
+    pub end: usize,
+}
