@@ -1,3 +1,4 @@
 pub mod Contents
 pub mod Holding
+pub mod Keeping
 pub mod Members
