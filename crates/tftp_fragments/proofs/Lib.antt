@@ -2,3 +2,4 @@ pub mod Contents
 pub mod Holding
 pub mod Keeping
 pub mod Members
+pub mod Sets
