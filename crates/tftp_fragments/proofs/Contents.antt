@@ -1,10 +1,10 @@
 -- Parts give one content, and those that it was cut into give it in any order.
-use Rattle.std.proofs.Common.{◌≡◌, ◌≢◌, ℕ, ◌+◌, ◌-◌, ◌<◌, ◌≤◌, Bool, true, false, inl, inr, List, [], ◌∷◌, ◌++◌, length, slice_index, refl, sym, ap, ◌∙◌, subst, arith, append_assoc, append-nil, length-append}
+use Rattle.std.proofs.Common.{◌≡◌, ◌≢◌, ℕ, ◌+◌, ◌<◌, ◌≤◌, Bool, true, false, inl, inr, List, [], ◌∷◌, ◌++◌, length, slice_index, refl, sym, ap, ◌∙◌, subst, arith, append_assoc, append-nil, length-append}
 use Rattle.std.specs.List.{AllByRecursion}
 use Rattle.std.proofs.lemmas.Bool.{cases_lt}
 use Rattle.std.proofs.lemmas.List.{ext_get_or, get_or-append-add, get_or_append_left}
 use Rattle.tftp_fragments.specs.Whole.{Part, Among, AreSame, Covers, EndsRightly, Give, HasPart, InRow, end_of}
-use Rattle.tftp_fragments.proofs.Members.{all_at, all_from, all_weaker, among_at, byte_of, last_ends, member, pick}
+use Rattle.tftp_fragments.proofs.Members.{all_at, all_from, among_at, byte_of, last_ends, member}
 
 IsLast : Part → Type 0
 IsLast p = p.more ≡ false

@@ -1,11 +1,11 @@
 -- What is held of parts: what it says of the content, and one more part.
-use Rattle.std.proofs.Common.{◌≡◌, ◌≢◌, ℕ, ◌+◌, ◌-◌, ◌<◌, ◌≤◌, Bool, true, false, ◌⊎◌, inl, inr, List, [], ◌∷◌, length, map, slice_index, slice_index_or, Option, Some, None, refl, sym, ap, ◌∙◌, subst, arith}
+use Rattle.std.proofs.Common.{◌≡◌, ℕ, ◌+◌, ◌-◌, ◌<◌, ◌≤◌, Bool, true, false, ◌⊎◌, inl, inr, List, ◌∷◌, length, map, slice_index, slice_index_or, Some, None, refl, sym, ap, ◌∙◌, subst, arith}
 use Rattle.std.specs.List.{AllByRecursion}
 use Rattle.std.proofs.lemmas.Bool.{cases_lt}
-use Rattle.std.proofs.lemmas.List.{get_or-map, get_or_past, length-map}
+use Rattle.std.proofs.lemmas.List.{get_or-map, length-map}
 use Rattle.tftp_fragments.specs.Whole.{Part, Among, Covers, EndsRightly, Give, HasPart, end_of}
-use Rattle.tftp_fragments.specs.Held.{Agrees, EndsAgree, Held, HoldsPart, IsComplete, StandsFor, cell}
-use Rattle.tftp_fragments.proofs.Members.{all_at, all_both, all_weaker, among_weaker, byte_of, ends_within, inner_ends, last_ends, member, pick}
+use Rattle.tftp_fragments.specs.Held.{Agrees, AreLaid, Held, HoldsPart, IsComplete, StandsFor, cell}
+use Rattle.tftp_fragments.proofs.Members.{all_at, all_weaker, among_weaker, byte_of, ends_within, inner_ends, last_ends, member}
 
 some_is : (a b : ℕ) → Some a ≡ Some b → a ≡ b
 some_is a b e = cc
@@ -14,7 +14,7 @@ truth : (b : Bool) → (b ≡ true) ⊎ (b ≡ false)
 truth true = inl refl
 truth false = inr refl
 
-not_both : (b : Bool) → b ≡ true → b ≡ false → ⊥
+pub not_both : (b : Bool) → b ≡ true → b ≡ false → ⊥
 not_both b e f = cc
 
 by_end : (more : Bool) (end size : ℕ) → (more ≡ false → end ≡ size) → (more ≡ true → end < size) → EndsRightly more end size
@@ -50,10 +50,10 @@ complete h parts whole s g =
     record {
       last = known.0;
       full = λ k within.
-        let m = member (Covers k) parts (g.covered k (omega (arith, known.1))) in
-        let held = all_at (HoldsPart h) parts m.0 s.each m.2 in
-        let e : m.0.place + (k - m.0.place) ≡ k = omega (arith, m.1) in
-        (slice_index m.0.content (k - m.0.place), rw e at (held.bytes (k - m.0.place) (omega (arith, m.1))));
+          let m = member (Covers k) parts (g.covered k (omega (arith, known.1))) in
+          let held = all_at (HoldsPart h) parts m.0 s.each m.2 in
+          let e : m.0.place + (k - m.0.place) ≡ k = omega (arith, m.1) in
+          (slice_index m.0.content (k - m.0.place), rw e at (held.bytes (k - m.0.place) (omega (arith, m.1))));
     }
 
 -- ---- parts of one content agree
@@ -61,21 +61,21 @@ complete h parts whole s g =
 pub agreed : (h : Held) (parts : List Part) (p : Part) (whole : List ℕ) → 1 ≤ length p.content → StandsFor h parts → AllByRecursion (HasPart whole) parts → HasPart whole p → Agrees h p
 agreed h parts p whole some s all has = record {
   bytes = λ i b within e.
-    let m = member (λ q. Covers (p.place + i) q × (slice_index q.content (p.place + i - q.place) ≡ b)) parts (s.brought (p.place + i) b e) in
-    sym m.1.1 ∙ sym (byte_of whole m.0 (p.place + i) (all_at (HasPart whole) parts m.0 all m.2) m.1.0) ∙ has.bytes i within;
+      let m = member (λ q. Covers (p.place + i) q × (slice_index q.content (p.place + i - q.place) ≡ b)) parts (s.brought (p.place + i) b e) in
+      sym m.1.1 ∙ sym (byte_of whole m.0 (p.place + i) (all_at (HasPart whole) parts m.0 all m.2) m.1.0) ∙ has.bytes i within;
   ends = (
     (λ e. subst (λ n. EndsRightly p.more (end_of p) n) (known_size h parts whole all s (s.last e)).1 has.ends),
     (λ e last. elim (cases_lt (length h.cells) (end_of p)) [
       | inl below ↦ below
       | inr above ↦
-        let m = member (λ q. end_of q ≡ length h.cells) parts (s.reach (omega arith)) in
-        let held = all_at (HoldsPart h) parts m.0 s.each m.2 in
-        let there = all_at (HasPart whole) parts m.0 all m.2 in
-        let size = last_ends p.more (end_of p) (length whole) last has.ends in
-        elim (truth m.0.more) [
-          | inl inner ↦ let short = inner_ends m.0.more (end_of m.0) (length whole) inner there.ends in absurd (omega (arith, m.1))
-          | inr outer ↦ absurd (not_both h.ended (held.last outer).0 e)
-        ]
+          let m = member (λ q. end_of q ≡ length h.cells) parts (s.reach (omega arith)) in
+          let held = all_at (HoldsPart h) parts m.0 s.each m.2 in
+          let there = all_at (HasPart whole) parts m.0 all m.2 in
+          let size = last_ends p.more (end_of p) (length whole) last has.ends in
+          elim (truth m.0.more) [
+            | inl inner ↦ let short = inner_ends m.0.more (end_of m.0) (length whole) inner there.ends in absurd (omega (arith, m.1))
+            | inr outer ↦ absurd (not_both h.ended (held.last outer).0 e)
+          ]
     ]),
   );
 }
@@ -83,11 +83,7 @@ agreed h parts p whole some s all has = record {
 -- ---- one more part
 
 pub record Added (h : Held) (p : Part) (new : Held) : Type 0 where
-  pub longer : length h.cells ≤ length new.cells
-  pub reached : end_of p ≤ length new.cells
-  pub exact : (length new.cells ≡ length h.cells) ⊎ (length new.cells ≡ end_of p)
-  pub there : (i : ℕ) → i < length p.content → cell new (p.place + i) ≡ Some (slice_index p.content i)
-  pub others : (k : ℕ) → (k < p.place) ⊎ (end_of p ≤ k) → cell new k ≡ cell h k
+  pub laid : AreLaid h.cells p.place p.content new.cells
   pub kept : h.ended ≡ true → new.ended ≡ true
   pub set : p.more ≡ false → new.ended ≡ true
   pub only : new.ended ≡ true → (h.ended ≡ true) ⊎ (p.more ≡ false)
@@ -97,40 +93,40 @@ module _ (h : Held) (p : Part) (new : Held) (agrees : Agrees h p) (added : Added
   same_size : h.ended ≡ true → length new.cells ≡ length h.cells
   same_size e =
       let within = ends_within p.more (end_of p) (length h.cells) (agrees.ends.0 e) in
-      elim added.exact [ inl same ↦ same | inr grown ↦ omega (arith, grown, within, added.longer) ]
+      elim added.laid.exact [ inl same ↦ same | inr grown ↦ omega (arith, grown, within, added.laid.longer) ]
 
   last_size : p.more ≡ false → end_of p ≡ length new.cells
   last_size e =
       elim (truth h.ended) [
         | inl ended ↦ last_ends p.more (end_of p) (length h.cells) e (agrees.ends.0 ended) ∙ sym (same_size ended)
-        | inr open ↦ let past = agrees.ends.1 open e in elim added.exact [ inl same ↦ absurd (omega (arith, same, past, added.reached)) | inr grown ↦ sym grown ]
+        | inr before ↦ let past = agrees.ends.1 before e in elim added.laid.exact [ inl same ↦ absurd (omega (arith, same, past, added.laid.reached)) | inr grown ↦ sym grown ]
       ]
 
   cell_kept : (k b : ℕ) → cell h k ≡ Some b → cell new k ≡ Some b
   cell_kept k b e =
       elim (cases_lt k p.place) [
-        | inl low ↦ added.others k (inl low) ∙ e
+        | inl low ↦ added.laid.before k low ∙ e
         | inr from ↦ elim (cases_lt k (end_of p)) [
           | inl high ↦
-            let at : p.place + (k - p.place) ≡ k = omega arith in
-            let i : k - p.place < length p.content = omega arith in
-            let same : b ≡ slice_index p.content (k - p.place) = agrees.bytes (k - p.place) b i (ap (λ n. cell h n) at ∙ e) in
-            let there : cell new k ≡ Some (slice_index p.content (k - p.place)) = ap (λ n. cell new n) (sym at) ∙ added.there (k - p.place) i in
-            there ∙ ap (λ n. Some n) (sym same)
-          | inr past ↦ added.others k (inr past) ∙ e
+              let at : p.place + (k - p.place) ≡ k = omega arith in
+              let i : k - p.place < length p.content = omega arith in
+              let same : b ≡ slice_index p.content (k - p.place) = agrees.bytes (k - p.place) b i (ap (λ n. cell h n) at ∙ e) in
+              let there : cell new k ≡ Some (slice_index p.content (k - p.place)) = ap (λ n. cell new n) (sym at) ∙ added.laid.there (k - p.place) i in
+              there ∙ ap (λ n. Some n) (sym same)
+          | inr past ↦ added.laid.behind k past ∙ e
         ]
       ]
 
   still : (q : Part) → HoldsPart h q → HoldsPart new q
   still q held = record {
     bytes = λ i within. cell_kept (q.place + i) (slice_index q.content i) (held.bytes i within);
-    within = omega (arith, held.within, added.longer);
+    within = omega (arith, held.within, added.laid.longer);
     last = λ e. (added.kept (held.last e).0, (held.last e).1 ∙ sym (same_size (held.last e).0));
     inner = λ e ended. elim (added.only ended) [
-      | inl before ↦ omega (arith, held.inner e before, added.longer)
+      | inl before ↦ omega (arith, held.inner e before, added.laid.longer)
       | inr last ↦ elim (truth h.ended) [
-        | inl before ↦ omega (arith, held.inner e before, added.longer)
-        | inr open ↦ let past = agrees.ends.1 open last in omega (arith, past, held.within, added.reached)
+        | inl before ↦ omega (arith, held.inner e before, added.laid.longer)
+        | inr before ↦ let past = agrees.ends.1 before last in omega (arith, past, held.within, added.laid.reached)
       ]
     ];
   }
@@ -139,28 +135,28 @@ module _ (h : Held) (p : Part) (new : Held) (agrees : Agrees h p) (added : Added
   stands_more parts s = record {
     each = (
       record {
-        bytes = added.there;
-        within = added.reached;
+        bytes = added.laid.there;
+        within = added.laid.reached;
         last = λ e. (added.set e, last_size e);
         inner = λ e ended. elim (added.only ended) [
-          | inl before ↦ let short = inner_ends p.more (end_of p) (length h.cells) e (agrees.ends.0 before) in omega (arith, short, added.longer)
+          | inl before ↦ let short = inner_ends p.more (end_of p) (length h.cells) e (agrees.ends.0 before) in omega (arith, short, added.laid.longer)
           | inr last ↦ absurd (not_both p.more e last)
         ];
       },
       all_weaker (HoldsPart h) (HoldsPart new) still parts s.each,
     );
     brought = λ k b e.
-      elim (cases_lt k p.place) [
-        | inl low ↦ inr (s.brought k b (sym (added.others k (inl low)) ∙ e))
-        | inr from ↦ elim (cases_lt k (end_of p)) [
-          | inl high ↦
-            let at : p.place + (k - p.place) ≡ k = omega arith in
-            let i : k - p.place < length p.content = omega arith in
-            inl ((from, high), some_is _ _ (sym (added.there (k - p.place) i) ∙ ap (λ n. cell new n) at ∙ e))
-          | inr past ↦ inr (s.brought k b (sym (added.others k (inr past)) ∙ e))
-        ]
-      ];
-    reach = λ some. elim added.exact [
+        elim (cases_lt k p.place) [
+          | inl low ↦ inr (s.brought k b (sym (added.laid.before k low) ∙ e))
+          | inr from ↦ elim (cases_lt k (end_of p)) [
+            | inl high ↦
+                let at : p.place + (k - p.place) ≡ k = omega arith in
+                let i : k - p.place < length p.content = omega arith in
+                inl ((from, high), some_is _ _ (sym (added.laid.there (k - p.place) i) ∙ ap (λ n. cell new n) at ∙ e))
+            | inr past ↦ inr (s.brought k b (sym (added.laid.behind k past) ∙ e))
+          ]
+        ];
+    reach = λ some. elim added.laid.exact [
       | inl same ↦ inr (subst (λ n. Among (λ q. end_of q ≡ n) parts) (sym same) (s.reach (omega (arith, some, same))))
       | inr grown ↦ inl (sym grown)
     ];

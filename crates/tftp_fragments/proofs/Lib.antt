@@ -1,3 +1,5 @@
 pub mod Contents
 pub mod Holding
+pub mod Keeping
 pub mod Members
+pub mod Sets

@@ -1,7 +1,7 @@
 -- Parts of a list, and what holds of them.
-use Rattle.std.proofs.Common.{◌≡◌, ℕ, ◌+◌, ◌-◌, ◌<◌, ◌≤◌, Bool, true, false, ◌⊎◌, inl, inr, List, [], ◌∷◌, length, slice_index, refl, arith, subst, sym}
+use Rattle.std.proofs.Common.{◌≡◌, ℕ, ◌+◌, ◌-◌, ◌<◌, ◌≤◌, Bool, true, false, inl, inr, List, [], ◌∷◌, length, slice_index, refl, arith, subst, sym}
 use Rattle.std.specs.List.{AllByRecursion}
-use Rattle.tftp_fragments.specs.Whole.{Part, Among, Covers, EndsRightly, HasPart, end_of}
+use Rattle.tftp_fragments.specs.Whole.{Part, Among, Covers, EndsRightly, HasPart}
 
 pub pick : (P Q : Part → Type 0) (ps : List Part) → Among P ps → AllByRecursion Q ps → (p : Part) × P p × Q p
 pick P Q [] a h = absurd a

@@ -1,5 +1,5 @@
 -- What is held of a packet's parts, and for which parts it stands.
-use Rattle.std.specs.Prelude.{◌≡◌, ℕ, ◌+◌, ◌-◌, ◌<◌, ◌≤◌, Bool, true, false, List, [], ◌∷◌, length, map, slice_index, slice_index_or, Option, Some, None}
+use Rattle.std.specs.Prelude.{◌≡◌, ℕ, ◌+◌, ◌-◌, ◌<◌, ◌≤◌, Bool, true, false, ◌⊎◌, List, [], length, slice_index, slice_index_or, Option, Some, None}
 use Rattle.std.specs.List.{AllByRecursion}
 use Rattle.tftp_fragments.specs.declared.part.Part.{Part as Brought}
 use Rattle.tftp_fragments.specs.Whole.{Part, end_of, EndsRightly, Among, Covers}
@@ -42,6 +42,15 @@ EndsAgree h p = (h.ended ≡ true → EndsRightly p.more (end_of p) (length h.ce
 pub record Agrees (h : Held) (p : Part) : Type 0 where
   pub bytes : (i b : ℕ) → i < length p.content → cell h (p.place + i) ≡ Some b → b ≡ slice_index p.content i
   pub ends : EndsAgree h p
+
+-- bytes were written into cells from a place on, and as many cells added as these need
+pub record AreLaid (old : List (Option ℕ)) (place : ℕ) (bytes : List ℕ) (new : List (Option ℕ)) : Type 0 where
+  pub longer : length old ≤ length new
+  pub reached : place + length bytes ≤ length new
+  pub exact : (length new ≡ length old) ⊎ (length new ≡ place + length bytes)
+  pub there : (i : ℕ) → i < length bytes → slice_index_or new (place + i) None ≡ Some (slice_index bytes i)
+  pub before : (k : ℕ) → k < place → slice_index_or new k None ≡ slice_index_or old k None
+  pub behind : (k : ℕ) → place + length bytes ≤ k → slice_index_or new k None ≡ slice_index_or old k None
 
 -- all of the content is held
 pub record IsComplete (h : Held) : Type 0 where

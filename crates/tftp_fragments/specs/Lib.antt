@@ -1,2 +1,3 @@
 pub mod Held
+pub mod Set
 pub mod Whole

@@ -1,7 +1,7 @@
 ghost use Rattle.std.specs.Prelude.{◌≡◌, ◌+◌, ◌<◌, ◌≤◌, ◌∷◌, ℕ, List, Option, Some, None, length, map, true, false, IfOk, OnOk, OnErr, IsTrue, ◌↔◌, slice_index, slice_index_or, take};
 ghost use Rattle.std.specs.List.{AllByRecursion};
 ghost use Rattle.tftp_fragments.specs.Whole.{Part as Piece, end_of, HasPart, Give};
-ghost use Rattle.tftp_fragments.specs.Held.{part_of, nothing_held, StandsFor, Agrees, EndsAgree, IsComplete};
+ghost use Rattle.tftp_fragments.specs.Held.{part_of, nothing_held, StandsFor, Agrees, EndsAgree, AreLaid, IsComplete};
 
 use crate::part::Part;
 use std::alloc::{AllocError, Global};
@@ -75,12 +75,7 @@ impl Parts {
         ensures err { OnErr result (self.new ≡ self.old) }
         ensures beyond { OnErr result (length self.old.cells < end_of (part_of part.now)) }
     {
-        let start = part.place as usize;
-        let end = start + part.content.len();
-        if self.cells.len() < end {
-            self.cells.resize(end, None)?;
-        }
-        write(&mut self.cells[start..end], part.content);
+        lay(&mut self.cells, part.place as usize, part.content)?;
         self.front = front_after(&self.cells, self.front);
         if !part.more {
             self.ended = true;
@@ -130,13 +125,31 @@ fn differ(cells: &[Option<u8>], place: usize, content: &[u8]) -> bool
     false
 }
 
-/// Writes the bytes into cells.
-fn write(cells: &mut [Option<u8>], bytes: &[u8])
-    requires { length cells.old ≡ length bytes.now }
-    ensures { cells.new ≡ map (λ b. Some b) bytes.now }
+/// Writes the bytes into cells from a place on; where these end before the bytes do, there are then as many as they need.
+fn lay(cells: &mut Vec<Option<u8>>, place: usize, bytes: &[u8]) -> Result<(), AllocError>
+    requires { place + length bytes.now ≤ 65535 }
+    ensures ok { OnOk result (AreLaid cells.old.items place bytes.now cells.new.items) }
+    ensures err { OnErr result (cells.new.items ≡ cells.old.items) }
+    ensures beyond { OnErr result (length cells.old.items < place + length bytes.now) }
+{
+    let end = place + bytes.len();
+    if cells.len() < end {
+        cells.resize(end, None)?;
+    }
+    write(cells, place, bytes);
+    Ok(())
+}
+
+/// Writes the bytes into cells from a place on.
+fn write(cells: &mut [Option<u8>], place: usize, bytes: &[u8])
+    requires few { place + length bytes.now ≤ 65535 }
+    requires room { place + length bytes.now ≤ length cells.old }
+    ensures there { (i : ℕ) → i < length bytes.now → slice_index_or cells.new (place + i) None ≡ Some (slice_index bytes.now i) }
+    ensures before { (k : ℕ) → k < place → slice_index_or cells.new k None ≡ slice_index_or cells.old k None }
+    ensures behind { (k : ℕ) → place + length bytes.now ≤ k → slice_index_or cells.new k None ≡ slice_index_or cells.old k None }
 {
     for (i, byte) in bytes.iter().enumerate() {
-        cells[i] = Some(*byte);
+        cells[place + i] = Some(*byte);
     }
 }
 

@@ -1,4 +1,4 @@
-use Rattle.std.proofs.Common.{◌≡◌, ◌+◌, ◌<◌, ℕ, Option, Some, None, slice_index, slice_index_or}
+use Rattle.std.proofs.Common.{◌≡◌, ◌+◌, ◌<◌, ℕ, Some, None, slice_index, slice_index_or}
 use Rattle.tftp_fragments.proofs.parts.differ.Given as goal
 
 abbrev pub invariant-loop-i : goal.invariant-loop-i

@@ -1,0 +1,30 @@
+-- A fragment that cannot be of one packet with those before.
+use Rattle.std.proofs.Common.{◌≡◌, ℕ, ◌≤◌, Bool, true, false, List, [], ◌∷◌, length, sym, subst}
+use Rattle.std.specs.List.{AllByRecursion}
+use Rattle.tftp_fragments.specs.Whole.{Part, HasPart}
+use Rattle.tftp_fragments.specs.Held.{Agrees, StandsFor}
+use Rattle.tftp_fragments.specs.Set.{Arrival, AreApart, IsSetOf, SetState, parts_of}
+use Rattle.tftp_fragments.proofs.Holding.{agreed, not_both}
+
+pub still_apart : (s : SetState) (arrivals : List Arrival) (a : Arrival) → s.spoiled ≡ true → IsSetOf s arrivals → AreApart (parts_of (a ∷ arrivals)) × IsSetOf s (a ∷ arrivals)
+still_apart s arrivals a e is =
+    let apart : AreApart (parts_of (a ∷ arrivals)) = λ whole h. (is.apart e).1 whole h.1 in (
+      apart,
+      record {
+        held = λ f. absurd (not_both s.spoiled e f);
+        frames = λ f. absurd (not_both s.spoiled e f);
+        apart = λ f. ((is.apart e).0, apart);
+      },
+    )
+
+pub now_apart : (old new : SetState) (arrivals : List Arrival) (a : Arrival) (p : Part) → a.part ≡ p → 1 ≤ length p.content → old.spoiled ≡ false → (Agrees old.held p → ⊥) → new.spoiled ≡ true → new.frames ≡ []
+    → IsSetOf old arrivals → AreApart (parts_of (a ∷ arrivals)) × IsSetOf new (a ∷ arrivals)
+now_apart old new arrivals a p same some whole_before not_agreed spoiled none is =
+    let apart : AreApart (parts_of (a ∷ arrivals)) = λ whole h. not_agreed (agreed old.held (parts_of arrivals) p whole some (is.held whole_before) h.1 (subst (HasPart whole) same h.0)) in (
+      apart,
+      record {
+        held = λ f. absurd (not_both new.spoiled spoiled f);
+        frames = λ f. absurd (not_both new.spoiled spoiled f);
+        apart = λ f. (none, apart);
+      },
+    )

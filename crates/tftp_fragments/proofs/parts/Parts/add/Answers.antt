@@ -1,0 +1,40 @@
+use Rattle.std.proofs.Common.{true, inl, inr, refl, sym, ap, ◌∙◌}
+use Rattle.tftp_fragments.specs.Held.{Held, part_of}
+use Rattle.tftp_fragments.proofs.Holding.{Added, not_both, stands_more}
+use Rattle.tftp_fragments.proofs.Keeping.{kept_more}
+use Rattle.tftp_fragments.proofs.parts.Parts.add.Goals as goal
+
+pub invariant_of-self-then-not-part : goal.invariant_of-self-then-not-part
+invariant_of-self-then-not-part c =
+    let found = rw c.deref.ensures.value at c.front_after-self-inside.ensures in
+    kept_more c.self.inside.cells.items c.lay.new.cells.items c.args.part.now.place c.args.part.now.content.now c.self.inside.front _ c.self.invariant c.in_ok-lay.ensures.ok c.requires.room
+    found.within found.before found.here
+
+pub invariant_of-self-else-not-part : goal.invariant_of-self-else-not-part
+invariant_of-self-else-not-part c =
+    let found = rw c.deref.ensures.value at c.front_after-self-inside.ensures in
+    kept_more c.self.inside.cells.items c.lay.new.cells.items c.args.part.now.place c.args.part.now.content.now c.self.inside.front _ c.self.invariant c.in_ok-lay.ensures.ok c.requires.room
+    found.within found.before found.here
+
+pub returns-then-not-part-clause-ok : goal.returns-then-not-part-clause-ok
+returns-then-not-part-clause-ok c = λ parts s.
+    let cells = ap (λ (h : Held). h.cells) c.self.view_is in
+    let added : Added c.args.self.now (part_of c.args.part.now) (record { cells = c.lay.new.cells.items; ended = true }) = record {
+      laid = rw cells at c.in_ok-lay.ensures.ok;
+      kept = λ e. refl;
+      set = λ e. refl;
+      only = λ e. inr c.if-not-part.true;
+    } in
+    stands_more c.args.self.now (part_of c.args.part.now) (record { cells = c.lay.new.cells.items; ended = true }) c.requires.agrees added parts s
+
+pub returns-else-not-part-clause-ok : goal.returns-else-not-part-clause-ok
+returns-else-not-part-clause-ok c = λ parts s.
+    let cells = ap (λ (h : Held). h.cells) c.self.view_is in
+    let ended = ap (λ (h : Held). h.ended) c.self.view_is in
+    let added : Added c.args.self.now (part_of c.args.part.now) (record { cells = c.lay.new.cells.items; ended = c.self.inside.ended }) = record {
+      laid = rw cells at c.in_ok-lay.ensures.ok;
+      kept = λ e. ended ∙ e;
+      set = λ e. absurd (not_both c.args.part.now.more c.if-not-part.false e);
+      only = λ e. inl (sym ended ∙ e);
+    } in
+    stands_more c.args.self.now (part_of c.args.part.now) (record { cells = c.lay.new.cells.items; ended = c.self.inside.ended }) c.requires.agrees added parts s

@@ -1,0 +1,50 @@
+-- What is kept of the fragments of one packet, and for which fragments it stands.
+use Rattle.std.specs.Prelude.{◌≡◌, ◌≢◌, ℕ, ◌+◌, ◌*◌, ◌^◌, ◌≤◌, Bool, true, false, List, [], ◌∷◌, length, map, reverse, Option, Some, None}
+use Rattle.std.specs.List.{AllByRecursion}
+use Rattle.std.proofs.Common.{Vec, Global}
+use Rattle.tftp_fragments.specs.Whole.{Part, HasPart, Give}
+use Rattle.tftp_fragments.specs.Held.{Held, StandsFor}
+
+-- a fragment that came: its part, when it came in nanoseconds, where the recording says so, and the number of its frame
+pub record Arrival : Type 0 where
+  pub part : Part
+  pub time : Option ℕ
+  pub frame : ℕ
+
+-- the parts of fragments
+abbrev pub parts_of : List Arrival → List Part
+parts_of arrivals = map (λ a. a.part) arrivals
+
+-- no content has all of the parts
+abbrev pub AreApart : List Part → Type 0
+AreApart parts = (whole : List ℕ) → AllByRecursion (HasPart whole) parts → ⊥
+
+-- what is kept: the parts and the frames of the fragments, when the first came, and whether two cannot be of one packet
+pub record SetState : Type 0 where
+  pub held : Held
+  pub frames : List ℕ
+  pub began : Option ℕ
+  pub spoiled : Bool
+
+-- how many bytes it is counted for: two for each byte up to the furthest end of a part, eight for each frame, and 256
+abbrev pub room_of : SetState → ℕ
+room_of s = 2 * length s.held.cells + 8 * length s.frames + 256
+
+-- no frames are kept of a spoiled set
+pub record IsSound (frames : List ℕ) (spoiled : Bool) : Type 0 where
+  pub few : length frames ≤ 2 ^ 40
+  pub none : spoiled ≡ true → frames ≡ []
+
+-- what is kept of these fragments, the last one first; where two cannot be of one packet nothing of them is
+pub record IsSetOf (s : SetState) (arrivals : List Arrival) : Type 0 where
+  pub held : s.spoiled ≡ false → StandsFor s.held (parts_of arrivals)
+  pub frames : s.spoiled ≡ false → s.frames ≡ reverse (map (λ a. a.frame) arrivals)
+  pub apart : s.spoiled ≡ true → (s.frames ≡ []) × AreApart (parts_of arrivals)
+
+-- what becomes of a fragment that is taken: it waits with the others, or it cannot be of one packet with them, and the
+-- answer is the frames that waited
+abbrev pub TakeEnds : SetState → SetState → Part → ℕ → Option (Vec ℕ Global) → Type 0
+TakeEnds old new part frame None = (old.spoiled ≡ false) × (new.spoiled ≡ false) × (length new.frames ≡ length old.frames + 1)
+    × ((arrivals : List Arrival) (a : Arrival) → a.part ≡ part → a.frame ≡ frame → IsSetOf old arrivals → IsSetOf new (a ∷ arrivals))
+TakeEnds old new part frame (Some frames) = (new.spoiled ≡ true) × (frames.items ≡ old.frames)
+    × ((arrivals : List Arrival) (a : Arrival) → a.part ≡ part → IsSetOf old arrivals → AreApart (parts_of (a ∷ arrivals)) × IsSetOf new (a ∷ arrivals))
