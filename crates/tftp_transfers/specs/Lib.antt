@@ -1,3 +1,4 @@
 pub mod Recording
 pub mod Places
+pub mod Kept
 pub mod Worked

@@ -1,25 +1,14 @@
 -- Which datagrams of a recording are one transfer. Lists have the newest first. A datagram's place is a matter of those
 -- before it alone, so the place of each is known when it passes.
-use Rattle.std.specs.Prelude.{ℕ, ◌+◌, ◌==◌, ◌&&◌, ◌||◌, not, nat_le, max, Bool, true, false, List, [], ◌∷◌, length, Option, Some, None, option_map, if◌then◌else◌}
+use Rattle.std.specs.Prelude.{ℕ, ◌+◌, ◌==◌, ◌&&◌, ◌||◌, not, nat_le, max, Bool, true, false, List, [], ◌∷◌, length, Option, Some, None, option_map, is_some, if◌then◌else◌}
 use Rattle.std.specs.List.{list_any}
 use Rattle.tftp_ends.specs.Ports.{first_of}
 use Rattle.tftp_transfers.specs.declared.endpoint.Endpoint.{Endpoint}
+use Rattle.tftp_transfers.specs.declared.place.Place.{Place}
+use Rattle.tftp_transfers.specs.declared.place.Place.TheVariants.{Opens, Repeats, Talks, Apart, Beside, Nowhere}
+use Rattle.tftp_transfers.specs.declared.place.Transfer.{Transfer}
+use Rattle.tftp_transfers.specs.declared.line.Talk.{Talk}
 use Rattle.tftp_transfers.specs.Recording.{Recorded, same_address, same_endpoint, begins_request, is_ack_0, is_data_1, is_answer, goes, is_between, is_again}
-
--- A transfer: how many datagrams of the recording came before the request that opened it, the endpoint that asked, and
--- the one that was asked.
-pub record Transfer : Type 0 where
-  pub number : ℕ
-  pub client : Endpoint
-  pub asked : Endpoint
-
--- where a datagram belongs
-pub data Place : Type 0 where
-  Asks : Transfer → Place  -- a request, which opened the transfer or repeats
-  Talks : Transfer → Place  -- between the transfer's client and another
-  Apart : Endpoint → Place  -- between this client and one with whom it has no transfer
-  Beside : Transfer → Place  -- between the transfer's server and another than its client
-  Nowhere : Place
 
 -- a datagram, the greatest time up to it, and its place
 pub record Placed : Type 0 where
@@ -29,10 +18,17 @@ pub record Placed : Type 0 where
 
 -- ---- tests of places
 
+abbrev pub opens : Placed → Bool
+opens p = by p.place where
+  by : Place → Bool
+  by (Opens x) = true
+  by _ = false
+
 abbrev pub is_request : Placed → Bool
 is_request p = by p.place where
   by : Place → Bool
-  by (Asks x) = true
+  by (Opens x) = true
+  by (Repeats x) = true
   by _ = false
 
 abbrev pub is_apart : Placed → Bool
@@ -45,14 +41,16 @@ is_apart p = by p.place where
 abbrev pub is_at : Endpoint → Placed → Bool
 is_at c p = by p.place where
   by : Place → Bool
-  by (Asks x) = same_endpoint x.client c
+  by (Opens x) = same_endpoint x.client c
+  by (Repeats x) = same_endpoint x.client c
   by (Talks x) = same_endpoint x.client c
   by (Apart a) = same_endpoint a c
   by _ = false
 
 -- the transfer that it is of at its client, if it is of one
 abbrev pub transfer_of : Place → Option Transfer
-transfer_of (Asks x) = Some x
+transfer_of (Opens x) = Some x
+transfer_of (Repeats x) = Some x
 transfer_of (Talks x) = Some x
 transfer_of _ = None
 
@@ -78,14 +76,29 @@ line c (p ∷ older) = if is_at c p then p ∷ live p.moment (line c older) else
 
 -- the transfer that was opened last
 abbrev pub latest_in : List Placed → Option Transfer
-latest_in line = by (newest_of is_request line) where
+latest_in line = by (newest_of opens line) where
   by : Option Placed → Option Transfer
   by None = None
   by (Some p) = transfer_of p.place
 
--- what passed last between the client and another, requests aside
-abbrev pub talk_in : Endpoint → Endpoint → List Placed → Option Placed
-talk_in c o line = newest_of (λ p. not (is_request p) && is_between c o p.datagram) line
+-- the client's last word to it was ACK 0
+abbrev pub last_was_ack_0 : Endpoint → Endpoint → List Placed → Bool
+last_was_ack_0 c o line = by (newest_of (λ p. not (is_request p) && goes c o p.datagram) line) where
+  by : Option Placed → Bool
+  by None = false
+  by (Some p) = is_ack_0 p.datagram.payload
+
+-- the transfer that is talked of
+abbrev pub talked_of : Place → Option Transfer
+talked_of (Talks x) = Some x
+talked_of _ = None
+
+-- What passed last between the client and another, requests aside: the transfer that it is of, and whether the client's
+-- last word was ACK 0.
+abbrev pub talk_in : Endpoint → Endpoint → List Placed → Option Talk
+talk_in c o line =
+    option_map (λ p. record { transfer = talked_of p.place; acked_0 = last_was_ack_0 c o line })
+    (newest_of (λ p. not (is_request p) && is_between c o p.datagram) line)
 
 -- ---- requests
 
@@ -100,34 +113,40 @@ abbrev pub asks : List ℕ → List Placed → ℕ → Recorded → Bool
 asks named older now d =
     begins_request d.payload
     && (is_service named older d.target.port
-    || (d.is_spelled && not (is_talk (talk_in d.source d.target (live now (line d.source older))))))
-  where
-    is_talk : Option Placed → Bool
-    is_talk None = false
-    is_talk (Some p) = true
+    || (d.is_spelled && not (is_some (talk_in d.source d.target (live now (line d.source older))))))
 
 -- A request repeats the one that stands before it in the line, if that is the same. Any other opens a transfer.
-abbrev pub asked_in : ℕ → Recorded → List Placed → Transfer
-asked_in number d line = by (newest_of (λ p. not (is_apart p)) line) where
-  opened : Transfer
-  opened = record { number = number; client = d.source; asked = d.target }
+abbrev pub place_asked : ℕ → Recorded → List Placed → Place
+place_asked number d line = by (newest_of (λ p. not (is_apart p)) line) where
+  opened : Place
+  opened = Opens (record { number = number; client = d.source; asked = d.target })
 
-  again : Bool → Place → Transfer
-  again true (Asks x) = x
+  again : Bool → Place → Place
+  again true (Opens x) = Repeats x
+  again true (Repeats x) = Repeats x
   again _ _ = opened
 
-  by : Option Placed → Transfer
+  by : Option Placed → Place
   by None = opened
   by (Some p) = again (is_again p.datagram d) p.place
 
 -- ---- what passes between a client and another endpoint, and is no request
 
--- who first sent the client a datagram of this transfer
+-- what passed since the latest transfer was opened
+abbrev pub reach : List Placed → List Placed
+reach [] = []
+reach (p ∷ line) = if opens p then [] else p ∷ reach line
+
+-- it came to the client, in this transfer
+abbrev pub answers : Transfer → Placed → Bool
+answers x p = by p.place where
+  by : Place → Bool
+  by (Talks y) = (y.number == x.number) && same_endpoint p.datagram.target x.client
+  by _ = false
+
+-- who first sent the client a datagram of this transfer, the latest one
 abbrev pub answered_in : Transfer → List Placed → Option Endpoint
-answered_in x line = option_map (λ p. p.datagram.source) (first_of (λ p. answers p.place && same_endpoint p.datagram.target x.client) line) where
-  answers : Place → Bool
-  answers (Talks y) = y.number == x.number
-  answers _ = false
+answered_in x line = option_map (λ p. p.datagram.source) (first_of (answers x) (reach line))
 
 -- the host that was asked, or that answered
 abbrev pub is_known_host : Transfer → Option Endpoint → Endpoint → Bool
@@ -136,36 +155,27 @@ is_known_host x answered o = same_address o.address x.asked.address || by answer
   by None = false
   by (Some first) = same_address o.address first.address
 
--- the client's last word to it was ACK 0
-abbrev pub last_was_ack_0 : Endpoint → Endpoint → List Placed → Bool
-last_was_ack_0 c o line = by (newest_of (λ p. not (is_request p) && goes c o p.datagram) line) where
-  by : Option Placed → Bool
-  by None = false
-  by (Some p) = is_ack_0 p.datagram.payload
-
 -- it may be the first answer to the latest request: nobody has answered that yet
 abbrev pub may_answer : Endpoint → Endpoint → Option Endpoint → Recorded → Bool
 may_answer c o None d = goes o c d && is_answer d.payload
 may_answer c o (Some first) d = false
 
--- DATA 1 to a client whose last word was ACK 0 answers that, and no request
-abbrev pub is_block_after_ack_0 : Endpoint → Endpoint → List Placed → Recorded → Bool
-is_block_after_ack_0 c o line d = is_data_1 d.payload && last_was_ack_0 c o line
+-- The first between the two is of the latest transfer; but where the client speaks first to a host that was not asked
+-- and has not answered, the two are apart. What follows is of the transfer that they talk of; but a first answer is of
+-- the latest one. DATA 1 to a client whose last word was ACK 0 answers that, and no request.
+abbrev pub place_talked : Endpoint → Endpoint → Transfer → Option Endpoint → Recorded → Option Talk → Place
+place_talked c o latest answered d None =
+    if same_endpoint d.source c && not (is_known_host latest answered o) then Apart c else Talks latest
+place_talked c o latest answered d (Some talk) = by talk.transfer where
+  by : Option Transfer → Place
+  by None = Apart c
+  by (Some x) = if may_answer c o answered d && not (is_data_1 d.payload && talk.acked_0) then Talks latest else Talks x
 
--- It is of the transfer that is talked of; the first between the two is of the latest one, and so is a first answer. Where
--- the client speaks first to a host that was not asked and has not answered, the two are apart.
 abbrev pub place_at : Endpoint → Endpoint → List Placed → Recorded → Place
 place_at c o line d = by (latest_in line) where
-  of : Transfer → Option Placed → Place
-  of x None = if same_endpoint d.source c && not (is_known_host x (answered_in x line) o) then Apart c else Talks x
-  of x (Some p) = goes_on p.place where
-    goes_on : Place → Place
-    goes_on (Talks y) = if may_answer c o (answered_in x line) d && not (is_block_after_ack_0 c o line d) then Talks x else Talks y
-    goes_on other = other
-
   by : Option Transfer → Place
   by None = Nowhere
-  by (Some x) = of x (talk_in c o line)
+  by (Some x) = place_talked c o x (answered_in x line) d (talk_in c o line)
 
 -- at the client that sent it, or at the one that it was sent to: a transfer comes before what is apart
 abbrev pub either : Place → Place → Place
@@ -211,7 +221,7 @@ beside named older now d = or_else (at d.source) (or_else (at d.target) Nowhere)
 
 abbrev pub place_of : List ℕ → List Placed → ℕ → Recorded → Place
 place_of named older now d =
-    if asks named older now d then Asks (asked_in (length older) d (live now (line d.source older)))
+    if asks named older now d then place_asked (length older) d (live now (line d.source older))
     else otherwise (at_client older now d)
   where
     otherwise : Place → Place

@@ -1,6 +1,11 @@
 -- A recording: whole UDP datagrams, the newest first, and what is asked of one.
-use Rattle.std.specs.Prelude.{ℕ, ◌==◌, ◌&&◌, ◌||◌, Bool, false, List, [], ◌∷◌, take}
+use Rattle.std.specs.Prelude.{ℕ, ◌==◌, ◌&&◌, ◌||◌, Bool, false, List, [], ◌∷◌, nat_eq}
+use Rattle.std.specs.List.{starts_with}
 use Rattle.std.specs.Str.{bytes_eq}
+use Rattle.std.specs.declared.cmp.Ordering.{Ordering}
+use Rattle.std.specs.declared.cmp.Ordering.TheVariants.{Less, Greater}
+use Rattle.std.specs.Ordering.{nat_cmp, on, then_cmp}
+use Rattle.std.specs.Cmp.Lexicographic.{slice_cmp}
 use Rattle.tftp_packet.specs.Faults.{opcode_of}
 use Rattle.tftp_transfers.specs.declared.endpoint.Address.{Address}
 use Rattle.tftp_transfers.specs.declared.endpoint.Address.TheVariants.{V4, V6}
@@ -26,6 +31,16 @@ same_address (V6 one) (V6 other) = bytes_eq one other
 abbrev pub same_endpoint : Endpoint → Endpoint → Bool
 same_endpoint one other = same_address one.address other.address && (one.port == other.port)
 
+-- an order of endpoints: by the port, and then by the address, IP version 4 first
+abbrev pub address_cmp : Address → Address → Ordering
+address_cmp (V4 one) (V4 other) = slice_cmp nat_cmp one other
+address_cmp (V4 one) (V6 other) = Less
+address_cmp (V6 one) (V4 other) = Greater
+address_cmp (V6 one) (V6 other) = slice_cmp nat_cmp one other
+
+abbrev pub endpoint_cmp : Endpoint → Endpoint → Ordering
+endpoint_cmp = then_cmp (on (λ e. e.port) nat_cmp) (on (λ e. e.address) address_cmp)
+
 -- ---- payloads (RFC 1350, section 5; RFC 2347)
 
 abbrev pub begins_request : List ℕ → Bool
@@ -38,7 +53,7 @@ abbrev pub is_ack_0 : List ℕ → Bool
 is_ack_0 payload = bytes_eq payload (0 ∷ 4 ∷ 0 ∷ 0 ∷ [])
 
 abbrev pub is_data_1 : List ℕ → Bool
-is_data_1 payload = bytes_eq (take 4 payload) (0 ∷ 3 ∷ 0 ∷ 1 ∷ [])
+is_data_1 payload = starts_with nat_eq payload (0 ∷ 3 ∷ 0 ∷ 1 ∷ [])
 
 -- what a server may send first: OACK, ERROR, ACK 0 or DATA 1
 abbrev pub is_answer : List ℕ → Bool

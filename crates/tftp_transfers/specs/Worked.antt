@@ -3,7 +3,8 @@ use Rattle.std.specs.Prelude.{ℕ, ◌*◌, true, false, List, [], ◌∷◌, �
 use Rattle.tftp_transfers.specs.declared.endpoint.Address.TheVariants.{V4}
 use Rattle.tftp_transfers.specs.declared.endpoint.Endpoint.{Endpoint}
 use Rattle.tftp_transfers.specs.Recording.{Recorded}
-use Rattle.tftp_transfers.specs.Places.{Place, Placed, placed}
+use Rattle.tftp_transfers.specs.declared.place.Place.{Place}
+use Rattle.tftp_transfers.specs.Places.{Placed, placed}
 
 abbrev pub at : ℕ → ℕ → Endpoint
 at host port = record { address = V4 (192 ∷ 0 ∷ 2 ∷ host ∷ []); port = port }
@@ -52,7 +53,8 @@ error_of code = 0 ∷ 5 ∷ 0 ∷ code ∷ 0 ∷ []
 -- ---- what is read off: by datagram, the newest first, where it belongs and the number of the transfer
 
 pub data Where : Type 0 where
-  Request : ℕ → Where
+  Opens : ℕ → Where
+  Repeats : ℕ → Where
   Client : ℕ → Where
   Apart : Where
   Server : ℕ → Where
@@ -61,7 +63,8 @@ pub data Where : Type 0 where
 abbrev pub where_of : Placed → Where
 where_of p = by p.place where
   by : Place → Where
-  by (Place.Asks x) = Request x.number
+  by (Place.Opens x) = Opens x.number
+  by (Place.Repeats x) = Repeats x.number
   by (Place.Talks x) = Client x.number
   by (Place.Apart c) = Apart
   by (Place.Beside x) = Server x.number

@@ -9,7 +9,7 @@ pub enum Address {
     V6([u8; 16]),
 }
 
-/// A host and a UDP port there (RFC 768): a transfer id of RFC 1350, section 4, is its port.
+/// A host and a UDP port there (RFC 768), which is a transfer id (RFC 1350, section 4).
 #[derive(Clone, Copy, Debug, PartialEq, Eq, PartialOrd, Ord)]
 pub struct Endpoint {
     /// The host's address.

@@ -17,42 +17,42 @@ ghost use Rattle.tftp_transfers.specs.Worked.{
 /// A request that stands beside its equal repeats, and a stray is of the transfer at its client.
 pub fn a_repeated_request_opens_no_transfer()
     ensures { where_all asked_twice
-        ≡ Where.Client 0 ∷ Where.Client 0 ∷ Where.Client 0 ∷ Where.Request 0 ∷ Where.Request 0 ∷ [] }
+        ≡ Where.Client 0 ∷ Where.Client 0 ∷ Where.Client 0 ∷ Where.Repeats 0 ∷ Where.Opens 0 ∷ [] }
 {}
 
 /// A request that comes again after an answer opens a transfer, though it may be a repetition: hence a doubt.
 pub fn a_request_after_an_answer_opens_a_transfer()
     ensures { where_all asked_after_answer
-        ≡ Where.Client 0 ∷ Where.Client 2 ∷ Where.Request 2 ∷ Where.Client 0 ∷ Where.Request 0 ∷ [] }
+        ≡ Where.Client 0 ∷ Where.Client 2 ∷ Where.Opens 2 ∷ Where.Client 0 ∷ Where.Opens 0 ∷ [] }
 {}
 
 /// A server's one port goes over from transfer to transfer.
 pub fn one_port_goes_from_transfer_to_transfer()
     ensures { where_all one_port
-        ≡ Where.Client 3 ∷ Where.Client 3 ∷ Where.Request 3 ∷ Where.Client 0 ∷ Where.Client 0 ∷ Where.Request 0 ∷ [] }
+        ≡ Where.Client 3 ∷ Where.Client 3 ∷ Where.Opens 3 ∷ Where.Client 0 ∷ Where.Client 0 ∷ Where.Opens 0 ∷ [] }
 {}
 
 /// Each client has its own transfer, and a stray at a server is of that server's.
 pub fn two_clients_have_a_transfer_each()
     ensures { where_all two_clients
         ≡ Where.Server 0 ∷ Where.Server 0 ∷ Where.Client 1 ∷ Where.Client 0 ∷ Where.Client 1 ∷ Where.Client 0
-        ∷ Where.Request 1 ∷ Where.Request 0 ∷ [] }
+        ∷ Where.Opens 1 ∷ Where.Opens 0 ∷ [] }
 {}
 
 /// What the old server sends after a reset stays with the old transfer.
 pub fn a_reset_opens_a_transfer()
     ensures { where_all reset
-        ≡ Where.Client 3 ∷ Where.Client 3 ∷ Where.Client 0 ∷ Where.Request 3 ∷ Where.Client 0 ∷ Where.Client 0
-        ∷ Where.Request 0 ∷ [] }
+        ≡ Where.Client 3 ∷ Where.Client 3 ∷ Where.Client 0 ∷ Where.Opens 3 ∷ Where.Client 0 ∷ Where.Client 0
+        ∷ Where.Opens 0 ∷ [] }
 {}
 
 /// After more than 300 s without a datagram nothing joins, and a request opens a transfer.
 pub fn silence_ends_the_line()
-    ensures ended { where_all silent ≡ Where.Request 2 ∷ Where.Nowhere ∷ Where.Request 0 ∷ [] }
-    ensures goes_on { where_all patient ≡ Where.Client 0 ∷ Where.Request 0 ∷ Where.Request 0 ∷ [] }
+    ensures ended { where_all silent ≡ Where.Opens 2 ∷ Where.Nowhere ∷ Where.Opens 0 ∷ [] }
+    ensures goes_on { where_all patient ≡ Where.Client 0 ∷ Where.Repeats 0 ∷ Where.Opens 0 ∷ [] }
 {}
 
 /// A whole request makes its port a service port.
 pub fn a_whole_request_makes_a_service_port()
-    ensures { where_all other_service ≡ Where.Apart ∷ Where.Request 2 ∷ Where.Client 0 ∷ Where.Request 0 ∷ [] }
+    ensures { where_all other_service ≡ Where.Apart ∷ Where.Opens 2 ∷ Where.Client 0 ∷ Where.Opens 0 ∷ [] }
 {}

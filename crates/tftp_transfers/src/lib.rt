@@ -2,6 +2,10 @@
 #![tactic(auto)]
 
 mod endpoint;
+mod kind;
 pub mod laws;
+mod line;
+mod place;
 
 pub use endpoint::{Address, Endpoint};
+pub use place::{Place, Transfer};

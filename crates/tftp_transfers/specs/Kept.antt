@@ -1,0 +1,45 @@
+-- What one pass keeps of the datagrams before: of each client's line, and of each endpoint that served.
+use Rattle.std.specs.Prelude.{◌≡◌, ℕ, ◌+◌, ◌==◌, ◌&&◌, ◌||◌, Bool, true, List, [], ◌∷◌, length, Option, Some, None, option_map, if◌then◌else◌}
+use Rattle.std.specs.List.{list_any}
+use Rattle.std.specs.Str.{bytes_eq}
+use Rattle.std.specs.BTreeMap.{get}
+use Rattle.tftp_transfers.specs.declared.endpoint.Endpoint.{Endpoint}
+use Rattle.tftp_transfers.specs.declared.place.Place.{Place}
+use Rattle.tftp_transfers.specs.declared.place.Place.TheVariants.{Opens, Repeats}
+use Rattle.tftp_transfers.specs.declared.place.Transfer.{Transfer}
+use Rattle.tftp_transfers.specs.declared.kind.Kind.{Kind}
+use Rattle.tftp_transfers.specs.declared.kind.Seen.{Seen}
+use Rattle.tftp_transfers.specs.declared.line.Line.{Line}
+use Rattle.tftp_transfers.specs.declared.line.Talk.{Talk}
+use Rattle.tftp_transfers.specs.Recording.{Recorded, same_endpoint, endpoint_cmp, begins_request, begins_error, is_ack_0, is_data_1, is_answer}
+use Rattle.tftp_transfers.specs.Places.{Placed, transfer_of, clock, live, line, latest_in, answered_in, talk_in, place_asked}
+
+-- what is looked at of a payload
+abbrev pub kind_of : List ℕ → Kind
+kind_of payload = record {
+  begins_request = begins_request payload;
+  begins_error = begins_error payload;
+  is_ack_0 = is_ack_0 payload;
+  is_data_1 = is_data_1 payload;
+  is_answer = is_answer payload;
+}
+
+-- and of a datagram, but for its payload
+abbrev pub seen_of : Recorded → Seen
+seen_of d = record { source = d.source; target = d.target; kind = kind_of d.payload }
+
+-- ---- a line
+
+-- where a request goes, by what the line keeps
+abbrev pub asked_by : Line → ℕ → Recorded → Place
+asked_by l number d =
+    if l.ends_in_request && bytes_eq l.request.items d.payload && same_endpoint d.target l.latest.asked then Repeats l.latest
+    else Opens (record { number = number; client = d.source; asked = d.target })
+
+-- It stands for these datagrams of a client's line.
+pub record IsLineOf (l : Line) (line : List Placed) : Type 0 where
+  pub latest : latest_in line ≡ Some l.latest
+  pub answered : answered_in l.latest line ≡ l.answered
+  pub moment : clock line ≡ l.moment
+  pub asked : (number : ℕ) (d : Recorded) → d.source ≡ l.latest.client → place_asked number d line ≡ asked_by l number d
+  pub talks : (o : Endpoint) → get endpoint_cmp l.talks o ≡ talk_in l.latest.client o line

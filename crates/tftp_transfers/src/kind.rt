@@ -1,0 +1,58 @@
+//! What is looked at of a datagram.
+
+ghost use Rattle.std.specs.Prelude.{◌≡◌, ◌==◌, ◌||◌};
+ghost use Rattle.tftp_transfers.specs.Kept.{kind_of};
+
+use crate::endpoint::Endpoint;
+use tftp_packet::opcode;
+
+/// What is looked at of a payload (RFC 1350, section 5; RFC 2347).
+#[derive(Clone, Copy)]
+pub(crate) struct Kind {
+    pub begins_request: bool,
+    pub begins_error: bool,
+    pub is_ack_0: bool,
+    pub is_data_1: bool,
+    pub is_answer: bool,
+}
+
+/// A datagram's ends, and what is looked at of its payload.
+#[derive(Clone, Copy)]
+pub(crate) struct Seen {
+    pub source: Endpoint,
+    pub target: Endpoint,
+    pub kind: Kind,
+}
+
+const ACK_0: [u8; 4] = [0, 4, 0, 0];
+
+const DATA_1: [u8; 4] = [0, 3, 0, 1];
+
+fn is_request_code(opcode: u16) -> bool
+    ensures { result ≡ ((opcode == 1) || (opcode == 2)) }
+{
+    opcode == 1 || opcode == 2
+}
+
+/// OACK or ERROR.
+fn is_answer_code(opcode: u16) -> bool
+    ensures { result ≡ ((opcode == 6) || (opcode == 5)) }
+{
+    opcode == 6 || opcode == 5
+}
+
+impl Kind {
+    pub fn new(payload: &[u8]) -> Self
+        ensures { result ≡ kind_of payload.now }
+    {
+        let is_ack_0 = payload == ACK_0.as_slice();
+        let is_data_1 = payload.starts_with(DATA_1.as_slice());
+        Kind {
+            begins_request: is_request_code(opcode(payload)),
+            begins_error: opcode(payload) == 5,
+            is_ack_0,
+            is_data_1,
+            is_answer: is_answer_code(opcode(payload)) || is_ack_0 || is_data_1,
+        }
+    }
+}

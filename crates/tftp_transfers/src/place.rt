@@ -1,0 +1,31 @@
+//! Where a datagram of a recording belongs.
+
+use crate::endpoint::Endpoint;
+
+/// A transfer: one read or write (RFC 1350, section 1).
+#[derive(Clone, Copy, Debug, PartialEq, Eq)]
+pub struct Transfer {
+    /// How many datagrams of the recording came before the request that opened it.
+    pub number: u64,
+    /// The endpoint that asked.
+    pub client: Endpoint,
+    /// The endpoint that was asked.
+    pub asked: Endpoint,
+}
+
+/// Where a datagram belongs: in one place.
+#[derive(Clone, Copy, Debug, PartialEq, Eq)]
+pub enum Place {
+    /// A request that opened the transfer.
+    Opens(Transfer),
+    /// The transfer's request again.
+    Repeats(Transfer),
+    /// Between the transfer's client and another endpoint.
+    Talks(Transfer),
+    /// Between this client and one with which it has no transfer.
+    Apart(Endpoint),
+    /// Between the transfer's server and another than its client.
+    Beside(Transfer),
+    /// Of no transfer.
+    Nowhere,
+}

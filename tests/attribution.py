@@ -1,0 +1,117 @@
+"""Tries the definition of which datagrams of a recording are one transfer: recordings of lawful ends are drawn, divided by
+the definition (fuzzing/attribution.py is its prototype), and each transfer's capture is judged by the built program. Nobody
+may be accused: each refusal must have a doubt.
+
+    attribution.py [--cases N] [--seed SEED] PROGRAM
+
+Each case is one recording of reads with dense strays and repeated requests, and one session recorded at each end and
+between. The first has the seed SEED, and each further one the next number. The last line is 'N passed, M failed'; status 1
+if any failed.
+"""
+import argparse
+import collections
+import os
+import sys
+from typing import Iterator
+
+from fuzzing.attribution import Attribution, Datagram, Transfer, attributed
+from fuzzing.dense import alone, drawn_reads, whole
+from fuzzing.program import Program
+from fuzzing.sessions import SERVER, simulated
+
+Told = collections.Counter[tuple[str, str]]
+
+
+def text_of(one: Transfer, end: str, view: list[Datagram]) -> bytes:
+    """The capture text of a transfer at an end, version 2."""
+    lines = ["tftp-capture 2", f"end {end}", f"service {one.asked.port}"]
+    besides = {it.number: at for it, at in one.beside}
+    for it in view:
+        if it.number in besides:
+            is_out = it.source == besides[it.number]
+        else:
+            is_out = (it.source == one.client) == (end == "client")
+        own, other = (it.source, it.target) if is_out else (it.target, it.source)
+        lines.append(f"{'out' if is_out else 'in'} {own.port} {other.host} {other.port} {it.payload.hex() or '-'}")
+    return "\n".join([*lines, f"total {len(view)}", ""]).encode()
+
+
+class Trier:
+    def __init__(self, program: Program) -> None:
+        self.program = program
+        self.told: Told = collections.Counter()
+
+    def check(self, one: Transfer, end: str, view: list[Datagram]) -> str:
+        printed, errors, _ = self.program.run("check", text_of(one, end, view))
+        if errors:
+            raise RuntimeError(f"it wrote errors: {errors!r}")
+        return str(printed.decode().strip())
+
+    def verdict(self, one: Transfer, end: str) -> tuple[str, str]:
+        """The verdict of an end's view, and the datagram and rule of a refusal; a refusal with a doubt is `doubtful`."""
+        view = one.view(end)
+        said = self.check(one, end, view)
+        words = said.split()
+        if words[0] != "refused":
+            return words[0], ""
+        at = view[int(words[2]) - 1]
+        return "doubtful" if one.doubts_at(end, at.number) else "refused", f"{at.number} {said.split('rule ')[1]}"
+
+    def refusals(self, kind: str, end: str, found: Attribution) -> Iterator[str]:
+        """The transfers that are accused: between, where both views are refused by one rule at one datagram."""
+        for one in found.transfers:
+            if end == "between":
+                (client, why), (server, other) = self.verdict(one, "client"), self.verdict(one, "server")
+                word = "refused" if client == server == "refused" and why == other else "spared"
+            else:
+                word, why = self.verdict(one, end)
+            self.told[f"{kind}, {end}", word] += 1
+            if word == "refused":
+                yield f"{kind}, {end}: transfer {one.number}, datagram {why}"
+
+    def dense_case(self, seed: int) -> list[str]:
+        reads = drawn_reads(seed)
+        ones = [alone(passed, port) for passed, port in reads]
+        if any(self.check(one, "client", one.seen).startswith("refused") for one in ones):
+            self.told["dense", "not lawful when drawn"] += 1
+            return []
+        return list(self.refusals("dense", "client", attributed(whole(reads))))
+
+    def session_case(self, seed: int) -> list[str]:
+        kind, recorded = simulated(seed)
+        ends = [("server" if place == SERVER else "between" if place == "between" else "client", place) for place in recorded]
+        hosts = [(end, place) for end, place in ends if place != "10.1.0.9"]
+        return [said for end, place in hosts for said in self.refusals(kind, end, attributed(recorded[place]))]
+
+
+def words_of(arguments: list[str]) -> argparse.Namespace:
+    parser = argparse.ArgumentParser(prog="attribution.py", description=(__doc__ or "").split("\n\n", maxsplit=1)[0])
+    parser.add_argument("--cases", type=int, default=100, help="how many cases are tried")
+    parser.add_argument("--seed", type=int, help="the seed of the first case; each further one has the next number")
+    parser.add_argument("program")
+    words = parser.parse_args(arguments)
+    if not os.access(words.program, os.X_OK):
+        parser.error(f"there is no program {words.program}")
+    if words.seed is None:
+        words.seed = int.from_bytes(os.urandom(4), "big")
+    return words
+
+
+def main(arguments: list[str]) -> int:
+    words = words_of(arguments)
+    program = Program(os.path.abspath(words.program))
+    trier, failed = Trier(program), 0
+    for seed in range(words.seed, words.seed + words.cases):
+        accused = [*trier.dense_case(seed), *trier.session_case(seed)]
+        failed += bool(accused)
+        for said in accused:
+            print(f"FAILED case {seed}: {said}")
+    program.close()
+    for (what, word), count in sorted(trier.told.items()):
+        print(f"{what}: {count} {word}")
+    print(f"{words.cases - failed} passed, {failed} failed")
+    return 1 if failed else 0
+
+
+if __name__ == "__main__":
+    sys.exit(main(sys.argv[1:]))

@@ -1,0 +1,225 @@
+"""Which datagrams of a recording are one transfer: the definition of crates/tftp_transfers/specs in one pass, as it is
+tried before and beside the proofs. A transfer is known by how many datagrams came before the request that opened it."""
+from __future__ import annotations
+
+from dataclasses import dataclass, field
+from typing import Iterable, NamedTuple, Optional
+
+SILENCE = 300.0
+ACK_0, DATA_1 = b"\0\4\0\0", b"\0\3\0\1"
+MODES = (b"octet", b"netascii", b"mail")
+
+
+class Endpoint(NamedTuple):
+    host: str
+    port: int
+
+
+class Datagram(NamedTuple):
+    number: int
+    time: float
+    source: Endpoint
+    target: Endpoint
+    payload: bytes
+
+    def way(self) -> tuple[Endpoint, Endpoint, bytes]:
+        return self.source, self.target, self.payload
+
+
+def begins(payload: bytes, *opcodes: int) -> bool:
+    return payload[:1] == b"\0" and payload[1:2] != b"" and payload[1] in opcodes
+
+
+def spells_request(payload: bytes) -> bool:
+    """Whether it is a request from its first byte to its last."""
+    words = payload[2:].split(b"\0")
+    has_form = len(words) % 2 == 1 and len(words) > 2 and words[-1] == b""
+    return begins(payload, 1, 2) and has_form and words[1].lower() in MODES
+
+
+def is_answer(payload: bytes) -> bool:
+    return begins(payload, 5, 6) or payload == ACK_0 or payload[:4] == DATA_1
+
+
+@dataclass
+class Transfer:
+    number: int
+    client: Endpoint
+    asked: Endpoint
+    seen: list[Datagram] = field(default_factory=list)
+    requests: set[int] = field(default_factory=set)
+    beside: list[tuple[Datagram, Endpoint]] = field(default_factory=list)
+    answered: Optional[Endpoint] = None
+    went_on: Optional[Endpoint] = None
+    newest: float = 0.0
+    doubts: list[tuple[int, str]] = field(default_factory=list)
+
+    def server(self) -> Optional[Endpoint]:
+        return self.went_on or self.answered
+
+    def is_with_server(self, it: Datagram) -> bool:
+        """Whether it passed with the server's port, at a host that was asked, that answered, or that the client went on
+        with."""
+        server, other = self.server(), it.target if it.source == self.client else it.source
+        hosts = {end.host for end in (self.asked, self.answered, self.went_on) if end}
+        return server is not None and other.port == server.port and other.host in hosts
+
+    def view(self, end: str) -> list[Datagram]:
+        if end == "client":
+            return self.seen
+        own = [it for it in self.seen if it.number in self.requests or self.is_with_server(it)]
+        return sorted(own + [it for it, at in self.beside if at == self.server()])
+
+    def doubts_at(self, end: str, number: int) -> list[str]:
+        """Why a refusal at this datagram is no accusation."""
+        told = [why for since, why in self.doubts if since <= number]
+        if end == "server" and any(it.number == number for it, _ in self.beside):
+            told.append("it passed with another than the client, whose request may not have been recorded")
+        ways = [it.way() for it in self.seen]
+        pairs = zip(ways, [None, *ways], [*ways[1:], None])
+        if len(ways) > 1 and all(way in (before, after) for way, before, after in pairs):
+            told.append("each of its datagrams stands beside its equal: recorded twice")
+        return told
+
+
+@dataclass
+class Talk:
+    """Of a client's endpoint with another: the transfer, if it is of one, and whether the client's last word was ACK 0."""
+
+    transfer: Optional[Transfer]
+    acked_0: bool = False
+
+
+@dataclass
+class Line:
+    """What passed at a client's endpoint since it was last silent."""
+
+    latest: Transfer
+    moment: float
+    request: Datagram
+    ends_in_request: bool = True
+    only_asked: bool = True
+    talks: dict[Endpoint, Talk] = field(default_factory=dict)
+
+
+class Attribution:
+    def __init__(self, named: Iterable[int] = ()) -> None:
+        self.services = {69, *named}
+        self.clock, self.count = 0.0, 0
+        self.lines: dict[Endpoint, Line] = {}
+        self.served: dict[Endpoint, tuple[Transfer, float]] = {}
+        self.transfers: list[Transfer] = []
+        self.places: list[tuple[str, Optional[int]]] = []
+
+    def take(self, it: Datagram) -> None:
+        self.clock = max(self.clock, it.time)
+        self.places.append(self.place_of(it))
+        self.count += 1
+
+    def line(self, client: Endpoint) -> Optional[Line]:
+        line = self.lines.get(client)
+        return line if line and self.clock <= line.moment + SILENCE else None
+
+    def place_of(self, it: Datagram) -> tuple[str, Optional[int]]:
+        if self.asks(it):
+            one = self.asked(it)
+            self.keep(one, it)
+            one.requests.add(it.number)
+            return "request", one.number
+        return self.at_client(it) or self.beside(it) or ("nowhere", None)
+
+    def keep(self, one: Transfer, it: Datagram) -> None:
+        one.seen.append(it)
+        if it.time < one.newest:
+            one.doubts.append((0, "its datagrams are not in the order of their times"))
+        one.newest = max(one.newest, it.time)
+
+    def asks(self, it: Datagram) -> bool:
+        line = self.line(it.source)
+        is_found = spells_request(it.payload) and not (line and it.target in line.talks)
+        return begins(it.payload, 1, 2) and (it.target.port in self.services or is_found)
+
+    def asked(self, it: Datagram) -> Transfer:
+        self.services.add(it.target.port)
+        line = self.line(it.source)
+        if line and line.ends_in_request and line.request.way() == it.way():
+            line.moment = self.clock
+            return line.latest
+        one = Transfer(self.count, it.source, it.target)
+        self.transfers.append(one)
+        if line is None:
+            self.lines[it.source] = Line(one, self.clock, it)
+            return one
+        if line.only_asked and line.request.way() == it.way():
+            one.doubts.append((0, "its client had asked the same and sent nothing else since: the transfer before goes on"))
+        line.latest, line.moment, line.request = one, self.clock, it
+        line.ends_in_request = line.only_asked = True
+        return one
+
+    def at_client(self, it: Datagram) -> Optional[tuple[str, Optional[int]]]:
+        """At the client that sent it or else at the one that it was sent to; a transfer comes before what is apart."""
+        apart: list[tuple[Line, Endpoint]] = []
+        for client, other in ((it.source, it.target), (it.target, it.source)):
+            line = self.line(client)
+            if line:
+                talk = self.talk_with(line, client, other, it)
+                if talk.transfer:
+                    return self.go_on(line, client, other, talk, it)
+                apart.append((line, other))
+        if not apart:
+            return None
+        line, other = apart[0]
+        line.talks.setdefault(other, Talk(None))
+        line.moment = self.clock
+        if other == it.target:
+            line.talks[other].acked_0 = it.payload == ACK_0
+        return "apart", None
+
+    def talk_with(self, line: Line, client: Endpoint, other: Endpoint, it: Datagram) -> Talk:
+        latest, talk = line.latest, line.talks.get(other)
+        if talk is None:
+            hosts = {latest.asked.host, latest.answered.host if latest.answered else ""}
+            return Talk(None if it.source == client and other.host not in hosts else latest)
+        may_answer = latest.answered is None and it.source == other and it.target == client and is_answer(it.payload)
+        if talk.transfer is None or talk.transfer is latest or not may_answer:
+            return talk
+        if talk.acked_0 and it.payload[:4] == DATA_1:
+            latest.doubts.append((0, f"a DATA 1 of transfer {talk.transfer.number}'s endpoint may be its answer"))
+            return talk
+        latest.doubts.append((0, f"its server's endpoint was that of transfer {talk.transfer.number}"))
+        return Talk(latest, talk.acked_0)
+
+    def go_on(
+        self, line: Line, client: Endpoint, other: Endpoint, talk: Talk, it: Datagram
+    ) -> Optional[tuple[str, Optional[int]]]:
+        one = talk.transfer
+        if one is None:
+            return None
+        line.talks[other], line.moment, line.ends_in_request = talk, self.clock, False
+        if one is not line.latest:
+            one.doubts.append((it.number, "its client's endpoint had asked again"))
+        if it.source == other:
+            one.answered = one.answered or other
+            self.served[other] = one, self.clock
+        if it.source == client:
+            talk.acked_0 = it.payload == ACK_0
+            if not begins(it.payload, 5):
+                line.only_asked = False
+                one.went_on = one.went_on or other
+        self.keep(one, it)
+        return "client", one.number
+
+    def beside(self, it: Datagram) -> Optional[tuple[str, Optional[int]]]:
+        for at in (it.source, it.target):
+            one, moment = self.served.get(at, (None, 0.0))
+            if one and at.port not in self.services and self.clock <= moment + SILENCE:
+                one.beside.append((it, at))
+                return "server", one.number
+        return None
+
+
+def attributed(recording: Iterable[Datagram], named: Iterable[int] = ()) -> Attribution:
+    rule = Attribution(named)
+    for it in recording:
+        rule.take(it)
+    return rule
