@@ -1,0 +1,191 @@
+-- A datagram that passes between the ends has a part.
+use Rattle.std.proofs.Common.{◌≡◌, ◌⊎◌, ℕ, Bool, true, false, List, [], ◌∷◌, Any, Some, inl, inr, refl, sym, subst, ap, ◌∙◌}
+use Rattle.std.specs.Prelude.{◌&&◌, ◌||◌, ◌==◌, if◌then◌else◌}
+use Rattle.std.specs.List.{list_any}
+use Rattle.std.proofs.lemmas.Bool.{true≢false, eq-eqb}
+use Rattle.tftp_packet.specs.Message.{Message, RequestParts}
+use Rattle.tftp_packet.specs.Spelling.{Spells}
+use Rattle.tftp_packet.specs.Faults.{opcode_of}
+use Rattle.tftp_packet.specs.declared.kinds.End.{End}
+use Rattle.tftp_packet.specs.declared.kinds.End.TheVariants.{Client, Server}
+use Rattle.tftp_ends.specs.Machines.{MachinePacket, Req, Oack, Data, Ack, Error}
+use Rattle.tftp_ends.specs.Ports.{same_peer}
+use Rattle.tftp_law.specs.Sides.{BeginsAsRequest}
+use Rattle.tftp_law.specs.Divides.{packet_in, says_some}
+use Rattle.tftp_law.specs.declared.rule.Rule.{Rule}
+use Rattle.tftp_law.specs.declared.rule.Rule.TheVariants as rule
+use Rattle.tftp_law.proofs.RouteTests.{same_is, is_same, other_peer, apart_is}
+use Rattle.tftp_law.proofs.FirstRequests.{begins_asked}
+use Rattle.tftp_law.proofs.Divided.{any_none, any_cases, any_first, any_later}
+use Rattle.tftp_tap.specs.Tap.{Pass}
+use Rattle.tftp_tap.specs.TapCapture.{PeerId, TapDatagram, TapSides, side_of, AreApart}
+use Rattle.tftp_tap.specs.TapDress.{TapPart, Main, Stray, StrayAnswer, TapPlaced, TapDivision, tapped_of, IsMainFrom, GoesThere, CarriesPass, PassesAstray, AnswersTapStray, HasTapPart, HaveTapParts}
+use Rattle.tftp_tap.specs.TapRoutes.{asks_in, ends_in, has_gone, route_astray, route_from_client, route_from_server, route_from_elsewhere, tap_route, is_passing}
+use Rattle.tftp_tap.specs.TapRules.{SidesBreak, IsTapRead, TapBroken, TapPasses}
+use Rattle.tftp_tap.specs.declared.route.TapRoute.{TapRoute}
+use Rattle.tftp_tap.proofs.OneTapDivision.{no_stray_side}
+use Rattle.tftp_tap.proofs.KeptOf.{is_or_not, and_true, any_skip}
+use Rattle.tftp_tap.proofs.TapTests.{asks_says, asks_message, source_is}
+
+-- a payload that opens as a request, tested
+request_tested : (payload : List ℕ) → BeginsAsRequest payload → asks_in payload ≡ true
+request_tested payload (rest, inl is) = subst (λ p. asks_in p ≡ true) (sym is) refl
+request_tested payload (rest, inr is) = subst (λ p. asks_in p ≡ true) (sym is) refl
+
+module _ (s : TapSides) (apart : AreApart s) where
+  -- what went from the server to the client is a packet of the server
+  from_server_is : (division : TapDivision) → HaveTapParts s says_some division → (d : TapDatagram) (part : TapPart) → HasTapPart s says_some division d part → d.source ≡ s.server → d.destination ≡ s.client → IsMainFrom Server part
+  from_server_is division parts d (Main x) c source to = by x.from x.packet c.source where
+    by : (e : End) (p : MachinePacket) → d.source ≡ side_of s e → (packet : MachinePacket) × (Main (record { from = e; packet = p }) ≡ Main (record { from = Server; packet = packet }))
+    by Client p at = absurd (apart.server (sym at ∙ source))
+    by Server p at = (p, refl)
+  from_server_is division parts d Stray c source to = absurd (c.elsewhere Server source)
+  from_server_is division parts d StrayAnswer c source to = absurd (no_stray_side s apart division parts Client d.source d.destination to c.there)
+
+  gone_answered : (division : TapDivision) → HaveTapParts s says_some division → has_gone s.server s.client (tapped_of division) ≡ true → Any (λ p. IsMainFrom Server p.part) division
+  gone_answered [] parts gone = absurd (true≢false (sym gone))
+  gone_answered (p ∷ division) parts gone = elim (is_or_not (same_peer p.datagram.source s.server && same_peer p.datagram.destination s.client)) [
+    | inl now ↦
+        let both = and_true (same_peer p.datagram.source s.server) (same_peer p.datagram.destination s.client) now in
+        any_first (λ (q : TapPlaced). IsMainFrom Server q.part) p division (from_server_is division parts.1 p.datagram p.part parts.0 (is_same p.datagram.source s.server both.0) (is_same p.datagram.destination s.client both.1))
+    | inr other ↦ any_later (λ (q : TapPlaced). IsMainFrom Server q.part) p division (gone_answered division parts.1 (sym (any_skip (λ d. same_peer d.source s.server && same_peer d.destination s.client) p.datagram (tapped_of division) other) ∙ gone))
+  ]
+
+  -- what went to an end from where neither it nor the other end sends to it is a stray
+  stray_is : (division : TapDivision) → HaveTapParts s says_some division → (d : TapDatagram) (part : TapPart) → HasTapPart s says_some division d part → (e : End) → d.destination ≡ side_of s e
+      → (d.source ≡ s.client → e ≡ Client) → (d.source ≡ s.server → e ≡ Server) → part ≡ Stray
+  stray_is division parts d (Main x) c e to client server = by x.from x.packet c.source c.goes where
+    by : (f : End) (p : MachinePacket) → d.source ≡ side_of s f → GoesThere s division d f p → Main x ≡ Stray
+    by Client Req source goes = absurd (apart.asked (sym (subst (λ v. d.destination ≡ side_of s v) (client source) to) ∙ goes))
+    by Client Oack source goes = absurd (apart.server (sym (subst (λ v. d.destination ≡ side_of s v) (client source) to) ∙ goes.0))
+    by Client (Data k) source goes = absurd (apart.server (sym (subst (λ v. d.destination ≡ side_of s v) (client source) to) ∙ goes.0))
+    by Client (Ack j) source goes = absurd (apart.server (sym (subst (λ v. d.destination ≡ side_of s v) (client source) to) ∙ goes.0))
+    by Client (Error code text) source goes = absurd (apart.server (sym (subst (λ v. d.destination ≡ side_of s v) (client source) to) ∙ goes.0))
+    by Server p source goes = absurd (apart.server (sym goes ∙ subst (λ v. d.destination ≡ side_of s v) (server source) to))
+  stray_is division parts d Stray c e to client server = refl
+  stray_is division parts d StrayAnswer c e to client server = absurd (no_stray_side s apart division parts e d.source d.destination to c.there)
+
+  gone_stray : (from to : PeerId) (e : End) → to ≡ side_of s e → (from ≡ s.client → e ≡ Client) → (from ≡ s.server → e ≡ Server) → (division : TapDivision) → HaveTapParts s says_some division
+      → has_gone from to (tapped_of division) ≡ true → Any (λ p. (p.part ≡ Stray) × (p.datagram.source ≡ from) × (p.datagram.destination ≡ to)) division
+  gone_stray from to e at client server [] parts gone = absurd (true≢false (sym gone))
+  gone_stray from to e at client server (p ∷ division) parts gone = elim (is_or_not (same_peer p.datagram.source from && same_peer p.datagram.destination to)) [
+    | inl now ↦
+        let both = and_true (same_peer p.datagram.source from) (same_peer p.datagram.destination to) now in
+        let source = is_same p.datagram.source from both.0 in
+        let there = is_same p.datagram.destination to both.1 in
+        any_first (λ (q : TapPlaced). (q.part ≡ Stray) × (q.datagram.source ≡ from) × (q.datagram.destination ≡ to)) p division
+        (stray_is division parts.1 p.datagram p.part parts.0 e (there ∙ at) (λ is. client (sym source ∙ is)) (λ is. server (sym source ∙ is)), source, there)
+    | inr other ↦ any_later (λ (q : TapPlaced). (q.part ≡ Stray) × (q.datagram.source ≡ from) × (q.datagram.destination ≡ to)) p division
+        (gone_stray from to e at client server division parts.1 (sym (any_skip (λ d. same_peer d.source from && same_peer d.destination to) p.datagram (tapped_of division) other) ∙ gone))
+  ]
+
+  module _ (earlier : TapDivision) (parts : HaveTapParts s says_some earlier) (d : TapDatagram) (passes : TapPasses s (tapped_of earlier) d) where
+    abbrev HasPart : Type 0
+    HasPart = (part : TapPart) × HasTapPart s says_some earlier d part
+
+    read_as : (route : TapRoute) → tap_route s (tapped_of earlier) d ≡ route → IsTapRead route d
+    read_as route is = subst (λ r. IsTapRead r d) is passes.read
+
+    not_wrong : tap_route s (tapped_of earlier) d ≡ TapRoute.WrongPort → ⊥
+    not_wrong is = passes.lawful rule.WrongPort (inl is)
+
+    not_foreign : tap_route s (tapped_of earlier) d ≡ TapRoute.ForeignPort → ⊥
+    not_foreign is = passes.lawful rule.ForeignPort (inl is)
+
+    -- a packet of the end, whatever its kind
+    of_end : (x : Pass) → d.source ≡ side_of s x.from → GoesThere s earlier d x.from x.packet → says_some x.packet d.payload → HasPart
+    of_end x source goes says = (Main x, record { source = source; goes = goes; spells = says })
+
+    client_said : d.source ≡ s.client → asks_in d.payload ≡ false → (d.destination ≡ s.server) × Any (λ p. IsMainFrom Server p.part) earlier → (m : Message) → Spells d.payload m → HasPart
+    client_said source plain goes (Message.Request asked) says = absurd (true≢false (sym (asks_says d.payload (Message.Request asked) says) ∙ plain))
+    client_said source plain goes (Message.Oack options) says = of_end (record { from = Client; packet = Oack }) source goes (Message.Oack options, says, refl)
+    client_said source plain goes (Message.Data k bytes) says = of_end (record { from = Client; packet = Data k }) source goes (Message.Data k bytes, says, refl)
+    client_said source plain goes (Message.Ack j) says = of_end (record { from = Client; packet = Ack j }) source goes (Message.Ack j, says, refl)
+    client_said source plain goes (Message.Error code text) says = of_end (record { from = Client; packet = Error code text }) source goes (Message.Error code text, says, refl)
+
+    server_said : d.source ≡ s.server → d.destination ≡ s.client → (m : Message) → Spells d.payload m → HasPart
+    server_said source to (Message.Request asked) says = of_end (record { from = Server; packet = Req }) source to (Message.Request asked, says, refl)
+    server_said source to (Message.Oack options) says = of_end (record { from = Server; packet = Oack }) source to (Message.Oack options, says, refl)
+    server_said source to (Message.Data k bytes) says = of_end (record { from = Server; packet = Data k }) source to (Message.Data k bytes, says, refl)
+    server_said source to (Message.Ack j) says = of_end (record { from = Server; packet = Ack j }) source to (Message.Ack j, says, refl)
+    server_said source to (Message.Error code text) says = of_end (record { from = Server; packet = Error code text }) source to (Message.Error code text, says, refl)
+
+    -- an answer to a stray
+    astray : (e : End) → d.source ≡ side_of s e → (d.destination ≡ s.client → e ≡ Client) → (d.destination ≡ s.server → e ≡ Server) → tap_route s (tapped_of earlier) d ≡ route_astray (tapped_of earlier) d → HasPart
+    astray e source client server is = elim (is_or_not (has_gone d.destination d.source (tapped_of earlier))) [
+      | inr never ↦ absurd (not_wrong (is ∙ wrong never))
+      | inl gone ↦ elim (is_or_not (ends_in d.payload)) [
+        | inr other ↦ absurd (passes.lawful rule.StrayAnswer (inl (inl (is ∙ bad gone other))))
+        | inl ends ↦ (StrayAnswer, record { own = (e, source); there = gone_stray d.destination d.source e source client server earlier parts gone; spells = read_as TapRoute.StrayAnswer (is ∙ good gone ends) })
+      ]
+    ]
+      where
+        wrong : has_gone d.destination d.source (tapped_of earlier) ≡ false → route_astray (tapped_of earlier) d ≡ TapRoute.WrongPort
+        wrong never = rw (never) refl
+
+        bad : has_gone d.destination d.source (tapped_of earlier) ≡ true → ends_in d.payload ≡ false → route_astray (tapped_of earlier) d ≡ TapRoute.NoStrayAnswer
+        bad gone other = rw (gone, other) refl
+
+        good : has_gone d.destination d.source (tapped_of earlier) ≡ true → ends_in d.payload ≡ true → route_astray (tapped_of earlier) d ≡ TapRoute.StrayAnswer
+        good gone ends = rw (gone, ends) refl
+
+    by_client : d.source ≡ s.client → HasPart
+    by_client source = elim (is_or_not (asks_in d.payload)) [
+      | inl asks ↦ elim (is_or_not (same_peer d.destination s.asked)) [
+        | inl there ↦
+            let read = read_as TapRoute.Request (rw (same, asks, there) refl) in
+            let asked = begins_asked d.payload read.0 read.1 asks in
+            of_end (record { from = Client; packet = Req }) source (is_same d.destination s.asked there) (Message.Request asked.0, subst (Spells d.payload) asked.1 read.1, refl)
+        | inr elsewhere ↦ absurd (not_wrong (rw (same, asks, elsewhere) refl))
+      ]
+      | inr plain ↦ elim (is_or_not (same_peer d.destination s.server)) [
+        | inl there ↦ elim (is_or_not (has_gone s.server s.client (tapped_of earlier))) [
+          | inl gone ↦ let read = read_as TapRoute.FromClient (rw (same, plain, there, gone) refl) in client_said source plain (is_same d.destination s.server there, gone_answered earlier parts gone) read.0 read.1
+          | inr never ↦ absurd (not_wrong (rw (same, plain, there, never) refl))
+        ]
+        | inr elsewhere ↦ astray Client source (λ is. refl) (λ is. absurd (apart_is d.destination s.server elsewhere is)) (rw (same, plain, elsewhere) refl)
+      ]
+    ]
+      where
+        same : same_peer d.source s.client ≡ true
+        same = same_is d.source s.client source
+
+    by_server : d.source ≡ s.server → HasPart
+    by_server source = elim (is_or_not (same_peer d.destination s.client)) [
+      | inl there ↦ let read = read_as TapRoute.FromServer (rw (other, same, there) refl) in server_said source (is_same d.destination s.client there) read.0 read.1
+      | inr elsewhere ↦ astray Server source (λ is. absurd (apart_is d.destination s.client elsewhere is)) (λ is. refl) (rw (other, same, elsewhere) refl)
+    ]
+      where
+        other : same_peer d.source s.client ≡ false
+        other = source_is s apart d Server Client source
+
+        same : same_peer d.source s.server ≡ true
+        same = source_is s apart d Server Server source
+
+    by_other : same_peer d.source s.client ≡ false → same_peer d.source s.server ≡ false → HasPart
+    by_other no_client no_server = elim (is_or_not (same_peer d.destination s.client)) [
+      | inl there ↦ (Stray, record { elsewhere = elsewhere; here = (Client, is_same d.destination s.client there); no_request = λ to. absurd (apart.server (sym (is_same d.destination s.client there) ∙ to)) })
+      | inr not_client ↦ elim (is_or_not (same_peer d.destination s.server)) [
+        | inr not_server ↦ absurd (not_foreign (rw (no_client, no_server, not_client, not_server) refl))
+        | inl there ↦ elim (is_or_not ((s.server.port == s.asked.port) && asks_in d.payload)) [
+          | inl another ↦ absurd (not_foreign (rw (no_client, no_server, not_client, there, another) refl))
+          | inr fine ↦ (Stray, record { elsewhere = elsewhere; here = (Server, is_same d.destination s.server there); no_request = λ to port begins. true≢false (sym (both port begins) ∙ fine) })
+        ]
+      ]
+    ]
+      where
+        elsewhere : (e : End) → d.source ≡ side_of s e → ⊥
+        elsewhere Client is = apart_is d.source s.client no_client is
+        elsewhere Server is = apart_is d.source s.server no_server is
+
+        both : s.server.port ≡ s.asked.port → BeginsAsRequest d.payload → ((s.server.port == s.asked.port) && asks_in d.payload) ≡ true
+        both port begins = rw (eq-eqb s.server.port s.asked.port port, request_tested d.payload begins) refl
+
+    pub has_part : HasPart
+    has_part = elim (is_or_not (same_peer d.source s.client)) [
+      | inl client ↦ by_client (is_same d.source s.client client)
+      | inr no_client ↦ elim (is_or_not (same_peer d.source s.server)) [
+        | inl server ↦ by_server (is_same d.source s.server server)
+        | inr no_server ↦ by_other no_client no_server
+      ]
+    ]
