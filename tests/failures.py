@@ -1,4 +1,5 @@
-"""Each growth that is refused, each read and each write that fails, and each cut of a text, on the built program.
+"""Each growth that is refused, each read and each write that fails, each cut of a text, and little stack and memory, on
+the built program.
 
     failures.py PROGRAM FOLDER
 
@@ -13,6 +14,7 @@ import sys
 
 from captures import Capture, ack, blocks, data, error, netascii, oack, read_request, write_request
 from commands import COMMANDS, SILENT
+from limits import limited
 from normal import meaning_of, outputs_of_refused
 from trial import Trial
 
@@ -427,6 +429,7 @@ def main(program, folder):
     for words, outputs in ((["help"], (USAGE, (MEMORY, 2), NOTHING)), (["check", "show"], (USAGE, NOTHING))):
         trial.refuse_growths(f"words {words}", words, b"", USAGE, outputs)
         trial.fail_writes(f"words {words}", words, b"", USAGE)
+    trial.add(limited(program))
     return trial.end()
 
 

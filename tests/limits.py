@@ -1,13 +1,8 @@
 """The built program with little stack and with little memory: each command answers right or says that memory is wanting,
 and is never ended by a signal.
-
-    limits.py PROGRAM
-
-Prints each case that is not as it should be, then a last line 'N passed, M failed'; status 1 if any failed.
 """
 import resource
 import subprocess
-import sys
 from collections.abc import Iterator
 
 from captures import Capture, ack, blocks, data, oack, read_request
@@ -91,10 +86,10 @@ class LimitTrial(Trial):
     def run(self, words: list[str], given: bytes, limit: int, size: int) -> tuple[bytes, int, bytes]:
         """What the program writes, its status (negative where a signal ended it), and what it writes of errors."""
 
-        def limited() -> None:
+        def begin() -> None:
             resource.setrlimit(limit, (size, size))
 
-        done = subprocess.run([self.program, *words], input=given, capture_output=True, preexec_fn=limited, timeout=60)
+        done = subprocess.run([self.program, *words], input=given, capture_output=True, preexec_fn=begin, timeout=60)
         return done.stdout, done.returncode, done.stderr
 
     def starts(self, size: int) -> bool:
@@ -137,11 +132,9 @@ class LimitTrial(Trial):
             self.little_memory(name, command, text, by_command[command])
 
 
-def main(program: str) -> int:
+def limited(program: str) -> LimitTrial:
+    """All cases, tried."""
     trial = LimitTrial(program)
     for name, text, by_command in cases():
         trial.try_case(name, text, by_command)
-    return trial.end()
-
-
-sys.exit(main(sys.argv[1]))
+    return trial

@@ -13,6 +13,10 @@ class Trial:
             self.failed += 1
             print(f"{name}: {got}")
 
+    def add(self, other):
+        """Counts the cases of another trial too."""
+        self.passed, self.failed = self.passed + other.passed, self.failed + other.failed
+
     def end(self):
         """Prints how many passed and failed; the status, 1 if any failed."""
         print(f"{self.passed} passed, {self.failed} failed")
