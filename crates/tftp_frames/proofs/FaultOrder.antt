@@ -1,6 +1,6 @@
 -- The faults stand in one order, and a packet has none.
-use Rattle.std.proofs.Common.{◌≡◌, ◌≢◌, ◌↔◌, inl, inr, ℕ, ◌<◌, ◌≤◌, true, false, List, length, refl, sym, ap, subst, ◌∙◌, arith}
-use Rattle.std.specs.Prelude.{Option, None, Some, Result, Ok, Err, IsOkAnd}
+use Rattle.std.proofs.Common.{◌≡◌, ◌↔◌, inl, inr, ℕ, ◌<◌, ◌≤◌, true, false, List, refl, sym, ap, subst, ◌∙◌, arith}
+use Rattle.std.specs.Prelude.{None, Some, Result, Ok, Err, IsOkAnd}
 use Rattle.std.proofs.lemmas.Bool.{cases_lt, false≢true}
 use Rattle.tftp_frames.specs.Number.{at}
 use Rattle.tftp_frames.specs.Link.{Linked, SpellsLink, link_named}

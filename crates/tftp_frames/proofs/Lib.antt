@@ -4,3 +4,4 @@ pub mod Links
 pub mod Uppers
 pub mod FaultOrder
 pub mod Datagrams
+pub mod Addresses

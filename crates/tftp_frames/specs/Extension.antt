@@ -9,7 +9,7 @@ pub record Reached : Type 0 where
   pub fragment : Option Fragment
   pub content : List ℕ
 
--- hop-by-hop options, routing and destination options
+-- hop-by-hop options, routing and destination options, in any order and number
 abbrev pub is_extension : ℕ → Bool
 is_extension next = next == 0 || next == 43 || next == 60
 

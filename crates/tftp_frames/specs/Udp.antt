@@ -1,5 +1,5 @@
 -- Which contents of an IP packet are a UDP datagram (RFC 768), and why others are none.
-use Rattle.std.specs.Prelude.{◌≡◌, ◌≢◌, ◌⊎◌, ◌+◌, ◌-◌, ◌<◌, ◌≤◌, ℕ, List, length, take, drop, None, Result, MatchResult}
+use Rattle.std.specs.Prelude.{◌≡◌, ◌≢◌, ◌⊎◌, ◌-◌, ◌<◌, ◌≤◌, ℕ, List, length, take, drop, None, Result, MatchResult}
 use Rattle.tftp_frames.specs.Number.{pair}
 use Rattle.tftp_frames.specs.Extension.{ReachesOver}
 use Rattle.tftp_frames.specs.declared.packet.UdpDatagram.{UdpDatagram}

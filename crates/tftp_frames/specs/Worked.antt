@@ -1,13 +1,12 @@
 -- Frames for worked examples, as scapy 2.5.0 makes them: 192.0.2.7 or 2001:db8::7 sends from port 40000 to port 69 of
 -- 192.0.2.1 or 2001:db8::1 an acknowledgement of TFTP.
-use Rattle.std.specs.Prelude.{ℕ, List, [], ◌∷◌, ◌++◌, Option, Some, None, true}
+use Rattle.std.specs.Prelude.{ℕ, List, [], ◌∷◌, Some, None, true}
 use Rattle.std.specs.declared.net.ip_addr.IpAddr.{IpAddr}
 use Rattle.std.specs.declared.net.ip_addr.IpAddr.TheVariants.{V4, V6}
 use Rattle.tftp_frames.specs.Ip.{Packet}
 use Rattle.tftp_frames.specs.Udp.{Udp}
 use Rattle.tftp_frames.specs.declared.packet.Direction.{Direction}
 use Rattle.tftp_frames.specs.declared.packet.Direction.TheVariants.{Unknown}
-use Rattle.tftp_frames.specs.declared.packet.Fragment.{Fragment}
 
 -- a host of 192.0.2.0/24, by its last byte
 abbrev pub host : ℕ → IpAddr

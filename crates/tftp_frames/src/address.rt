@@ -6,7 +6,6 @@ ghost use Rattle.std.specs.Net.Text as Text;
 use itoa::Buffer;
 use std::net::{IpAddr, Ipv4Addr, Ipv6Addr};
 
-
 /// Writes an address at the front of the room, and answers how many bytes that takes: an IPv4 address in dotted decimal,
 /// an IPv6 address as RFC 5952 has it, where IPv4-mapped with its last 32 bits in dotted decimal (section 5). Of no two
 /// addresses is the same written.

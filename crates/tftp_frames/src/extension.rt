@@ -5,14 +5,17 @@ ghost use Rattle.tftp_frames.specs.Parts.{reached};
 use crate::number::{four_at, pair_at};
 use crate::packet::Fragment;
 
-/// The next header of a fragment header of IPv6 (RFC 8200, section 4.5).
+/// The number of a fragment header of IPv6 (RFC 8200, section 4.5).
 const FRAGMENT: u8 = 44;
 
-/// With what the content of a packet begins, which part of it this is, and the bytes.
+/// What a packet carries after its headers.
 #[derive(Clone, Copy, Debug)]
 pub struct Upper<'a> {
+    /// With what the content begins: the number of a protocol, in a fragment perhaps of an extension header.
     pub protocol: u8,
+    /// None where the packet is whole.
     pub fragment: Option<Fragment>,
+    /// The bytes that it has.
     pub content: &'a [u8],
 }
 

@@ -41,7 +41,7 @@ pub enum UdpFault {
     /// The length is below 8, or more than the content has (RFC 768).
     #[error("a wrong UDP length")]
     Length,
-    /// The source's or the target's port is 0, which no host can answer or is asked at.
+    /// The source's or the target's port is 0, at which no host is reached (RFC 768).
     #[error("port 0")]
     Port,
 }

@@ -1,9 +1,13 @@
-ghost use Rattle.std.specs.Prelude.{◌≡◌, ◌∷◌, ◌++◌, [], ℕ, List, take, drop};
+ghost use Rattle.std.specs.Prelude.{◌≡◌, ◌↔◌, ◌∷◌, ◌++◌, [], ℕ, List, codes, take, drop};
+ghost use Rattle.std.specs.Net.Addr.{IsIpv4Addr, IsIpv6Addr, MatchIp};
+ghost use Rattle.std.specs.Net.Text.{ip_text};
+ghost use Rattle.std.specs.declared.net.ip_addr.IpAddr.{IpAddr};
+ghost use Rattle.std.specs.declared.net.ip_addr.IpAddr.TheVariants.{V4, V6};
 ghost use Rattle.tftp_frames.specs.Ip.{Packet};
 ghost use Rattle.tftp_frames.specs.Frame.{SpellsFrame};
 ghost use Rattle.tftp_frames.specs.Faults.{Holds, FirstFault};
 ghost use Rattle.tftp_frames.specs.Udp.{Udp, SpellsUdp, HoldsUdp};
-ghost use Rattle.tftp_frames.specs.Worked.{udp_bytes, ipv4_bytes, ipv4_with_options, ipv4_fragment, ipv6_with_extensions, ipv6_fragment, two_tags, cooked_head, cooked_two_head, null_head, ipv4_packet, ipv4_part, ipv6_packet, ipv6_part, acknowledgement};
+ghost use Rattle.tftp_frames.specs.Worked.{udp_bytes, ipv4_bytes, ipv4_with_options, ipv4_fragment, ipv6_with_extensions, ipv6_fragment, two_tags, cooked_head, cooked_two_head, null_head, ipv4_packet, ipv4_part, ipv6_packet, ipv6_part, acknowledgement, host, host_of_ipv6};
 ghost use Rattle.tftp_frames.specs.declared.fault.FrameFault.{FrameFault};
 ghost use Rattle.tftp_frames.specs.declared.fault.UdpFault.{UdpFault};
 ghost use Rattle.tftp_frames.specs.declared.packet.Direction.{Direction};
@@ -28,6 +32,21 @@ pub fn content_is_one_datagram()
     ensures one { (protocol : ℕ) (content : List ℕ) (d e : Udp) → SpellsUdp protocol content d → SpellsUdp protocol content e → d ≡ e }
     ensures fault { (protocol : ℕ) (content : List ℕ) (f g : UdpFault) → HoldsUdp f protocol content → HoldsUdp g protocol content → f ≡ g }
     ensures apart { (protocol : ℕ) (content : List ℕ) (d : Udp) (f : UdpFault) → SpellsUdp protocol content d → HoldsUdp f protocol content → ⊥ }
+{}
+
+/// Two addresses are one exactly if the same is written of them.
+pub fn addresses_are_one_if_written_the_same()
+    ensures { (a b : IpAddr) → MatchIp a IsIpv4Addr IsIpv6Addr → MatchIp b IsIpv4Addr IsIpv6Addr → (a ≡ b) ↔ (ip_text a ≡ ip_text b) }
+{}
+
+/// Worked examples of what is written (RFC 5952, sections 1, 4.2.2, 4.2.3 and 5).
+pub fn worked_addresses()
+    ensures ipv4 { ip_text (host 7) ≡ codes "192.0.2.7" }
+    ensures ipv6 { ip_text (host_of_ipv6 1) ≡ codes "2001:db8::1" }
+    ensures one_zero { ip_text (V6 (record { segments = 8193 ∷ 3512 ∷ 0 ∷ 1 ∷ 1 ∷ 1 ∷ 1 ∷ 1 ∷ [] })) ≡ codes "2001:db8:0:1:1:1:1:1" }
+    ensures longest { ip_text (V6 (record { segments = 8193 ∷ 0 ∷ 0 ∷ 1 ∷ 0 ∷ 0 ∷ 0 ∷ 1 ∷ [] })) ≡ codes "2001:0:0:1::1" }
+    ensures first { ip_text (V6 (record { segments = 8193 ∷ 3512 ∷ 0 ∷ 0 ∷ 1 ∷ 0 ∷ 0 ∷ 1 ∷ [] })) ≡ codes "2001:db8::1:0:0:1" }
+    ensures mapped { ip_text (V6 (record { segments = 0 ∷ 0 ∷ 0 ∷ 0 ∷ 0 ∷ 65535 ∷ 49152 ∷ 513 ∷ [] })) ≡ codes "::ffff:192.0.2.1" }
 {}
 
 /// Worked examples: a packet in Ethernet with two tags and two bytes of padding, in Linux cooked, with options, and a

@@ -27,19 +27,23 @@ pub enum LinkType {
     CookedTwo,
 }
 
-/// What a frame carries.
+/// The version of IP that a frame carries.
 #[derive(Clone, Copy, Debug, PartialEq, Eq)]
 pub enum Network {
+    /// Version 4 (RFC 791).
     Ipv4,
+    /// Version 6 (RFC 8200).
     Ipv6,
 }
 
 /// What a link's header says, and the bytes after it.
 #[derive(Clone, Copy, Debug)]
 pub struct LinkContent<'a> {
+    /// Which way the frame went, where the link says it.
     pub direction: Direction,
     /// None where the frame carries neither IPv4 nor IPv6.
     pub network: Option<Network>,
+    /// All bytes after the link's header and its tags.
     pub content: &'a [u8],
 }
 

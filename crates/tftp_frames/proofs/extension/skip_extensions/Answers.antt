@@ -1,8 +1,5 @@
-use Rattle.std.proofs.Common.{◌≡◌, ◌+◌, ◌≤◌, zero, inl, inr, length, drop, refl, sym, ap, subst, ◌∙◌, arith}
-use Rattle.std.specs.Prelude.{Some}
-use Rattle.tftp_frames.specs.Number.{at}
-use Rattle.tftp_frames.specs.Extension.{Reached, fragment_of, Stops}
-use Rattle.tftp_frames.proofs.Extensions.{next_header, cut_header, no_stop_in_extension, no_stop_in_fragment, stops_at_part, skips_some}
+use Rattle.std.proofs.Common.{zero, inl, refl, sym, ◌∙◌}
+use Rattle.tftp_frames.proofs.Extensions.{next_header, cut_header, no_stop_in_extension, no_stop_in_fragment, stops_at_part}
 use Rattle.tftp_frames.proofs.extension.skip_extensions.Goals as goal
 
 pub headers-preserved : goal.headers-preserved

@@ -1,4 +1,4 @@
-use Rattle.std.proofs.Common.{◌++◌, [], ◌∷◌, inl, inr, refl, arith}
+use Rattle.std.proofs.Common.{◌++◌, [], ◌∷◌, inl, refl, arith}
 use Rattle.std.specs.Prelude.{drop}
 use Rattle.tftp_frames.specs.Worked.{udp_bytes}
 use Rattle.tftp_frames.proofs.laws.worked_datagrams.Goals as goal
