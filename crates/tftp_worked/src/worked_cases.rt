@@ -31,7 +31,8 @@ ghost use Rattle.tftp_worked.specs.Worked.{
   read_in_eights,
   acknowledges_hi,
 };
-ghost use Rattle.tftp_worked.specs.WorkedNetascii.{two_lines, read_of_lines, read_of_bare_lines};
+ghost use Rattle.tftp_normal.specs.Worked.{line_end_cut};
+ghost use Rattle.tftp_worked.specs.WorkedNetascii.{read_of_lines, read_of_bare_lines};
 ghost use Rattle.tftp_worked.specs.WorkedErrors.{
   says_forbidden,
   read_refused,
@@ -75,8 +76,8 @@ pub fn read_in_eights_is_shown()
 /// A read in netascii, in two blocks between which a line end is cut; and one whose line ends by LF alone. Both show one
 /// file (RFC 1350, section 1; RFC 764).
 pub fn reads_in_netascii_are_shown()
-    ensures cut { Shows at_client two_lines read_of_lines }
-    ensures bare { Shows at_client two_lines read_of_bare_lines }
+    ensures cut { Shows at_client line_end_cut read_of_lines }
+    ensures bare { Shows at_client line_end_cut read_of_bare_lines }
 {}
 
 /// A read in a window of four blocks, of which one comes late and the next one twice: at its client, at its server, and

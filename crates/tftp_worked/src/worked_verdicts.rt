@@ -21,15 +21,16 @@ ghost use Rattle.tftp_worked.specs.WorkedErrors.{
   before_late_answer,
   late_answer,
 };
-ghost use Rattle.tftp_worked.specs.WorkedNetascii.{two_lines, read_of_lines, read_of_bare_lines};
+ghost use Rattle.tftp_normal.specs.Worked.{line_end_cut};
+ghost use Rattle.tftp_worked.specs.WorkedNetascii.{read_of_lines, read_of_bare_lines};
 ghost use Rattle.tftp_worked.specs.WorkedWindows.{window_out_of_order, before_overrun, block_seven};
 
 /// A capture that shows a transfer is accepted with its meaning.
 pub fn shown_is_accepted()
     ensures one_block { IsVerdict at_client one_block_read (Ok two_bytes) }
     ensures window { IsVerdict at_client window_out_of_order (Ok six_blocks) }
-    ensures lines { IsVerdict at_client read_of_lines (Ok two_lines) }
-    ensures bare_lines { IsVerdict at_client read_of_bare_lines (Ok two_lines) }
+    ensures lines { IsVerdict at_client read_of_lines (Ok line_end_cut) }
+    ensures bare_lines { IsVerdict at_client read_of_bare_lines (Ok line_end_cut) }
 {}
 
 /// The rules say the same of the read, and of the capture with a block beyond the window.
