@@ -1,5 +1,5 @@
 -- What the commands write of the worked text in netascii.
-use Rattle.std.proofs.Common.{◌≡◌, ℕ, ◌≤◌, ◌++◌, lit≤, List, [], ◌∷◌, length, Ok, codes, decimal, refl, sym, ap, ◌∙◌, subst}
+use Rattle.std.proofs.Common.{◌≡◌, ℕ, ◌++◌, lit≤, List, ◌∷◌, Ok, codes, decimal, refl, sym, ap, ◌∙◌, subst}
 use Rattle.std.specs.Fmt.{digits}
 use Rattle.hex.specs.Hex.{encode_with}
 use Rattle.tftp_capture.specs.CaptureText.{text_of}
