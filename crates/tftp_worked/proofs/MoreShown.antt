@@ -1,18 +1,22 @@
 -- A write, and a read with an agreed block size, as the worked captures have them.
-use Rattle.std.proofs.Common.{List, [], ◌∷◌, codes, refl, arith}
+use Rattle.std.proofs.Common.{false, List, [], ◌∷◌, codes, refl, sym, arith}
+use Rattle.std.proofs.lemmas.Bool.{true≢false}
+use Rattle.tftp_packet.specs.declared.kinds.End.TheVariants.{Server}
 use Rattle.tftp_packet.specs.OptionMap.{OptionValue}
 use Rattle.tftp_ends.specs.Meaning.{request_of}
-use Rattle.tftp_ends.specs.Machines.{Sent, Took, Req, Oack, Data, Ack}
-use Rattle.tftp_ends.specs.Worked.{two_bytes_written, two_bytes_written_view, ten_bytes, ten_bytes_view}
-use Rattle.tftp_ends.proofs.Defaults.{default_blksize}
+use Rattle.tftp_ends.specs.Machines.{Sent, Took, Req, Oack, Data, Ack, History}
+use Rattle.tftp_ends.specs.Worked.{two_bytes_written, two_bytes_written_view, two_bytes_written_steps, ten_bytes, ten_bytes_view}
+use Rattle.tftp_ends.proofs.Defaults.{default_blksize, default_windowsize}
+use Rattle.tftp_ends.proofs.Computed.{Plan, IsPlan, run_is, complete_is}
 use Rattle.tftp_ends.proofs.WorkedMore.{blocks_of_eight, two_blocks, written_one_block, written_is_view, written_complete, ten_bytes_is_view, ten_bytes_complete}
 use Rattle.tftp_law.specs.Fits.{Fits}
 use Rattle.tftp_law.specs.Law.{Shows}
-use Rattle.tftp_worked.specs.Worked.{at_client, offers_a, is_accepted, gives_hi, hi_is_acknowledged, one_block_write, asks_for_eights, agrees_to_eights, takes_offer, brings_eight, acknowledges_eight, brings_two, acknowledges_two, read_in_eights}
+use Rattle.tftp_worked.specs.Worked.{at_client, at_server, offers_a, is_accepted, gives_hi, hi_is_acknowledged, one_block_write, is_offered_a, accepts_it, gets_hi, has_hi, write_at_server, asks_for_eights, agrees_to_eights, takes_offer, brings_eight, acknowledges_eight, brings_two, acknowledges_two, read_in_eights}
 use Rattle.tftp_worked.proofs.Spelled.{write_spelled, ack_zero_spelled, hi_spelled, ack_spelled, eights_spelled, agreed_spelled, eight_bytes_spelled, two_bytes_spelled, ack_two_spelled}
 use Rattle.tftp_law.proofs.NothingAgreed.{nothing_may_be_agreed_by, none_there}
 use Rattle.tftp_worked.proofs.Dressed.{Carried, dressed_by}
 use Rattle.tftp_worked.proofs.ReadShown.{ids}
+use Rattle.tftp_worked.proofs.ReadVariants.{server_ids}
 use Rattle.tftp_worked.proofs.Shown.{shown_by}
 use Rattle.tftp_worked.proofs.WindowsShown.{eight_may_be_agreed, no_size_of_one}
 
@@ -33,6 +37,28 @@ pub write_is_shown : Shows at_client two_bytes_written one_block_write
 write_is_shown =
     shown_by at_client two_bytes_written two_bytes_written.file two_bytes_written_view one_block_write written_fit (omega (arith, written_one_block)) written_is_view written_complete
     (dressed_by at_client two_bytes_written two_bytes_written.file 512 ids written two_bytes_written_view one_block_write (default_blksize two_bytes_written refl) refl
+    (ack_spelled, (hi_spelled, (ack_zero_spelled, (write_spelled, tt)))) refl refl)
+
+-- ---- and at its server
+
+abbrev written_plan : Plan
+written_plan = record { agreed = false; windowsize = 1; blocks = 1 }
+
+written_is_plan : IsPlan two_bytes_written two_bytes_written.file written_plan
+written_is_plan = record { something = λ e. absurd (true≢false (sym e)); nothing = λ _. refl; windowsize = default_windowsize two_bytes_written refl; blocks = written_one_block }
+
+abbrev written_server_view : History
+written_server_view = Sent (Ack 1) ∷ Took (Data 1) ∷ Sent (Ack 0) ∷ Took Req ∷ []
+
+abbrev written_at_server : List Carried
+written_at_server = (has_hi, Sent (Ack 1)) ∷ (gets_hi, Took (Data 1)) ∷ (accepts_it, Sent (Ack 0)) ∷ (is_offered_a, Took Req) ∷ []
+
+pub write_at_server_is_shown : Shows at_server two_bytes_written write_at_server
+write_at_server_is_shown =
+    shown_by at_server two_bytes_written two_bytes_written.file written_server_view write_at_server written_fit (omega (arith, written_one_block))
+    (two_bytes_written_steps, run_is two_bytes_written two_bytes_written.file written_plan two_bytes_written_steps written_is_plan refl, refl)
+    (complete_is two_bytes_written two_bytes_written.file written_plan Server written_server_view written_is_plan refl)
+    (dressed_by at_server two_bytes_written two_bytes_written.file 512 server_ids written_at_server written_server_view write_at_server (default_blksize two_bytes_written refl) refl
     (ack_spelled, (hi_spelled, (ack_zero_spelled, (write_spelled, tt)))) refl refl)
 
 -- ---- a read in blocks of eight

@@ -28,6 +28,7 @@ ghost use Rattle.tftp_worked.specs.Worked.{
   read_with_a_stray,
   read_at_server,
   one_block_write,
+  write_at_server,
   read_in_eights,
   acknowledges_hi,
 };
@@ -66,6 +67,11 @@ pub fn read_at_the_server_is_shown()
 /// A write of the two bytes.
 pub fn one_block_write_is_shown()
     ensures { Shows at_client two_bytes_written one_block_write }
+{}
+
+/// The same write as its server sees it.
+pub fn write_at_the_server_is_shown()
+    ensures { Shows at_server two_bytes_written write_at_server }
 {}
 
 /// A read with an agreed block size, in two blocks.
