@@ -1,16 +1,17 @@
 //! Laws of the definitions in `specs/`: output is one. Each is the contract of a function that does nothing but cite a law
 //! below. The source may be a text that was given whole, and then the output is the text's.
 
-ghost use Rattle.std.specs.Prelude.{◌≡◌, ◌⊎◌, ℕ, List, false};
+ghost use Rattle.std.specs.Prelude.{◌≡◌, ◌⊎◌, ℕ, List, Option, Some, false};
 ghost use Rattle.tftp_commands.specs.Checked.{IsChecked};
 ghost use Rattle.tftp_commands.specs.Counted.{IsCounted};
 ghost use Rattle.tftp_commands.specs.Extracted.{IsExtracted};
 ghost use Rattle.tftp_commands.specs.Normalised.{IsNormalised};
 ghost use Rattle.tftp_commands.specs.One.{IsNoMemoryEnding, SaysNoMemory, TellsOfMemory};
-ghost use Rattle.tftp_commands.specs.Output.{Output};
+ghost use Rattle.tftp_commands.specs.Output.{IsWritten, Output};
 ghost use Rattle.tftp_commands.specs.Run.{IsOutput};
 ghost use Rattle.tftp_commands.specs.Shown.{IsShown};
 ghost use Rattle.tftp_commands.specs.Source.{Source};
+ghost use Rattle.tftp_commands.specs.declared.status.Status.{Status};
 
 use tftp_judge::laws::text_has_one_verdict;
 
@@ -62,3 +63,10 @@ pub fn run_has_one_output()
 {
     text_has_one_verdict();
 }
+
+/// An output is written in one way, where no write failed: what a writer then holds that tells its bytes, and the status,
+/// are one.
+pub fn output_is_written_in_one_way()
+    ensures { (held : List ℕ) (new other : Option (List ℕ)) (output : Output) (status also : Status) → IsWritten (Some held) new false output status
+        → IsWritten (Some held) other false output also → (new ≡ other) × (status ≡ also) }
+{}
