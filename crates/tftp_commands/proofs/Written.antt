@@ -1,10 +1,10 @@
 -- What a writer was given, piece by piece.
-use Rattle.std.proofs.Common.{◌≡◌, ℕ, List, [], ◌++◌, Bool, true, false, Option, sym, ap, ◌∙◌, subst, append_assoc, append-nil}
+use Rattle.std.proofs.Common.{◌≡◌, ℕ, List, [], ◌++◌, Bool, true, false, Option, Some, None, sym, ap, ◌∙◌, subst, append_assoc, append-nil}
 use Rattle.std.specs.Io.KnownBytes.{Appends}
 use Rattle.std.proofs.KnownBytes.{Appends-trans}
 use Rattle.tftp_capture.specs.Tally.{Gathers}
 use Rattle.tftp_capture.proofs.Gathering.{prefix_after}
-use Rattle.tftp_commands.specs.Output.{IsWritten}
+use Rattle.tftp_commands.specs.Output.{IsWritten, Output}
 use Rattle.tftp_commands.specs.declared.status.Status.{Status}
 
 appends_after : (c0 c1 c2 : Option (List ℕ)) (h0 h1 bytes last : List ℕ) → Gathers c0 c1 h0 h1 bytes → Appends c1 c2 (h1 ++ last) → Appends c0 c2 (h0 ++ (bytes ++ last))
@@ -24,3 +24,10 @@ pub written_all : (c0 c1 c2 : Option (List ℕ)) (failed : Bool) (h0 h1 bytes : 
 written_all c0 c1 c2 failed h0 h1 bytes status result p q =
     let wide : IsWritten c1 c2 failed (record { bytes = h1 ++ []; status = status }) result = subst (λ (l : List ℕ). IsWritten c1 c2 failed (record { bytes = l; status = status }) result) (sym (append-nil h1)) q in
     subst (λ (l : List ℕ). IsWritten c0 c2 failed (record { bytes = h0 ++ l; status = status }) result) (append-nil bytes) (written_after c0 c1 c2 failed h0 h1 bytes [] status result p wide)
+
+-- an output is written in one way
+pub written_once : (held : List ℕ) (new other : Option (List ℕ)) (output : Output) (status also : Status) → IsWritten (Some held) new false output status → IsWritten (Some held) other false output also
+    → (new ≡ other) × (status ≡ also)
+written_once held (Some xs) (Some ys) output status also one two = (ap Some (one.0 ∙ sym two.0), one.1 ∙ sym two.1)
+written_once held None other output status also one two = absurd one.0
+written_once held (Some xs) None output status also one two = absurd two.0

@@ -1,21 +1,22 @@
-//! Laws of the definitions in `specs/`: output is one. Each is the contract of a function that does nothing. What was read
-//! may be a text that was given whole, and then the output is that of the text.
+//! Laws of the definitions in `specs/`: output is one. Each is the contract of a function that does nothing but cite a law
+//! below. The source may be a text that was given whole, and then the output is the text's.
 
-ghost use Rattle.std.specs.Prelude.{◌≡◌, ◌⊎◌, ℕ, List, false};
+ghost use Rattle.std.specs.Prelude.{◌≡◌, ◌⊎◌, ℕ, List, Option, Some, false};
 ghost use Rattle.tftp_commands.specs.Checked.{IsChecked};
 ghost use Rattle.tftp_commands.specs.Counted.{IsCounted};
 ghost use Rattle.tftp_commands.specs.Extracted.{IsExtracted};
 ghost use Rattle.tftp_commands.specs.Normalised.{IsNormalised};
 ghost use Rattle.tftp_commands.specs.One.{IsNoMemoryEnding, SaysNoMemory, TellsOfMemory};
-ghost use Rattle.tftp_commands.specs.Output.{Output};
+ghost use Rattle.tftp_commands.specs.Output.{IsWritten, Output};
 ghost use Rattle.tftp_commands.specs.Run.{IsOutput};
 ghost use Rattle.tftp_commands.specs.Shown.{IsShown};
 ghost use Rattle.tftp_commands.specs.Source.{Source};
+ghost use Rattle.tftp_commands.specs.declared.status.Status.{Status};
 
 use tftp_judge::laws::text_has_one_verdict;
 
-/// `check` has one right output on what was read: two that are right by what says nothing of memory are the same, bytes
-/// and status.
+/// On what was read, and on whether a read failed, `check` has at most one right output, bytes and status, that does not
+/// come of want of memory.
 pub fn check_has_one_output()
     ensures { (source : Source) (one other : Output) (first : IsChecked source one) (second : IsChecked source other) → SaysNoMemory first.said → SaysNoMemory second.said
         → one ≡ other }
@@ -23,7 +24,7 @@ pub fn check_has_one_output()
     text_has_one_verdict();
 }
 
-/// So has `extract`.
+/// `extract` has at most one right output on its source that does not come of want of memory.
 pub fn extract_has_one_output()
     ensures { (source : Source) (one other : Output) (first : IsExtracted source one) (second : IsExtracted source other) → SaysNoMemory first.said → SaysNoMemory second.said
         → one ≡ other }
@@ -31,7 +32,7 @@ pub fn extract_has_one_output()
     text_has_one_verdict();
 }
 
-/// So has `normal`.
+/// `normal` has at most one right output on its source that does not come of want of memory.
 pub fn normal_has_one_output()
     ensures { (source : Source) (one other : Output) (first : IsNormalised source one) (second : IsNormalised source other) → SaysNoMemory first.said → SaysNoMemory second.said
         → one ≡ other }
@@ -39,7 +40,7 @@ pub fn normal_has_one_output()
     text_has_one_verdict();
 }
 
-/// So has `count`.
+/// `count` has at most one right output on its source that does not come of want of memory.
 pub fn count_has_one_output()
     ensures { (source : Source) (one other : Output) (first : IsCounted source one) (second : IsCounted source other) → SaysNoMemory first.said → SaysNoMemory second.said
         → one ≡ other }
@@ -47,17 +48,25 @@ pub fn count_has_one_output()
     text_has_one_verdict();
 }
 
-/// And so has `show`, where no write failed.
+/// `show` has at most one right output on its source that does not end with want of memory, where no write failed: each
+/// datagram has one line, and its showing one end.
 pub fn show_has_one_output()
     ensures { (source : Source) (one other : Output) (first : IsShown source false one) (second : IsShown source false other) → IsNoMemoryEnding first.ending → IsNoMemoryEnding second.ending
         → one ≡ other }
 {}
 
-/// Whatever the words, there is one right output on what was read, where no write failed: of two that are right both are
-/// the same, or one is that of want of memory.
+/// Whatever the words, `run` has at most one right output on its source, where no write failed, but for that of want of
+/// memory: two that are right are the same, or one of them is that.
 pub fn run_has_one_output()
     ensures { (words : List (List ℕ)) (source : Source) (one other : Output) → IsOutput words source false one → IsOutput words source false other
         → (one ≡ other) ⊎ TellsOfMemory words one ⊎ TellsOfMemory words other }
 {
     text_has_one_verdict();
 }
+
+/// An output is written in one way, where no write failed: what a writer then holds that tells its bytes, and the status,
+/// are one.
+pub fn output_is_written_in_one_way()
+    ensures { (held : List ℕ) (new other : Option (List ℕ)) (output : Output) (status also : Status) → IsWritten (Some held) new false output status
+        → IsWritten (Some held) other false output also → (new ≡ other) × (status ≡ also) }
+{}

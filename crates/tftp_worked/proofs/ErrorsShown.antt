@@ -33,6 +33,7 @@ use Rattle.tftp_worked.proofs.Payloads.{Spelled, data_spells, ack_spells}
 use Rattle.tftp_worked.proofs.Dressed.{Carried, dressed_by}
 use Rattle.tftp_worked.proofs.Meant.{AllNear, deeds_for, all_meant, second_shows}
 use Rattle.tftp_worked.proofs.ReadShown.{ids}
+use Rattle.tftp_worked.proofs.Shown.{shown_by}
 use Rattle.tftp_worked.proofs.MoreShown.{eights_fit}
 use Rattle.tftp_worked.proofs.Bases.{asks_for, read_by_eight_request, read_by_eight_agrees}
 use Rattle.tftp_worked.proofs.RefusedErrors.{not_found_spelled, forbidden_spelled, stop_spelled, full_spelled, begun_spelled, not_found, forbidden, stop, full, plain_ack}
@@ -103,12 +104,7 @@ given_up_again_lawful = two_lawful read_given_up_view read_given_up_twice read_g
 -- ---- whole reads
 
 two_shown : (view : History) (ds : List Datagram) → IsView two_bytes two_bytes.file Client view → IsDressed at_client two_bytes two_bytes.file view ds → IsComplete two_bytes two_bytes.file Client view → Shows at_client two_bytes ds
-unfolding two_seen
-two_shown view ds run dressed complete = record {
-  writable = omega (arith, one_block);
-  wire = two_bytes.file;
-  shown = record { seen = two_seen view ds run dressed; complete = complete };
-}
+two_shown view ds run dressed complete = shown_by at_client two_bytes two_bytes.file view ds two_bytes_fit (omega (arith, one_block)) run complete dressed
 
 pub stopped_shown : Shows at_client two_bytes stopped_at_the_end
 stopped_shown = two_shown stopped_at_the_end_view stopped_at_the_end stopped_at_the_end_is_view

@@ -1,89 +1,45 @@
 -- The worked read where several hosts have the same ports.
-use Rattle.std.proofs.Common.{◌≡◌, true, false, List, [], ◌∷◌, Some, None, codes, reverse, inl, inr, refl, ap, arith}
-use Rattle.std.proofs.lemmas.Bool.{false≢true}
-use Rattle.std.proofs.lemmas.Slice.Eq.{bytes_eq-Decides}
+use Rattle.std.proofs.Common.{List, [], ◌∷◌, Some, None, codes, reverse, inl, refl, arith}
 use Rattle.tftp_packet.specs.Message.{Message}
 use Rattle.tftp_packet.specs.declared.kinds.Side.TheVariants.{Get}
-use Rattle.tftp_packet.specs.declared.kinds.Dir.TheVariants.{In}
 use Rattle.tftp_ends.specs.Meaning.{request_of}
-use Rattle.tftp_ends.specs.CaptureText.{PeerId, peer_of}
 use Rattle.tftp_ends.specs.Machines.{Sent, Took, Req, Data, Ack}
 use Rattle.tftp_ends.specs.Worked.{two_bytes, two_bytes_view}
 use Rattle.tftp_ends.specs.declared.terms.Reply.TheVariants.{NoReply, Plain}
 use Rattle.tftp_ends.proofs.Defaults.{default_blksize}
 use Rattle.tftp_ends.proofs.Worked.{one_block, two_bytes_is_view, two_bytes_complete}
-use Rattle.tftp_law.specs.Dress.{Main, Stray, StrayAnswer, Placed, Division, TransferIds, IsMain, CarriesDeed, ComesAstray, AnswersStray, IsDressed}
-use Rattle.tftp_law.specs.Law.{IsSeen, Shows}
+use Rattle.tftp_law.specs.Dress.{Main, Stray, StrayAnswer, Division, TransferIds}
+use Rattle.tftp_law.specs.Law.{Shows}
 use Rattle.tftp_law.specs.Rules.{plain_terms}
 use Rattle.tftp_law.specs.OneEnded.{OneEnded, IsRefused}
 use Rattle.tftp_law.specs.declared.rule.Rule.{Rule}
-use Rattle.tftp_law.proofs.Divided.{any_first, any_later}
 use Rattle.tftp_law.proofs.NothingAgreed.{two_bytes_fit}
 use Rattle.tftp_worked.specs.Worked.{at_client, at_server, server_host, asks_for_a, brings_hi, acknowledges_hi, is_asked_for_a}
 use Rattle.tftp_worked.specs.WorkedHosts.{third_host, comes_from_third_host, answers_third_host, read_with_a_third_host, after_third_host, acknowledges_third_host, read_from_third_host, answered_from_third_host, asks_third_host, third_host_asks, only_is_asked}
 use Rattle.tftp_worked.specs.WorkedRules.{only_asked}
 use Rattle.tftp_worked.proofs.Spelled.{request_spelled, hi_spelled, ack_spelled, unknown_id_spelled}
 use Rattle.tftp_worked.proofs.Payloads.{Spelled, datagrams}
-use Rattle.tftp_worked.proofs.Dressed.{Carried, dressed_by}
+use Rattle.tftp_worked.proofs.Dressed.{Carried, dressed_as, dressed_by}
 use Rattle.tftp_worked.proofs.Chains.{one_more, none_under}
-use Rattle.tftp_worked.proofs.ReadShown.{ids, begins, begin_parts}
+use Rattle.tftp_worked.proofs.ReadShown.{ids}
+use Rattle.tftp_worked.proofs.Shown.{shown_by}
 
 -- ---- a stray from the server's port at a third host
 
-abbrev astray : Division
-astray = record { datagram = comes_from_third_host; part = Stray } ∷ begins
-
-abbrev answered : Division
-answered = record { datagram = answers_third_host; part = StrayAnswer } ∷ astray
-
-abbrev ends : Division
-ends = record { datagram = acknowledges_hi; part = Main (Sent (Ack 1)) } ∷ answered
-
-two_hosts : third_host ≡ server_host → ⊥
-two_hosts e = let is : false ≡ true = (bytes_eq-Decides third_host server_host).1 e in false≢true is
-
-stray_part : ComesAstray at_client ids begins comes_from_third_host
-stray_part = record {
-  dir = refl;
-  here = refl;
-  elsewhere = λ e. two_hosts (ap (λ (p : PeerId). p.host) e);
-  after = any_first (λ (p : Placed). IsMain p.part × (p.datagram.dir ≡ In)) (record { datagram = brings_hi; part = Main (Took (Data 1)) }) (record { datagram = asks_for_a; part = Main (Sent Req) } ∷ []) ((Took (Data 1), refl), refl);
-  no_request = λ e. absurd (cc);
-}
-
-answer_part : AnswersStray at_client ids astray answers_third_host
-answer_part = record {
-  dir = refl;
-  here = refl;
-  there = any_first (λ (p : Placed). (p.part ≡ Stray) × (peer_of p.datagram ≡ peer_of answers_third_host)) (record { datagram = comes_from_third_host; part = Stray }) begins (refl, refl);
-  spells = ([], unknown_id_spelled);
-}
-
-end_part : CarriesDeed at_client two_bytes two_bytes.file ids answered acknowledges_hi (Sent (Ack 1))
-end_part = record {
-  dir = refl;
-  client = refl;
-  server = (
-    refl,
-    inr (any_later (λ (p : Placed). p.datagram.dir ≡ In) (record { datagram = answers_third_host; part = StrayAnswer }) astray
-        (any_first (λ (p : Placed). p.datagram.dir ≡ In) (record { datagram = comes_from_third_host; part = Stray }) begins refl)),
-  );
-  spells = ack_spelled;
-}
-
-dressed_third : IsDressed at_client two_bytes two_bytes.file two_bytes_view read_with_a_third_host
-dressed_third = record { ids = ids; division = ends; whole = refl; main = refl; parts = (end_part, (answer_part, (stray_part, begin_parts))) }
-
-seen_third : IsSeen at_client two_bytes two_bytes.file read_with_a_third_host
-seen_third = record { fits = two_bytes_fit; view = two_bytes_view; run = two_bytes_is_view; dressed = dressed_third }
+abbrev with_third : Division
+with_third =
+    record { datagram = acknowledges_hi; part = Main (Sent (Ack 1)) }
+    ∷ record { datagram = answers_third_host; part = StrayAnswer }
+    ∷ record { datagram = comes_from_third_host; part = Stray }
+    ∷ record { datagram = brings_hi; part = Main (Took (Data 1)) }
+    ∷ record { datagram = asks_for_a; part = Main (Sent Req) }
+    ∷ []
 
 pub third_is_shown : Shows at_client two_bytes read_with_a_third_host
-unfolding seen_third
-third_is_shown = record {
-  writable = omega (arith, one_block);
-  wire = two_bytes.file;
-  shown = record { seen = seen_third; complete = two_bytes_complete };
-}
+third_is_shown =
+    shown_by at_client two_bytes two_bytes.file two_bytes_view read_with_a_third_host two_bytes_fit (omega (arith, one_block)) two_bytes_is_view two_bytes_complete
+    (dressed_as at_client two_bytes two_bytes.file 512 ids with_third two_bytes_view read_with_a_third_host (default_blksize two_bytes refl) refl
+    (ack_spelled, (([], unknown_id_spelled), (tt, (hi_spelled, (request_spelled, tt))))) refl refl)
 
 -- ---- a server that answers from another host than the one asked
 
@@ -93,21 +49,11 @@ elsewhere_ids = record { own = 40000; peer = record { host = third_host; port = 
 abbrev elsewhere_carried : List Carried
 elsewhere_carried = (acknowledges_third_host, Sent (Ack 1)) ∷ (comes_from_third_host, Took (Data 1)) ∷ (asks_for_a, Sent Req) ∷ []
 
-dressed_elsewhere : IsDressed at_client two_bytes two_bytes.file two_bytes_view read_from_third_host
-dressed_elsewhere =
-    dressed_by at_client two_bytes two_bytes.file 512 elsewhere_ids elsewhere_carried two_bytes_view read_from_third_host (default_blksize two_bytes refl) refl
-    (ack_spelled, (hi_spelled, (request_spelled, tt))) refl refl
-
-seen_elsewhere : IsSeen at_client two_bytes two_bytes.file read_from_third_host
-seen_elsewhere = record { fits = two_bytes_fit; view = two_bytes_view; run = two_bytes_is_view; dressed = dressed_elsewhere }
-
 pub from_third_is_shown : Shows at_client two_bytes read_from_third_host
-unfolding seen_elsewhere
-from_third_is_shown = record {
-  writable = omega (arith, one_block);
-  wire = two_bytes.file;
-  shown = record { seen = seen_elsewhere; complete = two_bytes_complete };
-}
+from_third_is_shown =
+    shown_by at_client two_bytes two_bytes.file two_bytes_view read_from_third_host two_bytes_fit (omega (arith, one_block)) two_bytes_is_view two_bytes_complete
+    (dressed_by at_client two_bytes two_bytes.file 512 elsewhere_ids elsewhere_carried two_bytes_view read_from_third_host (default_blksize two_bytes refl) refl
+    (ack_spelled, (hi_spelled, (request_spelled, tt))) refl refl)
 
 -- ---- what breaks a rule
 

@@ -35,3 +35,4 @@ mod Strays
 mod OneOption
 mod Offers
 mod ByRules
+mod LinesPrinted

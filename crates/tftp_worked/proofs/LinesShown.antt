@@ -22,7 +22,8 @@ use Rattle.tftp_law.specs.Fits.{Fits, IsWritable}
 use Rattle.tftp_law.specs.Law.{Shows}
 use Rattle.tftp_worked.specs.Worked.{at_client}
 use Rattle.tftp_worked.specs.WorkedWindows.{oack, block, ack, by_eight, goes, comes}
-use Rattle.tftp_worked.specs.WorkedNetascii.{two_lines, asks_for_lines, read_of_lines, read_of_bare_lines}
+use Rattle.tftp_normal.specs.Worked.{line_end_cut}
+use Rattle.tftp_worked.specs.WorkedNetascii.{asks_for_lines, read_of_lines, read_of_bare_lines}
 use Rattle.tftp_worked.proofs.Payloads.{request_for_spells, oack_spells, data_spells, ack_spells, eight_is, all_from}
 use Rattle.tftp_worked.proofs.Dressed.{Carried, dressed_by}
 use Rattle.tftp_worked.proofs.ReadShown.{ids}
@@ -34,8 +35,8 @@ use Rattle.tftp_worked.proofs.WindowsShown.{eight_may_be_agreed}
 abbrev plan : Plan
 plan = record { agreed = true; windowsize = 1; blocks = 2 }
 
-module _ (wire : List ℕ) (reads : Reads wire two_lines.file) (two : block_count 8 wire ≡ 2) where
-  is_plan : IsPlan two_lines wire plan
+module _ (wire : List ℕ) (reads : Reads wire line_end_cut.file) (two : block_count 8 wire ≡ 2) where
+  is_plan : IsPlan line_end_cut wire plan
   is_plan = record {
     something = λ _. something_agreed;
     nothing = λ e. absurd (true≢false e);
@@ -43,24 +44,24 @@ module _ (wire : List ℕ) (reads : Reads wire two_lines.file) (two : block_coun
     blocks = ap (λ b. block_count b wire) blocks_of_eight ∙ two;
   }
 
-  fit : Fits two_lines wire
+  fit : Fits line_end_cut wire
   fit = record {
-    may_agree = eight_may_be_agreed (request_of two_lines) refl;
+    may_agree = eight_may_be_agreed (request_of line_end_cut) refl;
     reads = reads;
     size = λ mode size e. absurd (cc);
     numbered = omega (arith, ap (λ b. block_count b wire) blocks_of_eight, two);
   }
 
-  writable : IsWritable two_lines
+  writable : IsWritable line_end_cut
   writable = omega (arith, ap (λ b. block_count b (codes "abcdefg" ++ 13 ∷ 10 ∷ codes "h")) blocks_of_eight)
 
-  run : IsView two_lines wire Client ten_bytes_view
-  run = (ten_bytes_steps, run_is two_lines wire plan ten_bytes_steps is_plan refl, refl)
+  run : IsView line_end_cut wire Client ten_bytes_view
+  run = (ten_bytes_steps, run_is line_end_cut wire plan ten_bytes_steps is_plan refl, refl)
 
-  complete : IsComplete two_lines wire Client ten_bytes_view
-  complete = complete_is two_lines wire plan Client ten_bytes_view is_plan refl
+  complete : IsComplete line_end_cut wire Client ten_bytes_view
+  complete = complete_is line_end_cut wire plan Client ten_bytes_view is_plan refl
 
-request_spells : Spells asks_for_lines.payload (Message.Request (request_of two_lines))
+request_spells : Spells asks_for_lines.payload (Message.Request (request_of line_end_cut))
 request_spells = request_for_spells (codes "a") (codes "netascii") Netascii Get by_eight eight_a_block refl refl eight_is
 
 agrees : Spells (oack by_eight) (Message.Oack eight_a_block)
@@ -82,29 +83,29 @@ carried first second =
 abbrev wire : List ℕ
 wire = codes "abcdefg" ++ 13 ∷ 10 ∷ codes "h"
 
-wire_reads : Reads wire two_lines.file
-wire_reads = Reads-canonical two_lines.file
+wire_reads : Reads wire line_end_cut.file
+wire_reads = Reads-canonical line_end_cut.file
 
-dressed : IsDressed at_client two_lines wire ten_bytes_view read_of_lines
-dressed = dressed_by at_client two_lines wire 8 ids (carried (codes "abcdefg" ++ 13 ∷ []) (10 ∷ codes "h")) ten_bytes_view read_of_lines blocks_of_eight refl
+dressed : IsDressed at_client line_end_cut wire ten_bytes_view read_of_lines
+dressed = dressed_by at_client line_end_cut wire 8 ids (carried (codes "abcdefg" ++ 13 ∷ []) (10 ∷ codes "h")) ten_bytes_view read_of_lines blocks_of_eight refl
     (ack_spells 2 refl, (data_spells 2 (10 ∷ codes "h") refl, (ack_spells 1 refl, (data_spells 1 (codes "abcdefg" ++ 13 ∷ []) refl, (ack_spells 0 refl, (agrees, (request_spells, tt)))))))
     refl refl
 
-pub lines_are_shown : Shows at_client two_lines read_of_lines
-lines_are_shown = shown_by at_client two_lines wire ten_bytes_view read_of_lines (fit wire wire_reads refl) (writable wire wire_reads refl) (run wire wire_reads refl) (complete wire wire_reads refl) dressed
+pub lines_are_shown : Shows at_client line_end_cut read_of_lines
+lines_are_shown = shown_by at_client line_end_cut wire ten_bytes_view read_of_lines (fit wire wire_reads refl) (writable wire wire_reads refl) (run wire wire_reads refl) (complete wire wire_reads refl) dressed
 
 -- ---- a line end of one byte, which reads as itself
 
 abbrev bare_wire : List ℕ
 bare_wire = codes "abcdefg" ++ 10 ∷ codes "h"
 
-bare_reads : Reads bare_wire two_lines.file
+bare_reads : Reads bare_wire line_end_cut.file
 bare_reads = run_to_end bare_wire (All-from_recursion (λ x. x ≢ 13) bare_wire (all_from (λ x. not (x == 13)) (λ x. x ≢ 13) (λ x e is. false≢true (subst (λ n. not (n == 13) ≡ true) is e)) bare_wire refl))
 
-bare_dressed : IsDressed at_client two_lines bare_wire ten_bytes_view read_of_bare_lines
-bare_dressed = dressed_by at_client two_lines bare_wire 8 ids (carried (codes "abcdefg" ++ 10 ∷ []) (codes "h")) ten_bytes_view read_of_bare_lines blocks_of_eight refl
+bare_dressed : IsDressed at_client line_end_cut bare_wire ten_bytes_view read_of_bare_lines
+bare_dressed = dressed_by at_client line_end_cut bare_wire 8 ids (carried (codes "abcdefg" ++ 10 ∷ []) (codes "h")) ten_bytes_view read_of_bare_lines blocks_of_eight refl
     (ack_spells 2 refl, (data_spells 2 (codes "h") refl, (ack_spells 1 refl, (data_spells 1 (codes "abcdefg" ++ 10 ∷ []) refl, (ack_spells 0 refl, (agrees, (request_spells, tt)))))))
     refl refl
 
-pub bare_lines_are_shown : Shows at_client two_lines read_of_bare_lines
-bare_lines_are_shown = shown_by at_client two_lines bare_wire ten_bytes_view read_of_bare_lines (fit bare_wire bare_reads refl) (writable bare_wire bare_reads refl) (run bare_wire bare_reads refl) (complete bare_wire bare_reads refl) bare_dressed
+pub bare_lines_are_shown : Shows at_client line_end_cut read_of_bare_lines
+bare_lines_are_shown = shown_by at_client line_end_cut bare_wire ten_bytes_view read_of_bare_lines (fit bare_wire bare_reads refl) (writable bare_wire bare_reads refl) (run bare_wire bare_reads refl) (complete bare_wire bare_reads refl) bare_dressed

@@ -1,7 +1,7 @@
 -- Maps of two options, and what is known after an OACK that has them.
-use Rattle.std.proofs.Common.{Ordering, Less, Equal, Greater, ◌≡◌, ◌≢◌, ℕ, ◌+◌, ◌/◌, ◌<◌, ◌≤◌, ◌⊎◌, Bool, true, false, cond, List, [], ◌∷◌, Option, Some, None, codes, inl, inr, refl, sym, subst, ap, ◌∙◌, arith}
+use Rattle.std.proofs.Common.{◌≡◌, ◌≢◌, ℕ, ◌+◌, ◌/◌, ◌<◌, ◌≤◌, ◌⊎◌, Bool, true, false, cond, List, [], ◌∷◌, Option, Some, None, codes, inl, inr, refl, sym, subst, ◌∙◌, arith}
 use Rattle.std.specs.FinMap as map
-use Rattle.std.specs.Ordering.{nat_cmp, is_eq, eq_by_cmp}
+use Rattle.std.specs.Ordering.{nat_cmp, eq_by_cmp}
 use Rattle.std.specs.Cmp.Lexicographic.{slice_cmp, nat_list_cmp_total}
 use Rattle.tftp_packet.specs.OptionMap.{OptionMap, OptionValue, Num, no_options}
 use Rattle.tftp_packet.specs.Message.{RequestParts}
@@ -15,17 +15,10 @@ use Rattle.tftp_nego.specs.declared.fault.NegoFault.{NegoFault}
 use Rattle.tftp_law.specs.Rules.{Agrees, size_from, terms_after}
 use Rattle.tftp_law.proofs.Agreed.{AllAnswer, no_option_fault}
 use Rattle.tftp_worked.proofs.Chains.{OackFine}
+use Rattle.tftp_worked.proofs.OneOption.{has_some, name_is}
 
 abbrev pub two : List ℕ → ℕ → List ℕ → ℕ → OptionMap
 two one a other b = map.from_entries ((one, Num a) ∷ (other, Num b) ∷ [])
-
-is_equal : (r : Ordering) → is_eq r ≡ true → r ≡ Equal
-is_equal Less e = absurd (cc)
-is_equal Equal e = refl
-is_equal Greater e = absurd (cc)
-
-name_is : (name other : List ℕ) → eq_by_cmp (slice_cmp nat_cmp) name other ≡ true → name ≡ other
-name_is name other e = map.slice_cmp-IsAntisymmetric map.nat_cmp-IsAntisymmetric name other (is_equal (slice_cmp nat_cmp name other) e)
 
 only_two : (one other : List ℕ) (a b : ℕ) (name : List ℕ) (value : OptionValue) → map.get (two one a other b) name ≡ Some value → ((name ≡ one) × (value ≡ Num a)) ⊎ ((name ≡ other) × (value ≡ Num b))
 only_two one other a b name value e = by_first (eq_by_cmp (slice_cmp nat_cmp) name one) (eq_by_cmp (slice_cmp nat_cmp) name other) refl refl
@@ -46,10 +39,7 @@ two_answer r one other a b c d is first second may also name value e = elim (onl
 
 -- a map with an option is not empty
 pub not_empty : (options : OptionMap) (name : List ℕ) (a : ℕ) → map.get options name ≡ Some (Num a) → options ≢ no_options
-not_empty options name a has e =
-    let none = map.get-empty {X = OptionValue} (slice_cmp nat_cmp) name in
-    let both : Some (Num a) ≡ None = sym has ∙ ap (λ o. map.get o name) e ∙ none in
-    absurd (cc)
+not_empty options name a = has_some options name (Num a)
 
 pub fine : (n : ℕ) (asked : RequestParts) (oack : OptionMap) → AllAnswer asked oack → oack ≢ no_options → (20 < n → Holds NegoFault.BeyondBlock65535 asked oack → ⊥) → OackFine asked oack n
 fine n asked oack all there few = record {

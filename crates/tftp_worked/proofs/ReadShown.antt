@@ -24,7 +24,7 @@ use Rattle.tftp_worked.proofs.ReadRuns.{nothing_agreed, taken_in_wire, wire_is_h
 abbrev pub ids : TransferIds
 ids = record { own = 40000; peer = record { host = server_host; port = 41000 }; asked = server_host }
 
-abbrev pub begins : Division
+abbrev begins : Division
 begins =
     record { datagram = brings_hi; part = Main (Took (Data 1)) }
     ∷ record { datagram = asks_for_a; part = Main (Sent Req) }
@@ -52,7 +52,7 @@ acknowledges = record {
   spells = ack_spelled;
 }
 
-pub begin_parts : HaveParts at_client two_bytes two_bytes.file ids begins
+begin_parts : HaveParts at_client two_bytes two_bytes.file ids begins
 begin_parts = (brings, (asks, tt))
 
 pub dressed_read : IsDressed at_client two_bytes two_bytes.file two_bytes_view one_block_read

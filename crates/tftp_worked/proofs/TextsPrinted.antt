@@ -37,7 +37,7 @@ use Rattle.tftp_worked.proofs.TextVerdicts.{read_accepted, overrun_refused_at, n
 
 -- ---- what there is to say of each, given whole
 
-no_failure : {P : Type 0} → (P → ⊥) → P ↔ (false ≡ true)
+pub no_failure : {P : Type 0} → (P → ⊥) → P ↔ (false ≡ true)
 no_failure none = (λ p. absurd (none p), λ e. absurd (false≢true e))
 
 read_judged : IsJudged (given worked_text) (Ok two_bytes)

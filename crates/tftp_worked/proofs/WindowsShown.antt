@@ -1,7 +1,7 @@
 -- The worked captures with agreed options are shown.
-use Rattle.std.proofs.Common.{Ordering, Less, Equal, Greater, ◌≡◌, ℕ, ◌⊎◌, Bool, true, false, cond, List, [], ◌∷◌, Some, None, codes, inl, inr, refl, sym, subst, ◌∙◌, arith}
+use Rattle.std.proofs.Common.{◌≡◌, ℕ, ◌⊎◌, Bool, true, false, cond, List, [], ◌∷◌, Some, None, codes, inl, inr, refl, sym, subst, ◌∙◌, arith}
 use Rattle.std.specs.FinMap as map
-use Rattle.std.specs.Ordering.{nat_cmp, is_eq, eq_by_cmp}
+use Rattle.std.specs.Ordering.{nat_cmp, eq_by_cmp}
 use Rattle.std.specs.Cmp.Lexicographic.{slice_cmp, nat_list_cmp_total}
 use Rattle.tftp_packet.specs.Message.{Message, RequestParts}
 use Rattle.tftp_packet.specs.OptionMap.{OptionValue, Num}
@@ -16,22 +16,16 @@ use Rattle.tftp_ends.proofs.WorkedWindows.{eight_of_both, four_of_both, six_size
 use Rattle.tftp_nego.specs.Agreement.{MayAgree}
 use Rattle.tftp_law.specs.Fits.{Fits}
 use Rattle.tftp_law.specs.Dress.{TransferIds, IsDressed}
-use Rattle.tftp_law.specs.Law.{IsSeen, Shows}
+use Rattle.tftp_law.specs.Law.{Shows}
 use Rattle.tftp_worked.specs.Worked.{at_client, client_host}
 use Rattle.tftp_worked.specs.WorkedWindows.{request, oack, block, ack, by_eight, by_four, asks, goes, comes, answers, hears, is_asked, at_service, window_out_of_order, window_at_server, block_sent_again, window_sent_again}
 use Rattle.tftp_worked.proofs.Payloads.{request_spells, oack_spells, data_spells, ack_spells, eight_is, four_is}
 use Rattle.tftp_worked.proofs.Dressed.{Carried, dressed_by}
+use Rattle.tftp_worked.proofs.OneOption.{name_is, found_single, only_single, not_there}
 use Rattle.tftp_worked.proofs.ReadShown.{ids}
+use Rattle.tftp_worked.proofs.Shown.{shown_by}
 
 -- ---- the options may be agreed
-
-is_equal : (r : Ordering) → is_eq r ≡ true → r ≡ Equal
-is_equal Less e = absurd (cc)
-is_equal Equal e = refl
-is_equal Greater e = absurd (cc)
-
-name_is : (name other : List ℕ) → eq_by_cmp (slice_cmp nat_cmp) name other ≡ true → name ≡ other
-name_is name other e = map.slice_cmp-IsAntisymmetric map.nat_cmp-IsAntisymmetric name other (is_equal (slice_cmp nat_cmp name other) e)
 
 only_both : (name : List ℕ) (value : OptionValue) → map.get eight_by_four name ≡ Some value
     → ((name ≡ codes "blksize") × (value ≡ Num 8)) ⊎ ((name ≡ codes "windowsize") × (value ≡ Num 4))
@@ -56,20 +50,13 @@ both_may_be_agreed r is = record {
   size = λ mode size e. absurd (no_size size e);
 }
 
-only_one : (name : List ℕ) (value : OptionValue) → map.get eight_a_block name ≡ Some value → (name ≡ codes "blksize") × (value ≡ Num 8)
-only_one name value e = by_test (eq_by_cmp (slice_cmp nat_cmp) name (codes "blksize")) refl (sym (map.get-from_entries nat_list_cmp_total ((codes "blksize", Num 8) ∷ []) name) ∙ e)
-  where
-    by_test : (same : Bool) → eq_by_cmp (slice_cmp nat_cmp) name (codes "blksize") ≡ same → cond same (Some (Num 8)) None ≡ Some value → (name ≡ codes "blksize") × (value ≡ Num 8)
-    by_test true test found = (name_is name (codes "blksize") test, cc)
-    by_test false test found = absurd (cc)
-
-no_size_of_one : (size : ℕ) → map.get eight_a_block (codes "tsize") ≡ Some (OptionValue.Num size) → ⊥
-no_size_of_one size e = let none = map.get-from_entries nat_list_cmp_total ((codes "blksize", Num 8) ∷ []) (codes "tsize") in absurd (cc)
+pub no_size_of_one : (size : ℕ) → map.get eight_a_block (codes "tsize") ≡ Some (OptionValue.Num size) → ⊥
+no_size_of_one size e = not_there eight_a_block (codes "tsize") (found_single (codes "blksize") (Num 8) (codes "tsize")) (OptionValue.Num size, e)
 
 pub eight_may_be_agreed : (r : RequestParts) → r.options ≡ eight_a_block → MayAgree r eight_a_block
 eight_may_be_agreed r is = record {
   asked = λ name value e.
-      let size = only_one name value e in
+      let size = only_single (codes "blksize") (Num 8) name value e in
       (8, 8, subst (λ o. map.get o name ≡ Some (Num 8)) (sym is) (subst (λ n. map.get eight_a_block n ≡ Some (Num 8)) (sym size.0) eight_for_blksize), size.1, inl (size.0, omega arith));
   size = λ mode size e. absurd (no_size_of_one size e);
 }
@@ -135,16 +122,8 @@ six_dressed =
     )
     refl refl
 
-six_seen : IsSeen at_client six_blocks six_blocks.file window_out_of_order
-six_seen = record { fits = six_fit; view = six_blocks_view; run = six_view; dressed = six_dressed }
-
 pub six_shown : Shows at_client six_blocks window_out_of_order
-unfolding six_seen
-six_shown = record {
-  writable = omega (arith, six_count);
-  wire = six_blocks.file;
-  shown = record { seen = six_seen; complete = six_complete };
-}
+six_shown = shown_by at_client six_blocks six_blocks.file six_blocks_view window_out_of_order six_fit (omega (arith, six_count)) six_view six_complete six_dressed
 
 -- ---- and at its server
 
@@ -192,16 +171,8 @@ six_server_dressed =
     )
     refl refl
 
-six_server_seen : IsSeen at_service six_blocks six_blocks.file window_at_server
-six_server_seen = record { fits = six_fit; view = six_blocks_server_view; run = six_server_view; dressed = six_server_dressed }
-
 pub six_server_shown : Shows at_service six_blocks window_at_server
-unfolding six_server_seen
-six_server_shown = record {
-  writable = omega (arith, six_count);
-  wire = six_blocks.file;
-  shown = record { seen = six_server_seen; complete = six_server_complete };
-}
+six_server_shown = shown_by at_service six_blocks six_blocks.file six_blocks_server_view window_at_server six_fit (omega (arith, six_count)) six_server_view six_server_complete six_server_dressed
 
 -- ---- a write in lock step
 
@@ -241,16 +212,8 @@ repeated_dressed =
     )
     refl refl
 
-repeated_seen : IsSeen at_client block_repeated block_repeated.file block_sent_again
-repeated_seen = record { fits = repeated_fit; view = block_repeated_view; run = repeated_view; dressed = repeated_dressed }
-
 pub repeated_shown : Shows at_client block_repeated block_sent_again
-unfolding repeated_seen
-repeated_shown = record {
-  writable = omega (arith, repeated_count);
-  wire = block_repeated.file;
-  shown = record { seen = repeated_seen; complete = repeated_complete };
-}
+repeated_shown = shown_by at_client block_repeated block_repeated.file block_repeated_view block_sent_again repeated_fit (omega (arith, repeated_count)) repeated_view repeated_complete repeated_dressed
 
 -- ---- a write in a window of four
 
@@ -294,13 +257,5 @@ window_dressed =
     )
     refl refl
 
-window_seen : IsSeen at_client window_repeated window_repeated.file window_sent_again
-window_seen = record { fits = window_fit; view = window_repeated_view; run = window_view; dressed = window_dressed }
-
 pub window_shown : Shows at_client window_repeated window_sent_again
-unfolding window_seen
-window_shown = record {
-  writable = omega (arith, window_count);
-  wire = window_repeated.file;
-  shown = record { seen = window_seen; complete = window_complete };
-}
+window_shown = shown_by at_client window_repeated window_repeated.file window_repeated_view window_sent_again window_fit (omega (arith, window_count)) window_view window_complete window_dressed

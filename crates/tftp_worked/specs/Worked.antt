@@ -81,6 +81,22 @@ hi_is_acknowledged = record { dir = In; local = 40000; host = server_host; remot
 abbrev pub one_block_write : List Datagram
 one_block_write = offers_a ∷ is_accepted ∷ gives_hi ∷ hi_is_acknowledged ∷ []
 
+-- the same write as its server sees it, which goes on from port 3000
+abbrev pub is_offered_a : Datagram
+is_offered_a = record { dir = In; local = 6969; host = client_host; remote = 2000; payload = offers_a.payload }
+
+abbrev pub accepts_it : Datagram
+accepts_it = record { dir = Out; local = 3000; host = client_host; remote = 2000; payload = is_accepted.payload }
+
+abbrev pub gets_hi : Datagram
+gets_hi = record { dir = In; local = 3000; host = client_host; remote = 2000; payload = gives_hi.payload }
+
+abbrev pub has_hi : Datagram
+has_hi = record { dir = Out; local = 3000; host = client_host; remote = 2000; payload = hi_is_acknowledged.payload }
+
+abbrev pub write_at_server : List Datagram
+write_at_server = is_offered_a ∷ accepts_it ∷ gets_hi ∷ has_hi ∷ []
+
 -- a read with blocks of eight bytes: the letter case of mode and names is free, and a number may have leading zeros
 abbrev pub text : List ℕ → List ℕ → List ℕ
 text string rest = string ++ 0 ∷ rest

@@ -1,15 +1,7 @@
--- Captures of a read in netascii, whose wire is a text that reads as the file (RFC 1350, section 1; RFC 764).
+-- Captures of a read in netascii of `abcdefg`, the end of a line, and `h` (RFC 1350, section 1; RFC 764).
 use Rattle.std.specs.Prelude.{List, [], ◌∷◌, ◌++◌, codes}
-use Rattle.tftp_packet.specs.declared.kinds.Side.TheVariants.{Get}
-use Rattle.tftp_packet.specs.declared.kinds.Mode.TheVariants.{Netascii}
 use Rattle.tftp_ends.specs.CaptureText.{Datagram}
-use Rattle.tftp_ends.specs.Meaning.{Meaning}
-use Rattle.tftp_ends.specs.Worked.{eight_a_block}
 use Rattle.tftp_worked.specs.WorkedWindows.{request_for, oack, block, ack, by_eight, asks, goes, comes}
-
--- a read of a file of two lines, of which the second has not ended
-abbrev pub two_lines : Meaning
-two_lines = record { side = Get; name = codes "a"; mode = Netascii; requested = eight_a_block; agreed = eight_a_block; file = codes "abcdefg" ++ 10 ∷ codes "h" }
 
 abbrev pub asks_for_lines : Datagram
 asks_for_lines = asks (request_for (codes "a") (codes "netascii") 1 by_eight)

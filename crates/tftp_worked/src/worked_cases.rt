@@ -28,10 +28,12 @@ ghost use Rattle.tftp_worked.specs.Worked.{
   read_with_a_stray,
   read_at_server,
   one_block_write,
+  write_at_server,
   read_in_eights,
   acknowledges_hi,
 };
-ghost use Rattle.tftp_worked.specs.WorkedNetascii.{two_lines, read_of_lines, read_of_bare_lines};
+ghost use Rattle.tftp_normal.specs.Worked.{line_end_cut};
+ghost use Rattle.tftp_worked.specs.WorkedNetascii.{read_of_lines, read_of_bare_lines};
 ghost use Rattle.tftp_worked.specs.WorkedErrors.{
   says_forbidden,
   read_refused,
@@ -67,6 +69,11 @@ pub fn one_block_write_is_shown()
     ensures { Shows at_client two_bytes_written one_block_write }
 {}
 
+/// The same write as its server sees it.
+pub fn write_at_the_server_is_shown()
+    ensures { Shows at_server two_bytes_written write_at_server }
+{}
+
 /// A read with an agreed block size, in two blocks.
 pub fn read_in_eights_is_shown()
     ensures { Shows at_client ten_bytes read_in_eights }
@@ -75,8 +82,8 @@ pub fn read_in_eights_is_shown()
 /// A read in netascii, in two blocks between which a line end is cut; and one whose line ends by LF alone. Both show one
 /// file (RFC 1350, section 1; RFC 764).
 pub fn reads_in_netascii_are_shown()
-    ensures cut { Shows at_client two_lines read_of_lines }
-    ensures bare { Shows at_client two_lines read_of_bare_lines }
+    ensures cut { Shows at_client line_end_cut read_of_lines }
+    ensures bare { Shows at_client line_end_cut read_of_bare_lines }
 {}
 
 /// A read in a window of four blocks, of which one comes late and the next one twice: at its client, at its server, and

@@ -1,7 +1,7 @@
 //! Worked cases of whole texts: what there is to say of each, and what the commands write of it. Each is the
 //! contract of a function that does nothing.
 
-ghost use Rattle.std.specs.Prelude.{◌++◌, false, Ok, Err, codes};
+ghost use Rattle.std.specs.Prelude.{◌∷◌, ◌++◌, false, Ok, Err, codes};
 ghost use Rattle.tftp_capture.specs.Worked.{line, worked_text};
 ghost use Rattle.tftp_capture.specs.declared.fault.CaptureFault.TheVariants.{Text};
 ghost use Rattle.tftp_capture.specs.declared.fault.TextFault.TheVariants.{BadHeader};
@@ -10,14 +10,14 @@ ghost use Rattle.tftp_law.specs.declared.rule.Rule.{Rule};
 ghost use Rattle.tftp_judge.specs.TextVerdict.{IsTextVerdict};
 ghost use Rattle.tftp_judge.specs.declared.refusal.Refusal.TheVariants.{Unlawful};
 ghost use Rattle.tftp_judge.specs.declared.verdict.Verdict.TheVariants.{Capture, Refused};
-ghost use Rattle.tftp_normal.specs.Worked.{two_bytes_text};
+ghost use Rattle.tftp_normal.specs.Worked.{line_end_cut, two_bytes_text};
 ghost use Rattle.tftp_commands.specs.Checked.{IsChecked};
 ghost use Rattle.tftp_commands.specs.Counted.{IsCounted};
 ghost use Rattle.tftp_commands.specs.Extracted.{IsExtracted};
 ghost use Rattle.tftp_commands.specs.Normalised.{IsNormalised};
 ghost use Rattle.tftp_commands.specs.Shown.{IsShown};
 ghost use Rattle.tftp_commands.specs.Source.{given};
-ghost use Rattle.tftp_worked.specs.WorkedTexts.{overrun_text, unversioned_text, with_success, with_refusal, with_fault};
+ghost use Rattle.tftp_worked.specs.WorkedTexts.{lines_text, overrun_text, unversioned_text, with_success, with_refusal, with_fault};
 
 /// The text of a read of one block is accepted with its meaning. A text is refused at its first unlawful datagram, and
 /// one with a fault has it as its verdict.
@@ -52,4 +52,13 @@ pub fn read_is_normalised()
 /// What `count` prints of the read: its normal capture has as many datagrams as it has.
 pub fn read_is_counted()
     ensures { IsCounted (given worked_text) (with_success (line (codes "normal datagrams 3"))) }
+{}
+
+/// Of a read in netascii `extract` writes the file, in which LF alone ends a line; `normal` writes a line end by CR LF,
+/// and of this text itself.
+pub fn lines_are_read_as_their_file()
+    ensures verdict { IsTextVerdict lines_text (Ok line_end_cut) }
+    ensures checked { IsChecked (given lines_text) (with_success (line (codes "accepted get netascii blocks 2 bytes 9"))) }
+    ensures extracted { IsExtracted (given lines_text) (with_success (codes "abcdefg" ++ 10 ∷ codes "h")) }
+    ensures normalised { IsNormalised (given lines_text) (with_success lines_text) }
 {}

@@ -8,7 +8,7 @@ ghost use Rattle.tftp_law.specs.declared.rule.Rule.{Rule};
 ghost use Rattle.tftp_judge.specs.Verdict.{IsVerdict, IsVerdictByRules};
 ghost use Rattle.tftp_judge.specs.declared.refusal.Refusal.TheVariants.{Unlawful, Aborted, Incomplete};
 ghost use Rattle.tftp_law.specs.declared.by.By.TheVariants.{Local, Peer};
-ghost use Rattle.tftp_worked.specs.Worked.{at_client, acknowledges_hi, one_block_read, read_without_its_ack};
+ghost use Rattle.tftp_worked.specs.Worked.{at_client, brings_hi, acknowledges_hi, acknowledges_two, one_block_read, read_without_its_ack};
 ghost use Rattle.tftp_worked.specs.WorkedErrors.{
   says_forbidden,
   read_refused,
@@ -21,15 +21,43 @@ ghost use Rattle.tftp_worked.specs.WorkedErrors.{
   before_late_answer,
   late_answer,
 };
-ghost use Rattle.tftp_worked.specs.WorkedNetascii.{two_lines, read_of_lines, read_of_bare_lines};
-ghost use Rattle.tftp_worked.specs.WorkedWindows.{window_out_of_order, before_overrun, block_seven};
+ghost use Rattle.tftp_normal.specs.Worked.{line_end_cut};
+ghost use Rattle.tftp_worked.specs.WorkedNetascii.{read_of_lines, read_of_bare_lines};
+ghost use Rattle.tftp_worked.specs.WorkedRules.{
+  ack_zero,
+  acknowledges_nobody,
+  acknowledges_stray,
+  agrees_to_eight,
+  agrees_to_four,
+  asks_for_size,
+  before_ack_zero,
+  before_answering,
+  before_changed_block,
+  before_changed_reply,
+  before_going_back,
+  before_last_number,
+  before_late_oack,
+  before_short_block,
+  before_taking_offer,
+  block_too_early,
+  block_zero,
+  changed_block,
+  comes_to_another_port,
+  goes_back,
+  last_number,
+  late_oack,
+  only_asked,
+  short_block,
+  too_many_blocks,
+};
+ghost use Rattle.tftp_worked.specs.WorkedWindows.{at_service, window_out_of_order, before_overrun, block_seven, before_skip, block_two};
 
 /// A capture that shows a transfer is accepted with its meaning.
 pub fn shown_is_accepted()
     ensures one_block { IsVerdict at_client one_block_read (Ok two_bytes) }
     ensures window { IsVerdict at_client window_out_of_order (Ok six_blocks) }
-    ensures lines { IsVerdict at_client read_of_lines (Ok two_lines) }
-    ensures bare_lines { IsVerdict at_client read_of_bare_lines (Ok two_lines) }
+    ensures lines { IsVerdict at_client read_of_lines (Ok line_end_cut) }
+    ensures bare_lines { IsVerdict at_client read_of_bare_lines (Ok line_end_cut) }
 {}
 
 /// The rules say the same of the read, and of the capture with a block beyond the window.
@@ -69,4 +97,38 @@ pub fn what_follows_an_error_is_unlawful()
     ensures another { IsVerdict at_client (read_refused ++ says_forbidden ∷ []) (Err (Unlawful 3 Rule.AfterError)) }
     ensures ack { IsVerdict at_client (read_given_up ++ acknowledges_hi ∷ []) (Err (Unlawful 4 Rule.AfterError)) }
     ensures late { IsVerdict at_client (before_late_answer ++ late_answer ∷ []) (Err (Unlawful 7 Rule.WindowOverrun)) }
+{}
+
+/// What breaks a rule of ports is in no run, and is named with that rule (RFC 1350, section 4).
+pub fn ports_have_their_verdicts()
+    ensures foreign { IsVerdict at_client (before_answering ++ comes_to_another_port ∷ []) (Err (Unlawful 4 Rule.ForeignPort)) }
+    ensures wrong { IsVerdict at_client (before_answering ++ acknowledges_nobody ∷ []) (Err (Unlawful 4 Rule.WrongPort)) }
+    ensures stray { IsVerdict at_client (before_answering ++ acknowledges_stray ∷ []) (Err (Unlawful 4 Rule.StrayAnswer)) }
+{}
+
+/// What breaks a rule of requests, or of what answers them, is named with that rule (RFC 1350, section 4; RFC 2347).
+pub fn requests_and_replies_have_their_verdicts()
+    ensures no_request { IsVerdict at_client (brings_hi ∷ []) (Err (Unlawful 1 Rule.NoRequest)) }
+    ensures kind { IsVerdict at_client (only_asked ++ ack_zero ∷ []) (Err (Unlawful 2 Rule.WrongKind)) }
+    ensures reply { IsVerdict at_client (before_changed_reply ++ agrees_to_four ∷ []) (Err (Unlawful 3 Rule.ReplyChanged)) }
+    ensures oack { IsVerdict at_client (before_taking_offer ++ agrees_to_eight ∷ []) (Err (Unlawful 3 Rule.OackChanged)) }
+    ensures late_oack { IsVerdict at_service (before_late_oack ++ late_oack ∷ []) (Err (Unlawful 5 Rule.OackAfterStart)) }
+    ensures too_many { IsVerdict at_client (asks_for_size ∷ too_many_blocks ∷ []) (Err (Unlawful 2 Rule.BeyondBlock65535)) }
+{}
+
+/// What breaks a rule of blocks is named with that rule (RFC 1350, sections 2 and 5; RFC 2349; RFC 7440, section 4).
+pub fn blocks_have_their_verdicts()
+    ensures early { IsVerdict at_client (before_taking_offer ++ block_too_early ∷ []) (Err (Unlawful 3 Rule.NotStarted)) }
+    ensures zero { IsVerdict at_client (only_asked ++ block_zero ∷ []) (Err (Unlawful 2 Rule.BlockZero)) }
+    ensures last { IsVerdict at_client (before_last_number ++ last_number ∷ []) (Err (Unlawful 4 Rule.BeyondBlock65535)) }
+    ensures short { IsVerdict at_client (before_short_block ++ short_block ∷ []) (Err (Unlawful 6 Rule.BlockLength)) }
+    ensures skipped { IsVerdict at_client (before_skip ++ block_two ∷ []) (Err (Unlawful 3 Rule.BlockSkipped)) }
+    ensures back { IsVerdict at_client (before_going_back ++ goes_back ∷ []) (Err (Unlawful 7 Rule.GoneBack)) }
+    ensures changed { IsVerdict at_client (before_changed_block ++ changed_block ∷ []) (Err (Unlawful 5 Rule.BlockChanged)) }
+{}
+
+/// An ACK that breaks a rule is named with that rule (RFC 1350, section 2; RFC 2347).
+pub fn acks_have_their_verdicts()
+    ensures ahead { IsVerdict at_client (read_without_its_ack ++ acknowledges_two ∷ []) (Err (Unlawful 3 Rule.AckAhead)) }
+    ensures zero { IsVerdict at_client (before_ack_zero ++ ack_zero ∷ []) (Err (Unlawful 3 Rule.AckZero)) }
 {}

@@ -1,5 +1,6 @@
 use Rattle.tftp_worked.specs.Worked.{at_client}
-use Rattle.tftp_worked.specs.WorkedNetascii.{two_lines, read_of_lines, read_of_bare_lines}
+use Rattle.tftp_normal.specs.Worked.{line_end_cut}
+use Rattle.tftp_worked.specs.WorkedNetascii.{read_of_lines, read_of_bare_lines}
 use Rattle.tftp_worked.proofs.LinesShown.{lines_are_shown, bare_lines_are_shown}
 use Rattle.tftp_worked.proofs.Verdicts.{accepted, read_accepted, window_accepted}
 use Rattle.tftp_worked.proofs.worked_verdicts.shown_is_accepted.Goals as goal
@@ -11,7 +12,7 @@ pub returns-clause-window : goal.returns-clause-window
 returns-clause-window c = window_accepted
 
 pub returns-clause-lines : goal.returns-clause-lines
-returns-clause-lines c = accepted at_client two_lines read_of_lines lines_are_shown
+returns-clause-lines c = accepted at_client line_end_cut read_of_lines lines_are_shown
 
 pub returns-clause-bare_lines : goal.returns-clause-bare_lines
-returns-clause-bare_lines c = accepted at_client two_lines read_of_bare_lines bare_lines_are_shown
+returns-clause-bare_lines c = accepted at_client line_end_cut read_of_bare_lines bare_lines_are_shown

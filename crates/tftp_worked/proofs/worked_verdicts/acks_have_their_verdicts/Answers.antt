@@ -1,0 +1,14 @@
+use Rattle.std.proofs.Common.{refl}
+use Rattle.tftp_law.specs.declared.rule.Rule.{Rule}
+use Rattle.tftp_worked.specs.Worked.{acknowledges_two, at_client, read_without_its_ack}
+use Rattle.tftp_worked.specs.WorkedRules.{ack_zero, before_ack_zero}
+use Rattle.tftp_worked.proofs.ByRules.{refused_verdict}
+use Rattle.tftp_worked.proofs.Refused.{zero_refused}
+use Rattle.tftp_worked.proofs.RefusedMore.{ahead_refused}
+use Rattle.tftp_worked.proofs.worked_verdicts.acks_have_their_verdicts.Goals as goal
+
+pub returns-clause-ahead : goal.returns-clause-ahead
+returns-clause-ahead c = refused_verdict at_client read_without_its_ack acknowledges_two Rule.AckAhead 3 refl refl ahead_refused
+
+pub returns-clause-zero : goal.returns-clause-zero
+returns-clause-zero c = refused_verdict at_client before_ack_zero ack_zero Rule.AckZero 3 refl refl zero_refused

@@ -1,0 +1,16 @@
+use Rattle.std.proofs.Common.{refl}
+use Rattle.tftp_law.specs.declared.rule.Rule.{Rule}
+use Rattle.tftp_worked.specs.Worked.{at_client}
+use Rattle.tftp_worked.specs.WorkedRules.{acknowledges_nobody, acknowledges_stray, before_answering, comes_to_another_port}
+use Rattle.tftp_worked.proofs.ByRules.{refused_verdict}
+use Rattle.tftp_worked.proofs.RefusedMore.{foreign_refused, nobody_refused, stray_refused}
+use Rattle.tftp_worked.proofs.worked_verdicts.ports_have_their_verdicts.Goals as goal
+
+pub returns-clause-foreign : goal.returns-clause-foreign
+returns-clause-foreign c = refused_verdict at_client before_answering comes_to_another_port Rule.ForeignPort 4 refl refl foreign_refused
+
+pub returns-clause-wrong : goal.returns-clause-wrong
+returns-clause-wrong c = refused_verdict at_client before_answering acknowledges_nobody Rule.WrongPort 4 refl refl nobody_refused
+
+pub returns-clause-stray : goal.returns-clause-stray
+returns-clause-stray c = refused_verdict at_client before_answering acknowledges_stray Rule.StrayAnswer 4 refl refl stray_refused
