@@ -4,10 +4,11 @@ use Rattle.std.specs.Io.KnownBytes.{Consumes, IsAtEnd}
 use Rattle.std.proofs.KnownBytes.{Appends-nil}
 use Rattle.tftp_ends.specs.Meaning.{Meaning}
 use Rattle.tftp_judge.specs.Extracted.{Extracts}
-use Rattle.tftp_judge.specs.TextVerdict.{EndsText, IsTextVerdict, SaysReadFailed}
+use Rattle.tftp_judge.specs.TextVerdict.{EndsText, IsReadVerdict, IsTextVerdict, SaysReadFailed}
 use Rattle.tftp_judge.specs.declared.extraction.OutFault.{OutFault}
 use Rattle.tftp_judge.specs.declared.extraction.OutFault.TheVariants as fault
 use Rattle.tftp_judge.specs.declared.verdict.Verdict.{Verdict}
+use Rattle.tftp_judge.proofs.ReadVerdicts.{read_is_text}
 use Rattle.tftp_commands.specs.declared.status.Status.{Status}
 use Rattle.tftp_commands.specs.declared.status.Status.TheVariants as status
 use Rattle.tftp_commands.specs.Checked.{verdict_status}
@@ -47,7 +48,7 @@ module _ {W : Type 0} (contents : W → Option (List ℕ)) (old new : W × Bool)
     -- what was said of what was read, as `extract` of the judge tells it
     abbrev pub Told : Type 0
     Told =
-        (read : List ℕ) × (said : Result Meaning Verdict) × Consumes before after read × IsTextVerdict read said × (EndsText said → IsAtEnd after) × (SaysReadFailed said → failed ≡ true) × (failed ≡ true → SaysReadFailed said)
+        (read : List ℕ) × (said : Result Meaning Verdict) × Consumes before after read × IsReadVerdict read said × (EndsText said → IsAtEnd after) × (SaysReadFailed said → failed ≡ true) × (failed ≡ true → SaysReadFailed said)
         × Extracts contents old new said result
 
     pub extracted_said : Told → (read : List ℕ) × (output : Output) × Consumes before after read × IsExtracted (record { read = read; left = after; failed = failed }) output
@@ -56,7 +57,7 @@ module _ {W : Type 0} (contents : W → Option (List ℕ)) (old new : W × Bool)
       read,
       extracted said,
       consumed,
-      record { said = said; judged = record { is_said = is_said; at_end = at_end; failed = (reads, tally) }; is = refl },
+      record { said = said; judged = record { is_said = read_is_text read said is_said; at_end = at_end; failed = (reads, tally) }; is = refl },
       written said result clean is,
     )
 

@@ -1,11 +1,8 @@
--- Want of memory may be said of any text, where no read failed.
-use Rattle.std.proofs.Common.{◌≡◌, ◌<◌, ℕ, List, [], ◌∷◌, Bool, false, true≢false, Err, refl, sym, ◌∙◌, inl, arith}
-use Rattle.std.proofs.lemmas.List.Elements.{All-head}
-use Rattle.tftp_capture.specs.CaptureText.{Numbered}
+-- Want of memory for its first line may be said of any text, where no read failed.
+use Rattle.std.proofs.Common.{◌≡◌, ℕ, List, [], Bool, false, true≢false, Err, refl, sym, ◌∙◌, inl}
 use Rattle.tftp_capture.specs.declared.fault.CaptureFault.TheVariants.{Memory}
-use Rattle.tftp_judge.specs.TextVerdict.{LawfulBefore}
 use Rattle.tftp_judge.specs.declared.verdict.Verdict.TheVariants.{Capture}
-use Rattle.tftp_law.proofs.Beginnings.{empty_is_lawful}
+use Rattle.tftp_judge.proofs.WantOfMemory.{wants_first_line}
 use Rattle.tftp_commands.specs.declared.status.Status.TheVariants as status
 use Rattle.tftp_commands.specs.declared.words.Action.{Action}
 use Rattle.tftp_commands.specs.declared.words.Action.TheVariants.{Check, Extract, Normal, Show, Count}
@@ -17,36 +14,32 @@ use Rattle.tftp_commands.specs.Shown.{Faulty}
 use Rattle.tftp_commands.specs.Source.{Source}
 use Rattle.tftp_commands.specs.Words.{memory_fault}
 
-no_line_before : (text : List ℕ) → LawfulBefore text 0
-no_line_before text h [] begins before = empty_is_lawful h
-no_line_before text h (d ∷ ds) begins before = absurd (omega (arith, All-head (λ (x : Numbered). x.0 < 0) d ds before))
-
-pub memory_judged : (source : Source) → source.failed ≡ false → IsJudged source (Err (Capture (Memory 0)))
+pub memory_judged : (source : Source) → source.failed ≡ false → IsJudged source (Err (Capture (Memory 1)))
 memory_judged source clean = record {
-  is_said = no_line_before source.read;
+  is_said = wants_first_line source.read;
   at_end = λ h. absurd h;
   failed = (λ h. absurd h, λ is. absurd (true≢false (sym is ∙ clean)));
 }
 
 -- the commands that say it
 pub memory_said : (a : Action) (source : Source) (cut : Bool) → memory_fault a ≡ usage.Memory → source.failed ≡ false → IsOutputOf a source cut (record { bytes = memory_line; status = status.Fault })
-memory_said Check source cut told clean = record { said = Err (Capture (Memory 0)); judged = memory_judged source clean; is = refl }
+memory_said Check source cut told clean = record { said = Err (Capture (Memory 1)); judged = memory_judged source clean; is = refl }
 memory_said Extract source cut told clean = absurd (cc)
 memory_said Normal source cut told clean = absurd (cc)
 memory_said Show source cut told clean = record {
   datagrams = [];
-  ending = Faulty (Memory 0);
+  ending = Faulty (Memory 1);
   lines = [];
   are = refl;
   ends = (inl refl, clean);
   is = refl;
 }
-memory_said Count source cut told clean = record { said = Err (Capture (Memory 0)); judged = memory_judged source clean; is = refl }
+memory_said Count source cut told clean = record { said = Err (Capture (Memory 1)); judged = memory_judged source clean; is = refl }
 
 -- and those that write nothing
 pub silent_said : (a : Action) (source : Source) (cut : Bool) → memory_fault a ≡ usage.Silent → source.failed ≡ false → IsOutputOf a source cut (record { bytes = []; status = status.Fault })
 silent_said Check source cut told clean = absurd (cc)
-silent_said Extract source cut told clean = record { said = Err (Capture (Memory 0)); judged = memory_judged source clean; is = refl }
-silent_said Normal source cut told clean = record { said = Err (Capture (Memory 0)); judged = memory_judged source clean; is = refl }
+silent_said Extract source cut told clean = record { said = Err (Capture (Memory 1)); judged = memory_judged source clean; is = refl }
+silent_said Normal source cut told clean = record { said = Err (Capture (Memory 1)); judged = memory_judged source clean; is = refl }
 silent_said Show source cut told clean = absurd (cc)
 silent_said Count source cut told clean = absurd (cc)

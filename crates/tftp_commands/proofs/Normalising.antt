@@ -4,8 +4,9 @@ use Rattle.std.specs.Io.KnownBytes.{Consumes, IsAtEnd}
 use Rattle.std.proofs.KnownBytes.{Appends-nil}
 use Rattle.tftp_capture.specs.declared.fault.CaptureFault.TheVariants.{Memory}
 use Rattle.tftp_ends.specs.Meaning.{Meaning}
-use Rattle.tftp_judge.specs.TextVerdict.{EndsText, IsTextVerdict, SaysReadFailed}
+use Rattle.tftp_judge.specs.TextVerdict.{EndsText, IsReadVerdict, IsTextVerdict, SaysReadFailed}
 use Rattle.tftp_judge.specs.declared.verdict.Verdict.{Verdict}
+use Rattle.tftp_judge.proofs.ReadVerdicts.{read_is_text}
 use Rattle.tftp_judge.specs.declared.verdict.Verdict.TheVariants.{Capture}
 use Rattle.tftp_normal.specs.Normalised.{Normalises}
 use Rattle.tftp_normal.specs.declared.fault.NormalFault.{NormalFault}
@@ -29,7 +30,7 @@ status_after (Err (fault.Verdict verdict)) = verdict_status verdict
 abbrev last_said : Meaning → Result (Unit {0}) NormalFault → Result Meaning Verdict
 last_said m (Ok done) = Ok m
 last_said m (Err fault.Write) = Ok m
-last_said m (Err fault.Memory) = Err (Capture (Memory 0))
+last_said m (Err fault.Memory) = Err (Capture (Memory 1))
 last_said m (Err (fault.Verdict verdict)) = Ok m
 
 abbrev pub told : Result Meaning Verdict → Result (Unit {0}) NormalFault → Result Meaning Verdict
@@ -59,7 +60,7 @@ module _ {W : Type 0} (contents : W → Option (List ℕ)) (old new : W × Bool)
       → IsWritten (contents old.0) (contents new.0) new.1 (normalised (told said result)) (status_after result)
   written (Ok m) (Ok done) clean is = subst (λ b. IsWritten (contents old.0) (contents new.0) b (normalised (Ok m)) status.Success) (sym is.0) (is.1, refl)
   written (Ok m) (Err fault.Write) clean is = subst (λ b. IsWritten (contents old.0) (contents new.0) b (normalised (Ok m)) status.Fault) (sym is.0) (is.1, refl)
-  written (Ok m) (Err fault.Memory) clean is = untouched (Capture (Memory 0)) clean is
+  written (Ok m) (Err fault.Memory) clean is = untouched (Capture (Memory 1)) clean is
   written (Ok m) (Err (fault.Verdict other)) clean is = absurd is
   written (Err verdict) (Ok done) clean is = absurd is
   written (Err verdict) (Err fault.Write) clean is = absurd is
@@ -83,7 +84,7 @@ module _ {W : Type 0} (contents : W → Option (List ℕ)) (old new : W × Bool)
     -- what was said of what was read, as `normalise` tells it
     abbrev pub Told : Type 0
     Told =
-        (read : List ℕ) × (said : Result Meaning Verdict) × Consumes before after read × IsTextVerdict read said × (EndsText said → IsAtEnd after) × (SaysReadFailed said → failed ≡ true) × (failed ≡ true → SaysReadFailed said)
+        (read : List ℕ) × (said : Result Meaning Verdict) × Consumes before after read × IsReadVerdict read said × (EndsText said → IsAtEnd after) × (SaysReadFailed said → failed ≡ true) × (failed ≡ true → SaysReadFailed said)
         × Normalises contents old new said result
 
     pub normalised_said : Told → (read : List ℕ) × (output : Output) × Consumes before after read × IsNormalised (record { read = read; left = after; failed = failed }) output
@@ -94,7 +95,7 @@ module _ {W : Type 0} (contents : W → Option (List ℕ)) (old new : W × Bool)
       consumed,
       record {
         said = told said result;
-        judged = judged_told (record { read = read; left = after; failed = failed }) said result (record { is_said = is_said; at_end = at_end; failed = (reads, tally) });
+        judged = judged_told (record { read = read; left = after; failed = failed }) said result (record { is_said = read_is_text read said is_said; at_end = at_end; failed = (reads, tally) });
         is = refl;
       },
       written said result clean is,

@@ -33,7 +33,7 @@ refusal_line (Unlawful index rule) = codes "refused datagram " ++ decimal index 
 refusal_line (Aborted by code) = codes "aborted by " ++ by_name by ++ codes " code " ++ decimal code ++ codes "\n"
 refusal_line (Incomplete count) = codes "incomplete after " ++ decimal count ++ codes "\n"
 refusal_line NormalTooLong = codes "too long when normal\n"
-refusal_line Memory = memory_line
+refusal_line (Memory count) = memory_line
 
 abbrev pub verdict_line : Verdict → List ℕ
 verdict_line (Capture fault) = fault_line fault
@@ -46,7 +46,7 @@ verdict_status (Refused (Unlawful index rule)) = status.Refused
 verdict_status (Refused (Aborted by code)) = status.Refused
 verdict_status (Refused (Incomplete count)) = status.Refused
 verdict_status (Refused NormalTooLong) = status.Refused
-verdict_status (Refused Memory) = status.Fault
+verdict_status (Refused (Memory count)) = status.Fault
 
 abbrev pub checked : Result Meaning Verdict → Output
 checked (Ok m) = record { bytes = accepted_line m; status = status.Success }

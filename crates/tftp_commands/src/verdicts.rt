@@ -16,7 +16,7 @@ pub fn status_of(verdict: Verdict) -> Status
     ensures { result ≡ verdict_status verdict }
 {
     match verdict {
-        Verdict::Capture(_) | Verdict::Refused(Refusal::Memory) => Status::Fault,
+        Verdict::Capture(_) | Verdict::Refused(Refusal::Memory(_)) => Status::Fault,
         Verdict::Refused(Refusal::Unlawful(..) | Refusal::Aborted(..)) => Status::Refused,
         Verdict::Refused(Refusal::Incomplete(_) | Refusal::NormalTooLong) => Status::Refused,
     }
@@ -77,7 +77,7 @@ fn put_refusal<W: Write>(
         Refusal::Aborted(by, code) => put_aborted(gathered, writer, by, code),
         Refusal::Incomplete(count) => put_incomplete(gathered, writer, count),
         Refusal::NormalTooLong => gathered.add(writer, b"too long when normal\n"),
-        Refusal::Memory => gathered.add(writer, b"fault memory\n"),
+        Refusal::Memory(_) => gathered.add(writer, b"fault memory\n"),
     }
 }
 

@@ -7,7 +7,8 @@ use std::alloc::{AllocError, Global};
 use std::collections::VecDeque;
 use std::marker::Model;
 
-/// How many bytes more than twice those of the blocks that wait are kept before their room is given back.
+/// How many bytes more than those of the blocks that wait may be half of what is kept, before the room of the blocks that
+/// have left is given back. So twice this may be kept beside twice what waits.
 const SPARE: usize = 1 << 20;
 
 /// Where a block lies in the bytes of all that wait.
@@ -19,7 +20,8 @@ struct Span {
 
 /// The blocks above the front of a ring, each at its place. Their bytes stand in one vector, in the order in which they
 /// came, until no place is left: then it is emptied, and its room is used again. Where blocks wait all the time, it is
-/// packed when more than half of it is of blocks that have left, so it stays within twice the bytes that wait, and some.
+/// packed when more than half of it is of blocks that have left and 1 MiB more: it stays within twice the bytes that wait,
+/// 2 MiB and the block that came last.
 #[derive(Drop)]
 pub(crate) struct Waiting {
     bytes: Vec<u8>,

@@ -98,16 +98,20 @@ wants_for text ahead h ds line d count passed (version, lines, stands) near (is,
 refused : (text ahead : List ℕ) (h : Header) (ds : List Numbered) (line : ℕ) (d : Datagram) (refusal : Refusal) → OneEnded h (reverse (unnumbered ds)) → StandAs text (with_one ds line d) h → length ahead ≤ 16384
     → Refuses h (reverse (unnumbered ds)) d refusal → Stays text ahead (Err (Refused refusal)) × (EndsText (Err (Refused refusal)) → ⊥)
 refused text ahead h ds line d (Unlawful index rule) passed stand near (number, broken) =
-    let at = unlawful_at h ds line d index rule passed number broken in
-    (record {
-      longer = λ more. (h, with_one ds line d, begins_by text more (with_one ds line d) h stand, at);
-      read = (h, with_one ds line d, begins_by text ahead (with_one ds line d) h stand, at);
-    }, λ x. x)
-refused text ahead h ds line d (Memory count) passed stand near wants =
-    (record {
-      longer = λ more. inl (text, more, refl, subst (λ t. WantsToJudge t count) (append-nil text) (wants_for text [] h ds line d count passed stand (lit≤ tt) wants));
-      read = inl (wants_for text ahead h ds line d count passed stand near wants);
-    }, λ x. x)
+    let at = unlawful_at h ds line d index rule passed number broken in (
+      record {
+        longer = λ more. (h, with_one ds line d, begins_by text more (with_one ds line d) h stand, at);
+        read = (h, with_one ds line d, begins_by text ahead (with_one ds line d) h stand, at);
+      },
+      λ x. x,
+    )
+refused text ahead h ds line d (Memory count) passed stand near wants = (
+  record {
+    longer = λ more. inl (text, more, refl, subst (λ t. WantsToJudge t count) (append-nil text) (wants_for text [] h ds line d count passed stand (lit≤ tt) wants));
+    read = inl (wants_for text ahead h ds line d count passed stand near wants);
+  },
+  λ x. x,
+)
 refused text ahead h ds line d (Aborted by code) passed stand near other = absurd other
 refused text ahead h ds line d (Incomplete count) passed stand near other = absurd other
 refused text ahead h ds line d NormalTooLong passed stand near other = absurd other

@@ -19,5 +19,7 @@ mod SameVerdicts
 pub mod EndedJudge
 pub mod MessageFound
 pub mod NewMessages
+mod Extracting
+pub mod TakenMemory
 pub mod StaysAfter
 pub mod Replied

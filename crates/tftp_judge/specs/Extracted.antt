@@ -1,8 +1,9 @@
 -- What is written of a capture text: the file of what it means, and nothing of any other.
-use Rattle.std.specs.Prelude.{◌≡◌, ℕ, Bool, true, false, List, Option, Result, Ok, Err}
+use Rattle.std.specs.Prelude.{◌≡◌, ◌⊎◌, ℕ, Bool, true, false, List, Option, Result, Ok, Err}
 use Rattle.std.specs.Io.KnownBytes.{Appends}
 use Rattle.tftp_capture.specs.Tally.{AppendsPrefix}
 use Rattle.tftp_ends.specs.Meaning.{Meaning}
+use Rattle.tftp_judge.specs.TextVerdict.{WantsMemory}
 use Rattle.tftp_judge.specs.declared.extraction.OutFault.{OutFault}
 use Rattle.tftp_judge.specs.declared.extraction.OutFault.TheVariants as fault
 use Rattle.tftp_judge.specs.declared.verdict.Verdict.{Verdict}
@@ -15,3 +16,9 @@ Extracts contents old new (Ok m) (Err (fault.Verdict verdict)) = ⊥
 Extracts contents old new (Err verdict) (Ok done) = ⊥
 Extracts contents old new (Err verdict) (Err fault.Write) = ⊥
 Extracts contents old new (Err verdict) (Err (fault.Verdict other)) = (other ≡ verdict) × (new ≡ old)
+
+-- Of a text that is accepted with this meaning: its file, whole, or where a write failed a part of it from its start; or
+-- memory was wanting, and nothing was written.
+abbrev pub WritesFile : {W : Type 0} → (W → Option (List ℕ)) → W × Bool → W × Bool → Meaning → Result (Unit {0}) OutFault → Type 0
+WritesFile contents old new m result =
+    Extracts contents old new (Ok m) result ⊎ ((verdict : Verdict) × WantsMemory (Err verdict) × Extracts contents old new (Err verdict) result)

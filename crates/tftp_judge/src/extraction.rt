@@ -1,7 +1,7 @@
-ghost use Rattle.std.specs.Prelude.{◌≡◌, ℕ, List, Some, true, false, Result};
+ghost use Rattle.std.specs.Prelude.{◌≡◌, ℕ, List, Some, true, false, Result, Ok};
 ghost use Rattle.std.specs.Io.KnownBytes.{Consumes, IsAtEnd};
 ghost use Rattle.tftp_ends.specs.Meaning.{Meaning};
-ghost use Rattle.tftp_judge.specs.Extracted.{Extracts};
+ghost use Rattle.tftp_judge.specs.Extracted.{Extracts, WritesFile};
 ghost use Rattle.tftp_judge.specs.TextVerdict.{EndsText, IsReadVerdict, IsTextVerdict, SaysReadFailed};
 ghost use Rattle.tftp_judge.specs.declared.verdict.Verdict.{Verdict as Refused};
 
@@ -57,6 +57,8 @@ pub fn extract<R: Read, W: Write>(
         × (reader.new.1 ≡ true → SaysReadFailed said) × Extracts W.contents writer.old writer.new said result }
     ensures whole { (text : List ℕ) → R.remaining reader.old.0 ≡ Some text → reader.new.1 ≡ false
         → (said : Result Meaning Refused) × IsTextVerdict text said × Extracts W.contents writer.old writer.new said result }
+    ensures exact { (text : List ℕ) (m : Meaning) → R.remaining reader.old.0 ≡ Some text → reader.new.1 ≡ false → IsTextVerdict text (Ok m)
+        → WritesFile W.contents writer.old writer.new m result }
 {
     let meaning = judge_text(alloc, reader)?;
     write_whole(writer, meaning.file())?;

@@ -1,10 +1,15 @@
 //! Laws of the definitions in `specs/`. Each is the contract of a function that does nothing.
 
-ghost use Rattle.std.specs.Prelude.{◌≡◌, ◌↔◌, ◌^◌, ◌≤◌, ℕ, List, Result, length};
+ghost use Rattle.std.specs.Prelude.{◌≡◌, ◌↔◌, ◌^◌, ◌≤◌, ℕ, List, Result, length, true};
 ghost use Rattle.tftp_capture.specs.CaptureText.{IsCapture, Numbered};
 ghost use Rattle.tftp_capture.specs.InTwo.{in_version_two};
 ghost use Rattle.tftp_ends.specs.CaptureText.{Datagram, Header};
+ghost use Rattle.tftp_packet.specs.Message.{Message};
+ghost use Rattle.tftp_packet.specs.Spelling.{Spells};
 ghost use Rattle.tftp_ends.specs.Meaning.{Meaning};
+ghost use Rattle.tftp_ends.specs.Ports.{is_of_transfer, route_of, transfer_of};
+ghost use Rattle.tftp_ends.specs.Rules.{HasPassed, Passed};
+ghost use Rattle.tftp_judge.specs.Memory.{TakesMemory};
 ghost use Rattle.tftp_judge.specs.TextVerdict.{IsOfText, IsTextVerdict};
 ghost use Rattle.tftp_judge.specs.Verdict.{IsSaid, IsVerdict, IsVerdictByRules};
 ghost use Rattle.tftp_judge.specs.declared.refusal.Refusal.{Refusal};
@@ -34,4 +39,17 @@ pub fn text_has_one_verdict()
 pub fn text_in_version_two_has_the_same_verdicts()
     ensures { (text : List ℕ) (header : Header) (datagrams : List Numbered) (v : Result Meaning Verdict) → IsCapture text header datagrams
         → length (in_version_two text) ≤ 2 ^ 40 → IsTextVerdict text v ↔ IsTextVerdict (in_version_two text) v }
+{}
+
+/// Of the datagrams of a transfer, an ACK takes no memory, nor does a block whose number has passed, or an ERROR after the
+/// first that went its way.
+pub fn what_comes_again_takes_no_memory()
+    ensures ack { (h : Header) (earlier : List Datagram) (d : Datagram) → is_of_transfer (route_of h earlier d) ≡ true
+        → (j : ℕ) → Spells d.payload (Message.Ack j) → TakesMemory h earlier d → ⊥ }
+    ensures block { (h : Header) (earlier : List Datagram) (d : Datagram) → is_of_transfer (route_of h earlier d) ≡ true
+        → (k : ℕ) (bytes other : List ℕ) → Spells d.payload (Message.Data k bytes)
+        → HasPassed (Message.Data k other) (transfer_of h earlier) → TakesMemory h earlier d → ⊥ }
+    ensures error { (h : Header) (earlier : List Datagram) (d : Datagram) → is_of_transfer (route_of h earlier d) ≡ true
+        → (code other : ℕ) (text words : List ℕ) → Spells d.payload (Message.Error code text)
+        → Passed d.dir (Message.Error other words) (transfer_of h earlier) → TakesMemory h earlier d → ⊥ }
 {}

@@ -48,7 +48,7 @@ pub fn fed<D: Delivered + Drop>(
     datagram: &Datagram,
 ) -> Result<(), Refusal> {
     if judge.fed() >= 1 << 40 || datagram.payload.as_slice().len() > 65_527 {
-        return Err(Refusal::Memory);
+        return Err(Refusal::Memory(judge.fed()));
     }
     judge.feed(alloc, datagram)
 }
@@ -97,7 +97,7 @@ fn accepts<D: Delivered + Drop>(rt: &HostRuntime) -> Result<(), Fail> {
         let datagram = datagram(alloc, dir, remote_port, payload)?;
         match fed(alloc, &mut judge, &datagram) {
             Ok(()) => {}
-            Err(Refusal::Memory) => return Err(Fail::new(NO_MEMORY)),
+            Err(Refusal::Memory(_)) => return Err(Fail::new(NO_MEMORY)),
             Err(_) => return Err(Fail::new("a datagram is refused")),
         }
     }
@@ -106,7 +106,7 @@ fn accepts<D: Delivered + Drop>(rt: &HostRuntime) -> Result<(), Fail> {
     }
     match judge.finish(alloc) {
         Ok(meaning) if meaning.file() == b"hi".as_slice() => Ok(()),
-        Err(Refusal::Memory) => Err(Fail::new(NO_MEMORY)),
+        Err(Refusal::Memory(_)) => Err(Fail::new(NO_MEMORY)),
         _ => Err(Fail::new("another end")),
     }
 }

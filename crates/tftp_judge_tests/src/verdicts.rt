@@ -71,7 +71,7 @@ fn refused_line(alloc: Global, refusal: Refusal) -> Result<String, AllocError> {
         Refusal::Aborted(By::Peer, code) => format!(in alloc; "aborted by peer code {code}\n"),
         Refusal::Incomplete(count) => format!(in alloc; "incomplete after {count}\n"),
         Refusal::NormalTooLong => String::from_str(alloc, "too long when normal\n"),
-        Refusal::Memory => String::from_str(alloc, "fault memory\n"),
+        Refusal::Memory(_) => String::from_str(alloc, "fault memory\n"),
     }
 }
 

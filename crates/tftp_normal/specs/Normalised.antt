@@ -1,8 +1,9 @@
 -- What is written of a capture text: the normal text of what it means, and nothing of any other.
-use Rattle.std.specs.Prelude.{◌≡◌, ℕ, Bool, true, false, List, Option, Result, Ok, Err}
+use Rattle.std.specs.Prelude.{◌≡◌, ◌⊎◌, ℕ, Bool, true, false, List, Option, Result, Ok, Err}
 use Rattle.std.specs.Io.KnownBytes.{Appends}
 use Rattle.tftp_capture.specs.Tally.{AppendsPrefix}
 use Rattle.tftp_ends.specs.Meaning.{Meaning}
+use Rattle.tftp_judge.specs.TextVerdict.{WantsMemory}
 use Rattle.tftp_judge.specs.declared.verdict.Verdict.{Verdict}
 use Rattle.tftp_normal.specs.declared.fault.NormalFault.{NormalFault}
 use Rattle.tftp_normal.specs.declared.fault.NormalFault.TheVariants as fault
@@ -19,3 +20,9 @@ Normalises contents old new (Err verdict) (Ok done) = ⊥
 Normalises contents old new (Err verdict) (Err fault.Write) = ⊥
 Normalises contents old new (Err verdict) (Err fault.Memory) = ⊥
 Normalises contents old new (Err verdict) (Err (fault.Verdict other)) = (other ≡ verdict) × (new ≡ old)
+
+-- Of a text that is accepted with this meaning: its normal text, whole, or where a write failed a part of it from its start;
+-- or memory was wanting, and nothing was written.
+abbrev pub WritesNormal : {W : Type 0} → (W → Option (List ℕ)) → W × Bool → W × Bool → Meaning → Result (Unit {0}) NormalFault → Type 0
+WritesNormal contents old new m result =
+    Normalises contents old new (Ok m) result ⊎ ((verdict : Verdict) × WantsMemory (Err verdict) × Normalises contents old new (Err verdict) result)

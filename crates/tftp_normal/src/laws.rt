@@ -63,7 +63,9 @@ pub fn normal_texts_are_equal_as_meanings_are()
 
 /// A capture text is accepted with a meaning exactly if some run of the two ends, over a network that loses, repeats and
 /// reorders, shows it at its named end as that one complete transfer; two accepted texts have equal normal texts exactly
-/// if their meanings are equal; and a normal text is accepted with its meaning and is its own normal text.
+/// if their meanings are equal; and a normal text is accepted with its meaning and is its own normal text. `accepted` is
+/// the step from one definition to the other alone: that what is answered of a text is what its runs say is in the clauses
+/// `whole` and `exact` of `judge_text`, and of what is written in those of `normalise`.
 pub fn accepted_texts_are_those_of_whole_runs()
     ensures accepted { (text : List ℕ) (m : Meaning) → IsTextVerdict text (Ok m) ↔ IsAccepted text m }
     ensures equal { (text other : List ℕ) (m o : Meaning) → IsTextVerdict text (Ok m) → IsTextVerdict other (Ok o)

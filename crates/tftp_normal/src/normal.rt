@@ -3,12 +3,12 @@
 ghost use Rattle.std.specs.Prelude.{◌≡◌, ℕ, List, Some, length, true, false, Result, Ok, OnOk};
 ghost use Rattle.std.specs.Io.KnownBytes.{Appends, Consumes, IsAtEnd};
 ghost use Rattle.tftp_ends.specs.Meaning.{Meaning as Parts};
-ghost use Rattle.tftp_judge.specs.TextVerdict.{EndsText, IsTextVerdict, SaysReadFailed};
+ghost use Rattle.tftp_judge.specs.TextVerdict.{EndsText, IsReadVerdict, IsTextVerdict, SaysReadFailed};
 ghost use Rattle.tftp_judge.specs.declared.verdict.Verdict.{Verdict};
 ghost use Rattle.tftp_law.specs.CanBeWritten.{CanBeWritten};
 ghost use Rattle.tftp_normal.specs.Accepted.{IsAccepted};
 ghost use Rattle.tftp_normal.specs.Normal.{normal_count as count_of, normal_datagrams, normal_text};
-ghost use Rattle.tftp_normal.specs.Normalised.{Normalises};
+ghost use Rattle.tftp_normal.specs.Normalised.{Normalises, WritesNormal};
 
 use crate::fault::NormalFault;
 use crate::transfer::Transfer;
@@ -41,12 +41,14 @@ pub fn normalise<R: Read, W: Write>(
     requires reading { reader.old.1 ≡ false }
     requires writing { writer.old.1 ≡ false }
     ensures normalises { (read : List ℕ) × (said : Result Parts Verdict) × Consumes (R.remaining reader.old.0) (R.remaining reader.new.0) read
-        × IsTextVerdict read said × (EndsText said → IsAtEnd (R.remaining reader.new.0)) × (SaysReadFailed said → reader.new.1 ≡ true)
+        × IsReadVerdict read said × (EndsText said → IsAtEnd (R.remaining reader.new.0)) × (SaysReadFailed said → reader.new.1 ≡ true)
         × (reader.new.1 ≡ true → SaysReadFailed said) × Normalises W.contents writer.old writer.new said result }
     ensures whole { (text : List ℕ) → R.remaining reader.old.0 ≡ Some text → reader.new.1 ≡ false
         → (said : Result Parts Verdict) × IsTextVerdict text said × Normalises W.contents writer.old writer.new said result }
     ensures accepted { (text : List ℕ) → R.remaining reader.old.0 ≡ Some text
         → OnOk result ((m : Parts) × IsAccepted text m × Appends (W.contents writer.old.0) (W.contents writer.new.0) (normal_text m)) }
+    ensures exact { (text : List ℕ) (m : Parts) → R.remaining reader.old.0 ≡ Some text → reader.new.1 ≡ false → IsAccepted text m
+        → WritesNormal W.contents writer.old writer.new m result }
 {
     let meaning = judge_text(alloc, reader)?;
     normal_capture(alloc, &meaning, writer)

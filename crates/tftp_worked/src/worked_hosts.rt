@@ -2,9 +2,8 @@
 //! of a function that does nothing.
 
 ghost use Rattle.std.specs.Prelude.{◌≡◌, reverse};
-ghost use Rattle.tftp_ends.specs.Ports.{route_of};
+ghost use Rattle.tftp_ends.specs.Ports.{Route, route_of};
 ghost use Rattle.tftp_ends.specs.Worked.{two_bytes};
-ghost use Rattle.tftp_ends.specs.Ports.Route as Route;
 ghost use Rattle.tftp_law.specs.Law.{Shows};
 ghost use Rattle.tftp_law.specs.OneEnded.{IsRefused};
 ghost use Rattle.tftp_law.specs.declared.rule.Rule.{Rule};

@@ -1,6 +1,7 @@
-use Rattle.std.proofs.Common.{Ok, refl, rules}
+use Rattle.std.proofs.Common.{Ok, Err, refl, rules}
 use Rattle.std.proofs.lemmas.Bool.{false≢true}
 use Rattle.tftp_commands.specs.Counted.{counted}
+use Rattle.tftp_judge.proofs.ReadVerdicts.{read_is_text}
 use Rattle.tftp_commands.proofs.count.count.Goals as goal
 
 pub returns-in-Ok-clause-whole : goal.returns-in-Ok-clause-whole
@@ -17,3 +18,21 @@ returns-in-Ok-clause-whole g c = λ text all clean. (
   },
   c.say_counted.ensures,
 )
+
+pub returns-in-Err-clause-said : goal.returns-in-Err-clause-said
+returns-in-Err-clause-said g c =
+    let judged = c.in-Err.ensures.judged in (
+      judged.0,
+      counted (Err c.in-Err.verdict),
+      judged.1,
+      record {
+        said = Err c.in-Err.verdict;
+        judged = record {
+          is_said = read_is_text judged.0 (Err c.in-Err.verdict) judged.2;
+          at_end = c.in-Err.ensures.ended;
+          failed = (c.in-Err.ensures.read, c.in-Err.ensures.tally);
+        };
+        is = refl;
+      },
+      c.say_verdict.ensures,
+    )

@@ -1,5 +1,7 @@
-use Rattle.std.proofs.Common.{Ok}
+use Rattle.std.proofs.Common.{Ok, Err, refl}
 use Rattle.std.proofs.lemmas.Result.{err_from_is_err_and}
+use Rattle.tftp_judge.specs.declared.extraction.OutFault.TheVariants as fault
+use Rattle.tftp_judge.proofs.Extracting.{exact_file, wanted_file}
 use Rattle.tftp_judge.proofs.extraction.extract.Goals as goal
 
 pub returns-in_err-write_whole-clause-extracts : goal.returns-in_err-write_whole-clause-extracts
@@ -13,3 +15,23 @@ pub returns-in_err-write_whole-clause-whole : goal.returns-in_err-write_whole-cl
 returns-in_err-write_whole-clause-whole g c text all clean =
     let p = err_from_is_err_and c.from_residual-in_err-write_whole.result c.from_residual-in_err-write_whole.ensures.1 in
     rw (p.1, p.2) (Ok c.in_ok-meaning.meaning, c.in_ok-meaning.ensures.whole text all clean, rw c.file.ensures at c.in_err-write_whole.ensures.writes)
+
+-- ---- of a text that is accepted
+
+pub returns-in_err-meaning-clause-exact : goal.returns-in_err-meaning-clause-exact
+returns-in_err-meaning-clause-exact g c text m all clean is =
+    let p = err_from_is_err_and c.from_residual.result c.from_residual.ensures.1 in
+    wanted_file g.W.Write.contents c.args.writer.now c.args.writer.now m c.in_err-meaning.field-0.0 c.from_residual.result (rw p.2 at p.1) refl
+    (c.in_err-meaning.ensures.exact text (Ok m) all clean tt is)
+
+pub returns-in_err-write_whole-clause-exact : goal.returns-in_err-write_whole-clause-exact
+returns-in_err-write_whole-clause-exact g c text m all clean is =
+    let p = err_from_is_err_and c.from_residual-in_err-write_whole.result c.from_residual-in_err-write_whole.ensures.1 in
+    rw (p.1, p.2)
+    (exact_file g.W.Write.contents c.args.writer.now c.write_whole.new.writer m c.in_ok-meaning.meaning (Err fault.Write) (rw c.file.ensures at c.in_err-write_whole.ensures.writes)
+    (c.in_ok-meaning.ensures.exact text (Ok m) all clean tt is))
+
+pub returns-clause-exact : goal.returns-clause-exact
+returns-clause-exact g c text m all clean is =
+    exact_file g.W.Write.contents c.args.writer.now c.write_whole.new.writer m c.in_ok-meaning.meaning (Ok tt) (rw c.file.ensures at c.in_ok-write_whole.ensures.writes)
+    (c.in_ok-meaning.ensures.exact text (Ok m) all clean tt is)
