@@ -8,7 +8,7 @@ ghost use Rattle.tftp_netascii.specs.Runs.{IsPlain};
 ghost use Rattle.tftp_law.specs.Fits.{written_wire};
 ghost use Rattle.tftp_normal.specs.WireLeft.{bytes_of};
 
-use memchr::memchr;
+use memchr::memchr2;
 use std::marker::Model;
 use tftp_packet::Mode;
 
@@ -144,6 +144,5 @@ fn plain_run(file: &[u8], most: usize) -> usize
     ensures plain { All IsPlain (take result file.now) }
 {
     let near = &file[..file.len().min(most)];
-    let line = memchr(LF, near).unwrap_or(near.len());
-    memchr(CR, &near[..line]).unwrap_or(line)
+    memchr2(LF, CR, near).unwrap_or(near.len())
 }

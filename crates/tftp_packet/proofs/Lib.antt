@@ -13,6 +13,7 @@ pub mod Values
 pub mod Maps
 pub mod OwnedMaps
 pub mod SameMaps
+pub mod OwnedSearch
 pub mod CanonicalOptions
 pub mod CanonicalLaws
 pub mod NameLists

@@ -1,5 +1,7 @@
 -- Bytes are cut into strings in one way.
-use Rattle.std.proofs.Common.{◌≡◌, ◌≢◌, ◌⊎◌, inl, inr, ℕ, ◌+◌, List, [], ◌∷◌, ◌++◌, length, refl, sym, ap, ◌∙◌, append_assoc, arith}
+use Rattle.std.proofs.Common.{◌≡◌, ◌≢◌, ◌⊎◌, inl, inr, ℕ, ◌+◌, ◌-◌, ◌≤◌, List, [], ◌∷◌, ◌++◌, length, take, drop, refl, sym, ap, subst, ◌∙◌, append_assoc, length-append, length-drop, take_all, arith}
+use Rattle.std.proofs.Math.Seq.{take-append_seam}
+use Rattle.std.proofs.lemmas.List.{length-take, take-append-drop}
 use Rattle.std.specs.Prelude.{count_by, cond, ◌==◌}
 use Rattle.std.proofs.lemmas.Bool.{cases_eq, ne_eqb}
 use Rattle.std.proofs.lemmas.List.{append-nil}
@@ -103,3 +105,20 @@ zeros_of_strings (s ∷ all) p =
 
 pub only_more : (s rest bytes : List ℕ) → IsString s → bytes ≡ s ++ 0 ∷ rest → rest ≢ [] → (only : List ℕ) → IsString only → bytes ≢ terminated only
 only_more s rest bytes p e some only q is = some (split_unique s only rest [] p q (sym e ∙ is)).1
+
+-- a string that goes on in what follows
+string_append : (s t : List ℕ) → IsString s → IsString t → IsString (s ++ t)
+string_append [] t p q = q
+string_append (b ∷ s) t p q = (p.0, string_append s t p.1 q)
+
+module _ (bytes far after : List ℕ) (near : ℕ) (low : near ≤ length bytes) (front : IsString (take near bytes)) where
+  halves : take near bytes ++ take (length bytes - near) (drop near bytes) ≡ bytes
+  halves = ap (λ l. take near bytes ++ l) (take_all (length bytes - near) (drop near bytes) (omega (arith, length-drop near bytes))) ∙ take-append-drop near bytes
+
+  pub string_on : take (length bytes - near) (drop near bytes) ≡ far ++ 0 ∷ after → IsString far → IsString (take (near + length far) bytes) × (bytes ≡ take (near + length far) bytes ++ 0 ∷ after)
+  string_on is string =
+      let s = take near bytes ++ far in
+      let whole : bytes ≡ s ++ 0 ∷ after = sym halves ∙ ap (λ l. take near bytes ++ l) is ∙ sym (append_assoc (take near bytes) far (0 ∷ after)) in
+      let long : near + length far ≡ length s = omega (arith, length-append (take near bytes) far, length-take near bytes) in
+      let cut : take (near + length far) bytes ≡ s = ap (λ n. take n bytes) long ∙ ap (take (length s)) whole ∙ take-append_seam s (0 ∷ after) in
+      (subst IsString (sym cut) (string_append (take near bytes) far front string), whole ∙ ap (λ l. l ++ 0 ∷ after) (sym cut))

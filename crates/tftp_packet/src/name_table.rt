@@ -19,7 +19,7 @@ const TRIED: usize = 64;
 const SLOTS: usize = FIRST_SLOTS + TRIED;
 
 /// No more names are put into a table, so that a look ends soon.
-const MOST_NAMES: usize = 6_144;
+const MOST_NAMES: usize = 4_096;
 
 /// A table that has so few bytes of options, and not all of them, is crowded by hashes that are alike.
 const CROWDED: usize = 4_096;

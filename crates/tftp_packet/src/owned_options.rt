@@ -5,12 +5,14 @@ ghost use Rattle.std.specs.FinMap.{find};
 ghost use Rattle.std.specs.FinMap.Entries.{put};
 ghost use Rattle.tftp_packet.specs.Written.{map_of};
 ghost use Rattle.tftp_packet.specs.OptionMap.{lower};
-ghost use Rattle.tftp_packet.specs.Owned.{shown, shown_entries, place, AreLower};
+ghost use Rattle.tftp_packet.specs.Owned.{shown, shown_entries, place, AreInOrder};
 
 use crate::byte_list::Bytes;
+use crate::name_order::compare_names;
 use crate::options::OptionsView;
 use crate::value::{Value, read_value};
 use std::alloc::{AllocError, Global};
+use std::cmp::Ordering;
 use std::marker::Model;
 
 /// An option: its name in lower case, and its value.
@@ -22,6 +24,8 @@ pub struct Entry {
 
 impl Entry {
     ghost use Rattle.std.specs.Prelude.{◌≡◌, IfOk};
+    ghost use Rattle.std.specs.Ordering.{nat_cmp};
+    ghost use Rattle.std.specs.Cmp.Lexicographic.{slice_cmp};
     ghost use Rattle.tftp_packet.specs.OptionMap.{lower, value_of};
     ghost use Rattle.tftp_packet.specs.Owned.{shown_entry};
 
@@ -36,6 +40,13 @@ impl Entry {
             name: Bytes::of(lower),
             value,
         })
+    }
+
+    /// The order of the option's name and this one, letter case ignored.
+    fn compare(&self, name: &[u8]) -> Ordering
+        ensures { result ≡ slice_cmp nat_cmp (lower self.now.name) (lower name.now) }
+    {
+        compare_names(self.name.as_slice(), name)
     }
 }
 
@@ -129,17 +140,15 @@ fn insert_entry(entries: &mut Vec<Entry>, entry: Entry) -> Result<(), AllocError
     Ok(())
 }
 
-/// The value of a name among options in lower case. Letter case of the name counts for nothing.
+/// The value of a name among options in the order of their names. Letter case of the name counts for nothing.
 fn find_value<'a>(entries: &'a [Entry], name: &[u8]) -> Option<&'a Value>
-    requires { AreLower (shown_entries entries.now) }
+    requires { AreInOrder (shown_entries entries.now) }
     ensures { option_map (λ v. shown v.now) result ≡ find (slice_cmp nat_cmp) (lower name.now) (shown_entries entries.now) }
 {
-    for entry in entries {
-        if entry.name.as_slice().eq_ignore_ascii_case(name) {
-            return Some(&entry.value);
-        }
+    match entries.binary_search_by(|entry| entry.compare(name)) {
+        Ok(at) => Some(&entries[at].value),
+        Err(_) => None,
     }
-    None
 }
 
 /// How many options have names before this one.

@@ -9,8 +9,27 @@ use crate::fault::PacketFault;
 use crate::kinds::Mode;
 use memchr::memchr;
 
+/// So many bytes are looked at one by one, since most strings are short.
+const NEAR: usize = 12;
+
 /// The string that stands first, and the bytes after its zero byte; none where no byte is zero.
 pub fn split_string(bytes: &[u8]) -> Option<(&[u8], &[u8])>
+    ensures { MatchOption result
+        (IsString bytes.now)
+        (λ parts. IsString parts.0.now × (bytes.now ≡ parts.0.now ++ 0 ∷ parts.1.now)) }
+{
+    let near = bytes.len().min(NEAR);
+    for end in 0..near {
+        if bytes[end] == 0 {
+            return Some((&bytes[..end], &bytes[end + 1..]));
+        }
+    }
+    let (far, after) = split_long_string(&bytes[near..])?;
+    Some((&bytes[..near + far.len()], after))
+}
+
+/// The same, for a string that may be long.
+fn split_long_string(bytes: &[u8]) -> Option<(&[u8], &[u8])>
     ensures { MatchOption result
         (IsString bytes.now)
         (λ parts. IsString parts.0.now × (bytes.now ≡ parts.0.now ++ 0 ∷ parts.1.now)) }

@@ -8,6 +8,7 @@ use tftp_packet::{
 };
 
 mod faults;
+mod many;
 
 const ASKED: &[u8] = b"\x00\x01a\x00octet\x00WindowSize\x004\x00BLKSIZE\x0008\x00";
 

@@ -1,8 +1,7 @@
 use Rattle.std.proofs.Common.{◌≡◌, true, rules, List, ℕ, Bor, is_lt, nat_cmp, ◌++◌, ap, sym, subst, ◌∙◌, true≢false}
 use Rattle.tftp_packet.specs.Names.{HasTwo, HasCommon}
-use Rattle.std.specs.Prelude.{IsPermutation, MatchBool, map as each}
+use Rattle.std.specs.Prelude.{MatchBool, map as each}
 use Rattle.std.specs.Cmp.Lexicographic.{slice_cmp}
-use Rattle.std.specs.List.Sorted.{IsSortedBy}
 use Rattle.std.proofs.lemmas.Cmp.{nat_list_cmp_total}
 use Rattle.std.proofs.lemmas.List.Sorted.{ranks_by, answers_always, IsPermutation-map, IsPermutation-sym}
 use Rattle.tftp_packet.specs.OptionMap.{lower}

@@ -1,4 +1,4 @@
-use Rattle.std.proofs.Common.{◌≡◌, ◌↔◌, length}
+use Rattle.std.proofs.Common.{length}
 use Rattle.tftp_packet.specs.Faults.{AnyOf}
 use Rattle.tftp_packet.specs.NameTable.{keys_of, IsHeld, IsFound}
 use Rattle.tftp_packet.proofs.name_table.has_one_of.Given as goal

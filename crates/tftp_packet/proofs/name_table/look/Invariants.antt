@@ -1,4 +1,4 @@
-use Rattle.std.proofs.Common.{◌≡◌, ◌≢◌, ℕ, ◌<◌, ◌≤◌, get_or}
+use Rattle.std.proofs.Common.{◌≢◌, ℕ, ◌<◌, ◌≤◌, get_or}
 use Rattle.tftp_packet.specs.OptionMap.{lower}
 use Rattle.tftp_packet.specs.NameTable.{key_at}
 use Rattle.tftp_packet.proofs.name_table.look.Given as goal

@@ -1,19 +1,17 @@
-use Rattle.std.proofs.Common.{refl, sym, ◌∙◌}
-use Rattle.std.proofs.lemmas.Bool.{false≢true}
+use Rattle.std.proofs.Common.{rules, nat_cmp}
+use Rattle.std.specs.Cmp.Lexicographic.{slice_cmp}
+use Rattle.std.proofs.lemmas.Fn.{always_returns_same}
 use Rattle.tftp_packet.specs.OptionMap.{lower}
-use Rattle.tftp_packet.proofs.OwnedMaps.{found_at, later_at, lower_at}
+use Rattle.tftp_packet.proofs.OwnedSearch.{searched_here, searched_none}
 use Rattle.tftp_packet.proofs.owned_options.find_value.Goals as goal
 
-pub returns-then-eq_ignore_ascii_case : goal.returns-then-eq_ignore_ascii_case
-returns-then-eq_ignore_ascii_case c =
-    let low = lower_at c.args.entries.now c.loop-entry.entry-index c.entry-item.result c.requires c.loop-entry-test.true c.entry-item.is in
-    found_at c.args.entries.now c.loop-entry.entry-index c.entry-item.result c.loop-entry-test.true c.entry-item.is (lower c.args.name.now)
-    (sym low ∙ (rw (← c.as_slice.ensures) (c.if-eq_ignore_ascii_case.ensures.test.0 refl)))
-    ∙ c.loop-entry.invariant
+pub returns-in-Ok : goal.returns-in-Ok
+returns-in-Ok c =
+    let name = lower c.args.name.now in
+    let place = c.in-Ok.ensures.position (λ y. slice_cmp nat_cmp (lower y.name) name) (always_returns_same _ _ _ (λ a r f' k. search rules)) in
+    searched_here c.args.entries.now name c.requires c.in-Ok.at c.index-entries-at.result c.in-Ok.ensures.bound (place c.index-entries-at.result)
 
-pub loop-entry-preserved : goal.loop-entry-preserved
-loop-entry-preserved c =
-    let low = lower_at c.args.entries.now c.loop-entry.entry-index c.entry-item.result c.requires c.loop-entry-test.true c.entry-item.is in
-    sym (later_at c.args.entries.now c.loop-entry.entry-index c.entry-item.result c.loop-entry-test.true c.entry-item.is (lower c.args.name.now)
-    (λ same. false≢true (c.if-eq_ignore_ascii_case.ensures.test.1 (rw c.as_slice.ensures (low ∙ same)))))
-    ∙ c.loop-entry.invariant
+pub returns-in-Err : goal.returns-in-Err
+returns-in-Err c =
+    let name = lower c.args.name.now in
+    searched_none c.args.entries.now name c.requires c.in-Err.field-0 (c.in-Err.ensures.position (λ y. slice_cmp nat_cmp (lower y.name) name) (always_returns_same _ _ _ (λ a r f' k. search rules)))

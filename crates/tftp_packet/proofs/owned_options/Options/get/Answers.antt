@@ -3,12 +3,12 @@ use Rattle.std.specs.Ordering.{nat_cmp}
 use Rattle.std.specs.Cmp.Lexicographic.{slice_cmp}
 use Rattle.std.specs.FinMap.{find}
 use Rattle.tftp_packet.specs.OptionMap.{lower}
-use Rattle.tftp_packet.specs.Owned.{shown_entries, AreLower}
+use Rattle.tftp_packet.specs.Owned.{shown_entries, AreInOrder}
 use Rattle.tftp_packet.proofs.OwnedMaps.{shown_get}
 use Rattle.tftp_packet.proofs.owned_options.Options.get.Goals as goal
 
 pub find_value-requires : goal.find_value-requires
-find_value-requires c = subst (λ es. AreLower (shown_entries es)) (sym c.as_slice.ensures.value) c.self.invariant.1
+find_value-requires c = subst (λ es. AreInOrder (shown_entries es)) (sym c.as_slice.ensures.value) c.self.invariant
 
 pub returns : goal.returns
 returns c =
