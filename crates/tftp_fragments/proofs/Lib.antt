@@ -2,4 +2,6 @@ pub mod Contents
 pub mod Holding
 pub mod Keeping
 pub mod Members
+pub mod Puts
+pub mod Rooms
 pub mod Sets
