@@ -8,7 +8,7 @@ use Rattle.tftp_fragments.specs.declared.outcome.Outcome.TheVariants.{Waits, Who
 use Rattle.tftp_fragments.specs.declared.fragments.Joined.{Joined}
 use Rattle.tftp_fragments.specs.declared.fragments.Joined.TheVariants as joined
 use Rattle.tftp_fragments.specs.Whole.{Part, Give, HasPart, end_of}
-use Rattle.tftp_fragments.specs.Held.{IsComplete}
+use Rattle.tftp_fragments.specs.Held.{Agrees, IsComplete}
 use Rattle.tftp_fragments.specs.Key.{same_key}
 use Rattle.tftp_fragments.specs.Set.{Arrival, AreApart, IsSetOf, SetState, TakeEnds, parts_of, room_of}
 
@@ -54,10 +54,6 @@ abbrev pub frames_of : Option SetState → List ℕ
 frames_of None = []
 frames_of (Some s) = s.frames
 
--- nothing changes under a key
-abbrev pub stays : Option SetState → Option SetState → Type 0
-stays old new = new ≡ old
-
 -- a fragment comes to those that wait under its key, or is the first there
 abbrev pub Comes : Option SetState → Option SetState → Arrival → Type 0
 Comes old new a = (arrivals : List Arrival) → IsKeptOf old arrivals → IsKeptOf new (a ∷ arrivals)
@@ -67,9 +63,17 @@ abbrev pub PutEnds : Option SetState → Option SetState → ℕ → Arrival →
 PutEnds old new all a Waits = Comes old new a × ((arrivals : List Arrival) (whole : List ℕ) → IsKeptOf old arrivals → Give (parts_of (a ∷ arrivals)) whole → ⊥)
 PutEnds old new all a (Whole content) = (new ≡ None) × ((arrivals : List Arrival) → IsKeptOf old arrivals → Give (parts_of (a ∷ arrivals)) content.items)
 PutEnds old new all a (Apart frames) = Comes old new a × (frames.items ≡ frames_of old) × ((arrivals : List Arrival) → IsKeptOf old arrivals → AreApart (parts_of (a ∷ arrivals)))
-PutEnds old new all a Empty = stays old new × (a.part.content ≡ [])
-PutEnds old new all a TooLong = stays old new × ((whole : List ℕ) → HasPart whole a.part → 65535 < length whole)
-PutEnds old new all a Full = stays old new × (most_room < all + (2 * end_of a.part + 264))
+PutEnds old new all a Empty = (new ≡ old) × (a.part.content ≡ [])
+PutEnds old new all a TooLong = (new ≡ old) × ((whole : List ℕ) → HasPart whole a.part → 65535 < length whole)
+PutEnds old new all a Full = (new ≡ old) × (most_room < all + (2 * end_of a.part + 264))
+
+-- memory is wanted only for a fragment that is taken: it brings bytes, its packet may be as long, there is room for it, and
+-- it may be of one packet with those that wait
+pub record WantsMemory (old : Option SetState) (all : ℕ) (p : Part) : Type 0 where
+  pub some : 1 ≤ length p.content
+  pub short : end_of p ≤ 65535
+  pub room : all + (2 * end_of p + 264) ≤ most_room
+  pub agrees : (s : SetState) → old ≡ Some s → (s.spoiled ≡ false) × Agrees s.held p
 
 -- the same of a fragment that comes to a set that waits, or to none
 abbrev pub JoinEnds : Option SetState → Option SetState → Part → ℕ → Joined → Type 0

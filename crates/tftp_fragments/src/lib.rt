@@ -11,7 +11,9 @@ mod set;
 
 pub use fragments::Fragments;
 pub use key::Key;
-pub use laws::{parts_give_one_content, parts_in_any_order_give_their_content};
+pub use laws::{
+    last_fragment_gives_the_content, parts_give_one_content, parts_in_any_order_give_their_content,
+};
 pub use outcome::Outcome;
 pub use part::Part;
 pub use parts::Parts;

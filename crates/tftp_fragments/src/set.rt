@@ -80,6 +80,7 @@ impl Set {
         requires few { length self.old.frames < 2 ^ 40 }
         ensures ends { IfOk result (TakeEnds self.old self.new (part_of part.now) frame) }
         ensures agrees { self.old.spoiled ≡ false → Agrees self.old.held (part_of part.now) → IfOk result (λ frames. frames ≡ None) }
+        ensures wants { OnErr result ((self.old.spoiled ≡ false) × Agrees self.old.held (part_of part.now)) }
         ensures began { self.new.began ≡ self.old.began }
         ensures err { OnErr result (self.new ≡ self.old) }
     {

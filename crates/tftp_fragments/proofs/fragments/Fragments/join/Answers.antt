@@ -1,10 +1,10 @@
-use Rattle.std.proofs.Common.{◌≡◌, ◌+◌, ◌*◌, Some, IfOk, IsSome, refl, sym, ap, ◌∙◌, arith, subst}
+use Rattle.std.proofs.Common.{◌≡◌, ◌+◌, ◌*◌, Some, IfOk, IsSome, false, refl, sym, ap, ◌∙◌, arith, subst}
 use Rattle.tftp_fragments.specs.Whole.{end_of}
-use Rattle.tftp_fragments.specs.Held.{part_of}
-use Rattle.tftp_fragments.specs.Set.{TakeEnds}
+use Rattle.tftp_fragments.specs.Held.{Agrees, part_of}
+use Rattle.tftp_fragments.specs.Set.{SetState, TakeEnds}
 use Rattle.tftp_fragments.specs.Store.{IsCounted, JoinEnds, Sets, room_of_all, set_at}
 use Rattle.tftp_fragments.proofs.Holding.{not_both}
-use Rattle.tftp_fragments.proofs.Rooms.{counted_changed, on_err, same_sets, take_room}
+use Rattle.tftp_fragments.proofs.Rooms.{counted_changed, on_err, same_set, same_sets, take_room}
 use Rattle.tftp_fragments.proofs.fragments.Fragments.join.Goals as goal
 use Rattle.tftp_fragments.proofs.fragments.Fragments.join.Goals.{in-Some-taken, in-None, in-None-2}
 
@@ -49,3 +49,9 @@ returns-clause-ends c =
           let ends = subst (TakeEnds c.in-Some.set.now c.take.new.self (part_of c.args.part.now) c.args.frame) w.in-None-2.is c.in_ok-taken.ensures.ends in
           subst (λ r. IfOk r P) (sym w.result-is) (c.in-Some.set.now, c.take.new.self, old, updates.1, c.in_ok-taken.ensures.began, ends, λ all. not_both c.is_whole-whole.result (c.is_whole-whole.ensures.1 (ends.0, all)) w.if-whole.false)
     ]
+
+pub returns-in_err-taken-clause-wants : goal.returns-in_err-taken-clause-wants
+returns-in_err-taken-clause-wants c =
+    on_err c.from_residual.result _ (λ s e.
+    let found = c.in-Some.ensures.value ∙ ap (λ (sets : Sets). set_at c.args.key sets) c.self.view_is ∙ e in
+    subst (λ (t : SetState). (t.spoiled ≡ false) × Agrees t.held (part_of c.args.part.now)) (same_set _ s found) c.in_err-taken.ensures.wants)

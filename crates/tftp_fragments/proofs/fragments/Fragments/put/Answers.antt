@@ -1,9 +1,9 @@
-use Rattle.std.proofs.Common.{◌≡◌, inl, ◌∷◌, Option, refl, sym, ap, ◌∙◌, subst, arith, IfOk}
-use Rattle.tftp_fragments.specs.Held.{part_of}
+use Rattle.std.proofs.Common.{◌≡◌, inl, ◌∷◌, Option, refl, sym, ap, ◌∙◌, subst, arith, rules, false, IfOk}
+use Rattle.tftp_fragments.specs.Held.{Agrees, part_of}
 use Rattle.tftp_fragments.specs.Set.{Arrival, SetState}
 use Rattle.tftp_fragments.specs.Store.{JoinEnds, PutEnds, Sets, frames_of, room_of_all, set_at}
 use Rattle.tftp_fragments.proofs.Puts.{came, came_apart, comes_at, given, kept_at, not_given}
-use Rattle.tftp_fragments.proofs.Rooms.{on_err_more}
+use Rattle.tftp_fragments.proofs.Rooms.{on_err, on_err_more, same_set}
 use Rattle.tftp_fragments.proofs.fragments.Fragments.put.Goals as goal
 
 pub begin-requires-clause-room : goal.begin-requires-clause-room
@@ -46,3 +46,17 @@ returns-in-Apart-clause-ends c =
       ends.5.2 ∙ ap frames_of (sym ends.2),
       λ arrivals kept. (ends.5.3 arrivals a refl (kept_at _ ends.0 arrivals ends.2 kept).2).0,
     )
+
+pub returns-in_err-content-in-Whole-clause-wants : goal.returns-in_err-content-in-Whole-clause-wants
+returns-in_err-content-in-Whole-clause-wants c =
+    let a : Arrival = record { part = part_of c.args.part.now; time = c.args.time; frame = c.args.frame } in
+    let ends = subst (JoinEnds (set_at c.args.key c.args.self.now) (set_at c.args.key c.join.new.self) a.part a.frame) c.in-Whole.is c.in_ok-join.ensures.ends in
+    let all : room_of_all c.args.self.now ≡ c.self.inside.waiting = sym (ap room_of_all c.self.view_is) ∙ sym c.self.invariant.counts in
+    on_err c.from_residual-in_err-content-in-Whole.result _ (record {
+      some = search rules;
+      short = search rules;
+      room = omega (arith, all);
+      agrees = λ s e.
+          let found : ends.0 ≡ s = same_set ends.0 s (sym ends.2 ∙ e) in
+          subst (λ (t : SetState). (t.spoiled ≡ false) × Agrees t.held a.part) found (ends.5.3, ends.5.4);
+    })
