@@ -10,7 +10,7 @@ use Rattle.tftp_fragments.proofs.Members.{all_at, all_weaker, among_weaker, byte
 some_is : (a b : ℕ) → Some a ≡ Some b → a ≡ b
 some_is a b e = cc
 
-truth : (b : Bool) → (b ≡ true) ⊎ (b ≡ false)
+pub truth : (b : Bool) → (b ≡ true) ⊎ (b ≡ false)
 truth true = inl refl
 truth false = inr refl
 

@@ -1,9 +1,8 @@
 -- A fragment that cannot be of one packet with those before.
-use Rattle.std.proofs.Common.{◌≡◌, ℕ, ◌≤◌, Bool, true, false, List, [], ◌∷◌, length, sym, subst}
-use Rattle.std.specs.List.{AllByRecursion}
+use Rattle.std.proofs.Common.{◌≡◌, ◌≤◌, true, false, List, [], ◌∷◌, length, ap, subst, arith}
 use Rattle.tftp_fragments.specs.Whole.{Part, HasPart}
-use Rattle.tftp_fragments.specs.Held.{Agrees, StandsFor}
-use Rattle.tftp_fragments.specs.Set.{Arrival, AreApart, IsSetOf, SetState, parts_of}
+use Rattle.tftp_fragments.specs.Held.{Agrees, Held, nothing_held}
+use Rattle.tftp_fragments.specs.Set.{Arrival, AreApart, IsSetOf, SetState, parts_of, room_of}
 use Rattle.tftp_fragments.proofs.Holding.{agreed, not_both}
 
 pub still_apart : (s : SetState) (arrivals : List Arrival) (a : Arrival) → s.spoiled ≡ true → IsSetOf s arrivals → AreApart (parts_of (a ∷ arrivals)) × IsSetOf s (a ∷ arrivals)
@@ -28,3 +27,6 @@ now_apart old new arrivals a p same some whole_before not_agreed spoiled none is
         apart = λ f. (none, apart);
       },
     )
+
+pub small_room : (new old : SetState) → new.held ≡ nothing_held → new.frames ≡ [] → room_of new ≤ room_of old
+small_room new old e f = omega (arith, ap (λ (h : Held). length h.cells) e, ap length f)

@@ -1,9 +1,9 @@
 -- What is kept of the fragments of one packet, and for which fragments it stands.
-use Rattle.std.specs.Prelude.{◌≡◌, ◌≢◌, ℕ, ◌+◌, ◌*◌, ◌^◌, ◌≤◌, Bool, true, false, List, [], ◌∷◌, length, map, reverse, Option, Some, None}
+use Rattle.std.specs.Prelude.{◌≡◌, ℕ, ◌+◌, ◌*◌, ◌^◌, ◌≤◌, Bool, true, false, List, [], ◌∷◌, length, map, reverse, Option, Some, None}
 use Rattle.std.specs.List.{AllByRecursion}
-use Rattle.std.proofs.Common.{Vec, Global}
-use Rattle.tftp_fragments.specs.Whole.{Part, HasPart, Give}
-use Rattle.tftp_fragments.specs.Held.{Held, StandsFor}
+use Rattle.std.specs.Global.{Vec}
+use Rattle.tftp_fragments.specs.Whole.{Part, HasPart, end_of}
+use Rattle.tftp_fragments.specs.Held.{Agrees, Held, StandsFor}
 
 -- a fragment that came: its part, when it came in nanoseconds, where the recording says so, and the number of its frame
 pub record Arrival : Type 0 where
@@ -43,8 +43,9 @@ pub record IsSetOf (s : SetState) (arrivals : List Arrival) : Type 0 where
 
 -- what becomes of a fragment that is taken: it waits with the others, or it cannot be of one packet with them, and the
 -- answer is the frames that waited
-abbrev pub TakeEnds : SetState → SetState → Part → ℕ → Option (Vec ℕ Global) → Type 0
-TakeEnds old new part frame None = (old.spoiled ≡ false) × (new.spoiled ≡ false) × (length new.frames ≡ length old.frames + 1)
+abbrev pub TakeEnds : SetState → SetState → Part → ℕ → Option (Vec ℕ) → Type 0
+TakeEnds old new part frame None = (new.spoiled ≡ false) × (room_of new ≤ room_of old + (2 * end_of part + 8))
     × ((arrivals : List Arrival) (a : Arrival) → a.part ≡ part → a.frame ≡ frame → IsSetOf old arrivals → IsSetOf new (a ∷ arrivals))
-TakeEnds old new part frame (Some frames) = (new.spoiled ≡ true) × (frames.items ≡ old.frames)
+    × (old.spoiled ≡ false) × Agrees old.held part
+TakeEnds old new part frame (Some frames) = (new.spoiled ≡ true) × (room_of new ≤ room_of old) × (frames.items ≡ old.frames)
     × ((arrivals : List Arrival) (a : Arrival) → a.part ≡ part → IsSetOf old arrivals → AreApart (parts_of (a ∷ arrivals)) × IsSetOf new (a ∷ arrivals))

@@ -74,6 +74,7 @@ impl Parts {
         ensures ok { (parts : List Piece) → StandsFor self.old parts → OnOk result (StandsFor self.new (part_of part.now ∷ parts)) }
         ensures err { OnErr result (self.new ≡ self.old) }
         ensures beyond { OnErr result (length self.old.cells < end_of (part_of part.now)) }
+        ensures reach { OnOk result (length self.new.cells ≤ length self.old.cells + end_of (part_of part.now)) }
     {
         lay(&mut self.cells, part.place as usize, part.content)?;
         self.front = front_after(&self.cells, self.front);

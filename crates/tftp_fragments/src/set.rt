@@ -1,6 +1,6 @@
 ghost use Rattle.std.specs.Prelude.{◌≡◌, ◌+◌, ◌*◌, ◌^◌, ◌<◌, ◌≤◌, ◌∷◌, [], ℕ, List, Option, Some, None, length, map, false, IfOk, OnErr, IsTrue, ◌↔◌};
 ghost use Rattle.tftp_fragments.specs.Whole.{end_of};
-ghost use Rattle.tftp_fragments.specs.Held.{part_of, nothing_held, IsComplete};
+ghost use Rattle.tftp_fragments.specs.Held.{part_of, nothing_held, Agrees, IsComplete};
 ghost use Rattle.tftp_fragments.specs.Set.{Arrival, IsSetOf, TakeEnds, room_of};
 
 use crate::part::Part;
@@ -79,6 +79,8 @@ impl Set {
         requires room { end_of (part_of part.now) ≤ 65535 }
         requires few { length self.old.frames < 2 ^ 40 }
         ensures ends { IfOk result (TakeEnds self.old self.new (part_of part.now) frame) }
+        ensures agrees { self.old.spoiled ≡ false → Agrees self.old.held (part_of part.now) → IfOk result (λ frames. frames ≡ None) }
+        ensures wants { OnErr result ((self.old.spoiled ≡ false) × Agrees self.old.held (part_of part.now)) }
         ensures began { self.new.began ≡ self.old.began }
         ensures err { OnErr result (self.new ≡ self.old) }
     {

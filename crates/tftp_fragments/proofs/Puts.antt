@@ -1,0 +1,71 @@
+-- A fragment that came, and what is known then.
+use Rattle.std.proofs.Common.{◌≡◌, ◌≢◌, ℕ, ◌+◌, ◌<◌, ◌≤◌, inl, inr, true, false, List, [], ◌∷◌, Option, Some, None, Vec, Global, length, map, refl, sym, ◌∙◌, subst, arith}
+use Rattle.tftp_fragments.specs.Whole.{Part, Give, HasPart, end_of}
+use Rattle.tftp_fragments.specs.Held.{Agrees, IsComplete, StandsFor, nothing_held}
+use Rattle.tftp_fragments.specs.Set.{Arrival, IsSetOf, SetState, TakeEnds, parts_of}
+use Rattle.tftp_fragments.specs.Store.{Comes, IsKeptOf, began_of}
+use Rattle.tftp_fragments.proofs.Holding.{complete, not_both, truth, whole_given}
+use Rattle.tftp_fragments.proofs.Members.{inner_ends, last_ends}
+
+no_byte_held : (k b : ℕ) → None ≡ Some b → ⊥
+no_byte_held k b e = cc
+
+nothing_stands : StandsFor nothing_held []
+nothing_stands = record {
+  each = tt;
+  brought = λ k b e. absurd (no_byte_held k b e);
+  reach = λ some. absurd (omega (arith, some));
+  last = λ e. absurd (not_both false e refl);
+}
+
+pub nothing_agrees : (p : Part) → 1 ≤ length p.content → Agrees nothing_held p
+nothing_agrees p some = record {
+  bytes = λ i b within e. absurd (no_byte_held i b e);
+  ends = (λ e. absurd (not_both false e refl), λ e last. omega arith);
+}
+
+pub empty_set : (began : Option ℕ) → IsSetOf (record { held = nothing_held; frames = []; began = began; spoiled = false }) []
+empty_set began = record {
+  held = λ e. nothing_stands;
+  frames = λ e. refl;
+  apart = λ e. absurd (not_both false e refl);
+}
+
+some_arrivals : (a : Arrival) (arrivals : List Arrival) → (a ∷ arrivals) ≢ []
+some_arrivals a arrivals e = cc
+
+same_began : (a : Arrival) (arrivals : List Arrival) → arrivals ≢ [] → began_of (a ∷ arrivals) ≡ began_of arrivals
+same_began a [] h = absurd (h refl)
+same_began a (b ∷ before) h = refl
+
+pub came : (s t : SetState) (a : Arrival) → t.began ≡ s.began → TakeEnds s t a.part a.frame None → Comes (Some s) (Some t) a
+came s t a e h arrivals kept = (some_arrivals a arrivals, e ∙ kept.1 ∙ sym (same_began a arrivals kept.0), h.2 arrivals a refl refl kept.2)
+
+pub came_apart : (s t : SetState) (a : Arrival) (frames : Vec ℕ Global) → t.began ≡ s.began → TakeEnds s t a.part a.frame (Some frames) → Comes (Some s) (Some t) a
+came_apart s t a frames e h arrivals kept = (some_arrivals a arrivals, e ∙ kept.1 ∙ sym (same_began a arrivals kept.0), (h.3 arrivals a refl kept.2).1)
+
+pub came_first : (s t : SetState) (a : Arrival) → t.began ≡ a.time → IsSetOf s [] → TakeEnds s t a.part a.frame None → Comes None (Some t) a
+came_first s t a e is h arrivals none =
+    let all = h.2 [] a refl refl is in
+    (some_arrivals a arrivals, subst (λ (l : List Arrival). t.began ≡ began_of (a ∷ l)) (sym none) e, subst (λ (l : List Arrival). IsSetOf t (a ∷ l)) (sym none) all)
+
+pub not_given : (t : SetState) (arrivals : List Arrival) (whole : List ℕ) → t.spoiled ≡ false → IsSetOf t arrivals → (IsComplete t.held → ⊥) → Give (parts_of arrivals) whole → ⊥
+not_given t arrivals whole e is not_all g = not_all (complete t.held (parts_of arrivals) whole (is.held e) g)
+
+pub given : (t : SetState) (arrivals : List Arrival) (content : List ℕ) → t.spoiled ≡ false → IsSetOf t arrivals → IsComplete t.held → t.held.cells ≡ map (λ (b : ℕ). Some b) content → Give (parts_of arrivals) content
+given t arrivals content e is all are = whole_given t.held (parts_of arrivals) content (is.held e) all.last are
+
+pub too_long : (p : Part) (whole : List ℕ) (bit : ℕ) → (p.more ≡ true → bit ≡ 1) → (p.more ≡ false → bit ≡ 0) → 65535 < end_of p + bit → HasPart whole p → 65535 < length whole
+too_long p whole bit with_more without long h =
+    elim (truth p.more) [
+      | inl more ↦ let short = inner_ends p.more (end_of p) (length whole) more h.ends in omega (arith, with_more more)
+      | inr last ↦ let same = last_ends p.more (end_of p) (length whole) last h.ends in omega (arith, without last)
+    ]
+
+-- ---- the same under a key
+
+pub comes_at : (old new : Option SetState) (s t : SetState) (a : Arrival) → old ≡ Some s → new ≡ Some t → Comes (Some s) (Some t) a → Comes old new a
+comes_at old new s t a e f h = subst (λ (o : Option SetState). Comes o new a) (sym e) (subst (λ (o : Option SetState). Comes (Some s) o a) (sym f) h)
+
+pub kept_at : (old : Option SetState) (s : SetState) (arrivals : List Arrival) → old ≡ Some s → IsKeptOf old arrivals → IsKeptOf (Some s) arrivals
+kept_at old s arrivals e h = subst (λ (o : Option SetState). IsKeptOf o arrivals) e h
