@@ -4,3 +4,4 @@ pub mod Fours
 pub mod OptionCuts
 pub mod Packets
 pub mod Records
+pub mod Whole

@@ -11,6 +11,12 @@ use crate::options::find_option;
 use crate::place::Place;
 use crate::times::{time_of, units_of};
 
+/// The type of an interface block.
+pub const INTERFACE: u32 = 1;
+
+/// The most interfaces of a section.
+pub const MOST_INTERFACES: usize = 65536;
+
 /// The type of an enhanced packet block.
 pub const ENHANCED: u32 = 6;
 

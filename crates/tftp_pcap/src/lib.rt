@@ -10,6 +10,7 @@ mod frame;
 mod layout;
 mod numbers;
 mod options;
+mod pieces;
 mod place;
 mod sizes;
 mod standing;
