@@ -1,4 +1,5 @@
 pub mod Announced
+pub mod Bodies
 pub mod Cuts
 pub mod Fours
 pub mod OptionCuts

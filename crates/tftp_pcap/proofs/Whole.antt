@@ -53,7 +53,7 @@ four_first : (order : Order) (s : List ℕ) → 4 ≤ length s → Spells order 
 four_first order (b0 ∷ b1 ∷ b2 ∷ b3 ∷ u) enough = (b0, b1, b2, b3, [], refl, refl, refl)
 four_first order _ enough = absurd (omega arith)
 
-abbrev body_of : List ℕ → List ℕ
+abbrev pub body_of : List ℕ → List ℕ
 body_of s = slice_range s 8 (length s - 4)
 
 four_parts : (s : List ℕ) → 12 ≤ length s → s ≡ take 4 s ++ (slice_range s 4 8 ++ (body_of s ++ drop (length s - 4) s))

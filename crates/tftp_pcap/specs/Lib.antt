@@ -6,3 +6,4 @@ pub mod Options
 pub mod Blocks
 pub mod Pieces
 pub mod Sizes
+pub mod Stops

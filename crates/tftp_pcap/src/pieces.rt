@@ -101,7 +101,7 @@ fn is_packet(kind: u32) -> bool
 
 /// The interface that the body of its block names, where there is room for one more; none where it is none.
 fn named_by(order: Order, interfaces: &[Interface], body: &[u8]) -> Option<Found>
-    ensures says { MatchOption result ((said : Said) → BodySays order interfaces.now 1 body.now said → ⊥) (λ found. (interface : Interface) × (found ≡ Found.Names interface) × BodySays order interfaces.now 1 body.now (Said.Names interface)) }
+    ensures { MatchOption result ((said : Said) → BodySays order interfaces.now 1 body.now said → ⊥) (λ found. (interface : Interface) × (found ≡ Found.Names interface) × BodySays order interfaces.now 1 body.now (Said.Names interface)) }
 {
     if interfaces.len() >= MOST_INTERFACES {
         return None;
