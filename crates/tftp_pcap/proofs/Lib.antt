@@ -2,6 +2,7 @@ pub mod Announced
 pub mod Bodies
 pub mod Cuts
 pub mod Fours
+pub mod Fronts
 pub mod OptionCuts
 pub mod Packets
 pub mod Records

@@ -33,3 +33,34 @@ PieceEnds layout (Err TooLong) piece = IsTooLong layout piece
 PieceEnds layout (Err TooMany) piece = ⊥
 PieceEnds layout (Err Read) piece = IsPart layout piece
 PieceEnds layout (Err Memory) piece = IsPart layout piece
+
+-- ---- one piece more
+
+-- bytes that begin with no piece: they are no size that pieces have, or whole, and say nothing
+abbrev pub IsBad : Mode → List ℕ → Type 0
+IsBad mode part = IsIrregular mode.layout part ⊎ (IsWhole mode.layout part × ((said : Said) → Says mode.layout mode.interfaces part said → ⊥))
+
+-- What a fault says of the bytes that were read of a piece, after so many. Want of memory: the piece is not whole, or it
+-- names an interface.
+abbrev pub Stops : FaultKind → Mode → ℕ → List ℕ → Type 0
+Stops NotARecording mode count part = (mode.layout ≡ Unopened) × (BeginsAsOne part → ⊥)
+Stops Truncated mode count part = IsCut mode.layout part
+Stops Bad mode count part = IsBad mode part
+Stops TooLong mode count part = IsTooLong mode.layout part
+Stops TooMany mode count part = (count ≡ 2 ^ 40) × (part ≡ [])
+Stops Read mode count part = IsPart mode.layout part
+Stops Memory mode count part = IsPart mode.layout part ⊎ ((interface : Interface) × Says mode.layout mode.interfaces part (Names interface))
+
+-- what is known between pieces: what was read ahead, the mode, and how many pieces there were
+pub record PiecesState : Type 0 where
+  pub ahead : List ℕ
+  pub mode : Mode
+  pub count : ℕ
+  pub room : ℕ
+
+-- what reading one piece more does: it says something, which changes the mode; or the recording ends; or there is a fault
+abbrev pub StepEnds : PiecesState → PiecesState → Result (Option Found) FaultKind → List ℕ → List ℕ → Type 0
+StepEnds old new (Ok (Some found)) piece taken =
+    (taken ≡ piece) × Says old.mode.layout old.mode.interfaces piece (said_of found piece) × (new.mode ≡ next_mode old.mode (said_of found piece)) × (new.count ≡ old.count + 1) × (old.count < 2 ^ 40)
+StepEnds old new (Ok None) piece taken = (taken ≡ []) × (old.mode.layout ≢ Unopened) × (new.mode ≡ old.mode) × (new.count ≡ old.count) × (old.count < 2 ^ 40)
+StepEnds old new (Err kind) piece taken = Stops kind old.mode old.count taken

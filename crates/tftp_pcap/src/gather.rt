@@ -1,4 +1,4 @@
-ghost use Rattle.std.specs.Prelude.{◌≡◌, ◌≢◌, ◌<◌, ◌≤◌, ◌⊎◌, ◌++◌, List, [], length, vec_len, vec_capacity, true, false, Ok, Err, IfErr};
+ghost use Rattle.std.specs.Prelude.{◌≡◌, ◌≢◌, ◌<◌, ◌≤◌, ◌⊎◌, ◌++◌, ℕ, List, [], length, vec_len, vec_capacity, true, false, Ok, Err, IfErr};
 ghost use Rattle.std.specs.Io.KnownBytes.{prepend_known, Consumes, IsAtEnd};
 
 use crate::fault::FaultKind;
@@ -21,6 +21,7 @@ pub fn gather<R: Read>(
     ensures read { result ≡ Err FaultKind.Read → reader.new.1 ≡ true }
     ensures drained { result ≡ Err FaultKind.Read → ahead.new ≡ [] }
     ensures tally { result ≢ Err FaultKind.Read → reader.new.1 ≡ reader.old.1 }
+    ensures roomy { vec_capacity piece.old ≤ vec_capacity piece.new }
     ensures memory { result ≡ Err FaultKind.Memory → vec_capacity piece.old < size }
 {
     'reads: while piece.len() < size {

@@ -16,9 +16,10 @@ mod place;
 mod read;
 mod sizes;
 mod standing;
+mod step;
 mod times;
 
 pub use fault::{FaultKind, PcapFault};
-pub use frame::Direction;
+pub use frame::{Direction, Frame};
 pub use layout::{Classic, Interface, Layout};
 pub use numbers::Order;

@@ -45,8 +45,9 @@ pub fn read_piece<R: Read>(
         return ended(layout, piece);
     }
     let size = size_of(layout, piece)?;
-    if !gather(ahead, reader, piece, size)? {
-        return Err(FaultKind::Truncated);
+    match gather(ahead, reader, piece, size) {
+        Ok(true) => Ok(true),
+        Ok(false) => Err(FaultKind::Truncated),
+        Err(kind) => Err(kind),
     }
-    Ok(true)
 }
