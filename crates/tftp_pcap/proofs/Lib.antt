@@ -6,4 +6,5 @@ pub mod Fronts
 pub mod OptionCuts
 pub mod Packets
 pub mod Records
+pub mod Steps
 pub mod Whole

@@ -7,3 +7,4 @@ pub mod Blocks
 pub mod Pieces
 pub mod Sizes
 pub mod Stops
+pub mod History

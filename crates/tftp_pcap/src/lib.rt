@@ -9,6 +9,7 @@ mod found;
 mod frame;
 mod gather;
 mod layout;
+mod next;
 mod numbers;
 mod options;
 mod pieces;

@@ -38,6 +38,7 @@ pub fn read_piece<R: Read>(
     ensures read { result ≡ Err FaultKind.Read → reader.new.1 ≡ true }
     ensures drained { result ≡ Err FaultKind.Read → ahead.new ≡ [] }
     ensures tally { result ≢ Err FaultKind.Read → reader.new.1 ≡ reader.old.1 }
+    ensures short { result ≡ Err FaultKind.NotARecording → IsAtEnd (prepend_known ahead.new (R.remaining reader.new.0)) ⊎ (12 ≤ length piece.new.items) }
     ensures memory { result ≡ Err FaultKind.Memory → vec_capacity piece.old < longest_piece layout }
 {
     piece.clear();

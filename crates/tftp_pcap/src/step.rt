@@ -59,6 +59,8 @@ impl Pieces {
         ensures taken { result ≡ true → (piece : List ℕ) → self.new.mode ≡ next_mode self.old.mode (said_of found piece) }
         ensures count { result ≡ true → self.new.count ≡ self.old.count + 1 }
         ensures ahead { self.new.ahead ≡ self.old.ahead }
+        ensures full { result ≡ false → self.old.room ≤ length self.old.mode.interfaces }
+        ensures few { self.new.count ≤ 2 ^ 40 }
         ensures named { result ≡ false → (interface : Interface) × (found ≡ Found.Names interface) }
     {
         match found {
@@ -90,12 +92,17 @@ impl Pieces {
         ensures read { result ≡ Err FaultKind.Read → reader.new.1 ≡ true }
         ensures drained { result ≡ Err FaultKind.Read → self.new.ahead ≡ [] }
         ensures tally { result ≢ Err FaultKind.Read → reader.new.1 ≡ reader.old.1 }
+        ensures short { result ≡ Err FaultKind.NotARecording → IsAtEnd (prepend_known self.new.ahead (R.remaining reader.new.0)) ⊎ (12 ≤ length piece.new.items) }
+        ensures few { self.new.count ≤ 2 ^ 40 }
+        ensures memory { result ≡ Err FaultKind.Memory → (vec_capacity piece.old < 2 ^ 24) ⊎ (self.old.room ≤ length self.old.mode.interfaces) }
     {
         if self.count == MOST_PIECES {
             return Err(FaultKind::TooMany);
         }
-        if !read_piece(self.layout, &mut self.ahead, reader, piece)? {
-            return Ok(None);
+        match read_piece(self.layout, &mut self.ahead, reader, piece) {
+            Ok(true) => {}
+            Ok(false) => return Ok(None),
+            Err(kind) => return Err(kind),
         }
         let Some(found) = said_by(self.layout, &self.interfaces, piece) else {
             return Err(FaultKind::Bad);
