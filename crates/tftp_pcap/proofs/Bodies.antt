@@ -25,7 +25,7 @@ no_interface order interfaces body never (Gives frame) (inr (inr p)) = omega (ar
 no_interface order interfaces body never Skips says = says.0 refl
 
 module _ (order : Order) (interfaces : List Interface) (s : List ℕ) (enough : 12 ≤ length s) (sized : length s ≡ number_at order s 4) (words : length s % 4 ≡ 0) (few : length s ≤ longest_block)
-         (other : take 4 s ≢ section_type) (kind : ℕ) (is : kind ≡ number_at order s 0) where
+    (other : take 4 s ≢ section_type) (kind : ℕ) (is : kind ≡ number_at order s 0) where
   pub wrong_end : (again : ℕ) → again ≡ number_at order s (length s - 4) → again ≢ length s → (said : Said) → BlockSays order interfaces s said → ⊥
   wrong_end again at differs said says = differs (at ∙ sym (body_says order interfaces s kind is said says).1)
 
@@ -36,7 +36,7 @@ module _ (order : Order) (interfaces : List Interface) (s : List ℕ) (enough : 
     interface_answer one None never = λ said says. never said (subst (λ (k : ℕ). BodySays order interfaces k (body_of s) said) one (body_says order interfaces s kind is said says).0)
     interface_answer one (Some f) (interface, same, says) =
         subst (λ (g : Found). BlockSays order interfaces s (said_of g s)) (sym same)
-            (block_says order interfaces s enough sized words few other again kind is (Names interface) (subst (λ (k : ℕ). BodySays order interfaces k (body_of s) (Names interface)) (sym one) says))
+        (block_says order interfaces s enough sized words few other again kind is (Names interface) (subst (λ (k : ℕ). BodySays order interfaces k (body_of s) (Names interface)) (sym one) says))
 
     pub skipped : kind ≢ 1 → ((kind ≡ 6) ⊎ (kind ≡ 3) ⊎ (kind ≡ 2) → ⊥) → BlockSays order interfaces s Skips
     skipped plain none = block_says order interfaces s enough sized words few other again kind is Skips (plain, (λ e. none (inr (inr e))), (λ e. none (inr (inl e))), (λ e. none (inl e)))

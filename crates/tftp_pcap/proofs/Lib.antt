@@ -6,5 +6,6 @@ pub mod Fronts
 pub mod OptionCuts
 pub mod Packets
 pub mod Records
+pub mod Standings
 pub mod Steps
 pub mod Whole

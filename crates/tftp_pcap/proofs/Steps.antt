@@ -50,7 +50,7 @@ step_fails kind shown old before after piece is consumed ends =
 -- ---- from what was reached to the answer
 
 module _ (bytes taken more piece : List ℕ) (frames : List FrameParts) (old new : PiecesState) (start middle end : Option (List ℕ))
-         (consumed : Consumes start middle taken) (goes : Stands (bytes ++ taken) old.mode old.count frames) (then_consumed : Consumes middle end more) where
+    (consumed : Consumes start middle taken) (goes : Stands (bytes ++ taken) old.mode old.count frames) (then_consumed : Consumes middle end more) where
   both : Consumes start end (taken ++ more)
   both = Consumes-trans start middle end taken more consumed then_consumed
 

@@ -96,8 +96,7 @@ block_known order s type body b =
     let enough : 12 ≤ length s = omega (arith, long) in
     let one = cut_one type (take 4 s) _ _ (b.typed ∙ sym (length-take-le 4 s (omega arith))) (sym b.are ∙ four_parts s enough) in
     let two = cut_one b.size (slice_range s 4 8) _ _ (spells_length order b.size (length s ∷ []) b.size_is ∙ sym (length-slice_range 4 8 s (omega arith))) one.1 in
-    let three = cut_one body (body_of s) b.again _ (omega (arith, long, length-slice_range 8 (length s - 4) s (omega arith))) two.1 in
-    (
+    let three = cut_one body (body_of s) b.again _ (omega (arith, long, length-slice_range 8 (length s - 4) s (omega arith))) two.1 in (
       one.0,
       three.0,
       number_same order b.size (slice_range s 4 8) _ _ b.size_is (four_second order s (omega arith)) two.0,

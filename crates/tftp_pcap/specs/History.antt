@@ -27,6 +27,12 @@ PlaceTells (Ok (Some place)) state piece bytes frames = Stands bytes state.mode 
 PlaceTells (Ok None) state piece bytes frames = IsRecording bytes frames
 PlaceTells (Err kind) state piece bytes frames = FailsAs bytes frames kind
 
+-- the same, once the frame is in what the caller holds
+abbrev pub FillTells : Result Bool FaultKind → PiecesState → FrameParts → List ℕ → List FrameParts → Type 0
+FillTells (Ok true) state frame bytes frames = Stands bytes state.mode state.count (frames ++ frame ∷ [])
+FillTells (Ok false) state frame bytes frames = IsRecording bytes frames
+FillTells (Err kind) state frame bytes frames = FailsAs bytes frames kind
+
 -- ---- the reader
 
 -- what contracts see of a reader: what stands between pieces, how many frames it gave, and whether it goes on

@@ -1,9 +1,17 @@
-ghost use Rattle.std.specs.Prelude.{◌≡◌, [], None};
-ghost use Rattle.tftp_pcap.specs.Frames.{FrameState, no_frame};
+ghost use Rattle.std.specs.Prelude.{◌≡◌, ◌≢◌, ◌+◌, ◌<◌, ◌≤◌, ◌⊎◌, ◌^◌, ◌++◌, ℕ, List, [], true, false, None, Ok, Err};
+ghost use Rattle.std.specs.Io.KnownBytes.{prepend_known, Consumes, IsAtEnd};
+ghost use Rattle.tftp_pcap.specs.Frames.{FrameParts, no_frame};
+ghost use Rattle.tftp_pcap.specs.History.{FillTells};
+ghost use Rattle.tftp_pcap.specs.Pieces.{Stands};
 
+use crate::fault::FaultKind;
+use crate::next::next_place;
 use crate::place::Place;
+use crate::step::Pieces;
 use std::alloc::Global;
+use std::io::Read;
 use std::marker::Model;
+use tftp_capture::Tallied;
 
 /// Which way a frame went, where the recording says so.
 #[derive(Clone, Copy, Debug, PartialEq, Eq)]
@@ -52,6 +60,38 @@ impl Frame {
                 end: 0,
             },
             piece: Vec::new(alloc),
+        }
+    }
+
+    /// Fills it with the next frame, which gets that number; false where the recording ends before one.
+    pub fn fill<R: Read>(
+        &mut self,
+        pieces: &mut Pieces,
+        reader: &mut Tallied<R>,
+        number: u64,
+    ) -> Result<bool, FaultKind>
+        ensures tells { (bytes : List ℕ) (frames : List FrameParts) → Stands bytes pieces.old.mode pieces.old.count frames
+            → (taken : List ℕ) × Consumes (prepend_known pieces.old.ahead (R.remaining reader.old.0)) (prepend_known pieces.new.ahead (R.remaining reader.new.0)) taken
+            × FillTells result pieces.new self.new.parts (bytes ++ taken) frames }
+        ensures number { result ≡ Ok true → self.new.number ≡ number }
+        ensures end { (result ≡ Ok false) ⊎ (result ≡ Err FaultKind.Truncated) → IsAtEnd (prepend_known pieces.new.ahead (R.remaining reader.new.0)) }
+        ensures read { result ≡ Err FaultKind.Read → reader.new.1 ≡ true }
+        ensures drained { result ≡ Err FaultKind.Read → pieces.new.ahead ≡ [] }
+        ensures tally { result ≢ Err FaultKind.Read → reader.new.1 ≡ reader.old.1 }
+        ensures grows { result ≡ Ok true → pieces.old.count < pieces.new.count }
+        ensures stays { pieces.old.count ≤ pieces.new.count }
+        ensures few { pieces.new.count ≤ 2 ^ 40 }
+    {
+        self.place.start = 0;
+        self.place.end = 0;
+        match next_place(pieces, reader, &mut self.piece) {
+            Ok(Some(place)) => {
+                self.number = number;
+                self.place = place;
+                Ok(true)
+            }
+            Ok(None) => Ok(false),
+            Err(kind) => Err(kind),
         }
     }
 

@@ -38,6 +38,7 @@ pub fn next_place<R: Read>(
     ensures drained { result ≡ Err FaultKind.Read → pieces.new.ahead ≡ [] }
     ensures tally { result ≢ Err FaultKind.Read → reader.new.1 ≡ reader.old.1 }
     ensures grows { IfOk result (λ answer. IfSome answer (λ _. pieces.old.count < pieces.new.count)) }
+    ensures stays { pieces.old.count ≤ pieces.new.count }
     ensures few { pieces.new.count ≤ 2 ^ 40 }
 {
     'pieces: loop {

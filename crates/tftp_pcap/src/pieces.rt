@@ -7,7 +7,9 @@ ghost use Rattle.tftp_pcap.specs.declared.layout.Interface.{Interface};
 ghost use Rattle.tftp_pcap.specs.declared.found.Found.{Found};
 ghost use Rattle.tftp_pcap.specs.declared.numbers.Order.{Order};
 
-use crate::blocks::{ENHANCED, INTERFACE, MOST_INTERFACES, OBSOLETE, SIMPLE, interface_of, packet_of};
+use crate::blocks::{
+    ENHANCED, INTERFACE, MOST_INTERFACES, OBSOLETE, SIMPLE, interface_of, packet_of,
+};
 use crate::classic::{header_of, record_of};
 use crate::found::Found;
 use crate::layout::{Interface, Layout};

@@ -60,6 +60,7 @@ impl Pieces {
         ensures count { result ≡ true → self.new.count ≡ self.old.count + 1 }
         ensures ahead { self.new.ahead ≡ self.old.ahead }
         ensures full { result ≡ false → self.old.room ≤ length self.old.mode.interfaces }
+        ensures stays { self.old.count ≤ self.new.count }
         ensures few { self.new.count ≤ 2 ^ 40 }
         ensures named { result ≡ false → (interface : Interface) × (found ≡ Found.Names interface) }
     {
@@ -93,6 +94,7 @@ impl Pieces {
         ensures drained { result ≡ Err FaultKind.Read → self.new.ahead ≡ [] }
         ensures tally { result ≢ Err FaultKind.Read → reader.new.1 ≡ reader.old.1 }
         ensures short { result ≡ Err FaultKind.NotARecording → IsAtEnd (prepend_known self.new.ahead (R.remaining reader.new.0)) ⊎ (12 ≤ length piece.new.items) }
+        ensures stays { self.old.count ≤ self.new.count }
         ensures few { self.new.count ≤ 2 ^ 40 }
         ensures memory { result ≡ Err FaultKind.Memory → (vec_capacity piece.old < 2 ^ 24) ⊎ (self.old.room ≤ length self.old.mode.interfaces) }
     {
