@@ -1,6 +1,11 @@
 pub mod Announced
+pub mod Bodies
 pub mod Cuts
 pub mod Fours
+pub mod Fronts
 pub mod OptionCuts
 pub mod Packets
 pub mod Records
+pub mod Standings
+pub mod Steps
+pub mod Whole

@@ -2,7 +2,6 @@
 -- (section 5).
 use Rattle.std.specs.Prelude.{◌≡◌, ◌+◌, ◌*◌, ◌%◌, ◌≤◌, ℕ, Bool, true, false, List, [], ◌∷◌, ◌++◌, length, if◌then◌else◌, Some}
 use Rattle.tftp_pcap.specs.Numbers.{Spells}
-
 use Rattle.tftp_pcap.specs.Frames.{FrameParts, longest_frame}
 use Rattle.tftp_pcap.specs.declared.numbers.Order.{Order}
 use Rattle.tftp_pcap.specs.declared.numbers.Order.TheVariants.{Big, Little}

@@ -1,5 +1,6 @@
 -- What a recording says of one frame.
-use Rattle.std.specs.Prelude.{ℕ, List, Option}
+use Rattle.std.specs.Prelude.{ℕ, List, [], Option, None}
+use Rattle.tftp_pcap.specs.declared.frame.Direction.TheVariants.{Unknown}
 use Rattle.std.specs.List.{slice_range}
 use Rattle.tftp_pcap.specs.declared.frame.Direction.{Direction}
 use Rattle.tftp_pcap.specs.declared.place.Place.{Place}
@@ -19,3 +20,12 @@ longest_frame = 262144
 -- the frame that lies at a place in some bytes
 abbrev pub frame_at : Place → List ℕ → FrameParts
 frame_at p bytes = record { link = p.link; time = p.time; direction = p.direction; original = p.original; bytes = slice_range bytes p.start p.end }
+
+-- a frame as a reader fills it: its number, what it says, and how many bytes there is room for
+pub record FrameState : Type 0 where
+  pub number : ℕ
+  pub parts : FrameParts
+  pub room : ℕ
+
+abbrev pub no_frame : FrameParts
+no_frame = record { link = 0; time = None; direction = Unknown; original = 0; bytes = [] }

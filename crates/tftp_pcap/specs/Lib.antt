@@ -6,3 +6,5 @@ pub mod Options
 pub mod Blocks
 pub mod Pieces
 pub mod Sizes
+pub mod Stops
+pub mod History

@@ -137,3 +137,10 @@ said_of (found.Opens layout) piece = Opens layout
 said_of (found.Names interface) piece = Names interface
 said_of (found.Gives place) piece = Gives (frame_at place piece)
 said_of found.Skips piece = Skips
+
+-- where a frame lies that was found
+abbrev pub LiesWithin : Found → List ℕ → Type 0
+LiesWithin (found.Opens layout) piece = Unit {0}
+LiesWithin (found.Names interface) piece = Unit {0}
+LiesWithin (found.Gives place) piece = (place.start ≤ place.end) × (place.end ≤ length piece)
+LiesWithin found.Skips piece = Unit {0}

@@ -3,13 +3,18 @@ ghost use Rattle.tftp_pcap.specs.Blocks.{SpellsEnhanced, SpellsInterface, Spells
 ghost use Rattle.tftp_pcap.specs.Frames.{FrameParts, frame_at};
 ghost use Rattle.tftp_pcap.specs.declared.layout.Interface.{Interface};
 
-
 use crate::frame::Direction;
 use crate::layout::Interface;
 use crate::numbers::Order;
 use crate::options::find_option;
 use crate::place::Place;
 use crate::times::{time_of, units_of};
+
+/// The type of an interface block.
+pub const INTERFACE: u32 = 1;
+
+/// The most interfaces of a section.
+pub const MOST_INTERFACES: usize = 65536;
 
 /// The type of an enhanced packet block.
 pub const ENHANCED: u32 = 6;
@@ -190,12 +195,7 @@ fn kept(longest: u32, original: u32) -> u32
 }
 
 /// The frame that the body of a block of packets is, by the block's type; none where the body is none.
-pub fn packet_of(
-    order: Order,
-    interfaces: &[Interface],
-    kind: u32,
-    body: &[u8],
-) -> Option<Place>
+pub fn packet_of(order: Order, interfaces: &[Interface], kind: u32, body: &[u8]) -> Option<Place>
     ensures packet { MatchOption result ((frame : FrameParts) → SpellsPacket order interfaces.now kind body.now frame → ⊥)
         (λ place. SpellsPacket order interfaces.now kind body.now (frame_at place body.now)) }
     ensures within { IfSome result (λ place. (place.start ≤ place.end) × (place.end ≤ length body.now)) }

@@ -46,12 +46,7 @@ fn cut_option(order: Order, bytes: &[u8]) -> Cut<'_>
 
 /// The value of the first option of that code and of so many bytes, if there is one; none at all where the bytes are no
 /// options.
-pub fn find_option(
-    order: Order,
-    options: &[u8],
-    code: u16,
-    size: usize,
-) -> Option<Option<&[u8]>>
+pub fn find_option(order: Order, options: &[u8], code: u16, size: usize) -> Option<Option<&[u8]>>
     ensures { MatchOption result ((os : List OptionParts) → SpellsOptions order options.now os → ⊥)
         (λ found. (os : List OptionParts) × SpellsOptions order options.now os × (option_map (λ v. v.now) found ≡ first_value code size os)) }
 {

@@ -8,4 +8,4 @@ pub returns-clause-enhanced : goal.returns-clause-enhanced
 returns-clause-enhanced c =
     let named = slice_get-get_or c.args.interfaces.now c.number-place.result _ (omega arith) in
     answer_of c.timed_of.result _ _ _ _ (λ never. enhanced_timed c.args.order c.args.interfaces.now c.args.body.now c.number-place.result _ c.if-body-lt20.false c.number-place.ensures named never)
-        (λ place timed. enhanced_spelled c.args.order c.args.interfaces.now c.args.body.now c.number-place.result _ _ c.if-body-lt20.false c.number-place.ensures named timed) c.timed_of.ensures.timed
+    (λ place timed. enhanced_spelled c.args.order c.args.interfaces.now c.args.body.now c.number-place.result _ _ c.if-body-lt20.false c.number-place.ensures named timed) c.timed_of.ensures.timed

@@ -8,4 +8,4 @@ pub returns-clause-obsolete : goal.returns-clause-obsolete
 returns-clause-obsolete c =
     let named = slice_get-get_or c.args.interfaces.now c.short-place.result _ (omega arith) in
     answer_of c.timed_of.result _ _ _ _ (λ never. obsolete_timed c.args.order c.args.interfaces.now c.args.body.now c.short-place.result _ c.if-body-lt20.false c.short-place.ensures named never)
-        (λ place timed. obsolete_spelled c.args.order c.args.interfaces.now c.args.body.now c.short-place.result _ _ c.if-body-lt20.false c.short-place.ensures named timed) c.timed_of.ensures.timed
+    (λ place timed. obsolete_spelled c.args.order c.args.interfaces.now c.args.body.now c.short-place.result _ _ c.if-body-lt20.false c.short-place.ensures named timed) c.timed_of.ensures.timed

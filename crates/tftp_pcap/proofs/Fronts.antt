@@ -1,0 +1,87 @@
+-- What the first bytes of a piece announce stays, whatever follows them.
+use Rattle.std.proofs.Common.{◌≡◌, ◌≢◌, inl, inr, ℕ, ◌+◌, ◌<◌, ◌≤◌, List, [], ◌∷◌, ◌++◌, length, length-append, refl, sym, ap, ◌∙◌, subst, lit<, arith}
+use Rattle.std.specs.Prelude.{◌⊎◌, true, false, Result, Ok, Err, Option}
+use Rattle.std.specs.Io.KnownBytes.{Consumes}
+use Rattle.std.proofs.KnownBytes.{Consumes-trans}
+use Rattle.tftp_pcap.specs.Numbers.{number_at}
+use Rattle.tftp_pcap.specs.Pieces.{Announces, AnnouncesSection, BeginsAsOne, IsSize, front_of}
+use Rattle.tftp_pcap.specs.Stops.{IsPart, IsCut, IsWhole, PieceEnds}
+use Rattle.tftp_pcap.specs.declared.layout.Layout.{Layout}
+use Rattle.tftp_pcap.specs.declared.layout.Layout.TheVariants.{Unopened, Classic, Blocks}
+use Rattle.tftp_pcap.specs.declared.fault.FaultKind.{FaultKind}
+use Rattle.tftp_pcap.specs.declared.fault.FaultKind.TheVariants.{Read, Memory, Truncated}
+use Rattle.tftp_pcap.proofs.Announced.{order_one, magic_other}
+
+pub announces_front : (layout : Layout) (p b : List ℕ) (n : ℕ) → front_of layout ≤ length p → Announces layout (p ++ b) n → Announces layout p n
+announces_front Unopened (b0 ∷ b1 ∷ b2 ∷ b3 ∷ b4 ∷ b5 ∷ b6 ∷ b7 ∷ b8 ∷ b9 ∷ b10 ∷ b11 ∷ u) b n enough (long, a) = (enough, a)
+announces_front (Classic classic) (b0 ∷ b1 ∷ b2 ∷ b3 ∷ b4 ∷ b5 ∷ b6 ∷ b7 ∷ b8 ∷ b9 ∷ b10 ∷ b11 ∷ b12 ∷ b13 ∷ b14 ∷ b15 ∷ u) b n enough (long, a) = (enough, a)
+announces_front (Blocks order) (b0 ∷ b1 ∷ b2 ∷ b3 ∷ b4 ∷ b5 ∷ b6 ∷ b7 ∷ b8 ∷ b9 ∷ b10 ∷ b11 ∷ u) b n enough (long, a) = (enough, a)
+announces_front Unopened _ b n enough a = absurd (omega arith)
+announces_front (Classic classic) _ b n enough a = absurd (omega arith)
+announces_front (Blocks order) _ b n enough a = absurd (omega arith)
+
+pub announces_more : (layout : Layout) (p b : List ℕ) (n : ℕ) → Announces layout p n → Announces layout (p ++ b) n
+announces_more Unopened (b0 ∷ b1 ∷ b2 ∷ b3 ∷ b4 ∷ b5 ∷ b6 ∷ b7 ∷ b8 ∷ b9 ∷ b10 ∷ b11 ∷ u) b n (long, a) = (omega (arith, length-append u b), a)
+announces_more (Classic classic) (b0 ∷ b1 ∷ b2 ∷ b3 ∷ b4 ∷ b5 ∷ b6 ∷ b7 ∷ b8 ∷ b9 ∷ b10 ∷ b11 ∷ b12 ∷ b13 ∷ b14 ∷ b15 ∷ u) b n (long, a) = (omega (arith, length-append u b), a)
+announces_more (Blocks order) (b0 ∷ b1 ∷ b2 ∷ b3 ∷ b4 ∷ b5 ∷ b6 ∷ b7 ∷ b8 ∷ b9 ∷ b10 ∷ b11 ∷ u) b n (long, a) = (omega (arith, length-append u b), a)
+announces_more Unopened _ b n a = absurd (omega (arith, a.0))
+announces_more (Classic classic) _ b n a = absurd (omega (arith, a.0))
+announces_more (Blocks order) _ b n a = absurd (omega (arith, a.0))
+
+pub announces_enough : (layout : Layout) (p : List ℕ) (n : ℕ) → Announces layout p n → front_of layout ≤ length p
+announces_enough Unopened p n a = a.0
+announces_enough (Classic classic) p n a = a.0
+announces_enough (Blocks order) p n a = a.0
+
+section_one : (p : List ℕ) (m n : ℕ) → AnnouncesSection p m → AnnouncesSection p n → m ≡ n
+section_one p m n (typed, order, magic_is, sized) (again, other, is, size) = sized ∙ ap (λ o. number_at o p 4) (order_one order other (sym magic_is ∙ is)) ∙ sym size
+
+pub announces_one : (layout : Layout) (p : List ℕ) (m n : ℕ) → Announces layout p m → Announces layout p n → m ≡ n
+announces_one Unopened p m n (long, inl a) (more, inl b) = section_one p m n a b
+announces_one Unopened p m n (long, inl a) (more, inr (order, nano, is, sized)) = absurd (magic_other order nano (sym is ∙ a.0))
+announces_one Unopened p m n (long, inr (order, nano, is, sized)) (more, inl b) = absurd (magic_other order nano (sym is ∙ b.0))
+announces_one Unopened p m n (long, inr (order, nano, is, sized)) (more, inr (other, micro, same, size)) = sized ∙ sym size
+announces_one (Classic classic) p m n a b = a.1 ∙ sym b.1
+announces_one (Blocks order) p m n (long, inl a) (more, inl b) = section_one p m n a b
+announces_one (Blocks order) p m n (long, inl a) (more, inr b) = absurd (b.0 a.0)
+announces_one (Blocks order) p m n (long, inr a) (more, inl b) = absurd (a.0 b.0)
+announces_one (Blocks order) p m n (long, inr a) (more, inr b) = a.1 ∙ sym b.1
+
+begins_of : (layout : Layout) (p : List ℕ) (n : ℕ) → Announces layout p n → layout ≡ Unopened → BeginsAsOne p
+begins_of Unopened p n (long, inl a) is = inl a.0
+begins_of Unopened p n (long, inr (order, nano, magic_is, sized)) is = inr (order, nano, magic_is)
+begins_of (Classic classic) p n a is = absurd (let x : ⊥ = cc in x)
+begins_of (Blocks order) p n a is = absurd (let x : ⊥ = cc in x)
+
+-- fewer bytes than are read first
+pub short_part : (layout : Layout) (p : List ℕ) → length p < front_of layout → IsPart layout p
+short_part layout p short n a = absurd (omega (arith, short, announces_enough layout p n a))
+
+-- all that was read is the piece
+pub taken_two : (old first second : List ℕ) (k0 k1 k2 : Option (List ℕ)) → old ≡ [] → ((bytes : List ℕ) × Consumes k0 k1 bytes × (first ≡ old ++ bytes)) → ((bytes : List ℕ) × Consumes k1 k2 bytes × (second ≡ first ++ bytes)) → Consumes k0 k2 second
+taken_two old first second k0 k1 k2 none (a, one, is) (b, two, are) =
+    let same : second ≡ a ++ b = are ∙ ap (λ l. l ++ b) (is ∙ ap (λ l. l ++ a) none) in
+    subst (Consumes k0 k2) (sym same) (Consumes-trans k0 k1 k2 a b one two)
+
+module _ (layout : Layout) (first second bytes : List ℕ) (size : ℕ) (are : second ≡ first ++ bytes) (announced : Announces layout first size) where
+  grown : Announces layout second size
+  grown = subst (λ (l : List ℕ). Announces layout l size) (sym are) (announces_more layout first bytes size announced)
+
+  pub grown_part : length second < size → IsPart layout second
+  grown_part short n a = omega (arith, short, announces_one layout second n size a grown)
+
+  pub grown_cut : front_of layout ≤ length first → 0 < front_of layout → length second < size → IsCut layout second
+  grown_cut enough some short = (grown_part short, (λ none. omega (arith, ap length none, ap length are, length-append first bytes, enough, some)), begins_of layout second size grown)
+
+  pub grown_whole : IsSize layout size → length second ≡ size → IsWhole layout second
+  grown_whole sized whole = (subst (Announces layout second) (sym whole) grown, subst (IsSize layout) (sym whole) sized)
+
+pub front_some : (layout : Layout) → 0 < front_of layout
+front_some Unopened = lit< tt
+front_some (Classic classic) = lit< tt
+front_some (Blocks order) = lit< tt
+
+-- a failed read or want of memory, with a part of a piece
+pub failed_part : (layout : Layout) (piece : List ℕ) (kind : FaultKind) → (kind ≡ Read) ⊎ (kind ≡ Memory) → IsPart layout piece → PieceEnds layout (Err kind) piece
+failed_part layout piece kind (inl is) part = rw is part
+failed_part layout piece kind (inr is) part = rw is part

@@ -1,0 +1,90 @@
+-- A reader of frames goes on from one history to the next.
+use Rattle.std.proofs.Common.{◌≡◌, ◌≢◌, ℕ, ◌+◌, List, [], ◌∷◌, ◌++◌, length, length-append, refl, sym, ap, ◌∙◌, subst, append_assoc, arith}
+use Rattle.std.specs.Prelude.{Option, Some, None, Bool, true, false, Result, Ok, Err}
+use Rattle.std.specs.Io.KnownBytes.{prepend_known, Consumes}
+use Rattle.std.proofs.KnownBytes.{Consumes-nil, prepend_known-nil}
+use Rattle.tftp_pcap.specs.Frames.{FrameParts}
+use Rattle.tftp_pcap.specs.Pieces.{Said, Says, Mode, Stands, IsRecording, start, given, said_of}
+use Rattle.tftp_pcap.specs.Pieces.Said.{Opens}
+use Rattle.tftp_pcap.specs.Stops.{Stops, PiecesState, StepEnds}
+use Rattle.tftp_pcap.specs.History.{FailsAs, FailsIn, FailsToBegin, FillTells, ReaderState, StandingTells, StandsFor, Continues}
+use Rattle.tftp_pcap.specs.declared.found.Found.{Found}
+use Rattle.tftp_pcap.specs.declared.found.Found.TheVariants as found
+use Rattle.tftp_pcap.specs.declared.layout.Layout.TheVariants.{Unopened}
+use Rattle.tftp_pcap.specs.declared.fault.FaultKind.{FaultKind}
+use Rattle.tftp_pcap.specs.declared.fault.PcapFault.{PcapFault}
+use Rattle.tftp_pcap.specs.declared.standing.Standing.{Standing}
+use Rattle.tftp_pcap.specs.declared.standing.Standing.TheVariants.{Open, Over, Failed}
+use Rattle.tftp_pcap.proofs.Steps.{reach_said, reach_fault}
+
+nothing : Stands [] start 0 []
+nothing = record { pieces = []; are = refl; follows = (refl, refl); counted = refl }
+
+-- a header gives no frame
+opening : (f : Found) (piece : List ℕ) → Says Unopened [] piece (said_of f piece) → given (said_of f piece) ≡ []
+opening (found.Opens layout) piece says = refl
+opening (found.Names interface) piece says = absurd says
+opening (found.Gives place) piece says = absurd says
+opening found.Skips piece says = absurd says
+
+rest_ahead : (before after : Option (List ℕ)) (taken ahead : List ℕ) → Consumes before (prepend_known ahead after) taken → Consumes before after (taken ++ ahead)
+rest_ahead None after taken ahead c = tt
+rest_ahead (Some x) None taken ahead c = absurd c
+rest_ahead (Some x) (Some y) taken ahead c = c ∙ sym (append_assoc taken ahead y)
+
+module _ (state new : PiecesState) (before after : Option (List ℕ)) (piece : List ℕ) (none : state.ahead ≡ []) (mode : state.mode ≡ start) (count : state.count ≡ 0) where
+  goes : Stands ([] ++ []) state.mode state.count []
+  goes = subst (λ (m : Mode). Stands [] m state.count []) (sym mode) (subst (λ (n : ℕ). Stands [] start n []) (sym count) nothing)
+
+  from_start : Consumes before (prepend_known state.ahead before) []
+  from_start = subst (λ (k : Option (List ℕ)). Consumes before k []) (sym (ap (λ a. prepend_known a before) none ∙ prepend_known-nil before)) (Consumes-nil before)
+
+  pub begins_ok : (f : Found) → (taken : List ℕ) × Consumes (prepend_known state.ahead before) after taken × StepEnds state new (Ok (Some f)) piece taken
+      → (taken : List ℕ) × Consumes before after taken × (Stands taken new.mode new.count [] × (length {A = FrameParts} [] ≡ 0))
+  begins_ok f (taken, consumed, ends) =
+      let reached = reach_said [] [] taken piece [] state new before _ after from_start goes consumed f ends in
+      let says = subst (λ (m : Mode). Says m.layout m.interfaces piece (said_of f piece)) mode ends.1 in
+      (reached.0, reached.1, (subst (Stands reached.0 new.mode new.count) (opening f piece says) reached.2, refl))
+
+  pub begins_none : {A : Type 0} → (taken : List ℕ) × Consumes (prepend_known state.ahead before) after taken × StepEnds state new (Ok None) piece taken → A
+  begins_none (taken, consumed, ends) = absurd (ends.1 (ap (λ (m : Mode). m.layout) mode))
+
+  pub begins_err : (kind : FaultKind) (ahead : List ℕ) (end : Option (List ℕ)) → after ≡ prepend_known ahead end → (taken : List ℕ) × Consumes (prepend_known state.ahead before) after taken × StepEnds state new (Err kind) piece taken
+      → FailsToBegin before end (record { kind = kind; frame = 1 })
+  begins_err kind ahead end is (taken, consumed, ends) =
+      let reached = reach_fault [] [] taken piece [] state new before _ after from_start goes consumed kind ends in
+      record { taken = reached.0; ahead = ahead; consumed = rest_ahead before end reached.0 ahead (subst (λ (k : Option (List ℕ)). Consumes before k reached.0) is reached.1); tells = record { fails = reached.2; number = refl } }
+
+-- ---- the next frame
+
+module _ (old : ReaderState) (pieces new : PiecesState) (count : ℕ) (before after : Option (List ℕ)) (parts : FrameParts) (bytes : List ℕ) (frames : List FrameParts)
+    (is : record { pieces = pieces; count = count; standing = Open } ≡ old) (stands : StandsFor old bytes frames) where
+  open_now : Stands bytes pieces.mode pieces.count frames × (count ≡ length frames)
+  open_now = subst (λ (r : ReaderState). StandsFor r bytes frames) (sym is) stands
+
+  ahead_is : prepend_known pieces.ahead before ≡ prepend_known old.pieces.ahead before
+  ahead_is = ap (λ (r : ReaderState). prepend_known r.pieces.ahead before) is
+
+  consumed_now : (taken : List ℕ) → Consumes (prepend_known pieces.ahead before) (prepend_known new.ahead after) taken → Consumes (prepend_known old.pieces.ahead before) (prepend_known new.ahead after) taken
+  consumed_now taken c = subst (λ (k : Option (List ℕ)). Consumes k (prepend_known new.ahead after) taken) ahead_is c
+
+  pub continues_frame : ((more : List ℕ) (given_before : List FrameParts) → Stands more pieces.mode pieces.count given_before
+      → (taken : List ℕ) × Consumes (prepend_known pieces.ahead before) (prepend_known new.ahead after) taken × FillTells (Ok true) new parts (more ++ taken) given_before)
+      → Continues (record { pieces = new; count = count + 1; standing = Open }) (prepend_known old.pieces.ahead before) (prepend_known new.ahead after) (Ok true) parts bytes frames
+  continues_frame tells =
+      let (taken, consumed, goes) = tells bytes frames open_now.0 in
+      record { taken = taken; consumed = consumed_now taken consumed; stands = (goes, omega (arith, open_now.1, length-append {A = FrameParts} frames (parts ∷ []))) }
+
+  pub continues_end : ((more : List ℕ) (given_before : List FrameParts) → Stands more pieces.mode pieces.count given_before
+      → (taken : List ℕ) × Consumes (prepend_known pieces.ahead before) (prepend_known new.ahead after) taken × FillTells (Ok false) new parts (more ++ taken) given_before)
+      → Continues (record { pieces = new; count = count; standing = Over }) (prepend_known old.pieces.ahead before) (prepend_known new.ahead after) (Ok false) parts bytes frames
+  continues_end tells =
+      let (taken, consumed, goes) = tells bytes frames open_now.0 in
+      record { taken = taken; consumed = consumed_now taken consumed; stands = goes }
+
+  pub continues_fault : (kind : FaultKind) → ((more : List ℕ) (given_before : List FrameParts) → Stands more pieces.mode pieces.count given_before
+      → (taken : List ℕ) × Consumes (prepend_known pieces.ahead before) (prepend_known new.ahead after) taken × FillTells (Err kind) new parts (more ++ taken) given_before)
+      → Continues (record { pieces = new; count = count; standing = Failed (record { kind = kind; frame = count + 1 }) }) (prepend_known old.pieces.ahead before) (prepend_known new.ahead after) (Err (record { kind = kind; frame = count + 1 })) parts bytes frames
+  continues_fault kind tells =
+      let (taken, consumed, goes) = tells bytes frames open_now.0 in
+      record { taken = taken; consumed = consumed_now taken consumed; stands = record { fails = goes; number = ap (λ n. n + 1) open_now.1 } }

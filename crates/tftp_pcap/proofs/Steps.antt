@@ -1,0 +1,71 @@
+-- Pieces, one after another.
+use Rattle.std.proofs.Common.{◌≡◌, ◌≢◌, inl, inr, ℕ, ◌+◌, ◌<◌, ◌≤◌, ◌^◌, List, [], ◌∷◌, ◌++◌, length, length-append, refl, sym, ap, ◌∙◌, subst, append_assoc, append-nil, arith}
+use Rattle.std.specs.Prelude.{Option, Some, None, Result, Ok, Err, flat_map}
+use Rattle.std.specs.Io.KnownBytes.{prepend_known, Consumes}
+use Rattle.std.proofs.KnownBytes.{Consumes-trans}
+use Rattle.std.proofs.lemmas.Grind.{flat_map-append}
+use Rattle.tftp_pcap.specs.Frames.{FrameParts}
+use Rattle.tftp_pcap.specs.Pieces.{Said, Says, Mode, Follows, Stands, IsRecording, next_mode, given, said_of}
+use Rattle.tftp_pcap.specs.History.{FailsAs}
+use Rattle.tftp_pcap.specs.Stops.{PieceEnds, Stops, PiecesState, StepEnds}
+use Rattle.tftp_pcap.specs.declared.found.Found.{Found}
+use Rattle.tftp_pcap.specs.declared.fault.FaultKind.{FaultKind}
+use Rattle.tftp_pcap.specs.declared.fault.FaultKind.TheVariants.{NotARecording, Truncated, Bad, TooLong, TooMany, Read, Memory}
+
+pub stops_of : (kind : FaultKind) (mode : Mode) (count : ℕ) (part : List ℕ) → PieceEnds mode.layout (Err kind) part → Stops kind mode count part
+stops_of NotARecording mode count part h = h
+stops_of Truncated mode count part h = h
+stops_of Bad mode count part h = inl h
+stops_of TooLong mode count part h = h
+stops_of TooMany mode count part h = absurd h
+stops_of Read mode count part h = h
+stops_of Memory mode count part h = inl h
+
+follows_more : (mode end : Mode) (pieces : List (List ℕ)) (frames : List FrameParts) (piece : List ℕ) (said : Said) → Follows mode pieces end frames → Says end.layout end.interfaces piece said
+    → Follows mode (pieces ++ piece ∷ []) (next_mode end said) (frames ++ given said)
+follows_more mode end [] frames piece said (same, none) says =
+    (said, [], subst (λ (m : Mode). Says m.layout m.interfaces piece said) same says, ap (λ l. l ++ given said) none ∙ sym (append-nil (given said)), (ap (λ (m : Mode). next_mode m said) same, refl))
+follows_more mode end (p ∷ pieces) frames piece said (first, rest, one, are, more) says =
+    (first, rest ++ given said, one, ap (λ l. l ++ given said) are ∙ append_assoc (given first) rest (given said), follows_more (next_mode mode first) end pieces rest piece said more says)
+
+-- one piece more, and what it gives
+pub stands_more : (bytes piece : List ℕ) (mode : Mode) (count : ℕ) (frames : List FrameParts) (said : Said) → Stands bytes mode count frames → Says mode.layout mode.interfaces piece said
+    → Stands (bytes ++ piece) (next_mode mode said) (count + 1) (frames ++ given said)
+stands_more bytes piece mode count frames said stands says =
+    let joined : flat_map (λ p. p) (stands.pieces ++ piece ∷ []) ≡ flat_map (λ p. p) stands.pieces ++ piece = flat_map-append (λ p. p) stands.pieces (piece ∷ []) ∙ ap (λ x. flat_map (λ p. p) stands.pieces ++ x) (append-nil piece) in
+    record {
+      pieces = stands.pieces ++ piece ∷ [];
+      are = ap (λ x. x ++ piece) stands.are ∙ sym joined;
+      follows = follows_more _ mode stands.pieces frames piece said stands.follows says;
+      counted = omega (arith, stands.counted, length-append {A = List ℕ} stands.pieces (piece ∷ []));
+    }
+
+-- the same facts of the value that the fields show
+pub step_fails : (kind : FaultKind) (shown old : PiecesState) (before after : Option (List ℕ)) (piece : List ℕ) → shown ≡ old
+    → Consumes (prepend_known shown.ahead before) after piece → PieceEnds shown.mode.layout (Err kind) piece
+    → (taken : List ℕ) × Consumes (prepend_known old.ahead before) after taken × Stops kind old.mode old.count taken
+step_fails kind shown old before after piece is consumed ends =
+    (piece, subst (λ (s : PiecesState). Consumes (prepend_known s.ahead before) after piece) is consumed, stops_of kind old.mode old.count piece (subst (λ (s : PiecesState). PieceEnds s.mode.layout (Err kind) piece) is ends))
+
+-- ---- from what was reached to the answer
+
+module _ (bytes taken more piece : List ℕ) (frames : List FrameParts) (old new : PiecesState) (start middle end : Option (List ℕ))
+    (consumed : Consumes start middle taken) (goes : Stands (bytes ++ taken) old.mode old.count frames) (then_consumed : Consumes middle end more) where
+  both : Consumes start end (taken ++ more)
+  both = Consumes-trans start middle end taken more consumed then_consumed
+
+  pub reach_said : (found : Found) → StepEnds old new (Ok (Some found)) piece more
+      → (all : List ℕ) × Consumes start end all × Stands (bytes ++ all) new.mode new.count (frames ++ given (said_of found piece))
+  reach_said found (are, says, mode, count, few) =
+      let grown = stands_more (bytes ++ taken) piece old.mode old.count frames (said_of found piece) goes says in
+      let here = subst (λ (b : List ℕ). Stands b (next_mode old.mode (said_of found piece)) (old.count + 1) (frames ++ given (said_of found piece))) (append_assoc bytes taken piece ∙ ap (λ l. bytes ++ (taken ++ l)) (sym are)) grown in
+      let there = subst (λ (m : Mode). Stands (bytes ++ (taken ++ more)) m (old.count + 1) (frames ++ given (said_of found piece))) (sym mode) here in
+      (taken ++ more, both, subst (λ (n : ℕ). Stands (bytes ++ (taken ++ more)) new.mode n (frames ++ given (said_of found piece))) (sym count) there)
+
+  pub reach_none : StepEnds old new (Ok None) piece more → (all : List ℕ) × Consumes start end all × IsRecording (bytes ++ all) frames
+  reach_none (none, opened, mode, count, few) =
+      let same : bytes ++ taken ≡ bytes ++ (taken ++ more) = ap (λ l. bytes ++ l) (sym (append-nil taken) ∙ ap (λ l. taken ++ l) (sym none)) in
+      (taken ++ more, both, record { mode = old.mode; count = old.count; stands = subst (λ (b : List ℕ). Stands b old.mode old.count frames) same goes; opened = opened; few = few })
+
+  pub reach_fault : (kind : FaultKind) → Stops kind old.mode old.count more → (all : List ℕ) × Consumes start end all × FailsAs (bytes ++ all) frames kind
+  reach_fault kind stops = (taken ++ more, both, record { good = bytes ++ taken; part = more; mode = old.mode; count = old.count; are = sym (append_assoc bytes taken more); stands = goes; stops = stops })

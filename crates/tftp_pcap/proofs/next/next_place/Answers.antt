@@ -1,0 +1,36 @@
+use Rattle.std.proofs.Common.{◌≡◌, ◌≤◌, ◌++◌, ◌∷◌, ℕ, List, [], append-nil, ap, sym, ◌∙◌, subst, arith}
+use Rattle.std.proofs.lemmas.Grind.{common_steps}
+use Rattle.tftp_pcap.specs.Frames.{FrameParts}
+use Rattle.tftp_pcap.specs.Pieces.{Stands, given, said_of}
+use Rattle.tftp_pcap.proofs.Steps.{reach_said, reach_none, reach_fault}
+use Rattle.tftp_pcap.proofs.next.next_place.Goals as goal
+
+pub returns-in-Some-clause-tells : goal.returns-in-Some-clause-tells
+returns-in-Some-clause-tells g c = λ bytes frames stands.
+    let (taken, consumed, goes) = c.pieces.invariant.reaches bytes frames stands in
+    let ends = rw c.in-Ok-Some.field-0-is at c.in-Ok-Some.ensures.ends in
+    let reached = reach_said bytes taken ends.0 c.step.new.piece.items frames c.pieces.pieces c.step.new.self _ _ _ consumed goes ends.1 c.in-Ok-Some.found ends.2 in
+    rw c.in-Some.ensures at reached
+
+pub pieces-preserved : goal.pieces-preserved
+pieces-preserved g c =
+    let ends = rw c.in-Ok-Some.field-0-is at c.in-Ok-Some.ensures.ends in
+    record {
+      tally = grind (arith, common_steps);
+      grows = omega (arith, ends.2.3, c.pieces.invariant.grows);
+      reaches = λ bytes frames stands.
+          let (taken, consumed, goes) = c.pieces.invariant.reaches bytes frames stands in
+          let reached = reach_said bytes taken ends.0 c.step.new.piece.items frames c.pieces.pieces c.step.new.self _ _ _ consumed goes ends.1 c.in-Ok-Some.found ends.2 in
+          (reached.0, reached.1, subst (λ (f : List FrameParts). Stands (bytes ++ reached.0) c.step.new.self.mode c.step.new.self.count f) (ap (λ l. frames ++ l) (c.in-None.ensures c.step.new.piece.items) ∙ append-nil frames) reached.2);
+    }
+
+pub returns-in-Ok-None-clause-tells : goal.returns-in-Ok-None-clause-tells
+returns-in-Ok-None-clause-tells g c = λ bytes frames stands.
+    let (taken, consumed, goes) = c.pieces.invariant.reaches bytes frames stands in
+    let ends = rw c.in-Ok-None.field-0-is at c.in-Ok-None.ensures.ends in
+    reach_none bytes taken ends.0 c.step.new.piece.items frames c.pieces.pieces c.step.new.self _ _ _ consumed goes ends.1 ends.2
+
+pub returns-in-Err-clause-tells : goal.returns-in-Err-clause-tells
+returns-in-Err-clause-tells g c = λ bytes frames stands.
+    let (taken, consumed, goes) = c.pieces.invariant.reaches bytes frames stands in
+    reach_fault bytes taken c.in-Err.ensures.ends.0 c.step.new.piece.items frames c.pieces.pieces c.step.new.self _ _ _ consumed goes c.in-Err.ensures.ends.1 c.in-Err.kind c.in-Err.ensures.ends.2

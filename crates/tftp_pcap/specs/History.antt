@@ -1,0 +1,88 @@
+-- What a reader of frames holds, and for what bytes and frames it stands.
+use Rattle.std.specs.Prelude.{◌≡◌, ◌≢◌, ◌+◌, ◌<◌, ◌^◌, ℕ, Bool, true, false, List, [], ◌∷◌, ◌++◌, length, Option, Some, None, Result, Ok, Err}
+use Rattle.std.specs.Io.KnownBytes.{Consumes}
+use Rattle.tftp_pcap.specs.Frames.{FrameParts, frame_at}
+use Rattle.tftp_pcap.specs.Pieces.{Mode, Stands, IsRecording}
+use Rattle.tftp_pcap.specs.Stops.{PiecesState, Stops}
+use Rattle.tftp_pcap.specs.declared.layout.Layout.TheVariants.{Unopened}
+use Rattle.tftp_pcap.specs.declared.place.Place.{Place}
+use Rattle.tftp_pcap.specs.declared.fault.FaultKind.{FaultKind}
+use Rattle.tftp_pcap.specs.declared.fault.PcapFault.{PcapFault}
+use Rattle.tftp_pcap.specs.declared.standing.Standing.{Standing}
+use Rattle.tftp_pcap.specs.declared.standing.Standing.TheVariants.{Open, Over, Failed}
+
+-- The bytes are whole pieces, which give these frames, and then some of which the fault tells.
+pub record FailsAs (bytes : List ℕ) (frames : List FrameParts) (kind : FaultKind) : Type 0 where
+  pub good : List ℕ
+  pub part : List ℕ
+  pub mode : Mode
+  pub count : ℕ
+  pub are : bytes ≡ good ++ part
+  pub stands : Stands good mode count frames
+  pub stops : Stops kind mode count part
+
+-- what reading on to the next frame tells of the bytes that were taken with it and before it, and of the frames before it
+abbrev pub PlaceTells : Result (Option Place) FaultKind → PiecesState → List ℕ → List ℕ → List FrameParts → Type 0
+PlaceTells (Ok (Some place)) state piece bytes frames = Stands bytes state.mode state.count (frames ++ frame_at place piece ∷ [])
+PlaceTells (Ok None) state piece bytes frames = IsRecording bytes frames
+PlaceTells (Err kind) state piece bytes frames = FailsAs bytes frames kind
+
+-- the same, once the frame is in what the caller holds
+abbrev pub FillTells : Result Bool FaultKind → PiecesState → FrameParts → List ℕ → List FrameParts → Type 0
+FillTells (Ok true) state frame bytes frames = Stands bytes state.mode state.count (frames ++ frame ∷ [])
+FillTells (Ok false) state frame bytes frames = IsRecording bytes frames
+FillTells (Err kind) state frame bytes frames = FailsAs bytes frames kind
+
+-- ---- the reader
+
+-- what contracts see of a reader: what stands between pieces, how many frames it gave, and whether it goes on
+pub record ReaderState : Type 0 where
+  pub pieces : PiecesState
+  pub count : ℕ
+  pub standing : Standing
+
+-- the bytes fail so, at the frame after those that they give
+pub record FailsIn (bytes : List ℕ) (frames : List FrameParts) (fault : PcapFault) : Type 0 where
+  pub fails : FailsAs bytes frames fault.kind
+  pub number : fault.frame ≡ length frames + 1
+
+-- what the reader took and gave, by whether it goes on
+abbrev pub StandingTells : Standing → ReaderState → List ℕ → List FrameParts → Type 0
+StandingTells Open reader bytes frames = Stands bytes reader.pieces.mode reader.pieces.count frames × (reader.count ≡ length frames)
+StandingTells Over reader bytes frames = IsRecording bytes frames
+StandingTells (Failed fault) reader bytes frames = FailsIn bytes frames fault
+
+-- The reader stands for a history: it took these bytes, and gave these frames, in order.
+abbrev pub StandsFor : ReaderState → List ℕ → List FrameParts → Type 0
+StandsFor reader bytes frames = StandingTells reader.standing reader bytes frames
+
+-- what the reader is after an answer
+abbrev pub standing_after : Result Bool PcapFault → Standing
+standing_after (Ok true) = Open
+standing_after (Ok false) = Over
+standing_after (Err fault) = Failed fault
+
+-- the frames with the one that was given
+abbrev pub with_answer : List FrameParts → Result Bool PcapFault → FrameParts → List FrameParts
+with_answer frames (Ok true) frame = frames ++ frame ∷ []
+with_answer frames (Ok false) frame = frames
+with_answer frames (Err fault) frame = frames
+
+-- bytes were taken, and with them the reader stands for the history that the answer adds to
+pub record Continues (new : ReaderState) (before after : Option (List ℕ)) (result : Result Bool PcapFault) (frame : FrameParts) (bytes : List ℕ) (frames : List FrameParts) : Type 0 where
+  pub taken : List ℕ
+  pub consumed : Consumes before after taken
+  pub stands : StandsFor new (bytes ++ taken) (with_answer frames result frame)
+
+-- the answer of a reader that goes on no more
+abbrev pub KeepsAnswer : Standing → Result Bool PcapFault → Type 0
+KeepsAnswer Open result = Unit {0}
+KeepsAnswer Over result = result ≡ Ok false
+KeepsAnswer (Failed fault) result = result ≡ Err fault
+
+-- bytes were taken in which a header was looked for, and some more were read ahead
+pub record FailsToBegin (before after : Option (List ℕ)) (fault : PcapFault) : Type 0 where
+  pub taken : List ℕ
+  pub ahead : List ℕ
+  pub consumed : Consumes before after (taken ++ ahead)
+  pub tells : FailsIn taken [] fault

@@ -1,0 +1,116 @@
+ghost use Rattle.std.specs.Prelude.{◌≡◌, ◌≢◌, ◌+◌, ◌<◌, ◌≤◌, ◌⊎◌, ◌^◌, ◌++◌, ℕ, List, [], length, true, false, Ok, Err, IfOk, IfErr, OnOk};
+ghost use Rattle.std.specs.Io.KnownBytes.{prepend_known, Consumes, IsAtEnd};
+ghost use Rattle.tftp_pcap.specs.Frames.{FrameParts};
+ghost use Rattle.tftp_pcap.specs.History.{Continues, FailsToBegin, KeepsAnswer, StandsFor, standing_after};
+
+use crate::fault::{FaultKind, PcapFault};
+use crate::frame::Frame;
+use crate::standing::Standing;
+use crate::step::Pieces;
+use std::alloc::Global;
+use std::io::Read;
+use std::marker::Model;
+use tftp_capture::Tallied;
+
+/// A reader of a recording's frames, classic or of blocks: it holds at most 16,384 bytes read ahead and the interfaces of a
+/// section.
+#[derive(Drop)]
+pub struct FrameReader {
+    pieces: Pieces,
+    count: u64,
+    standing: Standing,
+}
+
+impl Model for FrameReader {
+    ghost use Rattle.std.specs.Prelude.{◌≤◌, ◌^◌};
+    ghost use Rattle.tftp_pcap.specs.History.{ReaderState};
+
+    ghost Value = { ReaderState };
+
+    ghost view = { λ r. record { pieces = r.pieces; count = r.count; standing = r.standing } };
+
+    ghost invariant = { λ r. (r.count ≤ r.pieces.count) × (r.pieces.count ≤ 2 ^ 40) };
+}
+
+impl FrameReader {
+    /// Reads the header of a classic recording, or the first section header.
+    pub fn begin<R: Read>(alloc: Global, reader: &mut Tallied<R>) -> Result<Self, PcapFault>
+        ensures ok { IfOk result (λ begun. (taken : List ℕ) × Consumes (R.remaining reader.old.0) (prepend_known begun.pieces.ahead (R.remaining reader.new.0)) taken × StandsFor begun taken []) }
+        ensures open { IfOk result (λ begun. begun.standing ≡ Standing.Open) }
+        ensures err { IfErr result (λ fault. FailsToBegin (R.remaining reader.old.0) (R.remaining reader.new.0) fault) }
+        ensures cut { IfErr result (λ fault. fault.kind ≡ FaultKind.Truncated → IsAtEnd (R.remaining reader.new.0)) }
+        ensures read { IfErr result (λ fault. fault.kind ≡ FaultKind.Read → reader.new.1 ≡ true) }
+        ensures tally { IfErr result (λ fault. (fault.kind ≡ FaultKind.Read → ⊥) → reader.new.1 ≡ reader.old.1) }
+        ensures clean { OnOk result (reader.new.1 ≡ reader.old.1) }
+    {
+        let mut pieces = Pieces::new(alloc);
+        let mut piece = Vec::new(alloc);
+        match pieces.step(reader, &mut piece) {
+            Ok(Some(_)) => Ok(FrameReader {
+                pieces,
+                count: 0,
+                standing: Standing::Open,
+            }),
+            Ok(None) => Err(PcapFault {
+                kind: FaultKind::NotARecording,
+                frame: 1,
+            }),
+            Err(kind) => Err(PcapFault { kind, frame: 1 }),
+        }
+    }
+
+    /// Reads the next frame into what the caller holds, in its memory; false, for good, once the recording has ended
+    /// without a fault. A fault is answered for good. Where no frame was read, nothing is said of what the caller holds.
+    pub fn next_into<R: Read>(
+        &mut self,
+        reader: &mut Tallied<R>,
+        frame: &mut Frame,
+    ) -> Result<bool, PcapFault>
+        ensures continues { (bytes : List ℕ) (frames : List FrameParts) → StandsFor self.old bytes frames
+            → Continues self.new (prepend_known self.old.pieces.ahead (R.remaining reader.old.0)) (prepend_known self.new.pieces.ahead (R.remaining reader.new.0)) result frame.new.parts bytes frames }
+        ensures standing { self.new.standing ≡ standing_after result }
+        ensures kept { KeepsAnswer self.old.standing result }
+        ensures untouched { self.old.standing ≢ Standing.Open → (self.new ≡ self.old) × (reader.new ≡ reader.old) }
+        ensures end { self.old.standing ≡ Standing.Open → result ≡ Ok false → IsAtEnd (prepend_known self.new.pieces.ahead (R.remaining reader.new.0)) }
+        ensures cut { self.old.standing ≡ Standing.Open → IfErr result (λ fault. fault.kind ≡ FaultKind.Truncated → IsAtEnd (prepend_known self.new.pieces.ahead (R.remaining reader.new.0))) }
+        ensures read { self.old.standing ≡ Standing.Open → IfErr result (λ fault. fault.kind ≡ FaultKind.Read → reader.new.1 ≡ true) }
+        ensures tally { IfErr result (λ fault. fault.kind ≢ FaultKind.Read → reader.new.1 ≡ reader.old.1) }
+        ensures clean { OnOk result (reader.new.1 ≡ reader.old.1) }
+        ensures number { result ≡ Ok true → frame.new.number ≡ self.old.count + 1 }
+        ensures counts { result ≡ Ok true → self.new.count ≡ self.old.count + 1 }
+        ensures stays { result ≢ Ok true → self.new.count ≡ self.old.count }
+    {
+        match self.standing {
+            Standing::Open => {}
+            Standing::Over => return Ok(false),
+            Standing::Failed(fault) => return Err(fault),
+        }
+        let number = self.count + 1;
+        match frame.fill(&mut self.pieces, reader, number) {
+            Ok(true) => {
+                self.count = number;
+                Ok(true)
+            }
+            Ok(false) => {
+                self.standing = Standing::Over;
+                Ok(false)
+            }
+            Err(kind) => {
+                let fault = PcapFault {
+                    kind,
+                    frame: number,
+                };
+                self.standing = Standing::Failed(fault);
+                Err(fault)
+            }
+        }
+    }
+
+    /// How many frames were read.
+    #[inline]
+    pub fn count(&self) -> u64
+        ensures { result ≡ self.now.count }
+    {
+        self.count
+    }
+}

@@ -1,0 +1,117 @@
+ghost use Rattle.std.specs.Prelude.{◌≡◌, ◌≢◌, ◌+◌, ◌<◌, ◌≤◌, ◌⊎◌, ◌^◌, ℕ, List, [], length, vec_len, vec_capacity, true, false, None, Some, Ok, Err, IfOk, IfSome};
+ghost use Rattle.std.specs.Io.KnownBytes.{prepend_known, Consumes, IsAtEnd};
+ghost use Rattle.tftp_pcap.specs.declared.layout.Interface.{Interface};
+ghost use Rattle.tftp_pcap.specs.declared.found.Found.{Found};
+ghost use Rattle.tftp_pcap.specs.Pieces.{LiesWithin, next_mode, said_of, start};
+ghost use Rattle.tftp_pcap.specs.Stops.{StepEnds};
+
+use crate::fault::FaultKind;
+use crate::found::Found;
+use crate::layout::{Interface, Layout};
+use crate::pieces::said_by;
+use crate::read::read_piece;
+use std::alloc::Global;
+use std::io::Read;
+use std::marker::Model;
+use tftp_capture::{Ahead, Tallied};
+
+/// The most records and blocks of a recording.
+const MOST_PIECES: u64 = 1 << 40;
+
+/// The pieces of a recording, one after another: at most 16,384 bytes are read ahead.
+#[derive(Drop)]
+pub struct Pieces {
+    ahead: Ahead,
+    layout: Layout,
+    interfaces: Vec<Interface>,
+    count: u64,
+}
+
+impl Model for Pieces {
+    ghost use Rattle.std.specs.Prelude.{◌≤◌, ◌^◌, vec_capacity};
+    ghost use Rattle.tftp_pcap.specs.Stops.{PiecesState};
+
+    ghost Value = { PiecesState };
+
+    ghost view = { λ p. record { ahead = p.ahead; mode = record { layout = p.layout; interfaces = p.interfaces.items }; count = p.count; room = vec_capacity p.interfaces } };
+
+    ghost invariant = { λ p. p.count ≤ 2 ^ 40 };
+}
+
+impl Pieces {
+    /// Nothing was read yet.
+    pub fn new(alloc: Global) -> Self
+        ensures ahead { result.ahead ≡ [] }
+        ensures mode { result.mode ≡ start }
+        ensures count { result.count ≡ 0 }
+    {
+        Pieces {
+            ahead: Ahead::new(),
+            layout: Layout::Unopened,
+            interfaces: Vec::new(alloc),
+            count: 0,
+        }
+    }
+
+    /// Takes what a piece says; false where there is no memory for a further interface.
+    fn take(&mut self, found: Found) -> bool
+        requires { self.old.count < 2 ^ 40 }
+        ensures taken { result ≡ true → (piece : List ℕ) → self.new.mode ≡ next_mode self.old.mode (said_of found piece) }
+        ensures count { result ≡ true → self.new.count ≡ self.old.count + 1 }
+        ensures ahead { self.new.ahead ≡ self.old.ahead }
+        ensures full { result ≡ false → self.old.room ≤ length self.old.mode.interfaces }
+        ensures stays { self.old.count ≤ self.new.count }
+        ensures few { self.new.count ≤ 2 ^ 40 }
+        ensures named { result ≡ false → (interface : Interface) × (found ≡ Found.Names interface) }
+    {
+        match found {
+            Found::Opens(layout) => {
+                self.layout = layout;
+                self.interfaces.clear();
+            }
+            Found::Names(interface) => {
+                if self.interfaces.push(interface).is_err() {
+                    return false;
+                }
+            }
+            Found::Gives(_) | Found::Skips => {}
+        }
+        self.count += 1;
+        true
+    }
+
+    /// Reads one piece more, and says what it says; none where the recording ends before it.
+    pub fn step<R: Read>(
+        &mut self,
+        reader: &mut Tallied<R>,
+        piece: &mut Vec<u8>,
+    ) -> Result<Option<Found>, FaultKind>
+        ensures ends { (taken : List ℕ) × Consumes (prepend_known self.old.ahead (R.remaining reader.old.0)) (prepend_known self.new.ahead (R.remaining reader.new.0)) taken
+            × StepEnds self.old self.new result piece.new.items taken }
+        ensures within { IfOk result (λ answer. IfSome answer (λ found. LiesWithin found piece.new.items)) }
+        ensures end { (result ≡ Ok None) ⊎ (result ≡ Err FaultKind.Truncated) → IsAtEnd (prepend_known self.new.ahead (R.remaining reader.new.0)) }
+        ensures read { result ≡ Err FaultKind.Read → reader.new.1 ≡ true }
+        ensures drained { result ≡ Err FaultKind.Read → self.new.ahead ≡ [] }
+        ensures tally { result ≢ Err FaultKind.Read → reader.new.1 ≡ reader.old.1 }
+        ensures short { result ≡ Err FaultKind.NotARecording → IsAtEnd (prepend_known self.new.ahead (R.remaining reader.new.0)) ⊎ (12 ≤ length piece.new.items) }
+        ensures stays { self.old.count ≤ self.new.count }
+        ensures few { self.new.count ≤ 2 ^ 40 }
+        ensures memory { result ≡ Err FaultKind.Memory → (vec_capacity piece.old < 2 ^ 24) ⊎ (self.old.room ≤ length self.old.mode.interfaces) }
+    {
+        if self.count == MOST_PIECES {
+            return Err(FaultKind::TooMany);
+        }
+        match read_piece(self.layout, &mut self.ahead, reader, piece) {
+            Ok(true) => {}
+            Ok(false) => return Ok(None),
+            Err(kind) => return Err(kind),
+        }
+        let Some(found) = said_by(self.layout, &self.interfaces, piece) else {
+            return Err(FaultKind::Bad);
+        };
+        if !self.take(found) {
+            return Err(FaultKind::Memory);
+        }
+        Ok(Some(found))
+    }
+}
