@@ -1,11 +1,11 @@
 -- What one pass keeps of the datagrams before: of each client's line, and of each endpoint that served.
-use Rattle.std.specs.Prelude.{◌≡◌, ℕ, ◌+◌, ◌==◌, ◌&&◌, ◌||◌, Bool, true, List, [], ◌∷◌, length, Option, Some, None, option_map, if◌then◌else◌}
+use Rattle.std.specs.Prelude.{◌≡◌, ℕ, ◌+◌, ◌==◌, ◌&&◌, ◌||◌, Bool, true, false, List, [], ◌∷◌, length, Option, Some, None, option_map, if◌then◌else◌}
 use Rattle.std.specs.List.{list_any}
 use Rattle.std.specs.Str.{bytes_eq}
 use Rattle.std.specs.BTreeMap.{get}
 use Rattle.tftp_transfers.specs.declared.endpoint.Endpoint.{Endpoint}
 use Rattle.tftp_transfers.specs.declared.place.Place.{Place}
-use Rattle.tftp_transfers.specs.declared.place.Place.TheVariants.{Opens, Repeats}
+use Rattle.tftp_transfers.specs.declared.place.Place.TheVariants.{Opens, Repeats, Talks, Apart}
 use Rattle.tftp_transfers.specs.declared.place.Transfer.{Transfer}
 use Rattle.tftp_transfers.specs.declared.kind.Kind.{Kind}
 use Rattle.tftp_transfers.specs.declared.kind.Seen.{Seen}
@@ -43,3 +43,30 @@ pub record IsLineOf (l : Line) (line : List Placed) : Type 0 where
   pub moment : clock line ≡ l.moment
   pub asked : (number : ℕ) (d : Recorded) → d.source ≡ l.latest.client → place_asked number d line ≡ asked_by l number d
   pub talks : (o : Endpoint) → get endpoint_cmp l.talks o ≡ talk_in l.latest.client o line
+
+-- ---- one datagram more, which is no request
+
+abbrev pub place_of_talk : Endpoint → Option Transfer → Place
+place_of_talk c None = Apart c
+place_of_talk c (Some x) = Talks x
+
+-- it comes to the client, in this transfer
+abbrev pub comes_to : Transfer → Option Transfer → Seen → Bool
+comes_to x None s = false
+comes_to x (Some y) s = (y.number == x.number) && same_endpoint s.target x.client
+
+abbrev pub acked_in : Option Talk → Bool
+acked_in None = false
+acked_in (Some talk) = talk.acked_0
+
+-- the talk after it
+abbrev pub talk_after : Endpoint → Endpoint → Option Transfer → Seen → Option Talk → Talk
+talk_after c o talked s old = record {
+  transfer = talked;
+  acked_0 = if same_endpoint s.source c && same_endpoint s.target o then s.kind.is_ack_0 else acked_in old;
+}
+
+-- the line ends in a request, if it did and what comes is apart
+abbrev pub ends_after : Option Transfer → Bool → Bool
+ends_after None ended = ended
+ends_after (Some x) ended = false

@@ -121,14 +121,14 @@ place_asked number d line = by (newest_of (λ p. not (is_apart p)) line) where
   opened : Place
   opened = Opens (record { number = number; client = d.source; asked = d.target })
 
-  again : Bool → Place → Place
-  again true (Opens x) = Repeats x
-  again true (Repeats x) = Repeats x
-  again _ _ = opened
+  after : Place → Bool → Place
+  after (Opens x) again = if again then Repeats x else opened
+  after (Repeats x) again = if again then Repeats x else opened
+  after _ again = opened
 
   by : Option Placed → Place
   by None = opened
-  by (Some p) = again (is_again p.datagram d) p.place
+  by (Some p) = after p.place (is_again p.datagram d)
 
 -- ---- what passes between a client and another endpoint, and is no request
 

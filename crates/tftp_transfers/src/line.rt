@@ -1,10 +1,11 @@
 //! A client's line: what passed at its endpoint since it was last silent.
 
-ghost use Rattle.std.specs.Prelude.{◌≡◌, ◌≤◌, ◌+◌, ℕ, List, true, false, nat_le, Some, None, Ok, OnOk, OnErr, option_map, ◌&&◌, ◌||◌, not, if◌then◌else◌};
+ghost use Rattle.std.specs.Prelude.{◌≡◌, ◌≤◌, ◌+◌, ◌∷◌, ℕ, List, true, false, nat_le, Some, None, Ok, OnOk, OnErr, option_map, ◌&&◌, ◌||◌, not, if◌then◌else◌};
 ghost use Rattle.std.specs.BTreeMap.{get};
-ghost use Rattle.tftp_transfers.specs.Recording.{Recorded, same_endpoint, same_address, endpoint_cmp};
+ghost use Rattle.tftp_transfers.specs.Recording.{Recorded, same_endpoint, is_between, endpoint_cmp};
 ghost use Rattle.tftp_transfers.specs.Places.{Placed, live, place_at, place_talked, place_asked, is_known_host, may_answer, silence};
-ghost use Rattle.tftp_transfers.specs.Kept.{IsLineOf, seen_of, asked_by};
+ghost use Rattle.tftp_transfers.specs.Kept.{IsLineOf, seen_of, place_of_talk, comes_to, talk_after, acked_in, ends_after};
+ghost use Rattle.tftp_ends.specs.Ports.{or_this};
 
 use crate::endpoint::Endpoint;
 use crate::kind::Seen;
@@ -135,5 +136,75 @@ impl Line {
     {
         let comes = seen.source == other && seen.target == self.latest.client;
         self.answered.is_none() && comes && seen.kind.is_answer && !(seen.kind.is_data_1 && acked_0)
+    }
+
+    /// Notes what passed last between its client and this endpoint: of a transfer, or apart.
+    pub fn note(
+        &mut self,
+        other: Endpoint,
+        talked: Option<Transfer>,
+        seen: &Seen,
+        now: u64,
+    ) -> Result<(), AllocError>
+        ensures stands { (line : List Placed) (d : Recorded) → IsLineOf self.old line → seen.now ≡ seen_of d
+            → is_between self.old.latest.client other d ≡ true
+            → OnOk result (IsLineOf self.new (record { datagram = d; moment = now; place = place_of_talk self.old.latest.client talked } ∷ line)) }
+        ensures client { self.new.latest ≡ self.old.latest }
+    {
+        let talk = self.talk_after(other, talked, seen);
+        self.talks.insert(other, talk)?;
+        self.answered = self.answered_after(talked, seen);
+        self.ends_in_request = ends_after(&talked, self.ends_in_request);
+        self.moment = now;
+        Ok(())
+    }
+
+    /// The talk with this endpoint, after one datagram more.
+    fn talk_after(&self, other: Endpoint, talked: Option<Transfer>, seen: &Seen) -> Talk
+        ensures { result ≡ talk_after self.now.latest.client other talked seen.now (get endpoint_cmp self.now.talks other) }
+    {
+        let is_sent = seen.source == self.latest.client && seen.target == other;
+        let acked_0 = if is_sent {
+            seen.kind.is_ack_0
+        } else {
+            was_acked_0(self.talk_with(other))
+        };
+        Talk {
+            transfer: talked,
+            acked_0,
+        }
+    }
+
+    /// Who first sent the client a datagram of the latest transfer, after one datagram more.
+    fn answered_after(&self, talked: Option<Transfer>, seen: &Seen) -> Option<Endpoint>
+        ensures { result ≡ or_this self.now.answered (comes_to self.now.latest talked seen.now) seen.now.source }
+    {
+        match (&self.answered, &talked) {
+            (Some(first), _) => Some(*first),
+            (None, Some(transfer))
+                if transfer.number == self.latest.number && seen.target == self.latest.client => {
+                Some(seen.source)
+            }
+            (None, _) => None,
+        }
+    }
+}
+
+fn was_acked_0(talk: Option<Talk>) -> bool
+    ensures { result ≡ acked_in talk }
+{
+    match talk {
+        None => false,
+        Some(talk) => talk.acked_0,
+    }
+}
+
+/// Whether a line ends in a request, after one datagram more that is none.
+fn ends_after(talked: &Option<Transfer>, ended: bool) -> bool
+    ensures { result ≡ ends_after talked.now ended }
+{
+    match talked {
+        None => ended,
+        Some(_) => false,
     }
 }
