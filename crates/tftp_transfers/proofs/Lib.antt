@@ -1,2 +1,3 @@
 pub mod Endpoints
 pub mod Lines
+pub mod Requests

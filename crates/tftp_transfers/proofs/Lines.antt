@@ -164,10 +164,10 @@ asked_more : (old new : Line) (line : List Placed) (c : Endpoint) (talked : Opti
     → new.latest ≡ old.latest → new.request.items ≡ old.request.items → new.ends_in_request ≡ ends_after talked old.ends_in_request
     → place_asked number e (talk_placed c d now talked ∷ line) ≡ asked_by new number e
 asked_more old new line c None d e now number before latest request ends = before ∙ sym (λ i.
-    if ends i && bytes_eq (request i) e.payload && same_endpoint e.target (latest i).asked then Repeats (latest i)
+    if ends i && bytes_eq (request i) e.payload && same_endpoint (latest i).asked e.target then Repeats (latest i)
     else Opens (record { number = number; client = e.source; asked = e.target }))
 asked_more old new line c (Some x) d e now number before latest request ends = opened_anew x number d e line now c ∙ sym (λ i.
-    if ends i && bytes_eq (request i) e.payload && same_endpoint e.target (latest i).asked then Repeats (latest i)
+    if ends i && bytes_eq (request i) e.payload && same_endpoint (latest i).asked e.target then Repeats (latest i)
     else Opens (record { number = number; client = e.source; asked = e.target }))
 
 -- what the line keeps after it

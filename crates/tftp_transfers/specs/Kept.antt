@@ -33,7 +33,7 @@ seen_of d = record { source = d.source; target = d.target; kind = kind_of d.payl
 -- where a request goes, by what the line keeps
 abbrev pub asked_by : Line → ℕ → Recorded → Place
 asked_by l number d =
-    if l.ends_in_request && bytes_eq l.request.items d.payload && same_endpoint d.target l.latest.asked then Repeats l.latest
+    if l.ends_in_request && bytes_eq l.request.items d.payload && same_endpoint l.latest.asked d.target then Repeats l.latest
     else Opens (record { number = number; client = d.source; asked = d.target })
 
 -- It stands for these datagrams of a client's line.
@@ -70,3 +70,9 @@ talk_after c o talked s old = record {
 abbrev pub ends_after : Option Transfer → Bool → Bool
 ends_after None ended = ended
 ends_after (Some x) ended = false
+
+-- the datagram is this transfer's request, with this payload
+pub record IsRequestOf (x : Transfer) (payload : List ℕ) (d : Recorded) : Type 0 where
+  pub source : d.source ≡ x.client
+  pub target : d.target ≡ x.asked
+  pub same : d.payload ≡ payload
