@@ -1,3 +1,4 @@
 pub mod Endpoints
 pub mod Lines
 pub mod Requests
+pub mod Silences

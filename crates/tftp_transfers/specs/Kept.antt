@@ -1,18 +1,20 @@
 -- What one pass keeps of the datagrams before: of each client's line, and of each endpoint that served.
-use Rattle.std.specs.Prelude.{◌≡◌, ℕ, ◌+◌, ◌==◌, ◌&&◌, ◌||◌, Bool, true, false, List, [], ◌∷◌, length, Option, Some, None, option_map, if◌then◌else◌}
-use Rattle.std.specs.List.{list_any}
+use Rattle.std.specs.Prelude.{◌≡◌, ℕ, ◌==◌, ◌&&◌, Bool, false, List, [], length, Option, Some, None, if◌then◌else◌}
 use Rattle.std.specs.Str.{bytes_eq}
 use Rattle.std.specs.BTreeMap.{get}
+use Rattle.std.specs.List.{list_any}
+use Rattle.std.specs.Ordering.{nat_cmp, is_eq}
 use Rattle.tftp_transfers.specs.declared.endpoint.Endpoint.{Endpoint}
 use Rattle.tftp_transfers.specs.declared.place.Place.{Place}
 use Rattle.tftp_transfers.specs.declared.place.Place.TheVariants.{Opens, Repeats, Talks, Apart}
 use Rattle.tftp_transfers.specs.declared.place.Transfer.{Transfer}
 use Rattle.tftp_transfers.specs.declared.kind.Kind.{Kind}
 use Rattle.tftp_transfers.specs.declared.kind.Seen.{Seen}
+use Rattle.tftp_transfers.specs.declared.attribution.Attribution.{Attribution}
 use Rattle.tftp_transfers.specs.declared.line.Line.{Line}
 use Rattle.tftp_transfers.specs.declared.line.Talk.{Talk}
 use Rattle.tftp_transfers.specs.Recording.{Recorded, same_endpoint, endpoint_cmp, begins_request, begins_error, is_ack_0, is_data_1, is_answer}
-use Rattle.tftp_transfers.specs.Places.{Placed, transfer_of, clock, live, line, latest_in, answered_in, talk_in, place_asked}
+use Rattle.tftp_transfers.specs.Places.{Placed, clock, live, line, latest_in, answered_in, talk_in, place_asked, is_service, last_served}
 
 -- what is looked at of a payload
 abbrev pub kind_of : List ℕ → Kind
@@ -76,3 +78,18 @@ pub record IsRequestOf (x : Transfer) (payload : List ℕ) (d : Recorded) : Type
   pub source : d.source ≡ x.client
   pub target : d.target ≡ x.asked
   pub same : d.payload ≡ payload
+
+-- ---- all lines
+
+-- What is kept of a client's line stands for it. None is kept only where it has been silent.
+abbrev pub IsLineKept : Endpoint → List Placed → Option Line → Type 0
+IsLineKept c older None = live (clock older) (line c older) ≡ []
+IsLineKept c older (Some l) = (l.latest.client ≡ c) × IsLineOf l (line c older)
+
+-- It stands for these datagrams of a recording; the ports were named.
+pub record IsAfter (a : Attribution) (named : List ℕ) (older : List Placed) : Type 0 where
+  pub count : a.count ≡ length older
+  pub clock : a.clock ≡ clock older
+  pub services : (port : ℕ) → is_service named older port ≡ list_any (λ n. is_eq (nat_cmp port n)) a.services.keys
+  pub lines : (c : Endpoint) → IsLineKept c older (get endpoint_cmp a.lines c)
+  pub served : (o : Endpoint) → get endpoint_cmp a.served o ≡ last_served o older

@@ -1,6 +1,6 @@
 //! A client's line: what passed at its endpoint since it was last silent.
 
-ghost use Rattle.std.specs.Prelude.{◌≡◌, ◌≤◌, ◌+◌, [], ◌∷◌, ℕ, List, true, false, nat_le, Some, None, Ok, IfOk, OnOk, OnErr, bytes_eq, ◌&&◌, not, if◌then◌else◌};
+ghost use Rattle.std.specs.Prelude.{◌≡◌, ◌≤◌, ◌+◌, [], ◌∷◌, ℕ, List, true, false, nat_le, Some, None, Ok, IfOk, OnOk, OnErr, is_some, bytes_eq, ◌&&◌, not, if◌then◌else◌};
 ghost use Rattle.std.specs.BTreeMap.{get};
 ghost use Rattle.tftp_transfers.specs.Recording.{Recorded, same_endpoint, is_between, endpoint_cmp};
 ghost use Rattle.tftp_transfers.specs.Places.{Placed, live, place_at, place_talked, place_asked, is_known_host, may_answer, silence};
@@ -88,6 +88,13 @@ impl Line {
         ensures { result ≡ get endpoint_cmp self.now.talks other }
     {
         self.talks.get(&other).copied()
+    }
+
+    /// Whether its client talks with this endpoint.
+    pub fn talks_with(&self, other: &Endpoint) -> bool
+        ensures { result ≡ is_some (get endpoint_cmp self.now.talks other.now) }
+    {
+        self.talks.contains_key(other)
     }
 
     fn place_talked(&self, other: Endpoint, talk: Option<Talk>, seen: &Seen) -> Place
