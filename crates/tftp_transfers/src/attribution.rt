@@ -65,13 +65,7 @@ impl Attribution {
             (λ l. (l.now.latest.client ≡ client.now) × IsLineOf l.now (live now (line client.now older))) }
     {
         match self.lines.get(client) {
-            Some(line) => {
-                if line.is_live(now) {
-                    Some(line)
-                } else {
-                    None
-                }
-            }
+            Some(line) => { if line.is_live(now) { Some(line) } else { None } }
             None => None,
         }
     }
