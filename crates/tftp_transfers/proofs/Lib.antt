@@ -2,3 +2,4 @@ pub mod Endpoints
 pub mod Lines
 pub mod Requests
 pub mod Silences
+pub mod AllLines

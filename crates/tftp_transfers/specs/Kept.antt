@@ -1,7 +1,7 @@
 -- What one pass keeps of the datagrams before: of each client's line, and of each endpoint that served.
 use Rattle.std.specs.Prelude.{◌≡◌, ℕ, ◌==◌, ◌&&◌, Bool, false, List, [], length, Option, Some, None, if◌then◌else◌}
 use Rattle.std.specs.Str.{bytes_eq}
-use Rattle.std.specs.BTreeMap.{get}
+use Rattle.std.specs.BTreeMap.{get, BTreeMap}
 use Rattle.std.specs.List.{list_any}
 use Rattle.std.specs.Ordering.{nat_cmp, is_eq}
 use Rattle.tftp_transfers.specs.declared.endpoint.Endpoint.{Endpoint}
@@ -86,10 +86,18 @@ abbrev pub IsLineKept : Endpoint → List Placed → Option Line → Type 0
 IsLineKept c older None = live (clock older) (line c older) ≡ []
 IsLineKept c older (Some l) = (l.latest.client ≡ c) × IsLineOf l (line c older)
 
+-- what is kept of all clients' lines
+abbrev pub AreLinesOf : BTreeMap Endpoint Line → List Placed → Type 0
+AreLinesOf lines older = (c : Endpoint) → IsLineKept c older (get endpoint_cmp lines c)
+
 -- It stands for these datagrams of a recording; the ports were named.
 pub record IsAfter (a : Attribution) (named : List ℕ) (older : List Placed) : Type 0 where
   pub count : a.count ≡ length older
   pub clock : a.clock ≡ clock older
   pub services : (port : ℕ) → is_service named older port ≡ list_any (λ n. is_eq (nat_cmp port n)) a.services.keys
-  pub lines : (c : Endpoint) → IsLineKept c older (get endpoint_cmp a.lines c)
+  pub lines : AreLinesOf a.lines older
   pub served : (o : Endpoint) → get endpoint_cmp a.served o ≡ last_served o older
+
+-- the end of the datagram that is not this client's
+abbrev pub other_end : Endpoint → Seen → Endpoint
+other_end c s = if same_endpoint s.source c then s.target else s.source
