@@ -19,10 +19,10 @@ pub on_ok_map : {X E P Q : Type 0} (r : Result X E) → (P → Q) → OnOk r P �
 on_ok_map (Ok x) f is = f is
 on_ok_map (Err e) f is = tt
 
-line_elsewhere : (c : Endpoint) (p : Placed) (older : List Placed) → is_at c p ≡ false → line c (p ∷ older) ≡ line c older
+pub line_elsewhere : (c : Endpoint) (p : Placed) (older : List Placed) → is_at c p ≡ false → line c (p ∷ older) ≡ line c older
 line_elsewhere c p older off = rw off refl
 
-line_here : (c : Endpoint) (p : Placed) (older : List Placed) → is_at c p ≡ true → line c (p ∷ older) ≡ p ∷ live p.moment (line c older)
+pub line_here : (c : Endpoint) (p : Placed) (older : List Placed) → is_at c p ≡ true → line c (p ∷ older) ≡ p ∷ live p.moment (line c older)
 line_here c p older is = rw is refl
 
 kept_later : (c : Endpoint) (p : Placed) (older : List Placed) (o : Option Line) → is_at c p ≡ false → clock older ≤ p.moment → IsLineKept c older o → IsLineKept c (p ∷ older) o
@@ -54,3 +54,7 @@ at_talk k (Some x) d now clients c = ap (λ e. same_endpoint e c) (clients x ref
 -- a request repeats only where the line has one
 pub repeats_live : (number : ℕ) (d : Recorded) (x : Transfer) (ps : List Placed) → place_asked number d ps ≡ Repeats x → ps ≢ []
 repeats_live number d x ps is none = let both : Opens (record { number = number; client = d.source; asked = d.target }) ≡ Repeats x = sym (ap (place_asked number d) none) ∙ is in absurd (cc)
+
+pub on_ok_both : {X E P Q R : Type 0} (r : Result X E) → (P → Q → R) → OnOk r P → OnOk r Q → OnOk r R
+on_ok_both (Ok x) f one other = f one other
+on_ok_both (Err e) f one other = tt

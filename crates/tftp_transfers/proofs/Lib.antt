@@ -3,3 +3,4 @@ pub mod Lines
 pub mod Requests
 pub mod Silences
 pub mod AllLines
+pub mod Ends

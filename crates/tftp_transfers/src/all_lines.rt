@@ -47,3 +47,38 @@ pub(crate) fn repeat(lines: &mut Lines, client: Endpoint, now: u64)
         None => {}
     }
 }
+
+/// Notes a request that opens this transfer, where its client's line has not been silent.
+pub(crate) fn reopen(
+    lines: &mut Lines,
+    alloc: Global,
+    transfer: Transfer,
+    payload: &[u8],
+    now: u64,
+) -> Result<(), AllocError>
+    ensures { (older : List Placed) (d : Recorded) → AreLinesOf lines.old older → clock older ≤ now → IsRequestOf transfer payload.now d
+        → live now (line transfer.client older) ≢ []
+        → OnOk result (AreLinesOf lines.new (record { datagram = d; moment = now; place = Place.Opens transfer } ∷ older)) }
+{
+    match lines.get_mut(&transfer.client) {
+        Some(line) => line.open(alloc, transfer, payload, now),
+        None => Ok(()),
+    }
+}
+
+/// The same, where it has.
+pub(crate) fn begin(
+    lines: &mut Lines,
+    alloc: Global,
+    transfer: Transfer,
+    payload: &[u8],
+    now: u64,
+) -> Result<(), AllocError>
+    ensures { (older : List Placed) (d : Recorded) → AreLinesOf lines.old older → clock older ≤ now → IsRequestOf transfer payload.now d
+        → live now (line transfer.client older) ≡ []
+        → OnOk result (AreLinesOf lines.new (record { datagram = d; moment = now; place = Place.Opens transfer } ∷ older)) }
+{
+    let line = Line::begun(alloc, transfer, payload, now)?;
+    lines.insert(transfer.client, line)?;
+    Ok(())
+}
