@@ -92,6 +92,7 @@ AreLinesOf lines older = (c : Endpoint) → IsLineKept c older (get endpoint_cmp
 
 -- It stands for these datagrams of a recording; the ports were named.
 pub record IsAfter (a : Attribution) (named : List ℕ) (older : List Placed) : Type 0 where
+  pub failed : a.failed ≡ false
   pub count : a.count ≡ length older
   pub clock : a.clock ≡ clock older
   pub services : (port : ℕ) → is_service named older port ≡ list_any (λ n. is_eq (nat_cmp port n)) a.services.keys

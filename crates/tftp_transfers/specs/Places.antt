@@ -116,20 +116,20 @@ asks named older now d =
     && (is_service named older d.target.port
     || (d.is_spelled && not (is_some (talk_in d.source d.target (live now (line d.source older))))))
 
+abbrev pub opened_by : ℕ → Recorded → Place
+opened_by number d = Opens (record { number = number; client = d.source; asked = d.target })
+
 -- A request repeats the one that stands before it in the line, if that is the same. Any other opens a transfer.
+abbrev pub asked_after : Place → Place → Bool → Place
+asked_after opened (Opens x) again = if again then Repeats x else opened
+asked_after opened (Repeats x) again = if again then Repeats x else opened
+asked_after opened _ again = opened
+
 abbrev pub place_asked : ℕ → Recorded → List Placed → Place
 place_asked number d line = by (newest_of (λ p. not (is_apart p)) line) where
-  opened : Place
-  opened = Opens (record { number = number; client = d.source; asked = d.target })
-
-  after : Place → Bool → Place
-  after (Opens x) again = if again then Repeats x else opened
-  after (Repeats x) again = if again then Repeats x else opened
-  after _ again = opened
-
   by : Option Placed → Place
-  by None = opened
-  by (Some p) = after p.place (is_again p.datagram d)
+  by None = opened_by number d
+  by (Some p) = asked_after (opened_by number d) p.place (is_again p.datagram d)
 
 -- ---- what passes between a client and another endpoint, and is no request
 

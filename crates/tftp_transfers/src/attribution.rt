@@ -49,6 +49,8 @@ pub struct Attribution {
     clock: u64,
     /// How many datagrams have passed.
     count: u64,
+    /// Memory was wanting: it stands for no datagrams any more.
+    failed: bool,
 }
 
 impl Attribution {
