@@ -1,18 +1,20 @@
 -- What one pass keeps of the datagrams before: of each client's line, and of each endpoint that served.
-use Rattle.std.specs.Prelude.{◌≡◌, ℕ, ◌+◌, ◌==◌, ◌&&◌, ◌||◌, Bool, true, List, [], ◌∷◌, length, Option, Some, None, option_map, if◌then◌else◌}
-use Rattle.std.specs.List.{list_any}
+use Rattle.std.specs.Prelude.{◌≡◌, ℕ, ◌==◌, ◌&&◌, Bool, false, List, [], length, Option, Some, None, if◌then◌else◌}
 use Rattle.std.specs.Str.{bytes_eq}
-use Rattle.std.specs.BTreeMap.{get}
+use Rattle.std.specs.BTreeMap.{get, BTreeMap}
+use Rattle.std.specs.List.{list_any}
+use Rattle.std.specs.Ordering.{nat_cmp, is_eq}
 use Rattle.tftp_transfers.specs.declared.endpoint.Endpoint.{Endpoint}
 use Rattle.tftp_transfers.specs.declared.place.Place.{Place}
-use Rattle.tftp_transfers.specs.declared.place.Place.TheVariants.{Opens, Repeats}
+use Rattle.tftp_transfers.specs.declared.place.Place.TheVariants.{Opens, Repeats, Talks, Apart}
 use Rattle.tftp_transfers.specs.declared.place.Transfer.{Transfer}
 use Rattle.tftp_transfers.specs.declared.kind.Kind.{Kind}
 use Rattle.tftp_transfers.specs.declared.kind.Seen.{Seen}
+use Rattle.tftp_transfers.specs.declared.attribution.Attribution.{Attribution}
 use Rattle.tftp_transfers.specs.declared.line.Line.{Line}
 use Rattle.tftp_transfers.specs.declared.line.Talk.{Talk}
 use Rattle.tftp_transfers.specs.Recording.{Recorded, same_endpoint, endpoint_cmp, begins_request, begins_error, is_ack_0, is_data_1, is_answer}
-use Rattle.tftp_transfers.specs.Places.{Placed, transfer_of, clock, live, line, latest_in, answered_in, talk_in, place_asked}
+use Rattle.tftp_transfers.specs.Places.{Placed, clock, live, line, latest_in, answered_in, talk_in, place_asked, is_service, last_served}
 
 -- what is looked at of a payload
 abbrev pub kind_of : List ℕ → Kind
@@ -33,7 +35,7 @@ seen_of d = record { source = d.source; target = d.target; kind = kind_of d.payl
 -- where a request goes, by what the line keeps
 abbrev pub asked_by : Line → ℕ → Recorded → Place
 asked_by l number d =
-    if l.ends_in_request && bytes_eq l.request.items d.payload && same_endpoint d.target l.latest.asked then Repeats l.latest
+    if l.ends_in_request && bytes_eq l.request.items d.payload && same_endpoint l.latest.asked d.target then Repeats l.latest
     else Opens (record { number = number; client = d.source; asked = d.target })
 
 -- It stands for these datagrams of a client's line.
@@ -43,3 +45,60 @@ pub record IsLineOf (l : Line) (line : List Placed) : Type 0 where
   pub moment : clock line ≡ l.moment
   pub asked : (number : ℕ) (d : Recorded) → d.source ≡ l.latest.client → place_asked number d line ≡ asked_by l number d
   pub talks : (o : Endpoint) → get endpoint_cmp l.talks o ≡ talk_in l.latest.client o line
+
+-- ---- one datagram more, which is no request
+
+abbrev pub place_of_talk : Endpoint → Option Transfer → Place
+place_of_talk c None = Apart c
+place_of_talk c (Some x) = Talks x
+
+-- it comes to the client, in this transfer
+abbrev pub comes_to : Transfer → Option Transfer → Seen → Bool
+comes_to x None s = false
+comes_to x (Some y) s = (y.number == x.number) && same_endpoint s.target x.client
+
+abbrev pub acked_in : Option Talk → Bool
+acked_in None = false
+acked_in (Some talk) = talk.acked_0
+
+-- the talk after it
+abbrev pub talk_after : Endpoint → Endpoint → Option Transfer → Seen → Option Talk → Talk
+talk_after c o talked s old = record {
+  transfer = talked;
+  acked_0 = if same_endpoint s.source c && same_endpoint s.target o then s.kind.is_ack_0 else acked_in old;
+}
+
+-- the line ends in a request, if it did and what comes is apart
+abbrev pub ends_after : Option Transfer → Bool → Bool
+ends_after None ended = ended
+ends_after (Some x) ended = false
+
+-- the datagram is this transfer's request, with this payload
+pub record IsRequestOf (x : Transfer) (payload : List ℕ) (d : Recorded) : Type 0 where
+  pub source : d.source ≡ x.client
+  pub target : d.target ≡ x.asked
+  pub same : d.payload ≡ payload
+
+-- ---- all lines
+
+-- What is kept of a client's line stands for it. None is kept only where it has been silent.
+abbrev pub IsLineKept : Endpoint → List Placed → Option Line → Type 0
+IsLineKept c older None = live (clock older) (line c older) ≡ []
+IsLineKept c older (Some l) = (l.latest.client ≡ c) × IsLineOf l (line c older)
+
+-- what is kept of all clients' lines
+abbrev pub AreLinesOf : BTreeMap Endpoint Line → List Placed → Type 0
+AreLinesOf lines older = (c : Endpoint) → IsLineKept c older (get endpoint_cmp lines c)
+
+-- It stands for these datagrams of a recording; the ports were named.
+pub record IsAfter (a : Attribution) (named : List ℕ) (older : List Placed) : Type 0 where
+  pub failed : a.failed ≡ false
+  pub count : a.count ≡ length older
+  pub clock : a.clock ≡ clock older
+  pub services : (port : ℕ) → is_service named older port ≡ list_any (λ n. is_eq (nat_cmp port n)) a.services.keys
+  pub lines : AreLinesOf a.lines older
+  pub served : (o : Endpoint) → get endpoint_cmp a.served o ≡ last_served o older
+
+-- the end of the datagram that is not this client's
+abbrev pub other_end : Endpoint → Seen → Endpoint
+other_end c s = if same_endpoint s.source c then s.target else s.source

@@ -8,6 +8,7 @@ use Rattle.tftp_transfers.specs.declared.place.Place.{Place}
 use Rattle.tftp_transfers.specs.declared.place.Place.TheVariants.{Opens, Repeats, Talks, Apart, Beside, Nowhere}
 use Rattle.tftp_transfers.specs.declared.place.Transfer.{Transfer}
 use Rattle.tftp_transfers.specs.declared.line.Talk.{Talk}
+use Rattle.tftp_transfers.specs.declared.attribution.Served.{Served}
 use Rattle.tftp_transfers.specs.Recording.{Recorded, same_address, same_endpoint, begins_request, is_ack_0, is_data_1, is_answer, goes, is_between, is_again}
 
 -- a datagram, the greatest time up to it, and its place
@@ -115,20 +116,20 @@ asks named older now d =
     && (is_service named older d.target.port
     || (d.is_spelled && not (is_some (talk_in d.source d.target (live now (line d.source older))))))
 
+abbrev pub opened_by : ℕ → Recorded → Place
+opened_by number d = Opens (record { number = number; client = d.source; asked = d.target })
+
 -- A request repeats the one that stands before it in the line, if that is the same. Any other opens a transfer.
+abbrev pub asked_after : Place → Place → Bool → Place
+asked_after opened (Opens x) again = if again then Repeats x else opened
+asked_after opened (Repeats x) again = if again then Repeats x else opened
+asked_after opened _ again = opened
+
 abbrev pub place_asked : ℕ → Recorded → List Placed → Place
 place_asked number d line = by (newest_of (λ p. not (is_apart p)) line) where
-  opened : Place
-  opened = Opens (record { number = number; client = d.source; asked = d.target })
-
-  again : Bool → Place → Place
-  again true (Opens x) = Repeats x
-  again true (Repeats x) = Repeats x
-  again _ _ = opened
-
   by : Option Placed → Place
-  by None = opened
-  by (Some p) = again (is_again p.datagram d) p.place
+  by None = opened_by number d
+  by (Some p) = asked_after (opened_by number d) p.place (is_again p.datagram d)
 
 -- ---- what passes between a client and another endpoint, and is no request
 
@@ -178,11 +179,14 @@ place_at c o line d = by (latest_in line) where
   by (Some x) = place_talked c o x (answered_in x line) d (talk_in c o line)
 
 -- at the client that sent it, or at the one that it was sent to: a transfer comes before what is apart
+abbrev pub or_talks : Place → Place → Place
+or_talks one (Talks x) = Talks x
+or_talks one other = one
+
 abbrev pub either : Place → Place → Place
 either (Talks x) other = Talks x
-either one (Talks y) = Talks y
 either Nowhere other = other
-either one other = one
+either one other = or_talks one other
 
 abbrev pub at_client : List Placed → ℕ → Recorded → Place
 at_client older now d =
@@ -190,43 +194,52 @@ at_client older now d =
 
 -- ---- what passes between a server and another than its client
 
--- it was sent to a client
-abbrev pub was_sent_by : Endpoint → Placed → Bool
-was_sent_by o p = by p.place where
-  by : Place → Bool
-  by (Talks x) = goes o x.client p.datagram
-  by _ = false
+-- it was sent to a client from there, in a transfer
+abbrev pub serves : Endpoint → Placed → Option Served
+serves o p = by p.place where
+  by : Place → Option Served
+  by (Talks x) = if goes o x.client p.datagram then Some (record { transfer = x; moment = p.moment }) else None
+  by _ = None
+
+abbrev pub newer : Option Served → Option Served → Option Served
+newer None older = older
+newer (Some one) older = Some one
+
+-- what was sent last from there
+abbrev pub last_served : Endpoint → List Placed → Option Served
+last_served o [] = None
+last_served o (p ∷ older) = newer (serves o p) (last_served o older)
 
 -- the transfer in which the endpoint last sent to a client, in the last 300 s
 abbrev pub served_by : Endpoint → ℕ → List Placed → Option Transfer
-served_by o now older = by (live now (sent (newest_of (was_sent_by o) older))) where
-  sent : Option Placed → List Placed
-  sent None = []
-  sent (Some p) = p ∷ []
+served_by o now older = by (last_served o older) where
+  by : Option Served → Option Transfer
+  by None = None
+  by (Some served) = if nat_le now (served.moment + silence) then Some served.transfer else None
 
-  by : List Placed → Option Transfer
-  by [] = None
-  by (p ∷ more) = transfer_of p.place
+-- At a service port nobody is told apart.
+abbrev pub served_at : List ℕ → List Placed → ℕ → Endpoint → Option Transfer
+served_at named older now o = if is_service named older o.port then None else served_by o now older
+
+abbrev pub beside_by : Option Transfer → Option Transfer → Place
+beside_by (Some x) other = Beside x
+beside_by None (Some x) = Beside x
+beside_by None None = Nowhere
 
 abbrev pub beside : List ℕ → List Placed → ℕ → Recorded → Place
-beside named older now d = or_else (at d.source) (or_else (at d.target) Nowhere) where
-  at : Endpoint → Option Transfer
-  at o = if is_service named older o.port then None else served_by o now older
-
-  or_else : Option Transfer → Place → Place
-  or_else None other = other
-  or_else (Some x) other = Beside x
+beside named older now d = beside_by (served_at named older now d.source) (served_at named older now d.target)
 
 -- ---- the whole recording
+
+abbrev pub is_nowhere : Place → Bool
+is_nowhere Nowhere = true
+is_nowhere place = false
 
 abbrev pub place_of : List ℕ → List Placed → ℕ → Recorded → Place
 place_of named older now d =
     if asks named older now d then place_asked (length older) d (live now (line d.source older))
-    else otherwise (at_client older now d)
-  where
-    otherwise : Place → Place
-    otherwise Nowhere = beside named older now d
-    otherwise place = place
+    else if is_nowhere (at_client older now d) then beside named older now d
+    else at_client older now d
 
 abbrev pub clock : List Placed → ℕ
 clock [] = 0

@@ -3,7 +3,6 @@ use Rattle.std.specs.Prelude.{ℕ, ◌==◌, ◌&&◌, ◌||◌, Bool, false, Li
 use Rattle.std.specs.List.{starts_with}
 use Rattle.std.specs.Str.{bytes_eq}
 use Rattle.std.specs.declared.cmp.Ordering.{Ordering}
-use Rattle.std.specs.declared.cmp.Ordering.TheVariants.{Less, Greater}
 use Rattle.std.specs.Ordering.{nat_cmp, on, then_cmp}
 use Rattle.std.specs.Cmp.Lexicographic.{slice_cmp}
 use Rattle.tftp_packet.specs.Faults.{opcode_of}
@@ -22,24 +21,23 @@ pub record Recorded : Type 0 where
 
 -- ---- endpoints
 
+abbrev pub version_of : Address → ℕ
+version_of (V4 bytes) = 4
+version_of (V6 bytes) = 6
+
+abbrev pub bytes_of : Address → List ℕ
+bytes_of (V4 bytes) = bytes
+bytes_of (V6 bytes) = bytes
+
 abbrev pub same_address : Address → Address → Bool
-same_address (V4 one) (V4 other) = bytes_eq one other
-same_address (V4 one) (V6 other) = false
-same_address (V6 one) (V4 other) = false
-same_address (V6 one) (V6 other) = bytes_eq one other
+same_address one other = bytes_eq (bytes_of one) (bytes_of other) && (version_of one == version_of other)
 
 abbrev pub same_endpoint : Endpoint → Endpoint → Bool
 same_endpoint one other = same_address one.address other.address && (one.port == other.port)
 
--- an order of endpoints: by the port, and then by the address, IP version 4 first
-abbrev pub address_cmp : Address → Address → Ordering
-address_cmp (V4 one) (V4 other) = slice_cmp nat_cmp one other
-address_cmp (V4 one) (V6 other) = Less
-address_cmp (V6 one) (V4 other) = Greater
-address_cmp (V6 one) (V6 other) = slice_cmp nat_cmp one other
-
+-- an order of endpoints: by the port, the IP version, and the bytes of the address
 abbrev pub endpoint_cmp : Endpoint → Endpoint → Ordering
-endpoint_cmp = then_cmp (on (λ e. e.port) nat_cmp) (on (λ e. e.address) address_cmp)
+endpoint_cmp = then_cmp (on (λ e. e.port) nat_cmp) (then_cmp (on (λ e. version_of e.address) nat_cmp) (on (λ e. bytes_of e.address) (slice_cmp nat_cmp)))
 
 -- ---- payloads (RFC 1350, section 5; RFC 2347)
 

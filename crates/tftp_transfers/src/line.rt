@@ -1,10 +1,13 @@
 //! A client's line: what passed at its endpoint since it was last silent.
 
-ghost use Rattle.std.specs.Prelude.{◌≡◌, ◌≤◌, ◌+◌, ℕ, List, true, false, nat_le, Some, None, Ok, OnOk, OnErr, option_map, ◌&&◌, ◌||◌, not, if◌then◌else◌};
+ghost use Rattle.std.specs.Prelude.{◌≡◌, ◌≤◌, ◌+◌, [], ◌∷◌, ℕ, List, true, false, nat_le, Some, None, Ok, IfOk, OnOk, OnErr, is_some, bytes_eq, ◌&&◌, not, if◌then◌else◌};
 ghost use Rattle.std.specs.BTreeMap.{get};
-ghost use Rattle.tftp_transfers.specs.Recording.{Recorded, same_endpoint, same_address, endpoint_cmp};
+ghost use Rattle.tftp_transfers.specs.Recording.{Recorded, same_endpoint, is_between, endpoint_cmp};
 ghost use Rattle.tftp_transfers.specs.Places.{Placed, live, place_at, place_talked, place_asked, is_known_host, may_answer, silence};
-ghost use Rattle.tftp_transfers.specs.Kept.{IsLineOf, seen_of, asked_by};
+ghost use Rattle.tftp_transfers.specs.Kept.{IsLineOf, IsRequestOf, seen_of, place_of_talk, comes_to, talk_after, acked_in, ends_after};
+ghost use Rattle.tftp_ends.specs.Ports.{or_this};
+ghost use Rattle.tftp_transfers.specs.declared.place.Place.{Place};
+ghost use Rattle.tftp_transfers.specs.declared.place.Transfer.{Transfer};
 
 use crate::endpoint::Endpoint;
 use crate::kind::Seen;
@@ -54,10 +57,7 @@ impl Line {
         ensures { (line : List Placed) (d : Recorded) → IsLineOf self.now line → d.source ≡ self.now.latest.client
             → d.target ≡ target → d.payload ≡ payload.now → result ≡ place_asked number d line }
     {
-        if self.ends_in_request
-            && self.request.as_slice() == payload
-            && target == self.latest.asked
-        {
+        if self.asks_again(target, payload) {
             return Place::Repeats(self.latest);
         }
         Place::Opens(Transfer {
@@ -65,6 +65,14 @@ impl Line {
             client: self.latest.client,
             asked: target,
         })
+    }
+
+    /// Whether a request of its client is the one before it in the line again.
+    fn asks_again(&self, target: Endpoint, payload: &[u8]) -> bool
+        ensures { result ≡ (self.now.ends_in_request && bytes_eq self.now.request.items payload.now && same_endpoint self.now.latest.asked target) }
+    {
+        let is_same = self.request.as_slice() == payload;
+        self.ends_in_request && is_same && self.latest.asked == target
     }
 
     /// Where another datagram between its client and this endpoint belongs.
@@ -80,6 +88,13 @@ impl Line {
         ensures { result ≡ get endpoint_cmp self.now.talks other }
     {
         self.talks.get(&other).copied()
+    }
+
+    /// Whether its client talks with this endpoint.
+    pub fn talks_with(&self, other: &Endpoint) -> bool
+        ensures { result ≡ is_some (get endpoint_cmp self.now.talks other.now) }
+    {
+        self.talks.contains_key(other)
     }
 
     fn place_talked(&self, other: Endpoint, talk: Option<Talk>, seen: &Seen) -> Place
@@ -135,5 +150,130 @@ impl Line {
     {
         let comes = seen.source == other && seen.target == self.latest.client;
         self.answered.is_none() && comes && seen.kind.is_answer && !(seen.kind.is_data_1 && acked_0)
+    }
+
+    /// A line that begins with this transfer's request.
+    pub fn begun(
+        alloc: Global,
+        transfer: Transfer,
+        payload: &[u8],
+        now: u64,
+    ) -> Result<Line, AllocError>
+        ensures stands { (d : Recorded) → IsRequestOf transfer payload.now d
+            → IfOk result (λ l. IsLineOf l (record { datagram = d; moment = now; place = Place.Opens transfer } ∷ [])) }
+        ensures latest { IfOk result (λ l. l.latest ≡ transfer) }
+    {
+        let request = Vec::from_slice(alloc, payload)?;
+        Ok(Line {
+            latest: transfer,
+            answered: None,
+            moment: now,
+            request,
+            ends_in_request: true,
+            talks: BTreeMap::new(alloc),
+        })
+    }
+
+    /// Notes a request of its client that opens this transfer.
+    pub fn open(
+        &mut self,
+        alloc: Global,
+        transfer: Transfer,
+        payload: &[u8],
+        now: u64,
+    ) -> Result<(), AllocError>
+        ensures stands { (line : List Placed) (d : Recorded) → IsLineOf self.old line → IsRequestOf transfer payload.now d
+            → transfer.client ≡ self.old.latest.client
+            → OnOk result (IsLineOf self.new (record { datagram = d; moment = now; place = Place.Opens transfer } ∷ line)) }
+        ensures latest { OnOk result (self.new.latest ≡ transfer) }
+        ensures err { OnErr result (self.new ≡ self.old) }
+    {
+        let request = Vec::from_slice(alloc, payload)?;
+        self.latest = transfer;
+        self.answered = None;
+        self.moment = now;
+        self.request = request;
+        self.ends_in_request = true;
+        Ok(())
+    }
+
+    /// Notes a request that repeats the one before it.
+    pub fn repeat(&mut self, now: u64)
+        ensures stands { (line : List Placed) (d : Recorded) (number : ℕ) (x : Transfer) → IsLineOf self.old line
+            → d.source ≡ self.old.latest.client → place_asked number d line ≡ Place.Repeats x
+            → IsLineOf self.new (record { datagram = d; moment = now; place = Place.Repeats x } ∷ line) }
+        ensures latest { self.new.latest ≡ self.old.latest }
+    {
+        self.moment = now;
+    }
+
+    /// Notes what passed last between its client and this endpoint: of a transfer, or apart.
+    pub fn note(
+        &mut self,
+        other: Endpoint,
+        talked: Option<Transfer>,
+        seen: &Seen,
+        now: u64,
+    ) -> Result<(), AllocError>
+        ensures stands { (line : List Placed) (d : Recorded) → IsLineOf self.old line → seen.now ≡ seen_of d
+            → is_between self.old.latest.client other d ≡ true
+            → OnOk result (IsLineOf self.new (record { datagram = d; moment = now; place = place_of_talk self.old.latest.client talked } ∷ line)) }
+        ensures client { self.new.latest ≡ self.old.latest }
+    {
+        let talk = self.talk_after(other, talked, seen);
+        self.talks.insert(other, talk)?;
+        self.answered = self.answered_after(talked, seen);
+        self.ends_in_request = ends_after(&talked, self.ends_in_request);
+        self.moment = now;
+        Ok(())
+    }
+
+    /// The talk with this endpoint, after one datagram more.
+    fn talk_after(&self, other: Endpoint, talked: Option<Transfer>, seen: &Seen) -> Talk
+        ensures { result ≡ talk_after self.now.latest.client other talked seen.now (get endpoint_cmp self.now.talks other) }
+    {
+        let is_sent = seen.source == self.latest.client && seen.target == other;
+        let acked_0 = if is_sent {
+            seen.kind.is_ack_0
+        } else {
+            was_acked_0(self.talk_with(other))
+        };
+        Talk {
+            transfer: talked,
+            acked_0,
+        }
+    }
+
+    /// Who first sent the client a datagram of the latest transfer, after one datagram more.
+    fn answered_after(&self, talked: Option<Transfer>, seen: &Seen) -> Option<Endpoint>
+        ensures { result ≡ or_this self.now.answered (comes_to self.now.latest talked seen.now) seen.now.source }
+    {
+        match (&self.answered, &talked) {
+            (Some(first), _) => Some(*first),
+            (None, Some(transfer))
+                if transfer.number == self.latest.number && seen.target == self.latest.client => {
+                Some(seen.source)
+            }
+            (None, _) => None,
+        }
+    }
+}
+
+fn was_acked_0(talk: Option<Talk>) -> bool
+    ensures { result ≡ acked_in talk }
+{
+    match talk {
+        None => false,
+        Some(talk) => talk.acked_0,
+    }
+}
+
+/// Whether a line ends in a request, after one datagram more that is none.
+fn ends_after(talked: &Option<Transfer>, ended: bool) -> bool
+    ensures { result ≡ ends_after talked.now ended }
+{
+    match talked {
+        None => ended,
+        Some(_) => false,
     }
 }

@@ -1,0 +1,6 @@
+pub mod Endpoints
+pub mod Lines
+pub mod Requests
+pub mod Silences
+pub mod AllLines
+pub mod Ends

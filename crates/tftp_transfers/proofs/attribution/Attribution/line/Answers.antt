@@ -1,0 +1,20 @@
+use Rattle.std.proofs.Common.{◌≡◌, sym, subst, ◌∙◌}
+use Rattle.tftp_transfers.specs.Places.{live, line, clock}
+use Rattle.tftp_transfers.specs.Kept.{IsLineOf, IsLineKept}
+use Rattle.tftp_transfers.proofs.Silences.{live_kept, live_lost, live_later}
+use Rattle.tftp_transfers.proofs.attribution.Attribution.line.Goals as goal
+
+pub returns-then-is_live : goal.returns-then-is_live
+returns-then-is_live c named older after later =
+    let kept = subst (IsLineKept c.args.client.now older) (sym c.in-Some.ensures.value) (after.lines c.args.client.now) in
+    let live = live_kept c.in-Some.line.now c.args.now (line c.args.client.now older) kept.1 (sym (c.is_live.ensures (line c.args.client.now older) kept.1) ∙ c.if-is_live.true) in
+    (kept.0, subst (IsLineOf c.in-Some.line.now) (sym live) kept.1)
+
+pub returns-else-is_live : goal.returns-else-is_live
+returns-else-is_live c named older after later =
+    let kept = subst (IsLineKept c.args.client.now older) (sym c.in-Some.ensures.value) (after.lines c.args.client.now) in
+    live_lost c.in-Some.line.now c.args.now (line c.args.client.now older) kept.1 (sym (c.is_live.ensures (line c.args.client.now older) kept.1) ∙ c.if-is_live.false)
+
+pub returns-in-None : goal.returns-in-None
+returns-in-None c named older after later =
+    live_later (clock older) c.args.now (line c.args.client.now older) later (subst (IsLineKept c.args.client.now older) (sym c.in-None.ensures.value) (after.lines c.args.client.now))

@@ -1,0 +1,8 @@
+use Rattle.std.proofs.Common.{None, sym, ap, ◌∙◌}
+use Rattle.std.specs.Prelude.{if◌then◌else◌}
+use Rattle.tftp_transfers.specs.Places.{served_by}
+use Rattle.tftp_transfers.proofs.attribution.Attribution.served_at.Goals as goal
+
+pub returns : goal.returns
+returns c named older after = c.last_served.ensures named older after
+    ∙ sym (ap (λ b. if b then None else served_by c.args.other.now c.args.now older) (sym (c.is_service.ensures named older after) ∙ c.if-is_service.false))

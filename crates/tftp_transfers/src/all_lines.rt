@@ -1,0 +1,84 @@
+//! The lines of all clients, with one datagram more.
+
+ghost use Rattle.std.specs.Prelude.{◌≡◌, ◌≢◌, ◌≤◌, ◌∷◌, ℕ, List, [], true, Some, OnOk};
+ghost use Rattle.tftp_transfers.specs.Recording.{Recorded, is_between};
+ghost use Rattle.tftp_transfers.specs.Places.{Placed, live, line, clock, place_asked};
+ghost use Rattle.tftp_transfers.specs.Kept.{AreLinesOf, IsRequestOf, seen_of, place_of_talk};
+ghost use Rattle.tftp_transfers.specs.declared.place.Place.{Place};
+ghost use Rattle.tftp_transfers.specs.declared.place.Transfer.{Transfer};
+
+use crate::endpoint::Endpoint;
+use crate::kind::Seen;
+use crate::line::Line;
+use crate::place::Transfer;
+use std::alloc::{AllocError, Global};
+use std::collections::BTreeMap;
+
+pub(crate) type Lines = BTreeMap<Endpoint, Line>;
+
+/// Notes what passed between a client and another endpoint: of a transfer, or apart.
+pub(crate) fn note(
+    lines: &mut Lines,
+    client: Endpoint,
+    other: Endpoint,
+    talked: Option<Transfer>,
+    seen: &Seen,
+    now: u64,
+) -> Result<(), AllocError>
+    ensures { (older : List Placed) (d : Recorded) → AreLinesOf lines.old older → clock older ≤ now → seen.now ≡ seen_of d
+        → is_between client other d ≡ true → ((x : Transfer) → talked ≡ Some x → x.client ≡ client)
+        → live now (line client older) ≢ []
+        → OnOk result (AreLinesOf lines.new (record { datagram = d; moment = now; place = place_of_talk client talked } ∷ older)) }
+{
+    match lines.get_mut(&client) {
+        Some(line) => line.note(other, talked, seen, now),
+        None => Ok(()),
+    }
+}
+
+/// Notes a request that repeats the one before it.
+pub(crate) fn repeat(lines: &mut Lines, client: Endpoint, now: u64)
+    ensures { (older : List Placed) (d : Recorded) (number : ℕ) (x : Transfer) → AreLinesOf lines.old older → clock older ≤ now
+        → d.source ≡ client → x.client ≡ client → place_asked number d (live now (line client older)) ≡ Place.Repeats x
+        → AreLinesOf lines.new (record { datagram = d; moment = now; place = Place.Repeats x } ∷ older) }
+{
+    match lines.get_mut(&client) {
+        Some(line) => line.repeat(now),
+        None => {}
+    }
+}
+
+/// Notes a request that opens this transfer, where its client's line has not been silent.
+pub(crate) fn reopen(
+    lines: &mut Lines,
+    alloc: Global,
+    transfer: Transfer,
+    payload: &[u8],
+    now: u64,
+) -> Result<(), AllocError>
+    ensures { (older : List Placed) (d : Recorded) → AreLinesOf lines.old older → clock older ≤ now → IsRequestOf transfer payload.now d
+        → live now (line transfer.client older) ≢ []
+        → OnOk result (AreLinesOf lines.new (record { datagram = d; moment = now; place = Place.Opens transfer } ∷ older)) }
+{
+    match lines.get_mut(&transfer.client) {
+        Some(line) => line.open(alloc, transfer, payload, now),
+        None => Ok(()),
+    }
+}
+
+/// The same, where it has.
+pub(crate) fn begin(
+    lines: &mut Lines,
+    alloc: Global,
+    transfer: Transfer,
+    payload: &[u8],
+    now: u64,
+) -> Result<(), AllocError>
+    ensures { (older : List Placed) (d : Recorded) → AreLinesOf lines.old older → clock older ≤ now → IsRequestOf transfer payload.now d
+        → live now (line transfer.client older) ≡ []
+        → OnOk result (AreLinesOf lines.new (record { datagram = d; moment = now; place = Place.Opens transfer } ∷ older)) }
+{
+    let line = Line::begun(alloc, transfer, payload, now)?;
+    lines.insert(transfer.client, line)?;
+    Ok(())
+}
