@@ -115,7 +115,7 @@ module _ (s : TapSides) (apart : AreApart s) where
 
   -- ---- the first request
 
-  asks_is : (cs : List Carried) → Each (IsCarried s says_some) cs → list_any (tap_tests s).asks (map datagram_in cs) ≡ list_any pair_tests.asks cs
+  pub asks_is : (cs : List Carried) → Each (IsCarried s says_some) cs → list_any (tap_tests s).asks (map datagram_in cs) ≡ list_any pair_tests.asks cs
   asks_is cs each = asks_same datagram_in pair_tests (tap_tests s) cs (datagrams_each s apart cs each)
 
   -- each packet of the server's follows a request

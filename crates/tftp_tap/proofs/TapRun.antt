@@ -17,6 +17,7 @@ use Rattle.tftp_ends.specs.OneSide.{is_error, heard, LetsAckZeroOn, MayComeError
 use Rattle.tftp_ends.proofs.Members.{contains_first, contains_later, contains_cases, contains_none}
 use Rattle.tftp_ends.proofs.Stops.{lawful_tail}
 use Rattle.tftp_law.specs.Dress.{Main, Division, datagrams_of, view_in, says_of, packet_of}
+use Rattle.tftp_law.specs.Fits.{Fits}
 use Rattle.tftp_law.specs.Accord.{Accords, AreRouted, AreRoutedBy, Starts}
 use Rattle.tftp_law.specs.Divides.{packet_in, says_some}
 use Rattle.tftp_law.specs.OneEnded.{OneEnded}
@@ -393,3 +394,143 @@ module _ (s : TapSides) (apart : AreApart s) (asked : RequestParts) where
         zeros : j ≡ 0 → (x : Side) → m.side ≡ x → LetsAckZeroOn x m (heard (as_at (other_end c.pass.from) (map pass_in cs)))
         zeros none Get same = zero_read j packet none same
         zeros none Put same = zero_write j packet none same
+
+  -- ---- all of them
+
+  never_out : (r f : End) (p : MachinePacket) (d : TapDatagram) (rest : List Carried) → is_request p ≡ false → is_error p ≡ false → is_left_out pair_tests r (record { datagram = d; pass = record { from = f; packet = p } }) rest ≡ false
+  never_out r f p d rest plain quiet = by (same_end Client f) (same_end r f) where
+    by : (a b : Bool) → ((a && is_request p) && list_any pair_tests.asks rest) || ((b && is_error p) || ((a && is_error p) && not (list_any pair_tests.answers rest))) ≡ false
+    by true true = rw (plain, quiet) refl
+    by true false = rw (plain, quiet) refl
+    by false true = rw (quiet) refl
+    by false false = refl
+
+  own_rest : (m : Meaning) (wire : List ℕ) (r : End) (c : Carried) (cs : List Carried) → IsOneSided m wire r (as_at r (map pass_in (kept_of pair_tests r (c ∷ cs)))) → IsOneSided m wire r (as_at r (map pass_in (kept_of pair_tests r cs)))
+  own_rest m wire r c cs own = elim (is_or_not (is_left_out pair_tests r c (kept_of pair_tests r cs))) [
+    | inl out ↦ subst (λ l. IsOneSided m wire r (as_at r (map pass_in l))) (kept_out pair_tests r c cs out) own
+    | inr stays ↦ lawful_tail m wire r (deed_at r c.pass.from c.pass.packet) (as_at r (map pass_in (kept_of pair_tests r cs))) (subst (λ l. IsOneSided m wire r (as_at r (map pass_in l))) (kept_in pair_tests r c cs stays) own)
+  ]
+
+  own_now : (m : Meaning) (wire : List ℕ) (r : End) (c : Carried) (cs : List Carried) → IsOneSided m wire r (as_at r (map pass_in (kept_of pair_tests r (c ∷ cs)))) → (p : MachinePacket) → c.pass.packet ≡ p → is_request p ≡ false → is_error p ≡ false
+      → IsOneSided m wire r (deed_at r c.pass.from p ∷ as_at r (map pass_in (kept_of pair_tests r cs)))
+  own_now m wire r c cs own p packet plain quiet =
+      let stays = never_out r c.pass.from c.pass.packet c.datagram (kept_of pair_tests r cs) (ap is_request packet ∙ plain) (ap is_error packet ∙ quiet) in
+      subst (λ q. IsOneSided m wire r (deed_at r c.pass.from q ∷ as_at r (map pass_in (kept_of pair_tests r cs)))) packet (subst (λ l. IsOneSided m wire r (as_at r (map pass_in l))) (kept_in pair_tests r c cs stays) own)
+
+  in_times : (m : Meaning) (wire : List ℕ) → asked.side ≡ m.side → (cs : List Carried) → Each (IsCarried s says_some) cs → AreLawful s cs → Each (Right s apart asked) cs → (cs ≡ []) ⊎ FirstTapAsked s (map datagram_in cs) asked
+      → IsOneSided m wire (receiver_of m.side) (as_at (receiver_of m.side) (map pass_in (kept_of pair_tests (receiver_of m.side) cs))) → AreInTime m wire (map pass_in cs)
+  in_times m wire side [] each lawful right begins own = tt
+  in_times m wire side (c ∷ cs) each lawful right (inl none) own = absurd (cc)
+  in_times m wire side (c ∷ cs) each lawful right (inr first) own =
+      let before = begins_before s apart asked c cs lawful.1 each.1 first in
+      let rest = own_rest m wire (receiver_of m.side) c cs own in
+      (time_of m wire side c cs each.0 lawful.0 right.0 before each.1 lawful.1 right.1 rest (own_now m wire (receiver_of m.side) c cs own) c.pass.packet refl,
+      in_times m wire side cs each.1 lawful.1 right.1 before rest)
+
+  -- ---- a meaning and a wire
+
+  pub record Made (cs : List Carried) : Type 0 where
+    pub m : Meaning
+    pub wire : List ℕ
+    pub fits : Fits m wire
+    pub may : MayPassEach m wire (map pass_in cs)
+    pub says : Each (λ c. says_of m wire c.pass.packet c.datagram.payload) cs
+
+  says_each : (m : Meaning) (wire : List ℕ) (r : End) (ks : List Carried) → AreRouted (header_of_end s r) m wire (placed s r ks) → Each (λ c. says_of m wire c.pass.packet c.datagram.payload) ks
+  says_each m wire r [] routed = tt
+  says_each m wire r (k ∷ ks) routed = (
+    subst (λ l. says_of m wire k.pass.packet l) (recorded_payload s r k.datagram) (subst (λ p. says_of m wire p (recorded_at s r k.datagram).payload) (deed_is r k.pass.from k.pass.packet) routed.1.1),
+    says_each m wire r ks routed.2,
+  )
+    where
+      deed_is : (r f : End) (p : MachinePacket) → packet_of (deed_at r f p) ≡ p
+      deed_is Client Client p = refl
+      deed_is Client Server p = refl
+      deed_is Server Client p = refl
+      deed_is Server Server p = refl
+
+  each_of : {X : Type 0} (P : X → Type 0) (xs : List X) → ((x : X) → Contains xs x → P x) → Each P xs
+  each_of P [] all = tt
+  each_of P (x ∷ xs) all = (all x (contains_first x xs), each_of P xs (λ y at. all y (contains_later x xs y at)))
+
+  -- what a meaning says that says what is kept
+  says_all : (m : Meaning) (wire : List ℕ) (r : End) (cs : List Carried) → asked ≡ request_of m → Each (IsCarried s says_some) cs → Each (Right s apart asked) cs
+      → Each (λ c. says_of m wire c.pass.packet c.datagram.payload) (kept_of pair_tests r cs) → Each (λ c. says_of m wire c.pass.packet c.datagram.payload) cs
+  says_all m wire r cs same each right kept = each_of (λ c. says_of m wire c.pass.packet c.datagram.payload) cs (λ c at. by c at c.pass.packet refl) where
+    none : (b : Bool) → (b && false) ≡ false
+    none true = refl
+    none false = refl
+
+    in_kept : (c : Carried) → Contains cs c → is_request c.pass.packet ≡ false → is_error c.pass.packet ≡ false → says_of m wire c.pass.packet c.datagram.payload
+    in_kept c at plain quiet = each_at (λ c. says_of m wire c.pass.packet c.datagram.payload) (kept_of pair_tests r cs) c kept
+        (kept_plain pair_tests r cs c at (ap (λ b. same_end Client c.pass.from && b) plain ∙ none (same_end Client c.pass.from)) (λ e. ap (λ b. same_end e c.pass.from && b) quiet ∙ none (same_end e c.pass.from)))
+
+    by : (c : Carried) → Contains cs c → (p : MachinePacket) → c.pass.packet ≡ p → says_of m wire c.pass.packet c.datagram.payload
+    by c at Req packet = subst (λ p. says_of m wire p c.datagram.payload) (sym packet) (subst (λ q. Spells c.datagram.payload (Message.Request q)) same ((each_at (Right s apart asked) cs c right at).request packet))
+    by c at (Error code text) packet = subst (λ p. says_of m wire p c.datagram.payload) (sym packet) (error_spelled c (each_at (IsCarried s says_some) cs c each at) code text packet) where
+      error_spelled : (b : Carried) → IsCarried s says_some b → (code : ℕ) (text : List ℕ) → b.pass.packet ≡ Error code text → Spells b.datagram.payload (Message.Error code text)
+      error_spelled b is code text packet = turn is.spells.0 is.spells.1 (is.spells.2 ∙ ap Some packet) where
+        turn : (n : Message) → Spells b.datagram.payload n → packet_in n ≡ Some (Error code text) → Spells b.datagram.payload (Message.Error code text)
+        turn (Message.Error one words) t at = let first : one ≡ code = cc in let second : words ≡ text = cc in subst (λ x. Spells b.datagram.payload (Message.Error code x)) second (subst (λ x. Spells b.datagram.payload (Message.Error x words)) first t)
+        turn (Message.Request q) t at = absurd (cc)
+        turn (Message.Oack options) t at = absurd (cc)
+        turn (Message.Data k bytes) t at = absurd (cc)
+        turn (Message.Ack j) t at = absurd (cc)
+    by c at Oack packet = in_kept c at (ap is_request packet) (ap is_error packet)
+    by c at (Data k) packet = in_kept c at (ap is_request packet) (ap is_error packet)
+    by c at (Ack j) packet = in_kept c at (ap is_request packet) (ap is_error packet)
+
+  -- the meaning's request is the one that was asked
+  request_one : (m : Meaning) (wire : List ℕ) (r : End) (cs : List Carried) → Each (Right s apart asked) cs → list_any pair_tests.asks cs ≡ true
+      → Each (λ c. says_of m wire c.pass.packet c.datagram.payload) (kept_of pair_tests r cs) → asked ≡ request_of m
+  request_one m wire r cs right some kept =
+      let found = some_of pair_tests.asks (kept_of pair_tests r cs) (kept_asks pair_tests r cs quiet some) in
+      let packet = request_packet found.0.pass.from found.0.pass.packet found.2 in
+      let asks = (each_at (Right s apart asked) cs found.0 right (kept_there pair_tests r cs found.0 found.1)).request packet in
+      let says = subst (λ p. says_of m wire p found.0.datagram.payload) packet (each_at (λ c. says_of m wire c.pass.packet c.datagram.payload) (kept_of pair_tests r cs) found.0 kept found.1) in
+      request_same asked (request_of m) (spelled_once found.0.datagram.payload (Message.Request asked) (Message.Request (request_of m)) asks says)
+    where
+      request_packet : (f : End) (p : MachinePacket) → (same_end Client f && is_request p) ≡ true → p ≡ Req
+      request_packet Server p is = absurd (true≢false (sym is))
+      request_packet Client Req is = refl
+      request_packet Client Oack is = absurd (true≢false (sym is))
+      request_packet Client (Data k) is = absurd (true≢false (sym is))
+      request_packet Client (Ack j) is = absurd (true≢false (sym is))
+      request_packet Client (Error code text) is = absurd (true≢false (sym is))
+
+      quiet : (x : Carried) → pair_tests.asks x ≡ true → (e : End) → pair_tests.ends e x ≡ false
+      quiet x is e = ap (λ p. same_end e x.pass.from && is_error p) (request_packet x.pass.from x.pass.packet is) ∙ none (same_end e x.pass.from) where
+        none : (b : Bool) → (b && false) ≡ false
+        none true = refl
+        none false = refl
+
+  pub made : (cs : List Carried) → Each (IsCarried s says_some) cs → AreLawful s cs → FirstTapAsked s (map datagram_in cs) asked → list_any pair_tests.asks cs ≡ true → Made cs
+  made cs each lawful first some =
+      let right = rights s apart asked cs lawful each (inr first) in
+      let r = receiver_of asked.side in
+      let h = header_at s asked.side in
+      let ks = kept_of pair_tests r cs in
+      let captured = map (recorded_at s r) (map datagram_in ks) in
+      let ended = ended_kept s apart asked cs each lawful right (inr first) in
+      let known = known_kept s apart asked cs each lawful right (inr first) in
+      let by_rules = placed_routes s apart says_some told_some r ks (kept_each (IsCarried s says_some) pair_tests r cs each) known in
+      let (m, wire, acc) = some_accord h captured ended in
+      let (division, same, routed, own, starts) = divides h m wire captured ended acc in
+      let p = parts_of h m wire division routed starts in
+      let run = run_divides h m wire p.0 division p.1 own in
+      let by_run = routed_by h says_some told_some p.0 division run.0 run.1 in
+      let one : division ≡ placed s r ks = division_one h division (placed s r ks) (same ∙ sym (placed_datagrams s r ks)) by_run by_rules in
+      let says = says_each m wire r ks (subst (AreRouted h m wire) one routed) in
+      let request = request_one m wire r cs right some says in
+      let side : asked.side ≡ m.side = ap (λ (q : RequestParts). q.side) request in
+      let view : IsOneSided m wire r (as_at r (map pass_in ks)) = subst (IsOneSided m wire r) (placed_view s r ks) (subst (λ d. IsOneSided m wire r (view_in d)) one own) in
+      let own_at : IsOneSided m wire (receiver_of m.side) (as_at (receiver_of m.side) (map pass_in (kept_of pair_tests (receiver_of m.side) cs)))
+          = subst (λ x. IsOneSided m wire (receiver_of x) (as_at (receiver_of x) (map pass_in (kept_of pair_tests (receiver_of x) cs)))) side view in
+      let kept_passes = kept_map pass_in pair_tests pass_tests (receiver_of m.side) cs (passes_each cs) in
+      record {
+        m = m;
+        wire = wire;
+        fits = acc.fits;
+        may = (kept_tells m wire (map pass_in cs)).1 (subst (λ l. IsOneSided m wire (receiver_of m.side) (as_at (receiver_of m.side) l)) (sym kept_passes) own_at, in_times m wire side cs each lawful right (inr first) own_at);
+        says = says_all m wire r cs request each right says;
+      }
