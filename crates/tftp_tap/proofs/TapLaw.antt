@@ -48,7 +48,7 @@ module _ (s : TapSides) (apart : AreApart s) where
       let begins : asks_in found.0.payload ≡ true = (and_true _ (asks_in found.0.payload) holds.0).1 in
       let spelled = subst (λ (d : TapDatagram). Spells d.payload is.spells.0) same is.spells.1 in
       let asked = begins_asked found.0.payload is.spells.0 spelled begins in
-      (asked.0, (found.0, found.1, subst (Spells found.0.payload) asked.1 spelled))
+      (asked.0, (found.0, found.1, subst (Spells found.0.payload) {y = Message.Request asked.0} asked.1 spelled))
 
   seen_by : (asked : RequestParts) (tapped : List TapDatagram) (division : TapDivision) → tapped_of division ≡ tapped → HaveTapParts s says_some division → Made s apart asked (mains division) → IsLawfulBetween s tapped
   seen_by asked tapped division whole parts x = (x.m, x.wire, record {
