@@ -168,7 +168,7 @@ module _ (m : Meaning) (wire : List ℕ) where
 
   -- ---- and all that may pass comes in time
 
-  in_time : (e : End) (p : MachinePacket) (passed : List Pass) → MayPass m wire passed e p → IsInTime m wire passed e p
+  pub in_time : (e : End) (p : MachinePacket) (passed : List Pass) → MayPass m wire passed e p → IsInTime m wire passed e p
   in_time Client Req passed may = refl
   in_time Server Req passed may = absurd (cc)
   in_time e Oack passed may = tt

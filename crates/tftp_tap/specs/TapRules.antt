@@ -1,6 +1,6 @@
 -- The rules that a datagram may break that passed between the ends, after those that have passed. The list `earlier` has all
 -- that have passed, `passed` those of the transfer, the newest first.
-use Rattle.std.specs.Prelude.{◌≡◌, ◌≢◌, ◌⊎◌, ℕ, ◌≤◌, Bool, true, false, List, [], ◌∷◌, map, Any, Some, if◌then◌else◌}
+use Rattle.std.specs.Prelude.{◌≡◌, ◌≢◌, ◌⊎◌, ℕ, ◌<◌, ◌≤◌, ◌&&◌, ◌||◌, not, Bool, true, false, List, [], ◌∷◌, map, Any, Option, Some, None, option_map, if◌then◌else◌}
 use Rattle.std.specs.List.{list_any}
 use Rattle.tftp_packet.specs.Message.{Message, RequestParts}
 use Rattle.tftp_packet.specs.Spelling.{Spells}
@@ -16,9 +16,9 @@ use Rattle.tftp_ends.specs.Ports.{same_peer, first_of}
 use Rattle.tftp_law.specs.Rules.{Broken, IsWrongKind, number_of}
 use Rattle.tftp_law.specs.declared.rule.Rule.{Rule}
 use Rattle.tftp_law.specs.declared.rule.Rule.TheVariants as rule
-use Rattle.tftp_tap.specs.TapCapture.{TapDatagram, TapSides, side_of}
+use Rattle.tftp_tap.specs.TapCapture.{PeerId, TapDatagram, TapSides, side_of}
 use Rattle.tftp_tap.specs.TapOrder.{is_left_out, kept_of, before_error}
-use Rattle.tftp_tap.specs.TapRoutes.{tap_tests, tap_route, is_passing, transfer_between}
+use Rattle.tftp_tap.specs.TapRoutes.{asks_in, ends_in, tap_tests, tap_route, is_passing, transfer_between}
 use Rattle.tftp_tap.specs.declared.route.TapRoute.{TapRoute}
 
 -- what an end would have recorded of a datagram of the transfer
@@ -153,3 +153,23 @@ abbrev pub BreaksNoTapRule : TapSides → List TapDatagram → Type 0
 BreaksNoTapRule s [] = Unit {0}
 BreaksNoTapRule s (d ∷ earlier) = TapPasses s earlier d × BreaksNoTapRule s earlier
 
+-- the first rule in their order that the datagram breaks
+pub record FirstTapBroken (s : TapSides) (earlier : List TapDatagram) (d : TapDatagram) (broken : Rule) : Type 0 where
+  pub breaks : TapBroken s earlier d broken
+  pub first : (other : Rule) → number_of other < number_of broken → TapBroken s earlier d other → ⊥
+
+-- Each datagram before it passes, and this one is the first that does not, by this rule.
+pub record IsTapRefused (s : TapSides) (earlier : List TapDatagram) (d : TapDatagram) (broken : Rule) : Type 0 where
+  pub lawful : BreaksNoTapRule s earlier
+  pub refused : FirstTapBroken s earlier d broken
+
+-- Which server a recording tells: the one that the client's first datagram goes to that is neither a request nor an ERROR; and
+-- if there is none, the one that what first came to the client came from.
+abbrev pub goes_on_to : TapSides → TapDatagram → Bool
+goes_on_to s d = same_peer d.source s.client && not (asks_in d.payload || ends_in d.payload)
+
+abbrev pub told_server : TapSides → List TapDatagram → Option PeerId
+told_server s tapped = by (first_of (goes_on_to s) tapped) (first_of (λ (d : TapDatagram). same_peer d.destination s.client) tapped) where
+  by : Option TapDatagram → Option TapDatagram → Option PeerId
+  by (Some d) came = Some d.destination
+  by None came = option_map (λ (d : TapDatagram). d.source) came

@@ -1,0 +1,86 @@
+-- The rules between the ends are the runs that pass there.
+use Rattle.std.proofs.Common.{◌≡◌, ◌⊎◌, ◌↔◌, ℕ, Bool, true, false, List, [], ◌∷◌, Some, None, Option, inl, inr, refl, sym, subst, ap, ◌∙◌}
+use Rattle.std.specs.Prelude.{map}
+use Rattle.std.specs.List.{list_any}
+use Rattle.tftp_packet.specs.Message.{Message, RequestParts}
+use Rattle.tftp_packet.specs.Spelling.{Spells}
+use Rattle.tftp_packet.specs.declared.kinds.End.{End}
+use Rattle.tftp_packet.specs.declared.kinds.End.TheVariants.{Client, Server}
+use Rattle.tftp_packet.specs.declared.kinds.Side.TheVariants.{Get}
+use Rattle.tftp_ends.specs.CaptureText.{Header}
+use Rattle.tftp_ends.specs.Meaning.{Meaning}
+use Rattle.tftp_ends.specs.Ports.{first_of}
+use Rattle.tftp_law.specs.Dress.{says_of}
+use Rattle.tftp_law.specs.Divides.{says_some}
+use Rattle.tftp_law.proofs.MadeMeaning.{some_accord}
+use Rattle.tftp_law.proofs.FirstRequests.{begins_asked}
+use Rattle.tftp_tap.specs.Tap.{Pass, MayPassEach}
+use Rattle.tftp_tap.specs.TapCapture.{TapDatagram, TapSides, AreApart}
+use Rattle.tftp_tap.specs.TapDress.{TapPart, Main, Stray, StrayAnswer, TapPlaced, TapDivision, tapped_of, passed_of, HasTapPart, HaveTapParts, IsSeenBetween, IsLawfulBetween}
+use Rattle.tftp_tap.specs.TapRoutes.{asks_in, tap_tests}
+use Rattle.tftp_tap.specs.TapRules.{header_at, FirstTapAsked, BreaksNoTapRule}
+use Rattle.tftp_tap.proofs.Replays.{tap_view_is}
+use Rattle.tftp_tap.proofs.KeptOf.{is_or_not, and_true}
+use Rattle.tftp_tap.proofs.TapRouted.{Carried, add_main, mains}
+use Rattle.tftp_tap.proofs.TapRecorded.{Each, IsCarried, mains_carried, passed_is, pair_tests, datagram_in, pass_in}
+use Rattle.tftp_tap.proofs.TapBefore.{first_holds, carried_at}
+use Rattle.tftp_tap.proofs.TapLawful.{parted, mains_lawful, asks_is, none_asked, some_first}
+use Rattle.tftp_tap.proofs.TapRun.{Made, made}
+use Rattle.tftp_tap.proofs.TapRunsBreak.{runs_break_none}
+
+module _ (s : TapSides) (m : Meaning) (wire : List ℕ) where
+  -- a division whose main datagrams say what the meaning says is one of it
+  said_parts : (division : TapDivision) → HaveTapParts s says_some division → Each (λ c. says_of m wire c.pass.packet c.datagram.payload) (mains division) → HaveTapParts s (says_of m wire) division
+  said_parts [] parts says = tt
+  said_parts (p ∷ division) parts says = by p.part parts.0 says (said_parts division parts.1) where
+    by : (part : TapPart) → HasTapPart s says_some division p.datagram part → Each (λ c. says_of m wire c.pass.packet c.datagram.payload) (add_main p.datagram part (mains division))
+        → (Each (λ c. says_of m wire c.pass.packet c.datagram.payload) (mains division) → HaveTapParts s (says_of m wire) division) → HasTapPart s (says_of m wire) division p.datagram part × HaveTapParts s (says_of m wire) division
+    by (Main x) c says rest = (record { source = c.source; goes = c.goes; spells = says.0 }, rest says.1)
+    by Stray c says rest = (c, rest says)
+    by StrayAnswer c says rest = (c, rest says)
+
+module _ (s : TapSides) (apart : AreApart s) where
+  first_request : (cs : List Carried) → Each (IsCarried s says_some) cs → list_any pair_tests.asks cs ≡ true → (asked : RequestParts) × FirstTapAsked s (map datagram_in cs) asked
+  first_request cs each some =
+      let found = some_first (tap_tests s).asks (map datagram_in cs) (asks_is s apart cs each ∙ some) (first_of (tap_tests s).asks (map datagram_in cs)) refl in
+      let holds = first_holds (tap_tests s).asks (map datagram_in cs) found.0 found.1 in
+      let (c, at, is, same) = carried_at (IsCarried s says_some) cs each found.0 holds.1 in
+      let begins : asks_in found.0.payload ≡ true = (and_true _ (asks_in found.0.payload) holds.0).1 in
+      let spelled = subst (λ (d : TapDatagram). Spells d.payload is.spells.0) same is.spells.1 in
+      let asked = begins_asked found.0.payload is.spells.0 spelled begins in
+      (asked.0, (found.0, found.1, subst (Spells found.0.payload) {y = Message.Request asked.0} asked.1 spelled))
+
+  seen_by : (asked : RequestParts) (tapped : List TapDatagram) (division : TapDivision) → tapped_of division ≡ tapped → HaveTapParts s says_some division → Made s apart asked (mains division) → IsLawfulBetween s tapped
+  seen_by asked tapped division whole parts x = (x.m, x.wire, record {
+    fits = x.fits;
+    passed = passed_of division;
+    view = (tap_view_is x.m x.wire (passed_of division)).1 (subst (MayPassEach x.m x.wire) (sym (passed_is division)) x.may);
+    dressed = record { division = division; whole = whole; main = refl; parts = said_parts s x.m x.wire division parts x.says };
+  })
+
+  -- before the first request any meaning will do
+  seen_none : (tapped : List TapDatagram) (division : TapDivision) → tapped_of division ≡ tapped → HaveTapParts s says_some division → mains division ≡ [] → IsLawfulBetween s tapped
+  seen_none tapped division whole parts none =
+      let (m, wire, acc) = some_accord (header_at s Get) [] tt in
+      let passed : passed_of division ≡ [] = passed_is division ∙ ap (map pass_in) none in
+      (m, wire, record {
+        fits = acc.fits;
+        passed = passed_of division;
+        view = (tap_view_is m wire (passed_of division)).1 (subst (MayPassEach m wire) (sym passed) tt);
+        dressed = record { division = division; whole = whole; main = refl; parts = said_parts s m wire division parts (subst (Each (λ c. says_of m wire c.pass.packet c.datagram.payload)) (sym none) tt) };
+      })
+
+  pub rules_run : (tapped : List TapDatagram) → BreaksNoTapRule s tapped → IsLawfulBetween s tapped
+  rules_run tapped passes =
+      let x = parted s apart tapped passes in
+      let each = mains_carried s says_some x.division x.parts in
+      let lawful = mains_lawful s apart x.division x.parts (subst (BreaksNoTapRule s) (sym x.whole) passes) in
+      elim (is_or_not (list_any pair_tests.asks (mains x.division))) [
+        | inr none ↦ seen_none tapped x.division x.whole x.parts (none_asked s apart (mains x.division) lawful each none)
+        | inl some ↦
+            let asked = first_request (mains x.division) each some in
+            seen_by asked.0 tapped x.division x.whole x.parts (made s apart asked.0 (mains x.division) each lawful asked.1 some)
+      ]
+
+  pub rules_are_runs : (tapped : List TapDatagram) → IsLawfulBetween s tapped ↔ BreaksNoTapRule s tapped
+  rules_are_runs tapped = (λ lawful. runs_break_none s lawful.0 lawful.1 tapped apart lawful.2, rules_run tapped)

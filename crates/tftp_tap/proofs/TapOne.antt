@@ -1,0 +1,120 @@
+-- A capture between the ends shows one transfer, names one first broken rule, and tells its server.
+use Rattle.std.proofs.Common.{◌≡◌, ◌⊎◌, ℕ, ◌<◌, Bool, true, false, List, [], ◌∷◌, Contains, Some, None, Option, inl, inr, refl, sym, subst, ap, ◌∙◌, arith}
+use Rattle.std.specs.Prelude.{◌&&◌, ◌||◌, not, map}
+use Rattle.std.proofs.lemmas.Bool.{true≢false, cases_lt}
+use Rattle.tftp_packet.specs.Message.{Message}
+use Rattle.tftp_packet.specs.declared.kinds.End.{End}
+use Rattle.tftp_packet.specs.declared.kinds.End.TheVariants.{Client, Server}
+use Rattle.tftp_ends.specs.Meaning.{Meaning}
+use Rattle.tftp_ends.specs.Machines.{MachinePacket, Req, Oack, Data, Ack, Error}
+use Rattle.tftp_ends.specs.OneSide.{is_error}
+use Rattle.tftp_ends.specs.Ports.{same_peer, first_of}
+use Rattle.tftp_ends.proofs.Members.{contains_first, contains_later, contains_cases, contains_none}
+use Rattle.tftp_law.specs.Dress.{says_of}
+use Rattle.tftp_law.specs.Divides.{says_some}
+use Rattle.tftp_law.specs.Rules.{number_of}
+use Rattle.tftp_law.specs.declared.rule.Rule.{Rule}
+use Rattle.tftp_law.proofs.RouteTests.{is_same}
+use Rattle.tftp_law.proofs.FirstRequests.{some_same}
+use Rattle.tftp_tap.specs.Tap.{Pass, IsWholeAtTap}
+use Rattle.tftp_tap.specs.Seen.{Tapped, AreCarried, IsSeenAtTap, ShowsAtTap}
+use Rattle.tftp_tap.specs.TapCapture.{PeerId, TapDatagram, TapSides, side_of, AreApart}
+use Rattle.tftp_tap.specs.TapDress.{TapPart, Main, Stray, StrayAnswer, TapPlaced, TapDivision, tapped_of, passed_of, GoesThere, CarriesPass, HasTapPart, HaveTapParts, IsSeenBetween, ShowsBetween, IsLawfulBetween}
+use Rattle.tftp_tap.specs.TapOrder.{is_request}
+use Rattle.tftp_tap.specs.TapRoutes.{asks_in, ends_in}
+use Rattle.tftp_tap.specs.TapRules.{FirstTapBroken, BreaksNoTapRule, IsTapRefused, goes_on_to, told_server}
+use Rattle.tftp_tap.proofs.OneTap.{shown_one}
+use Rattle.tftp_tap.proofs.OneTapDivision.{parts_some, one_division}
+use Rattle.tftp_tap.proofs.KeptOf.{is_or_not, and_true, or_false}
+use Rattle.tftp_tap.proofs.TapTests.{asks_some, ends_some, ends_says}
+use Rattle.tftp_tap.proofs.TapBefore.{first_holds}
+
+-- ---- one transfer
+
+abbrev carried_by : TapDatagram → TapPart → List Tapped → List Tapped
+carried_by d (Main x) rest = record { from = x.from; payload = d.payload } ∷ rest
+carried_by d Stray rest = rest
+carried_by d StrayAnswer rest = rest
+
+abbrev carried_of : TapDivision → List Tapped
+carried_of [] = []
+carried_of (p ∷ division) = carried_by p.datagram p.part (carried_of division)
+
+module _ (s : TapSides) (m : Meaning) (wire : List ℕ) where
+  are_carried : (division : TapDivision) → HaveTapParts s (says_of m wire) division → AreCarried m wire (passed_of division) (carried_of division)
+  are_carried [] parts = tt
+  are_carried (p ∷ division) parts = by p.part parts.0 (are_carried division parts.1) where
+    by : (part : TapPart) → HasTapPart s (says_of m wire) division p.datagram part → AreCarried m wire (passed_of division) (carried_of division)
+        → AreCarried m wire (passed_of (record { datagram = p.datagram; part = part } ∷ division)) (carried_by p.datagram part (carried_of division))
+    by (Main x) c before = (refl, c.spells, before)
+    by Stray c before = before
+    by StrayAnswer c before = before
+
+  seen_as : (tapped : List TapDatagram) (x : IsSeenBetween s m wire tapped) → IsSeenAtTap m wire (carried_of x.dressed.division)
+  seen_as tapped x = record {
+    fits = x.fits;
+    passed = x.passed;
+    view = x.view;
+    carried = subst (λ l. AreCarried m wire l (carried_of x.dressed.division)) x.dressed.main (are_carried x.dressed.division x.dressed.parts);
+  }
+
+  shows_as : (tapped : List TapDatagram) (x : ShowsBetween s m wire tapped) → ShowsAtTap m wire (carried_of x.seen.dressed.division)
+  unfolding seen_as
+  shows_as tapped x = record { seen = seen_as tapped x.seen; whole = x.whole }
+
+pub shows_one : (s : TapSides) (m n : Meaning) (wire other : List ℕ) (tapped : List TapDatagram) → AreApart s → ShowsBetween s m wire tapped → ShowsBetween s n other tapped → (m ≡ n) × (wire ≡ other)
+shows_one s m n wire other tapped apart one two =
+    let same = one_division s apart two.seen.dressed.division one.seen.dressed.division (parts_some s n other two.seen.dressed.division two.seen.dressed.parts) (parts_some s m wire one.seen.dressed.division one.seen.dressed.parts)
+    (two.seen.dressed.whole ∙ sym one.seen.dressed.whole) in
+    shown_one m n wire other (carried_of one.seen.dressed.division) (shows_as s m wire tapped one) (subst (λ d. ShowsAtTap n other (carried_of d)) same (shows_as s n other tapped two))
+
+-- ---- one rule
+
+pub first_broken_one : (s : TapSides) (earlier : List TapDatagram) (d : TapDatagram) (one other : Rule) → FirstTapBroken s earlier d one → FirstTapBroken s earlier d other → number_of one ≡ number_of other
+first_broken_one s earlier d one other p q = elim (cases_lt (number_of one) (number_of other)) [
+  | inl below ↦ absurd (q.first one below p.breaks)
+  | inr up ↦ elim (cases_lt (number_of other) (number_of one)) [ inl above ↦ absurd (p.first other above q.breaks) | inr down ↦ omega (arith, up, down) ]
+]
+
+pub refused_not_lawful : (s : TapSides) (earlier : List TapDatagram) (d : TapDatagram) (broken : Rule) → IsTapRefused s earlier d broken → BreaksNoTapRule s (d ∷ earlier) → ⊥
+refused_not_lawful s earlier d broken refused passes = passes.0.lawful broken refused.refused.breaks
+
+-- ---- the server
+
+goes_server : (s : TapSides) (m : Meaning) (wire : List ℕ) (division : TapDivision) (d : TapDatagram) (part : TapPart) → AreApart s → HasTapPart s (says_of m wire) division d part → HasTapPart s says_some division d part
+    → d.source ≡ s.client → asks_in d.payload ≡ false → ends_in d.payload ≡ false → d.destination ≡ s.server
+goes_server s m wire division d (Main x) apart c known source plain quiet = by x.from x.packet c.source c.goes (sym (asks_some d.payload x.packet known.spells) ∙ plain) (sym (ends_some d.payload x.packet known.spells) ∙ quiet) where
+  by : (e : End) (p : MachinePacket) → d.source ≡ side_of s e → GoesThere s division d e p → is_request p ≡ false → is_error p ≡ false → d.destination ≡ s.server
+  by Server p at goes plain quiet = absurd (apart.server (sym source ∙ at))
+  by Client Req at goes plain quiet = absurd (true≢false plain)
+  by Client Oack at goes plain quiet = goes.0
+  by Client (Data k) at goes plain quiet = goes.0
+  by Client (Ack j) at goes plain quiet = goes.0
+  by Client (Error code text) at goes plain quiet = absurd (true≢false quiet)
+goes_server s m wire division d Stray apart c known source plain quiet = absurd (c.elsewhere Client source)
+goes_server s m wire division d StrayAnswer apart c known source plain quiet = absurd (true≢false (sym (ends_says d.payload (Message.Error 5 c.spells.0) c.spells.1) ∙ quiet))
+
+pub all_go : (s : TapSides) (m : Meaning) (wire : List ℕ) (division : TapDivision) → AreApart s → HaveTapParts s (says_of m wire) division → (d : TapDatagram) → Contains (tapped_of division) d
+    → goes_on_to s d ≡ true → d.destination ≡ s.server
+all_go s m wire [] apart parts d at goes = absurd (contains_none d at)
+all_go s m wire (p ∷ division) apart parts d at goes = elim (contains_cases p.datagram (tapped_of division) d at) [
+  | inr before ↦ all_go s m wire division apart parts.1 d before goes
+  | inl now ↦
+      let mine : goes_on_to s p.datagram ≡ true = ap (goes_on_to s) now ∙ goes in
+      let both = and_true (same_peer p.datagram.source s.client) (not (asks_in p.datagram.payload || ends_in p.datagram.payload)) mine in
+      let neither = or_false (asks_in p.datagram.payload) (ends_in p.datagram.payload) (not_true (asks_in p.datagram.payload || ends_in p.datagram.payload) both.1) in
+      sym (ap (λ (x : TapDatagram). x.destination) now) ∙ goes_server s m wire division p.datagram p.part apart parts.0 (parts_some s m wire (p ∷ division) parts).0 (is_same p.datagram.source s.client both.0) neither.0 neither.1
+]
+  where
+    not_true : (b : Bool) → not b ≡ true → b ≡ false
+    not_true true is = absurd (true≢false (sym is))
+    not_true false is = refl
+
+pub server_told : (s : TapSides) (tapped : List TapDatagram) (d : TapDatagram) → AreApart s → IsLawfulBetween s tapped → first_of (goes_on_to s) tapped ≡ Some d → told_server s tapped ≡ Some s.server
+server_told s tapped d apart (m, wire, seen) first =
+    let there = first_holds (goes_on_to s) tapped d first in
+    let goes = all_go s m wire seen.dressed.division apart seen.dressed.parts d (subst (λ l. Contains l d) (sym seen.dressed.whole) there.1) there.0 in
+    told first ∙ ap Some goes
+  where
+    told : first_of (goes_on_to s) tapped ≡ Some d → told_server s tapped ≡ Some d.destination
+    told is = rw (is) refl
