@@ -31,8 +31,8 @@ NOISE = ("another type", "another protocol", "a fragment of another protocol", "
 FIELDS = ("frame.number", "frame.time_epoch", "ip.src", "ip.dst", "ipv6.src", "ipv6.dst", "udp.srcport", "udp.dstport", "udp.length", "udp.payload")
 # What begins a file that is no recording.
 OTHERS = {
-    "empty": b"", "text": b"tftp-capture 1\nend client\n", "ELF": b"\x7fELF\2\1\1" + bytes(60),
-    "gzip": b"\x1f\x8b\x08\0" + bytes(60), "zeros": bytes(64), "four bytes": b"\xd4\xc3\xb2\xa1",
+    "empty": b"", "a text": b"tftp-capture 1\nend client\n", "ELF": b"\x7fELF\2\1\1" + bytes(60),
+    "gzip": b"\x1f\x8b\x08\0" + bytes(60), "zeros": bytes(64), "three bytes": b"\xd4\xc3\xb2",
 }
 
 

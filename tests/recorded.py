@@ -172,10 +172,10 @@ class Interface:
         return struct.pack(f"{order}HHI", self.link, 0, self.snaplen) + options(order, *told)
 
     def ticks(self, time: int) -> int:
-        """A time in this interface's units since its offset."""
+        """A time in this interface's units since its offset: of units that are powers of two the next one."""
         unit = 6 if self.unit is None else self.unit
         since = time - self.offset * 1_000_000_000
-        return (since << (unit & 127)) // 1_000_000_000 if unit & 128 else since * 10**unit // 1_000_000_000
+        return -(-(since << (unit & 127)) // 1_000_000_000) if unit & 128 else since * 10**unit // 1_000_000_000
 
 
 Block = Union[Frame, bytes]
