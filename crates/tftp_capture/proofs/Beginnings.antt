@@ -82,7 +82,7 @@ longer_of (a ∷ vs) (b ∷ bs) ms ns e =
     ]
 
 -- the same, where a byte stands after one of them
-before_or_past : (xs ys : List ℕ) (x : ℕ) (ms ns : List ℕ) → xs ++ x ∷ ms ≡ ys ++ ns → ((more : List ℕ) × (xs ≡ ys ++ more)) ⊎ ((more : List ℕ) × (ys ≡ xs ++ x ∷ more))
+pub before_or_past : (xs ys : List ℕ) (x : ℕ) (ms ns : List ℕ) → xs ++ x ∷ ms ≡ ys ++ ns → ((more : List ℕ) × (xs ≡ ys ++ more)) ⊎ ((more : List ℕ) × (ys ≡ xs ++ x ∷ more))
 before_or_past [] [] x ms ns e = inl ([], refl)
 before_or_past [] (b ∷ bs) x ms ns e = inr (bs, ap (λ v. v ∷ bs) (sym (ap (head_or x) e)))
 before_or_past (a ∷ vs) [] x ms ns e = inl (a ∷ vs, refl)

@@ -11,9 +11,9 @@ use Rattle.tftp_capture.proofs.Staying.{stays}
 use Rattle.tftp_ends.specs.CaptureText.{Header}
 use Rattle.tftp_law.specs.Law.{IsLawful}
 use Rattle.tftp_law.proofs.Beginnings.{beginning_is_lawful, empty_is_lawful}
-use Rattle.tftp_judge.specs.TextVerdict.{EndsText, IsFaultOf, IsLineOf, IsReadVerdict, IsTextVerdict, SaysReadFailed, unnumbered}
+use Rattle.tftp_judge.specs.TextVerdict.{EndsText, IsFaultOf, IsLineOf, IsReadVerdict, NoFaultBefore, IsTextVerdict, SaysReadFailed, unnumbered}
 use Rattle.tftp_judge.specs.declared.verdict.Verdict.TheVariants.{Capture}
-use Rattle.tftp_judge.proofs.WantOfMemory.{before_want, line_of}
+use Rattle.tftp_judge.proofs.WantOfMemory.{before_want, line_of, no_fault_before}
 
 -- ---- what is said stays, whatever follows
 
@@ -88,17 +88,17 @@ abbrev BeforeWant : CaptureFault → List ℕ → List Numbered → Type 0
 BeforeWant (Text line fault) text ds = Unit {0}
 BeforeWant (Read line) text ds = Unit {0}
 BeforeWant (Memory line) text ds =
-    IsLineOf text line × ((header : Header) (es : List Numbered) → Begins text header es → All (λ d. d.0 < line) es → BeginsWith ds es)
+    IsLineOf text line × NoFaultBefore text line × ((header : Header) (es : List Numbered) → Begins text header es → All (λ d. d.0 < line) es → BeginsWith ds es)
 
 before_fault : (text more ahead : List ℕ) (ds : List Numbered) (fault : CaptureFault) → MemoryTells fault text ahead ds → BeforeWant fault (text ++ more) ds
 before_fault text more ahead ds (Text line fault) tells = tt
 before_fault text more ahead ds (Read line) tells = tt
-before_fault text more ahead ds (Memory line) tells = (line_of text more ahead ds line tells, before_want text more ahead ds line tells)
+before_fault text more ahead ds (Memory line) tells = (line_of text more ahead ds line tells, no_fault_before text more ahead ds line tells, before_want text more ahead ds line tells)
 
 by_fault : (text : List ℕ) (ds : List Numbered) (fault : CaptureFault) → FaultTells fault text ds → BeforeWant fault text ds → LawfulIn text ds → IsFaultOf text fault
 by_fault text ds (Text line fault) tells want lawful = ((ds, tells), λ h es begins. lawful h es begins (fault_after text h ds es line fault tells begins))
 by_fault text ds (Read line) tells want lawful = ((ds, tells.0, tells.1), λ h es begins. lawful h es begins (unfinished_has text h ds es line tells.0 tells.1 begins))
-by_fault text ds (Memory line) tells want lawful = (want.0, λ h es begins before. lawful h es begins (want.1 h es begins before))
+by_fault text ds (Memory line) tells want lawful = (want.0, want.1, λ h es begins before. lawful h es begins (want.2 h es begins before))
 
 stays_on : (text more : List ℕ) (ds : List Numbered) (fault : CaptureFault) → FaultStays fault → FaultTells fault text ds → FaultTells fault (text ++ more) ds
 stays_on text more ds (Text line fault) other tells = stays text more ds line fault other tells
@@ -120,7 +120,7 @@ module _ (text ahead : List ℕ) (ds : List Numbered) (fault : CaptureFault) (te
     read_by : (f : CaptureFault) → MemoryTells f text ahead ds → length ahead ≤ 16384 → IsFaultOf (text ++ ahead) f → IsReadVerdict (text ++ ahead) (Err (Capture f))
     read_by (Text line f) told short is = is
     read_by (Read line) told short is = is
-    read_by (Memory line) told short is = (record { taken = text; ahead = ahead; datagrams = ds; to = (refl, short); tells = told }, is.1)
+    read_by (Memory line) told short is = (record { taken = text; ahead = ahead; datagrams = ds; to = (refl, short); tells = told }, is.2)
 
 -- a fault that ends the text, or that a read failed, is said of what was read as of the text
 pub fault_alone : (text : List ℕ) (fault : CaptureFault) → IsTextVerdict text (Err (Capture fault)) → EndsText (Err (Capture fault)) ⊎ SaysReadFailed (Err (Capture fault)) → IsReadVerdict text (Err (Capture fault))

@@ -2,14 +2,17 @@
 use Rattle.std.proofs.Common.{◌≡◌, ℕ, inl, inr, List, [], ◌++◌, Result, Ok, Err, sym, ap, subst, ◌∙◌, append-nil}
 use Rattle.tftp_capture.specs.declared.fault.CaptureFault.TheVariants.{Text, Read, Memory}
 use Rattle.tftp_ends.specs.Meaning.{Meaning}
-use Rattle.tftp_judge.specs.TextVerdict.{IsLineOf, IsReadVerdict, IsTextVerdict, WantsToRead}
+use Rattle.tftp_judge.specs.TextVerdict.{IsLineOf, IsReadVerdict, IsTextVerdict, NoFaultBefore, WantsToRead}
 use Rattle.tftp_judge.specs.declared.refusal.Refusal.TheVariants as refusal
 use Rattle.tftp_judge.specs.declared.verdict.Verdict.{Verdict}
 use Rattle.tftp_judge.specs.declared.verdict.Verdict.TheVariants.{Capture, Refused}
-use Rattle.tftp_judge.proofs.WantOfMemory.{line_of}
+use Rattle.tftp_judge.proofs.WantOfMemory.{line_of, no_fault_before}
 
 line_read : (read : List ℕ) (line : ℕ) → WantsToRead read line → IsLineOf read line
 line_read read line wants = subst (λ t. IsLineOf t line) (sym wants.to.0) (line_of wants.taken wants.ahead wants.ahead wants.datagrams line wants.tells)
+
+faults_read : (read : List ℕ) (line : ℕ) → WantsToRead read line → NoFaultBefore read line
+faults_read read line wants = subst (λ t. NoFaultBefore t line) (sym wants.to.0) (no_fault_before wants.taken wants.ahead wants.ahead wants.datagrams line wants.tells)
 
 pub read_is_text : (read : List ℕ) (r : Result Meaning Verdict) → IsReadVerdict read r → IsTextVerdict read r
 read_is_text read (Ok m) is = is
@@ -21,4 +24,4 @@ read_is_text read (Err (Refused (refusal.Memory count))) (inl wants) = inl (read
 read_is_text read (Err (Refused (refusal.Memory count))) (inr is) = inr is
 read_is_text read (Err (Capture (Text line fault))) is = is
 read_is_text read (Err (Capture (Read line))) is = is
-read_is_text read (Err (Capture (Memory line))) (wants, before) = (line_read read line wants, before)
+read_is_text read (Err (Capture (Memory line))) (wants, before) = (line_read read line wants, faults_read read line wants, before)

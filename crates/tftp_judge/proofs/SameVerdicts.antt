@@ -101,7 +101,8 @@ module _ (one two : List ℕ) (h : Header) (ds : List Numbered) (first : IsCaptu
       let here : line_count one ≡ length ends.lines + 1 = ap length ends.stands.divided ∙ length-append ends.lines (ends.rest ∷ []) in
       let there : line_count two ≡ length second.1 + 1 = ap length second.2.divided ∙ length-append second.1 ([] ∷ []) in
       ((ds, Nothing second.0 h, record { lines = second.1; rest = []; stands = second.2; at_line = ends.at_line ∙ sym here ∙ lines ∙ there }), all_lawful lawful)
-  same_verdict lines (Err (verdict.Capture (Memory line))) (of, before) = ((of.0, omega (arith, of.1, lines)), before_both line before)
+  same_verdict lines (Err (verdict.Capture (Memory line))) (of, faults, before) =
+      ((of.0, omega (arith, of.1, lines)), (λ es at fault has. absurd (captured_or_faulty two h ds es at fault second has)), before_both line before)
 
 -- ---- in version 2
 

@@ -7,10 +7,13 @@ use Rattle.tftp_capture.specs.History.{MemoryTells, SaysOneMore}
 use Rattle.tftp_capture.specs.declared.fault.CaptureFault.TheVariants.{Memory}
 use Rattle.std.specs.List.{slice_split}
 use Rattle.tftp_law.proofs.Beginnings.{empty_is_lawful}
-use Rattle.tftp_judge.specs.TextVerdict.{IsLineOf, LawfulBefore}
-use Rattle.tftp_capture.proofs.Beginnings.{agree, begins_more, stands_more}
-use Rattle.tftp_capture.proofs.Texts.{at_ends-after, some_line}
-use Rattle.tftp_capture.proofs.Uniqueness.{snoc_cases}
+use Rattle.tftp_judge.specs.TextVerdict.{IsLineOf, LawfulBefore, NoFaultBefore}
+use Rattle.tftp_capture.specs.declared.fault.TextFault.{TextFault}
+use Rattle.tftp_capture.proofs.Readings.{FaultIs, fault_is}
+use Rattle.tftp_capture.proofs.Readings.FaultIs.{cut, wrong}
+use Rattle.tftp_capture.proofs.Beginnings.{agree, before_or_past, begins_more, stands_more}
+use Rattle.tftp_capture.proofs.Texts.{at_ends-after, some_line, stands-nothing}
+use Rattle.tftp_capture.proofs.Uniqueness.{no_longer, snoc_cases}
 use Rattle.tftp_capture.proofs.Walks.{Step, Walk, head_or, says_walk, tail_of, walk_same}
 
 -- ---- what further lines add stands on further lines
@@ -155,9 +158,31 @@ line_of text more ahead ds line (inr said) =
     let there = split_length text more said.lines [] said.stands.divided in
     (omega (arith, said.at_line, ap length said.stands.says.begins), omega (arith, said.at_line, there))
 
+-- ---- no fault is before the line
+
+fault_past : (text more : List ℕ) (lines : List (List ℕ)) (rest : List ℕ) (due : Due) (ds es : List Numbered) (at : ℕ) (fault : TextFault) → Stands text lines rest due ds → FaultIs (text ++ more) es at fault → length lines + 1 ≤ at
+fault_past text more lines rest due ds es at _ stands (cut other p n) =
+    omega (arith, split_length text more lines rest stands.divided, ap length p.stands.divided, length-append p.lines (p.rest ∷ []), p.at_line)
+fault_past text more lines rest due ds es at fault stands (wrong read others byte e p) = elim (before_or_past read text byte others more (sym e)) as (λ _. length lines + 1 ≤ at) [
+  | inl h ↦
+      let longer = subst (λ t. length lines + 1 ≤ length (slice_split (λ b. b == 10) t)) (sym h.1) (split_length text h.0 lines rest stands.divided) in
+      omega (arith, longer, ap length p.stands.divided, length-append p.lines (p.rest ∷ []), p.at_line)
+  | inr h ↦ absurd (no_longer read h.0 byte p.lines lines p.rest rest p.due due es ds p.stands (subst (λ t. Stands t lines rest due ds) h.1 stands) fault p.wrong)
+]
+
+pub no_fault_before : (text more ahead : List ℕ) (ds : List Numbered) (line : ℕ) → MemoryTells (Memory line) text ahead ds → NoFaultBefore (text ++ more) line
+no_fault_before text more ahead ds line (inl reading) es at fault has =
+    let p = reading.unfinished in
+    omega (arith, p.at_line, fault_past text more p.lines p.rest reading.due ds es at fault p.stands (fault_is (text ++ more) es at fault has))
+no_fault_before text more ahead ds line (inr said) es at fault has =
+    omega (arith, said.at_line, fault_past text more said.lines [] (Body said.version said.header) (ds ++ (line, said.datagram) ∷ []) es at fault said.stands (fault_is (text ++ more) es at fault has))
+
 -- every text may have a first line for which memory was wanting
-pub wants_first_line : (text : List ℕ) → IsLineOf text 1 × LawfulBefore text 1
-wants_first_line text = ((omega arith, at_least text), none) where
+pub wants_first_line : (text : List ℕ) → IsLineOf text 1 × NoFaultBefore text 1 × LawfulBefore text 1
+wants_first_line text = ((omega arith, at_least text), no_fault, none) where
+  no_fault : NoFaultBefore text 1
+  no_fault es at fault has = omega (arith, fault_past [] text [] [] Head [] es at fault stands-nothing (fault_is text es at fault has))
+
   at_least : (bytes : List ℕ) → 1 ≤ length (slice_split (λ b. b == 10) bytes)
   at_least bytes = let line = some_line bytes in omega (arith, ap length line.2)
 

@@ -5,6 +5,7 @@ use Rattle.tftp_capture.specs.CaptureText.{Begins, Due, HasFault, IsCapture, Num
 use Rattle.tftp_capture.specs.CaptureText.Due.{Body}
 use Rattle.tftp_capture.specs.History.{IsAtTextEnd, IsReadFault, MemoryTells}
 use Rattle.tftp_capture.specs.declared.version.Version.{Version}
+use Rattle.tftp_capture.specs.declared.fault.TextFault.{TextFault}
 use Rattle.tftp_capture.specs.declared.fault.CaptureFault.{CaptureFault}
 use Rattle.tftp_capture.specs.declared.fault.CaptureFault.TheVariants.{Text, Read, Memory}
 use Rattle.tftp_ends.specs.CaptureText.{Datagram, Header}
@@ -75,15 +76,19 @@ pub record WantsToJudge (read : List ℕ) (count : ℕ) : Type 0 where
 abbrev pub IsLineOf : List ℕ → ℕ → Type 0
 IsLineOf text line = (1 ≤ line) × (line ≤ length (slice_split (λ b. b == 10) text))
 
+-- the text's fault, if it has one, is on this line or after it
+abbrev pub NoFaultBefore : List ℕ → ℕ → Type 0
+NoFaultBefore text line = (datagrams : List Numbered) (at : ℕ) (fault : TextFault) → HasFault text datagrams at fault → line ≤ at
+
 -- a fault of the text or its reader, after datagrams that are lawful
 abbrev pub IsFaultOf : List ℕ → CaptureFault → Type 0
 IsFaultOf text (Text line fault) = ((datagrams : List Numbered) × HasFault text datagrams line fault) × AllLawful text
 IsFaultOf text (Read line) = ((datagrams : List Numbered) × (due : Due) × Unfinished text datagrams line due) × AllLawful text
-IsFaultOf text (Memory line) = IsLineOf text line × LawfulBefore text line
+IsFaultOf text (Memory line) = IsLineOf text line × NoFaultBefore text line × LawfulBefore text line
 
 -- The first unlawful datagram on the lines before the text's first fault; else that fault; else what is said of the
--- datagrams. A text whose reading failed is what came before. Want of memory may be said of a line before which the
--- datagrams are lawful, of a datagram that takes memory after others with which it is lawful, or of the meaning of all.
+-- datagrams. A text whose reading failed is what came before. Want of memory may be said of a line before which there is
+-- no fault and the datagrams are lawful, of a datagram that takes memory after others with which it is lawful, or of the meaning of all.
 abbrev pub IsTextVerdict : List ℕ → Result Meaning Verdict → Type 0
 IsTextVerdict text (Ok m) = IsCaptureBy text (Ok m)
 IsTextVerdict text (Err (Refused (refusal.Unlawful index rule))) = BeginsBy text (Err (refusal.Unlawful index rule))
