@@ -69,7 +69,14 @@ fn is_whole(outcome: &Outcome, content: &[u8]) -> bool {
 fn each_order_gives_the_content(rt: HostRuntime) -> Result<(), Fail> {
     let parts = parts();
     let mut fragments = Fragments::new(rt.alloc());
-    for order in [[0usize, 1, 2], [0, 2, 1], [1, 0, 2], [1, 2, 0], [2, 0, 1], [2, 1, 0]] {
+    for order in [
+        [0usize, 1, 2],
+        [0, 2, 1],
+        [1, 0, 2],
+        [1, 2, 0],
+        [2, 0, 1],
+        [2, 1, 0],
+    ] {
         let [first, second, third] = order;
         for at in [first, first, second, first] {
             let Some(part) = parts.get(at) else {
@@ -253,9 +260,18 @@ fn keys_are_told_apart(rt: HostRuntime) -> Result<(), Fail> {
     for other in [
         Key { id: 8, ..one },
         Key { protocol: 6, ..one },
-        Key { target: one.source, ..one },
-        Key { source: one.target, ..one },
-        Key { target: mapped, ..one },
+        Key {
+            target: one.source,
+            ..one
+        },
+        Key {
+            source: one.target,
+            ..one
+        },
+        Key {
+            target: mapped,
+            ..one
+        },
     ] {
         let mut fragments = Fragments::new(rt.alloc());
         for (key, part) in [(one, &first), (one, &middle), (other, &last)] {
