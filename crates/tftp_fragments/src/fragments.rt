@@ -81,6 +81,7 @@ impl Fragments {
         ensures gone { (s : SetState) → set_at key self.old ≡ Some s → is_long s.began time ≡ true → (set_at key self.new ≡ None) × IsSomeAnd result (λ frames. frames.items ≡ s.frames) }
         ensures kept { (s : SetState) → set_at key self.old ≡ Some s → is_long s.began time ≡ false → (set_at key self.new ≡ Some s) × (result ≡ None) }
         ensures none { set_at key self.old ≡ None → (set_at key self.new ≡ None) × (result ≡ None) }
+        ensures young { (s : SetState) → set_at key self.new ≡ Some s → is_long s.began time ≡ false }
     {
         let old = match self.sets.get(&key) {
             Some(set) => is_long(set.began(), time),

@@ -16,4 +16,3 @@ pub use laws::{
 };
 pub use outcome::Outcome;
 pub use part::Part;
-pub use parts::Parts;

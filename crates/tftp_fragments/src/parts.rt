@@ -9,7 +9,7 @@ use std::marker::Model;
 
 /// The parts of one packet's content that have come, each byte at its place.
 #[derive(Drop)]
-pub struct Parts {
+pub(crate) struct Parts {
     cells: Vec<Option<u8>>,
     front: usize,
     ended: bool,
@@ -27,7 +27,7 @@ impl Model for Parts {
 
 impl Parts {
     /// No part has come. Takes no memory.
-    pub fn new(alloc: Global) -> Self
+    pub(crate) fn new(alloc: Global) -> Self
         ensures { result ≡ nothing_held }
     {
         Parts {
@@ -38,7 +38,7 @@ impl Parts {
     }
 
     /// How many bytes there are up to the furthest end of a part.
-    pub fn reach(&self) -> usize
+    pub(crate) fn reach(&self) -> usize
         ensures value { result ≡ length self.now.cells }
         ensures few { result ≤ 65535 }
     {
@@ -46,7 +46,7 @@ impl Parts {
     }
 
     /// Whether the part may be of the packet of those that have come.
-    pub fn agree(&self, part: &Part) -> bool
+    pub(crate) fn agree(&self, part: &Part) -> bool
         requires room { end_of (part_of part.now) ≤ 65535 }
         ensures { IsTrue result ↔ Agrees self.now (part_of part.now) }
     {
@@ -68,7 +68,7 @@ impl Parts {
     }
 
     /// Adds a part. It takes memory only where the part ends behind all others.
-    pub fn add(&mut self, part: &Part) -> Result<(), AllocError>
+    pub(crate) fn add(&mut self, part: &Part) -> Result<(), AllocError>
         requires room { end_of (part_of part.now) ≤ 65535 }
         requires agrees { Agrees self.old (part_of part.now) }
         ensures ok { (parts : List Piece) → StandsFor self.old parts → OnOk result (StandsFor self.new (part_of part.now ∷ parts)) }
@@ -85,14 +85,14 @@ impl Parts {
     }
 
     /// Whether all of the content has come.
-    pub fn are_whole(&self) -> bool
+    pub(crate) fn are_whole(&self) -> bool
         ensures { IsTrue result ↔ IsComplete self.now }
     {
         self.ended && self.front == self.cells.len()
     }
 
     /// The content.
-    pub fn content(&self, alloc: Global) -> Result<Vec<u8>, AllocError>
+    pub(crate) fn content(&self, alloc: Global) -> Result<Vec<u8>, AllocError>
         requires { IsComplete self.now }
         ensures { IfOk result (λ content. self.now.cells ≡ map (λ b. Some b) content.items) }
     {

@@ -1,12 +1,10 @@
-use Rattle.std.proofs.Common.{◌≡◌, Some, true, sym, ap, ◌∙◌}
+use Rattle.std.proofs.Common.{◌≡◌, true, sym, ap, ◌∙◌}
 use Rattle.tftp_fragments.specs.Set.{SetState}
 use Rattle.tftp_fragments.specs.Store.{Sets, set_at, is_long}
 use Rattle.tftp_fragments.proofs.Holding.{not_both}
+use Rattle.tftp_fragments.proofs.Rooms.{no_set, same_set}
 use Rattle.tftp_fragments.proofs.fragments.Fragments.let_go_old.Goals as goal
 use Rattle.tftp_fragments.proofs.fragments.Fragments.let_go_old.Goals.{in-Some, in-None}
-
-same_set : (s t : SetState) → Some s ≡ Some t → s ≡ t
-same_set s t e = cc
 
 pub returns-then-old-clause-kept : goal.returns-then-old-clause-kept
 returns-then-old-clause-kept c = λ s e young.
@@ -16,4 +14,13 @@ returns-then-old-clause-kept c = λ s e young.
           let old : is_long s.began c.args.time ≡ true = ap (λ (t : SetState). is_long t.began c.args.time) (sym (same_set _ s found)) ∙ ap (λ began. is_long began c.args.time) (sym w.began.ensures) ∙ sym w.is_long-old.ensures ∙ sym w.old-is ∙ c.if-old.true in
           absurd (not_both (is_long s.began c.args.time) old young)
       | in-None w ↦ absurd (not_both c.match-get.old c.if-old.true w.old-is)
+    ]
+
+pub returns-else-old-clause-young : goal.returns-else-old-clause-young
+returns-else-old-clause-young c = λ s e.
+    elim c.match-get.branch [
+      | in-Some w ↦
+          let found = w.in-Some.ensures.value ∙ ap (λ (sets : Sets). set_at c.args.key sets) c.self.view_is ∙ e in
+          ap (λ (t : SetState). is_long t.began c.args.time) (sym (same_set _ s found)) ∙ ap (λ began. is_long began c.args.time) (sym w.began.ensures) ∙ sym w.is_long-old.ensures ∙ sym w.old-is ∙ c.if-old.false
+      | in-None w ↦ absurd (no_set s (w.in-None.ensures.value ∙ ap (λ (sets : Sets). set_at c.args.key sets) c.self.view_is ∙ e))
     ]
