@@ -37,10 +37,10 @@ pub lines_more : (lines new : BTreeMap Endpoint Line) (p : Placed) (older : List
     → l.latest.client ≡ k → IsLineOf l (p ∷ live p.moment (line k older)) → AreLinesOf lines older → AreLinesOf new (p ∷ older)
 lines_more lines new p older k l later place updates client more stands = λ c. by_test (same_endpoint k c)
     (λ is. subst (λ e. IsLineKept e (p ∷ older) (get endpoint_cmp new e)) (is_same k c is)
-      (subst (IsLineKept k (p ∷ older)) (sym (updates k ∙ ap (λ b. cond b (Some l) (get endpoint_cmp lines k)) (same_by_order k k ∙ same_itself k)))
-        (client, subst (IsLineOf l) (sym (line_here k p older (place k ∙ same_itself k))) more)))
+    (subst (IsLineKept k (p ∷ older)) (sym (updates k ∙ ap (λ b. cond b (Some l) (get endpoint_cmp lines k)) (same_by_order k k ∙ same_itself k)))
+    (client, subst (IsLineOf l) (sym (line_here k p older (place k ∙ same_itself k))) more)))
     (λ off. subst (IsLineKept c (p ∷ older)) (sym (updates c ∙ ap (λ b. cond b (Some l) (get endpoint_cmp lines c)) (same_by_order k c ∙ off)))
-      (kept_later c p older (get endpoint_cmp lines c) (place c ∙ off) later (stands c)))
+    (kept_later c p older (get endpoint_cmp lines c) (place c ∙ off) later (stands c)))
 
 -- a line that is not silent is the whole line
 pub live_whole : (now : ℕ) (ps : List Placed) → live now ps ≢ [] → live now ps ≡ ps
