@@ -127,10 +127,13 @@ impl Attribution {
             kind,
         };
         let place = self.place_of(&seen, payload, is_spelled, now);
-        self.failed = true;
-        self.keep(alloc, &place, &seen, payload, now)?;
-        self.failed = false;
-        Ok(place)
+        match self.keep(alloc, &place, &seen, payload, now) {
+            Ok(()) => Ok(place),
+            Err(_) => {
+                self.failed = true;
+                Err(AttributionFault::Memory)
+            }
+        }
     }
 
     /// Keeps a datagram that belongs there.
@@ -143,10 +146,9 @@ impl Attribution {
         now: u64,
     ) -> Result<(), AllocError>
         requires { self.old.count + 1 < 2 ^ 64 }
-        ensures stands { (named : List ℕ) (older : List Placed) (d : Recorded) → IsAfter (record self.old { failed = false }) named older → clock older ≤ now
+        ensures { (named : List ℕ) (older : List Placed) (d : Recorded) → IsAfter self.old named older → clock older ≤ now
             → seen.now ≡ seen_of d → d.payload ≡ payload.now → place.now ≡ place_of named older now d
-            → OnOk result (IsAfter (record self.new { failed = false }) named (record { datagram = d; moment = now; place = place.now } ∷ older)) }
-        ensures failed { self.new.failed ≡ self.old.failed }
+            → OnOk result (IsAfter self.new named (record { datagram = d; moment = now; place = place.now } ∷ older)) }
     {
         self.keep_line(alloc, place, seen, payload, now)?;
         keep_served(&mut self.served, place, seen, now)?;

@@ -1,7 +1,7 @@
 use Rattle.std.proofs.Common.{◌≡◌, true, ◌∷◌, sym, ap, subst, ◌∙◌}
 use Rattle.tftp_transfers.specs.Recording.{is_between}
 use Rattle.std.specs.Prelude.{is_some}
-use Rattle.tftp_transfers.specs.Places.{Placed, live, line}
+use Rattle.tftp_transfers.specs.Places.{live, line}
 use Rattle.tftp_transfers.specs.Kept.{IsLineOf, IsLineKept, place_of_talk}
 use Rattle.tftp_transfers.proofs.AllLines.{on_ok_map, lines_more, live_whole, at_talk}
 use Rattle.tftp_transfers.proofs.all_lines.note.Goals as goal

@@ -1,10 +1,9 @@
-use Rattle.std.proofs.Common.{◌≡◌, ◌∷◌, refl, sym, ap, subst, ◌∙◌}
-use Rattle.std.specs.Prelude.{is_some, OnOk}
+use Rattle.std.proofs.Common.{◌≡◌, ◌∷◌, refl, sym, ap, subst}
+use Rattle.std.specs.Prelude.{is_some}
 use Rattle.tftp_transfers.specs.declared.place.Place.TheVariants.{Opens}
-use Rattle.tftp_transfers.specs.declared.line.Line.{Line}
-use Rattle.tftp_transfers.specs.Places.{live, line}
+use Rattle.tftp_transfers.specs.Places.{line}
 use Rattle.tftp_transfers.specs.Kept.{IsLineOf, IsLineKept}
-use Rattle.tftp_transfers.proofs.AllLines.{on_ok_map, on_ok_both, lines_more, live_whole}
+use Rattle.tftp_transfers.proofs.AllLines.{on_ok_both, lines_more, live_whole}
 use Rattle.tftp_transfers.proofs.all_lines.reopen.Goals as goal
 
 pub returns-in-Some : goal.returns-in-Some

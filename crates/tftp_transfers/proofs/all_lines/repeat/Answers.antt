@@ -1,9 +1,8 @@
 use Rattle.std.proofs.Common.{◌≡◌, ◌∷◌, sym, ap, subst, ◌∙◌}
-use Rattle.tftp_transfers.specs.declared.place.Place.{Place}
 use Rattle.tftp_transfers.specs.declared.place.Place.TheVariants.{Repeats}
 use Rattle.tftp_transfers.specs.Recording.{same_endpoint}
 use Rattle.std.specs.Prelude.{is_some}
-use Rattle.tftp_transfers.specs.Places.{Placed, live, line, place_asked}
+use Rattle.tftp_transfers.specs.Places.{live, line, place_asked}
 use Rattle.tftp_transfers.specs.Kept.{IsLineOf, IsLineKept}
 use Rattle.tftp_transfers.proofs.AllLines.{lines_more, live_whole, repeats_live}
 use Rattle.tftp_transfers.proofs.all_lines.repeat.Goals as goal

@@ -1,8 +1,5 @@
-use Rattle.std.proofs.Common.{◌≡◌, true, false, ◌∷◌, Some, cond, sym, ap, subst, ◌∙◌}
-use Rattle.std.specs.Ordering.{is_eq}
-use Rattle.std.specs.BTreeMap.{get}
-use Rattle.tftp_transfers.specs.declared.place.Place.TheVariants.{Talks}
-use Rattle.tftp_transfers.specs.Recording.{same_endpoint, endpoint_cmp}
+use Rattle.std.proofs.Common.{◌≡◌, true, false, Some, cond, sym, ap, ◌∙◌}
+use Rattle.tftp_transfers.specs.Recording.{same_endpoint}
 use Rattle.tftp_transfers.specs.Places.{newer, serves, last_served}
 use Rattle.tftp_transfers.proofs.Endpoints.{same_by_order}
 use Rattle.tftp_transfers.proofs.Serving.{served_there, served_elsewhere}
