@@ -6,7 +6,7 @@ use Rattle.std.specs.List.{list_any}
 use Rattle.std.specs.Ordering.{nat_cmp, is_eq}
 use Rattle.tftp_transfers.specs.declared.endpoint.Endpoint.{Endpoint}
 use Rattle.tftp_transfers.specs.declared.place.Place.{Place}
-use Rattle.tftp_transfers.specs.declared.place.Place.TheVariants.{Opens, Repeats, Talks, Apart}
+use Rattle.tftp_transfers.specs.declared.place.Place.TheVariants.{Opens, Repeats, Talks, Apart, Beside, Nowhere}
 use Rattle.tftp_transfers.specs.declared.place.Transfer.{Transfer}
 use Rattle.tftp_transfers.specs.declared.kind.Kind.{Kind}
 use Rattle.tftp_transfers.specs.declared.kind.Seen.{Seen}
@@ -124,3 +124,9 @@ pub record IsRecorded (d : Recorded) (at : ℕ) (from to : Endpoint) (bytes : Li
   pub target : d.target ≡ to
   pub payload : d.payload ≡ bytes
   pub is_spelled : d.is_spelled ≡ spelled
+
+-- what is of no client's line takes no memory
+abbrev pub takes_memory : Place → Bool
+takes_memory (Beside x) = false
+takes_memory Nowhere = false
+takes_memory place = true

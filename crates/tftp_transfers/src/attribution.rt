@@ -1,6 +1,6 @@
 //! The place of each datagram of a recording, in one pass.
 
-ghost use Rattle.std.specs.Prelude.{◌≡◌, ◌≢◌, ◌≤◌, ◌+◌, ◌∷◌, ℕ, List, [], MatchBool, OnOk, IfOk, Err, ◌^◌, ◌<◌, max, true, false, ◌&&◌, ◌||◌, not, is_some, nat_le, MatchOption, Some, None, if◌then◌else◌};
+ghost use Rattle.std.specs.Prelude.{◌≡◌, ◌≢◌, ◌≤◌, ◌+◌, ◌∷◌, ℕ, List, [], MatchBool, OnOk, IfOk, IsOk, Err, ◌^◌, ◌<◌, max, true, false, ◌&&◌, ◌||◌, not, is_some, nat_le, MatchOption, Some, None, if◌then◌else◌};
 ghost use Rattle.tftp_transfers.specs.Recording.{Recorded};
 ghost use Rattle.tftp_transfers.specs.Places.{
   Placed,
@@ -24,7 +24,7 @@ ghost use Rattle.tftp_transfers.specs.Places.{
   place_of,
   and_then,
 };
-ghost use Rattle.tftp_transfers.specs.Kept.{IsLineOf, IsAfter, AreLinesOf, AreServed, AreServices, IsRecorded, seen_of, is_asked, other_end};
+ghost use Rattle.tftp_transfers.specs.Kept.{IsLineOf, IsAfter, AreLinesOf, AreServed, AreServices, IsRecorded, seen_of, is_asked, takes_memory, other_end};
 ghost use Rattle.tftp_transfers.specs.declared.place.Place.{Place};
 ghost use Rattle.tftp_transfers.specs.declared.attribution.AttributionFault.{AttributionFault};
 
@@ -111,6 +111,9 @@ impl Attribution {
             → OnOk result (IsAfter self.new named (and_then named older d)) }
         ensures full { result ≡ Err AttributionFault.TooMany → (self.old.count + 1 ≡ 2 ^ 64) × (self.new ≡ self.old) }
         ensures memory { result ≡ Err AttributionFault.Memory → self.new.failed ≡ true }
+        ensures spare { (named : List ℕ) (older : List Placed) (d : Recorded) → IsAfter self.old named older
+            → IsRecorded d time source target payload.now is_spelled
+            → takes_memory (place_of named older (max time (clock older)) d) ≡ false → result ≢ Err AttributionFault.Memory }
         ensures for_good { self.old.failed ≡ true → result ≡ Err AttributionFault.Memory }
     {
         if self.failed {
@@ -146,9 +149,10 @@ impl Attribution {
         now: u64,
     ) -> Result<(), AllocError>
         requires { self.old.count + 1 < 2 ^ 64 }
-        ensures { (named : List ℕ) (older : List Placed) (d : Recorded) → IsAfter self.old named older → clock older ≤ now
+        ensures stands { (named : List ℕ) (older : List Placed) (d : Recorded) → IsAfter self.old named older → clock older ≤ now
             → seen.now ≡ seen_of d → d.payload ≡ payload.now → place.now ≡ place_of named older now d
             → OnOk result (IsAfter self.new named (record { datagram = d; moment = now; place = place.now } ∷ older)) }
+        ensures spare { takes_memory place.now ≡ false → IsOk result }
     {
         self.keep_line(alloc, place, seen, payload, now)?;
         keep_served(&mut self.served, place, seen, now)?;
@@ -317,6 +321,7 @@ impl Attribution {
             → seen.now ≡ seen_of d → d.payload ≡ payload.now → place.now ≡ place_of named older now d
             → OnOk result (AreLinesOf self.new.lines (record { datagram = d; moment = now; place = place.now } ∷ older)) }
         ensures others { self.new ≡ record self.old { lines = self.new.lines } }
+        ensures spare { takes_memory place.now ≡ false → IsOk result }
     {
         match place {
             Place::Opens(transfer) => {
@@ -369,7 +374,8 @@ fn keep_served(
     seen: &Seen,
     now: u64,
 ) -> Result<(), AllocError>
-    ensures { (older : List Placed) (d : Recorded) → AreServed served.old older → seen.now ≡ seen_of d
+    ensures spare { takes_memory place.now ≡ false → IsOk result }
+    ensures served { (older : List Placed) (d : Recorded) → AreServed served.old older → seen.now ≡ seen_of d
         → OnOk result (AreServed served.new (record { datagram = d; moment = now; place = place.now } ∷ older)) }
 {
     match place {
@@ -393,7 +399,8 @@ fn keep_served(
 
 /// Keeps to which port a request went.
 fn keep_service(services: &mut BTreeSet<u16>, place: &Place, port: u16) -> Result<(), AllocError>
-    ensures { (named : List ℕ) (older : List Placed) (d : Recorded) (now : ℕ) → AreServices services.old.keys named older → d.target.port ≡ port
+    ensures spare { takes_memory place.now ≡ false → IsOk result }
+    ensures services { (named : List ℕ) (older : List Placed) (d : Recorded) (now : ℕ) → AreServices services.old.keys named older → d.target.port ≡ port
         → OnOk result (AreServices services.new.keys named (record { datagram = d; moment = now; place = place.now } ∷ older)) }
 {
     if is_asked(place) {
