@@ -1,12 +1,11 @@
 -- The lines of all clients, with one datagram more.
-use Rattle.std.proofs.Common.{◌≡◌, ◌≢◌, ◌≤◌, ℕ, ◌+◌, Bool, true, false, List, [], ◌∷◌, Option, Some, None, Result, Ok, Err, cond, refl, sym, ap, subst, ◌∙◌}
-use Rattle.std.specs.Prelude.{OnOk, nat_le, if◌then◌else◌}
+use Rattle.std.proofs.Common.{◌≡◌, ◌≢◌, ◌≤◌, ℕ, ◌+◌, true, false, List, [], ◌∷◌, Option, Some, None, Result, Ok, Err, cond, refl, sym, ap, subst, ◌∙◌}
+use Rattle.std.specs.Prelude.{OnOk, nat_le}
 use Rattle.std.specs.BTreeMap.{get, BTreeMap}
 use Rattle.std.specs.Ordering.{is_eq}
 use Rattle.tftp_transfers.specs.declared.endpoint.Endpoint.{Endpoint}
 use Rattle.tftp_transfers.specs.declared.line.Line.{Line}
 use Rattle.tftp_transfers.specs.declared.place.Transfer.{Transfer}
-use Rattle.tftp_transfers.specs.declared.place.Place.{Place}
 use Rattle.tftp_transfers.specs.declared.place.Place.TheVariants.{Opens, Repeats}
 use Rattle.tftp_transfers.specs.Recording.{Recorded, same_endpoint, endpoint_cmp}
 use Rattle.tftp_transfers.specs.Places.{Placed, is_at, live, line, clock, silence, place_asked}
@@ -37,10 +36,10 @@ pub lines_more : (lines new : BTreeMap Endpoint Line) (p : Placed) (older : List
     → l.latest.client ≡ k → IsLineOf l (p ∷ live p.moment (line k older)) → AreLinesOf lines older → AreLinesOf new (p ∷ older)
 lines_more lines new p older k l later place updates client more stands = λ c. by_test (same_endpoint k c)
     (λ is. subst (λ e. IsLineKept e (p ∷ older) (get endpoint_cmp new e)) (is_same k c is)
-      (subst (IsLineKept k (p ∷ older)) (sym (updates k ∙ ap (λ b. cond b (Some l) (get endpoint_cmp lines k)) (same_by_order k k ∙ same_itself k)))
-        (client, subst (IsLineOf l) (sym (line_here k p older (place k ∙ same_itself k))) more)))
+    (subst (IsLineKept k (p ∷ older)) (sym (updates k ∙ ap (λ b. cond b (Some l) (get endpoint_cmp lines k)) (same_by_order k k ∙ same_itself k)))
+    (client, subst (IsLineOf l) (sym (line_here k p older (place k ∙ same_itself k))) more)))
     (λ off. subst (IsLineKept c (p ∷ older)) (sym (updates c ∙ ap (λ b. cond b (Some l) (get endpoint_cmp lines c)) (same_by_order k c ∙ off)))
-      (kept_later c p older (get endpoint_cmp lines c) (place c ∙ off) later (stands c)))
+    (kept_later c p older (get endpoint_cmp lines c) (place c ∙ off) later (stands c)))
 
 -- a line that is not silent is the whole line
 pub live_whole : (now : ℕ) (ps : List Placed) → live now ps ≢ [] → live now ps ≡ ps

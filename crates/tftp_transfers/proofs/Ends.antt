@@ -1,15 +1,14 @@
 -- What a place says of the ends of its datagram.
 use Rattle.std.proofs.Common.{◌≡◌, ◌≢◌, ◌⊎◌, ℕ, ◌+◌, Bool, true, false, List, [], ◌∷◌, Option, Some, None, inl, inr, refl, sym, ap, subst, ◌∙◌}
-use Rattle.std.specs.Prelude.{◌&&◌, ◌||◌, not, nat_le, option_map, length, if◌then◌else◌}
+use Rattle.std.specs.Prelude.{◌&&◌, not, nat_le, option_map, length, if◌then◌else◌}
 use Rattle.std.specs.List.{AllByRecursion}
-use Rattle.std.proofs.lemmas.Bool.{false≢true}
 use Rattle.tftp_transfers.specs.declared.endpoint.Endpoint.{Endpoint}
 use Rattle.tftp_transfers.specs.declared.place.Place.{Place}
 use Rattle.tftp_transfers.specs.declared.place.Place.TheVariants.{Opens, Repeats, Talks, Apart, Beside, Nowhere}
 use Rattle.tftp_transfers.specs.declared.place.Transfer.{Transfer}
 use Rattle.tftp_transfers.specs.declared.line.Talk.{Talk}
 use Rattle.tftp_transfers.specs.Recording.{Recorded, same_endpoint, is_between, is_again}
-use Rattle.tftp_transfers.specs.Places.{Placed, opens, is_request, is_apart, is_at, newest_of, live, line, silence, transfer_of, latest_in, answered_in, talked_of, talk_in, place_asked, place_talked, place_at, either, or_talks, at_client, beside, beside_by, served_at, is_nowhere, asks, place_of, opened_by, asked_after, is_known_host, may_answer, last_was_ack_0}
+use Rattle.tftp_transfers.specs.Places.{Placed, opens, is_request, is_apart, is_at, newest_of, live, line, silence, transfer_of, latest_in, answered_in, talked_of, talk_in, place_asked, place_talked, place_at, either, or_talks, at_client, beside, beside_by, served_at, is_nowhere, asks, place_of, opened_by, asked_after, is_known_host, last_was_ack_0}
 use Rattle.tftp_transfers.proofs.Endpoints.{is_same}
 use Rattle.tftp_transfers.proofs.Lines.{by_test}
 use Rattle.tftp_transfers.proofs.AllLines.{line_here, line_elsewhere}
@@ -38,7 +37,7 @@ newest_at : (c : Endpoint) (test : Placed → Bool) (ps : List Placed) (p : Plac
 newest_at c test [] p all found = absurd (cc)
 newest_at c test (q ∷ ps) p all found = by_test (test q)
     (λ is. let same : Some q ≡ Some p = sym (ap (λ b. if b then Some q else newest_of test ps) is) ∙ found in
-      let this : q ≡ p = cc in (subst (λ r. is_at c r ≡ true) this all.0, subst (λ r. test r ≡ true) this is))
+    let this : q ≡ p = cc in (subst (λ r. is_at c r ≡ true) this all.0, subst (λ r. test r ≡ true) this is))
     (λ off. newest_at c test ps p all.1 (sym (ap (λ b. if b then Some q else newest_of test ps) off) ∙ found))
 
 -- ---- the latest transfer is its client's, and so is what is talked of
@@ -228,7 +227,7 @@ opened_where older now d place number is = record {
   talks = λ x e. let both : opened_by number d ≡ Talks x = sym is ∙ e in absurd (cc);
   apart = λ a e. let both : opened_by number d ≡ Apart a = sym is ∙ e in absurd (cc);
   opens = λ x e. let both : opened_by number d ≡ Opens x = sym is ∙ e in
-    let same : record { number = number; client = d.source; asked = d.target } ≡ x = cc in (ap (λ z. z.client) (sym same), ap (λ z. z.asked) (sym same));
+      let same : record { number = number; client = d.source; asked = d.target } ≡ x = cc in (ap (λ z. z.client) (sym same), ap (λ z. z.asked) (sym same));
   repeats = λ x e. let both : opened_by number d ≡ Repeats x = sym is ∙ e in absurd (cc);
 }
 
@@ -256,7 +255,7 @@ pub placed_where : (named : List ℕ) (older : List Placed) (now : ℕ) (d : Rec
 placed_where named older now d = by_test (asks named older now d)
     (λ is. subst (IsWhere older now d) (sym (ap (λ b. if b then asked_place older now d else if is_nowhere (at_client older now d) then beside named older now d else at_client older now d) is)) (asked_where older now d))
     (λ off. subst (IsWhere older now d) (sym (ap (λ b. if b then asked_place older now d else if is_nowhere (at_client older now d) then beside named older now d else at_client older now d) off)) (by_test (is_nowhere (at_client older now d))
-      (λ is. subst (IsWhere older now d) (sym (ap (λ b. if b then beside named older now d else at_client older now d) is))
-        (end_where older now d (beside named older now d) (beside_end older now d (served_at named older now d.source) (served_at named older now d.target))))
-      (λ there. subst (IsWhere older now d) (sym (ap (λ b. if b then beside named older now d else at_client older now d) there))
-        (end_where older now d (at_client older now d) (client_end older now d)))))
+    (λ is. subst (IsWhere older now d) (sym (ap (λ b. if b then beside named older now d else at_client older now d) is))
+    (end_where older now d (beside named older now d) (beside_end older now d (served_at named older now d.source) (served_at named older now d.target))))
+    (λ there. subst (IsWhere older now d) (sym (ap (λ b. if b then beside named older now d else at_client older now d) there))
+    (end_where older now d (at_client older now d) (client_end older now d)))))

@@ -4,3 +4,4 @@ pub mod Requests
 pub mod Silences
 pub mod AllLines
 pub mod Ends
+pub mod Serving

@@ -1,19 +1,17 @@
 -- A line with one datagram more, which is no request.
 use Rattle.std.proofs.Common.{◌≡◌, ℕ, Bool, true, false, List, [], ◌∷◌, Option, Some, None, cond, inl, inr, refl, sym, ap, subst, ◌∙◌}
-use Rattle.std.specs.Prelude.{◌&&◌, ◌||◌, ◌==◌, not, option_map, if◌then◌else◌}
+use Rattle.std.specs.Prelude.{◌&&◌, ◌||◌, not, option_map, if◌then◌else◌}
 use Rattle.std.specs.Str.{bytes_eq}
-use Rattle.std.specs.BTreeMap.{get, BTreeMap}
+use Rattle.std.specs.BTreeMap.{get}
 use Rattle.std.specs.Ordering.{is_eq}
-use Rattle.std.proofs.lemmas.Bool.{false≢true, and_from, and_parts, or_cases}
+use Rattle.std.proofs.lemmas.Bool.{false≢true, and_parts, or_cases}
 use Rattle.tftp_ends.specs.Ports.{first_of, or_this}
 use Rattle.tftp_transfers.specs.declared.endpoint.Endpoint.{Endpoint}
-use Rattle.tftp_transfers.specs.declared.place.Place.{Place}
-use Rattle.tftp_transfers.specs.declared.place.Place.TheVariants.{Opens, Repeats, Talks, Apart}
+use Rattle.tftp_transfers.specs.declared.place.Place.TheVariants.{Opens, Repeats}
 use Rattle.tftp_transfers.specs.declared.place.Transfer.{Transfer}
 use Rattle.tftp_transfers.specs.declared.line.Line.{Line}
-use Rattle.tftp_transfers.specs.declared.line.Talk.{Talk}
 use Rattle.tftp_transfers.specs.Recording.{Recorded, same_endpoint, endpoint_cmp, is_ack_0, goes, is_between}
-use Rattle.tftp_transfers.specs.Places.{Placed, opens, is_request, is_apart, newest_of, latest_in, reach, answers, answered_in, talked_of, talk_in, last_was_ack_0, place_asked, clock}
+use Rattle.tftp_transfers.specs.Places.{Placed, opens, is_request, newest_of, latest_in, reach, answers, answered_in, talked_of, talk_in, last_was_ack_0, place_asked}
 use Rattle.tftp_transfers.specs.Kept.{IsLineOf, seen_of, asked_by, place_of_talk, comes_to, acked_in, talk_after, ends_after}
 use Rattle.tftp_transfers.proofs.Endpoints.{same_by_order, is_same, same_itself}
 

@@ -1,9 +1,9 @@
 -- A line with one request more.
-use Rattle.std.proofs.Common.{◌≡◌, ℕ, Bool, true, false, List, [], ◌∷◌, Option, Some, None, refl, sym, ap, subst, ◌∙◌}
+use Rattle.std.proofs.Common.{◌≡◌, ℕ, Bool, true, false, List, ◌∷◌, Option, Some, None, refl, sym, ap, subst, ◌∙◌}
 use Rattle.std.specs.Prelude.{◌&&◌, if◌then◌else◌}
 use Rattle.std.specs.Str.{bytes_eq}
 use Rattle.std.specs.BTreeMap.{get}
-use Rattle.std.proofs.lemmas.Bool.{false≢true, and_from, and_parts}
+use Rattle.std.proofs.lemmas.Bool.{and_parts}
 use Rattle.std.proofs.lemmas.Slice.Eq.{bytes_eq-Decides}
 use Rattle.tftp_ends.specs.Ports.{or_this}
 use Rattle.tftp_transfers.specs.declared.endpoint.Endpoint.{Endpoint}
@@ -15,7 +15,7 @@ use Rattle.tftp_transfers.specs.Recording.{Recorded, same_endpoint, endpoint_cmp
 use Rattle.tftp_transfers.specs.Places.{Placed, answered_in, talk_in, place_asked}
 use Rattle.tftp_transfers.specs.Kept.{IsLineOf, IsRequestOf, asked_by}
 use Rattle.tftp_transfers.proofs.Endpoints.{is_same, same_itself}
-use Rattle.tftp_transfers.proofs.Lines.{by_test, answered_more}
+use Rattle.tftp_transfers.proofs.Lines.{answered_more}
 
 -- the same client asks the same again
 again_is : (c t : Endpoint) (payload : List ℕ) (d e : Recorded) → d.source ≡ c → d.target ≡ t → d.payload ≡ payload → e.source ≡ c

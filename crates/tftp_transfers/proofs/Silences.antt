@@ -1,11 +1,10 @@
 -- When a line is silent.
-use Rattle.std.proofs.Common.{◌≡◌, ◌≤◌, ◌<◌, ℕ, ◌+◌, Bool, true, false, List, [], ◌∷◌, Option, Some, None, arith, refl, sym, ap, subst, ◌∙◌}
+use Rattle.std.proofs.Common.{◌≡◌, ◌≤◌, ◌<◌, ℕ, ◌+◌, true, false, List, [], ◌∷◌, arith, refl, sym, ap, ◌∙◌}
 use Rattle.std.specs.Prelude.{nat_le, if◌then◌else◌}
 use Rattle.std.proofs.lemmas.Bool.{leb-false, lt-leb}
-use Rattle.tftp_transfers.specs.declared.endpoint.Endpoint.{Endpoint}
 use Rattle.tftp_transfers.specs.declared.line.Line.{Line}
-use Rattle.tftp_transfers.specs.Places.{Placed, live, line, clock, silence}
-use Rattle.tftp_transfers.specs.Kept.{IsLineOf, IsLineKept}
+use Rattle.tftp_transfers.specs.Places.{Placed, live, clock, silence}
+use Rattle.tftp_transfers.specs.Kept.{IsLineOf}
 use Rattle.tftp_transfers.proofs.Lines.{by_test}
 
 pub live_is : (now : ℕ) (ps : List Placed) → nat_le now (clock ps + silence) ≡ true → live now ps ≡ ps

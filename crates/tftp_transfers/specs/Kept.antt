@@ -1,16 +1,17 @@
 -- What one pass keeps of the datagrams before: of each client's line, and of each endpoint that served.
-use Rattle.std.specs.Prelude.{◌≡◌, ℕ, ◌==◌, ◌&&◌, Bool, false, List, [], length, Option, Some, None, if◌then◌else◌}
+use Rattle.std.specs.Prelude.{◌≡◌, ℕ, ◌==◌, ◌&&◌, Bool, true, false, List, [], length, Option, Some, None, if◌then◌else◌}
 use Rattle.std.specs.Str.{bytes_eq}
 use Rattle.std.specs.BTreeMap.{get, BTreeMap}
 use Rattle.std.specs.List.{list_any}
 use Rattle.std.specs.Ordering.{nat_cmp, is_eq}
 use Rattle.tftp_transfers.specs.declared.endpoint.Endpoint.{Endpoint}
 use Rattle.tftp_transfers.specs.declared.place.Place.{Place}
-use Rattle.tftp_transfers.specs.declared.place.Place.TheVariants.{Opens, Repeats, Talks, Apart}
+use Rattle.tftp_transfers.specs.declared.place.Place.TheVariants.{Opens, Repeats, Talks, Apart, Beside, Nowhere}
 use Rattle.tftp_transfers.specs.declared.place.Transfer.{Transfer}
 use Rattle.tftp_transfers.specs.declared.kind.Kind.{Kind}
 use Rattle.tftp_transfers.specs.declared.kind.Seen.{Seen}
 use Rattle.tftp_transfers.specs.declared.attribution.Attribution.{Attribution}
+use Rattle.tftp_transfers.specs.declared.attribution.Served.{Served}
 use Rattle.tftp_transfers.specs.declared.line.Line.{Line}
 use Rattle.tftp_transfers.specs.declared.line.Talk.{Talk}
 use Rattle.tftp_transfers.specs.Recording.{Recorded, same_endpoint, endpoint_cmp, begins_request, begins_error, is_ack_0, is_data_1, is_answer}
@@ -90,15 +91,42 @@ IsLineKept c older (Some l) = (l.latest.client ≡ c) × IsLineOf l (line c olde
 abbrev pub AreLinesOf : BTreeMap Endpoint Line → List Placed → Type 0
 AreLinesOf lines older = (c : Endpoint) → IsLineKept c older (get endpoint_cmp lines c)
 
+-- the ports are the service ports
+abbrev pub AreServices : List ℕ → List ℕ → List Placed → Type 0
+AreServices ports named older = (port : ℕ) → is_service named older port ≡ list_any (λ n. is_eq (nat_cmp port n)) ports
+
+-- who served whom
+abbrev pub AreServed : BTreeMap Endpoint Served → List Placed → Type 0
+AreServed served older = (o : Endpoint) → get endpoint_cmp served o ≡ last_served o older
+
 -- It stands for these datagrams of a recording; the ports were named.
 pub record IsAfter (a : Attribution) (named : List ℕ) (older : List Placed) : Type 0 where
   pub failed : a.failed ≡ false
   pub count : a.count ≡ length older
   pub clock : a.clock ≡ clock older
-  pub services : (port : ℕ) → is_service named older port ≡ list_any (λ n. is_eq (nat_cmp port n)) a.services.keys
+  pub services : AreServices a.services.keys named older
   pub lines : AreLinesOf a.lines older
-  pub served : (o : Endpoint) → get endpoint_cmp a.served o ≡ last_served o older
+  pub served : AreServed a.served older
 
 -- the end of the datagram that is not this client's
 abbrev pub other_end : Endpoint → Seen → Endpoint
 other_end c s = if same_endpoint s.source c then s.target else s.source
+
+abbrev pub is_asked : Place → Bool
+is_asked (Opens x) = true
+is_asked (Repeats x) = true
+is_asked place = false
+
+-- a datagram as it was recorded
+pub record IsRecorded (d : Recorded) (at : ℕ) (from to : Endpoint) (bytes : List ℕ) (spelled : Bool) : Type 0 where
+  pub time : d.time ≡ at
+  pub source : d.source ≡ from
+  pub target : d.target ≡ to
+  pub payload : d.payload ≡ bytes
+  pub is_spelled : d.is_spelled ≡ spelled
+
+-- what is of no client's line takes no memory
+abbrev pub takes_memory : Place → Bool
+takes_memory (Beside x) = false
+takes_memory Nowhere = false
+takes_memory place = true

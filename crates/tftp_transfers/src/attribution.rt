@@ -1,6 +1,6 @@
 //! The place of each datagram of a recording, in one pass.
 
-ghost use Rattle.std.specs.Prelude.{◌≡◌, ◌≤◌, ◌+◌, ℕ, List, [], ◌&&◌, ◌||◌, not, is_some, nat_le, MatchOption, Some, None, if◌then◌else◌};
+ghost use Rattle.std.specs.Prelude.{◌≡◌, ◌≢◌, ◌≤◌, ◌+◌, ◌∷◌, ℕ, List, [], MatchBool, OnOk, IfOk, IsOk, Err, ◌^◌, ◌<◌, max, true, false, ◌&&◌, ◌||◌, not, is_some, nat_le, MatchOption, Some, None, if◌then◌else◌};
 ghost use Rattle.tftp_transfers.specs.Recording.{Recorded};
 ghost use Rattle.tftp_transfers.specs.Places.{
   Placed,
@@ -22,15 +22,39 @@ ghost use Rattle.tftp_transfers.specs.Places.{
   is_nowhere,
   or_talks,
   place_of,
+  and_then,
 };
-ghost use Rattle.tftp_transfers.specs.Kept.{IsLineOf, IsAfter, seen_of};
+ghost use Rattle.tftp_transfers.specs.Kept.{IsLineOf, IsAfter, AreLinesOf, AreServed, AreServices, IsRecorded, seen_of, is_asked, takes_memory, other_end};
 ghost use Rattle.tftp_transfers.specs.declared.place.Place.{Place};
+ghost use Rattle.tftp_transfers.specs.declared.attribution.AttributionFault.{AttributionFault};
 
+use crate::all_lines::{begin, note, reopen, repeat};
 use crate::endpoint::Endpoint;
-use crate::kind::Seen;
+use crate::kind::{Kind, Seen};
 use crate::line::{Line, SILENCE};
 use crate::place::{Place, Transfer};
+use std::alloc::{AllocError, Global};
 use std::collections::{BTreeMap, BTreeSet};
+use std::convert::From;
+
+/// Why a datagram got no place.
+#[derive(Clone, Copy, Debug, PartialEq, Eq)]
+pub enum AttributionFault {
+    /// No memory to keep it.
+    Memory,
+    /// More datagrams than can be counted: 2^64 - 1 have passed.
+    TooMany,
+}
+
+impl From<AllocError> for AttributionFault {
+    ghost use Rattle.tftp_transfers.specs.declared.attribution.AttributionFault.{AttributionFault};
+
+    ghost from_gives = { λ _ fault. fault ≡ AttributionFault.Memory };
+
+    fn from(_error: AllocError) -> Self {
+        AttributionFault::Memory
+    }
+}
 
 /// What an endpoint sent last to a client.
 #[derive(Clone, Copy)]
@@ -54,6 +78,90 @@ pub struct Attribution {
 }
 
 impl Attribution {
+    /// Nothing has passed. Requests go to port 69 (RFC 1350, section 4) and to the ports that are named.
+    pub fn new(alloc: Global, named: &[u16]) -> Result<Self, AllocError>
+        ensures { IfOk result (λ a. IsAfter a named.now []) }
+    {
+        Ok(Attribution {
+            services: services_of(alloc, named)?,
+            lines: BTreeMap::new(alloc),
+            served: BTreeMap::new(alloc),
+            clock: 0,
+            count: 0,
+            failed: false,
+        })
+    }
+
+    /// Where the next datagram of the recording belongs. Times are in nanoseconds; `is_spelled` says whether the payload
+    /// spells a request from its first byte to its last. Once memory was wanting, it is wanting for good.
+    pub fn feed(
+        &mut self,
+        alloc: Global,
+        time: u64,
+        source: Endpoint,
+        target: Endpoint,
+        payload: &[u8],
+        is_spelled: bool,
+    ) -> Result<Place, AttributionFault>
+        ensures place { (named : List ℕ) (older : List Placed) (d : Recorded) → IsAfter self.old named older
+            → IsRecorded d time source target payload.now is_spelled
+            → IfOk result (λ place. place ≡ place_of named older (max time (clock older)) d) }
+        ensures stands { (named : List ℕ) (older : List Placed) (d : Recorded) → IsAfter self.old named older
+            → IsRecorded d time source target payload.now is_spelled
+            → OnOk result (IsAfter self.new named (and_then named older d)) }
+        ensures full { result ≡ Err AttributionFault.TooMany → (self.old.count + 1 ≡ 2 ^ 64) × (self.new ≡ self.old) }
+        ensures memory { result ≡ Err AttributionFault.Memory → self.new.failed ≡ true }
+        ensures spare { (named : List ℕ) (older : List Placed) (d : Recorded) → IsAfter self.old named older
+            → IsRecorded d time source target payload.now is_spelled
+            → takes_memory (place_of named older (max time (clock older)) d) ≡ false → result ≢ Err AttributionFault.Memory }
+        ensures for_good { self.old.failed ≡ true → result ≡ Err AttributionFault.Memory }
+    {
+        if self.failed {
+            return Err(AttributionFault::Memory);
+        }
+        if self.count == u64::MAX {
+            return Err(AttributionFault::TooMany);
+        }
+        let now = time.max(self.clock);
+        let kind = Kind::new(payload);
+        let seen = Seen {
+            source,
+            target,
+            kind,
+        };
+        let place = self.place_of(&seen, payload, is_spelled, now);
+        match self.keep(alloc, &place, &seen, payload, now) {
+            Ok(()) => Ok(place),
+            Err(_) => {
+                self.failed = true;
+                Err(AttributionFault::Memory)
+            }
+        }
+    }
+
+    /// Keeps a datagram that belongs there.
+    fn keep(
+        &mut self,
+        alloc: Global,
+        place: &Place,
+        seen: &Seen,
+        payload: &[u8],
+        now: u64,
+    ) -> Result<(), AllocError>
+        requires { self.old.count + 1 < 2 ^ 64 }
+        ensures stands { (named : List ℕ) (older : List Placed) (d : Recorded) → IsAfter self.old named older → clock older ≤ now
+            → seen.now ≡ seen_of d → d.payload ≡ payload.now → place.now ≡ place_of named older now d
+            → OnOk result (IsAfter self.new named (record { datagram = d; moment = now; place = place.now } ∷ older)) }
+        ensures spare { takes_memory place.now ≡ false → IsOk result }
+    {
+        self.keep_line(alloc, place, seen, payload, now)?;
+        keep_served(&mut self.served, place, seen, now)?;
+        keep_service(&mut self.services, place, seen.target.port)?;
+        self.clock = now;
+        self.count += 1;
+        Ok(())
+    }
+
     fn is_service(&self, port: u16) -> bool
         ensures { (named : List ℕ) (older : List Placed) → IsAfter self.now named older → result ≡ is_service named older port }
     {
@@ -187,6 +295,139 @@ impl Attribution {
         } else {
             place
         }
+    }
+
+    /// Whether a client's line has been silent until now, or there is none.
+    fn is_silent(&self, client: &Endpoint, now: u64) -> bool
+        ensures { (named : List ℕ) (older : List Placed) → IsAfter self.now named older → clock older ≤ now
+            → MatchBool result (live now (line client.now older) ≡ []) (live now (line client.now older) ≢ []) }
+    {
+        match self.line(client, now) {
+            Some(_) => false,
+            None => true,
+        }
+    }
+
+    /// Keeps a datagram with its client's line.
+    fn keep_line(
+        &mut self,
+        alloc: Global,
+        place: &Place,
+        seen: &Seen,
+        payload: &[u8],
+        now: u64,
+    ) -> Result<(), AllocError>
+        ensures lines { (named : List ℕ) (older : List Placed) (d : Recorded) → IsAfter self.old named older → clock older ≤ now
+            → seen.now ≡ seen_of d → d.payload ≡ payload.now → place.now ≡ place_of named older now d
+            → OnOk result (AreLinesOf self.new.lines (record { datagram = d; moment = now; place = place.now } ∷ older)) }
+        ensures others { self.new ≡ record self.old { lines = self.new.lines } }
+        ensures spare { takes_memory place.now ≡ false → IsOk result }
+    {
+        match place {
+            Place::Opens(transfer) => {
+                if self.is_silent(&transfer.client, now) {
+                    begin(&mut self.lines, alloc, *transfer, payload, now)
+                } else {
+                    reopen(&mut self.lines, alloc, *transfer, payload, now)
+                }
+            }
+            Place::Repeats(transfer) => {
+                repeat(&mut self.lines, transfer.client, now);
+                Ok(())
+            }
+            Place::Talks(transfer) => {
+                let other = other_end(&transfer.client, seen);
+                note(
+                    &mut self.lines,
+                    transfer.client,
+                    other,
+                    Some(*transfer),
+                    seen,
+                    now,
+                )
+            }
+            Place::Apart(client) => {
+                let other = other_end(client, seen);
+                note(&mut self.lines, *client, other, None, seen, now)
+            }
+            Place::Beside(_) => Ok(()),
+            Place::Nowhere => Ok(()),
+        }
+    }
+}
+
+/// The end of a datagram that is not this client's.
+fn other_end(client: &Endpoint, seen: &Seen) -> Endpoint
+    ensures { result ≡ other_end client.now seen.now }
+{
+    if seen.source == *client {
+        seen.target
+    } else {
+        seen.source
+    }
+}
+
+/// Keeps that an endpoint sent to a client.
+fn keep_served(
+    served: &mut BTreeMap<Endpoint, Served>,
+    place: &Place,
+    seen: &Seen,
+    now: u64,
+) -> Result<(), AllocError>
+    ensures spare { takes_memory place.now ≡ false → IsOk result }
+    ensures served { (older : List Placed) (d : Recorded) → AreServed served.old older → seen.now ≡ seen_of d
+        → OnOk result (AreServed served.new (record { datagram = d; moment = now; place = place.now } ∷ older)) }
+{
+    match place {
+        Place::Talks(transfer) => {
+            if seen.target == transfer.client {
+                let last = Served {
+                    transfer: *transfer,
+                    moment: now,
+                };
+                served.insert(seen.source, last)?;
+            }
+            Ok(())
+        }
+        Place::Opens(_) => Ok(()),
+        Place::Repeats(_) => Ok(()),
+        Place::Apart(_) => Ok(()),
+        Place::Beside(_) => Ok(()),
+        Place::Nowhere => Ok(()),
+    }
+}
+
+/// Keeps to which port a request went.
+fn keep_service(services: &mut BTreeSet<u16>, place: &Place, port: u16) -> Result<(), AllocError>
+    ensures spare { takes_memory place.now ≡ false → IsOk result }
+    ensures services { (named : List ℕ) (older : List Placed) (d : Recorded) (now : ℕ) → AreServices services.old.keys named older → d.target.port ≡ port
+        → OnOk result (AreServices services.new.keys named (record { datagram = d; moment = now; place = place.now } ∷ older)) }
+{
+    if is_asked(place) {
+        services.insert(port)?;
+    }
+    Ok(())
+}
+
+/// Port 69 and those that were named.
+fn services_of(alloc: Global, named: &[u16]) -> Result<BTreeSet<u16>, AllocError>
+    ensures { IfOk result (λ ports. AreServices ports.keys named.now []) }
+{
+    let mut ports = BTreeSet::new(alloc);
+    ports.insert(69)?;
+    for port in named {
+        ports.insert(*port)?;
+    }
+    Ok(ports)
+}
+
+fn is_asked(place: &Place) -> bool
+    ensures { result ≡ is_asked place.now }
+{
+    match place {
+        Place::Opens(_) => true,
+        Place::Repeats(_) => true,
+        _ => false,
     }
 }
 

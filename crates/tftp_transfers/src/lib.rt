@@ -7,9 +7,8 @@ mod endpoint;
 mod kind;
 pub mod laws;
 mod line;
-
 mod place;
 
-pub use attribution::Attribution;
+pub use attribution::{Attribution, AttributionFault};
 pub use endpoint::{Address, Endpoint};
 pub use place::{Place, Transfer};

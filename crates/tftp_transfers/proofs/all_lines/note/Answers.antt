@@ -1,7 +1,7 @@
 use Rattle.std.proofs.Common.{◌≡◌, true, ◌∷◌, sym, ap, subst, ◌∙◌}
 use Rattle.tftp_transfers.specs.Recording.{is_between}
 use Rattle.std.specs.Prelude.{is_some}
-use Rattle.tftp_transfers.specs.Places.{Placed, live, line}
+use Rattle.tftp_transfers.specs.Places.{live, line}
 use Rattle.tftp_transfers.specs.Kept.{IsLineOf, IsLineKept, place_of_talk}
 use Rattle.tftp_transfers.proofs.AllLines.{on_ok_map, lines_more, live_whole, at_talk}
 use Rattle.tftp_transfers.proofs.all_lines.note.Goals as goal
@@ -13,12 +13,12 @@ returns-in-Some c older d stands later seen between clients some =
     let updates = (c.get_mut.follows.holds c.note.new.self).3 (ap is_some (sym c.in-Some.ensures.value)) in
     let between' : is_between c.in-Some.line.now.latest.client c.args.other d ≡ true = ap (λ e. is_between e c.args.other d) kept.0 ∙ between in
     on_ok_map c.note.result
-      (λ (more : IsLineOf c.note.new.self (record { datagram = d; moment = c.args.now; place = place_of_talk c.in-Some.line.now.latest.client c.args.talked } ∷ line c.args.client older)).
-        lines_more c.args.lines.now (c.get_mut.follows.lender c.note.new.self) (record { datagram = d; moment = c.args.now; place = place_of_talk c.args.client c.args.talked }) older c.args.client c.note.new.self later
-          (at_talk c.args.client c.args.talked d c.args.now clients)
-          updates.0
-          (ap (λ x. x.client) c.note.ensures.client ∙ kept.0)
-          (subst (λ e. IsLineOf c.note.new.self (record { datagram = d; moment = c.args.now; place = place_of_talk e c.args.talked } ∷ live c.args.now (line c.args.client older))) kept.0
-            (subst (λ qs. IsLineOf c.note.new.self (record { datagram = d; moment = c.args.now; place = place_of_talk c.in-Some.line.now.latest.client c.args.talked } ∷ qs)) (sym (live_whole c.args.now (line c.args.client older) some)) more))
-          stands)
-      (c.note.ensures.stands (line c.args.client older) d kept.1 seen between')
+    (λ (more : IsLineOf c.note.new.self (record { datagram = d; moment = c.args.now; place = place_of_talk c.in-Some.line.now.latest.client c.args.talked } ∷ line c.args.client older)).
+    lines_more c.args.lines.now (c.get_mut.follows.lender c.note.new.self) (record { datagram = d; moment = c.args.now; place = place_of_talk c.args.client c.args.talked }) older c.args.client c.note.new.self later
+    (at_talk c.args.client c.args.talked d c.args.now clients)
+    updates.0
+    (ap (λ x. x.client) c.note.ensures.client ∙ kept.0)
+    (subst (λ e. IsLineOf c.note.new.self (record { datagram = d; moment = c.args.now; place = place_of_talk e c.args.talked } ∷ live c.args.now (line c.args.client older))) kept.0
+    (subst (λ qs. IsLineOf c.note.new.self (record { datagram = d; moment = c.args.now; place = place_of_talk c.in-Some.line.now.latest.client c.args.talked } ∷ qs)) (sym (live_whole c.args.now (line c.args.client older) some)) more))
+    stands)
+    (c.note.ensures.stands (line c.args.client older) d kept.1 seen between')

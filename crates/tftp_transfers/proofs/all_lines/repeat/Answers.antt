@@ -1,9 +1,8 @@
 use Rattle.std.proofs.Common.{◌≡◌, ◌∷◌, sym, ap, subst, ◌∙◌}
-use Rattle.tftp_transfers.specs.declared.place.Place.{Place}
 use Rattle.tftp_transfers.specs.declared.place.Place.TheVariants.{Repeats}
 use Rattle.tftp_transfers.specs.Recording.{same_endpoint}
 use Rattle.std.specs.Prelude.{is_some}
-use Rattle.tftp_transfers.specs.Places.{Placed, live, line, place_asked}
+use Rattle.tftp_transfers.specs.Places.{live, line, place_asked}
 use Rattle.tftp_transfers.specs.Kept.{IsLineOf, IsLineKept}
 use Rattle.tftp_transfers.proofs.AllLines.{lines_more, live_whole, repeats_live}
 use Rattle.tftp_transfers.proofs.all_lines.repeat.Goals as goal
@@ -14,9 +13,9 @@ returns-in-Some c older d number x stands later from client is =
     let updates = (c.get_mut.follows.holds c.repeat.new.self).3 (ap is_some (sym c.in-Some.ensures.value)) in
     let whole : live c.args.now (line c.args.client older) ≡ line c.args.client older = live_whole c.args.now (line c.args.client older) (repeats_live number d x (live c.args.now (line c.args.client older)) is) in
     lines_more c.args.lines.now (c.get_mut.follows.lender c.repeat.new.self) (record { datagram = d; moment = c.args.now; place = Repeats x }) older c.args.client c.repeat.new.self later
-      (λ e. ap (λ k. same_endpoint k e) client)
-      updates.0
-      (ap (λ y. y.client) c.repeat.ensures.latest ∙ kept.0)
-      (subst (λ qs. IsLineOf c.repeat.new.self (record { datagram = d; moment = c.args.now; place = Repeats x } ∷ qs)) (sym whole)
-        (c.repeat.ensures.stands (line c.args.client older) d number x kept.1 (from ∙ sym kept.0) (sym (ap (place_asked number d) whole) ∙ is)))
-      stands
+    (λ e. ap (λ k. same_endpoint k e) client)
+    updates.0
+    (ap (λ y. y.client) c.repeat.ensures.latest ∙ kept.0)
+    (subst (λ qs. IsLineOf c.repeat.new.self (record { datagram = d; moment = c.args.now; place = Repeats x } ∷ qs)) (sym whole)
+    (c.repeat.ensures.stands (line c.args.client older) d number x kept.1 (from ∙ sym kept.0) (sym (ap (place_asked number d) whole) ∙ is)))
+    stands

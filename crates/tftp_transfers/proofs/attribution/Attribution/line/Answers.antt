@@ -1,5 +1,5 @@
-use Rattle.std.proofs.Common.{◌≡◌, sym, subst, ◌∙◌}
-use Rattle.tftp_transfers.specs.Places.{live, line, clock}
+use Rattle.std.proofs.Common.{sym, subst, ◌∙◌}
+use Rattle.tftp_transfers.specs.Places.{line, clock}
 use Rattle.tftp_transfers.specs.Kept.{IsLineOf, IsLineKept}
 use Rattle.tftp_transfers.proofs.Silences.{live_kept, live_lost, live_later}
 use Rattle.tftp_transfers.proofs.attribution.Attribution.line.Goals as goal

@@ -1,4 +1,4 @@
-use Rattle.std.proofs.Common.{◌≡◌, ℕ, Bool, true, false, List, length, sym, ap, ◌∙◌}
+use Rattle.std.proofs.Common.{◌≡◌, Bool, true, false, length, sym, ap, ◌∙◌}
 use Rattle.std.specs.Prelude.{if◌then◌else◌}
 use Rattle.tftp_transfers.specs.declared.place.Place.{Place}
 use Rattle.tftp_transfers.specs.Places.{live, line, place_asked, is_nowhere, at_client, beside}

@@ -1,4 +1,4 @@
-use Rattle.std.proofs.Common.{◌≡◌, cond, refl, subst, ap, ◌∙◌}
+use Rattle.std.proofs.Common.{cond, refl, ap, ◌∙◌}
 use Rattle.std.specs.Prelude.{Some}
 use Rattle.std.specs.BTreeMap.{get}
 use Rattle.std.specs.Ordering.{is_eq}
