@@ -1,6 +1,6 @@
 -- The rules of the order in which an end sends are never the first that is broken between the ends.
-use Rattle.std.proofs.Common.{◌≡◌, ◌⊎◌, ℕ, ◌<◌, Bool, true, false, List, [], ◌∷◌, Contains, Some, inl, inr, refl, sym, subst, ap, ◌∙◌, arith}
-use Rattle.std.specs.Prelude.{◌&&◌, ◌||◌, not, map}
+use Rattle.std.proofs.Common.{◌≡◌, ◌<◌, Bool, true, false, List, [], ◌∷◌, Contains, inl, inr, refl, sym, subst, ap, ◌∙◌, arith}
+use Rattle.std.specs.Prelude.{◌&&◌, map}
 use Rattle.std.specs.List.{list_any}
 use Rattle.std.proofs.lemmas.Bool.{true≢false}
 use Rattle.tftp_packet.specs.Message.{Message, RequestParts}
@@ -28,16 +28,16 @@ use Rattle.tftp_law.proofs.Spelled.{spelled_once}
 use Rattle.tftp_law.proofs.FirstRequests.{request_same, some_same}
 use Rattle.tftp_law.proofs.RouteTests.{is_same, same_is}
 use Rattle.tftp_tap.specs.TapCapture.{TapDatagram, TapSides, side_of, AreApart}
-use Rattle.tftp_tap.specs.TapOrder.{is_left_out, kept_of, same_end, is_request, pass_tests}
+use Rattle.tftp_tap.specs.TapOrder.{is_left_out, kept_of, same_end, is_request}
 use Rattle.tftp_tap.specs.TapRoutes.{asks_in, tap_tests, tap_route, is_passing, transfer_between}
-use Rattle.tftp_tap.specs.TapRules.{recorded_at, header_at, kept_between, FirstTapAsked, LateBroken, LateBreaks, SidesBreak, PassingBreaks, KeptBreaks, TapBroken, FirstTapBroken, BreaksNoTapRule, IsOfSending}
+use Rattle.tftp_tap.specs.TapRules.{recorded_at, header_at, FirstTapAsked, LateBroken, LateBreaks, SidesBreak, PassingBreaks, KeptBreaks, FirstTapBroken, BreaksNoTapRule, IsOfSending}
 use Rattle.tftp_tap.specs.declared.route.TapRoute.{TapRoute}
 use Rattle.tftp_tap.proofs.KeptOf.{is_or_not, or_false, any_of, kept_there, kept_asks}
 use Rattle.tftp_tap.proofs.TapTests.{asks_says}
 use Rattle.tftp_tap.proofs.TapRouted.{Carried, mains, transfer_is}
 use Rattle.tftp_tap.proofs.TapRecorded.{Each, kept_map, asks_same, kept_each, IsCarried, mains_carried, pair_tests, datagram_in, datagrams_each}
 use Rattle.tftp_tap.proofs.TapBefore.{first_holds}
-use Rattle.tftp_tap.proofs.TapLawful.{Parted, parted, AreLawful, mains_lawful, asks_is, Right, rights, none_asked}
+use Rattle.tftp_tap.proofs.TapLawful.{parted, AreLawful, mains_lawful, asks_is, Right, rights}
 use Rattle.tftp_tap.proofs.TapMade.{recorded_payload}
 use Rattle.tftp_tap.proofs.TapRun.{each_at}
 
@@ -87,7 +87,7 @@ module _ (s : TapSides) (apart : AreApart s) (asked : RequestParts) (cs : List C
   -- ---- one datagram
 
   module _ (d : TapDatagram) (stays : is_left_out (tap_tests s) (receiver_of asked.side) d (kept_of (tap_tests s) (receiver_of asked.side) (map datagram_in cs)) ≡ false)
-    (not_wrong : (e : End) → d.source ≡ side_of s e → (n : Message) → Spells d.payload n → IsWrongKind e asked.side n → ⊥) where
+      (not_wrong : (e : End) → d.source ≡ side_of s e → (n : Message) → Spells d.payload n → IsWrongKind e asked.side n → ⊥) where
     kept_is : kept_of (tap_tests s) (receiver_of asked.side) (map datagram_in cs) ≡ map datagram_in (kept_of pair_tests (receiver_of asked.side) cs)
     kept_is = kept_map datagram_in pair_tests (tap_tests s) (receiver_of asked.side) cs (datagrams_each s apart cs each)
 
@@ -103,8 +103,8 @@ module _ (s : TapSides) (apart : AreApart s) (asked : RequestParts) (cs : List C
     request_left source asks =
         let none = or_false ((tap_tests s).asks d && list_any (tap_tests s).asks (kept_of (tap_tests s) (receiver_of asked.side) (map datagram_in cs))) _ stays in
         let some : list_any (tap_tests s).asks (kept_of (tap_tests s) (receiver_of asked.side) (map datagram_in cs)) ≡ true
-            = ap (list_any (tap_tests s).asks) kept_is ∙ asks_same datagram_in pair_tests (tap_tests s) (kept_of pair_tests (receiver_of asked.side) cs)
-            (datagrams_each s apart (kept_of pair_tests (receiver_of asked.side) cs) (kept_each (IsCarried s says_some) pair_tests (receiver_of asked.side) cs each)) ∙ kept_asks pair_tests (receiver_of asked.side) cs quiet asked_there in
+        = ap (list_any (tap_tests s).asks) kept_is ∙ asks_same datagram_in pair_tests (tap_tests s) (kept_of pair_tests (receiver_of asked.side) cs)
+        (datagrams_each s apart (kept_of pair_tests (receiver_of asked.side) cs) (kept_each (IsCarried s says_some) pair_tests (receiver_of asked.side) cs each)) ∙ kept_asks pair_tests (receiver_of asked.side) cs quiet asked_there in
         true≢false (sym (both some) ∙ none.0)
       where
         both : list_any (tap_tests s).asks (kept_of (tap_tests s) (receiver_of asked.side) (map datagram_in cs)) ≡ true
@@ -233,7 +233,7 @@ never_first s earlier d broken apart passes first of = elim first.breaks [
         let asked_first = subst (λ l. FirstTapAsked s l k.asked) same k.first in
         let stays = subst (λ l. is_left_out (tap_tests s) (receiver_of k.asked.side) d (kept_of (tap_tests s) (receiver_of k.asked.side) l) ≡ false) same k.stays in
         let not_wrong : (e : End) → d.source ≡ side_of s e → (n : Message) → Spells d.payload n → IsWrongKind e k.asked.side n → ⊥
-            = λ e source n t wrong. first.first rule.WrongKind (low_number broken of) (inr (passing, inl (k.asked, k.first, e, source, (n, t, wrong)))) in
+        = λ e source n t wrong. first.first rule.WrongKind (low_number broken of) (inr (passing, inl (k.asked, k.first, e, source, (n, t, wrong)))) in
         let inner = subst (λ l. Broken (header_at s k.asked.side) (map (recorded_at s (receiver_of k.asked.side)) l) (recorded_at s (receiver_of k.asked.side) d) broken)
-            (ap (kept_of (tap_tests s) (receiver_of k.asked.side)) same ∙ kept_map datagram_in pair_tests (tap_tests s) (receiver_of k.asked.side) cs (datagrams_each s apart cs each)) k.breaks in
+        (ap (kept_of (tap_tests s) (receiver_of k.asked.side)) same ∙ kept_map datagram_in pair_tests (tap_tests s) (receiver_of k.asked.side) cs (datagrams_each s apart cs each)) k.breaks in
         kept_never s apart k.asked cs each lawful asked_first d stays not_wrong broken of inner
