@@ -15,13 +15,13 @@ use Rattle.tftp_tap.specs.TapOrder.{is_left_out, before_error, same_end, is_requ
 use Rattle.tftp_tap.proofs.Passed.{at_sent, sent_passed}
 use Rattle.tftp_tap.proofs.OneTap.{Has}
 use Rattle.tftp_tap.proofs.AtReceiver.{receiver_is}
-use Rattle.tftp_tap.proofs.KeptOf.{is_or_not, and_true, any_here, any_skip, any_more, any_of, before_all, before_less, before_there, kept_out, kept_in, kept_there}
+use Rattle.tftp_tap.proofs.KeptOf.{is_or_not, any_here, any_skip, any_of, before_all, before_less, before_there, kept_out, kept_in, kept_there}
 use Rattle.tftp_tap.proofs.TapKept.{sent_before, before_sent, has_kept, any_kept, kept_one_sided}
 
 -- ---- where each ERROR of an end is kept
 
 module _ (o r : End) (G : List Pass → Type 0) (down : (x : Pass) (passed : List Pass) → list_any (pass_tests.ends o) (x ∷ passed) ≡ true → G (x ∷ passed) → G passed)
-  (stays : (x : Pass) (passed : List Pass) → G passed → pass_tests.ends o x ≡ true → is_left_out pass_tests r x (kept_at r passed) ≡ false) where
+    (stays : (x : Pass) (passed : List Pass) → G passed → pass_tests.ends o x ≡ true → is_left_out pass_tests r x (kept_at r passed) ≡ false) where
   record SameBefore (passed : List Pass) : Type 0 where
     ends : list_any (pass_tests.ends o) (kept_at r passed) ≡ list_any (pass_tests.ends o) passed
     before : (y : Pass) → Contains (before_error pass_tests o (kept_at r passed)) y → Contains (before_error pass_tests o passed) y

@@ -1,31 +1,29 @@
 -- What a list of main datagrams has, by its packets and by what is spelled.
-use Rattle.std.proofs.Common.{◌≡◌, ◌⊎◌, ℕ, Bool, true, false, List, [], ◌∷◌, Any, Contains, Option, Some, None, inl, inr, refl, sym, subst, ap, ◌∙◌}
+use Rattle.std.proofs.Common.{◌≡◌, ◌⊎◌, ℕ, Bool, true, false, List, [], ◌∷◌, Contains, Option, Some, None, inl, inr, refl, sym, subst, ap, ◌∙◌}
 use Rattle.std.specs.Prelude.{map}
 use Rattle.std.specs.List.{list_any}
-use Rattle.std.proofs.lemmas.Bool.{true≢false}
 use Rattle.tftp_packet.specs.Message.{Message, RequestParts}
 use Rattle.tftp_packet.specs.Spelling.{Spells}
 use Rattle.tftp_packet.specs.declared.kinds.End.{End}
-use Rattle.tftp_packet.specs.declared.kinds.End.TheVariants.{Client, Server}
 use Rattle.tftp_ends.specs.Meaning.{Meaning, request_of}
 use Rattle.tftp_ends.specs.Machines.{MachinePacket, Req, Oack, Data, Ack, Error, message_of}
 use Rattle.tftp_ends.specs.Ports.{first_of, or_this}
 use Rattle.tftp_ends.proofs.Members.{contains_first, contains_later, contains_cases, contains_none}
-use Rattle.tftp_law.specs.Dress.{Saying, says_of}
+use Rattle.tftp_law.specs.Dress.{says_of}
 use Rattle.tftp_law.specs.Divides.{says_some}
 use Rattle.tftp_law.proofs.Spelled.{spelled_once}
-use Rattle.tftp_law.proofs.FirstRequests.{some_same, request_same}
-use Rattle.tftp_law.proofs.Divided.{any_none, any_cases, any_first, any_later}
+use Rattle.tftp_law.proofs.FirstRequests.{request_same}
+use Rattle.tftp_law.proofs.Divided.{any_first, any_later}
 use Rattle.tftp_tap.specs.Tap.{Pass}
-use Rattle.tftp_tap.specs.TapCapture.{TapDatagram, TapSides, side_of, AreApart}
-use Rattle.tftp_tap.specs.TapOrder.{Tests, before_error, same_end, pass_tests}
+use Rattle.tftp_tap.specs.TapCapture.{TapDatagram, TapSides}
+use Rattle.tftp_tap.specs.TapOrder.{Tests, before_error}
 use Rattle.tftp_tap.specs.TapRoutes.{tap_tests}
 use Rattle.tftp_tap.specs.TapRules.{FirstTapAsked, Says, HasKind}
 use Rattle.tftp_tap.proofs.OneTap.{Has}
 use Rattle.tftp_tap.proofs.OneTapDivision.{some_of}
 use Rattle.tftp_tap.proofs.KeptOf.{is_or_not, before_all, before_less}
 use Rattle.tftp_tap.proofs.TapRouted.{Carried}
-use Rattle.tftp_tap.proofs.TapRecorded.{Agrees, Each, IsCarried, ends_same, pair_tests, datagram_in, pass_in, passes_each, datagrams_each}
+use Rattle.tftp_tap.proofs.TapRecorded.{Agrees, Each, IsCarried, ends_same, datagram_in, pass_in}
 
 module _ {X Y : Type 0} (f : X → Y) (t : Tests X) (u : Tests Y) where
   pub before_map : (e : End) (xs : List X) → Each (Agrees f t u) xs → before_error u e (map f xs) ≡ map f (before_error t e xs)

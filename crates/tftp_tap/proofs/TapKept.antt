@@ -1,6 +1,6 @@
 -- What is kept of what passed may pass, and the other way round.
-use Rattle.std.proofs.Common.{◌≡◌, ◌⊎◌, ℕ, Bool, true, false, List, [], ◌∷◌, Contains, inl, inr, refl, sym, subst, ap, ◌∙◌, zero, suc}
-use Rattle.std.specs.Prelude.{◌&&◌, ◌||◌, not}
+use Rattle.std.proofs.Common.{◌≡◌, ℕ, Bool, true, false, List, [], ◌∷◌, Contains, inl, inr, refl, sym, subst, ap, ◌∙◌}
+use Rattle.std.specs.Prelude.{◌&&◌}
 use Rattle.std.specs.List.{list_any}
 use Rattle.std.proofs.lemmas.Bool.{true≢false}
 use Rattle.tftp_packet.specs.declared.kinds.Side.{Side}
@@ -8,17 +8,16 @@ use Rattle.tftp_packet.specs.declared.kinds.Side.TheVariants.{Get, Put}
 use Rattle.tftp_packet.specs.declared.kinds.End.{End}
 use Rattle.tftp_packet.specs.declared.kinds.End.TheVariants.{Client, Server}
 use Rattle.tftp_ends.specs.Meaning.{Meaning}
-use Rattle.tftp_ends.specs.Machines.{Deed, Sent, Took, MachinePacket, Req, Oack, Data, Ack, Error, History, HasSent, HasTaken, other_end, sender_of, receiver_of}
+use Rattle.tftp_ends.specs.Machines.{MachinePacket, Req, Oack, Data, Ack, Error, History, HasSent, HasTaken, other_end, receiver_of}
 use Rattle.tftp_ends.specs.OneSide.{is_error, takes_error, heard, LetsStartOn, LetsAckZeroOn, MayCome, IsOneSided}
-use Rattle.tftp_ends.proofs.Members.{contains_first, contains_later, contains_cases, contains_none}
 use Rattle.tftp_tap.specs.Tap.{Pass, deed_at, as_at, MayPass, MayPassEach}
 use Rattle.tftp_tap.specs.AtReceiver.{KeepsOrder, KeepsOrderEach}
-use Rattle.tftp_tap.specs.TapOrder.{Tests, is_left_out, kept_of, before_error, same_end, is_request, pass_tests, kept_at}
+use Rattle.tftp_tap.specs.TapOrder.{is_left_out, before_error, same_end, is_request, pass_tests, kept_at}
 use Rattle.tftp_tap.proofs.Passed.{at_sent, at_took, sent_passed, took_passed}
 use Rattle.tftp_tap.proofs.Ordered.{ack_asked, client_reads}
 use Rattle.tftp_tap.proofs.OneTap.{Has}
 use Rattle.tftp_tap.proofs.AtReceiver.{receiver_is}
-use Rattle.tftp_tap.proofs.KeptOf.{is_or_not, or_false, and_true, any_here, any_skip, any_more, any_of, none_of, some_of, none_in, before_all, before_less, before_more, before_there, kept_out, kept_in, kept_there, kept_more, kept_plain, kept_asks, kept_quiet}
+use Rattle.tftp_tap.proofs.KeptOf.{is_or_not, or_false, and_true, any_of, none_of, some_of, none_in, before_all, before_less, before_more, kept_out, kept_in, kept_there, kept_plain, kept_asks, kept_quiet}
 
 -- ---- what an end has heard is what passed before the other's ERROR
 

@@ -1,22 +1,19 @@
 -- The rules between the ends are the runs that pass there.
-use Rattle.std.proofs.Common.{◌≡◌, ◌⊎◌, ◌↔◌, ℕ, Bool, true, false, List, [], ◌∷◌, Some, None, Option, inl, inr, refl, sym, subst, ap, ◌∙◌}
+use Rattle.std.proofs.Common.{◌≡◌, ◌↔◌, ℕ, true, List, [], ◌∷◌, inl, inr, refl, sym, subst, ap, ◌∙◌}
 use Rattle.std.specs.Prelude.{map}
 use Rattle.std.specs.List.{list_any}
 use Rattle.tftp_packet.specs.Message.{Message, RequestParts}
 use Rattle.tftp_packet.specs.Spelling.{Spells}
-use Rattle.tftp_packet.specs.declared.kinds.End.{End}
-use Rattle.tftp_packet.specs.declared.kinds.End.TheVariants.{Client, Server}
 use Rattle.tftp_packet.specs.declared.kinds.Side.TheVariants.{Get}
-use Rattle.tftp_ends.specs.CaptureText.{Header}
 use Rattle.tftp_ends.specs.Meaning.{Meaning}
 use Rattle.tftp_ends.specs.Ports.{first_of}
 use Rattle.tftp_law.specs.Dress.{says_of}
 use Rattle.tftp_law.specs.Divides.{says_some}
 use Rattle.tftp_law.proofs.MadeMeaning.{some_accord}
 use Rattle.tftp_law.proofs.FirstRequests.{begins_asked}
-use Rattle.tftp_tap.specs.Tap.{Pass, MayPassEach}
+use Rattle.tftp_tap.specs.Tap.{MayPassEach}
 use Rattle.tftp_tap.specs.TapCapture.{TapDatagram, TapSides, AreApart}
-use Rattle.tftp_tap.specs.TapDress.{TapPart, Main, Stray, StrayAnswer, TapPlaced, TapDivision, tapped_of, passed_of, HasTapPart, HaveTapParts, IsSeenBetween, IsLawfulBetween}
+use Rattle.tftp_tap.specs.TapDress.{TapPart, Main, Stray, StrayAnswer, TapDivision, tapped_of, passed_of, HasTapPart, HaveTapParts, IsLawfulBetween}
 use Rattle.tftp_tap.specs.TapRoutes.{asks_in, tap_tests}
 use Rattle.tftp_tap.specs.TapRules.{header_at, FirstTapAsked, BreaksNoTapRule}
 use Rattle.tftp_tap.proofs.Replays.{tap_view_is}
@@ -51,24 +48,31 @@ module _ (s : TapSides) (apart : AreApart s) where
       (asked.0, (found.0, found.1, subst (Spells found.0.payload) {y = Message.Request asked.0} asked.1 spelled))
 
   seen_by : (asked : RequestParts) (tapped : List TapDatagram) (division : TapDivision) → tapped_of division ≡ tapped → HaveTapParts s says_some division → Made s apart asked (mains division) → IsLawfulBetween s tapped
-  seen_by asked tapped division whole parts x = (x.m, x.wire, record {
-    fits = x.fits;
-    passed = passed_of division;
-    view = (tap_view_is x.m x.wire (passed_of division)).1 (subst (MayPassEach x.m x.wire) (sym (passed_is division)) x.may);
-    dressed = record { division = division; whole = whole; main = refl; parts = said_parts s x.m x.wire division parts x.says };
-  })
+  seen_by asked tapped division whole parts x = (
+    x.m,
+    x.wire,
+    record {
+      fits = x.fits;
+      passed = passed_of division;
+      view = (tap_view_is x.m x.wire (passed_of division)).1 (subst (MayPassEach x.m x.wire) (sym (passed_is division)) x.may);
+      dressed = record { division = division; whole = whole; main = refl; parts = said_parts s x.m x.wire division parts x.says };
+    },
+  )
 
   -- before the first request any meaning will do
   seen_none : (tapped : List TapDatagram) (division : TapDivision) → tapped_of division ≡ tapped → HaveTapParts s says_some division → mains division ≡ [] → IsLawfulBetween s tapped
   seen_none tapped division whole parts none =
       let (m, wire, acc) = some_accord (header_at s Get) [] tt in
-      let passed : passed_of division ≡ [] = passed_is division ∙ ap (map pass_in) none in
-      (m, wire, record {
-        fits = acc.fits;
-        passed = passed_of division;
-        view = (tap_view_is m wire (passed_of division)).1 (subst (MayPassEach m wire) (sym passed) tt);
-        dressed = record { division = division; whole = whole; main = refl; parts = said_parts s m wire division parts (subst (Each (λ c. says_of m wire c.pass.packet c.datagram.payload)) (sym none) tt) };
-      })
+      let passed : passed_of division ≡ [] = passed_is division ∙ ap (map pass_in) none in (
+        m,
+        wire,
+        record {
+          fits = acc.fits;
+          passed = passed_of division;
+          view = (tap_view_is m wire (passed_of division)).1 (subst (MayPassEach m wire) (sym passed) tt);
+          dressed = record { division = division; whole = whole; main = refl; parts = said_parts s m wire division parts (subst (Each (λ c. says_of m wire c.pass.packet c.datagram.payload)) (sym none) tt) };
+        },
+      )
 
   pub rules_run : (tapped : List TapDatagram) → BreaksNoTapRule s tapped → IsLawfulBetween s tapped
   rules_run tapped passes =

@@ -1,8 +1,8 @@
 -- What breaks no rule between the ends divides; and what its main datagrams break none of.
-use Rattle.std.proofs.Common.{◌≡◌, ◌⊎◌, ℕ, ◌≤◌, Bool, true, false, List, [], ◌∷◌, Any, Contains, Some, None, Option, inl, inr, refl, sym, subst, ap, ◌∙◌, arith}
-use Rattle.std.specs.Prelude.{◌&&◌, ◌||◌, not, map}
+use Rattle.std.proofs.Common.{◌≡◌, ◌⊎◌, Bool, true, false, List, [], ◌∷◌, Any, Some, None, Option, inl, inr, refl, sym, subst, ap, ◌∙◌}
+use Rattle.std.specs.Prelude.{map}
 use Rattle.std.specs.List.{list_any}
-use Rattle.std.proofs.lemmas.Bool.{true≢false, cases_lt}
+use Rattle.std.proofs.lemmas.Bool.{true≢false}
 use Rattle.tftp_packet.specs.Message.{Message, RequestParts}
 use Rattle.tftp_packet.specs.Spelling.{Spells}
 use Rattle.tftp_packet.specs.declared.kinds.Side.{Side}
@@ -11,26 +11,23 @@ use Rattle.tftp_packet.specs.declared.kinds.End.{End}
 use Rattle.tftp_packet.specs.declared.kinds.End.TheVariants.{Client, Server}
 use Rattle.tftp_ends.specs.Machines.{MachinePacket, Req, Oack, Data, Ack, Error, sender_of, receiver_of}
 use Rattle.tftp_ends.specs.Ports.{first_of, or_this}
-use Rattle.tftp_ends.proofs.Members.{contains_first, contains_later, contains_cases, contains_none}
 use Rattle.tftp_law.specs.Divides.{packet_in, says_some}
 use Rattle.tftp_law.specs.Rules.{IsWrongKind}
 use Rattle.tftp_law.specs.declared.rule.Rule.{Rule}
 use Rattle.tftp_law.specs.declared.rule.Rule.TheVariants as rule
-use Rattle.tftp_law.proofs.Spelled.{spelled_once}
 use Rattle.tftp_law.proofs.FirstRequests.{some_same}
-use Rattle.tftp_law.proofs.SameOrNot.{same_request, same_text}
-use Rattle.tftp_law.proofs.Divided.{any_none, any_cases, any_first, any_later}
+use Rattle.tftp_law.proofs.SameOrNot.{same_request}
+use Rattle.tftp_law.proofs.Divided.{any_none, any_cases}
 use Rattle.tftp_tap.specs.Tap.{Pass}
 use Rattle.tftp_tap.specs.TapCapture.{TapDatagram, TapSides, side_of, AreApart}
-use Rattle.tftp_tap.specs.TapOrder.{is_left_out, kept_of, before_error, same_end, is_request, pass_tests}
+use Rattle.tftp_tap.specs.TapOrder.{same_end}
 use Rattle.tftp_tap.specs.TapDress.{TapPart, Main, Stray, StrayAnswer, TapPlaced, TapDivision, tapped_of, IsMainFrom, CarriesPass, HasTapPart, HaveTapParts}
 use Rattle.tftp_tap.specs.TapRoutes.{tap_tests, tap_route, is_passing, transfer_between}
-use Rattle.tftp_tap.specs.TapRules.{FirstTapAsked, Says, HasKind, OtherError, PassingBreaks, LateBroken, KeptBreaks, TapBroken, TapPasses, BreaksNoTapRule}
-use Rattle.tftp_tap.specs.declared.route.TapRoute.{TapRoute}
-use Rattle.tftp_tap.proofs.KeptOf.{is_or_not, any_here, any_skip, any_more, any_of, some_of, kept_in, kept_more, kept_there, kept_plain, kept_asks}
+use Rattle.tftp_tap.specs.TapRules.{FirstTapAsked, PassingBreaks, LateBroken, KeptBreaks, TapPasses, BreaksNoTapRule}
+use Rattle.tftp_tap.proofs.KeptOf.{is_or_not, any_here, any_skip, any_more}
 use Rattle.tftp_tap.proofs.TapPlacing.{has_part}
 use Rattle.tftp_tap.proofs.TapRouted.{Carried, add_main, mains, pass_route, route_is, transfer_is}
-use Rattle.tftp_tap.proofs.TapRecorded.{Agrees, Each, asks_same, IsCarried, carried_is, mains_carried, pair_tests, datagram_in, pass_in, datagrams_each}
+use Rattle.tftp_tap.proofs.TapRecorded.{Each, asks_same, IsCarried, pair_tests, datagram_in, datagrams_each}
 
 -- ---- it divides
 

@@ -1,24 +1,23 @@
 -- What breaks no rule between the ends is kept as a capture of the receiver that breaks none.
-use Rattle.std.proofs.Common.{◌≡◌, ◌⊎◌, ℕ, ◌≤◌, ◌<◌, Bool, true, false, List, [], ◌∷◌, Any, Contains, Some, None, Option, inl, inr, refl, sym, subst, ap, ◌∙◌, arith}
-use Rattle.std.specs.Prelude.{◌&&◌, ◌||◌, not, map, ◌==◌}
+use Rattle.std.proofs.Common.{◌≡◌, ◌⊎◌, ℕ, Bool, true, false, List, [], ◌∷◌, Contains, Some, inl, inr, refl, sym, subst, ap, ◌∙◌, arith}
+use Rattle.std.specs.Prelude.{◌&&◌, map}
 use Rattle.std.specs.List.{list_any}
 use Rattle.std.proofs.lemmas.Bool.{true≢false, cases_lt}
 use Rattle.tftp_packet.specs.Message.{Message, RequestParts}
 use Rattle.tftp_packet.specs.Spelling.{Spells}
-use Rattle.tftp_packet.specs.Faults.{opcode_of}
 use Rattle.tftp_packet.proofs.NoFault.{no_fault}
 use Rattle.tftp_packet.specs.declared.kinds.Side.{Side}
 use Rattle.tftp_packet.specs.declared.kinds.Side.TheVariants.{Get, Put}
 use Rattle.tftp_packet.specs.declared.kinds.End.{End}
 use Rattle.tftp_packet.specs.declared.kinds.End.TheVariants.{Client, Server}
 use Rattle.tftp_ends.specs.CaptureText.{Datagram, Header}
-use Rattle.tftp_ends.specs.Machines.{Deed, Sent, Took, MachinePacket, Req, Oack, Data, Ack, Error, sender_of, receiver_of}
+use Rattle.tftp_ends.specs.Machines.{MachinePacket, Req, Oack, Data, Ack, Error, receiver_of}
 use Rattle.tftp_ends.specs.OneSide.{is_error}
-use Rattle.tftp_ends.specs.Ports.{same_peer, route_of, asks, first_of}
+use Rattle.tftp_ends.specs.Ports.{same_peer, route_of, asks}
 use Rattle.tftp_ends.specs.declared.route.Route.{Route}
-use Rattle.tftp_ends.proofs.Members.{contains_first, contains_later, contains_cases, contains_none}
-use Rattle.tftp_law.specs.Dress.{packet_of, datagrams_of}
-use Rattle.tftp_law.specs.Accord.{packet_route, AreRoutedBy}
+use Rattle.tftp_ends.proofs.Members.{contains_first, contains_later}
+use Rattle.tftp_law.specs.Dress.{packet_of}
+use Rattle.tftp_law.specs.Accord.{packet_route}
 use Rattle.tftp_law.specs.Divides.{packet_in, says_some}
 use Rattle.tftp_law.specs.OneEnded.{OneEnded, Passes, IsRead}
 use Rattle.tftp_law.specs.Rules.{Broken}
@@ -28,15 +27,15 @@ use Rattle.tftp_law.proofs.RouteTests.{IsTold}
 use Rattle.tftp_law.proofs.Spelled.{spelled_once}
 use Rattle.tftp_law.proofs.FirstRequests.{some_same}
 use Rattle.tftp_law.proofs.Divided.{any_none, any_cases, any_first, any_later}
-use Rattle.tftp_tap.specs.Tap.{Pass, deed_at}
+use Rattle.tftp_tap.specs.Tap.{deed_at}
 use Rattle.tftp_tap.specs.TapCapture.{TapDatagram, TapSides, side_of, AreApart}
-use Rattle.tftp_tap.specs.TapOrder.{is_left_out, kept_of, before_error, same_end, is_request, pass_tests}
+use Rattle.tftp_tap.specs.TapOrder.{is_left_out, kept_of, before_error, same_end, is_request}
 use Rattle.tftp_tap.specs.TapRoutes.{tap_tests}
-use Rattle.tftp_tap.specs.TapRules.{recorded_at, header_at, kept_between, FirstTapAsked, Says, HasKind, IsReply, IsLateBlock, LateBreaks, KeptBreaks}
-use Rattle.tftp_tap.proofs.KeptOf.{is_or_not, any_here, any_skip, any_more, any_of, some_of, before_there, kept_out, kept_in, kept_more, kept_there, kept_plain, kept_asks}
+use Rattle.tftp_tap.specs.TapRules.{recorded_at, header_at, FirstTapAsked, Says, HasKind, IsReply, IsLateBlock}
+use Rattle.tftp_tap.proofs.KeptOf.{is_or_not, any_here, any_skip, any_of, some_of, before_there, kept_out, kept_in, kept_more, kept_plain, kept_asks}
 use Rattle.tftp_tap.proofs.TapTests.{asks_some}
 use Rattle.tftp_tap.proofs.TapRouted.{Carried}
-use Rattle.tftp_tap.proofs.TapRecorded.{Agrees, Each, kept_each, out_same, kept_map, IsCarried, pair_tests, datagram_in, pass_in, datagrams_each, Known, AreKnown, header_of_end, placed, placed_datagrams, placed_routes}
+use Rattle.tftp_tap.proofs.TapRecorded.{Agrees, Each, kept_each, out_same, kept_map, IsCarried, pair_tests, datagram_in, datagrams_each, Known, AreKnown, placed_datagrams, placed_routes}
 use Rattle.tftp_tap.proofs.TapBefore.{before_map, before_each}
 use Rattle.tftp_tap.proofs.TapLawful.{Lawful, AreLawful, server_after, is_req_or, Sends, begins_before, Right, rights}
 
@@ -317,7 +316,7 @@ module _ (s : TapSides) (apart : AreApart s) (asked : RequestParts) where
           let agree = datagrams_each s apart cs each in
           let same : kept_of (tap_tests s) r (map datagram_in cs) ≡ map datagram_in ks = kept_map datagram_in pair_tests (tap_tests s) r cs agree in
           let out : is_left_out (tap_tests s) r c.datagram (map datagram_in ks) ≡ is_left_out pair_tests r c ks
-              = out_same datagram_in pair_tests (tap_tests s) r c ks (datagrams_each s apart (c ∷ []) (is, tt)).0 (kept_each (Agrees datagram_in pair_tests (tap_tests s)) pair_tests r cs agree) in
+          = out_same datagram_in pair_tests (tap_tests s) r c ks (datagrams_each s apart (c ∷ []) (is, tt)).0 (kept_each (Agrees datagram_in pair_tests (tap_tests s)) pair_tests r cs agree) in
           lawful.kept broken (record {
             asked = asked;
             first = first;
@@ -336,7 +335,7 @@ module _ (s : TapSides) (apart : AreApart s) (asked : RequestParts) where
       alone none broken b =
           let r = receiver_of asked.side in
           let at : route_of (header_at s asked.side) [] (recorded_at s r c.datagram) ≡ Route.Request
-              = subst (λ l. route_of (header_at s asked.side) (map (recorded_at s r) (map datagram_in (kept_of pair_tests r l))) (recorded_at s r c.datagram) ≡ Route.Request) none (route ∙ ap packet_route (request none)) in
+          = subst (λ l. route_of (header_at s asked.side) (map (recorded_at s r) (map datagram_in (kept_of pair_tests r l))) (recorded_at s r c.datagram) ≡ Route.Request) none (route ∙ ap packet_route (request none)) in
           first_breaks_none (header_at s asked.side) (recorded_at s r c.datagram) is.spells.0 at says broken
           (subst (λ l. Broken (header_at s asked.side) (map (recorded_at s r) (map datagram_in (kept_of pair_tests r l))) (recorded_at s r c.datagram) broken) none b)
 
@@ -350,7 +349,9 @@ module _ (s : TapSides) (apart : AreApart s) (asked : RequestParts) where
       let r = receiver_of asked.side in
       elim (is_or_not (is_left_out pair_tests r c (kept_of pair_tests r cs))) [
         | inl out ↦ subst (λ l. OneEnded (header_at s asked.side) (map (recorded_at s r) (map datagram_in l))) (sym (kept_out pair_tests r c cs out)) before
-        | inr stays ↦ subst (λ l. OneEnded (header_at s asked.side) (map (recorded_at s r) (map datagram_in l))) (sym (kept_in pair_tests r c cs stays))
-            (ended_next c cs each.0 lawful.0 right.0 begins each.1 (kept_each (IsCarried s says_some) pair_tests r cs each.1)
-            (known_next c cs each.0 lawful.0 right.0 begins each.1 right.1 stays, known_kept cs each.1 lawful.1 right.1 begins) stays, before)
+        | inr stays ↦ subst (λ l. OneEnded (header_at s asked.side) (map (recorded_at s r) (map datagram_in l))) (sym (kept_in pair_tests r c cs stays)) (
+          ended_next c cs each.0 lawful.0 right.0 begins each.1 (kept_each (IsCarried s says_some) pair_tests r cs each.1)
+              (known_next c cs each.0 lawful.0 right.0 begins each.1 right.1 stays, known_kept cs each.1 lawful.1 right.1 begins) stays,
+          before,
+        )
       ]

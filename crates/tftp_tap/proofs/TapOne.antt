@@ -1,6 +1,6 @@
 -- A capture between the ends shows one transfer, names one first broken rule, and tells its server.
-use Rattle.std.proofs.Common.{◌≡◌, ◌⊎◌, ℕ, ◌<◌, Bool, true, false, List, [], ◌∷◌, Contains, Some, None, Option, inl, inr, refl, sym, subst, ap, ◌∙◌, arith}
-use Rattle.std.specs.Prelude.{◌&&◌, ◌||◌, not, map}
+use Rattle.std.proofs.Common.{◌≡◌, ℕ, Bool, true, false, List, [], ◌∷◌, Contains, Some, inl, inr, refl, sym, subst, ap, ◌∙◌, arith}
+use Rattle.std.specs.Prelude.{◌||◌, not}
 use Rattle.std.proofs.lemmas.Bool.{true≢false, cases_lt}
 use Rattle.tftp_packet.specs.Message.{Message}
 use Rattle.tftp_packet.specs.declared.kinds.End.{End}
@@ -9,23 +9,21 @@ use Rattle.tftp_ends.specs.Meaning.{Meaning}
 use Rattle.tftp_ends.specs.Machines.{MachinePacket, Req, Oack, Data, Ack, Error}
 use Rattle.tftp_ends.specs.OneSide.{is_error}
 use Rattle.tftp_ends.specs.Ports.{same_peer, first_of}
-use Rattle.tftp_ends.proofs.Members.{contains_first, contains_later, contains_cases, contains_none}
+use Rattle.tftp_ends.proofs.Members.{contains_cases, contains_none}
 use Rattle.tftp_law.specs.Dress.{says_of}
 use Rattle.tftp_law.specs.Divides.{says_some}
 use Rattle.tftp_law.specs.Rules.{number_of}
 use Rattle.tftp_law.specs.declared.rule.Rule.{Rule}
 use Rattle.tftp_law.proofs.RouteTests.{is_same}
-use Rattle.tftp_law.proofs.FirstRequests.{some_same}
-use Rattle.tftp_tap.specs.Tap.{Pass, IsWholeAtTap}
 use Rattle.tftp_tap.specs.Seen.{Tapped, AreCarried, IsSeenAtTap, ShowsAtTap}
-use Rattle.tftp_tap.specs.TapCapture.{PeerId, TapDatagram, TapSides, side_of, AreApart}
-use Rattle.tftp_tap.specs.TapDress.{TapPart, Main, Stray, StrayAnswer, TapPlaced, TapDivision, tapped_of, passed_of, GoesThere, CarriesPass, HasTapPart, HaveTapParts, IsSeenBetween, ShowsBetween, IsLawfulBetween}
+use Rattle.tftp_tap.specs.TapCapture.{TapDatagram, TapSides, side_of, AreApart}
+use Rattle.tftp_tap.specs.TapDress.{TapPart, Main, Stray, StrayAnswer, TapDivision, tapped_of, passed_of, GoesThere, HasTapPart, HaveTapParts, IsSeenBetween, ShowsBetween, IsLawfulBetween}
 use Rattle.tftp_tap.specs.TapOrder.{is_request}
 use Rattle.tftp_tap.specs.TapRoutes.{asks_in, ends_in}
 use Rattle.tftp_tap.specs.TapRules.{FirstTapBroken, BreaksNoTapRule, IsTapRefused, goes_on_to, told_server}
 use Rattle.tftp_tap.proofs.OneTap.{shown_one}
 use Rattle.tftp_tap.proofs.OneTapDivision.{parts_some, one_division}
-use Rattle.tftp_tap.proofs.KeptOf.{is_or_not, and_true, or_false}
+use Rattle.tftp_tap.proofs.KeptOf.{and_true, or_false}
 use Rattle.tftp_tap.proofs.TapTests.{asks_some, ends_some, ends_says}
 use Rattle.tftp_tap.proofs.TapBefore.{first_holds}
 

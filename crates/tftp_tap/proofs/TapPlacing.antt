@@ -1,31 +1,28 @@
 -- A datagram that passes between the ends has a part.
-use Rattle.std.proofs.Common.{◌≡◌, ◌⊎◌, ℕ, Bool, true, false, List, [], ◌∷◌, Any, Some, inl, inr, refl, sym, subst, ap, ◌∙◌}
-use Rattle.std.specs.Prelude.{◌&&◌, ◌||◌, ◌==◌, if◌then◌else◌}
-use Rattle.std.specs.List.{list_any}
+use Rattle.std.proofs.Common.{◌≡◌, ℕ, true, false, List, [], ◌∷◌, Any, inl, inr, refl, sym, subst, ◌∙◌}
+use Rattle.std.specs.Prelude.{◌&&◌, ◌==◌}
 use Rattle.std.proofs.lemmas.Bool.{true≢false, eq-eqb}
-use Rattle.tftp_packet.specs.Message.{Message, RequestParts}
+use Rattle.tftp_packet.specs.Message.{Message}
 use Rattle.tftp_packet.specs.Spelling.{Spells}
-use Rattle.tftp_packet.specs.Faults.{opcode_of}
 use Rattle.tftp_packet.specs.declared.kinds.End.{End}
 use Rattle.tftp_packet.specs.declared.kinds.End.TheVariants.{Client, Server}
 use Rattle.tftp_ends.specs.Machines.{MachinePacket, Req, Oack, Data, Ack, Error}
 use Rattle.tftp_ends.specs.Ports.{same_peer}
 use Rattle.tftp_law.specs.Sides.{BeginsAsRequest}
-use Rattle.tftp_law.specs.Divides.{packet_in, says_some}
-use Rattle.tftp_law.specs.declared.rule.Rule.{Rule}
+use Rattle.tftp_law.specs.Divides.{says_some}
 use Rattle.tftp_law.specs.declared.rule.Rule.TheVariants as rule
-use Rattle.tftp_law.proofs.RouteTests.{same_is, is_same, other_peer, apart_is}
+use Rattle.tftp_law.proofs.RouteTests.{same_is, is_same, apart_is}
 use Rattle.tftp_law.proofs.FirstRequests.{begins_asked}
-use Rattle.tftp_law.proofs.Divided.{any_none, any_cases, any_first, any_later}
+use Rattle.tftp_law.proofs.Divided.{any_first, any_later}
 use Rattle.tftp_tap.specs.Tap.{Pass}
 use Rattle.tftp_tap.specs.TapCapture.{PeerId, TapDatagram, TapSides, side_of, AreApart}
-use Rattle.tftp_tap.specs.TapDress.{TapPart, Main, Stray, StrayAnswer, TapPlaced, TapDivision, tapped_of, IsMainFrom, GoesThere, CarriesPass, PassesAstray, AnswersTapStray, HasTapPart, HaveTapParts}
-use Rattle.tftp_tap.specs.TapRoutes.{asks_in, ends_in, has_gone, route_astray, route_from_client, route_from_server, route_from_elsewhere, tap_route, is_passing}
-use Rattle.tftp_tap.specs.TapRules.{SidesBreak, IsTapRead, TapBroken, TapPasses}
+use Rattle.tftp_tap.specs.TapDress.{TapPart, Main, Stray, StrayAnswer, TapPlaced, TapDivision, tapped_of, IsMainFrom, GoesThere, HasTapPart, HaveTapParts}
+use Rattle.tftp_tap.specs.TapRoutes.{asks_in, ends_in, has_gone, route_astray, tap_route}
+use Rattle.tftp_tap.specs.TapRules.{IsTapRead, TapPasses}
 use Rattle.tftp_tap.specs.declared.route.TapRoute.{TapRoute}
 use Rattle.tftp_tap.proofs.OneTapDivision.{no_stray_side}
 use Rattle.tftp_tap.proofs.KeptOf.{is_or_not, and_true, any_skip}
-use Rattle.tftp_tap.proofs.TapTests.{asks_says, asks_message, source_is}
+use Rattle.tftp_tap.proofs.TapTests.{asks_says, source_is}
 
 -- a payload that opens as a request, tested
 request_tested : (payload : List ℕ) → BeginsAsRequest payload → asks_in payload ≡ true

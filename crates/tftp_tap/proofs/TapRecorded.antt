@@ -1,13 +1,13 @@
 -- What is kept of a division, as the receiver's capture.
-use Rattle.std.proofs.Common.{◌≡◌, ◌⊎◌, ℕ, Bool, true, false, List, [], ◌∷◌, Any, Contains, Some, inl, inr, refl, sym, subst, ap, ◌∙◌}
-use Rattle.std.specs.Prelude.{◌&&◌, ◌||◌, not, map}
+use Rattle.std.proofs.Common.{◌≡◌, ◌⊎◌, Bool, true, false, List, [], ◌∷◌, Any, inl, inr, refl, sym, subst, ap, ◌∙◌}
+use Rattle.std.specs.Prelude.{map}
 use Rattle.std.specs.List.{list_any}
 use Rattle.std.proofs.lemmas.Bool.{true≢false}
 use Rattle.tftp_packet.specs.declared.kinds.End.{End}
 use Rattle.tftp_packet.specs.declared.kinds.End.TheVariants.{Client, Server}
 use Rattle.tftp_packet.specs.declared.kinds.Dir.TheVariants.{In, Out}
 use Rattle.tftp_ends.specs.CaptureText.{Datagram, Header, peer_of}
-use Rattle.tftp_ends.specs.Machines.{Sent, Took, MachinePacket, Req, Oack, Data, Ack, Error, other_end}
+use Rattle.tftp_ends.specs.Machines.{MachinePacket, Req, Oack, Data, Ack, Error, other_end}
 use Rattle.tftp_ends.specs.Ports.{same_peer}
 use Rattle.tftp_law.specs.Sides.{from_server}
 use Rattle.tftp_law.specs.Dress.{Main, Placed, Division, datagrams_of, view_in, TransferIds, Saying, GoesToServer, Carries, HavePartsBy}
@@ -18,13 +18,12 @@ use Rattle.tftp_law.proofs.Routed.{routed_by}
 use Rattle.tftp_law.proofs.Divided.{any_first, any_later}
 use Rattle.tftp_tap.specs.Tap.{Pass, deed_at, as_at}
 use Rattle.tftp_tap.specs.TapCapture.{TapDatagram, TapSides, side_of, AreApart}
-use Rattle.tftp_tap.specs.TapOrder.{Tests, is_left_out, kept_of, same_end, pass_tests, kept_at}
+use Rattle.tftp_tap.specs.TapOrder.{Tests, is_left_out, kept_of, same_end, pass_tests}
 use Rattle.tftp_tap.specs.TapDress.{TapPart, TapPlaced, TapDivision, tapped_of, passed_of, GoesThere, CarriesPass, HasTapPart, HaveTapParts}
-
 use Rattle.tftp_tap.specs.TapDress as tap
 use Rattle.tftp_tap.specs.TapRoutes.{tap_tests}
 use Rattle.tftp_tap.specs.TapRules.{recorded_at}
-use Rattle.tftp_tap.proofs.KeptOf.{is_or_not, kept_out, kept_in, any_skip, and_true}
+use Rattle.tftp_tap.proofs.KeptOf.{is_or_not, kept_out, kept_in, any_skip}
 use Rattle.tftp_tap.proofs.TapTests.{source_is, asks_some, ends_some}
 use Rattle.tftp_tap.proofs.TapRouted.{Carried, add_main, mains}
 
@@ -80,7 +79,7 @@ module _ {X Y : Type 0} (f : X → Y) (t : Tests X) (u : Tests Y) where
   kept_map r (x ∷ xs) each =
       let before = kept_map r xs each.1 in
       let same : is_left_out u r (f x) (kept_of u r (map f xs)) ≡ is_left_out t r x (kept_of t r xs)
-          = ap (is_left_out u r (f x)) before ∙ out_same r x (kept_of t r xs) each.0 (kept_each (Agrees f t u) t r xs each.1) in
+      = ap (is_left_out u r (f x)) before ∙ out_same r x (kept_of t r xs) each.0 (kept_each (Agrees f t u) t r xs each.1) in
       elim (is_or_not (is_left_out t r x (kept_of t r xs))) [
         | inl out ↦ kept_out u r (f x) (map f xs) (same ∙ out) ∙ before ∙ ap (map f) (sym (kept_out t r x xs out))
         | inr stays ↦ kept_in u r (f x) (map f xs) (same ∙ stays) ∙ ap (λ l. f x ∷ l) before ∙ ap (map f) (sym (kept_in t r x xs stays))

@@ -1,29 +1,25 @@
 -- The route of a datagram that passed between the ends is that of its part.
-use Rattle.std.proofs.Common.{◌≡◌, ◌⊎◌, ℕ, Bool, true, false, List, [], ◌∷◌, Any, Some, inl, inr, refl, sym, subst, ap, ◌∙◌}
-use Rattle.std.specs.Prelude.{◌&&◌, ◌||◌, ◌==◌, map}
-use Rattle.std.specs.List.{list_any}
-use Rattle.std.proofs.lemmas.Bool.{true≢false, eqb-true}
+use Rattle.std.proofs.Common.{◌≡◌, true, false, List, [], ◌∷◌, Any, inl, inr, refl, sym, subst, ap, ◌∙◌}
+use Rattle.std.specs.Prelude.{◌&&◌, ◌==◌, map}
+use Rattle.std.proofs.lemmas.Bool.{eqb-true}
 use Rattle.tftp_packet.specs.Message.{Message}
-use Rattle.tftp_packet.specs.Spelling.{Spells}
 use Rattle.tftp_packet.specs.declared.kinds.End.{End}
 use Rattle.tftp_packet.specs.declared.kinds.End.TheVariants.{Client, Server}
 use Rattle.tftp_ends.specs.Machines.{MachinePacket, Req, Oack, Data, Ack, Error}
 use Rattle.tftp_ends.specs.Ports.{same_peer}
-use Rattle.tftp_law.specs.Divides.{packet_in, says_some}
-use Rattle.tftp_law.proofs.RouteTests.{same_is, is_same, other_peer, apart_is}
+use Rattle.tftp_law.specs.Divides.{says_some}
+use Rattle.tftp_law.proofs.RouteTests.{same_is, other_peer}
 use Rattle.tftp_law.proofs.ServerRoutes.{byte_begins}
-use Rattle.tftp_law.proofs.Divided.{any_none, any_cases, any_first, any_later}
-use Rattle.tftp_law.specs.declared.rule.Rule.TheVariants as rule
+use Rattle.tftp_law.proofs.Divided.{any_none, any_cases}
 use Rattle.tftp_tap.specs.Tap.{Pass}
 use Rattle.tftp_tap.specs.TapOrder.{is_request}
 use Rattle.tftp_tap.specs.TapCapture.{PeerId, TapDatagram, TapSides, side_of, AreApart}
 use Rattle.tftp_tap.specs.TapDress.{TapPart, Main, Stray, StrayAnswer, TapPlaced, TapDivision, tapped_of, IsMainFrom, GoesThere, CarriesPass, PassesAstray, AnswersTapStray, HasTapPart, HaveTapParts}
-use Rattle.tftp_tap.specs.TapRoutes.{asks_in, ends_in, has_gone, route_astray, route_from_client, route_from_server, route_from_elsewhere, tap_route, is_passing, transfer_between}
-use Rattle.tftp_tap.specs.TapRules.{IsTapRead, TapPasses}
+use Rattle.tftp_tap.specs.TapRoutes.{asks_in, has_gone, tap_route, is_passing, transfer_between}
 use Rattle.tftp_tap.specs.declared.route.TapRoute.{TapRoute}
 use Rattle.tftp_tap.proofs.OneTapDivision.{no_stray_side}
-use Rattle.tftp_tap.proofs.KeptOf.{is_or_not, and_true, any_here, any_skip, any_more}
-use Rattle.tftp_tap.proofs.TapTests.{asks_says, ends_says, asks_message, ends_message, asks_some, ends_some, source_is}
+use Rattle.tftp_tap.proofs.KeptOf.{is_or_not, and_true, any_more}
+use Rattle.tftp_tap.proofs.TapTests.{asks_says, ends_says, asks_some, source_is}
 
 -- the main datagrams, each with its packet
 pub record Carried : Type 0 where
@@ -75,7 +71,6 @@ module _ (s : TapSides) (apart : AreApart s) where
 
   -- ---- from the part to the route
 
-
   from_client : (earlier : TapDivision) → HaveTapParts s says_some earlier → (d : TapDatagram) → d.source ≡ s.client → asks_in d.payload ≡ false → d.destination ≡ s.server → Any (λ p. IsMainFrom Server p.part) earlier
       → tap_route s (tapped_of earlier) d ≡ TapRoute.FromClient
   from_client earlier parts d source plain to any = rw (same_is d.source s.client source, plain, same_is d.destination s.server to, answered_gone earlier parts any) refl
@@ -100,8 +95,13 @@ module _ (s : TapSides) (apart : AreApart s) where
   stray_route earlier d p = by p.here.0 p.here.1 where
     by : (e : End) → d.destination ≡ side_of s e → tap_route s (tapped_of earlier) d ≡ TapRoute.Stray
     by Client to = rw (other_peer d.source s.client (p.elsewhere Client), other_peer d.source s.server (p.elsewhere Server), same_is d.destination s.client to) refl
-    by Server to = rw (other_peer d.source s.client (p.elsewhere Client), other_peer d.source s.server (p.elsewhere Server),
-      other_peer d.destination s.client (λ is. apart.server (sym is ∙ to)), same_is d.destination s.server to, no_request_in d p to) refl
+    by Server to = rw (
+      other_peer d.source s.client (p.elsewhere Client),
+      other_peer d.source s.server (p.elsewhere Server),
+      other_peer d.destination s.client (λ is. apart.server (sym is ∙ to)),
+      same_is d.destination s.server to,
+      no_request_in d p to,
+    ) refl
 
   answer_route : (earlier : TapDivision) → HaveTapParts s says_some earlier → (d : TapDatagram) → AnswersTapStray s earlier d → tap_route s (tapped_of earlier) d ≡ TapRoute.StrayAnswer
   answer_route earlier parts d p = by p.own.0 p.own.1 where

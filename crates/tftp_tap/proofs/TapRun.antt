@@ -1,5 +1,5 @@
 -- What breaks no rule between the ends is what some run shows there.
-use Rattle.std.proofs.Common.{◌≡◌, ◌⊎◌, ℕ, zero, suc, ◌≤◌, ◌<◌, Bool, true, false, List, [], ◌∷◌, Any, Contains, Some, None, inl, inr, refl, sym, subst, ap, ◌∙◌, arith}
+use Rattle.std.proofs.Common.{◌≡◌, ◌⊎◌, ℕ, ◌≤◌, Bool, true, false, List, [], ◌∷◌, Any, Contains, Some, inl, inr, refl, sym, subst, ap, ◌∙◌, arith}
 use Rattle.std.specs.Prelude.{◌&&◌, ◌||◌, not, map}
 use Rattle.std.specs.List.{list_any}
 use Rattle.std.proofs.lemmas.Bool.{true≢false, cases_lt}
@@ -10,17 +10,15 @@ use Rattle.tftp_packet.specs.declared.kinds.Side.{Side}
 use Rattle.tftp_packet.specs.declared.kinds.Side.TheVariants.{Get, Put}
 use Rattle.tftp_packet.specs.declared.kinds.End.{End}
 use Rattle.tftp_packet.specs.declared.kinds.End.TheVariants.{Client, Server}
-use Rattle.tftp_ends.specs.CaptureText.{Datagram, Header}
-use Rattle.tftp_ends.specs.Meaning.{Meaning, request_of, NothingAgreed, SomethingAgreed}
-use Rattle.tftp_ends.specs.Machines.{Deed, Sent, Took, MachinePacket, Req, Oack, Data, Ack, Error, History, HasSent, HasTaken, message_of, other_end, sender_of, receiver_of, MaySend, MayAckZeroOn}
+use Rattle.tftp_ends.specs.Meaning.{Meaning, request_of, SomethingAgreed}
+use Rattle.tftp_ends.specs.Machines.{MachinePacket, Req, Oack, Data, Ack, Error, HasSent, HasTaken, other_end, sender_of, receiver_of, MayAckZeroOn}
 use Rattle.tftp_ends.specs.OneSide.{is_error, heard, LetsAckZeroOn, MayComeError, IsOneSided}
 use Rattle.tftp_ends.proofs.Members.{contains_first, contains_later, contains_cases, contains_none}
 use Rattle.tftp_ends.proofs.Stops.{lawful_tail}
-use Rattle.tftp_law.specs.Dress.{Main, Division, datagrams_of, view_in, says_of, packet_of}
+use Rattle.tftp_law.specs.Dress.{view_in, says_of, packet_of}
 use Rattle.tftp_law.specs.Fits.{Fits}
-use Rattle.tftp_law.specs.Accord.{Accords, AreRouted, AreRoutedBy, Starts}
+use Rattle.tftp_law.specs.Accord.{AreRouted}
 use Rattle.tftp_law.specs.Divides.{packet_in, says_some}
-use Rattle.tftp_law.specs.OneEnded.{OneEnded}
 use Rattle.tftp_law.specs.declared.rule.Rule.TheVariants as rule
 use Rattle.tftp_law.proofs.MadeMeaning.{some_accord}
 use Rattle.tftp_law.proofs.RulesDivide.{divides}
@@ -31,21 +29,20 @@ use Rattle.tftp_law.proofs.SameOrNot.{same_options, same_text}
 use Rattle.tftp_law.proofs.Spelled.{spelled_once}
 use Rattle.tftp_law.proofs.FirstRequests.{some_same, request_same}
 use Rattle.tftp_law.proofs.Divided.{any_first, any_later}
-use Rattle.tftp_tap.specs.Tap.{Pass, deed_at, as_at, MayPass, MayPassEach}
+use Rattle.tftp_tap.specs.Tap.{Pass, deed_at, as_at, MayPassEach}
 use Rattle.tftp_tap.specs.TapCapture.{TapDatagram, TapSides, side_of, AreApart}
-use Rattle.tftp_tap.specs.TapOrder.{is_left_out, kept_of, before_error, same_end, is_request, pass_tests, kept_at, IsAnsweredInTime, IsInTime, AreInTime}
-use Rattle.tftp_tap.specs.TapRoutes.{tap_tests}
-use Rattle.tftp_tap.specs.TapRules.{recorded_at, header_at, FirstTapAsked, Says, HasKind, IsBlock, IsSomeBlock, IsOack, OtherError, IsLateAck, IsLateZero, LateBreaks}
-use Rattle.tftp_tap.proofs.Passed.{sent_at, at_sent, at_took, sent_passed, took_passed}
+use Rattle.tftp_tap.specs.TapOrder.{is_left_out, kept_of, before_error, same_end, is_request, pass_tests, IsAnsweredInTime, IsInTime, AreInTime}
+use Rattle.tftp_tap.specs.TapRules.{recorded_at, header_at, FirstTapAsked, Says, HasKind, IsBlock, IsSomeBlock, IsOack, IsLateZero}
+use Rattle.tftp_tap.proofs.Passed.{sent_at, at_sent, took_passed}
 use Rattle.tftp_tap.proofs.AtReceiver.{receiver_is}
 use Rattle.tftp_tap.proofs.OneTap.{Has, pass_moment, begun}
-use Rattle.tftp_tap.proofs.KeptOf.{is_or_not, any_here, any_skip, any_of, some_of, before_there, before_all, before_less, none_of, kept_out, kept_in, kept_there, kept_plain, kept_asks}
+use Rattle.tftp_tap.proofs.KeptOf.{is_or_not, any_skip, any_of, some_of, before_there, before_all, before_less, kept_out, kept_in, kept_there, kept_plain, kept_asks}
 use Rattle.tftp_tap.proofs.TapKept.{before_sent}
 use Rattle.tftp_tap.proofs.TapBack.{kept_tells}
 use Rattle.tftp_tap.proofs.TapRouted.{Carried}
-use Rattle.tftp_tap.proofs.TapRecorded.{Agrees, Each, kept_each, kept_map, asks_same, IsCarried, pair_tests, datagram_in, pass_in, passes_each, datagrams_each, AreKnown, header_of_end, placed, placed_datagrams, placed_view, placed_routes}
+use Rattle.tftp_tap.proofs.TapRecorded.{Each, kept_each, kept_map, asks_same, IsCarried, pair_tests, datagram_in, pass_in, passes_each, header_of_end, placed, placed_datagrams, placed_view, placed_routes}
 use Rattle.tftp_tap.proofs.TapBefore.{before_map, before_each, pass_at}
-use Rattle.tftp_tap.proofs.TapLawful.{Lawful, AreLawful, server_after, is_req_or, Sends, begins_before, Right, rights}
+use Rattle.tftp_tap.proofs.TapLawful.{Lawful, AreLawful, server_after, Sends, begins_before, Right, rights}
 use Rattle.tftp_tap.proofs.TapMade.{Decides, decide_kind, find_kind, each_both, told_some, recorded_payload, reply_kept, decide_before, block_replied, known_kept, ended_kept}
 
 pub each_at : {X : Type 0} (P : X → Type 0) (xs : List X) (x : X) → Each P xs → Contains xs x → P x
@@ -119,9 +116,9 @@ module _ (s : TapSides) (apart : AreApart s) (asked : RequestParts) where
   Both b = IsCarried s says_some b × Right s apart asked b
 
   module _ (m : Meaning) (wire : List ℕ) (side : asked.side ≡ m.side) (c : Carried) (cs : List Carried) (is : IsCarried s says_some c) (lawful : Lawful s c cs) (right : Right s apart asked c)
-    (begins : (cs ≡ []) ⊎ FirstTapAsked s (map datagram_in cs) asked) (each : Each (IsCarried s says_some) cs) (all : AreLawful s cs) (rightly : Each (Right s apart asked) cs)
-    (own : IsOneSided m wire (receiver_of m.side) (as_at (receiver_of m.side) (map pass_in (kept_of pair_tests (receiver_of m.side) cs))))
-    (mine : (p : MachinePacket) → c.pass.packet ≡ p → is_request p ≡ false → is_error p ≡ false → IsOneSided m wire (receiver_of m.side) (deed_at (receiver_of m.side) c.pass.from p ∷ as_at (receiver_of m.side) (map pass_in (kept_of pair_tests (receiver_of m.side) cs)))) where
+      (begins : (cs ≡ []) ⊎ FirstTapAsked s (map datagram_in cs) asked) (each : Each (IsCarried s says_some) cs) (all : AreLawful s cs) (rightly : Each (Right s apart asked) cs)
+      (own : IsOneSided m wire (receiver_of m.side) (as_at (receiver_of m.side) (map pass_in (kept_of pair_tests (receiver_of m.side) cs))))
+      (mine : (p : MachinePacket) → c.pass.packet ≡ p → is_request p ≡ false → is_error p ≡ false → IsOneSided m wire (receiver_of m.side) (deed_at (receiver_of m.side) c.pass.from p ∷ as_at (receiver_of m.side) (map pass_in (kept_of pair_tests (receiver_of m.side) cs)))) where
     both : Each Both cs
     both = each_both (IsCarried s says_some) (Right s apart asked) cs each rightly
 
@@ -245,9 +242,10 @@ module _ (s : TapSides) (apart : AreApart s) (asked : RequestParts) where
           let found = find_kind IsOack Both (before_error pair_tests Client cs) (both_before Client) there in
           let oack = oack_packet found.0 found.2.0 found.3.0 found.3.1 found.3.2 in
           let from : found.0.pass.from ≡ Server = subst (Sends s apart asked.side found.0.pass.from) oack found.2.1.sends in
-          let client = from_receiver j packet Get get in
-          (oack_agrees (has_pass cs found.0 Server Oack (before_there pair_tests Client cs found.0 found.1) from oack),
-          hears Client Oack client (before_has Client cs found.0 (other_end c.pass.from) Oack found.1 (from ∙ ap other_end (sym client)) oack))
+          let client = from_receiver j packet Get get in (
+            oack_agrees (has_pass cs found.0 Server Oack (before_there pair_tests Client cs found.0 found.1) from oack),
+            hears Client Oack client (before_has Client cs found.0 (other_end c.pass.from) Oack found.1 (from ∙ ap other_end (sym client)) oack),
+          )
     ]
 
     no_oack : (HasKind IsOack (map datagram_in cs) → ⊥) → Has (map pass_in cs) Server Oack → ⊥
@@ -423,9 +421,10 @@ module _ (s : TapSides) (apart : AreApart s) (asked : RequestParts) where
   in_times m wire side (c ∷ cs) each lawful right (inl none) own = absurd (cc)
   in_times m wire side (c ∷ cs) each lawful right (inr first) own =
       let before = begins_before s apart asked c cs lawful.1 each.1 first in
-      let rest = own_rest m wire (receiver_of m.side) c cs own in
-      (time_of m wire side c cs each.0 lawful.0 right.0 before each.1 lawful.1 right.1 rest (own_now m wire (receiver_of m.side) c cs own) c.pass.packet refl,
-      in_times m wire side cs each.1 lawful.1 right.1 before rest)
+      let rest = own_rest m wire (receiver_of m.side) c cs own in (
+        time_of m wire side c cs each.0 lawful.0 right.0 before each.1 lawful.1 right.1 rest (own_now m wire (receiver_of m.side) c cs own) c.pass.packet refl,
+        in_times m wire side cs each.1 lawful.1 right.1 before rest,
+      )
 
   -- ---- a meaning and a wire
 
@@ -525,7 +524,7 @@ module _ (s : TapSides) (apart : AreApart s) (asked : RequestParts) where
       let side : asked.side ≡ m.side = ap (λ (q : RequestParts). q.side) request in
       let view : IsOneSided m wire r (as_at r (map pass_in ks)) = subst (IsOneSided m wire r) (placed_view s r ks) (subst (λ d. IsOneSided m wire r (view_in d)) one own) in
       let own_at : IsOneSided m wire (receiver_of m.side) (as_at (receiver_of m.side) (map pass_in (kept_of pair_tests (receiver_of m.side) cs)))
-          = subst (λ x. IsOneSided m wire (receiver_of x) (as_at (receiver_of x) (map pass_in (kept_of pair_tests (receiver_of x) cs)))) side view in
+      = subst (λ x. IsOneSided m wire (receiver_of x) (as_at (receiver_of x) (map pass_in (kept_of pair_tests (receiver_of x) cs)))) side view in
       let kept_passes = kept_map pass_in pair_tests pass_tests (receiver_of m.side) cs (passes_each cs) in
       record {
         m = m;

@@ -1,6 +1,6 @@
 -- What a run shows between its ends breaks no rule there.
-use Rattle.std.proofs.Common.{◌≡◌, ◌≤◌, ◌⊎◌, ℕ, zero, suc, Bool, true, false, List, [], ◌∷◌, Any, Contains, Some, inl, inr, refl, sym, subst, ap, ◌∙◌, arith}
-use Rattle.std.specs.Prelude.{◌&&◌, ◌||◌, not, map}
+use Rattle.std.proofs.Common.{◌≡◌, ℕ, zero, suc, true, false, List, [], ◌∷◌, Any, Contains, inl, inr, refl, sym, subst, ap, ◌∙◌, arith}
+use Rattle.std.specs.Prelude.{not, map}
 use Rattle.std.specs.List.{list_any}
 use Rattle.std.proofs.lemmas.Bool.{true≢false}
 use Rattle.tftp_packet.specs.Message.{Message, RequestParts}
@@ -10,14 +10,13 @@ use Rattle.tftp_packet.specs.declared.kinds.Side.{Side}
 use Rattle.tftp_packet.specs.declared.kinds.Side.TheVariants.{Get, Put}
 use Rattle.tftp_packet.specs.declared.kinds.End.{End}
 use Rattle.tftp_packet.specs.declared.kinds.End.TheVariants.{Client, Server}
-use Rattle.tftp_ends.specs.CaptureText.{Datagram, Header}
 use Rattle.tftp_ends.specs.Meaning.{Meaning, request_of}
 use Rattle.tftp_ends.specs.Machines.{MachinePacket, Req, Oack, Data, Ack, Error, HasSent, message_of, other_end, sender_of, receiver_of}
 use Rattle.tftp_packet.specs.OptionMap.{no_options}
 use Rattle.tftp_ends.proofs.Members.{contains_first, contains_later}
 use Rattle.tftp_ends.specs.OneSide.{is_error, heard, LetsStartOn, LetsAckZeroOn, IsOneSided}
 use Rattle.tftp_law.specs.Fits.{Fits}
-use Rattle.tftp_law.specs.Dress.{says_of, datagrams_of, view_in}
+use Rattle.tftp_law.specs.Dress.{says_of, view_in}
 use Rattle.tftp_law.specs.Divides.{says_some}
 use Rattle.tftp_law.specs.OneEnded.{OneEnded}
 use Rattle.tftp_law.specs.Rules.{IsWrongKind, Broken}
@@ -29,23 +28,22 @@ use Rattle.tftp_law.proofs.Routed.{told_of}
 use Rattle.tftp_law.proofs.RunsPass.{ruled}
 use Rattle.tftp_tap.specs.Tap.{Pass, as_at, MayPass, MayPassEach}
 use Rattle.tftp_tap.specs.TapCapture.{TapDatagram, TapSides, side_of, AreApart}
-use Rattle.tftp_tap.specs.TapOrder.{is_left_out, kept_of, before_error, same_end, pass_tests, kept_at, IsAnsweredInTime, IsInTime}
-use Rattle.tftp_tap.specs.TapDress.{TapPart, Main, Stray, StrayAnswer, TapPlaced, TapDivision, tapped_of, passed_of, IsSeenBetween, CarriesPass, HasTapPart, HaveTapParts}
+use Rattle.tftp_tap.specs.TapOrder.{is_left_out, kept_of, before_error, pass_tests, kept_at, IsAnsweredInTime, IsInTime}
+use Rattle.tftp_tap.specs.TapDress.{TapPart, Main, Stray, StrayAnswer, TapPlaced, TapDivision, tapped_of, passed_of, IsSeenBetween, HasTapPart, HaveTapParts}
 use Rattle.tftp_tap.specs.TapRoutes.{tap_tests, tap_route, is_passing, transfer_between}
-use Rattle.tftp_tap.specs.TapRules.{recorded_at, header_at, kept_between, FirstTapAsked, Says, HasKind, IsBlock, IsSomeBlock, IsOack, IsReply, SidesBreak, OtherError, IsLateAck, IsLateZero, IsLateBlock, LateBreaks, LateBroken, PassingBreaks, KeptBreaks, TapBroken, IsTapRead, TapPasses, BreaksNoTapRule}
+use Rattle.tftp_tap.specs.TapRules.{recorded_at, header_at, kept_between, FirstTapAsked, Says, HasKind, IsBlock, IsSomeBlock, IsOack, IsReply, SidesBreak, OtherError, IsLateAck, IsLateZero, IsLateBlock, LateBreaks, LateBroken, PassingBreaks, KeptBreaks, IsTapRead, TapPasses, BreaksNoTapRule}
 use Rattle.tftp_tap.specs.declared.route.TapRoute.{TapRoute}
 use Rattle.tftp_tap.proofs.Replays.{tap_view_is}
 use Rattle.tftp_tap.proofs.Passed.{sent_passed, at_took}
-use Rattle.tftp_tap.proofs.OneTap.{Has, begun, heard_passed}
-use Rattle.tftp_tap.proofs.Ordered.{ack_asked, client_reads}
+use Rattle.tftp_tap.proofs.OneTap.{Has, begun}
+use Rattle.tftp_tap.proofs.Ordered.{ack_asked}
 use Rattle.tftp_tap.proofs.OneTapDivision.{parts_some, some_of}
-use Rattle.tftp_tap.proofs.KeptOf.{is_or_not, or_false, any_of, before_there, kept_out, kept_in}
+use Rattle.tftp_tap.proofs.KeptOf.{is_or_not, any_of, before_there, kept_out, kept_in}
 use Rattle.tftp_tap.proofs.TapKept.{sent_before, kept_may, kept_one_sided}
 use Rattle.tftp_tap.proofs.TapBack.{in_time}
-use Rattle.tftp_tap.proofs.TapTests.{source_is}
-use Rattle.tftp_tap.proofs.TapRouted.{Carried, add_main, mains, pass_route, part_route, route_is, transfer_is}
+use Rattle.tftp_tap.proofs.TapRouted.{Carried, mains, pass_route, route_is, transfer_is}
 use Rattle.tftp_tap.proofs.TapRecorded.{Agrees, Each, kept_each, asks_same, answers_same, kept_map, out_same, IsCarried, carried_is, mains_carried, pair_tests, datagram_in, pass_in, passes_each, passed_is, datagrams_each, Known, AreKnown, header_of_end, placed, placed_datagrams, placed_view, placed_starts, placed_routes}
-use Rattle.tftp_tap.proofs.TapBefore.{before_map, before_each, some_each, kind_there, carried_at, pass_at, asked_of, first_asked_is}
+use Rattle.tftp_tap.proofs.TapBefore.{before_map, before_each, some_each, kind_there, asked_of, first_asked_is}
 
 -- a route of which no rule of sides is broken
 sides_none : (d : TapDatagram) (route : TapRoute) → (route ≡ TapRoute.ForeignPort → ⊥) → (route ≡ TapRoute.WrongPort → ⊥) → (route ≡ TapRoute.NoStrayAnswer → ⊥) → (route ≡ TapRoute.StrayAnswer → ⊥) → (broken : Rule) → SidesBreak route d broken → ⊥
@@ -85,17 +83,21 @@ module _ (m : Meaning) (wire : List ℕ) (l : List Pass) (each : MayPassEach m w
   server_asked Oack may = (λ is. cc, sent_passed Client Req l may.asked)
   server_asked (Error code text) may = (λ is. cc, sent_passed Client Req l (may.asked refl))
   server_asked (Data k) may =
-      let get = server_reads m.side may.receiver in
-      (λ is. cc, elim (subst (λ side. LetsStartOn side m (heard (as_at Client l))) get may.started) [
-        | inl plain ↦ heard_has Client Req plain.1
-        | inr oacked ↦ ack_asked m wire l each get 0 (heard_has Client (Ack 0) oacked.1)
-      ])
+      let get = server_reads m.side may.receiver in (
+        λ is. cc,
+        elim (subst (λ side. LetsStartOn side m (heard (as_at Client l))) get may.started) [
+          | inl plain ↦ heard_has Client Req plain.1
+          | inr oacked ↦ ack_asked m wire l each get 0 (heard_has Client (Ack 0) oacked.1)
+        ],
+      )
   server_asked (Ack zero) may =
-      let put = client_sends m.side may.sender in
-      (λ is. cc, elim (subst (λ side. LetsAckZeroOn side m (heard (as_at Client l))) put (may.zero refl)) [
-        | inl plain ↦ heard_has Client Req plain.1
-        | inr oacked ↦ block_asked oacked.1 m.side refl (sym may.sender) (heard_has Client (Data oacked.1) oacked.2)
-      ])
+      let put = client_sends m.side may.sender in (
+        λ is. cc,
+        elim (subst (λ side. LetsAckZeroOn side m (heard (as_at Client l))) put (may.zero refl)) [
+          | inl plain ↦ heard_has Client Req plain.1
+          | inr oacked ↦ block_asked oacked.1 m.side refl (sym may.sender) (heard_has Client (Data oacked.1) oacked.2)
+        ],
+      )
   server_asked (Ack (suc j)) may = (λ is. cc, block_asked 1 m.side refl (sym may.sender) (heard_has Client (Data 1) (may.sent 1 (omega arith) (omega arith))))
 
   from_server : (p : MachinePacket) → Has l Server p → list_any pass_tests.answers l ≡ true
@@ -148,7 +150,7 @@ module _ (s : TapSides) (apart : AreApart s) (m : Meaning) (wire : List ℕ) (fi
     | inl out ↦ subst AreKnown (sym (kept_out pair_tests r c cs out)) (kept_known r cs may.1)
     | inr stays ↦
         let all : MayPassEach m wire (map pass_in (c ∷ kept_of pair_tests r cs))
-            = subst (λ l. MayPassEach m wire (map pass_in l)) (kept_in pair_tests r c cs stays) (subst (MayPassEach m wire) (kept_passes r (c ∷ cs)) (kept_may m wire r (map pass_in (c ∷ cs)) may)) in
+        = subst (λ l. MayPassEach m wire (map pass_in l)) (kept_in pair_tests r c cs stays) (subst (MayPassEach m wire) (kept_passes r (c ∷ cs)) (kept_may m wire r (map pass_in (c ∷ cs)) may)) in
         subst AreKnown (sym (kept_in pair_tests r c cs stays)) (known_next r c (kept_of pair_tests r cs) all.1 all.0 stays, kept_known r cs may.1)
   ]
 
@@ -352,13 +354,13 @@ module _ (s : TapSides) (apart : AreApart s) (m : Meaning) (wire : List ℕ) (fi
         let same : kept_of (tap_tests s) r (map datagram_in cs) ≡ map datagram_in ks = kept_map datagram_in pair_tests (tap_tests s) r cs agree in
         let mine = datagrams_each s apart (c ∷ []) (record { source = is.source; goes = is.goes; spells = some_of m wire c.pass.packet c.datagram.payload is.spells }, tt) in
         let stays_there : is_left_out (tap_tests s) r c.datagram (map datagram_in ks) ≡ false
-            = subst (λ l. is_left_out (tap_tests s) r c.datagram l ≡ false) same (subst (λ x. is_left_out (tap_tests s) (receiver_of x) c.datagram (kept_of (tap_tests s) (receiver_of x) (map datagram_in cs)) ≡ false) side k.stays) in
+        = subst (λ l. is_left_out (tap_tests s) r c.datagram l ≡ false) same (subst (λ x. is_left_out (tap_tests s) (receiver_of x) c.datagram (kept_of (tap_tests s) (receiver_of x) (map datagram_in cs)) ≡ false) side k.stays) in
         let stays : is_left_out pair_tests r c ks ≡ false
-            = sym (out_same datagram_in pair_tests (tap_tests s) r c ks mine.0 (kept_each (Agrees datagram_in pair_tests (tap_tests s)) pair_tests r cs agree)) ∙ stays_there in
+        = sym (out_same datagram_in pair_tests (tap_tests s) r c ks mine.0 (kept_each (Agrees datagram_in pair_tests (tap_tests s)) pair_tests r cs agree)) ∙ stays_there in
         let ended = subst (λ l. OneEnded (header_of_end s r) (map (recorded_at s r) (map datagram_in l))) (kept_in pair_tests r c cs stays) (kept_ended (c ∷ cs) (is, each) (allowed, may)) in
         let breaks : Broken (header_of_end s r) (map (recorded_at s r) (map datagram_in ks)) (recorded_at s r c.datagram) broken
-            = subst (λ l. Broken (header_of_end s r) (map (recorded_at s r) l) (recorded_at s r c.datagram) broken) same
-            (subst (λ x. Broken (header_at s x) (kept_between s x (map datagram_in cs)) (recorded_at s (receiver_of x) c.datagram) broken) side k.breaks) in
+        = subst (λ l. Broken (header_of_end s r) (map (recorded_at s r) l) (recorded_at s r c.datagram) broken) same
+        (subst (λ x. Broken (header_at s x) (kept_between s x (map datagram_in cs)) (recorded_at s (receiver_of x) c.datagram) broken) side k.breaks) in
         ended.0.lawful broken breaks
 
     passing_breaks : (broken : Rule) → PassingBreaks s (map datagram_in cs) (pass_route c.pass.from c.pass.packet) c.datagram broken → ⊥

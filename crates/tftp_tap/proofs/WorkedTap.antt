@@ -1,5 +1,5 @@
 -- The worked cases of the law at a tap.
-use Rattle.std.proofs.Common.{◌≡◌, ℕ, ◌+◌, ◌≤◌, ◌<◌, Bool, true, false, List, [], ◌∷◌, Any, Contains, Some, None, codes, inl, inr, refl, sym, subst, ap, ◌∙◌, arith}
+use Rattle.std.proofs.Common.{◌≡◌, ℕ, ◌≤◌, ◌<◌, true, [], ◌∷◌, Any, Contains, codes, inl, inr, refl, sym, subst, ap, arith}
 use Rattle.std.proofs.lemmas.Bool.{true≢false}
 use Rattle.std.specs.FinMap as map
 use Rattle.std.specs.Cmp.Lexicographic.{nat_list_cmp_total}
@@ -9,24 +9,23 @@ use Rattle.tftp_packet.specs.Spelling.{Spells, IsPair}
 use Rattle.tftp_packet.specs.declared.kinds.End.TheVariants.{Client, Server}
 use Rattle.tftp_ends.specs.Meaning.{number_or, request_of, blksize_of, windowsize_of}
 use Rattle.tftp_ends.specs.Blocks.{block, block_count}
-use Rattle.tftp_ends.specs.Machines.{Sent, Took, Req, Oack, Data, Ack, message_of, HasSent, HasTaken}
-use Rattle.tftp_ends.specs.OneSide.{IsOneSided}
+use Rattle.tftp_ends.specs.Machines.{Sent, Took, Req, Oack, Data, Ack, HasSent}
 use Rattle.tftp_ends.specs.Runs.{IsRun, IsView}
-use Rattle.tftp_ends.specs.Worked.{two_bytes, two_bytes_view, two_bytes_steps, eight_a_block, ten_bytes, ten_bytes_view}
-use Rattle.tftp_ends.specs.WorkedWindows.{eight_by_four, window_repeated, window_repeated_steps, window_repeated_view}
-use Rattle.tftp_ends.proofs.Members.{contains_first, contains_later, contains_cases, contains_none}
+use Rattle.tftp_ends.specs.Worked.{two_bytes, two_bytes_view, ten_bytes, ten_bytes_view}
+use Rattle.tftp_ends.specs.WorkedWindows.{eight_by_four, window_repeated, window_repeated_steps}
+use Rattle.tftp_ends.proofs.Members.{contains_first, contains_cases, contains_none}
 use Rattle.tftp_ends.proofs.OneSided.{view_one_sided}
 use Rattle.tftp_ends.proofs.Worked.{two_bytes_is_view}
 use Rattle.tftp_ends.proofs.WorkedMore.{ten_bytes_is_view}
 use Rattle.tftp_ends.proofs.WorkedWindows.{eight_of_both, four_of_both, has_some}
-use Rattle.tftp_ends.proofs.Computed.{Plan, IsPlan, run_is}
+use Rattle.tftp_ends.proofs.Computed.{IsPlan, run_is}
 use Rattle.tftp_law.specs.Dress.{says_of}
 use Rattle.tftp_law.proofs.NothingAgreed.{two_bytes_fit}
 use Rattle.tftp_law.proofs.Divided.{any_first, any_later}
-use Rattle.tftp_tap.specs.Tap.{Pass, as_at, tapped_at, IsTapView}
-use Rattle.tftp_tap.specs.TapCapture.{PeerId, TapDatagram, side_of, AreApart}
+use Rattle.tftp_tap.specs.Tap.{as_at, tapped_at, IsTapView}
+use Rattle.tftp_tap.specs.TapCapture.{PeerId, side_of, AreApart}
 use Rattle.tftp_tap.specs.TapDress.{Main, Stray, StrayAnswer, TapPlaced, TapDivision, IsMainFrom, HaveTapParts, IsSeenBetween, ShowsBetween}
-use Rattle.tftp_tap.specs.WorkedTap.{client_side, server_side, other_side, worked_sides, request_passes, hi_passes, stray_passes, answer_passes, ack_passes, read_between, block_passes_late, block_passes_early, ack_of_nothing}
+use Rattle.tftp_tap.specs.WorkedTap.{client_side, other_side, worked_sides, request_passes, hi_passes, stray_passes, answer_passes, ack_passes, read_between, block_passes_late, block_passes_early, ack_of_nothing}
 use Rattle.tftp_tap.proofs.Beside.{view_is_tapped}
 use Rattle.tftp_tap.proofs.TapRunsBreak.{runs_break_none}
 use Rattle.tftp_tap.specs.TapRules.{BreaksNoTapRule}

@@ -1,6 +1,6 @@
 -- Which datagrams that passed between the ends belong to the transfer, by their two sides (RFC 1350, section 4). The list
 -- `earlier` has the datagrams that have passed, the newest first.
-use Rattle.std.specs.Prelude.{◌≡◌, ℕ, ◌==◌, ◌&&◌, ◌||◌, not, Bool, true, false, List, [], ◌∷◌, if◌then◌else◌}
+use Rattle.std.specs.Prelude.{ℕ, ◌==◌, ◌&&◌, ◌||◌, Bool, true, false, List, [], ◌∷◌, if◌then◌else◌}
 use Rattle.std.specs.List.{list_any}
 use Rattle.tftp_packet.specs.Faults.{opcode_of}
 use Rattle.tftp_ends.specs.Ports.{same_peer}

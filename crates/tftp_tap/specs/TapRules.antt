@@ -173,3 +173,11 @@ told_server s tapped = by (first_of (goes_on_to s) tapped) (first_of (λ (d : Ta
   by : Option TapDatagram → Option TapDatagram → Option PeerId
   by (Some d) came = Some d.destination
   by None came = option_map (λ (d : TapDatagram). d.source) came
+
+-- the rules of the order in which an end sends
+abbrev pub IsOfSending : Rule → Type 0
+IsOfSending rule.RequestAfterStart = Unit {0}
+IsOfSending rule.OackAfterStart = Unit {0}
+IsOfSending rule.BlockSkipped = Unit {0}
+IsOfSending rule.GoneBack = Unit {0}
+IsOfSending _ = ⊥

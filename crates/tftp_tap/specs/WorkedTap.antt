@@ -1,5 +1,5 @@
 -- Small transfers, as they pass a point between their ends. Lists have the newest first.
-use Rattle.std.specs.Prelude.{ℕ, List, [], ◌∷◌, codes}
+use Rattle.std.specs.Prelude.{List, [], ◌∷◌, codes}
 use Rattle.tftp_packet.specs.declared.kinds.End.TheVariants.{Client, Server}
 use Rattle.tftp_ends.specs.Machines.{Req, Oack, Data, Ack}
 use Rattle.tftp_tap.specs.Tap.{Pass}
