@@ -1,5 +1,5 @@
 -- Want of memory for its first line may be said of any text, where no read failed.
-use Rattle.std.proofs.Common.{◌≡◌, ℕ, List, [], Bool, false, true≢false, Err, refl, sym, ◌∙◌, inl}
+use Rattle.std.proofs.Common.{◌≡◌, [], Bool, false, true≢false, Err, refl, sym, ◌∙◌, inl}
 use Rattle.tftp_capture.specs.declared.fault.CaptureFault.TheVariants.{Memory}
 use Rattle.tftp_judge.specs.declared.verdict.Verdict.TheVariants.{Capture}
 use Rattle.tftp_judge.proofs.WantOfMemory.{wants_first_line}

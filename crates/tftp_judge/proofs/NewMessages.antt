@@ -1,8 +1,7 @@
 -- For which messages memory is taken: those that are new after the ones that have passed.
-use Rattle.std.proofs.Common.{◌≡◌, ◌⊎◌, inl, inr, ℕ, List, [], ◌∷◌, None, Some, sym, ◌∙◌}
-use Rattle.std.specs.FinMap as map
+use Rattle.std.proofs.Common.{◌≡◌, inl, inr, ℕ, List, [], ◌∷◌, None, Some, sym, ◌∙◌}
 use Rattle.tftp_packet.specs.OptionMap.{OptionMap}
-use Rattle.tftp_packet.specs.Message.{Message, RequestParts, Data}
+use Rattle.tftp_packet.specs.Message.{Message, RequestParts}
 use Rattle.tftp_packet.specs.declared.kinds.Side.{Side}
 use Rattle.tftp_packet.specs.declared.kinds.Dir.{Dir}
 use Rattle.tftp_ends.specs.CaptureText.{Datagram, Header}

@@ -1,5 +1,5 @@
 -- What is said of what was read is said of it as a text.
-use Rattle.std.proofs.Common.{◌≡◌, ℕ, inl, inr, List, [], ◌++◌, Result, Ok, Err, sym, ap, subst, ◌∙◌, append-nil}
+use Rattle.std.proofs.Common.{ℕ, inl, inr, List, [], Result, Ok, Err, sym, subst, append-nil}
 use Rattle.tftp_capture.specs.declared.fault.CaptureFault.TheVariants.{Text, Read, Memory}
 use Rattle.tftp_ends.specs.Meaning.{Meaning}
 use Rattle.tftp_judge.specs.TextVerdict.{IsLineOf, IsReadVerdict, IsTextVerdict, NoFaultBefore, WantsToRead}
