@@ -3,9 +3,12 @@ pub mod Bodies
 pub mod Cuts
 pub mod Fours
 pub mod Fronts
+pub mod OneFrame
+pub mod OneReading
 pub mod OptionCuts
 pub mod Packets
 pub mod Records
 pub mod Standings
 pub mod Steps
 pub mod Whole
+pub mod WorkedRecordings

@@ -8,3 +8,4 @@ pub mod Pieces
 pub mod Sizes
 pub mod Stops
 pub mod History
+pub mod Worked

@@ -8,6 +8,7 @@ mod fault;
 mod found;
 mod frame;
 mod gather;
+mod laws;
 mod layout;
 mod next;
 mod numbers;
@@ -23,6 +24,7 @@ mod times;
 
 pub use fault::{FaultKind, PcapFault};
 pub use frame::{Direction, Frame};
+pub use laws::{recording_has_one_reading, worked_recordings};
 pub use layout::{Classic, Interface, Layout};
 pub use numbers::Order;
 pub use reader::FrameReader;

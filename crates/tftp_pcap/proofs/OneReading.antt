@@ -1,0 +1,221 @@
+-- Bytes are a recording in one way.
+use Rattle.std.proofs.Common.{◌≡◌, ◌≢◌, inl, inr, ℕ, ◌+◌, ◌%◌, ◌<◌, ◌≤◌, List, [], ◌∷◌, ◌++◌, length, length-append, take, refl, sym, ap, ◌∙◌, subst, append_assoc, append-nil, arith}
+use Rattle.std.specs.Prelude.{Bool, flat_map}
+use Rattle.std.specs.List.{slice_range}
+use Rattle.tftp_pcap.specs.Numbers.{four, number_at, Spells}
+use Rattle.tftp_pcap.specs.Frames.{FrameParts}
+use Rattle.tftp_pcap.specs.Classic.{magic, major, SpellsHeader, SpellsRecord}
+use Rattle.tftp_pcap.specs.Blocks.{SpellsSection, SpellsInterface, SpellsPacket, section_type, order_magic}
+use Rattle.tftp_pcap.specs.Pieces.{Said, Says, BodySays, BlockSays, OpensAs, OpensAgain, Mode, Announces, Follows, Stands, IsRecording, next_mode, given, start}
+use Rattle.tftp_pcap.specs.Pieces.Said.{Opens, Names, Gives, Skips}
+use Rattle.tftp_pcap.specs.declared.numbers.Order.{Order}
+use Rattle.tftp_pcap.specs.declared.numbers.Order.TheVariants.{Big, Little}
+use Rattle.tftp_pcap.specs.declared.layout.Interface.{Interface}
+use Rattle.tftp_pcap.specs.declared.layout.Classic.{Classic as Header}
+use Rattle.tftp_pcap.specs.declared.layout.Layout.{Layout}
+use Rattle.tftp_pcap.specs.declared.layout.Layout.TheVariants.{Unopened, Classic, Blocks}
+use Rattle.tftp_pcap.proofs.Cuts.{cut_one}
+use Rattle.tftp_pcap.proofs.Fours.{spells_length}
+use Rattle.tftp_pcap.proofs.Announced.{order_one, magic_other}
+use Rattle.tftp_pcap.proofs.Fronts.{announces_more, announces_one}
+use Rattle.tftp_pcap.proofs.Whole.{block_known, section_known, body_of, body_says}
+use Rattle.tftp_pcap.proofs.OneFrame.{magic_length, major_length, header_one, record_one, interface_one, packet_one}
+
+-- ---- a piece announces its own length
+
+header_announced : (s : List ℕ) (classic : Header) → SpellsHeader s classic → Announces Unopened s (length s)
+header_announced s classic p =
+    let named = magic_length classic.order classic.nano in
+    let long : length s ≡ 24 = omega (
+      arith,
+      ap length p.are,
+      length-append (magic classic.order classic.nano) (major classic.order ++ (p.minor ++ p.rest)),
+      length-append (major classic.order) (p.minor ++ p.rest),
+      length-append p.minor p.rest,
+      named,
+      major_length classic.order,
+      p.two,
+      spells_length classic.order p.rest (p.zone ∷ p.figures ∷ p.longest ∷ p.link ∷ []) p.numbers,
+    ) in
+    (omega (arith, long), inr (classic.order, classic.nano, ap (take 4) p.are ∙ four_first (magic classic.order classic.nano) _ named, long))
+  where
+    four_first : (a b : List ℕ) → length a ≡ 4 → take 4 (a ++ b) ≡ a
+    four_first (w ∷ x ∷ y ∷ z ∷ []) b sized = refl
+    four_first _ b sized = absurd (omega arith)
+
+section_announced : (s : List ℕ) (order : Order) → SpellsSection s order → Announces Unopened s (length s)
+section_announced s order p =
+    let known = section_known s [] order p in
+    let none = append-nil s in
+    (omega (arith, known.4), inl (ap (take 4) (sym none) ∙ known.0, order, ap (λ l. slice_range l 8 12) (sym none) ∙ known.1, known.2 ∙ ap (λ l. number_at order l 4) none))
+
+again_announced : (own : Order) (s : List ℕ) (order : Order) → SpellsSection s order → Announces (Blocks own) s (length s)
+again_announced own s order p =
+    let known = section_known s [] order p in
+    let none = append-nil s in
+    (omega (arith, known.4), inl (ap (take 4) (sym none) ∙ known.0, order, ap (λ l. slice_range l 8 12) (sym none) ∙ known.1, known.2 ∙ ap (λ l. number_at order l 4) none))
+
+block_announced : (order : Order) (interfaces : List Interface) (s : List ℕ) (said : Said) → BlockSays order interfaces s said → Announces (Blocks order) s (length s)
+block_announced order interfaces s said (type, body, kind, block, plain, typed, says) =
+    let known = block_known order s type body block in
+    (known.4, inr ((λ e. plain (known.0 ∙ e)), known.2))
+
+record_announced : (classic : Header) (s : List ℕ) (frame : FrameParts) → SpellsRecord classic s frame → Announces (Classic classic) s (length s)
+record_announced classic s frame p = go p.head p.numbers p.are
+  where
+    go : (head : List ℕ) → Spells classic.order head (p.seconds ∷ p.fraction ∷ length frame.bytes ∷ frame.original ∷ []) → s ≡ head ++ frame.bytes → (16 ≤ length s) × (length s ≡ 16 + number_at classic.order s 8)
+    go head (a0, a1, a2, a3, r0, e0, i0, (b0, b1, b2, b3, r1, e1, i1, (c0, c1, c2, c3, r2, e2, i2, (d0, d1, d2, d3, r3, e3, i3, e4)))) are =
+        let front : head ≡ a0 ∷ a1 ∷ a2 ∷ a3 ∷ b0 ∷ b1 ∷ b2 ∷ b3 ∷ c0 ∷ c1 ∷ c2 ∷ c3 ∷ d0 ∷ d1 ∷ d2 ∷ d3 ∷ [] =
+        e0 ∙ ap (λ r. a0 ∷ a1 ∷ a2 ∷ a3 ∷ r) (e1 ∙ ap (λ r. b0 ∷ b1 ∷ b2 ∷ b3 ∷ r) (e2 ∙ ap (λ r. c0 ∷ c1 ∷ c2 ∷ c3 ∷ r) (e3 ∙ ap (λ r. d0 ∷ d1 ∷ d2 ∷ d3 ∷ r) e4))) in
+        let path : s ≡ a0 ∷ a1 ∷ a2 ∷ a3 ∷ b0 ∷ b1 ∷ b2 ∷ b3 ∷ c0 ∷ c1 ∷ c2 ∷ c3 ∷ d0 ∷ d1 ∷ d2 ∷ d3 ∷ frame.bytes = are ∙ ap (λ l. l ++ frame.bytes) front in
+        let captured : length frame.bytes ≡ number_at classic.order s 8 = i2 ∙ ap (λ l. number_at classic.order l 8) (sym path) in
+        (omega (arith, ap length path), omega (arith, ap length path, captured))
+
+pub says_announced : (layout : Layout) (interfaces : List Interface) (s : List ℕ) (said : Said) → Says layout interfaces s said → Announces layout s (length s)
+says_announced Unopened interfaces s (Opens Unopened) says = absurd says
+says_announced Unopened interfaces s (Opens (Classic classic)) says = header_announced s classic says
+says_announced Unopened interfaces s (Opens (Blocks order)) says = section_announced s order says
+says_announced Unopened interfaces s (Names interface) says = absurd says
+says_announced Unopened interfaces s (Gives frame) says = absurd says
+says_announced Unopened interfaces s Skips says = absurd says
+says_announced (Classic classic) interfaces s (Gives frame) says = record_announced classic s frame says
+says_announced (Classic classic) interfaces s (Opens layout) says = absurd says
+says_announced (Classic classic) interfaces s (Names interface) says = absurd says
+says_announced (Classic classic) interfaces s Skips says = absurd says
+says_announced (Blocks own) interfaces s (Opens Unopened) says = absurd says
+says_announced (Blocks own) interfaces s (Opens (Classic classic)) says = absurd says
+says_announced (Blocks own) interfaces s (Opens (Blocks order)) says = again_announced own s order says
+says_announced (Blocks own) interfaces s (Names interface) says = block_announced own interfaces s (Names interface) says
+says_announced (Blocks own) interfaces s (Gives frame) says = block_announced own interfaces s (Gives frame) says
+says_announced (Blocks own) interfaces s Skips says = block_announced own interfaces s Skips says
+
+-- so of two pieces in front of some bytes each is the other
+pub piece_one : (layout : Layout) (interfaces : List Interface) (p q more rest : List ℕ) (s t : Said) → Says layout interfaces p s → Says layout interfaces q t → p ++ more ≡ q ++ rest → (p ≡ q) × (more ≡ rest)
+piece_one layout interfaces p q more rest s t a b e =
+    let one = announces_more layout p more (length p) (says_announced layout interfaces p s a) in
+    let other = announces_more layout q rest (length q) (says_announced layout interfaces q t b) in
+    let sized : length p ≡ length q = announces_one layout (q ++ rest) _ _ (subst (λ (l : List ℕ). Announces layout l (length p)) e one) other in
+    cut_one p q more rest sized e
+
+-- ---- a piece says one thing
+
+section_is_one : (s : List ℕ) (o p : Order) → SpellsSection s o → SpellsSection s p → o ≡ p
+section_is_one s o p x y = order_one o p (sym (section_known s [] o x).1 ∙ (section_known s [] p y).1)
+
+header_magic : (s : List ℕ) (classic : Header) → SpellsHeader s classic → take 4 s ≡ magic classic.order classic.nano
+header_magic s classic p = ap (take 4) p.are ∙ whole (magic classic.order classic.nano) _ (magic_length classic.order classic.nano)
+  where
+    whole : (a b : List ℕ) → length a ≡ 4 → take 4 (a ++ b) ≡ a
+    whole (w ∷ x ∷ y ∷ z ∷ []) b sized = refl
+    whole _ b sized = absurd (omega arith)
+
+header_or_section : (s : List ℕ) (classic : Header) (order : Order) → SpellsHeader s classic → SpellsSection s order → ⊥
+header_or_section s classic order x y = magic_other classic.order classic.nano (sym (header_magic s classic x) ∙ ap (take 4) (sym (append-nil s)) ∙ (section_known s [] order y).0)
+
+opens_one : (s : List ℕ) (l m : Layout) → OpensAs s l → OpensAs s m → l ≡ m
+opens_one s Unopened m x y = absurd x
+opens_one s (Classic c) Unopened x y = absurd y
+opens_one s (Classic c) (Classic d) x y = ap Classic (header_one s c d x y)
+opens_one s (Classic c) (Blocks o) x y = absurd (header_or_section s c o x y)
+opens_one s (Blocks o) Unopened x y = absurd y
+opens_one s (Blocks o) (Classic d) x y = absurd (header_or_section s d o y x)
+opens_one s (Blocks o) (Blocks p) x y = ap Blocks (section_is_one s o p x y)
+
+again_one : (s : List ℕ) (l m : Layout) → OpensAgain s l → OpensAgain s m → l ≡ m
+again_one s Unopened m x y = absurd x
+again_one s (Classic c) m x y = absurd x
+again_one s (Blocks o) Unopened x y = absurd y
+again_one s (Blocks o) (Classic d) x y = absurd y
+again_one s (Blocks o) (Blocks p) x y = ap Blocks (section_is_one s o p x y)
+
+-- a section header is no other block
+plain_section : (order own : Order) (interfaces : List Interface) (s : List ℕ) (said : Said) → BlockSays order interfaces s said → SpellsSection s own → ⊥
+plain_section order own interfaces s said (type, body, kind, block, plain, typed, says) x =
+    plain ((block_known order s type body block).0 ∙ ap (take 4) (sym (append-nil s)) ∙ (section_known s [] own x).0)
+
+again_or_block : (order : Order) (interfaces : List Interface) (s : List ℕ) (layout : Layout) (said : Said) → OpensAgain s layout → BlockSays order interfaces s said → ⊥
+again_or_block order interfaces s Unopened said x y = x
+again_or_block order interfaces s (Classic classic) said x y = x
+again_or_block order interfaces s (Blocks own) said x y = plain_section order own interfaces s said y x
+
+bodies_one : (order : Order) (interfaces : List Interface) (kind : ℕ) (body : List ℕ) (s t : Said) → BodySays order interfaces kind body s → BodySays order interfaces kind body t → s ≡ t
+bodies_one order interfaces kind body (Opens l) t x y = absurd x
+bodies_one order interfaces kind body (Names i) (Opens l) x y = absurd y
+bodies_one order interfaces kind body (Names i) (Names j) x y = ap Names (interface_one order body i j x.1 y.1)
+bodies_one order interfaces kind body (Names i) (Gives g) x (inl y) = absurd (omega (arith, x.0, y.0))
+bodies_one order interfaces kind body (Names i) (Gives g) x (inr (inl y)) = absurd (omega (arith, x.0, y.0))
+bodies_one order interfaces kind body (Names i) (Gives g) x (inr (inr y)) = absurd (omega (arith, x.0, y.0))
+bodies_one order interfaces kind body (Names i) Skips x y = absurd (y.0 x.0)
+bodies_one order interfaces kind body (Gives f) (Opens l) x y = absurd y
+bodies_one order interfaces kind body (Gives f) (Names j) (inl x) y = absurd (omega (arith, x.0, y.0))
+bodies_one order interfaces kind body (Gives f) (Names j) (inr (inl x)) y = absurd (omega (arith, x.0, y.0))
+bodies_one order interfaces kind body (Gives f) (Names j) (inr (inr x)) y = absurd (omega (arith, x.0, y.0))
+bodies_one order interfaces kind body (Gives f) (Gives g) x y = ap Gives (packet_one order interfaces kind body f g x y)
+bodies_one order interfaces kind body (Gives f) Skips (inl x) y = absurd (y.3 x.0)
+bodies_one order interfaces kind body (Gives f) Skips (inr (inl x)) y = absurd (y.2 x.0)
+bodies_one order interfaces kind body (Gives f) Skips (inr (inr x)) y = absurd (y.1 x.0)
+bodies_one order interfaces kind body Skips (Opens l) x y = absurd y
+bodies_one order interfaces kind body Skips (Names j) x y = absurd (x.0 y.0)
+bodies_one order interfaces kind body Skips (Gives g) x (inl y) = absurd (x.3 y.0)
+bodies_one order interfaces kind body Skips (Gives g) x (inr (inl y)) = absurd (x.2 y.0)
+bodies_one order interfaces kind body Skips (Gives g) x (inr (inr y)) = absurd (x.1 y.0)
+bodies_one order interfaces kind body Skips Skips x y = refl
+
+blocks_one : (order : Order) (interfaces : List Interface) (p : List ℕ) (s t : Said) → BlockSays order interfaces p s → BlockSays order interfaces p t → s ≡ t
+blocks_one order interfaces p s t x y =
+    bodies_one order interfaces (number_at order p 0) (body_of p) s t (body_says order interfaces p (number_at order p 0) refl s x).0 (body_says order interfaces p (number_at order p 0) refl t y).0
+
+pub says_one : (layout : Layout) (interfaces : List Interface) (p : List ℕ) (s t : Said) → Says layout interfaces p s → Says layout interfaces p t → s ≡ t
+says_one Unopened interfaces p (Opens l) (Opens m) x y = ap Opens (opens_one p l m x y)
+says_one Unopened interfaces p (Opens l) (Names j) x y = absurd y
+says_one Unopened interfaces p (Opens l) (Gives g) x y = absurd y
+says_one Unopened interfaces p (Opens l) Skips x y = absurd y
+says_one Unopened interfaces p (Names i) t x y = absurd x
+says_one Unopened interfaces p (Gives f) t x y = absurd x
+says_one Unopened interfaces p Skips t x y = absurd x
+says_one (Classic classic) interfaces p (Gives f) (Gives g) x y = ap Gives (record_one classic p f g x y)
+says_one (Classic classic) interfaces p (Gives f) (Opens m) x y = absurd y
+says_one (Classic classic) interfaces p (Gives f) (Names j) x y = absurd y
+says_one (Classic classic) interfaces p (Gives f) Skips x y = absurd y
+says_one (Classic classic) interfaces p (Opens l) t x y = absurd x
+says_one (Classic classic) interfaces p (Names i) t x y = absurd x
+says_one (Classic classic) interfaces p Skips t x y = absurd x
+says_one (Blocks order) interfaces p (Opens l) (Opens m) x y = ap Opens (again_one p l m x y)
+says_one (Blocks order) interfaces p (Opens l) (Names j) x y = absurd (again_or_block order interfaces p l (Names j) x y)
+says_one (Blocks order) interfaces p (Opens l) (Gives g) x y = absurd (again_or_block order interfaces p l (Gives g) x y)
+says_one (Blocks order) interfaces p (Opens l) Skips x y = absurd (again_or_block order interfaces p l Skips x y)
+says_one (Blocks order) interfaces p (Names i) (Opens m) x y = absurd (again_or_block order interfaces p m (Names i) y x)
+says_one (Blocks order) interfaces p (Gives f) (Opens m) x y = absurd (again_or_block order interfaces p m (Gives f) y x)
+says_one (Blocks order) interfaces p Skips (Opens m) x y = absurd (again_or_block order interfaces p m Skips y x)
+says_one (Blocks order) interfaces p (Names i) (Names j) x y = blocks_one order interfaces p (Names i) (Names j) x y
+says_one (Blocks order) interfaces p (Names i) (Gives g) x y = blocks_one order interfaces p (Names i) (Gives g) x y
+says_one (Blocks order) interfaces p (Names i) Skips x y = blocks_one order interfaces p (Names i) Skips x y
+says_one (Blocks order) interfaces p (Gives f) (Names j) x y = blocks_one order interfaces p (Gives f) (Names j) x y
+says_one (Blocks order) interfaces p (Gives f) (Gives g) x y = blocks_one order interfaces p (Gives f) (Gives g) x y
+says_one (Blocks order) interfaces p (Gives f) Skips x y = blocks_one order interfaces p (Gives f) Skips x y
+says_one (Blocks order) interfaces p Skips (Names j) x y = blocks_one order interfaces p Skips (Names j) x y
+says_one (Blocks order) interfaces p Skips (Gives g) x y = blocks_one order interfaces p Skips (Gives g) x y
+says_one (Blocks order) interfaces p Skips Skips x y = refl
+
+-- ---- so pieces after one another lead to one mode and give one list of frames
+
+piece_some : (layout : Layout) (interfaces : List Interface) (p : List ℕ) (s : Said) → Says layout interfaces p s → 0 < length p
+piece_some layout interfaces p s says = some layout (says_announced layout interfaces p s says)
+  where
+    some : (l : Layout) → Announces l p (length p) → 0 < length p
+    some Unopened a = omega (arith, a.0)
+    some (Classic classic) a = omega (arith, a.0)
+    some (Blocks order) a = omega (arith, a.0)
+
+pub follows_one : (mode : Mode) (ps qs : List (List ℕ)) (one other : Mode) (fs gs : List FrameParts) → Follows mode ps one fs → Follows mode qs other gs → flat_map (λ p. p) ps ≡ flat_map (λ q. q) qs → (one ≡ other) × (fs ≡ gs)
+follows_one mode [] [] one other fs gs (a, x) (b, y) e = (a ∙ sym b, x ∙ sym y)
+follows_one mode [] (q ∷ qs) one other fs gs a (t, gs', says, are, more) e = absurd (omega (arith, ap length e, length-append q (flat_map (λ x. x) qs), piece_some mode.layout mode.interfaces q t says))
+follows_one mode (p ∷ ps) [] one other fs gs (s, fs', says, are, more) b e = absurd (omega (arith, ap length e, length-append p (flat_map (λ x. x) ps), piece_some mode.layout mode.interfaces p s says))
+follows_one mode (p ∷ ps) (q ∷ qs) one other fs gs (s, fs', says, are, more) (t, gs', says', are', more') e =
+    let same = piece_one mode.layout mode.interfaces p q (flat_map (λ x. x) ps) (flat_map (λ x. x) qs) s t says says' e in
+    let said = says_one mode.layout mode.interfaces q s t (subst (λ (l : List ℕ). Says mode.layout mode.interfaces l s) same.0 says) says' in
+    let rest = follows_one (next_mode mode t) ps qs one other fs' gs' (subst (λ (x : Said). Follows (next_mode mode x) ps one fs') said more) more' same.1 in
+    (rest.0, are ∙ (λ i. given (said i) ++ rest.1 i) ∙ sym are')
+
+pub recording_one : (bytes : List ℕ) (fs gs : List FrameParts) → IsRecording bytes fs → IsRecording bytes gs → fs ≡ gs
+recording_one bytes fs gs p q = (follows_one start p.stands.pieces q.stands.pieces p.mode q.mode fs gs p.stands.follows q.stands.follows (sym p.stands.are ∙ q.stands.are)).1

@@ -1,0 +1,15 @@
+ghost use Rattle.std.specs.Prelude.{◌≡◌, ℕ, List, [], ◌∷◌};
+ghost use Rattle.tftp_pcap.specs.Frames.{FrameParts};
+ghost use Rattle.tftp_pcap.specs.Pieces.{IsRecording};
+ghost use Rattle.tftp_pcap.specs.Worked.{worked_blocks, worked_classic, worked_frame};
+
+/// Bytes are a recording of one list of frames at most.
+pub fn recording_has_one_reading()
+    ensures { (bytes : List ℕ) (some others : List FrameParts) → IsRecording bytes some → IsRecording bytes others → some ≡ others }
+{}
+
+/// A worked frame, an ACK, recorded by tcpdump and written by editcap of Wireshark: as a classic recording, and in blocks.
+pub fn worked_recordings()
+    ensures classic { IsRecording worked_classic (worked_frame ∷ []) }
+    ensures blocks { IsRecording worked_blocks (worked_frame ∷ []) }
+{}
