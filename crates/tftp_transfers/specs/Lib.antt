@@ -1,4 +1,6 @@
 pub mod Recording
 pub mod Places
 pub mod Kept
+pub mod Views
+pub mod Doubts
 pub mod Worked
