@@ -3,4 +3,5 @@ pub mod Places
 pub mod Kept
 pub mod Views
 pub mod Doubts
+pub mod Fair
 pub mod Worked
