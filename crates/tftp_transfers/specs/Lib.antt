@@ -1,4 +1,7 @@
 pub mod Recording
 pub mod Places
 pub mod Kept
+pub mod Views
+pub mod Doubts
+pub mod Fair
 pub mod Worked

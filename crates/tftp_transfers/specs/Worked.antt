@@ -1,10 +1,12 @@
 -- Recordings, the newest datagram first, with times in seconds.
-use Rattle.std.specs.Prelude.{ℕ, ◌*◌, true, false, List, [], ◌∷◌, ◌++◌, map, codes}
+use Rattle.std.specs.Prelude.{ℕ, ◌*◌, Bool, true, false, List, [], ◌∷◌, ◌++◌, map, codes}
 use Rattle.tftp_transfers.specs.declared.endpoint.Address.TheVariants.{V4}
 use Rattle.tftp_transfers.specs.declared.endpoint.Endpoint.{Endpoint}
 use Rattle.tftp_transfers.specs.Recording.{Recorded}
 use Rattle.tftp_transfers.specs.declared.place.Place.{Place}
 use Rattle.tftp_transfers.specs.Places.{Placed, placed}
+use Rattle.tftp_transfers.specs.Views.{client_view, server_view}
+use Rattle.tftp_transfers.specs.Doubts.{is_doubted, is_late, some_time}
 
 abbrev pub at : ℕ → ℕ → Endpoint
 at host port = record { address = V4 (192 ∷ 0 ∷ 2 ∷ host ∷ []); port = port }
@@ -154,3 +156,17 @@ other_service =
     ∷ passes 1 server client (data_of 1)
     ∷ requests 0 client (at 1 1069) (codes "f")
     ∷ []
+
+-- ---- views and doubts, by the payloads
+
+abbrev pub seen_by_client : ℕ → List Recorded → List (List ℕ)
+seen_by_client n recorded = map (λ p. p.datagram.payload) (client_view n (placed [] recorded))
+
+abbrev pub seen_by_server : ℕ → List Recorded → List (List ℕ)
+seen_by_server n recorded = map (λ p. p.datagram.payload) (server_view n (placed [] recorded))
+
+abbrev pub is_doubted_in : ℕ → List Recorded → Bool
+is_doubted_in n recorded = is_doubted n (placed [] recorded)
+
+abbrev pub is_late_in : ℕ → List Recorded → Bool
+is_late_in n recorded = some_time (is_late n) (placed [] recorded)

@@ -1,6 +1,6 @@
 //! Laws of the definitions in `specs/`. Each is the contract of a function that does nothing.
 
-ghost use Rattle.std.specs.Prelude.{◌≡◌, [], ◌∷◌};
+ghost use Rattle.std.specs.Prelude.{◌≡◌, true, false, [], ◌∷◌, codes};
 ghost use Rattle.tftp_transfers.specs.Worked.{
   Where,
   where_all,
@@ -12,6 +12,14 @@ ghost use Rattle.tftp_transfers.specs.Worked.{
   silent,
   patient,
   other_service,
+  ack_of,
+  data_of,
+  error_of,
+  read_of,
+  seen_by_client,
+  seen_by_server,
+  is_doubted_in,
+  is_late_in,
 };
 
 /// A request that stands beside its equal repeats, and a stray is of the transfer at its client.
@@ -55,4 +63,25 @@ pub fn silence_ends_the_line()
 /// A whole request makes its port a service port.
 pub fn a_whole_request_makes_a_service_port()
     ensures { where_all other_service ≡ Where.Apart ∷ Where.Opens 2 ∷ Where.Client 0 ∷ Where.Opens 0 ∷ [] }
+{}
+
+/// The stray at the client is seen by the client alone, and the stray at the server by the server alone.
+pub fn each_end_sees_its_own_strays()
+    ensures client { seen_by_client 0 asked_twice
+        ≡ ack_of 1 ∷ data_of 7 ∷ data_of 1 ∷ read_of (codes "f") ∷ read_of (codes "f") ∷ [] }
+    ensures client_at_server { seen_by_server 0 asked_twice ≡ ack_of 1 ∷ data_of 1 ∷ read_of (codes "f") ∷ read_of (codes "f") ∷ [] }
+    ensures server { seen_by_server 0 two_clients ≡ error_of 5 ∷ data_of 3 ∷ ack_of 1 ∷ data_of 1 ∷ read_of (codes "f") ∷ [] }
+    ensures server_at_client { seen_by_client 0 two_clients ≡ ack_of 1 ∷ data_of 1 ∷ read_of (codes "f") ∷ [] }
+{}
+
+/// Where a request may be a repetition, or one port serves twice, a refusal is doubtful; and what comes late makes its own
+/// transfer doubtful from there on.
+pub fn doubts_are_where_transfers_meet()
+    ensures none { is_doubted_in 0 asked_twice ≡ false }
+    ensures again { is_doubted_in 2 asked_after_answer ≡ true }
+    ensures earlier { is_doubted_in 0 asked_after_answer ≡ false }
+    ensures one_port { is_doubted_in 3 one_port ≡ true }
+    ensures reset { is_doubted_in 3 reset ≡ false }
+    ensures late { is_late_in 0 reset ≡ true }
+    ensures in_time { is_late_in 3 reset ≡ false }
 {}

@@ -1,0 +1,90 @@
+-- What each end of a transfer saw of it. Lists have the newest first; a transfer is known by its number.
+use Rattle.std.specs.Prelude.{ℕ, ◌==◌, ◌&&◌, ◌||◌, not, Bool, false, List, filter, Option, Some, None, option_map}
+use Rattle.tftp_ends.specs.Ports.{first_of}
+use Rattle.tftp_transfers.specs.declared.endpoint.Endpoint.{Endpoint}
+use Rattle.tftp_transfers.specs.declared.place.Place.{Place}
+use Rattle.tftp_transfers.specs.declared.place.Place.TheVariants.{Opens, Repeats, Talks, Apart, Beside, Nowhere}
+use Rattle.tftp_transfers.specs.Recording.{same_address, same_endpoint, begins_error}
+use Rattle.tftp_transfers.specs.Places.{Placed}
+
+-- it passed at the transfer's client
+abbrev pub is_of : ℕ → Placed → Bool
+is_of n p = by p.place where
+  by : Place → Bool
+  by (Opens x) = x.number == n
+  by (Repeats x) = x.number == n
+  by (Talks x) = x.number == n
+  by _ = false
+
+abbrev pub client_view : ℕ → List Placed → List Placed
+client_view n placed = filter (is_of n) placed
+
+-- ---- the server
+
+-- the client sent what is no request and no ERROR
+abbrev pub goes_on : ℕ → Placed → Bool
+goes_on n p = by p.place where
+  by : Place → Bool
+  by (Talks x) = (x.number == n) && same_endpoint p.datagram.source x.client && not (begins_error p.datagram.payload)
+  by _ = false
+
+-- it came to the client
+abbrev pub comes : ℕ → Placed → Bool
+comes n p = by p.place where
+  by : Place → Bool
+  by (Talks x) = (x.number == n) && same_endpoint p.datagram.target x.client
+  by _ = false
+
+abbrev pub opened_it : ℕ → Placed → Bool
+opened_it n p = by p.place where
+  by : Place → Bool
+  by (Opens x) = x.number == n
+  by _ = false
+
+abbrev pub went_on_with : ℕ → List Placed → Option Endpoint
+went_on_with n placed = option_map (λ p. p.datagram.target) (first_of (goes_on n) placed)
+
+abbrev pub answered_by : ℕ → List Placed → Option Endpoint
+answered_by n placed = option_map (λ p. p.datagram.source) (first_of (comes n) placed)
+
+abbrev pub asked_of : ℕ → List Placed → Option Endpoint
+asked_of n placed = option_map (λ p. p.datagram.target) (first_of (opened_it n) placed)
+
+-- with whom the client went on, or else who sent it something first
+abbrev pub server_of : ℕ → List Placed → Option Endpoint
+server_of n placed = by (went_on_with n placed) where
+  by : Option Endpoint → Option Endpoint
+  by None = answered_by n placed
+  by (Some s) = Some s
+
+abbrev pub has_host : Endpoint → Option Endpoint → Bool
+has_host o None = false
+has_host o (Some s) = same_address o.address s.address
+
+abbrev pub has_port : Endpoint → Option Endpoint → Bool
+has_port o None = false
+has_port o (Some s) = o.port == s.port
+
+abbrev pub is_end : Endpoint → Option Endpoint → Bool
+is_end o None = false
+is_end o (Some s) = same_endpoint o s
+
+-- at the server's port, and a host that was asked, that answered, or that the client went on with
+abbrev pub is_server : ℕ → List Placed → Endpoint → Bool
+is_server n placed o =
+    has_port o (server_of n placed)
+    && (has_host o (asked_of n placed) || has_host o (answered_by n placed) || has_host o (went_on_with n placed))
+
+-- The requests, what passed between the client and the server, and what passed between the server and others.
+abbrev pub is_at_server : ℕ → List Placed → Placed → Bool
+is_at_server n placed p = by p.place where
+  by : Place → Bool
+  by (Opens x) = x.number == n
+  by (Repeats x) = x.number == n
+  by (Talks x) = (x.number == n) && (is_server n placed p.datagram.source || is_server n placed p.datagram.target)
+  by (Beside x) = (x.number == n) && (is_end p.datagram.source (server_of n placed) || is_end p.datagram.target (server_of n placed))
+  by (Apart c) = false
+  by Nowhere = false
+
+abbrev pub server_view : ℕ → List Placed → List Placed
+server_view n placed = filter (is_at_server n placed) placed
