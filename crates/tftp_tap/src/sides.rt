@@ -4,6 +4,7 @@ ghost use Rattle.tftp_tap.specs.TapCapture.{TapDatagram};
 ghost use Rattle.tftp_tap.specs.TapRoutes.{asks_in, ends_in, has_gone, route_astray, route_from_client, route_from_server, route_from_elsewhere, tap_route};
 
 use crate::route::TapRoute;
+use std::cmp::Ordering;
 use std::marker::Model;
 use tftp_packet::Host;
 
@@ -45,6 +46,44 @@ impl Eq for Endpoint {
     ghost use Rattle.std.specs.Cmp.Rules.{comparing};
 
     ghost laws = { Prim.search (comparing, rules) };
+}
+
+impl PartialOrd for Endpoint {
+    ghost use Rattle.std.specs.Cmp.{partial_order_from_own_ties};
+    ghost use Rattle.std.proofs.Common.{rules};
+    ghost use Rattle.std.specs.Cmp.Rules.{comparing};
+    ghost use Rattle.std.specs.Ordering.{as_partial_cmp};
+    ghost use Rattle.tftp_ends.specs.KnownIds.{peer_cmp};
+
+    ghost partial_cmp = { as_partial_cmp peer_cmp };
+
+    ghost laws = { partial_order_from_own_ties (Prim.search (comparing, rules)) (Prim.search (comparing, rules)) };
+
+    fn partial_cmp(&self, other: &Endpoint) -> Option<Ordering> {
+        Some(self.cmp(other))
+    }
+}
+
+/// By the port first: most endpoints have one of two hosts.
+impl Ord for Endpoint {
+    ghost use Rattle.std.proofs.Common.{rules};
+    ghost use Rattle.std.specs.Cmp.Rules.{comparing};
+    ghost use Rattle.tftp_ends.specs.KnownIds.{peer_cmp};
+
+    ghost cmp = { peer_cmp };
+
+    ghost total = { Prim.search (comparing, rules) };
+
+    ghost matches_partial_cmp = { Prim.search (comparing, rules) };
+
+    ghost matches_eq = { Prim.search (comparing, rules) };
+
+    fn cmp(&self, other: &Endpoint) -> Ordering {
+        match self.port.cmp(&other.port) {
+            Ordering::Equal => self.host.bytes().cmp(other.host.bytes()),
+            unequal => unequal,
+        }
+    }
 }
 
 /// The sides of one transfer, as a tap is told them: who asks, where, and who goes on with it (RFC 1350, section 4).
