@@ -1,7 +1,7 @@
-ghost use Rattle.std.specs.Prelude.{◌≡◌, ℕ, List, [], ◌∷◌, OnOk, OnErr};
+ghost use Rattle.std.specs.Prelude.{◌≡◌, ℕ, List, [], ◌∷◌, false, OnOk, OnErr};
 ghost use Rattle.tftp_packet.specs.Faults.{opcode_of};
 ghost use Rattle.tftp_tap.specs.TapCapture.{TapDatagram, TapSides};
-ghost use Rattle.tftp_tap.specs.TapRoutes.{tap_route};
+ghost use Rattle.tftp_tap.specs.TapRoutes.{has_gone, tap_route};
 ghost use Rattle.tftp_tap.specs.TapPorts.{StandsForTap};
 
 use crate::route::TapRoute;
@@ -65,6 +65,8 @@ impl TapPorts {
         ensures ok { (s : TapSides) (earlier : List TapDatagram) (payload : List ℕ) → StandsForTap self.old s earlier
             → OnOk result (StandsForTap self.new s (record { source = source; destination = destination; payload = payload } ∷ earlier)) }
         ensures err { OnErr result (self.new ≡ self.old) }
+        ensures absent { (s : TapSides) (earlier : List TapDatagram) → StandsForTap self.old s earlier
+            → OnErr result (has_gone source destination earlier ≡ false) }
     {
         self.ways.note(Way {
             from: source,
