@@ -12,7 +12,8 @@ from trial import Trial
 
 # The stack that the program is run in, and the steps in which its memory is raised, in bytes.
 STACK, STEP = 192 * 1024, 32 * 1024
-# In so much memory each command has what it needs.
+# In so much memory a plain read is judged, and in so much each command has what it needs.
+MUCH = 8 * 1024 * 1024
 ENOUGH = 64 * 1024 * 1024
 MEMORY = b"fault memory\n"
 Output = tuple[bytes, int]
@@ -102,12 +103,8 @@ class LimitTrial(Trial):
             return False
 
     def least(self) -> int:
-        """The least memory, by steps, in which a plain read is judged, or memory is said to be wanting."""
-        low, high = 0, ENOUGH // STEP
-        while low < high:
-            middle = (low + high) // 2
-            low, high = (low, middle) if self.starts(middle * STEP) else (middle + 1, high)
-        return low * STEP
+        """The least memory, by steps, from which on a plain read is judged, or memory is said to be wanting."""
+        return STEP + max(size for size in range(0, MUCH, STEP) if not self.starts(size))
 
     def may_want(self, command: str, rows: bytes, got: tuple[bytes, int, bytes]) -> bool:
         """Whether want of memory was said, behind lines of `show` or a part of a text, or nothing with its status."""
