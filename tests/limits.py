@@ -10,9 +10,10 @@ from commands import COMMANDS, SILENT
 from normal import meaning_of, outputs_of_refused
 from trial import Trial
 
-# The least stack that the program is to run in, and the steps in which its memory is raised, in bytes.
-STACK, STEP = 100 * 1024, 32 * 1024
-# Behind so much more than the empty program needs each command has what it needs.
+# The stack that the program is run in, and the steps in which its memory is raised, in bytes.
+STACK, STEP = 192 * 1024, 32 * 1024
+# In so much memory a plain read is judged, and in so much each command has what it needs.
+MUCH = 8 * 1024 * 1024
 ENOUGH = 64 * 1024 * 1024
 MEMORY = b"fault memory\n"
 Output = tuple[bytes, int]
@@ -82,6 +83,7 @@ class LimitTrial(Trial):
     def __init__(self, program: str) -> None:
         super().__init__()
         self.program = program
+        self.begin = self.least()
 
     def run(self, words: list[str], given: bytes, limit: int, size: int) -> tuple[bytes, int, bytes]:
         """What the program writes, its status (negative where a signal ended it), and what it writes of errors."""
@@ -93,19 +95,16 @@ class LimitTrial(Trial):
         return done.stdout, done.returncode, done.stderr
 
     def starts(self, size: int) -> bool:
-        """Whether the empty program ends as it should in so much memory: it is run without a word."""
+        """Whether each command judges a plain read in so much memory; the stack that it takes is what all texts take."""
+        text = windowed().text()
         try:
-            return self.run([], b"", resource.RLIMIT_AS, size)[1] == 2
+            return all(self.run([command], text, resource.RLIMIT_AS, size)[1] in (0, 2) for command in COMMANDS)
         except OSError:
             return False
 
     def least(self) -> int:
-        """The least memory, by steps, in which the empty program starts, there and from there on."""
-        low, high = 0, ENOUGH // STEP
-        while low < high:
-            middle = (low + high) // 2
-            low, high = (low, middle) if self.starts(middle * STEP) else (middle + 1, high)
-        return low * STEP
+        """The least memory, by steps, from which on a plain read is judged, or memory is said to be wanting."""
+        return STEP + max(size for size in range(0, MUCH, STEP) if not self.starts(size))
 
     def may_want(self, command: str, rows: bytes, got: tuple[bytes, int, bytes]) -> bool:
         """Whether want of memory was said, behind lines of `show` or a part of a text, or nothing with its status."""
@@ -115,7 +114,7 @@ class LimitTrial(Trial):
 
     def little_memory(self, name: str, command: str, text: bytes, output: Output) -> None:
         """Memory is raised until the answer is right, and it is then right twice in a row."""
-        size, right = self.least(), 0
+        size, right = self.begin, 0
         while right < 2 and size < ENOUGH:
             got = self.run([command], text, resource.RLIMIT_AS, size)
             is_right = got == (*output, b"")
