@@ -44,17 +44,17 @@ module _ (front : List ℕ) (own : Order) (enough : 12 ≤ length front) (sectio
 
   pub section_unopened : (r : Result ℕ FaultKind) → BlockSizeTells (number_at own front 4) r → SizeTells Unopened front r
   section_unopened (Ok size) (e, few, least, words) = ((enough, inl (section, own, is, e)), (omega (arith, e, few), (omega (arith, e, least), ap (λ n. n % 4) e ∙ words)))
-  section_unopened (Err Bad) (few, never) = λ size a.
+  section_unopened (Err Bad) (few, never) = (enough, λ size a.
       let same = unopened_only size a in
-      (omega (arith, same, few), λ regular. never (omega (arith, same, regular.0), ap (λ n. n % 4) (sym same) ∙ regular.1))
+      (omega (arith, same, few), λ regular. never (omega (arith, same, regular.0), ap (λ n. n % 4) (sym same) ∙ regular.1)))
   section_unopened (Err TooLong) long = (number_at own front 4, (enough, inl (section, own, is, refl)), long)
   section_unopened (Err _) h = absurd h
 
   pub section_blocks : (order : Order) (r : Result ℕ FaultKind) → BlockSizeTells (number_at own front 4) r → SizeTells (Blocks order) front r
   section_blocks order (Ok size) (e, few, least, words) = ((enough, inl (section, own, is, e)), (omega (arith, e, few), (omega (arith, e, least), ap (λ n. n % 4) e ∙ words)))
-  section_blocks order (Err Bad) (few, never) = λ size a.
+  section_blocks order (Err Bad) (few, never) = (enough, λ size a.
       let same = blocks_only order size a in
-      (omega (arith, same, few), λ regular. never (omega (arith, same, regular.0), ap (λ n. n % 4) (sym same) ∙ regular.1))
+      (omega (arith, same, few), λ regular. never (omega (arith, same, regular.0), ap (λ n. n % 4) (sym same) ∙ regular.1)))
   section_blocks order (Err TooLong) long = (number_at own front 4, (enough, inl (section, own, is, refl)), long)
   section_blocks order (Err _) h = absurd h
 
@@ -67,9 +67,9 @@ module _ (front : List ℕ) (order : Order) (enough : 12 ≤ length front) (othe
 
   pub plain_blocks : (r : Result ℕ FaultKind) → BlockSizeTells (number_at order front 4) r → SizeTells (Blocks order) front r
   plain_blocks (Ok size) (e, few, least, words) = ((enough, inr (other, e)), (omega (arith, e, few), (omega (arith, e, least), ap (λ n. n % 4) e ∙ words)))
-  plain_blocks (Err Bad) (few, never) = λ size a.
+  plain_blocks (Err Bad) (few, never) = (enough, λ size a.
       let same = plain_only size a in
-      (omega (arith, same, few), λ regular. never (omega (arith, same, regular.0), ap (λ n. n % 4) (sym same) ∙ regular.1))
+      (omega (arith, same, few), λ regular. never (omega (arith, same, regular.0), ap (λ n. n % 4) (sym same) ∙ regular.1)))
   plain_blocks (Err TooLong) long = (number_at order front 4, (enough, inr (other, refl)), long)
   plain_blocks (Err _) h = absurd h
 

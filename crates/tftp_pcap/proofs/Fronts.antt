@@ -47,7 +47,7 @@ announces_one (Blocks order) p m n (long, inl a) (more, inr b) = absurd (b.0 a.0
 announces_one (Blocks order) p m n (long, inr a) (more, inl b) = absurd (a.0 b.0)
 announces_one (Blocks order) p m n (long, inr a) (more, inr b) = a.1 ∙ sym b.1
 
-begins_of : (layout : Layout) (p : List ℕ) (n : ℕ) → Announces layout p n → layout ≡ Unopened → BeginsAsOne p
+pub begins_of : (layout : Layout) (p : List ℕ) (n : ℕ) → Announces layout p n → layout ≡ Unopened → BeginsAsOne p
 begins_of Unopened p n (long, inl a) is = inl a.0
 begins_of Unopened p n (long, inr (order, nano, magic_is, sized)) is = inr (order, nano, magic_is)
 begins_of (Classic classic) p n a is = absurd (let x : ⊥ = cc in x)

@@ -4,13 +4,13 @@ use Rattle.std.specs.Prelude.{Option, Some, None, Bool, true, false, Result, Ok,
 use Rattle.std.specs.Io.KnownBytes.{prepend_known, Consumes}
 use Rattle.std.proofs.KnownBytes.{Consumes-nil, prepend_known-nil}
 use Rattle.tftp_pcap.specs.Frames.{FrameParts}
-use Rattle.tftp_pcap.specs.Pieces.{Said, Says, Mode, Stands, IsRecording, start, given, said_of}
+use Rattle.tftp_pcap.specs.Pieces.{Said, Says, Mode, Stands, IsRecording, start, given, said_of, next_mode}
 use Rattle.tftp_pcap.specs.Pieces.Said.{Opens}
 use Rattle.tftp_pcap.specs.Stops.{Stops, PiecesState, StepEnds}
 use Rattle.tftp_pcap.specs.History.{FailsAs, FailsIn, FailsToBegin, FillTells, ReaderState, StandingTells, StandsFor, Continues}
 use Rattle.tftp_pcap.specs.declared.found.Found.{Found}
 use Rattle.tftp_pcap.specs.declared.found.Found.TheVariants as found
-use Rattle.tftp_pcap.specs.declared.layout.Layout.TheVariants.{Unopened}
+use Rattle.tftp_pcap.specs.declared.layout.Layout.TheVariants.{Unopened, Classic, Blocks}
 use Rattle.tftp_pcap.specs.declared.fault.FaultKind.{FaultKind}
 use Rattle.tftp_pcap.specs.declared.fault.PcapFault.{PcapFault}
 use Rattle.tftp_pcap.specs.declared.standing.Standing.{Standing}
@@ -26,6 +26,14 @@ opening (found.Opens layout) piece says = refl
 opening (found.Names interface) piece says = absurd says
 opening (found.Gives place) piece says = absurd says
 opening found.Skips piece says = absurd says
+
+opening_opens : (f : Found) (piece : List ℕ) → Says Unopened [] piece (said_of f piece) → (next_mode start (said_of f piece)).layout ≢ Unopened
+opening_opens (found.Opens Unopened) piece says = absurd says
+opening_opens (found.Opens (Classic classic)) piece says = λ e. let x : ⊥ = cc in x
+opening_opens (found.Opens (Blocks order)) piece says = λ e. let x : ⊥ = cc in x
+opening_opens (found.Names interface) piece says = absurd says
+opening_opens (found.Gives place) piece says = absurd says
+opening_opens found.Skips piece says = absurd says
 
 rest_ahead : (before after : Option (List ℕ)) (taken ahead : List ℕ) → Consumes before (prepend_known ahead after) taken → Consumes before after (taken ++ ahead)
 rest_ahead None after taken ahead c = tt
@@ -45,6 +53,12 @@ module _ (state new : PiecesState) (before after : Option (List ℕ)) (piece : L
       let reached = reach_said [] [] taken piece [] state new before _ after from_start goes consumed f ends in
       let says = subst (λ (m : Mode). Says m.layout m.interfaces piece (said_of f piece)) mode ends.1 in
       (reached.0, reached.1, (subst (Stands reached.0 new.mode new.count) (opening f piece says) reached.2, refl))
+
+  pub begins_opened : (f : Found) → (taken : List ℕ) × Consumes (prepend_known state.ahead before) after taken × StepEnds state new (Ok (Some f)) piece taken → new.mode.layout ≢ Unopened
+  begins_opened f (taken, consumed, ends) =
+      let says = subst (λ (m : Mode). Says m.layout m.interfaces piece (said_of f piece)) mode ends.1 in
+      let next : new.mode ≡ next_mode start (said_of f piece) = ends.2 ∙ ap (λ (m : Mode). next_mode m (said_of f piece)) mode in
+      subst (λ (m : Mode). m.layout ≢ Unopened) (sym next) (opening_opens f piece says)
 
   pub begins_none : {A : Type 0} → (taken : List ℕ) × Consumes (prepend_known state.ahead before) after taken × StepEnds state new (Ok None) piece taken → A
   begins_none (taken, consumed, ends) = absurd (ends.1 (ap (λ (m : Mode). m.layout) mode))

@@ -7,6 +7,7 @@ use Rattle.tftp_pcap.specs.Stops.{PiecesState, Stops}
 use Rattle.tftp_pcap.specs.declared.layout.Layout.TheVariants.{Unopened}
 use Rattle.tftp_pcap.specs.declared.place.Place.{Place}
 use Rattle.tftp_pcap.specs.declared.fault.FaultKind.{FaultKind}
+use Rattle.tftp_pcap.specs.declared.fault.FaultKind.TheVariants.{NotARecording, Truncated, Bad, TooLong, TooMany, Read, Memory}
 use Rattle.tftp_pcap.specs.declared.fault.PcapFault.{PcapFault}
 use Rattle.tftp_pcap.specs.declared.standing.Standing.{Standing}
 use Rattle.tftp_pcap.specs.declared.standing.Standing.TheVariants.{Open, Over, Failed}
@@ -20,6 +21,16 @@ pub record FailsAs (bytes : List ℕ) (frames : List FrameParts) (kind : FaultKi
   pub are : bytes ≡ good ++ part
   pub stands : Stands good mode count frames
   pub stops : Stops kind mode count part
+
+-- a fault of the recording, and not of its reader or of memory
+abbrev pub IsWrong : FaultKind → Type 0
+IsWrong NotARecording = Unit {0}
+IsWrong Truncated = Unit {0}
+IsWrong Bad = Unit {0}
+IsWrong TooLong = Unit {0}
+IsWrong TooMany = ⊥
+IsWrong Read = ⊥
+IsWrong Memory = ⊥
 
 -- what reading on to the next frame tells of the bytes that were taken with it and before it, and of the frames before it
 abbrev pub PlaceTells : Result (Option Place) FaultKind → PiecesState → List ℕ → List ℕ → List FrameParts → Type 0
