@@ -1,12 +1,12 @@
 -- Bytes are a recording in one way.
-use Rattle.std.proofs.Common.{◌≡◌, ◌≢◌, inl, inr, ℕ, ◌+◌, ◌%◌, ◌<◌, ◌≤◌, List, [], ◌∷◌, ◌++◌, length, length-append, take, refl, sym, ap, ◌∙◌, subst, append_assoc, append-nil, arith}
-use Rattle.std.specs.Prelude.{Bool, flat_map}
+use Rattle.std.proofs.Common.{◌≡◌, inl, inr, ℕ, ◌+◌, ◌%◌, ◌<◌, ◌≤◌, List, [], ◌∷◌, ◌++◌, length, length-append, take, refl, sym, ap, ◌∙◌, subst, append_assoc, append-nil, arith}
+use Rattle.std.specs.Prelude.{flat_map}
 use Rattle.std.specs.List.{slice_range}
-use Rattle.tftp_pcap.specs.Numbers.{four, number_at, Spells}
+use Rattle.tftp_pcap.specs.Numbers.{number_at, Spells}
 use Rattle.tftp_pcap.specs.Frames.{FrameParts}
 use Rattle.tftp_pcap.specs.Classic.{magic, major, SpellsHeader, SpellsRecord}
-use Rattle.tftp_pcap.specs.Blocks.{SpellsSection, SpellsInterface, SpellsPacket, section_type, order_magic}
-use Rattle.tftp_pcap.specs.Pieces.{Said, Says, BodySays, BlockSays, OpensAs, OpensAgain, Mode, Announces, BeginsAsOne, IsSize, Follows, Stands, IsRecording, next_mode, given, start}
+use Rattle.tftp_pcap.specs.Blocks.{SpellsSection}
+use Rattle.tftp_pcap.specs.Pieces.{Said, Says, BodySays, BlockSays, OpensAs, OpensAgain, Mode, Announces, BeginsAsOne, IsSize, Follows, IsRecording, next_mode, given, start}
 use Rattle.tftp_pcap.specs.Sizes.{IsIrregular, IsTooLong}
 use Rattle.tftp_pcap.specs.Stops.{IsPart, Stops}
 use Rattle.tftp_pcap.specs.History.{FailsAs, IsWrong}
@@ -14,7 +14,6 @@ use Rattle.tftp_pcap.specs.declared.fault.FaultKind.{FaultKind}
 use Rattle.tftp_pcap.specs.declared.fault.FaultKind.TheVariants.{NotARecording, Truncated, Bad, TooLong, TooMany, Read, Memory}
 use Rattle.tftp_pcap.specs.Pieces.Said.{Opens, Names, Gives, Skips}
 use Rattle.tftp_pcap.specs.declared.numbers.Order.{Order}
-use Rattle.tftp_pcap.specs.declared.numbers.Order.TheVariants.{Big, Little}
 use Rattle.tftp_pcap.specs.declared.layout.Interface.{Interface}
 use Rattle.tftp_pcap.specs.declared.layout.Classic.{Classic as Header}
 use Rattle.tftp_pcap.specs.declared.layout.Layout.{Layout}

@@ -5,7 +5,7 @@ use Rattle.tftp_pcap.specs.Blocks.{longest_block}
 use Rattle.tftp_pcap.specs.declared.layout.Layout.{Layout}
 use Rattle.tftp_pcap.specs.declared.layout.Layout.TheVariants.{Unopened}
 use Rattle.tftp_pcap.specs.declared.fault.FaultKind.{FaultKind}
-use Rattle.tftp_pcap.specs.declared.fault.FaultKind.TheVariants.{NotARecording, Bad, TooLong, Truncated, TooMany, Read, Memory}
+use Rattle.tftp_pcap.specs.declared.fault.FaultKind.TheVariants.{NotARecording, Bad, TooLong}
 
 -- a piece that begins so is none: it announces no size, or one that no piece has
 abbrev pub IsIrregular : Layout → List ℕ → Type 0
