@@ -1,17 +1,16 @@
 -- How many bytes a piece has, by its own first bytes.
-use Rattle.std.proofs.Common.{◌≡◌, ◌≢◌, inl, inr, ℕ, ◌+◌, ◌-◌, ◌*◌, ◌%◌, ◌<◌, ◌≤◌, List, [], ◌∷◌, ◌++◌, length, length-append, take, drop, get_or, refl, sym, ap, ◌∙◌, subst, append_assoc, arith}
-use Rattle.std.specs.Prelude.{Bool, true, false, Result, Ok, Err, Option}
+use Rattle.std.proofs.Common.{◌≡◌, ◌≢◌, inl, inr, ℕ, ◌+◌, ◌%◌, ◌<◌, ◌≤◌, List, length, take, get_or, refl, sym, ap, ◌∙◌, arith}
+use Rattle.std.specs.Prelude.{Bool, true, false, Result, Ok, Err}
 use Rattle.std.specs.List.{slice_range}
-use Rattle.tftp_pcap.specs.Numbers.{four, number_at, Spells}
+use Rattle.tftp_pcap.specs.Numbers.{number_at}
 use Rattle.tftp_pcap.specs.Classic.{magic}
-use Rattle.tftp_pcap.specs.Blocks.{section_type, order_magic, longest_block}
+use Rattle.tftp_pcap.specs.Blocks.{section_type, order_magic}
 use Rattle.tftp_pcap.specs.Frames.{longest_frame}
-use Rattle.tftp_pcap.specs.Pieces.{Announces, AnnouncesSection, IsSize, IsRegular, longest_piece}
-use Rattle.tftp_pcap.specs.Sizes.{SizeTells, BlockSizeTells, IsIrregular, IsTooLong}
+use Rattle.tftp_pcap.specs.Pieces.{Announces, AnnouncesSection}
+use Rattle.tftp_pcap.specs.Sizes.{SizeTells, BlockSizeTells, IsTooLong}
 use Rattle.tftp_pcap.specs.declared.numbers.Order.{Order}
 use Rattle.tftp_pcap.specs.declared.numbers.Order.TheVariants.{Big, Little}
 use Rattle.tftp_pcap.specs.declared.layout.Classic.{Classic as Header}
-use Rattle.tftp_pcap.specs.declared.layout.Layout.{Layout}
 use Rattle.tftp_pcap.specs.declared.layout.Layout.TheVariants.{Unopened, Classic, Blocks}
 use Rattle.tftp_pcap.specs.declared.fault.FaultKind.{FaultKind}
 use Rattle.tftp_pcap.specs.declared.fault.FaultKind.TheVariants.{Bad, TooLong}
@@ -44,17 +43,23 @@ module _ (front : List ℕ) (own : Order) (enough : 12 ≤ length front) (sectio
 
   pub section_unopened : (r : Result ℕ FaultKind) → BlockSizeTells (number_at own front 4) r → SizeTells Unopened front r
   section_unopened (Ok size) (e, few, least, words) = ((enough, inl (section, own, is, e)), (omega (arith, e, few), (omega (arith, e, least), ap (λ n. n % 4) e ∙ words)))
-  section_unopened (Err Bad) (few, never) = λ size a.
-      let same = unopened_only size a in
-      (omega (arith, same, few), λ regular. never (omega (arith, same, regular.0), ap (λ n. n % 4) (sym same) ∙ regular.1))
+  section_unopened (Err Bad) (few, never) = (
+    enough,
+    λ size a.
+        let same = unopened_only size a in
+        (omega (arith, same, few), λ regular. never (omega (arith, same, regular.0), ap (λ n. n % 4) (sym same) ∙ regular.1)),
+  )
   section_unopened (Err TooLong) long = (number_at own front 4, (enough, inl (section, own, is, refl)), long)
   section_unopened (Err _) h = absurd h
 
   pub section_blocks : (order : Order) (r : Result ℕ FaultKind) → BlockSizeTells (number_at own front 4) r → SizeTells (Blocks order) front r
   section_blocks order (Ok size) (e, few, least, words) = ((enough, inl (section, own, is, e)), (omega (arith, e, few), (omega (arith, e, least), ap (λ n. n % 4) e ∙ words)))
-  section_blocks order (Err Bad) (few, never) = λ size a.
-      let same = blocks_only order size a in
-      (omega (arith, same, few), λ regular. never (omega (arith, same, regular.0), ap (λ n. n % 4) (sym same) ∙ regular.1))
+  section_blocks order (Err Bad) (few, never) = (
+    enough,
+    λ size a.
+        let same = blocks_only order size a in
+        (omega (arith, same, few), λ regular. never (omega (arith, same, regular.0), ap (λ n. n % 4) (sym same) ∙ regular.1)),
+  )
   section_blocks order (Err TooLong) long = (number_at own front 4, (enough, inl (section, own, is, refl)), long)
   section_blocks order (Err _) h = absurd h
 
@@ -67,9 +72,12 @@ module _ (front : List ℕ) (order : Order) (enough : 12 ≤ length front) (othe
 
   pub plain_blocks : (r : Result ℕ FaultKind) → BlockSizeTells (number_at order front 4) r → SizeTells (Blocks order) front r
   plain_blocks (Ok size) (e, few, least, words) = ((enough, inr (other, e)), (omega (arith, e, few), (omega (arith, e, least), ap (λ n. n % 4) e ∙ words)))
-  plain_blocks (Err Bad) (few, never) = λ size a.
-      let same = plain_only size a in
-      (omega (arith, same, few), λ regular. never (omega (arith, same, regular.0), ap (λ n. n % 4) (sym same) ∙ regular.1))
+  plain_blocks (Err Bad) (few, never) = (
+    enough,
+    λ size a.
+        let same = plain_only size a in
+        (omega (arith, same, few), λ regular. never (omega (arith, same, regular.0), ap (λ n. n % 4) (sym same) ∙ regular.1)),
+  )
   plain_blocks (Err TooLong) long = (number_at order front 4, (enough, inr (other, refl)), long)
   plain_blocks (Err _) h = absurd h
 

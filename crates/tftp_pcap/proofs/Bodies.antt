@@ -1,10 +1,9 @@
 -- What the body of a block says, by its type.
-use Rattle.std.proofs.Common.{◌≡◌, ◌≢◌, inl, inr, ℕ, ◌+◌, ◌-◌, ◌*◌, ◌%◌, ◌<◌, ◌≤◌, List, [], ◌∷◌, ◌++◌, length, take, append-nil, refl, sym, ap, ◌∙◌, subst, arith}
+use Rattle.std.proofs.Common.{◌≡◌, ◌≢◌, inl, inr, ℕ, ◌+◌, ◌-◌, ◌%◌, ◌≤◌, List, [], ◌++◌, length, take, append-nil, refl, sym, ap, ◌∙◌, subst, arith}
 use Rattle.std.specs.Prelude.{◌⊎◌, Option, Some, None, MatchOption}
-use Rattle.std.specs.List.{slice_range}
 use Rattle.tftp_pcap.specs.Numbers.{number_at}
 use Rattle.tftp_pcap.specs.Frames.{FrameParts, frame_at}
-use Rattle.tftp_pcap.specs.Blocks.{SpellsInterface, SpellsPacket, SpellsSection, section_type, longest_block}
+use Rattle.tftp_pcap.specs.Blocks.{SpellsInterface, SpellsPacket, section_type, longest_block}
 use Rattle.tftp_pcap.specs.Pieces.{Said, BodySays, BlockSays, Says, OpensAgain, said_of}
 use Rattle.tftp_pcap.specs.Pieces.Said.{Opens, Names, Gives, Skips}
 use Rattle.tftp_pcap.specs.declared.numbers.Order.{Order}

@@ -1,5 +1,5 @@
 -- Numbers of four bytes, one after another.
-use Rattle.std.proofs.Common.{◌≡◌, ℕ, ◌+◌, ◌*◌, ◌≤◌, List, [], ◌∷◌, ◌++◌, length, refl, sym, ap, ◌∙◌, arith}
+use Rattle.std.proofs.Common.{◌≡◌, ℕ, ◌*◌, List, [], ◌∷◌, ◌++◌, length, refl, sym, ap, ◌∙◌, arith}
 use Rattle.tftp_pcap.specs.Numbers.{four, Spells}
 use Rattle.tftp_pcap.specs.declared.numbers.Order.{Order}
 

@@ -1,6 +1,6 @@
 -- What the first bytes of a piece announce stays, whatever follows them.
-use Rattle.std.proofs.Common.{◌≡◌, ◌≢◌, inl, inr, ℕ, ◌+◌, ◌<◌, ◌≤◌, List, [], ◌∷◌, ◌++◌, length, length-append, refl, sym, ap, ◌∙◌, subst, lit<, arith}
-use Rattle.std.specs.Prelude.{◌⊎◌, true, false, Result, Ok, Err, Option}
+use Rattle.std.proofs.Common.{◌≡◌, inl, inr, ℕ, ◌<◌, ◌≤◌, List, [], ◌∷◌, ◌++◌, length, length-append, sym, ap, ◌∙◌, subst, lit<, arith}
+use Rattle.std.specs.Prelude.{◌⊎◌, Err, Option}
 use Rattle.std.specs.Io.KnownBytes.{Consumes}
 use Rattle.std.proofs.KnownBytes.{Consumes-trans}
 use Rattle.tftp_pcap.specs.Numbers.{number_at}
@@ -9,7 +9,7 @@ use Rattle.tftp_pcap.specs.Stops.{IsPart, IsCut, IsWhole, PieceEnds}
 use Rattle.tftp_pcap.specs.declared.layout.Layout.{Layout}
 use Rattle.tftp_pcap.specs.declared.layout.Layout.TheVariants.{Unopened, Classic, Blocks}
 use Rattle.tftp_pcap.specs.declared.fault.FaultKind.{FaultKind}
-use Rattle.tftp_pcap.specs.declared.fault.FaultKind.TheVariants.{Read, Memory, Truncated}
+use Rattle.tftp_pcap.specs.declared.fault.FaultKind.TheVariants.{Read, Memory}
 use Rattle.tftp_pcap.proofs.Announced.{order_one, magic_other}
 
 pub announces_front : (layout : Layout) (p b : List ℕ) (n : ℕ) → front_of layout ≤ length p → Announces layout (p ++ b) n → Announces layout p n
@@ -47,7 +47,7 @@ announces_one (Blocks order) p m n (long, inl a) (more, inr b) = absurd (b.0 a.0
 announces_one (Blocks order) p m n (long, inr a) (more, inl b) = absurd (a.0 b.0)
 announces_one (Blocks order) p m n (long, inr a) (more, inr b) = a.1 ∙ sym b.1
 
-begins_of : (layout : Layout) (p : List ℕ) (n : ℕ) → Announces layout p n → layout ≡ Unopened → BeginsAsOne p
+pub begins_of : (layout : Layout) (p : List ℕ) (n : ℕ) → Announces layout p n → layout ≡ Unopened → BeginsAsOne p
 begins_of Unopened p n (long, inl a) is = inl a.0
 begins_of Unopened p n (long, inr (order, nano, magic_is, sized)) is = inr (order, nano, magic_is)
 begins_of (Classic classic) p n a is = absurd (let x : ⊥ = cc in x)

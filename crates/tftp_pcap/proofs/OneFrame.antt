@@ -1,7 +1,7 @@
 -- Bytes say one frame, one interface or one layout at most.
-use Rattle.std.proofs.Common.{◌≡◌, ◌≢◌, inl, inr, ℕ, ◌+◌, ◌*◌, ◌/◌, ◌%◌, ◌^◌, ◌<◌, ◌≤◌, List, [], ◌∷◌, ◌++◌, length, length-append, take, drop, get_or, refl, sym, ap, ◌∙◌, subst, append_assoc, append-nil, arith}
-use Rattle.std.specs.Prelude.{Bool, true, false, Option, Some, None, slice_get}
-use Rattle.tftp_pcap.specs.Numbers.{four, two, number_at, Spells}
+use Rattle.std.proofs.Common.{◌≡◌, inl, inr, ℕ, ◌+◌, ◌*◌, ◌/◌, ◌%◌, ◌^◌, ◌<◌, List, [], ◌∷◌, ◌++◌, length, get_or, refl, sym, ap, ◌∙◌, subst, arith}
+use Rattle.std.specs.Prelude.{Bool, true, false, Some, slice_get}
+use Rattle.tftp_pcap.specs.Numbers.{two, Spells}
 use Rattle.tftp_pcap.specs.Times.{time_of}
 use Rattle.tftp_pcap.specs.Frames.{FrameParts}
 use Rattle.tftp_pcap.specs.Classic.{magic, major, fraction_unit, SpellsHeader, SpellsRecord}
@@ -9,11 +9,10 @@ use Rattle.tftp_pcap.specs.Options.{OptionParts, SpellsOptions, first_value}
 use Rattle.tftp_pcap.specs.Blocks.{SpellsInterface, SpellsTimed, SpellsEnhanced, SpellsObsolete, SpellsSimple, SpellsPacket, kept, units_by, offset_by, direction_by}
 use Rattle.tftp_pcap.specs.declared.numbers.Order.{Order}
 use Rattle.tftp_pcap.specs.declared.numbers.Order.TheVariants.{Big, Little}
-use Rattle.tftp_pcap.specs.declared.frame.Direction.{Direction}
 use Rattle.tftp_pcap.specs.declared.layout.Interface.{Interface}
 use Rattle.tftp_pcap.specs.declared.layout.Classic.{Classic as Header}
 use Rattle.tftp_pcap.proofs.Cuts.{cut_one}
-use Rattle.tftp_pcap.proofs.Fours.{spells_one, spells_length}
+use Rattle.tftp_pcap.proofs.Fours.{spells_one}
 use Rattle.tftp_pcap.proofs.OptionCuts.{options_one}
 use Rattle.tftp_pcap.proofs.Packets.{padded_one}
 

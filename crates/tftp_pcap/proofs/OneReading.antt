@@ -1,15 +1,19 @@
 -- Bytes are a recording in one way.
-use Rattle.std.proofs.Common.{◌≡◌, ◌≢◌, inl, inr, ℕ, ◌+◌, ◌%◌, ◌<◌, ◌≤◌, List, [], ◌∷◌, ◌++◌, length, length-append, take, refl, sym, ap, ◌∙◌, subst, append_assoc, append-nil, arith}
-use Rattle.std.specs.Prelude.{Bool, flat_map}
+use Rattle.std.proofs.Common.{◌≡◌, inl, inr, ℕ, ◌+◌, ◌%◌, ◌<◌, ◌≤◌, List, [], ◌∷◌, ◌++◌, length, length-append, take, refl, sym, ap, ◌∙◌, subst, append_assoc, append-nil, arith}
+use Rattle.std.specs.Prelude.{flat_map}
 use Rattle.std.specs.List.{slice_range}
-use Rattle.tftp_pcap.specs.Numbers.{four, number_at, Spells}
+use Rattle.tftp_pcap.specs.Numbers.{number_at, Spells}
 use Rattle.tftp_pcap.specs.Frames.{FrameParts}
 use Rattle.tftp_pcap.specs.Classic.{magic, major, SpellsHeader, SpellsRecord}
-use Rattle.tftp_pcap.specs.Blocks.{SpellsSection, SpellsInterface, SpellsPacket, section_type, order_magic}
-use Rattle.tftp_pcap.specs.Pieces.{Said, Says, BodySays, BlockSays, OpensAs, OpensAgain, Mode, Announces, Follows, Stands, IsRecording, next_mode, given, start}
+use Rattle.tftp_pcap.specs.Blocks.{SpellsSection}
+use Rattle.tftp_pcap.specs.Pieces.{Said, Says, BodySays, BlockSays, OpensAs, OpensAgain, Mode, Announces, BeginsAsOne, IsSize, Follows, IsRecording, next_mode, given, start}
+use Rattle.tftp_pcap.specs.Sizes.{IsIrregular, IsTooLong}
+use Rattle.tftp_pcap.specs.Stops.{IsPart, Stops}
+use Rattle.tftp_pcap.specs.History.{FailsAs, IsWrong}
+use Rattle.tftp_pcap.specs.declared.fault.FaultKind.{FaultKind}
+use Rattle.tftp_pcap.specs.declared.fault.FaultKind.TheVariants.{NotARecording, Truncated, Bad, TooLong, TooMany, Read, Memory}
 use Rattle.tftp_pcap.specs.Pieces.Said.{Opens, Names, Gives, Skips}
 use Rattle.tftp_pcap.specs.declared.numbers.Order.{Order}
-use Rattle.tftp_pcap.specs.declared.numbers.Order.TheVariants.{Big, Little}
 use Rattle.tftp_pcap.specs.declared.layout.Interface.{Interface}
 use Rattle.tftp_pcap.specs.declared.layout.Classic.{Classic as Header}
 use Rattle.tftp_pcap.specs.declared.layout.Layout.{Layout}
@@ -17,31 +21,35 @@ use Rattle.tftp_pcap.specs.declared.layout.Layout.TheVariants.{Unopened, Classic
 use Rattle.tftp_pcap.proofs.Cuts.{cut_one}
 use Rattle.tftp_pcap.proofs.Fours.{spells_length}
 use Rattle.tftp_pcap.proofs.Announced.{order_one, magic_other}
-use Rattle.tftp_pcap.proofs.Fronts.{announces_more, announces_one}
+use Rattle.tftp_pcap.proofs.Fronts.{announces_more, announces_one, announces_enough, begins_of, front_some}
 use Rattle.tftp_pcap.proofs.Whole.{block_known, section_known, body_of, body_says}
 use Rattle.tftp_pcap.proofs.OneFrame.{magic_length, major_length, header_one, record_one, interface_one, packet_one}
 
 -- ---- a piece announces its own length
 
-header_announced : (s : List ℕ) (classic : Header) → SpellsHeader s classic → Announces Unopened s (length s)
-header_announced s classic p =
-    let named = magic_length classic.order classic.nano in
-    let long : length s ≡ 24 = omega (
+header_length : (s : List ℕ) (classic : Header) → SpellsHeader s classic → length s ≡ 24
+header_length s classic p =
+    omega (
       arith,
       ap length p.are,
       length-append (magic classic.order classic.nano) (major classic.order ++ (p.minor ++ p.rest)),
       length-append (major classic.order) (p.minor ++ p.rest),
       length-append p.minor p.rest,
-      named,
+      magic_length classic.order classic.nano,
       major_length classic.order,
       p.two,
       spells_length classic.order p.rest (p.zone ∷ p.figures ∷ p.longest ∷ p.link ∷ []) p.numbers,
-    ) in
-    (omega (arith, long), inr (classic.order, classic.nano, ap (take 4) p.are ∙ four_first (magic classic.order classic.nano) _ named, long))
+    )
+
+header_magic : (s : List ℕ) (classic : Header) → SpellsHeader s classic → take 4 s ≡ magic classic.order classic.nano
+header_magic s classic p = ap (take 4) p.are ∙ whole (magic classic.order classic.nano) _ (magic_length classic.order classic.nano)
   where
-    four_first : (a b : List ℕ) → length a ≡ 4 → take 4 (a ++ b) ≡ a
-    four_first (w ∷ x ∷ y ∷ z ∷ []) b sized = refl
-    four_first _ b sized = absurd (omega arith)
+    whole : (a b : List ℕ) → length a ≡ 4 → take 4 (a ++ b) ≡ a
+    whole (w ∷ x ∷ y ∷ z ∷ []) b sized = refl
+    whole _ b sized = absurd (omega arith)
+
+header_announced : (s : List ℕ) (classic : Header) → SpellsHeader s classic → Announces Unopened s (length s)
+header_announced s classic p = let long = header_length s classic p in (omega (arith, long), inr (classic.order, classic.nano, header_magic s classic p, long))
 
 section_announced : (s : List ℕ) (order : Order) → SpellsSection s order → Announces Unopened s (length s)
 section_announced s order p =
@@ -101,13 +109,6 @@ piece_one layout interfaces p q more rest s t a b e =
 
 section_is_one : (s : List ℕ) (o p : Order) → SpellsSection s o → SpellsSection s p → o ≡ p
 section_is_one s o p x y = order_one o p (sym (section_known s [] o x).1 ∙ (section_known s [] p y).1)
-
-header_magic : (s : List ℕ) (classic : Header) → SpellsHeader s classic → take 4 s ≡ magic classic.order classic.nano
-header_magic s classic p = ap (take 4) p.are ∙ whole (magic classic.order classic.nano) _ (magic_length classic.order classic.nano)
-  where
-    whole : (a b : List ℕ) → length a ≡ 4 → take 4 (a ++ b) ≡ a
-    whole (w ∷ x ∷ y ∷ z ∷ []) b sized = refl
-    whole _ b sized = absurd (omega arith)
 
 header_or_section : (s : List ℕ) (classic : Header) (order : Order) → SpellsHeader s classic → SpellsSection s order → ⊥
 header_or_section s classic order x y = magic_other classic.order classic.nano (sym (header_magic s classic x) ∙ ap (take 4) (sym (append-nil s)) ∙ (section_known s [] order y).0)
@@ -219,3 +220,97 @@ follows_one mode (p ∷ ps) (q ∷ qs) one other fs gs (s, fs', says, are, more)
 
 pub recording_one : (bytes : List ℕ) (fs gs : List FrameParts) → IsRecording bytes fs → IsRecording bytes gs → fs ≡ gs
 recording_one bytes fs gs p q = (follows_one start p.stands.pieces q.stands.pieces p.mode q.mode fs gs p.stands.follows q.stands.follows (sym p.stands.are ∙ q.stands.are)).1
+
+-- ---- a fault is in no recording
+
+-- pieces in front of more bytes are the first pieces of all of them
+follows_front : (mode : Mode) (ps qs : List (List ℕ)) (one other : Mode) (fs gs : List FrameParts) (part : List ℕ) → Follows mode ps one fs → Follows mode qs other gs → flat_map (λ p. p) ps ++ part ≡ flat_map (λ q. q) qs
+    → (rest : List (List ℕ)) × (more : List FrameParts) × Follows one rest other more × (flat_map (λ q. q) rest ≡ part) × (gs ≡ fs ++ more)
+follows_front mode [] qs one other fs gs part (a, none) b e =
+    (qs, gs, subst (λ (m : Mode). Follows m qs other gs) (sym a) b, sym e, ap (λ l. l ++ gs) (sym none))
+follows_front mode (p ∷ ps) [] one other fs gs part (s, fs', says, are, more) b e =
+    absurd (omega (arith, ap length e, length-append (p ++ flat_map (λ x. x) ps) part, length-append p (flat_map (λ x. x) ps), piece_some mode.layout mode.interfaces p s says))
+follows_front mode (p ∷ ps) (q ∷ qs) one other fs gs part (s, fs', says, are, more) (t, gs', says', are', more') e =
+    let same = piece_one mode.layout mode.interfaces p q (flat_map (λ x. x) ps ++ part) (flat_map (λ x. x) qs) s t says says' (sym (append_assoc p (flat_map (λ x. x) ps) part) ∙ e) in
+    let said = says_one mode.layout mode.interfaces q s t (subst (λ (l : List ℕ). Says mode.layout mode.interfaces l s) same.0 says) says' in
+    let (rest, later, goes, joined, grown) = follows_front (next_mode mode t) ps qs one other fs' gs' part (subst (λ (x : Said). Follows (next_mode mode x) ps one fs') said more) more' same.1 in
+    (rest, later, goes, joined, are' ∙ ap (λ l. given t ++ l) grown ∙ sym (append_assoc (given t) fs' later) ∙ ap (λ l. l ++ later) (ap (λ x. given x ++ fs') (sym said) ∙ sym are))
+
+-- a piece has a size that pieces have
+says_sized : (layout : Layout) (interfaces : List Interface) (s : List ℕ) (said : Said) → Says layout interfaces s said → IsSize layout (length s)
+says_sized Unopened interfaces s (Opens Unopened) says = absurd says
+says_sized Unopened interfaces s (Opens (Classic classic)) says = let long = header_length s classic says in (omega (arith, long), (omega (arith, long), ap (λ n. n % 4) long))
+says_sized Unopened interfaces s (Opens (Blocks order)) says = (says.block.few, (omega (arith, (section_known s [] order says).4), says.block.words))
+says_sized Unopened interfaces s (Names interface) says = absurd says
+says_sized Unopened interfaces s (Gives frame) says = absurd says
+says_sized Unopened interfaces s Skips says = absurd says
+says_sized (Classic classic) interfaces s (Gives frame) says =
+    let long : length s ≡ length says.head + length frame.bytes = ap length says.are ∙ length-append says.head frame.bytes in
+    let head = spells_length classic.order says.head (says.seconds ∷ says.fraction ∷ length frame.bytes ∷ frame.original ∷ []) says.numbers in
+    (omega (arith, long, head, says.few), omega (arith, long, head))
+says_sized (Classic classic) interfaces s (Opens layout) says = absurd says
+says_sized (Classic classic) interfaces s (Names interface) says = absurd says
+says_sized (Classic classic) interfaces s Skips says = absurd says
+says_sized (Blocks own) interfaces s (Opens Unopened) says = absurd says
+says_sized (Blocks own) interfaces s (Opens (Classic classic)) says = absurd says
+says_sized (Blocks own) interfaces s (Opens (Blocks order)) says = (says.block.few, (omega (arith, (section_known s [] order says).4), says.block.words))
+says_sized (Blocks own) interfaces s (Names interface) (type, body, kind, block, plain, typed, says) = (block.few, ((block_known own s type body block).4, block.words))
+says_sized (Blocks own) interfaces s (Gives frame) (type, body, kind, block, plain, typed, says) = (block.few, ((block_known own s type body block).4, block.words))
+says_sized (Blocks own) interfaces s Skips (type, body, kind, block, plain, typed, says) = (block.few, ((block_known own s type body block).4, block.words))
+
+-- a piece in front of some bytes announces its size there
+module _ (layout : Layout) (interfaces : List Interface) (q rest part : List ℕ) (said : Said) (says : Says layout interfaces q said) (are : q ++ rest ≡ part) where
+  announced_there : Announces layout part (length q)
+  announced_there = subst (λ (l : List ℕ). Announces layout l (length q)) are (announces_more layout q rest (length q) (says_announced layout interfaces q said says))
+
+  within : length q ≤ length part
+  within = omega (arith, ap length are, length-append q rest)
+
+  no_cut : IsPart layout part → ⊥
+  no_cut short = omega (arith, short (length q) announced_there, within)
+
+  no_irregular : IsIrregular layout part → ⊥
+  no_irregular irregular = (irregular.1 (length q) announced_there).1 (says_sized layout interfaces q said says).1
+
+  no_long : IsTooLong layout part → ⊥
+  no_long (size, announced, long) = omega (arith, announces_one layout part (length q) size announced_there announced, long, (says_sized layout interfaces q said says).0)
+
+  no_whole : Announces layout part (length part) → ((t : Said) → Says layout interfaces part t → ⊥) → ⊥
+  no_whole announced never =
+      let sized : length q ≡ length part = announces_one layout part (length q) (length part) announced_there announced in
+      let same : q ≡ part = (cut_one q part rest [] sized (are ∙ sym (append-nil part))).0 in
+      never said (subst (λ (l : List ℕ). Says layout interfaces l said) same says)
+
+  no_text : layout ≡ Unopened → (BeginsAsOne part → ⊥) → ⊥
+  no_text is never = never (begins_of layout part (length q) announced_there is)
+
+-- no piece begins where a fault is
+no_piece : (kind : FaultKind) (mode : Mode) (count : ℕ) (part q rest : List ℕ) (said : Said) → IsWrong kind → Stops kind mode count part → Says mode.layout mode.interfaces q said → q ++ rest ≡ part → ⊥
+no_piece NotARecording mode count part q rest said wrong stops says are = no_text mode.layout mode.interfaces q rest part said says are stops.0 stops.1
+no_piece Truncated mode count part q rest said wrong stops says are = no_cut mode.layout mode.interfaces q rest part said says are stops.0
+no_piece Bad mode count part q rest said wrong (inl stops) says are = no_irregular mode.layout mode.interfaces q rest part said says are stops
+no_piece Bad mode count part q rest said wrong (inr stops) says are = no_whole mode.layout mode.interfaces q rest part said says are stops.0.0 stops.1
+no_piece TooLong mode count part q rest said wrong stops says are = no_long mode.layout mode.interfaces q rest part said says are stops
+no_piece TooMany mode count part q rest said wrong stops says are = wrong
+no_piece Read mode count part q rest said wrong stops says are = wrong
+no_piece Memory mode count part q rest said wrong stops says are = wrong
+
+-- and something is there, or nothing was read yet
+part_some : (kind : FaultKind) (mode : Mode) (count : ℕ) (part : List ℕ) → IsWrong kind → Stops kind mode count part → part ≡ [] → mode.layout ≡ Unopened
+part_some NotARecording mode count part wrong stops none = stops.0
+part_some Truncated mode count part wrong stops none = absurd (stops.1 none)
+part_some Bad mode count part wrong (inl stops) none = absurd (omega (arith, ap length none, stops.0, front_some mode.layout))
+part_some Bad mode count part wrong (inr stops) none = absurd (omega (arith, ap length none, announces_enough mode.layout part (length part) stops.0.0, front_some mode.layout))
+part_some TooLong mode count part wrong (size, announced, long) none = absurd (omega (arith, ap length none, announces_enough mode.layout part size announced, front_some mode.layout))
+part_some TooMany mode count part wrong stops none = absurd wrong
+part_some Read mode count part wrong stops none = absurd wrong
+part_some Memory mode count part wrong stops none = absurd wrong
+
+pub fault_or_recording : (bytes : List ℕ) (fs gs : List FrameParts) (kind : FaultKind) → IsWrong kind → FailsAs bytes fs kind → IsRecording bytes gs → ⊥
+fault_or_recording bytes fs gs kind wrong fails is =
+    let (rest, more, goes, joined, grown) = follows_front start fails.stands.pieces is.stands.pieces fails.mode is.mode fs gs fails.part fails.stands.follows is.stands.follows (ap (λ l. l ++ fails.part) (sym fails.stands.are) ∙ sym fails.are ∙ is.stands.are) in
+    last rest more goes joined
+  where
+    last : (rest : List (List ℕ)) (more : List FrameParts) → Follows fails.mode rest is.mode more → flat_map (λ q. q) rest ≡ fails.part → ⊥
+    last [] more (same, none) joined = is.opened (ap (λ (m : Mode). m.layout) same ∙ part_some kind fails.mode fails.count fails.part wrong fails.stops (sym joined))
+    last (q ∷ qs) more (said, later, says, are, goes) joined = no_piece kind fails.mode fails.count fails.part q (flat_map (λ x. x) qs) said wrong fails.stops says joined

@@ -1,14 +1,14 @@
 -- Options, one after another.
-use Rattle.std.proofs.Common.{◌≡◌, ◌≢◌, ℕ, ◌+◌, ◌-◌, ◌*◌, ◌/◌, ◌%◌, ◌<◌, ◌≤◌, inl, inr, List, [], ◌∷◌, ◌++◌, length, take, drop, refl, sym, ap, ◌∙◌, subst, append_assoc, arith}
+use Rattle.std.proofs.Common.{◌≡◌, ◌≢◌, ℕ, ◌+◌, ◌-◌, ◌*◌, ◌/◌, ◌%◌, ◌≤◌, inl, inr, List, [], ◌∷◌, ◌++◌, length, take, drop, refl, sym, ap, ◌∙◌, subst, append_assoc, arith}
 use Rattle.std.specs.List.{slice_range}
-use Rattle.std.specs.Prelude.{Bool, IfSome, ◌⊎◌, ◌&&◌, ◌==◌, if◌then◌else◌, true, false, Option, Some, None, is_some, option_map}
+use Rattle.std.specs.Prelude.{Bool, IfSome, ◌&&◌, ◌==◌, if◌then◌else◌, true, false, Option, Some, None, is_some, option_map}
 use Rattle.tftp_pcap.specs.Numbers.{two, short_at}
 use Rattle.tftp_pcap.specs.Options.{OptionParts, BeginsWithOption, EndsOptions, SpellsOptions, first_value}
 use Rattle.tftp_pcap.specs.declared.numbers.Order.{Order}
 use Rattle.tftp_pcap.proofs.Cuts.{after, after_is_drop, drop_twice, three_parts, length-slice_range, cut_one, rounded}
 use Rattle.std.proofs.lemmas.Bool.{false≢true}
 use Rattle.std.proofs.lemmas.Bool.Decides.{nat_tests}
-use Rattle.std.proofs.lemmas.List.{take-append-drop, length-take-le}
+use Rattle.std.proofs.lemmas.List.{length-take-le}
 
 pub ends_spelled : (order : Order) (s : List ℕ) (code : ℕ) → 4 ≤ length s → code ≡ short_at order s 0 → code ≡ 0 → EndsOptions order s
 ends_spelled order (a ∷ b ∷ c ∷ d ∷ rest) code enough is none = inr (a, b, c, d, rest, refl, sym is ∙ none)

@@ -1,21 +1,19 @@
 -- A reader of frames goes on from one history to the next.
-use Rattle.std.proofs.Common.{◌≡◌, ◌≢◌, ℕ, ◌+◌, List, [], ◌∷◌, ◌++◌, length, length-append, refl, sym, ap, ◌∙◌, subst, append_assoc, arith}
-use Rattle.std.specs.Prelude.{Option, Some, None, Bool, true, false, Result, Ok, Err}
-use Rattle.std.specs.Io.KnownBytes.{prepend_known, Consumes}
+use Rattle.std.proofs.Common.{◌≡◌, ◌≢◌, ◌≤◌, ◌⊎◌, inl, inr, ℕ, ◌+◌, List, [], ◌∷◌, ◌++◌, length, length-append, refl, sym, ap, ◌∙◌, subst, append_assoc, arith}
+use Rattle.std.specs.Prelude.{Option, Some, None, true, false, Ok, Err}
+use Rattle.std.specs.Io.KnownBytes.{prepend_known, Consumes, IsAtEnd}
 use Rattle.std.proofs.KnownBytes.{Consumes-nil, prepend_known-nil}
 use Rattle.tftp_pcap.specs.Frames.{FrameParts}
-use Rattle.tftp_pcap.specs.Pieces.{Said, Says, Mode, Stands, IsRecording, start, given, said_of}
-use Rattle.tftp_pcap.specs.Pieces.Said.{Opens}
-use Rattle.tftp_pcap.specs.Stops.{Stops, PiecesState, StepEnds}
-use Rattle.tftp_pcap.specs.History.{FailsAs, FailsIn, FailsToBegin, FillTells, ReaderState, StandingTells, StandsFor, Continues}
+use Rattle.tftp_pcap.specs.Pieces.{Says, Mode, Stands, start, given, said_of, next_mode}
+use Rattle.tftp_pcap.specs.Stops.{PiecesState, StepEnds}
+use Rattle.tftp_pcap.specs.History.{FailsToBegin, FillTells, ReaderState, StandsFor, Continues}
 use Rattle.tftp_pcap.specs.declared.found.Found.{Found}
 use Rattle.tftp_pcap.specs.declared.found.Found.TheVariants as found
-use Rattle.tftp_pcap.specs.declared.layout.Layout.TheVariants.{Unopened}
+use Rattle.tftp_pcap.specs.declared.layout.Layout.TheVariants.{Unopened, Classic, Blocks}
 use Rattle.tftp_pcap.specs.declared.fault.FaultKind.{FaultKind}
-use Rattle.tftp_pcap.specs.declared.fault.PcapFault.{PcapFault}
-use Rattle.tftp_pcap.specs.declared.standing.Standing.{Standing}
+use Rattle.tftp_pcap.specs.declared.fault.FaultKind.TheVariants.{NotARecording, TooMany}
 use Rattle.tftp_pcap.specs.declared.standing.Standing.TheVariants.{Open, Over, Failed}
-use Rattle.tftp_pcap.proofs.Steps.{reach_said, reach_fault}
+use Rattle.tftp_pcap.proofs.Steps.{reach_said}
 
 nothing : Stands [] start 0 []
 nothing = record { pieces = []; are = refl; follows = (refl, refl); counted = refl }
@@ -27,10 +25,26 @@ opening (found.Names interface) piece says = absurd says
 opening (found.Gives place) piece says = absurd says
 opening found.Skips piece says = absurd says
 
+opening_opens : (f : Found) (piece : List ℕ) → Says Unopened [] piece (said_of f piece) → (next_mode start (said_of f piece)).layout ≢ Unopened
+opening_opens (found.Opens Unopened) piece says = absurd says
+opening_opens (found.Opens (Classic classic)) piece says = λ e. let x : ⊥ = cc in x
+opening_opens (found.Opens (Blocks order)) piece says = λ e. let x : ⊥ = cc in x
+opening_opens (found.Names interface) piece says = absurd says
+opening_opens (found.Gives place) piece says = absurd says
+opening_opens found.Skips piece says = absurd says
+
 rest_ahead : (before after : Option (List ℕ)) (taken ahead : List ℕ) → Consumes before (prepend_known ahead after) taken → Consumes before after (taken ++ ahead)
 rest_ahead None after taken ahead c = tt
 rest_ahead (Some x) None taken ahead c = absurd c
 rest_ahead (Some x) (Some y) taken ahead c = c ∙ sym (append_assoc taken ahead y)
+
+end_rest : (known : Option (List ℕ)) (ahead : List ℕ) → IsAtEnd (prepend_known ahead known) → IsAtEnd known
+end_rest None ahead e = tt
+end_rest (Some xs) [] e = e
+end_rest (Some xs) (b ∷ bs) e = absurd (let x : ⊥ = cc in x)
+
+not_many : NotARecording ≡ TooMany → ⊥
+not_many e = cc
 
 module _ (state new : PiecesState) (before after : Option (List ℕ)) (piece : List ℕ) (none : state.ahead ≡ []) (mode : state.mode ≡ start) (count : state.count ≡ 0) where
   goes : Stands ([] ++ []) state.mode state.count []
@@ -46,14 +60,26 @@ module _ (state new : PiecesState) (before after : Option (List ℕ)) (piece : L
       let says = subst (λ (m : Mode). Says m.layout m.interfaces piece (said_of f piece)) mode ends.1 in
       (reached.0, reached.1, (subst (Stands reached.0 new.mode new.count) (opening f piece says) reached.2, refl))
 
+  pub begins_opened : (f : Found) → (taken : List ℕ) × Consumes (prepend_known state.ahead before) after taken × StepEnds state new (Ok (Some f)) piece taken → new.mode.layout ≢ Unopened
+  begins_opened f (taken, consumed, ends) =
+      let says = subst (λ (m : Mode). Says m.layout m.interfaces piece (said_of f piece)) mode ends.1 in
+      let next : new.mode ≡ next_mode start (said_of f piece) = ends.2 ∙ ap (λ (m : Mode). next_mode m (said_of f piece)) mode in
+      subst (λ (m : Mode). m.layout ≢ Unopened) (sym next) (opening_opens f piece says)
+
   pub begins_none : {A : Type 0} → (taken : List ℕ) × Consumes (prepend_known state.ahead before) after taken × StepEnds state new (Ok None) piece taken → A
   begins_none (taken, consumed, ends) = absurd (ends.1 (ap (λ (m : Mode). m.layout) mode))
 
   pub begins_err : (kind : FaultKind) (ahead : List ℕ) (end : Option (List ℕ)) → after ≡ prepend_known ahead end → (taken : List ℕ) × Consumes (prepend_known state.ahead before) after taken × StepEnds state new (Err kind) piece taken
-      → FailsToBegin before end (record { kind = kind; frame = 1 })
-  begins_err kind ahead end is (taken, consumed, ends) =
-      let reached = reach_fault [] [] taken piece [] state new before _ after from_start goes consumed kind ends in
-      record { taken = reached.0; ahead = ahead; consumed = rest_ahead before end reached.0 ahead (subst (λ (k : Option (List ℕ)). Consumes before k reached.0) is reached.1); tells = record { fails = reached.2; number = refl } }
+      → (kind ≡ NotARecording → IsAtEnd after ⊎ (12 ≤ length piece)) → FailsToBegin before end (record { kind = kind; frame = 1 })
+  begins_err kind ahead end is (taken, consumed, ends) text =
+      let direct : Consumes before after taken = subst (λ (k : Option (List ℕ)). Consumes k after taken) (ap (λ a. prepend_known a before) none ∙ prepend_known-nil before) consumed in
+      record {
+        taken = taken;
+        ahead = ahead;
+        consumed = rest_ahead before end taken ahead (subst (λ (k : Option (List ℕ)). Consumes before k taken) is direct);
+        tells = record { fails = record { good = []; part = taken; mode = state.mode; count = state.count; are = refl; stands = goes; stops = ends.0 }; number = refl };
+        text = λ h. elim (text h) as (λ _. IsAtEnd end ⊎ (12 ≤ length taken)) [ inl e ↦ inl (end_rest end ahead (subst IsAtEnd is e)) | inr long ↦ inr (subst (λ (l : List ℕ). 12 ≤ length l) (sym (ends.1 (λ t. not_many (sym h ∙ t)))) long) ];
+      }
 
 -- ---- the next frame
 

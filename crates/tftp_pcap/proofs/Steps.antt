@@ -1,6 +1,6 @@
 -- Pieces, one after another.
-use Rattle.std.proofs.Common.{◌≡◌, ◌≢◌, inl, inr, ℕ, ◌+◌, ◌<◌, ◌≤◌, ◌^◌, List, [], ◌∷◌, ◌++◌, length, length-append, refl, sym, ap, ◌∙◌, subst, append_assoc, append-nil, arith}
-use Rattle.std.specs.Prelude.{Option, Some, None, Result, Ok, Err, flat_map}
+use Rattle.std.proofs.Common.{◌≡◌, ◌≢◌, inl, ℕ, ◌+◌, List, [], ◌∷◌, ◌++◌, length-append, refl, sym, ap, ◌∙◌, subst, append_assoc, append-nil, arith}
+use Rattle.std.specs.Prelude.{Option, Some, None, Ok, Err, flat_map}
 use Rattle.std.specs.Io.KnownBytes.{prepend_known, Consumes}
 use Rattle.std.proofs.KnownBytes.{Consumes-trans}
 use Rattle.std.proofs.lemmas.Grind.{flat_map-append}
@@ -43,9 +43,9 @@ stands_more bytes piece mode count frames said stands says =
 -- the same facts of the value that the fields show
 pub step_fails : (kind : FaultKind) (shown old : PiecesState) (before after : Option (List ℕ)) (piece : List ℕ) → shown ≡ old
     → Consumes (prepend_known shown.ahead before) after piece → PieceEnds shown.mode.layout (Err kind) piece
-    → (taken : List ℕ) × Consumes (prepend_known old.ahead before) after taken × Stops kind old.mode old.count taken
+    → (taken : List ℕ) × Consumes (prepend_known old.ahead before) after taken × (Stops kind old.mode old.count taken × (kind ≢ TooMany → taken ≡ piece))
 step_fails kind shown old before after piece is consumed ends =
-    (piece, subst (λ (s : PiecesState). Consumes (prepend_known s.ahead before) after piece) is consumed, stops_of kind old.mode old.count piece (subst (λ (s : PiecesState). PieceEnds s.mode.layout (Err kind) piece) is ends))
+    (piece, subst (λ (s : PiecesState). Consumes (prepend_known s.ahead before) after piece) is consumed, (stops_of kind old.mode old.count piece (subst (λ (s : PiecesState). PieceEnds s.mode.layout (Err kind) piece) is ends), λ h. refl))
 
 -- ---- from what was reached to the answer
 

@@ -1,8 +1,8 @@
 -- Whole blocks, from the bytes at their places.
-use Rattle.std.proofs.Common.{◌≡◌, ◌≢◌, inl, inr, ℕ, ◌+◌, ◌-◌, ◌*◌, ◌%◌, ◌<◌, ◌≤◌, List, [], ◌∷◌, ◌++◌, length, length-append, take, drop, get_or, refl, sym, ap, ◌∙◌, subst, append_assoc, append-nil, lit≤, arith}
+use Rattle.std.proofs.Common.{◌≡◌, ◌≢◌, ℕ, ◌+◌, ◌-◌, ◌%◌, ◌≤◌, List, [], ◌∷◌, ◌++◌, length, length-append, take, drop, get_or, refl, sym, ap, ◌∙◌, subst, append_assoc, append-nil, lit≤, arith}
 use Rattle.std.specs.List.{slice_range}
 use Rattle.std.proofs.lemmas.List.Folds.{drop_split}
-use Rattle.std.proofs.lemmas.List.{take_all, take-append-drop, length-take-le, length-drop, drop-take}
+use Rattle.std.proofs.lemmas.List.{length-take-le, length-drop, drop-take}
 use Rattle.std.proofs.lemmas.Grind.{common_steps}
 use Rattle.tftp_pcap.specs.Numbers.{four, two, number_at, short_at, Spells}
 use Rattle.tftp_pcap.specs.Frames.{FrameParts, frame_at}
@@ -13,7 +13,7 @@ use Rattle.tftp_pcap.specs.declared.layout.Interface.{Interface}
 use Rattle.tftp_pcap.specs.declared.numbers.Order.TheVariants.{Big, Little}
 use Rattle.tftp_pcap.specs.declared.numbers.Order.{Order}
 use Rattle.tftp_pcap.specs.declared.place.Place.{Place}
-use Rattle.tftp_pcap.proofs.Cuts.{after, after_is_drop, drop_twice, three_parts, length-slice_range, cut_one}
+use Rattle.tftp_pcap.proofs.Cuts.{drop_twice, three_parts, length-slice_range, cut_one}
 use Rattle.tftp_pcap.proofs.Fours.{spells_one, spells_length}
 use Rattle.tftp_pcap.proofs.Announced.{order_one}
 

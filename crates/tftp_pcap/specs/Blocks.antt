@@ -1,5 +1,5 @@
 -- Which bytes are a block (draft-ietf-opsawg-pcapng, sections 3 and 4), and what it says.
-use Rattle.std.specs.Prelude.{◌≡◌, ◌≢◌, ◌+◌, ◌*◌, ◌%◌, ◌^◌, ◌<◌, ◌≤◌, ◌⊎◌, ◌==◌, min, ℕ, if◌then◌else◌, List, [], ◌∷◌, ◌++◌, length, Option, Some, None, slice_get, slice_index}
+use Rattle.std.specs.Prelude.{◌≡◌, ◌+◌, ◌*◌, ◌%◌, ◌^◌, ◌≤◌, ◌⊎◌, ◌==◌, min, ℕ, if◌then◌else◌, List, [], ◌∷◌, ◌++◌, length, Option, Some, None, slice_get, slice_index}
 use Rattle.tftp_pcap.specs.Numbers.{two, number_at, Spells}
 use Rattle.tftp_pcap.specs.Times.{units_of, time_of}
 use Rattle.tftp_pcap.specs.Frames.{FrameParts, longest_frame}

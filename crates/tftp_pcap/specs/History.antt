@@ -1,12 +1,12 @@
 -- What a reader of frames holds, and for what bytes and frames it stands.
-use Rattle.std.specs.Prelude.{◌≡◌, ◌≢◌, ◌+◌, ◌<◌, ◌^◌, ℕ, Bool, true, false, List, [], ◌∷◌, ◌++◌, length, Option, Some, None, Result, Ok, Err}
-use Rattle.std.specs.Io.KnownBytes.{Consumes}
+use Rattle.std.specs.Prelude.{◌≡◌, ◌+◌, ◌≤◌, ◌⊎◌, ℕ, Bool, true, false, List, [], ◌∷◌, ◌++◌, length, Option, Some, None, Result, Ok, Err}
+use Rattle.std.specs.Io.KnownBytes.{Consumes, IsAtEnd}
 use Rattle.tftp_pcap.specs.Frames.{FrameParts, frame_at}
 use Rattle.tftp_pcap.specs.Pieces.{Mode, Stands, IsRecording}
 use Rattle.tftp_pcap.specs.Stops.{PiecesState, Stops}
-use Rattle.tftp_pcap.specs.declared.layout.Layout.TheVariants.{Unopened}
 use Rattle.tftp_pcap.specs.declared.place.Place.{Place}
 use Rattle.tftp_pcap.specs.declared.fault.FaultKind.{FaultKind}
+use Rattle.tftp_pcap.specs.declared.fault.FaultKind.TheVariants.{NotARecording, Truncated, Bad, TooLong, TooMany, Read, Memory}
 use Rattle.tftp_pcap.specs.declared.fault.PcapFault.{PcapFault}
 use Rattle.tftp_pcap.specs.declared.standing.Standing.{Standing}
 use Rattle.tftp_pcap.specs.declared.standing.Standing.TheVariants.{Open, Over, Failed}
@@ -20,6 +20,16 @@ pub record FailsAs (bytes : List ℕ) (frames : List FrameParts) (kind : FaultKi
   pub are : bytes ≡ good ++ part
   pub stands : Stands good mode count frames
   pub stops : Stops kind mode count part
+
+-- a fault of the recording, and not of its reader or of memory
+abbrev pub IsWrong : FaultKind → Type 0
+IsWrong NotARecording = Unit {0}
+IsWrong Truncated = Unit {0}
+IsWrong Bad = Unit {0}
+IsWrong TooLong = Unit {0}
+IsWrong TooMany = ⊥
+IsWrong Read = ⊥
+IsWrong Memory = ⊥
 
 -- what reading on to the next frame tells of the bytes that were taken with it and before it, and of the frames before it
 abbrev pub PlaceTells : Result (Option Place) FaultKind → PiecesState → List ℕ → List ℕ → List FrameParts → Type 0
@@ -80,9 +90,11 @@ KeepsAnswer Open result = Unit {0}
 KeepsAnswer Over result = result ≡ Ok false
 KeepsAnswer (Failed fault) result = result ≡ Err fault
 
--- bytes were taken in which a header was looked for, and some more were read ahead
+-- Bytes were taken in which a header was looked for, and some more were read ahead. What is no recording is told by the
+-- end, or by twelve bytes.
 pub record FailsToBegin (before after : Option (List ℕ)) (fault : PcapFault) : Type 0 where
   pub taken : List ℕ
   pub ahead : List ℕ
   pub consumed : Consumes before after (taken ++ ahead)
   pub tells : FailsIn taken [] fault
+  pub text : fault.kind ≡ NotARecording → IsAtEnd after ⊎ (12 ≤ length taken)

@@ -1,15 +1,15 @@
 -- What is answered of the size of a piece.
-use Rattle.std.specs.Prelude.{◌≡◌, ◌%◌, ◌<◌, ◌≤◌, ℕ, List, Result, Ok, Err}
-use Rattle.tftp_pcap.specs.Pieces.{Announces, BeginsAsOne, IsRegular, IsSize, longest_piece}
+use Rattle.std.specs.Prelude.{◌≡◌, ◌%◌, ◌<◌, ◌≤◌, ℕ, List, length, Result, Ok, Err}
+use Rattle.tftp_pcap.specs.Pieces.{Announces, BeginsAsOne, IsRegular, IsSize, longest_piece, front_of}
 use Rattle.tftp_pcap.specs.Blocks.{longest_block}
 use Rattle.tftp_pcap.specs.declared.layout.Layout.{Layout}
 use Rattle.tftp_pcap.specs.declared.layout.Layout.TheVariants.{Unopened}
 use Rattle.tftp_pcap.specs.declared.fault.FaultKind.{FaultKind}
-use Rattle.tftp_pcap.specs.declared.fault.FaultKind.TheVariants.{NotARecording, Bad, TooLong, Truncated, TooMany, Read, Memory}
+use Rattle.tftp_pcap.specs.declared.fault.FaultKind.TheVariants.{NotARecording, Bad, TooLong}
 
 -- a piece that begins so is none: it announces no size, or one that no piece has
 abbrev pub IsIrregular : Layout → List ℕ → Type 0
-IsIrregular layout bytes = (size : ℕ) → Announces layout bytes size → (size ≤ longest_piece layout) × (IsRegular layout size → ⊥)
+IsIrregular layout bytes = (front_of layout ≤ length bytes) × ((size : ℕ) → Announces layout bytes size → (size ≤ longest_piece layout) × (IsRegular layout size → ⊥))
 
 -- a piece that begins so is longer than any that is read
 abbrev pub IsTooLong : Layout → List ℕ → Type 0

@@ -63,4 +63,4 @@ abbrev pub StepEnds : PiecesState → PiecesState → Result (Option Found) Faul
 StepEnds old new (Ok (Some found)) piece taken =
     (taken ≡ piece) × Says old.mode.layout old.mode.interfaces piece (said_of found piece) × (new.mode ≡ next_mode old.mode (said_of found piece)) × (new.count ≡ old.count + 1) × (old.count < 2 ^ 40)
 StepEnds old new (Ok None) piece taken = (taken ≡ []) × (old.mode.layout ≢ Unopened) × (new.mode ≡ old.mode) × (new.count ≡ old.count) × (old.count < 2 ^ 40)
-StepEnds old new (Err kind) piece taken = Stops kind old.mode old.count taken
+StepEnds old new (Err kind) piece taken = Stops kind old.mode old.count taken × (kind ≢ TooMany → taken ≡ piece)

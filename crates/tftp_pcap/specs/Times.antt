@@ -1,5 +1,5 @@
 -- When a frame was recorded: nanoseconds since 1970.
-use Rattle.std.specs.Prelude.{◌≡◌, ◌+◌, ◌-◌, ◌*◌, ◌/◌, ◌^◌, ◌==◌, ℕ, if◌then◌else◌, nat_lt, Option, Some, None}
+use Rattle.std.specs.Prelude.{◌+◌, ◌-◌, ◌*◌, ◌/◌, ◌^◌, ◌==◌, ℕ, if◌then◌else◌, nat_lt, Option, Some, None}
 use Rattle.tftp_pcap.specs.declared.layout.Interface.{Interface}
 
 -- the number, where 64 bits can count it

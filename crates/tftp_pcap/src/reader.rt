@@ -5,6 +5,7 @@ ghost use Rattle.tftp_pcap.specs.History.{Continues, FailsToBegin, KeepsAnswer, 
 
 use crate::fault::{FaultKind, PcapFault};
 use crate::frame::Frame;
+use crate::layout::Layout;
 use crate::standing::Standing;
 use crate::step::Pieces;
 use std::alloc::Global;
@@ -36,6 +37,7 @@ impl FrameReader {
     /// Reads the header of a classic recording, or the first section header.
     pub fn begin<R: Read>(alloc: Global, reader: &mut Tallied<R>) -> Result<Self, PcapFault>
         ensures ok { IfOk result (λ begun. (taken : List ℕ) × Consumes (R.remaining reader.old.0) (prepend_known begun.pieces.ahead (R.remaining reader.new.0)) taken × StandsFor begun taken []) }
+        ensures opened { IfOk result (λ begun. begun.pieces.mode.layout ≢ Layout.Unopened) }
         ensures open { IfOk result (λ begun. begun.standing ≡ Standing.Open) }
         ensures err { IfErr result (λ fault. FailsToBegin (R.remaining reader.old.0) (R.remaining reader.new.0) fault) }
         ensures cut { IfErr result (λ fault. fault.kind ≡ FaultKind.Truncated → IsAtEnd (R.remaining reader.new.0)) }

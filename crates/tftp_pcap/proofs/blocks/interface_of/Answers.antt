@@ -1,4 +1,4 @@
-use Rattle.std.proofs.Common.{sym, ap, ◌∙◌, refl, arith}
+use Rattle.std.proofs.Common.{ap, ◌∙◌}
 use Rattle.tftp_pcap.specs.Blocks.{units_by, offset_by}
 use Rattle.tftp_pcap.proofs.OptionCuts.{first_sized}
 use Rattle.tftp_pcap.proofs.Packets.{interface_spelled}

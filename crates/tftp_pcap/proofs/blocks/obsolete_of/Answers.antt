@@ -1,5 +1,4 @@
-use Rattle.std.proofs.Common.{◌≡◌, arith}
-use Rattle.std.specs.Prelude.{Some, slice_get}
+use Rattle.std.proofs.Common.{arith}
 use Rattle.std.proofs.lemmas.Option.{slice_get-get_or}
 use Rattle.tftp_pcap.proofs.Packets.{answer_of, obsolete_spelled, obsolete_timed}
 use Rattle.tftp_pcap.proofs.blocks.obsolete_of.Goals as goal

@@ -1,6 +1,5 @@
-use Rattle.std.proofs.Common.{◌≡◌, ◌≤◌, ◌++◌, length, take, min, ap, sym, ◌∙◌, append_assoc, arith, vec_len}
+use Rattle.std.proofs.Common.{◌≡◌, ◌++◌, take, ap, ◌∙◌, append_assoc, arith}
 use Rattle.std.proofs.lemmas.Grind.{common_steps}
-use Rattle.std.proofs.lemmas.List.{length-take-le}
 use Rattle.tftp_capture.proofs.Bytes.{taken_step}
 use Rattle.tftp_pcap.proofs.gather.gather.Goals as goal
 

@@ -1,7 +1,7 @@
-use Rattle.std.proofs.Common.{◌≡◌, ◌≤◌, ◌++◌, ◌∷◌, ℕ, List, [], append-nil, ap, sym, ◌∙◌, subst, arith}
+use Rattle.std.proofs.Common.{◌++◌, List, append-nil, ap, ◌∙◌, subst, arith}
 use Rattle.std.proofs.lemmas.Grind.{common_steps}
 use Rattle.tftp_pcap.specs.Frames.{FrameParts}
-use Rattle.tftp_pcap.specs.Pieces.{Stands, given, said_of}
+use Rattle.tftp_pcap.specs.Pieces.{Stands}
 use Rattle.tftp_pcap.proofs.Steps.{reach_said, reach_none, reach_fault}
 use Rattle.tftp_pcap.proofs.next.next_place.Goals as goal
 
@@ -33,4 +33,4 @@ returns-in-Ok-None-clause-tells g c = λ bytes frames stands.
 pub returns-in-Err-clause-tells : goal.returns-in-Err-clause-tells
 returns-in-Err-clause-tells g c = λ bytes frames stands.
     let (taken, consumed, goes) = c.pieces.invariant.reaches bytes frames stands in
-    reach_fault bytes taken c.in-Err.ensures.ends.0 c.step.new.piece.items frames c.pieces.pieces c.step.new.self _ _ _ consumed goes c.in-Err.ensures.ends.1 c.in-Err.kind c.in-Err.ensures.ends.2
+    reach_fault bytes taken c.in-Err.ensures.ends.0 c.step.new.piece.items frames c.pieces.pieces c.step.new.self _ _ _ consumed goes c.in-Err.ensures.ends.1 c.in-Err.kind c.in-Err.ensures.ends.2.0

@@ -1,4 +1,4 @@
-use Rattle.std.proofs.Common.{◌≡◌, [], ◌∷◌, ◌++◌, append-nil, ap, ◌∙◌, subst}
+use Rattle.std.proofs.Common.{[], ◌∷◌, ◌++◌, append-nil, ap, ◌∙◌, subst}
 use Rattle.std.specs.Prelude.{not}
 use Rattle.tftp_pcap.specs.Options.{OptionParts, SpellsOptions}
 use Rattle.tftp_pcap.proofs.OptionCuts.{found_now, found_before, other_code, other_size, no_options, options_after, options_more}

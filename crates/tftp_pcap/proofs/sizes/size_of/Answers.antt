@@ -1,6 +1,5 @@
 use Rattle.std.proofs.Common.{◌≤◌, length, sym, ◌∙◌}
 use Rattle.std.proofs.lemmas.Bool.{false≢true}
-use Rattle.tftp_pcap.specs.Pieces.{front_of}
 use Rattle.tftp_pcap.proofs.Announced.{plain_blocks, record_long}
 use Rattle.tftp_pcap.proofs.sizes.size_of.Goals as goal
 

@@ -1,5 +1,5 @@
-use Rattle.std.proofs.Common.{refl}
-use Rattle.tftp_pcap.proofs.Standings.{begins_ok, begins_none, begins_err}
+use Rattle.std.proofs.Common.{Err, ap, refl}
+use Rattle.tftp_pcap.proofs.Standings.{begins_ok, begins_opened, begins_none, begins_err}
 use Rattle.tftp_pcap.proofs.reader.FrameReader.begin.Goals as goal
 
 pub returns-in-Ok-Some-clause-ok : goal.returns-in-Ok-Some-clause-ok
@@ -14,4 +14,9 @@ returns-in-Ok-None-clause-err g c =
 
 pub returns-in-Err-clause-err : goal.returns-in-Err-clause-err
 returns-in-Err-clause-err g c =
-    begins_err c.new-pieces.result c.step.new.self (g.R.Read.remaining c.args.reader.now.0) _ c.step.new.piece.items c.new-pieces.ensures.ahead c.new-pieces.ensures.mode c.new-pieces.ensures.count c.in-Err.kind c.step.new.self.ahead (g.R.Read.remaining c.step.new.reader.0) refl c.in-Err.ensures.ends
+    begins_err c.new-pieces.result c.step.new.self (g.R.Read.remaining c.args.reader.now.0) _ c.step.new.piece.items c.new-pieces.ensures.ahead c.new-pieces.ensures.mode c.new-pieces.ensures.count c.in-Err.kind c.step.new.self.ahead (g.R.Read.remaining c.step.new.reader.0) refl c.in-Err.ensures.ends (λ h. c.in-Err.ensures.short (ap Err h))
+
+pub returns-in-Ok-Some-clause-opened : goal.returns-in-Ok-Some-clause-opened
+returns-in-Ok-Some-clause-opened g c =
+    let ends = rw c.in-Ok-Some.field-0-is at c.in-Ok-Some.ensures.ends in
+    begins_opened c.new-pieces.result c.step.new.self (g.R.Read.remaining c.args.reader.now.0) _ c.step.new.piece.items c.new-pieces.ensures.ahead c.new-pieces.ensures.mode c.new-pieces.ensures.count c.in-Ok-Some.field-0-0 ends

@@ -1,5 +1,4 @@
-use Rattle.std.proofs.Common.{◌≡◌, ap, sym, ◌∙◌}
-use Rattle.tftp_pcap.specs.History.{ReaderState}
+use Rattle.std.proofs.Common.{◌≡◌}
 use Rattle.tftp_pcap.proofs.Standings.{continues_frame, continues_end, continues_fault}
 use Rattle.tftp_pcap.specs.declared.standing.Standing.TheVariants.{Open}
 use Rattle.tftp_pcap.proofs.reader.FrameReader.next_into.Goals as goal
