@@ -34,21 +34,21 @@ abbrev pub acked_0_in : Option Talk → Bool
 acked_0_in None = false
 acked_0_in (Some talk) = talk.acked_0
 
--- (a) its server's endpoint was another transfer's before
+-- its server's endpoint was another transfer's before
 abbrev pub goes_over : ℕ → Placed → List Placed → Bool
 goes_over n p older = by p.place where
   by : Place → Bool
   by (Talks x) = (x.number == n) && is_another n (talked_in (talk_in x.client (other_of x.client p.datagram) (line_before x.client p older)))
   by _ = false
 
--- (b) its client had asked for another by then
+-- its client had asked for another by then
 abbrev pub is_late : ℕ → Placed → List Placed → Bool
 is_late n p older = by p.place where
   by : Place → Bool
   by (Talks x) = (x.number == n) && is_another n (latest_in (line_before x.client p older))
   by _ = false
 
--- (d) it is older than one of the transfer before it
+-- it is older than one of the transfer before it
 abbrev pub is_disordered : ℕ → Placed → List Placed → Bool
 is_disordered n p older = is_of n p && list_any (λ q. is_of n q && nat_lt p.datagram.time q.datagram.time) older
 
@@ -63,7 +63,7 @@ abbrev pub repeats_in : Recorded → Option Placed → Bool
 repeats_in d None = false
 repeats_in d (Some q) = is_again q.datagram d
 
--- (g) it was opened by the same request as the transfer before, whose client had sent nothing since but requests and
+-- it was opened by the same request as the transfer before, whose client had sent nothing since but requests and
 -- ERRORs: it may be that transfer still
 abbrev pub is_asked_again : ℕ → Placed → List Placed → Bool
 is_asked_again n p older = by p.place where
@@ -74,7 +74,7 @@ is_asked_again n p older = by p.place where
       && not (list_any says_more (reach (line_before x.client p older)))
   by _ = false
 
--- (h) DATA 1 of another transfer's endpoint, to a client whose last word there was ACK 0, may be its first answer
+-- DATA 1 of another transfer's endpoint, to a client whose last word there was ACK 0, may be its first answer
 abbrev pub may_be_answered : ℕ → Placed → List Placed → Bool
 may_be_answered n p older = by p.place where
   of : Transfer → Endpoint → List Placed → Option Transfer → Bool
@@ -87,7 +87,7 @@ may_be_answered n p older = by p.place where
   by (Talks x) = of x (other_of x.client p.datagram) (line_before x.client p older) (latest_in (line_before x.client p older))
   by _ = false
 
--- (i) it passed between a server and another than its client, whose request may not have been recorded
+-- it passed between a server and another than its client, whose request may not have been recorded
 abbrev pub is_beside : Placed → Bool
 is_beside p = by p.place where
   by : Place → Bool

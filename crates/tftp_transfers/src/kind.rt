@@ -1,10 +1,13 @@
 //! What is looked at of a datagram.
 
-ghost use Rattle.std.specs.Prelude.{◌≡◌, ◌==◌, ◌||◌};
+ghost use Rattle.std.specs.Prelude.{◌≡◌, ◌==◌, ◌||◌, true};
+ghost use Rattle.tftp_packet.specs.Message.{Message, RequestParts};
+ghost use Rattle.tftp_packet.specs.Spelling.{Spells};
+ghost use Rattle.tftp_packet.specs.Meaning.{meaning};
 ghost use Rattle.tftp_transfers.specs.Kept.{kind_of};
 
 use crate::endpoint::Endpoint;
-use tftp_packet::opcode;
+use tftp_packet::{Packet, opcode, read_packet};
 
 /// What is looked at of a payload (RFC 1350, section 5; RFC 2347).
 #[derive(Clone, Copy)]
@@ -54,5 +57,29 @@ impl Kind {
             is_data_1,
             is_answer: is_answer_code(opcode(payload)) || is_ack_0 || is_data_1,
         }
+    }
+}
+
+/// Whether the payload spells a request from its first byte to its last (RFC 1350, section 5; RFC 2347).
+pub fn spells_request(payload: &[u8]) -> bool
+    ensures yes { result ≡ true → (r : RequestParts) × Spells payload.now (Message.Request r) }
+    ensures no { (r : RequestParts) → Spells payload.now (Message.Request r) → result ≡ true }
+{
+    match read_packet(payload) {
+        Ok(packet) => is_request(&packet),
+        Err(_) => false,
+    }
+}
+
+fn is_request(packet: &Packet<'_>) -> bool
+    ensures yes { result ≡ true → (r : RequestParts) × (meaning packet.now ≡ Message.Request r) }
+    ensures no { (r : RequestParts) → meaning packet.now ≡ Message.Request r → result ≡ true }
+{
+    match packet {
+        Packet::Request(_) => true,
+        Packet::Data { .. } => false,
+        Packet::Ack { .. } => false,
+        Packet::Error { .. } => false,
+        Packet::Oack(_) => false,
     }
 }

@@ -11,4 +11,5 @@ mod place;
 
 pub use attribution::{Attribution, AttributionFault};
 pub use endpoint::{Address, Endpoint};
+pub use kind::spells_request;
 pub use place::{Place, Transfer};
