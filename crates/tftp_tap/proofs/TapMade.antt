@@ -13,8 +13,7 @@ use Rattle.tftp_packet.specs.declared.kinds.End.TheVariants.{Client, Server}
 use Rattle.tftp_ends.specs.CaptureText.{Datagram, Header}
 use Rattle.tftp_ends.specs.Machines.{MachinePacket, Req, Oack, Data, Ack, Error, receiver_of}
 use Rattle.tftp_ends.specs.OneSide.{is_error}
-use Rattle.tftp_ends.specs.Ports.{same_peer, route_of, asks}
-use Rattle.tftp_ends.specs.declared.route.Route.{Route}
+use Rattle.tftp_ends.specs.Ports.{Route, same_peer, route_of, asks}
 use Rattle.tftp_ends.proofs.Members.{contains_first, contains_later}
 use Rattle.tftp_law.specs.Dress.{packet_of}
 use Rattle.tftp_law.specs.Accord.{packet_route}
