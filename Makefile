@@ -29,11 +29,13 @@ bench: build
 	@cd crates/tftp_bench && rt run -- copy </dev/null >/dev/null
 	sh bench/run.sh $(PROGRAM) $(BENCH)
 
-# Simulated ends and networks, and changes of what passed, tried on the built program: make fuzz N=1000000 SEED=1.
+# Simulated ends and networks, and changes of what passed, tried on the built program; and recordings of lawful ends, divided
+# into transfers, of which none may be blamed: make fuzz N=1000000 SEED=1, and one recording for each hundred cases.
 N = 10000
 JOBS = 2
 fuzz: build
 	python3 tests/fuzz.py --cases $(N) --jobs $(JOBS) $(if $(SEED),--seed $(SEED)) $(PROGRAM)
+	python3 tests/attribution.py --cases $$(($(N) / 100 + 1)) $(if $(SEED),--seed $(SEED)) $(PROGRAM)
 
 # The program alone in bin; the scripts beside their modules in lib, with links in bin; the manual pages.
 install: build

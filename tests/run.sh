@@ -2,8 +2,8 @@
 # Tries the built program, tests/run.sh PROGRAM: the script tftp-audit with a stand-in for rt; that each wrong body can
 # still be made; each growth refused, each read and each write failing, in turn, and each growth in the tests of the
 # libraries' calls; larger captures; simulated transfers and changes of them, for some seconds; the recorded transfers of
-# examples/, from their fields on; the datagrams that are read of recordings; the scripts that lead from a recording to its
-# verdicts and reasons; and what stands in the pages for readers.
+# examples/, from their fields on; the datagrams that are read of recordings, and which transfer they are of; the
+# scripts that lead from a recording to its verdicts and reasons; and what stands in the pages for readers.
 set -eu
 here=$(dirname "$0")
 shim=$(mktemp -d)
@@ -28,6 +28,8 @@ echo "recordings:"
 python3 "$here/recordings.py" "$1"
 echo "datagrams of recordings:"
 python3 "$here/datagrams.py" "$here/../crates/tftp_datagrams/out/tftp_datagrams"
+echo "transfers of drawn recordings:"
+python3 "$here/attribution.py" --cases 8 "$1"
 echo "tftp-transfers:"
 python3 "$here/transfers.py" "$1"
 echo "tftp-explain:"
