@@ -1,5 +1,5 @@
-"""What the pages for readers say of the scripts, the rules and the proof, beside the scripts, the rules and the sources;
-and the picture in examples/.
+"""What the pages for readers say of the scripts, the rules and the proof, beside the scripts and the sources; and the
+picture in examples/.
 
     pages.py PROGRAM
 
@@ -29,8 +29,10 @@ QUOTED = re.compile(r"`([^`]+)`")
 # "law `name`", "laws `one` (`its_clause`), `two` and `three`"
 LAWS = re.compile(r"\blaws? ((?:`\w+`(?: \((?:`\w+`(?:, )?)+\))?(?:, and |, | and )?)+)")
 WITH_CLAUSES = re.compile(r"`(\w+)` \(((?:`\w+`(?:, )?)+)\)")
-# "(`crate`: Module, Module; `crate`: Module ..."
+# "(`crate`: Module, Module; `crate`: Module)"
 MODULES = re.compile(r"`(tftp_\w+)`: ((?:[A-Z]\w*(?:, )?)+)")
+# one_name, OtherName
+IN_PICTURE = re.compile(r"\b[a-z]+(?:_[a-z]+)+\b|\b[A-Z][a-z]+(?:[A-Z][a-z]+)+\b")
 
 
 def try_verdicts(trial: Trial) -> None:
@@ -75,8 +77,8 @@ def try_names(trial: Trial) -> None:
 
 
 class Sources:
-    """What the crates have by name: public functions with the clauses of their contracts, definitions, Rust's types. A law
-    is a public function that takes nothing and answers nothing."""
+    """What the crates have by name: public functions with the clauses of their contracts, definitions, Rust's types.
+    A law is a public function that takes nothing and answers nothing."""
 
     def __init__(self) -> None:
         self.crates = {folder.name for folder in (TOP / "crates").iterdir()}
@@ -125,24 +127,27 @@ def try_laws(trial: Trial, sources: Sources) -> None:
 def try_proof(trial: Trial, sources: Sources) -> None:
     """docs/PROOF.md names nothing that no crate has, and says of each file of some crates which step it has."""
     page = (TOP / "docs" / "PROOF.md").read_text()
-    _, picture, page = re.split(r"(?m)^```\n", page)
-    argument, table = page.split("\n## Which file has which step\n")
+    before, picture, after = re.split(r"(?m)^```\n", page)
+    argument, table = after.split("\n## Which file has which step\n")
     table, beside = table.split("\n## ", 1)
-    for name in sorted(set(QUOTED.findall(argument + beside))):
+    text = before + argument + beside
+    for name in sorted(set(QUOTED.findall(text))):
         if re.fullmatch(r"\w+", name):
             trial.check(f"{name}, which PROOF.md names", sources.knows(name))
-    for name, told in WITH_CLAUSES.findall(argument + beside):
+    for name, told in WITH_CLAUSES.findall(text):
         for clause in QUOTED.findall(told):
             trial.check(f"the clause {clause} of {name} in PROOF.md", clause in sources.functions.get(name, set()))
     modules = set().union(*(sources.modules(crate, "specs") for crate in sources.crates))
-    for name in sorted(set(re.findall(r"\b[a-z]+(?:_[a-z]+)+\b|\b[A-Z][a-z]+(?:[A-Z][a-z]+)+\b", picture))):
+    for name in sorted(set(IN_PICTURE.findall(picture))):
         trial.check(f"{name} in the picture of PROOF.md", sources.knows(name) or name in modules)
-    rows = [[QUOTED.findall(cell) for cell in line.split("|")[1:-1]] for line in table.splitlines() if "`tftp_" in line and line[0] == "|"]
+    lines = [line for line in table.splitlines() if line.startswith("|")]
+    rows = [[QUOTED.findall(cell) for cell in line.split("|")[1:-1]] for line in lines]
     for crate in MAPPED:
         for column, part in ((2, "specs"), (3, "proofs")):
             named = sorted(name for row in rows if row[1] == [crate] for name in row[column])
             there = sorted(sources.modules(crate, part))
-            trial.check(f"{crate}/{part} in PROOF.md, each file once", named == there, sorted(set(named) ^ set(there)) or named)
+            differ = sorted(set(named) ^ set(there)) or named
+            trial.check(f"{crate}/{part} in PROOF.md, each file once", named == there, differ)
 
 
 def try_picture(trial: Trial, program: str) -> None:
