@@ -1,5 +1,5 @@
-"""What the pages for readers say of the scripts and the rules, beside the scripts and the rules; and the picture in
-examples/.
+"""What the pages for readers say of the scripts, the rules and the proof, beside the scripts and the sources; and the
+picture in examples/.
 
     pages.py PROGRAM
 
@@ -23,6 +23,16 @@ from tftp_tools.textfaults import MEANINGS  # noqa: E402
 
 SCRIPTS = ("tftp-transfers", "tftp-explain", "tftp-ladder")
 NAMED = re.compile(r"`((?:docs|tools|tests|examples)/[A-Za-z0-9_./-]+)`")
+# The crates of which docs/PROOF.md names each file.
+MAPPED = ("tftp_ends", "tftp_law", "tftp_judge", "tftp_normal", "tftp_commands")
+QUOTED = re.compile(r"`([^`]+)`")
+# "law `name`", "laws `one` (`its_clause`), `two` and `three`"
+LAWS = re.compile(r"\blaws? ((?:`\w+`(?: \((?:`\w+`(?:, )?)+\))?(?:, and |, | and )?)+)")
+WITH_CLAUSES = re.compile(r"`(\w+)` \(((?:`\w+`(?:, )?)+)\)")
+# "(`crate`: Module, Module; `crate`: Module)"
+MODULES = re.compile(r"`(tftp_\w+)`: ((?:[A-Z]\w*(?:, )?)+)")
+# one_name, OtherName
+IN_PICTURE = re.compile(r"\b[a-z]+(?:_[a-z]+)+\b|\b[A-Z][a-z]+(?:[A-Z][a-z]+)+\b")
 
 
 def try_verdicts(trial: Trial) -> None:
@@ -66,6 +76,80 @@ def try_names(trial: Trial) -> None:
             trial.check(f"{name}, which {page.name} names", (TOP / name).exists())
 
 
+class Sources:
+    """What the crates have by name: public functions with the clauses of their contracts, definitions, Rust's types.
+    A law is a public function that takes nothing and answers nothing."""
+
+    def __init__(self) -> None:
+        self.crates = {folder.name for folder in (TOP / "crates").iterdir()}
+        self.laws: set[str] = set()
+        self.functions: dict[str, set[str]] = {}
+        self.definitions: set[str] = set()
+        self.types: set[str] = set()
+        for source in sorted((TOP / "crates").glob("*/src/**/*.rt")):
+            text = source.read_text()
+            self.types |= set(re.findall(r"pub (?:struct|enum|trait) (\w+)", text))
+            self.laws |= set(re.findall(r"(?m)^pub fn (\w+)\(\)\n *ensures ", text))
+            for function in re.split(r"(?m)^(?=\s*(?:pub )?fn )", text)[1:]:
+                name = re.match(r"\s*(?:pub )?fn (\w+)", function)
+                clauses = re.findall(r"(?m)^\s*ensures (\w+) \{", function)
+                if name and function.lstrip().startswith("pub "):
+                    self.functions.setdefault(name[1], set()).update(clauses)
+        for spec in sorted((TOP / "crates").glob("*/specs/**/*.antt")):
+            told = re.findall(r"(?m)^(?:abbrev pub|pub record|pub data|pub) (\w+)", spec.read_text())
+            self.definitions |= set(told) - {"use", "mod", "record", "data"}
+
+    @staticmethod
+    def modules(crate: str, part: str) -> set[str]:
+        """The modules in a folder of a crate, but the one that lists them."""
+        return {file.stem for file in (TOP / "crates" / crate / part).glob("*.antt")} - {"Lib"}
+
+    def knows(self, name: str) -> bool:
+        """Whether some crate has this name."""
+        clauses = set().union(*self.functions.values())
+        return name in self.crates | self.functions.keys() | self.definitions | self.types | clauses
+
+
+def try_laws(trial: Trial, sources: Sources) -> None:
+    """Each law that a page names is one, and each module that it names in brackets is a file."""
+    pages = (*sorted((TOP / "docs").glob("*.md")), TOP / "README.md", TOP / "CONTRIBUTING.md")
+    for page in pages:
+        text = page.read_text()
+        for told in LAWS.findall(text):
+            for law in QUOTED.findall(re.sub(r" \([^)]*\)", "", told)):
+                trial.check(f"the law {law}, which {page.name} names", law in sources.laws)
+        for crate, modules in MODULES.findall(text):
+            for module in re.findall(r"\w+", modules):
+                there = sources.modules(crate, "specs") | sources.modules(crate, "proofs")
+                trial.check(f"{module} of {crate}, which {page.name} names", module in there)
+
+
+def try_proof(trial: Trial, sources: Sources) -> None:
+    """docs/PROOF.md names nothing that no crate has, and says of each file of some crates which step it has."""
+    page = (TOP / "docs" / "PROOF.md").read_text()
+    before, picture, after = re.split(r"(?m)^```\n", page)
+    argument, table = after.split("\n## Which file has which step\n")
+    table, beside = table.split("\n## ", 1)
+    text = before + argument + beside
+    for name in sorted(set(QUOTED.findall(text))):
+        if re.fullmatch(r"\w+", name):
+            trial.check(f"{name}, which PROOF.md names", sources.knows(name))
+    for name, told in WITH_CLAUSES.findall(text):
+        for clause in QUOTED.findall(told):
+            trial.check(f"the clause {clause} of {name} in PROOF.md", clause in sources.functions.get(name, set()))
+    modules = set().union(*(sources.modules(crate, "specs") for crate in sources.crates))
+    for name in sorted(set(IN_PICTURE.findall(picture))):
+        trial.check(f"{name} in the picture of PROOF.md", sources.knows(name) or name in modules)
+    lines = [line for line in table.splitlines() if line.startswith("|")]
+    rows = [[QUOTED.findall(cell) for cell in line.split("|")[1:-1]] for line in lines]
+    for crate in MAPPED:
+        for column, part in ((2, "specs"), (3, "proofs")):
+            named = sorted(name for row in rows if row[1] == [crate] for name in row[column])
+            there = sorted(sources.modules(crate, part))
+            differ = sorted(set(named) ^ set(there)) or named
+            trial.check(f"{crate}/{part} in PROOF.md, each file once", named == there, differ)
+
+
 def try_picture(trial: Trial, program: str) -> None:
     """The picture of examples/ is that of the recording beside it."""
     if not shutil.which("tshark"):
@@ -82,6 +166,9 @@ def main(program: str) -> int:
     trial = Trial()
     for part in (try_verdicts, try_manual, try_names):
         part(trial)
+    sources = Sources()
+    for part in (try_laws, try_proof):
+        part(trial, sources)
     try_picture(trial, program)
     return trial.end()
 
