@@ -1,6 +1,7 @@
 -- The header of a text, line by line.
 use Rattle.std.proofs.Common.{◌≡◌, ◌≢◌, ℕ, ◌+◌, ◌-◌, ◌^◌, ◌≤◌, lit≤, inl, inr, List, [], ◌∷◌, ◌++◌, length, Option, None, Some, Ok, Err, refl, sym, ap, ◌∙◌, subst, arith, append_assoc, length-append}
 use Rattle.std.specs.Io.KnownBytes.{Consumes, IsAtEnd, prepend_known}
+use Rattle.std.proofs.lemmas.List.Elements.{All-nil}
 use Rattle.std.proofs.KnownBytes.{Consumes-trans}
 use Rattle.tftp_packet.specs.declared.kinds.End.{End}
 use Rattle.tftp_capture.specs.declared.fault.TextFault.TheVariants.{BadHeader, BadEnd, BadService, Truncated}
@@ -218,3 +219,12 @@ pub at_read : (stop : Stop) (n : ℕ) → IsReadFault (fault_at stop n) → stop
 at_read (Text fault) n h = absurd h
 at_read Read n h = refl
 at_read Memory n h = absurd h
+
+consumes_nothing : (r : Option (List ℕ)) → Consumes (prepend_known [] r) (prepend_known [] r) []
+consumes_nothing None = tt
+consumes_nothing (Some x) = refl
+
+-- memory was refused before anything was read
+pub refused_at_once : (r : Option (List ℕ)) → FailsToBegin r r (faults.Memory 1)
+refused_at_once r = fails_to_begin r r [] (faults.Memory 1) (lit≤ tt) (λ h. absurd h) (λ h. absurd h)
+    (head_stop (prepend_known [] r) (prepend_known [] r) [] [] [] Memory (consumes_nothing r) (record { no_end = All-nil (λ b. b ≢ 10); narrow = lit≤ tt; short = lit≤ tt }) (inl refl))

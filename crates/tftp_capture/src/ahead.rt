@@ -2,38 +2,44 @@ ghost use Rattle.std.specs.Prelude.{◌≡◌, ◌≤◌, [], length, drop, true
 ghost use Rattle.std.specs.Io.KnownBytes.{prepend_known, Keeps, IsAtEnd};
 
 use crate::tallied::Tallied;
+use std::alloc::{AllocError, Global};
 use std::io;
 use std::io::Read;
 use std::marker::Model;
 
-/// Bytes that were read ahead of their use, at most 16,384.
+/// How many bytes are read at once.
+const ROOM: usize = 16384;
+
+/// Bytes that were read ahead of their use, at most 16,384. They stand in memory that is asked for once, and not on the
+/// stack, where each move would copy them.
 #[derive(Drop)]
 pub struct Ahead {
-    buf: [u8; 16384],
+    buf: Vec<u8>,
     start: usize,
     end: usize,
 }
 
 impl Model for Ahead {
-    ghost use Rattle.std.specs.Prelude.{ℕ, List, take, drop, ◌≤◌};
+    ghost use Rattle.std.specs.Prelude.{ℕ, List, take, drop, vec_len, ◌≡◌, ◌≤◌};
 
     ghost Value = { List ℕ };
 
-    ghost view = { λ a. drop a.start (take a.end a.buf) };
+    ghost view = { λ a. drop a.start (take a.end a.buf.items) };
 
-    ghost invariant = { λ a. (a.start ≤ a.end) × (a.end ≤ 16384) };
+    ghost invariant = { λ a. (a.start ≤ a.end) × (a.end ≤ 16384) × (vec_len a.buf ≡ 16384) };
 }
 
 impl Ahead {
-    /// Holds nothing yet.
-    pub fn new() -> Self
-        ensures { result ≡ [] }
+    /// Holds nothing yet; it takes the memory for what it will hold.
+    pub fn new(alloc: Global) -> Result<Self, AllocError>
+        ensures { IfOk result (λ ahead. ahead ≡ []) }
     {
-        Ahead {
-            buf: [0; 16384],
+        let buf = vec![in alloc; 0; ROOM]?;
+        Ok(Ahead {
+            buf,
             start: 0,
             end: 0,
-        }
+        })
     }
 
     /// The bytes that are held.

@@ -1,4 +1,4 @@
-ghost use Rattle.std.specs.Prelude.{◌≡◌, ◌≢◌, ◌+◌, ◌-◌, ◌^◌, ◌≤◌, ℕ, List, [], length, true, OnOk, OnErr};
+ghost use Rattle.std.specs.Prelude.{◌≡◌, ◌≢◌, ◌+◌, ◌-◌, ◌^◌, ◌≤◌, ℕ, List, [], length, true, IfOk, OnOk, OnErr};
 ghost use Rattle.std.specs.Io.KnownBytes.{prepend_known, Consumes, IsAtEnd};
 ghost use Rattle.tftp_capture.specs.Lines.{LeavesEnd, LineEnds, ReachesLine, TextEnds};
 ghost use Rattle.tftp_capture.specs.CaptureText.{longest_line, says_nothing};
@@ -9,7 +9,7 @@ use crate::line::read_line;
 use crate::stop::Stop;
 use crate::tallied::Tallied;
 use crate::version::Version;
-use std::alloc::Global;
+use std::alloc::{AllocError, Global};
 use std::io::Read;
 use std::marker::Model;
 
@@ -54,17 +54,18 @@ fn is_skipped(line: &[u8]) -> bool
 
 impl Lines {
     /// Nothing is read yet, and the first line may be as long as a line of version 1.
-    pub fn new(alloc: Global) -> Self
-        ensures { result ≡ record { ahead = []; line = []; taken = 0; count = 0; version = Version.One } }
+    pub fn new(alloc: Global) -> Result<Self, AllocError>
+        ensures { IfOk result (λ lines. lines ≡ record { ahead = []; line = []; taken = 0; count = 0; version = Version.One }) }
     {
-        Lines {
-            ahead: Ahead::new(),
+        let ahead = Ahead::new(alloc)?;
+        Ok(Lines {
+            ahead,
             lies: 0,
             line: Vec::new(alloc),
             taken: 0,
             count: 0,
             version: Version::One,
-        }
+        })
     }
 
     /// The lines that follow are of this version.

@@ -1,17 +1,17 @@
 -- A reader of frames goes on from one history to the next.
-use Rattle.std.proofs.Common.{◌≡◌, ◌≢◌, ◌≤◌, ◌⊎◌, inl, inr, ℕ, ◌+◌, List, [], ◌∷◌, ◌++◌, length, length-append, refl, sym, ap, ◌∙◌, subst, append_assoc, arith}
+use Rattle.std.proofs.Common.{◌≡◌, ◌≢◌, ◌<◌, ◌≤◌, ◌⊎◌, inl, inr, ℕ, ◌+◌, List, [], ◌∷◌, ◌++◌, length, length-append, refl, sym, ap, ◌∙◌, subst, append_assoc, arith}
 use Rattle.std.specs.Prelude.{Option, Some, None, true, false, Ok, Err}
 use Rattle.std.specs.Io.KnownBytes.{prepend_known, Consumes, IsAtEnd}
 use Rattle.std.proofs.KnownBytes.{Consumes-nil, prepend_known-nil}
 use Rattle.tftp_pcap.specs.Frames.{FrameParts}
-use Rattle.tftp_pcap.specs.Pieces.{Says, Mode, Stands, start, given, said_of, next_mode}
+use Rattle.tftp_pcap.specs.Pieces.{Announces, Says, Mode, Stands, start, given, said_of, next_mode}
 use Rattle.tftp_pcap.specs.Stops.{PiecesState, StepEnds}
 use Rattle.tftp_pcap.specs.History.{FailsToBegin, FillTells, ReaderState, StandsFor, Continues}
 use Rattle.tftp_pcap.specs.declared.found.Found.{Found}
 use Rattle.tftp_pcap.specs.declared.found.Found.TheVariants as found
 use Rattle.tftp_pcap.specs.declared.layout.Layout.TheVariants.{Unopened, Classic, Blocks}
 use Rattle.tftp_pcap.specs.declared.fault.FaultKind.{FaultKind}
-use Rattle.tftp_pcap.specs.declared.fault.FaultKind.TheVariants.{NotARecording, TooMany}
+use Rattle.tftp_pcap.specs.declared.fault.FaultKind.TheVariants.{Memory, NotARecording, TooMany}
 use Rattle.tftp_pcap.specs.declared.standing.Standing.TheVariants.{Open, Over, Failed}
 use Rattle.tftp_pcap.proofs.Steps.{reach_said}
 
@@ -80,6 +80,26 @@ module _ (state new : PiecesState) (before after : Option (List ℕ)) (piece : L
         tells = record { fails = record { good = []; part = taken; mode = state.mode; count = state.count; are = refl; stands = goes; stops = ends.0 }; number = refl };
         text = λ h. elim (text h) as (λ _. IsAtEnd end ⊎ (12 ≤ length taken)) [ inl e ↦ inl (end_rest end ahead (subst IsAtEnd is e)) | inr long ↦ inr (subst (λ (l : List ℕ). 12 ≤ length l) (sym (ends.1 (λ t. not_many (sym h ∙ t)))) long) ];
       }
+
+consumes_nothing : (r : Option (List ℕ)) → Consumes r r ([] ++ [])
+consumes_nothing None = tt
+consumes_nothing (Some x) = refl
+
+no_size : (size : ℕ) → Announces Unopened [] size → length {A = ℕ} [] < size
+no_size size announced = let long = announced.0 in absurd (omega arith)
+
+no_recording : Memory ≡ NotARecording → ⊥
+no_recording e = cc
+
+-- memory was refused before anything was read
+pub refused_at_once : (r : Option (List ℕ)) → FailsToBegin r r (record { kind = Memory; frame = 1 })
+refused_at_once r = record {
+  taken = [];
+  ahead = [];
+  consumed = consumes_nothing r;
+  tells = record { fails = record { good = []; part = []; mode = start; count = 0; are = refl; stands = nothing; stops = inl no_size }; number = refl };
+  text = λ h. absurd (no_recording h);
+}
 
 -- ---- the next frame
 

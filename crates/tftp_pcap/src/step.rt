@@ -10,7 +10,7 @@ use crate::found::Found;
 use crate::layout::{Interface, Layout};
 use crate::pieces::said_by;
 use crate::read::read_piece;
-use std::alloc::Global;
+use std::alloc::{AllocError, Global};
 use std::io::Read;
 use std::marker::Model;
 use tftp_capture::{Ahead, Tallied};
@@ -40,17 +40,18 @@ impl Model for Pieces {
 
 impl Pieces {
     /// Nothing was read yet.
-    pub fn new(alloc: Global) -> Self
-        ensures ahead { result.ahead ≡ [] }
-        ensures mode { result.mode ≡ start }
-        ensures count { result.count ≡ 0 }
+    pub fn new(alloc: Global) -> Result<Self, AllocError>
+        ensures ahead { IfOk result (λ pieces. pieces.ahead ≡ []) }
+        ensures mode { IfOk result (λ pieces. pieces.mode ≡ start) }
+        ensures count { IfOk result (λ pieces. pieces.count ≡ 0) }
     {
-        Pieces {
-            ahead: Ahead::new(),
+        let ahead = Ahead::new(alloc)?;
+        Ok(Pieces {
+            ahead,
             layout: Layout::Unopened,
             interfaces: Vec::new(alloc),
             count: 0,
-        }
+        })
     }
 
     /// Takes what a piece says; false where there is no memory for a further interface.
