@@ -7,19 +7,15 @@ Prints each case that is not as it should be, then a last line 'N passed, M fail
 """
 from __future__ import annotations
 
-import pathlib
 import re
 import shutil
 import subprocess
 import sys
 
+from repository import TOP
+from tftp_tools.rules import LISTED, PACKET_FAULTS
+from tftp_tools.textfaults import MEANINGS
 from trial import Trial
-
-TOP = pathlib.Path(__file__).resolve().parent.parent
-sys.path.insert(0, str(TOP / "tools"))
-
-from tftp_tools.rules import LISTED, PACKET_FAULTS  # noqa: E402
-from tftp_tools.textfaults import MEANINGS  # noqa: E402
 
 SCRIPTS = ("tftp-transfers", "tftp-explain", "tftp-ladder")
 NAMED = re.compile(r"`((?:docs|tools|tests|examples)/[A-Za-z0-9_./-]+)`")
