@@ -35,8 +35,8 @@ def made(folder: str, size: int, kind: str, *words: str) -> str:
 
 def by_byte(path: str, program: str, command: str) -> float:
     """The time that a command takes for a byte of a text, in nanoseconds."""
-    ((seconds, _, _),) = best_of(RUNS, path, [program, command])
-    return seconds / os.path.getsize(path) * 1e9
+    (best,) = best_of(RUNS, path, [program, command])
+    return best.seconds / os.path.getsize(path) * 1e9
 
 
 def main(program: str, megabytes: str = "62") -> int:

@@ -7,7 +7,7 @@ from collections.abc import Iterator
 
 from captures import Capture, ack, blocks, data, oack, read_request
 from commands import COMMANDS, SILENT
-from normal import meaning_of, outputs_of_refused
+from normal import Output, meaning_of, outputs_of_refused
 from trial import Trial
 
 # The stack that the program is run in, and the steps in which its memory is raised, in bytes.
@@ -16,7 +16,6 @@ STACK, STEP = 192 * 1024, 32 * 1024
 MUCH = 8 * 1024 * 1024
 ENOUGH = 64 * 1024 * 1024
 MEMORY = b"fault memory\n"
-Output = tuple[bytes, int]
 
 
 def named(count: int) -> dict[str, str]:
