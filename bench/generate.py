@@ -7,8 +7,8 @@
     strays      that of a read of one block, among 524,272 datagrams of 65,534 strays, told by their ports
     returns     that of a read in netascii, in blocks of 65,464 bytes, of a file that is CR alone
     old         the same of a text with the line ends of old machines: lines of 79 signs that end in CR
-    requests    that of a read of one block whose request comes again and again, with as many options of unknown names as
-                a third word says, in at most 512 bytes
+    requests    that of a read of one block whose request comes again and again, with as many options of unknown names
+                as a third word says, in at most 512 bytes
     oacks       the request of a read and again and again the same OACK, of 64 options whose names have 1,020 bytes
     hosts       a capture of version 2 of a read of one block among datagrams of strays, each from another host, of 45
                 bytes, in no order

@@ -4,7 +4,7 @@ from __future__ import annotations
 from collections.abc import Mapping
 from typing import Literal, Union
 
-End = Literal["client", "server"]
+EndName = Literal["client", "server"]
 # A payload and what `show` says of it.
 Packet = tuple[bytes, str]
 # What an option is given as.
@@ -63,13 +63,13 @@ class Capture:
     SERVICE, CLIENT, SERVER = 69, 40_000, 41_000
     OTHER_HOST, THIRD_HOST = "192.0.2.1", "2001:db8::9"
 
-    def __init__(self, end: End, version: int = 1) -> None:
+    def __init__(self, end: EndName, version: int = 1) -> None:
         self.end, self.version = end, version
         self.lines: list[str] = []
         self.rows: list[bytes] = []
 
     def put(
-        self, sender: End, *packets: Packet, client: int = CLIENT, server: int = SERVER, host: str = OTHER_HOST
+        self, sender: EndName, *packets: Packet, client: int = CLIENT, server: int = SERVER, host: str = OTHER_HOST
     ) -> None:
         """The packets pass, sent by the client or by the server, at these ports and with this other host."""
         for payload, said in packets:

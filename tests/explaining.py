@@ -13,7 +13,7 @@ from collections.abc import Sequence
 from dataclasses import dataclass
 from typing import Final, NamedTuple
 
-from captures import Capture, End, Packet, ack, data, error, oack, read_request, write_request
+from captures import Capture, EndName, Packet, ack, data, error, oack, read_request, write_request
 from trial import Trial
 
 TOP = pathlib.Path(__file__).resolve().parent.parent
@@ -37,13 +37,13 @@ class Case:
 class At(NamedTuple):
     """A packet, its sender and the ports of the two ends."""
 
-    sender: End
+    sender: EndName
     packet: Packet
     client: int = Capture.CLIENT
     server: int = Capture.SERVER
 
 
-def capture(end: End, *steps: At | tuple[End, Packet]) -> bytes:
+def capture(end: EndName, *steps: At | tuple[EndName, Packet]) -> bytes:
     """The text of packets, each with its sender, and perhaps with ports of its own."""
     made = Capture(end)
     for step in steps:

@@ -40,7 +40,9 @@ NO_COMMANDS: tuple[list[str], ...] = (
     ["counts"], ["Count"], ["count "], ["--count"], ["count", "count"], ["check", "count"], ["count", "--help"],
     ["help", "count"], ["--", "count"],
 )
-NO_WORDS: tuple[list[str | bytes], ...] = ([b"\xff"], [b"check\xc3"], [b"extract\xc3"], [b"normal\xc3"], [b"count\xc3"], ["check", b"\xff"])
+NO_WORDS: tuple[list[str | bytes], ...] = (
+    [b"\xff"], [b"check\xc3"], [b"extract\xc3"], [b"normal\xc3"], [b"count\xc3"], ["check", b"\xff"],
+)
 
 
 @dataclasses.dataclass(frozen=True)

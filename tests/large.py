@@ -15,7 +15,7 @@ import subprocess
 import sys
 from collections.abc import Iterable, Iterator, Sequence
 
-from captures import Capture, End, Packet, ack, blocks, data, error, netascii, oack, read_request, write_request
+from captures import Capture, EndName, Packet, ack, blocks, data, error, netascii, oack, read_request, write_request
 from commands import COMMANDS
 from normal import meaning_of, outputs_of_refused
 from trial import Trial
@@ -28,9 +28,9 @@ AGREED = {"blksize": 8, "windowsize": 7}
 MOST_BLOCKS, USUAL_SIZE = 65_535, 512
 
 
-def fill(capture: Capture, sender: End, last: Packet) -> None:
+def fill(capture: Capture, sender: EndName, last: Packet) -> None:
     """The last two datagrams of a transfer, again and again, up to the count."""
-    other: End = "server" if sender == "client" else "client"
+    other: EndName = "server" if sender == "client" else "client"
     while len(capture.rows) < COUNT:
         capture.put(sender, last)
         if len(capture.rows) < COUNT:
@@ -89,7 +89,7 @@ def among_hosts(file: bytes) -> Capture:
     return capture
 
 
-def ended(capture: Capture, sender: End, told: Packet) -> Capture:
+def ended(capture: Capture, sender: EndName, told: Packet) -> Capture:
     """The first half of a capture, and then one ERROR of this end, again and again up to the count."""
     del capture.lines[COUNT // 2 :], capture.rows[COUNT // 2 :]
     capture.put(sender, *[told] * (COUNT - len(capture.rows)))
@@ -140,7 +140,7 @@ def judged(name: str, text: bytes, line: str, status: int, file: bytes = b"") ->
             yield name, command, text, output, ended
 
 
-def with_another_last(name: str, capture: Capture, sender: End, packet: Packet, rule: str) -> Iterator[Tried]:
+def with_another_last(name: str, capture: Capture, sender: EndName, packet: Packet, rule: str) -> Iterator[Tried]:
     """The same capture with this packet as its last datagram, which breaks the rule."""
     capture.lines.pop()
     capture.put(sender, packet)
@@ -161,7 +161,7 @@ def whole(
     yield from with_another_last(name, capture, "server", *change)
 
 
-def aborted(name: str, capture: Capture, by: str, change: tuple[End, Packet]) -> Iterator[Tried]:
+def aborted(name: str, capture: Capture, by: str, change: tuple[EndName, Packet]) -> Iterator[Tried]:
     """What is tried on a capture that ends by ERRORs."""
     yield from judged(name, capture.text(), f"aborted by {by}", 1)
     yield name, "show", capture.text(), b"".join(capture.rows), 0

@@ -1,5 +1,5 @@
-"""The built program with little stack and with little memory: each command answers right or says that memory is wanting,
-and is never ended by a signal.
+"""The built program with little stack and with little memory: each command answers right or says that memory is
+wanting, and is never ended by a signal.
 """
 import resource
 import subprocess
@@ -94,7 +94,7 @@ class LimitTrial(Trial):
         return done.stdout, done.returncode, done.stderr
 
     def starts(self, size: int) -> bool:
-        """Whether each command judges a plain read in so much memory; the stack that it takes is what all texts take."""
+        """Whether each command judges a plain read in so much memory; its stack is what all texts take."""
         text = windowed().text()
         try:
             return all(self.run([command], text, resource.RLIMIT_AS, size)[1] in (0, 2) for command in COMMANDS)

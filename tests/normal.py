@@ -16,6 +16,7 @@ KNOWN = {b"blksize": (8, 65_464), b"timeout": (1, 255), b"tsize": (0, 2**64 - 1)
 USUAL_SIZE = 512
 CLIENT, SERVER, SERVICE = 50_000, 50_001, 69
 REQUEST_OPCODES: dict[Side, int] = {"get": 1, "put": 2}
+SIDES: tuple[Side, ...] = ("get", "put")
 MODES: tuple[Mode, ...] = ("octet", "netascii")
 
 

@@ -49,10 +49,10 @@ def try_manual(trial: Trial) -> None:
     if not shutil.which("mandoc"):
         print("mandoc is not installed, so the manual pages are not tried with it")
         return
-    for page in sorted((TOP / "docs" / "man").glob("*.1")):
-        said = subprocess.run(["mandoc", "-T", "lint", "-W", "warning", page], capture_output=True, text=True).stdout
+    for path in sorted((TOP / "docs" / "man").glob("*.1")):
+        said = subprocess.run(["mandoc", "-T", "lint", "-W", "warning", path], capture_output=True, text=True).stdout
         said = "".join(line for line in said.splitlines() if "missing date" not in line)
-        trial.check(f"{page.name}, mandoc", said == "", said)
+        trial.check(f"{path.name}, mandoc", said == "", said)
 
 
 def try_names(trial: Trial) -> None:
@@ -67,9 +67,9 @@ def try_picture(trial: Trial, program: str) -> None:
     if not shutil.which("tshark"):
         return
     recording, folder = "loopback-repeated-oack", TOP / "examples"
-    words = [TOP / "tools" / "tftp-transfers", f"examples/{recording}.pcap", "1", "client"]
+    words = [str(TOP / "tools" / "tftp-transfers"), f"examples/{recording}.pcap", "1", "client"]
     text = subprocess.run(words, capture_output=True, check=True, cwd=TOP).stdout
-    words = [TOP / "tools" / "tftp-ladder", "--program", program]
+    words = [str(TOP / "tools" / "tftp-ladder"), "--program", program]
     drawn = subprocess.run(words, input=text, capture_output=True, check=True).stdout
     trial.check("the picture of examples/", drawn == (folder / f"{recording}.svg").read_bytes())
 

@@ -1,5 +1,5 @@
-"""Tests of tools/tftp_plants on texts of its own: what an edit changes, which edits may be tried together, and what a check
-says of them. It runs no check.
+"""Tests of tools/tftp_plants on texts of its own: what an edit changes, which edits may be tried together, and what a
+check says of them. It runs no check.
 """
 from __future__ import annotations
 

@@ -109,7 +109,8 @@ class ScriptTrial(Trial):
     """The runs of the script."""
 
     def runs(
-        self, name: str, got: Ran, text: str, builds: int, words: str = "1 words check", given: str = "", status: int = 0
+        self, name: str, got: Ran, text: str, builds: int, words: str = "1 words check", given: str = "",
+        status: int = 0,
     ) -> None:
         """The program that was built of this text ran, after so many builds, and nothing else is told of it."""
         output, errors, ended, calls = got

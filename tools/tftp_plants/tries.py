@@ -103,7 +103,7 @@ class Tries:
         return self.judge(it, told, it.edit.applied(self.texts)) is Outcome.NAMED
 
     def run_misfit(self, tries: Sequence[Try]) -> None:
-        """Tries again together those edits whose written answers fit no other body: without these the search has to tell."""
+        """Tries again together those edits whose written answers fit no other body, without these."""
         told = self.told_of(tries, self.unanswered(applied(tries, self.texts), tries))
         for it in tries:
             self.judge(it, told, self.unanswered(it.edit.applied(self.texts), [it]))
@@ -120,7 +120,7 @@ class Tries:
         return {file: text for file, text in texts.items() if not is_answer(file, symbols)}
 
     def judge(self, it: Try, told: said.Said, texts: Mapping[str, str]) -> Outcome:
-        """Says what came of an edit, by the check of its group or else by one of its own, of these texts; the outcome."""
+        """Says what came of an edit, by the check of its group or else by one of these texts; the outcome."""
         outcome, why = told.of(it.changes)
         if outcome is not Outcome.REFUSED:
             outcome, why = self.alone(texts, it)
@@ -135,7 +135,8 @@ class Tries:
         if status is None:
             return Outcome.ENDLESS, f"it was stopped after {self.rooms.seconds} seconds"
         if told.proved:
-            return Outcome.CRATE_PROVED, f"{', '.join(sorted(it.changes)) or 'the crate'} meets its contract with this body"
+            changed = ", ".join(sorted(it.changes)) or "the crate"
+            return Outcome.CRATE_PROVED, f"{changed} meets its contract with this body"
         if told.wrong or not told.ended:
             return Outcome.UNTRIED, (told.wrong or text.strip().split("\n"))[0]
         outcome, why = told.of(it.changes)
