@@ -7,8 +7,8 @@
     strays      that of a read of one block, among 524,272 datagrams of 65,534 strays, told by their ports
     returns     that of a read in netascii, in blocks of 65,464 bytes, of a file that is CR alone
     old         the same of a text with the line ends of old machines: lines of 79 signs that end in CR
-    requests    that of a read of one block whose request comes again and again, with as many options of unknown names as
-                a third word says, in at most 512 bytes
+    requests    that of a read of one block whose request comes again and again, with as many options of unknown names
+                as a third word says, in at most 512 bytes
     oacks       the request of a read and again and again the same OACK, of 64 options whose names have 1,020 bytes
     hosts       a capture of version 2 of a read of one block among datagrams of strays, each from another host, of 45
                 bytes, in no order
@@ -24,9 +24,12 @@ The bytes of the blocks are random, as those of firmware are, and the same each 
 are at most 65,535 blocks: in a larger capture each block comes several times before its acknowledgement, and the blocks
 of `reversed` come round and round. The strays of a larger capture are longer; the least has 12.6 MB.
 """
+from __future__ import annotations
+
 import base64
 import random
 import sys
+from collections.abc import Callable
 
 HEADER = b"tftp-capture 1\nend client\nservice 69\n"
 # The blocks of a read whose request names no size (RFC 1350), and their number at most.
@@ -40,18 +43,19 @@ REQUEST = b"\0\1a\0octet\0"
 # How many bytes the line of a datagram without content has that comes from a host of 45 bytes.
 LINE_OF_HOST = 62
 AT_ONCE = 10_000
+WORDS = b"the quick brown fox jumps over the lazy dog and then it sleeps all day"
 out = sys.stdout.buffer
 chance = random.Random(1350)
 
 
-def repeat(line, count):
+def repeat(line: bytes, count: int) -> None:
     """The line so many times."""
     for _ in range(count // AT_ONCE):
         out.write(line * AT_ONCE)
     out.write(line * (count % AT_ONCE))
 
 
-def head(size=USUAL, window=1, mode=b"octet"):
+def head(size: int = USUAL, window: int = 1, mode: bytes = b"octet") -> int:
     """The header and the request, with the sizes agreed that are not the usual ones: how many datagrams."""
     options = b"" if size == USUAL else b"blksize\0%d\0" % size
     options += b"" if window == 1 else b"windowsize\0%d\0" % window
@@ -63,19 +67,19 @@ def head(size=USUAL, window=1, mode=b"octet"):
     return 3
 
 
-def data_line(number, block, port=SERVER):
+def data_line(number: int, block: bytes, port: int = SERVER) -> bytes:
     return f"in 40000 {port} 0003{number:04x}{block.hex()}\n".encode()
 
 
-def ack_line(number):
+def ack_line(number: int) -> bytes:
     return f"out 40000 {SERVER} 0004{number:04x}\n".encode()
 
 
-def total_line(count):
+def total_line(count: int) -> bytes:
     return f"total {count}\n".encode()
 
 
-def capture(wanted, size=USUAL, window=1):
+def capture(wanted: int, size: int = USUAL, window: int = 1) -> None:
     """A read of many blocks, each as often as is needed, in windows of so many."""
     data, ack = len(data_line(1, bytes(size))), len(ack_line(1))
     times = 1 + wanted // ((MOST - 1) * data)
@@ -90,12 +94,12 @@ def capture(wanted, size=USUAL, window=1):
     out.write(total_line(before + (blocks - 1) * times + acks + 2))
 
 
-def text_lines(size):
+def text_lines(size: int) -> bytes:
     """About so many bytes of a text file, in lines of 76 random signs and an LF."""
     return base64.encodebytes(chance.randbytes(size * 57 // 77))
 
 
-def netascii(wanted):
+def netascii(wanted: int) -> None:
     """A read of a text file."""
     each = len(data_line(1, bytes(FRAME))) + len(ack_line(1))
     wire = text_lines(wanted * FRAME // each).replace(b"\n", b"\r\n")
@@ -107,7 +111,7 @@ def netascii(wanted):
     out.write(total_line(before + 2 * blocks))
 
 
-def backwards(wanted):
+def backwards(wanted: int) -> None:
     """A read in one window: all blocks but the first, round and round, and the first one at the end."""
     file = chance.randbytes(MOST * LEAST - 1)
     lines = [data_line(1 + at // LEAST, file[at : at + LEAST]) for at in range(0, len(file), LEAST)]
@@ -120,7 +124,7 @@ def backwards(wanted):
     out.write(total_line(before + turns * (MOST - 1) + 2))
 
 
-def netascii_wire(wanted, line):
+def netascii_wire(wanted: int, line: bytes) -> None:
     """A read in netascii of about so many bytes of a wire that is this line again and again, in the largest blocks."""
     blocks = max(2, wanted // (2 * LARGEST))
     wire = (line * (blocks * LARGEST // len(line) + 1))[: (blocks - 1) * LARGEST + 2 * (LARGEST // 4)]
@@ -130,7 +134,7 @@ def netascii_wire(wanted, line):
     out.write(total_line(before + 2 * blocks))
 
 
-def requests(wanted, options):
+def requests(wanted: int, options: int) -> None:
     """A read of one block whose request has so many options, and comes again and again before the answer."""
     names = (b"%c%c\0" % (97 + at // 16, 97 + at % 16) for at in range(options))
     line = f"out 40000 69 {(REQUEST + b''.join(it + bytes(1) for it in names)).hex()}\n".encode()
@@ -140,7 +144,7 @@ def requests(wanted, options):
     out.write(data_line(1, b"hi") + ack_line(1) + total_line(times + 2))
 
 
-def oacks(wanted):
+def oacks(wanted: int) -> None:
     """A request, and the same OACK of 64 options with long names again and again, which is not lawful."""
     options = b"".join(b"a" * 1_019 + bytes([128 + at, 0]) + b"1\0" for at in range(64))
     line = f"in 40000 {SERVER} 0006{options.hex()}\n".encode()
@@ -151,17 +155,18 @@ def oacks(wanted):
     out.write(total_line(times + 1))
 
 
-def hosts(wanted):
+def hosts(wanted: int) -> None:
     """A read of one block, and in its midst a datagram from each of many hosts."""
     line = f"in 40000 192.0.2.1 {SERVER} 00030001{b'hi'.hex()}\n".encode()
     out.write(HEADER.replace(b"capture 1", b"capture 2") + f"out 40000 192.0.2.1 69 {REQUEST.hex()}\n".encode() + line)
-    others = [b"in 40000 %s 1000 -\n" % b"".join(b"%02x" % byte for byte in at.to_bytes(4, "big")).rjust(45, b"h") for at in range(wanted // LINE_OF_HOST)]
+    names = (at.to_bytes(4, "big").hex().encode().rjust(45, b"h") for at in range(wanted // LINE_OF_HOST))
+    others = [b"in 40000 %s 1000 -\n" % name for name in names]
     chance.shuffle(others)
     out.write(b"".join(others))
     out.write(f"out 40000 192.0.2.1 {SERVER} 00040001\n".encode() + total_line(3 + len(others)))
 
 
-def strays(wanted):
+def strays(wanted: int) -> None:
     """A read of one block, and between it and its acknowledgement blocks from each other port, eight from each."""
     others, turns = [port for port in range(1, 65_536) if port != SERVER], 8
     shortest = len(data_line(1, b"", 10_000))
@@ -175,7 +180,7 @@ def strays(wanted):
     out.write(ack_line(1) + total_line(before + 2 + turns * len(others)))
 
 
-def acks(wanted):
+def acks(wanted: int) -> None:
     """A capture of acknowledgements, which is not lawful."""
     line = ack_line(1)
     before = head()
@@ -183,49 +188,52 @@ def acks(wanted):
     out.write(total_line(before + wanted // len(line)))
 
 
-def comments(line, wanted):
+def comments(line: bytes, wanted: int) -> None:
     """A capture of a request alone."""
     before = head()
     repeat(line, wanted // len(line))
     out.write(total_line(before))
 
 
-def ports(wanted):
+def ports(wanted: int) -> None:
     """Each port once before it comes again, and those beside each other far apart."""
     for turn in range(wanted // 2):
         out.write((1 + turn * 40_503 % 65_534).to_bytes(2, "big"))
 
 
-kind, wanted = sys.argv[1], int(sys.argv[2])
-if kind == "capture":
-    capture(wanted, *(int(word) for word in sys.argv[3:]))
-elif kind == "netascii":
-    netascii(wanted)
-elif kind == "reversed":
-    backwards(wanted)
-elif kind == "strays":
-    strays(wanted)
-elif kind == "returns":
-    netascii_wire(wanted, b"\r\0")
-elif kind == "old":
-    netascii_wire(wanted, bytes(chance.choices(range(97, 123), k=79)) + b"\r\0")
-elif kind == "requests":
-    requests(wanted, int(sys.argv[3]))
-elif kind == "oacks":
-    oacks(wanted)
-elif kind == "hosts":
-    hosts(wanted)
-elif kind == "acks":
-    acks(wanted)
-elif kind == "comments":
-    comments(b"# this line says nothing\n", wanted)
-elif kind == "short":
-    comments(b"#\n", wanted)
-elif kind == "ports":
-    ports(wanted)
-elif kind == "random":
-    out.write(chance.randbytes(wanted))
-else:
-    words = b"the quick brown fox jumps over the lazy dog and then it sleeps all day"
-    line = words + (b"\n" if kind == "file" else b"\r\n")
-    repeat(line, wanted // len(line))
+def file(wanted: int) -> None:
+    """A text whose lines end in LF."""
+    repeat(WORDS + b"\n", wanted // (len(WORDS) + 1))
+
+
+def wire(wanted: int) -> None:
+    """A text whose lines end in CR LF."""
+    repeat(WORDS + b"\r\n", wanted // (len(WORDS) + 2))
+
+
+KINDS: dict[str, Callable[..., object]] = {
+    "capture": capture,
+    "netascii": netascii,
+    "reversed": backwards,
+    "strays": strays,
+    "returns": lambda wanted: netascii_wire(wanted, b"\r\0"),
+    "old": lambda wanted: netascii_wire(wanted, bytes(chance.choices(range(97, 123), k=79)) + b"\r\0"),
+    "requests": requests,
+    "oacks": oacks,
+    "hosts": hosts,
+    "acks": acks,
+    "comments": lambda wanted: comments(b"# this line says nothing\n", wanted),
+    "short": lambda wanted: comments(b"#\n", wanted),
+    "file": file,
+    "wire": wire,
+    "random": lambda wanted: out.write(chance.randbytes(wanted)),
+    "ports": ports,
+}
+
+
+def main(kind: str, *numbers: str) -> None:
+    KINDS.get(kind, wire)(*(int(number) for number in numbers))
+
+
+if __name__ == "__main__":
+    main(*sys.argv[1:])

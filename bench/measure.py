@@ -3,23 +3,35 @@ of `wc -l` and of `cat`, which are run on the same bytes in turn with it.
 
     measure.py NAME FILE COMMAND [WORD ..]
 """
+from __future__ import annotations
+
 import os
 import subprocess
 import sys
 import tempfile
 import time
+from collections.abc import Sequence
+from typing import IO, NamedTuple
 
 LINES, COPY = ["wc", "-l"], ["cat"]
 # What writes a text or a file is to write it nowhere; any other's answer is printed.
 WRITES_TEXT = ("cat", "copy", "extract", "netascii-decode", "netascii-encode", "normal", "show")
 
 
-def figures(number):
+class Run(NamedTuple):
+    """The processor time of a run, its most resident memory in bytes, and what it printed."""
+
+    seconds: float
+    memory: int
+    answer: str
+
+
+def figures(number: float) -> str:
     """Three of them, or all before the point."""
     return f"{number:.0f}" if number >= 100 else f"{number:.3g}"
 
 
-def most_resident(process):
+def most_resident(process: int) -> int:
     """The most bytes that a running process had resident since it was started as this program, or 0."""
     # The resource usage that the system reports at the end also counts what Python had before.
     with open(f"/proc/{process}/status", encoding="ascii", errors="replace") as status:
@@ -29,10 +41,10 @@ def most_resident(process):
     return 0
 
 
-def run(path, command, pause=0.005):
-    """The time in seconds, the most resident memory in bytes, by a look after each pause, and what was printed."""
+def run(path: str, command: Sequence[str], pause: float = 0.005) -> Run:
+    """A run on the bytes of a file, whose memory is looked at after each pause."""
     with open(path, "rb") as given, tempfile.TemporaryFile() as taken:
-        out = subprocess.DEVNULL if command[-1] in WRITES_TEXT else taken
+        out: int | IO[bytes] = subprocess.DEVNULL if command[-1] in WRITES_TEXT else taken
         child = subprocess.Popen(command, stdin=given, stdout=out)
         most = 0
         while True:
@@ -45,19 +57,20 @@ def run(path, command, pause=0.005):
         if child.returncode:
             sys.exit(f"{' '.join(command)}: ended with status {child.returncode}")
         taken.seek(0)
-        return usage.ru_utime + usage.ru_stime, most, taken.read().decode().strip()
+        return Run(usage.ru_utime + usage.ru_stime, most, taken.read().decode().strip())
 
 
-def best_of(turns, path, *commands):
+def best_of(turns: int, path: str, *commands: Sequence[str]) -> list[Run]:
     """For each command its best time, and the memory and the answer of its runs; the commands run in turn."""
     runs = [[run(path, command) for command in commands] for _ in range(turns)]
     # The system may count no time at all for a short run.
     return [
-        (max(1e-6, min(it[0] for it in of_one)), max(it[1] for it in of_one), of_one[0][2]) for of_one in zip(*runs)
+        Run(max(1e-6, min(it.seconds for it in of_one)), max(it.memory for it in of_one), of_one[0].answer)
+        for of_one in zip(*runs)
     ]
 
 
-def main(name, path, command):
+def main(name: str, path: str, command: Sequence[str]) -> None:
     size = os.path.getsize(path)
     (seconds, memory, answer), lines, copy = best_of(3, path, command, LINES, COPY)
     # Of a run that is over at once the memory is not seen.
@@ -65,7 +78,7 @@ def main(name, path, command):
     print(
         f"{name}: {figures(seconds)} s, {figures(size / seconds / 1e6)} MB/s,"
         f" {figures(seconds / size * 1e9)} ns a byte,"
-        f" {figures(seconds / lines[0])} times wc -l, {figures(seconds / copy[0])} times cat,"
+        f" {figures(seconds / lines.seconds)} times wc -l, {figures(seconds / copy.seconds)} times cat,"
         f" {held}for {figures(size / 1e6)} MB" + (f": {answer}" if answer else ""),
         flush=True,
     )

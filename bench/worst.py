@@ -1,5 +1,6 @@
-"""Prints how long a byte takes of the texts that cost most, in those of a plain read in blocks of 1,428 bytes by the same
-command: processor time, the best of three runs, and the most that it may be. Ends with status 1 where one takes more.
+"""Prints how long a byte takes of the texts that cost most, in those of a plain read in blocks of 1,428 bytes by the
+same command: processor time, the best of three runs, and the most that it may be. Ends with status 1 where one takes
+more.
 
     worst.py PROGRAM [MB]
 """
@@ -14,7 +15,8 @@ from measure import best_of, figures
 GENERATE = pathlib.Path(__file__).with_name("generate.py")
 RUNS = 3
 PLAIN = "capture", "1428"
-# What the text is, how it is made, the commands that are tried on it, and how many times a plain byte's time may be taken.
+# What the text is, how it is made, the commands that are tried on it, and how many times a plain byte's time they may
+# take.
 ROWS = [
     ("netascii, a file of CR alone", ["returns"], ["check", "extract", "normal", "count"], 15),
     ("netascii, lines that end in CR", ["old"], ["check", "extract", "normal", "count"], 15),
@@ -35,8 +37,8 @@ def made(folder: str, size: int, kind: str, *words: str) -> str:
 
 def by_byte(path: str, program: str, command: str) -> float:
     """The time that a command takes for a byte of a text, in nanoseconds."""
-    ((seconds, _, _),) = best_of(RUNS, path, [program, command])
-    return seconds / os.path.getsize(path) * 1e9
+    (best,) = best_of(RUNS, path, [program, command])
+    return best.seconds / os.path.getsize(path) * 1e9
 
 
 def main(program: str, megabytes: str = "62") -> int:

@@ -1,12 +1,12 @@
-"""Tries the definition of which datagrams of a recording are one transfer: recordings of lawful ends are drawn, divided by
-the definition (fuzzing/attribution.py is its prototype), and each transfer's capture is judged by the built program. Nobody
-may be accused: each refusal must have a doubt.
+"""Tries the definition of which datagrams of a recording are one transfer: recordings of lawful ends are drawn, divided
+by the definition (fuzzing/attribution.py is its prototype), and each transfer's capture is judged by the built program.
+Nobody may be accused: each refusal must have a doubt.
 
     attribution.py [--cases N] [--seed SEED] PROGRAM
 
 Each case is one recording of reads with dense strays and repeated requests, and one session recorded at each end and
-between. The first has the seed SEED, and each further one the next number. The last line is 'N passed, M failed'; status 1
-if any failed.
+between. The first has the seed SEED, and each further one the next number. The last line is 'N passed, M failed';
+status 1 if any failed.
 """
 import argparse
 import collections
@@ -48,7 +48,7 @@ class Trier:
         return str(printed.decode().strip())
 
     def verdict(self, one: Transfer, end: str) -> tuple[str, str]:
-        """The verdict of an end's view, and the datagram and rule of a refusal; a refusal with a doubt is `doubtful`."""
+        """The verdict of an end's view, and the datagram and rule of a refusal; one with a doubt is `doubtful`."""
         view = one.view(end)
         said = self.check(one, end, view)
         words = said.split()
@@ -79,7 +79,8 @@ class Trier:
 
     def session_case(self, seed: int) -> list[str]:
         kind, recorded = simulated(seed)
-        ends = [("server" if place == SERVER else "between" if place == "between" else "client", place) for place in recorded]
+        named = {SERVER: "server", "between": "between"}
+        ends = [(named.get(place, "client"), place) for place in recorded]
         hosts = [(end, place) for end, place in ends if place != "10.1.0.9"]
         return [said for end, place in hosts for said in self.refusals(kind, end, attributed(recorded[place]))]
 

@@ -27,8 +27,14 @@ HOSTS = {
     6: ("2001:db8::7", "2001:db8::1", "fe80::1:0:0:9", "::1", "2001:db8:0:1:1:1:1:1", "::ffff:192.0.2.9"),
 }
 # Kinds of frames that are no datagram of UDP, or not a whole one.
-NOISE = ("another type", "another protocol", "a fragment of another protocol", "cut", "a wrong length", "port 0", "never whole")
-FIELDS = ("frame.number", "frame.time_epoch", "ip.src", "ip.dst", "ipv6.src", "ipv6.dst", "udp.srcport", "udp.dstport", "udp.length", "udp.payload")
+NOISE = (
+    "another type", "another protocol", "a fragment of another protocol", "cut", "a wrong length", "port 0",
+    "never whole",
+)
+FIELDS = (
+    "frame.number", "frame.time_epoch", "ip.src", "ip.dst", "ipv6.src", "ipv6.dst", "udp.srcport", "udp.dstport",
+    "udp.length", "udp.payload",
+)
 # What begins a file that is no recording.
 OTHERS = {
     "empty": b"", "a text": b"tftp-capture 1\nend client\n", "ELF": b"\x7fELF\2\1\1" + bytes(60),
@@ -70,7 +76,8 @@ class Maker:
     def packet(self, it: Datagram, content: bytes, protocol: int = recorded.UDP, part: Fragment | None = None) -> bytes:
         if it.version == 4:
             return recorded.ipv4(it, content, protocol, part, bytes(4 * self.chance.choice((0, 0, 1, 10))))
-        kinds = self.chance.choice(((), (), (recorded.HOP_BY_HOP,), (recorded.HOP_BY_HOP, recorded.ROUTING, recorded.DESTINATION)))
+        every = (recorded.HOP_BY_HOP, recorded.ROUTING, recorded.DESTINATION)
+        kinds = self.chance.choice(((), (), (recorded.HOP_BY_HOP,), every))
         return recorded.ipv6(it, content, protocol, part, kinds)
 
     def frame(self, packet: bytes, kind: int | None = None, links: list[int] | None = None) -> Frame:
@@ -89,7 +96,8 @@ class Maker:
     def parted(self) -> list[tuple[Frame, Datagram | None]]:
         """A datagram in fragments, in any order, one of them perhaps twice."""
         it, self.id = self.datagram(3_000), self.id + 1
-        parts = recorded.parts_of(recorded.udp(it), recorded.EIGHT * self.chance.randrange(1 + len(it.payload) // 80, 200), self.id)
+        size = recorded.EIGHT * self.chance.randrange(1 + len(it.payload) // 80, 200)
+        parts = recorded.parts_of(recorded.udp(it), size, self.id)
         if len(parts) == 1:
             return self.whole()
         self.chance.shuffle(parts)
@@ -121,7 +129,7 @@ class Maker:
         return [it for it in self.links if it in (recorded.ETHERNET, recorded.COOKED, recorded.COOKED_2)]
 
     def frames(self, count: int) -> list[tuple[Frame, Datagram | None, bool]]:
-        """So many datagrams and as much noise: each frame with the datagram that it ends, and whether it is left out."""
+        """So many datagrams and as much noise: each frame, the datagram that it ends, and whether it is left out."""
         streams: list[list[tuple[Frame, Datagram | None, bool]]] = []
         for _ in range(count):
             chosen = self.chance.random()
@@ -153,8 +161,10 @@ def made_pcapng(chance: random.Random) -> Made:
     for _ in range(chance.randrange(1, 4)):
         links = [chance.choice(recorded.LINKS) for _ in range(chance.randrange(1, 4))]
         order, maker = chance.choice("<>"), Maker(chance, links)
-        interfaces = [Interface(link, chance.choice((None, 6, 9, 3, 0x80 | 20)), chance.choice((0, 0, 3_600))) for link in links]
-        taken, blocks = maker.frames(chance.randrange(12)), []
+        units, offsets = (None, 6, 9, 3, 0x80 | 20), (0, 0, 3_600)
+        interfaces = [Interface(link, chance.choice(units), chance.choice(offsets)) for link in links]
+        taken = maker.frames(chance.randrange(12))
+        blocks: list[tuple[int, recorded.Block]] = []
         for frame, it, is_left in taken:
             place = chance.choice([at for at, link in enumerate(links) if link == frame.link])
             if frame.direction == "unknown":
@@ -176,7 +186,7 @@ def rounded(interface: Interface, time: int) -> int:
     """The time that an interface's unit can say."""
     unit = 6 if interface.unit is None else interface.unit
     ticks = interface.ticks(time)
-    since = (ticks * 1_000_000_000) >> (unit & 127) if unit & 128 else ticks * 10 ** (9 - unit)
+    since = (ticks * 1_000_000_000) >> (unit & 127) if unit & 128 else ticks * int(10 ** (9 - unit))
     return since + interface.offset * 1_000_000_000
 
 
@@ -222,9 +232,11 @@ class DatagramTrial(Trial):
         with tempfile.NamedTemporaryFile(suffix=".pcap") as path:
             path.write(file)
             path.flush()
-            words = ["tshark", "-n", "-r", path.name, "-Y", "udp and not icmp and not icmpv6", "-o", "ip.defragment:TRUE", "-o", "ipv6.defragment:TRUE"]
-            words += ["--disable-protocol", "tftp", "-T", "fields", "-E", "separator=/t", "-E", "occurrence=l"]
-            done = subprocess.run(words + [word for it in FIELDS for word in ("-e", it)], capture_output=True, text=True, check=False)
+            words = ["tshark", "-n", "-r", path.name, "-Y", "udp and not icmp and not icmpv6"]
+            words += ["-o", "ip.defragment:TRUE", "-o", "ipv6.defragment:TRUE", "--disable-protocol", "tftp"]
+            words += ["-T", "fields", "-E", "separator=/t", "-E", "occurrence=l"]
+            words += [word for it in FIELDS for word in ("-e", it)]
+            done = subprocess.run(words, capture_output=True, text=True, check=False)
         fields = [dict(zip(FIELDS, line.split("\t"))) for line in done.stdout.splitlines()]
         wanted = [told for told in (as_tshark(it) for it in fields) if told]
         got = [" ".join(words[:2] + words[4:]) for words in (line.split() for line in rows)]
@@ -239,8 +251,8 @@ def as_tshark(it: dict[str, str]) -> str:
     if length < 0 or len(payload) < 2 * length or "0" in (it["udp.srcport"], it["udp.dstport"]):
         return ""
     hosts = it["ip.src"] or it["ipv6.src"], it["ip.dst"] or it["ipv6.dst"]
-    words = "datagram", it["frame.number"], hosts[0], it["udp.srcport"], hosts[1], it["udp.dstport"], payload[: 2 * length] or "-"
-    return " ".join(words)
+    ends = hosts[0], it["udp.srcport"], hosts[1], it["udp.dstport"]
+    return " ".join(("datagram", it["frame.number"], *ends, payload[: 2 * length] or "-"))
 
 
 def difference(got: list[str], wanted: list[str]) -> str:
@@ -266,7 +278,8 @@ def main() -> int:
             trial.compare(path.name, file, rows)
     for name, file in OTHERS.items():
         rows, left, fault, status = trial.run(file)
-        trial.check(f"no recording: {name}", (rows, left, status) == ([], [], 2) and fault.endswith("NotARecording"), (rows, fault, status))
+        holds = (rows, left, status) == ([], [], 2) and fault.endswith("NotARecording")
+        trial.check(f"no recording: {name}", holds, (rows, fault, status))
     for case in range(given.cases):
         chance = random.Random(given.seed + case)
         make = chance.choice((made_pcap, made_pcapng))

@@ -1,15 +1,12 @@
 """Each wrong body of the repository can still be made: the old text of each of its edits stands once in its file, each
 crate that has edits is named in crates.txt, and no edit leaves its file as it was. It runs no check.
 """
-import pathlib
 import sys
 
 sys.dont_write_bytecode = True
-TOP = pathlib.Path(__file__).resolve().parents[1]
-sys.path.insert(0, str(TOP / "tools" / "plants"))
 
-import edits  # noqa: E402
-import rooms  # noqa: E402
+from repository import TOP  # noqa: E402
+from tftp_plants import edits, rooms  # noqa: E402
 
 
 def texts_of(crate: str) -> dict[str, str]:

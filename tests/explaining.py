@@ -9,9 +9,11 @@ from __future__ import annotations
 import pathlib
 import subprocess
 import sys
+from collections.abc import Sequence
 from dataclasses import dataclass
+from typing import Final, NamedTuple
 
-from captures import Capture, ack, data, error, oack, read_request, write_request
+from captures import Capture, EndName, Packet, ack, data, error, oack, read_request, write_request
 from trial import Trial
 
 TOP = pathlib.Path(__file__).resolve().parent.parent
@@ -32,11 +34,21 @@ class Case:
     told: tuple[str, ...]
 
 
-def capture(end: str, *steps: tuple[object, ...], **ports: int) -> bytes:
+class At(NamedTuple):
+    """A packet, its sender and the ports of the two ends."""
+
+    sender: EndName
+    packet: Packet
+    client: int = Capture.CLIENT
+    server: int = Capture.SERVER
+
+
+def capture(end: EndName, *steps: At | tuple[EndName, Packet]) -> bytes:
     """The text of packets, each with its sender, and perhaps with ports of its own."""
     made = Capture(end)
-    for sender, packet, *other in steps:
-        made.put(sender, packet, **(other[0] if other else {}))
+    for step in steps:
+        it = step if isinstance(step, At) else At(*step)
+        made.put(it.sender, it.packet, client=it.client, server=it.server)
     return made.text()
 
 
@@ -44,21 +56,22 @@ def refused(number: int, rule: str, text: bytes, *told: str) -> Case:
     return Case(f"refused datagram {number} rule {rule}", text, told)
 
 
-C, S = "client", "server"
+C: Final = "client"
+S: Final = "server"
 RULES = (
     refused(
-        3, "1 ForeignPort", capture(C, (C, READ), (S, data(1, b"hi")), (S, data(1, b"hi"), {"client": 40_001})),
+        3, "1 ForeignPort", capture(C, (C, READ), (S, data(1, b"hi")), At(S, data(1, b"hi"), client=40_001)),
         "Its port at the client is 40001.", "The transfer's port there is 40000, fixed by datagram 1 (line 4).",
     ),
     refused(
-        3, "2 WrongPort", capture(C, (C, READ), (S, data(1, WHOLE)), (C, ack(1), {"server": 43_000})),
+        3, "2 WrongPort", capture(C, (C, READ), (S, data(1, WHOLE)), At(C, ack(1), server=43_000)),
         "It goes to port 43000, from where nothing had come.",
         "The other end is at port 41000, fixed by datagram 2 (line 5).",
     ),
     refused(
         4, "3 StrayAnswer",
         capture(
-            C, (C, READ), (S, data(1, b"hi")), (S, data(1, b"hi"), {"server": 42_000}), (C, ack(1), {"server": 42_000})
+            C, (C, READ), (S, data(1, b"hi")), At(S, data(1, b"hi"), server=42_000), At(C, ack(1), server=42_000)
         ),
         "It goes to port 42000, which is not the other end: only ERROR 5 may go there.",
         "From there came datagram 3 (line 6): DATA, block 1, 2 bytes.",
@@ -238,7 +251,7 @@ OTHERS = (
 )
 
 
-def run(words: list[object], given: bytes = b"") -> tuple[str, str, int]:
+def run(words: Sequence[object], given: bytes = b"") -> tuple[str, str, int]:
     """What the script writes, what it writes as errors, and its status."""
     done = subprocess.run([str(word) for word in (SCRIPT, *words)], input=given, capture_output=True, timeout=60)
     return done.stdout.decode(), done.stderr.decode(), done.returncode

@@ -6,18 +6,23 @@ the built program.
 FOLDER has refuse.so, which is preloaded. Prints each case that is not as it should be, then a last line
 'N passed, M failed'; status 1 if any failed.
 """
+from __future__ import annotations
+
 import dataclasses
 import os
 import pathlib
 import subprocess
 import sys
+from collections.abc import Iterable, Iterator, Mapping, Sequence
 
 from captures import Capture, ack, blocks, data, error, netascii, oack, read_request, write_request
 from commands import COMMANDS, SILENT
 from limits import limited
-from normal import meaning_of, outputs_of_refused
+from normal import Output, meaning_of, outputs_of_refused
 from trial import Trial
 
+# What is printed and the status, whether no error was written, and whether the shim's call was met.
+Got = tuple[Output, bool, bool]
 # What `show` says of the lines of a text begins at this one.
 FIRST_DATAGRAM_LINE = 4
 USAGE = (b"fault usage\n", 2)
@@ -26,7 +31,7 @@ NOTHING = (b"", 2)
 # The fewest bytes of a write of `show`, but for the last.
 LEAST_PIECE = 2_048
 # Words after the program's name that are no command, and words of which one is no UTF-8.
-NO_COMMANDS = (
+NO_COMMANDS: tuple[list[str], ...] = (
     [], [""], ["Check"], ["chec"], ["check "], ["--check"], ["extrac"], ["extracts"], ["Extract"], ["extract\n"],
     ["help"], ["--help"], ["-h"], ["--version"], ["check", "show"], ["show", "show"], ["check", "extract"],
     ["extract", "extract"], ["check", ""], ["extract", ""], ["show", "--help"], ["extract", "--help"],
@@ -35,7 +40,9 @@ NO_COMMANDS = (
     ["counts"], ["Count"], ["count "], ["--count"], ["count", "count"], ["check", "count"], ["count", "--help"],
     ["help", "count"], ["--", "count"],
 )
-NO_WORDS = ([b"\xff"], [b"check\xc3"], [b"extract\xc3"], [b"normal\xc3"], [b"count\xc3"], ["check", b"\xff"])
+NO_WORDS: tuple[list[str | bytes], ...] = (
+    [b"\xff"], [b"check\xc3"], [b"extract\xc3"], [b"normal\xc3"], [b"count\xc3"], ["check", b"\xff"],
+)
 
 
 @dataclasses.dataclass(frozen=True)
@@ -45,29 +52,29 @@ class Case:
     name: str
     text: bytes
     # what `show` prints of each datagram, in order
-    rows: tuple
+    rows: tuple[bytes, ...]
     # what `check` prints of the text as a whole, and its status
-    verdict: tuple = ()
+    verdict: Output | None = None
     # the file of which the capture was made, where it is accepted
     file: bytes = b""
     # the line of the first unlawful datagram, if there is one
     unlawful: int = 0
     # the line and the name of what is wrong with the text, if anything is
-    wrong: tuple = ()
+    wrong: tuple[int, str] | None = None
 
-    def last_line(self, command):
+    def last_line(self, command: str) -> int | None:
         """The line behind which nothing is read, where there is one before the text's end."""
-        unlawful = self.unlawful if command != "show" else 0
-        return min((line for line in (unlawful, *self.wrong[:1]) if line), default=None)
+        unlawful, wrong = self.unlawful if command != "show" else 0, self.wrong[0] if self.wrong else 0
+        return min((line for line in (unlawful, wrong) if line), default=None)
 
-    def output(self, command, taken=None, ending="Truncated"):
+    def output(self, command: str, taken: int | None = None, ending: str = "Truncated") -> Output:
         """What is printed, and the status, where the text ends after so many bytes or, if at all, so.
 
         `taken` is None where the text is given to its end, and else the number of bytes before its ending, which is
         Truncated or Read.
         """
         whole = self.text[:taken].count(b"\n")
-        fault = () if taken is None else (whole + 1, ending)
+        fault = None if taken is None else (whole + 1, ending)
         if self.wrong and self.wrong[0] <= whole:
             fault = self.wrong
         sound = fault[0] - 1 if fault else whole
@@ -75,11 +82,12 @@ class Case:
         if command == "show":
             return b"".join(self.rows[: max(0, sound - FIRST_DATAGRAM_LINE + 1)]) + said, 2 if fault else 0
         judged = self.verdict if not fault or 0 < self.unlawful <= sound else (said, 2)
+        assert judged is not None, f"the verdict of {self.name} is not known"
         if judged[1] == 0:
             return meaning_of(self.text, self.file).outputs(judged)[command]
         return outputs_of_refused(judged)[command]
 
-    def outputs_without_memory(self, command):
+    def outputs_without_memory(self, command: str) -> set[Output]:
         """What may be printed, and the status, where a growth is refused."""
         shown = range(len(self.rows) + 1) if command == "show" else range(1)
         told = {(b"".join(self.rows[:count]) + MEMORY, 2) for count in shown if command not in SILENT}
@@ -90,17 +98,17 @@ class Case:
         return told | {output, NOTHING}
 
 
-def text_of(*lines):
+def text_of(*lines: bytes) -> bytes:
     return b"".join(line + b"\n" for line in (b"tftp-capture 1", b"end client", b"service 69", *lines))
 
 
-def case_of(name, capture, line, file=b""):
+def case_of(name: str, capture: Capture, line: str, file: bytes = b"") -> Case:
     """A whole capture, the line that `check` prints of it, and the file that it was made of."""
     verdict = f"{line}\n".encode(), 0 if line.startswith("accepted") else 1
     return Case(name, capture.text(), tuple(capture.rows), verdict, file)
 
 
-def texts():
+def texts() -> tuple[Case, ...]:
     """Texts of version 1, sound and with faults."""
     request = b"out 40000 69 000161006f6374657400"
     block = b"in 40000 41000 000300016869"
@@ -159,7 +167,7 @@ def texts():
     )
 
 
-def with_hosts():
+def with_hosts() -> Iterator[Case]:
     """Texts of version 2: strays of a third host at the server's port, and a host that is none."""
     strays = Capture("client", version=2)
     strays.put("client", read_request("a", "octet"))
@@ -173,7 +181,7 @@ def with_hosts():
     yield Case("a host that is none", wrong, tuple(strays.rows[:2]), wrong=(6, "BadHost"))
 
 
-def windows():
+def windows() -> Iterator[Case]:
     """Reads at the client: one by windows of four blocks that come out of order and twice, one with a stray between."""
     sizes = {"blksize": 8, "windowsize": 4}
     file = b"".join(b"%d" % block * 8 for block in range(1, 6)) + b"666"
@@ -196,7 +204,7 @@ def windows():
     yield case_of("a stray", stray, "accepted get octet blocks 1 bytes 2", b"hi")
 
 
-def with_errors():
+def with_errors() -> Iterator[Case]:
     """Transfers that an end ends, and what must not follow."""
     missing = Capture("client")
     missing.put("client", read_request("a", "octet"))
@@ -212,7 +220,7 @@ def with_errors():
     yield dataclasses.replace(after, unlawful=7)
 
 
-def hundred_blocks(file, sizes):
+def hundred_blocks(file: bytes, sizes: Mapping[str, int]) -> Capture:
     """A read in windows of four blocks, each acknowledged by its last."""
     many = Capture("client")
     many.put("client", read_request("boot.img", "octet", **sizes))
@@ -225,7 +233,7 @@ def hundred_blocks(file, sizes):
     return many
 
 
-def transfers():
+def transfers() -> Iterator[Case]:
     """Transfers that need memory for more than a plain read does."""
     sizes, file = {"blksize": 8, "windowsize": 4}, b"0123456789"
     first, second = blocks(file, 8)
@@ -260,7 +268,7 @@ def transfers():
     yield case_of("another request", other, "refused datagram 2 rule 8 RequestChanged")
 
 
-def strays():
+def strays() -> Iterator[Case]:
     """Reads that strays come between, at either end: from other ports, and from other hosts at the other end's port."""
     answer = error(5, "unknown transfer")
     ports = Capture("client")
@@ -281,7 +289,7 @@ def strays():
     yield case_of("strays of other hosts", hosts, "accepted get octet blocks 1 bytes 2", b"hi")
 
 
-def errors():
+def errors() -> Iterator[Case]:
     """Transfers that an ERROR ends, which both ends send and repeat, or which is known from one side alone."""
     told, asked = error(0, "out of blocks"), error(8, "no such size")
     both = Capture("client")
@@ -305,11 +313,11 @@ def errors():
 class ProgramTrial(Trial):
     """The runs of the program."""
 
-    def __init__(self, program, folder):
+    def __init__(self, program: str, folder: pathlib.Path) -> None:
         super().__init__()
         self.program, self.shim, self.met = program, folder / "refuse.so", folder / "met"
 
-    def run(self, words, given, **shim):
+    def run(self, words: Sequence[str | bytes], given: bytes, **shim: int) -> Got:
         """What the program writes and its status, whether it wrote no error, and whether the shim's call was met."""
         self.met.unlink(missing_ok=True)
         environment = {"LD_PRELOAD": str(self.shim), "MET": str(self.met), "PATH": os.environ.get("PATH", "")}
@@ -317,11 +325,13 @@ class ProgramTrial(Trial):
         done = subprocess.run([self.program, *words], input=given, capture_output=True, env=environment, timeout=60)
         return (done.stdout, done.returncode), done.stderr == b"", self.met.exists()
 
-    def expect(self, name, got, *outputs):
+    def expect(self, name: str, got: Got, *outputs: Output) -> None:
         """Counts a run that wrote no error and whose output is among those that may be."""
         self.check(name, got[1] and got[0] in outputs, got)
 
-    def refuse_growths(self, name, words, given, output, outputs):
+    def refuse_growths(
+        self, name: str, words: Sequence[str], given: bytes, output: Output, outputs: Iterable[Output]
+    ) -> int:
         """Each growth refused, until a run meets no refusal: that one's is `output`. How many told want of memory."""
         told = 0
         for turn in range(1, 10_000):
@@ -334,7 +344,7 @@ class ProgramTrial(Trial):
         self.check(f"{name}, growths", False, "no end")
         return told
 
-    def fail_writes(self, name, words, given, output):
+    def fail_writes(self, name: str, words: Sequence[str], given: bytes, output: Output) -> None:
         """Each write failing, or taking nothing, of one byte a write; and none is made behind the last byte."""
         self.expect(f"{name}, one byte a call", self.run(words, given, ONE_BYTE=1), output)
         for turn in range(1, len(output[0]) + 2):
@@ -344,7 +354,7 @@ class ProgramTrial(Trial):
                 self.expect(f"{name}, {way} {turn}", got, (output[0][: turn - 1], 2) if is_made else output)
                 self.check(f"{name}, {way} {turn}, is made", got[2] == is_made, got)
 
-    def fail_reads(self, case, command):
+    def fail_reads(self, case: Case, command: str) -> None:
         """Each read failing, of one byte a read, the one after the whole text too; and none is made behind the line of
         a fault, or of an unlawful datagram."""
         last = case.last_line(command)
@@ -355,26 +365,26 @@ class ProgramTrial(Trial):
             is_made = last is None or case.text[:taken].count(b"\n") < last
             self.check(f"{name}, is made", got[2] == is_made, got)
 
-    def cut(self, case, command):
+    def cut(self, case: Case, command: str) -> None:
         """The text cut after each of its bytes."""
         for taken in range(len(case.text)):
             got = self.run([command], case.text[:taken])
             self.expect(f"{command}, {case.name}, {taken} bytes", got, case.output(command, taken))
 
-    def try_growths(self, case, command):
+    def try_growths(self, case: Case, command: str) -> None:
         name, output = f"{command}, {case.name}", case.output(command)
         self.expect(name, self.run([command], case.text), output)
         told = self.refuse_growths(name, [command], case.text, output, case.outputs_without_memory(command))
         self.check(f"{name}, want of memory", told > 0, "is never met")
 
-    def try_case(self, case, command):
+    def try_case(self, case: Case, command: str) -> None:
         name, output = f"{command}, {case.name}", case.output(command)
         self.try_growths(case, command)
         self.fail_writes(name, [command], case.text, output)
         self.fail_reads(case, command)
         self.cut(case, command)
 
-    def show_in_pieces(self):
+    def show_in_pieces(self) -> None:
         """Many lines are written in pieces of KBs, and after a piece that fails nothing more is."""
         count = 2_000
         text = text_of(*[b"in 40000 41000 00030001"] * count, b"total %d" % count)
@@ -389,7 +399,7 @@ class ProgramTrial(Trial):
             self.check(f"show, many lines, write {turn}", holds and output != whole, (len(output), status))
         self.check("show, many lines", False, "too many writes")
 
-    def normal_of_many(self):
+    def normal_of_many(self) -> None:
         """A longer normal text: after a write that fails nothing more is written."""
         file = b"0123456789" * 80
         text = hundred_blocks(file, {"blksize": 8, "windowsize": 4}).text()
@@ -404,14 +414,14 @@ class ProgramTrial(Trial):
             self.check(f"normal, many lines, write {turn}", holds, (len(output), status))
         self.check("normal, many lines", False, "too many writes")
 
-    def try_words(self, words):
+    def try_words(self, words: list[str]) -> None:
         """Words that are no command are told before anything is read."""
         got = self.run(words, b"", FAIL_READ=1)
         self.expect(f"words {words}", got, USAGE)
         self.check(f"words {words}, no read", not got[2], got)
 
 
-def main(program, folder):
+def main(program: str, folder: str) -> int:
     trial = ProgramTrial(program, pathlib.Path(folder))
     for case in (*texts(), *with_hosts(), *windows(), *with_errors()):
         for command in COMMANDS:
@@ -423,8 +433,8 @@ def main(program, folder):
     trial.normal_of_many()
     for words in NO_COMMANDS:
         trial.try_words(words)
-    for words in NO_WORDS:
-        trial.expect(f"words {words}", trial.run(words, b""), NOTHING)
+    for no_words in NO_WORDS:
+        trial.expect(f"words {no_words}", trial.run(no_words, b""), NOTHING)
     # Memory is wanted for the parse of two words alone.
     for words, outputs in ((["help"], (USAGE, (MEMORY, 2), NOTHING)), (["check", "show"], (USAGE, NOTHING))):
         trial.refuse_growths(f"words {words}", words, b"", USAGE, outputs)

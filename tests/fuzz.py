@@ -10,6 +10,8 @@ The first case has the seed SEED, and each further one the next number; a case t
 run alone by `--cases 1 --seed` and that. Its texts and what was printed of them are written to FOLDER. The last line is
 'N passed, M failed'; status 1 if any failed.
 """
+from __future__ import annotations
+
 import argparse
 import collections
 import concurrent.futures
@@ -21,16 +23,55 @@ import shutil
 import sys
 import tempfile
 import time
+from collections.abc import Iterator, Sequence
+from typing import NamedTuple
 
 from commands import COMMANDS
-from fuzzing.cases import Trier, try_case
+from fuzzing.cases import Failure, Trier, try_case
 from fuzzing.program import Program
 
 AT_ONCE = 50
 
 
-def words_of(arguments):
-    parser = argparse.ArgumentParser(prog="fuzz.py", description=__doc__.split("\n\n", maxsplit=1)[0])
+class Words(argparse.Namespace):
+    """The words of a call."""
+
+    cases: int
+    seconds: float | None
+    seed: int | None
+    jobs: int
+    commands: str
+    folder: pathlib.Path | None
+    slower: float
+    refuse: str | None
+    program: str
+
+
+class Work(NamedTuple):
+    """What is tried and how: `first` is the seed of the first case."""
+
+    first: int
+    cases: int
+    seconds: float | None
+    jobs: int
+    commands: str
+    folder: pathlib.Path
+    slower: float
+    refuse: str | None
+    program: str
+
+
+class Tried(NamedTuple):
+    """How many cases were tried in how many runs, the seed, name and command of each that failed, and what was met."""
+
+    cases: int
+    failed: list[tuple[int, str, str]]
+    runs: int
+    met: collections.Counter[tuple[str, str]]
+
+
+def work_of(arguments: Sequence[str]) -> Work:
+    parser = argparse.ArgumentParser(prog="fuzz.py", description=(__doc__ or "").split("\n\n", maxsplit=1)[0])
     parser.add_argument("--cases", type=int, default=10_000, help="how many cases are tried at the most")
     parser.add_argument("--seconds", type=float, help="how long cases are begun")
     parser.add_argument("--seed", type=int, help="the seed of the first case; each further one has the next number")
@@ -40,39 +81,40 @@ def words_of(arguments):
     parser.add_argument("--slower", type=float, default=1, help="how many times the usual time a run may take")
     parser.add_argument("--refuse", help="refuse.so, with which growths are refused, and reads and writes fail, too")
     parser.add_argument("program")
-    words = parser.parse_args(arguments)
+    words = parser.parse_args(arguments, Words())
     names = words.commands.split(",")
     if not {"check"} <= set(names) <= set(COMMANDS):
         parser.error(f"the commands are check and any of {', '.join(COMMANDS)}")
-    if not shutil.which(words.program):
+    program = shutil.which(words.program)
+    if not program:
         parser.error(f"there is no program {words.program}")
     if words.refuse and not os.path.isfile(words.refuse):
         parser.error(f"there is no file {words.refuse}")
-    words.program, words.refuse = shutil.which(words.program), words.refuse and os.path.abspath(words.refuse)
-    if words.seed is None:
-        words.seed = int.from_bytes(os.urandom(4), "big")
-    words.folder = words.folder or pathlib.Path(tempfile.gettempdir()) / f"tftp-audit-fuzz-{words.seed}"
-    return words
+    refuse = words.refuse and os.path.abspath(words.refuse)
+    seed = int.from_bytes(os.urandom(4), "big") if words.seed is None else words.seed
+    folder = words.folder or pathlib.Path(tempfile.gettempdir()) / f"tftp-audit-fuzz-{seed}"
+    return Work(seed, words.cases, words.seconds, words.jobs, words.commands, folder, words.slower, refuse, program)
 
 
-def write_failure(words, seed, number, failure):
+def write_failure(work: Work, seed: int, number: int, failure: Failure) -> None:
     """The text of a run that failed, what was printed and what should have been, and how to see it again."""
-    folder = words.folder / f"case-{seed}"
+    folder = work.folder / f"case-{seed}"
     folder.mkdir(parents=True, exist_ok=True)
-    capture, program = folder / f"{number}.capture", shlex.quote(words.program)
+    capture, program = folder / f"{number}.capture", shlex.quote(work.program)
     capture.write_bytes(failure.text)
     (folder / f"{number}.told").write_text(
         f"{failure.name}: {failure.command}\nwanted {failure.wanted!r}\ngot {failure.got!r}\n"
         f"the run again: {program} {failure.command} <{shlex.quote(str(capture))}\n"
-        f"the case again: python3 {sys.argv[0]} --cases 1 --seed {seed} --commands {words.commands}"
-        f"{f' --refuse {shlex.quote(words.refuse)}' if words.refuse else ''} {program}\n"
+        f"the case again: python3 {sys.argv[0]} --cases 1 --seed {seed} --commands {work.commands}"
+        f"{f' --refuse {shlex.quote(work.refuse)}' if work.refuse else ''} {program}\n"
     )
 
 
-def try_some(words, first, count):
-    """The failures of some cases, by their seeds, how many runs they took, and how often each verdict was met."""
-    program = Program(words.program, words.slower, words.refuse)
-    trier, failed = Trier(program, words.commands.split(",")), []
+def try_some(work: Work, first: int, count: int) -> Tried:
+    """Tries so many cases, from one on."""
+    program = Program(work.program, work.slower, work.refuse)
+    trier = Trier(program, work.commands.split(","))
+    failed: list[tuple[int, str, str]] = []
     for seed in range(first, first + count):
         trier.failures = []
         try:
@@ -80,60 +122,61 @@ def try_some(words, first, count):
         except Exception as error:
             raise RuntimeError(f"case {seed} cannot be tried") from error
         for number, failure in enumerate(trier.failures, 1):
-            write_failure(words, seed, number, failure)
+            write_failure(work, seed, number, failure)
         if trier.failures:
             failed.append((seed, trier.failures[0].name, trier.failures[0].command))
     program.close()
-    return count, failed, program.runs, trier.met
+    return Tried(count, failed, program.runs, trier.met)
 
 
-def chunks(words):
+def chunks(work: Work) -> Iterator[tuple[Work, int, int]]:
     """The first seed and the number of cases of each piece of work, as long as there is time."""
-    begun, end = time.monotonic(), words.seed + words.cases
-    for first in range(words.seed, end, AT_ONCE):
-        if words.seconds is not None and time.monotonic() - begun > words.seconds:
+    begun, end = time.monotonic(), work.first + work.cases
+    for first in range(work.first, end, AT_ONCE):
+        if work.seconds is not None and time.monotonic() - begun > work.seconds:
             return
-        yield words, first, min(AT_ONCE, end - first)
+        yield work, first, min(AT_ONCE, end - first)
 
 
-def results(words):
+def results(work: Work) -> Iterator[Tried]:
     """What came of each piece of work; few wait, so that none is begun when the time is over."""
-    with concurrent.futures.ProcessPoolExecutor(words.jobs) as pool:
-        waiting, work = collections.deque(), chunks(words)
-        for piece in itertools.islice(work, 2 * words.jobs):
+    with concurrent.futures.ProcessPoolExecutor(work.jobs) as pool:
+        waiting: collections.deque[concurrent.futures.Future[Tried]] = collections.deque()
+        pieces = chunks(work)
+        for piece in itertools.islice(pieces, 2 * work.jobs):
             waiting.append(pool.submit(try_some, *piece))
         while waiting:
             yield waiting.popleft().result()
-            for piece in itertools.islice(work, 1):
+            for piece in itertools.islice(pieces, 1):
                 waiting.append(pool.submit(try_some, *piece))
 
 
-def by_number(name):
+def by_number(name: str) -> tuple[int, list[str]]:
     """The rules in the order of their numbers, and before them what has none."""
     number, *words = name.split() or [""]
     return (int(number), words) if number.isdigit() else (0, [name])
 
 
-def print_met(met):
+def print_met(met: collections.Counter[tuple[str, str]]) -> None:
     """A line for each group of cases: what was met in it, and how often."""
     for group in sorted({group for group, _ in met}):
         names = sorted((name for its, name in met if its == group), key=by_number)
         print(f"{group}: " + ", ".join(f"{name} {met[group, name]}" for name in names))
 
 
-def main(arguments):
-    words = words_of(arguments)
-    print(f"seed {words.seed}", flush=True)
-    begun, cases, runs, failed, met = time.monotonic(), 0, 0, [], collections.Counter()
-    for count, some, its_runs, its_met in results(words):
-        cases, runs, met = cases + count, runs + its_runs, met + its_met
-        for seed, name, command in some:
-            print(f"case {seed}, {name}, {command}: see {words.folder / f'case-{seed}'}", flush=True)
-        failed += some
-    print(f"{cases} cases in {time.monotonic() - begun:.1f} s, {runs} runs of the program")
-    print_met(met)
-    print(f"{cases - len(failed)} passed, {len(failed)} failed")
-    return 1 if failed else 0
+def main(arguments: Sequence[str]) -> int:
+    work, begun = work_of(arguments), time.monotonic()
+    print(f"seed {work.first}", flush=True)
+    whole = Tried(0, [], 0, collections.Counter())
+    for some in results(work):
+        for seed, name, command in some.failed:
+            print(f"case {seed}, {name}, {command}: see {work.folder / f'case-{seed}'}", flush=True)
+        failed, met = whole.failed + some.failed, whole.met + some.met
+        whole = Tried(whole.cases + some.cases, failed, whole.runs + some.runs, met)
+    print(f"{whole.cases} cases in {time.monotonic() - begun:.1f} s, {whole.runs} runs of the program")
+    print_met(whole.met)
+    print(f"{whole.cases - len(whole.failed)} passed, {len(whole.failed)} failed")
+    return 1 if whole.failed else 0
 
 
 if __name__ == "__main__":

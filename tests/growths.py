@@ -4,6 +4,8 @@ folder of refuse.so and CRATES that of the crates, whose tests `rt test` and the
 A test then passes, since the call that wanted memory is asked again, or it stops with want of memory and with nothing
 else; and the first run that meets no refusal passes. The program's commands are tried likewise by failures.py.
 """
+from __future__ import annotations
+
 import os
 import pathlib
 import re
@@ -34,23 +36,23 @@ WANTS = re.compile(
 class GrowthTrial(Trial):
     """The tests of one program."""
 
-    def __init__(self, shim, program):
+    def __init__(self, shim: pathlib.Path, program: pathlib.Path) -> None:
         super().__init__()
         self.program, self.shim, self.met = program, shim / "refuse.so", shim / "met"
 
-    def names(self, beginnings):
+    def names(self, beginnings: tuple[str, ...]) -> list[str]:
         listed = subprocess.run([self.program, "--list"], capture_output=True, check=True).stdout.decode()
         names = [line.removesuffix(": test") for line in listed.splitlines() if line.endswith(": test")]
         return [name for name in names if name.startswith(beginnings)]
 
-    def run(self, name, turn):
+    def run(self, name: str, turn: int) -> tuple[bytes, bool]:
         """What the test says, and whether a growth was refused."""
         self.met.unlink(missing_ok=True)
         environment = {"LD_PRELOAD": str(self.shim), "MET": str(self.met), "REFUSE": str(turn)}
         done = subprocess.run([self.program, name], capture_output=True, env=environment, timeout=60)
         return done.stdout + done.stderr, self.met.exists()
 
-    def last_growth(self, name):
+    def last_growth(self, name: str) -> int:
         """The number of the last growth of a test that meets no refusal."""
         low, high = 0, 1
         while self.run(name, high)[1]:
@@ -60,17 +62,18 @@ class GrowthTrial(Trial):
             low, high = (middle, high) if self.run(name, middle)[1] else (low, middle)
         return low
 
-    def refuse(self, name):
+    def refuse(self, name: str) -> None:
         """Each growth of the test refused in turn, and none."""
         last = self.last_growth(name)
         said, met = self.run(name, last + 1)
-        self.check(f"{name}, no growth refused", not met and PASSED.fullmatch(said), said)
+        self.check(f"{name}, no growth refused", not met and bool(PASSED.fullmatch(said)), said)
         for turn in sorted({1 + step * last // MOST for step in range(MOST)} if last > MOST else range(1, last + 1)):
             said, met = self.run(name, turn)
-            self.check(f"{name}, growth {turn} refused", PASSED.fullmatch(said) or WANTS.fullmatch(said), said)
+            holds = PASSED.fullmatch(said) or WANTS.fullmatch(said)
+            self.check(f"{name}, growth {turn} refused", bool(holds), said)
 
 
-def main(shim, crates):
+def main(shim: str, crates: str) -> int:
     failed = 0
     for crate, beginnings in TESTS.items():
         program = pathlib.Path(crates, crate, "out", f"{crate}_tests")
@@ -79,7 +82,7 @@ def main(shim, crates):
             continue
         trial = GrowthTrial(pathlib.Path(shim), program)
         names = trial.names(beginnings)
-        trial.check(f"{crate} has tests", names)
+        trial.check(f"{crate} has tests", bool(names))
         for name in names:
             trial.refuse(name)
         failed |= trial.end()

@@ -11,6 +11,7 @@ import subprocess
 import sys
 import tempfile
 import xml.etree.ElementTree as ElementTree
+from collections.abc import Sequence
 
 from captures import Capture, ack, blocks, data, error, oack, read_request, write_request
 from trial import Trial
@@ -22,7 +23,7 @@ RED, GREY, BROWN, PALE = "#d40000", "#a5a5a5", "#8a6d3b", "#c9c9c9"
 WINDOWED = {"blksize": 8, "windowsize": 4}
 
 
-def run(words: list[object], given: bytes) -> tuple[str, str, int]:
+def run(words: Sequence[object], given: bytes) -> tuple[str, str, int]:
     """What the script writes, what it writes as errors, and its status."""
     done = subprocess.run([str(word) for word in (SCRIPT, *words)], input=given, capture_output=True, timeout=120)
     return done.stdout.decode(), done.stderr.decode(), done.returncode

@@ -6,36 +6,40 @@ too long in canonical text, or just not. What is extracted is compared with the 
 
 Prints each case that is not as it should be, then a last line 'N passed, M failed'; status 1 if any failed.
 """
+from __future__ import annotations
+
 import concurrent.futures
 import os
 import random
 import subprocess
 import sys
+from collections.abc import Iterable, Iterator, Sequence
 
-import captures
-from captures import ack, blocks, data, error, netascii, oack, read_request, write_request
+from captures import Capture, EndName, Packet, ack, blocks, data, error, netascii, oack, read_request, write_request
 from commands import COMMANDS
 from normal import meaning_of, outputs_of_refused
 from trial import Trial
 
+# A name, the command, the text, what is printed and the status.
+Tried = tuple[str, str, bytes, bytes, int]
 COUNT = 10_000
 AGREED = {"blksize": 8, "windowsize": 7}
 # The most blocks that there are numbers for, and their size where none is agreed (RFC 1350).
 MOST_BLOCKS, USUAL_SIZE = 65_535, 512
 
 
-def fill(capture, sender, last):
+def fill(capture: Capture, sender: EndName, last: Packet) -> None:
     """The last two datagrams of a transfer, again and again, up to the count."""
-    other = "server" if sender == "client" else "client"
+    other: EndName = "server" if sender == "client" else "client"
     while len(capture.rows) < COUNT:
         capture.put(sender, last)
         if len(capture.rows) < COUNT:
             capture.put(other, ack(int(last[1].split()[1])))
 
 
-def at_receiver(file):
+def at_receiver(file: bytes) -> Capture:
     """A read at the client: windows whose blocks come once or twice, and the last windows also backwards or mixed."""
-    capture = captures.Capture("client")
+    capture = Capture("client")
     capture.put("client", read_request("boot.img", "octet", blksize=512, windowsize=7, tsize=0))
     capture.put("server", oack(**AGREED, tsize=len(file)))
     capture.put("client", ack(0))
@@ -50,9 +54,9 @@ def at_receiver(file):
     return capture
 
 
-def at_sender(file):
+def at_sender(file: bytes) -> Capture:
     """A write in netascii at the client: windows that are acknowledged whole, in part, or twice."""
-    capture = captures.Capture("client")
+    capture = Capture("client")
     capture.put("client", write_request("notes.txt", "netascii", **AGREED))
     capture.put("server", oack(**AGREED))
     wire, size = blocks(netascii(file), AGREED["blksize"]), AGREED["windowsize"]
@@ -67,9 +71,9 @@ def at_sender(file):
     return capture
 
 
-def among_hosts(file):
+def among_hosts(file: bytes) -> Capture:
     """A read at the client: between the blocks a third host sends some from the server's port, and gets ERRORs."""
-    capture = captures.Capture("client", version=2)
+    capture = Capture("client", version=2)
     capture.put("client", read_request("boot.img", "octet", **AGREED))
     capture.put("server", oack(**AGREED))
     capture.put("client", ack(0))
@@ -85,16 +89,16 @@ def among_hosts(file):
     return capture
 
 
-def ended(capture, sender, told):
+def ended(capture: Capture, sender: EndName, told: Packet) -> Capture:
     """The first half of a capture, and then one ERROR of this end, again and again up to the count."""
     del capture.lines[COUNT // 2 :], capture.rows[COUNT // 2 :]
     capture.put(sender, *[told] * (COUNT - len(capture.rows)))
     return capture
 
 
-def line_ends(length):
+def line_ends(length: int) -> Capture:
     """A netascii read whose wire text is bare line ends, 32,768 blocks in one window."""
-    capture = captures.Capture("client")
+    capture = Capture("client")
     options = {"blksize": 8, "windowsize": 65_535}
     capture.put("client", read_request("a", "netascii", **options))
     capture.put("server", oack(**options))
@@ -104,9 +108,9 @@ def line_ends(length):
     return capture
 
 
-def in_lock_step(wire):
+def in_lock_step(wire: Iterable[Packet]) -> Capture:
     """A write at the server, of these blocks one by one."""
-    capture = captures.Capture("server")
+    capture = Capture("server")
     capture.put("client", write_request("boot.img", "octet"))
     capture.put("server", ack(0))
     for number, packet in enumerate(wire, 1):
@@ -115,9 +119,9 @@ def in_lock_step(wire):
     return capture
 
 
-def backwards(wire):
+def backwards(wire: Sequence[Packet]) -> Capture:
     """A read at the client of these blocks in one window, of which the last comes first."""
-    capture = captures.Capture("client")
+    capture = Capture("client")
     options = {"blksize": 8, "windowsize": 65_535}
     capture.put("client", read_request("boot.img", "octet", **options))
     capture.put("server", oack(**options))
@@ -127,7 +131,7 @@ def backwards(wire):
     return capture
 
 
-def judged(name, text, line, status, file=b""):
+def judged(name: str, text: bytes, line: str, status: int, file: bytes = b"") -> Iterator[Tried]:
     """What is tried on a text of which `check` prints this line, by each command that judges it."""
     verdict = f"{line}\n".encode(), status
     outputs = outputs_of_refused(verdict) if status else meaning_of(text, file).outputs(verdict)
@@ -136,15 +140,17 @@ def judged(name, text, line, status, file=b""):
             yield name, command, text, output, ended
 
 
-def with_another_last(name, capture, sender, packet, rule):
+def with_another_last(name: str, capture: Capture, sender: EndName, packet: Packet, rule: str) -> Iterator[Tried]:
     """The same capture with this packet as its last datagram, which breaks the rule."""
     capture.lines.pop()
     capture.put(sender, packet)
     yield from judged(f"{name}, another last datagram", capture.text(), f"refused datagram {COUNT} rule {rule}", 1)
 
 
-def whole(name, capture, kind, wire, file, change):
-    """What is tried on a whole capture: a name, the command, the text, what is printed and the status."""
+def whole(
+    name: str, capture: Capture, kind: str, wire: bytes, file: bytes, change: tuple[Packet, str]
+) -> Iterator[Tried]:
+    """What is tried on a whole capture."""
     count = len(wire) // AGREED["blksize"] + 1
     text, half = capture.text(), COUNT // 2
     yield from judged(name, text, f"accepted {kind} blocks {count} bytes {len(file)}", 0, file)
@@ -155,14 +161,14 @@ def whole(name, capture, kind, wire, file, change):
     yield from with_another_last(name, capture, "server", *change)
 
 
-def aborted(name, capture, by, change):
+def aborted(name: str, capture: Capture, by: str, change: tuple[EndName, Packet]) -> Iterator[Tried]:
     """What is tried on a capture that ends by ERRORs."""
     yield from judged(name, capture.text(), f"aborted by {by}", 1)
     yield name, "show", capture.text(), b"".join(capture.rows), 0
     yield from with_another_last(name, capture, *change, "7 AfterError")
 
 
-def of_most_blocks():
+def of_most_blocks() -> Iterator[Tried]:
     """What is tried on captures of as many blocks as there may be, of random bytes that are the same each time."""
     chance, accepted = random.Random(1350), f"blocks {MOST_BLOCKS} bytes"
     file = chance.randbytes(MOST_BLOCKS * USUAL_SIZE - 1)
@@ -177,7 +183,7 @@ def of_most_blocks():
     yield from judged("the last first", capture.text(), f"accepted get octet {accepted} {len(file)}", 0, file)
 
 
-def cases():
+def cases() -> Iterator[Tried]:
     image = b"".join(b"%06d\n" % number for number in range(8_150))
     notes = b"".join((b"%d\n", b"a\r\n%d", b"\r%d\r", b"\n\n%d")[number % 4] % number for number in range(7_600))
     # Bare line ends are one byte each on the wire and two in canonical text, which has at most 65,535 blocks of 8.
@@ -198,13 +204,13 @@ def cases():
     yield from aborted("a write that the client ends", write, "local code 3", ("client", data(1, wire[:8])))
 
 
-def said(program, command, text):
+def said(program: str, command: str, text: bytes) -> tuple[bytes, bytes, int]:
     """What the program prints of a text, what it writes as errors, and its status."""
     done = subprocess.run([program, command], input=text, capture_output=True, timeout=300)
     return done.stdout, done.stderr, done.returncode
 
 
-def main(program):
+def main(program: str) -> int:
     trial, tried = Trial(), list(cases())
     with concurrent.futures.ThreadPoolExecutor(len(os.sched_getaffinity(0))) as pool:
         got = pool.map(lambda case: said(program, *case[1:3]), tried)

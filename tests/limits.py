@@ -1,5 +1,5 @@
-"""The built program with little stack and with little memory: each command answers right or says that memory is wanting,
-and is never ended by a signal.
+"""The built program with little stack and with little memory: each command answers right or says that memory is
+wanting, and is never ended by a signal.
 """
 import resource
 import subprocess
@@ -7,7 +7,7 @@ from collections.abc import Iterator
 
 from captures import Capture, ack, blocks, data, oack, read_request
 from commands import COMMANDS, SILENT
-from normal import meaning_of, outputs_of_refused
+from normal import Output, meaning_of, outputs_of_refused
 from trial import Trial
 
 # The stack that the program is run in, and the steps in which its memory is raised, in bytes.
@@ -16,7 +16,6 @@ STACK, STEP = 128 * 1024, 32 * 1024
 MUCH = 8 * 1024 * 1024
 ENOUGH = 64 * 1024 * 1024
 MEMORY = b"fault memory\n"
-Output = tuple[bytes, int]
 
 
 def named(count: int) -> dict[str, str]:
@@ -95,7 +94,7 @@ class LimitTrial(Trial):
         return done.stdout, done.returncode, done.stderr
 
     def starts(self, size: int) -> bool:
-        """Whether each command judges a plain read in so much memory; the stack that it takes is what all texts take."""
+        """Whether each command judges a plain read in so much memory; its stack is what all texts take."""
         text = windowed().text()
         try:
             return all(self.run([command], text, resource.RLIMIT_AS, size)[1] in (0, 2) for command in COMMANDS)

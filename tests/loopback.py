@@ -261,7 +261,8 @@ def enter_namespace(words: list[str]) -> int:
     if subprocess.run(["unshare", "--net", "true"], stderr=subprocess.DEVNULL).returncode != 0:
         print("no network namespace can be had here, as root can, so nothing is recorded over the loopback")
         return 0
-    return subprocess.run(["unshare", "--net", sys.executable, __file__, *words], env={**os.environ, INSIDE: "1"}).returncode
+    command = ["unshare", "--net", sys.executable, __file__, *words]
+    return subprocess.run(command, env={**os.environ, INSIDE: "1"}).returncode
 
 
 def main(program: str, folder: Optional[str]) -> int:

@@ -1,17 +1,30 @@
 """The normal capture of a transfer, made from its meaning by the formats alone."""
-import dataclasses
+from __future__ import annotations
 
+import dataclasses
+from collections.abc import Mapping, Sequence
+from typing import Literal, Union
+
+Side = Literal["get", "put"]
+Mode = Literal["octet", "netascii"]
+# What an option means, by its name in lower case: a number, or the bytes themselves.
+Value = Union[int, bytes]
+Options = Mapping[bytes, Value]
+# What a command prints, and its status.
+Output = tuple[bytes, int]
 KNOWN = {b"blksize": (8, 65_464), b"timeout": (1, 255), b"tsize": (0, 2**64 - 1), b"windowsize": (1, 65_535)}
 USUAL_SIZE = 512
 CLIENT, SERVER, SERVICE = 50_000, 50_001, 69
-REQUEST_OPCODES = {"get": 1, "put": 2}
+REQUEST_OPCODES: dict[Side, int] = {"get": 1, "put": 2}
+SIDES: tuple[Side, ...] = ("get", "put")
+MODES: tuple[Mode, ...] = ("octet", "netascii")
 
 
-def number(value):
+def number(value: int) -> bytes:
     return value.to_bytes(2, "big")
 
 
-def value_of(name, text):
+def value_of(name: bytes, text: bytes) -> Value:
     """What an option's value means: a number of a known option in its range, or the bytes themselves."""
     if name in KNOWN and text and all(sign in b"0123456789" for sign in text):
         least, most = KNOWN[name]
@@ -20,16 +33,16 @@ def value_of(name, text):
     return text
 
 
-def text_of(value):
+def text_of(value: Value) -> bytes:
     return b"%d" % value if isinstance(value, int) else value
 
 
-def encoded(file):
+def encoded(file: bytes) -> bytes:
     """The netascii text of a file: LF as CR LF, and CR as CR NUL."""
     return file.replace(b"\r", b"\r\0").replace(b"\n", b"\r\n")
 
 
-def decoded(wire):
+def decoded(wire: bytes) -> bytes:
     """The file that a netascii text reads as: CR LF is LF, CR NUL is CR, and every other byte is itself."""
     file, at = bytearray(), 0
     while at < len(wire):
@@ -39,7 +52,7 @@ def decoded(wire):
     return bytes(file)
 
 
-def canonical(options):
+def canonical(options: Options) -> bytes:
     """The pairs of an option map, in the order of their names."""
     return b"".join(b"%s\0%s\0" % (name, text_of(options[name])) for name in sorted(options))
 
@@ -48,52 +61,52 @@ def canonical(options):
 class Meaning:
     """What a whole transfer is: names of options are lower-case bytes, and values are numbers or bytes."""
 
-    side: str
+    side: Side
     name: bytes
-    mode: str
-    requested: dict
-    agreed: dict
+    mode: Mode
+    requested: Options
+    agreed: Mapping[bytes, int]
     file: bytes
 
     @property
-    def size(self):
+    def size(self) -> int:
         return self.agreed.get(b"blksize", USUAL_SIZE)
 
     @property
-    def window(self):
+    def window(self) -> int:
         return self.agreed.get(b"windowsize", 1)
 
-    def canonical_wire(self):
+    def canonical_wire(self) -> bytes:
         return encoded(self.file) if self.mode == "netascii" else self.file
 
-    def block_count(self):
+    def block_count(self) -> int:
         return len(self.canonical_wire()) // self.size + 1
 
-    def line(self):
+    def line(self) -> bytes:
         """The line that `check` prints."""
         kind = f"{self.side} {self.mode}"
         return f"accepted {kind} blocks {self.block_count()} bytes {len(self.file)}\n".encode()
 
-    def count_line(self):
+    def count_line(self) -> bytes:
         """The line that `count` prints."""
         return b"normal datagrams %d\n" % self.normal_lines().count(b"\n")
 
-    def normal_text(self):
+    def normal_text(self) -> bytes:
         lines = self.normal_lines()
         return b"tftp-capture 1\nend client\nservice 69\n%stotal %d\n" % (lines, lines.count(b"\n"))
 
-    def outputs(self, verdict):
+    def outputs(self, verdict: Output) -> dict[str, Output]:
         """What each command but `show` prints of a capture of this meaning, and its status, by the verdict on it."""
         if verdict[1] != 0:
             return outputs_of_refused(verdict)
         texts = {"extract": self.file, "normal": self.normal_text(), "count": self.count_line()}
         return {"check": verdict, **{command: (text, 0) for command, text in texts.items()}}
 
-    def normal_lines(self):
+    def normal_lines(self) -> bytes:
         """The datagram lines of the normal capture."""
         lines = bytearray()
 
-        def put(way, payload, server=SERVER):
+        def put(way: bytes, payload: bytes, server: int = SERVER) -> None:
             lines.extend(b"%s %d %d %s\n" % (way, CLIENT, server, payload.hex().encode()))
 
         data_way, ack_way = (b"in", b"out") if self.side == "get" else (b"out", b"in")
@@ -112,17 +125,22 @@ class Meaning:
         return bytes(lines)
 
 
-def outputs_of_refused(verdict):
+def outputs_of_refused(verdict: Output) -> dict[str, Output]:
     """The same of a capture that is not accepted, whatever it means."""
     return {"check": verdict, "extract": (b"", verdict[1]), "normal": (b"", verdict[1]), "count": verdict}
 
 
-def pairs_of(strings):
+def pairs_of(strings: Sequence[bytes]) -> dict[bytes, Value]:
     """The map that the strings of a request or of an OACK say."""
     return {name.lower(): value_of(name.lower(), text) for name, text in zip(strings[::2], strings[1::2])}
 
 
-def meaning_of(text, file):
+def mode_of(text: bytes) -> Mode:
+    """The mode that a request's text names, in any letter case."""
+    return next(mode for mode in MODES if mode == text.decode().lower())
+
+
+def meaning_of(text: bytes, file: bytes) -> Meaning:
     """What a capture text means by its first datagram, a request, and by its first OACK, if it carries this file."""
     payloads = [line.split()[-1] for line in text.splitlines() if line.startswith((b"in ", b"out "))]
     opcode, *rest = bytes.fromhex(payloads[0].decode())[1:]
@@ -130,4 +148,5 @@ def meaning_of(text, file):
     oack = next((payload for payload in payloads if payload.startswith(b"0006")), b"0006")
     agreed = bytes.fromhex(oack.decode())[2:].split(b"\0")[:-1]
     side = next(side for side, its in REQUEST_OPCODES.items() if its == opcode)
-    return Meaning(side, name, mode.decode().lower(), pairs_of(requested), pairs_of(agreed), file)
+    numbers = {option: value for option, value in pairs_of(agreed).items() if isinstance(value, int)}
+    return Meaning(side, name, mode_of(mode), pairs_of(requested), numbers, file)

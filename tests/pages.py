@@ -7,19 +7,15 @@ Prints each case that is not as it should be, then a last line 'N passed, M fail
 """
 from __future__ import annotations
 
-import pathlib
 import re
 import shutil
 import subprocess
 import sys
 
+from repository import TOP
+from tftp_tools.rules import LISTED, PACKET_FAULTS
+from tftp_tools.textfaults import MEANINGS
 from trial import Trial
-
-TOP = pathlib.Path(__file__).resolve().parent.parent
-sys.path.insert(0, str(TOP / "tools"))
-
-from tftp_tools.rules import LISTED, PACKET_FAULTS  # noqa: E402
-from tftp_tools.textfaults import MEANINGS  # noqa: E402
 
 SCRIPTS = ("tftp-transfers", "tftp-explain", "tftp-ladder")
 NAMED = re.compile(r"`((?:docs|tools|tests|examples)/[A-Za-z0-9_./-]+)`")
@@ -63,10 +59,10 @@ def try_manual(trial: Trial) -> None:
     if not shutil.which("mandoc"):
         print("mandoc is not installed, so the manual pages are not tried with it")
         return
-    for page in sorted((TOP / "docs" / "man").glob("*.1")):
-        said = subprocess.run(["mandoc", "-T", "lint", "-W", "warning", page], capture_output=True, text=True).stdout
+    for path in sorted((TOP / "docs" / "man").glob("*.1")):
+        said = subprocess.run(["mandoc", "-T", "lint", "-W", "warning", path], capture_output=True, text=True).stdout
         said = "".join(line for line in said.splitlines() if "missing date" not in line)
-        trial.check(f"{page.name}, mandoc", said == "", said)
+        trial.check(f"{path.name}, mandoc", said == "", said)
 
 
 def try_names(trial: Trial) -> None:
@@ -155,9 +151,9 @@ def try_picture(trial: Trial, program: str) -> None:
     if not shutil.which("tshark"):
         return
     recording, folder = "loopback-repeated-oack", TOP / "examples"
-    words = [TOP / "tools" / "tftp-transfers", f"examples/{recording}.pcap", "1", "client"]
+    words = [str(TOP / "tools" / "tftp-transfers"), f"examples/{recording}.pcap", "1", "client"]
     text = subprocess.run(words, capture_output=True, check=True, cwd=TOP).stdout
-    words = [TOP / "tools" / "tftp-ladder", "--program", program]
+    words = [str(TOP / "tools" / "tftp-ladder"), "--program", program]
     drawn = subprocess.run(words, input=text, capture_output=True, check=True).stdout
     trial.check("the picture of examples/", drawn == (folder / f"{recording}.svg").read_bytes())
 

@@ -1,18 +1,18 @@
-"""Tests of tools/plants on texts of its own: what an edit changes, which edits may be tried together, and what a check
-says of them. It runs no check.
+"""Tests of tools/tftp_plants on texts of its own: what an edit changes, which edits may be tried together, and what a
+check says of them. It runs no check.
 """
+from __future__ import annotations
+
 import pathlib
 import sys
 import tempfile
 import unittest
 
 sys.dont_write_bytecode = True
-sys.path.insert(0, str(pathlib.Path(__file__).resolve().parents[1] / "tools" / "plants"))
 
-import edits  # noqa: E402
-import said  # noqa: E402
-import source  # noqa: E402
-import tries  # noqa: E402
+import repository  # noqa: E402, F401
+from tftp_plants import edits, said, source, tries  # noqa: E402
+from tftp_plants.said import Outcome  # noqa: E402
 
 FILES = {
     "src/lib.rt": '''mod shelf;
@@ -78,49 +78,49 @@ only=5 proved=1
 """
 
 
-def edit(*lines, name="one"):
+def edit(*lines: str, name: str = "one") -> edits.Edit:
     """An edit of these lines."""
     folder = pathlib.Path(tempfile.mkdtemp(dir=FOLDER.name))
     (folder / f"{name}.edit").write_text("\n".join(lines) + "\n", encoding="utf-8")
     return edits.edits_in("box", folder, "plants")[0]
 
 
-def changed(it):
+def changed(it: edits.Edit) -> set[str]:
     """The functions that an edit of FILES changes."""
     return source.changed(SOURCES, source.sources_of("box", it.applied(FILES)))
 
 
 class Functions(unittest.TestCase):
-    def test_functions_are_found_and_named_as_the_checker_does(self):
+    def test_functions_are_found_and_named_as_the_checker_does(self) -> None:
         self.assertEqual(set(source.functions_of(SOURCES)), {TOP, MIDDLE, LOW, BESIDE, LEN, READ, OF_BOOK, OF_ERROR})
 
-    def test_a_function_reaches_what_it_calls(self):
+    def test_a_function_reaches_what_it_calls(self) -> None:
         reach = source.reachable(source.functions_of(SOURCES))
         self.assertEqual(reach[TOP], {MIDDLE, LOW})
         self.assertEqual(reach[BESIDE], set())
 
 
 class Edits(unittest.TestCase):
-    def test_an_edit_changes_the_function_that_it_stands_in(self):
+    def test_an_edit_changes_the_function_that_it_stands_in(self) -> None:
         self.assertEqual(changed(edit("file: src/shelf.rt", "old: self.books.len()", "new: 0")), {LEN})
 
-    def test_two_conversions_to_one_type_are_two_functions(self):
+    def test_two_conversions_to_one_type_are_two_functions(self) -> None:
         self.assertEqual(changed(edit("file: src/shelf.rt", "old: book.alone()", "new: book.twice()")), {OF_BOOK})
         self.assertEqual(changed(edit("file: src/shelf.rt", "old: books: &[] }", "new: books: &[1] }")), {OF_ERROR})
 
-    def test_a_constant_changes_the_functions_that_name_it(self):
+    def test_a_constant_changes_the_functions_that_name_it(self) -> None:
         self.assertEqual(changed(edit("file: src/shelf.rt", "old: [7, 8]", "new: [7, 9]")), {LOW})
 
-    def test_what_is_changed_back_is_not_changed(self):
+    def test_what_is_changed_back_is_not_changed(self) -> None:
         there, back = ("old: { 3 }", "new: { 4 }"), ("old: { 4 }", "new: { 3 }")
         self.assertEqual(changed(edit("file: src/shelf.rt", *there, "old: low(n)", "new: true", *back)), {MIDDLE})
 
-    def test_a_function_that_is_added_is_none_that_is_changed(self):
+    def test_a_function_that_is_added_is_none_that_is_changed(self) -> None:
         added = edit("file: src/shelf.rt", "old: { 3 }", "new: { four() } fn four() -> u64 { 4 }")
         self.assertEqual(changed(added), {BESIDE})
 
-    def test_an_edit_that_does_not_apply_says_why(self):
-        wrong = {
+    def test_an_edit_that_does_not_apply_says_why(self) -> None:
+        wrong: dict[str, tuple[str, ...]] = {
             "0 times": ("file: src/shelf.rt", "old: { 5 }", "new: { 4 }"),
             "2 times": ("file: src/shelf.rt", "old: bool", "new: u8"),
             "no file": ("file: src/none.rt", "old: a", "new: b"),
@@ -133,7 +133,7 @@ class Edits(unittest.TestCase):
 
 
 class Groups(unittest.TestCase):
-    def test_only_edits_that_have_nothing_to_do_with_one_another_are_tried_together(self):
+    def test_only_edits_that_have_nothing_to_do_with_one_another_are_tried_together(self) -> None:
         caller, called = ("low(n)", "n < 9 && low(n)"), ("n < LIMIT[0]", "n < LIMIT[1]")
         bodies = {"caller": caller, "called": called, "beside": ("{ 3 }", "{ 4 }"), "len": ("self.books.len()", "0")}
         found = [edit("file: src/shelf.rt", f"old: {a}", f"new: {b}", name=name) for name, (a, b) in bodies.items()]
@@ -147,30 +147,30 @@ class Groups(unittest.TestCase):
 class Told(unittest.TestCase):
     """What a check says of the functions that an edit changes."""
 
-    def of(self, *symbols):
+    def of(self, *symbols: str) -> tuple[Outcome, str]:
         return said.Said("box", CHECKED).of(set(symbols))
 
-    def test_an_open_goal_of_the_function_itself_is_a_refusal(self):
-        self.assertEqual(self.of(LOW), (said.REFUSED, f"{LOW}, goal index-1, is not proved: the index is in bounds"))
+    def test_an_open_goal_of_the_function_itself_is_a_refusal(self) -> None:
+        self.assertEqual(self.of(LOW), (Outcome.REFUSED, f"{LOW}, goal index-1, is not proved: the index is in bounds"))
         written = f"{LEN}, clause size, is not proved: its written answer does not prove it; also clause least"
-        self.assertEqual(self.of(LEN), (said.REFUSED, written))
-        self.assertEqual(self.of(MIDDLE, LOW)[0], said.REFUSED)
+        self.assertEqual(self.of(LEN), (Outcome.REFUSED, written))
+        self.assertEqual(self.of(MIDDLE, LOW)[0], Outcome.REFUSED)
 
-    def test_a_line_that_names_a_callee_is_none(self):
-        self.assertEqual(self.of(MIDDLE)[0], said.CALLEE)
+    def test_a_line_that_names_a_callee_is_none(self) -> None:
+        self.assertEqual(self.of(MIDDLE)[0], Outcome.CALLEE)
 
-    def test_a_proof_that_names_what_is_gone_is_none(self):
-        self.assertEqual(self.of(BESIDE)[0], said.NAMED)
+    def test_a_proof_that_names_what_is_gone_is_none(self) -> None:
+        self.assertEqual(self.of(BESIDE)[0], Outcome.NAMED)
 
-    def test_a_function_that_is_proved_or_not_there_is_none(self):
-        self.assertEqual(self.of(READ)[0], said.PROVED)
-        self.assertEqual(self.of("box::shelf::Shelf")[0], said.UNTOLD)
+    def test_a_function_that_is_proved_or_not_there_is_none(self) -> None:
+        self.assertEqual(self.of(READ)[0], Outcome.PROVED)
+        self.assertEqual(self.of("box::shelf::Shelf")[0], Outcome.UNTOLD)
 
-    def test_a_closure_counts_as_the_function_that_it_stands_in(self):
-        self.assertEqual(self.of("box::shelf::top")[0], said.UNTOLD)
+    def test_a_closure_counts_as_the_function_that_it_stands_in(self) -> None:
+        self.assertEqual(self.of("box::shelf::top")[0], Outcome.UNTOLD)
         self.assertIn("position", self.of("box::shelf::top")[1])
 
-    def test_a_check_that_did_not_reach_its_functions_has_not_ended(self):
+    def test_a_check_that_did_not_reach_its_functions_has_not_ended(self) -> None:
         text = "src/shelf.rt:3:9: error[mismatched-types]: expected `bool`, found `usize`\n"
         self.assertEqual((said.Said("box", text).ended, said.Said("box", text).wrong), (False, [text.strip()]))
         for last, is_proved in (("logic=not-proved", False), ("logic=proved functions=19 sum=8f15bf", True)):

@@ -71,7 +71,9 @@ def udp(it: Datagram, length: Optional[int] = None, surplus: bytes = b"") -> byt
     return struct.pack("!HHHH", it.source_port, it.target_port, size, 0xBEEF) + it.payload + surplus
 
 
-def ipv4(it: Datagram, content: bytes, protocol: int = UDP, part: Optional[Fragment] = None, options: bytes = b"") -> bytes:
+def ipv4(
+    it: Datagram, content: bytes, protocol: int = UDP, part: Optional[Fragment] = None, options: bytes = b""
+) -> bytes:
     """A packet of IPv4, of whole words of options (RFC 791, section 3.1)."""
     head, place = 5 + len(options) // 4, 0x4000
     if part:
@@ -81,7 +83,9 @@ def ipv4(it: Datagram, content: bytes, protocol: int = UDP, part: Optional[Fragm
     return first + b"".join(it.packed()) + options + content
 
 
-def ipv6(it: Datagram, content: bytes, protocol: int = UDP, part: Optional[Fragment] = None, kinds: tuple[int, ...] = ()) -> bytes:
+def ipv6(
+    it: Datagram, content: bytes, protocol: int = UDP, part: Optional[Fragment] = None, kinds: tuple[int, ...] = ()
+) -> bytes:
     """A packet of IPv6 with extension headers of these kinds, of different sizes (RFC 8200)."""
     headers, body = [(kind, bytes(6 + EIGHT * place)) for place, kind in enumerate(kinds)], b""
     chain = [kind for kind, _ in headers] + ([FRAGMENT] if part else []) + [protocol]
@@ -142,7 +146,8 @@ def block(order: str, kind: int, body: bytes) -> bytes:
 
 def options(order: str, *pairs: tuple[int, bytes]) -> bytes:
     """Options, each to a whole word, and their end; none where there is none."""
-    told = b"".join(struct.pack(f"{order}HH", code, len(value)) + value + bytes(-len(value) % 4) for code, value in pairs)
+    padded = ((code, len(value), value + bytes(-len(value) % 4)) for code, value in pairs)
+    told = b"".join(struct.pack(f"{order}HH", code, length) + value for code, length, value in padded)
     return told + bytes(4) if pairs else b""
 
 
@@ -175,7 +180,9 @@ class Interface:
         """A time in this interface's units since its offset: of units that are powers of two the next one."""
         unit = 6 if self.unit is None else self.unit
         since = time - self.offset * 1_000_000_000
-        return -(-(since << (unit & 127)) // 1_000_000_000) if unit & 128 else since * 10**unit // 1_000_000_000
+        if unit & 128:
+            return -(-(since << (unit & 127)) // 1_000_000_000)
+        return since * int(10**unit) // 1_000_000_000
 
 
 Block = Union[Frame, bytes]

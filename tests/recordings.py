@@ -5,21 +5,27 @@ others. And what tools/capture-text writes and refuses of other fields.
 
 Prints each case that is not as it should be, then a last line 'N passed, M failed'; status 1 if any failed.
 """
+from __future__ import annotations
+
 import os
-import pathlib
 import shlex
 import subprocess
 import sys
+from collections.abc import Iterable
 
 from commands import COMMANDS
 from normal import meaning_of
+from repository import TOP
 from trial import Trial
 
-TOP = pathlib.Path(__file__).resolve().parent.parent
+# What a command writes, what it writes as errors, and its status.
+Ran = tuple[bytes, bytes, int]
+# Words, fields, and what is written or told of them.
+Fields = tuple[tuple[str, ...], str, str]
 SCRIPT = TOP / "tools" / "capture-text"
 
 
-def lines(text, numbers, size):
+def lines(text: str, numbers: Iterable[int], size: int) -> bytes:
     """The first so many bytes of a file of this line, with these numbers in it."""
     return "".join(text.format(number) for number in numbers).encode()[:size]
 
@@ -92,8 +98,8 @@ HEAD = "tftp-capture 1\nend client\nservice 69\n"
 TEXT = HEAD + "out 40000 69 000161006f6374657400\n"
 AT_SERVER = TEXT.replace("client", "server").replace("out 40000 69", "in 69 40000")
 LOCAL = "127.0.0.1\t40000\t127.0.0.1\t69\t000161006f6374657400\n"
-# Words, fields, and the text that is written of them.
-WRITTEN = (
+# Those of which a text is written.
+WRITTEN: tuple[Fields, ...] = (
     (CLIENT, REQUEST, TEXT + "total 1\n"),
     (CLIENT, REQUEST.rstrip("\n"), TEXT + "total 1\n"),
     (CLIENT, REQUEST.replace("000161006f6374657400", "00:01:61:00:6F:63:74:65:74:00"), TEXT + "total 1\n"),
@@ -117,7 +123,7 @@ STRAY = "192.0.2.9\t41000\t192.0.2.7\t40000\t000300016869\n"
 ANSWER = "192.0.2.7\t40000\t192.0.2.9\t41000\t0005000500\n"
 STRAY_AT_SERVER = "192.0.2.9\t40000\t192.0.2.1\t41000\t00040001\n"
 LONGEST = "2001:0db8:1111:2222:3333:4444:255.255.255.255"
-WITH_HOSTS = (
+WITH_HOSTS: tuple[Fields, ...] = (
     (CLIENT, REQUEST, OTHERS + "total 1\n"),
     (SERVER, REQUEST, OTHERS_AT_SERVER + "total 1\n"),
     (
@@ -150,7 +156,7 @@ WITH_HOSTS = (
     ),
 )
 # Words and fields of which nothing is written, and what is told of them.
-TOLD = (
+TOLD: tuple[Fields, ...] = (
     (CLIENT, "", "the input is empty: the filter lets no datagram through"),
     (
         CLIENT,
@@ -179,7 +185,7 @@ TOLD = (
     ),
 )
 # Words and fields of which nothing is written.
-REFUSED = (
+REFUSED: tuple[tuple[tuple[str, ...], str], ...] = (
     ((), REQUEST),
     (("client", "192.0.2.7"), REQUEST),
     ((*CLIENT, "host"), REQUEST),
@@ -218,13 +224,15 @@ REFUSED = (
 )
 
 
-def run(command, given):
+def run(command: Iterable[object], given: bytes) -> Ran:
     """What a command writes, what it writes as errors, and its status."""
     done = subprocess.run([str(word) for word in command], input=given, capture_output=True, timeout=60)
     return done.stdout, done.stderr, done.returncode
 
 
-def try_capture(trial, program, name, capture, verdict, status, rows, file):
+def try_capture(
+    trial: Trial, program: str, name: str, capture: bytes, verdict: str, status: int, rows: Iterable[str], file: bytes
+) -> None:
     """Of the capture the program says this, and this is the file that it carries, where it is accepted."""
     outputs = meaning_of(capture, file).outputs((f"{verdict}\n".encode(), status))
     shown = "".join(f"{number} {row}\n" for number, row in enumerate(rows, 1))
@@ -235,7 +243,9 @@ def try_capture(trial, program, name, capture, verdict, status, rows, file):
         trial.check(f"{name}, {command}", got == (output, b"", ended), got)
 
 
-def try_recording(trial, program, name, words, verdict, rows):
+def try_recording(
+    trial: Trial, program: str, name: str, words: tuple[str, ...], verdict: str, rows: tuple[str, ...]
+) -> None:
     """The fields give the capture, and the program says this of it, and of the one with hosts."""
     fields, capture = ((TOP / "examples" / f"{name}.{form}").read_bytes() for form in ("fields", "capture"))
     got = run([SCRIPT, *words], fields)
@@ -246,14 +256,14 @@ def try_recording(trial, program, name, words, verdict, rows):
     try_capture(trial, program, f"{name} with hosts", got[0], verdict, 0, rows, FILES[name])
 
 
-def broken_pipe():
+def broken_pipe() -> int:
     """A pipe that nobody reads."""
     ours, theirs = os.pipe()
     os.close(ours)
     return theirs
 
 
-def try_streams(trial):
+def try_streams(trial: Trial) -> None:
     """Standard input or output that is closed or broken is told in one line of words."""
     fields = str(TOP / "examples" / "recorded-read.fields")
     call = shlex.join([str(SCRIPT), "client", "127.0.0.1", "6969"])
@@ -270,14 +280,15 @@ def try_streams(trial):
         trial.check(f"capture-text, {name}", holds, (done.stderr, done.returncode))
 
 
-def main(program):
+def main(program: str) -> int:
     trial = Trial()
     for recording in RECORDINGS:
         try_recording(trial, program, *recording)
-    for name, *said in WRITTEN_BY_HAND:
+    for name, verdict, status, rows, file in WRITTEN_BY_HAND:
         capture = (TOP / "examples" / f"{name}.capture").read_bytes()
-        try_capture(trial, program, name, capture, *said)
-    for words, fields, text in (*WRITTEN, *(((*words, "hosts"), *rest) for words, *rest in WITH_HOSTS)):
+        try_capture(trial, program, name, capture, verdict, status, rows, file)
+    with_hosts = (((*words, "hosts"), fields, text) for words, fields, text in WITH_HOSTS)
+    for words, fields, text in (*WRITTEN, *with_hosts):
         got = run([SCRIPT, *words], fields.encode())
         trial.check(f"capture-text {words} of {fields!r}", got == (text.encode(), b"", 0), got)
     for words, fields, why in TOLD:

@@ -5,6 +5,8 @@
 The stand-in's program says of which source it was built, what its words are and what its input is. Prints each case
 that is not as it should be, then a last line 'N passed, M failed'; status 1 if any failed.
 """
+from __future__ import annotations
+
 import contextlib
 import os
 import pathlib
@@ -13,11 +15,15 @@ import shutil
 import subprocess
 import sys
 import tempfile
+from typing import Union
 
 from commands import COMMANDS
+from repository import TOP
 from trial import Trial
 
-TOP = pathlib.Path(__file__).resolve().parent.parent
+Word = Union[str, pathlib.Path]
+# What the script writes, what it writes as errors, its status, and how often rt was called.
+Ran = tuple[str, str, int, int]
 # A build reads the source at its start; $MEANWHILE is done while it builds, and a source that says 'broken' fails.
 # As rt's, its ci first sets aside what stands in out/, and runs nothing.
 STAND_IN = r"""#!/bin/sh
@@ -43,13 +49,16 @@ exec out/tftp_audit "$@"
 TRIED = "echo tests were run >>\"$CALLS\"\n"
 SAYS_TIME = "tftp-audit: proving and building the program: about a quarter of an hour"
 NOT_BUILT = "tftp-audit: the program was not built, so nothing is run\n"
+WRONG_WORDS: tuple[list[str], ...] = (
+    [], [""], ["help"], ["--help"], ["Check"], ["extrac", "x"], ["check", "x", "y"], ["--build", "x"],
+)
 HINT = f"tftp-audit: call it as ./tftp-audit {'|'.join(COMMANDS)} [FILE]"
 
 
 class Scratch:
     """A copy of the script and the Makefile, with small sources, in a folder whose name has spaces."""
 
-    def __init__(self, folder):
+    def __init__(self, folder: pathlib.Path) -> None:
         self.top = folder / "the top"
         self.source = self.top / "crates" / "tftp_audit" / "src" / "main.rt"
         self.program = self.top / "crates" / "tftp_audit" / "out" / "tftp_audit"
@@ -62,17 +71,20 @@ class Scratch:
         for name in ("tools", "docs/man"):
             shutil.copytree(TOP / name, self.top / name)
         (self.top / "crates.txt").write_text("tftp_audit: tftp_low\n")
-        for name, text, mode in (
+        for file, text, mode in (
             (self.top / "examples" / "one-block.capture", "an example", 0o644),
             (self.top / "tests" / "run.sh", TRIED, 0o644),
             (self.bin / "rt", STAND_IN, 0o755),
         ):
-            name.parent.mkdir()
-            name.write_text(text)
-            name.chmod(mode)
+            file.parent.mkdir()
+            file.write_text(text)
+            file.chmod(mode)
         self.source.write_text("one")
 
-    def run(self, *words, script=None, folder=None, given="", meanwhile="", errors=subprocess.PIPE):
+    def run(
+        self, *words: Word, script: Word | None = None, folder: pathlib.Path | None = None, given: str = "",
+        meanwhile: str = "", errors: int = subprocess.PIPE,
+    ) -> Ran:
         """What the script writes, what it writes as errors, its status, and how often rt was called."""
         self.calls.write_text("")
         environment = {"PATH": f"{self.bin}:{os.environ['PATH']}", "CALLS": str(self.calls), "MEANWHILE": meanwhile}
@@ -83,33 +95,36 @@ class Scratch:
         )
         return done.stdout, done.stderr, done.returncode, self.calls.read_text().count("rt: run -- check\n")
 
-    def make(self, target, meanwhile=""):
+    def make(self, target: str, meanwhile: str = "") -> tuple[int, str, bool]:
         """The status of a target of the Makefile, what it writes as errors, and whether the tests were run."""
         words = target, f"DESTDIR={self.top.parent}", "PREFIX=/a prefix"
         _, errors, status, _ = self.run(*words, script="make", meanwhile=meanwhile)
         return status, errors, "tests were run" in self.calls.read_text()
 
-    def installed(self):
+    def installed(self) -> pathlib.Path:
         return self.top.parent / "a prefix" / "bin" / "tftp-audit"
 
 
 class ScriptTrial(Trial):
     """The runs of the script."""
 
-    def runs(self, name, got, text, builds, words="1 words check", given="", status=0):
+    def runs(
+        self, name: str, got: Ran, text: str, builds: int, words: str = "1 words check", given: str = "",
+        status: int = 0,
+    ) -> None:
         """The program that was built of this text ran, after so many builds, and nothing else is told of it."""
         output, errors, ended, calls = got
         told = errors == "" if builds == 0 else errors.startswith(SAYS_TIME) and "rt: progress" in errors
         holds = output == f"{text}: {words}: {given}\n" and ended == status and calls == builds and told
         self.check(name, holds, got)
 
-    def refuses(self, name, got, message, builds=0):
+    def refuses(self, name: str, got: Ran, message: str, builds: int = 0) -> None:
         """Nothing ran, and the last that is told is the message."""
         output, errors, status, calls = got
         self.check(name, output == "" and errors.endswith(message) and status == 2 and calls == builds, got)
 
 
-def building(trial, scratch):
+def building(trial: ScriptTrial, scratch: Scratch) -> None:
     trial.runs("the first call", scratch.run("check", given="text"), "one", 1, given="text")
     trial.runs("nothing changed", scratch.run("check"), "one", 0)
     got = scratch.run("--build")
@@ -141,7 +156,7 @@ def building(trial, scratch):
     trial.runs("a must-fail edit more", scratch.run("check"), "six", 0)
 
 
-def edits_meanwhile(trial, scratch):
+def edits_meanwhile(trial: ScriptTrial, scratch: Scratch) -> None:
     scratch.source.write_text("three")
     got = scratch.run("check", meanwhile="echo four >src/main.rt")
     trial.runs("an edit while it builds", got, "three", 1)
@@ -158,7 +173,7 @@ def edits_meanwhile(trial, scratch):
     trial.runs("the call after a source was removed", scratch.run("check"), "six", 1)
 
 
-def failing(trial, scratch):
+def failing(trial: ScriptTrial, scratch: Scratch) -> None:
     """A build that fails beside an older program."""
     old = scratch.program.read_bytes(), scratch.program.stat().st_mtime_ns
     scratch.source.write_text("broken")
@@ -184,7 +199,7 @@ def failing(trial, scratch):
     installed_scripts(trial, scratch)
 
 
-def installed_scripts(trial, scratch):
+def installed_scripts(trial: ScriptTrial, scratch: Scratch) -> None:
     """The scripts run from where they are installed, with the program beside them, and have their pages."""
     folder = scratch.installed().parent
     for name in ("tftp-transfers", "tftp-explain", "tftp-ladder"):
@@ -197,7 +212,7 @@ def installed_scripts(trial, scratch):
     trial.check("tftp-explain, installed, runs the program beside it", holds, done)
 
 
-def gates(trial, scratch):
+def gates(trial: ScriptTrial, scratch: Scratch) -> None:
     """The gate proves and builds once, and what it built is run by the calls after it."""
     for text in ("mended", "gated"):
         scratch.source.write_text(text)
@@ -217,7 +232,7 @@ def gates(trial, scratch):
     trial.check("--gate", got == ("", "rt: progress on mended\n", 0, 0), got)
 
 
-def links(trial, scratch):
+def links(trial: ScriptTrial, scratch: Scratch) -> None:
     folder = scratch.top.parent / "a folder of links"
     folder.mkdir()
     (folder / "whole").symlink_to(scratch.top / "tftp-audit")
@@ -235,17 +250,21 @@ def links(trial, scratch):
     trial.runs("a link on PATH", scratch.run("audit", "check", script="env", folder=folder), "mended", 0)
 
 
-def files(trial, scratch):
+def files(trial: ScriptTrial, scratch: Scratch) -> None:
     folder = scratch.top.parent / "a folder of captures"
     folder.mkdir()
     (folder / "the capture").write_text("its text")
-    for name, where in ((folder / "the capture", None), ("the capture", folder), ("./the capture", folder)):
+    named: tuple[tuple[Word, pathlib.Path | None], ...] = (
+        (folder / "the capture", None), ("the capture", folder), ("./the capture", folder),
+    )
+    for name, where in named:
         got = scratch.run("check", name, folder=where, given="other")
         trial.runs(f"check {name}", got, "mended", 0, given="its text")
     for command in COMMANDS[1:]:
         got = scratch.run(command, folder / "the capture")
         trial.runs(f"{command} and a file", got, "mended", 0, words=f"1 words {command}", given="its text", status=2)
-    for name in ("missing", folder, ""):
+    unread: tuple[Word, ...] = ("missing", folder, "")
+    for name in unread:
         got = scratch.run("check", name, given="other")
         trial.refuses(f"check {name}", got, f"tftp-audit: cannot read the file '{name}'\n")
     scratch.source.write_text("seven")
@@ -258,7 +277,7 @@ def files(trial, scratch):
     scratch.run("--build")
 
 
-def on_terminal(scratch, *words):
+def on_terminal(scratch: Scratch, *words: Word) -> Ran:
     """As `run`, with standard error a terminal."""
     ours, theirs = pty.openpty()
     output, _, status, builds = scratch.run(*words, errors=theirs)
@@ -271,7 +290,7 @@ def on_terminal(scratch, *words):
     return output, told.decode(), status, builds
 
 
-def has_terminals():
+def has_terminals() -> bool:
     try:
         for end in pty.openpty():
             os.close(end)
@@ -281,9 +300,9 @@ def has_terminals():
     return True
 
 
-def wrong_words(trial, scratch):
+def wrong_words(trial: ScriptTrial, scratch: Scratch) -> None:
     is_tried = has_terminals()
-    for words in ([], [""], ["help"], ["--help"], ["Check"], ["extrac", "x"], ["check", "x", "y"], ["--build", "x"]):
+    for words in WRONG_WORDS:
         said = f"{len(words)} words {' '.join(words)}"
         # the stand-in's program looks at its first word alone
         status = 0 if words[:1] == ["check"] else 2
@@ -293,12 +312,13 @@ def wrong_words(trial, scratch):
         output, told, ended, builds = on_terminal(scratch, *words)
         holds = output == f"seven: {said}: \n" and told.startswith(HINT) and told.count("\n") == 1 and ended == status
         trial.check(f"wrong words {words} on a terminal", holds, (output, told, ended, builds))
-    for words in (["check"], ["show"], ["check", scratch.top / "crates.txt"], ["--build"]) if is_tried else ():
-        got = on_terminal(scratch, *words)
-        trial.check(f"{words} on a terminal", got[1] == "", got)
+    right: tuple[list[Word], ...] = (["check"], ["show"], ["check", scratch.top / "crates.txt"], ["--build"])
+    for its in right if is_tried else ():
+        got = on_terminal(scratch, *its)
+        trial.check(f"{its} on a terminal", got[1] == "", got)
 
 
-def main():
+def main() -> int:
     trial = ScriptTrial()
     with tempfile.TemporaryDirectory() as folder:
         scratch = Scratch(pathlib.Path(folder).resolve())

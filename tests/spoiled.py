@@ -5,25 +5,33 @@ a case must fail soon; and a program that never ends is told of in time.
 
 Prints each case that is not as it should be, then a last line 'N passed, M failed'; status 1 if any failed.
 """
+from __future__ import annotations
+
 import pathlib
 import re
 import sys
 import tempfile
+from collections.abc import Callable, Iterator, Sequence
+from typing import Union
 
 from commands import COMMANDS
 from fuzzing.cases import Trier, try_case
-from fuzzing.program import Program
+from fuzzing.program import Got, Program
 from trial import Trial
 
 MOST_CASES = 1_500
+# What is spoiled of what came of a command.
+Way = Callable[[str, Got], Got]
+# A command, words that it prints, and what is put in their place.
+Replaced = tuple[str, bytes, Union[bytes, Callable[["re.Match[bytes]"], bytes]]]
 
 
-def one_more(found):
+def one_more(found: re.Match[bytes]) -> bytes:
     return b"%d" % (int(found[0]) + 1)
 
 
 # What is put in the place of the first of such words that a command prints.
-REPLACED = {
+REPLACED: dict[str, Replaced] = {
     "another number of blocks": ("check", rb"(?<=blocks )\d+", one_more),
     "another number of bytes": ("check", rb"(?<=bytes )\d+", one_more),
     "another mode": ("check", rb"netascii", b"octet"),
@@ -46,38 +54,45 @@ REPLACED = {
     "another number of normal datagrams": ("count", rb"\d+", one_more),
 }
 # What becomes of what is printed, what is written as errors, and the status.
-CHANGED = {
-    "words as errors": lambda output, told, status: (output, told + b"oh", status),
-    "another status": lambda output, told, status: (output, told, 1 if status == 0 else status),
-    "nothing at all": lambda output, told, status: (b"", told, status),
+CHANGED: dict[str, Way] = {
+    "words as errors": lambda command, got: (got[0], got[1] + b"oh", got[2]),
+    "another status": lambda command, got: (got[0], got[1], 1 if got[2] == 0 else got[2]),
+    "nothing at all": lambda command, got: (b"", got[1], got[2]),
 }
 
 
-def ways():
-    """The ways of spoiling with their names: each is given the command, and what came of it."""
+def replacing(its: str, words: bytes, by: bytes | Callable[[re.Match[bytes]], bytes]) -> Way:
+    """The way of spoiling that puts something in the place of the first of such words that one command prints."""
+
+    def way(command: str, got: Got) -> Got:
+        output, told, status = got
+        return re.sub(words, by, output, count=1) if command == its else output, told, status
+
+    return way
+
+
+def ways() -> Iterator[tuple[str, Way]]:
+    """The ways of spoiling with their names."""
     for name, replaced in REPLACED.items():
-        yield name, lambda command, output, told, status, its=replaced: (
-            re.sub(*its[1:], output, count=1) if command == its[0] else output, told, status
-        )
-    for name, change in CHANGED.items():
-        yield name, lambda command, *got, its=change: its(*got)
+        yield name, replacing(*replaced)
+    yield from CHANGED.items()
 
 
 class Spoiled(Program):
     """The program, with what it prints spoiled."""
 
-    def __init__(self, path, way):
+    def __init__(self, path: str, way: Way) -> None:
         super().__init__(path)
         self.way = way
 
-    def run(self, command, text, **shim):
-        return self.way(command, *super().run(command, text, **shim))
+    def run(self, command: str, text: bytes, **shim: int) -> Got:
+        return self.way(command, super().run(command, text, **shim))
 
-    def run_in_pieces(self, command, pieces):
-        return self.way(command, *super().run_in_pieces(command, pieces))
+    def run_in_pieces(self, command: str, pieces: Sequence[bytes]) -> Got:
+        return self.way(command, super().run_in_pieces(command, pieces))
 
 
-def is_told(program):
+def is_told(program: Program) -> bool:
     """Whether one of the first cases fails."""
     trier = Trier(program, COMMANDS)
     for seed in range(MOST_CASES):
@@ -87,7 +102,7 @@ def is_told(program):
     return False
 
 
-def main(path):
+def main(path: str) -> int:
     trial = Trial()
     for name, way in ways():
         program = Spoiled(path, way)

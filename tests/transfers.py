@@ -15,6 +15,7 @@ import struct
 import subprocess
 import sys
 import tempfile
+from collections.abc import Sequence
 from typing import Optional
 
 from captures import ack, data, error, read_request
@@ -40,7 +41,7 @@ READ = read_request("a", "octet")
 Datagram = tuple[str, int, str, int, tuple[bytes, str]]
 
 
-def run(words: list[object], given: bytes = b"") -> tuple[str, str, int]:
+def run(words: Sequence[object], given: bytes = b"") -> tuple[str, str, int]:
     """What the script writes, what it writes as errors, and its status."""
     command = [str(word) for word in (SCRIPT, *words)]
     done = subprocess.run(command, input=given, capture_output=True, timeout=120)
@@ -133,8 +134,8 @@ def try_splitting(trial: Trial) -> None:
     trial.check("a repeated request begins no transfer", got == [[first[0], *first[:3]]], got)
     lost = [*two[:2], *two[:3]]
     got = texts(numbered(lost), (1, "server"))
-    wanted = [f"in 69 {C} 40000", f"out 41000 {C} 40000"] * 2 + [f"in 41000 {C} 40000"]
-    trial.check("a request that is repeated after a lost block", got == [wanted], got)
+    repeated = [f"in 69 {C} 40000", f"out 41000 {C} 40000"] * 2 + [f"in 41000 {C} 40000"]
+    trial.check("a request that is repeated after a lost block", got == [repeated], got)
     changed = [two[0], *transfer("b", 40_000, 41_000)]
     _, told, status = run(["-"], numbered(changed))
     said = "tftp-transfers: transfer 2 begins at the port of transfer 1, whose end is not recorded\n"
@@ -305,9 +306,10 @@ def try_words(trial: Trial, program: str) -> None:
     ):
         got = run(words, input_)
         trial.check(f"tftp-transfers {words}, {told}", got == ("", f"tftp-transfers: {told}\n", 2), got)
-    for words in (["-", "1"], ["-", "1", "peer"], ["--service", "0", "-"], [], ["--end", "peer", "-"]):
-        output, told, status = run(words, given)
-        trial.check(f"tftp-transfers {words}", output == "" and "usage: tftp-transfers" in told and status == 2, told)
+    usage: tuple[list[str], ...] = (["-", "1"], ["-", "1", "peer"], ["--service", "0", "-"], [], ["--end", "peer", "-"])
+    for wrong in usage:
+        output, told, status = run(wrong, given)
+        trial.check(f"tftp-transfers {wrong}", output == "" and "usage: tftp-transfers" in told and status == 2, told)
     output, _, status = run(["--help"])
     trial.check("tftp-transfers --help", status == 0 and output.startswith("usage: tftp-transfers"), output)
     bare = {**os.environ, "PATH": str(pathlib.Path(sys.executable).parent)}

@@ -84,7 +84,7 @@ class Transfer:
 
 @dataclass
 class Talk:
-    """Of a client's endpoint with another: the transfer, if it is of one, and whether the client's last word was ACK 0."""
+    """Of a client's endpoint with another: the transfer, if it is of one, and whether the client last said ACK 0."""
 
     transfer: Optional[Transfer]
     acked_0: bool = False
@@ -151,7 +151,8 @@ class Attribution:
             self.lines[it.source] = Line(one, self.clock, it)
             return one
         if line.only_asked and line.request.way() == it.way():
-            one.doubts.append((0, "its client had asked the same and sent nothing else since: the transfer before goes on"))
+            why = "its client had asked the same and sent nothing else since: the transfer before goes on"
+            one.doubts.append((0, why))
         line.latest, line.moment, line.request = one, self.clock, it
         line.ends_in_request = line.only_asked = True
         return one

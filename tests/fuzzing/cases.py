@@ -1,16 +1,19 @@
 """The cases: each is made by the chance of one number, and tried by some of the program's commands."""
+from __future__ import annotations
+
 import collections
 import dataclasses
-import random
+from collections.abc import Sequence
+from random import Random
 
 from commands import SILENT
 from fuzzing import changes, faults
 from fuzzing.further import further
 from fuzzing.lines import is_shown, is_verdict
 from fuzzing.meanings import Spelling, chosen, meaning_of
-from fuzzing.program import MOST_PIECE
-from fuzzing.transfers import Transfer
-from fuzzing.views import View
+from fuzzing.program import MOST_PIECE, Got, Program, Told
+from fuzzing.transfers import ENDS, Transfer
+from fuzzing.views import Capture, View
 from normal import outputs_of_refused
 
 
@@ -21,42 +24,43 @@ class Failure:
     name: str
     command: str
     text: bytes
-    got: tuple
+    got: Got
     wanted: object
 
 
 class Trier:
     """The runs of the cases, what was not as it should be, and how often each verdict was met."""
 
-    def __init__(self, program, commands):
+    def __init__(self, program: Program, commands: Sequence[str]) -> None:
         self.program, self.commands = program, commands
-        self.failures, self.met = [], collections.Counter()
+        self.failures: list[Failure] = []
+        self.met: collections.Counter[tuple[str, str]] = collections.Counter()
 
-    def expect(self, name, command, text, wanted):
+    def expect(self, name: str, command: str, text: bytes, wanted: Told) -> None:
         """The command prints this of the text and ends with this status."""
         if command in self.commands:
             self.compare(name, command, text, self.program.run(command, text), wanted)
 
-    def compare(self, name, command, text, got, wanted):
+    def compare(self, name: str, command: str, text: bytes, got: Got, wanted: Told) -> None:
         if got != (wanted[0], b"", wanted[1]):
             self.failures.append(Failure(name, command, text, got, wanted))
 
-    def judge(self, text):
+    def judge(self, text: bytes) -> Told:
         """The line that `check` prints of any text and its status; it is one of those that there are."""
         output, told, status = got = self.program.run("check", text)
         if told or not is_verdict(output, status):
             self.failures.append(Failure("a line of those that there are", "check", text, got, "a verdict"))
         words = output.decode(errors="replace").split()
         # a refusal by its rule, and a fault by its name
-        told = {"refused": words[4:6], "fault": words[3:4]}.get(words[0] if words else "", words[:1])
-        self.meet("changed", *told)
+        kind = {"refused": words[4:6], "fault": words[3:4]}.get(words[0] if words else "", words[:1])
+        self.meet("changed", *kind)
         return output, status
 
-    def meet(self, group, *words):
+    def meet(self, group: str, *words: str) -> None:
         """Counts a case of this group and of these words."""
         self.met[group, " ".join(words)] += 1
 
-    def expect_in_pieces(self, chance, text, wanted):
+    def expect_in_pieces(self, chance: Random, text: bytes, wanted: Told) -> None:
         """`check` prints the same of the text in pieces."""
         cuts = sorted(chance.randrange(len(text) + 1) for _ in range(chance.randrange(1, 8)))
         cuts = sorted({0, *cuts, *range(MOST_PIECE, len(text), MOST_PIECE), len(text)})
@@ -64,16 +68,16 @@ class Trier:
         self.compare("in pieces", "check", text, self.program.run_in_pieces("check", pieces), wanted)
 
 
-def view_of(chance):
+def view_of(chance: Random) -> list[View]:
     """What passed at one end of a transfer, and a view of the other end."""
     meaning, wire = meaning_of(chance)
     transfer, spelling = Transfer(chance, meaning, wire), Spelling(chance, meaning, wire)
     transfer.run()
-    ends = chance.sample(("client", "server"), 2)
+    ends = chance.sample(ENDS, 2)
     return [View(chance, meaning, wire, end, transfer.passed[end], spelling) for end in ends]
 
 
-def try_lawful(trier, chance):
+def try_lawful(trier: Trier, chance: Random) -> None:
     """Whole and cut captures of lawful transfers."""
     view, other = view_of(chance)
     count = whole = len(view.capture.datagrams)
@@ -99,7 +103,7 @@ def try_lawful(trier, chance):
             trier.expect("its normal text", command, meaning.normal_text(), outputs[command])
 
 
-def compare_normal(trier, text, normal, verdict):
+def compare_normal(trier: Trier, text: bytes, normal: bytes, verdict: Told) -> None:
     """The normal text of any accepted text is its own, is accepted with the same line and file, and has its count."""
     trier.expect("the normal text of a normal text", "normal", normal, (normal, 0))
     trier.expect("the verdict of a normal text", "check", normal, verdict)
@@ -108,7 +112,7 @@ def compare_normal(trier, text, normal, verdict):
     trier.expect("the count of a normal text", "count", text, (b"normal datagrams %s\n" % total, 0))
 
 
-def compare_commands(trier, chance, text, verdict):
+def compare_commands(trier: Trier, chance: Random, text: bytes, verdict: Told) -> None:
     """The other commands agree with what `check` said of any text."""
     line, status = verdict
     others = [name for name in trier.commands if name != "check"]
@@ -132,7 +136,7 @@ def compare_commands(trier, chance, text, verdict):
         trier.failures.append(Failure(f"agrees with {line!r}", command, text, got, "as check says"))
 
 
-def try_prefixes(trier, capture, verdict):
+def try_prefixes(trier: Trier, capture: Capture, verdict: Told) -> None:
     """The first unlawful datagram is refused alike where the capture ends with it, and without it none is."""
     words = verdict[0].split()
     if words[:1] != [b"refused"]:
@@ -145,7 +149,7 @@ def try_prefixes(trier, capture, verdict):
         trier.failures.append(Failure("before the unlawful datagram", "check", text, (line, b"", status), "no refusal"))
 
 
-def try_faulty(trier, chance):
+def try_faulty(trier: Trier, chance: Random) -> None:
     """A fault of the text behind the first datagrams of a lawful transfer, or in its header."""
     view, _ = view_of(chance)
     text, number, fault = faults.faulty(chance, view.capture)
@@ -158,7 +162,7 @@ def try_faulty(trier, chance):
         trier.expect("a fault", command, text, outputs[command])
 
 
-def try_further(trier, chance):
+def try_further(trier: Trier, chance: Random) -> None:
     """A datagram or a few after a lawful transfer or its first ones; the rule that the last one breaks is known."""
     view, _ = view_of(chance)
     count = len(view.capture.datagrams)
@@ -180,7 +184,7 @@ def try_further(trier, chance):
         compare_commands(trier, chance, text, verdict)
 
 
-def is_cut_short(command, printed, whole):
+def is_cut_short(command: str, printed: bytes, whole: bytes) -> bool:
     """Whether a command may print this, in place of the whole, where a growth was refused."""
     if command == "normal":
         return whole.startswith(printed)
@@ -191,7 +195,7 @@ def is_cut_short(command, printed, whole):
     return rows != printed and (not rows or is_begun)
 
 
-def try_failing(trier, chance):
+def try_failing(trier: Trier, chance: Random) -> None:
     """A growth that is refused, or a read or a write that fails, of one byte each."""
     view, _ = view_of(chance)
     count, text = len(view.capture.datagrams), view.capture.text()
@@ -216,7 +220,7 @@ def try_failing(trier, chance):
         trier.compare(way, command, text, got, wanted[command])
 
 
-def try_changed(trier, chance):
+def try_changed(trier: Trier, chance: Random) -> None:
     """Captures with changed datagrams: the verdict is one that is the same however the capture is written."""
     view, _ = view_of(chance)
     capture = changes.changed_capture(chance, view.capture)
@@ -236,7 +240,7 @@ def try_changed(trier, chance):
     compare_commands(trier, chance, text, verdict)
 
 
-def try_changed_text(trier, chance):
+def try_changed_text(trier: Trier, chance: Random) -> None:
     """Texts with changed bytes."""
     view, _ = view_of(chance)
     text = view.capture.spelled(chance)
@@ -248,9 +252,9 @@ def try_changed_text(trier, chance):
     compare_commands(trier, chance, text, verdict)
 
 
-def try_case(trier, seed):
+def try_case(trier: Trier, seed: int) -> None:
     """The case of this number."""
-    chance = random.Random(seed)
+    chance = Random(seed)
     failing = 2 if trier.program.shim else 0
     way = chosen(
         chance, (try_lawful, 8), (try_further, 5), (try_faulty, 2), (try_changed, 5), (try_changed_text, 2),

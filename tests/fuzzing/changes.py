@@ -1,14 +1,19 @@
 """Changes of lawful captures and of their texts, of which some stay lawful."""
-import dataclasses
+from __future__ import annotations
 
+import dataclasses
+from random import Random
+
+from captures import EndName
 from fuzzing.meanings import chosen
-from fuzzing.views import HOSTS, STRAYS, STRAY_REQUESTS, port_of
+from fuzzing.views import HOSTS, STRAY_REQUESTS, STRAYS, Capture, Datagram, port_of
 from normal import number
 
+OTHER_END: dict[EndName, EndName] = {"client": "server", "server": "client"}
 PAYLOAD_LIMIT, LINE_LIMIT = 65_527, 131_070
 
 
-def changed_bytes(chance, payload):
+def changed_bytes(chance: Random, payload: bytes) -> bytes:
     """Bytes of a payload that are others, gone, more, or twice."""
     at = chance.randrange(len(payload) + 1)
     near = chance.randrange(min(len(payload), 12) + 1)
@@ -25,7 +30,7 @@ def changed_bytes(chance, payload):
     )
 
 
-def changed_number(chance, payload):
+def changed_number(chance: Random, payload: bytes) -> bytes:
     """Another number in the place of a block's, of an acknowledgement's or of an ERROR's code."""
     if len(payload) < 4:
         return payload
@@ -34,35 +39,35 @@ def changed_number(chance, payload):
     return payload[:2] + number(other % 65_536) + payload[4:]
 
 
-def changed_opcode(chance, payload):
+def changed_opcode(chance: Random, payload: bytes) -> bytes:
     return number(chance.choice((0, 1, 2, 3, 4, 5, 6, 7, 256))) + payload[2:]
 
 
-def changed_datagram(chance, datagram, capture):
+def changed_datagram(chance: Random, datagram: Datagram, capture: Capture) -> Datagram:
     """One of its parts is another; what `show` prints of it is not known then."""
     host, port = datagram.peer
     others = [it.peer for it in capture.datagrams] + [(chance.choice(HOSTS), port), (host, port_of(chance))]
     ports = [it.local for it in capture.datagrams] + [capture.service, port_of(chance)]
-    part, value = chosen(
+    unknown = dataclasses.replace(datagram, said="")
+    return chosen(
         chance,
-        (("payload", changed_bytes(chance, datagram.payload)[:PAYLOAD_LIMIT]), 4),
-        (("payload", changed_number(chance, datagram.payload)), 5),
-        (("payload", changed_opcode(chance, datagram.payload)), 2),
-        (("payload", chance.choice(capture.datagrams).payload), 3),
-        (("goes_out", not datagram.goes_out), 2),
-        (("peer", chance.choice(others)), 2),
-        (("local", chance.choice(ports)), 2),
+        (dataclasses.replace(unknown, payload=changed_bytes(chance, datagram.payload)[:PAYLOAD_LIMIT]), 4),
+        (dataclasses.replace(unknown, payload=changed_number(chance, datagram.payload)), 5),
+        (dataclasses.replace(unknown, payload=changed_opcode(chance, datagram.payload)), 2),
+        (dataclasses.replace(unknown, payload=chance.choice(capture.datagrams).payload), 3),
+        (dataclasses.replace(unknown, goes_out=not datagram.goes_out), 2),
+        (dataclasses.replace(unknown, peer=chance.choice(others)), 2),
+        (dataclasses.replace(unknown, local=chance.choice(ports)), 2),
     )
-    return dataclasses.replace(datagram, **{part: value}, said="")
 
 
-def new_datagram(chance, capture):
+def new_datagram(chance: Random, capture: Capture) -> Datagram:
     """A datagram of the capture's ports with some packet."""
     model, payload = chance.choice(capture.datagrams), chance.choice(STRAYS + STRAY_REQUESTS)[0]
     return dataclasses.replace(model, goes_out=chance.random() < 0.5, payload=payload, said="")
 
 
-def changed_list(chance, capture):
+def changed_list(chance: Random, capture: Capture) -> list[Datagram]:
     """The datagrams with one change."""
     listed, at, to = list(capture.datagrams), *(chance.randrange(len(capture.datagrams)) for _ in range(2))
     way = chosen(chance, ("change", 8), ("drop", 3), ("repeat", 3), ("move", 3), ("new", 2), ("turn", 1), ("cut", 1))
@@ -83,12 +88,11 @@ def changed_list(chance, capture):
     return listed
 
 
-def changed_capture(chance, capture):
+def changed_capture(chance: Random, capture: Capture) -> Capture:
     """A capture with a few changes of its datagrams, or of its header."""
     for _ in range(chosen(chance, (1, 6), (2, 3), (5, 1))):
         if chance.random() < 0.04:
-            end = {"client": "server", "server": "client"}[capture.end]
-            capture = dataclasses.replace(capture, end=end)
+            capture = dataclasses.replace(capture, end=OTHER_END[capture.end])
         elif chance.random() < 0.04:
             ports = [it.peer[1] for it in capture.datagrams] or [69]
             capture = dataclasses.replace(capture, service=chance.choice(ports))
@@ -97,19 +101,19 @@ def changed_capture(chance, capture):
     return capture
 
 
-def renumbered(chance, capture):
+def renumbered(chance: Random, capture: Capture) -> Capture:
     """The same capture by other ports and hosts: those that were equal are equal, and no others."""
-    ports = {}
+    ports: dict[int, int] = {}
     hosts = dict(zip(HOSTS, chance.sample(HOSTS, len(HOSTS))))
 
-    def other(port):
+    def other(port: int) -> int:
         while port not in ports:
             new = port_of(chance)
             if new not in ports.values():
                 ports[port] = new
         return ports[port]
 
-    def of_datagram(it):
+    def of_datagram(it: Datagram) -> Datagram:
         host, port = it.peer
         return dataclasses.replace(it, local=other(it.local), peer=(hosts.get(host, host), other(port)))
 
@@ -124,7 +128,7 @@ WORDS = (
 )
 
 
-def changed_line(chance, text):
+def changed_line(chance: Random, text: bytes) -> bytes:
     """One line is gone, comes twice, stands elsewhere, or has another field."""
     lines = text.splitlines(keepends=True)
     at, to = chance.randrange(len(lines)), chance.randrange(len(lines))
@@ -145,7 +149,7 @@ def changed_line(chance, text):
     return b"".join(lines)
 
 
-def changed_text(chance, text):
+def changed_text(chance: Random, text: bytes) -> bytes:
     """A text with one change of its bytes."""
     at = chance.randrange(len(text) + 1)
     to = min(len(text), at + chance.choice((1, 1, 2, 9, 200)))

@@ -1,5 +1,5 @@
-"""Recordings at a client, drawn with far more strays and repeated requests than there are in life: up to three reads from
-one port, each of which is lawful where its own server's and strays' datagrams alone are seen."""
+"""Recordings at a client, drawn with far more strays and repeated requests than there are in life: up to three reads
+from one port, each of which is lawful where its own server's and strays' datagrams alone are seen."""
 import random
 from typing import NamedTuple
 

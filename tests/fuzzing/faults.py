@@ -1,8 +1,18 @@
 """Lines that are none of a capture text, each with its fault, and texts with one of them."""
+from __future__ import annotations
+
+from collections.abc import Iterator
+from random import Random
+
+from fuzzing.views import Capture
+
+# A line and its fault; and a text, the number of its line that has a fault, and the fault.
+Line = tuple[bytes, str]
+Faulty = tuple[bytes, int, str]
 LONGEST, PAYLOAD_DIGITS = {1: 131_070, 2: 131_116}, 131_054
 
 # Of both versions; the host of version 2 stands where HOST does.
-LINES = (
+LINES: tuple[Line, ...] = (
     (b" ", "BadLine"), (b"\r", "BadLine"), (b"\xff", "BadLine"), (b"in", "BadLine"), (b"x", "BadLine"),
     (b"total", "BadLine"), (b"total 3 ", "BadLine"), (b" total 3", "BadLine"), (b"total ", "TotalWrong"),
     (b"total +0", "TotalWrong"), (b"total 00", "TotalWrong"), (b"total -", "TotalWrong"), (b"total 0x0", "TotalWrong"),
@@ -18,14 +28,14 @@ LINES = (
     (b"in 1 HOST1 0:", "BadHex"), (b"in 1 HOST1 0@", "BadHex"), (b"in 1 HOST1 0`", "BadHex"),
     (b"in 1 HOST1 0/", "BadHex"), (b"in 1 HOST1 0G", "BadHex"), (b"in 1 HOST1 \xff\xff", "BadHex"),
 )
-HOST_LINES = (
+HOST_LINES: tuple[Line, ...] = (
     (b"in 1  1 00", "BadHost"), (b"in 1 " + b"a" * 46 + b" 1 00", "BadHost"), (b"out 1 \x7f 1 zz", "BadHost"),
     (b"out 1 a\tb 1 00", "BadHost"), (b"in 1 \x80 1 00", "BadHost"), (b"in 1 \x1f 1 00", "BadHost"),
     (b"in 1 \xff 0 00", "BadPort"), (b"in 1 a 1 00 ", "BadLine"), (b"in 1 1 00", "BadLine"),
 )
 
 
-def lines(version):
+def lines(version: int) -> Iterator[Line]:
     """The lines that have a fault where a datagram's or the total line stands, with the fault."""
     host = b"h " if version == 2 else b""
     yield from ((line.replace(b"HOST", host), fault) for line, fault in LINES)
@@ -35,7 +45,7 @@ def lines(version):
         yield b"in 1 h 1 00", "BadLine"
 
 
-def long_lines(version):
+def long_lines(version: int) -> Iterator[Line]:
     """The same of those that are too long, or nearly."""
     most, host = LONGEST[version], b"h " if version == 2 else b""
     yield b"#" * (most + 1), "LineTooLong"
@@ -45,7 +55,7 @@ def long_lines(version):
     yield b"in 1 %s1 " % host + b"g" * (PAYLOAD_DIGITS + 2), "BadHex"
 
 
-def headers(version):
+def headers(version: int) -> Iterator[tuple[int, bytes, str]]:
     """Lines in the place of the three of the header, with their numbers and faults."""
     service = (b"service 0", b"service 65536", b"service 069", b"service 69 ", b"service", b"total 0", b"service  1")
     end = (b"end peer", b"end client ", b"END client", b"end  client", b"end", b"total 0", b" ", b"end client\r")
@@ -56,14 +66,14 @@ def headers(version):
     yield 2, b"#" * (LONGEST[version] + 1), "LineTooLong"
 
 
-def cut(chance, capture):
+def cut(chance: Random, capture: Capture) -> Faulty:
     """The text ends somewhere."""
     text = capture.text()
     text = text[: chance.randrange(len(text))]
     return text, text.count(b"\n") + 1, "Truncated"
 
 
-def with_total(chance, capture):
+def with_total(chance: Random, capture: Capture) -> Faulty:
     """The total line comes too early, or it is wrong, and something follows."""
     count = chance.randrange(len(capture.datagrams) + 1)
     text, rest = capture.text(count), chance.choice((b"\n", b"#\n", b"\0", b"in", b"total 3\n"))
@@ -73,7 +83,7 @@ def with_total(chance, capture):
     return b"".join(text.splitlines(keepends=True)[:-1]) + wrong + rest, count + 4, "TotalWrong"
 
 
-def with_line(chance, capture):
+def with_line(chance: Random, capture: Capture) -> Faulty:
     """A line with a fault stands where a datagram's, the total line or one of the header was, or before it."""
     kept, is_long = capture.text().splitlines(keepends=True), chance.random() < 0.1
     if chance.random() < 0.3:
@@ -85,6 +95,6 @@ def with_line(chance, capture):
     return b"".join([*kept[: number - 1], line, b"\n", *rest]), number, fault
 
 
-def faulty(chance, capture):
+def faulty(chance: Random, capture: Capture) -> Faulty:
     """A text with a fault, of which nothing before it is wrong; the fault's line and its name."""
     return chance.choice((cut, with_total, with_line, with_line))(chance, capture)

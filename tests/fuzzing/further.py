@@ -3,24 +3,35 @@
 Each rule is asked only where the ends tell for certain: the answer to the request has passed, and the packet is one of
 this transfer, or has one thing wrong.
 """
+from __future__ import annotations
+
 import dataclasses
+from collections.abc import Callable, Iterator
+from random import Random
+from typing import Optional
 
-from fuzzing.changes import changed_bytes
+from fuzzing.ends import End, Kind, Packet
 from fuzzing.meanings import chosen, spelled_options, spelled_request
-from fuzzing.views import HOSTS, STRAYS, STRAY_REQUESTS
-from normal import KNOWN, number
+from fuzzing.views import HOSTS, STRAY_REQUESTS, STRAYS, Datagram, Passed, View
+from normal import KNOWN, Meaning, Mode, Options, Side, number
+
+# Datagrams, and the rule that the last one breaks or None.
+More = tuple[list[Datagram], Optional[str]]
+Way = Callable[[Random, View, Passed], More]
+OTHER_MODE: dict[Mode, Mode] = {"octet": "netascii", "netascii": "octet"}
+OTHER_SIDE: dict[Side, Side] = {"get": "put", "put": "get"}
 
 
-def may_send_kind(meaning, is_client, kind):
+def may_send_kind(meaning: Meaning, is_client: bool, kind: Kind) -> bool:
     """Whether a client, or a server, sends this kind of packet at all."""
     is_read = meaning.side == "get"
     of_client = {"request", "error", "ack" if is_read else "data"}
     return kind in (of_client if is_client else {"oack", "error", "data" if is_read else "ack"})
 
 
-def broken_by_sending(passed, packet):
+def broken_by_sending(passed: Passed, packet: Packet) -> str | None:
     """The rule that this end breaks by sending a packet of the transfer."""
-    end, kind, meaning = passed.end, packet[0], passed.meaning
+    end, kind, meaning = passed.end, packet.kind, passed.meaning
     if not may_send_kind(meaning, end.is_client, kind):
         return "6 WrongKind"
     if end.may_send(packet):
@@ -30,24 +41,24 @@ def broken_by_sending(passed, packet):
     if kind == "oack":
         return "17 OackAfterStart" if meaning.agreed else "10 ReplyChanged"
     if kind == "ack":
-        return "27 AckZero" if packet[1] == 0 else "26 AckAhead"
+        return "27 AckZero" if packet.number == 0 else "26 AckAhead"
     if kind == "request":
         return "9 RequestAfterStart"
     if not end.is_started():
         return "18 NotStarted"
-    if packet[1] > max(end.acknowledged) + end.window:
+    if packet.number > max(end.acknowledged) + end.window:
         return "22 WindowOverrun"
-    return "23 BlockSkipped" if packet[1] > end.top + 1 else "24 GoneBack"
+    return "23 BlockSkipped" if packet.number > end.top + 1 else "24 GoneBack"
 
 
-def may_come_started(passed):
+def may_come_started(passed: Passed) -> bool:
     """Whether the other end may have been started to send DATA, by what this one had sent."""
     return passed.meaning.side == "put" or not passed.meaning.agreed or "ack" in passed.before.sent
 
 
-def broken_by_coming(passed, packet):
+def broken_by_coming(passed: Passed, packet: Packet) -> str | None:
     """The rule that the other end breaks where a packet of the transfer comes, whatever that end had taken."""
-    end, kind, meaning, before = passed.end, packet[0], passed.meaning, passed.before
+    end, kind, meaning, before = passed.end, packet.kind, passed.meaning, passed.before
     is_read = meaning.side == "get"
     if not may_send_kind(meaning, not end.is_client, kind):
         return "6 WrongKind"
@@ -58,89 +69,93 @@ def broken_by_coming(passed, packet):
     if kind == "data":
         if not may_come_started(passed):
             return "18 NotStarted"
-        return "22 WindowOverrun" if packet[1] > before.last_ack + end.window else None
-    if kind == "ack" and packet[1] > before.top:
+        return "22 WindowOverrun" if packet.number > before.last_ack + end.window else None
+    if kind == "ack" and packet.number > before.top:
         return "26 AckAhead"
-    if packet == ("ack", 0):
+    if packet == Packet("ack", 0):
         is_lawful = bool(meaning.agreed) if is_read else not meaning.agreed or "data" in before.sent
         return None if is_lawful else "27 AckZero"
     return None
 
 
-def packet_of(chance, passed):
+def packet_of(chance: Random, passed: Passed) -> Packet:
     """Any packet of the transfer."""
     end = passed.end
     near = (end.top, end.top + 1, end.top + 2, end.front, end.front + 1, end.last_ack + end.window + 1, 1, end.blocks)
     block = min(max(1, chance.choice(near)), end.blocks)
     errors = [error for error in (end.told, passed.heard) if error]
-    errors += [("error", code, message + b"y") for _, code, message in errors] + [("error", 3, b""), ("error", 0, b"x")]
+    errors += [Packet("error", error.number, error.message + b"y") for error in errors]
+    errors += [Packet("error", 3), Packet("error", 0, b"x")]
     return chosen(
-        chance, (("request",), 2), (("oack",), 2), (("data", block), 5), (("ack", block), 4), (("ack", end.blocks), 2),
-        (("ack", 0), 2), (chance.choice(errors), 2),
+        chance, (Packet("request"), 2), (Packet("oack"), 2), (Packet("data", block), 5), (Packet("ack", block), 4),
+        (Packet("ack", end.blocks), 2), (Packet("ack", 0), 2), (chance.choice(errors), 2),
     )
 
 
-def of_transfer(chance, view, passed):
+def of_transfer(chance: Random, view: View, passed: Passed) -> More:
     """A packet of the transfer, which goes out or comes in."""
     packet, is_sent = packet_of(chance, passed), chance.random() < 0.5
-    if chance.random() < 0.9 and not may_send_kind(view.meaning, passed.end.is_client == is_sent, packet[0]):
+    if chance.random() < 0.9 and not may_send_kind(view.meaning, passed.end.is_client == is_sent, packet.kind):
         is_sent = not is_sent
     broken = (broken_by_sending if is_sent else broken_by_coming)(passed, packet)
     if broken is None:
         passed.add(is_sent, packet)
-    return view.dressed(is_sent, packet), broken
+    return [view.dressed(is_sent, packet)], broken
 
 
-def after_an_error(chance, view, passed):
+def after_an_error(chance: Random, view: View, passed: Passed) -> More:
     """The other end's ERROR, some of what this end sends all the same, and what comes late, or can't have been sent."""
-    end, listed = passed.end, []
+    end = passed.end
+    listed: list[Datagram] = []
 
-    def put(is_sent, packet):
+    def put(is_sent: bool, packet: Packet) -> None:
         passed.add(is_sent, packet)
         listed.append(view.dressed(is_sent, packet))
 
     if not passed.heard:
-        put(False, ("error", chance.choice((0, 1, 8)), b"x"))
+        put(False, Packet("error", chance.choice((0, 1, 8)), b"x"))
     for _ in range(chance.randrange(4)):
-        own = ("data", end.top + 1) if end.is_sender else ("ack", chance.randint(end.last_ack, end.front))
+        is_sender = end.is_sender
+        own = Packet("data", end.top + 1) if is_sender else Packet("ack", chance.randint(end.last_ack, end.front))
         if end.may_send(own):
             put(True, own)
     most = min(end.blocks, passed.before.last_ack + end.window + 2)
-    packet = ("ack", chance.randint(0, end.top)) if end.is_sender else ("data", chance.randint(1, most))
+    packet = Packet("ack", chance.randint(0, end.top)) if end.is_sender else Packet("data", chance.randint(1, most))
     broken = broken_by_coming(passed, packet)
     last = view.dressed(False, packet)
     if broken is None:
         passed.add(False, packet)
-    return *listed, last, broken
+    return [*listed, last], broken
 
 
-def after_own_error(passed, is_sent, broken):
+def after_own_error(passed: Passed, is_sent: bool, broken: str) -> str:
     return "7 AfterError" if is_sent and passed.end.told else broken
 
 
-def malformed(chance, view, passed):
+def malformed(chance: Random, view: View, passed: Passed) -> More:
     """A payload that is no packet, at the ports of this transfer."""
     payload, said = chance.choice([stray for stray in STRAYS + STRAY_REQUESTS if stray[1].startswith("malformed")])
     is_request = payload[:2] in (b"\0\1", b"\0\2")
     is_sent = view.end == "client" if is_request else chance.random() < 0.5
-    return view.of_payload(is_sent, payload, said), said.replace("malformed", "5 Malformed")
+    return [view.of_payload(is_sent, payload, said)], said.replace("malformed", "5 Malformed")
 
 
-def another_request(chance, view, passed):
+def another_request(chance: Random, view: View, passed: Passed) -> More:
     """A request that is not the first one."""
     meaning = view.meaning
-    options = {**meaning.requested, b"timeout": 9 if meaning.requested.get(b"timeout") != 9 else 8}
-    part, value = chance.choice(
-        (("name", meaning.name + b"x"), ("mode", {"octet": "netascii", "netascii": "octet"}[meaning.mode]),
-         ("side", {"get": "put", "put": "get"}[meaning.side]), ("requested", options))
-    )
-    other = dataclasses.replace(meaning, **{part: value})
+    options: Options = {**meaning.requested, b"timeout": 9 if meaning.requested.get(b"timeout") != 9 else 8}
+    other = chance.choice((
+        dataclasses.replace(meaning, name=meaning.name + b"x"),
+        dataclasses.replace(meaning, mode=OTHER_MODE[meaning.mode]),
+        dataclasses.replace(meaning, side=OTHER_SIDE[meaning.side]),
+        dataclasses.replace(meaning, requested=options),
+    ))
     is_sent = view.end == "client"
     broken = after_own_error(passed, is_sent, "8 RequestChanged")
-    return view.of_payload(is_sent, spelled_request(chance, other)), broken
+    return [view.of_payload(is_sent, spelled_request(chance, other))], broken
 
 
-def wrong_blocks(chance, view, passed):
+def wrong_blocks(chance: Random, view: View, passed: Passed) -> Iterator[tuple[int, bytes, str]]:
     """DATA with something wrong: a block's number, its bytes, and the rule that it breaks where DATA may pass."""
     end, meaning = passed.end, view.meaning
     size, window = meaning.size, end.window
@@ -162,10 +177,10 @@ def wrong_blocks(chance, view, passed):
         yield from wrong_bytes(chance, view, end, high)
 
 
-def wrong_bytes(chance, view, end, high):
+def wrong_bytes(chance: Random, view: View, end: End, high: int) -> Iterator[tuple[int, bytes, str]]:
     """The same of a block that has passed, or is not the highest: fewer bytes, or others."""
     block = chance.randint(1, high)
-    content = view.spelling.payload(("data", block))[4:]
+    content = view.spelling.payload(Packet("data", block))[4:]
     if block < end.blocks:
         yield block, content[: chance.randrange(len(content))], "21 BlockLength"
     if content and (end.is_sender or block in end.held):
@@ -175,16 +190,16 @@ def wrong_bytes(chance, view, end, high):
         yield block, other, "24 GoneBack" if is_back else "25 BlockChanged"
 
 
-def another_block(chance, view, passed):
+def another_block(chance: Random, view: View, passed: Passed) -> More:
     """A DATA with something wrong."""
     is_sent = passed.end.is_sender
     is_started = passed.end.is_started() if is_sent else may_come_started(passed)
     block, content, broken = chance.choice(list(wrong_blocks(chance, view, passed)))
     broken = after_own_error(passed, is_sent, broken if is_started else "18 NotStarted")
-    return view.of_payload(is_sent, number(3) + number(block) + content), broken
+    return [view.of_payload(is_sent, number(3) + number(block) + content)], broken
 
 
-def another_oack(chance, view, passed):
+def another_oack(chance: Random, view: View, passed: Passed) -> More:
     """An OACK that is not the one before; there is one."""
     is_sent, agreed = view.end == "server", dict(view.meaning.agreed)
     name = chance.choice(sorted(agreed))
@@ -193,24 +208,24 @@ def another_oack(chance, view, passed):
     else:
         agreed[name] = agreed[name] - 1 if agreed[name] > KNOWN[name][0] else agreed[name] + 1
     broken = after_own_error(passed, is_sent, "16 OackChanged")
-    return view.of_payload(is_sent, number(6) + spelled_options(chance, agreed)), broken
+    return [view.of_payload(is_sent, number(6) + spelled_options(chance, agreed))], broken
 
 
-def wrong_ports(chance, view, passed):
+def wrong_ports(chance: Random, view: View, passed: Passed) -> More:
     """A datagram that is not between the ports of this transfer."""
     datagram = view.of_payload(chance.random() < 0.5, *chance.choice(STRAYS))
     host, port = datagram.peer
     if chance.random() < 0.5:
         ports = {datagram.local, view.service, view.server[1], view.client[1]}
         other = next(number for number in range(chance.randrange(1, 65_000), 65_536) if number not in ports)
-        return dataclasses.replace(datagram, local=other), "1 ForeignPort"
+        return [dataclasses.replace(datagram, local=other)], "1 ForeignPort"
     ports = {peer.peer[1] for peer in view.capture.datagrams} | {view.service}
     other = next(number for number in range(chance.randrange(1, 60_000), 65_536) if number not in ports)
     # an unknown peer's datagram that comes in is a stray
-    return dataclasses.replace(datagram, peer=(host, other)), "2 WrongPort" if datagram.goes_out else None
+    return [dataclasses.replace(datagram, peer=(host, other))], "2 WrongPort" if datagram.goes_out else None
 
 
-def answer_of_stray(chance, view, passed):
+def answer_of_stray(chance: Random, view: View, passed: Passed) -> More:
     """What goes out to a stray's peer and is no ERROR 5, or what goes to another host at a stray's port."""
     answers = [(payload, said) for payload, said in STRAYS if said != "ERROR 5"]
     answer, peer = view.of_payload(True, *chance.choice(answers)), chance.choice(passed.noted)
@@ -218,18 +233,18 @@ def answer_of_stray(chance, view, passed):
     others = [(host, peer[1]) for host in HOSTS if (host, peer[1]) not in known]
     if view.version == 2 and others and chance.random() < 0.5:
         error = view.of_payload(True, b"\0\5\0\5\0", "ERROR 5")
-        return dataclasses.replace(chance.choice((answer, error)), peer=chance.choice(others)), "2 WrongPort"
-    return dataclasses.replace(answer, peer=peer), "3 StrayAnswer"
+        return [dataclasses.replace(chance.choice((answer, error)), peer=chance.choice(others))], "2 WrongPort"
+    return [dataclasses.replace(answer, peer=peer)], "3 StrayAnswer"
 
 
-def first_oack(chance, view, passed):
+def first_oack(chance: Random, view: View, passed: Passed) -> More:
     """The first answer is an OACK that may not be agreed to."""
     requested, is_sent = view.meaning.requested, view.end == "server"
     numbers = {name: value for name, value in requested.items() if isinstance(value, int)}
     unknown = [name for name in requested if name not in KNOWN and name != b"multicast"]
     texts = [name for name in requested if name in KNOWN and name not in numbers]
     missing = [name for name in KNOWN if name not in requested]
-    ways = [({}, "11 OackEmpty"), ({b"multicast": b"", **numbers}, "12 MulticastAgreed")]
+    ways: list[tuple[Options, str]] = [({}, "11 OackEmpty"), ({b"multicast": b"", **numbers}, "12 MulticastAgreed")]
     if missing:
         ways.append(({**numbers, chance.choice(missing): 8}, "13 OptionNotRequested"))
     ways += [({**numbers, name: requested[name]}, "14 OptionOutsideProfile") for name in unknown]
@@ -240,10 +255,10 @@ def first_oack(chance, view, passed):
         ways.append(({b"tsize": 512 * 65_535}, "20 BeyondBlock65535"))
     options, broken = chance.choice(ways)
     broken = after_own_error(passed, is_sent, broken)
-    return view.of_payload(is_sent, number(6) + spelled_options(chance, options)), broken
+    return [view.of_payload(is_sent, number(6) + spelled_options(chance, options))], broken
 
 
-def ways(view, passed):
+def ways(view: View, passed: Passed) -> Iterator[tuple[Way, int]]:
     """What may be tried after what has passed, and how often."""
     if not passed.has_reply():
         # an answer that is not the first datagram that passes in its way comes from where that one came
@@ -258,11 +273,11 @@ def ways(view, passed):
         yield answer_of_stray, 3
 
 
-def further(chance, view, count):
+def further(chance: Random, view: View, count: int) -> tuple[list[Datagram], str | None, Passed] | None:
     """Datagrams after the first so many, the rule that the last one breaks or None, and what has passed; or nothing."""
     passed = view.passed(count)
     tried = list(ways(view, passed))
     if not tried:
         return None
-    *datagrams, broken = chosen(chance, *tried)(chance, view, passed)
+    datagrams, broken = chosen(chance, *tried)(chance, view, passed)
     return datagrams, broken, passed

@@ -1,4 +1,6 @@
 """Every line that the program prints of a text that is given whole, with ample memory."""
+from __future__ import annotations
+
 import re
 
 PACKET_FAULTS = (
@@ -40,12 +42,12 @@ ROW = re.compile(
 FAULTS = re.compile(FAULT.encode())
 
 
-def is_verdict(output, status):
+def is_verdict(output: bytes, status: int | None) -> bool:
     """Whether this is a line of `check` with its status."""
     return any(line.fullmatch(output) and status == its for line, its in VERDICTS)
 
 
-def is_shown(output, status):
+def is_shown(output: bytes, status: int | None) -> bool:
     """Whether these are lines of `show`, numbered from 1, with their status."""
     rows = output.splitlines(keepends=True)
     if status == 2 and rows and FAULTS.fullmatch(rows[-1]):

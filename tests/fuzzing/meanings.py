@@ -1,5 +1,13 @@
 """Meanings of transfers by chance, the wire text of each, and how their packets are spelled."""
-from normal import KNOWN, Meaning, USUAL_SIZE, decoded, number, text_of
+from __future__ import annotations
+
+from random import Random
+from typing import TypeVar
+
+from fuzzing.ends import Kind, Packet
+from normal import KNOWN, MODES, SIDES, USUAL_SIZE, Meaning, Mode, Options, Side, Value, decoded, number, text_of
+
+T = TypeVar("T")
 
 REQUEST_LIMIT = 512
 UNKNOWN = (b"utimeout", b"foo", b"multicast", b"rollover", b"x-\xff", b"a b", b"blksize2", b"-")
@@ -12,18 +20,18 @@ NO_NUMBERS = {
 }
 
 
-def chosen(chance, *pairs):
+def chosen(chance: Random, *pairs: tuple[T, float]) -> T:
     """One of the values, each as often as its weight says."""
     return chance.choices([value for value, _ in pairs], [weight for _, weight in pairs])[0]
 
 
-def name_of(chance):
+def name_of(chance: Random) -> bytes:
     length = chosen(chance, (0, 1), (1, 6), (chance.randrange(2, 20), 6), (chance.randrange(20, 300), 1))
     letters = chosen(chance, (range(97, 123), 4), (range(32, 127), 2), (range(1, 256), 1))
     return bytes(chance.choices(letters, k=length))
 
 
-def requested_number(chance, name):
+def requested_number(chance: Random, name: bytes) -> int:
     if name == b"blksize":
         return chosen(
             chance, (8, 8), (chance.randrange(9, 40), 8), (chance.randrange(40, 512), 2), (512, 2),
@@ -36,11 +44,11 @@ def requested_number(chance, name):
     return chosen(chance, (0, 6), (chance.randrange(1, 1000), 2), (2**64 - 1, 1))
 
 
-def requested_options(chance):
+def requested_options(chance: Random) -> dict[bytes, Value]:
     """What a client asks for."""
     if chance.random() < 0.25:
         return {}
-    options = {}
+    options: dict[bytes, Value] = {}
     for name in chance.sample(sorted(KNOWN), chance.randrange(len(KNOWN) + 1)):
         is_number = chance.random() < 0.95
         options[name] = requested_number(chance, name) if is_number else chance.choice(NO_NUMBERS[name])
@@ -50,9 +58,10 @@ def requested_options(chance):
     return options
 
 
-def agreed_options(chance, requested, side):
+def agreed_options(chance: Random, requested: Options) -> dict[bytes, int]:
     """What a server agrees to of them, but for `tsize` of a read, whose number is the file's."""
-    agreed, is_willing = {}, chance.random() < 0.9
+    agreed: dict[bytes, int] = {}
+    is_willing = chance.random() < 0.9
     for name, value in requested.items():
         if not is_willing or name not in KNOWN or isinstance(value, bytes) or chance.random() < 0.1:
             continue
@@ -66,7 +75,7 @@ def agreed_options(chance, requested, side):
     return agreed
 
 
-def wire_length(chance, size):
+def wire_length(chance: Random, size: int) -> int:
     """A few blocks, of which the last one has any length below the size."""
     most = 8 if size < 200 else 3 if size < 2_000 else 2
     count = chosen(chance, (chance.randint(1, most), 12), (1, 3), (chance.randint(most, 6 * most), 1))
@@ -74,18 +83,18 @@ def wire_length(chance, size):
     return (count - 1) * size + rest
 
 
-def wire_of(chance, mode, length):
+def wire_of(chance: Random, mode: Mode, length: int) -> bytes:
     if mode == "octet":
         return chance.randbytes(length)
     signs = chosen(chance, (b"ab\r\n\0", 2), (b"abcdefghijk \r\n", 2), (b"\r\n\0", 1))
     return bytes(chance.choices(signs, k=length))
 
 
-def meaning_of(chance):
+def meaning_of(chance: Random) -> tuple[Meaning, bytes]:
     """A meaning, and a wire text that it may have been sent as."""
-    side, mode = chance.choice(("get", "put")), chosen(chance, ("octet", 7), ("netascii", 3))
+    side, mode = chance.choice(SIDES), chosen(chance, *zip(MODES, (7, 3)))
     requested = requested_options(chance)
-    agreed = agreed_options(chance, requested, side)
+    agreed = agreed_options(chance, requested)
     length = wire_length(chance, agreed.get(b"blksize", USUAL_SIZE))
     wire = wire_of(chance, mode, length)
     if b"tsize" in agreed and mode == "octet":
@@ -98,14 +107,14 @@ def meaning_of(chance):
     return Meaning(side, name_of(chance), mode, requested, agreed, file), wire
 
 
-def mixed_case(chance, text):
+def mixed_case(chance: Random, text: bytes) -> bytes:
     """The text as it is, or with some of its ASCII letters in capitals."""
     if chance.random() < 0.7:
         return text
     return b"".join(bytes([sign]).upper() if chance.random() < 0.5 else bytes([sign]) for sign in text)
 
 
-def spelled_options(chance, options):
+def spelled_options(chance: Random, options: Options) -> bytes:
     """The pairs of a map, in any order and letter case, with zeros before numbers."""
     names = list(options)
     if chance.random() < 0.5:
@@ -117,7 +126,7 @@ def spelled_options(chance, options):
     return bytes(pairs)
 
 
-def spelled_request(chance, meaning):
+def spelled_request(chance: Random, meaning: Meaning) -> bytes:
     opcode = number(1 if meaning.side == "get" else 2)
     head = opcode + meaning.name + b"\0" + mixed_case(chance, meaning.mode.encode()) + b"\0"
     return head + spelled_options(chance, meaning.requested)
@@ -126,32 +135,32 @@ def spelled_request(chance, meaning):
 class Spelling:
     """The payloads of a transfer's packets; a request or OACK is mostly spelled as it was before."""
 
-    def __init__(self, chance, meaning, wire):
-        self.chance, self.meaning, self.wire, self.before = chance, meaning, wire, {}
+    def __init__(self, chance: Random, meaning: Meaning, wire: bytes) -> None:
+        self.chance, self.meaning, self.wire = chance, meaning, wire
+        self.before: dict[Kind, bytes] = {}
 
-    def payload(self, packet):
-        kind, *fields = packet
+    def payload(self, packet: Packet) -> bytes:
+        kind = packet.kind
         if kind == "data":
-            at = (fields[0] - 1) * self.meaning.size
-            return number(3) + number(fields[0]) + self.wire[at : at + self.meaning.size]
+            at = (packet.number - 1) * self.meaning.size
+            return number(3) + number(packet.number) + self.wire[at : at + self.meaning.size]
         if kind == "ack":
-            return number(4) + number(fields[0])
+            return number(4) + number(packet.number)
         if kind == "error":
-            return number(5) + number(fields[0]) + fields[1] + b"\0"
+            return number(5) + number(packet.number) + packet.message + b"\0"
         if kind not in self.before or self.chance.random() < 0.2:
             self.before[kind] = self.spelled(kind)
         return self.before[kind]
 
-    def spelled(self, kind):
+    def spelled(self, kind: Kind) -> bytes:
         if kind == "oack":
             return number(6) + spelled_options(self.chance, self.meaning.agreed)
         return spelled_request(self.chance, self.meaning)
 
-    def said(self, packet):
+    def said(self, packet: Packet) -> str:
         """What `show` prints of it."""
-        kind, *fields = packet
-        if kind == "request":
+        if packet.kind == "request":
             return "RRQ" if self.meaning.side == "get" else "WRQ"
-        if kind == "data":
-            return f"DATA {fields[0]} {len(self.payload(packet)) - 4}"
-        return {"ack": "ACK {}", "error": "ERROR {}", "oack": "OACK"}[kind].format(*fields)
+        if packet.kind == "data":
+            return f"DATA {packet.number} {len(self.payload(packet)) - 4}"
+        return "OACK" if packet.kind == "oack" else f"{packet.kind.upper()} {packet.number}"

@@ -1,5 +1,5 @@
-"""Whole sessions: clients that ask one server for file after file from one port each, and are reset now and then, over a
-network that loses, repeats and delays. All are lawful, so nobody may be accused, wherever it is recorded."""
+"""Whole sessions: clients that ask one server for file after file from one port each, and are reset now and then, over
+a network that loses, repeats and delays. All are lawful, so nobody may be accused, wherever it is recorded."""
 from __future__ import annotations
 
 import heapq

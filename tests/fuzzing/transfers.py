@@ -2,10 +2,20 @@
 
 How an end answers is its habit, which chance made; whether it may send what it then proposes is asked of the end.
 """
-import dataclasses
+from __future__ import annotations
 
-from fuzzing.ends import End
+import dataclasses
+from collections.abc import Iterable, Iterator
+from random import Random
+
+from captures import EndName
+from fuzzing.ends import End, Packet
 from fuzzing.meanings import chosen
+from normal import Meaning
+
+# Whether a packet is sent, and the packet, of those that pass at an end.
+Step = tuple[bool, Packet]
+ENDS: tuple[EndName, ...] = ("client", "server")
 
 MESSAGES = (b"", b"disk full", b"File not found", b"no\xff such", b"a" * 60)
 
@@ -26,11 +36,11 @@ class Habit:
     wild: float
 
 
-def habit_of(chance):
+def habit_of(chance: Random) -> Habit:
     if chance.random() < 0.4:
         return Habit(1, chance.choice((0, 1)), chance.choice((0, 1)), 0, 0)
     odds = (0.7, 0.95), (0, 0.5, 1), (0, 0.5, 1), (0, 0.1, 0.4), (0, 0.05, 0.3)
-    return Habit(*map(chance.choice, odds))
+    return Habit(*(chance.choice(each) for each in odds))
 
 
 @dataclasses.dataclass
@@ -42,93 +52,95 @@ class Network:
     reorders: float
 
 
-def network_of(chance):
+def network_of(chance: Random) -> Network:
     if chance.random() < 0.3:
         return Network(0, 0, 0)
-    return Network(*map(chance.choice, ((0, 0.05, 0.2), (0, 0.05, 0.2), (0, 0.1, 0.5))))
+    odds = (0, 0.05, 0.2), (0, 0.05, 0.2), (0, 0.1, 0.5)
+    return Network(*(chance.choice(each) for each in odds))
 
 
-def window_after(end, base, chance, habit):
+def window_after(end: End, base: int, chance: Random, habit: Habit) -> Iterator[Packet]:
     """The blocks of the window that follows an acknowledged block, perhaps not all."""
     for block in range(base + 1, min(base + end.window, end.blocks) + 1):
-        yield "data", block
+        yield Packet("data", block)
         if habit.stops and chance.random() < habit.stops:
             return
 
 
-def answer_of_sender(end, packet, is_new, chance, habit):
-    if packet[0] == "request" and end.meaning.agreed:
-        yield ("oack",)
-    elif packet[0] in ("request", "oack"):
+def answer_of_sender(end: End, packet: Packet, is_new: bool, chance: Random, habit: Habit) -> Iterator[Packet]:
+    if packet.kind == "request" and end.meaning.agreed:
+        yield Packet("oack")
+    elif packet.kind in ("request", "oack"):
         if is_new or chance.random() < habit.again:
             yield from window_after(end, 0, chance, habit)
-    elif packet[0] == "ack" and packet[1] < end.blocks:
+    elif packet.kind == "ack" and packet.number < end.blocks:
         if is_new or chance.random() < habit.again:
-            yield from window_after(end, packet[1], chance, habit)
+            yield from window_after(end, packet.number, chance, habit)
 
 
-def answer_of_receiver(end, packet, is_new, chance, habit):
-    if packet[0] == "request":
-        yield ("oack",) if end.meaning.agreed else ("ack", 0)
-    elif packet[0] == "oack":
-        yield "ack", 0
-    elif packet[0] == "data":
-        is_due = end.front - end.last_ack >= end.window or end.front == end.blocks or packet[1] > end.front
+def answer_of_receiver(end: End, packet: Packet, is_new: bool, chance: Random, habit: Habit) -> Iterator[Packet]:
+    if packet.kind == "request":
+        yield Packet("oack") if end.meaning.agreed else Packet("ack", 0)
+    elif packet.kind == "oack":
+        yield Packet("ack", 0)
+    elif packet.kind == "data":
+        is_due = end.front - end.last_ack >= end.window or end.front == end.blocks or packet.number > end.front
         if not is_new:
             if chance.random() < habit.again:
-                yield "ack", chance.choice((end.front, min(packet[1], end.front)))
+                yield Packet("ack", chance.choice((end.front, min(packet.number, end.front))))
         elif is_due or chance.random() < habit.each:
-            yield "ack", end.front
+            yield Packet("ack", end.front)
 
 
-def after_waiting(end, chance, habit):
+def after_waiting(end: End, chance: Random, habit: Habit) -> Iterator[Packet]:
     """What an end sends again, or at last, where nothing came."""
     if end.is_client and chance.random() < (0.1 if end.taken else 1):
-        yield ("request",)
+        yield Packet("request")
     if end.is_sender:
         if not end.is_client and end.meaning.agreed and not end.top:
-            yield ("oack",)
+            yield Packet("oack")
         base = max(end.acknowledged)
         if base < end.blocks:
             yield from window_after(end, base, chance, habit)
         elif chance.random() < habit.again:
-            yield "data", end.top
+            yield Packet("data", end.top)
     else:
-        yield "ack", end.front
+        yield Packet("ack", end.front)
         if not end.is_client and not end.front:
-            yield from (("oack",), ("ack", 0))
+            yield from (Packet("oack"), Packet("ack", 0))
 
 
-def anything(end, chance):
+def anything(end: End, chance: Random) -> Iterator[Packet]:
     """Something that the end perhaps may send, however odd."""
     yield chosen(
-        chance, (("request",), 1), (("oack",), 1), (("ack", 0), 1), (("ack", chance.randint(0, end.front)), 4),
-        (("data", chance.randint(1, end.top + 1)), 4),
+        chance, (Packet("request"), 1), (Packet("oack"), 1), (Packet("ack", 0), 1),
+        (Packet("ack", chance.randint(0, end.front)), 4), (Packet("data", chance.randint(1, end.top + 1)), 4),
     )
 
 
 class Transfer:
     """Two ends, what is under way between them, and what has passed at each: (is it sent, packet)."""
 
-    def __init__(self, chance, meaning, wire):
+    def __init__(self, chance: Random, meaning: Meaning, wire: bytes) -> None:
         self.chance, self.network = chance, network_of(chance)
-        self.ends = {name: End(meaning, wire, name == "client") for name in ("client", "server")}
+        self.ends = {name: End(meaning, wire, name == "client") for name in ENDS}
         self.habits = {name: habit_of(chance) for name in self.ends}
-        self.passed = {name: [] for name in self.ends}
-        self.under_way = []
+        self.passed: dict[EndName, list[Step]] = {name: [] for name in self.ends}
+        self.under_way: list[tuple[EndName, Packet]] = []
         # the step before which an end breaks off, if it does
         self.breaks = {name: chance.randrange(30) if chance.random() < 0.12 else None for name in self.ends}
 
-    def propose(self, name, packets):
+    def propose(self, name: EndName, packets: Iterable[Packet]) -> None:
         """The end sends those of the packets that it may send."""
-        end, other = self.ends[name], "server" if name == "client" else "client"
+        end = self.ends[name]
+        other: EndName = "server" if name == "client" else "client"
         for packet in packets:
             if end.may_send(packet):
                 end.send(packet)
                 self.passed[name].append((True, packet))
                 self.under_way.append((other, packet))
 
-    def deliver(self):
+    def deliver(self) -> None:
         """A packet that is under way comes, or is lost, and perhaps will come again."""
         chance, network = self.chance, self.network
         at = chance.randrange(len(self.under_way)) if chance.random() < network.reorders else 0
@@ -138,32 +150,36 @@ class Transfer:
         if chance.random() < network.loses:
             return
         end, habit = self.ends[name], self.habits[name]
-        is_new = not (packet[0] == "data" and packet[1] in end.held)
-        is_new = is_new and not (packet[0] == "ack" and packet[1] in end.acknowledged and "ack 0" in end.taken)
-        is_new = is_new and (packet[0] in ("ack", "data") or packet[0] not in end.taken)
+        is_new = not (packet.kind == "data" and packet.number in end.held)
+        is_new = is_new and not (packet.kind == "ack" and packet.number in end.acknowledged and "ack 0" in end.taken)
+        is_new = is_new and (packet.kind in ("ack", "data") or packet.kind not in end.taken)
         end.take(packet)
         self.passed[name].append((False, packet))
         if chance.random() < habit.answers:
             answer = answer_of_sender if end.is_sender else answer_of_receiver
             self.propose(name, list(answer(end, packet, is_new, chance, habit)))
 
-    def step(self, number):
+    def error(self) -> Packet:
+        return Packet("error", self.chance.choice((0, 1, 3, 5, 8, 65_535, 256)), self.chance.choice(MESSAGES))
+
+    def step(self, number: int) -> None:
         chance = self.chance
         for name, end in self.ends.items():
-            if self.breaks[name] is not None and number >= self.breaks[name] and end.taken and chance.random() < 0.5:
-                told = end.told or ("error", chance.choice((0, 1, 3, 5, 8, 65_535, 256)), chance.choice(MESSAGES))
+            since = self.breaks[name]
+            if since is not None and number >= since and end.taken and chance.random() < 0.5:
+                told = end.told or self.error()
                 self.propose(name, [told])
             if chance.random() < self.habits[name].wild:
                 self.propose(name, anything(end, chance))
         if self.under_way and chance.random() < 0.97:
             self.deliver()
             return
-        name = chance.choice(("client", "server"))
+        name = chance.choice(ENDS)
         self.propose(name, list(after_waiting(self.ends[name], chance, self.habits[name])))
 
-    def run(self):
+    def run(self) -> None:
         """Until both ends are done, or a while after, or long enough."""
-        self.propose("client", [("request",)])
+        self.propose("client", [Packet("request")])
         most, rest = 60 + 20 * self.ends["client"].blocks, self.chance.choice((0, 0, 3, 12))
         for number in range(most):
             self.step(number)

@@ -6,7 +6,7 @@ from __future__ import annotations
 
 from collections.abc import Iterator
 from dataclasses import dataclass
-from typing import Union
+from typing import Optional, Union
 from xml.sax.saxutils import escape
 
 from .capture import Capture
@@ -149,7 +149,8 @@ class Drawing:
     def __init__(self, capture: Capture, history: History, verdict: Verdict, by_time: bool) -> None:
         self.capture, self.history, self.verdict, self.by_time = capture, history, verdict, by_time
         self.parts: list[str] = []
-        self.y, self.last_time = float(TOP), None
+        self.y = float(TOP)
+        self.last_time: Optional[float] = None
         # where the blocks of a window stand, and whether some of it are in a fold
         self.window: list[float] = []
         self.is_part = False

@@ -1,4 +1,6 @@
 """Copies of the repository outside it, in which checks run, so that no check changes the tree."""
+from __future__ import annotations
+
 import contextlib
 import os
 import pathlib
@@ -6,6 +8,7 @@ import shutil
 import signal
 import subprocess
 import tempfile
+from collections.abc import Iterable, Mapping
 
 PARTS = ("src", "specs", "proofs")
 
@@ -18,22 +21,25 @@ class Stopped(Exception):
     """No check begins any more."""
 
 
-def libraries_of(top):
+def libraries_of(top: pathlib.Path) -> dict[str, list[str]]:
     """The crates of the repository, each with those that it names."""
     lines = (it.partition("#")[0].partition(":") for it in (top / "crates.txt").read_text(encoding="utf-8").split("\n"))
     named = {words.split()[0]: libraries.split() for words, _, libraries in lines if words.strip()}
     return {crate: [it for it in libraries if it in named] for crate, libraries in named.items()}
 
 
-def share(source, to):
+def share(source: str, to: str) -> None:
     """Copies a file; what was proved and what is built, which a check only reads or writes anew, gets a second name."""
     try:
-        (os.link if source.endswith(".oantt") or "/out/rlib/" in source else shutil.copy2)(source, to)
+        if source.endswith(".oantt") or "/out/rlib/" in source:
+            os.link(source, to)
+            return
     except OSError:
-        shutil.copy2(source, to)
+        pass
+    shutil.copy2(source, to)
 
 
-def stamps_of(folder):
+def stamps_of(folder: pathlib.Path) -> list[tuple[str, int, int]]:
     """When each file below a folder was written, and its size; an empty one may only say when it was last read."""
     files = sorted(it for it in folder.glob("**/*") if it.is_file() and it.stat().st_size)
     return [(str(it), it.stat().st_mtime_ns, it.stat().st_size) for it in files]
@@ -42,29 +48,30 @@ def stamps_of(folder):
 class Rooms:
     """A copy of the repository, in which each crate is checked once, and the rooms that are copied from it."""
 
-    def __init__(self, top, folder, seconds, is_fresh):
+    def __init__(self, top: pathlib.Path, folder: str, seconds: int, is_fresh: bool) -> None:
         self.base, self.seconds, self.is_fresh = pathlib.Path(folder) / "base", seconds, is_fresh
-        self.top, self.libraries, self.running, self.is_over = top, libraries_of(top), set(), False
+        self.top, self.libraries, self.is_over = top, libraries_of(top), False
+        self.running: set[int] = set()
         for crate in self.libraries:
             self.copy_texts(top, self.base, crate)
         shutil.copy(top / "crates.txt", self.base)
 
-    def below(self, crate):
+    def below(self, crate: str) -> set[str]:
         """The crates that a crate is built over."""
         return set(self.libraries[crate]).union(*(self.below(it) for it in self.libraries[crate]))
 
-    def copy_texts(self, top, to, crate):
+    def copy_texts(self, top: pathlib.Path, to: pathlib.Path, crate: str) -> None:
         for part in PARTS:
             if (top / "crates" / crate / part).is_dir():
                 shutil.copytree(top / "crates" / crate / part, to / "crates" / crate / part)
 
-    def texts_of(self, crate):
+    def texts_of(self, crate: str) -> dict[str, str]:
         """The texts of a crate's files, by their paths."""
         folder = self.base / "crates" / crate
         files = sorted(it for part in PARTS for it in folder.glob(f"{part}/**/*") if it.is_file())
         return {str(it.relative_to(folder)): it.read_text(encoding="utf-8") for it in files}
 
-    def prove(self, crate):
+    def prove(self, crate: str) -> str:
         """Checks a crate as it stands, over what an earlier check has kept in the tree, and answers what it says."""
         for it in (crate, *self.below(crate)):
             kept, to = self.top / "crates" / it / "out", self.base / "crates" / it / "out"
@@ -76,13 +83,16 @@ class Rooms:
             raise NotProved(f"{crate} is not proved as it stands:\n{text[-2000:]}")
         return text
 
-    def check(self, top, crate, words, seconds):
+    def check(
+        self, top: pathlib.Path, crate: str, words: Iterable[str], seconds: int | None
+    ) -> tuple[int | None, str]:
         """The status and the text of a check in a room, or None and the text so far if it has not ended by then."""
         if self.is_over:
             raise Stopped
-        how = {"stdin": subprocess.DEVNULL, "stdout": subprocess.PIPE, "stderr": subprocess.STDOUT}
-        how.update(start_new_session=True, encoding="utf-8", errors="replace")
-        ran = subprocess.Popen(["rt", "check", *words], cwd=top / "crates" / crate, **how)
+        ran = subprocess.Popen(
+            ["rt", "check", *words], cwd=top / "crates" / crate, stdin=subprocess.DEVNULL, stdout=subprocess.PIPE,
+            stderr=subprocess.STDOUT, start_new_session=True, encoding="utf-8", errors="replace",
+        )
         self.running.add(ran.pid)
         try:
             text, _ = ran.communicate(timeout=seconds)
@@ -96,21 +106,21 @@ class Rooms:
         finally:
             self.running.discard(ran.pid)
 
-    def end(self, pid):
+    def end(self, pid: int) -> None:
         with contextlib.suppress(ProcessLookupError):
             os.killpg(pid, signal.SIGKILL)
 
-    def end_all(self):
+    def end_all(self) -> None:
         """Ends the checks that run, and lets no other begin."""
         self.is_over = True
         for pid in list(self.running):
             self.end(pid)
 
-    def kept_of(self, crate):
+    def kept_of(self, crate: str) -> list[tuple[str, int, int]]:
         """What there is to see of the work that a crate's own check has kept."""
         return stamps_of(self.base / "crates" / crate / "out" / "incremental")
 
-    def tried(self, crate, texts, words):
+    def tried(self, crate: str, texts: Mapping[str, str], words: Iterable[str]) -> tuple[int | None, str]:
         """Checks a crate with other texts in a room of its own, over the work that its own check has kept."""
         with tempfile.TemporaryDirectory(prefix="room-", dir=self.base.parent) as folder:
             room = pathlib.Path(folder)

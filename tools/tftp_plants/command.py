@@ -5,6 +5,8 @@ An edit is refused where the function that it changes has an open goal of its ow
 the function, the clause and the reason. An edit fails that cannot be applied, that is proved, that is refused only by
 its types or its syntax, that only makes another function's proof fall, or whose check does not end.
 """
+from __future__ import annotations
+
 import argparse
 import concurrent.futures
 import pathlib
@@ -13,17 +15,25 @@ import signal
 import sys
 import tempfile
 import time
+from collections.abc import Collection
+from concurrent.futures import ThreadPoolExecutor
 
-sys.dont_write_bytecode = True
-
-import edits  # noqa: E402
-import rooms  # noqa: E402
-import tries  # noqa: E402
+from tftp_plants import edits, rooms, tries
 
 TOP = pathlib.Path(__file__).resolve().parents[2]
 
 
-def words():
+class Given(argparse.Namespace):
+    """The words of a call."""
+
+    names: list[str]
+    jobs: int
+    seconds: int
+    edits: pathlib.Path | None
+    fresh: bool
+
+
+def words() -> Given:
     whole = argparse.RawDescriptionHelpFormatter
     form = argparse.ArgumentParser(prog="plants", description=__doc__, formatter_class=whole)
     form.add_argument("names", nargs="*", metavar="NAME", help="a crate, an edit, or CRATE/EDIT; none: all")
@@ -33,18 +43,21 @@ def words():
     form.add_argument("--edits", type=pathlib.Path, metavar="FOLDER", help=others)
     fresh = "takes nothing from the crates' out/, and first checks each from nothing"
     form.add_argument("--fresh", action="store_true", help=fresh)
-    return form.parse_args()
+    return form.parse_args(namespace=Given())
 
 
-def is_named(edit, names):
-    return not names or {edit.crate, edit.name, f"{edit.crate}/{edit.name}", str(edit)} & set(names)
+def is_named(edit: edits.Edit, names: Collection[str]) -> bool:
+    own = {edit.crate, edit.name, f"{edit.crate}/{edit.name}", str(edit)}
+    return not names or not own.isdisjoint(names)
 
 
-def told(it):
+def told(it: tries.Try) -> None:
     print(f"{it.edit}: {'refused: ' if it.is_refused else 'FAILED: '}{it.reason}", flush=True)
 
 
-def try_crate(crate, found, room, pool):
+def try_crate(
+    crate: str, found: list[edits.Edit], room: rooms.Rooms, pool: ThreadPoolExecutor
+) -> list[tries.Try]:
     """Tries a crate's edits, and prints a line for each."""
     try:
         tried = tries.Tries(crate, found, room)
@@ -65,16 +78,16 @@ def try_crate(crate, found, room, pool):
     return tried.tries
 
 
-def run(tried, group):
+def run(tried: tries.Tries, group: tries.Group) -> list[tries.Try]:
     tried.run(group)
     return group.tries
 
 
-def main():
+def main() -> int:
     given, started = words(), time.monotonic()
     signal.signal(signal.SIGTERM, lambda *_: sys.exit(1))
-    done, many = [], concurrent.futures.ThreadPoolExecutor
-    with tempfile.TemporaryDirectory(prefix="plants-") as folder, many(given.jobs) as pool:
+    done: list[tries.Try] = []
+    with tempfile.TemporaryDirectory(prefix="plants-") as folder, ThreadPoolExecutor(given.jobs) as pool:
         room = rooms.Rooms(TOP, folder, given.seconds, given.fresh)
         try:
             all_of_them = {crate: edits.edits_of(crate, TOP, given.edits) for crate in room.libraries}
@@ -90,9 +103,3 @@ def main():
     print(f"{len(done) - len(failed)} refused, {len(failed)} failed{': ' + ' '.join(failed) if failed else ''}")
     return 1 if failed or not done else 0
 
-
-if __name__ == "__main__":
-    try:
-        sys.exit(main())
-    except KeyboardInterrupt:
-        sys.exit(130)

@@ -1,5 +1,9 @@
 """The functions of a crate's sources: where they stand, what the checker calls them, and what each may call."""
+from __future__ import annotations
+
+import dataclasses
 import re
+from collections.abc import Mapping, Set
 
 # Comments, strings and characters, which may hold any sign.
 HIDDEN = re.compile(r"""//[^\n]*|/\*.*?\*/|"(?:\\.|[^"\\])*"|'(?:\\(?:x[0-9a-fA-F]{2}|u\{[^}]*\}|.)|[^\\'\n])'""", re.S)
@@ -11,27 +15,29 @@ OPEN, CLOSED = "([{", ")]}"
 NAME = re.compile(r"(?<!['\w])(?:\w+::)*([A-Za-z_]\w*)")
 
 
+@dataclasses.dataclass(frozen=True)
 class Function:
     """A function with a body, under the name that the checker prints."""
 
-    def __init__(self, symbol, text, body):
-        self.symbol, self.text, self.body = symbol, text, body
+    symbol: str
+    text: str
+    body: str
 
     @property
-    def name(self):
+    def name(self) -> str:
         return self.symbol.rpartition("::")[2]
 
-    def words(self):
+    def words(self) -> set[str]:
         """The words of its body: any function that it calls is named by one of them."""
         return set(re.findall(r"\w+", self.body))
 
 
-def blanked(text):
+def blanked(text: str) -> str:
     """The text with spaces for all that stands in comments, strings and characters."""
     return HIDDEN.sub(lambda found: re.sub(r"[^\n]", " ", found[0]), text)
 
 
-def next_of(text, signs, at):
+def next_of(text: str, signs: str, at: int) -> int:
     """Where the first of these signs stands from there on, outside every bracket; the end if there is none."""
     depth = 0
     while at < len(text):
@@ -42,12 +48,12 @@ def next_of(text, signs, at):
     return len(text)
 
 
-def end_of_block(text, at):
+def end_of_block(text: str, at: int) -> int:
     """Where the block ends whose brace opens there."""
     return next_of(text, "}", at + 1) + 1
 
 
-def body_of(text, at):
+def body_of(text: str, at: int) -> int | None:
     """Where the body begins of the function whose name ends there, or None if it has none."""
     while True:
         opens = next_of(text, "{;", at)
@@ -58,7 +64,7 @@ def body_of(text, at):
         at = end_of_block(text, opens)
 
 
-def owner_of(header):
+def owner_of(header: str) -> str:
     """What the checker puts before the names of an impl's functions: its type's name, its trait's, and the names of the
     types that the trait is given, as in `VerdictFromRefusal`."""
     plain = header.replace("->", "  ").lstrip()
@@ -70,7 +76,7 @@ def owner_of(header):
     return "".join(name_of(it) for it in (owner, named, *given.split(",")))
 
 
-def end_of_parameters(text):
+def end_of_parameters(text: str) -> int:
     """Where the parameters in angle brackets end with which a text begins."""
     depth = 0
     for at, sign in enumerate(text):
@@ -80,7 +86,7 @@ def end_of_parameters(text):
     return len(text)
 
 
-def name_of(text):
+def name_of(text: str) -> str:
     """The name of the first type or trait in a text, without its modules, or nothing; a lifetime is none."""
     found = NAME.search(text)
     return found[1] if found else ""
@@ -89,18 +95,20 @@ def name_of(text):
 class Source:
     """The functions and the constants of one file."""
 
-    def __init__(self, text, path):
-        self.text, self.plain, self.functions, self.constants = text, blanked(text), {}, {}
+    def __init__(self, text: str, path: list[str]) -> None:
+        self.text, self.plain = text, blanked(text)
+        self.functions: dict[str, Function] = {}
+        self.constants: dict[str, str] = {}
         self.read(path, 0, len(text))
 
-    def read(self, path, at, end):
+    def read(self, path: list[str], at: int, end: int) -> None:
         while True:
             item = ITEM.search(self.plain, at, end)
             if item is None:
                 return
             at = self.read_item(item, path)
 
-    def read_item(self, item, path):
+    def read_item(self, item: re.Match[str], path: list[str]) -> int:
         """Reads an item and what stands in it, and answers where it ends."""
         name, at = item["name"], item.end()
         if item["kind"] == "fn":
@@ -123,23 +131,23 @@ class Source:
         return end
 
 
-def module_of(crate, file):
+def module_of(crate: str, file: str) -> list[str]:
     """The path of the module that a file below src/ is."""
     parts = file[: -len(".rt")].split("/")[1:]
     return [crate, *([] if parts in (["lib"], ["main"]) else parts)]
 
 
-def sources_of(crate, texts):
+def sources_of(crate: str, texts: Mapping[str, str]) -> dict[str, Source]:
     """The sources among these files of a crate, by their paths."""
     files = [it for it in texts if it.startswith("src/") and it.endswith(".rt")]
     return {file: Source(texts[file], module_of(crate, file)) for file in files}
 
 
-def functions_of(sources):
+def functions_of(sources: Mapping[str, Source]) -> dict[str, Function]:
     return {symbol: it for source in sources.values() for symbol, it in source.functions.items()}
 
 
-def changed(before, after):
+def changed(before: Mapping[str, Source], after: Mapping[str, Source]) -> set[str]:
     """The functions of a crate that an edit changes, and those whose constants it changes; none that it adds."""
     was, now = functions_of(before), functions_of(after)
     found = {symbol for symbol, it in was.items() if symbol in now and now[symbol].text != it.text}
@@ -149,18 +157,23 @@ def changed(before, after):
     return found
 
 
-def reachable(functions):
+def reachable(functions: Mapping[str, Function]) -> dict[str, set[str]]:
     """The functions that each may call, itself or by others: those that its words may name."""
-    named = {}
+    named: dict[str, set[str]] = {}
     for symbol, it in functions.items():
         named.setdefault(it.name, set()).add(symbol)
-    calls = {symbol: set().union(*(named.get(word, ()) for word in it.words())) for symbol, it in functions.items()}
-    reach = {}
-    for symbol in functions:
-        found, waiting = set(), [symbol]
-        while waiting:
-            new = calls[waiting.pop()] - found
-            found |= new
-            waiting += new
-        reach[symbol] = found
-    return reach
+    calls = {
+        symbol: {callee for word in it.words() for callee in named.get(word, ())} for symbol, it in functions.items()
+    }
+    return {symbol: reached_from(symbol, calls) for symbol in functions}
+
+
+def reached_from(symbol: str, calls: Mapping[str, Set[str]]) -> set[str]:
+    """The functions that one may call, itself or by others."""
+    found: set[str] = set()
+    waiting = [symbol]
+    while waiting:
+        new = calls[waiting.pop()] - found
+        found |= new
+        waiting += new
+    return found

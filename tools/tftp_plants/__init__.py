@@ -1,0 +1,1 @@
+"""Wrong bodies: their form, which are tried together, and what the prover says of them."""
