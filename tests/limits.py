@@ -11,8 +11,8 @@ from normal import Output, meaning_of, outputs_of_refused
 from trial import Trial
 
 # The stack that the program is run in, and the steps in which its memory is raised, in bytes.
-STACK, STEP = 128 * 1024, 32 * 1024
-# In so much memory a plain read is judged, and in so much each command has what it needs.
+STACK, STEP = 128 * 1024, 16 * 1024
+# In so much memory the empty program starts, and in so much each command has what it needs.
 MUCH = 8 * 1024 * 1024
 ENOUGH = 64 * 1024 * 1024
 MEMORY = b"fault memory\n"
@@ -94,15 +94,14 @@ class LimitTrial(Trial):
         return done.stdout, done.returncode, done.stderr
 
     def starts(self, size: int) -> bool:
-        """Whether each command judges a plain read in so much memory; its stack is what all texts take."""
-        text = windowed().text()
+        """Whether the empty program ends as it should in so much memory: it is run without a word."""
         try:
-            return all(self.run([command], text, resource.RLIMIT_AS, size)[1] in (0, 2) for command in COMMANDS)
+            return self.run([], b"", resource.RLIMIT_AS, size)[1] == 2
         except OSError:
             return False
 
     def least(self) -> int:
-        """The least memory, by steps, from which on a plain read is judged, or memory is said to be wanting."""
+        """The least memory, by steps, from which on the empty program starts."""
         return STEP + max(size for size in range(0, MUCH, STEP) if not self.starts(size))
 
     def may_want(self, command: str, rows: bytes, got: tuple[bytes, int, bytes]) -> bool:
