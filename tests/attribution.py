@@ -8,21 +8,27 @@ Each case is one recording of reads with dense strays and repeated requests, and
 between. The first has the seed SEED, and each further one the next number. The last line is 'N passed, M failed';
 status 1 if any failed.
 """
+from __future__ import annotations
+
 import argparse
 import collections
 import os
 import sys
-from typing import Iterator
+from collections.abc import Iterator
+from typing import Literal, Union
 
+from captures import EndName
 from fuzzing.attribution import Attribution, Datagram, Transfer, attributed
 from fuzzing.dense import alone, drawn_reads, whole
 from fuzzing.program import Program
-from fuzzing.sessions import SERVER, simulated
+from fuzzing.sessions import SERVER, STRANGER, simulated
 
 Told = collections.Counter[tuple[str, str]]
+# Where a session is recorded.
+Tap = Union[EndName, Literal["between"]]
 
 
-def text_of(one: Transfer, end: str, view: list[Datagram]) -> bytes:
+def text_of(one: Transfer, end: EndName, view: list[Datagram]) -> bytes:
     """The capture text of a transfer at an end, version 2."""
     lines = ["tftp-capture 2", f"end {end}", f"service {one.asked.port}"]
     besides = {it.number: at for it, at in one.beside}
@@ -41,13 +47,13 @@ class Trier:
         self.program = program
         self.told: Told = collections.Counter()
 
-    def check(self, one: Transfer, end: str, view: list[Datagram]) -> str:
+    def check(self, one: Transfer, end: EndName, view: list[Datagram]) -> str:
         printed, errors, _ = self.program.run("check", text_of(one, end, view))
         if errors:
             raise RuntimeError(f"it wrote errors: {errors!r}")
-        return str(printed.decode().strip())
+        return printed.decode().strip()
 
-    def verdict(self, one: Transfer, end: str) -> tuple[str, str]:
+    def verdict(self, one: Transfer, end: EndName) -> tuple[str, str]:
         """The verdict of an end's view, and the datagram and rule of a refusal; one with a doubt is `doubtful`."""
         view = one.view(end)
         said = self.check(one, end, view)
@@ -57,17 +63,17 @@ class Trier:
         at = view[int(words[2]) - 1]
         return "doubtful" if one.doubts_at(end, at.number) else "refused", f"{at.number} {said.split('rule ')[1]}"
 
-    def refusals(self, kind: str, end: str, found: Attribution) -> Iterator[str]:
+    def refusals(self, kind: str, tap: Tap, found: Attribution) -> Iterator[str]:
         """The transfers that are accused: between, where both views are refused by one rule at one datagram."""
         for one in found.transfers:
-            if end == "between":
+            if tap == "between":
                 (client, why), (server, other) = self.verdict(one, "client"), self.verdict(one, "server")
                 word = "refused" if client == server == "refused" and why == other else "spared"
             else:
-                word, why = self.verdict(one, end)
-            self.told[f"{kind}, {end}", word] += 1
+                word, why = self.verdict(one, tap)
+            self.told[f"{kind}, {tap}", word] += 1
             if word == "refused":
-                yield f"{kind}, {end}: transfer {one.number}, datagram {why}"
+                yield f"{kind}, {tap}: transfer {one.number}, datagram {why}"
 
     def dense_case(self, seed: int) -> list[str]:
         reads = drawn_reads(seed)
@@ -79,10 +85,9 @@ class Trier:
 
     def session_case(self, seed: int) -> list[str]:
         kind, recorded = simulated(seed)
-        named = {SERVER: "server", "between": "between"}
-        ends = [(named.get(place, "client"), place) for place in recorded]
-        hosts = [(end, place) for end, place in ends if place != "10.1.0.9"]
-        return [said for end, place in hosts for said in self.refusals(kind, end, attributed(recorded[place]))]
+        named: dict[str, Tap] = {SERVER: "server", "between": "between"}
+        taps = [(named.get(place, "client"), place) for place in recorded if place != STRANGER]
+        return [said for tap, place in taps for said in self.refusals(kind, tap, attributed(recorded[place]))]
 
 
 def words_of(arguments: list[str]) -> argparse.Namespace:

@@ -6,7 +6,6 @@ else; and the first run that meets no refusal passes. The program's commands are
 """
 from __future__ import annotations
 
-import os
 import pathlib
 import re
 import subprocess

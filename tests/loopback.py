@@ -22,7 +22,7 @@ import time
 from collections.abc import Iterator
 from typing import Optional
 
-from relay import Relay
+from relay import Disturbance, Relay
 from trial import Trial
 
 TOP = pathlib.Path(__file__).resolve().parent.parent
@@ -58,7 +58,7 @@ class Case:
     clients: tuple[str, ...]
     verdicts: tuple[tuple[str, str], ...]
     # what the relay between the two does to datagrams, where there is one
-    disturbed: tuple[tuple[str, int, str], ...] = ()
+    disturbed: tuple[Disturbance, ...] = ()
     # the files that come over as others
     spoilt: tuple[str, ...] = ()
 

@@ -7,7 +7,7 @@ import dataclasses
 import ipaddress
 import random
 import struct
-from typing import Optional, Union
+from typing import Literal, Optional, Union
 
 ETHERNET, NULL, RAW, LOOP, COOKED, COOKED_2 = 1, 0, 101, 108, 113, 276
 LINKS = (ETHERNET, NULL, RAW, LOOP, COOKED, COOKED_2)
@@ -16,7 +16,8 @@ UDP, TCP, ICMP = 17, 6, 1
 HOP_BY_HOP, ROUTING, FRAGMENT, DESTINATION = 0, 43, 44, 60
 # Tags of IEEE 802.1Q and 802.1ad, and what was used before: none, one, two, three.
 TAGGED = ((), (0x8100,), (0x88A8, 0x8100), (0x9100, 0x88A8, 0x8100))
-DIRECTIONS = {"unknown": 0, "in": 1, "out": 2}
+Direction = Literal["unknown", "in", "out"]
+DIRECTIONS: dict[Direction, int] = {"unknown": 0, "in": 1, "out": 2}
 # What Linux writes of a packet's way: to us, to all, to some, to another host, from us.
 COOKED_TYPES = {"in": (0,), "unknown": (1, 2, 3), "out": (4,)}
 FIRST_TIME = 1_700_000_000_000_000_000
@@ -59,9 +60,9 @@ class Frame:
     link: int
     content: bytes
     time: int
-    direction: str = "unknown"
+    direction: Direction = "unknown"
     original: Optional[int] = None
-    flags: str = "unknown"
+    flags: Direction = "unknown"
     is_timed: bool = True
 
 
@@ -97,7 +98,7 @@ def ipv6(
 
 
 def carried(
-    link: int, packet: bytes, chance: random.Random, direction: str, kind: Optional[int], tags: tuple[int, ...]
+    link: int, packet: bytes, chance: random.Random, direction: Direction, kind: Optional[int], tags: tuple[int, ...]
 ) -> bytes:
     """A frame of a link type that carries a packet of IP, or of another kind."""
     is_four = packet[:1] and packet[0] >> 4 == 4

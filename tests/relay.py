@@ -4,23 +4,25 @@ from __future__ import annotations
 import select
 import socket
 import threading
+from typing import Literal
 
+from captures import EndName
+
+# A sender, the place among the datagrams of that sender, from 1, and what becomes of the datagram there.
+Disturbance = tuple[EndName, int, Literal["lost", "repeated"]]
 SERVICE = 69
 LONGEST = 65_535
 
 
 class Relay:
-    """Listens at an address for one client, and goes on with the server; each side has its own ports.
+    """Listens at an address for one client, and goes on with the server; each side has its own ports."""
 
-    `disturbed` has the sender, the place among the datagrams of that sender, from 1, and 'lost' or 'repeated'.
-    """
-
-    def __init__(self, address: str, server: str, disturbed: tuple[tuple[str, int, str], ...]) -> None:
+    def __init__(self, address: str, server: str, disturbed: tuple[Disturbance, ...]) -> None:
         self.server, self.disturbed = server, {(sender, place): what for sender, place, what in disturbed}
         self.service, self.to_client, self.to_server = (self.bound(address, port) for port in (SERVICE, 0, 0))
         self.client_at: tuple[str, int] = ("", 0)
         self.server_at = (server, SERVICE)
-        self.sent = {"client": 0, "server": 0}
+        self.sent: dict[EndName, int] = {"client": 0, "server": 0}
         self.stops, self.told = socket.socketpair()
         self.thread = threading.Thread(target=self.run, daemon=True)
 
@@ -57,8 +59,8 @@ class Relay:
             self.client_at = sender
             self.send("client", self.to_server, payload, self.server_at)
 
-    def send(self, sender: str, way: socket.socket, payload: bytes, target: tuple[str, int]) -> None:
+    def send(self, sender: EndName, way: socket.socket, payload: bytes, target: tuple[str, int]) -> None:
         self.sent[sender] += 1
-        what = self.disturbed.get((sender, self.sent[sender]), "")
-        for _ in range({"lost": 0, "repeated": 2}.get(what, 1)):
+        what = self.disturbed.get((sender, self.sent[sender]))
+        for _ in range(0 if what == "lost" else 2 if what == "repeated" else 1):
             way.sendto(payload, target)

@@ -3,7 +3,9 @@ tried before and beside the proofs. A transfer is known by how many datagrams ca
 from __future__ import annotations
 
 from dataclasses import dataclass, field
-from typing import Iterable, NamedTuple, Optional
+from typing import Iterable, Literal, NamedTuple, Optional
+
+from captures import EndName
 
 SILENCE = 300.0
 ACK_0, DATA_1 = b"\0\4\0\0", b"\0\3\0\1"
@@ -64,13 +66,13 @@ class Transfer:
         hosts = {end.host for end in (self.asked, self.answered, self.went_on) if end}
         return server is not None and other.port == server.port and other.host in hosts
 
-    def view(self, end: str) -> list[Datagram]:
+    def view(self, end: EndName) -> list[Datagram]:
         if end == "client":
             return self.seen
         own = [it for it in self.seen if it.number in self.requests or self.is_with_server(it)]
         return sorted(own + [it for it, at in self.beside if at == self.server()])
 
-    def doubts_at(self, end: str, number: int) -> list[str]:
+    def doubts_at(self, end: EndName, number: int) -> list[str]:
         """Why a refusal at this datagram is no accusation."""
         told = [why for since, why in self.doubts if since <= number]
         if end == "server" and any(it.number == number for it, _ in self.beside):
@@ -102,6 +104,13 @@ class Line:
     talks: dict[Endpoint, Talk] = field(default_factory=dict)
 
 
+class Place(NamedTuple):
+    """Where a datagram belongs, and the number of its transfer, if it is of one."""
+
+    kind: Literal["request", "client", "apart", "server", "nowhere"]
+    transfer: Optional[int] = None
+
+
 class Attribution:
     def __init__(self, named: Iterable[int] = ()) -> None:
         self.services = {69, *named}
@@ -109,7 +118,7 @@ class Attribution:
         self.lines: dict[Endpoint, Line] = {}
         self.served: dict[Endpoint, tuple[Transfer, float]] = {}
         self.transfers: list[Transfer] = []
-        self.places: list[tuple[str, Optional[int]]] = []
+        self.places: list[Place] = []
 
     def take(self, it: Datagram) -> None:
         self.clock = max(self.clock, it.time)
@@ -120,13 +129,13 @@ class Attribution:
         line = self.lines.get(client)
         return line if line and self.clock <= line.moment + SILENCE else None
 
-    def place_of(self, it: Datagram) -> tuple[str, Optional[int]]:
+    def place_of(self, it: Datagram) -> Place:
         if self.asks(it):
             one = self.asked(it)
             self.keep(one, it)
             one.requests.add(it.number)
-            return "request", one.number
-        return self.at_client(it) or self.beside(it) or ("nowhere", None)
+            return Place("request", one.number)
+        return self.at_client(it) or self.beside(it) or Place("nowhere")
 
     def keep(self, one: Transfer, it: Datagram) -> None:
         one.seen.append(it)
@@ -157,7 +166,7 @@ class Attribution:
         line.ends_in_request = line.only_asked = True
         return one
 
-    def at_client(self, it: Datagram) -> Optional[tuple[str, Optional[int]]]:
+    def at_client(self, it: Datagram) -> Optional[Place]:
         """At the client that sent it or else at the one that it was sent to; a transfer comes before what is apart."""
         apart: list[tuple[Line, Endpoint]] = []
         for client, other in ((it.source, it.target), (it.target, it.source)):
@@ -174,7 +183,7 @@ class Attribution:
         line.moment = self.clock
         if other == it.target:
             line.talks[other].acked_0 = it.payload == ACK_0
-        return "apart", None
+        return Place("apart")
 
     def talk_with(self, line: Line, client: Endpoint, other: Endpoint, it: Datagram) -> Talk:
         latest, talk = line.latest, line.talks.get(other)
@@ -190,9 +199,7 @@ class Attribution:
         latest.doubts.append((0, f"its server's endpoint was that of transfer {talk.transfer.number}"))
         return Talk(latest, talk.acked_0)
 
-    def go_on(
-        self, line: Line, client: Endpoint, other: Endpoint, talk: Talk, it: Datagram
-    ) -> Optional[tuple[str, Optional[int]]]:
+    def go_on(self, line: Line, client: Endpoint, other: Endpoint, talk: Talk, it: Datagram) -> Optional[Place]:
         one = talk.transfer
         if one is None:
             return None
@@ -208,14 +215,14 @@ class Attribution:
                 line.only_asked = False
                 one.went_on = one.went_on or other
         self.keep(one, it)
-        return "client", one.number
+        return Place("client", one.number)
 
-    def beside(self, it: Datagram) -> Optional[tuple[str, Optional[int]]]:
+    def beside(self, it: Datagram) -> Optional[Place]:
         for at in (it.source, it.target):
             one, moment = self.served.get(at, (None, 0.0))
             if one and at.port not in self.services and self.clock <= moment + SILENCE:
                 one.beside.append((it, at))
-                return "server", one.number
+                return Place("server", one.number)
         return None
 
 

@@ -5,7 +5,7 @@ from random import Random
 from typing import TypeVar
 
 from fuzzing.ends import Kind, Packet
-from normal import KNOWN, MODES, SIDES, USUAL_SIZE, Meaning, Mode, Options, Side, Value, decoded, number, text_of
+from normal import KNOWN, MODES, SIDES, USUAL_SIZE, Meaning, Mode, Options, Value, decoded, number, text_of
 
 T = TypeVar("T")
 

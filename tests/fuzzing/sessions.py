@@ -5,13 +5,16 @@ from __future__ import annotations
 import heapq
 import random
 from dataclasses import dataclass, field
-from typing import Callable, Optional
+from typing import Callable, Literal, Optional
 
 from fuzzing.attribution import Datagram, Endpoint
 from fuzzing.dense import data, error
 
-SERVER, SERVICE = "10.2.0.1", Endpoint("10.2.0.1", 69)
+SERVER, STRANGER, SERVICE = "10.2.0.1", "10.1.0.9", Endpoint("10.2.0.1", 69)
 LONGEST = 150
+# Whether a server has a port of its own for each transfer, one for all, or the service port.
+ServerKind = Literal["forks", "one", "service"]
+SERVER_KINDS: tuple[ServerKind, ...] = ("forks", "one", "service")
 
 
 @dataclass
@@ -126,7 +129,7 @@ class Serving:
 class Server:
     """It forks, has one port beside the service port, or answers from that."""
 
-    def __init__(self, network: Network, kind: str, files: dict[str, bytes]) -> None:
+    def __init__(self, network: Network, kind: ServerKind, files: dict[str, bytes]) -> None:
         self.network, self.kind, self.files, self.next_port = network, kind, files, 41_000
         self.serving: dict[tuple[Endpoint, Endpoint], Serving] = {}
 
@@ -179,17 +182,17 @@ def strays(network: Network, server: Server) -> None:
 
     def strayed() -> None:
         for port in server.busy()[:1]:
-            stranger = Endpoint("10.1.0.9", network.drawn.choice((2_070, 2_071)))
+            stranger = Endpoint(STRANGER, network.drawn.choice((2_070, 2_071)))
             network.send(stranger, port, network.drawn.choice((b"\0\4\0\1", b"\0\3\0\2x", b"?")))
         network.later(network.drawn.uniform(0.01, 2), strayed)
 
     network.later(network.drawn.random(), strayed)
 
 
-def simulated(seed: int) -> tuple[str, dict[str, list[Datagram]]]:
+def simulated(seed: int) -> tuple[ServerKind, dict[str, list[Datagram]]]:
     """What kind of server it was, and what was recorded at each client's host, at the server's, and between."""
     drawn = random.Random(seed)
-    kind = drawn.choice(("forks", "one", "service"))
+    kind = drawn.choice(SERVER_KINDS)
     network = Network(drawn, drawn.choice((0, 0.05, 0.2)), drawn.choice((0, 0.05, 0.2)), drawn.choice((0, 0.03)))
     files = {f"f{k}": drawn.randbytes(drawn.choice((0, 100, 511, 512, 1_300, 2_600))) for k in range(3)}
     server, resets = Server(network, kind, files), drawn.choice((0, 0, 0.05))
