@@ -163,8 +163,8 @@ def main(program: str) -> int:
     for part in (try_verdicts, try_manual, try_names):
         part(trial)
     sources = Sources()
-    for part in (try_laws, try_proof):
-        part(trial, sources)
+    for of_sources in (try_laws, try_proof):
+        of_sources(trial, sources)
     try_picture(trial, program)
     return trial.end()
 
