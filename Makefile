@@ -1,6 +1,7 @@
 PREFIX = /usr/local
 PROGRAM = crates/tftp_audit/out/tftp_audit
 BENCH = crates/tftp_bench/out/tftp_bench
+DATAGRAMS = crates/tftp_datagrams/out/tftp_datagrams
 SCRIPTS = tftp-transfers tftp-explain tftp-ladder
 BIN = $(DESTDIR)$(PREFIX)/bin
 LIB = $(DESTDIR)$(PREFIX)/lib/tftp-audit
@@ -30,12 +31,15 @@ bench: build
 	sh bench/run.sh $(PROGRAM) $(BENCH)
 
 # Simulated ends and networks, and changes of what passed, tried on the built program; and recordings of lawful ends, divided
-# into transfers, of which none may be blamed: make fuzz N=1000000 SEED=1, and one recording for each hundred cases.
+# into transfers, of which none may be blamed: make fuzz N=1000000 SEED=1, and one recording for each hundred cases. For each
+# ten a recording is changed, and what is read of it compared with what a slow reader finds.
 N = 10000
 JOBS = 2
 fuzz: build
 	python3 tests/fuzz.py --cases $(N) --jobs $(JOBS) $(if $(SEED),--seed $(SEED)) $(PROGRAM)
 	python3 tests/attribution.py --cases $$(($(N) / 100 + 1)) $(if $(SEED),--seed $(SEED)) $(PROGRAM)
+	@cd crates/tftp_datagrams && rt run -- </dev/null >/dev/null || test $$? -eq 2
+	python3 tests/datagrams.py --cases 0 --changes $$(($(N) / 10 + 1)) $(if $(SEED),--seed $(SEED)) $(DATAGRAMS)
 
 # The program alone in bin; the scripts beside their modules in lib, with links in bin; the manual pages.
 install: build

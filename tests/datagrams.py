@@ -1,8 +1,8 @@
 """The datagrams that tftp_datagrams lists of recordings: those of examples/ and generated ones, of all link types, both
 formats, tags, options, and fragments in any order. Each list is compared with what the recording was made of, and where
-tshark is installed with its fields.
+tshark is installed with its fields; and generated ones that are changed, compared with what a slow reader finds.
 
-    datagrams.py PROGRAM [--cases N] [--seed S]
+    datagrams.py PROGRAM [--cases N] [--changes N] [--seed S]
 
 Prints each case that is not as it should be, then a last line 'N passed, M failed'; status 1 if any failed.
 """
@@ -18,6 +18,8 @@ import sys
 import tempfile
 
 import recorded
+from fuzzing import slow_reader
+from fuzzing.recording_changes import changed
 from recorded import Datagram, Fragment, Frame, Interface
 from trial import Trial
 
@@ -227,6 +229,15 @@ class DatagramTrial(Trial):
         if self.tshark:
             self.compare(name, it.file, rows)
 
+    def try_changed(self, name: str, file: bytes) -> None:
+        """A changed recording: all that the program says of it is what the slow reader says."""
+        rows, left, fault, status = self.run(file)
+        wanted = slow_reader.listing(file)
+        self.check(f"{name}, datagrams", rows == wanted.rows, difference(rows, wanted.rows))
+        self.check(f"{name}, left out", sorted(left) == wanted.left, (sorted(left), wanted.left))
+        ends = wanted.fault, 2 if wanted.fault else 0
+        self.check(f"{name}, its end", (fault, status) == ends, (fault, status, ends))
+
     def compare(self, name: str, file: bytes, rows: list[str]) -> None:
         """The program's list beside the fields of tshark."""
         with tempfile.NamedTemporaryFile(suffix=".pcap") as path:
@@ -267,6 +278,7 @@ def main() -> int:
     form = argparse.ArgumentParser(description=__doc__, formatter_class=argparse.RawDescriptionHelpFormatter)
     form.add_argument("program")
     form.add_argument("--cases", type=int, default=40, metavar="N", help="so many generated recordings (40)")
+    form.add_argument("--changes", type=int, default=400, metavar="N", help="so many changed recordings (400)")
     form.add_argument("--seed", type=int, default=1_350, metavar="S", help="case i has the seed S plus i (1350)")
     given = form.parse_args()
     trial = DatagramTrial(given.program)
@@ -284,6 +296,10 @@ def main() -> int:
         chance = random.Random(given.seed + case)
         make = chance.choice((made_pcap, made_pcapng))
         trial.try_made(f"seed {given.seed + case}", make(chance))
+    for case in range(given.changes):
+        chance = random.Random(given.seed + case)
+        file = changed(chance.choice((made_pcap, made_pcapng))(chance).file, chance)
+        trial.try_changed(f"seed {given.seed + case}, changed", file)
     return trial.end()
 
 

@@ -1,0 +1,459 @@
+"""A slow reader of recordings, written from the formats' descriptions alone: which frames a file holds, which of them are
+datagrams of UDP, and which are left out. What the program lists is compared with it.
+"""
+from __future__ import annotations
+
+import dataclasses
+import ipaddress
+from typing import Literal, NamedTuple, Optional, Union
+
+SECTION = b"\x0a\x0d\x0d\x0a"
+MAGICS: dict[bytes, tuple[Literal["little", "big"], int]] = {
+    b"\xa1\xb2\xc3\xd4": ("big", 1000), b"\xa1\xb2\x3c\x4d": ("big", 1),
+    b"\xd4\xc3\xb2\xa1": ("little", 1000), b"\x4d\x3c\xb2\xa1": ("little", 1),
+}
+ORDERS: dict[bytes, Literal["little", "big"]] = {b"\x1a\x2b\x3c\x4d": "big", b"\x4d\x3c\x2b\x1a": "little"}
+LONGEST_FRAME, LONGEST_BLOCK, MOST_INTERFACES = 262_144, 16_777_216, 65_536
+SECOND, PATIENCE, MOST_TIME = 1_000_000_000, 30_000_000_000, 1 << 64
+ROOM, LONGEST_PACKET = 1 << 26, 65_535
+IPV4, IPV6 = 4, 6
+UDP = 17
+EXTENSIONS, FRAGMENT_HEADER = (0, 43, 60), 44
+TAGS = (0x8100, 0x88A8, 0x9100)
+TYPES = {0x0800: IPV4, 0x86DD: IPV6}
+FAMILIES = {2: IPV4, 24: IPV6, 28: IPV6, 30: IPV6}
+COOKED = {0: "in", 4: "out"}
+FLAGS = {1: "in", 2: "out"}
+
+
+class Frame(NamedTuple):
+    """What a recording says of a frame."""
+
+    link: int
+    time: Optional[int]
+    way: str
+    content: bytes
+
+
+class Fault(Exception):
+    """A recording, a frame or a content that is none."""
+
+
+class Listing(NamedTuple):
+    """The lines of datagrams, the frames that are left out with the reason, and the fault at the end."""
+
+    rows: list[str]
+    left: list[tuple[int, str]]
+    fault: str
+
+
+# ---- files
+
+
+def frames_of(file: bytes) -> tuple[list[Frame], str]:
+    """The frames of a file, and the fault that it ends with."""
+    frames: list[Frame] = []
+    try:
+        if file[:4] == SECTION:
+            read_blocks(file, frames)
+        elif file[:4] in MAGICS:
+            read_classic(file, frames)
+        else:
+            raise Fault("NotARecording")
+    except Fault as fault:
+        return frames, str(fault)
+    return frames, ""
+
+
+def read_classic(file: bytes, frames: list[Frame]) -> None:
+    """A header of 24 bytes, and records."""
+    order, unit = MAGICS[file[:4]]
+    if len(file) < 24:
+        raise Fault("Truncated")
+    if int.from_bytes(file[4:6], order) != 2:
+        raise Fault("Bad")
+    link = int.from_bytes(file[20:24], order) % 65_536
+    at = 24
+    while at < len(file):
+        if len(file) - at < 16:
+            raise Fault("Truncated")
+        seconds, fraction, size, _ = (int.from_bytes(file[at + k : at + k + 4], order) for k in (0, 4, 8, 12))
+        if size > LONGEST_FRAME:
+            raise Fault("TooLong")
+        if len(file) - at - 16 < size:
+            raise Fault("Truncated")
+        frames.append(Frame(link, seconds * SECOND + fraction * unit, "unknown", file[at + 16 : at + 16 + size]))
+        at += 16 + size
+
+
+class Interface(NamedTuple):
+    """An interface: its link type, how many bytes it keeps, units of time in a second (0: none), seconds to be added."""
+
+    link: int
+    snaplen: int
+    units: int
+    offset: int
+
+    def time(self, ticks: int) -> Optional[int]:
+        if not self.units:
+            return None
+        moment = ticks * SECOND // self.units + self.offset * SECOND
+        return moment if 0 <= moment < MOST_TIME else None
+
+
+def read_blocks(file: bytes, frames: list[Frame]) -> None:
+    """Blocks, one after another; the first one is a section header."""
+    at = 0
+    order: Literal["little", "big"] = "little"
+    interfaces: list[Interface] = []
+    while at < len(file):
+        if len(file) - at < 12:
+            raise Fault("Truncated")
+        is_section = file[at : at + 4] == SECTION
+        if is_section:
+            if file[at + 8 : at + 12] not in ORDERS:
+                raise Fault("Bad")
+            order = ORDERS[file[at + 8 : at + 12]]
+        size = int.from_bytes(file[at + 4 : at + 8], order)
+        if size > LONGEST_BLOCK:
+            raise Fault("TooLong")
+        if size < 12 or size % 4:
+            raise Fault("Bad")
+        if len(file) - at < size:
+            raise Fault("Truncated")
+        if int.from_bytes(file[at + size - 4 : at + size], order) != size:
+            raise Fault("Bad")
+        body = file[at + 8 : at + size - 4]
+        if is_section:
+            if len(body) < 16 or int.from_bytes(body[4:6], order) != 1:
+                raise Fault("Bad")
+            interfaces = []
+        else:
+            read_block(order, int.from_bytes(file[at : at + 4], order), body, interfaces, frames)
+        at += size
+
+
+Order = Literal["little", "big"]
+
+
+def read_block(order: Order, kind: int, body: bytes, interfaces: list[Interface], frames: list[Frame]) -> None:
+    """A block that is no section header: an interface, a frame, or what is skipped."""
+    if kind == 1:
+        if len(interfaces) == MOST_INTERFACES:
+            raise Fault("Bad")
+        interfaces.append(interface_of(order, body))
+    elif kind == 6:
+        need(body, 4)
+        frames.append(timed(order, named(interfaces, int.from_bytes(body[:4], order)), body[4:]))
+    elif kind == 2:
+        need(body, 4)
+        frames.append(timed(order, named(interfaces, int.from_bytes(body[:2], order)), body[4:]))
+    elif kind == 3:
+        need(body, 4)
+        first, size = named(interfaces, 0), int.from_bytes(body[:4], order)
+        kept = min(size, first.snaplen) if first.snaplen else size
+        need(body, 4 + kept + -kept % 4)
+        if kept > LONGEST_FRAME:
+            raise Fault("Bad")
+        frames.append(Frame(first.link, None, "unknown", body[4 : 4 + kept]))
+
+
+def need(body: bytes, size: int) -> None:
+    if len(body) < size:
+        raise Fault("Bad")
+
+
+def named(interfaces: list[Interface], place: int) -> Interface:
+    if place >= len(interfaces):
+        raise Fault("Bad")
+    return interfaces[place]
+
+
+def options_of(order: Order, rest: bytes) -> list[tuple[int, bytes]]:
+    """Options to the code 0, or to the end."""
+    told: list[tuple[int, bytes]] = []
+    while rest:
+        need(rest, 4)
+        code, size = int.from_bytes(rest[:2], order), int.from_bytes(rest[2:4], order)
+        if not code:
+            break
+        need(rest, 4 + size + -size % 4)
+        told.append((code, rest[4 : 4 + size]))
+        rest = rest[4 + size + -size % 4 :]
+    return told
+
+
+def first_of(told: list[tuple[int, bytes]], code: int, size: int) -> Optional[bytes]:
+    """The first value of an option of so many bytes."""
+    return next((value for it, value in told if it == code and len(value) == size), None)
+
+
+def interface_of(order: Order, body: bytes) -> Interface:
+    need(body, 8)
+    told = options_of(order, body[8:])
+    unit, offset = first_of(told, 9, 1), first_of(told, 14, 8)
+    units = 1_000_000
+    if unit:
+        units = 1 << (unit[0] & 127) if unit[0] & 128 else int(10 ** unit[0])
+        units = units if units < MOST_TIME else 0
+    seconds = int.from_bytes(offset, order, signed=True) if offset else 0
+    return Interface(int.from_bytes(body[:2], order), int.from_bytes(body[4:8], order), units, seconds)
+
+
+def timed(order: Order, interface: Interface, body: bytes) -> Frame:
+    """Two halves of the time, the captured length, the original length, the frame, padding, and options."""
+    need(body, 16)
+    high, low, size = (int.from_bytes(body[k : k + 4], order) for k in (0, 4, 8))
+    end = 16 + size + -size % 4
+    need(body, end)
+    told = options_of(order, body[end:])
+    if size > LONGEST_FRAME:
+        raise Fault("Bad")
+    flags = first_of(told, 2, 4)
+    way = FLAGS.get(int.from_bytes(flags, order) % 4, "unknown") if flags else "unknown"
+    return Frame(interface.link, interface.time((high << 32) + low), way, body[16 : 16 + size])
+
+
+# ---- frames
+
+
+class Part(NamedTuple):
+    """A fragment: of which packet, where it begins, and whether more follow."""
+
+    id: int
+    place: int
+    more: bool
+
+
+class Packet(NamedTuple):
+    """A packet of IP that may carry UDP: the link's word of its direction, its ends, what it carries, and all its bytes."""
+
+    way: str
+    version: int
+    source: bytes
+    target: bytes
+    protocol: int
+    part: Optional[Part]
+    content: bytes
+    whole: bytes
+
+
+def number(content: bytes, at: int, size: int = 2) -> int:
+    return int.from_bytes(content[at : at + size], "big")
+
+
+def packet_of(frame: Frame) -> Packet:
+    """The packet that a frame carries."""
+    way, version, content = linked(frame.link, frame.content)
+    if version is None:
+        raise Fault("Network")
+    return ipv4(way, content) if version == IPV4 else ipv6(way, content)
+
+
+def linked(link: int, frame: bytes) -> tuple[str, Optional[int], bytes]:
+    """What the link says of the direction, the version of IP, and what stands after the link's header."""
+    least = {0: 4, 1: 14, 12: 1, 101: 1, 108: 4, 113: 16, 228: 0, 229: 0, 276: 20}
+    if link not in least:
+        raise Fault("Link")
+    if len(frame) < least[link]:
+        raise Fault("Frame")
+    if link == 1:
+        return ("unknown", *untagged(number(frame, 12), frame[14:]))
+    if link == 113:
+        return (COOKED.get(number(frame, 0), "unknown"), *untagged(number(frame, 14), frame[16:]))
+    if link == 276:
+        return (COOKED.get(frame[10], "unknown"), *untagged(number(frame, 0), frame[20:]))
+    if link in (12, 101):
+        return "unknown", {4: IPV4, 6: IPV6}.get(frame[0] >> 4), frame
+    if link in (228, 229):
+        return "unknown", IPV4 if link == 228 else IPV6, frame
+    version = FAMILIES.get(number(frame, 0, 4))
+    if link == 0 and version is None:
+        version = FAMILIES.get(int.from_bytes(frame[:4], "little"))
+    return "unknown", version, frame[4:]
+
+
+def untagged(kind: int, after: bytes) -> tuple[Optional[int], bytes]:
+    """Over all tags."""
+    while kind in TAGS:
+        if len(after) < 4:
+            raise Fault("Frame")
+        kind, after = number(after, 2), after[4:]
+    return TYPES.get(kind), after
+
+
+def ipv4(way: str, it: bytes) -> Packet:
+    if len(it) < 20 or it[0] >> 4 != 4 or it[0] % 16 < 5 or len(it) < 4 * (it[0] % 16):
+        raise Fault("Header")
+    head, total, flags = 4 * (it[0] % 16), number(it, 2), number(it, 6)
+    if it[9] != UDP:
+        raise Fault("Protocol")
+    if total < head:
+        raise Fault("Length")
+    if len(it) < total:
+        raise Fault("Cut")
+    part = Part(number(it, 4), 8 * (flags % 8192), bool(flags & 0x2000)) if flags % 16384 else None
+    return Packet(way, IPV4, it[12:16], it[16:20], UDP, part, it[head:total], it[:total])
+
+
+def ipv6(way: str, it: bytes) -> Packet:
+    if len(it) < 40 or it[0] >> 4 != 6:
+        raise Fault("Header")
+    total = 40 + number(it, 4)
+    reached = over_headers(it[6], it[40:total])
+    if reached and not (reached[0] == UDP or (reached[1] and reached[0] in EXTENSIONS)):
+        raise Fault("Protocol")
+    if len(it) < total:
+        raise Fault("Cut")
+    if not reached:
+        raise Fault("Extension")
+    protocol, part, content = reached
+    return Packet(way, IPV6, it[8:24], it[24:40], protocol, part, content, it[:total])
+
+
+def over_headers(kind: int, content: bytes) -> Optional[tuple[int, Optional[Part], bytes]]:
+    """What stands after all headers that are skipped; nothing where one runs beyond the bytes."""
+    while kind in EXTENSIONS or kind == FRAGMENT_HEADER:
+        if len(content) < 8:
+            return None
+        if kind == FRAGMENT_HEADER and number(content, 2) & 0xFFF9:
+            part = Part(number(content, 4, 4), number(content, 2) & 0xFFF8, bool(content[3] & 1))
+            return content[0], part, content[8:]
+        size = 8 if kind == FRAGMENT_HEADER else 8 * (content[1] + 1)
+        if len(content) < size:
+            return None
+        kind, content = content[0], content[size:]
+    return kind, None, content
+
+
+class Udp(NamedTuple):
+    """A datagram of UDP."""
+
+    source: int
+    target: int
+    payload: bytes
+
+
+def udp_of(protocol: int, content: bytes) -> Udp:
+    """The datagram that a whole content is."""
+    reached = over_headers(protocol, content)
+    if not reached or reached[0] != UDP or reached[1]:
+        raise Fault("Protocol")
+    it = reached[2]
+    if len(it) < 8:
+        raise Fault("Header")
+    if not 8 <= number(it, 4) <= len(it):
+        raise Fault("Length")
+    if not number(it, 0) or not number(it, 2):
+        raise Fault("Port")
+    return Udp(number(it, 0), number(it, 2), it[8 : number(it, 4)])
+
+
+# ---- fragments
+
+
+@dataclasses.dataclass
+class Waiting:
+    """The fragments of a packet that came: when the first did, their frames, their bytes by place, and where it ends."""
+
+    began: Optional[int]
+    frames: list[int] = dataclasses.field(default_factory=list)
+    cells: dict[int, int] = dataclasses.field(default_factory=dict)
+    reach: int = 0
+    end: Optional[int] = None
+    is_spoiled: bool = False
+
+    def room(self) -> int:
+        return 0 if self.is_spoiled else 2 * self.reach
+
+    def is_old(self, time: Optional[int]) -> bool:
+        return self.began is not None and time is not None and abs(self.began - time) > PATIENCE
+
+    def take(self, part: Part, content: bytes) -> bool:
+        """Whether it can be of one packet with the others."""
+        end = part.place + len(content)
+        if self.end is not None and (end > self.end or (end == self.end) == part.more):
+            return False
+        if not part.more and self.end is None and end <= self.reach:
+            return False
+        if any(self.cells.get(part.place + k, byte) != byte for k, byte in enumerate(content)):
+            return False
+        self.cells.update((part.place + k, byte) for k, byte in enumerate(content))
+        self.reach = max(self.reach, end)
+        self.end = self.end if part.more else end
+        return True
+
+    def is_whole(self) -> bool:
+        return self.end is not None and len(self.cells) == self.end
+
+
+Key = tuple[bytes, bytes, int, int]
+
+
+class Reader:
+    """What waits, and what was found up to here."""
+
+    def __init__(self) -> None:
+        self.waiting: dict[Key, Waiting] = {}
+        self.rows: list[str] = []
+        self.left: list[tuple[int, str]] = []
+
+    def leave(self, frames: list[int], why: str) -> None:
+        self.left += [(frame, why) for frame in frames]
+
+    def take(self, at: int, frame: Frame) -> None:
+        """A frame, by its number."""
+        try:
+            packet = packet_of(frame)
+            if packet.part:
+                self.take_part(at, frame, packet, packet.part)
+            else:
+                self.add(at, frame, packet, packet.content)
+        except Fault as fault:
+            self.leave([at], str(fault))
+
+    def take_part(self, at: int, frame: Frame, packet: Packet, part: Part) -> None:
+        """A fragment: it waits, or none is missing any more, or it is left out."""
+        key = packet.source, packet.target, packet.protocol, part.id
+        if key in self.waiting and self.waiting[key].is_old(frame.time):
+            self.leave(self.waiting.pop(key).frames, "FragmentOld")
+        if not packet.content:
+            raise Fault("FragmentEmpty")
+        if part.place + len(packet.content) + part.more > LONGEST_PACKET:
+            raise Fault("FragmentTooLong")
+        it = self.waiting.setdefault(key, Waiting(frame.time))
+        if it.is_spoiled or not it.take(part, packet.content):
+            self.leave(it.frames + [at], "FragmentsApart")
+            it.frames, it.is_spoiled = [], True
+            return
+        it.frames.append(at)
+        if it.is_whole():
+            del self.waiting[key]
+            self.add(at, frame, packet, bytes(it.cells[k] for k in range(it.reach)))
+
+    def add(self, at: int, frame: Frame, packet: Packet, content: bytes) -> None:
+        """A whole packet."""
+        it = udp_of(packet.protocol, content)
+        way = packet.way if packet.way != "unknown" else frame.way
+        time = "-" if frame.time is None else str(frame.time)
+        ends = written(packet.source), str(it.source), written(packet.target), str(it.target)
+        self.rows.append(" ".join(("datagram", str(at), time, way, *ends, it.payload.hex() or "-")))
+
+
+def written(address: bytes) -> str:
+    """An address as RFC 5952 writes it: of one in IPv6 that has an IPv4 one mapped in it, that in dotted decimal."""
+    it: Union[ipaddress.IPv4Address, ipaddress.IPv6Address] = ipaddress.ip_address(address)
+    if isinstance(it, ipaddress.IPv6Address) and it.ipv4_mapped:
+        return f"::ffff:{it.ipv4_mapped}"
+    return str(it)
+
+
+def listing(file: bytes) -> Listing:
+    """What a recording holds."""
+    frames, fault = frames_of(file)
+    reader = Reader()
+    for at, frame in enumerate(frames, 1):
+        reader.take(at, frame)
+    for it in reader.waiting.values():
+        reader.leave(it.frames, "FragmentMissing")
+    return Listing(reader.rows, sorted(reader.left), f"fault {len(frames) + 1} {fault}" if fault else "")
