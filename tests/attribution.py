@@ -1,5 +1,5 @@
 """Tries the definition of which datagrams of a recording are one transfer: recordings of lawful ends are drawn, divided
-by the definition (fuzzing/attribution.py is its prototype), and each transfer's capture is judged by the built program.
+by the definition as the scripts have it, and each transfer's capture is judged by the built program.
 Nobody may be accused: each refusal must have a doubt.
 
     attribution.py [--cases N] [--seed SEED] PROGRAM
@@ -17,11 +17,12 @@ import sys
 from collections.abc import Iterator
 from typing import Literal, Union
 
+import repository  # noqa: F401
 from captures import EndName
-from fuzzing.attribution import Attribution, Datagram, Transfer, attributed
 from fuzzing.dense import alone, drawn_reads, whole
 from fuzzing.program import Program
 from fuzzing.sessions import SERVER, STRANGER, simulated
+from tftp_tools.attribution import Attribution, Datagram, Transfer, attributed
 
 Told = collections.Counter[tuple[str, str]]
 # Where a session is recorded.

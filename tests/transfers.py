@@ -35,6 +35,7 @@ LISTED = """number  client           server           kind  mode   file         
 """
 QUOTED = "1 datagram left out: in messages of ICMP, which quote what had been sent (frame 18)"
 NOT_WHOLE = "1 IP fragment of datagrams that are not in the recording whole: frame 2"
+OF_NONE = "frame 2 is a fragment of a datagram that is not there whole"
 TWICE = "3 datagrams recorded twice, as at the interface any; a verdict is then on a transfer that never was"
 TWICE += ": frames 2, 4, 6"
 READ = read_request("a", "octet")
@@ -128,18 +129,21 @@ def try_splitting(trial: Trial) -> None:
     got = texts(numbered(late), (1, "client"), (2, "client"))
     first = [f"out 40000 {S} 69", f"in 40000 {S} 41000", f"out 40000 {S} 41000", f"in 40000 {S} 41000"]
     second = [line.replace("41000", "42000") for line in first[:3]]
-    trial.check("a late block stays with the first transfer", got == [first, second], got)
+    answered = [second[0], first[1], *second[1:]]
+    trial.check("a block 1 that may be the next answer", got == [first[:3], answered], got)
+    acknowledged = [*two[:4], two[2], *two[4:]]
+    got = texts(numbered(acknowledged), (1, "client"), (2, "client"))
+    trial.check("what is no answer stays with its transfer", got == [[*first[:3], first[2]], second], got)
     asked_again = [two[0], *two[:3]]
     got = texts(numbered(asked_again), (1, "client"))
     trial.check("a repeated request begins no transfer", got == [[first[0], *first[:3]]], got)
     lost = [*two[:2], *two[:3]]
-    got = texts(numbered(lost), (1, "server"))
-    repeated = [f"in 69 {C} 40000", f"out 41000 {C} 40000"] * 2 + [f"in 41000 {C} 40000"]
-    trial.check("a request that is repeated after a lost block", got == [repeated], got)
+    got = texts(numbered(lost), (1, "server"), (2, "server"))
+    begun = [f"in 69 {C} 40000", f"out 41000 {C} 40000"]
+    trial.check("a request that comes again after a block", got == [begun, [*begun, f"in 41000 {C} 40000"]], got)
     changed = [two[0], *transfer("b", 40_000, 41_000)]
-    _, told, status = run(["-"], numbered(changed))
-    said = "tftp-transfers: transfer 2 begins at the port of transfer 1, whose end is not recorded\n"
-    trial.check("another request before the end is told", (told, status) == (said, 0), told)
+    output, told, status = run(["-"], numbered(changed))
+    trial.check("another request begins another transfer", (len(output.splitlines()), told, status) == (3, "", 0), output)
     stray, answer = (THIRD, 41_000, C, 40_000, data(1, b"x")), (C, 40_000, THIRD, 41_000, error(5, "stray"))
     at_server = (THIRD, 40_000, S, 41_000, ack(1))
     given = numbered([*two[:2], stray, answer, at_server, two[2]])
@@ -170,13 +174,44 @@ def try_notes(trial: Trial) -> None:
     _, told, status = run(["-"], numbered(before))
     trial.check("what came before the request", (told, status) == (said.replace("frame 4", "frame 1"), 0), told)
     _, told, status = run(["-"], numbered(two, [0.0, 0.2, 0.1]))
-    said = "tftp-transfers: 1 datagram older than the one before; the recording's order is kept (frame 3)\n"
+    said = "tftp-transfers: 1 datagram older than the one before; the recording's order is kept (frame 3)"
+    said += "; reordercap puts them in order\n"
     trial.check("a datagram that is older than the one before", (told, status) == (said, 0), told)
-    elsewhere = numbered([(C, 40_000, S, 6969, READ)])
-    said = "tftp-transfers: no request to port 69 among 1 datagram of UDP; requests go to port 6969 (frame 1): give it"
+    got = run(["-"], numbered([(C, 40_000, S, 6969, READ)]))
+    trial.check("another service port", " 192.0.2.1:6969 " in got[0] and got[1:] == ("", 0), got)
+    elsewhere = numbered([(C, 40_000, S, 6969, (READ[0][:-1], READ[1]))])
+    said = "tftp-transfers: no request among 1 datagram of UDP; what begins as one went to port 6969 (frame 1): give it"
     got = run(["-"], elsewhere)
-    trial.check("another service port", got[0] == "" and got[1].startswith(said) and got[2] == 2, got)
-    trial.check("another service port, named", run(["-", "--service", 6969], elsewhere)[2] == 0)
+    trial.check("a request of no form at another port", got[0] == "" and got[1].startswith(said) and got[2] == 2, got)
+    trial.check("another service port, named", run(["-", "--service", 67, "--service", 6969], elsewhere)[2] == 0)
+
+
+def try_doubts(trial: Trial, program: str) -> None:
+    """A refusal that the recording does not carry is doubtful, with the reason, and its status is 1."""
+    words = ["-", "--check", "--program", program]
+
+    def verdicts(given: list[Datagram], *more: str) -> tuple[list[str], int]:
+        output, _, status = run([*words, *more], numbered(given))
+        return [line.split(None, 4)[4] for line in output.splitlines()[1:]], status
+
+    asked, first, last = (C, 40_000, S, 69, READ), data(1, b"." * 512), data(2, b"!")
+    out, back = (C, 40_000, S, 41_000), (S, 41_000, C, 40_000)
+    # Block 1 is repeated after block 2: at the client it came late, at the server it was sent against the lock step.
+    late = [asked, (*back, first), (*out, ack(1)), (*back, last), (*back, first), (*out, ack(2))]
+    sound, unsound = "accepted get octet blocks 2 bytes 513", "refused datagram 5 rule 24 GoneBack"
+    doubted = f"doubtful {unsound}: where it was recorded is not known, and at the client it is {sound}"
+    got = verdicts(late)
+    trial.check("refused at one end alone", got == ([sound, doubted], 1), got)
+    got = verdicts(late, "--end", "server")
+    trial.check("refused at the end that is named", got == ([unsound], 1), got)
+    got = verdicts([(S, it[1], S, it[3], it[4]) for it in late])
+    trial.check("both ends at one address", got == ([sound, unsound], 1), got)
+    got = verdicts([*late[:2], (*out, ack(3))])
+    trial.check("refused at both ends by one rule", got == (["refused datagram 3 rule 26 AckAhead"] * 2, 1), got)
+    got = verdicts([*late[:2], asked, (S, 42_000, C, 40_000, data(7, b"stray")), late[2]], "--end", "client")
+    said = "doubtful refused datagram 2 rule 22 WindowOverrun: its client had asked the same and sent nothing else since: "
+    holds = got[0][0] == "incomplete after 3" and got[0][1].startswith(said) and got[1] == 1
+    trial.check("the same request again", holds, got)
 
 
 def udp(source: int, target: int, payload: bytes) -> bytes:
@@ -236,7 +271,7 @@ def try_layers(trial: Trial, program: str, folder: pathlib.Path) -> None:
         ("fragments in reverse", [inner[0], *pieces[::-1], inner[2]], (sound.replace(" 2", " 511"), "", 0)),
         (
             "a lost fragment", [inner[0], pieces[0], inner[2]],
-            ("refused datagram 2 rule 2 WrongPort", NOT_WHOLE, 2),
+            (f"doubtful refused datagram 2 rule 2 WrongPort: {OF_NONE}", NOT_WHOLE, 2),
         ),
         (
             "each twice", [packet for packet in inner for _ in (0, 1)],
@@ -298,7 +333,7 @@ def try_words(trial: Trial, program: str) -> None:
     for words, input_, told in (
         (["/no/such/file"], b"", "cannot read the file '/no/such/file': No such file or directory"),
         (["-", "2", "client"], given, "there is no transfer 2: the recording has 1 to 1"),
-        (["-"], b"", "no request to port 69 among 0 datagrams of UDP"),
+        (["-"], b"", "no request among 0 datagrams of UDP"),
         (["-"], b"a\tb\n", "line 1: there are not two addresses, two ports and a payload, with a tab between each two"),
         (["-"], given.replace(b"40000", b"0"), "line 1: '0' is no port from 1 to 65535"),
         (["-"], given.replace(b"192.0.2.7", b"fe80::1%eth0"), ZONE),
@@ -332,6 +367,7 @@ def main(program: str) -> int:
     try_fields(trial, program)
     try_splitting(trial)
     try_notes(trial)
+    try_doubts(trial, program)
     try_words(trial, program)
     try_progress(trial)
     if shutil.which("tshark"):

@@ -11,6 +11,7 @@ from collections.abc import Callable, Iterable, Iterator
 from dataclasses import dataclass, field
 from typing import IO, NamedTuple, Optional
 
+from .attribution import Endpoint
 from .errors import Refused, told
 from .packets import count
 
@@ -27,14 +28,6 @@ UDP_HEADER = 8
 # What tshark says of itself, and not of the recording.
 CHATTER = re.compile(r"Running as user|^\s*$|Capturing on|^\*\* .*(Message|WARNING)")
 PROGRESS_STEP = 20_000
-
-
-class Endpoint(NamedTuple):
-    host: str
-    port: int
-
-    def told(self) -> str:
-        return f"[{self.host}]:{self.port}" if ":" in self.host else f"{self.host}:{self.port}"
 
 
 class Recorded(NamedTuple):
@@ -56,10 +49,11 @@ class Recorded(NamedTuple):
 
 @dataclass
 class Notes:
-    """What is to be told of a recording as a whole. A fault makes its verdicts doubtful, a remark does not."""
+    """What is to be told of a recording as a whole; and from which frame on a refusal is doubtful, with the reason."""
 
     faults: list[str] = field(default_factory=list)
     remarks: list[str] = field(default_factory=list)
+    doubts: list[tuple[int, str]] = field(default_factory=list)
 
 
 def some_frames(frames: list[int]) -> str:
@@ -149,9 +143,12 @@ class Fields:
         if self.pieces:
             told = f"{count(len(self.pieces), 'IP fragment')} of datagrams that are not in the recording whole"
             self.notes.faults.append(f"{told}: {some_frames(list(self.pieces))}")
+            first = min(self.pieces)
+            self.notes.doubts.append((first, f"frame {first} is a fragment of a datagram that is not there whole"))
         if self.twice:
             told = "recorded twice, as at the interface any; a verdict is then on a transfer that never was"
             self.notes.faults.append(f"{count(len(self.twice), 'datagram')} {told}: {some_frames(self.twice)}")
+            self.notes.doubts.append((self.twice[0], f"frame {self.twice[0]} is one that was recorded twice"))
 
 
 class Progress:

@@ -1,20 +1,26 @@
-"""Which datagrams of a recording are one transfer: the definition of crates/tftp_transfers/specs in one pass, as it is
-tried before and beside the proofs. A transfer is known by how many datagrams came before the request that opened it."""
+"""Which datagrams of a recording are one transfer: the definition of crates/tftp_transfers/specs in one pass. A transfer is
+known by how many datagrams came before the request that opened it."""
 from __future__ import annotations
 
+from collections.abc import Iterable
 from dataclasses import dataclass, field
-from typing import Iterable, Literal, NamedTuple, Optional
+from typing import Literal, NamedTuple, Optional
 
-from captures import EndName
-
+EndName = Literal["client", "server"]
+# Above 255 s, the longest timeout that two ends can agree on (RFC 2349).
 SILENCE = 300.0
 ACK_0, DATA_1 = b"\0\4\0\0", b"\0\3\0\1"
 MODES = (b"octet", b"netascii", b"mail")
 
 
 class Endpoint(NamedTuple):
+    """A host and a port of UDP."""
+
     host: str
     port: int
+
+    def told(self) -> str:
+        return f"[{self.host}]:{self.port}" if ":" in self.host else f"{self.host}:{self.port}"
 
 
 class Datagram(NamedTuple):
@@ -194,9 +200,9 @@ class Attribution:
         if talk.transfer is None or talk.transfer is latest or not may_answer:
             return talk
         if talk.acked_0 and it.payload[:4] == DATA_1:
-            latest.doubts.append((0, f"a DATA 1 of transfer {talk.transfer.number}'s endpoint may be its answer"))
+            latest.doubts.append((0, "a DATA 1 from where an earlier transfer was served may be its answer"))
             return talk
-        latest.doubts.append((0, f"its server's endpoint was that of transfer {talk.transfer.number}"))
+        latest.doubts.append((0, "its server's endpoint was that of an earlier transfer"))
         return Talk(latest, talk.acked_0)
 
     def go_on(self, line: Line, client: Endpoint, other: Endpoint, talk: Talk, it: Datagram) -> Optional[Place]:
