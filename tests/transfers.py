@@ -84,6 +84,29 @@ def try_recordings(trial: Trial, program: str) -> None:
     trial.check("a text's frames", [line.split()[2] for line in frames] == ["15", "16", "17"], frames)
 
 
+def try_reasons(trial: Trial, program: str) -> None:
+    """tftp-explain and tftp-ladder on recordings: the transfer and end that are named, or the one that is refused."""
+    explain, ladder = TOP / "tools" / "tftp-explain", TOP / "tools" / "tftp-ladder"
+    example = EXAMPLES / "loopback-session.pcap"
+    refused, sound = "refused datagram 3 rule 26 AckAhead", "accepted get octet blocks 3 bytes 1300"
+    several = "name one and its end, as in tftp-explain"
+    cases: tuple[tuple[str, list[object], tuple[str, int], str], ...] = (
+        ("the refused one", [example], (refused, 1), "frame 17 of the recording"),
+        ("the one that is named", [example, 1, "server"], (sound, 0), "accepted"),
+        ("none of several", [EXAMPLES / "loopback-repeated-oack.pcap"], ("", 2), several),
+        ("no such one", [example, 9, "client"], ("", 2), "there is no transfer 9"),
+        ("a text has no number", [EXAMPLES / "one-block.capture", 1, "client"], ("", 2), "is no recording"),
+    )
+    for name, words, wanted, said in cases:
+        command = [str(word) for word in (explain, "--program", program, *words)]
+        done = subprocess.run(command, capture_output=True, text=True, timeout=120)
+        got = done.stdout.partition("\n")[0], done.returncode
+        trial.check(f"tftp-explain, {name}", got == wanted and said in done.stdout + done.stderr, (got, done.stderr))
+    command = [str(word) for word in (ladder, "--program", program, example, 3, "client")]
+    done = subprocess.run(command, capture_output=True, text=True, timeout=120)
+    trial.check("tftp-ladder of a recording", done.returncode == 0 and "AckAhead" in done.stdout, done.stderr)
+
+
 def try_fields(trial: Trial, program: str) -> None:
     """The fields of the older examples: the same text as that of capture-text, and as that of an end without frames."""
     for name, end, address, service in (
@@ -143,7 +166,8 @@ def try_splitting(trial: Trial) -> None:
     trial.check("a request that comes again after a block", got == [begun, [*begun, f"in 41000 {C} 40000"]], got)
     changed = [two[0], *transfer("b", 40_000, 41_000)]
     output, told, status = run(["-"], numbered(changed))
-    trial.check("another request begins another transfer", (len(output.splitlines()), told, status) == (3, "", 0), output)
+    listed = len(output.splitlines()), told, status
+    trial.check("another request begins another transfer", listed == (3, "", 0), output)
     stray, answer = (THIRD, 41_000, C, 40_000, data(1, b"x")), (C, 40_000, THIRD, 41_000, error(5, "stray"))
     at_server = (THIRD, 40_000, S, 41_000, ack(1))
     given = numbered([*two[:2], stray, answer, at_server, two[2]])
@@ -209,7 +233,7 @@ def try_doubts(trial: Trial, program: str) -> None:
     got = verdicts([*late[:2], (*out, ack(3))])
     trial.check("refused at both ends by one rule", got == (["refused datagram 3 rule 26 AckAhead"] * 2, 1), got)
     got = verdicts([*late[:2], asked, (S, 42_000, C, 40_000, data(7, b"stray")), late[2]], "--end", "client")
-    said = "doubtful refused datagram 2 rule 22 WindowOverrun: its client had asked the same and sent nothing else since: "
+    said = "doubtful refused datagram 2 rule 22 WindowOverrun: its client had asked the same and sent nothing else since"
     holds = got[0][0] == "incomplete after 3" and got[0][1].startswith(said) and got[1] == 1
     trial.check("the same request again", holds, got)
 
@@ -372,6 +396,7 @@ def main(program: str) -> int:
     try_progress(trial)
     if shutil.which("tshark"):
         try_recordings(trial, program)
+        try_reasons(trial, program)
         with tempfile.TemporaryDirectory() as folder:
             try_unsound(trial, program, pathlib.Path(folder))
             try_layers(trial, program, pathlib.Path(folder))

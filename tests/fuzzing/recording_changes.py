@@ -1,4 +1,5 @@
-"""Changes of recordings: bytes, numbers that are lengths, cuts, and parts of a file twice, left out or in another order."""
+"""Changes of recordings: bytes, numbers that are lengths, cuts, and parts of a file twice, left out or in another
+order."""
 from __future__ import annotations
 
 import random
