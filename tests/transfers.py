@@ -233,7 +233,7 @@ def try_doubts(trial: Trial, program: str) -> None:
     got = verdicts([*late[:2], (*out, ack(3))])
     trial.check("refused at both ends by one rule", got == (["refused datagram 3 rule 26 AckAhead"] * 2, 1), got)
     got = verdicts([*late[:2], asked, (S, 42_000, C, 40_000, data(7, b"stray")), late[2]], "--end", "client")
-    said = "doubtful refused datagram 2 rule 22 WindowOverrun: its client had asked the same and sent nothing else since"
+    said = "doubtful refused datagram 2 rule 22 WindowOverrun: its client had asked the same and sent nothing else"
     holds = got[0][0] == "incomplete after 3" and got[0][1].startswith(said) and got[1] == 1
     trial.check("the same request again", holds, got)
 

@@ -1,5 +1,5 @@
-"""A slow reader of recordings, written from the formats' descriptions alone: which frames a file holds, which of them are
-datagrams of UDP, and which are left out. What the program lists is compared with it.
+"""A slow reader of recordings, written from the formats' descriptions alone: which frames a file holds, which of them
+are datagrams of UDP, and which are left out. What the program lists is compared with it.
 """
 from __future__ import annotations
 
@@ -87,7 +87,7 @@ def read_classic(file: bytes, frames: list[Frame]) -> None:
 
 
 class Interface(NamedTuple):
-    """An interface: its link type, how many bytes it keeps, units of time in a second (0: none), seconds to be added."""
+    """An interface: its link type, how many bytes it keeps, units of time in a second (0: none), seconds to add."""
 
     link: int
     snaplen: int
@@ -226,7 +226,7 @@ class Part(NamedTuple):
 
 
 class Packet(NamedTuple):
-    """A packet of IP that may carry UDP: the link's word of its direction, its ends, what it carries, and all its bytes."""
+    """A packet of IP that may carry UDP: the link's word of its direction, its ends, what it carries, all its bytes."""
 
     way: str
     version: int
@@ -354,7 +354,7 @@ def udp_of(protocol: int, content: bytes) -> Udp:
 
 @dataclasses.dataclass
 class Waiting:
-    """The fragments of a packet that came: when the first did, their frames, their bytes by place, and where it ends."""
+    """The fragments of a packet that came: when the first did, their frames, their bytes by place, where it ends."""
 
     began: Optional[int]
     frames: list[int] = dataclasses.field(default_factory=list)

@@ -1,5 +1,5 @@
-"""The transfers of a recording, by the definition of attribution.py: the capture text of each at one end, and what makes
-a refusal doubtful."""
+"""The transfers of a recording, by the definition of attribution.py: the capture text of each at one end, and what
+makes a refusal doubtful."""
 from __future__ import annotations
 
 from collections.abc import Iterable, Iterator
