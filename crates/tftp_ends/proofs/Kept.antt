@@ -8,7 +8,7 @@ use Rattle.std.specs.Map.{lookup}
 use Rattle.std.specs.FinMap as finite
 use Rattle.std.proofs.lemmas.Cmp.{nat_cmp_total}
 use Rattle.std.proofs.lemmas.Bool.{cases_lt}
-use Rattle.tftp_ends.specs.Store.{Held, nothing_held, IsHeldFront, IsHighest, IsOrderly, IsPending, IsJoin, Takes}
+use Rattle.tftp_ends.specs.Store.{Held, nothing_held, IsHeldFront, IsHighest, IsOrderly, IsPending, IsJoin, Takes, JoinsSeveral}
 use Rattle.tftp_ends.specs.Slots.{Slots, numbered, filled}
 use Rattle.tftp_ends.specs.Kept.{map_of, IsKept}
 use Rattle.tftp_ends.proofs.Orderly.{front_unique, takes_within}
@@ -297,3 +297,20 @@ where_ok P Q (Err e) to is = tt
 pub where_err : {T E P : Type 0} (r : Result T E) → P → OnErr r P
 where_err (Ok value) is = tt
 where_err (Err e) is = is
+
+-- ---- a first block that is alone is the join
+
+pub join_first : (held : Held) (front : ℕ) (bytes : List ℕ) → IsHeldFront held front → front ≤ 1 → finite.get held 1 ≡ Some bytes → (other : ℕ) → IsHeldFront held other → IsJoin held other bytes
+join_first held zero bytes is low e = let no : None ≡ Some bytes = sym is.next ∙ e in absurd (cc)
+join_first held (suc zero) bytes is low e = join_whole held 1 bytes is (join_step held 0 [] bytes refl e)
+join_first held (suc (suc n)) bytes is low e = absurd (omega arith)
+
+pub join_none : (held : Held) (front : ℕ) → IsHeldFront held front → front ≤ 1 → finite.get held 1 ≡ None → (other : ℕ) → IsHeldFront held other → IsJoin held other []
+join_none held zero is low e = join_whole held 0 [] is refl
+join_none held (suc n) is low e = let has = is.below 1 (omega arith) (omega arith) in let no : None ≡ Some has.0 = sym e ∙ has.1 in absurd (cc)
+
+pub joins_several : (held : Held) (front : ℕ) → IsHeldFront held front → 1 < front → JoinsSeveral held
+joins_several held front is more =
+    let first = is.below 1 (omega arith) (omega arith) in
+    let second = is.below 2 (omega arith) (omega arith) in
+    (first.0, second.0, first.1, second.1)

@@ -1,15 +1,17 @@
 -- What a ring and the joined blocks before it stand for.
 use Rattle.std.proofs.Common.{◌≡◌, ◌+◌, ◌-◌, ◌*◌, ◌<◌, ◌≤◌, ℕ, zero, suc, List, [], ◌∷◌, ◌++◌, length, take, drop, Some, None, ap, sym, subst, ◌∙◌, ◌⊎◌, inl, inr, false, cond, arith}
-use Rattle.std.specs.Prelude.{slice_index_or, is_some}
+use Rattle.std.specs.Prelude.{◌^◌, max, slice_index_or, is_some}
 use Rattle.std.specs.Ordering.{nat_cmp}
 use Rattle.std.proofs.lemmas.Cmp.{nat_cmp_total}
 use Rattle.std.proofs.lemmas.Bool.{cases_lt}
 use Rattle.std.proofs.lemmas.List.{length-take, length-drop, length-append, take_all, get_or_append_left, get_or-append_right, nil_from_length, take_rest}
+use Rattle.std.proofs.Math.Nat.{suc-mul, mul-le-mul_right}
 use Rattle.std.proofs.Math.Seq.{take-add}
 use Rattle.std.specs.FinMap as map
 use Rattle.tftp_ends.specs.Store.{IsHeldFront, IsHighest, IsOrderly, IsPending, IsJoin, Takes}
-use Rattle.tftp_ends.specs.Slots.{Slots, numbered, cut, placed, filled, IsEven, IsRow, IsRing, IsWhole}
+use Rattle.tftp_ends.specs.Slots.{Slots, numbered, cut, placed, filled, IsEven, IsRow, IsRing, IsRoom, IsWhole, total}
 use Rattle.tftp_ends.proofs.Orderly.{front_unique, takes_within}
+use Rattle.tftp_ends.proofs.Spans.{total_even}
 use Rattle.tftp_ends.proofs.Places.{below, at_place, at_block, none_at_0, length_cut, at_cut, row_even, even_fits, even_exact, even_last, past, even_placed, length_placed, placed_other, filled_placed, append_placed, numbered_placed, placed_first, row_step, slots_step}
 
 pub slot_joined : (b n : ℕ) (js : List ℕ) (ring : Slots) (i : ℕ) → i < n → slice_index_or (cut b n js ++ ring) i None ≡ Some (take b (drop (i * b) js))
@@ -218,12 +220,58 @@ numbered_first b n js ring k x row after first =
     ∙ numbered_new b n js ring k x after
 
 -- what is known where a block is new, of the fields behind the view
-pub new_facts : (b w n : ℕ) (js : List ℕ) (ring : Slots) (k : ℕ) (x : List ℕ) (now : Slots × ℕ × ℕ) → (cut b n js ++ ring, b, w) ≡ now
+pub new_facts : (b w n : ℕ) (js : List ℕ) (ring : Slots) (k : ℕ) (x : List ℕ) (kept : ℕ) (now : Slots × ℕ × ℕ × ℕ) → (cut b n js ++ ring, b, w, kept) ≡ now
     → Takes now.1 now.2 (numbered 1 now.0) k (length x) → None ≡ map.get (numbered 1 now.0) k
     → Takes b w (numbered 1 (cut b n js ++ ring)) k (length x) × (map.get (numbered 1 (cut b n js ++ ring)) k ≡ None) × (n < k)
-new_facts b w n js ring k x now view takes none =
+new_facts b w n js ring k x kept now view takes none =
     let inside = ap (λ m. map.get (numbered 1 m.0) k) view ∙ sym none in
     (subst (λ m. Takes m.1 m.2 (numbered 1 m.0) k (length x)) (sym view) takes, inside, new_after b n js ring k takes.from_one inside)
+
+-- ---- how many bytes are kept
+
+-- where a block was put above the front: what waits is less than a window
+pub new_room : (b w n : ℕ) (js : List ℕ) (ring : Slots) (waiting place : ℕ) (x : List ℕ) (kept : ℕ) → IsRing b w js n ring waiting → IsRing b w js n (placed ring place x) (waiting + 1)
+    → length x ≤ b → kept ≤ max (2 * (waiting * b + 2 ^ 20) + 1) (total ring) + length x → IsRoom b w (placed ring place x) kept
+new_room b w n js ring waiting place x kept before after fits low =
+    let count = before.count in
+    let now = after.count in
+    let bytes = total_even b ring before.row.even in
+    let same : filled ring * b ≡ waiting * b = ap (λ m. m * b) (sym count) in
+    let fewer = pending_fewer (placed ring place x) w after.gap after.within after.sizes.1 in
+    let window : suc (suc waiting) * b ≤ w * b = mul-le-mul_right {m = suc (suc waiting)} {n = w} b (omega arith) in
+    let two = suc-mul (suc waiting) b in
+    let one = suc-mul waiting b in
+    let some = after.sizes.0 in
+    record {
+      none = λ empty. let long = ap length empty in absurd (elim (length_placed ring place x) [
+        | inl (here, is) ↦ omega arith
+        | inr (past, is) ↦ omega arith
+      ]);
+      most = omega arith;
+    }
+
+-- where the block was not put, though the room of those that have left may have been given back
+pub same_room : (b w n : ℕ) (js : List ℕ) (ring : Slots) (waiting kept now : ℕ) → IsRing b w js n ring waiting → IsRoom b w ring kept → now ≤ max kept (total ring) → IsRoom b w ring now
+same_room b w n js ring waiting kept now is room low =
+    let most = room.most in
+    let bytes = total_even b ring is.row.even in
+    let fewer = pending_fewer ring w is.gap is.within is.sizes.1 in
+    let window : filled ring * b ≤ w * b = mul-le-mul_right {m = filled ring} {n = w} b (omega arith) in
+    record {
+      none = λ empty. let nothing = room.none empty in let blocks = ap total empty in omega arith;
+      most = omega arith;
+    }
+
+-- where none waits
+pub none_kept : (b w n : ℕ) (js : List ℕ) (ring : Slots) (waiting kept : ℕ) → IsRing b w js n ring waiting → IsRoom b w ring kept
+    → IsPending (numbered 1 (cut b n js ++ ring)) 0 → kept ≡ 0
+none_kept b w n js ring waiting kept is room none =
+    let front = front_is b n js ring is.gap in
+    let some = pending_is b n js ring waiting is.gap is.count n front in
+    let no = none n front in
+    let count = is.count in
+    let short = none_waits b ring is.row.even (omega arith) in
+    room.none (nil_from_length ring (omega arith))
 
 -- ---- one block
 

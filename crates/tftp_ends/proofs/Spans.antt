@@ -1,9 +1,10 @@
 -- Places whose blocks are parts of the same bytes.
-use Rattle.std.proofs.Common.{◌≡◌, ◌+◌, ◌<◌, ◌≤◌, ℕ, zero, suc, List, [], ◌∷◌, ◌++◌, length, take, drop, Option, Some, None, option_map, refl, ap, subst, ◌∙◌, arith}
+use Rattle.std.proofs.Common.{◌≡◌, ◌+◌, ◌*◌, ◌<◌, ◌≤◌, ℕ, zero, suc, List, [], ◌∷◌, ◌++◌, length, take, drop, Option, Some, None, option_map, refl, ap, subst, ◌∙◌, arith}
 use Rattle.std.specs.Prelude.{slice_index_or}
-use Rattle.std.proofs.lemmas.List.{length-take, length-drop, length-map, get_or-map, take_all, take-append-le, drop-append-le, drop_all, at_drop_more}
+use Rattle.std.proofs.lemmas.List.{length-take, length-drop, length-map, get_or-map, take_all, take-append-le, drop-append-le, drop_all, take_more, at_drop_more}
 use Rattle.tftp_ends.specs.declared.waiting.Span.{Span}
-use Rattle.tftp_ends.specs.Slots.{placed, leading, IsEven}
+use Rattle.tftp_ends.specs.Slots.{Slots, placed, leading, total, filled, IsEven}
+use Rattle.std.proofs.Math.Nat.{suc-mul}
 use Rattle.tftp_ends.specs.Spans.{part, shown, AreWithin}
 use Rattle.tftp_ends.proofs.Places.{even_fits}
 
@@ -93,3 +94,23 @@ within_gap n (Some s ∷ ps) within = (within.0, within_gap n ps within.1)
 pub shown_gap : (bs : List ℕ) (ps : List (Option Span)) → shown bs (ps ++ None ∷ []) ≡ shown bs ps ++ None ∷ []
 shown_gap bs [] = refl
 shown_gap bs (p ∷ ps) = ap (λ t. option_map (part bs) p ∷ t) (shown_gap bs ps)
+
+-- ---- how many bytes the blocks have
+
+pub total_append : (os more : Slots) → total (os ++ more) ≡ total os + total more
+total_append [] more = let is : total more ≡ 0 + total more = omega arith in is
+total_append (None ∷ os) more = total_append os more
+total_append (Some x ∷ os) more = let rest = total_append os more in omega arith
+
+pub total_more : (os : Slots) (i : ℕ) → i < length os → total (take (i + 1) os) ≡ total (take i os) + total (slice_index_or os i None ∷ [])
+total_more os i low = ap total (take_more os i None low) ∙ total_append (take i os) (slice_index_or os i None ∷ [])
+
+-- at most b for each
+pub total_even : (b : ℕ) (os : Slots) → IsEven b os → total os ≤ filled os * b
+total_even b [] even = omega arith
+total_even b (None ∷ os) even = total_even b os even.1
+total_even b (Some x ∷ os) even =
+    let rest = total_even b os even.2 in
+    let one = even.0 in
+    let more : suc (filled os) * b ≡ filled os * b + b = suc-mul (filled os) b in
+    omega arith

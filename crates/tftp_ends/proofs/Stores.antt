@@ -6,7 +6,7 @@ use Rattle.std.proofs.lemmas.Slice.Eq.{bytes_eq-Decides}
 use Rattle.std.specs.Cmp.{nat_cmp_is}
 use Rattle.std.specs.Ordering.{nat_cmp, is_eq, eq_by_cmp}
 use Rattle.std.specs.FinMap as map
-use Rattle.tftp_ends.specs.Store.{Held, nothing_held, IsHeldFront, IsHeldLast, Takes, Placing, New, Same, Differs, Places}
+use Rattle.tftp_ends.specs.Store.{Held, nothing_held, IsHeldFront, IsHeldLast, JoinsSeveral, Takes, Placing, New, Same, Differs, Places}
 use Rattle.tftp_ends.specs.WorkedStore.{first_held, first_and_fourth}
 
 is_equal : (r : Ordering) → is_eq r ≡ true → r ≡ Equal
@@ -95,3 +95,6 @@ not_short_third takes = elim (takes.is_last (omega arith)) [
   | inl known ↦ no_last known.0 known.1
   | inr above ↦ let low = above 4 (codes "44444444") (in_both 4) in omega arith
 ]
+
+pub first_is_alone : JoinsSeveral first_and_fourth → ⊥
+first_is_alone (first, second, one, two) = let no : None ≡ Some second = sym (in_both 2) ∙ two in cc

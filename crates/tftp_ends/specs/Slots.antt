@@ -1,5 +1,5 @@
 -- A row of places, of which some have a block: what a store with joined bytes and a ring stands for.
-use Rattle.std.specs.Prelude.{◌≡◌, ◌+◌, ◌*◌, ◌≤◌, ℕ, zero, suc, List, [], ◌∷◌, length, take, drop, Option, Some, None, slice_index_or, ⊤}
+use Rattle.std.specs.Prelude.{◌≡◌, ◌+◌, ◌*◌, ◌^◌, ◌≤◌, ℕ, zero, suc, List, [], ◌∷◌, length, take, drop, Option, Some, None, slice_index_or, ⊤}
 use Rattle.std.specs.FinMap as finite
 use Rattle.tftp_ends.specs.Store.{Held, nothing_held}
 
@@ -30,6 +30,12 @@ leading [] = 0
 leading (None ∷ slots) = 0
 leading (Some bytes ∷ slots) = length bytes + leading slots
 
+-- how many bytes the blocks have
+abbrev pub total : Slots → ℕ
+total [] = 0
+total (None ∷ slots) = total slots
+total (Some bytes ∷ slots) = length bytes + total slots
+
 -- how many blocks there are
 abbrev pub filled : Slots → ℕ
 filled [] = 0
@@ -57,6 +63,12 @@ pub record IsRing (b window : ℕ) (joined : List ℕ) (front : ℕ) (ring : Slo
   pub numbers : front + length ring ≤ 65535
   pub count : waiting ≡ filled ring
   pub sizes : (1 ≤ b) × (1 ≤ window)
+
+-- How many bytes are kept for a ring: none where no block waits, and else at most twice those of a window of blocks and
+-- 2 MiB.
+pub record IsRoom (b window : ℕ) (ring : Slots) (kept : ℕ) : Type 0 where
+  pub none : ring ≡ [] → kept ≡ 0
+  pub most : kept ≤ 2 * (window * b + 2 ^ 20)
 
 -- each block is b bytes long
 abbrev pub IsWhole : ℕ → Slots → Type 0

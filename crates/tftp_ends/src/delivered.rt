@@ -38,6 +38,9 @@ pub trait Delivered: Sized {
     /// How far above the front a block may be.
     ghost window: { Self → ℕ };
 
+    /// Of which blocks the join may want memory.
+    ghost join_takes: { Held → Type 0 };
+
     /// A store with no block. Takes no memory.
     fn new(alloc: Global, blksize: u16, windowsize: u16) -> Self
         requires blksize { 8 ≤ blksize }
@@ -80,5 +83,6 @@ pub trait Delivered: Sized {
 
     /// The blocks up to the front, joined. After want of memory the store is gone.
     fn into_wire(self, alloc: Global) -> Result<Vec<u8>, AllocError>
-        ensures { IfOk result (λ wire. (front : ℕ) → IsHeldFront (held self) front → IsJoin (held self) front wire.items) };
+        ensures joined { IfOk result (λ wire. (front : ℕ) → IsHeldFront (held self) front → IsJoin (held self) front wire.items) }
+        ensures memory { OnErr result (join_takes (held self)) };
 }

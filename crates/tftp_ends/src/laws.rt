@@ -1,8 +1,9 @@
 //! Laws of the definitions in `specs/`. Each is the contract of a function that does nothing.
 
-ghost use Rattle.std.specs.Prelude.{◌≡◌, ◌≢◌, ◌⊎◌, ◌↔◌, ℕ, ◌+◌, ◌-◌, ◌<◌, ◌≤◌, List, [], ◌∷◌, Some, codes};
+ghost use Rattle.std.specs.Prelude.{◌≡◌, ◌≢◌, ◌⊎◌, ◌↔◌, ℕ, ◌+◌, ◌-◌, ◌<◌, ◌≤◌, List, [], ◌∷◌, None, Some, codes};
 ghost use Rattle.std.specs.FinMap as map;
-ghost use Rattle.tftp_ends.specs.Store.{Held, IsHeldFront, Takes, Placing, Places};
+ghost use Rattle.tftp_ends.specs.Store.{Held, IsHeldFront, JoinsSeveral, Takes, Placing, Places};
+ghost use Rattle.tftp_ends.specs.Slots.{total, IsRoom};
 ghost use Rattle.tftp_ends.specs.WorkedStore.{first_held, first_and_fourth};
 ghost use Rattle.tftp_ends.specs.Meaning.{Meaning, SomethingAgreed, NothingAgreed, blksize_of, windowsize_of};
 ghost use Rattle.tftp_ends.specs.Blocks.{block, block_count};
@@ -254,7 +255,7 @@ pub fn placed_blocks_are_held()
 {}
 
 /// Blocks of eight bytes in a window of four, where the first is held, and then the fourth: the front is 1, so the
-/// fifth may come and the sixth may not; and the third is not the last.
+/// fifth may come and the sixth may not; and the third is not the last. The first alone is to be joined.
 pub fn two_held_blocks()
     ensures new { Places first_held first_and_fourth 4 (codes "44444444") Placing.New }
     ensures same { Places first_held first_held 1 (codes "11111111") Placing.Same }
@@ -263,4 +264,14 @@ pub fn two_held_blocks()
     ensures fifth { Takes 8 4 first_and_fourth 5 8 }
     ensures sixth { Takes 8 4 first_and_fourth 6 8 → ⊥ }
     ensures short_third { Takes 8 4 first_and_fourth 3 7 → ⊥ }
+    ensures alone { JoinsSeveral first_and_fourth → ⊥ }
+{}
+
+/// Of a ring for blocks of eight bytes in a window of four: where one waits, 2,097,216 bytes may be kept and no more, and
+/// where none does, none.
+pub fn bytes_kept_of_a_ring()
+    ensures total { total (None ∷ Some (codes "33333333") ∷ []) ≡ 8 }
+    ensures most { IsRoom 8 4 (None ∷ Some (codes "33333333") ∷ []) 2097216 }
+    ensures more { IsRoom 8 4 (None ∷ Some (codes "33333333") ∷ []) 2097217 → ⊥ }
+    ensures none { IsRoom 8 4 [] 1 → ⊥ }
 {}

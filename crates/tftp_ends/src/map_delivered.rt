@@ -41,6 +41,11 @@ impl Delivered for MapDelivered {
 
     ghost window = { λ a. a.2 };
 
+    ghost use Rattle.tftp_ends.specs.Store.{JoinsSeveral};
+
+    // a first block that is alone is handed over as it is
+    ghost join_takes = { JoinsSeveral };
+
     fn new(alloc: Global, blksize: u16, windowsize: u16) -> Self {
         MapDelivered {
             by_number: BTreeMap::new(alloc),
@@ -102,7 +107,19 @@ impl Delivered for MapDelivered {
     }
 
     fn into_wire(self, alloc: Global) -> Result<Vec<u8>, AllocError> {
-        join(alloc, &self.by_number, self.front, self.block_size)
+        let MapDelivered {
+            mut by_number,
+            front,
+            block_size,
+            ..
+        } = self;
+        if front > 1 {
+            return join(alloc, &by_number, front, block_size);
+        }
+        match by_number.remove(&1) {
+            Some(first) => Ok(first),
+            None => Ok(Vec::new(alloc)),
+        }
     }
 }
 

@@ -1,4 +1,4 @@
-ghost use Rattle.std.specs.Prelude.{◌≡◌, ◌+◌, ◌≤◌, None, length, ◌++◌, slice_index_or};
+ghost use Rattle.std.specs.Prelude.{◌≡◌, ◌+◌, ◌≤◌, [], None, length, ◌++◌, slice_index_or};
 ghost use Rattle.std.specs.Vec.{vec_capacity};
 ghost use Rattle.tftp_ends.specs.Slots.{cut, leading, filled, IsRow};
 
@@ -25,13 +25,30 @@ pub struct RingDelivered {
 
 impl Model for RingDelivered {
     ghost use Rattle.std.specs.Prelude.{ℕ, ◌++◌};
-    ghost use Rattle.tftp_ends.specs.Slots.{Slots, cut, IsRing};
+    ghost use Rattle.tftp_ends.specs.Slots.{Slots, cut, IsRing, IsRoom};
 
-    ghost Value = { Slots × ℕ × ℕ };
+    ghost Value = { Slots × ℕ × ℕ × ℕ };
 
-    ghost view = { λ a. (cut a.block_size a.front a.joined.items ++ a.pending, a.block_size, a.window) };
+    ghost view = { λ a. (cut a.block_size a.front a.joined.items ++ a.pending.0, a.block_size, a.window, a.pending.1) };
 
-    ghost invariant = { λ a. IsRing a.block_size a.window a.joined.items a.front a.pending a.waiting };
+    ghost invariant = { λ a. IsRing a.block_size a.window a.joined.items a.front a.pending.0 a.waiting × IsRoom a.block_size a.window a.pending.0 a.pending.1 };
+}
+
+impl RingDelivered {
+    ghost use Rattle.std.specs.Prelude.{◌*◌, ◌^◌};
+    ghost use Rattle.tftp_ends.specs.Store.{IsPending};
+    ghost use Rattle.tftp_ends.specs.Slots.{numbered};
+
+    /// How many bytes are kept for the blocks above the front: theirs, and those of blocks that have left whose room is not
+    /// yet given back.
+    #[inline]
+    pub fn kept(&self) -> usize
+        ensures value { result ≡ self.now.3 }
+        ensures none { IsPending (numbered 1 self.now.0) 0 → result ≡ 0 }
+        ensures most { result ≤ 2 * (self.now.2 * self.now.1 + 2 ^ 20) }
+    {
+        self.pending.kept()
+    }
 }
 
 impl Delivered for RingDelivered {
@@ -42,6 +59,9 @@ impl Delivered for RingDelivered {
     ghost block_size = { λ a. a.1 };
 
     ghost window = { λ a. a.2 };
+
+    // the joined bytes are handed over as they are
+    ghost join_takes = { λ _. ⊥ };
 
     fn new(alloc: Global, blksize: u16, windowsize: u16) -> Self {
         RingDelivered {
@@ -135,16 +155,18 @@ impl Delivered for RingDelivered {
 
 /// Moves the blocks up to the first gap behind the joined ones, where there is room for them. Answers the front.
 fn advance(joined: &mut Vec<u8>, pending: &mut Waiting, from: u16, block_size: u16) -> u16
-    requires row { IsRow block_size joined.old.items from pending.old }
-    requires room { length joined.old.items + leading pending.old ≤ vec_capacity joined.old }
-    requires numbers { from + length pending.old ≤ 65535 }
-    ensures row { IsRow block_size joined.new.items result pending.new }
-    ensures slots { cut block_size result joined.new.items ++ pending.new
-        ≡ cut block_size from joined.old.items ++ pending.old }
-    ensures gap { slice_index_or pending.new 0 None ≡ None }
+    requires row { IsRow block_size joined.old.items from pending.old.0 }
+    requires room { length joined.old.items + leading pending.old.0 ≤ vec_capacity joined.old }
+    requires numbers { from + length pending.old.0 ≤ 65535 }
+    ensures row { IsRow block_size joined.new.items result pending.new.0 }
+    ensures slots { cut block_size result joined.new.items ++ pending.new.0
+        ≡ cut block_size from joined.old.items ++ pending.old.0 }
+    ensures gap { slice_index_or pending.new.0 0 None ≡ None }
     ensures within { from ≤ result }
-    ensures length { result + length pending.new ≡ from + length pending.old }
-    ensures filled { result + filled pending.new ≡ from + filled pending.old }
+    ensures length { result + length pending.new.0 ≡ from + length pending.old.0 }
+    ensures filled { result + filled pending.new.0 ≡ from + filled pending.old.0 }
+    ensures kept { pending.new.1 ≤ pending.old.1 }
+    ensures empty { (pending.old.0 ≡ [] → pending.old.1 ≡ 0) → pending.new.0 ≡ [] → pending.new.1 ≡ 0 }
 {
     let mut front = from;
     while pending.move_first(joined) {

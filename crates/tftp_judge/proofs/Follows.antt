@@ -107,8 +107,8 @@ refused text ahead h ds line d (Unlawful index rule) passed stand near (number, 
     )
 refused text ahead h ds line d (Memory count) passed stand near wants = (
   record {
-    longer = λ more. inl (text, more, refl, subst (λ t. WantsToJudge t count) (append-nil text) (wants_for text [] h ds line d count passed stand (lit≤ tt) wants));
-    read = inl (wants_for text ahead h ds line d count passed stand near wants);
+    longer = λ more. (text, more, refl, subst (λ t. WantsToJudge t count) (append-nil text) (wants_for text [] h ds line d count passed stand (lit≤ tt) wants));
+    read = wants_for text ahead h ds line d count passed stand near wants;
   },
   λ x. x,
 )
@@ -118,13 +118,13 @@ refused text ahead h ds line d NormalTooLong passed stand near other = absurd ot
 
 -- ---- the text's end
 
-ended : (text : List ℕ) (h : Header) (ds : List Numbered) (refusal : Refusal) → IsCapture text h ds → IsVerdict h (unnumbered ds) (Err refusal)
+ended : (text : List ℕ) (h : Header) (ds : List Numbered) (refusal : Refusal) → ((count : ℕ) → refusal ≡ Memory count → ⊥) → IsCapture text h ds → IsVerdict h (unnumbered ds) (Err refusal)
     → IsTextVerdict text (Err (Refused refusal)) × IsReadVerdict text (Err (Refused refusal))
-ended text h ds (Unlawful index rule) capture is = ((h, ds, capture_begins text h ds capture, is), (h, ds, capture_begins text h ds capture, is))
-ended text h ds (Aborted by code) capture is = ((h, ds, capture, is), (h, ds, capture, is))
-ended text h ds (Incomplete count) capture is = ((h, ds, capture, is), (h, ds, capture, is))
-ended text h ds NormalTooLong capture is = ((h, ds, capture, is), (h, ds, capture, is))
-ended text h ds (Memory count) capture is = (inr (h, ds, capture, is), inr (h, ds, capture, is))
+ended text h ds (Unlawful index rule) spare capture is = ((h, ds, capture_begins text h ds capture, is), (h, ds, capture_begins text h ds capture, is))
+ended text h ds (Aborted by code) spare capture is = ((h, ds, capture, is), (h, ds, capture, is))
+ended text h ds (Incomplete count) spare capture is = ((h, ds, capture, is), (h, ds, capture, is))
+ended text h ds NormalTooLong spare capture is = ((h, ds, capture, is), (h, ds, capture, is))
+ended text h ds (Memory count) spare capture is = absurd (spare count refl)
 
 -- ---- the reader's answers
 
@@ -254,7 +254,7 @@ module _ (before now after : Option (List ℕ)) (old new : ReaderState) (judge :
         let said : IsTextVerdict (all (Ok None) goes) (Ok m) = (old.header, follows.datagrams, captured, verdict (Ok m) is) in
         at_end (Ok m) said said (λ h. h)
 
-    pub found_unfinished : (refusal : Refusal) → Finishes (Err refusal) → Found before after failed (Err (Refused refusal))
-    found_unfinished refusal is =
-        let said = ended (all (Ok None) goes) old.header follows.datagrams refusal captured (verdict (Err refusal) is) in
+    pub found_unfinished : (refusal : Refusal) → ((count : ℕ) → refusal ≡ Memory count → ⊥) → Finishes (Err refusal) → Found before after failed (Err (Refused refusal))
+    found_unfinished refusal spare is =
+        let said = ended (all (Ok None) goes) old.header follows.datagrams refusal spare captured (verdict (Err refusal) is) in
         at_end (Err (Refused refusal)) said.0 said.1 (λ h. h)

@@ -5,12 +5,14 @@ use Rattle.std.proofs.lemmas.Bool.{false≢true}
 use Rattle.tftp_packet.specs.OptionMap.{OptionMap, no_options}
 use Rattle.tftp_packet.specs.Message.{Message, RequestParts}
 use Rattle.tftp_packet.specs.declared.kinds.Side.{Side}
+use Rattle.tftp_packet.specs.declared.kinds.Side.TheVariants.{Get, Put}
 use Rattle.tftp_packet.specs.declared.kinds.End.{End}
+use Rattle.tftp_packet.specs.declared.kinds.End.TheVariants.{Client, Server}
 use Rattle.tftp_packet.specs.declared.kinds.Dir.{Dir}
 use Rattle.tftp_packet.specs.declared.kinds.Dir.TheVariants.{Out}
 use Rattle.tftp_ends.specs.CaptureText.{Datagram, Header}
 use Rattle.tftp_ends.specs.Roles.{author_of}
-use Rattle.tftp_ends.specs.Rules.{end_number, EndBroken, FirstEndBroken}
+use Rattle.tftp_ends.specs.Rules.{end_number, EndBroken, FirstEndBroken, Passed}
 use Rattle.tftp_ends.specs.declared.terms.Terms.{Terms}
 use Rattle.tftp_ends.specs.declared.rule.EndRule.{EndRule}
 use Rattle.tftp_nego.specs.Agreement.{MayAgree}
@@ -260,3 +262,47 @@ pub right_kind : (h : Header) (asked : RequestParts) (dir : Dir) (m : Message) (
     → (IsWrongKind author side m → b ≡ true) → IsWrongKind (author_of h.named dir) asked.side m → ⊥
 right_kind h asked dir m author side b e f right tells wrong =
     false≢true (sym right ∙ tells (subst (λ (a : End). IsWrongKind a side m) (sym e) (subst (λ (x : Side). IsWrongKind (author_of h.named dir) x m) (sym f) wrong)))
+
+-- ---- the first request again
+
+server_asks : (side : Side) (asked : RequestParts) → IsWrongKind Server side (Message.Request asked)
+server_asks Get asked = tt
+server_asks Put asked = tt
+
+client_asks : (side : Side) (asked : RequestParts) → IsWrongKind Client side (Message.Request asked) → ⊥
+client_asks Get asked wrong = wrong
+client_asks Put asked wrong = wrong
+
+module _ (h : Header) (asked : RequestParts) (passed : List Datagram) (dir : Dir) where
+  abbrev Again : Rule → Type 0
+  Again = MessageBreaks h asked passed dir (Message.Request asked)
+
+  pub again_wrong : author_of h.named dir ≡ Server → IsFirstOf Again Rule.WrongKind
+  again_wrong server = (inl (refl, subst (λ (e : End). IsWrongKind e asked.side (Message.Request asked)) (sym server) (server_asks asked.side asked)), below)
+    where
+      below : (other : Rule) → number_of other < 6 → Again other → ⊥
+      below other low (inl (is, wrong)) = let same = ap number_of is in omega (arith, low, same)
+      below other low (inr (inl (is, on))) = let same = ap number_of is in omega (arith, low, same)
+      below other low (inr (inr b)) = let high = kind_from h asked passed dir (Message.Request asked) other b in omega (arith, low, high)
+
+  right_by : (author : End) → (author ≡ Server → ⊥) → IsWrongKind author asked.side (Message.Request asked) → ⊥
+  right_by Client other wrong = client_asks asked.side asked wrong
+  right_by Server other wrong = other refl
+
+  module _ (other : author_of h.named dir ≡ Server → ⊥) where
+    pub again_ended : dir ≡ Out → (code : ℕ) × (text : List ℕ) × Passed Out (Message.Error code text) passed → IsFirstOf Again Rule.AfterError
+    again_ended out (code, text, stop) = gone_on h asked passed dir (Message.Request asked) (right_by (author_of h.named dir) other)
+        (Message.Error code text, (code, text, refl), subst (λ way. Passed way (Message.Error code text) passed) (sym out) stop, (λ e. cc), inl out)
+
+    -- no ERROR went this way, or it came in
+    pub again_goes : (dir ≡ Out → (code : ℕ) × (text : List ℕ) × Passed Out (Message.Error code text) passed → ⊥) → GoesOn passed dir (Message.Request asked) → ⊥
+    again_goes none (stop, (code, text, is), went, differs, inl out) =
+        none out (code, text, subst (λ way. Passed way (Message.Error code text) passed) out (subst (λ m. Passed dir m passed) is went))
+    again_goes none (stop, is, went, differs, inr (code, text, e)) = cc
+
+    module _ (stays : GoesOn passed dir (Message.Request asked) → ⊥) where
+      pub again_late : dir ≡ Out → ClientWentOn passed → IsFirstOf Again Rule.RequestAfterStart
+      again_late out went = kind_finds h asked passed dir (Message.Request asked) (right_by (author_of h.named dir) other) stays (Unit {0}) (Err (Stop.Broken Rule.RequestAfterStart)) (request_late asked passed dir asked refl out went)
+
+      pub again_passes : (dir ≡ Out → ClientWentOn passed → ⊥) → NoneBreaks Again
+      again_passes early = (kind_finds h asked passed dir (Message.Request asked) (right_by (author_of h.named dir) other) stays (Unit {0}) (Ok tt) (request_passes asked passed dir asked refl early, tt)).0

@@ -16,7 +16,7 @@ use Rattle.tftp_judge.specs.Memory.{IsNew}
 
 -- ---- blocks
 
-blocks_of : (end : NamedEnd) (passed : List Datagram) → IsEndAfter end passed → AreBlocks passed (held_of end)
+pub blocks_of : (end : NamedEnd) (passed : List Datagram) → IsEndAfter end passed → AreBlocks passed (held_of end)
 blocks_of (Sends s) passed after = after.blocks
 blocks_of (Receives r) passed after = after.blocks
 

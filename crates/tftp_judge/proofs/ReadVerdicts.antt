@@ -1,5 +1,5 @@
 -- What is said of what was read is said of it as a text.
-use Rattle.std.proofs.Common.{ℕ, inl, inr, List, [], Result, Ok, Err, sym, subst, append-nil}
+use Rattle.std.proofs.Common.{ℕ, List, [], Result, Ok, Err, sym, subst, append-nil}
 use Rattle.tftp_capture.specs.declared.fault.CaptureFault.TheVariants.{Text, Read, Memory}
 use Rattle.tftp_ends.specs.Meaning.{Meaning}
 use Rattle.tftp_judge.specs.TextVerdict.{IsLineOf, IsReadVerdict, IsTextVerdict, NoFaultBefore, WantsToRead}
@@ -20,8 +20,7 @@ read_is_text read (Err (Refused (refusal.Unlawful index rule))) is = is
 read_is_text read (Err (Refused (refusal.Aborted by code))) is = is
 read_is_text read (Err (Refused (refusal.Incomplete count))) is = is
 read_is_text read (Err (Refused refusal.NormalTooLong)) is = is
-read_is_text read (Err (Refused (refusal.Memory count))) (inl wants) = inl (read, [], sym (append-nil read), wants)
-read_is_text read (Err (Refused (refusal.Memory count))) (inr is) = inr is
+read_is_text read (Err (Refused (refusal.Memory count))) wants = (read, [], sym (append-nil read), wants)
 read_is_text read (Err (Capture (Text line fault))) is = is
 read_is_text read (Err (Capture (Read line))) is = is
 read_is_text read (Err (Capture (Memory line))) (wants, before) = (line_read read line wants, faults_read read line wants, before)

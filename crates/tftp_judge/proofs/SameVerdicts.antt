@@ -1,5 +1,5 @@
 -- Two texts that are the same capture, in as many lines, have the same verdicts; so have a text and the same in version 2.
-use Rattle.std.proofs.Common.{◌≡◌, ℕ, ◌+◌, ◌^◌, ◌≤◌, ◌==◌, ◌↔◌, lit≤, inl, inr, List, [], ◌∷◌, ◌++◌, All, reverse, length, map as each, Result, Ok, Err, refl, sym, ap, ◌∙◌, subst, arith, append_assoc, append-nil, length-append}
+use Rattle.std.proofs.Common.{◌≡◌, ℕ, ◌+◌, ◌^◌, ◌≤◌, ◌==◌, ◌↔◌, lit≤, List, [], ◌∷◌, ◌++◌, All, reverse, length, map as each, Result, Ok, Err, refl, sym, ap, ◌∙◌, subst, arith, append_assoc, append-nil, length-append}
 use Rattle.std.specs.List.{join_with_byte, slice_split}
 use Rattle.std.proofs.lemmas.List.{length-map}
 use Rattle.std.proofs.lemmas.List.Elements.{All-cons, All-tail}
@@ -94,8 +94,7 @@ module _ (one two : List ℕ) (h : Header) (ds : List Numbered) (first : IsCaptu
   same_verdict lines (Err (verdict.Refused (Aborted by code))) is = by_both (Err (Aborted by code)) is
   same_verdict lines (Err (verdict.Refused (Incomplete count))) is = by_both (Err (Incomplete count)) is
   same_verdict lines (Err (verdict.Refused NormalTooLong)) is = by_both (Err NormalTooLong) is
-  same_verdict lines (Err (verdict.Refused (NoMemory count))) (inl (read, more, are, wants)) = inl (wants_both count read more are wants)
-  same_verdict lines (Err (verdict.Refused (NoMemory count))) (inr is) = inr (by_both (Err (NoMemory count)) is)
+  same_verdict lines (Err (verdict.Refused (NoMemory count))) (read, more, are, wants) = wants_both count read more are wants
   same_verdict lines (Err (verdict.Capture (Text line fault))) is = absurd (captured_or_faulty one h ds is.0.0 line fault first is.0.1)
   same_verdict lines (Err (verdict.Capture (Read line))) ((es, due, ends), lawful) =
       let here : line_count one ≡ length ends.lines + 1 = ap length ends.stands.divided ∙ length-append ends.lines (ends.rest ∷ []) in

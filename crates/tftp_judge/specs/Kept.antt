@@ -1,8 +1,9 @@
 -- What the judge keeps of the datagrams that it has accepted, and for which datagrams that stands. The lists `earlier` and
 -- `passed` have the datagrams of the capture and those of the transfer, the newest first.
-use Rattle.std.specs.Prelude.{◌≡◌, ◌↔◌, ◌≤◌, ℕ, Bool, true, List, [], All, length, Option, Some, None, is_some}
+use Rattle.std.specs.Prelude.{◌≡◌, ◌↔◌, ◌≤◌, ℕ, Bool, true, List, [], All, length, Option, Some, None, is_some, ⊤}
 use Rattle.tftp_packet.specs.OptionMap.{OptionMap}
 use Rattle.tftp_packet.specs.Message.{Message, RequestParts}
+use Rattle.tftp_packet.specs.Spelling.{Spells}
 use Rattle.tftp_packet.specs.declared.kinds.Dir.{Dir}
 use Rattle.tftp_packet.specs.declared.kinds.Dir.TheVariants.{In, Out}
 use Rattle.tftp_packet.specs.declared.kinds.End.{End}
@@ -105,6 +106,11 @@ pub record Judge : Type 0 where
 abbrev pub IsKept : Header → List Datagram → Option Transfer → Type 0
 IsKept h earlier None = earlier ≡ []
 IsKept h earlier (Some transfer) = FirstAsked h earlier transfer.asked × IsTransferAfter transfer h (transfer_of h earlier)
+
+-- these bytes spell the first request, once it has passed
+abbrev pub AreBytesOf : List ℕ → Option Transfer → Type 0
+AreBytesOf bytes None = ⊤
+AreBytesOf bytes (Some transfer) = Spells bytes (Message.Request transfer.asked)
 
 -- what is kept of these datagrams
 pub record HasKept (k : Keeper) (h : Header) (earlier : List Datagram) : Type 0 where

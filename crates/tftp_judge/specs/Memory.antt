@@ -8,6 +8,8 @@ use Rattle.tftp_ends.specs.CaptureText.{Datagram, Header}
 use Rattle.tftp_ends.specs.KnownIds.{IsNewStray}
 use Rattle.tftp_ends.specs.Ports.{transfer_of}
 use Rattle.tftp_ends.specs.Rules.{HasPassed, Passed}
+use Rattle.tftp_ends.specs.States.{AreBlocks}
+use Rattle.tftp_ends.specs.Store.{Held}
 use Rattle.tftp_law.specs.Rules.{Says}
 
 -- the first request, the first OACK, a block of which none with its number has passed, or the first ERROR that goes this way
@@ -21,3 +23,7 @@ IsNew passed dir (Message.Ack j) = ⊥
 -- one of these messages of the transfer, or a stray from where none has come
 abbrev pub TakesMemory : Header → List Datagram → Datagram → Type 0
 TakesMemory h earlier d = IsNewStray h earlier d ⊎ ((m : Message) × Says h earlier d m × IsNew (transfer_of h earlier) d.dir m)
+
+-- the blocks that have passed are such as a store takes memory for, to join them
+abbrev pub TakesForJoin : (Held → Type 0) → List Datagram → Type 0
+TakesForJoin Takes passed = (held : Held) × AreBlocks passed held × Takes held

@@ -1,6 +1,6 @@
 -- What there is to say of a capture text, by the runs of two ends.
 use Rattle.std.specs.List.{slice_split}
-use Rattle.std.specs.Prelude.{◌≡◌, ◌⊎◌, ◌==◌, List, [], ◌∷◌, ◌++◌, ℕ, ◌<◌, ◌≤◌, All, length, map, reverse, Result, Ok, Err}
+use Rattle.std.specs.Prelude.{◌≡◌, ◌==◌, List, [], ◌∷◌, ◌++◌, ℕ, ◌<◌, ◌≤◌, All, length, map, reverse, Result, Ok, Err}
 use Rattle.tftp_capture.specs.CaptureText.{Begins, Due, HasFault, IsCapture, Numbered, Stands, Unfinished}
 use Rattle.tftp_capture.specs.CaptureText.Due.{Body}
 use Rattle.tftp_capture.specs.History.{IsAtTextEnd, IsReadFault, MemoryTells}
@@ -88,20 +88,21 @@ IsFaultOf text (Memory line) = IsLineOf text line × NoFaultBefore text line × 
 
 -- The first unlawful datagram on the lines before the text's first fault; else that fault; else what is said of the
 -- datagrams. A text whose reading failed is what came before. Want of memory may be said of a line before which there is
--- no fault and the datagrams are lawful, of a datagram that takes memory after others with which it is lawful, or of the meaning of all.
+-- no fault and the datagrams are lawful, or of a datagram that takes memory after others with which it is lawful; never of
+-- the meaning of all.
 abbrev pub IsTextVerdict : List ℕ → Result Meaning Verdict → Type 0
 IsTextVerdict text (Ok m) = IsCaptureBy text (Ok m)
 IsTextVerdict text (Err (Refused (refusal.Unlawful index rule))) = BeginsBy text (Err (refusal.Unlawful index rule))
 IsTextVerdict text (Err (Refused (refusal.Aborted by code))) = IsCaptureBy text (Err (refusal.Aborted by code))
 IsTextVerdict text (Err (Refused (refusal.Incomplete count))) = IsCaptureBy text (Err (refusal.Incomplete count))
 IsTextVerdict text (Err (Refused refusal.NormalTooLong)) = IsCaptureBy text (Err refusal.NormalTooLong)
-IsTextVerdict text (Err (Refused (refusal.Memory count))) = ((read more : List ℕ) × (text ≡ read ++ more) × WantsToJudge read count) ⊎ IsCaptureBy text (Err (refusal.Memory count))
+IsTextVerdict text (Err (Refused (refusal.Memory count))) = (read more : List ℕ) × (text ≡ read ++ more) × WantsToJudge read count
 IsTextVerdict text (Err (Capture fault)) = IsFaultOf text fault
 
 -- The same of what was read, where that is all: what comes after the want of memory was read ahead.
 abbrev pub IsReadVerdict : List ℕ → Result Meaning Verdict → Type 0
 IsReadVerdict read (Err (Capture (Memory line))) = WantsToRead read line × LawfulBefore read line
-IsReadVerdict read (Err (Refused (refusal.Memory count))) = WantsToJudge read count ⊎ IsCaptureBy read (Err (refusal.Memory count))
+IsReadVerdict read (Err (Refused (refusal.Memory count))) = WantsToJudge read count
 IsReadVerdict read r = IsTextVerdict read r
 
 -- want of memory

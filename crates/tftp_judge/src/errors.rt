@@ -4,6 +4,8 @@ ghost use Rattle.std.specs.Prelude.{◌≡◌, ◌↔◌, ℕ, List, [], ◌∷�
 ghost use Rattle.tftp_packet.specs.Message.{Message};
 ghost use Rattle.tftp_packet.specs.Meaning.{meaning};
 ghost use Rattle.tftp_ends.specs.CaptureText.{Datagram};
+ghost use Rattle.tftp_packet.specs.declared.kinds.Dir.TheVariants.{Out};
+ghost use Rattle.tftp_ends.specs.Rules.{Passed};
 ghost use Rattle.tftp_ends.specs.States.{has_stopped, Says};
 ghost use Rattle.tftp_law.specs.Aborted.{by_of as by_way};
 ghost use Rattle.tftp_law.specs.Rules.{GoesOn, IsError};
@@ -154,6 +156,14 @@ impl Errors {
             self.first = Some((by_of(dir), code));
         }
         Ok(())
+    }
+
+    /// Whether one has gone out.
+    pub fn has_sent(&self) -> bool
+        ensures { (passed : List Datagram) → AreErrors self.now passed
+            → (IsTrue result ↔ ((code : ℕ) × (text : List ℕ) × Passed Out (Message.Error code text) passed)) }
+    {
+        self.sent.is_some()
     }
 
     /// Whether one has come in.

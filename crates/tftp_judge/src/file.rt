@@ -1,6 +1,6 @@
 //! The file of a whole transfer.
 
-ghost use Rattle.std.specs.Prelude.{◌≡◌, ◌/◌, ◌+◌, ◌≤◌, ℕ, List, length, MatchOption, IfOk};
+ghost use Rattle.std.specs.Prelude.{◌≡◌, ◌/◌, ◌+◌, ◌≤◌, ℕ, List, length, MatchOption, IfOk, OnErr};
 ghost use Rattle.tftp_ends.specs.Store.{IsHeldFront, IsJoin};
 ghost use Rattle.tftp_law.specs.Fits.{ReadsAs, written_wire};
 
@@ -10,13 +10,15 @@ use tftp_netascii::{decode_in_place, encoded_len};
 use tftp_packet::Mode;
 
 /// The file that the blocks up to the front carry (RFC 1350, section 1). In netascii it is read where their bytes stand.
+/// Memory is taken for the join alone.
 pub fn file_of<D: Delivered + Drop>(
     alloc: Global,
     mode: Mode,
     store: D,
 ) -> Result<Vec<u8>, AllocError>
-    ensures { IfOk result (λ file. (front : ℕ) → IsHeldFront (D.held store) front
+    ensures file { IfOk result (λ file. (front : ℕ) → IsHeldFront (D.held store) front
         → (wire : List ℕ) × IsJoin (D.held store) front wire × ReadsAs mode wire file.items) }
+    ensures memory { OnErr result (D.join_takes (D.held store)) }
 {
     let mut file = store.into_wire(alloc)?;
     if mode == Mode::Netascii {

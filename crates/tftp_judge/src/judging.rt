@@ -3,7 +3,9 @@ ghost use Rattle.tftp_capture.specs.Fields.{datagram_of, header_of};
 ghost use Rattle.tftp_ends.specs.CaptureText.{Datagram as DatagramParts, Header as HeaderParts};
 ghost use Rattle.tftp_law.specs.OneEnded.{Passes, IsEnded};
 ghost use Rattle.tftp_judge.specs.Finds.{Refuses};
+ghost use Rattle.tftp_ends.specs.Ports.{transfer_of};
 ghost use Rattle.tftp_judge.specs.Kept.{IsJudgeAfter};
+ghost use Rattle.tftp_judge.specs.Memory.{TakesForJoin};
 ghost use Rattle.tftp_judge.specs.Verdict.{IsVerdict};
 ghost use Rattle.tftp_judge.specs.declared.refusal.Refusal.{Refusal as RefusalKind};
 
@@ -97,11 +99,14 @@ impl<D: Delivered + Drop> Judge<D> {
         self.fed
     }
 
-    /// What the datagrams mean, or why they are not accepted. Memory is taken only of a whole transfer.
+    /// What the datagrams mean, or why they are not accepted. Memory is taken only of a whole transfer, and only by a store
+    /// that takes it to join the blocks that have passed.
     pub fn finish(self, alloc: Global) -> Result<Meaning, Refusal>
         ensures verdict { (h : HeaderParts) (earlier : List DatagramParts) → IsJudgeAfter self h earlier → IsVerdict h (reverse earlier) result }
         ensures memory { (h : HeaderParts) (earlier : List DatagramParts) (count : ℕ) → IsJudgeAfter self h earlier
             → result ≡ Err (RefusalKind.Memory count) → IsEnded h earlier }
+        ensures joins { (h : HeaderParts) (earlier : List DatagramParts) (count : ℕ) → IsJudgeAfter self h earlier
+            → result ≡ Err (RefusalKind.Memory count) → TakesForJoin D.join_takes (transfer_of h earlier) }
         ensures for_good { (refusal : RefusalKind) → self.refused ≡ Some refusal → result ≡ Err refusal }
     {
         let Judge {

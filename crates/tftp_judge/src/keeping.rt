@@ -16,7 +16,7 @@ use std::marker::Model;
 use tftp_capture::{Datagram, Header};
 use tftp_ends::{Delivered, PortFault, Ports, Route};
 use tftp_law::Rule;
-use tftp_packet::{Dir, Packet, opcode, own_request, read_packet};
+use tftp_packet::{Bytes, Dir, Packet, opcode, own_request, read_packet};
 
 /// What is kept of the datagrams that have passed: the transfer ids, and the transfer from its first request on.
 #[derive(Drop)]
@@ -24,6 +24,8 @@ pub struct Keeper<D: Delivered + Drop> {
     header: Header,
     ports: Ports,
     transfer: Option<Transfer<D>>,
+    // the bytes of the first request, once it has passed
+    asked: Bytes,
 }
 
 impl<D: Delivered + Drop> Model for Keeper<D> {
@@ -31,7 +33,7 @@ impl<D: Delivered + Drop> Model for Keeper<D> {
     ghost use Rattle.tftp_ends.specs.StatesKept.{sender_code, receiver_code};
     ghost use Rattle.tftp_packet.specs.Owned.{options_code, parts_code};
     ghost use Rattle.tftp_capture.specs.Fields.{header_of};
-    ghost use Rattle.tftp_judge.specs.Kept.{Keeper};
+    ghost use Rattle.tftp_judge.specs.Kept.{AreBytesOf, Keeper};
 
     ghost Value = { Keeper };
 
@@ -42,6 +44,8 @@ impl<D: Delivered + Drop> Model for Keeper<D> {
       ports = k.ports;
       transfer = k.transfer;
     } };
+
+    ghost invariant = { λ k. AreBytesOf k.asked k.transfer };
 }
 
 impl<D: Delivered + Drop> Keeper<D> {
@@ -53,6 +57,7 @@ impl<D: Delivered + Drop> Keeper<D> {
             header: *header,
             ports: Ports::new(alloc, header.named, header.service),
             transfer: None,
+            asked: Bytes::of(Vec::new(alloc)),
         }
     }
 
@@ -94,8 +99,33 @@ impl<D: Delivered + Drop> Keeper<D> {
         self.transfer
     }
 
-    /// What is found of a datagram of the transfer.
+    /// What is found of a datagram of the transfer. The first request again is known by its bytes, and is not read.
     fn pass_message(
+        &mut self,
+        alloc: Global,
+        route: Route,
+        dir: Dir,
+        payload: &[u8],
+    ) -> Result<(), Stop>
+        ensures finds { (h : HeaderParts) (earlier : List DatagramParts) (d : DatagramParts) → self.old.header ≡ h → OneEnded h earlier
+            → IsKept h earlier self.old.transfer → among_all route ≡ route_of h earlier d → is_of_transfer (among_all route) ≡ true → d.dir ≡ dir
+            → d.payload ≡ payload.now → FindsOf h earlier d (IsKept h (d ∷ earlier) self.new.transfer) result }
+        ensures memory { (h : HeaderParts) (earlier : List DatagramParts) (d : DatagramParts) → IsKept h earlier self.old.transfer
+            → among_all route ≡ route_of h earlier d → is_of_transfer (among_all route) ≡ true → d.dir ≡ dir → d.payload ≡ payload.now
+            → result ≡ Err StopKind.Memory → TakesMemory h earlier d }
+        ensures header { self.new.header ≡ self.old.header }
+        ensures ports { self.new.ports ≡ self.old.ports }
+    {
+        if let Some(transfer) = &self.transfer {
+            if payload == self.asked.as_slice() {
+                return transfer.pass_again(dir);
+            }
+        }
+        self.pass_read(alloc, route, dir, payload)
+    }
+
+    /// The same of one whose bytes are read.
+    fn pass_read(
         &mut self,
         alloc: Global,
         route: Route,
@@ -122,6 +152,7 @@ impl<D: Delivered + Drop> Keeper<D> {
             (Some(transfer), _) => transfer.pass(alloc, dir, &packet),
             (None, Packet::Request(asked)) => {
                 let asked = own_request(alloc, asked)?;
+                self.asked = Bytes::of(Vec::from_slice(alloc, payload)?);
                 self.transfer = Some(Transfer::of(self.header.named, asked));
                 Ok(())
             }

@@ -14,7 +14,7 @@ ghost use Rattle.tftp_law.specs.OneEnded.{OneEnded, IsEnded};
 ghost use Rattle.tftp_law.specs.Rules.{Agrees, ClientWentOn, FirstAsked, GoesOn, IsWrongKind, plain_terms as plain_terms_of, terms_after};
 ghost use Rattle.tftp_judge.specs.Finds.{Finds, stop_of_fault, IsBlockOrAck};
 ghost use Rattle.tftp_judge.specs.Courses.{HasAnswer, WaitsForReply, DiffersByCourse, DiffersBySent};
-ghost use Rattle.tftp_judge.specs.Memory.{IsNew};
+ghost use Rattle.tftp_judge.specs.Memory.{IsNew, TakesForJoin};
 ghost use Rattle.tftp_judge.specs.Kept.{AreErrors, Unanswered, IsCourse, IsTransferAfter, IsTransferOf};
 ghost use Rattle.tftp_judge.specs.Verdict.{IsVerdictByRules};
 ghost use Rattle.tftp_judge.specs.declared.refusal.Refusal.{Refusal as RefusalKind};
@@ -107,6 +107,29 @@ impl<D: Delivered + Drop> Transfer<D> {
             Packet::Oack(oack) => self.pass_oack(alloc, dir, oack),
             Packet::Data { .. } | Packet::Ack { .. } => self.pass_block(alloc, dir, packet),
         }
+    }
+
+    /// What the first request breaks that comes again with the same bytes, as `pass` says it: a server sends it, its end has
+    /// sent an ERROR, or the client has sent a block or an ACK (RFC 1350, sections 4 and 7).
+    pub fn pass_again(&self, dir: Dir) -> Result<(), Stop>
+        ensures finds { (h : Header) (passed : List Datagram) (d : Datagram) → IsTransferAfter self.now h passed
+            → Says d dir (Message.Request self.now.asked)
+            → Finds (MessageBreaks h self.now.asked passed dir (Message.Request self.now.asked)) (IsTransferAfter self.now h (d ∷ passed)) result }
+        ensures takes_none { result ≢ Err StopKind.Memory }
+    {
+        if author_of(self.named, dir) == End::Server {
+            return Err(Stop::Broken(Rule::WrongKind));
+        }
+        if dir == Dir::In {
+            return Ok(());
+        }
+        if self.errors.has_sent() {
+            return Err(Stop::Broken(Rule::AfterError));
+        }
+        if self.client_went_on() {
+            return Err(Stop::Broken(Rule::RequestAfterStart));
+        }
+        Ok(())
     }
 
     /// A request after the first one: it is not that one again, or it comes after a block or an ACK of the client (RFC
@@ -295,6 +318,8 @@ impl<D: Delivered + Drop> Transfer<D> {
             → IsTransferAfter self h (transfer_of h earlier) → count ≡ length earlier → IsVerdictByRules h (reverse earlier) result }
         ensures memory { (h : Header) (earlier : List Datagram) → OneEnded h earlier → FirstAsked h earlier self.asked
             → IsTransferAfter self h (transfer_of h earlier) → (total : ℕ) → result ≡ Err (RefusalKind.Memory total) → IsEnded h earlier }
+        ensures joins { (h : Header) (earlier : List Datagram) → IsTransferAfter self h (transfer_of h earlier) → (total : ℕ)
+            → result ≡ Err (RefusalKind.Memory total) → TakesForJoin D.join_takes (transfer_of h earlier) }
     {
         let Transfer {
             asked,

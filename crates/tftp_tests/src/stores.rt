@@ -159,3 +159,21 @@ fn map_keeps_blocks(rt: HostRuntime) -> Result<(), Fail> {
 fn ring_keeps_blocks(rt: HostRuntime) -> Result<(), Fail> {
     keeps_all::<RingDelivered>(&rt)
 }
+
+/// A ring keeps the bytes of blocks that have left for as long as others wait, and none where none waits.
+#[test]
+fn ring_keeps_no_bytes_where_none_waits(rt: HostRuntime) -> Result<(), Fail> {
+    let mut store = RingDelivered::new(rt.alloc(), 8, 4);
+    put(&rt, &mut store, 2, b"22222222")?;
+    put(&rt, &mut store, 4, b"44444444")?;
+    let two = store.kept();
+    put(&rt, &mut store, 1, b"11111111")?;
+    let one = store.kept();
+    put(&rt, &mut store, 3, b"33333333")?;
+    let none = store.kept();
+    if (two, one, none) == (16, 16, 0) {
+        Ok(())
+    } else {
+        Err(Fail::from((two, one, none)))
+    }
+}

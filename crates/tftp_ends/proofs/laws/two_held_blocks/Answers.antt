@@ -1,4 +1,4 @@
-use Rattle.tftp_ends.proofs.Stores.{fourth_is_new, first_is_same, first_differs, front_is_one, takes_fifth, not_sixth, not_short_third}
+use Rattle.tftp_ends.proofs.Stores.{fourth_is_new, first_is_same, first_differs, front_is_one, takes_fifth, not_sixth, not_short_third, first_is_alone}
 use Rattle.tftp_ends.proofs.laws.two_held_blocks.Goals as goal
 
 pub returns-clause-new : goal.returns-clause-new
@@ -21,3 +21,6 @@ returns-clause-sixth c = not_sixth
 
 pub returns-clause-short_third : goal.returns-clause-short_third
 returns-clause-short_third c = not_short_third
+
+pub returns-clause-alone : goal.returns-clause-alone
+returns-clause-alone c = first_is_alone

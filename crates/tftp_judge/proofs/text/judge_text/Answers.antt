@@ -1,4 +1,4 @@
-use Rattle.std.proofs.Common.{◌≡◌, ◌⊎◌, Bool, false, [], Ok, refl, ◌∙◌, reverse, subst, inl, inr, arith}
+use Rattle.std.proofs.Common.{◌≡◌, ◌⊎◌, Bool, false, [], Ok, Err, refl, ap, ◌∙◌, reverse, subst, inl, inr, arith}
 use Rattle.std.specs.Io.KnownBytes.{prepend_known}
 use Rattle.std.proofs.lemmas.Result.{err_from_is_err_and}
 use Rattle.tftp_capture.specs.History.{IsReadFault, IsReadStanding}
@@ -151,7 +151,8 @@ unfinished g c =
     rw (p.1, p.2)
     (found_unfinished (g.R.Read.remaining c.args.reader.now.0) (prepend_known c.loop-datagram.capture.lines.ahead (g.R.Read.remaining c.loop-datagram.reader.0)) (g.R.Read.remaining c.next_into.new.reader.0) c.loop-datagram.capture c.next_into.new.self
     c.loop-datagram.judge i.goes i.follows (rw none at e.continues) (rw none at e.standing) e.header ((rw none at e.end) i.goes refl) c.next_into.new.reader.1
-    (still_clean c.next_into.new.reader.1 c.loop-datagram.reader.1 (rw none at e.tally) i.clean) c.in_err-finish.field-0.0 c.in_err-finish.ensures.verdict)
+    (still_clean c.next_into.new.reader.1 c.loop-datagram.reader.1 (rw none at e.tally) i.clean) c.in_err-finish.field-0.0
+    (λ count is. (c.in_err-finish.ensures.joins c.loop-datagram.capture.header (reverse (unnumbered i.follows.datagrams)) count i.follows.accepted (ap Err is)).2) c.in_err-finish.ensures.verdict)
 
 pub returns-in_err-finish-clause-judged : goal.returns-in_err-finish-clause-judged
 returns-in_err-finish-clause-judged g c = found_judged _ _ _ _ (unfinished g c)

@@ -19,12 +19,12 @@ returns-then-number-self c =
       | then-len-from w ↦ let less = w.if-len-from.true in let whole = w.to-is in let read = w.len-to.ensures in inl (omega arith, omega arith)
       | else-len-from w ↦ inr (w.to-is)
     ]))
-    ∙ sym (joined_block c.self.inside.block_size c.self.inside.front c.self.inside.joined.items c.self.inside.pending c.args.number
+    ∙ sym (joined_block c.self.inside.block_size c.self.inside.front c.self.inside.joined.items c.self.inside.pending.0 c.args.number
     (let some = c.if-number-eq0.false in omega arith) c.if-number-self.true)
     ∙ ap (λ m. finite.get (numbered 1 m.0) c.args.number) c.self.view_is
 
 pub returns : goal.returns
 returns c = c.get.ensures
-    ∙ sym (ring_block c.self.inside.block_size c.self.inside.front c.self.inside.joined.items c.self.inside.pending c.args.number
+    ∙ sym (ring_block c.self.inside.block_size c.self.inside.front c.self.inside.joined.items c.self.inside.pending.0 c.args.number
     (let above = c.if-number-self.false in omega arith))
     ∙ ap (λ m. finite.get (numbered 1 m.0) c.args.number) c.self.view_is

@@ -4,6 +4,6 @@ use Rattle.tftp_ends.specs.Slots.{numbered}
 use Rattle.tftp_ends.proofs.Ring.{join_is}
 use Rattle.tftp_ends.proofs.ring_delivered.RingDeliveredDelivered.into_wire.Goals as goal
 
-pub returns : goal.returns
-returns c = subst (λ m. (front : ℕ) → IsHeldFront (numbered 1 m.0) front → IsJoin (numbered 1 m.0) front c.self.inside.joined.items) c.self.view_is
-    (join_is _ _ _ _ c.self.invariant.row c.self.invariant.gap)
+pub returns-clause-joined : goal.returns-clause-joined
+returns-clause-joined c = subst (λ m. (front : ℕ) → IsHeldFront (numbered 1 m.0) front → IsJoin (numbered 1 m.0) front c.self.inside.joined.items) c.self.view_is
+    (join_is _ _ _ _ c.self.invariant.0.row c.self.invariant.0.gap)

@@ -28,4 +28,4 @@ returns-clause-ok c =
     ap (λ bytes. shown bytes c.set_place.new.places.items) c.in_ok-extend_from_slice.ensures.items
     ∙ ap (shown (c.self.inside.bytes.items ++ c.args.block.now)) places
     ∙ shown_held c.self.inside.bytes.items c.args.block.now c.self.inside.places.items c.args.place span c.self.invariant (omega arith) (omega arith)
-    ∙ ap (λ slots. placed slots c.args.place c.args.block.now) c.self.view_is
+    ∙ ap (λ v. placed v.0 c.args.place c.args.block.now) c.self.view_is

@@ -1,6 +1,8 @@
 use Rattle.std.proofs.Common.{sym, ap, ◌∙◌}
 use Rattle.tftp_law.specs.OneEnded.{IsEnded}
+use Rattle.tftp_ends.specs.Ports.{transfer_of}
 use Rattle.tftp_judge.specs.Kept.{Judge}
+use Rattle.tftp_judge.specs.Memory.{TakesForJoin}
 use Rattle.tftp_judge.proofs.EndedJudge.{of_transfer, said_of_transfer, said_of_nothing}
 use Rattle.tftp_judge.proofs.judging.Judge.finish.Goals as goal
 
@@ -15,6 +17,12 @@ returns-in-Some-into_transfer-clause-memory g c h earlier count after is =
     of_transfer c.args.self h earlier after (IsEnded h earlier) c.in-Some-into_transfer.transfer
     (sym (ap (λ (j : Judge). j.keeper.transfer) c.self.view_is) ∙ sym c.into_transfer.ensures ∙ c.in-Some-into_transfer.is)
     (λ lawful first kept. c.finish.ensures.memory h earlier lawful first kept count is)
+
+pub returns-in-Some-into_transfer-clause-joins : goal.returns-in-Some-into_transfer-clause-joins
+returns-in-Some-into_transfer-clause-joins g c h earlier count after is =
+    of_transfer c.args.self h earlier after (TakesForJoin g.D.Delivered.join_takes (transfer_of h earlier)) c.in-Some-into_transfer.transfer
+    (sym (ap (λ (j : Judge). j.keeper.transfer) c.self.view_is) ∙ sym c.into_transfer.ensures ∙ c.in-Some-into_transfer.is)
+    (λ lawful first kept. c.finish.ensures.joins h earlier kept count is)
 
 pub returns-in-None-clause-verdict : goal.returns-in-None-clause-verdict
 returns-in-None-clause-verdict g c h earlier after =

@@ -1,52 +1,22 @@
-use Rattle.std.proofs.Common.{◌≡◌, true, List, [], Option, Some, None, inr, rules, sym, subst, ap, ◌∙◌}
-use Rattle.std.proofs.lemmas.Bool.{false≢true}
-use Rattle.tftp_packet.specs.Message.{Message, RequestParts}
-use Rattle.tftp_packet.specs.Meaning.{meaning}
+use Rattle.std.proofs.Common.{◌≡◌, true, List, ◌∷◌, Option, Some, refl, sym, subst, ap, ◌∙◌}
+use Rattle.std.proofs.lemmas.Slice.Eq.{bytes_eq-Decides}
+use Rattle.tftp_packet.specs.Message.{Message}
 use Rattle.tftp_packet.specs.Spelling.{Spells}
-use Rattle.tftp_packet.specs.Written.{parts}
-use Rattle.tftp_packet.specs.declared.packet.Packet.{Packet}
-use Rattle.tftp_ends.specs.CaptureText.{Header}
-use Rattle.tftp_ends.specs.Ports.{Route, route_of, is_of_transfer, transfer_of}
-use Rattle.tftp_ends.specs.declared.route.Route.TheVariants as may
-use Rattle.tftp_judge.specs.Kept.{Keeper, Transfer, IsKept}
-use Rattle.tftp_judge.specs.Memory.{IsNew}
-use Rattle.tftp_judge.proofs.Accepting.{message_found, peer_is, request_found}
+use Rattle.tftp_ends.specs.Ports.{route_of, is_of_transfer, transfer_of}
+use Rattle.tftp_judge.specs.Finds.{FindsOf}
+use Rattle.tftp_judge.specs.Kept.{AreBytesOf, Keeper, Transfer, IsKept}
+use Rattle.tftp_judge.proofs.Accepting.{message_found}
 use Rattle.tftp_judge.proofs.keeping.Keeper.pass_message.Goals as goal
-use Rattle.tftp_judge.proofs.keeping.Keeper.pass_message.Goals.{else-is_none-via-then-is_none+else-eq, else-is_none-via-else-is_none}
 
-pub returns-in-Some-default-clause-finds : goal.returns-in-Some-default-clause-finds
-returns-in-Some-default-clause-finds g c = λ h earlier d at one kept is on dir payload.
+pub returns-then-eq-clause-finds : goal.returns-then-eq-clause-finds
+returns-then-eq-clause-finds g c = λ h earlier d at one kept is on dir payload.
+    let t = c.in-Some.transfer in
+    let m = Message.Request t.asked in
     let routed : is_of_transfer (route_of h earlier d) ≡ true = ap is_of_transfer (sym is) ∙ on in
-    let spells : Spells d.payload (meaning c.in-Ok.packet) = subst (λ (bytes : List _). Spells bytes (meaning c.in-Ok.packet)) (sym payload) c.in-Ok.ensures.found in
-    let there : c.args.self.now.transfer ≡ Some c.in-Some-default.transfer = cc in
-    let kept_now : IsKept h earlier (Some c.in-Some-default.transfer) = subst (λ (t : Option Transfer). IsKept h earlier t) there kept in
-    message_found h earlier d c.args.dir (meaning c.in-Ok.packet) c.in-Some-default.transfer c.pass.new.self dir routed spells kept_now c.pass.ensures.asked c.pass.result
-    (c.pass.ensures.finds h (transfer_of h earlier) d kept_now.1 (dir, spells))
-
-pub returns-in_ok-asked-in-None-Request-clause-finds : goal.returns-in_ok-asked-in-None-Request-clause-finds
-returns-in_ok-asked-in-None-Request-clause-finds g c = λ h earlier d at one kept is on dir payload.
-    let routed : is_of_transfer (route_of h earlier d) ≡ true = ap is_of_transfer (sym is) ∙ on in
-    let there : c.args.self.now.transfer ≡ None = cc in
-    let none : earlier ≡ [] = subst (λ (t : Option Transfer). IsKept h earlier t) there kept in
-    let asked : parts c.in-None-Request.asked ≡ c.in_ok-asked-in-None-Request.asked = search rules in
-    let spells : Spells d.payload (Message.Request c.in_ok-asked-in-None-Request.asked) =
-    subst (λ (r : RequestParts). Spells d.payload (Message.Request r)) asked
-    (subst (λ (p : Packet). Spells d.payload (meaning p)) c.in-None-Request.is-1 (subst (λ (bytes : List _). Spells bytes (meaning c.in-Ok.packet)) (sym payload) c.in-Ok.ensures.found)) in
-    let other : route_of h earlier d ≡ Route.Peer → ⊥ = λ peer. elim c.else-is_none.branch [
-      | else-is_none-via-then-is_none+else-eq w ↦ let same : c.args.route ≡ may.Peer = peer_is c.args.route (is ∙ peer) in false≢true (rw same at w.if-eq.ensures)
-      | else-is_none-via-else-is_none w ↦ search rules
-    ] in
-    request_found h earlier d c.of.result one none routed other (subst (λ (r : RequestParts). Spells d.payload (Message.Request r)) (sym c.of.ensures.asked) spells)
-    (c.of.ensures.after h d (ap (λ (x : Header). x.named) (sym at) ∙ sym (ap (λ (k : Keeper). k.header.named) c.self.view_is)) spells)
-
--- ---- want of memory
-
-pub returns-in-Some-default-clause-memory : goal.returns-in-Some-default-clause-memory
-returns-in-Some-default-clause-memory g c = λ h earlier d kept is on dir payload want.
-    let there : c.args.self.now.transfer ≡ Some c.in-Some-default.transfer = cc in
-    let kept_now : IsKept h earlier (Some c.in-Some-default.transfer) = subst (λ (t : Option Transfer). IsKept h earlier t) there kept in
-    inr (
-      meaning c.in-Ok.packet,
-      record { routed = ap is_of_transfer (sym is) ∙ on; spells = subst (λ (bytes : List _). Spells bytes (meaning c.in-Ok.packet)) (sym payload) c.in-Ok.ensures.found },
-      subst (λ w. IsNew (transfer_of h earlier) w (meaning c.in-Ok.packet)) (sym dir) (c.pass.ensures.memory h (transfer_of h earlier) kept_now.1 want),
-    )
+    let there : c.args.self.now.transfer ≡ Some t = sym (ap (λ (k : Keeper). k.transfer) c.self.view_is) ∙ c.in-Some.is in
+    let same : c.args.payload.now ≡ c.self.inside.asked = (bytes_eq-Decides c.args.payload.now c.as_slice.result.now).0 (sym c.if-eq.ensures) ∙ c.as_slice.ensures in
+    let bytes : Spells c.self.inside.asked m = subst (AreBytesOf c.self.inside.asked) c.in-Some.is c.self.invariant in
+    let spells : Spells d.payload m = subst (λ (bytes : List _). Spells bytes m) (sym (payload ∙ same)) bytes in
+    let kept_now : IsKept h earlier (Some t) = subst (λ (o : Option Transfer). IsKept h earlier o) there kept in
+    subst (λ (o : Option Transfer). FindsOf h earlier d (IsKept h (d ∷ earlier) o) c.pass_again.result) (sym there)
+    (message_found h earlier d c.args.dir m t t dir routed spells kept_now refl c.pass_again.result (c.pass_again.ensures.finds h (transfer_of h earlier) d kept_now.1 (dir, spells)))

@@ -4,6 +4,7 @@ use Rattle.tftp_packet.specs.OptionMap.{OptionMap}
 use Rattle.tftp_packet.specs.Message.{RequestParts}
 use Rattle.tftp_ends.specs.CaptureText.{Datagram, Header}
 use Rattle.tftp_ends.specs.Meaning.{Meaning}
+use Rattle.tftp_ends.specs.NamedEnd.{held_of}
 use Rattle.tftp_ends.specs.Ports.{transfer_of}
 use Rattle.tftp_law.specs.CanBeWritten.{CanBeWritten}
 use Rattle.tftp_law.specs.Fits.{IsWritable, written_wire}
@@ -14,6 +15,7 @@ use Rattle.tftp_judge.specs.Kept.{Transfer, AreErrors, IsTransferAfter}
 use Rattle.tftp_judge.specs.Verdict.{IsVerdictByRules}
 use Rattle.tftp_judge.specs.KeptCode.{course_of}
 use Rattle.tftp_judge.proofs.EndedTransfer.{BeganBy, begun_by, agreed_to, unanswered_by, held_file, fits_by, unanswered_not_meant, undone_not_meant, ended_by, meant_by, can_be_written, meant_verdict, long_verdict, memory_verdict, unfinished_verdict}
+use Rattle.tftp_judge.proofs.NewMessages.{blocks_of}
 use Rattle.tftp_judge.proofs.transfer.Transfer.finish.Given.{Over}
 use Rattle.tftp_judge.proofs.transfer.Transfer.finish.Goals as goal
 use Rattle.tftp_judge.proofs.transfer.Transfer.finish.Goals.{in-Begun, in-Agreed, After-done, After-written_blocks, After-into_options}
@@ -33,7 +35,7 @@ meaning g c = meaning_from (c.args.self.asked, (c.match-course.agreed.0, c.in-Ok
 meant : (g : Over) (c : After-written_blocks g) (h : Header) (earlier : List Datagram) → OneEnded h earlier → FirstAsked h earlier c.args.self.asked → BeganBy h c.args.self.asked (transfer_of h earlier) c.match-course.agreed.0 c.match-course.agreed.1 → Meant h earlier (meaning g c)
 meant g c h earlier lawful first begun =
     let mode = ap (λ (t : Transfer). t.asked.mode) c.self.view_is in
-    let file = held_file _ _ _ _ c.in-Ok.file.items c.into_store.ensures (c.mode.ensures ∙ mode) c.in-Ok.ensures in
+    let file = held_file _ _ _ _ c.in-Ok.file.items c.into_store.ensures (c.mode.ensures ∙ mode) c.in-Ok.ensures.file in
     meant_by h earlier lawful c.args.self.asked first c.match-course.agreed.1 begun.0 begun.1 c.match-course.agreed.0 c.in-Ok.file.items
     ((c.done.ensures.done (transfer_of h earlier) begun.1.after).0 c.if-not-done.false) (c.done.ensures.whole (transfer_of h earlier) begun.1.after c.if-not-done.false) begun.2 file
 
@@ -71,6 +73,11 @@ pub returns-in-Err-clause-memory : goal.returns-in-Err-clause-memory
 returns-in-Err-clause-memory g c h earlier lawful first after total is =
     let begun = began g (goal.at.returns-in-Err-clause-memory g c).After-done h (transfer_of h earlier) after in
     ended_by h earlier lawful c.args.self.asked first c.match-course.agreed.1 begun.0 begun.1 ((c.done.ensures.done (transfer_of h earlier) begun.1.after).0 c.if-not-done.false)
+
+pub returns-in-Err-clause-joins : goal.returns-in-Err-clause-joins
+returns-in-Err-clause-joins g c h earlier after total is =
+    let begun = began g (goal.at.returns-in-Err-clause-joins g c).After-done h (transfer_of h earlier) after in
+    (held_of c.match-course.agreed.1, blocks_of c.match-course.agreed.1 (transfer_of h earlier) begun.1.after, subst g.D.Delivered.join_takes c.into_store.ensures c.in-Err.ensures.memory)
 
 pub returns-in_default-clause-verdict : goal.returns-in_default-clause-verdict
 returns-in_default-clause-verdict g c h earlier lawful first after counts =
