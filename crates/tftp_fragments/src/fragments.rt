@@ -145,8 +145,8 @@ impl Fragments {
             Joined::NoSet => self.begin(alloc, key, part, time, frame),
             Joined::Waits => Ok(Outcome::Waits),
             Joined::Whole => {
-                let content = self.hand_out(alloc, key)?;
-                Ok(Outcome::Whole(content))
+                let (content, frames) = self.hand_out(alloc, key)?;
+                Ok(Outcome::Whole { content, frames })
             }
             Joined::Apart(frames) => Ok(Outcome::Apart(frames)),
         }
@@ -173,7 +173,8 @@ impl Fragments {
         let _apart = set.take(alloc, part, frame)?;
         if set.is_whole() {
             let content = set.content(alloc)?;
-            return Ok(Outcome::Whole(content));
+            let frames = set.into_frames();
+            return Ok(Outcome::Whole { content, frames });
         }
         let room = set.room();
         self.sets.insert(key, set)?;
@@ -181,19 +182,31 @@ impl Fragments {
         Ok(Outcome::Waits)
     }
 
-    /// Hands out the content of a packet of which no part is missing, and lets its fragments go.
-    fn hand_out(&mut self, alloc: Global, key: Key) -> Result<Vec<u8>, AllocError>
+    /// Hands out the content of a packet of which no part is missing, and its frames, and lets its fragments go.
+    fn hand_out(&mut self, alloc: Global, key: Key) -> Result<(Vec<u8>, Vec<u64>), AllocError>
         requires { (s : SetState) × (set_at key self.old ≡ Some s) × IsComplete s.held }
         ensures other { (other : Key) → same_key key other ≡ false → set_at other self.new ≡ set_at other self.old }
-        ensures content { IfOk result (λ content. (s : SetState) → set_at key self.old ≡ Some s → s.held.cells ≡ map (λ b. Some b) content.items) }
+        ensures content { IfOk result (λ out. (s : SetState) → set_at key self.old ≡ Some s → s.held.cells ≡ map (λ b. Some b) out.0.items) }
+        ensures frames { IfOk result (λ out. (s : SetState) → set_at key self.old ≡ Some s → out.1.items ≡ s.frames) }
         ensures gone { OnOk result (set_at key self.new ≡ None) }
         ensures err { OnErr result (self.new ≡ self.old) }
+    {
+        let content = self.content_at(alloc, key)?;
+        match self.let_go(key) {
+            Some(frames) => Ok((content, frames)),
+            None => Ok((content, Vec::new(alloc))),
+        }
+    }
+
+    /// The content of a packet of which no part is missing.
+    fn content_at(&self, alloc: Global, key: Key) -> Result<Vec<u8>, AllocError>
+        requires { (s : SetState) × (set_at key self.now ≡ Some s) × IsComplete s.held }
+        ensures { IfOk result (λ content. (s : SetState) → set_at key self.now ≡ Some s → s.held.cells ≡ map (λ b. Some b) content.items) }
     {
         let content = match self.sets.get(&key) {
             Some(set) => set.content(alloc)?,
             None => Vec::new(alloc),
         };
-        let _frames = self.let_go(key);
         Ok(content)
     }
 
