@@ -1,4 +1,4 @@
-ghost use Rattle.std.specs.Prelude.{◌≡◌, ◌≢◌, ◌+◌, ◌*◌, ◌^◌, ◌<◌, ◌≤◌, ◌⊎◌, ◌∷◌, [], ℕ, List, Option, Some, None, length, map, true, false, IfOk, OnOk, OnErr, IsTrue, ◌↔◌, IsSomeAnd, MatchOption};
+ghost use Rattle.std.specs.Prelude.{◌≡◌, ◌≢◌, ◌+◌, ◌*◌, ◌^◌, ◌<◌, ◌≤◌, ◌⊎◌, ◌∷◌, [], ℕ, List, Option, Some, None, length, map, true, false, Ok, IfOk, OnOk, OnErr, IsTrue, ◌↔◌, IsSomeAnd, MatchOption};
 ghost use Rattle.tftp_fragments.specs.Whole.{end_of};
 ghost use Rattle.tftp_fragments.specs.Held.{part_of, Agrees, IsComplete};
 ghost use Rattle.tftp_fragments.specs.Key.{same_key};
@@ -128,6 +128,7 @@ impl Fragments {
         requires young { (s : SetState) → set_at key self.old ≡ Some s → is_long s.began time ≡ false }
         ensures other { (other : Key) → same_key key other ≡ false → set_at other self.new ≡ set_at other self.old }
         ensures ends { IfOk result (PutEnds (set_at key self.old) (set_at key self.new) (room_of_all self.old) (record { part = part_of part.now; time = time; frame = frame })) }
+        ensures full { result ≡ Ok Outcome.Full → self.new ≡ self.old }
         ensures wants { OnErr result (WantsMemory (set_at key self.old) (room_of_all self.old) (part_of part.now)) }
         ensures err { OnErr result ((self.new ≡ self.old) ⊎ Comes (set_at key self.old) (set_at key self.new) (record { part = part_of part.now; time = time; frame = frame })) }
     {
@@ -166,6 +167,7 @@ impl Fragments {
         requires short { end_of (part_of part.now) ≤ 65535 }
         requires room { room_of_all self.old + (2 * end_of (part_of part.now) + 264) ≤ most_room }
         ensures other { (other : Key) → same_key key other ≡ false → set_at other self.new ≡ set_at other self.old }
+        ensures taken { result ≢ Ok Outcome.Full }
         ensures ends { IfOk result (PutEnds None (set_at key self.new) (room_of_all self.old) (record { part = part_of part.now; time = time; frame = frame })) }
         ensures err { OnErr result (self.new ≡ self.old) }
     {

@@ -1,0 +1,3 @@
+pub mod Brought
+pub mod Fate
+pub mod History

@@ -1,0 +1,11 @@
+//! The UDP datagrams of a recording: its frames, the IP packets that they carry, and the fragments of these put together.
+#![tactic(auto)]
+
+mod brought;
+mod event;
+mod fate;
+mod reader;
+
+pub use event::Event;
+pub use fate::{Datagram, Fate, LeftOut};
+pub use reader::RecordingReader;
