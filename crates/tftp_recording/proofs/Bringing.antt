@@ -1,5 +1,5 @@
 -- What a frame does among the fragments that wait.
-use Rattle.std.proofs.Common.{◌≡◌, ◌≢◌, ℕ, ◌+◌, ◌*◌, ◌<◌, inl, inr, List, [], Option, Some, None, Result, Ok, Err, OnErr, refl, sym, ap, ◌∙◌, subst, arith}
+use Rattle.std.proofs.Common.{◌≡◌, ◌≢◌, ℕ, inr, List, [], Option, None, Result, Ok, Err, OnErr, sym, ap, ◌∙◌, subst, arith}
 use Rattle.std.specs.Result.{IsOkAnd}
 use Rattle.tftp_frames.specs.Frame.{SpellsFrame}
 use Rattle.tftp_frames.specs.Ip.{Packet}
@@ -7,11 +7,10 @@ use Rattle.tftp_frames.specs.Parts.{shown}
 use Rattle.tftp_frames.specs.declared.fault.FrameFault.{FrameFault}
 use Rattle.tftp_frames.specs.declared.packet.IpPacket.{IpPacket}
 use Rattle.tftp_fragments.specs.Set.{Arrival, SetState}
-use Rattle.tftp_fragments.specs.Store.{PutEnds, Sets, room_of_all, set_at}
-use Rattle.tftp_fragments.specs.Whole.{Part}
+use Rattle.tftp_fragments.specs.Store.{PutEnds, Sets, room_of_all}
 use Rattle.tftp_fragments.specs.declared.outcome.Outcome.{Outcome}
 use Rattle.tftp_fragments.specs.declared.outcome.Outcome.TheVariants.{Full}
-use Rattle.tftp_recording.specs.Brought.{IsFull, MakesRoom}
+use Rattle.tftp_recording.specs.Brought.{MakesRoom}
 
 pub on_err : {A E : Type 0} (r : Result A E) (X : Type 0) → X → OnErr r X
 on_err (Ok a) X x = tt

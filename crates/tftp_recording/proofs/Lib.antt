@@ -1,1 +1,2 @@
 pub mod Bringing
+pub mod Continuing

@@ -42,6 +42,14 @@ impl Brought {
             outcome: None,
         }
     }
+
+    /// What became of it as a fragment; none where it is no fragment.
+    #[inline]
+    pub(crate) fn outcome(&self) -> &Option<Outcome>
+        ensures { result.now ≡ self.now.outcome }
+    {
+        &self.outcome
+    }
 }
 
 /// Takes a frame: where it is a fragment, it comes to those that wait.

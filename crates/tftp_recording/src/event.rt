@@ -1,7 +1,8 @@
 ghost use Rattle.std.specs.Prelude.{◌≡◌, [], None, option_map};
+ghost use Rattle.tftp_frames.specs.Parts.{shown};
 ghost use Rattle.tftp_pcap.specs.Frames.{no_frame};
 ghost use Rattle.tftp_recording.specs.Brought.{nothing_brought};
-ghost use Rattle.tftp_recording.specs.Fate.{direction_of, IsFate, Says, sharers};
+ghost use Rattle.tftp_recording.specs.Fate.{content_of, direction_of, IsFate, Says, sharers};
 
 use crate::brought::Brought;
 use crate::fate::{Datagram, Fate, LeftOut};
@@ -9,7 +10,7 @@ use std::alloc::Global;
 use std::marker::Model;
 use std::mem;
 use tftp_fragments::{Fragments, Outcome};
-use tftp_frames::{Direction as LinkDirection, read_frame, read_udp};
+use tftp_frames::{Direction as LinkDirection, IpPacket, read_frame, read_udp};
 use tftp_pcap::{Direction, Frame};
 
 /// A frame of a recording, what became of it, and of which frames it decided; to be filled by a reader, in its memory.
@@ -40,6 +41,15 @@ impl Event {
         }
     }
 
+    /// Sets what the frame did.
+    #[inline]
+    pub(crate) fn bring(&mut self, brought: Brought)
+        ensures frame { self.new.frame ≡ self.old.frame }
+        ensures brought { self.new.brought ≡ brought }
+    {
+        self.brought = brought;
+    }
+
     /// The frame's number in the recording, the first being 1.
     #[inline]
     pub fn number(&self) -> u64
@@ -62,15 +72,7 @@ impl Event {
     pub fn fate(&self) -> Fate<'_>
         ensures { IsFate self.now.frame.parts self.now.brought.outcome result }
     {
-        match &self.brought.outcome {
-            None => says(&self.frame, None),
-            Some(Outcome::Waits) => Fate::Waits,
-            Some(Outcome::Whole { content, .. }) => says(&self.frame, Some(content.as_slice())),
-            Some(Outcome::Apart(_)) => Fate::Left(LeftOut::Apart),
-            Some(Outcome::Empty) => Fate::Left(LeftOut::Empty),
-            Some(Outcome::TooLong) => Fate::Left(LeftOut::TooLong),
-            Some(Outcome::Full) => Fate::Left(LeftOut::Full),
-        }
+        fate_of(&self.frame, self.brought.outcome())
     }
 
     /// The frames that waited until now and share its fate: those of the parts of a packet that it made whole, its own the
@@ -107,6 +109,22 @@ impl Event {
     }
 }
 
+/// What became of a frame, by what became of it as a fragment.
+#[inline]
+fn fate_of<'a>(frame: &'a Frame, outcome: &'a Option<Outcome>) -> Fate<'a>
+    ensures { IsFate frame.now.parts outcome.now result }
+{
+    match outcome {
+        None => says(frame, None),
+        Some(Outcome::Waits) => Fate::Waits,
+        Some(Outcome::Whole { content, .. }) => says(frame, Some(content.as_slice())),
+        Some(Outcome::Apart(_)) => Fate::Left(LeftOut::Apart),
+        Some(Outcome::Empty) => Fate::Left(LeftOut::Empty),
+        Some(Outcome::TooLong) => Fate::Left(LeftOut::TooLong),
+        Some(Outcome::Full) => Fate::Left(LeftOut::Full),
+    }
+}
+
 /// What a frame says, or the packet of that content which it made whole.
 #[inline]
 fn says<'a>(frame: &'a Frame, whole: Option<&'a [u8]>) -> Fate<'a>
@@ -116,11 +134,7 @@ fn says<'a>(frame: &'a Frame, whole: Option<&'a [u8]>) -> Fate<'a>
         Ok(packet) => packet,
         Err(fault) => return Fate::Left(LeftOut::Frame(fault)),
     };
-    let content = match whole {
-        Some(content) => content,
-        None => packet.content,
-    };
-    match read_udp(packet.protocol, content) {
+    match read_udp(packet.protocol, content_of(whole, &packet)) {
         Ok(udp) => Fate::Datagram(Datagram {
             direction: direction_of(frame.direction(), packet.direction),
             source: packet.source,
@@ -130,6 +144,17 @@ fn says<'a>(frame: &'a Frame, whole: Option<&'a [u8]>) -> Fate<'a>
             payload: udp.payload,
         }),
         Err(fault) => Fate::Left(LeftOut::Udp(fault)),
+    }
+}
+
+/// The content of a packet: the one that was put together, or else the packet's own.
+#[inline]
+fn content_of<'a>(whole: Option<&'a [u8]>, packet: &IpPacket<'a>) -> &'a [u8]
+    ensures { result.now ≡ content_of (shown packet.now) (option_map (λ content. content.now) whole.entry) }
+{
+    match whole {
+        Some(content) => content,
+        None => packet.content,
     }
 }
 

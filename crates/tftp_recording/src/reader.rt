@@ -83,7 +83,7 @@ impl RecordingReader {
         }
         match take_frame(alloc, &mut self.waiting, &event.frame) {
             Ok(brought) => {
-                event.brought = brought;
+                event.bring(brought);
                 Ok(true)
             }
             Err(_) => {
