@@ -1,2 +1,4 @@
+pub mod Accounting
 pub mod Bringing
 pub mod Continuing
+pub mod Keys

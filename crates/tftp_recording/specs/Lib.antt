@@ -1,3 +1,4 @@
 pub mod Brought
 pub mod Fate
 pub mod History
+pub mod Accounts

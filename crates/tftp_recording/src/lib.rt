@@ -4,8 +4,10 @@
 mod brought;
 mod event;
 mod fate;
+mod laws;
 mod reader;
 
 pub use event::Event;
 pub use fate::{Datagram, Fate, LeftOut};
+pub use laws::each_frame_is_accounted_for_once;
 pub use reader::RecordingReader;

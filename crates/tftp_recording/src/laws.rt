@@ -1,0 +1,12 @@
+ghost use Rattle.std.specs.Prelude.{◌⊎◌, ◌≤◌, ℕ, List, length};
+ghost use Rattle.tftp_recording.specs.Accounts.{IsSettled, IsWaiting, NoneTwice};
+ghost use Rattle.tftp_recording.specs.History.{IsHistory, Step, waiting};
+
+/// Each frame of a recording is accounted for, and none that is not of it: what became of it was told, or it waits still;
+/// never both; and it was told with one frame alone.
+pub fn each_frame_is_accounted_for_once()
+    ensures each { (history : List Step) (n : ℕ) → IsHistory history → 1 ≤ n → n ≤ length history → IsSettled n history ⊎ IsWaiting n (waiting history) }
+    ensures only { (history : List Step) (n : ℕ) → IsHistory history → IsSettled n history ⊎ IsWaiting n (waiting history) → (1 ≤ n) × (n ≤ length history) }
+    ensures apart { (history : List Step) (n : ℕ) → IsHistory history → IsSettled n history → IsWaiting n (waiting history) → ⊥ }
+    ensures once { (history : List Step) → IsHistory history → NoneTwice history }
+{}
