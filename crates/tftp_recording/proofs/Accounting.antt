@@ -48,7 +48,7 @@ not_both b e f = cc
 
 module _ (key : Key) (time : Option ℕ) (old new : Sets) (gone : List ℕ) (h : LetsGoOld key time old new gone) where
   -- under the key all is gone, and told, or all stays
-  old_at : (o : Option SetState) → set_at key old ≡ o → ((set_at key new ≡ None) × (gone ≡ frames_of o)) ⊎ ((set_at key new ≡ o) × (gone ≡ []))
+  pub old_at : (o : Option SetState) → set_at key old ≡ o → ((set_at key new ≡ None) × (gone ≡ frames_of o)) ⊎ ((set_at key new ≡ o) × (gone ≡ []))
   old_at None e = inr ((h.none e).0, (h.none e).1)
   old_at (Some s) e = elim (truth (is_long s.began time)) [
     | inl long ↦ inl (h.long s e long)
@@ -155,7 +155,7 @@ own_at o m all a Empty ends = inl (λ e. cc)
 own_at o m all a TooLong ends = inl (λ e. cc)
 own_at o m all a Full ends = inl (λ e. cc)
 
-some_is : (a b : Outcome) → Some a ≡ Some b → a ≡ b
+pub some_is : (a b : Outcome) → Some a ≡ Some b → a ≡ b
 some_is a b e = cc
 
 -- ---- a fragment, in all three
@@ -253,7 +253,7 @@ nothing_told n number b e told = elim (subst (IsTold n number) e told) [
   | inr (inr (inr p)) ↦ p.0
 ]
 
-none_waits : (o : Outcome) → None ≡ Some o → ⊥
+pub none_waits : (o : Outcome) → None ≡ Some o → ⊥
 none_waits o e = cc
 
 takes_or_told : (old : Sets) (frame : FrameParts) (number : ℕ) (b : BroughtState) (new : Sets) (n : ℕ) → Takes old frame number b new → IsWaiting n old → IsTold n number b ⊎ IsWaiting n new

@@ -2,3 +2,4 @@ pub mod Brought
 pub mod Fate
 pub mod History
 pub mod Accounts
+pub mod Contents

@@ -9,5 +9,5 @@ mod reader;
 
 pub use event::Event;
 pub use fate::{Datagram, Fate, LeftOut};
-pub use laws::each_frame_is_accounted_for_once;
+pub use laws::{content_is_of_its_frames, each_frame_is_accounted_for_once};
 pub use reader::RecordingReader;
