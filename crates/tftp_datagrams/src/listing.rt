@@ -1,26 +1,28 @@
 use std::alloc::Global;
 use std::io;
 use tftp_capture::Tallied;
-use tftp_fragments::{Fragments, Key, Outcome, Part};
-use tftp_frames::{Direction as LinkDirection, Fragment, IpPacket, read_frame, read_udp};
-use tftp_pcap::{Direction, Frame, FrameReader, PcapFault};
+use tftp_fragments::Fragments;
+use tftp_pcap::{Direction, PcapFault};
+use tftp_recording::{Datagram, Event, Fate, LeftOut, RecordingReader};
 
 /// Lists what a recording has; whether it is one to its end.
 pub fn list(rt: HostRuntime) -> io::Result<bool> {
     let alloc = rt.alloc();
     let mut reader = Tallied::new(rt.reader());
-    let mut frames = match FrameReader::begin(alloc, &mut reader) {
-        Ok(frames) => frames,
+    let mut recording = match RecordingReader::begin(alloc, &mut reader) {
+        Ok(recording) => recording,
         Err(fault) => return put_fault(rt, fault),
     };
-    let mut frame = Frame::empty(alloc);
-    let mut fragments = Fragments::new(alloc);
+    let mut event = Event::empty(alloc);
     for _ in 0..u64::MAX {
-        match frames.next_into(&mut reader, &mut frame) {
-            Ok(true) => put_frame(rt, &mut fragments, &frame)?,
-            Ok(false) => return put_rest(rt, &mut fragments),
+        match recording.next_into(alloc, &mut reader, &mut event) {
+            Ok(true) => put_event(rt, &mut event)?,
+            Ok(false) => {
+                put_waiting(rt, recording.into_waiting(), "FragmentMissing")?;
+                return Ok(true);
+            }
             Err(fault) => {
-                put_rest(rt, &mut fragments)?;
+                put_waiting(rt, recording.into_waiting(), "FragmentMissing")?;
                 return put_fault(rt, fault);
             }
         }
@@ -34,15 +36,15 @@ fn put_fault(rt: HostRuntime, fault: PcapFault) -> io::Result<bool> {
     Ok(false)
 }
 
-/// The frames whose packets were never whole.
-fn put_rest(rt: HostRuntime, fragments: &mut Fragments) -> io::Result<bool> {
+/// The frames of fragments that are left out.
+fn put_waiting(rt: HostRuntime, mut waiting: Fragments, kind: &str) -> io::Result<()> {
     for _ in 0..u64::MAX {
-        let Some((_, frames)) = fragments.let_go_any() else {
-            return Ok(true);
+        let Some((_, frames)) = waiting.let_go_any() else {
+            return Ok(());
         };
-        put_left(rt, frames.as_slice(), "FragmentMissing")?;
+        put_left(rt, frames.as_slice(), kind)?;
     }
-    Ok(true)
+    Ok(())
 }
 
 /// Frames that are left out.
@@ -53,74 +55,50 @@ fn put_left(rt: HostRuntime, frames: &[u64], kind: &str) -> io::Result<()> {
     Ok(())
 }
 
-/// What a frame is, or what it makes whole.
-fn put_frame(rt: HostRuntime, fragments: &mut Fragments, frame: &Frame) -> io::Result<()> {
-    let packet = match read_frame(frame.link(), frame.bytes()) {
-        Ok(packet) => packet,
-        Err(fault) => return println!(rt; "left {} {fault:?}", frame.number()),
-    };
-    match packet.fragment {
-        None => put_content(rt, frame, &packet, packet.content),
-        Some(part) => put_part(rt, fragments, frame, &packet, part),
+/// What became of a frame, and of which frames it decided.
+fn put_event(rt: HostRuntime, event: &mut Event) -> io::Result<()> {
+    put_left(rt, event.old(), "FragmentOld")?;
+    put_waiting(rt, event.take_ousted(rt.alloc()), "FragmentFull")?;
+    match event.fate() {
+        Fate::Datagram(datagram) => put_datagram(rt, event, &datagram),
+        Fate::Left(why) => put_left_out(rt, event, why),
+        Fate::Waits => Ok(()),
     }
 }
 
-/// A fragment: what it makes whole, or what is left out with it.
-fn put_part(
-    rt: HostRuntime,
-    fragments: &mut Fragments,
-    frame: &Frame,
-    packet: &IpPacket<'_>,
-    part: Fragment,
-) -> io::Result<()> {
-    let key = Key {
-        source: packet.source,
-        target: packet.target,
-        protocol: packet.protocol,
-        id: part.id,
-    };
-    if let Some(old) = fragments.let_go_old(key, frame.time()) {
-        put_left(rt, old.as_slice(), "FragmentOld")?;
-    }
-    let part = Part {
-        place: part.place,
-        more: part.more,
-        content: packet.content,
-    };
-    let number = frame.number();
-    match fragments.put(rt.alloc(), key, &part, frame.time(), number)? {
-        Outcome::Waits => Ok(()),
-        Outcome::Whole(content) => put_content(rt, frame, packet, content.as_slice()),
-        Outcome::Apart(frames) => {
-            put_left(rt, frames.as_slice(), "FragmentsApart")?;
-            put_left(rt, &[number], "FragmentsApart")
+/// A frame that is left out, and those that share its fate.
+fn put_left_out(rt: HostRuntime, event: &Event, why: LeftOut) -> io::Result<()> {
+    match why {
+        LeftOut::Frame(fault) => println!(rt; "left {} {fault:?}", event.number()),
+        LeftOut::Udp(fault) => {
+            if event.sharers().is_empty() {
+                return println!(rt; "left {} {fault:?}", event.number());
+            }
+            for frame in event.sharers() {
+                println!(rt; "left {frame} {fault:?}")?;
+            }
+            Ok(())
         }
-        Outcome::Empty => put_left(rt, &[number], "FragmentEmpty"),
-        Outcome::TooLong => put_left(rt, &[number], "FragmentTooLong"),
-        Outcome::Full => put_left(rt, &[number], "FragmentFull"),
+        LeftOut::Apart => {
+            put_left(rt, event.sharers(), "FragmentsApart")?;
+            put_left(rt, &[event.number()], "FragmentsApart")
+        }
+        LeftOut::Empty => put_left(rt, &[event.number()], "FragmentEmpty"),
+        LeftOut::TooLong => put_left(rt, &[event.number()], "FragmentTooLong"),
+        LeftOut::Full => put_left(rt, &[event.number()], "FragmentFull"),
     }
 }
 
-/// The content of a whole packet.
-fn put_content(
-    rt: HostRuntime,
-    frame: &Frame,
-    packet: &IpPacket<'_>,
-    content: &[u8],
-) -> io::Result<()> {
-    let number = frame.number();
-    let datagram = match read_udp(packet.protocol, content) {
-        Ok(datagram) => datagram,
-        Err(fault) => return println!(rt; "left {number} {fault:?}"),
-    };
-    let way = direction_of(frame.direction(), packet.direction);
-    print!(rt; "datagram {number} ")?;
-    match frame.time() {
+/// A datagram.
+fn put_datagram(rt: HostRuntime, event: &Event, datagram: &Datagram<'_>) -> io::Result<()> {
+    let way = word_of(datagram.direction);
+    print!(rt; "datagram {} ", event.number())?;
+    match event.time() {
         Some(time) => print!(rt; "{time} {way} ")?,
         None => print!(rt; "- {way} ")?,
     }
-    print!(rt; "{} {} ", packet.source, datagram.source_port)?;
-    print!(rt; "{} {} ", packet.target, datagram.target_port)?;
+    print!(rt; "{} {} ", datagram.source, datagram.source_port)?;
+    print!(rt; "{} {} ", datagram.target, datagram.target_port)?;
     if datagram.payload.is_empty() {
         return println!(rt; "-");
     }
@@ -128,11 +106,11 @@ fn put_content(
     println!(rt; "{digits}")
 }
 
-/// The word of the direction that the link or the recording tells.
-fn direction_of(recorded: Direction, linked: LinkDirection) -> &'static str {
-    match (recorded, linked) {
-        (_, LinkDirection::In) | (Direction::In, LinkDirection::Unknown) => "in",
-        (_, LinkDirection::Out) | (Direction::Out, LinkDirection::Unknown) => "out",
-        (Direction::Unknown, LinkDirection::Unknown) => "unknown",
+/// The word of a direction.
+fn word_of(direction: Direction) -> &'static str {
+    match direction {
+        Direction::In => "in",
+        Direction::Out => "out",
+        Direction::Unknown => "unknown",
     }
 }

@@ -9,10 +9,10 @@ use Rattle.tftp_fragments.proofs.Contents.{in_any_order, one_content}
 
 pub last_gives : (old new : Option SetState) (all : ℕ) (arrivals : List Arrival) (a : Arrival) (parts : List Part) (whole : List ℕ) (outcome : Outcome)
     → InRow 0 parts whole → AreSame parts (parts_of (a ∷ arrivals)) → length whole ≤ 65535 → a.part.content ≢ [] → IsKeptOf old arrivals → PutEnds old new all a outcome → outcome ≢ Full
-    → (content : Vec ℕ Global) × (outcome ≡ Whole content) × (content.items ≡ whole)
+    → (content : Vec ℕ Global) × (frames : Vec ℕ Global) × (outcome ≡ Whole content frames) × (content.items ≡ whole)
 last_gives old new all arrivals a parts whole Waits row same few some kept ends not_full = absurd (ends.1 arrivals whole kept (in_any_order parts (parts_of (a ∷ arrivals)) whole row same))
-last_gives old new all arrivals a parts whole (Whole content) row same few some kept ends not_full =
-    (content, refl, one_content (parts_of (a ∷ arrivals)) content.items whole (ends.1 arrivals kept) (in_any_order parts (parts_of (a ∷ arrivals)) whole row same))
+last_gives old new all arrivals a parts whole (Whole content frames) row same few some kept ends not_full =
+    (content, frames, refl, one_content (parts_of (a ∷ arrivals)) content.items whole (ends.1 arrivals kept) (in_any_order parts (parts_of (a ∷ arrivals)) whole row same))
 last_gives old new all arrivals a parts whole (Apart frames) row same few some kept ends not_full = absurd (ends.2 arrivals kept whole (in_any_order parts (parts_of (a ∷ arrivals)) whole row same).each)
 last_gives old new all arrivals a parts whole Empty row same few some kept ends not_full = absurd (some ends.1)
 last_gives old new all arrivals a parts whole TooLong row same few some kept ends not_full =

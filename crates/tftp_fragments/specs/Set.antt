@@ -1,5 +1,5 @@
 -- What is kept of the fragments of one packet, and for which fragments it stands.
-use Rattle.std.specs.Prelude.{◌≡◌, ℕ, ◌+◌, ◌*◌, ◌^◌, ◌≤◌, Bool, true, false, List, [], ◌∷◌, length, map, reverse, Option, Some, None}
+use Rattle.std.specs.Prelude.{◌≡◌, ℕ, ◌+◌, ◌*◌, ◌^◌, ◌≤◌, Bool, true, false, List, [], ◌∷◌, ◌++◌, length, map, reverse, Option, Some, None}
 use Rattle.std.specs.List.{AllByRecursion}
 use Rattle.std.specs.Global.{Vec}
 use Rattle.tftp_fragments.specs.Whole.{Part, HasPart, end_of}
@@ -46,6 +46,6 @@ pub record IsSetOf (s : SetState) (arrivals : List Arrival) : Type 0 where
 abbrev pub TakeEnds : SetState → SetState → Part → ℕ → Option (Vec ℕ) → Type 0
 TakeEnds old new part frame None = (new.spoiled ≡ false) × (room_of new ≤ room_of old + (2 * end_of part + 8))
     × ((arrivals : List Arrival) (a : Arrival) → a.part ≡ part → a.frame ≡ frame → IsSetOf old arrivals → IsSetOf new (a ∷ arrivals))
-    × (old.spoiled ≡ false) × Agrees old.held part
+    × (old.spoiled ≡ false) × Agrees old.held part × (new.frames ≡ old.frames ++ frame ∷ [])
 TakeEnds old new part frame (Some frames) = (new.spoiled ≡ true) × (room_of new ≤ room_of old) × (frames.items ≡ old.frames)
-    × ((arrivals : List Arrival) (a : Arrival) → a.part ≡ part → IsSetOf old arrivals → AreApart (parts_of (a ∷ arrivals)) × IsSetOf new (a ∷ arrivals))
+    × ((arrivals : List Arrival) (a : Arrival) → a.part ≡ part → IsSetOf old arrivals → AreApart (parts_of (a ∷ arrivals)) × IsSetOf new (a ∷ arrivals)) × (new.frames ≡ [])

@@ -1,5 +1,5 @@
 -- What waits under each key, and what becomes of a fragment.
-use Rattle.std.specs.Prelude.{◌≡◌, ◌≢◌, ℕ, ◌+◌, ◌-◌, ◌*◌, ◌<◌, ◌≤◌, ◌||◌, nat_lt, Bool, false, List, [], ◌∷◌, length, Option, Some, None}
+use Rattle.std.specs.Prelude.{◌≡◌, ◌≢◌, ℕ, ◌+◌, ◌-◌, ◌*◌, ◌<◌, ◌≤◌, ◌||◌, nat_lt, Bool, false, List, [], ◌∷◌, ◌++◌, length, Option, Some, None}
 use Rattle.std.specs.List.{sum_by}
 use Rattle.std.specs.Map.{lookup, values_of}
 use Rattle.tftp_fragments.specs.declared.key.Key.{Key}
@@ -60,12 +60,12 @@ Comes old new a = (arrivals : List Arrival) → IsKeptOf old arrivals → IsKept
 
 -- what becomes of a fragment, and of what waits under its key; so many bytes waited under all keys
 abbrev pub PutEnds : Option SetState → Option SetState → ℕ → Arrival → Outcome → Type 0
-PutEnds old new all a Waits = Comes old new a × ((arrivals : List Arrival) (whole : List ℕ) → IsKeptOf old arrivals → Give (parts_of (a ∷ arrivals)) whole → ⊥)
-PutEnds old new all a (Whole content) = (new ≡ None) × ((arrivals : List Arrival) → IsKeptOf old arrivals → Give (parts_of (a ∷ arrivals)) content.items)
-PutEnds old new all a (Apart frames) = Comes old new a × (frames.items ≡ frames_of old) × ((arrivals : List Arrival) → IsKeptOf old arrivals → AreApart (parts_of (a ∷ arrivals)))
+PutEnds old new all a Waits = Comes old new a × ((arrivals : List Arrival) (whole : List ℕ) → IsKeptOf old arrivals → Give (parts_of (a ∷ arrivals)) whole → ⊥) × (frames_of new ≡ frames_of old ++ a.frame ∷ [])
+PutEnds old new all a (Whole content frames) = (new ≡ None) × ((arrivals : List Arrival) → IsKeptOf old arrivals → Give (parts_of (a ∷ arrivals)) content.items) × (frames.items ≡ frames_of old ++ a.frame ∷ [])
+PutEnds old new all a (Apart frames) = Comes old new a × (frames.items ≡ frames_of old) × ((arrivals : List Arrival) → IsKeptOf old arrivals → AreApart (parts_of (a ∷ arrivals))) × (frames_of new ≡ [])
 PutEnds old new all a Empty = (new ≡ old) × (a.part.content ≡ [])
 PutEnds old new all a TooLong = (new ≡ old) × ((whole : List ℕ) → HasPart whole a.part → 65535 < length whole)
-PutEnds old new all a Full = (new ≡ old) × (most_room < all + (2 * end_of a.part + 264))
+PutEnds old new all a Full = (new ≡ old) × (most_room < all + (2 * end_of a.part + 264)) × (end_of a.part ≤ 65535)
 
 -- memory is wanted only for a fragment that is taken: it brings bytes, its packet may be as long, there is room for it, and
 -- it may be of one packet with those that wait

@@ -1,4 +1,4 @@
-ghost use Rattle.std.specs.Prelude.{◌≡◌, ◌≢◌, ◌+◌, ◌*◌, ◌^◌, ◌<◌, ◌≤◌, ◌⊎◌, ◌∷◌, [], ℕ, List, Option, Some, None, length, map, true, false, IfOk, OnOk, OnErr, IsTrue, ◌↔◌, IsSomeAnd, MatchOption};
+ghost use Rattle.std.specs.Prelude.{◌≡◌, ◌≢◌, ◌+◌, ◌*◌, ◌^◌, ◌<◌, ◌≤◌, ◌⊎◌, ◌∷◌, [], ℕ, List, Option, Some, None, length, map, true, false, Ok, IfOk, OnOk, OnErr, IsTrue, ◌↔◌, IsSomeAnd, MatchOption};
 ghost use Rattle.tftp_fragments.specs.Whole.{end_of};
 ghost use Rattle.tftp_fragments.specs.Held.{part_of, Agrees, IsComplete};
 ghost use Rattle.tftp_fragments.specs.Key.{same_key};
@@ -128,6 +128,7 @@ impl Fragments {
         requires young { (s : SetState) → set_at key self.old ≡ Some s → is_long s.began time ≡ false }
         ensures other { (other : Key) → same_key key other ≡ false → set_at other self.new ≡ set_at other self.old }
         ensures ends { IfOk result (PutEnds (set_at key self.old) (set_at key self.new) (room_of_all self.old) (record { part = part_of part.now; time = time; frame = frame })) }
+        ensures full { result ≡ Ok Outcome.Full → self.new ≡ self.old }
         ensures wants { OnErr result (WantsMemory (set_at key self.old) (room_of_all self.old) (part_of part.now)) }
         ensures err { OnErr result ((self.new ≡ self.old) ⊎ Comes (set_at key self.old) (set_at key self.new) (record { part = part_of part.now; time = time; frame = frame })) }
     {
@@ -145,8 +146,8 @@ impl Fragments {
             Joined::NoSet => self.begin(alloc, key, part, time, frame),
             Joined::Waits => Ok(Outcome::Waits),
             Joined::Whole => {
-                let content = self.hand_out(alloc, key)?;
-                Ok(Outcome::Whole(content))
+                let (content, frames) = self.hand_out(alloc, key)?;
+                Ok(Outcome::Whole { content, frames })
             }
             Joined::Apart(frames) => Ok(Outcome::Apart(frames)),
         }
@@ -166,6 +167,7 @@ impl Fragments {
         requires short { end_of (part_of part.now) ≤ 65535 }
         requires room { room_of_all self.old + (2 * end_of (part_of part.now) + 264) ≤ most_room }
         ensures other { (other : Key) → same_key key other ≡ false → set_at other self.new ≡ set_at other self.old }
+        ensures taken { result ≢ Ok Outcome.Full }
         ensures ends { IfOk result (PutEnds None (set_at key self.new) (room_of_all self.old) (record { part = part_of part.now; time = time; frame = frame })) }
         ensures err { OnErr result (self.new ≡ self.old) }
     {
@@ -173,7 +175,8 @@ impl Fragments {
         let _apart = set.take(alloc, part, frame)?;
         if set.is_whole() {
             let content = set.content(alloc)?;
-            return Ok(Outcome::Whole(content));
+            let frames = set.into_frames();
+            return Ok(Outcome::Whole { content, frames });
         }
         let room = set.room();
         self.sets.insert(key, set)?;
@@ -181,19 +184,31 @@ impl Fragments {
         Ok(Outcome::Waits)
     }
 
-    /// Hands out the content of a packet of which no part is missing, and lets its fragments go.
-    fn hand_out(&mut self, alloc: Global, key: Key) -> Result<Vec<u8>, AllocError>
+    /// Hands out the content of a packet of which no part is missing, and its frames, and lets its fragments go.
+    fn hand_out(&mut self, alloc: Global, key: Key) -> Result<(Vec<u8>, Vec<u64>), AllocError>
         requires { (s : SetState) × (set_at key self.old ≡ Some s) × IsComplete s.held }
         ensures other { (other : Key) → same_key key other ≡ false → set_at other self.new ≡ set_at other self.old }
-        ensures content { IfOk result (λ content. (s : SetState) → set_at key self.old ≡ Some s → s.held.cells ≡ map (λ b. Some b) content.items) }
+        ensures content { IfOk result (λ out. (s : SetState) → set_at key self.old ≡ Some s → s.held.cells ≡ map (λ b. Some b) out.0.items) }
+        ensures frames { IfOk result (λ out. (s : SetState) → set_at key self.old ≡ Some s → out.1.items ≡ s.frames) }
         ensures gone { OnOk result (set_at key self.new ≡ None) }
         ensures err { OnErr result (self.new ≡ self.old) }
+    {
+        let content = self.content_at(alloc, key)?;
+        match self.let_go(key) {
+            Some(frames) => Ok((content, frames)),
+            None => Ok((content, Vec::new(alloc))),
+        }
+    }
+
+    /// The content of a packet of which no part is missing.
+    fn content_at(&self, alloc: Global, key: Key) -> Result<Vec<u8>, AllocError>
+        requires { (s : SetState) × (set_at key self.now ≡ Some s) × IsComplete s.held }
+        ensures { IfOk result (λ content. (s : SetState) → set_at key self.now ≡ Some s → s.held.cells ≡ map (λ b. Some b) content.items) }
     {
         let content = match self.sets.get(&key) {
             Some(set) => set.content(alloc)?,
             None => Vec::new(alloc),
         };
-        let _frames = self.let_go(key);
         Ok(content)
     }
 

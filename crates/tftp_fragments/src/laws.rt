@@ -21,5 +21,5 @@ pub fn parts_in_any_order_give_their_content()
 pub fn last_fragment_gives_the_content()
     ensures { (old new : Option SetState) (all : ℕ) (arrivals : List Arrival) (a : Arrival) (parts : List Part) (whole : List ℕ) (outcome : Outcome)
         → InRow 0 parts whole → AreSame parts (parts_of (a ∷ arrivals)) → length whole ≤ 65535 → a.part.content ≢ [] → IsKeptOf old arrivals → PutEnds old new all a outcome → outcome ≢ Outcome.Full
-        → (content : Vec ℕ) × (outcome ≡ Outcome.Whole content) × (content.items ≡ whole) }
+        → (content : Vec ℕ) × (frames : Vec ℕ) × (outcome ≡ Outcome.Whole content frames) × (content.items ≡ whole) }
 {}

@@ -3,8 +3,13 @@
 pub enum Outcome {
     /// It waits with the others of its packet, or for them.
     Waits,
-    /// It was the last one missing of its packet, whose content this is.
-    Whole(Vec<u8>),
+    /// It was the last one missing of its packet.
+    Whole {
+        /// The packet's content.
+        content: Vec<u8>,
+        /// The frames that brought its parts, in the order in which they came, the fragment's own the last.
+        frames: Vec<u64>,
+    },
     /// It cannot be of one packet with others that came: bytes differ, or ends do. The frames are those that waited until
     /// now; its own is not among them.
     Apart(Vec<u64>),

@@ -60,7 +60,7 @@ fn put(
 /// Whether the outcome is this content.
 fn is_whole(outcome: &Outcome, content: &[u8]) -> bool {
     match outcome {
-        Outcome::Whole(bytes) => bytes.as_slice() == content,
+        Outcome::Whole { content: bytes, .. } => bytes.as_slice() == content,
         _ => false,
     }
 }

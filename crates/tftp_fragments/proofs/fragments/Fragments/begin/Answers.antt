@@ -2,7 +2,7 @@ use Rattle.std.proofs.Common.{◌≡◌, ◌+◌, ◌*◌, ◌≤◌, false, Lis
 use Rattle.tftp_fragments.specs.Whole.{end_of}
 use Rattle.tftp_fragments.specs.Held.{Agrees, Held, nothing_held, part_of}
 use Rattle.tftp_fragments.specs.Set.{Arrival, IsSetOf, SetState, TakeEnds, room_of}
-use Rattle.tftp_fragments.specs.Store.{Comes, Sets, room_of_all, set_at}
+use Rattle.tftp_fragments.specs.Store.{Comes, Sets, frames_of, room_of_all, set_at}
 use Rattle.tftp_fragments.proofs.Holding.{not_both}
 use Rattle.tftp_fragments.proofs.Puts.{came_first, empty_set, given, not_given, nothing_agrees}
 use Rattle.tftp_fragments.proofs.Rooms.{counted_inserted}
@@ -18,6 +18,7 @@ returns-then-is_whole-clause-ends c =
     let is : IsSetOf t (a ∷ []) = ends.2 [] a refl refl (empty_set c.args.time) in (
       c.requires.none,
       λ arrivals e. given t (a ∷ arrivals) c.in_ok-content.content.items ends.0 (subst (λ (l : List Arrival). IsSetOf t (a ∷ l)) (sym e) is) (c.is_whole.ensures.0 c.if-is_whole.true).1 c.in_ok-content.ensures,
+      c.into_frames-frames.ensures ∙ ends.5,
     )
 
 pub invariant_of-self-2 : goal.invariant_of-self-2
@@ -45,4 +46,5 @@ returns-clause-ends c =
     let began : t.began ≡ a.time = c.in_ok-_apart.ensures.began ∙ ap (λ (x : SetState). x.began) c.new-set.ensures in (
       subst (λ (o : Option SetState). Comes None o a) (sym c.in_ok-insert.ensures.updates.1) (came_first s t a began (empty_set c.args.time) ends),
       λ arrivals whole e. not_given t (a ∷ arrivals) whole ends.0 (subst (λ (l : List Arrival). IsSetOf t (a ∷ l)) (sym e) (ends.2 [] a refl refl (empty_set c.args.time))) (λ all. not_both c.is_whole.result (c.is_whole.ensures.1 (ends.0, all)) c.if-is_whole.false),
+      ap frames_of c.in_ok-insert.ensures.updates.1 ∙ ends.5,
     )

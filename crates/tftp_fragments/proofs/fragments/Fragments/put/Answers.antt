@@ -1,4 +1,4 @@
-use Rattle.std.proofs.Common.{◌≡◌, inl, ◌∷◌, Option, refl, sym, ap, ◌∙◌, subst, arith, rules, false, IfOk}
+use Rattle.std.proofs.Common.{◌≡◌, inl, ◌∷◌, [], ◌++◌, Option, refl, sym, ap, ◌∙◌, subst, arith, rules, false, IfOk}
 use Rattle.tftp_fragments.specs.Held.{Agrees, part_of}
 use Rattle.tftp_fragments.specs.Set.{Arrival, SetState}
 use Rattle.tftp_fragments.specs.Store.{JoinEnds, PutEnds, Sets, frames_of, room_of_all, set_at}
@@ -28,6 +28,7 @@ returns-in-Waits-clause-ends c =
     let ends = subst (JoinEnds (set_at c.args.key c.args.self.now) (set_at c.args.key c.join.new.self) a.part a.frame) c.in-Waits.is c.in_ok-join.ensures.ends in (
       comes_at _ _ ends.0 ends.1 a ends.2 ends.3 (came ends.0 ends.1 a ends.4 ends.5),
       λ arrivals whole kept. not_given ends.1 (a ∷ arrivals) whole ends.5.0 (ends.5.2 arrivals a refl refl (kept_at _ ends.0 arrivals ends.2 kept).2) ends.6,
+      ap frames_of ends.3 ∙ ends.5.5 ∙ ap (λ (o : Option SetState). frames_of o ++ a.frame ∷ []) (sym ends.2),
     )
 
 pub returns-in_ok-content-in-Whole-clause-ends : goal.returns-in_ok-content-in-Whole-clause-ends
@@ -36,6 +37,7 @@ returns-in_ok-content-in-Whole-clause-ends c =
     let ends = subst (JoinEnds (set_at c.args.key c.args.self.now) (set_at c.args.key c.join.new.self) a.part a.frame) c.in-Whole.is c.in_ok-join.ensures.ends in (
       c.in_ok-content-in-Whole.ensures.gone,
       λ arrivals kept. given ends.1 (a ∷ arrivals) c.in_ok-content-in-Whole.content.items ends.5.0 (ends.5.2 arrivals a refl refl (kept_at _ ends.0 arrivals ends.2 kept).2) ends.6 (c.in_ok-content-in-Whole.ensures.content ends.1 ends.3),
+      c.in_ok-content-in-Whole.ensures.frames ends.1 ends.3 ∙ ends.5.5 ∙ ap (λ (o : Option SetState). frames_of o ++ a.frame ∷ []) (sym ends.2),
     )
 
 pub returns-in-Apart-clause-ends : goal.returns-in-Apart-clause-ends
@@ -45,6 +47,7 @@ returns-in-Apart-clause-ends c =
       comes_at _ _ ends.0 ends.1 a ends.2 ends.3 (came_apart ends.0 ends.1 a c.in-Apart.frames ends.4 ends.5),
       ends.5.2 ∙ ap frames_of (sym ends.2),
       λ arrivals kept. (ends.5.3 arrivals a refl (kept_at _ ends.0 arrivals ends.2 kept).2).0,
+      ap frames_of ends.3 ∙ ends.5.4,
     )
 
 pub returns-in_err-content-in-Whole-clause-wants : goal.returns-in_err-content-in-Whole-clause-wants

@@ -1,0 +1,41 @@
+-- What a frame does among the fragments that wait.
+use Rattle.std.proofs.Common.{◌≡◌, ◌≢◌, ℕ, inr, List, [], Option, None, Result, Ok, Err, OnErr, sym, ap, ◌∙◌, subst, arith}
+use Rattle.std.specs.Result.{IsOkAnd}
+use Rattle.tftp_frames.specs.Frame.{SpellsFrame}
+use Rattle.tftp_frames.specs.Ip.{Packet}
+use Rattle.tftp_frames.specs.Parts.{shown}
+use Rattle.tftp_frames.specs.declared.fault.FrameFault.{FrameFault}
+use Rattle.tftp_frames.specs.declared.packet.IpPacket.{IpPacket}
+use Rattle.tftp_fragments.specs.Set.{Arrival, SetState}
+use Rattle.tftp_fragments.specs.Store.{PutEnds, Sets, room_of_all}
+use Rattle.tftp_fragments.specs.declared.outcome.Outcome.{Outcome}
+use Rattle.tftp_fragments.specs.declared.outcome.Outcome.TheVariants.{Full}
+use Rattle.tftp_recording.specs.Brought.{MakesRoom}
+
+pub on_err : {A E : Type 0} (r : Result A E) (X : Type 0) → X → OnErr r X
+on_err (Ok a) X x = tt
+on_err (Err e) X x = x
+
+pub spells_here : (link other : ℕ) (bytes others : List ℕ) (p : Packet) → other ≡ link → others ≡ bytes → SpellsFrame link bytes p → SpellsFrame other others p
+spells_here link other bytes others p e f h = subst (λ (l : ℕ). SpellsFrame l others p) (sym e) (subst (λ (l : List ℕ). SpellsFrame link l p) (sym f) h)
+
+-- a frame that is no packet, and one that is a whole one
+pub no_packet : (r : Result IpPacket FrameFault) (p : Packet) (e : FrameFault) → r ≡ Err e → IsOkAnd r (λ found. shown found ≡ p) → p.fragment ≡ None
+no_packet (Ok found) p e is only = cc
+no_packet (Err f) p e is only = absurd only
+
+pub whole_packet : (r : Result IpPacket FrameFault) (p : Packet) (packet : IpPacket) → r ≡ Ok packet → packet.fragment ≡ None → IsOkAnd r (λ found. shown found ≡ p) → p.fragment ≡ None
+whole_packet r p packet is none only =
+    let same : shown packet ≡ p = subst (λ (x : Result IpPacket FrameFault). IsOkAnd x (λ found. shown found ≡ p)) is only in
+    sym (ap (λ (x : Packet). x.fragment) same) ∙ none
+
+-- there is room for a part where nothing waits
+pub never_full : (old new : Option SetState) (roomy : Sets) (a : Arrival) (outcome : Outcome) → roomy ≡ [] → PutEnds old new (room_of_all roomy) a outcome → outcome ≢ Full
+never_full old new roomy a outcome none ends full =
+    let h = subst (PutEnds old new (room_of_all roomy) a) full ends in
+    absurd (omega (arith, h.1, h.2, ap room_of_all none))
+
+-- all that waited makes room
+pub makes_room : (key_old key_new : Option SetState) (young roomy ousted : Sets) (a : Arrival) (outcome : Outcome) → outcome ≡ Full → PutEnds key_old key_new (room_of_all young) a outcome → ousted ≡ young → roomy ≡ []
+    → MakesRoom a.part young roomy ousted
+makes_room key_old key_new young roomy ousted a outcome full ends same none = inr ((subst (PutEnds key_old key_new (room_of_all young) a) full ends).1, same, none)

@@ -1,0 +1,5 @@
+pub mod Accounting
+pub mod Bringing
+pub mod Continuing
+pub mod Gathering
+pub mod Keys

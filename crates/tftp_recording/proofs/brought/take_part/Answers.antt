@@ -1,0 +1,48 @@
+use Rattle.std.proofs.Common.{◌≡◌, [], Ok, inl, refl, ap, ◌∙◌}
+use Rattle.tftp_fragments.specs.Held.{part_of}
+use Rattle.tftp_fragments.specs.Set.{Arrival}
+use Rattle.tftp_fragments.specs.Store.{set_at}
+use Rattle.tftp_fragments.specs.declared.outcome.Outcome.{Outcome}
+use Rattle.tftp_recording.proofs.Bringing.{makes_room, never_full, on_err}
+use Rattle.tftp_recording.proofs.brought.take_part.Goals as goal
+
+pub returns-in_err-outcome-clause-wants : goal.returns-in_err-outcome-clause-wants
+returns-in_err-outcome-clause-wants c =
+    on_err c.from_residual.result _ (record {
+      young = c.let_go_old-old.new.waiting;
+      roomy = c.let_go_old-old.new.waiting;
+      gone = c.let_go_old-old.result.items;
+      ousted = [];
+      lets_go = c.let_go_old-old.ensures.goes;
+      makes_room = inl (refl, refl);
+      wants = c.in_err-outcome.ensures.wants;
+    })
+
+pub returns-in_err-outcome-2-clause-wants : goal.returns-in_err-outcome-2-clause-wants
+returns-in_err-outcome-2-clause-wants c =
+    let a : Arrival = record { part = part_of c.args.part.now; time = c.args.time; frame = c.args.frame } in
+    on_err c.from_residual-in_err-outcome-2.result _ (record {
+      young = c.let_go_old-old.new.waiting;
+      roomy = c.replace-ousted.new.dest;
+      gone = c.let_go_old-old.result.items;
+      ousted = c.replace-ousted.result;
+      lets_go = c.let_go_old-old.ensures.goes;
+      makes_room = makes_room (set_at c.args.key c.let_go_old-old.new.waiting) (set_at c.args.key c.put.new.self) _ _ _ a _ c.in-Full.is c.in_ok-outcome.ensures.ends (c.replace-ousted.ensures.value ∙ c.in_ok-outcome.ensures.full (ap (λ (o : Outcome). Ok o) c.in-Full.is)) (c.replace-ousted.ensures.after ∙ c.new-2.ensures);
+      wants = c.in_err-outcome-2.ensures.wants;
+    })
+
+pub returns-clause-ok : goal.returns-clause-ok
+returns-clause-ok c =
+    let a : Arrival = record { part = part_of c.args.part.now; time = c.args.time; frame = c.args.frame } in
+    let none : c.replace-ousted.new.dest ≡ [] = c.replace-ousted.ensures.after ∙ c.new-2.ensures in
+    record {
+      young = c.let_go_old-old.new.waiting;
+      roomy = c.replace-ousted.new.dest;
+      outcome = c.in_ok-outcome-2.outcome;
+      lets_go = c.let_go_old-old.ensures.goes;
+      makes_room = makes_room (set_at c.args.key c.let_go_old-old.new.waiting) (set_at c.args.key c.put.new.self) _ _ _ a _ c.in-Full.is c.in_ok-outcome.ensures.ends (c.replace-ousted.ensures.value ∙ c.in_ok-outcome.ensures.full (ap (λ (o : Outcome). Ok o) c.in-Full.is)) none;
+      others = c.in_ok-outcome-2.ensures.other;
+      ends = c.in_ok-outcome-2.ensures.ends;
+      not_full = never_full _ _ c.replace-ousted.new.dest a c.in_ok-outcome-2.outcome none c.in_ok-outcome-2.ensures.ends;
+      is = refl;
+    }

@@ -1,0 +1,89 @@
+-- What a frame does among the fragments that wait (RFC 791, section 3.2; RFC 8200, section 4.5).
+use Rattle.std.specs.Prelude.{◌≡◌, ◌≢◌, ◌⊎◌, ◌+◌, ◌*◌, ◌<◌, ℕ, true, false, List, [], Option, Some, None}
+use Rattle.tftp_frames.specs.Frame.{SpellsFrame}
+use Rattle.tftp_frames.specs.Ip.{Packet}
+use Rattle.tftp_frames.specs.declared.packet.Fragment.{Fragment}
+use Rattle.tftp_fragments.specs.Key.{same_key}
+use Rattle.tftp_fragments.specs.Set.{Arrival, SetState}
+use Rattle.tftp_fragments.specs.Store.{Sets, PutEnds, WantsMemory, is_long, most_room, room_of_all, set_at}
+use Rattle.tftp_fragments.specs.Whole.{Part, end_of}
+use Rattle.tftp_fragments.specs.declared.key.Key.{Key}
+use Rattle.tftp_fragments.specs.declared.outcome.Outcome.{Outcome}
+use Rattle.tftp_fragments.specs.declared.outcome.Outcome.TheVariants.{Full}
+use Rattle.tftp_pcap.specs.Frames.{FrameParts}
+
+-- the frames that had waited too long, the fragments that had to make room, and what became of the frame as a fragment
+pub record BroughtState : Type 0 where
+  pub old : List ℕ
+  pub ousted : Sets
+  pub outcome : Option Outcome
+
+abbrev pub nothing_brought : BroughtState
+nothing_brought = record { old = []; ousted = []; outcome = None }
+
+-- what tells the packet of a fragment from others
+abbrev pub key_of : Packet → Fragment → Key
+key_of p f = record { source = p.source; target = p.target; protocol = p.protocol; id = f.id }
+
+-- the part that a fragment brings, with the time and the number of its frame
+abbrev pub arrival_of : FrameParts → ℕ → Packet → Fragment → Arrival
+arrival_of frame number p f = record { part = record { place = f.place; more = f.more; content = p.content }; time = frame.time; frame = number }
+
+-- what waits under every other key stays
+abbrev pub OthersStay : Key → Sets → Sets → Type 0
+OthersStay key old new = (other : Key) → same_key key other ≡ false → set_at other new ≡ set_at other old
+
+-- what waits under the key is let go where it began more than 30 s before that time, or after it
+pub record LetsGoOld (key : Key) (time : Option ℕ) (old new : Sets) (gone : List ℕ) : Type 0 where
+  pub others : OthersStay key old new
+  pub none : set_at key old ≡ None → (set_at key new ≡ None) × (gone ≡ [])
+  pub long : (s : SetState) → set_at key old ≡ Some s → is_long s.began time ≡ true → (set_at key new ≡ None) × (gone ≡ s.frames)
+  pub young : (s : SetState) → set_at key old ≡ Some s → is_long s.began time ≡ false → (set_at key new ≡ Some s) × (gone ≡ [])
+
+-- with the part more than 64 MB would wait
+abbrev pub IsFull : Sets → Part → Type 0
+IsFull sets p = most_room < room_of_all sets + (2 * end_of p + 264)
+
+-- all that waits is let go where there is no room for the part beside it
+abbrev pub MakesRoom : Part → Sets → Sets → Sets → Type 0
+MakesRoom p old new ousted = ((ousted ≡ []) × (new ≡ old)) ⊎ (IsFull old p × (ousted ≡ old) × (new ≡ []))
+
+-- a fragment comes: what is too old is let go, all where there is no room, and then it is put with the others of its packet
+pub record TakesPart (key : Key) (a : Arrival) (old new : Sets) (b : BroughtState) : Type 0 where
+  pub young : Sets
+  pub roomy : Sets
+  pub outcome : Outcome
+  pub lets_go : LetsGoOld key a.time old young b.old
+  pub makes_room : MakesRoom a.part young roomy b.ousted
+  pub others : OthersStay key roomy new
+  pub ends : PutEnds (set_at key roomy) (set_at key new) (room_of_all roomy) a outcome
+  pub not_full : outcome ≢ Full
+  pub is : b.outcome ≡ Some outcome
+
+-- memory is wanted for the fragment
+pub record WantsPart (key : Key) (a : Arrival) (old : Sets) : Type 0 where
+  pub young : Sets
+  pub roomy : Sets
+  pub gone : List ℕ
+  pub ousted : Sets
+  pub lets_go : LetsGoOld key a.time old young gone
+  pub makes_room : MakesRoom a.part young roomy ousted
+  pub wants : WantsMemory (set_at key roomy) (room_of_all roomy) a.part
+
+-- the frame is no fragment of a packet that may carry UDP
+abbrev pub IsNoPart : FrameParts → Type 0
+IsNoPart frame = (p : Packet) → SpellsFrame frame.link frame.bytes p → p.fragment ≡ None
+
+-- the frame is this fragment of this packet
+abbrev pub IsPart : FrameParts → Packet → Fragment → Type 0
+IsPart frame p f = SpellsFrame frame.link frame.bytes p × (p.fragment ≡ Some f)
+
+-- what the frame of that number does
+abbrev pub Takes : Sets → FrameParts → ℕ → BroughtState → Sets → Type 0
+Takes old frame number b new =
+    (IsNoPart frame × (b ≡ nothing_brought) × (new ≡ old))
+    ⊎ ((p : Packet) × (f : Fragment) × IsPart frame p f × TakesPart (key_of p f) (arrival_of frame number p f) old new b)
+
+-- memory is wanted for the frame, which is a fragment
+abbrev pub Wants : Sets → FrameParts → ℕ → Type 0
+Wants old frame number = (p : Packet) × (f : Fragment) × IsPart frame p f × WantsPart (key_of p f) (arrival_of frame number p f) old

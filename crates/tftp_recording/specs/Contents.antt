@@ -1,0 +1,27 @@
+-- Of which frames a content is that was put together.
+use Rattle.std.specs.Prelude.{◌≡◌, ◌⊎◌, ◌+◌, ℕ, true, List, [], ◌∷◌, length, map, reverse}
+use Rattle.std.specs.List.{AllByRecursion}
+use Rattle.tftp_frames.specs.Ip.{Packet}
+use Rattle.tftp_frames.specs.declared.packet.Fragment.{Fragment}
+use Rattle.tftp_fragments.specs.Key.{same_key}
+use Rattle.tftp_fragments.specs.Set.{Arrival, parts_of}
+use Rattle.tftp_fragments.specs.Whole.{Give}
+use Rattle.tftp_fragments.specs.declared.key.Key.{Key}
+use Rattle.tftp_recording.specs.Brought.{IsPart, arrival_of, key_of}
+use Rattle.tftp_recording.specs.History.{Step}
+
+-- one of the frames brought the fragment, which is of the packet of that key
+abbrev pub IsBrought : List Step → Key → Arrival → Type 0
+IsBrought [] key a = ⊥
+IsBrought (step ∷ before) key a =
+    ((p : Packet) × (f : Fragment) × IsPart step.frame p f × (same_key key (key_of p f) ≡ true) × (a ≡ arrival_of step.frame (length before + 1) p f))
+    ⊎ IsBrought before key a
+
+-- the content is that of a packet: fragments of one key give it, each of which one of the frames brought, and these are
+-- the frames
+pub record IsPutTogether (history : List Step) (content frames : List ℕ) : Type 0 where
+  pub key : Key
+  pub arrivals : List Arrival
+  pub brought : AllByRecursion (IsBrought history key) arrivals
+  pub give : Give (parts_of arrivals) content
+  pub frames_are : frames ≡ reverse (map (λ a. a.frame) arrivals)

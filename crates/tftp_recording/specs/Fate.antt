@@ -1,0 +1,68 @@
+-- What became of a frame.
+use Rattle.std.specs.Prelude.{◌≡◌, ℕ, List, [], Option, Some, None}
+use Rattle.tftp_fragments.specs.declared.outcome.Outcome.{Outcome}
+use Rattle.tftp_fragments.specs.declared.outcome.Outcome.TheVariants as outcome
+use Rattle.tftp_frames.specs.Faults.{FirstFault}
+use Rattle.tftp_frames.specs.Frame.{SpellsFrame}
+use Rattle.tftp_frames.specs.Ip.{Packet}
+use Rattle.tftp_frames.specs.Udp.{Udp, HoldsUdp, SpellsUdp}
+use Rattle.tftp_frames.specs.declared.packet.Direction.{Direction as LinkDirection}
+use Rattle.tftp_frames.specs.declared.packet.Direction.TheVariants as link
+use Rattle.tftp_pcap.specs.Frames.{FrameParts}
+use Rattle.tftp_pcap.specs.declared.frame.Direction.{Direction}
+use Rattle.tftp_pcap.specs.declared.frame.Direction.TheVariants.{In, Out}
+use Rattle.tftp_recording.specs.declared.fate.Datagram.{Datagram as Given}
+use Rattle.tftp_recording.specs.declared.fate.Fate.{Fate}
+use Rattle.tftp_recording.specs.declared.fate.Fate.TheVariants.{Datagram, Left, Waits}
+use Rattle.tftp_recording.specs.declared.fate.LeftOut.TheVariants.{Frame, Udp as NoUdp, Apart, Empty, TooLong, Full}
+
+-- which way a frame went: what the link says, and where that says nothing, what the recording does
+abbrev pub direction_of : Direction → LinkDirection → Direction
+direction_of recorded link.Unknown = recorded
+direction_of recorded link.In = In
+direction_of recorded link.Out = Out
+
+-- the datagram has the hosts of the packet, the ports and the payload of UDP, and the direction of the frame
+pub record IsDatagram (frame : FrameParts) (p : Packet) (udp : Udp) (d : Given) : Type 0 where
+  pub direction : d.direction ≡ direction_of frame.direction p.direction
+  pub source : d.source ≡ p.source
+  pub source_port : d.source_port ≡ udp.source_port
+  pub target : d.target ≡ p.target
+  pub target_port : d.target_port ≡ udp.target_port
+  pub payload : d.payload.now ≡ udp.payload
+
+-- the content of a packet: the one that was put together, or else the packet's own
+abbrev pub content_of : Packet → Option (List ℕ) → List ℕ
+content_of p None = p.content
+content_of p (Some whole) = whole
+
+-- what a frame says whose packet is whole, or was put together
+abbrev pub Says : FrameParts → Option (List ℕ) → Fate → Type 0
+Says frame whole (Datagram d) = (p : Packet) × (udp : Udp) × SpellsFrame frame.link frame.bytes p × SpellsUdp p.protocol (content_of p whole) udp × IsDatagram frame p udp d
+Says frame whole (Left (Frame fault)) = FirstFault frame.link frame.bytes fault
+Says frame whole (Left (NoUdp fault)) = (p : Packet) × SpellsFrame frame.link frame.bytes p × HoldsUdp fault p.protocol (content_of p whole)
+Says frame whole (Left Apart) = ⊥
+Says frame whole (Left Empty) = ⊥
+Says frame whole (Left TooLong) = ⊥
+Says frame whole (Left Full) = ⊥
+Says frame whole Waits = ⊥
+
+-- what became of a frame, by what became of it as a fragment
+abbrev pub IsFate : FrameParts → Option Outcome → Fate → Type 0
+IsFate frame None fate = Says frame None fate
+IsFate frame (Some outcome.Waits) fate = fate ≡ Waits
+IsFate frame (Some (outcome.Whole content frames)) fate = Says frame (Some content.items) fate
+IsFate frame (Some (outcome.Apart frames)) fate = fate ≡ Left Apart
+IsFate frame (Some outcome.Empty) fate = fate ≡ Left Empty
+IsFate frame (Some outcome.TooLong) fate = fate ≡ Left TooLong
+IsFate frame (Some outcome.Full) fate = fate ≡ Left Full
+
+-- the frames that share it
+abbrev pub sharers : Option Outcome → List ℕ
+sharers None = []
+sharers (Some outcome.Waits) = []
+sharers (Some (outcome.Whole content frames)) = frames.items
+sharers (Some (outcome.Apart frames)) = frames.items
+sharers (Some outcome.Empty) = []
+sharers (Some outcome.TooLong) = []
+sharers (Some outcome.Full) = []

@@ -1,0 +1,5 @@
+pub mod Brought
+pub mod Fate
+pub mod History
+pub mod Accounts
+pub mod Contents

@@ -1,0 +1,171 @@
+ghost use Rattle.std.specs.Prelude.{◌≡◌, [], None, option_map};
+ghost use Rattle.tftp_frames.specs.Parts.{shown};
+ghost use Rattle.tftp_pcap.specs.Frames.{no_frame};
+ghost use Rattle.tftp_recording.specs.Brought.{nothing_brought};
+ghost use Rattle.tftp_recording.specs.Fate.{content_of, direction_of, IsFate, Says, sharers};
+
+use crate::brought::Brought;
+use crate::fate::{Datagram, Fate, LeftOut};
+use std::alloc::Global;
+use std::marker::Model;
+use std::mem;
+use tftp_fragments::{Fragments, Outcome};
+use tftp_frames::{Direction as LinkDirection, IpPacket, read_frame, read_udp};
+use tftp_pcap::{Direction, Frame};
+
+/// A frame of a recording, what became of it, and of which frames it decided; to be filled by a reader, in its memory.
+#[derive(Drop)]
+pub struct Event {
+    pub(crate) frame: Frame,
+    pub(crate) brought: Brought,
+}
+
+impl Model for Event {
+    ghost use Rattle.tftp_recording.specs.History.{EventState};
+
+    ghost Value = { EventState };
+
+    ghost view = { λ e. record { frame = e.frame; brought = e.brought } };
+}
+
+impl Event {
+    /// No frame yet; it takes no memory.
+    pub fn empty(alloc: Global) -> Self
+        ensures number { result.frame.number ≡ 0 }
+        ensures parts { result.frame.parts ≡ no_frame }
+        ensures brought { result.brought ≡ nothing_brought }
+    {
+        Event {
+            frame: Frame::empty(alloc),
+            brought: Brought::nothing(alloc),
+        }
+    }
+
+    /// Sets what the frame did.
+    #[inline]
+    pub(crate) fn bring(&mut self, brought: Brought)
+        ensures frame { self.new.frame ≡ self.old.frame }
+        ensures brought { self.new.brought ≡ brought }
+    {
+        self.brought = brought;
+    }
+
+    /// The frame's number in the recording, the first being 1.
+    #[inline]
+    pub fn number(&self) -> u64
+        ensures { result ≡ self.now.frame.number }
+    {
+        self.frame.number()
+    }
+
+    /// When the frame was recorded, in nanoseconds since 1970; none where the recording does not say, or where 64 bits
+    /// can't count them.
+    #[inline]
+    pub fn time(&self) -> Option<u64>
+        ensures { result ≡ self.now.frame.parts.time }
+    {
+        self.frame.time()
+    }
+
+    /// What became of the frame. A datagram borrows its payload from the frame, or from the packet that was put together.
+    #[inline]
+    pub fn fate(&self) -> Fate<'_>
+        ensures { IsFate self.now.frame.parts self.now.brought.outcome result }
+    {
+        fate_of(&self.frame, self.brought.outcome())
+    }
+
+    /// The frames that waited until now and share its fate: those of the parts of a packet that it made whole, its own the
+    /// last, or those of the fragments that it cannot be of one packet with.
+    #[inline]
+    pub fn sharers(&self) -> &[u64]
+        ensures { result.now ≡ sharers self.now.brought.outcome }
+    {
+        match &self.brought.outcome {
+            Some(Outcome::Whole { frames, .. }) => frames.as_slice(),
+            Some(Outcome::Apart(frames)) => frames.as_slice(),
+            _ => &[],
+        }
+    }
+
+    /// The frames that are left out since they had waited for others of their packet for more than 30 s.
+    #[inline]
+    pub fn old(&self) -> &[u64]
+        ensures { result.now ≡ self.now.brought.old }
+    {
+        self.brought.old.as_slice()
+    }
+
+    /// Hands out the fragments that are left out since more than 64 MB would have waited with the frame.
+    #[inline]
+    pub fn take_ousted(&mut self, alloc: Global) -> Fragments
+        ensures value { result ≡ self.old.brought.ousted }
+        ensures gone { self.new.brought.ousted ≡ [] }
+        ensures old { self.new.brought.old ≡ self.old.brought.old }
+        ensures outcome { self.new.brought.outcome ≡ self.old.brought.outcome }
+        ensures frame { self.new.frame ≡ self.old.frame }
+    {
+        mem::replace(&mut self.brought.ousted, Fragments::new(alloc))
+    }
+}
+
+/// What became of a frame, by what became of it as a fragment.
+#[inline]
+fn fate_of<'a>(frame: &'a Frame, outcome: &'a Option<Outcome>) -> Fate<'a>
+    ensures { IsFate frame.now.parts outcome.now result }
+{
+    match outcome {
+        None => says(frame, None),
+        Some(Outcome::Waits) => Fate::Waits,
+        Some(Outcome::Whole { content, .. }) => says(frame, Some(content.as_slice())),
+        Some(Outcome::Apart(_)) => Fate::Left(LeftOut::Apart),
+        Some(Outcome::Empty) => Fate::Left(LeftOut::Empty),
+        Some(Outcome::TooLong) => Fate::Left(LeftOut::TooLong),
+        Some(Outcome::Full) => Fate::Left(LeftOut::Full),
+    }
+}
+
+/// What a frame says, or the packet of that content which it made whole.
+#[inline]
+fn says<'a>(frame: &'a Frame, whole: Option<&'a [u8]>) -> Fate<'a>
+    ensures { Says frame.now.parts (option_map (λ content. content.now) whole.entry) result }
+{
+    let packet = match read_frame(frame.link(), frame.bytes()) {
+        Ok(packet) => packet,
+        Err(fault) => return Fate::Left(LeftOut::Frame(fault)),
+    };
+    match read_udp(packet.protocol, content_of(whole, &packet)) {
+        Ok(udp) => Fate::Datagram(Datagram {
+            direction: direction_of(frame.direction(), packet.direction),
+            source: packet.source,
+            source_port: udp.source_port,
+            target: packet.target,
+            target_port: udp.target_port,
+            payload: udp.payload,
+        }),
+        Err(fault) => Fate::Left(LeftOut::Udp(fault)),
+    }
+}
+
+/// The content of a packet: the one that was put together, or else the packet's own.
+#[inline]
+fn content_of<'a>(whole: Option<&'a [u8]>, packet: &IpPacket<'a>) -> &'a [u8]
+    ensures { result.now ≡ content_of (shown packet.now) (option_map (λ content. content.now) whole.entry) }
+{
+    match whole {
+        Some(content) => content,
+        None => packet.content,
+    }
+}
+
+/// Which way a frame went: what the link says, and where that says nothing, what the recording does.
+#[inline]
+fn direction_of(recorded: Direction, linked: LinkDirection) -> Direction
+    ensures { result ≡ direction_of recorded linked }
+{
+    match linked {
+        LinkDirection::Unknown => recorded,
+        LinkDirection::In => Direction::In,
+        LinkDirection::Out => Direction::Out,
+    }
+}

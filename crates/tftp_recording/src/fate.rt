@@ -1,0 +1,48 @@
+use std::net::IpAddr;
+use tftp_frames::{FrameFault, UdpFault};
+use tftp_pcap::Direction;
+
+/// A UDP datagram of a recording.
+#[derive(Clone, Copy, Debug)]
+pub struct Datagram<'a> {
+    /// Which way it went: as the link says, and where that does not, as the recording does.
+    pub direction: Direction,
+    /// The host that sent it.
+    pub source: IpAddr,
+    /// The port from which it came, not 0.
+    pub source_port: u16,
+    /// The host to which it went.
+    pub target: IpAddr,
+    /// The port to which it went, not 0.
+    pub target_port: u16,
+    /// What it carries.
+    pub payload: &'a [u8],
+}
+
+/// Why frames are no datagram of UDP, nor part of one.
+#[derive(Clone, Copy, Debug, PartialEq, Eq)]
+pub enum LeftOut {
+    /// The frame is no IP packet that may carry UDP.
+    Frame(FrameFault),
+    /// The content of the packet, which is whole, is no datagram of UDP.
+    Udp(UdpFault),
+    /// It is a fragment that cannot be of one packet with others that came.
+    Apart,
+    /// It is a fragment that brings no byte.
+    Empty,
+    /// It is a fragment of a packet of more than 65,535 bytes.
+    TooLong,
+    /// It is a fragment with which more than 64 MB would wait.
+    Full,
+}
+
+/// What became of a frame.
+#[derive(Clone, Copy, Debug)]
+pub enum Fate<'a> {
+    /// It is a datagram, or the last part that was missing of one.
+    Datagram(Datagram<'a>),
+    /// It is left out.
+    Left(LeftOut),
+    /// It is a fragment that waits for others of its packet.
+    Waits,
+}

@@ -1,0 +1,13 @@
+//! The UDP datagrams of a recording: its frames, the IP packets that they carry, and the fragments of these put together.
+#![tactic(auto)]
+
+mod brought;
+mod event;
+mod fate;
+mod laws;
+mod reader;
+
+pub use event::Event;
+pub use fate::{Datagram, Fate, LeftOut};
+pub use laws::{content_is_of_its_frames, each_frame_is_accounted_for_once};
+pub use reader::RecordingReader;

@@ -1,0 +1,106 @@
+ghost use Rattle.std.specs.Prelude.{◌≡◌, ◌≢◌, ◌+◌, ◌++◌, ℕ, List, [], true, false, None, Ok, Err, IfOk, IfErr, OnOk};
+ghost use Rattle.std.specs.Io.KnownBytes.{prepend_known, Consumes, IsAtEnd};
+ghost use Rattle.tftp_pcap.specs.History.{FailsToBegin, KeepsAnswer, standing_after};
+ghost use Rattle.tftp_pcap.specs.declared.fault.FaultKind.{FaultKind};
+ghost use Rattle.tftp_pcap.specs.declared.standing.Standing.{Standing};
+ghost use Rattle.tftp_recording.specs.History.{Continues, StandsFor, Step, standing_of};
+
+use crate::brought::take_frame;
+use crate::event::Event;
+use std::alloc::Global;
+use std::io::Read;
+use std::marker::Model;
+use tftp_capture::Tallied;
+use tftp_fragments::Fragments;
+use tftp_pcap::{FaultKind, FrameReader, PcapFault};
+
+/// A reader of what became of a recording's frames: it holds what a reader of frames does, and the fragments that wait for
+/// others of their packets, 64 MB at most.
+#[derive(Drop)]
+pub struct RecordingReader {
+    frames: FrameReader,
+    waiting: Fragments,
+    refused: Option<PcapFault>,
+}
+
+impl Model for RecordingReader {
+    ghost use Rattle.tftp_recording.specs.History.{RecordingState};
+
+    ghost Value = { RecordingState };
+
+    ghost view = { λ r. record { frames = r.frames; waiting = r.waiting; refused = r.refused } };
+}
+
+impl RecordingReader {
+    /// Reads the header of a classic recording, or the first section header.
+    pub fn begin<R: Read>(alloc: Global, reader: &mut Tallied<R>) -> Result<Self, PcapFault>
+        ensures ok { IfOk result (λ begun. (taken : List ℕ) × Consumes (R.remaining reader.old.0) (prepend_known begun.frames.pieces.ahead (R.remaining reader.new.0)) taken × StandsFor begun taken []) }
+        ensures open { IfOk result (λ begun. standing_of begun ≡ Standing.Open) }
+        ensures err { IfErr result (λ fault. FailsToBegin (R.remaining reader.old.0) (R.remaining reader.new.0) fault) }
+        ensures cut { IfErr result (λ fault. fault.kind ≡ FaultKind.Truncated → IsAtEnd (R.remaining reader.new.0)) }
+        ensures read { IfErr result (λ fault. fault.kind ≡ FaultKind.Read → reader.new.1 ≡ true) }
+        ensures tally { IfErr result (λ fault. (fault.kind ≡ FaultKind.Read → ⊥) → reader.new.1 ≡ reader.old.1) }
+        ensures clean { OnOk result (reader.new.1 ≡ reader.old.1) }
+    {
+        match FrameReader::begin(alloc, reader) {
+            Ok(frames) => Ok(RecordingReader {
+                frames,
+                waiting: Fragments::new(alloc),
+                refused: None,
+            }),
+            Err(fault) => Err(fault),
+        }
+    }
+
+    /// Reads the next frame into what the caller holds, in its memory, and what became of it; false, for good, once the
+    /// recording has ended without a fault. A fault is answered for good. Where no frame was read, nothing is said of what
+    /// the caller holds. Memory is also wanted for a fragment that comes to those that wait.
+    pub fn next_into<R: Read>(
+        &mut self,
+        alloc: Global,
+        reader: &mut Tallied<R>,
+        event: &mut Event,
+    ) -> Result<bool, PcapFault>
+        ensures continues { (bytes : List ℕ) (history : List Step) → StandsFor self.old bytes history
+            → Continues self.new (prepend_known self.old.frames.pieces.ahead (R.remaining reader.old.0)) (prepend_known self.new.frames.pieces.ahead (R.remaining reader.new.0)) result event.new bytes history }
+        ensures standing { standing_of self.new ≡ standing_after result }
+        ensures kept { KeepsAnswer (standing_of self.old) result }
+        ensures untouched { standing_of self.old ≢ Standing.Open → (self.new ≡ self.old) × (reader.new ≡ reader.old) }
+        ensures end { standing_of self.old ≡ Standing.Open → result ≡ Ok false → IsAtEnd (prepend_known self.new.frames.pieces.ahead (R.remaining reader.new.0)) }
+        ensures cut { standing_of self.old ≡ Standing.Open → IfErr result (λ fault. fault.kind ≡ FaultKind.Truncated → IsAtEnd (prepend_known self.new.frames.pieces.ahead (R.remaining reader.new.0))) }
+        ensures read { standing_of self.old ≡ Standing.Open → IfErr result (λ fault. fault.kind ≡ FaultKind.Read → reader.new.1 ≡ true) }
+        ensures tally { IfErr result (λ fault. fault.kind ≢ FaultKind.Read → reader.new.1 ≡ reader.old.1) }
+        ensures clean { OnOk result (reader.new.1 ≡ reader.old.1) }
+        ensures number { result ≡ Ok true → event.new.frame.number ≡ self.old.frames.count + 1 }
+        ensures counts { result ≡ Ok true → self.new.frames.count ≡ self.old.frames.count + 1 }
+    {
+        if let Some(fault) = self.refused {
+            return Err(fault);
+        }
+        match self.frames.next_into(reader, &mut event.frame) {
+            Ok(true) => {}
+            answer => return answer,
+        }
+        match take_frame(alloc, &mut self.waiting, &event.frame) {
+            Ok(brought) => {
+                event.bring(brought);
+                Ok(true)
+            }
+            Err(_) => {
+                let fault = PcapFault {
+                    kind: FaultKind::Memory,
+                    frame: event.frame.number(),
+                };
+                self.refused = Some(fault);
+                Err(fault)
+            }
+        }
+    }
+
+    /// The fragments that still wait: at the end of the recording, or at its fault, those of packets that were never whole.
+    pub fn into_waiting(self) -> Fragments
+        ensures { result ≡ self.waiting }
+    {
+        self.waiting
+    }
+}
