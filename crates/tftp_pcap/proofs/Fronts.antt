@@ -5,7 +5,7 @@ use Rattle.std.specs.Io.KnownBytes.{Consumes}
 use Rattle.std.proofs.KnownBytes.{Consumes-trans}
 use Rattle.tftp_pcap.specs.Numbers.{number_at}
 use Rattle.tftp_pcap.specs.Pieces.{Announces, AnnouncesSection, BeginsAsOne, IsSize, front_of}
-use Rattle.tftp_pcap.specs.Stops.{IsPart, IsCut, IsWhole, PieceEnds}
+use Rattle.tftp_pcap.specs.Stops.{IsLonger, IsPart, IsCut, IsWhole, PieceEnds}
 use Rattle.tftp_pcap.specs.declared.layout.Layout.{Layout}
 use Rattle.tftp_pcap.specs.declared.layout.Layout.TheVariants.{Unopened, Classic, Blocks}
 use Rattle.tftp_pcap.specs.declared.fault.FaultKind.{FaultKind}
@@ -75,6 +75,9 @@ module _ (layout : Layout) (first second bytes : List ℕ) (size : ℕ) (are : s
 
   pub grown_whole : IsSize layout size → length second ≡ size → IsWhole layout second
   grown_whole sized whole = (subst (Announces layout second) (sym whole) grown, subst (IsSize layout) (sym whole) sized)
+
+  pub grown_longer : (room : ℕ) → IsSize layout size → room < size → IsLonger room layout second
+  grown_longer room sized full = (size, inr (grown, sized), full)
 
 pub front_some : (layout : Layout) → 0 < front_of layout
 front_some Unopened = lit< tt
