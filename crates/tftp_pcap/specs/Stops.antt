@@ -14,9 +14,13 @@ use Rattle.tftp_pcap.specs.declared.fault.FaultKind.TheVariants.{NotARecording, 
 abbrev pub IsPart : Layout → List ℕ → Type 0
 IsPart layout part = (size : ℕ) → Announces layout part size → length part < size
 
+-- the bytes are fewer than those that are read first of a piece, or fewer than the piece has, whose size is one that pieces have
+abbrev pub IsShort : Layout → List ℕ → Type 0
+IsShort layout part = (length part < front_of layout) ⊎ ((size : ℕ) × Announces layout part size × IsSize layout size × (length part < size))
+
 -- the bytes of a piece at which the recording ends: some of a piece, which in front begin as a recording does
 abbrev pub IsCut : Layout → List ℕ → Type 0
-IsCut layout part = IsPart layout part × (part ≢ []) × (layout ≡ Unopened → BeginsAsOne part)
+IsCut layout part = IsShort layout part × (part ≢ []) × (layout ≡ Unopened → BeginsAsOne part)
 
 -- the bytes are as many as the piece has that begins so, by a size that pieces have
 abbrev pub IsWhole : Layout → List ℕ → Type 0

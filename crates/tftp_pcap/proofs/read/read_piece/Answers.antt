@@ -23,7 +23,7 @@ returns-in-Ok-true-clause-ends g c =
 
 pub returns-in-Ok-false-clause-ends : goal.returns-in-Ok-false-clause-ends
 returns-in-Ok-false-clause-ends g c =
-    grown_cut c.args.layout c.gather.new.piece.items c.gather-2.new.piece.items c.in-Ok-false.ensures.gathers.0 c.in_ok-size.size c.in-Ok-false.ensures.gathers.2 (rw c.deref-2.ensures.value at c.in_ok-size.ensures.0) (let whole = c.in_ok-gather.ensures.whole (ap Ok c.if-not-branch.false) in omega (arith, whole, c.front_of.ensures)) (front_some c.args.layout) (c.in-Ok-false.ensures.part (λ e. false≢true (sym c.in-Ok-false.field-0-test ∙ ok_one _ _ e)))
+    grown_cut c.args.layout c.gather.new.piece.items c.gather-2.new.piece.items c.in-Ok-false.ensures.gathers.0 c.in_ok-size.size c.in-Ok-false.ensures.gathers.2 (rw c.deref-2.ensures.value at c.in_ok-size.ensures.0) (let whole = c.in_ok-gather.ensures.whole (ap Ok c.if-not-branch.false) in omega (arith, whole, c.front_of.ensures)) (front_some c.args.layout) c.in_ok-size.ensures.1 (c.in-Ok-false.ensures.part (λ e. false≢true (sym c.in-Ok-false.field-0-test ∙ ok_one _ _ e)))
 
 pub returns-in-Err-clause-ends : goal.returns-in-Err-clause-ends
 returns-in-Err-clause-ends g c =
