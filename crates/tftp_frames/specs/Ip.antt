@@ -1,6 +1,6 @@
 -- What the bytes of an IP packet say (RFC 791, section 3.1; RFC 8200, section 3). Checksums are not looked at: a
 -- recording at the sender has them before they are made.
-use Rattle.std.specs.Prelude.{◌≡◌, ◌+◌, ◌-◌, ◌*◌, ◌/◌, ◌%◌, ◌≤◌, ◌==◌, ◌||◌, ◌&&◌, ℕ, Bool, true, false, List, [], ◌∷◌, length, take, drop, Option, Some, None, if◌then◌else◌}
+use Rattle.std.specs.Prelude.{◌≡◌, ◌+◌, ◌-◌, ◌*◌, ◌/◌, ◌%◌, ◌≤◌, ◌==◌, ◌||◌, ◌&&◌, ℕ, Bool, true, false, List, [], ◌∷◌, length, take, drop, Option, Some, None, nat_lt, if◌then◌else◌}
 use Rattle.std.specs.declared.net.ip_addr.IpAddr.{IpAddr}
 use Rattle.std.specs.declared.net.ip_addr.IpAddr.TheVariants.{V4, V6}
 use Rattle.tftp_frames.specs.Number.{at, pair}
@@ -105,3 +105,13 @@ pub record SpellsIp (direction : Direction) (network : Network) (bytes : List �
   pub reaches : Reaches network bytes upper
   pub udp : may_be_udp network upper ≡ true
   pub packet : p ≡ packet_of direction network bytes upper
+
+-- an identification is given: in IPv4 one that is not 0, in IPv6 that of a fragment
+abbrev pub is_given : Option ℕ → Option Fragment → Bool
+is_given (Some id) fragment = nat_lt 0 id
+is_given None fragment = is_part fragment
+
+-- The packet has an identification, by which it differs from what its sender sent to the same target at about that time
+-- (RFC 791, section 3.2; RFC 8200, section 4.5).
+abbrev pub is_identified : Packet → Bool
+is_identified p = is_given p.identification p.fragment

@@ -1,9 +1,9 @@
-ghost use Rattle.std.specs.Prelude.{◌≡◌, ◌↔◌, ◌∷◌, ◌++◌, [], ℕ, List, codes, take, drop};
+ghost use Rattle.std.specs.Prelude.{◌≡◌, ◌↔◌, ◌∷◌, ◌++◌, [], ℕ, List, codes, take, drop, Some, true, false};
 ghost use Rattle.std.specs.Net.Addr.{IsIpv4Addr, IsIpv6Addr, MatchIp};
 ghost use Rattle.std.specs.Net.Text.{ip_text};
 ghost use Rattle.std.specs.declared.net.ip_addr.IpAddr.{IpAddr};
 ghost use Rattle.std.specs.declared.net.ip_addr.IpAddr.TheVariants.{V4, V6};
-ghost use Rattle.tftp_frames.specs.Ip.{Packet};
+ghost use Rattle.tftp_frames.specs.Ip.{Packet, is_identified};
 ghost use Rattle.tftp_frames.specs.Frame.{SpellsFrame};
 ghost use Rattle.tftp_frames.specs.Faults.{Holds, FirstFault};
 ghost use Rattle.tftp_frames.specs.Udp.{Udp, SpellsUdp, HoldsUdp};
@@ -76,4 +76,12 @@ pub fn worked_datagrams()
     ensures plain { SpellsUdp 17 (udp_bytes ++ 255 ∷ 255 ∷ []) acknowledgement }
     ensures behind { SpellsUdp 60 (17 ∷ 0 ∷ 1 ∷ 4 ∷ 0 ∷ 0 ∷ 0 ∷ 0 ∷ udp_bytes) acknowledgement }
     ensures port { HoldsUdp UdpFault.Port 17 (0 ∷ 0 ∷ drop 2 udp_bytes) }
+{}
+
+/// Worked examples: a packet of IPv4, the same with identification 0, and a whole one and a fragment of IPv6.
+pub fn worked_identifications()
+    ensures ipv4 { is_identified (ipv4_packet Direction.Unknown ipv4_bytes) ≡ true }
+    ensures zero { is_identified (record (ipv4_packet Direction.Unknown ipv4_bytes) { identification = Some 0 }) ≡ false }
+    ensures whole { is_identified ipv6_packet ≡ false }
+    ensures part { is_identified ipv6_part ≡ true }
 {}

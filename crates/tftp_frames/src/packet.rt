@@ -1,3 +1,7 @@
+ghost use Rattle.std.specs.Prelude.{◌≡◌};
+ghost use Rattle.tftp_frames.specs.Ip.{is_identified};
+ghost use Rattle.tftp_frames.specs.Parts.{shown};
+
 use std::net::IpAddr;
 
 /// Which way the link says that a frame went, seen from where it was recorded.
@@ -41,6 +45,22 @@ pub struct IpPacket<'a> {
     pub content: &'a [u8],
     /// The whole packet from its IP header on, as long as the length fields say.
     pub packet: &'a [u8],
+}
+
+impl IpPacket<'_> {
+    /// Whether it has an identification, by which it differs from what its sender sent to the same target at about that time
+    /// (RFC 791, section 3.2; RFC 8200, section 4.5): in IPv4 one that is not 0, in IPv6 that of a fragment. Without one a
+    /// copy and a repetition look alike. RFC 6864 leaves it free in IPv4 where a packet may not be fragmented; many a sender
+    /// puts 0 there, but it may put any number.
+    #[inline]
+    pub fn is_identified(&self) -> bool
+        ensures { result ≡ is_identified (shown self.now) }
+    {
+        match self.identification {
+            Some(id) => id != 0,
+            None => self.fragment.is_some(),
+        }
+    }
 }
 
 /// A UDP datagram, whose payload lies in the packet (RFC 768).

@@ -21,6 +21,9 @@ order_one Little Little e = refl
 order_one Big Little e = absurd (omega (arith, ap (λ (l : List ℕ). get_or l 0 0) e))
 order_one Little Big e = absurd (omega (arith, ap (λ (l : List ℕ). get_or l 0 0) e))
 
+no_header : {A : Type 0} {order : Order} → Blocks order ≡ Unopened → A
+no_header e = absurd (let x : ⊥ = cc in x)
+
 pub magic_other : (o : Order) (nano : Bool) → magic o nano ≡ section_type → ⊥
 magic_other Big false e = omega (arith, ap (λ (l : List ℕ). get_or l 0 0) e)
 magic_other Big true e = omega (arith, ap (λ (l : List ℕ). get_or l 0 0) e)
@@ -48,6 +51,7 @@ module _ (front : List ℕ) (own : Order) (enough : 12 ≤ length front) (sectio
     λ size a.
         let same = unopened_only size a in
         (omega (arith, same, few), λ regular. never (omega (arith, same, regular.0), ap (λ n. n % 4) (sym same) ∙ regular.1)),
+    λ e. inl section,
   )
   section_unopened (Err TooLong) long = (number_at own front 4, (enough, inl (section, own, is, refl)), long)
   section_unopened (Err _) h = absurd h
@@ -59,6 +63,7 @@ module _ (front : List ℕ) (own : Order) (enough : 12 ≤ length front) (sectio
     λ size a.
         let same = blocks_only order size a in
         (omega (arith, same, few), λ regular. never (omega (arith, same, regular.0), ap (λ n. n % 4) (sym same) ∙ regular.1)),
+    λ e. no_header e,
   )
   section_blocks order (Err TooLong) long = (number_at own front 4, (enough, inl (section, own, is, refl)), long)
   section_blocks order (Err _) h = absurd h
@@ -77,6 +82,7 @@ module _ (front : List ℕ) (order : Order) (enough : 12 ≤ length front) (othe
     λ size a.
         let same = plain_only size a in
         (omega (arith, same, few), λ regular. never (omega (arith, same, regular.0), ap (λ n. n % 4) (sym same) ∙ regular.1)),
+    λ e. no_header e,
   )
   plain_blocks (Err TooLong) long = (number_at order front 4, (enough, inr (other, refl)), long)
   plain_blocks (Err _) h = absurd h

@@ -5,7 +5,7 @@ use Rattle.std.specs.Io.KnownBytes.{Consumes}
 use Rattle.std.proofs.KnownBytes.{Consumes-trans}
 use Rattle.tftp_pcap.specs.Numbers.{number_at}
 use Rattle.tftp_pcap.specs.Pieces.{Announces, AnnouncesSection, BeginsAsOne, IsSize, front_of}
-use Rattle.tftp_pcap.specs.Stops.{IsPart, IsCut, IsWhole, PieceEnds}
+use Rattle.tftp_pcap.specs.Stops.{IsLonger, IsPart, IsShort, IsCut, IsWhole, PieceEnds}
 use Rattle.tftp_pcap.specs.declared.layout.Layout.{Layout}
 use Rattle.tftp_pcap.specs.declared.layout.Layout.TheVariants.{Unopened, Classic, Blocks}
 use Rattle.tftp_pcap.specs.declared.fault.FaultKind.{FaultKind}
@@ -57,6 +57,10 @@ begins_of (Blocks order) p n a is = absurd (let x : ⊥ = cc in x)
 pub short_part : (layout : Layout) (p : List ℕ) → length p < front_of layout → IsPart layout p
 short_part layout p short n a = absurd (omega (arith, short, announces_enough layout p n a))
 
+pub short_is_part : (layout : Layout) (p : List ℕ) → IsShort layout p → IsPart layout p
+short_is_part layout p (inl short) = short_part layout p short
+short_is_part layout p (inr (size, announced, sized, short)) = λ n a. omega (arith, short, announces_one layout p size n announced a)
+
 -- all that was read is the piece
 pub taken_two : (old first second : List ℕ) (k0 k1 k2 : Option (List ℕ)) → old ≡ [] → ((bytes : List ℕ) × Consumes k0 k1 bytes × (first ≡ old ++ bytes)) → ((bytes : List ℕ) × Consumes k1 k2 bytes × (second ≡ first ++ bytes)) → Consumes k0 k2 second
 taken_two old first second k0 k1 k2 none (a, one, is) (b, two, are) =
@@ -70,11 +74,14 @@ module _ (layout : Layout) (first second bytes : List ℕ) (size : ℕ) (are : s
   pub grown_part : length second < size → IsPart layout second
   grown_part short n a = omega (arith, short, announces_one layout second n size a grown)
 
-  pub grown_cut : front_of layout ≤ length first → 0 < front_of layout → length second < size → IsCut layout second
-  grown_cut enough some short = (grown_part short, (λ none. omega (arith, ap length none, ap length are, length-append first bytes, enough, some)), begins_of layout second size grown)
+  pub grown_cut : front_of layout ≤ length first → 0 < front_of layout → IsSize layout size → length second < size → IsCut layout second
+  grown_cut enough some sized short = (inr (size, grown, sized, short), (λ none. omega (arith, ap length none, ap length are, length-append first bytes, enough, some)), begins_of layout second size grown)
 
   pub grown_whole : IsSize layout size → length second ≡ size → IsWhole layout second
   grown_whole sized whole = (subst (Announces layout second) (sym whole) grown, subst (IsSize layout) (sym whole) sized)
+
+  pub grown_longer : (room : ℕ) → IsSize layout size → room < size → IsLonger room layout second
+  grown_longer room sized full = (size, inr (grown, sized), full)
 
 pub front_some : (layout : Layout) → 0 < front_of layout
 front_some Unopened = lit< tt

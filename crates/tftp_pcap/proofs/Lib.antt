@@ -12,3 +12,4 @@ pub mod Standings
 pub mod Steps
 pub mod Whole
 pub mod WorkedRecordings
+pub mod OneFault

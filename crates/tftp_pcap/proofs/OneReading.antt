@@ -21,7 +21,7 @@ use Rattle.tftp_pcap.specs.declared.layout.Layout.TheVariants.{Unopened, Classic
 use Rattle.tftp_pcap.proofs.Cuts.{cut_one}
 use Rattle.tftp_pcap.proofs.Fours.{spells_length}
 use Rattle.tftp_pcap.proofs.Announced.{order_one, magic_other}
-use Rattle.tftp_pcap.proofs.Fronts.{announces_more, announces_one, announces_enough, begins_of, front_some}
+use Rattle.tftp_pcap.proofs.Fronts.{announces_more, announces_one, announces_enough, begins_of, front_some, short_is_part}
 use Rattle.tftp_pcap.proofs.Whole.{block_known, section_known, body_of, body_says}
 use Rattle.tftp_pcap.proofs.OneFrame.{magic_length, major_length, header_one, record_one, interface_one, packet_one}
 
@@ -285,9 +285,9 @@ module _ (layout : Layout) (interfaces : List Interface) (q rest part : List ℕ
   no_text is never = never (begins_of layout part (length q) announced_there is)
 
 -- no piece begins where a fault is
-no_piece : (kind : FaultKind) (mode : Mode) (count : ℕ) (part q rest : List ℕ) (said : Said) → IsWrong kind → Stops kind mode count part → Says mode.layout mode.interfaces q said → q ++ rest ≡ part → ⊥
+pub no_piece : (kind : FaultKind) (mode : Mode) (count : ℕ) (part q rest : List ℕ) (said : Said) → IsWrong kind → Stops kind mode count part → Says mode.layout mode.interfaces q said → q ++ rest ≡ part → ⊥
 no_piece NotARecording mode count part q rest said wrong stops says are = no_text mode.layout mode.interfaces q rest part said says are stops.0 stops.1
-no_piece Truncated mode count part q rest said wrong stops says are = no_cut mode.layout mode.interfaces q rest part said says are stops.0
+no_piece Truncated mode count part q rest said wrong stops says are = no_cut mode.layout mode.interfaces q rest part said says are (short_is_part mode.layout part stops.0)
 no_piece Bad mode count part q rest said wrong (inl stops) says are = no_irregular mode.layout mode.interfaces q rest part said says are stops
 no_piece Bad mode count part q rest said wrong (inr stops) says are = no_whole mode.layout mode.interfaces q rest part said says are stops.0.0 stops.1
 no_piece TooLong mode count part q rest said wrong stops says are = no_long mode.layout mode.interfaces q rest part said says are stops

@@ -6,7 +6,7 @@ use Rattle.std.proofs.KnownBytes.{Consumes-nil, prepend_known-nil}
 use Rattle.tftp_pcap.specs.Frames.{FrameParts}
 use Rattle.tftp_pcap.specs.Pieces.{Announces, Says, Mode, Stands, start, given, said_of, next_mode}
 use Rattle.tftp_pcap.specs.Stops.{PiecesState, StepEnds}
-use Rattle.tftp_pcap.specs.History.{FailsToBegin, FillTells, ReaderState, StandsFor, Continues}
+use Rattle.tftp_pcap.specs.History.{FailsToBegin, FillTells, ReaderState, RunsOut, StandsFor, Continues}
 use Rattle.tftp_pcap.specs.declared.found.Found.{Found}
 use Rattle.tftp_pcap.specs.declared.found.Found.TheVariants as found
 use Rattle.tftp_pcap.specs.declared.layout.Layout.TheVariants.{Unopened, Classic, Blocks}
@@ -134,3 +134,10 @@ module _ (old : ReaderState) (pieces new : PiecesState) (count : ℕ) (before af
   continues_fault kind tells =
       let (taken, consumed, goes) = tells bytes frames open_now.0 in
       record { taken = taken; consumed = consumed_now taken consumed; stands = record { fails = goes; number = ap (λ n. n + 1) open_now.1 } }
+
+  pub short_fault : (room : ℕ) → ((more : List ℕ) (given_before : List FrameParts) → Stands more pieces.mode pieces.count given_before
+      → (taken : List ℕ) × Consumes (prepend_known pieces.ahead before) (prepend_known new.ahead after) taken × RunsOut room pieces.room (more ++ taken) given_before)
+      → (taken : List ℕ) × Consumes (prepend_known old.pieces.ahead before) (prepend_known new.ahead after) taken × RunsOut room old.pieces.room (bytes ++ taken) frames
+  short_fault room wants =
+      let (taken, consumed, out) = wants bytes frames open_now.0 in
+      (taken, consumed_now taken consumed, subst (λ (r : ReaderState). RunsOut room r.pieces.room (bytes ++ taken) frames) is out)

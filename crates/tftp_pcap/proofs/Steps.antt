@@ -1,14 +1,16 @@
 -- Pieces, one after another.
-use Rattle.std.proofs.Common.{◌≡◌, ◌≢◌, inl, ℕ, ◌+◌, List, [], ◌∷◌, ◌++◌, length-append, refl, sym, ap, ◌∙◌, subst, append_assoc, append-nil, arith}
+use Rattle.std.proofs.Common.{◌≡◌, ◌≢◌, ◌≤◌, inl, inr, ℕ, ◌+◌, List, length, [], ◌∷◌, ◌++◌, length-append, refl, sym, ap, ◌∙◌, subst, append_assoc, append-nil, arith}
 use Rattle.std.specs.Prelude.{Option, Some, None, Ok, Err, flat_map}
 use Rattle.std.specs.Io.KnownBytes.{prepend_known, Consumes}
 use Rattle.std.proofs.KnownBytes.{Consumes-trans}
 use Rattle.std.proofs.lemmas.Grind.{flat_map-append}
 use Rattle.tftp_pcap.specs.Frames.{FrameParts}
 use Rattle.tftp_pcap.specs.Pieces.{Said, Says, Mode, Follows, Stands, IsRecording, next_mode, given, said_of}
-use Rattle.tftp_pcap.specs.History.{FailsAs}
-use Rattle.tftp_pcap.specs.Stops.{PieceEnds, Stops, PiecesState, StepEnds}
+use Rattle.tftp_pcap.specs.History.{FailsAs, RunsOut}
+use Rattle.tftp_pcap.specs.Stops.{IsLonger, PieceEnds, Stops, PiecesState, StepEnds, WantsMemory}
 use Rattle.tftp_pcap.specs.declared.found.Found.{Found}
+use Rattle.tftp_pcap.specs.declared.found.Found.TheVariants as found
+use Rattle.tftp_pcap.specs.declared.layout.Interface.{Interface}
 use Rattle.tftp_pcap.specs.declared.fault.FaultKind.{FaultKind}
 use Rattle.tftp_pcap.specs.declared.fault.FaultKind.TheVariants.{NotARecording, Truncated, Bad, TooLong, TooMany, Read, Memory}
 
@@ -47,6 +49,21 @@ pub step_fails : (kind : FaultKind) (shown old : PiecesState) (before after : Op
 step_fails kind shown old before after piece is consumed ends =
     (piece, subst (λ (s : PiecesState). Consumes (prepend_known s.ahead before) after piece) is consumed, (stops_of kind old.mode old.count piece (subst (λ (s : PiecesState). PieceEnds s.mode.layout (Err kind) piece) is ends), λ h. refl))
 
+-- the same of memory that is wanted for the bytes of a piece, and for an interface
+pub wants_bytes : (room : ℕ) (shown old : PiecesState) (piece : List ℕ) → shown ≡ old → IsLonger room shown.mode.layout piece → WantsMemory room old.room old.mode piece
+wants_bytes room shown old piece is longer = inl (subst (λ (s : PiecesState). IsLonger room s.mode.layout piece) is longer)
+
+pub wants_place : (room : ℕ) (shown old : PiecesState) (piece : List ℕ) (f : Found) → shown ≡ old → (interface : Interface) × (f ≡ found.Names interface)
+    → Says shown.mode.layout shown.mode.interfaces piece (said_of f piece) → shown.room ≤ length shown.mode.interfaces → WantsMemory room old.room old.mode piece
+wants_place room shown old piece f is (interface, named) says full =
+    let here : WantsMemory room shown.room shown.mode piece = inr (interface, subst (λ (g : Found). Says shown.mode.layout shown.mode.interfaces piece (said_of g piece)) named says, full) in
+    subst (λ (s : PiecesState). WantsMemory room s.room s.mode piece) is here
+
+-- where there is less room, memory is wanted as well
+wants_more : (low room few places : ℕ) (mode : Mode) (part : List ℕ) → low ≤ room → few ≤ places → WantsMemory room places mode part → WantsMemory low few mode part
+wants_more low room few places mode part roomier further (inl (size, is, full)) = inl (size, is, omega (arith, roomier, full))
+wants_more low room few places mode part roomier further (inr (interface, says, full)) = inr (interface, says, omega (arith, further, full))
+
 -- ---- from what was reached to the answer
 
 module _ (bytes taken more piece : List ℕ) (frames : List FrameParts) (old new : PiecesState) (start middle end : Option (List ℕ))
@@ -66,6 +83,13 @@ module _ (bytes taken more piece : List ℕ) (frames : List FrameParts) (old new
   reach_none (none, opened, mode, count, few) =
       let same : bytes ++ taken ≡ bytes ++ (taken ++ more) = ap (λ l. bytes ++ l) (sym (append-nil taken) ∙ ap (λ l. taken ++ l) (sym none)) in
       (taken ++ more, both, record { mode = old.mode; count = old.count; stands = subst (λ (b : List ℕ). Stands b old.mode old.count frames) same goes; opened = opened; few = few })
+
+  pub reach_short : (low room few places : ℕ) → low ≤ room → few ≤ places → more ≡ piece → WantsMemory room places old.mode piece → (all : List ℕ) × Consumes start end all × RunsOut low few (bytes ++ all) frames
+  reach_short low room few places roomier further is wants = (
+    taken ++ more,
+    both,
+    record { good = bytes ++ taken; part = more; mode = old.mode; count = old.count; are = sym (append_assoc bytes taken more); stands = goes; wants = wants_more low room few places old.mode more roomier further (subst (WantsMemory room places old.mode) (sym is) wants) },
+  )
 
   pub reach_fault : (kind : FaultKind) → Stops kind old.mode old.count more → (all : List ℕ) × Consumes start end all × FailsAs (bytes ++ all) frames kind
   reach_fault kind stops = (taken ++ more, both, record { good = bytes ++ taken; part = more; mode = old.mode; count = old.count; are = sym (append_assoc bytes taken more); stands = goes; stops = stops })

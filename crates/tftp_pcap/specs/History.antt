@@ -3,7 +3,7 @@ use Rattle.std.specs.Prelude.{◌≡◌, ◌+◌, ◌≤◌, ◌⊎◌, ℕ, Boo
 use Rattle.std.specs.Io.KnownBytes.{Consumes, IsAtEnd}
 use Rattle.tftp_pcap.specs.Frames.{FrameParts, frame_at}
 use Rattle.tftp_pcap.specs.Pieces.{Mode, Stands, IsRecording}
-use Rattle.tftp_pcap.specs.Stops.{PiecesState, Stops}
+use Rattle.tftp_pcap.specs.Stops.{PiecesState, Stops, WantsMemory}
 use Rattle.tftp_pcap.specs.declared.place.Place.{Place}
 use Rattle.tftp_pcap.specs.declared.fault.FaultKind.{FaultKind}
 use Rattle.tftp_pcap.specs.declared.fault.FaultKind.TheVariants.{NotARecording, Truncated, Bad, TooLong, TooMany, Read, Memory}
@@ -20,6 +20,17 @@ pub record FailsAs (bytes : List ℕ) (frames : List FrameParts) (kind : FaultKi
   pub are : bytes ≡ good ++ part
   pub stands : Stands good mode count frames
   pub stops : Stops kind mode count part
+
+-- The bytes are whole pieces, which give these frames, and then some of a piece for which memory is wanted, where there is
+-- room for so many bytes of a piece and for so many interfaces.
+pub record RunsOut (room places : ℕ) (bytes : List ℕ) (frames : List FrameParts) : Type 0 where
+  pub good : List ℕ
+  pub part : List ℕ
+  pub mode : Mode
+  pub count : ℕ
+  pub are : bytes ≡ good ++ part
+  pub stands : Stands good mode count frames
+  pub wants : WantsMemory room places mode part
 
 -- a fault of the recording, and not of its reader or of memory
 abbrev pub IsWrong : FaultKind → Type 0

@@ -7,9 +7,9 @@ use Rattle.tftp_pcap.specs.declared.layout.Layout.TheVariants.{Unopened}
 use Rattle.tftp_pcap.specs.declared.fault.FaultKind.{FaultKind}
 use Rattle.tftp_pcap.specs.declared.fault.FaultKind.TheVariants.{NotARecording, Bad, TooLong}
 
--- a piece that begins so is none: it announces no size, or one that no piece has
+-- bytes that in front begin as a recording does begin no piece: they announce no size, or one that no piece has
 abbrev pub IsIrregular : Layout → List ℕ → Type 0
-IsIrregular layout bytes = (front_of layout ≤ length bytes) × ((size : ℕ) → Announces layout bytes size → (size ≤ longest_piece layout) × (IsRegular layout size → ⊥))
+IsIrregular layout bytes = (front_of layout ≤ length bytes) × ((size : ℕ) → Announces layout bytes size → (size ≤ longest_piece layout) × (IsRegular layout size → ⊥)) × (layout ≡ Unopened → BeginsAsOne bytes)
 
 -- a piece that begins so is longer than any that is read
 abbrev pub IsTooLong : Layout → List ℕ → Type 0

@@ -1,7 +1,7 @@
 ghost use Rattle.std.specs.Prelude.{◌≡◌, ◌≢◌, ◌+◌, ◌<◌, ◌≤◌, ◌⊎◌, ◌^◌, ◌++◌, ℕ, List, [], true, false, None, Ok, Err};
 ghost use Rattle.std.specs.Io.KnownBytes.{prepend_known, Consumes, IsAtEnd};
 ghost use Rattle.tftp_pcap.specs.Frames.{FrameParts, no_frame};
-ghost use Rattle.tftp_pcap.specs.History.{FillTells};
+ghost use Rattle.tftp_pcap.specs.History.{FillTells, RunsOut};
 ghost use Rattle.tftp_pcap.specs.Pieces.{Stands};
 
 use crate::fault::FaultKind;
@@ -73,6 +73,9 @@ impl Frame {
         ensures tells { (bytes : List ℕ) (frames : List FrameParts) → Stands bytes pieces.old.mode pieces.old.count frames
             → (taken : List ℕ) × Consumes (prepend_known pieces.old.ahead (R.remaining reader.old.0)) (prepend_known pieces.new.ahead (R.remaining reader.new.0)) taken
             × FillTells result pieces.new self.new.parts (bytes ++ taken) frames }
+        ensures wants { (bytes : List ℕ) (frames : List FrameParts) → Stands bytes pieces.old.mode pieces.old.count frames → result ≡ Err FaultKind.Memory
+            → (taken : List ℕ) × Consumes (prepend_known pieces.old.ahead (R.remaining reader.old.0)) (prepend_known pieces.new.ahead (R.remaining reader.new.0)) taken
+            × RunsOut self.old.room pieces.old.room (bytes ++ taken) frames }
         ensures number { result ≡ Ok true → self.new.number ≡ number }
         ensures end { (result ≡ Ok false) ⊎ (result ≡ Err FaultKind.Truncated) → IsAtEnd (prepend_known pieces.new.ahead (R.remaining reader.new.0)) }
         ensures read { result ≡ Err FaultKind.Read → reader.new.1 ≡ true }
@@ -81,6 +84,8 @@ impl Frame {
         ensures grows { result ≡ Ok true → pieces.old.count < pieces.new.count }
         ensures stays { pieces.old.count ≤ pieces.new.count }
         ensures few { pieces.new.count ≤ 2 ^ 40 }
+        ensures roomy { self.old.room ≤ self.new.room }
+        ensures places { pieces.old.room ≤ pieces.new.room }
     {
         self.place.start = 0;
         self.place.end = 0;

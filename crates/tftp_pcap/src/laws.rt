@@ -15,6 +15,11 @@ pub fn fault_is_in_no_recording()
     ensures { (bytes : List ℕ) (some others : List FrameParts) (kind : FaultKind) → IsWrong kind → FailsAs bytes some kind → IsRecording bytes others → ⊥ }
 {}
 
+/// Bytes have one fault of the recording: the same frames come before it, and so it is at the same frame, and of one kind.
+pub fn fault_is_one()
+    ensures { (bytes : List ℕ) (some others : List FrameParts) (one other : FaultKind) → IsWrong one → IsWrong other → FailsAs bytes some one → FailsAs bytes others other → (some ≡ others) × (one ≡ other) }
+{}
+
 /// A worked frame, an ACK, recorded by tcpdump and written by editcap of Wireshark: as a classic recording, and in blocks.
 pub fn worked_recordings()
     ensures classic { IsRecording worked_classic (worked_frame ∷ []) }

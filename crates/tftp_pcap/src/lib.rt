@@ -24,7 +24,9 @@ mod times;
 
 pub use fault::{FaultKind, PcapFault};
 pub use frame::{Direction, Frame};
-pub use laws::{fault_is_in_no_recording, recording_has_one_reading, worked_recordings};
+pub use laws::{
+    fault_is_in_no_recording, fault_is_one, recording_has_one_reading, worked_recordings,
+};
 pub use layout::{Classic, Interface, Layout};
 pub use numbers::Order;
 pub use reader::FrameReader;

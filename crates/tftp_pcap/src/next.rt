@@ -2,7 +2,7 @@ ghost use Rattle.std.specs.Prelude.{◌≡◌, ◌≢◌, ◌+◌, ◌<◌, ◌�
 ghost use Rattle.std.specs.Io.KnownBytes.{prepend_known, Consumes, IsAtEnd};
 ghost use Rattle.tftp_pcap.specs.Frames.{FrameParts};
 ghost use Rattle.tftp_pcap.specs.Pieces.{Stands, given, said_of};
-ghost use Rattle.tftp_pcap.specs.History.{PlaceTells};
+ghost use Rattle.tftp_pcap.specs.History.{PlaceTells, RunsOut};
 ghost use Rattle.tftp_pcap.specs.declared.found.Found.{Found};
 
 use crate::fault::FaultKind;
@@ -32,6 +32,9 @@ pub fn next_place<R: Read>(
     ensures tells { (bytes : List ℕ) (frames : List FrameParts) → Stands bytes pieces.old.mode pieces.old.count frames
         → (taken : List ℕ) × Consumes (prepend_known pieces.old.ahead (R.remaining reader.old.0)) (prepend_known pieces.new.ahead (R.remaining reader.new.0)) taken
         × PlaceTells result pieces.new piece.new.items (bytes ++ taken) frames }
+    ensures wants { (bytes : List ℕ) (frames : List FrameParts) → Stands bytes pieces.old.mode pieces.old.count frames → result ≡ Err FaultKind.Memory
+        → (taken : List ℕ) × Consumes (prepend_known pieces.old.ahead (R.remaining reader.old.0)) (prepend_known pieces.new.ahead (R.remaining reader.new.0)) taken
+        × RunsOut (vec_capacity piece.old) pieces.old.room (bytes ++ taken) frames }
     ensures within { IfOk result (λ answer. IfSome answer (λ place. (place.start ≤ place.end) × (place.end ≤ length piece.new.items))) }
     ensures end { (result ≡ Ok None) ⊎ (result ≡ Err FaultKind.Truncated) → IsAtEnd (prepend_known pieces.new.ahead (R.remaining reader.new.0)) }
     ensures read { result ≡ Err FaultKind.Read → reader.new.1 ≡ true }
@@ -40,6 +43,8 @@ pub fn next_place<R: Read>(
     ensures grows { IfOk result (λ answer. IfSome answer (λ _. pieces.old.count < pieces.new.count)) }
     ensures stays { pieces.old.count ≤ pieces.new.count }
     ensures few { pieces.new.count ≤ 2 ^ 40 }
+    ensures roomy { vec_capacity piece.old ≤ vec_capacity piece.new }
+    ensures places { pieces.old.room ≤ pieces.new.room }
 {
     'pieces: loop {
         match pieces.step(reader, piece) {

@@ -1,7 +1,7 @@
 ghost use Rattle.std.specs.Prelude.{◌≡◌, ◌≢◌, ◌≤◌, ◌<◌, ◌⊎◌, [], length, vec_capacity, true, false, Ok, Err};
 ghost use Rattle.std.specs.Io.KnownBytes.{prepend_known, Consumes, IsAtEnd};
-ghost use Rattle.tftp_pcap.specs.Pieces.{longest_piece, front_of};
-ghost use Rattle.tftp_pcap.specs.Stops.{PieceEnds};
+ghost use Rattle.tftp_pcap.specs.Pieces.{front_of};
+ghost use Rattle.tftp_pcap.specs.Stops.{IsLonger, PieceEnds};
 
 use crate::fault::FaultKind;
 use crate::gather::gather;
@@ -39,7 +39,8 @@ pub fn read_piece<R: Read>(
     ensures drained { result ≡ Err FaultKind.Read → ahead.new ≡ [] }
     ensures tally { result ≢ Err FaultKind.Read → reader.new.1 ≡ reader.old.1 }
     ensures short { result ≡ Err FaultKind.NotARecording → IsAtEnd (prepend_known ahead.new (R.remaining reader.new.0)) ⊎ (12 ≤ length piece.new.items) }
-    ensures memory { result ≡ Err FaultKind.Memory → vec_capacity piece.old < longest_piece layout }
+    ensures memory { result ≡ Err FaultKind.Memory → IsLonger (vec_capacity piece.old) layout piece.new.items }
+    ensures roomy { vec_capacity piece.old ≤ vec_capacity piece.new }
 {
     piece.clear();
     if !gather(ahead, reader, piece, front_of(layout))? {

@@ -2,7 +2,7 @@ ghost use Rattle.std.specs.Prelude.{◌≡◌, ◌≢◌, ◌+◌, ◌<◌, ◌�
 ghost use Rattle.std.specs.Io.KnownBytes.{prepend_known, Consumes, IsAtEnd};
 ghost use Rattle.tftp_pcap.specs.Frames.{FrameParts};
 ghost use Rattle.tftp_pcap.specs.Pieces.{start};
-ghost use Rattle.tftp_pcap.specs.History.{Continues, FailsToBegin, KeepsAnswer, StandsFor, standing_after};
+ghost use Rattle.tftp_pcap.specs.History.{Continues, FailsToBegin, KeepsAnswer, RunsOut, StandsFor, standing_after};
 
 use crate::fault::{FaultKind, PcapFault};
 use crate::frame::Frame;
@@ -105,6 +105,11 @@ impl FrameReader {
         ensures read { self.old.standing ≡ Standing.Open → IfErr result (λ fault. fault.kind ≡ FaultKind.Read → reader.new.1 ≡ true) }
         ensures tally { IfErr result (λ fault. fault.kind ≢ FaultKind.Read → reader.new.1 ≡ reader.old.1) }
         ensures clean { OnOk result (reader.new.1 ≡ reader.old.1) }
+        ensures wants { (bytes : List ℕ) (frames : List FrameParts) → StandsFor self.old bytes frames → self.old.standing ≡ Standing.Open → IfErr result (λ fault. fault.kind ≡ FaultKind.Memory
+            → (taken : List ℕ) × Consumes (prepend_known self.old.pieces.ahead (R.remaining reader.old.0)) (prepend_known self.new.pieces.ahead (R.remaining reader.new.0)) taken
+            × RunsOut frame.old.room self.old.pieces.room (bytes ++ taken) frames) }
+        ensures roomy { frame.old.room ≤ frame.new.room }
+        ensures places { self.old.pieces.room ≤ self.new.pieces.room }
         ensures number { result ≡ Ok true → frame.new.number ≡ self.old.count + 1 }
         ensures counts { result ≡ Ok true → self.new.count ≡ self.old.count + 1 }
         ensures stays { result ≢ Ok true → self.new.count ≡ self.old.count }

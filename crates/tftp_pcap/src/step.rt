@@ -3,7 +3,7 @@ ghost use Rattle.std.specs.Io.KnownBytes.{prepend_known, Consumes, IsAtEnd};
 ghost use Rattle.tftp_pcap.specs.declared.layout.Interface.{Interface};
 ghost use Rattle.tftp_pcap.specs.declared.found.Found.{Found};
 ghost use Rattle.tftp_pcap.specs.Pieces.{LiesWithin, next_mode, said_of, start};
-ghost use Rattle.tftp_pcap.specs.Stops.{StepEnds};
+ghost use Rattle.tftp_pcap.specs.Stops.{StepEnds, WantsMemory};
 
 use crate::fault::FaultKind;
 use crate::found::Found;
@@ -61,6 +61,7 @@ impl Pieces {
         ensures count { result ≡ true → self.new.count ≡ self.old.count + 1 }
         ensures ahead { self.new.ahead ≡ self.old.ahead }
         ensures full { result ≡ false → self.old.room ≤ length self.old.mode.interfaces }
+        ensures places { self.old.room ≤ self.new.room }
         ensures stays { self.old.count ≤ self.new.count }
         ensures few { self.new.count ≤ 2 ^ 40 }
         ensures named { result ≡ false → (interface : Interface) × (found ≡ Found.Names interface) }
@@ -97,7 +98,9 @@ impl Pieces {
         ensures short { result ≡ Err FaultKind.NotARecording → IsAtEnd (prepend_known self.new.ahead (R.remaining reader.new.0)) ⊎ (12 ≤ length piece.new.items) }
         ensures stays { self.old.count ≤ self.new.count }
         ensures few { self.new.count ≤ 2 ^ 40 }
-        ensures memory { result ≡ Err FaultKind.Memory → (vec_capacity piece.old < 2 ^ 24) ⊎ (self.old.room ≤ length self.old.mode.interfaces) }
+        ensures memory { result ≡ Err FaultKind.Memory → WantsMemory (vec_capacity piece.old) self.old.room self.old.mode piece.new.items }
+        ensures roomy { vec_capacity piece.old ≤ vec_capacity piece.new }
+        ensures places { self.old.room ≤ self.new.room }
     {
         if self.count == MOST_PIECES {
             return Err(FaultKind::TooMany);

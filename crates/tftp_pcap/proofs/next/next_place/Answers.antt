@@ -1,8 +1,9 @@
-use Rattle.std.proofs.Common.{◌++◌, List, append-nil, ap, ◌∙◌, subst, arith}
+use Rattle.std.proofs.Common.{◌≡◌, ◌++◌, Err, List, append-nil, ap, sym, ◌∙◌, subst, arith}
 use Rattle.std.proofs.lemmas.Grind.{common_steps}
 use Rattle.tftp_pcap.specs.Frames.{FrameParts}
 use Rattle.tftp_pcap.specs.Pieces.{Stands}
-use Rattle.tftp_pcap.proofs.Steps.{reach_said, reach_none, reach_fault}
+use Rattle.tftp_pcap.specs.declared.fault.FaultKind.TheVariants.{Memory, TooMany}
+use Rattle.tftp_pcap.proofs.Steps.{reach_said, reach_none, reach_fault, reach_short}
 use Rattle.tftp_pcap.proofs.next.next_place.Goals as goal
 
 pub returns-in-Some-clause-tells : goal.returns-in-Some-clause-tells
@@ -17,6 +18,8 @@ pieces-preserved g c =
     let ends = rw c.in-Ok-Some.field-0-is at c.in-Ok-Some.ensures.ends in
     record {
       tally = grind (arith, common_steps);
+      roomy = omega (arith, c.in-Ok-Some.ensures.roomy, c.pieces.invariant.roomy);
+      places = omega (arith, c.in-Ok-Some.ensures.places, c.pieces.invariant.places);
       grows = omega (arith, ends.2.3, c.pieces.invariant.grows);
       reaches = λ bytes frames stands.
           let (taken, consumed, goes) = c.pieces.invariant.reaches bytes frames stands in
@@ -34,3 +37,14 @@ pub returns-in-Err-clause-tells : goal.returns-in-Err-clause-tells
 returns-in-Err-clause-tells g c = λ bytes frames stands.
     let (taken, consumed, goes) = c.pieces.invariant.reaches bytes frames stands in
     reach_fault bytes taken c.in-Err.ensures.ends.0 c.step.new.piece.items frames c.pieces.pieces c.step.new.self _ _ _ consumed goes c.in-Err.ensures.ends.1 c.in-Err.kind c.in-Err.ensures.ends.2.0
+
+many : Memory ≡ TooMany → ⊥
+many e = cc
+
+pub returns-in-Err-clause-wants : goal.returns-in-Err-clause-wants
+returns-in-Err-clause-wants g c = λ bytes frames stands h.
+    let (taken, consumed, goes) = c.pieces.invariant.reaches bytes frames stands in
+    let kind : c.in-Err.kind ≡ Memory = cc in
+    let ends = c.in-Err.ensures.ends in
+    let same = ends.2.1 (λ e. many (sym kind ∙ e)) in
+    reach_short bytes taken ends.0 c.step.new.piece.items frames c.pieces.pieces c.step.new.self _ _ _ consumed goes ends.1 _ _ _ _ c.pieces.invariant.roomy c.pieces.invariant.places same (c.in-Err.ensures.memory (ap Err kind))

@@ -1,7 +1,8 @@
-use Rattle.std.proofs.Common.{◌≡◌, Ok, Bool, Result, sym, ap, ◌∙◌, arith}
+use Rattle.std.proofs.Common.{◌≡◌, ◌<◌, inl, refl, rules, vec_capacity, Ok, Bool, Result, sym, ap, ◌∙◌, arith}
 use Rattle.std.proofs.lemmas.Bool.{false≢true}
 use Rattle.tftp_pcap.specs.declared.fault.FaultKind.{FaultKind}
-use Rattle.tftp_pcap.proofs.Fronts.{taken_two, grown_part, grown_cut, grown_whole, front_some, failed_part}
+use Rattle.tftp_pcap.specs.Pieces.{front_of}
+use Rattle.tftp_pcap.proofs.Fronts.{taken_two, grown_longer, grown_part, grown_cut, grown_whole, front_some, failed_part}
 use Rattle.tftp_pcap.proofs.read.read_piece.Goals as goal
 
 ok_one : (a b : Bool) → ◌≡◌ {A = Result Bool FaultKind} (Ok a) (Ok b) → a ≡ b
@@ -22,7 +23,7 @@ returns-in-Ok-true-clause-ends g c =
 
 pub returns-in-Ok-false-clause-ends : goal.returns-in-Ok-false-clause-ends
 returns-in-Ok-false-clause-ends g c =
-    grown_cut c.args.layout c.gather.new.piece.items c.gather-2.new.piece.items c.in-Ok-false.ensures.gathers.0 c.in_ok-size.size c.in-Ok-false.ensures.gathers.2 (rw c.deref-2.ensures.value at c.in_ok-size.ensures.0) (let whole = c.in_ok-gather.ensures.whole (ap Ok c.if-not-branch.false) in omega (arith, whole, c.front_of.ensures)) (front_some c.args.layout) (c.in-Ok-false.ensures.part (λ e. false≢true (sym c.in-Ok-false.field-0-test ∙ ok_one _ _ e)))
+    grown_cut c.args.layout c.gather.new.piece.items c.gather-2.new.piece.items c.in-Ok-false.ensures.gathers.0 c.in_ok-size.size c.in-Ok-false.ensures.gathers.2 (rw c.deref-2.ensures.value at c.in_ok-size.ensures.0) (let whole = c.in_ok-gather.ensures.whole (ap Ok c.if-not-branch.false) in omega (arith, whole, c.front_of.ensures)) (front_some c.args.layout) c.in_ok-size.ensures.1 (c.in-Ok-false.ensures.part (λ e. false≢true (sym c.in-Ok-false.field-0-test ∙ ok_one _ _ e)))
 
 pub returns-in-Err-clause-ends : goal.returns-in-Err-clause-ends
 returns-in-Err-clause-ends g c =
@@ -30,4 +31,11 @@ returns-in-Err-clause-ends g c =
     (grown_part c.args.layout c.gather.new.piece.items c.gather-2.new.piece.items c.in-Err.ensures.gathers.0 c.in_ok-size.size c.in-Err.ensures.gathers.2 (rw c.deref-2.ensures.value at c.in_ok-size.ensures.0) (c.in-Err.ensures.part (λ e. let x : ⊥ = cc in x)))
 
 pub returns-in-Err-clause-memory : goal.returns-in-Err-clause-memory
-returns-in-Err-clause-memory g c = λ h. let full = c.in-Err.ensures.memory h in omega (arith, full, c.in_ok-size.ensures.1.0, c.clear.ensures.capacity, c.in_ok-gather.ensures.roomy)
+returns-in-Err-clause-memory g c = λ h.
+    let full = c.in-Err.ensures.memory h in
+    grown_longer c.args.layout c.gather.new.piece.items c.gather-2.new.piece.items c.in-Err.ensures.gathers.0 c.in_ok-size.size c.in-Err.ensures.gathers.2 (rw c.deref-2.ensures.value at c.in_ok-size.ensures.0) _ c.in_ok-size.ensures.1 (omega (arith, full, c.clear.ensures.capacity, c.in_ok-gather.ensures.roomy))
+
+pub returns-in_err-gather-clause-memory : goal.returns-in_err-gather-clause-memory
+returns-in_err-gather-clause-memory g c = λ h.
+    let full : vec_capacity c.clear.new.self < c.front_of.result = search rules in
+    (front_of c.args.layout, inl refl, omega (arith, full, c.clear.ensures.capacity, c.front_of.ensures))

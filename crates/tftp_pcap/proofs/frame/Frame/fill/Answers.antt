@@ -1,3 +1,7 @@
+use Rattle.std.proofs.Common.{◌≡◌, ◌++◌, ℕ, Err, ap, subst}
+use Rattle.tftp_pcap.specs.Frames.{FrameState}
+use Rattle.tftp_pcap.specs.History.{RunsOut}
+use Rattle.tftp_pcap.specs.declared.fault.FaultKind.TheVariants.{Memory}
 use Rattle.tftp_pcap.proofs.frame.Frame.fill.Goals as goal
 
 pub returns-in-Ok-Some-clause-tells : goal.returns-in-Ok-Some-clause-tells
@@ -5,3 +9,9 @@ returns-in-Ok-Some-clause-tells g c = rw c.in-Ok-Some.field-0-is at c.in-Ok-Some
 
 pub returns-in-Ok-None-clause-tells : goal.returns-in-Ok-None-clause-tells
 returns-in-Ok-None-clause-tells g c = rw c.in-Ok-None.field-0-is at c.in-Ok-None.ensures.tells
+
+pub returns-in-Err-clause-wants : goal.returns-in-Err-clause-wants
+returns-in-Err-clause-wants g c = λ bytes frames stands h.
+    let kind : c.in-Err.kind ≡ Memory = cc in
+    let (taken, consumed, out) = c.in-Err.ensures.wants bytes frames stands (ap Err kind) in
+    (taken, consumed, subst (λ (room : ℕ). RunsOut room c.args.pieces.now.room (bytes ++ taken) frames) (ap (λ (f : FrameState). f.room) c.self.view_is) out)

@@ -1,5 +1,5 @@
-use Rattle.std.proofs.Common.{◌≡◌}
-use Rattle.tftp_pcap.proofs.Standings.{continues_frame, continues_end, continues_fault}
+use Rattle.std.proofs.Common.{◌≡◌, Err, ap}
+use Rattle.tftp_pcap.proofs.Standings.{continues_frame, continues_end, continues_fault, short_fault}
 use Rattle.tftp_pcap.specs.declared.standing.Standing.TheVariants.{Open}
 use Rattle.tftp_pcap.proofs.reader.FrameReader.next_into.Goals as goal
 
@@ -19,3 +19,8 @@ pub returns-in-Err-clause-continues : goal.returns-in-Err-clause-continues
 returns-in-Err-clause-continues g c = λ bytes frames stands.
     let is : record { pieces = c.self.inside.pieces; count = c.self.inside.count; standing = Open } ≡ c.args.self.now = rw c.in-Open.is at c.self.view_is in
     continues_fault c.args.self.now c.self.inside.pieces c.fill.new.pieces c.self.inside.count (g.R.Read.remaining c.args.reader.now.0) (g.R.Read.remaining c.fill.new.reader.0) c.fill.new.self.parts bytes frames is stands c.in-Err.kind c.in-Err.ensures.tells
+
+pub returns-in-Err-clause-wants : goal.returns-in-Err-clause-wants
+returns-in-Err-clause-wants g c = λ bytes frames stands due memory.
+    let is : record { pieces = c.self.inside.pieces; count = c.self.inside.count; standing = Open } ≡ c.args.self.now = rw c.in-Open.is at c.self.view_is in
+    short_fault c.args.self.now c.self.inside.pieces c.fill.new.pieces c.self.inside.count (g.R.Read.remaining c.args.reader.now.0) (g.R.Read.remaining c.fill.new.reader.0) c.fill.new.self.parts bytes frames is stands _ (λ more given goes. c.in-Err.ensures.wants more given goes (ap Err memory))

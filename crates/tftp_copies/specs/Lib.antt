@@ -1,0 +1,3 @@
+pub mod Copies
+pub mod Held
+pub mod Worked

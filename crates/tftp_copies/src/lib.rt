@@ -1,0 +1,8 @@
+//! Copies of packets in a recording that was taken at several interfaces of a host.
+#![tactic(auto)]
+
+mod laws;
+mod recent;
+
+pub use laws::{copy_came_before, near_packet_is_told, worked_copies};
+pub use recent::Recent;
