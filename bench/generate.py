@@ -18,6 +18,7 @@
     file        a text whose lines end in LF
     wire        a text whose lines end in CR LF
     random      bytes of every value, the same each time
+    recording   a recording of that read in the format pcap, in frames of Ethernet, IPv4 and UDP
     ports       the ports 1 to 65534 in another order, and again, by two bytes each
 
 The bytes of the blocks are random, as those of firmware are, and the same each time; the last block is shorter. There
@@ -28,6 +29,7 @@ from __future__ import annotations
 
 import base64
 import random
+import struct
 import sys
 from collections.abc import Callable
 
@@ -195,6 +197,27 @@ def comments(line: bytes, wanted: int) -> None:
     out.write(total_line(before))
 
 
+def record(number: int, source: int, target: int, payload: bytes) -> bytes:
+    """A datagram between the two ends in a frame, a tenth of a millisecond after the one before."""
+    udp = struct.pack("!HHHH", source, target, 8 + len(payload), 0) + payload
+    hosts = bytes((192, 0, 2, 1, 192, 0, 2, 7)) if target == 40_000 else bytes((192, 0, 2, 7, 192, 0, 2, 1))
+    ip = struct.pack("!BBHHHBBH", 0x45, 0, 20 + len(udp), number % 65_535 + 1, 0, 64, 17, 0) + hosts
+    frame = bytes(12) + b"\x08\0" + ip + udp
+    seconds, part = divmod(100 * number, 1_000_000)
+    return struct.pack("<IIII", 1_700_000_000 + seconds, part, len(frame), len(frame)) + frame
+
+
+def recording(wanted: int, size: int = USUAL) -> None:
+    """A recording of a read in blocks of this size in lock step, round and round."""
+    out.write(struct.pack("<IHHiIII", 0xA1B2C3D4, 2, 4, 0, 0, 262_144, 1))
+    out.write(record(0, 40_000, 69, REQUEST))
+    pairs = wanted // (len(record(0, SERVER, 40_000, bytes(4 + size))) + len(record(0, 40_000, SERVER, bytes(4))))
+    for pair in range(pairs):
+        block = struct.pack("!H", pair % MOST + 1)
+        out.write(record(2 * pair + 1, SERVER, 40_000, b"\0\3" + block + chance.randbytes(size)))
+        out.write(record(2 * pair + 2, 40_000, SERVER, b"\0\4" + block))
+
+
 def ports(wanted: int) -> None:
     """Each port once before it comes again, and those beside each other far apart."""
     for turn in range(wanted // 2):
@@ -212,6 +235,7 @@ def wire(wanted: int) -> None:
 
 
 KINDS: dict[str, Callable[..., object]] = {
+    "recording": recording,
     "capture": capture,
     "netascii": netascii,
     "reversed": backwards,

@@ -52,6 +52,12 @@ for block in 512 1428 65464; do
     measure "wc -l, blocks of $block" wc -l
     measure "cat, blocks of $block" cat
 done
+# Recordings: how fast their datagrams are read.
+for block in 512 1428; do
+    generate recording 100000000 "$block"
+    measure "recording reader, blocks of $block" "$bench" recording
+    measure "cat, recording in blocks of $block" cat
+done
 generate capture 1000000000
 measure "capture reader, 1 GB" "$bench" capture
 generate acks 100000000

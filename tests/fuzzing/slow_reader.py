@@ -429,7 +429,14 @@ class Reader:
         it.frames.append(at)
         if it.is_whole():
             del self.waiting[key]
+            self.add_whole(at, frame, packet, it)
+
+    def add_whole(self, at: int, frame: Frame, packet: Packet, it: Waiting) -> None:
+        """A packet whose last missing part came; all its frames share its fate."""
+        try:
             self.add(at, frame, packet, bytes(it.cells[k] for k in range(it.reach)))
+        except Fault as fault:
+            self.leave(it.frames, str(fault))
 
     def add(self, at: int, frame: Frame, packet: Packet, content: bytes) -> None:
         """A whole packet."""

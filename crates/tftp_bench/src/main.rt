@@ -14,6 +14,7 @@ use tftp_capture::{CaptureReader, CaptureWriter, Datagram, Header, Tallied};
 use tftp_ends::{MapDelivered, RingDelivered};
 use tftp_netascii::{Decoder, encode};
 use tftp_packet::{Dir, End};
+use tftp_recording::{Event, Fate, RecordingReader};
 
 /// The most bytes that are read at once.
 const PIECE: usize = 65_536;
@@ -38,7 +39,7 @@ enum Way {
     Copy,
 }
 
-/// The first word says which work it is: `netascii-decode`, `netascii-encode`, `copy`, `capture`, `write`, `hex`,
+/// The first word says which work it is: `netascii-decode`, `netascii-encode`, `copy`, `capture`, `recording`, `write`, `hex`,
 /// `strays`, or a store and how it is filled, `map-large`, `map-small`, `map-reversed`, `ring-large`, `ring-small` or
 /// `ring-reversed`.
 fn main(rt: HostRuntime) -> io::Result<()> {
@@ -56,6 +57,10 @@ fn main(rt: HostRuntime) -> io::Result<()> {
         "copy" => translate(alloc, &mut reader, &mut writer, Way::Copy),
         "capture" => {
             let count = count_datagrams(alloc, reader)?;
+            println!(rt; "{count} datagrams")
+        }
+        "recording" => {
+            let count = count_recorded(alloc, reader)?;
             println!(rt; "{count} datagrams")
         }
         "write" => {
@@ -132,6 +137,27 @@ fn count_datagrams<R: Read + Drop>(alloc: Global, reader: R) -> io::Result<u64> 
             Ok(true) => {}
             Ok(false) => return Ok(count),
             Err(_) => break,
+        }
+    }
+    Err(io::Error::from(ErrorKind::InvalidData))
+}
+
+/// Counts the datagrams of a recording.
+fn count_recorded<R: Read + Drop>(alloc: Global, reader: R) -> io::Result<u64> {
+    let mut reader = Tallied::new(reader);
+    let Ok(mut recording) = RecordingReader::begin(alloc, &mut reader) else {
+        return Err(io::Error::from(ErrorKind::InvalidData));
+    };
+    let mut event = Event::empty(alloc);
+    let mut count: u64 = 0;
+    for _ in 0..u64::MAX {
+        match recording.next_into(alloc, &mut reader, &mut event) {
+            Ok(true) => {}
+            Ok(false) => return Ok(count),
+            Err(_) => break,
+        }
+        if let Fate::Datagram(_) = event.fate() {
+            count = count.saturating_add(1);
         }
     }
     Err(io::Error::from(ErrorKind::InvalidData))
