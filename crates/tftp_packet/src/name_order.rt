@@ -14,9 +14,9 @@ use crate::text::split_pair;
 use std::cmp::Ordering;
 
 /// How many names are sorted at a time.
-const MOST_NAMES: usize = 512;
+const MOST_NAMES: usize = 1_024;
 
-/// Whether two options have one name, letter case ignored. Takes no memory: 512 names are sorted at a time, and those after
+/// Whether two options have one name, letter case ignored. Takes no memory: names are sorted by the thousand, and those after
 /// them are looked for among them.
 #[inline(never)]
 pub(crate) fn has_repeat_in_order(bytes: &[u8]) -> bool
