@@ -331,18 +331,20 @@ class ProgramTrial(Trial):
 
     def refuse_growths(
         self, name: str, words: Sequence[str], given: bytes, output: Output, outputs: Iterable[Output]
-    ) -> int:
-        """Each growth refused, until a run meets no refusal: that one's is `output`. How many told want of memory."""
-        told = 0
+    ) -> tuple[int, int]:
+        """Each growth refused, until a run meets no refusal: that one's is `output`. How many told want of memory, and
+        how many were right all the same."""
+        told = right = 0
         for turn in range(1, 10_000):
             got = self.run(words, given, REFUSE=turn)
             if not got[2]:
                 self.expect(f"{name}, no growth refused", got, output)
-                return told
+                return told, right
             self.expect(f"{name}, growth {turn} refused", got, *outputs)
+            right += got[0] == output
             told += got[0][1] == 2 if words[0] in SILENT else got[0][0].endswith(MEMORY)
         self.check(f"{name}, growths", False, "no end")
-        return told
+        return told, right
 
     def fail_writes(self, name: str, words: Sequence[str], given: bytes, output: Output) -> None:
         """Each write failing, or taking nothing, of one byte a write; and none is made behind the last byte."""
@@ -374,8 +376,10 @@ class ProgramTrial(Trial):
     def try_growths(self, case: Case, command: str) -> None:
         name, output = f"{command}, {case.name}", case.output(command)
         self.expect(name, self.run([command], case.text), output)
-        told = self.refuse_growths(name, [command], case.text, output, case.outputs_without_memory(command))
+        told, right = self.refuse_growths(name, [command], case.text, output, case.outputs_without_memory(command))
         self.check(f"{name}, want of memory", told > 0, "is never met")
+        # Without memory for the lines that wait, each piece of them is written at once.
+        self.check(f"{name}, no memory for what waits", right > 0 or command in SILENT, "is never met")
 
     def try_case(self, case: Case, command: str) -> None:
         name, output = f"{command}, {case.name}", case.output(command)

@@ -17,7 +17,8 @@ from trial import Trial
 TESTS = {
     "tftp_tests": (
         *("packets::", "netascii::", "agreements::", "stores::", "states::", "ports::"),
-        *("captures::texts_", "captures::faults::tr"),
+        *("captures::texts_", "captures::faults::tr", "captures::a_read_is_written", "captures::bytes_are_gathered"),
+        *("captures::hosts::a_read_with_its_hosts_is_written",),
     ),
     "tftp_judge_tests": ("judges::a_read_is_accepted",),
 }

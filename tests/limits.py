@@ -11,7 +11,7 @@ from normal import Output, meaning_of, outputs_of_refused
 from trial import Trial
 
 # The stack that the program is run in, and the steps in which its memory is raised, in bytes.
-STACK, STEP = 128 * 1024, 16 * 1024
+STACK, STEP = 100 * 1024, 16 * 1024
 # In so much memory the empty program starts, and in so much each command has what it needs.
 MUCH = 8 * 1024 * 1024
 ENOUGH = 64 * 1024 * 1024

@@ -64,7 +64,7 @@ fn main(rt: HostRuntime) -> io::Result<()> {
             println!(rt; "{count} datagrams")
         }
         "write" => {
-            write_datagrams(&mut reader, writer)?;
+            write_datagrams(rt.alloc(), &mut reader, writer)?;
             Ok(())
         }
         "hex" => {
@@ -165,13 +165,17 @@ fn count_recorded<R: Read + Drop>(alloc: Global, reader: R) -> io::Result<u64> {
 
 /// Writes a capture whose datagrams carry the input, as many bytes each as a block may have at most (RFC 2348), and
 /// counts them.
-fn write_datagrams<R: Read, W: Write + Drop>(reader: &mut R, writer: W) -> io::Result<u64> {
+fn write_datagrams<R: Read, W: Write + Drop>(
+    alloc: Global,
+    reader: &mut R,
+    writer: W,
+) -> io::Result<u64> {
     let mut writer = Tallied::new(writer);
     let header = Header {
         named: End::Client,
         service: 69,
     };
-    let Ok(mut capture) = CaptureWriter::begin(&mut writer, &header) else {
+    let Ok(mut capture) = CaptureWriter::begin(alloc, &mut writer, &header) else {
         return Err(io::Error::from(ErrorKind::Other));
     };
     let mut piece = [0u8; LARGEST];

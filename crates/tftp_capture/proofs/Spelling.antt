@@ -1,5 +1,5 @@
 -- The lines of a text, in the pieces that are written.
-use Rattle.std.proofs.Common.{◌≡◌, ℕ, ◌+◌, ◌-◌, ◌/◌, ◌%◌, slice_index, List, [], ◌∷◌, ◌++◌, length, map, take, drop, codes, decimal, Option, refl, sym, ap, ◌∙◌, arith, append_assoc, append-nil, length-append}
+use Rattle.std.proofs.Common.{◌≡◌, ℕ, ◌+◌, ◌-◌, ◌/◌, ◌%◌, slice_index, List, [], ◌∷◌, ◌++◌, length, map, take, drop, codes, decimal, Option, refl, sym, ap, ◌∙◌, arith, append_assoc, append-nil, length-append, take-append-drop}
 use Rattle.std.specs.Io.KnownBytes.{Appends}
 use Rattle.std.proofs.Math.Seq.{take-add}
 use Rattle.std.proofs.KnownBytes.{Appends-trans}
@@ -94,6 +94,15 @@ pub encode_more : (bytes : List ℕ) (done size : ℕ) → encode_lower (take (d
 encode_more bytes done size =
     let e : done + size - done ≡ size = omega arith in
     rw e (ap encode_lower (take-add done size bytes) ∙ encode-append (take done bytes) (take size (drop done bytes)))
+
+-- the digits of the pieces so far, of one more, and of the bytes after it
+pub encode_rest : (bytes : List ℕ) (done size : ℕ)
+    → encode_lower bytes ≡ encode_lower (take done bytes) ++ (encode_lower (take (done + size - done) (drop done bytes)) ++ encode_lower (drop (done + size - done) (drop done bytes)))
+encode_rest bytes done size =
+    let rest = drop done bytes in
+    let n = done + size - done in
+    ap encode_lower (sym (take-append-drop done bytes)) ∙ encode-append (take done bytes) rest
+    ∙ ap (λ l. encode_lower (take done bytes) ++ l) (ap encode_lower (sym (take-append-drop n rest)) ∙ encode-append (take n rest) (drop n rest))
 
 pub encode-nil : encode_lower [] ≡ []
 unfolding encode_with

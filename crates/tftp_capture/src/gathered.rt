@@ -1,4 +1,4 @@
-ghost use Rattle.std.specs.Prelude.{◌≡◌, ◌+◌, ◌*◌, ◌≤◌, ◌++◌, [], length, false, flat_map, OnOk};
+ghost use Rattle.std.specs.Prelude.{◌≡◌, ◌++◌, [], false, flat_map, MatchBool, OnOk};
 ghost use Rattle.hex.specs.Hex.{encode_lower};
 ghost use Rattle.tftp_capture.specs.Tally.{Adds, Writes};
 
@@ -6,38 +6,43 @@ use crate::digits::encode;
 use crate::fault::WriteFault;
 use crate::tallied::Tallied;
 use crate::whole::write_whole;
+use std::alloc::Global;
 use std::io::Write;
 use std::marker::Model;
 
 /// The most bytes that wait.
 const ROOM: usize = 16384;
 
-/// Bytes that wait to be written together, at most 16,384.
+/// So many bytes become digits at a time.
+const PIECE: usize = 256;
+
+/// Bytes that wait to be written together, at most 16,384. They stand in memory that is asked for once, and not on the
+/// stack, where each move would copy them. No call fails for want of it: what has no memory to wait in is written at once.
 #[derive(Drop)]
 pub struct Gathered {
-    buf: [u8; 16384],
-    len: usize,
+    bytes: Vec<u8>,
 }
 
 impl Model for Gathered {
-    ghost use Rattle.std.specs.Prelude.{ℕ, List, take, ◌≤◌};
+    ghost use Rattle.std.specs.Prelude.{ℕ, List, vec_len, ◌≤◌};
 
     ghost Value = { List ℕ };
 
-    ghost view = { λ g. take g.len g.buf };
+    ghost view = { λ g. g.bytes.items };
 
-    ghost invariant = { λ g. g.len ≤ 16384 };
+    ghost invariant = { λ g. vec_len g.bytes ≤ 16384 };
 }
 
 impl Gathered {
-    /// Nothing waits yet.
-    pub fn new() -> Self
+    /// Nothing waits yet; it asks for the memory of what will wait.
+    pub fn new(alloc: Global) -> Self
         ensures { result ≡ [] }
     {
-        Gathered {
-            buf: [0; 16384],
-            len: 0,
-        }
+        let bytes = match Vec::with_capacity(alloc, ROOM) {
+            Ok(bytes) => bytes,
+            Err(_) => Vec::new(alloc),
+        };
+        Gathered { bytes }
     }
 
     /// Adds a piece of any length: where there is no room for both, what waits is written first, and
@@ -48,14 +53,14 @@ impl Gathered {
         requires clean { writer.old.1 ≡ false }
         ensures adds { Adds W.contents writer.old writer.new result self.old self.new bytes.now }
     {
-        if ROOM - self.len < bytes.len() {
-            self.write(writer)?;
-            if ROOM < bytes.len() {
-                return write_whole(writer, bytes);
-            }
+        if self.push(bytes) {
+            return Ok(());
         }
-        self.push(bytes);
-        Ok(())
+        self.write(writer)?;
+        if self.push(bytes) {
+            return Ok(());
+        }
+        write_whole(writer, bytes)
     }
 
     /// Adds pieces, one after another.
@@ -73,7 +78,7 @@ impl Gathered {
         Ok(())
     }
 
-    /// Adds the two lower-case hex digits of each byte, in their place; what waits is written whenever the room is full.
+    /// Adds the two lower-case hex digits of each byte.
     pub fn add_hex<W: Write>(
         &mut self,
         writer: &mut Tallied<W>,
@@ -82,11 +87,13 @@ impl Gathered {
         requires clean { writer.old.1 ≡ false }
         ensures adds { Adds W.contents writer.old writer.new result self.old self.new (encode_lower bytes.now) }
     {
+        let mut room = [0; 2 * PIECE];
         let mut done = 0;
         while done < bytes.len() {
-            self.make_room(writer)?;
-            let size = (bytes.len() - done).min((ROOM - self.len) / 2);
-            self.push_hex(&bytes[done..done + size]);
+            let size = (bytes.len() - done).min(PIECE);
+            let digits = &mut room[..2 * size];
+            encode(&bytes[done..done + size], digits);
+            self.add(writer, digits)?;
             done += size;
         }
         Ok(())
@@ -98,41 +105,16 @@ impl Gathered {
         ensures writes { Writes W.contents writer.old writer.new result self.old }
         ensures empty { OnOk result (self.new ≡ []) }
     {
-        write_whole(writer, &self.buf[..self.len])?;
-        self.len = 0;
+        write_whole(writer, self.bytes.as_slice())?;
+        self.bytes.clear();
         Ok(())
     }
 
-    /// Adds a piece for which there is room.
-    fn push(&mut self, bytes: &[u8])
-        requires { length self.old + length bytes.now ≤ 16384 }
-        ensures { self.new ≡ self.old ++ bytes.now }
-    {
-        let end = self.len + bytes.len();
-        self.buf[self.len..end].copy_from_slice(bytes);
-        self.len = end;
-    }
-
-    /// Writes what waits where there is no room for two digits.
+    /// Adds a piece where there is room for it, and memory; else all stays as it was.
     #[inline]
-    fn make_room<W: Write>(&mut self, writer: &mut Tallied<W>) -> Result<(), WriteFault>
-        requires clean { writer.old.1 ≡ false }
-        ensures adds { Adds W.contents writer.old writer.new result self.old self.new [] }
-        ensures room { OnOk result (length self.new + 2 ≤ 16384) }
+    fn push(&mut self, bytes: &[u8]) -> bool
+        ensures { MatchBool result (self.new ≡ self.old ++ bytes.now) (self.new ≡ self.old) }
     {
-        if ROOM - self.len < 2 {
-            return self.write(writer);
-        }
-        Ok(())
-    }
-
-    /// Adds the digits of bytes, for which there is room.
-    fn push_hex(&mut self, bytes: &[u8])
-        requires { length self.old + 2 * length bytes.now ≤ 16384 }
-        ensures { self.new ≡ self.old ++ encode_lower bytes.now }
-    {
-        let end = self.len + 2 * bytes.len();
-        encode(bytes, &mut self.buf[self.len..end]);
-        self.len = end;
+        bytes.len() <= ROOM - self.bytes.len() && self.bytes.extend_from_slice(bytes).is_ok()
     }
 }

@@ -12,6 +12,7 @@ use crate::tallied::Tallied;
 use crate::version::Version;
 use crate::writer::{put_header, put_payload, put_total};
 use itoa::Buffer;
+use std::alloc::Global;
 use std::io::Write;
 use std::marker::Model;
 use tftp_packet::{Dir, Host};
@@ -35,7 +36,11 @@ impl Model for HostCaptureWriter {
 
 impl HostCaptureWriter {
     /// Begins with the header; some of it may wait.
-    pub fn begin<W: Write>(writer: &mut Tallied<W>, header: &Header) -> Result<Self, WriteFault>
+    pub fn begin<W: Write>(
+        alloc: Global,
+        writer: &mut Tallied<W>,
+        header: &Header,
+    ) -> Result<Self, WriteFault>
         requires clean { writer.old.1 ≡ false }
         requires service { IsPort header.now.service }
         ensures ok { IfOk result (λ begun. HasWrittenHosts (W.contents writer.old.0) (W.contents writer.new.0) begun (header_of header.now) []) }
@@ -44,7 +49,7 @@ impl HostCaptureWriter {
         ensures err { OnErr result (AppendsPrefix (W.contents writer.old.0) (W.contents writer.new.0) (header_text_in Version.Two (header_of header.now))) }
         ensures failed { OnErr result (writer.new.1 ≡ true) }
     {
-        let mut gathered = Gathered::new();
+        let mut gathered = Gathered::new(alloc);
         put_header(&mut gathered, writer, Version::Two, header)?;
         Ok(HostCaptureWriter {
             gathered,

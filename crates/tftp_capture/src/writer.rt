@@ -13,6 +13,7 @@ use crate::gathered::Gathered;
 use crate::tallied::Tallied;
 use crate::version::Version;
 use itoa::Buffer;
+use std::alloc::Global;
 use std::io::Write;
 use std::marker::Model;
 use tftp_packet::{Dir, End};
@@ -36,7 +37,11 @@ impl Model for CaptureWriter {
 
 impl CaptureWriter {
     /// Begins with the header; some of it may wait.
-    pub fn begin<W: Write>(writer: &mut Tallied<W>, header: &Header) -> Result<Self, WriteFault>
+    pub fn begin<W: Write>(
+        alloc: Global,
+        writer: &mut Tallied<W>,
+        header: &Header,
+    ) -> Result<Self, WriteFault>
         requires clean { writer.old.1 ≡ false }
         requires service { IsPort header.now.service }
         ensures ok { IfOk result (λ begun. HasWritten (W.contents writer.old.0) (W.contents writer.new.0) begun (header_of header.now) []) }
@@ -45,7 +50,7 @@ impl CaptureWriter {
         ensures err { OnErr result (AppendsPrefix (W.contents writer.old.0) (W.contents writer.new.0) (header_text (header_of header.now))) }
         ensures failed { OnErr result (writer.new.1 ≡ true) }
     {
-        let mut gathered = Gathered::new();
+        let mut gathered = Gathered::new(alloc);
         put_header(&mut gathered, writer, Version::One, header)?;
         Ok(CaptureWriter {
             gathered,

@@ -28,16 +28,16 @@ pub fn check<R: Read, W: Write>(
         → (output : Output) × IsChecked (given text) output × IsWritten (W.contents writer.old.0) (W.contents writer.new.0) writer.new.1 output result }
 {
     match judge_text(alloc, reader) {
-        Ok(meaning) => say_accepted(writer, &meaning),
-        Err(verdict) => say_verdict(writer, verdict),
+        Ok(meaning) => say_accepted(alloc, writer, &meaning),
+        Err(verdict) => say_verdict(alloc, writer, verdict),
     }
 }
 
-fn say_accepted<W: Write>(writer: &mut Tallied<W>, meaning: &Meaning) -> Status
+fn say_accepted<W: Write>(alloc: Global, writer: &mut Tallied<W>, meaning: &Meaning) -> Status
     requires { writer.old.1 ≡ false }
     ensures { IsWritten (W.contents writer.old.0) (W.contents writer.new.0) writer.new.1 (checked (Ok meaning.now)) result }
 {
-    let mut gathered = Gathered::new();
+    let mut gathered = Gathered::new(alloc);
     match put_accepted(&mut gathered, writer, meaning) {
         Ok(()) => write_out(gathered, writer, Status::Success),
         Err(_) => Status::Fault,
@@ -45,11 +45,11 @@ fn say_accepted<W: Write>(writer: &mut Tallied<W>, meaning: &Meaning) -> Status
 }
 
 /// Says why a text is not accepted.
-pub fn say_verdict<W: Write>(writer: &mut Tallied<W>, verdict: Verdict) -> Status
+pub fn say_verdict<W: Write>(alloc: Global, writer: &mut Tallied<W>, verdict: Verdict) -> Status
     requires { writer.old.1 ≡ false }
     ensures { IsWritten (W.contents writer.old.0) (W.contents writer.new.0) writer.new.1 (checked (Err verdict)) result }
 {
-    let mut gathered = Gathered::new();
+    let mut gathered = Gathered::new(alloc);
     match put_verdict(&mut gathered, writer, verdict) {
         Ok(()) => write_out(gathered, writer, status_of(verdict)),
         Err(_) => Status::Fault,

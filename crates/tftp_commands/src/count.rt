@@ -30,17 +30,17 @@ pub fn count<R: Read, W: Write>(
         → (output : Output) × IsCounted (given text) output × IsWritten (W.contents writer.old.0) (W.contents writer.new.0) writer.new.1 output result }
 {
     match judge_text(alloc, reader) {
-        Ok(meaning) => say_counted(writer, &meaning),
-        Err(verdict) => say_verdict(writer, verdict),
+        Ok(meaning) => say_counted(alloc, writer, &meaning),
+        Err(verdict) => say_verdict(alloc, writer, verdict),
     }
 }
 
 /// Says how many datagrams the normal capture has.
-fn say_counted<W: Write>(writer: &mut Tallied<W>, meaning: &Meaning) -> Status
+fn say_counted<W: Write>(alloc: Global, writer: &mut Tallied<W>, meaning: &Meaning) -> Status
     requires { writer.old.1 ≡ false }
     ensures { IsWritten (W.contents writer.old.0) (W.contents writer.new.0) writer.new.1 (counted (Ok meaning.now)) result }
 {
-    let mut gathered = Gathered::new();
+    let mut gathered = Gathered::new(alloc);
     match put_count(&mut gathered, writer, meaning) {
         Ok(()) => write_out(gathered, writer, Status::Success),
         Err(_) => Status::Fault,

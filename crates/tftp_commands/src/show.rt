@@ -32,7 +32,7 @@ pub fn show<R: Read, W: Write>(
     ensures whole { (text : List ℕ) → R.remaining reader.old.0 ≡ Some text → reader.new.1 ≡ false
         → (output : Output) × IsShown (given text) writer.new.1 output × IsWritten (W.contents writer.old.0) (W.contents writer.new.0) writer.new.1 output result }
 {
-    let mut gathered = Gathered::new();
+    let mut gathered = Gathered::new(alloc);
     let mut capture = match CaptureReader::begin(alloc, reader) {
         Ok(capture) => capture,
         Err(fault) => return finish(gathered, writer, Some(fault)),

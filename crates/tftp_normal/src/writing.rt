@@ -172,8 +172,9 @@ fn put_request<W: Write>(
     capture.put(writer, Dir::Out, CLIENT_PORT, SERVICE_PORT, request)
 }
 
-/// Writes a normal capture whose packets are at hand. It takes no memory.
+/// Writes a normal capture whose packets are at hand. It wants no memory.
 fn write_capture<W: Write>(
+    alloc: Global,
     transfer: &Transfer<'_>,
     request: &[u8],
     oack: &[u8],
@@ -195,7 +196,7 @@ fn write_capture<W: Write>(
         named: End::Client,
         service: SERVICE_PORT,
     };
-    let mut capture = CaptureWriter::begin(writer, &header)?;
+    let mut capture = CaptureWriter::begin(alloc, writer, &header)?;
     put_opening(transfer, request, oack, &mut capture, writer)?;
     put_windows(transfer, packets, &mut capture, writer)?;
     capture.close(writer)
@@ -216,6 +217,7 @@ pub(crate) fn write_normal<W: Write>(
     let wire = WireBlocks::new(transfer.mode(), transfer.file());
     let mut packets = DataPackets::new(alloc, wire, transfer.block_size())?;
     write_capture(
+        alloc,
         transfer,
         request.as_slice(),
         oack.as_slice(),

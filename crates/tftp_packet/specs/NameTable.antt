@@ -21,9 +21,9 @@ abbrev pub mixed : ℕ → List ℕ → ℕ
 mixed hash [] = hash
 mixed hash (b ∷ bs) = mixed (((hash + b) % 2 ^ 64) * 11400714819323198485 % 2 ^ 64) bs
 
--- the first slot in which a name is looked for, of 8,192
+-- the first slot in which a name is looked for, of 4,096
 unfoldable pub first_slot : List ℕ → ℕ
-first_slot name = mixed 0 name / 2 ^ 51
+first_slot name = mixed 0 name / 2 ^ 52
 
 -- the bytes before the first zero byte, or all
 abbrev pub string_first : List ℕ → List ℕ

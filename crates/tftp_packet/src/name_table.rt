@@ -10,7 +10,7 @@ use crate::name_order::has_repeat_in_order;
 use crate::text::{split_pair, split_string};
 
 /// The slots in which a look may begin.
-const FIRST_SLOTS: usize = 8_192;
+const FIRST_SLOTS: usize = 4_096;
 
 /// In how many slots, one after another, a name is looked for.
 const TRIED: usize = 64;
@@ -19,7 +19,7 @@ const TRIED: usize = 64;
 const SLOTS: usize = FIRST_SLOTS + TRIED;
 
 /// No more names are put into a table, so that a look ends soon.
-const MOST_NAMES: usize = 4_096;
+const MOST_NAMES: usize = 2_048;
 
 /// A table that has so few bytes of options, and not all of them, is crowded by hashes that are alike.
 const CROWDED: usize = 4_096;
@@ -42,19 +42,32 @@ pub(crate) fn has_repeat_of_many(bytes: &[u8]) -> bool
 {
     let mut left = bytes;
     while !left.is_empty() {
-        let mut table = [0; SLOTS];
-        let Some(rest) = fill(left, &mut table) else {
+        let Some(rest) = after_a_table(left) else {
             return true;
         };
-        if has_one_of(left, &table, rest) {
-            return true;
-        }
         if !rest.is_empty() && left.len() - rest.len() < CROWDED {
             return has_repeat_in_order(rest);
         }
         left = rest;
     }
     false
+}
+
+/// Puts the first names into a table, and gives the options that are left; none where one of these names came twice. It is a
+/// function of its own, so that the table does not stay on the stack while names are sorted.
+#[inline(never)]
+fn after_a_table(bytes: &[u8]) -> Option<&[u8]>
+    ensures decides { MatchOption result
+        (HasRepeat (pairs_of bytes.now))
+        (λ rest. HasRepeat (pairs_of rest.now) ↔ HasRepeat (pairs_of bytes.now)) }
+    ensures shorter { IfSome result (λ rest. length rest.now ≤ length bytes.now) }
+{
+    let mut table = [0; SLOTS];
+    let rest = fill(bytes, &mut table)?;
+    if has_one_of(bytes, &table, rest) {
+        return None;
+    }
+    Some(rest)
 }
 
 /// Puts names into an empty table, as many as have room, and gives the options that are left; none where a name came twice.
@@ -154,5 +167,5 @@ fn slot_of(name: &[u8]) -> usize
             .wrapping_mul(0x9E37_79B9_7F4A_7C15);
         left = rest;
     }
-    (hash >> 51) as usize
+    (hash >> 52) as usize
 }

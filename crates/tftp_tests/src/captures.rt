@@ -2,6 +2,7 @@
 
 ghost use Rattle.std.specs.Prelude.{◌≡◌, false, IfOk};
 
+use std::alloc::Global;
 use std::io;
 use std::io::{ErrorKind, Read, Write};
 use std::test::Fail;
@@ -420,14 +421,14 @@ fn each_flush_asks_once(rt: HostRuntime) {
 }
 
 /// Writes the text of `READ`.
-fn write_read(writer: &mut Tallied<DripWriter>) -> Result<(), WriteFault>
+fn write_read(alloc: Global, writer: &mut Tallied<DripWriter>) -> Result<(), WriteFault>
     requires { writer.old.1 ≡ false }
 {
     let header = Header {
         named: End::Client,
         service: 69,
     };
-    let mut capture = CaptureWriter::begin(writer, &header)?;
+    let mut capture = CaptureWriter::begin(alloc, writer, &header)?;
     capture.put(writer, Dir::Out, 40_000, 69, b"\x00\x01a\x00octet\x00")?;
     capture.put(writer, Dir::In, 40_000, 41_000, b"\x00\x03\x00\x01hi")?;
     capture.put(writer, Dir::Out, 40_000, 41_000, b"\x00\x04\x00\x01")?;
@@ -438,7 +439,7 @@ fn write_read(writer: &mut Tallied<DripWriter>) -> Result<(), WriteFault>
 fn a_read_is_written(rt: HostRuntime) -> Result<(), Fail> {
     for piece in [usize::MAX, 1, 5] {
         let mut writer = Tallied::new(DripWriter::new(rt.alloc(), READ.len(), piece, 0, false)?);
-        assert_eq!(rt; write_read(&mut writer), Ok(()));
+        assert_eq!(rt; write_read(rt.alloc(), &mut writer), Ok(()));
         assert!(rt; !writer.failed());
         assert_eq!(rt; writer.into_inner().taken(), READ);
     }
@@ -451,7 +452,7 @@ fn each_write_fails_in_turn(rt: HostRuntime) -> Result<(), Fail> {
         for none in [false, true] {
             let drip = DripWriter::new(rt.alloc(), READ.len(), 1, i as u64, none)?;
             let mut writer = Tallied::new(drip);
-            assert_eq!(rt; write_read(&mut writer), Err(WriteFault));
+            assert_eq!(rt; write_read(rt.alloc(), &mut writer), Err(WriteFault));
             assert!(rt; writer.failed());
             assert_eq!(rt;
                 writer.into_inner().taken(),
@@ -473,7 +474,7 @@ fn an_empty_and_the_longest_payload_are_written(rt: HostRuntime) -> Result<(), F
         return Err(Fail::from(payload.len()));
     }
     let mut writer = Tallied::new(DripWriter::new(rt.alloc(), 200_000, 1000, 0, false)?);
-    let mut capture = CaptureWriter::begin(&mut writer, &header)?;
+    let mut capture = CaptureWriter::begin(rt.alloc(), &mut writer, &header)?;
     capture.put(&mut writer, Dir::In, 1, 65_535, b"")?;
     capture.put(&mut writer, Dir::Out, 65_535, 1, &payload)?;
     capture.close(&mut writer)?;
@@ -486,10 +487,14 @@ fn an_empty_and_the_longest_payload_are_written(rt: HostRuntime) -> Result<(), F
 }
 
 /// Gathers two bytes as they are, and the others as digits, and writes what waits.
-fn gather_digits(writer: &mut Tallied<DripWriter>, bytes: &[u8]) -> Result<(), WriteFault>
+fn gather_digits(
+    alloc: Global,
+    writer: &mut Tallied<DripWriter>,
+    bytes: &[u8],
+) -> Result<(), WriteFault>
     requires { writer.old.1 ≡ false }
 {
-    let mut gathered = Gathered::new();
+    let mut gathered = Gathered::new(alloc);
     gathered.add(writer, b"- ")?;
     gathered.add_hex(writer, bytes)?;
     gathered.write(writer)
@@ -506,17 +511,17 @@ fn bytes_are_gathered_as_digits(rt: HostRuntime) -> Result<(), Fail> {
     }
     for piece in [usize::MAX, 7] {
         let mut writer = Tallied::new(DripWriter::new(rt.alloc(), text.len(), piece, 0, false)?);
-        assert_eq!(rt; gather_digits(&mut writer, &bytes), Ok(()));
+        assert_eq!(rt; gather_digits(rt.alloc(), &mut writer, &bytes), Ok(()));
         assert_eq!(rt; writer.into_inner().taken(), text.as_slice());
     }
     Ok(())
 }
 
 /// Gathers the bytes in pieces of 100, of 16,384, of 16,385 and of what is left, and writes what waits.
-fn gather(writer: &mut Tallied<DripWriter>, bytes: &[u8]) -> Result<(), WriteFault>
+fn gather(alloc: Global, writer: &mut Tallied<DripWriter>, bytes: &[u8]) -> Result<(), WriteFault>
     requires { writer.old.1 ≡ false }
 {
-    let mut gathered = Gathered::new();
+    let mut gathered = Gathered::new(alloc);
     let (short, rest) = bytes.split_at(bytes.len().min(100));
     let (full, rest) = rest.split_at(rest.len().min(16_384));
     let (long, rest) = rest.split_at(rest.len().min(16_385));
@@ -533,7 +538,7 @@ fn pieces_of_any_length_are_gathered(rt: HostRuntime) -> Result<(), Fail> {
     }
     for piece in [usize::MAX, 1000, 7] {
         let mut writer = Tallied::new(DripWriter::new(rt.alloc(), bytes.len(), piece, 0, false)?);
-        assert_eq!(rt; gather(&mut writer, &bytes), Ok(()));
+        assert_eq!(rt; gather(rt.alloc(), &mut writer, &bytes), Ok(()));
         assert!(rt; !writer.failed());
         assert_eq!(rt; writer.into_inner().taken(), bytes.as_slice());
     }
@@ -542,7 +547,7 @@ fn pieces_of_any_length_are_gathered(rt: HostRuntime) -> Result<(), Fail> {
             let drip = DripWriter::new(rt.alloc(), bytes.len(), usize::MAX, write, none)?;
             let mut writer = Tallied::new(drip);
             assert_eq!(rt;
-                gather(&mut writer, &bytes),
+                gather(rt.alloc(), &mut writer, &bytes),
                 Err(WriteFault),
                 "write {write}"
             );

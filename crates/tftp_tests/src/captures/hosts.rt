@@ -1,6 +1,7 @@
 ghost use Rattle.std.specs.Prelude.{◌≡◌, false};
 
 use super::{READ, Sound, all_pass, changed_in, gives};
+use std::alloc::Global;
 use std::test::Fail;
 use tftp_capture::{
     CaptureFault, CaptureReader, DripReader, DripWriter, Header, HostCaptureWriter, Tallied,
@@ -87,14 +88,18 @@ fn texts_of_version_2_with_a_growth_refused(rt: HostRuntime) {
 }
 
 /// Writes the text of `NAMED`.
-fn write_named(writer: &mut Tallied<DripWriter>, host: &Host) -> Result<(), WriteFault>
+fn write_named(
+    alloc: Global,
+    writer: &mut Tallied<DripWriter>,
+    host: &Host,
+) -> Result<(), WriteFault>
     requires { writer.old.1 ≡ false }
 {
     let header = Header {
         named: End::Client,
         service: 69,
     };
-    let mut capture = HostCaptureWriter::begin(writer, &header)?;
+    let mut capture = HostCaptureWriter::begin(alloc, writer, &header)?;
     let request = b"\x00\x01a\x00octet\x00";
     capture.put(writer, Dir::Out, 40_000, host, 69, request)?;
     let data = b"\x00\x03\x00\x01hi";
@@ -111,7 +116,7 @@ fn a_read_with_its_hosts_is_written(rt: HostRuntime) -> Result<(), Fail> {
     };
     for piece in [usize::MAX, 1, 5] {
         let mut writer = Tallied::new(DripWriter::new(rt.alloc(), NAMED.len(), piece, 0, false)?);
-        assert_eq!(rt; write_named(&mut writer, &host), Ok(()));
+        assert_eq!(rt; write_named(rt.alloc(), &mut writer, &host), Ok(()));
         assert!(rt; !writer.failed());
         assert_eq!(rt; writer.into_inner().taken(), NAMED);
     }

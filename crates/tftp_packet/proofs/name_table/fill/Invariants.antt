@@ -4,7 +4,7 @@ use Rattle.tftp_packet.proofs.name_table.fill.Given as goal
 
 -- the table has the names so far
 abbrev pub invariant-loop-name : goal.invariant-loop-name
-invariant-loop-name l = Holds l.bytes l.table l.rest × ((front : List ℕ) × (l.bytes ≡ front ++ l.rest)) × (length l.table ≡ 8256) × (l.count ≤ 4096) × (length l.rest ≤ length l.bytes)
+invariant-loop-name l = Holds l.bytes l.table l.rest × ((front : List ℕ) × (l.bytes ≡ front ++ l.rest)) × (length l.table ≡ 4160) × (l.count ≤ 2048) × (length l.rest ≤ length l.bytes)
 
 abbrev pub decreases-loop-name : goal.decreases-loop-name
 decreases-loop-name l = length l.rest

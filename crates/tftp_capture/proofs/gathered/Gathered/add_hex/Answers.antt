@@ -1,21 +1,22 @@
-use Rattle.std.proofs.Common.{rules, take, drop, sym, ap, ◌∙◌, take-append-drop}
+use Rattle.std.proofs.Common.{rules, drop, ◌+◌, ◌-◌}
 use Rattle.hex.specs.Hex.{encode_lower}
-use Rattle.tftp_capture.proofs.Gathering.{adds_err, gathers_none, gathers_kept, gathers_more, gathers_prefix}
-use Rattle.tftp_capture.proofs.Spelling.{encode-nil, encode-append, encode_more}
+use Rattle.tftp_capture.proofs.Gathering.{adds_err, gathers_none, gathers_more, gathers_prefix}
+use Rattle.tftp_capture.proofs.Spelling.{encode-nil, encode_more, encode_rest}
 use Rattle.tftp_capture.proofs.gathered.Gathered.add_hex.Goals as goal
 
 pub loop-done-init : goal.loop-done-init
 loop-done-init g c = record { clean = search rules; within = search rules; gathers = rw encode-nil (gathers_none _ _) }
 
-pub returns-in_err-make_room : goal.returns-in_err-make_room
-returns-in_err-make_room g c =
+pub returns-in_err-add : goal.returns-in_err-add
+returns-in_err-add g c =
     let bytes = c.args.bytes.now in
     let done = c.loop-done.done in
+    let size = c.min-size.result in
     record {
       adds =
-          adds_err g.W.Write.contents c.args.writer.now c.make_room.new.writer c.from_residual.result _ _ _ c.from_residual.ensures.0 c.in_err-make_room.ensures.adds.0
-          (rw (ap encode_lower (sym (take-append-drop done bytes)) ∙ encode-append (take done bytes) (drop done bytes))
-          (gathers_prefix _ _ _ _ _ _ _ (encode_lower (drop done bytes)) c.loop-done.invariant.gathers c.in_err-make_room.ensures.adds.1));
+          adds_err g.W.Write.contents c.args.writer.now c.add.new.writer c.from_residual.result _ _ _ c.from_residual.ensures.0 c.in_err-add.ensures.adds.0
+          (rw (encode_rest bytes done size)
+          (gathers_prefix _ _ _ _ _ _ _ (encode_lower (drop (done + size - done) (drop done bytes))) c.loop-done.invariant.gathers (rw c.encode.ensures at c.in_err-add.ensures.adds.1)));
     }
 
 pub loop-done-preserved : goal.loop-done-preserved
@@ -24,5 +25,5 @@ loop-done-preserved g c = record {
   within = search rules;
   gathers =
       rw (encode_more c.args.bytes.now c.loop-done.done c.min-size.result)
-      (gathers_more _ _ _ _ _ _ _ _ c.loop-done.invariant.gathers (gathers_more _ _ _ _ _ _ _ _ c.in_ok-make_room.ensures.adds.1 (rw c.push_hex.ensures (gathers_kept _ _ _))));
+      (gathers_more _ _ _ _ _ _ _ _ c.loop-done.invariant.gathers (rw c.encode.ensures at c.in_ok-add.ensures.adds.1));
 }

@@ -1,8 +1,12 @@
-use Rattle.std.proofs.Common.{◌≡◌, ap}
+use Rattle.std.proofs.Common.{◌≡◌, ap, rules}
+use Rattle.tftp_capture.specs.CaptureText.{total_line}
 use Rattle.tftp_capture.specs.Written.{WriterState}
-use Rattle.tftp_capture.proofs.Gathering.{gathers_all, writes_all, writes_rest}
+use Rattle.tftp_capture.proofs.Gathering.{gathers_all, prefix_nothing, writes_all, writes_rest}
 use Rattle.tftp_capture.proofs.Spelling.{text_written}
 use Rattle.tftp_capture.proofs.writer.CaptureWriter.close.Goals as goal
+
+pub returns-then-failed-clause-writes : goal.returns-then-failed-clause-writes
+returns-then-failed-clause-writes g c = (search rules, prefix_nothing _ c.args.self.held (total_line c.args.self.count))
 
 pub returns-clause-written : goal.returns-clause-written
 returns-clause-written g c = λ start header datagrams h.
