@@ -16,7 +16,7 @@ from trial import Trial
 # The tests whose calls take memory, by the beginnings of their names.
 TESTS = {
     "tftp_tests": (
-        *("packets::", "netascii::", "agreements::", "stores::", "states::", "ports::"),
+        *("packets::", "netascii::", "agreements::", "stores::", "states::", "ports::", "recordings::"),
         *("captures::texts_", "captures::faults::tr"),
     ),
     "tftp_judge_tests": ("judges::a_read_is_accepted",),
