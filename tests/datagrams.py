@@ -225,6 +225,8 @@ class DatagramTrial(Trial):
         rows, left, fault, status = self.run(it.file)
         self.check(f"{name}, datagrams", rows == it.rows, difference(rows, it.rows))
         self.check(f"{name}, left out", sorted({frame for frame, _ in left}) == it.left, (left, it.left))
+        counted = [int(row.split()[1]) for row in rows] + [frame for frame, _ in left]
+        self.check(f"{name}, each frame once", len(set(counted)) == len(counted), sorted(counted))
         self.check(f"{name}, its end", (fault, status) == ("", 0), (fault, status))
         if self.tshark:
             self.compare(name, it.file, rows)

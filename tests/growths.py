@@ -16,7 +16,7 @@ from trial import Trial
 # The tests whose calls take memory, by the beginnings of their names.
 TESTS = {
     "tftp_tests": (
-        *("packets::", "netascii::", "agreements::", "stores::", "states::", "ports::"),
+        *("packets::", "netascii::", "agreements::", "stores::", "states::", "ports::", "recordings::", "copies::"),
         *("captures::texts_", "captures::faults::tr", "captures::a_read_is_written", "captures::bytes_are_gathered"),
         *("captures::hosts::a_read_with_its_hosts_is_written",),
     ),

@@ -9,7 +9,7 @@ use Rattle.tftp_fragments.specs.declared.key.Key.{Key}
 use Rattle.tftp_fragments.specs.declared.outcome.Outcome.{Outcome}
 use Rattle.tftp_fragments.specs.declared.outcome.Outcome.TheVariants.{Waits, Whole, Apart, Empty, TooLong, Full}
 use Rattle.tftp_pcap.specs.Frames.{FrameParts}
-use Rattle.tftp_recording.specs.Accounts.{IsIn, IsSettled, IsTold, IsWaiting, NoneTwice, WaitsAt}
+use Rattle.tftp_recording.specs.Accounts.{IsIn, IsSettled, IsTold, IsWaiting, NoneTwice, ToldOneWay, WaitsAt}
 use Rattle.tftp_recording.specs.Brought.{BroughtState, LetsGoOld, MakesRoom, Takes, TakesPart, nothing_brought}
 use Rattle.tftp_recording.specs.Fate.{sharers}
 use Rattle.tftp_recording.specs.History.{IsHistory, Step, waiting}
@@ -243,6 +243,21 @@ module _ (key : Key) (a : Arrival) (old new : Sets) (b : BroughtState) (t : Take
       | inr r ↦ not_own n k p.0 (before_roomy k n r)
     ]
 
+    old_not_ousted : (n : ℕ) → IsIn n b.old → IsWaiting n b.ousted → ⊥
+    old_not_ousted n g o =
+        let w = ousted_waited a.part t.young t.roomy b.ousted n t.makes_room o in
+        gone_is_gone key a.time old t.young b.old t.lets_go w.0 n one g w.1
+
+    shares_alone : (n : ℕ) → IsIn n (sharers b.outcome) → IsIn n b.old ⊎ IsWaiting n b.ousted → ⊥
+    shares_alone n s (inl g) = elim (sharers_at _ _ _ a t.outcome n t.ends (sharing n s)) [
+      | inl e ↦ not_own n key e (gone_waited key a.time old t.young b.old t.lets_go n g)
+      | inr i ↦ gone_is_gone key a.time old t.young b.old t.lets_go key n one g (stayed_roomy a.part t.young t.roomy b.ousted key n t.makes_room i)
+    ]
+    shares_alone n s (inr o) = elim (sharers_at _ _ _ a t.outcome n t.ends (sharing n s)) [
+      | inl e ↦ let w = ousted_waited a.part t.young t.roomy b.ousted n t.makes_room o in not_own n w.0 e (stayed_young key a.time old t.young b.old t.lets_go w.0 n w.1)
+      | inr i ↦ ousted_is_gone a.part t.young t.roomy b.ousted n t.makes_room o (key, i)
+    ]
+
 -- ---- a frame
 
 nothing_told : (n number : ℕ) (b : BroughtState) → b ≡ nothing_brought → IsTold n number b → n ≡ number
@@ -279,6 +294,10 @@ takes_one old frame number b new one fresh (inr h) = part_one _ _ old new b h.3 
 takes_apart : (old : Sets) (frame : FrameParts) (number : ℕ) (b : BroughtState) (new : Sets) (n : ℕ) → One old → (IsWaiting number old → ⊥) → Takes old frame number b new → IsTold n number b → IsWaiting n new → ⊥
 takes_apart old frame number b new n one fresh (inl h) told w = fresh (subst (λ (m : ℕ). IsWaiting m old) (nothing_told n number b h.1 told) (subst (IsWaiting n) h.2 w))
 takes_apart old frame number b new n one fresh (inr h) told w = part_apart _ _ old new b h.3 one fresh n w.0 told w.1
+
+takes_one_way : (old : Sets) (frame : FrameParts) (number : ℕ) (b : BroughtState) (new : Sets) (n : ℕ) → One old → (IsWaiting number old → ⊥) → Takes old frame number b new → ToldOneWay n b
+takes_one_way old frame number b new n one fresh (inl h) = subst (ToldOneWay n) (sym h.1) (record { old = λ g o. g; shares = λ s told. s })
+takes_one_way old frame number b new n one fresh (inr h) = record { old = old_not_ousted _ _ old new b h.3 one fresh n; shares = shares_alone _ _ old new b h.3 one fresh n }
 
 -- ---- all frames
 
@@ -351,3 +370,8 @@ sound (step ∷ before) h =
 pub within : (history : List Step) (n : ℕ) → IsHistory history → IsSettled n history ⊎ IsWaiting n (waiting history) → (1 ≤ n) × (n ≤ length history)
 within history n h (inl i) = (sound history h).settled n i
 within history n h (inr w) = (sound history h).waits n w
+
+pub one_way : (before : List Step) (step : Step) (n : ℕ) → IsHistory (step ∷ before) → ToldOneWay n step.brought
+one_way before step n h =
+    let s = sound before h.1 in
+    takes_one_way (waiting before) step.frame (length before + 1) step.brought step.waits n s.one (λ w. absurd (omega (arith, (s.waits (length before + 1) w).1))) h.0

@@ -34,3 +34,8 @@ IsSettled n (step ∷ before) = IsTold n (length before + 1) step.brought ⊎ Is
 abbrev pub NoneTwice : List Step → Type 0
 NoneTwice [] = Unit {0}
 NoneTwice (step ∷ before) = ((n : ℕ) → IsTold n (length before + 1) step.brought → IsSettled n before → ⊥) × NoneTwice before
+
+-- nor twice with one of them; the frame itself is the last of those that made a packet whole with it
+pub record ToldOneWay (n : ℕ) (b : BroughtState) : Type 0 where
+  pub old : IsIn n b.old → IsWaiting n b.ousted → ⊥
+  pub shares : IsIn n (sharers b.outcome) → IsIn n b.old ⊎ IsWaiting n b.ousted → ⊥

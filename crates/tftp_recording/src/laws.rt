@@ -1,6 +1,6 @@
 ghost use Rattle.std.specs.Prelude.{◌≡◌, ◌⊎◌, ◌≤◌, ◌∷◌, ℕ, List, Some, length};
 ghost use Rattle.std.specs.Global.{Vec};
-ghost use Rattle.tftp_recording.specs.Accounts.{IsSettled, IsWaiting, NoneTwice};
+ghost use Rattle.tftp_recording.specs.Accounts.{IsSettled, IsWaiting, NoneTwice, ToldOneWay};
 ghost use Rattle.tftp_recording.specs.Contents.{IsPutTogether};
 ghost use Rattle.tftp_recording.specs.History.{IsHistory, Step, waiting};
 
@@ -12,6 +12,7 @@ pub fn each_frame_is_accounted_for_once()
     ensures each { (history : List Step) (n : ℕ) → IsHistory history → 1 ≤ n → n ≤ length history → IsSettled n history ⊎ IsWaiting n (waiting history) }
     ensures only { (history : List Step) (n : ℕ) → IsHistory history → IsSettled n history ⊎ IsWaiting n (waiting history) → (1 ≤ n) × (n ≤ length history) }
     ensures apart { (history : List Step) (n : ℕ) → IsHistory history → IsSettled n history → IsWaiting n (waiting history) → ⊥ }
+    ensures one_way { (before : List Step) (step : Step) (n : ℕ) → IsHistory (step ∷ before) → ToldOneWay n step.brought }
     ensures once { (history : List Step) → IsHistory history → NoneTwice history }
 {}
 

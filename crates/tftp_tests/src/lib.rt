@@ -15,6 +15,8 @@ mod packets;
 #[cfg(test)]
 mod ports;
 #[cfg(test)]
+mod recordings;
+#[cfg(test)]
 mod states;
 #[cfg(test)]
 mod stores;

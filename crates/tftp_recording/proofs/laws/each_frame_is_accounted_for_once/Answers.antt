@@ -1,4 +1,4 @@
-use Rattle.tftp_recording.proofs.Accounting.{sound, within}
+use Rattle.tftp_recording.proofs.Accounting.{one_way, sound, within}
 use Rattle.tftp_recording.proofs.laws.each_frame_is_accounted_for_once.Goals as goal
 
 pub returns-clause-each : goal.returns-clause-each
@@ -12,3 +12,6 @@ returns-clause-apart c = λ history n h i w. (sound history h).apart n i w
 
 pub returns-clause-once : goal.returns-clause-once
 returns-clause-once c = λ history h. (sound history h).twice
+
+pub returns-clause-one_way : goal.returns-clause-one_way
+returns-clause-one_way c = one_way
