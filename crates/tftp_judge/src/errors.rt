@@ -156,6 +156,16 @@ impl Errors {
         Ok(())
     }
 
+    /// Whether this ERROR has gone out (RFC 1350, section 5).
+    pub fn has_sent(&self, code: u16, message: &[u8]) -> bool
+        ensures { IsTrue result ↔ (self.now.sent ≡ Some (code, message.now)) }
+    {
+        match &self.sent {
+            Some(sent) => sent.code == code && sent.message.as_slice() == message,
+            None => false,
+        }
+    }
+
     /// Whether one has come in.
     pub fn has_heard(&self) -> bool
         ensures { (passed : List Datagram) → AreErrors self.now passed → has_stopped passed ≡ result }
