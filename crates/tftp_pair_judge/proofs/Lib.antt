@@ -1,1 +1,3 @@
 pub mod Merging
+pub mod Sides
+pub mod Verdicts

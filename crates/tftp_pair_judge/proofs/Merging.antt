@@ -1,36 +1,34 @@
 -- What is merged while two captures are read.
-use Rattle.std.proofs.Common.{◌≡◌, ◌⊎◌, Bool, true, false, List, [], ◌∷◌, Option, Some, None, inl, inr, refl, sym, subst, ap, ◌∙◌}
-use Rattle.tftp_packet.specs.Message.{Message}
-use Rattle.tftp_packet.specs.Spelling.{Spells}
+use Rattle.std.proofs.Common.{◌≡◌, true, false, List, [], ◌∷◌, Option, Some, None, inl, inr, refl, sym, subst, ap, ◌∙◌}
 use Rattle.tftp_packet.specs.declared.kinds.End.{End}
 use Rattle.tftp_packet.specs.declared.kinds.End.TheVariants.{Client, Server}
-use Rattle.tftp_packet.specs.declared.kinds.Dir.{Dir}
 use Rattle.tftp_packet.specs.declared.kinds.Dir.TheVariants.{In, Out}
 use Rattle.tftp_ends.specs.CaptureText.{Datagram, Header}
 use Rattle.tftp_ends.specs.Roles.{other_end}
 use Rattle.tftp_ends.specs.Ports.{route_of, is_of_transfer, transfer_of}
-use Rattle.tftp_ends.specs.Rules.{Passed}
 use Rattle.tftp_law.proofs.FirstAnswered.{main_none, main_some}
-use Rattle.tftp_pair.specs.Messages.{Event, datagram_at, seen_at, IsBrought, AreBrought, AreMergedBy}
+use Rattle.tftp_pair.specs.Messages.{Event, seen_at, IsBrought, AreBrought, AreMergedBy}
 use Rattle.tftp_pair_judge.specs.Merging.{WasSent, with_held, Waits, AreMergedBut, IsAskedAgain}
 
 -- ---- the two ends the other way round
 
-turned_event : Event → Event
+abbrev turned_event : Event → Event
 turned_event s = record { place = other_end s.place; datagram = s.datagram }
 
-turned : List Event → List Event
+abbrev turned : List Event → List Event
 turned [] = []
 turned (s ∷ events) = turned_event s ∷ turned events
 
+seen_step : (e place : End) (d : Datagram) (events : List Event) → seen_at e (turned events) ≡ seen_at (other_end e) events
+    → seen_at e (turned (record { place = place; datagram = d } ∷ events)) ≡ seen_at (other_end e) (record { place = place; datagram = d } ∷ events)
+seen_step Client Client d events rest = rest
+seen_step Client Server d events rest = ap (λ (ds : List Datagram). d ∷ ds) rest
+seen_step Server Client d events rest = ap (λ (ds : List Datagram). d ∷ ds) rest
+seen_step Server Server d events rest = rest
+
 seen_turned : (e : End) (events : List Event) → seen_at e (turned events) ≡ seen_at (other_end e) events
 seen_turned e [] = refl
-seen_turned e (s ∷ events) = by e s.place s.datagram where
-  by : (e place : End) (d : Datagram) → seen_at e (turned (record { place = place; datagram = d } ∷ events)) ≡ seen_at (other_end e) (record { place = place; datagram = d } ∷ events)
-  by Client Client d = seen_turned Client events
-  by Client Server d = ap (λ (ds : List Datagram). d ∷ ds) (seen_turned Client events)
-  by Server Client d = ap (λ (ds : List Datagram). d ∷ ds) (seen_turned Server events)
-  by Server Server d = seen_turned Server events
+seen_turned e (s ∷ events) = seen_step e s.place s.datagram events (seen_turned e events)
 
 brought_turned : (events : List Event) → AreBrought events → AreBrought (turned events)
 brought_turned [] all = tt

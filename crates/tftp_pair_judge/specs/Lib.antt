@@ -1,2 +1,3 @@
 pub mod Merging
 pub mod Kept
+pub mod Verdicts

@@ -6,7 +6,7 @@ use Rattle.tftp_packet.specs.declared.kinds.Dir.TheVariants.{In, Out}
 use Rattle.tftp_ends.specs.CaptureText.{Datagram, Header}
 use Rattle.tftp_ends.specs.Ports.{route_of, is_of_transfer, transfer_of}
 use Rattle.tftp_ends.specs.Rules.{Passed}
-use Rattle.tftp_pair.specs.Messages.{IsBrought, AreMergedBy}
+use Rattle.tftp_pair.specs.Messages.{AreMergedBy}
 
 -- the payload says what one that went out says
 abbrev pub WasSent : List ℕ → List Datagram → Type 0

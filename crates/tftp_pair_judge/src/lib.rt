@@ -2,6 +2,7 @@
 //! far the two go together.
 #![tactic(auto)]
 
+pub mod laws;
 mod pair;
 mod side;
 

@@ -104,8 +104,10 @@ impl<D: Delivered + Drop> Side<D> {
         ensures judge { self.new.judge ≡ self.old.judge }
         ensures held { self.new.held ≡ self.old.held }
     {
-        if let Ok(Packet::Ack { block }) = read_packet(payload) {
-            self.acks.note(block);
+        match read_packet(payload) {
+            Ok(Packet::Ack { block }) => self.acks.note(block),
+            Ok(_) => {}
+            Err(_) => {}
         }
     }
 
@@ -115,7 +117,7 @@ impl<D: Delivered + Drop> Side<D> {
         requires short { length datagram.now.payload ≤ 65527 }
         ensures accepts { (h : HeaderParts) (read : List DatagramParts) → IsSideAfter self.old h read
             → IfOk result (λ main. Passes h read (datagram_of datagram.now) × IsSideAfter self.new h (datagram_of datagram.now ∷ read)
-                × (is_of_transfer (route_of h read (datagram_of datagram.now)) ≡ main)) }
+            × (is_of_transfer (route_of h read (datagram_of datagram.now)) ≡ main)) }
         ensures refuses { (h : HeaderParts) (read : List DatagramParts) → IsSideAfter self.old h read → self.old.judge.refused ≡ None
             → IfErr result (Refuses h read (datagram_of datagram.now)) }
         ensures stays { (h : HeaderParts) (read : List DatagramParts) → IsSideAfter self.old h read
@@ -174,7 +176,12 @@ impl<D: Delivered + Drop> Side<D> {
     }
 
     /// Takes the next datagram of this end, and merges it as far as the other end lets it.
-    pub fn take(&mut self, alloc: Global, other: &mut Self, datagram: &mut Datagram) -> Result<(), Refusal>
+    pub fn take(
+        &mut self,
+        alloc: Global,
+        other: &mut Self,
+        datagram: &mut Datagram,
+    ) -> Result<(), Refusal>
         requires few { self.old.judge.fed < 2 ^ 40 }
         requires short { length datagram.old.payload ≤ 65527 }
         requires free { self.old.held ≡ None }
