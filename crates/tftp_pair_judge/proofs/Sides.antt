@@ -158,3 +158,8 @@ on_ok (Err e) P Q f is = is
 pub on_err : {A E : Type 0} → (result : Result A E) (P Q : E → Type 0) → ((e : E) → P e → Q e) → IfErr result P → IfErr result Q
 on_err (Ok x) P Q f is = is
 on_err (Err e) P Q f is = f e is
+
+-- where nothing was refused before
+pub on_ok_going : {A : Type 0} → (refused : Option Refusal) (result : Result A Refusal) (P Q : Type 0) → ((r : Refusal) → refused ≡ Some r → result ≡ Err r) → (refused ≡ None → OnOk result P) → (P → Q) → OnOk result Q
+on_ok_going None result P Q bad good f = on_ok result P Q f (good refl)
+on_ok_going (Some r) result P Q bad good f = subst (λ x. OnOk x Q) (sym (bad r refl)) tt

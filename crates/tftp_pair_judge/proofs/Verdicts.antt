@@ -1,11 +1,11 @@
 -- What is merged when neither capture goes on is what there is to say of the two.
-use Rattle.std.proofs.Common.{◌≡◌, ℕ, zero, suc, ◌+◌, ◌≤◌, true, List, [], ◌∷◌, length, take, get_or, Option, Some, None, inl, inr, refl, sym, subst, ap, ◌∙◌, arith}
-use Rattle.std.specs.Prelude.{reverse}
+use Rattle.std.proofs.Common.{◌≡◌, ℕ, zero, suc, ◌+◌, ◌≤◌, true, List, [], ◌∷◌, ◌++◌, length, take, get_or, Option, Some, None, inl, inr, refl, sym, subst, ap, ◌∙◌, arith}
+use Rattle.std.specs.Prelude.{is_some, reverse}
 use Rattle.std.proofs.lemmas.Bool.{cases_lt}
 use Rattle.std.proofs.lemmas.List.{reverse-append}
 use Rattle.std.proofs.Math.Seq.{take-suc}
 use Rattle.tftp_packet.specs.declared.kinds.Dir.TheVariants.{In}
-use Rattle.tftp_ends.specs.CaptureText.{Datagram}
+use Rattle.tftp_ends.specs.CaptureText.{Datagram, Header}
 use Rattle.tftp_ends.specs.Ports.{route_of, is_of_transfer, transfer_of}
 use Rattle.tftp_law.specs.OneEnded.{OneEnded}
 use Rattle.tftp_pair.specs.Captures.{Capture}
@@ -15,6 +15,7 @@ use Rattle.tftp_pair.specs.PairVerdict.{IsLawfulTo, IsPairVerdict}
 use Rattle.tftp_pair.proofs.MatchedCaptures.{stuck_to}
 use Rattle.tftp_pair.proofs.PairVerdict.{kept_before}
 use Rattle.tftp_pair_judge.specs.Merging.{WasSent, with_held, Waits, AreMergedBut}
+use Rattle.tftp_pair_judge.specs.Rest.{IsLeftAfter, IsRestAfter, Left, Rest}
 use Rattle.tftp_pair_judge.specs.Verdicts.{IsReadOf, GoesNoFurther}
 
 -- ---- lists
@@ -115,3 +116,45 @@ merged_is_verdict client server read other_read held other_held n k but is other
     all c m r o p is within end none =
         let same : r ≡ p = is ∙ ap (λ x. with_held x p) none in
         ap length (sym same) ∙ end none ∙ sym (taken m c.datagrams within)
+
+-- ---- what is left
+
+read_before : (c : Capture) (more early : List Datagram) → IsReadOf c (more ++ early) → IsReadOf c early
+read_before c [] early is = is
+read_before c (e ∷ more) early is = read_before c more early (read_parts c (Some e) (more ++ early) is)
+
+lawful_before : (h : Header) (more early : List Datagram) → OneEnded h (more ++ early) → OneEnded h early
+lawful_before h [] early is = is
+lawful_before h (e ∷ more) early is = lawful_before h more early is.1
+
+left_ends : (l : Left) (held : Option Datagram) (part early : List Datagram) (h : Header) (read : List Datagram) → IsLeftAfter l held part early h read → GoesNoFurther held early (length read)
+left_ends l held part early h read after none =
+    let no_more = after.ends (after.waited ∙ ap (λ (o : Option Datagram). is_some o) none) in
+    sym (ap length (after.is ∙ ap (λ (m : List Datagram). m ++ early) no_more))
+
+pub rest_is_verdict : (client server : Capture) (r : Rest) (read other_read : List Datagram) → IsRestAfter r client.header read server.header other_read
+    → IsReadOf client read → IsReadOf server other_read → IsLawfulTo client (length read) → IsLawfulTo server (length other_read)
+    → IsPairVerdict client server r.client.judge.fed r.server.judge.fed r.client.merged r.server.merged
+rest_is_verdict client server r read other_read rest is other_is part other_part =
+    let a = rest.client_left in
+    let b = rest.server_left in
+    subst (λ x. IsPairVerdict client server x r.server.judge.fed r.client.merged r.server.merged) (sym a.fed)
+    (subst (λ x. IsPairVerdict client server (length read) x r.client.merged r.server.merged) (sym b.fed)
+    (subst (λ x. IsPairVerdict client server (length read) (length other_read) x r.server.merged) (sym a.merged)
+    (subst (λ x. IsPairVerdict client server (length read) (length other_read) (length rest.but.part) x) (sym b.merged)
+    (merged_is_verdict client server rest.early rest.other_early rest.held rest.other_held (length read) (length other_read) rest.but
+    (read_before client a.more rest.early (subst (IsReadOf client) a.is is))
+    (read_before server b.more rest.other_early (subst (IsReadOf server) b.is other_is))
+    (lawful_before client.header a.more rest.early (subst (OneEnded client.header) a.is a.lawful))
+    (lawful_before server.header b.more rest.other_early (subst (OneEnded server.header) b.is b.lawful))
+    part other_part
+    (left_ends r.client rest.held rest.but.part rest.early client.header read a)
+    (left_ends r.server rest.other_held rest.but.other_part rest.other_early server.header other_read b)))))
+
+pub same_numbers : (client server : Capture) (r : Rest) (n k i j : ℕ) → IsPairVerdict client server r.client.judge.fed r.server.judge.fed r.client.merged r.server.merged
+    → n ≡ r.client.judge.fed → k ≡ r.server.judge.fed → i ≡ r.client.merged → j ≡ r.server.merged → IsPairVerdict client server n k i j
+same_numbers client server r n k i j verdict a b x y =
+    subst (λ z. IsPairVerdict client server z k i j) (sym a)
+    (subst (λ z. IsPairVerdict client server r.client.judge.fed z i j) (sym b)
+    (subst (λ z. IsPairVerdict client server r.client.judge.fed r.server.judge.fed z j) (sym x)
+    (subst (λ z. IsPairVerdict client server r.client.judge.fed r.server.judge.fed r.client.merged z) (sym y) verdict)))

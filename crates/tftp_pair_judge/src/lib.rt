@@ -4,6 +4,8 @@
 
 pub mod laws;
 mod pair;
+mod rest;
 mod side;
 
 pub use pair::PairJudge;
+pub use rest::{PairRest, PairVerdict};

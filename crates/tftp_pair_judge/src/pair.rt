@@ -6,13 +6,15 @@ ghost use Rattle.tftp_law.specs.OneEnded.{Passes};
 ghost use Rattle.tftp_judge.specs.Finds.{Refuses};
 ghost use Rattle.tftp_judge.specs.declared.refusal.Refusal.{Refusal as RefusalKind};
 ghost use Rattle.tftp_pair_judge.specs.Kept.{IsPairAfter, side_at};
+ghost use Rattle.tftp_pair_judge.specs.Rest.{IsRestAfter};
 
+use crate::rest::PairRest;
 use crate::side::Side;
 use std::alloc::Global;
 use std::marker::Model;
 use tftp_capture::{Datagram, Header};
 use tftp_ends::Delivered;
-use tftp_judge::{Judge, Refusal};
+use tftp_judge::Refusal;
 use tftp_packet::End;
 
 /// The judge of two captures of one transfer, one of each end (RFC 1350, section 2). A datagram that came in is merged once
@@ -106,10 +108,12 @@ impl<D: Delivered + Drop> PairJudge<D> {
         }
     }
 
-    /// The judges of the client's capture and of the server's, each to be fed what is left of its own, once neither goes on.
-    pub fn into_judges(self) -> (Judge<D>, Judge<D>)
-        ensures { (result.0 ≡ self.client.judge) × (result.1 ≡ self.server.judge) }
+    /// What is left once neither goes further: of each one waits, or it was fed to its end or refused.
+    pub fn rest(self) -> PairRest<D>
+        ensures after { (h k : HeaderParts) (client server : List DatagramParts) → IsPairAfter self h client k server → IsRestAfter result h client k server }
+        ensures client { (result.client.judge ≡ self.client.judge) × (result.client.waited ≡ is_some self.client.held) }
+        ensures server { (result.server.judge ≡ self.server.judge) × (result.server.waited ≡ is_some self.server.held) }
     {
-        (self.client.into_judge(), self.server.into_judge())
+        PairRest::of(self.client.into_left(), self.server.into_left())
     }
 }

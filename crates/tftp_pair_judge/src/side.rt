@@ -10,6 +10,7 @@ ghost use Rattle.tftp_judge.specs.declared.refusal.Refusal.{Refusal as RefusalKi
 ghost use Rattle.tftp_pair_judge.specs.Merging.{AreMergedBut, IsAskedAgain, WasSent, with_held};
 ghost use Rattle.tftp_pair_judge.specs.Kept.{AreSidesAfter, IsSideAfter, HasSame};
 
+use crate::rest::Left;
 use std::alloc::Global;
 use std::marker::Model;
 use std::mem;
@@ -79,11 +80,19 @@ impl<D: Delivered + Drop> Side<D> {
         self.judge.fed().saturating_sub(u64::from(self.waits))
     }
 
-    /// The judge, which may be fed what is left of the capture.
-    pub fn into_judge(self) -> Judge<D>
-        ensures { result ≡ self.judge }
+    /// What is left of this end's capture once it goes no further.
+    pub fn into_left(self) -> Left<D>
+        ensures judge { result.judge ≡ self.judge }
+        ensures waited { result.waited ≡ is_some self.held }
+        ensures merged { (part : List DatagramParts) → self.judge.fed ≡ length (with_held self.held part) → result.merged ≡ length part }
     {
-        self.judge
+        let merged = self.merged();
+        let Side { judge, waits, .. } = self;
+        Left {
+            judge,
+            merged,
+            waited: waits,
+        }
     }
 
     /// Whether this end has sent what a payload says (RFC 1350, section 2).
