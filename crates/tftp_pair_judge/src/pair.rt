@@ -94,6 +94,17 @@ impl<D: Delivered + Drop> PairJudge<D> {
         }
     }
 
+    /// How many datagrams of this end were accepted.
+    #[inline]
+    pub fn fed(&self, end: End) -> u64
+        ensures { result ≡ (side_at end self.now).judge.fed }
+    {
+        match end {
+            End::Client => self.client.fed(),
+            End::Server => self.server.fed(),
+        }
+    }
+
     /// How many datagrams of this end are merged: all that were accepted, but the one that waits.
     #[inline]
     pub fn merged(&self, end: End) -> u64

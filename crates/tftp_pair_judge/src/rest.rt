@@ -128,6 +128,28 @@ impl<D: Delivered + Drop> PairRest<D> {
         }
     }
 
+    /// Whether a datagram of this end waited, and so more of its capture may be fed.
+    #[inline]
+    pub fn waited(&self, end: End) -> bool
+        ensures { result ≡ (left_at end self.now).waited }
+    {
+        match end {
+            End::Client => self.client.waited,
+            End::Server => self.server.waited,
+        }
+    }
+
+    /// How many datagrams of this end were accepted.
+    #[inline]
+    pub fn fed(&self, end: End) -> u64
+        ensures { result ≡ (left_at end self.now).judge.fed }
+    {
+        match end {
+            End::Client => self.client.judge.fed(),
+            End::Server => self.server.judge.fed(),
+        }
+    }
+
     /// The verdict on both, where each was fed as far as it is lawful, or to its end.
     pub fn finish(self, alloc: Global) -> PairVerdict
         ensures numbers { (client server : Capture) (client_read server_read : List DatagramParts)

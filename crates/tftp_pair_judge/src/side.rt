@@ -72,6 +72,14 @@ impl<D: Delivered + Drop> Side<D> {
         self.waits
     }
 
+    /// How many datagrams the judge has accepted.
+    #[inline]
+    pub fn fed(&self) -> u64
+        ensures { result ≡ self.now.judge.fed }
+    {
+        self.judge.fed()
+    }
+
     /// How many datagrams are merged: all that the judge has accepted, but the one that waits.
     #[inline]
     pub fn merged(&self) -> u64
