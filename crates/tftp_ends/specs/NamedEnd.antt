@@ -1,6 +1,6 @@
 -- What the named end keeps from the reply on, whichever end it is, and for which datagrams that stands. The list `passed`
 -- has the datagrams of the transfer that have passed at this end, the newest first.
-use Rattle.std.specs.Prelude.{◌≡◌, ℕ, ◌≤◌, Bool, List, None, if◌then◌else◌}
+use Rattle.std.specs.Prelude.{◌≡◌, ℕ, ◌≤◌, Bool, List, Some, None, if◌then◌else◌}
 use Rattle.std.specs.FinMap as map
 use Rattle.tftp_packet.specs.Message.{Message, Data, Ack}
 use Rattle.tftp_packet.specs.declared.kinds.Dir.{Dir}
@@ -58,6 +58,11 @@ IsOfItsAuthor t dir _ = Unit {0}
 abbrev pub IsNewBlock : NamedEnd → Message → Type 0
 IsNewBlock end (Data k bytes) = map.get (held_of end) k ≡ None
 IsNewBlock end _ = ⊥
+
+-- the end is the sender and holds this block, which it has sent (RFC 1350, section 2)
+abbrev pub HoldsBlock : NamedEnd → ℕ → List ℕ → Type 0
+HoldsBlock (Sends s) k bytes = map.get s.held k ≡ Some bytes
+HoldsBlock (Receives r) k bytes = ⊥
 
 -- the transfer is over at this end (RFC 1350, section 6)
 abbrev pub IsEndDone : NamedEnd → List Datagram → Type 0

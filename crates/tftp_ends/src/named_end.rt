@@ -16,6 +16,7 @@ ghost use Rattle.tftp_ends.specs.NamedEnd.{
   IsEndDone,
   IsNewBlock,
   IsOfItsAuthor,
+  HoldsBlock,
   HoldsWire,
   MayKeep,
 };
@@ -243,6 +244,17 @@ impl<D: Delivered> NamedEnd<D> {
         match &self.part {
             Part::Sends(sender) => sender.done(),
             Part::Receives(receiver) => receiver.done(),
+        }
+    }
+
+    /// Whether this end has sent this block, with these bytes (RFC 1350, section 2). A receiver has sent none, whatever it
+    /// holds.
+    pub fn has_sent(&self, number: u16, bytes: &[u8]) -> bool
+        ensures { IsTrue result ↔ HoldsBlock self.now number bytes.now }
+    {
+        match &self.part {
+            Part::Sends(sender) => sender.has_sent(number, bytes),
+            Part::Receives(_) => false,
         }
     }
 

@@ -1,4 +1,4 @@
-ghost use Rattle.std.specs.Prelude.{◌≡◌, ◌↔◌, ℕ, ◌≤◌, List, ◌∷◌, None, IsTrue, false, true, OnOk, OnErr, IfErr};
+ghost use Rattle.std.specs.Prelude.{◌≡◌, ◌↔◌, ℕ, ◌≤◌, List, ◌∷◌, None, Some, IsTrue, false, true, OnOk, OnErr, IfErr};
 ghost use Rattle.std.specs.FinMap as map;
 ghost use Rattle.tftp_packet.specs.Message.{Data, Ack, Error};
 ghost use Rattle.tftp_packet.specs.declared.kinds.Dir.TheVariants.{In, Out};
@@ -195,6 +195,16 @@ impl<D: Delivered> SenderState<D> {
     {
         match last_block(&self.terms, &self.store) {
             Some(last) => last == u64::from(self.answered),
+            None => false,
+        }
+    }
+
+    /// Whether this block went out, with these bytes (RFC 1350, section 2).
+    pub fn has_sent(&self, number: u16, bytes: &[u8]) -> bool
+        ensures { IsTrue result ↔ (map.get self.now.held number ≡ Some bytes.now) }
+    {
+        match self.store.block(number) {
+            Some(held) => held == bytes,
             None => false,
         }
     }

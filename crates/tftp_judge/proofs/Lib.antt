@@ -1,3 +1,4 @@
+pub mod Flags
 pub mod FirstAnswers
 mod FirstFaults
 mod Follows

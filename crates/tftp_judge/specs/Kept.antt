@@ -96,6 +96,7 @@ pub record Keeper : Type 0 where
   pub header : Header
   pub ports : KnownIds
   pub transfer : Option Transfer  -- from the first request on
+  pub of_transfer : Bool  -- the last datagram that passed its ports was of the transfer
 
 pub record Judge : Type 0 where
   pub keeper : Keeper

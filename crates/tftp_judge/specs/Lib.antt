@@ -2,6 +2,7 @@ pub mod Verdict
 pub mod TextVerdict
 pub mod Ending
 pub mod Kept
+pub mod SentByKept
 pub mod Memory
 pub mod KeptCode
 pub mod Finds

@@ -1,6 +1,7 @@
-ghost use Rattle.std.specs.Prelude.{◌⊎◌, List, ◌∷◌, OnOk, IfErr, OnErr};
+ghost use Rattle.std.specs.Prelude.{◌≡◌, ◌⊎◌, ◌↔◌, IsTrue, List, ◌∷◌, OnOk, IfErr, OnErr};
 ghost use Rattle.tftp_packet.specs.Message.{RequestParts};
 ghost use Rattle.tftp_packet.specs.Meaning.{meaning};
+ghost use Rattle.tftp_packet.specs.Written.{map_of};
 ghost use Rattle.tftp_ends.specs.CaptureText.{Datagram, Header};
 ghost use Rattle.tftp_ends.specs.Roles.{author_of};
 ghost use Rattle.tftp_ends.specs.States.{Says};
@@ -10,11 +11,12 @@ ghost use Rattle.tftp_judge.specs.Courses.{HasAnswer, IsNewBlockOn, MayKeepOn};
 ghost use Rattle.tftp_judge.specs.Finds.{NoneBreaks, IsFirstOf};
 ghost use Rattle.tftp_judge.specs.Kept.{IsCourse};
 ghost use Rattle.tftp_judge.specs.KeptCode.{course_of};
+ghost use Rattle.tftp_judge.specs.SentByKept.{HasAgreed, HasBlock};
 
 use std::alloc::{AllocError, Global};
 use tftp_ends::{Delivered, EndFault, NamedEnd};
 use tftp_nego::Agreed;
-use tftp_packet::{Dir, Packet};
+use tftp_packet::{Dir, OptionsView, Packet, same_options};
 
 /// How the request was answered, and the named end that began with the answer (RFC 1350, section 4; RFC 2347).
 #[derive(Drop)]
@@ -52,11 +54,34 @@ impl<D: Delivered + Drop> Course<D> {
             → (IsWrongKind (author_of h.named dir) asked.side (meaning packet.now) → ⊥)
             → HasAnswer (course_of self.old) ⊎ IsError (meaning packet.now) → OnOk result (IsCourse h asked (d ∷ passed) (course_of self.new)) }
         ensures absent { OnErr result (IsNewBlockOn (course_of self.old) (meaning packet.now)) }
+        ensures err { OnErr result (course_of self.new ≡ course_of self.old) }
     {
         match self {
             Course::Unanswered => Ok(()),
             Course::Begun(end) => end.pass(alloc, dir, packet),
             Course::Agreed(_, end) => end.pass(alloc, dir, packet),
+        }
+    }
+
+    /// Whether the server agreed to these options, by an OACK (RFC 2347).
+    pub fn has_agreed(&self, oack: &OptionsView<'_>) -> bool
+        ensures { IsTrue result ↔ HasAgreed (course_of self.now) (map_of oack.now) }
+    {
+        match self {
+            Course::Unanswered => false,
+            Course::Begun(_) => false,
+            Course::Agreed(agreed, _) => same_options(agreed.options(), oack),
+        }
+    }
+
+    /// Whether the named end has sent this block, with these bytes (RFC 1350, section 2).
+    pub fn has_sent(&self, number: u16, bytes: &[u8]) -> bool
+        ensures { IsTrue result ↔ HasBlock (course_of self.now) number bytes.now }
+    {
+        match self {
+            Course::Unanswered => false,
+            Course::Begun(end) => end.has_sent(number, bytes),
+            Course::Agreed(_, end) => end.has_sent(number, bytes),
         }
     }
 }

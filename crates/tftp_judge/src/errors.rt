@@ -159,11 +159,21 @@ impl Errors {
     }
 
     /// Whether one has gone out.
-    pub fn has_sent(&self) -> bool
+    pub fn has_gone_out(&self) -> bool
         ensures { (passed : List Datagram) → AreErrors self.now passed
             → (IsTrue result ↔ ((code : ℕ) × (text : List ℕ) × Passed Out (Message.Error code text) passed)) }
     {
         self.sent.is_some()
+    }
+
+    /// Whether this ERROR has gone out (RFC 1350, section 5).
+    pub fn has_sent(&self, code: u16, message: &[u8]) -> bool
+        ensures { IsTrue result ↔ (self.now.sent ≡ Some (code, message.now)) }
+    {
+        match &self.sent {
+            Some(sent) => sent.code == code && sent.message.as_slice() == message,
+            None => false,
+        }
     }
 
     /// Whether one has come in.

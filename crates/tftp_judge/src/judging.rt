@@ -1,22 +1,27 @@
-ghost use Rattle.std.specs.Prelude.{◌≡◌, ◌+◌, ◌^◌, ◌<◌, ◌≤◌, ℕ, List, [], ◌∷◌, length, reverse, None, Some, OnOk, IfErr, Err};
+ghost use Rattle.std.specs.Prelude.{◌≡◌, ◌↔◌, IsTrue, ◌+◌, ◌^◌, ◌<◌, ◌≤◌, ℕ, List, [], ◌∷◌, length, reverse, None, Some, OnOk, IfErr, Err};
 ghost use Rattle.tftp_capture.specs.Fields.{datagram_of, header_of};
+ghost use Rattle.tftp_packet.specs.Meaning.{meaning};
+ghost use Rattle.tftp_ends.specs.Ports.{is_of_transfer, route_of};
 ghost use Rattle.tftp_ends.specs.CaptureText.{Datagram as DatagramParts, Header as HeaderParts};
 ghost use Rattle.tftp_law.specs.OneEnded.{Passes, IsEnded};
 ghost use Rattle.tftp_judge.specs.Finds.{Refuses};
 ghost use Rattle.tftp_ends.specs.Ports.{transfer_of};
 ghost use Rattle.tftp_judge.specs.Kept.{IsJudgeAfter};
 ghost use Rattle.tftp_judge.specs.Memory.{TakesForJoin};
+ghost use Rattle.tftp_judge.specs.SentByKept.{HasSentIn, flags_of};
 ghost use Rattle.tftp_judge.specs.Verdict.{IsVerdict};
 ghost use Rattle.tftp_judge.specs.declared.refusal.Refusal.{Refusal as RefusalKind};
 
 use crate::keeping::Keeper;
 use crate::meaning::Meaning;
 use crate::refusal::Refusal;
+use crate::sent_acks::SentAcks;
 use crate::stop::Stop;
 use std::alloc::Global;
 use std::marker::Model;
 use tftp_capture::{Datagram, Header};
 use tftp_ends::Delivered;
+use tftp_packet::Packet;
 
 /// The judge of a capture, datagram by datagram (RFC 1350; RFC 2347; RFC 7440). It keeps no list of datagrams: what
 /// it keeps are the transfer ids, the first request, what was agreed, a few numbers and the blocks.
@@ -75,6 +80,11 @@ impl<D: Delivered + Drop> Judge<D> {
         ensures goes_on { self.old.refused ≡ None → OnOk result (self.new.refused ≡ None) }
         ensures counts { OnOk result (self.new.fed ≡ self.old.fed + 1) }
         ensures counted { IfErr result (λ _. self.new.fed ≡ self.old.fed) }
+
+        // Where the datagram belongs; and a refusal leaves what is known of the transfer as it was.
+        ensures routed { (h : HeaderParts) (earlier : List DatagramParts) → IsJudgeAfter self.old h earlier
+            → OnOk result (self.new.keeper.of_transfer ≡ is_of_transfer (route_of h earlier (datagram_of datagram.now))) }
+        ensures stays { IfErr result (λ _. self.new.keeper.transfer ≡ self.old.keeper.transfer) }
     {
         if let Some(refusal) = self.refused {
             return Err(refusal);
@@ -89,6 +99,24 @@ impl<D: Delivered + Drop> Judge<D> {
         }
         self.fed += 1;
         Ok(())
+    }
+
+    /// Whether the named end has sent this packet, the same message, by the datagrams of the transfer that were accepted (RFC
+    /// 1350, section 2), also after a refusal. Of ACKs the judge keeps the highest alone, so their flags are the caller's.
+    #[inline]
+    pub fn has_sent(&self, acks: &SentAcks, packet: &Packet<'_>) -> bool
+        ensures { IsTrue result ↔ HasSentIn self.now.keeper.transfer (flags_of acks.now) (meaning packet.now) }
+    {
+        self.keeper.has_sent(acks, packet)
+    }
+
+    /// Whether the last datagram that was accepted was one of the transfer, and neither a stray nor the answer to one (RFC
+    /// 1350, section 4). After a refusal it tells nothing.
+    #[inline]
+    pub fn last_was_of_transfer(&self) -> bool
+        ensures { result ≡ self.now.keeper.of_transfer }
+    {
+        self.keeper.last_was_of_transfer()
     }
 
     /// How many datagrams were accepted.

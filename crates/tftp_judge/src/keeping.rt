@@ -1,4 +1,5 @@
-ghost use Rattle.std.specs.Prelude.{◌≡◌, ◌↔◌, List, [], ◌∷◌, true, IsTrue, Err};
+ghost use Rattle.std.specs.Prelude.{◌≡◌, ◌↔◌, List, [], ◌∷◌, true, IsTrue, Err, OnOk, OnErr};
+ghost use Rattle.tftp_packet.specs.Meaning.{meaning};
 ghost use Rattle.tftp_capture.specs.Fields.{datagram_of, header_of};
 ghost use Rattle.tftp_ends.specs.CaptureText.{Datagram as DatagramParts, Header as HeaderParts};
 ghost use Rattle.tftp_ends.specs.KnownIds.{among_all};
@@ -7,8 +8,10 @@ ghost use Rattle.tftp_law.specs.OneEnded.{OneEnded};
 ghost use Rattle.tftp_judge.specs.Finds.{FindsOf, stop_by_port};
 ghost use Rattle.tftp_judge.specs.Kept.{HasKept, IsKept};
 ghost use Rattle.tftp_judge.specs.Memory.{TakesMemory};
+ghost use Rattle.tftp_judge.specs.SentByKept.{HasSentIn, flags_of};
 ghost use Rattle.tftp_judge.specs.declared.stop.Stop.{Stop as StopKind};
 
+use crate::sent_acks::SentAcks;
 use crate::stop::Stop;
 use crate::transfer::Transfer;
 use std::alloc::Global;
@@ -26,6 +29,8 @@ pub struct Keeper<D: Delivered + Drop> {
     transfer: Option<Transfer<D>>,
     // the bytes of the first request, once it has passed
     asked: Bytes,
+    /// Whether the last datagram that passed its ports was one of the transfer.
+    of_transfer: bool,
 }
 
 impl<D: Delivered + Drop> Model for Keeper<D> {
@@ -43,6 +48,7 @@ impl<D: Delivered + Drop> Model for Keeper<D> {
       header = header_of k.header;
       ports = k.ports;
       transfer = k.transfer;
+      of_transfer = k.of_transfer;
     } };
 
     ghost invariant = { λ k. AreBytesOf k.asked k.transfer };
@@ -58,6 +64,7 @@ impl<D: Delivered + Drop> Keeper<D> {
             ports: Ports::new(alloc, header.named, header.service),
             transfer: None,
             asked: Bytes::of(Vec::new(alloc)),
+            of_transfer: false,
         }
     }
 
@@ -67,6 +74,9 @@ impl<D: Delivered + Drop> Keeper<D> {
             → FindsOf h earlier (datagram_of datagram.now) (HasKept self.new h (datagram_of datagram.now ∷ earlier)) result }
         ensures memory { (h : HeaderParts) (earlier : List DatagramParts) → HasKept self.old h earlier → result ≡ Err StopKind.Memory
             → TakesMemory h earlier (datagram_of datagram.now) }
+        ensures routed { (h : HeaderParts) (earlier : List DatagramParts) → HasKept self.old h earlier
+            → OnOk result (self.new.of_transfer ≡ is_of_transfer (route_of h earlier (datagram_of datagram.now))) }
+        ensures err { OnErr result (self.new.transfer ≡ self.old.transfer) }
     {
         let payload = datagram.payload.as_slice();
         let route = match self.ports.class(
@@ -79,6 +89,7 @@ impl<D: Delivered + Drop> Keeper<D> {
             Ok(route) => route,
             Err(fault) => return Err(stop_of_port(fault)),
         };
+        self.of_transfer = belongs(route);
         match route {
             Route::Request | Route::Peer => self.pass_message(alloc, route, datagram.dir, payload),
             Route::StrayAnswer => {
@@ -90,6 +101,25 @@ impl<D: Delivered + Drop> Keeper<D> {
             }
             Route::Stray => Ok(()),
         }
+    }
+
+    /// Whether the end has sent this packet, by what is kept and the flags of the ACKs that it has sent.
+    pub fn has_sent(&self, acks: &SentAcks, packet: &Packet<'_>) -> bool
+        ensures { IsTrue result ↔ HasSentIn self.now.transfer (flags_of acks.now) (meaning packet.now) }
+    {
+        match &self.transfer {
+            Some(transfer) => transfer.has_sent(acks, packet),
+            None => false,
+        }
+    }
+
+    /// Whether the last datagram that passed was one of the transfer, and neither a stray nor the answer to one (RFC 1350,
+    /// section 4).
+    #[inline]
+    pub fn last_was_of_transfer(&self) -> bool
+        ensures { result ≡ self.now.of_transfer }
+    {
+        self.of_transfer
     }
 
     /// The transfer, if its first request has passed.
@@ -115,6 +145,8 @@ impl<D: Delivered + Drop> Keeper<D> {
             → result ≡ Err StopKind.Memory → TakesMemory h earlier d }
         ensures header { self.new.header ≡ self.old.header }
         ensures ports { self.new.ports ≡ self.old.ports }
+        ensures of_transfer { self.new.of_transfer ≡ self.old.of_transfer }
+        ensures err { OnErr result (self.new.transfer ≡ self.old.transfer) }
     {
         if let Some(transfer) = &self.transfer {
             if payload == self.asked.as_slice() {
@@ -140,6 +172,8 @@ impl<D: Delivered + Drop> Keeper<D> {
             → result ≡ Err StopKind.Memory → TakesMemory h earlier d }
         ensures header { self.new.header ≡ self.old.header }
         ensures ports { self.new.ports ≡ self.old.ports }
+        ensures of_transfer { self.new.of_transfer ≡ self.old.of_transfer }
+        ensures err { OnErr result (self.new.transfer ≡ self.old.transfer) }
     {
         if self.transfer.is_none() && route == Route::Peer {
             return Err(Stop::Broken(Rule::NoRequest));
@@ -158,6 +192,16 @@ impl<D: Delivered + Drop> Keeper<D> {
             }
             (None, _) => Err(Stop::Broken(Rule::NoRequest)),
         }
+    }
+}
+
+/// Whether a datagram of this route is one of the transfer (RFC 1350, section 4).
+fn belongs(route: Route) -> bool
+    ensures { result ≡ is_of_transfer (among_all route) }
+{
+    match route {
+        Route::Request | Route::Peer => true,
+        Route::Stray | Route::StrayAnswer => false,
     }
 }
 

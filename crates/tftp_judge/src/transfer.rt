@@ -16,6 +16,7 @@ ghost use Rattle.tftp_judge.specs.Finds.{Finds, stop_of_fault, IsBlockOrAck};
 ghost use Rattle.tftp_judge.specs.Courses.{HasAnswer, WaitsForReply, DiffersByCourse, DiffersBySent};
 ghost use Rattle.tftp_judge.specs.Memory.{IsNew, TakesForJoin};
 ghost use Rattle.tftp_judge.specs.Kept.{AreErrors, Unanswered, IsCourse, IsTransferAfter, IsTransferOf};
+ghost use Rattle.tftp_judge.specs.SentByKept.{HasSentBy, flags_of};
 ghost use Rattle.tftp_judge.specs.Verdict.{IsVerdictByRules};
 ghost use Rattle.tftp_judge.specs.declared.refusal.Refusal.{Refusal as RefusalKind};
 ghost use Rattle.tftp_judge.specs.declared.stop.Stop.{Stop as StopKind};
@@ -26,6 +27,7 @@ use crate::file::{file_of, written_blocks};
 use crate::kinds::{author_of, is_wrong_kind};
 use crate::meaning::Meaning;
 use crate::refusal::Refusal;
+use crate::sent_acks::SentAcks;
 use crate::stop::Stop;
 use std::alloc::Global;
 use std::marker::Model;
@@ -94,6 +96,7 @@ impl<D: Delivered + Drop> Transfer<D> {
         ensures memory { (h : Header) (passed : List Datagram) → IsTransferAfter self.old h passed → result ≡ Err StopKind.Memory
             → IsNew passed dir (meaning packet.now) }
         ensures asked { self.new.asked ≡ self.old.asked }
+        ensures err { OnErr result (self.new ≡ self.old) }
     {
         if is_wrong_kind(author_of(self.named, dir), self.asked.side(), packet) {
             return Err(Stop::Broken(Rule::WrongKind));
@@ -123,7 +126,7 @@ impl<D: Delivered + Drop> Transfer<D> {
         if dir == Dir::In {
             return Ok(());
         }
-        if self.errors.has_sent() {
+        if self.errors.has_gone_out() {
             return Err(Stop::Broken(Rule::AfterError));
         }
         if self.client_went_on() {
@@ -140,6 +143,7 @@ impl<D: Delivered + Drop> Transfer<D> {
             → Finds (RequestBreaks self.old.asked passed dir (parts now.now)) (IsTransferAfter self.new h (d ∷ passed)) result }
         ensures takes_none { result ≢ Err StopKind.Memory }
         ensures asked { self.new.asked ≡ self.old.asked }
+        ensures err { OnErr result (self.new ≡ self.old) }
     {
         if !same_request(&self.asked, now) {
             return Err(Stop::Broken(Rule::RequestChanged));
@@ -167,6 +171,7 @@ impl<D: Delivered + Drop> Transfer<D> {
         ensures absent { (h : Header) (passed : List Datagram) → IsTransferAfter self.old h passed
             → OnErr result (IsNew passed dir (Message.Error code message.now)) }
         ensures asked { self.new.asked ≡ self.old.asked }
+        ensures err_stays { OnErr result (self.new ≡ self.old) }
     {
         self.errors.note(alloc, dir, code, message)?;
         self.course.pass(alloc, dir, packet)?;
@@ -181,6 +186,7 @@ impl<D: Delivered + Drop> Transfer<D> {
         ensures memory { (h : Header) (passed : List Datagram) → IsTransferAfter self.old h passed → result ≡ Err StopKind.Memory
             → IsNew passed dir (Message.Oack (map_of oack.now)) }
         ensures asked { self.new.asked ≡ self.old.asked }
+        ensures err { OnErr result (self.new ≡ self.old) }
     {
         match &self.course {
             Course::Begun(_) => Err(Stop::Broken(Rule::ReplyChanged)),
@@ -213,6 +219,7 @@ impl<D: Delivered + Drop> Transfer<D> {
             → Spells d.payload (Message.Oack (map_of oack.now))
             → Finds (FirstOackBreaks self.old.asked (map_of oack.now)) (IsTransferAfter self.new h (d ∷ passed)) result }
         ensures asked { self.new.asked ≡ self.old.asked }
+        ensures err { OnErr result (self.new ≡ self.old) }
     {
         let agreed = match agree(alloc, &self.asked, oack) {
             Ok(agreed) => agreed,
@@ -245,6 +252,7 @@ impl<D: Delivered + Drop> Transfer<D> {
         ensures memory { (h : Header) (passed : List Datagram) → IsTransferAfter self.old h passed → result ≡ Err StopKind.Memory
             → IsNew passed dir (meaning packet.now) }
         ensures asked { self.new.asked ≡ self.old.asked }
+        ensures err { OnErr result (self.new ≡ self.old) }
     {
         self.keep_block(alloc, dir, packet)?;
         self.note_sent(dir, packet);
@@ -261,6 +269,7 @@ impl<D: Delivered + Drop> Transfer<D> {
         ensures memory { (h : Header) (passed : List Datagram) → IsTransferAfter self.old h passed → result ≡ Err StopKind.Memory
             → IsNew passed dir (meaning packet.now) }
         ensures rest { DiffersByCourse self.old self.new }
+        ensures err { OnErr result (self.new ≡ self.old) }
     {
         match &self.course {
             Course::Unanswered => self.pass_answer(alloc, dir, packet),
@@ -280,6 +289,7 @@ impl<D: Delivered + Drop> Transfer<D> {
         ensures memory { (h : Header) (passed : List Datagram) → IsTransferAfter self.old h passed → result ≡ Err StopKind.Memory
             → IsNew passed dir (meaning packet.now) }
         ensures rest { DiffersByCourse self.old self.new }
+        ensures err { OnErr result (self.new ≡ self.old) }
     {
         if waits_for_reply(self.asked.side(), packet) {
             return Err(Stop::Broken(Rule::NotStarted));
@@ -303,12 +313,26 @@ impl<D: Delivered + Drop> Transfer<D> {
         ensures memory { (h : Header) (passed : List Datagram) → IsTransferAfter self.old h passed → result ≡ Err StopKind.Memory
             → IsNew passed dir (meaning packet.now) }
         ensures rest { DiffersByCourse self.old self.new }
+        ensures err { OnErr result (self.new ≡ self.old) }
     {
         if let Err(rule) = self.course.may_pass(packet) {
             return Err(Stop::Broken(rule_of_end(rule)));
         }
         self.course.pass(alloc, dir, packet)?;
         Ok(())
+    }
+
+    /// Whether the named end has sent this packet, by what is kept and the flags of the ACKs that it has sent.
+    pub fn has_sent(&self, acks: &SentAcks, packet: &Packet<'_>) -> bool
+        ensures { IsTrue result ↔ HasSentBy self.now (flags_of acks.now) (meaning packet.now) }
+    {
+        match packet {
+            Packet::Request(asked) => self.named == End::Client && same_request(&self.asked, asked),
+            Packet::Oack(oack) => self.named == End::Server && self.course.has_agreed(oack),
+            Packet::Data { block, bytes } => self.course.has_sent(*block, bytes),
+            Packet::Ack { block } => acks.has(*block),
+            Packet::Error { code, message } => self.errors.has_sent(*code, message),
+        }
     }
 
     /// What the transfer means, or why it is none that is whole, after so many datagrams.

@@ -16,7 +16,7 @@ one_more : (c : Capture) (n : ℕ) → n < length c.datagrams → reverse (take 
 one_more c n low = ap reverse (take-suc c.datagrams n any_datagram low) ∙ reverse-append (take n c.datagrams) (get_or c.datagrams n any_datagram ∷ [])
 
 -- what begins a lawful list is lawful
-kept_before : (c : Capture) (y n : ℕ) → y ≤ n → n ≤ length c.datagrams → Keeps c n → Keeps c y
+pub kept_before : (c : Capture) (y n : ℕ) → y ≤ n → n ≤ length c.datagrams → Keeps c n → Keeps c y
 kept_before c y zero low within keeps = let same : zero ≡ y = omega arith in subst (Keeps c) same keeps
 kept_before c y (suc n) low within keeps = elim (cases_lt n y) [
   | inl above ↦ let same : suc n ≡ y = omega arith in subst (Keeps c) same keeps

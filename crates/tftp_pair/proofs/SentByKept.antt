@@ -7,7 +7,7 @@ use Rattle.tftp_packet.specs.declared.kinds.Dir.TheVariants.{In, Out}
 use Rattle.tftp_ends.specs.CaptureText.{Datagram, Header}
 use Rattle.tftp_ends.specs.Meaning.{Meaning, SomethingAgreed}
 use Rattle.tftp_ends.specs.Machines.{Req, Oack, Sent, MaySend}
-use Rattle.tftp_ends.specs.NamedEnd.{NamedEnd, Sends, Receives, IsEndAfter}
+use Rattle.tftp_ends.specs.NamedEnd.{NamedEnd, Sends, Receives, HoldsBlock, IsEndAfter}
 use Rattle.tftp_ends.specs.OneSide.{IsOneSided, MayCome}
 use Rattle.tftp_ends.specs.Ports.{transfer_of}
 use Rattle.tftp_ends.specs.Rules.{Passed}
@@ -21,7 +21,7 @@ use Rattle.tftp_law.proofs.PassedIsDone.{told_passed}
 use Rattle.tftp_law.proofs.RulesDivide.{divides}
 use Rattle.tftp_law.proofs.TwoEnds.{some}
 use Rattle.tftp_judge.specs.Kept.{Course, Unanswered, Begun, Agreed, Transfer, ErrorText, IsErrorOf, IsCourse, IsTransferAfter, IsTransferOf}
-use Rattle.tftp_pair.specs.SentByKept.{HoldsBlock, HasBlock, HasAgreed, AreFlags, HasSentBy}
+use Rattle.tftp_judge.specs.SentByKept.{HasBlock, HasAgreed, AreFlags, HasSentBy}
 use Rattle.tftp_pair.proofs.Spelt.{packet_is}
 use Rattle.tftp_pair.proofs.CommonMeaning.{out_is, in_is, oack_out, request_out, agrees_passed}
 

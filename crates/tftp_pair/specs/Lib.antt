@@ -3,6 +3,5 @@ pub mod Captures
 pub mod Counts
 pub mod Messages
 pub mod MatchedCaptures
-pub mod SentByKept
 pub mod PairVerdict
 pub mod Worked

@@ -8,7 +8,7 @@ ghost use Rattle.tftp_ends.specs.Ports.{transfer_of};
 ghost use Rattle.tftp_ends.specs.Rules.{Passed};
 ghost use Rattle.tftp_judge.specs.Kept.{Transfer, IsTransferOf};
 ghost use Rattle.tftp_pair.specs.PairVerdict.{IsPairVerdict, IsWholePair};
-ghost use Rattle.tftp_pair.specs.SentByKept.{AreFlags, HasSentBy};
+ghost use Rattle.tftp_judge.specs.SentByKept.{AreFlags, HasSentBy};
 ghost use Rattle.tftp_packet.specs.declared.kinds.End.{End};
 ghost use Rattle.tftp_packet.specs.declared.kinds.End.TheVariants.{Client, Server};
 ghost use Rattle.tftp_ends.specs.Meaning.{Meaning};

@@ -15,7 +15,7 @@ use Rattle.tftp_judge.proofs.keeping.Keeper.pass.Goals.{then-says_unknown_id, el
 
 -- what is kept, by the fields
 known : (g : Over) (c : After-opcode g) (h : Header) (earlier : List Datagram) → HasKept c.args.self.now h earlier
-    → HasKept (record { header = header_of c.self.inside.header; ports = c.self.inside.ports; transfer = c.self.inside.transfer }) h earlier
+    → HasKept (record { header = header_of c.self.inside.header; ports = c.self.inside.ports; transfer = c.self.inside.transfer; of_transfer = c.self.inside.of_transfer }) h earlier
 known g c h earlier has = subst (λ (k : Keeper). HasKept k h earlier) (sym c.self.view_is) has
 
 numbers : (g : Over) (c : After-opcode g) → HasNumbers (datagram_of c.args.datagram.now) c.args.datagram.now.dir c.args.datagram.now.local_port c.args.datagram.now.remote_host c.args.datagram.now.remote_port c.opcode.result

@@ -9,7 +9,7 @@ use Rattle.tftp_judge.specs.Kept.{Errors, AreErrors, Transfer, IsTransferAfter}
 use Rattle.tftp_judge.proofs.MessageFound.{again_goes, again_late, again_passes}
 use Rattle.tftp_judge.proofs.StaysAfter.{transfer_with_request}
 use Rattle.tftp_judge.proofs.transfer.Transfer.pass_again.Given.{Over}
-use Rattle.tftp_judge.proofs.transfer.Transfer.pass_again.Goals.{Else-eq, Else-has_sent}
+use Rattle.tftp_judge.proofs.transfer.Transfer.pass_again.Goals.{Else-eq, Else-has_gone_out}
 use Rattle.tftp_judge.proofs.transfer.Transfer.pass_again.Goals as goal
 
 -- the client sends it
@@ -35,7 +35,7 @@ returns-then-client_went_on-clause-finds g c = λ h passed d after says.
     let asked = c.args.self.now.asked in
     let at = (goal.at.returns-then-client_went_on-clause-finds g c).Else-eq in
     let client = other g at h passed after in
-    let stays = again_goes h asked passed c.args.dir client (λ out stop. false≢true (sym c.if-has_sent.false ∙ (c.has_sent.ensures passed (errors g at h passed after)).1 stop)) in
+    let stays = again_goes h asked passed c.args.dir client (λ out stop. false≢true (sym c.if-has_gone_out.false ∙ (c.has_gone_out.ensures passed (errors g at h passed after)).1 stop)) in
     again_late h asked passed c.args.dir client stays (search rules) ((c.client_went_on.ensures h passed after).0 c.if-client_went_on.true)
 
 pub returns-clause-finds : goal.returns-clause-finds
@@ -43,7 +43,7 @@ returns-clause-finds g c = λ h passed d after says.
     let asked = c.args.self.now.asked in
     let at = (goal.at.returns-clause-finds g c).Else-eq in
     let client = other g at h passed after in
-    let stays = again_goes h asked passed c.args.dir client (λ out stop. false≢true (sym c.if-has_sent.false ∙ (c.has_sent.ensures passed (errors g at h passed after)).1 stop)) in (
+    let stays = again_goes h asked passed c.args.dir client (λ out stop. false≢true (sym c.if-has_gone_out.false ∙ (c.has_gone_out.ensures passed (errors g at h passed after)).1 stop)) in (
       again_passes h asked passed c.args.dir client stays (λ out went. false≢true (sym c.if-client_went_on.false ∙ (c.client_went_on.ensures h passed after).1 went)),
       transfer_with_request c.args.self.now h passed d asked after says.1,
     )

@@ -1,0 +1,4 @@
+pub mod Merging
+pub mod Sides
+pub mod Rests
+pub mod Verdicts

@@ -1,0 +1,165 @@
+-- What is kept of one end stands for its datagrams.
+use Rattle.std.proofs.Common.{◌≡◌, ◌⊎◌, ◌↔◌, ◌||◌, ◌==◌, ℕ, Bool, true, false, IsTrue, List, ◌∷◌, Option, Some, None, Result, Ok, Err, inl, inr, refl, sym, subst, ap, ◌∙◌}
+use Rattle.std.specs.Prelude.{IfErr, OnOk}
+use Rattle.std.proofs.lemmas.Bool.{eqb-true, eq-eqb}
+use Rattle.tftp_packet.specs.Message.{Message}
+use Rattle.tftp_packet.specs.Spelling.{Spells}
+use Rattle.tftp_packet.specs.declared.kinds.Dir.TheVariants.{In, Out}
+use Rattle.tftp_law.proofs.Spelled.{spelled_once}
+use Rattle.tftp_ends.specs.CaptureText.{Datagram, Header}
+use Rattle.tftp_ends.specs.Ports.{route_of, is_of_transfer, transfer_of}
+use Rattle.tftp_ends.specs.Rules.{Passed}
+use Rattle.tftp_law.proofs.FirstAnswered.{main_none, main_some}
+use Rattle.tftp_judge.specs.Kept.{IsJudgeAfter, IsKept, Judge, Transfer}
+use Rattle.tftp_judge.specs.SentByKept.{AreFlags, HasSentIn, flags_of}
+use Rattle.tftp_judge.specs.declared.refusal.Refusal.{Refusal}
+use Rattle.tftp_pair.proofs.SentByKept.{sent_by_kept}
+use Rattle.tftp_pair_judge.specs.Merging.{AreMergedBut, IsAskedAgain, WasSent}
+use Rattle.tftp_pair_judge.specs.Kept.{AreSidesAfter, HasSame, IsSideAfter, Side}
+use Rattle.tftp_pair_judge.proofs.Merging.{but_turned, merges_held, merges_in, merges_out, merges_stray}
+
+-- ---- what was sent
+
+pub sent_by_side : (s : Side) (h : Header) (read : List Datagram) → IsSideAfter s h read → (m : Message) → Passed Out m (transfer_of h read) ↔ HasSentIn s.judge.keeper.transfer (flags_of s.acks) m
+sent_by_side s h read after m = by s.judge.keeper.transfer after.kept where
+  by : (t : Option Transfer) → IsKept h read t → Passed Out m (transfer_of h read) ↔ HasSentIn t (flags_of s.acks) m
+  by None kept = (λ p. absurd (subst (λ (ds : List Datagram). Passed Out m (transfer_of h ds)) kept p), λ none. absurd none)
+  by (Some t) kept = sent_by_kept t h read (flags_of s.acks) (record { lawful = after.lawful; short = after.short; asked = kept.0; after = kept.1 }) after.acks m
+
+-- a payload that spells this message
+pub payload_sent : (s : Side) (h : Header) (read : List Datagram) → IsSideAfter s h read → (payload : List ℕ) (m : Message) → Spells payload m → (b : Bool)
+    → IsTrue b ↔ HasSentIn s.judge.keeper.transfer (flags_of s.acks) m → IsTrue b ↔ WasSent payload (transfer_of h read)
+payload_sent s h read after payload m spells b is = (
+  λ sent. (m, spells, (sent_by_side s h read after m).1 (is.0 sent)),
+  λ was. is.1 ((sent_by_side s h read after m).0 (subst (λ x. Passed Out x (transfer_of h read)) (spelled_once payload was.0 m was.1 spells) was.2)),
+)
+
+-- ---- the flags of ACKs
+
+or_true : (a : Bool) → (a || true) ≡ true
+or_true true = refl
+or_true false = refl
+
+or_cases : (a b : Bool) → (a || b) ≡ true → (a ≡ true) ⊎ (b ≡ true)
+or_cases true b is = inl refl
+or_cases false b is = inr is
+
+pub flag_of_ack : (old now : ℕ → Bool) (passed : List Datagram) (d : Datagram) (block : ℕ) → d.dir ≡ Out → Spells d.payload (Message.Ack block) → ((j : ℕ) → now j ≡ (old j || (j == block)))
+    → AreFlags old passed → AreFlags now (d ∷ passed)
+flag_of_ack old now passed d block out spells noted are j = (
+  λ set. elim (or_cases (old j) (j == block) (sym (noted j) ∙ set)) [
+    | inl was ↦ inr ((are j).0 was)
+    | inr same ↦ inl (out, subst (λ n. Spells d.payload (Message.Ack n)) (sym (eqb-true j block same)) spells)
+  ],
+  λ p. noted j ∙ elim p [
+    | inl this ↦ let is : j ≡ block = number (spelled_once d.payload (Message.Ack j) (Message.Ack block) this.1 spells) in ap (λ b. old j || b) (eq-eqb j block is) ∙ or_true (old j)
+    | inr p ↦ ap (λ b. b || (j == block)) ((are j).1 p)
+  ],
+) where
+  number : Message.Ack j ≡ Message.Ack block → j ≡ block
+  number e = cc
+
+-- a datagram that is no ACK that goes out
+pub flags_stay : (flags : ℕ → Bool) (passed : List Datagram) (d : Datagram) → ((j : ℕ) → d.dir ≡ Out → Spells d.payload (Message.Ack j) → ⊥) → AreFlags flags passed → AreFlags flags (d ∷ passed)
+flags_stay flags passed d other are j = (
+  λ set. inr ((are j).0 set),
+  λ p. elim p [ inl this ↦ absurd (other j this.0 this.1) | inr p ↦ (are j).1 p ],
+)
+
+in_is_not_out : (d : Datagram) → d.dir ≡ In → d.dir ≡ Out → ⊥
+in_is_not_out d came went = let e : In ≡ Out = sym came ∙ went in absurd (cc)
+
+pub flags_after_in : (flags : ℕ → Bool) (h : Header) (read : List Datagram) (d : Datagram) → d.dir ≡ In → AreFlags flags (transfer_of h read) → AreFlags flags (transfer_of h (d ∷ read))
+flags_after_in flags h read d came are = by (is_of_transfer (route_of h read d)) refl where
+  by : (b : Bool) → is_of_transfer (route_of h read d) ≡ b → AreFlags flags (transfer_of h (d ∷ read))
+  by true is = subst (AreFlags flags) (sym (main_some (is_of_transfer (route_of h read d)) d (transfer_of h read) is)) (flags_stay flags (transfer_of h read) d (λ j out spells. in_is_not_out d came out) are)
+  by false is = subst (AreFlags flags) (sym (main_none (is_of_transfer (route_of h read d)) d (transfer_of h read) is)) are
+
+pub flags_after_stray : (flags : ℕ → Bool) (h : Header) (read : List Datagram) (d : Datagram) → is_of_transfer (route_of h read d) ≡ false → AreFlags flags (transfer_of h read) → AreFlags flags (transfer_of h (d ∷ read))
+flags_after_stray flags h read d is are = subst (AreFlags flags) (sym (main_none (is_of_transfer (route_of h read d)) d (transfer_of h read) is)) are
+
+pub flags_after_main : (flags : ℕ → Bool) (h : Header) (read : List Datagram) (d : Datagram) → is_of_transfer (route_of h read d) ≡ true → AreFlags flags (d ∷ transfer_of h read) → AreFlags flags (transfer_of h (d ∷ read))
+flags_after_main flags h read d is are = subst (AreFlags flags) (sym (main_some (is_of_transfer (route_of h read d)) d (transfer_of h read) is)) are
+
+-- ---- the side
+
+pub side_of_judge : (s : Side) (h : Header) (read : List Datagram) → IsJudgeAfter s.judge h read → AreFlags (flags_of s.acks) (transfer_of h read) → IsSideAfter s h read
+side_of_judge s h read j acks = record { goes_on = λ _. j; lawful = j.lawful; short = j.short; kept = j.has_kept.kept; fed = j.fed; acks = acks }
+
+pub same_side : (old new : Side) (h : Header) (read : List Datagram) → HasSame old new → IsSideAfter old h read → IsSideAfter new h read
+same_side old new h read same after = record {
+  goes_on = λ none. subst (λ (j : Judge). IsJudgeAfter j h read) (sym same.0) (after.goes_on (ap (λ (j : Judge). j.refused) (sym same.0) ∙ none));
+  lawful = after.lawful;
+  short = after.short;
+  kept = subst (λ (j : Judge). IsKept h read j.keeper.transfer) (sym same.0) after.kept;
+  fed = ap (λ (j : Judge). j.fed) same.0 ∙ after.fed;
+  acks = subst (λ (ws : List ℕ). AreFlags (flags_of ws) (transfer_of h read)) (sym same.1) after.acks;
+}
+
+pub refused_side : (old new : Side) (h : Header) (read : List Datagram) (r : Refusal) → new.judge.refused ≡ Some r → new.judge.keeper.transfer ≡ old.judge.keeper.transfer → new.judge.fed ≡ old.judge.fed → new.acks ≡ old.acks
+    → IsSideAfter old h read → IsSideAfter new h read
+refused_side old new h read r refused transfer fed acks after = record {
+  goes_on = λ none. let e : Some r ≡ None = sym refused ∙ none in absurd (cc);
+  lawful = after.lawful;
+  short = after.short;
+  kept = subst (IsKept h read) (sym transfer) after.kept;
+  fed = fed ∙ after.fed;
+  acks = subst (λ (ws : List ℕ). AreFlags (flags_of ws) (transfer_of h read)) (sym acks) after.acks;
+}
+
+pub not_refused : {A : Type 0} → (refused : Option Refusal) (result : Result A Refusal) (answer : A) → ((r : Refusal) → refused ≡ Some r → result ≡ Err r) → result ≡ Ok answer → refused ≡ None
+not_refused None result answer good is = refl
+not_refused (Some r) result answer good is = let apart : Ok answer ≡ Err r = sym is ∙ good r refl in absurd (cc)
+
+-- ---- two sides
+
+pub turned_sides : (own other : Side) (h k : Header) (read other_read : List Datagram) → AreSidesAfter own other h read k other_read → AreSidesAfter other own k other_read h read
+turned_sides own other h k read other_read sides = record { own_side = sides.other_side; other_side = sides.own_side; merged = but_turned own.held other.held h k read other_read sides.merged }
+
+module _ (h k : Header) (read other_read : List Datagram) (d : Datagram) where
+  pub sides_stray : (own other : Side) → own.held ≡ None → IsSideAfter own h (d ∷ read) → IsSideAfter other k other_read → AreMergedBut None other.held h read k other_read
+      → is_of_transfer (route_of h read d) ≡ false → AreSidesAfter own other h (d ∷ read) k other_read
+  sides_stray own other free mine theirs but is = record {
+    own_side = mine;
+    other_side = theirs;
+    merged = subst (λ (o : Option Datagram). AreMergedBut o other.held h (d ∷ read) k other_read) (sym free) (merges_stray h k read other_read d other.held but is);
+  }
+
+  pub sides_out : (own other now : Side) → own.held ≡ None → IsSideAfter own h (d ∷ read) → IsSideAfter other k other_read → HasSame other now → AreMergedBut None other.held h read k other_read
+      → is_of_transfer (route_of h read d) ≡ true → d.dir ≡ Out → IsAskedAgain other.held now.held (transfer_of h (d ∷ read)) → AreSidesAfter own now h (d ∷ read) k other_read
+  sides_out own other now free mine theirs same but is out asked = record {
+    own_side = mine;
+    other_side = same_side other now k other_read same theirs;
+    merged = subst (λ (o : Option Datagram). AreMergedBut o now.held h (d ∷ read) k other_read) (sym free) (merges_out h k read other_read d other.held now.held but is out asked);
+  }
+
+  pub sides_in : (own other : Side) → own.held ≡ None → IsSideAfter own h (d ∷ read) → IsSideAfter other k other_read → AreMergedBut None other.held h read k other_read
+      → is_of_transfer (route_of h read d) ≡ true → d.dir ≡ In → WasSent d.payload (transfer_of k other_read) → AreSidesAfter own other h (d ∷ read) k other_read
+  sides_in own other free mine theirs but is came sent = record {
+    own_side = mine;
+    other_side = theirs;
+    merged = subst (λ (o : Option Datagram). AreMergedBut o other.held h (d ∷ read) k other_read) (sym free) (merges_in h k read other_read d other.held but is came sent);
+  }
+
+  pub sides_held : (own now other : Side) → HasSame own now → now.held ≡ Some d → IsSideAfter own h (d ∷ read) → IsSideAfter other k other_read → AreMergedBut None other.held h read k other_read
+      → is_of_transfer (route_of h read d) ≡ true → d.dir ≡ In → (WasSent d.payload (transfer_of k other_read) → ⊥) → AreSidesAfter now other h (d ∷ read) k other_read
+  sides_held own now other same held mine theirs but is came unsent = record {
+    own_side = same_side own now h (d ∷ read) same mine;
+    other_side = theirs;
+    merged = subst (λ (o : Option Datagram). AreMergedBut o other.held h (d ∷ read) k other_read) (sym held) (merges_held h k read other_read d other.held but is came unsent);
+  }
+
+-- ---- answers
+
+pub on_ok : {A E : Type 0} → (result : Result A E) (P Q : Type 0) → (P → Q) → OnOk result P → OnOk result Q
+on_ok (Ok x) P Q f is = f is
+on_ok (Err e) P Q f is = is
+
+pub on_err : {A E : Type 0} → (result : Result A E) (P Q : E → Type 0) → ((e : E) → P e → Q e) → IfErr result P → IfErr result Q
+on_err (Ok x) P Q f is = is
+on_err (Err e) P Q f is = f e is
+
+-- where nothing was refused before
+pub on_ok_going : {A : Type 0} → (refused : Option Refusal) (result : Result A Refusal) (P Q : Type 0) → ((r : Refusal) → refused ≡ Some r → result ≡ Err r) → (refused ≡ None → OnOk result P) → (P → Q) → OnOk result Q
+on_ok_going None result P Q bad good f = on_ok result P Q f (good refl)
+on_ok_going (Some r) result P Q bad good f = subst (λ x. OnOk x Q) (sym (bad r refl)) tt

@@ -1,0 +1,4 @@
+pub mod Merging
+pub mod Kept
+pub mod Rest
+pub mod Verdicts

@@ -1,0 +1,11 @@
+//! The judge of two captures of one transfer, one of each end, read side by side: how far each is lawful at its end, and how
+//! far the two go together.
+#![tactic(auto)]
+
+pub mod laws;
+mod pair;
+mod rest;
+mod side;
+
+pub use pair::PairJudge;
+pub use rest::{PairRest, PairVerdict};
