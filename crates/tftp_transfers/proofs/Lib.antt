@@ -5,3 +5,4 @@ pub mod Silences
 pub mod AllLines
 pub mod Ends
 pub mod Serving
+pub mod Doubting

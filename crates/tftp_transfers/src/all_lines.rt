@@ -37,14 +37,19 @@ pub(crate) fn note(
 }
 
 /// Notes a request that repeats the one before it.
-pub(crate) fn repeat(lines: &mut Lines, client: Endpoint, now: u64)
+pub(crate) fn repeat(
+    lines: &mut Lines,
+    client: Endpoint,
+    time: u64,
+    now: u64,
+) -> Result<(), AllocError>
     ensures { (older : List Placed) (d : Recorded) (number : ℕ) (x : Transfer) → AreLinesOf lines.old older → clock older ≤ now
-        → d.source ≡ client → x.client ≡ client → place_asked number d (live now (line client older)) ≡ Place.Repeats x
-        → AreLinesOf lines.new (record { datagram = d; moment = now; place = Place.Repeats x } ∷ older) }
+        → d.source ≡ client → d.time ≡ time → x.client ≡ client → place_asked number d (live now (line client older)) ≡ Place.Repeats x
+        → OnOk result (AreLinesOf lines.new (record { datagram = d; moment = now; place = Place.Repeats x } ∷ older)) }
 {
     match lines.get_mut(&client) {
-        Some(line) => line.repeat(now),
-        None => {}
+        Some(line) => line.repeat(time, now),
+        None => Ok(()),
     }
 }
 
@@ -54,14 +59,15 @@ pub(crate) fn reopen(
     alloc: Global,
     transfer: Transfer,
     payload: &[u8],
+    time: u64,
     now: u64,
 ) -> Result<(), AllocError>
-    ensures { (older : List Placed) (d : Recorded) → AreLinesOf lines.old older → clock older ≤ now → IsRequestOf transfer payload.now d
+    ensures { (older : List Placed) (d : Recorded) → AreLinesOf lines.old older → clock older ≤ now → IsRequestOf transfer payload.now time d
         → live now (line transfer.client older) ≢ []
         → OnOk result (AreLinesOf lines.new (record { datagram = d; moment = now; place = Place.Opens transfer } ∷ older)) }
 {
     match lines.get_mut(&transfer.client) {
-        Some(line) => line.open(alloc, transfer, payload, now),
+        Some(line) => line.open(alloc, transfer, payload, time, now),
         None => Ok(()),
     }
 }
@@ -72,13 +78,14 @@ pub(crate) fn begin(
     alloc: Global,
     transfer: Transfer,
     payload: &[u8],
+    time: u64,
     now: u64,
 ) -> Result<(), AllocError>
-    ensures { (older : List Placed) (d : Recorded) → AreLinesOf lines.old older → clock older ≤ now → IsRequestOf transfer payload.now d
+    ensures { (older : List Placed) (d : Recorded) → AreLinesOf lines.old older → clock older ≤ now → IsRequestOf transfer payload.now time d
         → live now (line transfer.client older) ≡ []
         → OnOk result (AreLinesOf lines.new (record { datagram = d; moment = now; place = Place.Opens transfer } ∷ older)) }
 {
-    let line = Line::begun(alloc, transfer, payload, now)?;
+    let line = Line::begun(alloc, transfer, payload, time, now)?;
     lines.insert(transfer.client, line)?;
     Ok(())
 }

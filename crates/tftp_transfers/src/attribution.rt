@@ -24,13 +24,15 @@ ghost use Rattle.tftp_transfers.specs.Places.{
   place_of,
   and_then,
 };
-ghost use Rattle.tftp_transfers.specs.Kept.{IsLineOf, IsAfter, AreLinesOf, AreServed, AreServices, IsRecorded, seen_of, is_asked, takes_memory, other_end};
+ghost use Rattle.tftp_transfers.specs.Kept.{IsLineOf, IsAfter, AreLinesOf, AreServed, AreServices, IsRecorded, seen_of, is_asked, takes_memory};
+ghost use Rattle.tftp_transfers.specs.Doubts.{doubts_of};
 ghost use Rattle.tftp_transfers.specs.declared.place.Place.{Place};
 ghost use Rattle.tftp_transfers.specs.declared.attribution.AttributionFault.{AttributionFault};
 
 use crate::all_lines::{begin, note, reopen, repeat};
+use crate::doubts::Doubts;
 use crate::endpoint::Endpoint;
-use crate::kind::{Kind, Seen};
+use crate::kind::{Kind, Seen, other_end};
 use crate::line::{Line, SILENCE};
 use crate::place::{Place, Transfer};
 use std::alloc::{AllocError, Global};
@@ -54,6 +56,15 @@ impl From<AllocError> for AttributionFault {
     fn from(_error: AllocError) -> Self {
         AttributionFault::Memory
     }
+}
+
+/// Where a datagram belongs, and what it makes doubtful.
+#[derive(Clone, Copy, Debug, PartialEq, Eq)]
+pub struct Attributed {
+    /// Where it belongs.
+    pub place: Place,
+    /// What it makes doubtful.
+    pub doubts: Doubts,
 }
 
 /// What an endpoint sent last to a client.
@@ -92,7 +103,7 @@ impl Attribution {
         })
     }
 
-    /// Where the next datagram of the recording belongs. Times are in nanoseconds; `is_spelled` says whether the payload
+    /// Where the next datagram of the recording belongs, and what it makes doubtful. Times are in nanoseconds; `is_spelled` says whether the payload
     /// spells a request from its first byte to its last. Once memory was wanting, it is wanting for good.
     pub fn feed(
         &mut self,
@@ -102,10 +113,13 @@ impl Attribution {
         target: Endpoint,
         payload: &[u8],
         is_spelled: bool,
-    ) -> Result<Place, AttributionFault>
+    ) -> Result<Attributed, AttributionFault>
         ensures place { (named : List ℕ) (older : List Placed) (d : Recorded) → IsAfter self.old named older
             → IsRecorded d time source target payload.now is_spelled
-            → IfOk result (λ place. place ≡ place_of named older (max time (clock older)) d) }
+            → IfOk result (λ found. found.place ≡ place_of named older (max time (clock older)) d) }
+        ensures doubts { (named : List ℕ) (older : List Placed) (d : Recorded) → IsAfter self.old named older
+            → IsRecorded d time source target payload.now is_spelled
+            → IfOk result (λ found. found.doubts ≡ doubts_of (record { datagram = d; moment = max time (clock older); place = found.place }) older) }
         ensures stands { (named : List ℕ) (older : List Placed) (d : Recorded) → IsAfter self.old named older
             → IsRecorded d time source target payload.now is_spelled
             → OnOk result (IsAfter self.new named (and_then named older d)) }
@@ -127,11 +141,13 @@ impl Attribution {
         let seen = Seen {
             source,
             target,
+            time,
             kind,
         };
         let place = self.place_of(&seen, payload, is_spelled, now);
+        let doubts = self.doubts(&place, &seen, payload, now);
         match self.keep(alloc, &place, &seen, payload, now) {
-            Ok(()) => Ok(place),
+            Ok(()) => Ok(Attributed { place, doubts }),
             Err(_) => {
                 self.failed = true;
                 Err(AttributionFault::Memory)
@@ -297,6 +313,21 @@ impl Attribution {
         }
     }
 
+    /// What a datagram makes doubtful that belongs there.
+    fn doubts(&self, place: &Place, seen: &Seen, payload: &[u8], now: u64) -> Doubts
+        ensures { (named : List ℕ) (older : List Placed) (d : Recorded) → IsAfter self.now named older → clock older ≤ now
+            → seen.now ≡ seen_of d → d.payload ≡ payload.now → place.now ≡ place_of named older now d
+            → result ≡ doubts_of (record { datagram = d; moment = now; place = place.now }) older }
+    {
+        match place.transfer() {
+            None => Doubts::none(),
+            Some(transfer) => match self.line(&transfer.client, now) {
+                None => Doubts::none(),
+                Some(line) => line.doubts(place, seen, payload),
+            },
+        }
+    }
+
     /// Whether a client's line has been silent until now, or there is none.
     fn is_silent(&self, client: &Endpoint, now: u64) -> bool
         ensures { (named : List ℕ) (older : List Placed) → IsAfter self.now named older → clock older ≤ now
@@ -326,15 +357,12 @@ impl Attribution {
         match place {
             Place::Opens(transfer) => {
                 if self.is_silent(&transfer.client, now) {
-                    begin(&mut self.lines, alloc, *transfer, payload, now)
+                    begin(&mut self.lines, alloc, *transfer, payload, seen.time, now)
                 } else {
-                    reopen(&mut self.lines, alloc, *transfer, payload, now)
+                    reopen(&mut self.lines, alloc, *transfer, payload, seen.time, now)
                 }
             }
-            Place::Repeats(transfer) => {
-                repeat(&mut self.lines, transfer.client, now);
-                Ok(())
-            }
+            Place::Repeats(transfer) => repeat(&mut self.lines, transfer.client, seen.time, now),
             Place::Talks(transfer) => {
                 let other = other_end(&transfer.client, seen);
                 note(
@@ -353,17 +381,6 @@ impl Attribution {
             Place::Beside(_) => Ok(()),
             Place::Nowhere => Ok(()),
         }
-    }
-}
-
-/// The end of a datagram that is not this client's.
-fn other_end(client: &Endpoint, seen: &Seen) -> Endpoint
-    ensures { result ≡ other_end client.now seen.now }
-{
-    if seen.source == *client {
-        seen.target
-    } else {
-        seen.source
     }
 }
 
