@@ -62,6 +62,13 @@ impl TransferDoubts {
         }
     }
 
+    /// How many datagrams came before the request that opened the transfer.
+    pub fn number(&self) -> u64
+        ensures { result ≡ self.now.number }
+    {
+        self.number
+    }
+
     /// Whether each refusal of the transfer is doubtful.
     pub fn is_doubted(&self) -> bool
         ensures { (placed : List Placed) → IsDoubtedAfter self.now placed → result ≡ is_doubted self.now.number placed }
