@@ -23,7 +23,7 @@ by_test false if_true if_false = if_false refl
 
 -- ---- who answered first
 
-map_or : {X Y : Type 0} (f : X → Y) (o : Option X) (b : Bool) (x : X) → option_map f (or_this o b x) ≡ or_this (option_map f o) b (f x)
+pub map_or : {X Y : Type 0} (f : X → Y) (o : Option X) (b : Bool) (x : X) → option_map f (or_this o b x) ≡ or_this (option_map f o) b (f x)
 map_or f None true x = refl
 map_or f None false x = refl
 map_or f (Some y) b x = refl

@@ -15,8 +15,10 @@ use Rattle.tftp_transfers.specs.declared.attribution.Served.{Served}
 use Rattle.tftp_transfers.specs.declared.line.Line.{Line}
 use Rattle.tftp_transfers.specs.declared.line.Talk.{Talk}
 use Rattle.tftp_transfers.specs.declared.doubted.TransferDoubts.{TransferDoubts}
+use Rattle.tftp_transfers.specs.declared.views.TransferEnds.{TransferEnds}
 use Rattle.tftp_transfers.specs.Recording.{Recorded, same_endpoint, endpoint_cmp, begins_request, begins_error, is_ack_0, is_data_1, is_answer}
-use Rattle.tftp_transfers.specs.Places.{Placed, is_request, newest_of, clock, live, line, reach, latest_in, answered_in, talk_in, place_asked, is_service, last_served}
+use Rattle.tftp_transfers.specs.Places.{Placed, is_request, newest_of, clock, live, line, reach, latest_in, answered_in, talk_in, place_asked, is_service, last_served, served_by}
+use Rattle.tftp_transfers.specs.Views.{asked_of, answered_by, went_on_with}
 use Rattle.tftp_transfers.specs.Doubts.{acked_0_in, says_more, repeats_in, is_later, goes_over, is_late, is_disordered, is_asked_again, is_answered_apart, some_of}
 
 -- what is looked at of a payload
@@ -116,9 +118,14 @@ AreLinesOf lines older = (c : Endpoint) → IsLineKept c older (get endpoint_cmp
 abbrev pub AreServices : List ℕ → List ℕ → List Placed → Type 0
 AreServices ports named older = (port : ℕ) → is_service named older port ≡ list_any (λ n. is_eq (nat_cmp port n)) ports
 
+-- What is kept of whom an endpoint served. None is kept only where it served nobody in the last 300 s.
+abbrev pub IsServedKept : Endpoint → List Placed → Option Served → Type 0
+IsServedKept o older None = served_by o (clock older) older ≡ None
+IsServedKept o older (Some s) = last_served o older ≡ Some s
+
 -- who served whom
 abbrev pub AreServed : BTreeMap Endpoint Served → List Placed → Type 0
-AreServed served older = (o : Endpoint) → get endpoint_cmp served o ≡ last_served o older
+AreServed served older = (o : Endpoint) → IsServedKept o older (get endpoint_cmp served o)
 
 -- It stands for these datagrams of a recording; the ports were named.
 pub record IsAfter (a : Attribution) (named : List ℕ) (older : List Placed) : Type 0 where
@@ -161,3 +168,11 @@ pub record IsDoubtedAfter (t : TransferDoubts) (placed : List Placed) : Type 0 w
   pub is_disordered : t.is_disordered ≡ some_of t.number is_disordered placed
   pub is_asked_again : t.is_asked_again ≡ some_of t.number is_asked_again placed
   pub is_answered_apart : t.is_answered_apart ≡ is_answered_apart t.number placed
+
+-- ---- the ends of a transfer
+
+-- They are those of all these datagrams.
+pub record AreEndsAfter (t : TransferEnds) (placed : List Placed) : Type 0 where
+  pub asked : t.asked ≡ asked_of t.number placed
+  pub answered : t.answered ≡ answered_by t.number placed
+  pub went_on : t.went_on ≡ went_on_with t.number placed

@@ -10,6 +10,7 @@ mod kind;
 pub mod laws;
 mod line;
 mod place;
+mod views;
 
 pub use attribution::{Attributed, Attribution, AttributionFault};
 pub use doubted::TransferDoubts;
@@ -17,3 +18,4 @@ pub use doubts::Doubts;
 pub use endpoint::{Address, Endpoint};
 pub use kind::spells_request;
 pub use place::{Place, Transfer};
+pub use views::TransferEnds;
