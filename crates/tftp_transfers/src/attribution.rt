@@ -399,6 +399,15 @@ impl Attribution {
         }
     }
 
+    /// Whether at this time no line of the client's goes on: it has been silent for more than 300 s, or has not begun.
+    /// Then no datagram joins its transfers any more, and their doubts are what they are.
+    pub fn is_over(&self, client: &Endpoint, time: u64) -> bool
+        ensures { (named : List ℕ) (older : List Placed) → IsAfter self.now named older
+            → MatchBool result (live (max time (clock older)) (line client.now older) ≡ []) (live (max time (clock older)) (line client.now older) ≢ []) }
+    {
+        self.is_silent(client, time.max(self.clock))
+    }
+
     /// What a datagram makes doubtful that belongs there.
     fn doubts(&self, place: &Place, seen: &Seen, payload: &[u8], now: u64) -> Doubts
         ensures { (named : List ℕ) (older : List Placed) (d : Recorded) → IsAfter self.now named older → clock older ≤ now
