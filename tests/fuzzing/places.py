@@ -1,4 +1,4 @@
-"""Compares the places and doubts that tftp_places prints of recordings with those of the definition's prototype."""
+"""Compares the places, doubts and views that tftp_places prints of recordings with those of the definition's prototype."""
 from __future__ import annotations
 
 import itertools
@@ -16,7 +16,7 @@ def row(it: Datagram) -> str:
 
 
 def told(found: Attribution) -> list[str]:
-    """What the prototype says of a recording: each datagram's place, and each transfer's doubts."""
+    """What the prototype says of a recording: each datagram's place, and each transfer's doubts and views."""
     openings = {one.number for one in found.transfers}
     rows = []
     for number, place in enumerate(found.places):
@@ -27,6 +27,8 @@ def told(found: Attribution) -> list[str]:
         late = [doubt.since for doubt in one.doubts if doubt.word == "late"]
         words = sorted({doubt.word for doubt in one.doubts})
         rows.append(" ".join((f"transfer {one.number}", *words, *(f"since {first}" for first in late[:1]))))
+        rows.append(" ".join(("at-client", *(str(it.number) for it in one.view("client")))))
+        rows.append(" ".join(("at-server", *(str(it.number) for it in one.view("server")))))
     return rows
 
 
@@ -36,6 +38,9 @@ def said(lines: list[str]) -> list[str]:
     since: dict[str, int] = {}
     for number, line in enumerate(lines):
         kind, *words = line.split()
+        if kind.startswith("at-"):
+            rows.append(line)
+            continue
         if kind != "transfer":
             rows.append(" ".join((kind, *words[:1])) if words else kind)
             if "late" in words:

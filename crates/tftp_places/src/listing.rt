@@ -3,7 +3,7 @@ use hex::FromHex;
 use std::alloc::Global;
 use std::io::{BufRead, BufReader};
 use tftp_transfers::{
-    Address, Attributed, Attribution, Endpoint, Place, TransferDoubts, spells_request,
+    Address, Attributed, Attribution, Endpoint, Place, TransferDoubts, TransferEnds, spells_request,
 };
 
 /// Lists the recordings on standard input.
@@ -26,13 +26,30 @@ pub fn list(rt: HostRuntime) -> Result<()> {
 #[derive(Drop)]
 struct Listing {
     attribution: Attribution,
-    transfers: Vec<TransferDoubts>,
+    datagrams: Vec<Passed>,
+    transfers: Vec<Known>,
+}
+
+/// A datagram's place and ends.
+#[derive(Clone, Copy)]
+struct Passed {
+    place: Place,
+    source: Endpoint,
+    target: Endpoint,
+}
+
+/// What is known of a transfer.
+#[derive(Clone, Copy)]
+struct Known {
+    doubts: TransferDoubts,
+    ends: TransferEnds,
 }
 
 impl Listing {
     fn new(alloc: Global) -> Result<Self> {
         Ok(Listing {
             attribution: Attribution::new(alloc, &[])?,
+            datagrams: Vec::new(alloc),
             transfers: Vec::new(alloc),
         })
     }
@@ -75,17 +92,27 @@ impl Listing {
             Err(fault) => bail!("{fault:?}"),
         };
         if let Place::Opens(transfer) = found.place {
-            self.transfers.push(TransferDoubts::new(transfer.number))?;
+            self.transfers.push(Known {
+                doubts: TransferDoubts::new(transfer.number),
+                ends: TransferEnds::new(transfer.number),
+            })?;
         }
         for transfer in self.transfers.iter_mut() {
-            transfer.note(&found);
+            transfer.doubts.note(&found);
+            transfer.ends.note(&found.place, source, target, payload);
         }
+        self.datagrams.push(Passed {
+            place: found.place,
+            source,
+            target,
+        })?;
         Ok(found)
     }
 
-    /// The doubts of each transfer, and the end.
+    /// The doubts of each transfer and its views, and the end.
     fn put_transfers(&self, rt: HostRuntime) -> Result<()> {
-        for transfer in self.transfers.iter() {
+        for known in self.transfers.iter() {
+            let transfer = &known.doubts;
             print!(rt; "transfer {}", transfer.number())?;
             put_doubt(rt, transfer.goes_over(), "over")?;
             put_doubt(rt, transfer.is_late(), "late")?;
@@ -94,8 +121,24 @@ impl Listing {
             put_doubt(rt, transfer.is_answered_apart(), "apart")?;
             put_doubt(rt, transfer.is_doubted(), "doubted")?;
             println!(rt)?;
+            self.put_views(rt, &known.ends)?;
         }
         println!(rt; "end")?;
+        Ok(())
+    }
+
+    /// The numbers of the datagrams that each end of a transfer saw.
+    fn put_views(&self, rt: HostRuntime, ends: &TransferEnds) -> Result<()> {
+        print!(rt; "at-client")?;
+        for (number, passed) in self.datagrams.iter().enumerate() {
+            put_number(rt, ends.is_at_client(&passed.place), number)?;
+        }
+        print!(rt; "\nat-server")?;
+        for (number, passed) in self.datagrams.iter().enumerate() {
+            let is_there = ends.is_at_server(&passed.place, passed.source, passed.target);
+            put_number(rt, is_there, number)?;
+        }
+        println!(rt)?;
         Ok(())
     }
 }
@@ -138,6 +181,13 @@ fn put_found(rt: HostRuntime, found: &Attributed) -> Result<()> {
         print!(rt; " answer-of {number}")?;
     }
     println!(rt)?;
+    Ok(())
+}
+
+fn put_number(rt: HostRuntime, is_there: bool, number: usize) -> Result<()> {
+    if is_there {
+        print!(rt; " {number}")?;
+    }
     Ok(())
 }
 

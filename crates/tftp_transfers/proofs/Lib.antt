@@ -6,3 +6,4 @@ pub mod AllLines
 pub mod Ends
 pub mod Serving
 pub mod Doubting
+pub mod Seeing

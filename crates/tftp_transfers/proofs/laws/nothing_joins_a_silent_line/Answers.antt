@@ -1,4 +1,4 @@
-use Rattle.std.proofs.Common.{◌≡◌, [], sym, ap, subst, ◌∙◌}
+use Rattle.std.proofs.Common.{sym, ap, ◌∙◌}
 use Rattle.std.specs.Prelude.{length}
 use Rattle.tftp_transfers.specs.Places.{live, line}
 use Rattle.tftp_transfers.proofs.AllLines.{repeats_live}
