@@ -2,11 +2,12 @@
 by the definition as the scripts have it, and each transfer's capture is judged by the built program.
 Nobody may be accused: each refusal must have a doubt.
 
-    attribution.py [--cases N] [--seed SEED] PROGRAM
+    attribution.py [--cases N] [--seed SEED] [--places PLACES] PROGRAM
 
 Each case is one recording of reads with dense strays and repeated requests, and one session recorded at each end and
-between. The first has the seed SEED, and each further one the next number. The last line is 'N passed, M failed';
-status 1 if any failed.
+between. The first has the seed SEED, and each further one the next number. With PLACES, the program tftp_places, what
+that says of each of these recordings, and of each of them spoiled, is compared with the prototype: the place of every
+datagram, and the doubts of every transfer. The last line is 'N passed, M failed'; status 1 if any failed.
 """
 from __future__ import annotations
 
@@ -20,6 +21,7 @@ from typing import Literal, Union
 import repository  # noqa: F401
 from captures import EndName
 from fuzzing.dense import alone, drawn_reads, whole
+from fuzzing.places import differences, spoiled
 from fuzzing.program import Program
 from fuzzing.sessions import SERVER, STRANGER, simulated
 from tftp_tools.attribution import Attribution, Datagram, Transfer, attributed
@@ -91,10 +93,18 @@ class Trier:
         return [said for tap, place in taps for said in self.refusals(kind, tap, attributed(recorded[place]))]
 
 
+def recordings_of(seed: int) -> list[list[Datagram]]:
+    """The recordings of a case, each as it is and spoiled."""
+    drawn = [whole(drawn_reads(seed)), *simulated(seed)[1].values()]
+    kept = [recording for recording in drawn if recording]
+    return [*kept, *(spoiled(seed + place, recording) for place, recording in enumerate(kept))]
+
+
 def words_of(arguments: list[str]) -> argparse.Namespace:
     parser = argparse.ArgumentParser(prog="attribution.py", description=(__doc__ or "").split("\n\n", maxsplit=1)[0])
     parser.add_argument("--cases", type=int, default=100, help="how many cases are tried")
     parser.add_argument("--seed", type=int, help="the seed of the first case; each further one has the next number")
+    parser.add_argument("--places", metavar="PLACES", help="the program tftp_places, which is compared with the prototype")
     parser.add_argument("program")
     words = parser.parse_args(arguments)
     if not os.access(words.program, os.X_OK):
@@ -110,6 +120,8 @@ def main(arguments: list[str]) -> int:
     trier, failed = Trier(program), 0
     for seed in range(words.seed, words.seed + words.cases):
         accused = [*trier.dense_case(seed), *trier.session_case(seed)]
+        if words.places:
+            accused += differences(os.path.abspath(words.places), recordings_of(seed))[:3]
         failed += bool(accused)
         for said in accused:
             print(f"FAILED case {seed}: {said}")

@@ -7,8 +7,8 @@ from dataclasses import dataclass, field
 from typing import Literal, NamedTuple, Optional
 
 EndName = Literal["client", "server"]
-# Above 255 s, the longest timeout that two ends can agree on (RFC 2349).
-SILENCE = 300.0
+# In nanoseconds; above 255 s, the longest timeout that two ends can agree on (RFC 2349).
+SILENCE = 300 * 10**9
 ACK_0, DATA_1 = b"\0\4\0\0", b"\0\3\0\1"
 MODES = (b"octet", b"netascii", b"mail")
 
@@ -30,6 +30,9 @@ class Datagram(NamedTuple):
     target: Endpoint
     payload: bytes
 
+    def nanoseconds(self) -> int:
+        return round(self.time * 1e9)
+
     def way(self) -> tuple[Endpoint, Endpoint, bytes]:
         return self.source, self.target, self.payload
 
@@ -49,6 +52,14 @@ def is_answer(payload: bytes) -> bool:
     return begins(payload, 5, 6) or payload == ACK_0 or payload[:4] == DATA_1
 
 
+class Doubt(NamedTuple):
+    """Of refusals of a transfer from this datagram on, and why."""
+
+    since: int
+    word: Literal["over", "late", "disordered", "again", "apart"]
+    why: str
+
+
 @dataclass
 class Transfer:
     number: int
@@ -59,8 +70,8 @@ class Transfer:
     beside: list[tuple[Datagram, Endpoint]] = field(default_factory=list)
     answered: Optional[Endpoint] = None
     went_on: Optional[Endpoint] = None
-    newest: float = 0.0
-    doubts: list[tuple[int, str]] = field(default_factory=list)
+    newest: int = 0
+    doubts: list[Doubt] = field(default_factory=list)
 
     def server(self) -> Optional[Endpoint]:
         return self.went_on or self.answered
@@ -80,7 +91,7 @@ class Transfer:
 
     def doubts_at(self, end: EndName, number: int) -> list[str]:
         """Why a refusal at this datagram is no accusation."""
-        told = [why for since, why in self.doubts if since <= number]
+        told = [doubt.why for doubt in self.doubts if doubt.since <= number]
         if end == "server" and any(it.number == number for it, _ in self.beside):
             told.append("it passed with another than the client, whose request may not have been recorded")
         ways = [it.way() for it in self.seen]
@@ -103,7 +114,7 @@ class Line:
     """What passed at a client's endpoint since it was last silent."""
 
     latest: Transfer
-    moment: float
+    moment: int
     request: Datagram
     ends_in_request: bool = True
     only_asked: bool = True
@@ -120,14 +131,14 @@ class Place(NamedTuple):
 class Attribution:
     def __init__(self, named: Iterable[int] = ()) -> None:
         self.services = {69, *named}
-        self.clock, self.count = 0.0, 0
+        self.clock, self.count = 0, 0
         self.lines: dict[Endpoint, Line] = {}
-        self.served: dict[Endpoint, tuple[Transfer, float]] = {}
+        self.served: dict[Endpoint, tuple[Transfer, int]] = {}
         self.transfers: list[Transfer] = []
         self.places: list[Place] = []
 
     def take(self, it: Datagram) -> None:
-        self.clock = max(self.clock, it.time)
+        self.clock = max(self.clock, it.nanoseconds())
         self.places.append(self.place_of(it))
         self.count += 1
 
@@ -145,9 +156,9 @@ class Attribution:
 
     def keep(self, one: Transfer, it: Datagram) -> None:
         one.seen.append(it)
-        if it.time < one.newest:
-            one.doubts.append((0, "its datagrams are not in the order of their times"))
-        one.newest = max(one.newest, it.time)
+        if it.nanoseconds() < one.newest:
+            one.doubts.append(Doubt(0, "disordered", "its datagrams are not in the order of their times"))
+        one.newest = max(one.newest, it.nanoseconds())
 
     def asks(self, it: Datagram) -> bool:
         line = self.line(it.source)
@@ -167,7 +178,7 @@ class Attribution:
             return one
         if line.only_asked and line.request.way() == it.way():
             why = "its client had asked the same and sent nothing else since: the transfer before goes on"
-            one.doubts.append((0, why))
+            one.doubts.append(Doubt(0, "again", why))
         line.latest, line.moment, line.request = one, self.clock, it
         line.ends_in_request = line.only_asked = True
         return one
@@ -200,9 +211,10 @@ class Attribution:
         if talk.transfer is None or talk.transfer is latest or not may_answer:
             return talk
         if talk.acked_0 and it.payload[:4] == DATA_1:
-            latest.doubts.append((0, "a DATA 1 from where an earlier transfer was served may be its answer"))
+            why = "a DATA 1 from where an earlier transfer was served may be its answer"
+            latest.doubts.append(Doubt(0, "apart", why))
             return talk
-        latest.doubts.append((0, "its server's endpoint was that of an earlier transfer"))
+        latest.doubts.append(Doubt(0, "over", "its server's endpoint was that of an earlier transfer"))
         return Talk(latest, talk.acked_0)
 
     def go_on(self, line: Line, client: Endpoint, other: Endpoint, talk: Talk, it: Datagram) -> Optional[Place]:
@@ -211,7 +223,7 @@ class Attribution:
             return None
         line.talks[other], line.moment, line.ends_in_request = talk, self.clock, False
         if one is not line.latest:
-            one.doubts.append((it.number, "its client's endpoint had asked again"))
+            one.doubts.append(Doubt(it.number, "late", "its client's endpoint had asked again"))
         if it.source == other:
             one.answered = one.answered or other
             self.served[other] = one, self.clock
@@ -225,7 +237,7 @@ class Attribution:
 
     def beside(self, it: Datagram) -> Optional[Place]:
         for at in (it.source, it.target):
-            one, moment = self.served.get(at, (None, 0.0))
+            one, moment = self.served.get(at, (None, 0))
             if one and at.port not in self.services and self.clock <= moment + SILENCE:
                 one.beside.append((it, at))
                 return Place("server", one.number)

@@ -5,3 +5,5 @@ pub mod Silences
 pub mod AllLines
 pub mod Ends
 pub mod Serving
+pub mod Doubting
+pub mod Seeing

@@ -1,9 +1,10 @@
 -- A line with one datagram more, which is no request.
 use Rattle.std.proofs.Common.{◌≡◌, ℕ, Bool, true, false, List, [], ◌∷◌, Option, Some, None, cond, inl, inr, refl, sym, ap, subst, ◌∙◌}
-use Rattle.std.specs.Prelude.{◌&&◌, ◌||◌, not, option_map, if◌then◌else◌}
+use Rattle.std.specs.Prelude.{◌==◌, ◌&&◌, ◌||◌, not, nat_lt, option_map, if◌then◌else◌}
+use Rattle.std.specs.List.{list_any}
 use Rattle.std.specs.Str.{bytes_eq}
-use Rattle.std.specs.BTreeMap.{get}
-use Rattle.std.specs.Ordering.{is_eq}
+use Rattle.std.specs.BTreeMap.{get, BTreeMap}
+use Rattle.std.specs.Ordering.{is_eq, nat_cmp}
 use Rattle.std.proofs.lemmas.Bool.{false≢true, and_parts, or_cases}
 use Rattle.tftp_ends.specs.Ports.{first_of, or_this}
 use Rattle.tftp_transfers.specs.declared.endpoint.Endpoint.{Endpoint}
@@ -12,7 +13,8 @@ use Rattle.tftp_transfers.specs.declared.place.Transfer.{Transfer}
 use Rattle.tftp_transfers.specs.declared.line.Line.{Line}
 use Rattle.tftp_transfers.specs.Recording.{Recorded, same_endpoint, endpoint_cmp, is_ack_0, goes, is_between}
 use Rattle.tftp_transfers.specs.Places.{Placed, opens, is_request, newest_of, latest_in, reach, answers, answered_in, talked_of, talk_in, last_was_ack_0, place_asked}
-use Rattle.tftp_transfers.specs.Kept.{IsLineOf, seen_of, asked_by, place_of_talk, comes_to, acked_in, talk_after, ends_after}
+use Rattle.tftp_transfers.specs.Kept.{IsLineOf, seen_of, asked_by, place_of_talk, comes_to, talk_after, ends_after, went_on_after, AreTimed, is_past}
+use Rattle.tftp_transfers.specs.Doubts.{acked_0_in, says_more, repeats_in, is_later}
 use Rattle.tftp_transfers.proofs.Endpoints.{same_by_order, is_same, same_itself}
 
 pub by_test : {P : Type 0} (b : Bool) → (b ≡ true → P) → (b ≡ false → P) → P
@@ -21,7 +23,7 @@ by_test false if_true if_false = if_false refl
 
 -- ---- who answered first
 
-map_or : {X Y : Type 0} (f : X → Y) (o : Option X) (b : Bool) (x : X) → option_map f (or_this o b x) ≡ or_this (option_map f o) b (f x)
+pub map_or : {X Y : Type 0} (f : X → Y) (o : Option X) (b : Bool) (x : X) → option_map f (or_this o b x) ≡ or_this (option_map f o) b (f x)
 map_or f None true x = refl
 map_or f None false x = refl
 map_or f (Some y) b x = refl
@@ -54,11 +56,11 @@ acked_none : (c o : Endpoint) (line : List Placed) → newest_of (talks_with c o
 acked_none c o line none = rw (none_sent c o line none) refl
 
 -- the last word to it is kept with the talk
-pub acked_kept : (c o : Endpoint) (line : List Placed) → last_was_ack_0 c o line ≡ acked_in (talk_in c o line)
+pub acked_kept : (c o : Endpoint) (line : List Placed) → last_was_ack_0 c o line ≡ acked_0_in (talk_in c o line)
 acked_kept c o line = by (newest_of (talks_with c o) line) refl where
-  by : (found : Option Placed) → newest_of (talks_with c o) line ≡ found → last_was_ack_0 c o line ≡ acked_in (talk_in c o line)
-  by None is = acked_none c o line is ∙ sym (ap (λ f. acked_in (option_map (λ p. record { transfer = talked_of p.place; acked_0 = last_was_ack_0 c o line }) f)) is)
-  by (Some p) is = sym (ap (λ f. acked_in (option_map (λ p. record { transfer = talked_of p.place; acked_0 = last_was_ack_0 c o line }) f)) is)
+  by : (found : Option Placed) → newest_of (talks_with c o) line ≡ found → last_was_ack_0 c o line ≡ acked_0_in (talk_in c o line)
+  by None is = acked_none c o line is ∙ sym (ap (λ f. acked_0_in (option_map (λ p. record { transfer = talked_of p.place; acked_0 = last_was_ack_0 c o line }) f)) is)
+  by (Some p) is = sym (ap (λ f. acked_0_in (option_map (λ p. record { transfer = talked_of p.place; acked_0 = last_was_ack_0 c o line }) f)) is)
 
 -- ---- what is between two is between no others
 
@@ -177,6 +179,17 @@ pub record IsNoted (old new : Line) (o : Endpoint) (talked : Option Transfer) (d
   pub ends : new.ends_in_request ≡ ends_after talked old.ends_in_request
   pub talks : (q : Endpoint) → get endpoint_cmp new.talks q
       ≡ cond (is_eq (endpoint_cmp o q)) (Some (talk_after old.latest.client o talked (seen_of d) (get endpoint_cmp old.talks o))) (get endpoint_cmp old.talks q)
+  pub went_on : new.went_on ≡ went_on_after talked (seen_of d) old.went_on
+  pub newest : AreTimed old.newest new.newest talked d.time
+
+says_after : (c : Endpoint) (talked : Option Transfer) (d : Recorded) (now : ℕ) (before : Bool) → (says_more (talk_placed c d now talked) || before) ≡ went_on_after talked (seen_of d) before
+says_after c None d now before = refl
+says_after c (Some x) d now before = refl
+
+times_after : (old new : BTreeMap ℕ ℕ) (c : Endpoint) (talked : Option Transfer) (d : Recorded) (now n at : ℕ) (line : List Placed) → AreTimed old new talked d.time
+    → list_any (is_later n at) line ≡ is_past at (get nat_cmp old n) → list_any (is_later n at) (talk_placed c d now talked ∷ line) ≡ is_past at (get nat_cmp new n)
+times_after old new c None d now n at line same before = before ∙ ap (λ m. is_past at (get nat_cmp m n)) (sym same)
+times_after old new c (Some x) d now n at line timed before = ap (λ b. ((x.number == n) && nat_lt at d.time) || b) before ∙ sym (timed n at)
 
 pub note_stands : (old new : Line) (o : Endpoint) (talked : Option Transfer) (d : Recorded) (now : ℕ) (line : List Placed) → IsNoted old new o talked d now
     → is_between old.latest.client o d ≡ true → IsLineOf old line → IsLineOf new (talk_placed old.latest.client d now talked ∷ line)
@@ -197,4 +210,11 @@ note_stands old new o talked d now line noted between stands =
           (Some (talk_after old.latest.client o (sym (talked_again old.latest.client talked) i) (seen_of d) (stands.talks o i))) (stands.talks q i))
           ∙ sym (talk_more old.latest.client o q p line plain between)
           ∙ ap (λ x. talk_in x.client q (p ∷ line)) (sym noted.latest);
+      again = λ e from. ap (λ b. repeats_in e (if b then Some p else newest_of is_request line)) plain
+          ∙ stands.again e (from ∙ ap (λ x. x.client) noted.latest)
+          ∙ (λ i. bytes_eq (sym noted.request i) e.payload && same_endpoint (sym noted.latest i).asked e.target);
+      went_on = ap (λ b. list_any says_more (if b then [] else p ∷ reach line)) shut
+          ∙ says_after old.latest.client talked d now (list_any says_more (reach line))
+          ∙ ap (went_on_after talked (seen_of d)) stands.went_on ∙ sym noted.went_on;
+      newest = λ n at. times_after old.newest new.newest old.latest.client talked d now n at line noted.newest (stands.newest n at);
     }

@@ -1,8 +1,10 @@
 -- A line with one request more.
 use Rattle.std.proofs.Common.{◌≡◌, ℕ, Bool, true, false, List, ◌∷◌, Option, Some, None, refl, sym, ap, subst, ◌∙◌}
-use Rattle.std.specs.Prelude.{◌&&◌, if◌then◌else◌}
+use Rattle.std.specs.Prelude.{◌==◌, ◌&&◌, ◌||◌, nat_lt, if◌then◌else◌}
+use Rattle.std.specs.List.{list_any}
+use Rattle.std.specs.Ordering.{nat_cmp}
 use Rattle.std.specs.Str.{bytes_eq}
-use Rattle.std.specs.BTreeMap.{get}
+use Rattle.std.specs.BTreeMap.{get, BTreeMap}
 use Rattle.std.proofs.lemmas.Bool.{and_parts}
 use Rattle.std.proofs.lemmas.Slice.Eq.{bytes_eq-Decides}
 use Rattle.tftp_ends.specs.Ports.{or_this}
@@ -13,7 +15,8 @@ use Rattle.tftp_transfers.specs.declared.place.Transfer.{Transfer}
 use Rattle.tftp_transfers.specs.declared.line.Line.{Line}
 use Rattle.tftp_transfers.specs.Recording.{Recorded, same_endpoint, endpoint_cmp, is_again}
 use Rattle.tftp_transfers.specs.Places.{Placed, answered_in, talk_in, place_asked}
-use Rattle.tftp_transfers.specs.Kept.{IsLineOf, IsRequestOf, asked_by}
+use Rattle.tftp_transfers.specs.Kept.{IsLineOf, IsRequestOf, asked_by, is_past, IsTimed}
+use Rattle.tftp_transfers.specs.Doubts.{is_later}
 use Rattle.tftp_transfers.proofs.Endpoints.{is_same, same_itself}
 use Rattle.tftp_transfers.proofs.Lines.{answered_more}
 
@@ -34,21 +37,27 @@ pub record IsOpened (new : Line) (x : Transfer) (payload : List ℕ) (now : ℕ)
   pub moment : new.moment ≡ now
   pub request : new.request.items ≡ payload
   pub ends : new.ends_in_request ≡ true
+  pub went_on : new.went_on ≡ false
 
-asked_opened : (new : Line) (x : Transfer) (payload : List ℕ) (now number : ℕ) (line : List Placed) (d e : Recorded) → IsOpened new x payload now → IsRequestOf x payload d → e.source ≡ new.latest.client
+asked_opened : (new : Line) (x : Transfer) (payload : List ℕ) (time now number : ℕ) (line : List Placed) (d e : Recorded) → IsOpened new x payload now → IsRequestOf x payload time d → e.source ≡ new.latest.client
     → place_asked number e (record { datagram = d; moment = now; place = Opens x } ∷ line) ≡ asked_by new number e
-asked_opened new x payload now number line d e opened of from =
+asked_opened new x payload time now number line d e opened of from =
     ap (λ again. chosen again x number e) (again_is x.client x.asked payload d e of.source of.target of.same (from ∙ ap (λ y. y.client) opened.latest))
     ∙ (λ i. chosen (sym opened.ends i && bytes_eq (sym opened.request i) e.payload && same_endpoint (sym opened.latest i).asked e.target) (sym opened.latest i) number e)
 
-pub opened_stands : (new : Line) (x : Transfer) (payload : List ℕ) (now : ℕ) (line : List Placed) (d : Recorded) → IsOpened new x payload now → IsRequestOf x payload d
-    → ((o : Endpoint) → get endpoint_cmp new.talks o ≡ talk_in x.client o line) → IsLineOf new (record { datagram = d; moment = now; place = Opens x } ∷ line)
-opened_stands new x payload now line d opened of talks = record {
+pub opened_stands : (new : Line) (x : Transfer) (payload : List ℕ) (time now : ℕ) (line : List Placed) (d : Recorded) → IsOpened new x payload now → IsRequestOf x payload time d
+    → ((o : Endpoint) → get endpoint_cmp new.talks o ≡ talk_in x.client o line)
+    → ((n at : ℕ) → is_past at (get nat_cmp new.newest n) ≡ (((x.number == n) && nat_lt at time) || list_any (is_later n at) line)) → IsLineOf new (record { datagram = d; moment = now; place = Opens x } ∷ line)
+opened_stands new x payload time now line d opened of talks newest = record {
   latest = ap Some (sym opened.latest);
   answered = sym opened.answered;
   moment = sym opened.moment;
-  asked = λ number e from. asked_opened new x payload now number line d e opened of from;
+  asked = λ number e from. asked_opened new x payload time now number line d e opened of from;
   talks = λ o. talks o ∙ ap (λ y. talk_in y.client o line) (sym opened.latest);
+  again = λ e from. again_is x.client x.asked payload d e of.source of.target of.same (from ∙ ap (λ y. y.client) opened.latest)
+      ∙ (λ i. bytes_eq (sym opened.request i) e.payload && same_endpoint (sym opened.latest i).asked e.target);
+  went_on = sym opened.went_on;
+  newest = λ n at. ap (λ m. ((x.number == n) && nat_lt at m) || list_any (is_later n at) line) of.passed ∙ sym (newest n at);
 }
 
 -- ---- a request that repeats
@@ -65,9 +74,9 @@ repeated true x y number d is = (refl, ap (λ p. of p) is) where
   of other = x
 repeated false x y number d is = absurd (cc)
 
-pub repeated_stands : (old new : Line) (line : List Placed) (d : Recorded) (number : ℕ) (x : Transfer) (now : ℕ) → IsLineOf old line → d.source ≡ old.latest.client → place_asked number d line ≡ Repeats x
-    → new ≡ record old { moment = now } → IsLineOf new (record { datagram = d; moment = now; place = Repeats x } ∷ line)
-repeated_stands old new line d number x now stands from is after =
+pub repeated_stands : (old new : Line) (times : BTreeMap ℕ ℕ) (line : List Placed) (d : Recorded) (number : ℕ) (x : Transfer) (time now : ℕ) → IsLineOf old line → d.source ≡ old.latest.client → place_asked number d line ≡ Repeats x
+    → new ≡ record old { moment = now; newest = times } → IsTimed old.newest times old.latest.number time → d.time ≡ time → IsLineOf new (record { datagram = d; moment = now; place = Repeats x } ∷ line)
+repeated_stands old new times line d number x time now stands from is after timed passed =
     let known = repeated (old.ends_in_request && bytes_eq old.request.items d.payload && same_endpoint old.latest.asked d.target) old.latest x number d (sym (stands.asked number d from) ∙ is) in
     let both = and_parts (old.ends_in_request && bytes_eq old.request.items d.payload) (same_endpoint old.latest.asked d.target) known.0 in
     let ended = and_parts old.ends_in_request (bytes_eq old.request.items d.payload) both.0 in
@@ -80,6 +89,9 @@ repeated_stands old new line d number x now stands from is after =
           (again_is old.latest.client old.latest.asked old.request.items d e from (sym (is_same old.latest.asked d.target both.1)) (sym ((bytes_eq-Decides old.request.items d.payload).0 ended.1)) that)
           ∙ (λ i. chosen (sym ended.0 i && bytes_eq old.request.items e.payload && same_endpoint old.latest.asked e.target) (sym known.1 i) n e);
       talks = stands.talks;
+      again = λ e that. again_is old.latest.client old.latest.asked old.request.items d e from (sym (is_same old.latest.asked d.target both.1)) (sym ((bytes_eq-Decides old.request.items d.payload).0 ended.1)) that;
+      went_on = stands.went_on;
+      newest = λ n at. (λ i. (((sym known.1 i).number == n) && nat_lt at (passed i)) || stands.newest n at i) ∙ sym (timed n at);
     })
 
 -- what is kept says where a request goes

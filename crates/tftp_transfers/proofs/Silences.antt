@@ -15,7 +15,7 @@ pub live_not : (now : ℕ) (ps : List Placed) → nat_le now (clock ps + silence
 live_not now [] off = refl
 live_not now (p ∷ ps) off = rw off refl
 
-still_false : (then_at now limit : ℕ) → then_at ≤ now → nat_le then_at limit ≡ false → nat_le now limit ≡ false
+pub still_false : (then_at now limit : ℕ) → then_at ≤ now → nat_le then_at limit ≡ false → nat_le now limit ≡ false
 still_false then_at now limit later off = let past : limit < then_at = leb-false then_at limit off in lt-leb now limit (omega arith)
 
 pub live_later : (then_at now : ℕ) (ps : List Placed) → then_at ≤ now → live then_at ps ≡ [] → live now ps ≡ []

@@ -6,8 +6,9 @@ use Rattle.tftp_transfers.specs.declared.line.Talk.{Talk}
 use Rattle.tftp_transfers.specs.declared.place.Place.{Place}
 use Rattle.tftp_transfers.specs.declared.place.Place.TheVariants.{Opens, Talks, Beside}
 use Rattle.tftp_transfers.specs.declared.place.Transfer.{Transfer}
+use Rattle.tftp_transfers.specs.declared.doubts.Doubts.{Doubts}
 use Rattle.tftp_transfers.specs.Recording.{Recorded, same_endpoint, begins_error, is_data_1, is_again}
-use Rattle.tftp_transfers.specs.Places.{Placed, is_request, newest_of, live, line, latest_in, reach, talk_in, answered_in, may_answer}
+use Rattle.tftp_transfers.specs.Places.{Placed, is_request, newest_of, live, line, transfer_of, latest_in, reach, talk_in, answered_in, may_answer}
 use Rattle.tftp_transfers.specs.Views.{is_of}
 
 -- the client's line as the datagram came
@@ -18,13 +19,14 @@ line_before c p older = live p.moment (line c older)
 abbrev pub other_of : Endpoint → Recorded → Endpoint
 other_of c d = if same_endpoint d.source c then d.target else d.source
 
-abbrev pub is_another : ℕ → Option Transfer → Bool
-is_another n None = false
-is_another n (Some y) = not (y.number == n)
+-- another transfer than this, if any
+abbrev pub is_another : Transfer → Option Transfer → Bool
+is_another x None = false
+is_another x (Some y) = not (y.number == x.number)
 
-abbrev pub is_it : ℕ → Option Transfer → Bool
+abbrev pub is_it : ℕ → Option ℕ → Bool
 is_it n None = false
-is_it n (Some y) = y.number == n
+is_it n (Some m) = m == n
 
 abbrev pub talked_in : Option Talk → Option Transfer
 talked_in None = None
@@ -34,23 +36,32 @@ abbrev pub acked_0_in : Option Talk → Bool
 acked_0_in None = false
 acked_0_in (Some talk) = talk.acked_0
 
+-- ---- what a datagram makes doubtful in its own transfer
+
 -- its server's endpoint was another transfer's before
-abbrev pub goes_over : ℕ → Placed → List Placed → Bool
-goes_over n p older = by p.place where
+abbrev pub goes_over : Placed → List Placed → Bool
+goes_over p older = by p.place where
   by : Place → Bool
-  by (Talks x) = (x.number == n) && is_another n (talked_in (talk_in x.client (other_of x.client p.datagram) (line_before x.client p older)))
+  by (Talks x) = is_another x (talked_in (talk_in x.client (other_of x.client p.datagram) (line_before x.client p older)))
   by _ = false
 
 -- its client had asked for another by then
-abbrev pub is_late : ℕ → Placed → List Placed → Bool
-is_late n p older = by p.place where
+abbrev pub is_late : Placed → List Placed → Bool
+is_late p older = by p.place where
   by : Place → Bool
-  by (Talks x) = (x.number == n) && is_another n (latest_in (line_before x.client p older))
+  by (Talks x) = is_another x (latest_in (line_before x.client p older))
   by _ = false
 
+-- of this transfer, and later than that
+abbrev pub is_later : ℕ → ℕ → Placed → Bool
+is_later n time q = is_of n q && nat_lt time q.datagram.time
+
 -- it is older than one of the transfer before it
-abbrev pub is_disordered : ℕ → Placed → List Placed → Bool
-is_disordered n p older = is_of n p && list_any (λ q. is_of n q && nat_lt p.datagram.time q.datagram.time) older
+abbrev pub is_disordered : Placed → List Placed → Bool
+is_disordered p older = by (transfer_of p.place) where
+  by : Option Transfer → Bool
+  by None = false
+  by (Some x) = list_any (is_later x.number p.datagram.time) (line_before x.client p older)
 
 -- the client sent what is no request and no ERROR
 abbrev pub says_more : Placed → Bool
@@ -65,27 +76,44 @@ repeats_in d (Some q) = is_again q.datagram d
 
 -- it was opened by the same request as the transfer before, whose client had sent nothing since but requests and
 -- ERRORs: it may be that transfer still
-abbrev pub is_asked_again : ℕ → Placed → List Placed → Bool
-is_asked_again n p older = by p.place where
+abbrev pub is_asked_again : Placed → List Placed → Bool
+is_asked_again p older = by p.place where
   by : Place → Bool
   by (Opens x) =
-      (x.number == n)
-      && repeats_in p.datagram (newest_of is_request (line_before x.client p older))
+      repeats_in p.datagram (newest_of is_request (line_before x.client p older))
       && not (list_any says_more (reach (line_before x.client p older)))
   by _ = false
 
--- DATA 1 of another transfer's endpoint, to a client whose last word there was ACK 0, may be its first answer
-abbrev pub may_be_answered : ℕ → Placed → List Placed → Bool
-may_be_answered n p older = by p.place where
-  of : Transfer → Endpoint → List Placed → Option Transfer → Bool
-  of x o before None = false
-  of x o before (Some latest) =
-      (latest.number == n) && not (x.number == n)
-      && may_answer x.client o (answered_in latest before) p.datagram && is_data_1 p.datagram.payload && acked_0_in (talk_in x.client o before)
+-- ---- and in another
 
-  by : Place → Bool
-  by (Talks x) = of x (other_of x.client p.datagram) (line_before x.client p older) (latest_in (line_before x.client p older))
-  by _ = false
+-- DATA 1 to a client whose last word there was ACK 0
+abbrev pub is_next_data : Transfer → Endpoint → List Placed → Recorded → Bool
+is_next_data x o before d = is_data_1 d.payload && acked_0_in (talk_in x.client o before)
+
+-- the latest transfer, if this one of another may be its first answer
+abbrev pub answer_of : Transfer → Endpoint → List Placed → Recorded → Option Transfer → Option ℕ
+answer_of x o before d None = None
+answer_of x o before d (Some latest) =
+    if is_another x (Some latest) && (may_answer x.client o (answered_in latest before) d && is_next_data x o before d) then Some latest.number else None
+
+-- DATA 1 of another transfer's endpoint, to a client whose last word there was ACK 0, may be the latest one's first answer
+abbrev pub may_be_answer_of : Placed → List Placed → Option ℕ
+may_be_answer_of p older = by p.place where
+  by : Place → Option ℕ
+  by (Talks x) = answer_of x (other_of x.client p.datagram) (line_before x.client p older) p.datagram (latest_in (line_before x.client p older))
+  by _ = None
+
+-- all that a datagram makes doubtful, after those before it
+abbrev pub doubts_of : Placed → List Placed → Doubts
+doubts_of p older = record {
+  goes_over = goes_over p older;
+  is_late = is_late p older;
+  is_disordered = is_disordered p older;
+  is_asked_again = is_asked_again p older;
+  may_be_answer_of = may_be_answer_of p older;
+}
+
+-- ---- a transfer
 
 -- it passed between a server and another than its client, whose request may not have been recorded
 abbrev pub is_beside : Placed → Bool
@@ -99,11 +127,18 @@ abbrev pub some_time : (Placed → List Placed → Bool) → List Placed → Boo
 some_time test [] = false
 some_time test (p ∷ older) = test p older || some_time test older
 
+-- some datagram of this transfer does
+abbrev pub some_of : ℕ → (Placed → List Placed → Bool) → List Placed → Bool
+some_of n test placed = some_time (λ p older. is_of n p && test p older) placed
+
+-- what may be its first answer is another transfer's
+abbrev pub is_answered_apart : ℕ → List Placed → Bool
+is_answered_apart n placed = some_time (λ p older. is_it n (may_be_answer_of p older)) placed
+
 -- doubts of the whole transfer
 abbrev pub is_doubted : ℕ → List Placed → Bool
-is_doubted n placed =
-    some_time (goes_over n) placed || some_time (is_disordered n) placed || some_time (is_asked_again n) placed || some_time (may_be_answered n) placed
+is_doubted n placed = some_of n goes_over placed || some_of n is_disordered placed || some_of n is_asked_again placed || is_answered_apart n placed
 
 -- a refusal of the transfer at this datagram, after those before it, is doubtful
 abbrev pub is_doubtful : ℕ → List Placed → Placed → List Placed → Bool
-is_doubtful n placed p older = is_doubted n placed || some_time (is_late n) (p ∷ older) || is_beside p
+is_doubtful n placed p older = is_doubted n placed || some_of n is_late (p ∷ older) || is_beside p

@@ -210,12 +210,13 @@ abbrev pub last_served : Endpoint → List Placed → Option Served
 last_served o [] = None
 last_served o (p ∷ older) = newer (serves o p) (last_served o older)
 
+abbrev pub served_within : ℕ → Option Served → Option Transfer
+served_within now None = None
+served_within now (Some served) = if nat_le now (served.moment + silence) then Some served.transfer else None
+
 -- the transfer in which the endpoint last sent to a client, in the last 300 s
 abbrev pub served_by : Endpoint → ℕ → List Placed → Option Transfer
-served_by o now older = by (last_served o older) where
-  by : Option Served → Option Transfer
-  by None = None
-  by (Some served) = if nat_le now (served.moment + silence) then Some served.transfer else None
+served_by o now older = served_within now (last_served o older)
 
 -- At a service port nobody is told apart.
 abbrev pub served_at : List ℕ → List Placed → ℕ → Endpoint → Option Transfer

@@ -6,7 +6,7 @@ use Rattle.tftp_transfers.specs.Recording.{Recorded}
 use Rattle.tftp_transfers.specs.declared.place.Place.{Place}
 use Rattle.tftp_transfers.specs.Places.{Placed, placed}
 use Rattle.tftp_transfers.specs.Views.{client_view, server_view}
-use Rattle.tftp_transfers.specs.Doubts.{is_doubted, is_late, some_time}
+use Rattle.tftp_transfers.specs.Doubts.{is_doubted, is_late, some_of}
 
 abbrev pub at : ℕ → ℕ → Endpoint
 at host port = record { address = V4 (192 ∷ 0 ∷ 2 ∷ host ∷ []); port = port }
@@ -169,4 +169,4 @@ abbrev pub is_doubted_in : ℕ → List Recorded → Bool
 is_doubted_in n recorded = is_doubted n (placed [] recorded)
 
 abbrev pub is_late_in : ℕ → List Recorded → Bool
-is_late_in n recorded = some_time (is_late n) (placed [] recorded)
+is_late_in n recorded = some_of n is_late (placed [] recorded)

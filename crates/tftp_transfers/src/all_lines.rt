@@ -1,7 +1,8 @@
 //! The lines of all clients, with one datagram more.
 
-ghost use Rattle.std.specs.Prelude.{◌≡◌, ◌≢◌, ◌≤◌, ◌∷◌, ℕ, List, [], true, Some, OnOk};
-ghost use Rattle.tftp_transfers.specs.Recording.{Recorded, is_between};
+ghost use Rattle.std.specs.Prelude.{◌≡◌, ◌≢◌, ◌≤◌, ◌∷◌, ℕ, List, [], true, Some, IfSome, is_some, OnOk};
+ghost use Rattle.std.specs.BTreeMap.{get};
+ghost use Rattle.tftp_transfers.specs.Recording.{Recorded, is_between, endpoint_cmp};
 ghost use Rattle.tftp_transfers.specs.Places.{Placed, live, line, clock, place_asked};
 ghost use Rattle.tftp_transfers.specs.Kept.{AreLinesOf, IsRequestOf, seen_of, place_of_talk};
 ghost use Rattle.tftp_transfers.specs.declared.place.Place.{Place};
@@ -13,6 +14,7 @@ use crate::line::Line;
 use crate::place::Transfer;
 use std::alloc::{AllocError, Global};
 use std::collections::BTreeMap;
+use std::ops::Bound;
 
 pub(crate) type Lines = BTreeMap<Endpoint, Line>;
 
@@ -37,14 +39,19 @@ pub(crate) fn note(
 }
 
 /// Notes a request that repeats the one before it.
-pub(crate) fn repeat(lines: &mut Lines, client: Endpoint, now: u64)
+pub(crate) fn repeat(
+    lines: &mut Lines,
+    client: Endpoint,
+    time: u64,
+    now: u64,
+) -> Result<(), AllocError>
     ensures { (older : List Placed) (d : Recorded) (number : ℕ) (x : Transfer) → AreLinesOf lines.old older → clock older ≤ now
-        → d.source ≡ client → x.client ≡ client → place_asked number d (live now (line client older)) ≡ Place.Repeats x
-        → AreLinesOf lines.new (record { datagram = d; moment = now; place = Place.Repeats x } ∷ older) }
+        → d.source ≡ client → d.time ≡ time → x.client ≡ client → place_asked number d (live now (line client older)) ≡ Place.Repeats x
+        → OnOk result (AreLinesOf lines.new (record { datagram = d; moment = now; place = Place.Repeats x } ∷ older)) }
 {
     match lines.get_mut(&client) {
-        Some(line) => line.repeat(now),
-        None => {}
+        Some(line) => line.repeat(time, now),
+        None => Ok(()),
     }
 }
 
@@ -54,14 +61,15 @@ pub(crate) fn reopen(
     alloc: Global,
     transfer: Transfer,
     payload: &[u8],
+    time: u64,
     now: u64,
 ) -> Result<(), AllocError>
-    ensures { (older : List Placed) (d : Recorded) → AreLinesOf lines.old older → clock older ≤ now → IsRequestOf transfer payload.now d
+    ensures { (older : List Placed) (d : Recorded) → AreLinesOf lines.old older → clock older ≤ now → IsRequestOf transfer payload.now time d
         → live now (line transfer.client older) ≢ []
         → OnOk result (AreLinesOf lines.new (record { datagram = d; moment = now; place = Place.Opens transfer } ∷ older)) }
 {
     match lines.get_mut(&transfer.client) {
-        Some(line) => line.open(alloc, transfer, payload, now),
+        Some(line) => line.open(alloc, transfer, payload, time, now),
         None => Ok(()),
     }
 }
@@ -72,13 +80,47 @@ pub(crate) fn begin(
     alloc: Global,
     transfer: Transfer,
     payload: &[u8],
+    time: u64,
     now: u64,
 ) -> Result<(), AllocError>
-    ensures { (older : List Placed) (d : Recorded) → AreLinesOf lines.old older → clock older ≤ now → IsRequestOf transfer payload.now d
+    ensures { (older : List Placed) (d : Recorded) → AreLinesOf lines.old older → clock older ≤ now → IsRequestOf transfer payload.now time d
         → live now (line transfer.client older) ≡ []
         → OnOk result (AreLinesOf lines.new (record { datagram = d; moment = now; place = Place.Opens transfer } ∷ older)) }
 {
-    let line = Line::begun(alloc, transfer, payload, now)?;
+    let line = Line::begun(alloc, transfer, payload, time, now)?;
     lines.insert(transfer.client, line)?;
     Ok(())
+}
+
+/// The client after this one of which a line is kept, or else the first.
+pub(crate) fn next_line(lines: &Lines, client: Endpoint) -> Option<Endpoint>
+    ensures { IfSome result (λ next. is_some (get endpoint_cmp lines.now next) ≡ true) }
+{
+    let mut later = lines.range((Bound::Excluded(client), Bound::Unbounded));
+    match later.next() {
+        Some((next, _)) => Some(*next),
+        None => match lines.first_key_value() {
+            Some((first, _)) => Some(*first),
+            None => None,
+        },
+    }
+}
+
+/// Lets a client's line go, if it has been silent for more than 300 s.
+pub(crate) fn let_line_go(lines: &mut Lines, client: Endpoint, now: u64)
+    ensures { (older : List Placed) → AreLinesOf lines.old older → clock older ≡ now → AreLinesOf lines.new older }
+{
+    if is_silent(lines, &client, now) {
+        lines.remove(&client);
+    }
+}
+
+/// Whether a client's line is kept that has been silent for more than 300 s.
+fn is_silent(lines: &Lines, client: &Endpoint, now: u64) -> bool
+    ensures { (older : List Placed) → AreLinesOf lines.now older → clock older ≡ now → result ≡ true → live (clock older) (line client.now older) ≡ [] }
+{
+    match lines.get(client) {
+        Some(line) => !line.is_live(now),
+        None => false,
+    }
 }

@@ -1,7 +1,8 @@
 //! The place of each datagram of a recording, in one pass.
 
-ghost use Rattle.std.specs.Prelude.{◌≡◌, ◌≢◌, ◌≤◌, ◌+◌, ◌∷◌, ℕ, List, [], MatchBool, OnOk, IfOk, IsOk, Err, ◌^◌, ◌<◌, max, true, false, ◌&&◌, ◌||◌, not, is_some, nat_le, MatchOption, Some, None, if◌then◌else◌};
-ghost use Rattle.tftp_transfers.specs.Recording.{Recorded};
+ghost use Rattle.std.specs.Prelude.{◌≡◌, ◌≢◌, ◌≤◌, ◌+◌, ◌∷◌, ℕ, List, [], MatchBool, OnOk, IfOk, IsOk, Err, ◌^◌, ◌<◌, max, true, false, ◌&&◌, ◌||◌, not, is_some, nat_le, MatchOption, IfSome, Some, None, if◌then◌else◌};
+ghost use Rattle.std.specs.BTreeMap.{get};
+ghost use Rattle.tftp_transfers.specs.Recording.{Recorded, endpoint_cmp};
 ghost use Rattle.tftp_transfers.specs.Places.{
   Placed,
   live,
@@ -24,18 +25,21 @@ ghost use Rattle.tftp_transfers.specs.Places.{
   place_of,
   and_then,
 };
-ghost use Rattle.tftp_transfers.specs.Kept.{IsLineOf, IsAfter, AreLinesOf, AreServed, AreServices, IsRecorded, seen_of, is_asked, takes_memory, other_end};
+ghost use Rattle.tftp_transfers.specs.Kept.{IsLineOf, IsAfter, AreLinesOf, AreServed, AreServices, IsRecorded, seen_of, is_asked, takes_memory};
+ghost use Rattle.tftp_transfers.specs.Doubts.{doubts_of};
 ghost use Rattle.tftp_transfers.specs.declared.place.Place.{Place};
 ghost use Rattle.tftp_transfers.specs.declared.attribution.AttributionFault.{AttributionFault};
 
-use crate::all_lines::{begin, note, reopen, repeat};
-use crate::endpoint::Endpoint;
-use crate::kind::{Kind, Seen};
+use crate::all_lines::{begin, let_line_go, next_line, note, reopen, repeat};
+use crate::doubts::Doubts;
+use crate::endpoint::{Address, Endpoint};
+use crate::kind::{Kind, Seen, other_end};
 use crate::line::{Line, SILENCE};
 use crate::place::{Place, Transfer};
 use std::alloc::{AllocError, Global};
 use std::collections::{BTreeMap, BTreeSet};
 use std::convert::From;
+use std::ops::Bound;
 
 /// Why a datagram got no place.
 #[derive(Clone, Copy, Debug, PartialEq, Eq)]
@@ -56,11 +60,29 @@ impl From<AllocError> for AttributionFault {
     }
 }
 
+/// Where a datagram belongs, and what it makes doubtful.
+#[derive(Clone, Copy, Debug, PartialEq, Eq)]
+pub struct Attributed {
+    /// Where it belongs.
+    pub place: Place,
+    /// What it makes doubtful.
+    pub doubts: Doubts,
+}
+
 /// What an endpoint sent last to a client.
 #[derive(Clone, Copy)]
 pub(crate) struct Served {
     pub transfer: Transfer,
     pub moment: u64,
+}
+
+impl Served {
+    /// Whether that was in the last 300 s.
+    fn is_recent(&self, now: u64) -> bool
+        ensures { result ≡ nat_le now (self.now.moment + silence) }
+    {
+        now <= self.moment.saturating_add(SILENCE)
+    }
 }
 
 /// What is kept of the datagrams before: the lines of the clients, and who served them.
@@ -75,7 +97,21 @@ pub struct Attribution {
     count: u64,
     /// Memory was wanting: it stands for no datagrams any more.
     failed: bool,
+    /// The line that was looked at last, and the endpoint that served: whether they are to be let go.
+    looked_at: LookedAt,
 }
+
+/// Where the search for what is to be let go stands.
+#[derive(Clone, Copy)]
+pub(crate) struct LookedAt {
+    pub line: Endpoint,
+    pub served: Endpoint,
+}
+
+const FIRST: Endpoint = Endpoint {
+    address: Address::V4([0; 4]),
+    port: 0,
+};
 
 impl Attribution {
     /// Nothing has passed. Requests go to port 69 (RFC 1350, section 4) and to the ports that are named.
@@ -89,10 +125,14 @@ impl Attribution {
             clock: 0,
             count: 0,
             failed: false,
+            looked_at: LookedAt {
+                line: FIRST,
+                served: FIRST,
+            },
         })
     }
 
-    /// Where the next datagram of the recording belongs. Times are in nanoseconds; `is_spelled` says whether the payload
+    /// Where the next datagram of the recording belongs, and what it makes doubtful. Times are in nanoseconds; `is_spelled` says whether the payload
     /// spells a request from its first byte to its last. Once memory was wanting, it is wanting for good.
     pub fn feed(
         &mut self,
@@ -102,10 +142,13 @@ impl Attribution {
         target: Endpoint,
         payload: &[u8],
         is_spelled: bool,
-    ) -> Result<Place, AttributionFault>
+    ) -> Result<Attributed, AttributionFault>
         ensures place { (named : List ℕ) (older : List Placed) (d : Recorded) → IsAfter self.old named older
             → IsRecorded d time source target payload.now is_spelled
-            → IfOk result (λ place. place ≡ place_of named older (max time (clock older)) d) }
+            → IfOk result (λ found. found.place ≡ place_of named older (max time (clock older)) d) }
+        ensures doubts { (named : List ℕ) (older : List Placed) (d : Recorded) → IsAfter self.old named older
+            → IsRecorded d time source target payload.now is_spelled
+            → IfOk result (λ found. found.doubts ≡ doubts_of (record { datagram = d; moment = max time (clock older); place = found.place }) older) }
         ensures stands { (named : List ℕ) (older : List Placed) (d : Recorded) → IsAfter self.old named older
             → IsRecorded d time source target payload.now is_spelled
             → OnOk result (IsAfter self.new named (and_then named older d)) }
@@ -127,14 +170,73 @@ impl Attribution {
         let seen = Seen {
             source,
             target,
+            time,
             kind,
         };
         let place = self.place_of(&seen, payload, is_spelled, now);
+        let doubts = self.doubts(&place, &seen, payload, now);
+        let (lines, served) = (self.lines.len(), self.served.len());
         match self.keep(alloc, &place, &seen, payload, now) {
-            Ok(()) => Ok(place),
+            Ok(()) => {
+                self.let_go(lines, served);
+                Ok(Attributed { place, doubts })
+            }
             Err(_) => {
                 self.failed = true;
                 Err(AttributionFault::Memory)
+            }
+        }
+    }
+
+    /// Lets go of what has been silent for more than 300 s: looks at two lines where there is one more than there were,
+    /// and at two endpoints that served likewise. So there are at most about twice as many as were not silent.
+    fn let_go(&mut self, lines: usize, served: usize)
+        ensures { (named : List ℕ) (older : List Placed) → IsAfter self.old named older → IsAfter self.new named older }
+    {
+        self.let_lines_go(lines);
+        self.let_some_served_go(served);
+    }
+
+    fn let_lines_go(&mut self, before: usize)
+        ensures { (named : List ℕ) (older : List Placed) → IsAfter self.old named older → IsAfter self.new named older }
+    {
+        if self.lines.len() > before {
+            self.let_line_go();
+            self.let_line_go();
+        }
+    }
+
+    fn let_some_served_go(&mut self, before: usize)
+        ensures { (named : List ℕ) (older : List Placed) → IsAfter self.old named older → IsAfter self.new named older }
+    {
+        if self.served.len() > before {
+            self.let_served_go();
+            self.let_served_go();
+        }
+    }
+
+    /// Looks at one line more.
+    fn let_line_go(&mut self)
+        ensures { (named : List ℕ) (older : List Placed) → IsAfter self.old named older → IsAfter self.new named older }
+    {
+        match next_line(&self.lines, self.looked_at.line) {
+            None => {}
+            Some(client) => {
+                self.looked_at.line = client;
+                let_line_go(&mut self.lines, client, self.clock);
+            }
+        }
+    }
+
+    /// Looks at one endpoint more that served.
+    fn let_served_go(&mut self)
+        ensures { (named : List ℕ) (older : List Placed) → IsAfter self.old named older → IsAfter self.new named older }
+    {
+        match next_served(&self.served, self.looked_at.served) {
+            None => {}
+            Some(other) => {
+                self.looked_at.served = other;
+                let_served_go(&mut self.served, other, self.clock);
             }
         }
     }
@@ -245,7 +347,7 @@ impl Attribution {
 
     /// The transfer in which an endpoint, at no service port, last sent to a client in the last 300 s.
     fn served_at(&self, other: &Endpoint, now: u64) -> Option<Transfer>
-        ensures { (named : List ℕ) (older : List Placed) → IsAfter self.now named older
+        ensures { (named : List ℕ) (older : List Placed) → IsAfter self.now named older → clock older ≤ now
             → result ≡ served_at named older now other.now }
     {
         if self.is_service(other.port) {
@@ -255,11 +357,11 @@ impl Attribution {
     }
 
     fn last_served(&self, other: &Endpoint, now: u64) -> Option<Transfer>
-        ensures { (named : List ℕ) (older : List Placed) → IsAfter self.now named older → result ≡ served_by other.now now older }
+        ensures { (named : List ℕ) (older : List Placed) → IsAfter self.now named older → clock older ≤ now → result ≡ served_by other.now now older }
     {
         match self.served.get(other) {
             Some(served) => {
-                if now <= served.moment.saturating_add(SILENCE) {
+                if served.is_recent(now) {
                     Some(served.transfer)
                 } else {
                     None
@@ -271,7 +373,7 @@ impl Attribution {
 
     /// Where it belongs by who served.
     fn beside(&self, seen: &Seen, now: u64) -> Place
-        ensures { (named : List ℕ) (older : List Placed) (d : Recorded) → IsAfter self.now named older
+        ensures { (named : List ℕ) (older : List Placed) (d : Recorded) → IsAfter self.now named older → clock older ≤ now
             → seen.now ≡ seen_of d → result ≡ beside named older now d }
     {
         beside_by(
@@ -294,6 +396,30 @@ impl Attribution {
             self.beside(seen, now)
         } else {
             place
+        }
+    }
+
+    /// Whether at this time no line of the client's goes on: it has been silent for more than 300 s, or has not begun.
+    /// Then no datagram joins its transfers any more, and their doubts are what they are.
+    pub fn is_over(&self, client: &Endpoint, time: u64) -> bool
+        ensures { (named : List ℕ) (older : List Placed) → IsAfter self.now named older
+            → MatchBool result (live (max time (clock older)) (line client.now older) ≡ []) (live (max time (clock older)) (line client.now older) ≢ []) }
+    {
+        self.is_silent(client, time.max(self.clock))
+    }
+
+    /// What a datagram makes doubtful that belongs there.
+    fn doubts(&self, place: &Place, seen: &Seen, payload: &[u8], now: u64) -> Doubts
+        ensures { (named : List ℕ) (older : List Placed) (d : Recorded) → IsAfter self.now named older → clock older ≤ now
+            → seen.now ≡ seen_of d → d.payload ≡ payload.now → place.now ≡ place_of named older now d
+            → result ≡ doubts_of (record { datagram = d; moment = now; place = place.now }) older }
+    {
+        match place.transfer() {
+            None => Doubts::none(),
+            Some(transfer) => match self.line(&transfer.client, now) {
+                None => Doubts::none(),
+                Some(line) => line.doubts(place, seen, payload),
+            },
         }
     }
 
@@ -326,15 +452,12 @@ impl Attribution {
         match place {
             Place::Opens(transfer) => {
                 if self.is_silent(&transfer.client, now) {
-                    begin(&mut self.lines, alloc, *transfer, payload, now)
+                    begin(&mut self.lines, alloc, *transfer, payload, seen.time, now)
                 } else {
-                    reopen(&mut self.lines, alloc, *transfer, payload, now)
+                    reopen(&mut self.lines, alloc, *transfer, payload, seen.time, now)
                 }
             }
-            Place::Repeats(transfer) => {
-                repeat(&mut self.lines, transfer.client, now);
-                Ok(())
-            }
+            Place::Repeats(transfer) => repeat(&mut self.lines, transfer.client, seen.time, now),
             Place::Talks(transfer) => {
                 let other = other_end(&transfer.client, seen);
                 note(
@@ -356,17 +479,6 @@ impl Attribution {
     }
 }
 
-/// The end of a datagram that is not this client's.
-fn other_end(client: &Endpoint, seen: &Seen) -> Endpoint
-    ensures { result ≡ other_end client.now seen.now }
-{
-    if seen.source == *client {
-        seen.target
-    } else {
-        seen.source
-    }
-}
-
 /// Keeps that an endpoint sent to a client.
 fn keep_served(
     served: &mut BTreeMap<Endpoint, Served>,
@@ -375,7 +487,7 @@ fn keep_served(
     now: u64,
 ) -> Result<(), AllocError>
     ensures spare { takes_memory place.now ≡ false → IsOk result }
-    ensures served { (older : List Placed) (d : Recorded) → AreServed served.old older → seen.now ≡ seen_of d
+    ensures served { (older : List Placed) (d : Recorded) → AreServed served.old older → clock older ≤ now → seen.now ≡ seen_of d
         → OnOk result (AreServed served.new (record { datagram = d; moment = now; place = place.now } ∷ older)) }
 {
     match place {
@@ -394,6 +506,39 @@ fn keep_served(
         Place::Apart(_) => Ok(()),
         Place::Beside(_) => Ok(()),
         Place::Nowhere => Ok(()),
+    }
+}
+
+/// The endpoint after this one that served, or else the first.
+fn next_served(served: &BTreeMap<Endpoint, Served>, other: Endpoint) -> Option<Endpoint>
+    ensures { IfSome result (λ next. is_some (get endpoint_cmp served.now next) ≡ true) }
+{
+    let mut later = served.range((Bound::Excluded(other), Bound::Unbounded));
+    match later.next() {
+        Some((next, _)) => Some(*next),
+        None => match served.first_key_value() {
+            Some((first, _)) => Some(*first),
+            None => None,
+        },
+    }
+}
+
+/// Lets an endpoint go, unless it served in the last 300 s.
+fn let_served_go(served: &mut BTreeMap<Endpoint, Served>, other: Endpoint, now: u64)
+    ensures { (older : List Placed) → AreServed served.old older → clock older ≡ now → AreServed served.new older }
+{
+    if is_old(served, &other, now) {
+        served.remove(&other);
+    }
+}
+
+/// Whether an endpoint is kept that served nobody in the last 300 s.
+fn is_old(served: &BTreeMap<Endpoint, Served>, other: &Endpoint, now: u64) -> bool
+    ensures { (older : List Placed) → AreServed served.now older → clock older ≡ now → result ≡ true → served_by other.now (clock older) older ≡ None }
+{
+    match served.get(other) {
+        Some(last) => !last.is_recent(now),
+        None => false,
     }
 }
 

@@ -4,7 +4,7 @@ ghost use Rattle.std.specs.Prelude.{◌≡◌, ◌==◌, ◌||◌, true};
 ghost use Rattle.tftp_packet.specs.Message.{Message, RequestParts};
 ghost use Rattle.tftp_packet.specs.Spelling.{Spells};
 ghost use Rattle.tftp_packet.specs.Meaning.{meaning};
-ghost use Rattle.tftp_transfers.specs.Kept.{kind_of};
+ghost use Rattle.tftp_transfers.specs.Kept.{kind_of, other_end};
 
 use crate::endpoint::Endpoint;
 use tftp_packet::{Packet, opcode, read_packet};
@@ -24,7 +24,20 @@ pub(crate) struct Kind {
 pub(crate) struct Seen {
     pub source: Endpoint,
     pub target: Endpoint,
+    /// In nanoseconds.
+    pub time: u64,
     pub kind: Kind,
+}
+
+/// The end of a datagram that is not this client's.
+pub(crate) fn other_end(client: &Endpoint, seen: &Seen) -> Endpoint
+    ensures { result ≡ other_end client.now seen.now }
+{
+    if seen.source == *client {
+        seen.target
+    } else {
+        seen.source
+    }
 }
 
 const ACK_0: [u8; 4] = [0, 4, 0, 0];

@@ -1,6 +1,12 @@
 //! Laws of the definitions in `specs/`. Each is the contract of a function that does nothing.
 
-ghost use Rattle.std.specs.Prelude.{◌≡◌, true, false, [], ◌∷◌, codes};
+ghost use Rattle.std.specs.Prelude.{◌≡◌, ◌≢◌, ◌⊎◌, ℕ, List, true, false, [], ◌∷◌, codes};
+ghost use Rattle.tftp_transfers.specs.Recording.{Recorded};
+ghost use Rattle.tftp_transfers.specs.Places.{Placed, live, line, place_of};
+ghost use Rattle.tftp_transfers.specs.Views.{is_of, is_at_server};
+ghost use Rattle.tftp_transfers.specs.Doubts.{is_beside};
+ghost use Rattle.tftp_transfers.specs.declared.place.Place.{Place};
+ghost use Rattle.tftp_transfers.specs.declared.place.Transfer.{Transfer};
 ghost use Rattle.tftp_transfers.specs.Worked.{
   Where,
   where_all,
@@ -84,4 +90,20 @@ pub fn doubts_are_where_transfers_meet()
     ensures reset { is_doubted_in 3 reset ≡ false }
     ensures late { is_late_in 0 reset ≡ true }
     ensures in_time { is_late_in 3 reset ≡ false }
+{}
+
+/// Where a client's line has been silent for more than 300 s, no datagram joins a transfer of that client.
+pub fn nothing_joins_a_silent_line()
+    ensures talks { (named : List ℕ) (older : List Placed) (now : ℕ) (d : Recorded) (x : Transfer)
+        → live now (line x.client older) ≡ [] → place_of named older now d ≢ Place.Talks x }
+    ensures repeats { (named : List ℕ) (older : List Placed) (now : ℕ) (d : Recorded) (x : Transfer)
+        → live now (line x.client older) ≡ [] → place_of named older now d ≢ Place.Repeats x }
+{}
+
+/// A datagram is of one transfer at most, at the client and at the server; and what the server saw is of its client's
+/// view or passed beside.
+pub fn a_datagram_is_of_one_transfer()
+    ensures client { (n m : ℕ) (p : Placed) → is_of n p ≡ true → is_of m p ≡ true → n ≡ m }
+    ensures server { (n m : ℕ) (one other : List Placed) (p : Placed) → is_at_server n one p ≡ true → is_at_server m other p ≡ true → n ≡ m }
+    ensures strays { (n : ℕ) (placed : List Placed) (p : Placed) → is_at_server n placed p ≡ true → (is_of n p ≡ true) ⊎ (is_beside p ≡ true) }
 {}

@@ -1,10 +1,11 @@
 //! A client's line: what passed at its endpoint since it was last silent.
 
 ghost use Rattle.std.specs.Prelude.{◌≡◌, ◌≤◌, ◌+◌, [], ◌∷◌, ℕ, List, true, false, nat_le, Some, None, Ok, IfOk, OnOk, OnErr, is_some, bytes_eq, ◌&&◌, not, if◌then◌else◌};
-ghost use Rattle.std.specs.BTreeMap.{get};
+ghost use Rattle.std.specs.BTreeMap.{get, IsUnchanged};
 ghost use Rattle.tftp_transfers.specs.Recording.{Recorded, same_endpoint, is_between, endpoint_cmp};
 ghost use Rattle.tftp_transfers.specs.Places.{Placed, live, place_at, place_talked, place_asked, is_known_host, may_answer, silence};
-ghost use Rattle.tftp_transfers.specs.Kept.{IsLineOf, IsRequestOf, seen_of, place_of_talk, comes_to, talk_after, acked_in, ends_after};
+ghost use Rattle.tftp_transfers.specs.Kept.{IsLineOf, IsRequestOf, seen_of, place_of_talk, comes_to, talk_after, ends_after, went_on_after, IsTimed, AreTimed};
+ghost use Rattle.tftp_transfers.specs.Doubts.{acked_0_in};
 ghost use Rattle.tftp_ends.specs.Ports.{or_this};
 ghost use Rattle.tftp_transfers.specs.declared.place.Place.{Place};
 ghost use Rattle.tftp_transfers.specs.declared.place.Transfer.{Transfer};
@@ -40,6 +41,10 @@ pub(crate) struct Line {
     pub request: Vec<u8>,
     /// The line's newest datagram is a request, but for what is apart.
     pub ends_in_request: bool,
+    /// Since the latest transfer was opened, the client sent what is no request and no ERROR.
+    pub went_on: bool,
+    /// The greatest time of each transfer's datagrams, by its number.
+    pub newest: BTreeMap<u64, u64>,
     /// With whom the client talks.
     pub talks: BTreeMap<Endpoint, Talk>,
 }
@@ -157,19 +162,24 @@ impl Line {
         alloc: Global,
         transfer: Transfer,
         payload: &[u8],
+        time: u64,
         now: u64,
     ) -> Result<Line, AllocError>
-        ensures stands { (d : Recorded) → IsRequestOf transfer payload.now d
+        ensures stands { (d : Recorded) → IsRequestOf transfer payload.now time d
             → IfOk result (λ l. IsLineOf l (record { datagram = d; moment = now; place = Place.Opens transfer } ∷ [])) }
         ensures latest { IfOk result (λ l. l.latest ≡ transfer) }
     {
         let request = Vec::from_slice(alloc, payload)?;
+        let mut newest = BTreeMap::new(alloc);
+        note_time(&mut newest, transfer.number, time)?;
         Ok(Line {
             latest: transfer,
             answered: None,
             moment: now,
             request,
             ends_in_request: true,
+            went_on: false,
+            newest,
             talks: BTreeMap::new(alloc),
         })
     }
@@ -180,31 +190,36 @@ impl Line {
         alloc: Global,
         transfer: Transfer,
         payload: &[u8],
+        time: u64,
         now: u64,
     ) -> Result<(), AllocError>
-        ensures stands { (line : List Placed) (d : Recorded) → IsLineOf self.old line → IsRequestOf transfer payload.now d
+        ensures stands { (line : List Placed) (d : Recorded) → IsLineOf self.old line → IsRequestOf transfer payload.now time d
             → transfer.client ≡ self.old.latest.client
             → OnOk result (IsLineOf self.new (record { datagram = d; moment = now; place = Place.Opens transfer } ∷ line)) }
         ensures latest { OnOk result (self.new.latest ≡ transfer) }
-        ensures err { OnErr result (self.new ≡ self.old) }
+        ensures err { OnErr result ((self.new ≡ record self.old { newest = self.new.newest }) × IsUnchanged self.old.newest self.new.newest) }
     {
         let request = Vec::from_slice(alloc, payload)?;
+        note_time(&mut self.newest, transfer.number, time)?;
         self.latest = transfer;
         self.answered = None;
         self.moment = now;
         self.request = request;
         self.ends_in_request = true;
+        self.went_on = false;
         Ok(())
     }
 
     /// Notes a request that repeats the one before it.
-    pub fn repeat(&mut self, now: u64)
+    pub fn repeat(&mut self, time: u64, now: u64) -> Result<(), AllocError>
         ensures stands { (line : List Placed) (d : Recorded) (number : ℕ) (x : Transfer) → IsLineOf self.old line
-            → d.source ≡ self.old.latest.client → place_asked number d line ≡ Place.Repeats x
-            → IsLineOf self.new (record { datagram = d; moment = now; place = Place.Repeats x } ∷ line) }
+            → d.source ≡ self.old.latest.client → d.time ≡ time → place_asked number d line ≡ Place.Repeats x
+            → OnOk result (IsLineOf self.new (record { datagram = d; moment = now; place = Place.Repeats x } ∷ line)) }
         ensures latest { self.new.latest ≡ self.old.latest }
     {
+        note_time(&mut self.newest, self.latest.number, time)?;
         self.moment = now;
+        Ok(())
     }
 
     /// Notes what passed last between its client and this endpoint: of a transfer, or apart.
@@ -222,6 +237,8 @@ impl Line {
     {
         let talk = self.talk_after(other, talked, seen);
         self.talks.insert(other, talk)?;
+        note_talk(&mut self.newest, &talked, seen.time)?;
+        self.went_on = went_on_after(&talked, seen, self.went_on);
         self.answered = self.answered_after(talked, seen);
         self.ends_in_request = ends_after(&talked, self.ends_in_request);
         self.moment = now;
@@ -259,8 +276,8 @@ impl Line {
     }
 }
 
-fn was_acked_0(talk: Option<Talk>) -> bool
-    ensures { result ≡ acked_in talk }
+pub(crate) fn was_acked_0(talk: Option<Talk>) -> bool
+    ensures { result ≡ acked_0_in talk }
 {
     match talk {
         None => false,
@@ -275,5 +292,42 @@ fn ends_after(talked: &Option<Transfer>, ended: bool) -> bool
     match talked {
         None => ended,
         Some(_) => false,
+    }
+}
+
+/// Whether the client has sent what is no request and no ERROR, after one datagram more that is no request.
+fn went_on_after(talked: &Option<Transfer>, seen: &Seen, went_on: bool) -> bool
+    ensures { result ≡ went_on_after talked.now seen.now went_on }
+{
+    match talked {
+        None => went_on,
+        Some(transfer) => { (seen.source == transfer.client && !seen.kind.begins_error) || went_on }
+    }
+}
+
+/// Notes the time of a datagram of this transfer.
+fn note_time(newest: &mut BTreeMap<u64, u64>, number: u64, time: u64) -> Result<(), AllocError>
+    ensures times { OnOk result (IsTimed newest.old newest.new number time) }
+    ensures err { OnErr result (IsUnchanged newest.old newest.new) }
+{
+    let greatest = match newest.get(&number) {
+        None => time,
+        Some(before) => time.max(*before),
+    };
+    newest.insert(number, greatest)?;
+    Ok(())
+}
+
+/// The same, where it may be of none.
+fn note_talk(
+    newest: &mut BTreeMap<u64, u64>,
+    talked: &Option<Transfer>,
+    time: u64,
+) -> Result<(), AllocError>
+    ensures { OnOk result (AreTimed newest.old newest.new talked.now time) }
+{
+    match talked {
+        None => Ok(()),
+        Some(transfer) => note_time(newest, transfer.number, time),
     }
 }

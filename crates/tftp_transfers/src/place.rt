@@ -1,5 +1,8 @@
 //! Where a datagram of a recording belongs.
 
+ghost use Rattle.std.specs.Prelude.{◌≡◌};
+ghost use Rattle.tftp_transfers.specs.Places.{transfer_of};
+
 use crate::endpoint::Endpoint;
 
 /// A transfer: one read or write (RFC 1350, section 1).
@@ -28,4 +31,18 @@ pub enum Place {
     Beside(Transfer),
     /// Of no transfer.
     Nowhere,
+}
+
+impl Place {
+    /// The transfer that the datagram is of at its client, if it is of one.
+    pub fn transfer(&self) -> Option<Transfer>
+        ensures { result ≡ transfer_of self.now }
+    {
+        match self {
+            Place::Opens(transfer) => Some(*transfer),
+            Place::Repeats(transfer) => Some(*transfer),
+            Place::Talks(transfer) => Some(*transfer),
+            _ => None,
+        }
+    }
 }

@@ -10,5 +10,5 @@ returns-clause-stands c named older d after later seen same placed = record {
   services = c.in_ok-keep_service.ensures.services named older d c.args.now
       (subst (λ a. AreServices a.services.keys named older) (sym c.in_ok-keep_line.ensures.others) after.services) (sym (ap (λ s. s.target.port) seen));
   lines = c.in_ok-keep_line.ensures.lines named older d after later seen same placed;
-  served = c.in_ok-keep_served.ensures.served older d (subst (λ a. AreServed a.served older) (sym c.in_ok-keep_line.ensures.others) after.served) seen;
+  served = c.in_ok-keep_served.ensures.served older d (subst (λ a. AreServed a.served older) (sym c.in_ok-keep_line.ensures.others) after.served) later seen;
 }

@@ -14,19 +14,19 @@ pub returns-then-is_silent-clause-lines : goal.returns-then-is_silent-clause-lin
 returns-then-is_silent-clause-lines c named older d after later seen same placed =
     let ends = (subst (IsWhere older c.args.now d) (sym placed) (placed_where named older c.args.now d)).opens c.in-Opens.transfer c.in-Opens.is in
     subst (λ q. OnOk c.begin.result (AreLinesOf c.begin.new.lines (record { datagram = d; moment = c.args.now; place = q } ∷ older))) (sym c.in-Opens.is)
-    (c.begin.ensures older d after.lines later (record { source = sym ends.0; target = sym ends.1; same = same }) (c.if-is_silent.ensures named older after later))
+    (c.begin.ensures older d after.lines later (record { source = sym ends.0; target = sym ends.1; same = same; passed = sym (ap (λ s. s.time) seen) }) (c.if-is_silent.ensures named older after later))
 
 pub returns-else-is_silent-clause-lines : goal.returns-else-is_silent-clause-lines
 returns-else-is_silent-clause-lines c named older d after later seen same placed =
     let ends = (subst (IsWhere older c.args.now d) (sym placed) (placed_where named older c.args.now d)).opens c.in-Opens.transfer c.in-Opens.is in
     subst (λ q. OnOk c.reopen.result (AreLinesOf c.reopen.new.lines (record { datagram = d; moment = c.args.now; place = q } ∷ older))) (sym c.in-Opens.is)
-    (c.reopen.ensures older d after.lines later (record { source = sym ends.0; target = sym ends.1; same = same }) (c.if-is_silent.ensures named older after later))
+    (c.reopen.ensures older d after.lines later (record { source = sym ends.0; target = sym ends.1; same = same; passed = sym (ap (λ s. s.time) seen) }) (c.if-is_silent.ensures named older after later))
 
 pub returns-in-Repeats-clause-lines : goal.returns-in-Repeats-clause-lines
 returns-in-Repeats-clause-lines c named older d after later seen same placed =
     let again = (subst (IsWhere older c.args.now d) (sym placed) (placed_where named older c.args.now d)).repeats c.in-Repeats.transfer c.in-Repeats.is in
-    subst (λ q. AreLinesOf c.repeat.new.lines (record { datagram = d; moment = c.args.now; place = q } ∷ older)) (sym c.in-Repeats.is)
-    (c.repeat.ensures older d (length older) c.in-Repeats.transfer after.lines later (sym again.0) refl
+    subst (λ q. OnOk c.repeat.result (AreLinesOf c.repeat.new.lines (record { datagram = d; moment = c.args.now; place = q } ∷ older))) (sym c.in-Repeats.is)
+    (c.repeat.ensures older d (length older) c.in-Repeats.transfer after.lines later (sym again.0) (sym (ap (λ s. s.time) seen)) refl
     (ap (λ e. place_asked (length older) d (live c.args.now (line e older))) again.0 ∙ again.1))
 
 client_of_some : (x y : Transfer) → Some x ≡ Some y → y.client ≡ x.client

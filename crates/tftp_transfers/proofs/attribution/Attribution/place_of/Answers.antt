@@ -22,7 +22,7 @@ returns-then-asks c named older d after later seen same spelled =
 
 pub returns-then-is_nowhere : goal.returns-then-is_nowhere
 returns-then-is_nowhere c named older d after later seen same spelled =
-    c.beside.ensures named older d after seen
+    c.beside.ensures named older d after later seen
     ∙ two_is _ (is_nowhere (at_client older c.args.now d)) (place_asked (length older) d (live c.args.now (line d.source older))) (beside named older c.args.now d) (at_client older c.args.now d)
     (sym (c.asks.ensures named older d after later seen spelled) ∙ c.if-asks.false)
     (sym (c.is_nowhere.ensures ∙ ap is_nowhere (c.at_client-place.ensures named older d after later seen)) ∙ c.if-is_nowhere.true)

@@ -1,10 +1,10 @@
-use Rattle.std.proofs.Common.{cond, refl, ap, ◌∙◌}
+use Rattle.std.proofs.Common.{cond, refl, ap, subst, ◌∙◌}
 use Rattle.std.specs.Prelude.{Some}
 use Rattle.std.specs.BTreeMap.{get}
 use Rattle.std.specs.Ordering.{is_eq}
 use Rattle.tftp_transfers.specs.Recording.{endpoint_cmp}
 use Rattle.tftp_ends.specs.Ports.{or_this}
-use Rattle.tftp_transfers.specs.Kept.{comes_to, talk_after}
+use Rattle.tftp_transfers.specs.Kept.{comes_to, talk_after, went_on_after, AreTimed}
 use Rattle.tftp_transfers.proofs.Lines.{note_stands}
 use Rattle.tftp_transfers.proofs.line.Line.note.Goals as goal
 
@@ -18,4 +18,6 @@ returns-clause-stands c line d stands seen between = note_stands _ _ c.args.othe
   talks = λ q. c.in_ok-insert.ensures.updates.0 q
       ∙ ap (λ t. cond (is_eq (endpoint_cmp c.args.other q)) (Some t) (get endpoint_cmp c.args.self.now.talks q)) (c.talk_after-talk.ensures
       ∙ ap (λ s. talk_after c.args.self.now.latest.client c.args.other c.args.talked s (get endpoint_cmp c.args.self.now.talks c.args.other)) seen);
+  went_on = c.went_on_after-self.ensures ∙ ap (λ s. went_on_after c.args.talked s c.args.self.now.went_on) seen;
+  newest = subst (λ s. AreTimed c.args.self.now.newest c.note_talk.new.newest c.args.talked s.time) seen c.in_ok-note_talk.ensures;
 }) between stands

@@ -1,0 +1,199 @@
+use anyhow::{Result, bail};
+use hex::FromHex;
+use std::alloc::Global;
+use std::io::{BufRead, BufReader};
+use tftp_transfers::{
+    Address, Attributed, Attribution, Endpoint, Place, TransferDoubts, TransferEnds, spells_request,
+};
+
+/// Lists the recordings on standard input.
+pub fn list(rt: HostRuntime) -> Result<()> {
+    let alloc = rt.alloc();
+    let mut listing = Listing::new(alloc)?;
+    for line in BufReader::new(alloc, rt.reader())?.lines(alloc) {
+        let line = line?;
+        if line.is_empty() {
+            listing.put_transfers(rt)?;
+            listing = Listing::new(alloc)?;
+        } else {
+            listing.put_line(rt, line.as_str())?;
+        }
+    }
+    listing.put_transfers(rt)
+}
+
+/// One recording.
+#[derive(Drop)]
+struct Listing {
+    attribution: Attribution,
+    datagrams: Vec<Passed>,
+    transfers: Vec<Known>,
+}
+
+/// A datagram's place and ends.
+#[derive(Clone, Copy)]
+struct Passed {
+    place: Place,
+    source: Endpoint,
+    target: Endpoint,
+}
+
+/// What is known of a transfer.
+#[derive(Clone, Copy)]
+struct Known {
+    doubts: TransferDoubts,
+    ends: TransferEnds,
+}
+
+impl Listing {
+    fn new(alloc: Global) -> Result<Self> {
+        Ok(Listing {
+            attribution: Attribution::new(alloc, &[])?,
+            datagrams: Vec::new(alloc),
+            transfers: Vec::new(alloc),
+        })
+    }
+
+    /// Takes a datagram's line.
+    fn put_line(&mut self, rt: HostRuntime, line: &str) -> Result<()> {
+        let words: Vec<&str> = line.split_whitespace().collect(rt.alloc())?;
+        match *words {
+            [time, source, source_port, target, target_port, payload] => {
+                let source = read_endpoint(source, source_port)?;
+                let target = read_endpoint(target, target_port)?;
+                let payload = read_payload(rt.alloc(), payload)?;
+                let found = self.feed(
+                    rt.alloc(),
+                    time.parse()?,
+                    source,
+                    target,
+                    payload.as_slice(),
+                )?;
+                put_found(rt, &found)
+            }
+            _ => bail!("a line of other than six words: {line}"),
+        }
+    }
+
+    fn feed(
+        &mut self,
+        alloc: Global,
+        time: u64,
+        source: Endpoint,
+        target: Endpoint,
+        payload: &[u8],
+    ) -> Result<Attributed> {
+        let is_spelled = spells_request(payload);
+        let fed = self
+            .attribution
+            .feed(alloc, time, source, target, payload, is_spelled);
+        let found = match fed {
+            Ok(found) => found,
+            Err(fault) => bail!("{fault:?}"),
+        };
+        if let Place::Opens(transfer) = found.place {
+            self.transfers.push(Known {
+                doubts: TransferDoubts::new(transfer.number),
+                ends: TransferEnds::new(transfer.number),
+            })?;
+        }
+        for transfer in self.transfers.iter_mut() {
+            transfer.doubts.note(&found);
+            transfer.ends.note(&found.place, source, target, payload);
+        }
+        self.datagrams.push(Passed {
+            place: found.place,
+            source,
+            target,
+        })?;
+        Ok(found)
+    }
+
+    /// The doubts of each transfer and its views, and the end.
+    fn put_transfers(&self, rt: HostRuntime) -> Result<()> {
+        for known in self.transfers.iter() {
+            let transfer = &known.doubts;
+            print!(rt; "transfer {}", transfer.number())?;
+            put_doubt(rt, transfer.goes_over(), "over")?;
+            put_doubt(rt, transfer.is_late(), "late")?;
+            put_doubt(rt, transfer.is_disordered(), "disordered")?;
+            put_doubt(rt, transfer.is_asked_again(), "again")?;
+            put_doubt(rt, transfer.is_answered_apart(), "apart")?;
+            put_doubt(rt, transfer.is_doubted(), "doubted")?;
+            println!(rt)?;
+            self.put_views(rt, &known.ends)?;
+        }
+        println!(rt; "end")?;
+        Ok(())
+    }
+
+    /// The numbers of the datagrams that each end of a transfer saw.
+    fn put_views(&self, rt: HostRuntime, ends: &TransferEnds) -> Result<()> {
+        print!(rt; "at-client")?;
+        for (number, passed) in self.datagrams.iter().enumerate() {
+            put_number(rt, ends.is_at_client(&passed.place), number)?;
+        }
+        print!(rt; "\nat-server")?;
+        for (number, passed) in self.datagrams.iter().enumerate() {
+            let is_there = ends.is_at_server(&passed.place, passed.source, passed.target);
+            put_number(rt, is_there, number)?;
+        }
+        println!(rt)?;
+        Ok(())
+    }
+}
+
+fn read_endpoint(address: &str, port: &str) -> Result<Endpoint> {
+    let address = if address.len() == 8 {
+        Address::V4(<[u8; 4] as FromHex>::from_hex(address)?)
+    } else {
+        Address::V6(<[u8; 16] as FromHex>::from_hex(address)?)
+    };
+    Ok(Endpoint {
+        address,
+        port: port.parse()?,
+    })
+}
+
+fn read_payload(alloc: Global, digits: &str) -> Result<Vec<u8>> {
+    if digits == "-" {
+        return Ok(Vec::new(alloc));
+    }
+    Ok(hex::decode(alloc, digits)?)
+}
+
+/// A datagram's place, and what it makes doubtful.
+fn put_found(rt: HostRuntime, found: &Attributed) -> Result<()> {
+    match &found.place {
+        Place::Opens(transfer) => print!(rt; "opens {}", transfer.number)?,
+        Place::Repeats(transfer) => print!(rt; "repeats {}", transfer.number)?,
+        Place::Talks(transfer) => print!(rt; "client {}", transfer.number)?,
+        Place::Beside(transfer) => print!(rt; "server {}", transfer.number)?,
+        Place::Apart(_) => print!(rt; "apart")?,
+        Place::Nowhere => print!(rt; "nowhere")?,
+    }
+    let doubts = &found.doubts;
+    put_doubt(rt, doubts.goes_over, "over")?;
+    put_doubt(rt, doubts.is_late, "late")?;
+    put_doubt(rt, doubts.is_disordered, "disordered")?;
+    put_doubt(rt, doubts.is_asked_again, "again")?;
+    if let Some(number) = doubts.may_be_answer_of {
+        print!(rt; " answer-of {number}")?;
+    }
+    println!(rt)?;
+    Ok(())
+}
+
+fn put_number(rt: HostRuntime, is_there: bool, number: usize) -> Result<()> {
+    if is_there {
+        print!(rt; " {number}")?;
+    }
+    Ok(())
+}
+
+fn put_doubt(rt: HostRuntime, is_there: bool, word: &str) -> Result<()> {
+    if is_there {
+        print!(rt; " {word}")?;
+    }
+    Ok(())
+}

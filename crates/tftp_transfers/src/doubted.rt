@@ -1,0 +1,113 @@
+//! The doubts of one transfer, of all its datagrams.
+
+ghost use Rattle.std.specs.Prelude.{◌≡◌, ◌∷◌, ℕ, List, []};
+ghost use Rattle.tftp_transfers.specs.Places.{Placed};
+ghost use Rattle.tftp_transfers.specs.Doubts.{doubts_of, goes_over, is_late, is_disordered, is_asked_again, is_answered_apart, is_doubted, some_of};
+ghost use Rattle.tftp_transfers.specs.Views.{is_of};
+ghost use Rattle.tftp_transfers.specs.Kept.{IsDoubtedAfter};
+
+use crate::attribution::Attributed;
+
+/// What is doubtful of one transfer, by the datagrams that have been noted.
+#[derive(Clone, Copy, Debug, PartialEq, Eq)]
+pub struct TransferDoubts {
+    number: u64,
+    goes_over: bool,
+    is_late: bool,
+    is_disordered: bool,
+    is_asked_again: bool,
+    is_answered_apart: bool,
+}
+
+impl TransferDoubts {
+    /// Of the transfer with this number, before any datagram.
+    pub fn new(number: u64) -> Self
+        ensures stands { IsDoubtedAfter result [] }
+        ensures number { result.number ≡ number }
+    {
+        TransferDoubts {
+            number,
+            goes_over: false,
+            is_late: false,
+            is_disordered: false,
+            is_asked_again: false,
+            is_answered_apart: false,
+        }
+    }
+
+    /// Notes what one datagram makes doubtful, of this transfer or of another.
+    pub fn note(&mut self, found: &Attributed)
+        ensures stands { (p : Placed) (older : List Placed) → IsDoubtedAfter self.old older → found.now.place ≡ p.place
+            → found.now.doubts ≡ doubts_of p older → IsDoubtedAfter self.new (p ∷ older) }
+        ensures number { self.new.number ≡ self.old.number }
+    {
+        let doubts = &found.doubts;
+        if self.is_of(found) {
+            self.goes_over = doubts.goes_over || self.goes_over;
+            self.is_late = doubts.is_late || self.is_late;
+            self.is_disordered = doubts.is_disordered || self.is_disordered;
+            self.is_asked_again = doubts.is_asked_again || self.is_asked_again;
+        }
+        if doubts.may_be_answer_of == Some(self.number) {
+            self.is_answered_apart = true;
+        }
+    }
+
+    fn is_of(&self, found: &Attributed) -> bool
+        ensures { (p : Placed) → found.now.place ≡ p.place → result ≡ is_of self.now.number p }
+    {
+        match found.place.transfer() {
+            None => false,
+            Some(transfer) => transfer.number == self.number,
+        }
+    }
+
+    /// How many datagrams came before the request that opened the transfer.
+    pub fn number(&self) -> u64
+        ensures { result ≡ self.now.number }
+    {
+        self.number
+    }
+
+    /// Whether each refusal of the transfer is doubtful.
+    pub fn is_doubted(&self) -> bool
+        ensures { (placed : List Placed) → IsDoubtedAfter self.now placed → result ≡ is_doubted self.now.number placed }
+    {
+        self.goes_over || self.is_disordered || self.is_asked_again || self.is_answered_apart
+    }
+
+    /// Whether a refusal at the datagram that was noted last, or at a later one, is doubtful at least.
+    pub fn is_late(&self) -> bool
+        ensures { (placed : List Placed) → IsDoubtedAfter self.now placed → result ≡ some_of self.now.number is_late placed }
+    {
+        self.is_late
+    }
+
+    /// Whether the endpoint of its server was that of another transfer of its client before.
+    pub fn goes_over(&self) -> bool
+        ensures { (placed : List Placed) → IsDoubtedAfter self.now placed → result ≡ some_of self.now.number goes_over placed }
+    {
+        self.goes_over
+    }
+
+    /// Whether one of its datagrams is older than one before it.
+    pub fn is_disordered(&self) -> bool
+        ensures { (placed : List Placed) → IsDoubtedAfter self.now placed → result ≡ some_of self.now.number is_disordered placed }
+    {
+        self.is_disordered
+    }
+
+    /// Whether the transfer before may go on in it, since its client had sent requests and ERRORs only.
+    pub fn is_asked_again(&self) -> bool
+        ensures { (placed : List Placed) → IsDoubtedAfter self.now placed → result ≡ some_of self.now.number is_asked_again placed }
+    {
+        self.is_asked_again
+    }
+
+    /// Whether a datagram of another transfer may be its first answer.
+    pub fn is_answered_apart(&self) -> bool
+        ensures { (placed : List Placed) → IsDoubtedAfter self.now placed → result ≡ is_answered_apart self.now.number placed }
+    {
+        self.is_answered_apart
+    }
+}
