@@ -1,0 +1,35 @@
+use Rattle.std.proofs.Common.{◌≡◌, ◌∷◌, sym, subst, ap, ◌∙◌}
+use Rattle.tftp_packet.specs.Meaning.{meaning}
+use Rattle.tftp_packet.specs.Spelling.{Spells}
+use Rattle.tftp_packet.specs.declared.kinds.End.{End}
+use Rattle.tftp_packet.specs.declared.packet.Packet.{Packet}
+use Rattle.tftp_tap_judge.specs.TapFinds.{IsOtherError}
+use Rattle.tftp_tap_judge.specs.TapSeen.{AreNotes, AreSeen, Notes, Seen, stop_of}
+use Rattle.tftp_tap_judge.proofs.NotesAfter.{error_noted, quiet_noted, on_ok, not_error, stop_same}
+use Rattle.tftp_tap_judge.proofs.notes.TapNotes.note.Goals as goal
+use Rattle.tftp_tap_judge.proofs.notes.TapNotes.note.Goals.{in-Error+in_ok-note_error, in_default}
+
+pub returns : goal.returns
+returns c = record {
+  ok = λ s passed d are apart source says first. elim c.match-packet.branch [
+    | in-Error+in_ok-note_error w ↦
+        let now : Notes = record { seen = c.note.new.self; client = c.self.inside.client; server = c.self.inside.server } in
+        let noted = c.self.view_is ∙ w.self-is in
+        let seen_is : c.self.inside.seen ≡ c.args.self.now.seen = ap (λ (n : Notes). n.seen) noted ∙ w.note_error.ensures.seen in
+        let stops : (e : End) → stop_of now e ≡ stop_of w.note_error.new.self e = λ e. stop_same c.note.new.self c.self.inside.seen c.self.inside.client c.self.inside.server e ∙ ap (λ (n : Notes). stop_of n e) noted in
+        let told = subst (λ (p : Packet). Spells d.payload (meaning p)) w.in-Error.is says in
+        let still = subst (λ (p : Packet). IsOtherError s passed c.args.end (meaning p) → ⊥) w.in-Error.is first in
+        on_ok (AreSeen c.note.new.self (d ∷ passed)) (AreNotes now s (d ∷ passed)) c.note.result
+        (λ seen. error_noted s passed d apart c.args.end source c.args.self.now now w.in-Error.code w.in-Error.message.now are told still seen
+        (stops c.args.end ∙ w.in_ok-note_error.ensures.kept) (λ e other. stops e ∙ w.note_error.ensures.others e other))
+        (c.note.ensures.ok passed d (subst (λ (x : Seen). AreSeen x passed) (sym seen_is) are.seen) says)
+    | in_default w ↦
+        let now : Notes = record { seen = c.note.new.self; client = c.self.inside.client; server = c.self.inside.server } in
+        let noted = c.self.view_is ∙ w.self-is in
+        let seen_is : c.self.inside.seen ≡ c.args.self.now.seen = ap (λ (n : Notes). n.seen) noted in
+        let stops : (e : End) → stop_of now e ≡ stop_of c.args.self.now e = λ e. stop_same c.note.new.self c.self.inside.seen c.self.inside.client c.self.inside.server e ∙ ap (λ (n : Notes). stop_of n e) noted in
+        on_ok (AreSeen c.note.new.self (d ∷ passed)) (AreNotes now s (d ∷ passed)) c.note.result
+        (λ seen. quiet_noted s passed d apart c.args.end source c.args.self.now now (meaning c.args.packet.now) are says (not_error c.args.packet.now w.in_default.not-Error) seen stops)
+        (c.note.ensures.ok passed d (subst (λ (x : Seen). AreSeen x passed) (sym seen_is) are.seen) says)
+  ];
+}
