@@ -1,6 +1,6 @@
 -- What is kept of ERRORs, after one more datagram.
 use Rattle.std.proofs.Common.{◌≡◌, ◌⊎◌, ℕ, Bool, true, false, List, ◌∷◌, Option, Some, None, inl, inr, refl, sym, subst, ap, ◌∙◌}
-use Rattle.std.specs.Prelude.{◌&&◌, Result, Ok, Err, OnOk}
+use Rattle.std.specs.Prelude.{◌&&◌, Result, Ok, Err, OnOk, OnErr}
 use Rattle.std.proofs.lemmas.Bool.{true≢false, cases_eq}
 use Rattle.tftp_packet.specs.Message.{Message}
 use Rattle.tftp_packet.specs.Spelling.{Spells}
@@ -19,7 +19,7 @@ use Rattle.tftp_tap.specs.TapRoutes.{ends_in, tap_tests}
 use Rattle.tftp_tap.proofs.KeptOf.{any_here, any_skip, any_more, before_all, before_less}
 use Rattle.tftp_tap.proofs.TapTests.{ends_message, ends_says, source_is}
 use Rattle.tftp_tap_judge.specs.declared.seen.Marks.{Marks}
-use Rattle.tftp_tap_judge.specs.TapSeen.{AreMarks, AreNotes, AreSeen, ErrorPassed, IsStop, IsStoppedBy, Notes, Seen, Stopped, first_stop, stop_of}
+use Rattle.tftp_tap_judge.specs.TapSeen.{AreMarks, AreNotes, AreSeen, ErrorPassed, IsStop, IsStoppedBy, IsNew, IsNewBlock, Notes, Seen, Stopped, first_stop, stop_of}
 use Rattle.tftp_tap_judge.specs.TapFinds.{IsOtherError}
 use Rattle.tftp_tap_judge.proofs.StopsNoted.{IsErrorFrom, error_ends}
 
@@ -140,3 +140,19 @@ not_error (packet.Oack options) other = refl
 pub stop_same : (a b : Seen) (client server : Option Stopped) (e : End) → stop_of (record { seen = a; client = client; server = server }) e ≡ stop_of (record { seen = b; client = client; server = server }) e
 stop_same a b client server Client = refl
 stop_same a b client server Server = refl
+
+-- ---- what takes memory
+
+pub on_err : {X E : Type 0} (A B : Type 0) (r : Result X E) → (A → B) → OnErr r A → OnErr r B
+on_err A B (Ok x) turn is = is
+on_err A B (Err e) turn is = turn is
+
+pub block_new : (s : TapSides) (passed : List TapDatagram) (e : End) (m : Message) → IsNewBlock passed m → IsNew s passed e m
+block_new s passed e (Message.Data k bytes) is = is
+block_new s passed e (Message.Request q) is = absurd is
+block_new s passed e (Message.Oack options) is = absurd is
+block_new s passed e (Message.Ack j) is = absurd is
+block_new s passed e (Message.Error code text) is = absurd is
+
+pub error_new : (s : TapSides) (passed : List TapDatagram) (e : End) (notes : Notes) → AreNotes notes s passed → (code : ℕ) (text : List ℕ) → stop_of notes e ≡ None → IsNew s passed e (Message.Error code text)
+error_new s passed e notes are code text none = λ other words before. true≢false (sym (error_ends s e passed other words before) ∙ subst (IsStop s e passed) none (are.stops e))

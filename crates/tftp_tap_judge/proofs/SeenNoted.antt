@@ -200,3 +200,7 @@ quiet_seen passed d m old are says quiet = seen_with passed d m says old old.mar
   no_reply (Message.Ack j) quiet is = quiet is
   no_reply (Message.Data i bytes) quiet is = quiet
   no_reply (Message.Oack options) quiet is = quiet
+
+-- a block that is neither up to the front nor among those above it has not passed
+pub block_absent : (passed : List TapDatagram) (old : Seen) (number : ℕ) → AreSeen old passed → old.marks.front < number → has_number number old.above ≡ false → HasKind (IsBlock number) passed → ⊥
+block_absent passed old number are high absent has = elim (are.all number has) [ inl low ↦ omega (arith, low, high) | inr above ↦ true≢false (sym above ∙ absent) ]

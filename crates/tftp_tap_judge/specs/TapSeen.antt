@@ -75,3 +75,13 @@ pub record AreNotes (notes : Notes) (s : TapSides) (passed : List TapDatagram) :
 abbrev pub first_stop : Option Stopped → Stopped → Option Stopped
 first_stop None now = Some now
 first_stop (Some before) now = Some before
+
+-- a block of which none with its number has passed
+abbrev pub IsNewBlock : List TapDatagram → Message → Type 0
+IsNewBlock passed (Message.Data k bytes) = HasKind (IsBlock k) passed → ⊥
+IsNewBlock passed _ = ⊥
+
+-- such a block, or the first ERROR of its end
+abbrev pub IsNew : TapSides → List TapDatagram → End → Message → Type 0
+IsNew s passed e (Message.Error code text) = (other : ℕ) (words : List ℕ) → ErrorPassed s e passed other words → ⊥
+IsNew s passed e m = IsNewBlock passed m

@@ -1,6 +1,6 @@
 //! What a datagram of a transfer breaks by itself between the ends, and what is kept to tell that.
 
-ghost use Rattle.std.specs.Prelude.{◌≡◌, ◌↔◌, List, [], ◌∷◌, IsTrue, option_map, OnOk};
+ghost use Rattle.std.specs.Prelude.{◌≡◌, ◌↔◌, List, [], ◌∷◌, IsTrue, None, option_map, OnOk, OnErr};
 ghost use Rattle.tftp_packet.specs.Message.{Message};
 ghost use Rattle.tftp_packet.specs.Meaning.{meaning};
 ghost use Rattle.tftp_packet.specs.Spelling.{Spells};
@@ -12,7 +12,7 @@ ghost use Rattle.tftp_tap.specs.TapOrder.{before_error};
 ghost use Rattle.tftp_tap.specs.TapRoutes.{tap_tests};
 ghost use Rattle.tftp_tap.specs.TapRules.{FirstTapAsked, IsLateBlock, IsLateZero, LateBreaks};
 ghost use Rattle.tftp_tap.specs.declared.route.TapRoute.{TapRoute};
-ghost use Rattle.tftp_tap_judge.specs.TapSeen.{AreMarks, AreNotes, first_stop, stop_of};
+ghost use Rattle.tftp_tap_judge.specs.TapSeen.{AreMarks, AreNotes, IsNew, first_stop, stop_of};
 ghost use Rattle.tftp_tap_judge.specs.TapFinds.{FindsRule, IsOtherError, IsReadOf, MessageBreaks, OwnBreaks};
 
 use crate::errors::StoppedEnd;
@@ -73,6 +73,8 @@ impl TapNotes {
         ensures ok { (s : TapSides) (passed : List TapDatagram) (d : TapDatagram) → AreNotes self.old s passed → AreApart s
             → d.source ≡ side_of s end → Spells d.payload (meaning packet.now) → (IsOtherError s passed end (meaning packet.now) → ⊥)
             → OnOk result (AreNotes self.new s (d ∷ passed)) }
+        ensures absent { (s : TapSides) (passed : List TapDatagram) → AreNotes self.old s passed
+            → OnErr result (IsNew s passed end (meaning packet.now)) }
     {
         if let Packet::Error { code, message } = packet {
             self.note_error(alloc, end, *code, message)?;
@@ -91,6 +93,7 @@ impl TapNotes {
         ensures kept { OnOk result (stop_of self.new end ≡ first_stop (stop_of self.old end) (record { code = code; text = message.now; before = self.old.seen.marks })) }
         ensures others { (e : Who) → (e ≡ end → ⊥) → stop_of self.new e ≡ stop_of self.old e }
         ensures seen { self.new.seen ≡ self.old.seen }
+        ensures absent { OnErr result (stop_of self.old end ≡ None) }
     {
         let before = self.seen.marks();
         match end {
@@ -211,6 +214,7 @@ fn keep_first(
     before: Marks,
 ) -> Result<(), AllocError>
     ensures kept { OnOk result (stopped.new ≡ first_stop stopped.old (record { code = code; text = message.now; before = before })) }
+    ensures absent { OnErr result (stopped.old ≡ None) }
 {
     if stopped.is_none() {
         *stopped = Some(StoppedEnd::by(alloc, code, message, before)?);

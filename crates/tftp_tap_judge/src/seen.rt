@@ -5,7 +5,8 @@ ghost use Rattle.tftp_packet.specs.Message.{Message};
 ghost use Rattle.tftp_packet.specs.Meaning.{meaning};
 ghost use Rattle.tftp_packet.specs.Spelling.{Spells};
 ghost use Rattle.tftp_tap.specs.TapCapture.{TapDatagram as Parts};
-ghost use Rattle.tftp_tap_judge.specs.TapSeen.{AreSeen, has_number};
+ghost use Rattle.tftp_tap.specs.TapRules.{HasKind, IsBlock};
+ghost use Rattle.tftp_tap_judge.specs.TapSeen.{AreSeen, IsNewBlock, has_number};
 
 use std::alloc::{AllocError, Global};
 use std::collections::BTreeSet;
@@ -68,6 +69,7 @@ impl Seen {
     pub fn note(&mut self, packet: &Packet<'_>) -> Result<(), AllocError>
         ensures ok { (passed : List Parts) (d : Parts) → AreSeen self.old passed → Spells d.payload (meaning packet.now)
             → OnOk result (AreSeen self.new (d ∷ passed)) }
+        ensures absent { (passed : List Parts) → AreSeen self.old passed → OnErr result (IsNewBlock passed (meaning packet.now)) }
     {
         match packet {
             Packet::Data { block, .. } => self.note_block(*block)?,
@@ -90,6 +92,7 @@ impl Seen {
     fn note_block(&mut self, number: u16) -> Result<(), AllocError>
         ensures ok { (passed : List Parts) (d : Parts) (bytes : List ℕ) → AreSeen self.old passed → Spells d.payload (Message.Data number bytes)
             → OnOk result (AreSeen self.new (d ∷ passed)) }
+        ensures absent { (passed : List Parts) → AreSeen self.old passed → OnErr result (HasKind (IsBlock number) passed → ⊥) }
     {
         let front = self.marks.front;
         self.marks.block = true;
