@@ -1,0 +1,21 @@
+-- Which kinds of message have passed, after one more.
+use Rattle.std.proofs.Common.{◌⊎◌, List, ◌∷◌, inl, inr, subst}
+use Rattle.tftp_packet.specs.Message.{Message}
+use Rattle.tftp_packet.specs.Spelling.{Spells}
+use Rattle.tftp_law.proofs.Spelled.{spelled_once}
+use Rattle.tftp_law.proofs.Divided.{any_cases, any_first, any_later}
+use Rattle.tftp_tap.specs.TapCapture.{TapDatagram}
+use Rattle.tftp_tap.specs.TapRules.{HasKind, Says}
+
+module _ (Kind : Message → Type 0) (passed : List TapDatagram) (d : TapDatagram) (m : Message) (says : Spells d.payload m) where
+  pub kind_now : Kind m → HasKind Kind (d ∷ passed)
+  kind_now is = any_first (Says Kind) d passed (m, says, is)
+
+  pub kind_before : HasKind Kind passed → HasKind Kind (d ∷ passed)
+  kind_before has = any_later (Says Kind) d passed has
+
+  pub kind_cases : HasKind Kind (d ∷ passed) → Kind m ⊎ HasKind Kind passed
+  kind_cases has = elim (any_cases (Says Kind) d passed has) [
+    | inl (n, t, is) ↦ inl (subst Kind (spelled_once d.payload n m t says) is)
+    | inr before ↦ inr before
+  ]

@@ -1,0 +1,6 @@
+mod KindsPassed
+mod SeenNoted
+mod OwnFound
+mod Lateness
+mod StopsNoted
+mod NotesAfter

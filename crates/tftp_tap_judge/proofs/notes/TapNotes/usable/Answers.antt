@@ -1,0 +1,12 @@
+use Rattle.std.proofs.Common.{◌≡◌, sym, subst, ap, ◌∙◌}
+use Rattle.tftp_tap.specs.TapOrder.{before_error}
+use Rattle.tftp_tap.specs.TapRoutes.{tap_tests}
+use Rattle.tftp_tap_judge.specs.declared.seen.Marks.{Marks}
+use Rattle.tftp_tap_judge.specs.TapSeen.{AreMarks, Notes}
+use Rattle.tftp_tap_judge.proofs.StopsNoted.{none_usable}
+use Rattle.tftp_tap_judge.proofs.notes.TapNotes.usable.Goals as goal
+
+pub returns-in-None : goal.returns-in-None
+returns-in-None c = λ s passed are.
+    let is : c.marks.result ≡ c.args.self.now.seen.marks = c.marks.ensures ∙ ap (λ (n : Notes). n.seen.marks) c.self.view_is in
+    subst (λ (m : Marks). AreMarks m (before_error (tap_tests s) c.args.end passed)) (sym is) (none_usable s c.args.end passed c.args.self.now are c.in-None.ensures)

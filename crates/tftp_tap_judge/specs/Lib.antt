@@ -1,0 +1,2 @@
+pub mod TapSeen
+pub mod TapFinds
