@@ -7,6 +7,8 @@ mod agreements;
 #[cfg(test)]
 mod captures;
 #[cfg(test)]
+mod copies;
+#[cfg(test)]
 mod fragments;
 #[cfg(test)]
 mod netascii;

@@ -1,0 +1,68 @@
+//! Which packets are told to be copies.
+
+use std::test::Fail;
+use tftp_copies::Recent;
+
+/// A packet that is taken: its time, its bytes, and whether it is a copy.
+type Taken = (Option<u64>, &'static [u8], bool);
+
+/// Two interfaces of a host, and what looks like a copy and is none.
+const TAKEN: [Taken; 9] = [
+    (Some(5_000_000), b"first", false),
+    (Some(5_000_900), b"first", true),
+    (Some(5_001_000), b"second", false),
+    (Some(6_000_000), b"first", true),
+    (Some(7_000_001), b"first", false),
+    (Some(4_002_000), b"second", true),
+    (None, b"first", false),
+    (Some(4_001_000), b"first!", false),
+    (Some(4_001_000), b"", false),
+];
+
+/// Takes a packet. Where a growth is refused nothing may have changed, and it is taken again.
+fn take(
+    rt: &HostRuntime,
+    recent: &mut Recent,
+    time: Option<u64>,
+    bytes: &[u8],
+) -> Result<bool, Fail> {
+    match recent.take(rt.alloc(), time, bytes) {
+        Ok(copy) => Ok(copy),
+        Err(_) => Ok(recent.take(rt.alloc(), time, bytes)?),
+    }
+}
+
+/// Copies and packets that are none, in their order.
+#[test]
+fn copies_are_told(rt: HostRuntime) -> Result<(), Fail> {
+    let mut recent = Recent::new(rt.alloc())?;
+    for (index, (time, bytes, copy)) in TAKEN.iter().enumerate() {
+        if take(&rt, &mut recent, *time, *bytes)? != *copy {
+            return Err(Fail::from(index));
+        }
+    }
+    Ok(())
+}
+
+/// Of sixteen packets between a packet and its copy one is too many.
+#[test]
+fn the_seventeenth_before_is_forgotten(rt: HostRuntime) -> Result<(), Fail> {
+    let mut recent = Recent::new(rt.alloc())?;
+    let first = take(&rt, &mut recent, Some(0), &[0u8])?;
+    for number in 1..16u8 {
+        if take(&rt, &mut recent, Some(0), &[number])? {
+            return Err(Fail::from(number));
+        }
+    }
+    let told = take(&rt, &mut recent, Some(0), &[0u8])?;
+    for number in 16..32u8 {
+        if take(&rt, &mut recent, Some(0), &[number])? {
+            return Err(Fail::from(number));
+        }
+    }
+    if !first && told && !take(&rt, &mut recent, Some(0), &[0u8])? {
+        Ok(())
+    } else {
+        Err(Fail::new("forgotten or not"))
+    }
+}
