@@ -64,10 +64,8 @@ block_piece order interfaces s (Gives frame) says = says
 block_piece order interfaces s Skips says = says
 
 -- a block that is no section header opens nothing
-pub block_answer : (order : Order) (interfaces : List Interface) (s : List ℕ) → take 4 s ≢ section_type → (result : Option Found)
-    → MatchOption result ((said : Said) → BlockSays order interfaces s said → ⊥) (λ f. BlockSays order interfaces s (said_of f s))
-    → MatchOption result ((said : Said) → Says (Blocks order) interfaces s said → ⊥) (λ f. Says (Blocks order) interfaces s (said_of f s))
-block_answer order interfaces s plain None never = cases
+pub block_none : (order : Order) (interfaces : List Interface) (s : List ℕ) → take 4 s ≢ section_type → ((said : Said) → BlockSays order interfaces s said → ⊥) → (said : Said) → Says (Blocks order) interfaces s said → ⊥
+block_none order interfaces s plain never = cases
   where
     opened : (layout : Layout) → OpensAgain s layout → ⊥
     opened Unopened h = h
@@ -82,4 +80,9 @@ block_answer order interfaces s plain None never = cases
     cases (Names interface) h = never (Names interface) h
     cases (Gives frame) h = never (Gives frame) h
     cases Skips h = never Skips h
+
+pub block_answer : (order : Order) (interfaces : List Interface) (s : List ℕ) → take 4 s ≢ section_type → (result : Option Found)
+    → MatchOption result ((said : Said) → BlockSays order interfaces s said → ⊥) (λ f. BlockSays order interfaces s (said_of f s))
+    → MatchOption result ((said : Said) → Says (Blocks order) interfaces s said → ⊥) (λ f. Says (Blocks order) interfaces s (said_of f s))
+block_answer order interfaces s plain None never = block_none order interfaces s plain never
 block_answer order interfaces s plain (Some f) says = block_piece order interfaces s (said_of f s) says

@@ -1,15 +1,13 @@
 -- What the first bytes of a piece announce stays, whatever follows them.
 use Rattle.std.proofs.Common.{◌≡◌, inl, inr, ℕ, ◌<◌, ◌≤◌, List, [], ◌∷◌, ◌++◌, length, length-append, sym, ap, ◌∙◌, subst, lit<, arith}
-use Rattle.std.specs.Prelude.{◌⊎◌, Err, Option}
+use Rattle.std.specs.Prelude.{Option}
 use Rattle.std.specs.Io.KnownBytes.{Consumes}
 use Rattle.std.proofs.KnownBytes.{Consumes-trans}
 use Rattle.tftp_pcap.specs.Numbers.{number_at}
 use Rattle.tftp_pcap.specs.Pieces.{Announces, AnnouncesSection, BeginsAsOne, IsSize, front_of}
-use Rattle.tftp_pcap.specs.Stops.{IsLonger, IsPart, IsShort, IsCut, IsWhole, PieceEnds}
+use Rattle.tftp_pcap.specs.Stops.{IsLonger, IsPart, IsShort, IsCut, IsSkipped, IsWhole}
 use Rattle.tftp_pcap.specs.declared.layout.Layout.{Layout}
 use Rattle.tftp_pcap.specs.declared.layout.Layout.TheVariants.{Unopened, Classic, Blocks}
-use Rattle.tftp_pcap.specs.declared.fault.FaultKind.{FaultKind}
-use Rattle.tftp_pcap.specs.declared.fault.FaultKind.TheVariants.{Read, Memory}
 use Rattle.tftp_pcap.proofs.Announced.{order_one, magic_other}
 
 pub announces_front : (layout : Layout) (p b : List ℕ) (n : ℕ) → front_of layout ≤ length p → Announces layout (p ++ b) n → Announces layout p n
@@ -32,6 +30,19 @@ pub announces_enough : (layout : Layout) (p : List ℕ) (n : ℕ) → Announces 
 announces_enough Unopened p n a = a.0
 announces_enough (Classic classic) p n a = a.0
 announces_enough (Blocks order) p n a = a.0
+
+-- so does the type of a block
+pub skipped_front : (layout : Layout) (p b : List ℕ) → front_of layout ≤ length p → IsSkipped layout (p ++ b) → IsSkipped layout p
+skipped_front Unopened p b enough skipped = skipped
+skipped_front (Classic classic) p b enough skipped = skipped
+skipped_front (Blocks order) (b0 ∷ b1 ∷ b2 ∷ b3 ∷ u) b enough skipped = skipped
+skipped_front (Blocks order) _ b enough skipped = absurd (omega arith)
+
+pub skipped_more : (layout : Layout) (p b : List ℕ) → front_of layout ≤ length p → IsSkipped layout p → IsSkipped layout (p ++ b)
+skipped_more Unopened p b enough skipped = skipped
+skipped_more (Classic classic) p b enough skipped = skipped
+skipped_more (Blocks order) (b0 ∷ b1 ∷ b2 ∷ b3 ∷ u) b enough skipped = skipped
+skipped_more (Blocks order) _ b enough skipped = absurd (omega arith)
 
 section_one : (p : List ℕ) (m n : ℕ) → AnnouncesSection p m → AnnouncesSection p n → m ≡ n
 section_one p m n (typed, order, magic_is, sized) (again, other, is, size) = sized ∙ ap (λ o. number_at o p 4) (order_one order other (sym magic_is ∙ is)) ∙ sym size
@@ -80,15 +91,10 @@ module _ (layout : Layout) (first second bytes : List ℕ) (size : ℕ) (are : s
   pub grown_whole : IsSize layout size → length second ≡ size → IsWhole layout second
   grown_whole sized whole = (subst (Announces layout second) (sym whole) grown, subst (IsSize layout) (sym whole) sized)
 
-  pub grown_longer : (room : ℕ) → IsSize layout size → room < size → IsLonger room layout second
-  grown_longer room sized full = (size, inr (grown, sized), full)
+  pub grown_longer : (room : ℕ) → front_of layout ≤ length first → IsSize layout size → room < size → (IsSkipped layout first → ⊥) → IsLonger room layout second
+  grown_longer room enough sized full held = (size, inr (grown, sized, λ skipped. held (skipped_front layout first bytes enough (subst (IsSkipped layout) are skipped))), full)
 
 pub front_some : (layout : Layout) → 0 < front_of layout
 front_some Unopened = lit< tt
 front_some (Classic classic) = lit< tt
 front_some (Blocks order) = lit< tt
-
--- a failed read or want of memory, with a part of a piece
-pub failed_part : (layout : Layout) (piece : List ℕ) (kind : FaultKind) → (kind ≡ Read) ⊎ (kind ≡ Memory) → IsPart layout piece → PieceEnds layout (Err kind) piece
-failed_part layout piece kind (inl is) part = rw is part
-failed_part layout piece kind (inr is) part = rw is part

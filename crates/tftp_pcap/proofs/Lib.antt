@@ -13,3 +13,4 @@ pub mod Steps
 pub mod Whole
 pub mod WorkedRecordings
 pub mod OneFault
+pub mod Rests

@@ -11,7 +11,7 @@ use Rattle.tftp_pcap.specs.declared.found.Found.{Found}
 use Rattle.tftp_pcap.specs.declared.found.Found.TheVariants as found
 use Rattle.tftp_pcap.specs.declared.layout.Layout.TheVariants.{Unopened, Classic, Blocks}
 use Rattle.tftp_pcap.specs.declared.fault.FaultKind.{FaultKind}
-use Rattle.tftp_pcap.specs.declared.fault.FaultKind.TheVariants.{Memory, NotARecording, TooMany}
+use Rattle.tftp_pcap.specs.declared.fault.FaultKind.TheVariants.{Memory, NotARecording}
 use Rattle.tftp_pcap.specs.declared.standing.Standing.TheVariants.{Open, Over, Failed}
 use Rattle.tftp_pcap.proofs.Steps.{reach_said}
 
@@ -19,19 +19,19 @@ nothing : Stands [] start 0 []
 nothing = record { pieces = []; are = refl; follows = (refl, refl); counted = refl }
 
 -- a header gives no frame
-opening : (f : Found) (piece : List ℕ) → Says Unopened [] piece (said_of f piece) → given (said_of f piece) ≡ []
-opening (found.Opens layout) piece says = refl
-opening (found.Names interface) piece says = absurd says
-opening (found.Gives place) piece says = absurd says
-opening found.Skips piece says = absurd says
+opening : (f : Found) (piece taken : List ℕ) → Says Unopened [] taken (said_of f piece) → given (said_of f piece) ≡ []
+opening (found.Opens layout) piece taken says = refl
+opening (found.Names interface) piece taken says = absurd says
+opening (found.Gives place) piece taken says = absurd says
+opening found.Skips piece taken says = absurd says
 
-opening_opens : (f : Found) (piece : List ℕ) → Says Unopened [] piece (said_of f piece) → (next_mode start (said_of f piece)).layout ≢ Unopened
-opening_opens (found.Opens Unopened) piece says = absurd says
-opening_opens (found.Opens (Classic classic)) piece says = λ e. let x : ⊥ = cc in x
-opening_opens (found.Opens (Blocks order)) piece says = λ e. let x : ⊥ = cc in x
-opening_opens (found.Names interface) piece says = absurd says
-opening_opens (found.Gives place) piece says = absurd says
-opening_opens found.Skips piece says = absurd says
+opening_opens : (f : Found) (piece taken : List ℕ) → Says Unopened [] taken (said_of f piece) → (next_mode start (said_of f piece)).layout ≢ Unopened
+opening_opens (found.Opens Unopened) piece taken says = absurd says
+opening_opens (found.Opens (Classic classic)) piece taken says = λ e. let x : ⊥ = cc in x
+opening_opens (found.Opens (Blocks order)) piece taken says = λ e. let x : ⊥ = cc in x
+opening_opens (found.Names interface) piece taken says = absurd says
+opening_opens (found.Gives place) piece taken says = absurd says
+opening_opens found.Skips piece taken says = absurd says
 
 rest_ahead : (before after : Option (List ℕ)) (taken ahead : List ℕ) → Consumes before (prepend_known ahead after) taken → Consumes before after (taken ++ ahead)
 rest_ahead None after taken ahead c = tt
@@ -42,9 +42,6 @@ end_rest : (known : Option (List ℕ)) (ahead : List ℕ) → IsAtEnd (prepend_k
 end_rest None ahead e = tt
 end_rest (Some xs) [] e = e
 end_rest (Some xs) (b ∷ bs) e = absurd (let x : ⊥ = cc in x)
-
-not_many : NotARecording ≡ TooMany → ⊥
-not_many e = cc
 
 module _ (state new : PiecesState) (before after : Option (List ℕ)) (piece : List ℕ) (none : state.ahead ≡ []) (mode : state.mode ≡ start) (count : state.count ≡ 0) where
   goes : Stands ([] ++ []) state.mode state.count []
@@ -57,14 +54,14 @@ module _ (state new : PiecesState) (before after : Option (List ℕ)) (piece : L
       → (taken : List ℕ) × Consumes before after taken × (Stands taken new.mode new.count [] × (length {A = FrameParts} [] ≡ 0))
   begins_ok f (taken, consumed, ends) =
       let reached = reach_said [] [] taken piece [] state new before _ after from_start goes consumed f ends in
-      let says = subst (λ (m : Mode). Says m.layout m.interfaces piece (said_of f piece)) mode ends.1 in
-      (reached.0, reached.1, (subst (Stands reached.0 new.mode new.count) (opening f piece says) reached.2, refl))
+      let says = subst (λ (m : Mode). Says m.layout m.interfaces taken (said_of f piece)) mode ends.0 in
+      (reached.0, reached.1, (subst (Stands reached.0 new.mode new.count) (opening f piece taken says) reached.2, refl))
 
   pub begins_opened : (f : Found) → (taken : List ℕ) × Consumes (prepend_known state.ahead before) after taken × StepEnds state new (Ok (Some f)) piece taken → new.mode.layout ≢ Unopened
   begins_opened f (taken, consumed, ends) =
-      let says = subst (λ (m : Mode). Says m.layout m.interfaces piece (said_of f piece)) mode ends.1 in
-      let next : new.mode ≡ next_mode start (said_of f piece) = ends.2 ∙ ap (λ (m : Mode). next_mode m (said_of f piece)) mode in
-      subst (λ (m : Mode). m.layout ≢ Unopened) (sym next) (opening_opens f piece says)
+      let says = subst (λ (m : Mode). Says m.layout m.interfaces taken (said_of f piece)) mode ends.0 in
+      let next : new.mode ≡ next_mode start (said_of f piece) = ends.1 ∙ ap (λ (m : Mode). next_mode m (said_of f piece)) mode in
+      subst (λ (m : Mode). m.layout ≢ Unopened) (sym next) (opening_opens f piece taken says)
 
   pub begins_none : {A : Type 0} → (taken : List ℕ) × Consumes (prepend_known state.ahead before) after taken × StepEnds state new (Ok None) piece taken → A
   begins_none (taken, consumed, ends) = absurd (ends.1 (ap (λ (m : Mode). m.layout) mode))
@@ -78,7 +75,7 @@ module _ (state new : PiecesState) (before after : Option (List ℕ)) (piece : L
         ahead = ahead;
         consumed = rest_ahead before end taken ahead (subst (λ (k : Option (List ℕ)). Consumes before k taken) is direct);
         tells = record { fails = record { good = []; part = taken; mode = state.mode; count = state.count; are = refl; stands = goes; stops = ends.0 }; number = refl };
-        text = λ h. elim (text h) as (λ _. IsAtEnd end ⊎ (12 ≤ length taken)) [ inl e ↦ inl (end_rest end ahead (subst IsAtEnd is e)) | inr long ↦ inr (subst (λ (l : List ℕ). 12 ≤ length l) (sym (ends.1 (λ t. not_many (sym h ∙ t)))) long) ];
+        text = λ h. elim (text h) as (λ _. IsAtEnd end ⊎ (12 ≤ length taken)) [ inl e ↦ inl (end_rest end ahead (subst IsAtEnd is e)) | inr long ↦ inr (subst (λ (l : List ℕ). 12 ≤ length l) (sym (ends.1 (inl h))) long) ];
       }
 
 consumes_nothing : (r : Option (List ℕ)) → Consumes r r ([] ++ [])

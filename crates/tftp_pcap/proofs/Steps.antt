@@ -1,20 +1,20 @@
 -- Pieces, one after another.
-use Rattle.std.proofs.Common.{◌≡◌, ◌≢◌, ◌≤◌, inl, inr, ℕ, ◌+◌, List, length, [], ◌∷◌, ◌++◌, length-append, refl, sym, ap, ◌∙◌, subst, append_assoc, append-nil, arith}
-use Rattle.std.specs.Prelude.{Option, Some, None, Ok, Err, flat_map}
+use Rattle.std.proofs.Common.{◌≡◌, ◌≤◌, ◌<◌, ◌^◌, inl, inr, ℕ, ◌+◌, List, length, [], ◌∷◌, ◌++◌, length-append, refl, sym, ap, ◌∙◌, subst, append_assoc, append-nil, arith}
+use Rattle.std.specs.Prelude.{◌⊎◌, Option, Some, None, Ok, Err, flat_map}
 use Rattle.std.specs.Io.KnownBytes.{prepend_known, Consumes}
 use Rattle.std.proofs.KnownBytes.{Consumes-trans}
 use Rattle.std.proofs.lemmas.Grind.{flat_map-append}
 use Rattle.tftp_pcap.specs.Frames.{FrameParts}
 use Rattle.tftp_pcap.specs.Pieces.{Said, Says, Mode, Follows, Stands, IsRecording, next_mode, given, said_of}
 use Rattle.tftp_pcap.specs.History.{FailsAs, RunsOut}
-use Rattle.tftp_pcap.specs.Stops.{IsLonger, PieceEnds, Stops, PiecesState, StepEnds, WantsMemory}
+use Rattle.tftp_pcap.specs.Stops.{IsLonger, FrontEnds, RestEnds, Stops, PiecesState, StepEnds, WantsMemory}
 use Rattle.tftp_pcap.specs.declared.found.Found.{Found}
 use Rattle.tftp_pcap.specs.declared.found.Found.TheVariants as found
 use Rattle.tftp_pcap.specs.declared.layout.Interface.{Interface}
 use Rattle.tftp_pcap.specs.declared.fault.FaultKind.{FaultKind}
 use Rattle.tftp_pcap.specs.declared.fault.FaultKind.TheVariants.{NotARecording, Truncated, Bad, TooLong, TooMany, Read, Memory}
 
-pub stops_of : (kind : FaultKind) (mode : Mode) (count : ℕ) (part : List ℕ) → PieceEnds mode.layout (Err kind) part → Stops kind mode count part
+pub stops_of : (kind : FaultKind) (mode : Mode) (count : ℕ) (part : List ℕ) → FrontEnds mode.layout (Err kind) part → Stops kind mode count part
 stops_of NotARecording mode count part h = h
 stops_of Truncated mode count part h = h
 stops_of Bad mode count part h = inl h
@@ -44,20 +44,53 @@ stands_more bytes piece mode count frames said stands says =
 
 -- the same facts of the value that the fields show
 pub step_fails : (kind : FaultKind) (shown old : PiecesState) (before after : Option (List ℕ)) (piece : List ℕ) → shown ≡ old
-    → Consumes (prepend_known shown.ahead before) after piece → PieceEnds shown.mode.layout (Err kind) piece
-    → (taken : List ℕ) × Consumes (prepend_known old.ahead before) after taken × (Stops kind old.mode old.count taken × (kind ≢ TooMany → taken ≡ piece))
+    → Consumes (prepend_known shown.ahead before) after piece → FrontEnds shown.mode.layout (Err kind) piece
+    → (taken : List ℕ) × Consumes (prepend_known old.ahead before) after taken × (Stops kind old.mode old.count taken × ((kind ≡ NotARecording) ⊎ (kind ≡ Memory) → taken ≡ piece))
 step_fails kind shown old before after piece is consumed ends =
-    (piece, subst (λ (s : PiecesState). Consumes (prepend_known s.ahead before) after piece) is consumed, (stops_of kind old.mode old.count piece (subst (λ (s : PiecesState). PieceEnds s.mode.layout (Err kind) piece) is ends), λ h. refl))
+    (piece, subst (λ (s : PiecesState). Consumes (prepend_known s.ahead before) after piece) is consumed, (stops_of kind old.mode old.count piece (subst (λ (s : PiecesState). FrontEnds s.mode.layout (Err kind) piece) is ends), λ h. refl))
 
--- the same of memory that is wanted for the bytes of a piece, and for an interface
-pub wants_bytes : (room : ℕ) (shown old : PiecesState) (piece : List ℕ) → shown ≡ old → IsLonger room shown.mode.layout piece → WantsMemory room old.room old.mode piece
-wants_bytes room shown old piece is longer = inl (subst (λ (s : PiecesState). IsLonger room s.mode.layout piece) is longer)
+stops_rest : (kind : FaultKind) (mode : Mode) (count : ℕ) (piece taken : List ℕ) → RestEnds mode (Err kind) piece taken → Stops kind mode count taken × ((kind ≡ NotARecording) ⊎ (kind ≡ Memory) → taken ≡ piece)
+stops_rest NotARecording mode count piece taken h = absurd h
+stops_rest Truncated mode count piece taken h = (h, λ e. absurd (elim e as (λ _. ⊥) [ inl a ↦ (let x : ⊥ = cc in x) | inr a ↦ (let x : ⊥ = cc in x) ]))
+stops_rest Bad mode count piece taken h = (h, λ e. absurd (elim e as (λ _. ⊥) [ inl a ↦ (let x : ⊥ = cc in x) | inr a ↦ (let x : ⊥ = cc in x) ]))
+stops_rest TooLong mode count piece taken h = absurd h
+stops_rest TooMany mode count piece taken h = absurd h
+stops_rest Read mode count piece taken h = (h, λ e. absurd (elim e as (λ _. ⊥) [ inl a ↦ (let x : ⊥ = cc in x) | inr a ↦ (let x : ⊥ = cc in x) ]))
+stops_rest Memory mode count piece taken h = (inl h.0, λ e. h.1)
 
-pub wants_place : (room : ℕ) (shown old : PiecesState) (piece : List ℕ) (f : Found) → shown ≡ old → (interface : Interface) × (f ≡ found.Names interface)
-    → Says shown.mode.layout shown.mode.interfaces piece (said_of f piece) → shown.room ≤ length shown.mode.interfaces → WantsMemory room old.room old.mode piece
-wants_place room shown old piece f is (interface, named) says full =
-    let here : WantsMemory room shown.room shown.mode piece = inr (interface, subst (λ (g : Found). Says shown.mode.layout shown.mode.interfaces piece (said_of g piece)) named says, full) in
-    subst (λ (s : PiecesState). WantsMemory room s.room s.mode piece) is here
+no_skip : (f : Found) (interface : Interface) (taken piece : List ℕ) → f ≡ found.Names interface → (f ≡ found.Skips) ⊎ (taken ≡ piece) → taken ≡ piece
+no_skip f interface taken piece named (inl skips) = absurd (let x : ⊥ = cc in x)
+no_skip f interface taken piece named (inr same) = same
+
+-- the same once the rest of the piece was read
+module _ (shown old : PiecesState) (before middle after : Option (List ℕ)) (front more piece : List ℕ) (is : shown ≡ old) (first : Consumes (prepend_known shown.ahead before) middle front) (second : Consumes middle after more) where
+  all_of : Consumes (prepend_known old.ahead before) after (front ++ more)
+  all_of = subst (λ (s : PiecesState). Consumes (prepend_known s.ahead before) after (front ++ more)) is (Consumes-trans (prepend_known shown.ahead before) middle after front more first second)
+
+  pub rest_fails : (kind : FaultKind) → RestEnds shown.mode (Err kind) piece (front ++ more)
+      → (taken : List ℕ) × Consumes (prepend_known old.ahead before) after taken × (Stops kind old.mode old.count taken × ((kind ≡ NotARecording) ⊎ (kind ≡ Memory) → taken ≡ piece))
+  rest_fails kind ends = (front ++ more, all_of, stops_rest kind old.mode old.count piece (front ++ more) (subst (λ (s : PiecesState). RestEnds s.mode (Err kind) piece (front ++ more)) is ends))
+
+  pub rest_full : (f : Found) → RestEnds shown.mode (Ok f) piece (front ++ more) → (interface : Interface) × (f ≡ found.Names interface)
+      → (taken : List ℕ) × Consumes (prepend_known old.ahead before) after taken × (Stops Memory old.mode old.count taken × ((Memory ≡ NotARecording) ⊎ (Memory ≡ Memory) → taken ≡ piece))
+  rest_full f (says, held) (interface, named) =
+      let there = subst (λ (s : PiecesState). Says s.mode.layout s.mode.interfaces (front ++ more) (said_of f piece)) is says in
+      (front ++ more, all_of, (inr (interface, subst (λ (g : Found). Says old.mode.layout old.mode.interfaces (front ++ more) (said_of g piece)) named there), λ e. no_skip f interface (front ++ more) piece named held))
+
+  pub rest_says : (f : Found) (new : PiecesState) → RestEnds shown.mode (Ok f) piece (front ++ more) → new.mode ≡ next_mode shown.mode (said_of f piece) → new.count ≡ shown.count + 1 → shown.count < 2 ^ 40
+      → (taken : List ℕ) × Consumes (prepend_known old.ahead before) after taken × StepEnds old new (Ok (Some f)) piece taken
+  rest_says f new ends mode count few =
+      (front ++ more, all_of, subst (λ (s : PiecesState). StepEnds s new (Ok (Some f)) piece (front ++ more)) is (ends.0, mode, count, few))
+
+  pub rest_place : (room : ℕ) (f : Found) → RestEnds shown.mode (Ok f) piece (front ++ more) → (interface : Interface) × (f ≡ found.Names interface) → shown.room ≤ length shown.mode.interfaces → WantsMemory room old.room old.mode piece
+  rest_place room f (says, held) (interface, named) full =
+      let there = subst (λ (l : List ℕ). Says shown.mode.layout shown.mode.interfaces l (said_of f piece)) (no_skip f interface (front ++ more) piece named held) says in
+      let here : WantsMemory room shown.room shown.mode piece = inr (interface, subst (λ (g : Found). Says shown.mode.layout shown.mode.interfaces piece (said_of g piece)) named there, full) in
+      subst (λ (s : PiecesState). WantsMemory room s.room s.mode piece) is here
+
+-- the same of memory that is wanted for the bytes of a piece
+pub wants_bytes : (low room : ℕ) (shown old : PiecesState) (piece : List ℕ) → shown ≡ old → low ≤ room → IsLonger room shown.mode.layout piece → WantsMemory low old.room old.mode piece
+wants_bytes low room shown old piece is roomier (size, longer, full) = inl (subst (λ (s : PiecesState). IsLonger low s.mode.layout piece) is (size, longer, omega (arith, roomier, full)))
 
 -- where there is less room, memory is wanted as well
 wants_more : (low room few places : ℕ) (mode : Mode) (part : List ℕ) → low ≤ room → few ≤ places → WantsMemory room places mode part → WantsMemory low few mode part
@@ -73,9 +106,9 @@ module _ (bytes taken more piece : List ℕ) (frames : List FrameParts) (old new
 
   pub reach_said : (found : Found) → StepEnds old new (Ok (Some found)) piece more
       → (all : List ℕ) × Consumes start end all × Stands (bytes ++ all) new.mode new.count (frames ++ given (said_of found piece))
-  reach_said found (are, says, mode, count, few) =
-      let grown = stands_more (bytes ++ taken) piece old.mode old.count frames (said_of found piece) goes says in
-      let here = subst (λ (b : List ℕ). Stands b (next_mode old.mode (said_of found piece)) (old.count + 1) (frames ++ given (said_of found piece))) (append_assoc bytes taken piece ∙ ap (λ l. bytes ++ (taken ++ l)) (sym are)) grown in
+  reach_said found (says, mode, count, few) =
+      let grown = stands_more (bytes ++ taken) more old.mode old.count frames (said_of found piece) goes says in
+      let here = subst (λ (b : List ℕ). Stands b (next_mode old.mode (said_of found piece)) (old.count + 1) (frames ++ given (said_of found piece))) (append_assoc bytes taken more) grown in
       let there = subst (λ (m : Mode). Stands (bytes ++ (taken ++ more)) m (old.count + 1) (frames ++ given (said_of found piece))) (sym mode) here in
       (taken ++ more, both, subst (λ (n : ℕ). Stands (bytes ++ (taken ++ more)) new.mode n (frames ++ given (said_of found piece))) (sym count) there)
 

@@ -34,14 +34,16 @@ four_of : (order : Order) (s : List ℕ) → length s ≡ 4 → Spells order s (
 four_of order (a ∷ b ∷ c ∷ d ∷ []) sized = (a, b, c, d, [], refl, refl, refl)
 four_of order _ sized = absurd (omega arith)
 
--- the number of the four bytes that end a list
-pub four_last : (order : Order) (s : List ℕ) (k : ℕ) → length s ≡ k + 4 → Spells order (drop k s) (number_at order s k ∷ [])
-four_last order s k sized =
-    let same : number_at order (drop k s) 0 ≡ number_at order s k = λ i. four order (zeroth i) (get_after k 1 s i) (get_after k 2 s i) (get_after k 3 s i) in
-    subst (λ (n : ℕ). Spells order (drop k s) (n ∷ [])) same (four_of order (drop k s) (omega (arith, length-drop k s)))
+-- the number of four bytes, where those before them are left out
+pub number_dropped : (order : Order) (s : List ℕ) (k : ℕ) → number_at order (drop k s) 0 ≡ number_at order s k
+number_dropped order s k = λ i. four order (zeroth i) (get_after k 1 s i) (get_after k 2 s i) (get_after k 3 s i)
   where
     zeroth : get_or (drop k s) 0 0 ≡ get_or s k 0
     zeroth = get_after k 0 s ∙ ap (λ n. get_or s n 0) (let e : k + 0 ≡ k = omega arith in e)
+
+-- the number of the four bytes that end a list
+pub four_last : (order : Order) (s : List ℕ) (k : ℕ) → length s ≡ k + 4 → Spells order (drop k s) (number_at order s k ∷ [])
+four_last order s k sized = subst (λ (n : ℕ). Spells order (drop k s) (n ∷ [])) (number_dropped order s k) (four_of order (drop k s) (omega (arith, length-drop k s)))
 
 -- ---- the parts of a block
 

@@ -1,12 +1,15 @@
 -- What is answered of the next piece, by the bytes of it that were read.
-use Rattle.std.specs.Prelude.{◌≡◌, ◌≢◌, ◌+◌, ◌<◌, ◌≤◌, ◌⊎◌, ◌^◌, ℕ, Bool, true, false, List, [], length, Option, Some, None, Result, Ok, Err}
+use Rattle.std.specs.Prelude.{◌≡◌, ◌≢◌, ◌+◌, ◌-◌, ◌<◌, ◌≤◌, ◌⊎◌, ◌^◌, ℕ, Bool, true, List, [], length, take, drop, Option, Some, None, Result, Ok, Err}
 use Rattle.tftp_pcap.specs.Pieces.{Announces, BeginsAsOne, IsSize, Mode, front_of, Said, Says, next_mode, said_of}
 use Rattle.tftp_pcap.specs.Pieces.Said.{Names}
+use Rattle.tftp_pcap.specs.Numbers.{number_at}
+use Rattle.tftp_pcap.specs.Blocks.{section_type}
 use Rattle.tftp_pcap.specs.Sizes.{IsIrregular, IsTooLong}
 use Rattle.tftp_pcap.specs.declared.layout.Interface.{Interface}
 use Rattle.tftp_pcap.specs.declared.found.Found.{Found}
+use Rattle.tftp_pcap.specs.declared.found.Found.TheVariants as found
 use Rattle.tftp_pcap.specs.declared.layout.Layout.{Layout}
-use Rattle.tftp_pcap.specs.declared.layout.Layout.TheVariants.{Unopened}
+use Rattle.tftp_pcap.specs.declared.layout.Layout.TheVariants.{Unopened, Classic, Blocks}
 use Rattle.tftp_pcap.specs.declared.fault.FaultKind.{FaultKind}
 use Rattle.tftp_pcap.specs.declared.fault.FaultKind.TheVariants.{NotARecording, Truncated, Bad, TooLong, TooMany, Read, Memory}
 
@@ -26,21 +29,38 @@ IsCut layout part = IsShort layout part × (part ≢ []) × (layout ≡ Unopened
 abbrev pub IsWhole : Layout → List ℕ → Type 0
 IsWhole layout piece = Announces layout piece (length piece) × IsSize layout (length piece)
 
--- what reading a piece ends with
-abbrev pub PieceEnds : Layout → Result Bool FaultKind → List ℕ → Type 0
-PieceEnds layout (Ok true) piece = IsWhole layout piece
-PieceEnds layout (Ok false) piece = (piece ≡ []) × (layout ≢ Unopened)
-PieceEnds layout (Err NotARecording) piece = (layout ≡ Unopened) × (BeginsAsOne piece → ⊥)
-PieceEnds layout (Err Truncated) piece = IsCut layout piece
-PieceEnds layout (Err Bad) piece = IsIrregular layout piece
-PieceEnds layout (Err TooLong) piece = IsTooLong layout piece
-PieceEnds layout (Err TooMany) piece = ⊥
-PieceEnds layout (Err Read) piece = IsPart layout piece
-PieceEnds layout (Err Memory) piece = IsPart layout piece
+-- a block that says nothing that counts, by its type: it is no section, no interface and no packet block
+abbrev pub IsSkipped : Layout → List ℕ → Type 0
+IsSkipped Unopened bytes = ⊥
+IsSkipped (Classic classic) bytes = ⊥
+IsSkipped (Blocks order) bytes = (take 4 bytes ≢ section_type) × (number_at order bytes 0 ≢ 1) × (number_at order bytes 0 ≢ 2) × (number_at order bytes 0 ≢ 3) × (number_at order bytes 0 ≢ 6)
 
--- Of bytes that a piece begins with, more are needed than there is room for: those that are read first, or all that it has.
+-- what reading the first bytes of a piece ends with: how many bytes it has, the end before it, or a fault
+abbrev pub FrontEnds : Layout → Result (Option ℕ) FaultKind → List ℕ → Type 0
+FrontEnds layout (Ok (Some size)) piece = Announces layout piece size × IsSize layout size × (length piece ≡ front_of layout)
+FrontEnds layout (Ok None) piece = (piece ≡ []) × (layout ≢ Unopened)
+FrontEnds layout (Err NotARecording) piece = (layout ≡ Unopened) × (BeginsAsOne piece → ⊥)
+FrontEnds layout (Err Truncated) piece = IsCut layout piece
+FrontEnds layout (Err Bad) piece = IsIrregular layout piece
+FrontEnds layout (Err TooLong) piece = IsTooLong layout piece
+FrontEnds layout (Err TooMany) piece = ⊥
+FrontEnds layout (Err Read) piece = IsPart layout piece
+FrontEnds layout (Err Memory) piece = IsPart layout piece
+
+-- Of bytes that a piece begins with, more are held than there is room for: those that are read first, or all that it has, of
+-- a piece that is not skipped.
 abbrev pub IsLonger : ℕ → Layout → List ℕ → Type 0
-IsLonger room layout part = (size : ℕ) × ((size ≡ front_of layout) ⊎ (Announces layout part size × IsSize layout size)) × (room < size)
+IsLonger room layout part = (size : ℕ) × ((size ≡ front_of layout) ⊎ (Announces layout part size × IsSize layout size × (IsSkipped layout part → ⊥))) × (room < size)
+
+-- what reading on over so many bytes ends with
+abbrev pub SkipEnds : Result Bool FaultKind → ℕ → List ℕ → Type 0
+SkipEnds (Ok true) count bytes = length bytes ≡ count
+SkipEnds _ count bytes = length bytes < count
+
+-- what reading on to the end of a block ends with: after its first eight bytes its last four are held
+abbrev pub EndReached : Result Bool FaultKind → ℕ → List ℕ → List ℕ → Type 0
+EndReached (Ok true) size taken piece = (length taken ≡ size) × (length piece ≡ 12) × (drop 8 piece ≡ drop (size - 4) taken)
+EndReached _ size taken piece = length taken < size
 
 -- ---- one piece more
 
@@ -59,11 +79,21 @@ Stops TooMany mode count part = (count ≡ 2 ^ 40) × (part ≡ [])
 Stops Read mode count part = IsPart mode.layout part
 Stops Memory mode count part = IsPart mode.layout part ⊎ ((interface : Interface) × Says mode.layout mode.interfaces part (Names interface))
 
--- Memory is wanted for a piece that begins with these bytes only where it has more than there is room for, or where it names
--- an interface and there is no place for one more.
+-- Memory is wanted for a piece that begins with these bytes only where it has more than there is room for and is not
+-- skipped, or where it names an interface and there is no place for one more.
 abbrev pub WantsMemory : ℕ → ℕ → Mode → List ℕ → Type 0
 WantsMemory room places mode part =
     IsLonger room mode.layout part ⊎ ((interface : Interface) × Says mode.layout mode.interfaces part (Names interface) × (places ≤ length mode.interfaces))
+
+-- What reading the rest of a piece ends with, by all its bytes that were taken, and by those that are held: of a block that is
+-- skipped they are fewer.
+abbrev pub RestEnds : Mode → Result Found FaultKind → List ℕ → List ℕ → Type 0
+RestEnds mode (Ok f) piece taken = Says mode.layout mode.interfaces taken (said_of f piece) × ((f ≡ found.Skips) ⊎ (taken ≡ piece))
+RestEnds mode (Err Truncated) piece taken = IsCut mode.layout taken
+RestEnds mode (Err Bad) piece taken = IsBad mode taken
+RestEnds mode (Err Read) piece taken = IsPart mode.layout taken
+RestEnds mode (Err Memory) piece taken = IsPart mode.layout taken × (taken ≡ piece)
+RestEnds mode (Err _) piece taken = ⊥
 
 -- what is known between pieces: what was read ahead, the mode, and how many pieces there were
 pub record PiecesState : Type 0 where
@@ -72,9 +102,11 @@ pub record PiecesState : Type 0 where
   pub count : ℕ
   pub room : ℕ
 
--- what reading one piece more does: it says something, which changes the mode; or the recording ends; or there is a fault
+-- What reading one piece more does, by the bytes that were taken and by those that are held: it says something, which changes
+-- the mode; or the recording ends; or there is a fault. All that was taken is held where memory is wanted, and of what is no
+-- recording.
 abbrev pub StepEnds : PiecesState → PiecesState → Result (Option Found) FaultKind → List ℕ → List ℕ → Type 0
 StepEnds old new (Ok (Some found)) piece taken =
-    (taken ≡ piece) × Says old.mode.layout old.mode.interfaces piece (said_of found piece) × (new.mode ≡ next_mode old.mode (said_of found piece)) × (new.count ≡ old.count + 1) × (old.count < 2 ^ 40)
+    Says old.mode.layout old.mode.interfaces taken (said_of found piece) × (new.mode ≡ next_mode old.mode (said_of found piece)) × (new.count ≡ old.count + 1) × (old.count < 2 ^ 40)
 StepEnds old new (Ok None) piece taken = (taken ≡ []) × (old.mode.layout ≢ Unopened) × (new.mode ≡ old.mode) × (new.count ≡ old.count) × (old.count < 2 ^ 40)
-StepEnds old new (Err kind) piece taken = Stops kind old.mode old.count taken × (kind ≢ TooMany → taken ≡ piece)
+StepEnds old new (Err kind) piece taken = Stops kind old.mode old.count taken × ((kind ≡ NotARecording) ⊎ (kind ≡ Memory) → taken ≡ piece)

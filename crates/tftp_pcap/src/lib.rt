@@ -18,6 +18,7 @@ mod place;
 mod read;
 mod reader;
 mod sizes;
+mod skip;
 mod standing;
 mod step;
 mod times;

@@ -1,7 +1,8 @@
 ghost use Rattle.std.specs.Prelude.{◌≡◌, ◌≢◌, ◌+◌, ◌%◌, ◌≤◌, ◌⊎◌, ◌↔◌, IsTrue, List, length, take, MatchOption, IfSome};
 ghost use Rattle.tftp_pcap.specs.Blocks.{SpellsSection, longest_block, section_type};
 ghost use Rattle.tftp_pcap.specs.Numbers.{number_at};
-ghost use Rattle.tftp_pcap.specs.Pieces.{Announces, AnnouncesSection, BlockSays, BodySays, IsSize, LiesWithin, OpensAs, Said, Says, said_of};
+ghost use Rattle.tftp_pcap.specs.Pieces.{Announces, AnnouncesSection, BlockSays, BodySays, IsSize, LiesWithin, OpensAs, Said, Says, front_of, said_of};
+ghost use Rattle.tftp_pcap.specs.Stops.{IsSkipped};
 ghost use Rattle.tftp_pcap.specs.declared.layout.Layout.{Layout};
 ghost use Rattle.tftp_pcap.specs.declared.layout.Interface.{Interface};
 ghost use Rattle.tftp_pcap.specs.declared.found.Found.{Found};
@@ -99,6 +100,21 @@ fn is_packet(kind: u32) -> bool
     ensures { IsTrue result ↔ ((kind ≡ 6) ⊎ (kind ≡ 3) ⊎ (kind ≡ 2)) }
 {
     kind == ENHANCED || kind == SIMPLE || kind == OBSOLETE
+}
+
+/// The order of a block that says nothing that counts, by its first bytes; none where the piece counts.
+pub fn skipped_in(layout: Layout, front: &[u8]) -> Option<Order>
+    requires { front_of layout ≤ length front.now }
+    ensures { MatchOption result (IsSkipped layout front.now → ⊥) (λ order. (layout ≡ Layout.Blocks order) × IsSkipped layout front.now) }
+{
+    let Layout::Blocks(order) = layout else {
+        return None;
+    };
+    let kind = order.number(front, 0);
+    if is_section(front) || kind == INTERFACE || is_packet(kind) {
+        return None;
+    }
+    Some(order)
 }
 
 /// The interface that the body of its block names, where there is room for one more; none where it is none.

@@ -8,8 +8,7 @@ ghost use Rattle.tftp_pcap.specs.Stops.{StepEnds, WantsMemory};
 use crate::fault::FaultKind;
 use crate::found::Found;
 use crate::layout::{Interface, Layout};
-use crate::pieces::said_by;
-use crate::read::read_piece;
+use crate::read::{read_front, read_rest};
 use std::alloc::{AllocError, Global};
 use std::io::Read;
 use std::marker::Model;
@@ -105,13 +104,21 @@ impl Pieces {
         if self.count == MOST_PIECES {
             return Err(FaultKind::TooMany);
         }
-        match read_piece(self.layout, &mut self.ahead, reader, piece) {
-            Ok(true) => {}
-            Ok(false) => return Ok(None),
+        let size = match read_front(self.layout, &mut self.ahead, reader, piece) {
+            Ok(Some(size)) => size,
+            Ok(None) => return Ok(None),
             Err(kind) => return Err(kind),
-        }
-        let Some(found) = said_by(self.layout, &self.interfaces, piece) else {
-            return Err(FaultKind::Bad);
+        };
+        let found = match read_rest(
+            self.layout,
+            &self.interfaces,
+            &mut self.ahead,
+            reader,
+            piece,
+            size,
+        ) {
+            Ok(found) => found,
+            Err(kind) => return Err(kind),
         };
         if !self.take(found) {
             return Err(FaultKind::Memory);

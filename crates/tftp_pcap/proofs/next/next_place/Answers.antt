@@ -1,8 +1,8 @@
-use Rattle.std.proofs.Common.{◌≡◌, ◌++◌, Err, List, append-nil, ap, sym, ◌∙◌, subst, arith}
+use Rattle.std.proofs.Common.{◌≡◌, ◌++◌, inr, Err, List, append-nil, ap, ◌∙◌, subst, arith}
 use Rattle.std.proofs.lemmas.Grind.{common_steps}
 use Rattle.tftp_pcap.specs.Frames.{FrameParts}
 use Rattle.tftp_pcap.specs.Pieces.{Stands}
-use Rattle.tftp_pcap.specs.declared.fault.FaultKind.TheVariants.{Memory, TooMany}
+use Rattle.tftp_pcap.specs.declared.fault.FaultKind.TheVariants.{Memory}
 use Rattle.tftp_pcap.proofs.Steps.{reach_said, reach_none, reach_fault, reach_short}
 use Rattle.tftp_pcap.proofs.next.next_place.Goals as goal
 
@@ -20,7 +20,7 @@ pieces-preserved g c =
       tally = grind (arith, common_steps);
       roomy = omega (arith, c.in-Ok-Some.ensures.roomy, c.pieces.invariant.roomy);
       places = omega (arith, c.in-Ok-Some.ensures.places, c.pieces.invariant.places);
-      grows = omega (arith, ends.2.3, c.pieces.invariant.grows);
+      grows = omega (arith, ends.2.2, c.pieces.invariant.grows);
       reaches = λ bytes frames stands.
           let (taken, consumed, goes) = c.pieces.invariant.reaches bytes frames stands in
           let reached = reach_said bytes taken ends.0 c.step.new.piece.items frames c.pieces.pieces c.step.new.self _ _ _ consumed goes ends.1 c.in-Ok-Some.found ends.2 in
@@ -38,13 +38,10 @@ returns-in-Err-clause-tells g c = λ bytes frames stands.
     let (taken, consumed, goes) = c.pieces.invariant.reaches bytes frames stands in
     reach_fault bytes taken c.in-Err.ensures.ends.0 c.step.new.piece.items frames c.pieces.pieces c.step.new.self _ _ _ consumed goes c.in-Err.ensures.ends.1 c.in-Err.kind c.in-Err.ensures.ends.2.0
 
-many : Memory ≡ TooMany → ⊥
-many e = cc
-
 pub returns-in-Err-clause-wants : goal.returns-in-Err-clause-wants
 returns-in-Err-clause-wants g c = λ bytes frames stands h.
     let (taken, consumed, goes) = c.pieces.invariant.reaches bytes frames stands in
     let kind : c.in-Err.kind ≡ Memory = cc in
     let ends = c.in-Err.ensures.ends in
-    let same = ends.2.1 (λ e. many (sym kind ∙ e)) in
+    let same = ends.2.1 (inr kind) in
     reach_short bytes taken ends.0 c.step.new.piece.items frames c.pieces.pieces c.step.new.self _ _ _ consumed goes ends.1 _ _ _ _ c.pieces.invariant.roomy c.pieces.invariant.places same (c.in-Err.ensures.memory (ap Err kind))
