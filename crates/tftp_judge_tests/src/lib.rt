@@ -9,6 +9,4 @@ mod commands;
 #[cfg(test)]
 mod judges;
 #[cfg(test)]
-mod pairs;
-#[cfg(test)]
 mod verdicts;
