@@ -240,6 +240,17 @@ class DatagramTrial(Trial):
         ends = wanted.fault, 2 if wanted.fault else 0
         self.check(f"{name}, its end", (fault, status) == ends, (fault, status, ends))
 
+    def try_copies(self) -> None:
+        """A datagram that stands twice: a copy is left out, and what its sender may have repeated is not."""
+        it = Datagram("192.0.2.7", 40_000, "192.0.2.1", 69, b"\0\4\0\1")
+        first = recorded.FIRST_TIME
+        for id, apart, left in ((7, 1_000_000, [(2, "Copy")]), (0, 1_000_000, []), (7, 1_000_001, []), (0, 1_000_001, [])):
+            packet = recorded.ipv4(it, recorded.udp(it), id=id)
+            frames = [Frame(recorded.RAW, packet, time) for time in (first, first + apart)]
+            rows = [row(number, frame, it) for number, frame in enumerate(frames, 1) if (number, "Copy") not in left]
+            got = self.run(recorded.pcap(frames, is_nano=True))
+            self.check(f"identification {id}, {apart} ns apart", got == (rows, left, "", 0), (got, rows, left))
+
     def compare(self, name: str, file: bytes, rows: list[str]) -> None:
         """The program's list beside the fields of tshark."""
         with tempfile.NamedTemporaryFile(suffix=".pcap") as path:
@@ -294,6 +305,7 @@ def main() -> int:
         rows, left, fault, status = trial.run(file)
         holds = (rows, left, status) == ([], [], 2) and fault.endswith("NotARecording")
         trial.check(f"no recording: {name}", holds, (rows, fault, status))
+    trial.try_copies()
     for case in range(given.cases):
         chance = random.Random(given.seed + case)
         make = chance.choice((made_pcap, made_pcapng))

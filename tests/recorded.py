@@ -73,14 +73,14 @@ def udp(it: Datagram, length: Optional[int] = None, surplus: bytes = b"") -> byt
 
 
 def ipv4(
-    it: Datagram, content: bytes, protocol: int = UDP, part: Optional[Fragment] = None, options: bytes = b""
+    it: Datagram, content: bytes, protocol: int = UDP, part: Optional[Fragment] = None, options: bytes = b"", id: int = 7
 ) -> bytes:
-    """A packet of IPv4, of whole words of options (RFC 791, section 3.1)."""
+    """A packet of IPv4, of whole words of options (RFC 791, section 3.1); of a part the identification is the part's."""
     head, place = 5 + len(options) // 4, 0x4000
     if part:
         place = part.place // EIGHT | (0x2000 if part.more else 0)
     size = 4 * head + len(content)
-    first = struct.pack("!BBHHHBBH", 0x40 | head, 0, size, part.id if part else 7, place, 64, protocol, 0)
+    first = struct.pack("!BBHHHBBH", 0x40 | head, 0, size, part.id if part else id, place, 64, protocol, 0)
     return first + b"".join(it.packed()) + options + content
 
 

@@ -15,6 +15,8 @@ MAGICS: dict[bytes, tuple[Literal["little", "big"], int]] = {
 ORDERS: dict[bytes, Literal["little", "big"]] = {b"\x1a\x2b\x3c\x4d": "big", b"\x4d\x3c\x2b\x1a": "little"}
 LONGEST_FRAME, LONGEST_BLOCK, MOST_INTERFACES = 262_144, 16_777_216, 65_536
 SECOND, PATIENCE, MOST_TIME = 1_000_000_000, 30_000_000_000, 1 << 64
+# A copy of a packet is among so many after it, and no more nanoseconds from it.
+NEXT, NEAR = 16, 1_000_000
 ROOM, LONGEST_PACKET = 1 << 26, 65_535
 IPV4, IPV6 = 4, 6
 UDP = 17
@@ -238,6 +240,11 @@ class Packet(NamedTuple):
     whole: bytes
 
 
+def is_identified(it: Packet) -> bool:
+    """Whether its sender could not have sent the same bytes twice: an identification is in it."""
+    return bool(number(it.whole, 4)) if it.version == IPV4 else it.part is not None
+
+
 def number(content: bytes, at: int, size: int = 2) -> int:
     return int.from_bytes(content[at : at + size], "big")
 
@@ -395,6 +402,7 @@ class Reader:
 
     def __init__(self) -> None:
         self.waiting: dict[Key, Waiting] = {}
+        self.last: list[tuple[Optional[int], bytes]] = []
         self.rows: list[str] = []
         self.left: list[tuple[int, str]] = []
 
@@ -405,12 +413,21 @@ class Reader:
         """A frame, by its number."""
         try:
             packet = packet_of(frame)
+            is_one = self.is_one(frame.time, packet.whole)
+            self.last = [*self.last, (frame.time, packet.whole)][-NEXT:]
+            if is_one and is_identified(packet):
+                raise Fault("Copy")
             if packet.part:
                 self.take_part(at, frame, packet, packet.part)
             else:
                 self.add(at, frame, packet, packet.content)
         except Fault as fault:
             self.leave([at], str(fault))
+
+    def is_one(self, time: Optional[int], whole: bytes) -> bool:
+        """Whether a packet is one with one of the last."""
+        times = [other for other, it in self.last if it == whole]
+        return time is not None and any(other is not None and abs(other - time) <= NEAR for other in times)
 
     def take_part(self, at: int, frame: Frame, packet: Packet, part: Part) -> None:
         """A fragment: it waits, or none is missing any more, or it is left out."""

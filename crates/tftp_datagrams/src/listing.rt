@@ -86,6 +86,7 @@ fn put_left_out(rt: HostRuntime, event: &Event, why: LeftOut) -> io::Result<()> 
         LeftOut::Empty => put_left(rt, &[event.number()], "FragmentEmpty"),
         LeftOut::TooLong => put_left(rt, &[event.number()], "FragmentTooLong"),
         LeftOut::Full => put_left(rt, &[event.number()], "FragmentFull"),
+        LeftOut::Copy => put_left(rt, &[event.number()], "Copy"),
     }
 }
 

@@ -13,6 +13,7 @@ use Rattle.tftp_recording.specs.Accounts.{IsIn, IsSettled, IsTold, IsWaiting, No
 use Rattle.tftp_recording.specs.Brought.{BroughtState, LetsGoOld, MakesRoom, Takes, TakesPart, nothing_brought}
 use Rattle.tftp_recording.specs.Fate.{sharers}
 use Rattle.tftp_recording.specs.History.{IsHistory, Step, waiting}
+use Rattle.tftp_recording.specs.Likeness.{is_copy}
 use Rattle.tftp_recording.proofs.Keys.{same_on, same_set_at, truth}
 
 in_left : (n : ℕ) (xs ys : List ℕ) → IsIn n xs → IsIn n (xs ++ ys)
@@ -271,33 +272,33 @@ nothing_told n number b e told = elim (subst (IsTold n number) e told) [
 pub none_waits : (o : Outcome) → None ≡ Some o → ⊥
 none_waits o e = cc
 
-takes_or_told : (old : Sets) (frame : FrameParts) (number : ℕ) (b : BroughtState) (new : Sets) (n : ℕ) → Takes old frame number b new → IsWaiting n old → IsTold n number b ⊎ IsWaiting n new
-takes_or_told old frame number b new n (inl h) w = inr (subst (IsWaiting n) (sym h.2) w)
-takes_or_told old frame number b new n (inr h) w = part_or_told _ _ old new b h.3 w.0 n w.1
+takes_or_told : (is : Bool) (old : Sets) (frame : FrameParts) (number : ℕ) (b : BroughtState) (new : Sets) (n : ℕ) → Takes is old frame number b new → IsWaiting n old → IsTold n number b ⊎ IsWaiting n new
+takes_or_told is old frame number b new n (inl h) w = inr (subst (IsWaiting n) (sym h.2) w)
+takes_or_told is old frame number b new n (inr h) w = part_or_told _ _ old new b h.3 w.0 n w.1
 
-takes_own : (old : Sets) (frame : FrameParts) (number : ℕ) (b : BroughtState) (new : Sets) → Takes old frame number b new → IsTold number number b ⊎ IsWaiting number new
-takes_own old frame number b new (inl h) = inl (inr (inr (inr (refl, λ e. none_waits Waits (sym (ap (λ (x : BroughtState). x.outcome) h.1) ∙ e)))))
-takes_own old frame number b new (inr h) = part_own _ _ old new b h.3
+takes_own : (is : Bool) (old : Sets) (frame : FrameParts) (number : ℕ) (b : BroughtState) (new : Sets) → Takes is old frame number b new → IsTold number number b ⊎ IsWaiting number new
+takes_own is old frame number b new (inl h) = inl (inr (inr (inr (refl, λ e. none_waits Waits (sym (ap (λ (x : BroughtState). x.outcome) h.1) ∙ e)))))
+takes_own is old frame number b new (inr h) = part_own _ _ old new b h.3
 
-takes_stayed : (old : Sets) (frame : FrameParts) (number : ℕ) (b : BroughtState) (new : Sets) (n : ℕ) → Takes old frame number b new → IsWaiting n new → (n ≡ number) ⊎ IsWaiting n old
-takes_stayed old frame number b new n (inl h) w = inr (subst (IsWaiting n) h.2 w)
-takes_stayed old frame number b new n (inr h) w = elim (part_stayed _ _ old new b h.3 w.0 n w.1) [ inl own ↦ inl own.0 | inr v ↦ inr (w.0, v) ]
+takes_stayed : (is : Bool) (old : Sets) (frame : FrameParts) (number : ℕ) (b : BroughtState) (new : Sets) (n : ℕ) → Takes is old frame number b new → IsWaiting n new → (n ≡ number) ⊎ IsWaiting n old
+takes_stayed is old frame number b new n (inl h) w = inr (subst (IsWaiting n) h.2 w)
+takes_stayed is old frame number b new n (inr h) w = elim (part_stayed _ _ old new b h.3 w.0 n w.1) [ inl own ↦ inl own.0 | inr v ↦ inr (w.0, v) ]
 
-takes_told : (old : Sets) (frame : FrameParts) (number : ℕ) (b : BroughtState) (new : Sets) (n : ℕ) → Takes old frame number b new → IsTold n number b → (n ≡ number) ⊎ IsWaiting n old
-takes_told old frame number b new n (inl h) told = inl (nothing_told n number b h.1 told)
-takes_told old frame number b new n (inr h) told = part_told_waited _ _ old new b h.3 n told
+takes_told : (is : Bool) (old : Sets) (frame : FrameParts) (number : ℕ) (b : BroughtState) (new : Sets) (n : ℕ) → Takes is old frame number b new → IsTold n number b → (n ≡ number) ⊎ IsWaiting n old
+takes_told is old frame number b new n (inl h) told = inl (nothing_told n number b h.1 told)
+takes_told is old frame number b new n (inr h) told = part_told_waited _ _ old new b h.3 n told
 
-takes_one : (old : Sets) (frame : FrameParts) (number : ℕ) (b : BroughtState) (new : Sets) → One old → (IsWaiting number old → ⊥) → Takes old frame number b new → One new
-takes_one old frame number b new one fresh (inl h) = subst One (sym h.2) one
-takes_one old frame number b new one fresh (inr h) = part_one _ _ old new b h.3 one fresh
+takes_one : (is : Bool) (old : Sets) (frame : FrameParts) (number : ℕ) (b : BroughtState) (new : Sets) → One old → (IsWaiting number old → ⊥) → Takes is old frame number b new → One new
+takes_one is old frame number b new one fresh (inl h) = subst One (sym h.2) one
+takes_one is old frame number b new one fresh (inr h) = part_one _ _ old new b h.3 one fresh
 
-takes_apart : (old : Sets) (frame : FrameParts) (number : ℕ) (b : BroughtState) (new : Sets) (n : ℕ) → One old → (IsWaiting number old → ⊥) → Takes old frame number b new → IsTold n number b → IsWaiting n new → ⊥
-takes_apart old frame number b new n one fresh (inl h) told w = fresh (subst (λ (m : ℕ). IsWaiting m old) (nothing_told n number b h.1 told) (subst (IsWaiting n) h.2 w))
-takes_apart old frame number b new n one fresh (inr h) told w = part_apart _ _ old new b h.3 one fresh n w.0 told w.1
+takes_apart : (is : Bool) (old : Sets) (frame : FrameParts) (number : ℕ) (b : BroughtState) (new : Sets) (n : ℕ) → One old → (IsWaiting number old → ⊥) → Takes is old frame number b new → IsTold n number b → IsWaiting n new → ⊥
+takes_apart is old frame number b new n one fresh (inl h) told w = fresh (subst (λ (m : ℕ). IsWaiting m old) (nothing_told n number b h.1 told) (subst (IsWaiting n) h.2 w))
+takes_apart is old frame number b new n one fresh (inr h) told w = part_apart _ _ old new b h.3 one fresh n w.0 told w.1
 
-takes_one_way : (old : Sets) (frame : FrameParts) (number : ℕ) (b : BroughtState) (new : Sets) (n : ℕ) → One old → (IsWaiting number old → ⊥) → Takes old frame number b new → ToldOneWay n b
-takes_one_way old frame number b new n one fresh (inl h) = subst (ToldOneWay n) (sym h.1) (record { old = λ g o. g; shares = λ s told. s })
-takes_one_way old frame number b new n one fresh (inr h) = record { old = old_not_ousted _ _ old new b h.3 one fresh n; shares = shares_alone _ _ old new b h.3 one fresh n }
+takes_one_way : (is : Bool) (old : Sets) (frame : FrameParts) (number : ℕ) (b : BroughtState) (new : Sets) (n : ℕ) → One old → (IsWaiting number old → ⊥) → Takes is old frame number b new → ToldOneWay n b
+takes_one_way is old frame number b new n one fresh (inl h) = subst (ToldOneWay n) (sym h.1) (record { old = λ g o. g; shares = λ s told. s })
+takes_one_way is old frame number b new n one fresh (inr h) = record { old = old_not_ousted _ _ old new b h.3 one fresh n; shares = shares_alone _ _ old new b h.3 one fresh n }
 
 -- ---- all frames
 
@@ -327,12 +328,12 @@ sound (step ∷ before) h =
     let s = sound before h.1 in
     let fresh : IsWaiting number old → ⊥ = λ w. absurd (omega (arith, (s.waits number w).1)) in
     let told_within : (n : ℕ) → IsTold n number step.brought → (1 ≤ n) × (n ≤ length before + 1) = λ n told.
-    elim (takes_told old step.frame number step.brought step.waits n h.0 told) [
+    elim (takes_told (is_copy step.likeness) old step.frame number step.brought step.waits n h.0 told) [
       | inl e ↦ (omega (arith, e), omega (arith, e))
       | inr w ↦ ((s.waits n w).0, omega (arith, (s.waits n w).1))
     ] in
     record {
-      waits = λ n w. elim (takes_stayed old step.frame number step.brought step.waits n h.0 w) [
+      waits = λ n w. elim (takes_stayed (is_copy step.likeness) old step.frame number step.brought step.waits n h.0 w) [
         | inl e ↦ (omega (arith, e), omega (arith, e))
         | inr v ↦ ((s.waits n v).0, omega (arith, (s.waits n v).1))
       ];
@@ -340,26 +341,26 @@ sound (step ∷ before) h =
         | inl told ↦ ((told_within n told).0, omega (arith, (told_within n told).1))
         | inr j ↦ ((s.settled n j).0, omega (arith, (s.settled n j).1))
       ];
-      one = takes_one old step.frame number step.brought step.waits s.one fresh h.0;
+      one = takes_one (is_copy step.likeness) old step.frame number step.brought step.waits s.one fresh h.0;
       apart = λ n i w. elim i [
-        | inl told ↦ takes_apart old step.frame number step.brought step.waits n s.one fresh h.0 told w
-        | inr j ↦ elim (takes_stayed old step.frame number step.brought step.waits n h.0 w) [
+        | inl told ↦ takes_apart (is_copy step.likeness) old step.frame number step.brought step.waits n s.one fresh h.0 told w
+        | inr j ↦ elim (takes_stayed (is_copy step.likeness) old step.frame number step.brought step.waits n h.0 w) [
           | inl e ↦ absurd (omega (arith, e, (s.settled n j).1))
           | inr v ↦ s.apart n j v
         ]
       ];
       each = λ n low high. elim (last_or_before n (length before) (omega (arith, high))) [
-        | inl e ↦ elim (takes_own old step.frame number step.brought step.waits h.0) [
+        | inl e ↦ elim (takes_own (is_copy step.likeness) old step.frame number step.brought step.waits h.0) [
           | inl told ↦ inl (inl (subst (λ (m : ℕ). IsTold m number step.brought) (sym e) told))
           | inr w ↦ inr (subst (λ (m : ℕ). IsWaiting m step.waits) (sym e) w)
         ]
         | inr within ↦ elim (s.each n low within) [
           | inl i ↦ inl (inr i)
-          | inr w ↦ elim (takes_or_told old step.frame number step.brought step.waits n h.0 w) [ inl told ↦ inl (inl told) | inr v ↦ inr v ]
+          | inr w ↦ elim (takes_or_told (is_copy step.likeness) old step.frame number step.brought step.waits n h.0 w) [ inl told ↦ inl (inl told) | inr v ↦ inr v ]
         ]
       ];
       twice = (
-        (λ n told i. elim (takes_told old step.frame number step.brought step.waits n h.0 told) [
+        (λ n told i. elim (takes_told (is_copy step.likeness) old step.frame number step.brought step.waits n h.0 told) [
           | inl e ↦ absurd (omega (arith, e, (s.settled n i).1))
           | inr w ↦ s.apart n i w
         ]),
@@ -374,4 +375,4 @@ within history n h (inr w) = (sound history h).waits n w
 pub one_way : (before : List Step) (step : Step) (n : ℕ) → IsHistory (step ∷ before) → ToldOneWay n step.brought
 one_way before step n h =
     let s = sound before h.1 in
-    takes_one_way (waiting before) step.frame (length before + 1) step.brought step.waits n s.one (λ w. absurd (omega (arith, (s.waits (length before + 1) w).1))) h.0
+    takes_one_way (is_copy step.likeness) (waiting before) step.frame (length before + 1) step.brought step.waits n s.one (λ w. absurd (omega (arith, (s.waits (length before + 1) w).1))) h.0

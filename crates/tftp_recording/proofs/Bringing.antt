@@ -20,6 +20,10 @@ pub spells_here : (link other : ℕ) (bytes others : List ℕ) (p : Packet) → 
 spells_here link other bytes others p e f h = subst (λ (l : ℕ). SpellsFrame l others p) (sym e) (subst (λ (l : List ℕ). SpellsFrame link l p) (sym f) h)
 
 -- a frame that is no packet, and one that is a whole one
+pub not_read : (r : Result IpPacket FrameFault) (p : Packet) (e : FrameFault) → r ≡ Err e → IsOkAnd r (λ found. shown found ≡ p) → ⊥
+not_read (Ok found) p e is only = cc
+not_read (Err f) p e is only = only
+
 pub no_packet : (r : Result IpPacket FrameFault) (p : Packet) (e : FrameFault) → r ≡ Err e → IsOkAnd r (λ found. shown found ≡ p) → p.fragment ≡ None
 no_packet (Ok found) p e is only = cc
 no_packet (Err f) p e is only = absurd only

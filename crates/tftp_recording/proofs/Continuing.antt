@@ -3,19 +3,30 @@ use Rattle.std.proofs.Common.{◌≡◌, ℕ, ◌+◌, Bool, true, List, [], ◌
 use Rattle.std.proofs.KnownBytes.{Consumes-nil}
 use Rattle.std.proofs.lemmas.List.{length-map, length-reverse, reverse-append}
 use Rattle.std.specs.Io.KnownBytes.{prepend_known}
+use Rattle.tftp_copies.specs.Copies.{Packet as Recorded}
+use Rattle.tftp_copies.specs.Held.{RecentState}
+use Rattle.tftp_copies.specs.Held as copies
 use Rattle.tftp_fragments.specs.Store.{Sets}
 use Rattle.tftp_pcap.specs.Frames.{FrameParts, FrameState}
 use Rattle.tftp_pcap.specs.History.{KeepsAnswer, ReaderState, StandingTells}
 use Rattle.tftp_pcap.specs.History as pcap
+use Rattle.tftp_pcap.specs.declared.fault.FaultKind.TheVariants.{Memory}
 use Rattle.tftp_pcap.specs.declared.fault.PcapFault.{PcapFault}
 use Rattle.tftp_pcap.specs.declared.standing.Standing.{Standing}
 use Rattle.tftp_pcap.specs.declared.standing.Standing.TheVariants.{Open, Over, Failed}
 use Rattle.tftp_recording.specs.Brought.{BroughtState, Takes}
-use Rattle.tftp_recording.specs.History.{Continues, EventState, RecordingState, RefusedTells, StandsFor, Step, frames_of, waiting}
+use Rattle.tftp_recording.specs.History.{Continues, EventState, RecordingState, RefusedTells, StandsFor, Step, WantsNext, frames_of, packets_of, waiting}
+use Rattle.tftp_recording.specs.Likeness.{Comes, is_copy}
+use Rattle.tftp_recording.specs.declared.likeness.Likeness.{Likeness}
+
+-- the frame comes, and the packets that are held are the last ones with its own
+abbrev pub Coming : RecentState → FrameParts → Likeness → RecentState → Type 0
+Coming old frame likeness new = (before : List Recorded) → copies.StandsFor old before → (came : List Recorded) × Comes before frame likeness came × copies.StandsFor new came
 
 pub answers_again : (r : RecordingState) (rest : Option (List ℕ)) (event : EventState) (bytes : List ℕ) (history : List Step) (fault : PcapFault) → StandsFor r bytes history → Continues r rest rest (Err fault) event bytes history
 answers_again r rest event bytes history fault stands = record {
   taken = [];
+  came = [];
   consumed = Consumes-nil rest;
   stands = subst (λ (b : List ℕ). StandsFor r b history) (sym (append-nil bytes)) stands;
 }
@@ -32,11 +43,11 @@ counted_by Open r bytes frames keeps tells = tells.1
 counted_by Over r bytes frames keeps tells = cc
 counted_by (Failed fault) r bytes frames keeps tells = cc
 
-open_tells : (refused : Option PcapFault) (r : RecordingState) (bytes : List ℕ) (history : List Step) → refused ≡ None → RefusedTells refused r bytes history → pcap.StandsFor r.frames bytes (frames_of history) × (r.waiting ≡ waiting history)
+open_tells : (refused : Option PcapFault) (r : RecordingState) (bytes : List ℕ) (history : List Step) → refused ≡ None → RefusedTells refused r bytes history → pcap.StandsFor r.frames bytes (frames_of history) × (r.waiting ≡ waiting history) × copies.StandsFor r.recent (packets_of history)
 open_tells None r bytes history e tells = tells
 open_tells (Some fault) r bytes history e tells = cc
 
-tells_open : (refused : Option PcapFault) (r : RecordingState) (bytes : List ℕ) (history : List Step) → refused ≡ None → pcap.StandsFor r.frames bytes (frames_of history) × (r.waiting ≡ waiting history) → RefusedTells refused r bytes history
+tells_open : (refused : Option PcapFault) (r : RecordingState) (bytes : List ℕ) (history : List Step) → refused ≡ None → pcap.StandsFor r.frames bytes (frames_of history) × (r.waiting ≡ waiting history) × copies.StandsFor r.recent (packets_of history) → RefusedTells refused r bytes history
 tells_open None r bytes history e tells = tells
 tells_open (Some fault) r bytes history e tells = cc
 
@@ -44,38 +55,68 @@ continued_from : (old new : RecordingState) (before after : Option (List ℕ)) (
     → old.refused ≡ None → new.refused ≡ None
     → ((bytes : List ℕ) (frames : List FrameParts) → pcap.StandsFor old.frames bytes frames → pcap.Continues new.frames before after (Ok true) event.frame.parts bytes frames)
     → KeepsAnswer old.frames.standing (Ok true) → event.frame.number ≡ old.frames.count + 1
-    → Takes old.waiting event.frame.parts event.frame.number event.brought new.waiting
+    → Coming old.recent event.frame.parts event.likeness new.recent
+    → Takes (is_copy event.likeness) old.waiting event.frame.parts event.frame.number event.brought new.waiting
     → StandsFor old bytes history → Continues new before after (Ok true) event bytes history
-continued_from old new before after event bytes history going still continues keeps number takes stands =
-    let step : Step = record { frame = event.frame.parts; brought = event.brought; waits = new.waiting } in
+continued_from old new before after event bytes history going still continues keeps number comes takes stands =
     let tells = open_tells old.refused old bytes history going stands.1 in
+    let held = comes (packets_of history) tells.2 in
+    let step : Step = record { frame = event.frame.parts; likeness = event.likeness; brought = event.brought; waits = new.waiting; came = held.0 } in
     let more = continues bytes (frames_of history) tells.0 in
     let counted : old.frames.count ≡ length history = counted_by old.frames.standing old.frames bytes (frames_of history) keeps tells.0 ∙ frames_counted history in
     let numbered : event.frame.number ≡ length history + 1 = number ∙ ap (λ n. n + 1) counted in
-    let took : Takes (waiting history) event.frame.parts (length history + 1) event.brought new.waiting =
-    subst (λ (sets : Sets). Takes sets event.frame.parts (length history + 1) event.brought new.waiting) tells.1
-    (subst (λ (n : ℕ). Takes old.waiting event.frame.parts n event.brought new.waiting) numbered takes) in
+    let took : Takes (is_copy event.likeness) (waiting history) event.frame.parts (length history + 1) event.brought new.waiting =
+    subst (λ (sets : Sets). Takes (is_copy event.likeness) sets event.frame.parts (length history + 1) event.brought new.waiting) tells.1
+    (subst (λ (n : ℕ). Takes (is_copy event.likeness) old.waiting event.frame.parts n event.brought new.waiting) numbered takes) in
     let gave : pcap.StandsFor new.frames (bytes ++ more.taken) (frames_of (step ∷ history)) =
     subst (λ (frames : List FrameParts). pcap.StandsFor new.frames (bytes ++ more.taken) frames) (sym (frames_with step history)) more.stands in
     record {
       taken = more.taken;
+      came = held.0;
       consumed = more.consumed;
-      stands = ((took, stands.0), tells_open new.refused new (bytes ++ more.taken) (step ∷ history) still (gave, refl));
+      stands = ((took, stands.0, held.1), tells_open new.refused new (bytes ++ more.taken) (step ∷ history) still (gave, refl, held.2));
     }
 
 -- the same of the reader as its caller sees it, and of the frame as it was read and taken
-pub continued : (entry old new : RecordingState) (rest after : Option (List ℕ)) (result : Result Bool PcapFault) (gave : FrameState) (brought : BroughtState) (event : EventState) (bytes : List ℕ) (history : List Step) → old ≡ entry
-    → old.refused ≡ None → new.refused ≡ None → result ≡ Ok true → event.frame ≡ gave → event.brought ≡ brought
+pub continued : (entry old new : RecordingState) (rest after : Option (List ℕ)) (result : Result Bool PcapFault) (gave : FrameState) (likeness : Likeness) (brought : BroughtState) (event : EventState) (bytes : List ℕ) (history : List Step) → old ≡ entry
+    → old.refused ≡ None → new.refused ≡ None → result ≡ Ok true → event.frame ≡ gave → event.likeness ≡ likeness → event.brought ≡ brought
     → ((bytes : List ℕ) (frames : List FrameParts) → pcap.StandsFor old.frames bytes frames → pcap.Continues new.frames (prepend_known old.frames.pieces.ahead rest) after result gave.parts bytes frames)
     → KeepsAnswer old.frames.standing result → (result ≡ Ok true → gave.number ≡ old.frames.count + 1)
-    → Takes old.waiting gave.parts gave.number brought new.waiting
+    → Coming old.recent gave.parts likeness new.recent
+    → Takes (is_copy likeness) old.waiting gave.parts gave.number brought new.waiting
     → StandsFor entry bytes history → Continues new (prepend_known entry.frames.pieces.ahead rest) after (Ok true) event bytes history
-continued entry old new rest after result gave brought event bytes history is going still good same_frame same_brought continues keeps number takes =
+continued entry old new rest after result gave likeness brought event bytes history is going still good same_frame same_likeness same_brought continues keeps number comes takes =
     let before = prepend_known old.frames.pieces.ahead rest in
     subst (λ (r : RecordingState). StandsFor r bytes history → Continues new (prepend_known r.frames.pieces.ahead rest) after (Ok true) event bytes history) is
     (λ stands. continued_from old new before after event bytes history going still
     (λ b f s. subst (λ (x : FrameState). pcap.Continues new.frames before after (Ok true) x.parts b f) (sym same_frame) (subst (λ (r : Result Bool PcapFault). pcap.Continues new.frames before after r gave.parts b f) good (continues b f s)))
     (subst (λ (r : Result Bool PcapFault). KeepsAnswer old.frames.standing r) good keeps)
     (ap (λ (x : FrameState). x.number) same_frame ∙ number good)
-    (subst (λ (x : FrameState). Takes old.waiting x.parts x.number event.brought new.waiting) (sym same_frame) (subst (λ (b : BroughtState). Takes old.waiting gave.parts gave.number b new.waiting) (sym same_brought) takes))
+    (subst (λ (x : FrameState). Coming old.recent x.parts event.likeness new.recent) (sym same_frame) (subst (λ (l : Likeness). Coming old.recent gave.parts l new.recent) (sym same_likeness) comes))
+    (subst (λ (x : FrameState). Takes (is_copy event.likeness) old.waiting x.parts x.number event.brought new.waiting) (sym same_frame) (subst (λ (l : Likeness). Takes (is_copy l) old.waiting gave.parts gave.number event.brought new.waiting) (sym same_likeness) (subst (λ (b : BroughtState). Takes (is_copy likeness) old.waiting gave.parts gave.number b new.waiting) (sym same_brought) takes)))
     stands)
+
+-- a reader that was refused memory for the frame that was read
+pub refused_for : (entry old new : RecordingState) (rest after : Option (List ℕ)) (result : Result Bool PcapFault) (gave : FrameState) (event : EventState) (fault : PcapFault) (bytes : List ℕ) (history : List Step) → old ≡ entry
+    → old.refused ≡ None → new.refused ≡ Some fault → result ≡ Ok true → fault ≡ record { kind = Memory; frame = gave.number }
+    → ((bytes : List ℕ) (frames : List FrameParts) → pcap.StandsFor old.frames bytes frames → pcap.Continues new.frames (prepend_known old.frames.pieces.ahead rest) after result gave.parts bytes frames)
+    → KeepsAnswer old.frames.standing result → (result ≡ Ok true → gave.number ≡ old.frames.count + 1)
+    → ((before : List Recorded) → copies.StandsFor old.recent before → WantsNext before old.waiting gave.parts gave.number)
+    → StandsFor entry bytes history → Continues new (prepend_known entry.frames.pieces.ahead rest) after (Err fault) event bytes history
+refused_for entry old new rest after result gave event fault bytes history is going now good told continues keeps number wants =
+    let before = prepend_known old.frames.pieces.ahead rest in
+    subst (λ (r : RecordingState). StandsFor r bytes history → Continues new (prepend_known r.frames.pieces.ahead rest) after (Err fault) event bytes history) is
+    (λ stands.
+    let tells = open_tells old.refused old bytes history going stands.1 in
+    let more = subst (λ (r : Result Bool PcapFault). pcap.Continues new.frames before after r gave.parts bytes (frames_of history)) good (continues bytes (frames_of history) tells.0) in
+    let counted : old.frames.count ≡ length history = counted_by old.frames.standing old.frames bytes (frames_of history) (subst (λ (r : Result Bool PcapFault). KeepsAnswer old.frames.standing r) good keeps) tells.0 ∙ frames_counted history in
+    let numbered : gave.number ≡ length history + 1 = number good ∙ ap (λ n. n + 1) counted in
+    let wanted : WantsNext (packets_of history) (waiting history) gave.parts (length history + 1) =
+    subst (λ (n : ℕ). WantsNext (packets_of history) (waiting history) gave.parts n) numbered
+    (subst (λ (sets : Sets). WantsNext (packets_of history) sets gave.parts gave.number) tells.1 (wants (packets_of history) tells.2)) in
+    record {
+      taken = more.taken;
+      came = [];
+      consumed = more.consumed;
+      stands = (stands.0, subst (λ (o : Option PcapFault). RefusedTells o new (bytes ++ more.taken) history) (sym now) (gave.parts, more.stands, wanted, told ∙ ap (λ (n : ℕ). record { kind = Memory; frame = n }) numbered));
+    })

@@ -3,3 +3,4 @@ pub mod Bringing
 pub mod Continuing
 pub mod Gathering
 pub mod Keys
+pub mod Liking

@@ -1,5 +1,5 @@
 -- What a frame does among the fragments that wait (RFC 791, section 3.2; RFC 8200, section 4.5).
-use Rattle.std.specs.Prelude.{◌≡◌, ◌≢◌, ◌⊎◌, ◌+◌, ◌*◌, ◌<◌, ℕ, true, false, List, [], Option, Some, None}
+use Rattle.std.specs.Prelude.{◌≡◌, ◌≢◌, ◌⊎◌, ◌+◌, ◌*◌, ◌<◌, ℕ, Bool, true, false, List, [], Option, Some, None}
 use Rattle.tftp_frames.specs.Frame.{SpellsFrame}
 use Rattle.tftp_frames.specs.Ip.{Packet}
 use Rattle.tftp_frames.specs.declared.packet.Fragment.{Fragment}
@@ -78,11 +78,16 @@ IsNoPart frame = (p : Packet) → SpellsFrame frame.link frame.bytes p → p.fra
 abbrev pub IsPart : FrameParts → Packet → Fragment → Type 0
 IsPart frame p f = SpellsFrame frame.link frame.bytes p × (p.fragment ≡ Some f)
 
--- what the frame of that number does
-abbrev pub Takes : Sets → FrameParts → ℕ → BroughtState → Sets → Type 0
-Takes old frame number b new =
-    (IsNoPart frame × (b ≡ nothing_brought) × (new ≡ old))
-    ⊎ ((p : Packet) × (f : Fragment) × IsPart frame p f × TakesPart (key_of p f) (arrival_of frame number p f) old new b)
+-- the frame, which may be a copy, does nothing among the fragments
+abbrev pub DoesNothing : Bool → FrameParts → Type 0
+DoesNothing true frame = Unit {0}
+DoesNothing false frame = IsNoPart frame
+
+-- what the frame of that number does, by whether it is a copy
+abbrev pub Takes : Bool → Sets → FrameParts → ℕ → BroughtState → Sets → Type 0
+Takes is_copy old frame number b new =
+    (DoesNothing is_copy frame × (b ≡ nothing_brought) × (new ≡ old))
+    ⊎ ((p : Packet) × (f : Fragment) × IsPart frame p f × TakesPart (key_of p f) (arrival_of frame number p f) old new b × (is_copy ≡ false))
 
 -- memory is wanted for the frame, which is a fragment
 abbrev pub Wants : Sets → FrameParts → ℕ → Type 0

@@ -14,7 +14,9 @@ use Rattle.tftp_pcap.specs.declared.frame.Direction.TheVariants.{In, Out}
 use Rattle.tftp_recording.specs.declared.fate.Datagram.{Datagram as Given}
 use Rattle.tftp_recording.specs.declared.fate.Fate.{Fate}
 use Rattle.tftp_recording.specs.declared.fate.Fate.TheVariants.{Datagram, Left, Waits}
-use Rattle.tftp_recording.specs.declared.fate.LeftOut.TheVariants.{Frame, Udp as NoUdp, Apart, Empty, TooLong, Full}
+use Rattle.tftp_recording.specs.declared.fate.LeftOut.TheVariants.{Frame, Udp as NoUdp, Apart, Empty, TooLong, Full, Copy}
+use Rattle.tftp_recording.specs.declared.likeness.Likeness.{Likeness}
+use Rattle.tftp_recording.specs.declared.likeness.Likeness.TheVariants as likeness
 
 -- which way a frame went: what the link says, and where that says nothing, what the recording does
 abbrev pub direction_of : Direction → LinkDirection → Direction
@@ -45,9 +47,10 @@ Says frame whole (Left Apart) = ⊥
 Says frame whole (Left Empty) = ⊥
 Says frame whole (Left TooLong) = ⊥
 Says frame whole (Left Full) = ⊥
+Says frame whole (Left Copy) = ⊥
 Says frame whole Waits = ⊥
 
--- what became of a frame, by what became of it as a fragment
+-- what became of a frame that is no copy, by what became of it as a fragment
 abbrev pub IsFate : FrameParts → Option Outcome → Fate → Type 0
 IsFate frame None fate = Says frame None fate
 IsFate frame (Some outcome.Waits) fate = fate ≡ Waits
@@ -56,6 +59,12 @@ IsFate frame (Some (outcome.Apart frames)) fate = fate ≡ Left Apart
 IsFate frame (Some outcome.Empty) fate = fate ≡ Left Empty
 IsFate frame (Some outcome.TooLong) fate = fate ≡ Left TooLong
 IsFate frame (Some outcome.Full) fate = fate ≡ Left Full
+
+-- what became of a frame: a copy is left out
+abbrev pub IsFateOf : FrameParts → Likeness → Option Outcome → Fate → Type 0
+IsFateOf frame likeness.New outcome fate = IsFate frame outcome fate
+IsFateOf frame likeness.Doubtful outcome fate = IsFate frame outcome fate
+IsFateOf frame likeness.Copy outcome fate = fate ≡ Left Copy
 
 -- the frames that share it
 abbrev pub sharers : Option Outcome → List ℕ

@@ -1,6 +1,9 @@
 -- What a reader of a recording holds, and for what bytes and frames it stands.
-use Rattle.std.specs.Prelude.{◌≡◌, ◌+◌, ℕ, Bool, true, false, List, [], ◌∷◌, ◌++◌, length, map, reverse, Option, Some, None, Result, Ok, Err}
+use Rattle.std.specs.Prelude.{◌≡◌, ◌+◌, ℕ, Bool, true, false, ◌⊎◌, List, [], ◌∷◌, ◌++◌, length, map, reverse, Option, Some, None, Result, Ok, Err}
 use Rattle.std.specs.Io.KnownBytes.{Consumes}
+use Rattle.tftp_copies.specs.Copies.{Packet as Recorded}
+use Rattle.tftp_copies.specs.Held.{RecentState}
+use Rattle.tftp_copies.specs.Held as copies
 use Rattle.tftp_fragments.specs.Store.{Sets}
 use Rattle.tftp_pcap.specs.Frames.{FrameParts, FrameState}
 use Rattle.tftp_pcap.specs.History.{ReaderState}
@@ -10,24 +13,37 @@ use Rattle.tftp_pcap.specs.declared.fault.PcapFault.{PcapFault}
 use Rattle.tftp_pcap.specs.declared.standing.Standing.{Standing}
 use Rattle.tftp_pcap.specs.declared.standing.Standing.TheVariants.{Failed}
 use Rattle.tftp_recording.specs.Brought.{BroughtState, Takes, Wants}
+use Rattle.tftp_recording.specs.Likeness.{Comes, WantsToHold, is_copy}
+use Rattle.tftp_recording.specs.declared.likeness.Likeness.{Likeness}
 
 -- ---- the frames of a recording, one after another
 
--- a frame, what it did among the fragments that waited, and what waits after it
+-- a frame, whether it is a copy, what it did among the fragments that waited, what waits after it, and the packets that
+-- came with it and before it, the last one first
 pub record Step : Type 0 where
   pub frame : FrameParts
+  pub likeness : Likeness
   pub brought : BroughtState
   pub waits : Sets
+  pub came : List Recorded
 
 -- what waits after some frames, the last of which stands first
 abbrev pub waiting : List Step → Sets
 waiting [] = []
 waiting (step ∷ before) = step.waits
 
--- each frame did so among what waited after those before it; the first has number 1
+-- the packets that came with some frames
+abbrev pub packets_of : List Step → List Recorded
+packets_of [] = []
+packets_of (step ∷ before) = step.came
+
+-- each frame did so among what waited after those before it, and is a copy by their packets; the first has number 1
 abbrev pub IsHistory : List Step → Type 0
 IsHistory [] = Unit {0}
-IsHistory (step ∷ before) = Takes (waiting before) step.frame (length before + 1) step.brought step.waits × IsHistory before
+IsHistory (step ∷ before) =
+    Takes (is_copy step.likeness) (waiting before) step.frame (length before + 1) step.brought step.waits
+    × IsHistory before
+    × Comes (packets_of before) step.frame step.likeness step.came
 
 -- the frames, the first of them first
 abbrev pub frames_of : List Step → List FrameParts
@@ -35,14 +51,16 @@ frames_of history = reverse (map (λ step. step.frame) history)
 
 -- ---- the reader
 
--- a frame as a reader fills it, and what it did
+-- a frame as a reader fills it, whether it is a copy, and what it did
 pub record EventState : Type 0 where
   pub frame : FrameState
+  pub likeness : Likeness
   pub brought : BroughtState
 
--- the reader of frames, what waits, and the want of memory for a fragment that ended the reading
+-- the reader of frames, the last packets, what waits, and the want of memory that ended the reading
 pub record RecordingState : Type 0 where
   pub frames : ReaderState
+  pub recent : RecentState
   pub waiting : Sets
   pub refused : Option PcapFault
 
@@ -54,24 +72,31 @@ standing_by (Some fault) standing = Failed fault
 abbrev pub standing_of : RecordingState → Standing
 standing_of r = standing_by r.refused r.frames.standing
 
--- what the reader took and holds, by whether memory was refused; it was, then, for the fragment that came next
-abbrev pub RefusedTells : Option PcapFault → RecordingState → List ℕ → List Step → Type 0
-RefusedTells None r bytes history = pcap.StandsFor r.frames bytes (frames_of history) × (r.waiting ≡ waiting history)
-RefusedTells (Some fault) r bytes history =
-    (frame : FrameParts) × pcap.StandsFor r.frames bytes (frames_of history ++ frame ∷ []) × Wants (waiting history) frame (length history + 1) × (fault ≡ record { kind = Memory; frame = length history + 1 })
+-- memory is wanted for the frame that comes next: to hold its packet, or for the fragment that it is, and no copy
+abbrev pub WantsNext : List Recorded → Sets → FrameParts → ℕ → Type 0
+WantsNext before waits frame number =
+    WantsToHold before frame
+    ⊎ ((likeness : Likeness) × (came : List Recorded) × Comes before frame likeness came × (is_copy likeness ≡ false) × Wants waits frame number)
 
--- The reader stands for a history: it took these bytes, whose frames did so, and holds what waits after them.
+-- what the reader took and holds, by whether memory was refused; it was, then, for the frame that came next
+abbrev pub RefusedTells : Option PcapFault → RecordingState → List ℕ → List Step → Type 0
+RefusedTells None r bytes history = pcap.StandsFor r.frames bytes (frames_of history) × (r.waiting ≡ waiting history) × copies.StandsFor r.recent (packets_of history)
+RefusedTells (Some fault) r bytes history =
+    (frame : FrameParts) × pcap.StandsFor r.frames bytes (frames_of history ++ frame ∷ []) × WantsNext (packets_of history) (waiting history) frame (length history + 1) × (fault ≡ record { kind = Memory; frame = length history + 1 })
+
+-- The reader stands for a history: it took these bytes, whose frames did so, and holds what waits after them and the last packets.
 abbrev pub StandsFor : RecordingState → List ℕ → List Step → Type 0
 StandsFor r bytes history = IsHistory history × RefusedTells r.refused r bytes history
 
 -- the history with the frame that was read
-abbrev pub with_step : List Step → Result Bool PcapFault → EventState → Sets → List Step
-with_step history (Ok true) event waits = record { frame = event.frame.parts; brought = event.brought; waits = waits } ∷ history
-with_step history (Ok false) event waits = history
-with_step history (Err fault) event waits = history
+abbrev pub with_step : List Step → Result Bool PcapFault → EventState → Sets → List Recorded → List Step
+with_step history (Ok true) event waits came = record { frame = event.frame.parts; likeness = event.likeness; brought = event.brought; waits = waits; came = came } ∷ history
+with_step history (Ok false) event waits came = history
+with_step history (Err fault) event waits came = history
 
 -- bytes were taken, and with them the reader stands for the history that the answer adds to
 pub record Continues (new : RecordingState) (before after : Option (List ℕ)) (result : Result Bool PcapFault) (event : EventState) (bytes : List ℕ) (history : List Step) : Type 0 where
   pub taken : List ℕ
+  pub came : List Recorded
   pub consumed : Consumes before after taken
-  pub stands : StandsFor new (bytes ++ taken) (with_step history result event new.waiting)
+  pub stands : StandsFor new (bytes ++ taken) (with_step history result event new.waiting came)

@@ -1,3 +1,4 @@
+pub mod Likeness
 pub mod Brought
 pub mod Fate
 pub mod History

@@ -1,12 +1,18 @@
-ghost use Rattle.std.specs.Prelude.{◌≡◌, [], IfOk, OnErr, Some, None, false};
+ghost use Rattle.std.specs.Prelude.{◌≡◌, List, [], IfOk, OnErr, Some, None, false};
 ghost use Rattle.tftp_fragments.specs.Held.{part_of};
 ghost use Rattle.tftp_fragments.specs.Set.{SetState};
 ghost use Rattle.tftp_fragments.specs.Store.{is_long, set_at};
-ghost use Rattle.tftp_recording.specs.Brought.{nothing_brought, LetsGoOld, Takes, TakesPart, Wants, WantsPart};
+ghost use Rattle.tftp_recording.specs.Brought.{nothing_brought, LetsGoOld, Takes, TakesPart, WantsPart};
+ghost use Rattle.tftp_recording.specs.History.{WantsNext};
+ghost use Rattle.tftp_recording.specs.Likeness.{Comes, is_copy};
+ghost use Rattle.tftp_copies.specs.Copies.{Packet as Recorded};
+ghost use Rattle.tftp_copies.specs.Held.{StandsFor};
 
+use crate::likeness::{Likeness, likeness_of};
 use std::alloc::{AllocError, Global};
 use std::marker::Model;
 use std::mem;
+use tftp_copies::Recent;
 use tftp_fragments::{Fragments, Key, Outcome, Part};
 use tftp_frames::read_frame;
 use tftp_pcap::Frame;
@@ -52,21 +58,27 @@ impl Brought {
     }
 }
 
-/// Takes a frame: where it is a fragment, it comes to those that wait.
+/// Takes a frame: its packet is held, and where it is a fragment, and no copy, it comes to those that wait.
 #[inline]
 pub(crate) fn take_frame(
     alloc: Global,
+    recent: &mut Recent,
     waiting: &mut Fragments,
     frame: &Frame,
-) -> Result<Brought, AllocError>
-    ensures ok { IfOk result (λ b. Takes waiting.old frame.now.parts frame.now.number b waiting.new) }
-    ensures wants { OnErr result (Wants waiting.old frame.now.parts frame.now.number) }
+) -> Result<(Likeness, Brought), AllocError>
+    ensures comes { IfOk result (λ taken. (before : List Recorded) → StandsFor recent.old before → (came : List Recorded) × Comes before frame.now.parts taken.0 came × StandsFor recent.new came) }
+    ensures ok { IfOk result (λ taken. Takes (is_copy taken.0) waiting.old frame.now.parts frame.now.number taken.1 waiting.new) }
+    ensures wants { OnErr result ((before : List Recorded) → StandsFor recent.old before → WantsNext before waiting.old frame.now.parts frame.now.number) }
 {
     let Ok(packet) = read_frame(frame.link(), frame.bytes()) else {
-        return Ok(Brought::nothing(alloc));
+        return Ok((Likeness::New, Brought::nothing(alloc)));
     };
+    let likeness = likeness_of(alloc, recent, frame.time(), &packet)?;
+    if likeness.is_copy() {
+        return Ok((likeness, Brought::nothing(alloc)));
+    }
     let Some(fragment) = packet.fragment else {
-        return Ok(Brought::nothing(alloc));
+        return Ok((likeness, Brought::nothing(alloc)));
     };
     let key = Key {
         source: packet.source,
@@ -79,7 +91,8 @@ pub(crate) fn take_frame(
         more: fragment.more,
         content: packet.content,
     };
-    take_part(alloc, waiting, key, &part, frame.time(), frame.number())
+    let brought = take_part(alloc, waiting, key, &part, frame.time(), frame.number())?;
+    Ok((likeness, brought))
 }
 
 /// Lets go what waits under a key and is too old for that time, and answers its frames.

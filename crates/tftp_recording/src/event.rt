@@ -2,10 +2,13 @@ ghost use Rattle.std.specs.Prelude.{◌≡◌, [], None, option_map};
 ghost use Rattle.tftp_frames.specs.Parts.{shown};
 ghost use Rattle.tftp_pcap.specs.Frames.{no_frame};
 ghost use Rattle.tftp_recording.specs.Brought.{nothing_brought};
-ghost use Rattle.tftp_recording.specs.Fate.{content_of, direction_of, IsFate, Says, sharers};
+ghost use Rattle.tftp_recording.specs.Fate.{content_of, direction_of, IsFate, IsFateOf, Says, sharers};
+ghost use Rattle.tftp_recording.specs.Likeness.{is_doubtful};
+ghost use Rattle.tftp_recording.specs.declared.likeness.Likeness.{Likeness};
 
 use crate::brought::Brought;
 use crate::fate::{Datagram, Fate, LeftOut};
+use crate::likeness::Likeness;
 use std::alloc::Global;
 use std::marker::Model;
 use std::mem;
@@ -17,6 +20,7 @@ use tftp_pcap::{Direction, Frame};
 #[derive(Drop)]
 pub struct Event {
     pub(crate) frame: Frame,
+    pub(crate) likeness: Likeness,
     pub(crate) brought: Brought,
 }
 
@@ -25,7 +29,7 @@ impl Model for Event {
 
     ghost Value = { EventState };
 
-    ghost view = { λ e. record { frame = e.frame; brought = e.brought } };
+    ghost view = { λ e. record { frame = e.frame; likeness = e.likeness; brought = e.brought } };
 }
 
 impl Event {
@@ -33,20 +37,24 @@ impl Event {
     pub fn empty(alloc: Global) -> Self
         ensures number { result.frame.number ≡ 0 }
         ensures parts { result.frame.parts ≡ no_frame }
+        ensures likeness { result.likeness ≡ Likeness.New }
         ensures brought { result.brought ≡ nothing_brought }
     {
         Event {
             frame: Frame::empty(alloc),
+            likeness: Likeness::New,
             brought: Brought::nothing(alloc),
         }
     }
 
-    /// Sets what the frame did.
+    /// Sets whether the frame is a copy, and what it did.
     #[inline]
-    pub(crate) fn bring(&mut self, brought: Brought)
+    pub(crate) fn bring(&mut self, likeness: Likeness, brought: Brought)
         ensures frame { self.new.frame ≡ self.old.frame }
+        ensures likeness { self.new.likeness ≡ likeness }
         ensures brought { self.new.brought ≡ brought }
     {
+        self.likeness = likeness;
         self.brought = brought;
     }
 
@@ -70,9 +78,21 @@ impl Event {
     /// What became of the frame. A datagram borrows its payload from the frame, or from the packet that was put together.
     #[inline]
     pub fn fate(&self) -> Fate<'_>
-        ensures { IsFate self.now.frame.parts self.now.brought.outcome result }
+        ensures { IsFateOf self.now.frame.parts self.now.likeness self.now.brought.outcome result }
     {
-        fate_of(&self.frame, self.brought.outcome())
+        match self.likeness {
+            Likeness::New | Likeness::Doubtful => fate_of(&self.frame, self.brought.outcome()),
+            Likeness::Copy => Fate::Left(LeftOut::Copy),
+        }
+    }
+
+    /// Whether the frame is a copy of a frame before it, or what its sender repeated: its packet has no identification,
+    /// which would tell. It is not left out for that.
+    #[inline]
+    pub fn is_doubtful(&self) -> bool
+        ensures { result ≡ is_doubtful self.now.likeness }
+    {
+        self.likeness.is_doubtful()
     }
 
     /// The frames that waited until now and share its fate: those of the parts of a packet that it made whole, its own the
@@ -104,6 +124,7 @@ impl Event {
         ensures old { self.new.brought.old ≡ self.old.brought.old }
         ensures outcome { self.new.brought.outcome ≡ self.old.brought.outcome }
         ensures frame { self.new.frame ≡ self.old.frame }
+        ensures likeness { self.new.likeness ≡ self.old.likeness }
     {
         mem::replace(&mut self.brought.ousted, Fragments::new(alloc))
     }

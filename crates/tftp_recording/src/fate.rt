@@ -34,6 +34,8 @@ pub enum LeftOut {
     TooLong,
     /// It is a fragment with which more than 64 MB would wait.
     Full,
+    /// It is a copy of a frame before it, recorded at another interface.
+    Copy,
 }
 
 /// What became of a frame.

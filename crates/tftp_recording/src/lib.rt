@@ -5,6 +5,7 @@ mod brought;
 mod event;
 mod fate;
 mod laws;
+mod likeness;
 mod reader;
 
 pub use event::Event;

@@ -11,14 +11,16 @@ use std::alloc::Global;
 use std::io::Read;
 use std::marker::Model;
 use tftp_capture::Tallied;
+use tftp_copies::Recent;
 use tftp_fragments::Fragments;
 use tftp_pcap::{FaultKind, FrameReader, PcapFault};
 
-/// A reader of what became of a recording's frames: it holds what a reader of frames does, and the fragments that wait for
-/// others of their packets, 64 MB at most.
+/// A reader of what became of a recording's frames: it holds what a reader of frames does, the last 16 packets,
+/// and the fragments that wait for others of their packets, 64 MB at most.
 #[derive(Drop)]
 pub struct RecordingReader {
     frames: FrameReader,
+    recent: Recent,
     waiting: Fragments,
     refused: Option<PcapFault>,
 }
@@ -28,7 +30,7 @@ impl Model for RecordingReader {
 
     ghost Value = { RecordingState };
 
-    ghost view = { λ r. record { frames = r.frames; waiting = r.waiting; refused = r.refused } };
+    ghost view = { λ r. record { frames = r.frames; recent = r.recent; waiting = r.waiting; refused = r.refused } };
 }
 
 impl RecordingReader {
@@ -42,9 +44,16 @@ impl RecordingReader {
         ensures tally { IfErr result (λ fault. (fault.kind ≡ FaultKind.Read → ⊥) → reader.new.1 ≡ reader.old.1) }
         ensures clean { OnOk result (reader.new.1 ≡ reader.old.1) }
     {
+        let Ok(recent) = Recent::new(alloc) else {
+            return Err(PcapFault {
+                kind: FaultKind::Memory,
+                frame: 1,
+            });
+        };
         match FrameReader::begin(alloc, reader) {
             Ok(frames) => Ok(RecordingReader {
                 frames,
+                recent,
                 waiting: Fragments::new(alloc),
                 refused: None,
             }),
@@ -54,7 +63,8 @@ impl RecordingReader {
 
     /// Reads the next frame into what the caller holds, in its memory, and what became of it; false, for good, once the
     /// recording has ended without a fault. A fault is answered for good. Where no frame was read, nothing is said of what
-    /// the caller holds. Memory is also wanted for a fragment that comes to those that wait.
+    /// the caller holds. Memory is also wanted to hold a packet that is longer
+    /// than those before, and for a fragment that comes to those that wait.
     pub fn next_into<R: Read>(
         &mut self,
         alloc: Global,
@@ -81,9 +91,9 @@ impl RecordingReader {
             Ok(true) => {}
             answer => return answer,
         }
-        match take_frame(alloc, &mut self.waiting, &event.frame) {
-            Ok(brought) => {
-                event.bring(brought);
+        match take_frame(alloc, &mut self.recent, &mut self.waiting, &event.frame) {
+            Ok((likeness, brought)) => {
+                event.bring(likeness, brought);
                 Ok(true)
             }
             Err(_) => {

@@ -1,0 +1,47 @@
+-- Which packets are copies, by what is told of them.
+use Rattle.std.proofs.Common.{◌≡◌, ◌<◌, ◌↔◌, ℕ, Bool, true, false, inr, List, ◌∷◌, length, Option, Some, IsTrue, refl, sym, subst, ap, ◌∙◌, arith}
+use Rattle.std.specs.List.{slice_get}
+use Rattle.tftp_copies.specs.Copies.{Packet as Recorded, IsCopy}
+use Rattle.tftp_copies.specs.Held.{RecentState, StandsFor}
+use Rattle.tftp_frames.specs.Ip.{Packet, is_identified}
+use Rattle.tftp_frames.specs.Frame.{SpellsFrame}
+use Rattle.tftp_frames.specs.declared.packet.Fragment.{Fragment}
+use Rattle.tftp_fragments.specs.Store.{Sets}
+use Rattle.tftp_pcap.specs.Frames.{FrameParts}
+use Rattle.tftp_recording.specs.Brought.{DoesNothing, IsNoPart, Wants, WantsPart, key_of}
+use Rattle.tftp_recording.specs.Likeness.{Comes, IsLike, WantsToHold, likeness_by, recorded}
+use Rattle.tftp_recording.specs.declared.likeness.Likeness.{Likeness}
+
+impossible : false ≡ true → ⊥
+impossible e = cc
+
+like_by : (came : List Recorded) (time : Option ℕ) (p : Packet) (one identified : Bool) → IsTrue one ↔ IsCopy came (recorded time p) → identified ≡ is_identified p → IsLike came time p (likeness_by one identified)
+like_by came time p false identified told e = λ copy. impossible (told.1 copy)
+like_by came time p true false told e = (told.0 refl, sym e)
+like_by came time p true true told e = (told.0 refl, sym e)
+
+pub like : (came : List Recorded) (time : Option ℕ) (p : Packet) (one identified : Bool) (l : Likeness) → IsTrue one ↔ IsCopy came (recorded time p) → identified ≡ is_identified p → l ≡ likeness_by one identified → IsLike came time p l
+like came time p one identified l told e is = subst (IsLike came time p) (sym is) (like_by came time p one identified told e)
+
+pub wants_to_hold : (recent : RecentState) (before : List Recorded) (frame : FrameParts) (p : Packet) → SpellsFrame frame.link frame.bytes p → recent.room < length p.packet → StandsFor recent before → WantsToHold before frame
+wants_to_hold recent before frame p spells longer stands = (p, spells, λ q e. omega (arith, longer, stands.room q e))
+
+pub coming : (old new : RecentState) (frame : FrameParts) (time : Option ℕ) (p : Packet) (l : Likeness) → time ≡ frame.time → SpellsFrame frame.link frame.bytes p
+    → ((came : List Recorded) → StandsFor old came → IsLike came time p l) → ((came : List Recorded) → StandsFor old came → StandsFor new (recorded time p ∷ came))
+    → (before : List Recorded) → StandsFor old before → (came : List Recorded) × Comes before frame l came × StandsFor new came
+coming old new frame time p l e spells like held before stands =
+    (recorded time p ∷ before, inr (p, spells, subst (λ (t : Option ℕ). IsLike before t p l) e (like before stands), ap (λ (t : Option ℕ). recorded t p ∷ before) e), held before stands)
+
+pub does_nothing : (b : Bool) (frame : FrameParts) → IsNoPart frame → DoesNothing b frame
+does_nothing true frame h = tt
+does_nothing false frame h = h
+
+pub wants_part : (frame : FrameParts) (number at : ℕ) (time : Option ℕ) (p : Packet) (f : Fragment) (old : Sets) → SpellsFrame frame.link frame.bytes p → p.fragment ≡ Some f → time ≡ frame.time → at ≡ number
+    → WantsPart (key_of p f) (record { part = record { place = f.place; more = f.more; content = p.content }; time = time; frame = at }) old → Wants old frame number
+wants_part frame number at time p f old spells is e n wants = (
+  p,
+  f,
+  (spells, is),
+  subst (λ (m : ℕ). WantsPart (key_of p f) (record { part = record { place = f.place; more = f.more; content = p.content }; time = frame.time; frame = m }) old) n
+      (subst (λ (t : Option ℕ). WantsPart (key_of p f) (record { part = record { place = f.place; more = f.more; content = p.content }; time = t; frame = at }) old) e wants),
+)
