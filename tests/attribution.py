@@ -104,7 +104,7 @@ def words_of(arguments: list[str]) -> argparse.Namespace:
     parser = argparse.ArgumentParser(prog="attribution.py", description=(__doc__ or "").split("\n\n", maxsplit=1)[0])
     parser.add_argument("--cases", type=int, default=100, help="how many cases are tried")
     parser.add_argument("--seed", type=int, help="the seed of the first case; each further one has the next number")
-    parser.add_argument("--places", metavar="PLACES", help="the program tftp_places, which is compared with the prototype")
+    parser.add_argument("--places", metavar="PLACES", help="the program tftp_places, which is compared with it")
     parser.add_argument("program")
     words = parser.parse_args(arguments)
     if not os.access(words.program, os.X_OK):

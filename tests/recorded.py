@@ -73,9 +73,10 @@ def udp(it: Datagram, length: Optional[int] = None, surplus: bytes = b"") -> byt
 
 
 def ipv4(
-    it: Datagram, content: bytes, protocol: int = UDP, part: Optional[Fragment] = None, options: bytes = b"", id: int = 7
+    it: Datagram, content: bytes, protocol: int = UDP, part: Optional[Fragment] = None, options: bytes = b"",
+    id: int = 7,
 ) -> bytes:
-    """A packet of IPv4, of whole words of options (RFC 791, section 3.1); of a part the identification is the part's."""
+    """A packet of IPv4, of whole words of options (RFC 791, section 3.1); a part has its own identification."""
     head, place = 5 + len(options) // 4, 0x4000
     if part:
         place = part.place // EIGHT | (0x2000 if part.more else 0)

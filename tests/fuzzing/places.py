@@ -1,4 +1,5 @@
-"""Compares the places, doubts and views that tftp_places prints of recordings with those of the definition's prototype."""
+"""Compares the places, doubts and views that tftp_places prints of recordings with those of the definition, as
+tftp_tools has it."""
 from __future__ import annotations
 
 import itertools
