@@ -57,6 +57,11 @@ fn put(
     fragments.put(rt.alloc(), key, part, Some(time), frame)
 }
 
+/// Whether it waits for others.
+fn waits(outcome: &Outcome) -> bool {
+    matches!(outcome, Outcome::Waits)
+}
+
 /// Whether the outcome is this content.
 fn is_whole(outcome: &Outcome, content: &[u8]) -> bool {
     match outcome {
@@ -83,7 +88,7 @@ fn each_order_gives_the_content(rt: HostRuntime) -> Result<(), Fail> {
                 return Err(Fail::new("order"));
             };
             let outcome = put(&rt, &mut fragments, key(2, 7), part, 5, 1)?;
-            assert!(rt; matches!(outcome, Outcome::Waits));
+            assert!(rt; waits(&outcome));
         }
         let Some(part) = parts.get(third) else {
             return Err(Fail::new("order"));
@@ -106,9 +111,9 @@ fn the_same_bytes_may_come_twice(rt: HostRuntime) -> Result<(), Fail> {
         content: b"89abcdefghijklmnopqrstuvwxyz",
     };
     let outcome = put(&rt, &mut fragments, key(2, 7), &last, 5, 1)?;
-    assert!(rt; matches!(outcome, Outcome::Waits));
+    assert!(rt; waits(&outcome));
     let outcome = put(&rt, &mut fragments, key(2, 7), &long, 5, 2)?;
-    assert!(rt; matches!(outcome, Outcome::Waits));
+    assert!(rt; waits(&outcome));
     let outcome = put(&rt, &mut fragments, key(2, 7), &first, 5, 3)?;
     assert!(rt; is_whole(&outcome, CONTENT));
     Ok(())
@@ -125,10 +130,9 @@ fn other_bytes_are_never_put_together(rt: HostRuntime) -> Result<(), Fail> {
         content: b"89abcdeF",
     };
     for part in [&first, &middle] {
-        let outcome = put(&rt, &mut fragments, key(2, 7), part, 5, 4)?;
-        assert!(rt; matches!(outcome, Outcome::Waits));
-        let outcome = put(&rt, &mut fragments, key(3, 7), part, 5, 5)?;
-        assert!(rt; matches!(outcome, Outcome::Waits));
+        if !waits(&put(&rt, &mut fragments, key(2, 7), part, 5, 4)?) {
+            return Err(Fail::new("waits"));
+        }
     }
     match put(&rt, &mut fragments, key(2, 7), &other, 5, 6)? {
         Outcome::Apart(frames) => assert_eq!(rt; frames.as_slice(), [4u64, 4].as_slice()),
@@ -137,6 +141,32 @@ fn other_bytes_are_never_put_together(rt: HostRuntime) -> Result<(), Fail> {
     match put(&rt, &mut fragments, key(2, 7), &last, 5, 7)? {
         Outcome::Apart(frames) => assert!(rt; frames.is_empty()),
         _ => return Err(Fail::new("still apart")),
+    }
+    Ok(())
+}
+
+/// What is apart takes nothing from the fragments of another packet.
+#[test]
+fn what_is_apart_leaves_the_others(rt: HostRuntime) -> Result<(), Fail> {
+    let [first, middle, last] = parts();
+    let mut fragments = Fragments::new(rt.alloc());
+    let other = Part {
+        place: 8,
+        more: true,
+        content: b"89abcdeF",
+    };
+    for (key, part) in [
+        (key(2, 7), &first),
+        (key(3, 7), &first),
+        (key(3, 7), &middle),
+    ] {
+        if !waits(&put(&rt, &mut fragments, key, part, 5, 4)?) {
+            return Err(Fail::new("waits"));
+        }
+    }
+    match put(&rt, &mut fragments, key(2, 7), &other, 5, 6)? {
+        Outcome::Apart(_) => {}
+        _ => return Err(Fail::new("apart")),
     }
     let outcome = put(&rt, &mut fragments, key(3, 7), &last, 5, 8)?;
     assert!(rt; is_whole(&outcome, CONTENT));
@@ -150,7 +180,7 @@ fn other_ends_are_apart(rt: HostRuntime) -> Result<(), Fail> {
     for (place, more) in [(40, false), (16, false), (32, true), (40, true)] {
         let mut fragments = Fragments::new(rt.alloc());
         let outcome = put(&rt, &mut fragments, key(2, 7), &last, 5, 1)?;
-        assert!(rt; matches!(outcome, Outcome::Waits));
+        assert!(rt; waits(&outcome));
         let content = b"wxyzABCD";
         let part = Part {
             place,
@@ -175,7 +205,7 @@ fn an_old_set_is_not_joined(rt: HostRuntime) -> Result<(), Fail> {
         let mut fragments = Fragments::new(rt.alloc());
         for part in [&first, &middle] {
             let outcome = put(&rt, &mut fragments, key(2, 7), part, PATIENCE, 9)?;
-            assert!(rt; matches!(outcome, Outcome::Waits));
+            assert!(rt; waits(&outcome));
         }
         let gone = fragments.let_go_old(key(2, 7), Some(time));
         match gone {
@@ -216,7 +246,7 @@ fn parts_of_no_packet(rt: HostRuntime) -> Result<(), Fail> {
         content: b"1234567",
     };
     let outcome = put(&rt, &mut fragments, key(2, 7), &part, 5, 1)?;
-    assert!(rt; matches!(outcome, Outcome::Waits));
+    assert!(rt; waits(&outcome));
     Ok(())
 }
 
@@ -276,7 +306,7 @@ fn keys_are_told_apart(rt: HostRuntime) -> Result<(), Fail> {
         let mut fragments = Fragments::new(rt.alloc());
         for (key, part) in [(one, &first), (one, &middle), (other, &last)] {
             let outcome = put(&rt, &mut fragments, key, part, 5, 1)?;
-            assert!(rt; matches!(outcome, Outcome::Waits));
+            assert!(rt; waits(&outcome));
         }
     }
     Ok(())

@@ -3,8 +3,9 @@
 use crate::views::{oack_of, request_of};
 use std::test::Fail;
 use tftp_packet::{
-    Bytes, Host, Mode, Options, OptionsView, Packet, PacketFault, Side, Value, opcode, own_options,
-    own_request, read_packet, same_options, same_request, write_oack, write_packet, write_request,
+    Bytes, Host, Mode, Options, OptionsView, Packet, PacketFault, Request, Side, Value, opcode,
+    own_options, own_request, read_packet, same_options, same_request, write_oack, write_packet,
+    write_request,
 };
 
 mod faults;
@@ -115,23 +116,41 @@ fn views_an_oack_in_capitals(rt: HostRuntime) -> Result<(), Fail> {
     Ok(())
 }
 
+/// Whether an owned request has the parts of `ASKED`.
+fn has_what_was_asked(request: &Request) -> bool {
+    let number = match request.options().get(b"BLKSIZE") {
+        Some(Value::Num(number)) => *number,
+        _ => 0,
+    };
+    let is_read = request.side() == Side::Get && request.mode() == Mode::Octet;
+    is_read && request.name() == b"a".as_slice() && request.options().len() == 2 && number == 8
+}
+
+#[test]
+fn owns_a_request(rt: HostRuntime) -> Result<(), Fail> {
+    let view = request_of(ASKED)?;
+    let request = own_request(rt.alloc(), &view)?;
+    if !has_what_was_asked(&request) {
+        return Err(Fail::new("other parts"));
+    }
+    assert!(rt; same_request(&request, &view));
+    Ok(())
+}
+
 #[test]
 fn writes_a_request_canonically(rt: HostRuntime) -> Result<(), Fail> {
     let view = request_of(ASKED)?;
     let request = own_request(rt.alloc(), &view)?;
-    assert_eq!(rt; request.side(), Side::Get);
-    assert_eq!(rt; request.name(), b"a".as_slice());
-    assert_eq!(rt; request.mode(), Mode::Octet);
-    assert_eq!(rt; request.options().len(), 2);
-    match request.options().get(b"BLKSIZE") {
-        Some(Value::Num(number)) => assert_eq!(rt; *number, 8),
-        _ => assert!(rt; false),
-    }
-    assert!(rt; same_request(&request, &view));
     let written = write_request(rt.alloc(), &request)?;
     assert_eq!(rt; written.as_slice(), CANONICAL);
-    let again = write_packet(rt.alloc(), &Packet::Request(view))?;
-    assert_eq!(rt; again.as_slice(), CANONICAL);
+    Ok(())
+}
+
+#[test]
+fn writes_a_read_request_as_a_packet(rt: HostRuntime) -> Result<(), Fail> {
+    let packet = Packet::Request(request_of(ASKED)?);
+    let written = write_packet(rt.alloc(), &packet)?;
+    assert_eq!(rt; written.as_slice(), CANONICAL);
     Ok(())
 }
 

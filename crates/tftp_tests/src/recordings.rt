@@ -7,26 +7,16 @@ use tftp_recording::{Event, Fate, LeftOut, RecordingReader};
 
 /// A classic recording (draft-ietf-opsawg-pcap) of raw IPv4: the last part of a datagram, a whole datagram, a part, the
 /// first part of the datagram, TCP, a part, a part with other bytes than the one before it, and a part 31 s later.
-const PIECES: [&[u8]; 9] = [
-    b"\xd4\xc3\xb2\xa1\x02\x00\x04\x00\x00\x00\x00\x00\x00\x00\x00\x00\x00\x00\x04\x00\xe4\x00\x00\x00",
-    b"\x00\xf1\x53\x65\x00\x00\x00\x00\x20\x00\x00\x00\x20\x00\x00\x00\x45\x00\x00\x20\x00\x07\x00\x02\x40\x11\x00\x00\xc0\x00\x02\x01\xc0\x00\x02\x07\x38\x39\x61\x62\x63\x64\x65\x66\x67\x68\x69\x6a",
-    b"\x00\xf1\x53\x65\xe8\x03\x00\x00\x21\x00\x00\x00\x21\x00\x00\x00\x45\x00\x00\x21\x00\x00\x00\x00\x40\x11\x00\x00\xc0\x00\x02\x01\xc0\x00\x02\x07\x9c\x40\x00\x45\x00\x0d\x00\x00\x68\x65\x6c\x6c\x6f",
-    b"\x00\xf1\x53\x65\xd0\x07\x00\x00\x1c\x00\x00\x00\x1c\x00\x00\x00\x45\x00\x00\x1c\x00\x09\x20\x01\x40\x11\x00\x00\xc0\x00\x02\x01\xc0\x00\x02\x07\x41\x42\x43\x44\x45\x46\x47\x48",
-    b"\x00\xf1\x53\x65\xb8\x0b\x00\x00\x24\x00\x00\x00\x24\x00\x00\x00\x45\x00\x00\x24\x00\x07\x20\x00\x40\x11\x00\x00\xc0\x00\x02\x01\xc0\x00\x02\x07\x9c\x40\x00\x45\x00\x1c\x00\x00\x30\x31\x32\x33\x34\x35\x36\x37",
-    b"\x00\xf1\x53\x65\xa0\x0f\x00\x00\x28\x00\x00\x00\x28\x00\x00\x00\x45\x00\x00\x28\x00\x00\x00\x00\x40\x06\x00\x00\xc0\x00\x02\x01\xc0\x00\x02\x07\x00\x00\x00\x00\x00\x00\x00\x00\x00\x00\x00\x00\x00\x00\x00\x00\x00\x00\x00\x00",
-    b"\x00\xf1\x53\x65\x88\x13\x00\x00\x1c\x00\x00\x00\x1c\x00\x00\x00\x45\x00\x00\x1c\x00\x0b\x20\x00\x40\x11\x00\x00\xc0\x00\x02\x01\xc0\x00\x02\x07\x49\x4a\x4b\x4c\x4d\x4e\x4f\x50",
-    b"\x00\xf1\x53\x65\x70\x17\x00\x00\x1c\x00\x00\x00\x1c\x00\x00\x00\x45\x00\x00\x1c\x00\x09\x20\x01\x40\x11\x00\x00\xc0\x00\x02\x01\xc0\x00\x02\x07\x61\x62\x63\x64\x65\x66\x67\x68",
-    b"\x1f\xf1\x53\x65\x70\x17\x00\x00\x1c\x00\x00\x00\x1c\x00\x00\x00\x45\x00\x00\x1c\x00\x0b\x20\x00\x40\x11\x00\x00\xc0\x00\x02\x01\xc0\x00\x02\x07\x51\x52\x53\x54\x55\x56\x57\x58",
-];
-
-/// The bytes of the recording.
-fn recording(rt: &HostRuntime) -> Result<Vec<u8>, Fail> {
-    let mut bytes = Vec::new(rt.alloc());
-    for piece in PIECES {
-        bytes.extend_from_slice(piece)?;
-    }
-    Ok(bytes)
-}
+const RECORDING: &[u8] =
+    b"\xd4\xc3\xb2\xa1\x02\x00\x04\x00\x00\x00\x00\x00\x00\x00\x00\x00\x00\x00\x04\x00\xe4\x00\x00\x00\
+    \x00\xf1\x53\x65\x00\x00\x00\x00\x20\x00\x00\x00\x20\x00\x00\x00\x45\x00\x00\x20\x00\x07\x00\x02\x40\x11\x00\x00\xc0\x00\x02\x01\xc0\x00\x02\x07\x38\x39\x61\x62\x63\x64\x65\x66\x67\x68\x69\x6a\
+    \x00\xf1\x53\x65\xe8\x03\x00\x00\x21\x00\x00\x00\x21\x00\x00\x00\x45\x00\x00\x21\x00\x00\x00\x00\x40\x11\x00\x00\xc0\x00\x02\x01\xc0\x00\x02\x07\x9c\x40\x00\x45\x00\x0d\x00\x00\x68\x65\x6c\x6c\x6f\
+    \x00\xf1\x53\x65\xd0\x07\x00\x00\x1c\x00\x00\x00\x1c\x00\x00\x00\x45\x00\x00\x1c\x00\x09\x20\x01\x40\x11\x00\x00\xc0\x00\x02\x01\xc0\x00\x02\x07\x41\x42\x43\x44\x45\x46\x47\x48\
+    \x00\xf1\x53\x65\xb8\x0b\x00\x00\x24\x00\x00\x00\x24\x00\x00\x00\x45\x00\x00\x24\x00\x07\x20\x00\x40\x11\x00\x00\xc0\x00\x02\x01\xc0\x00\x02\x07\x9c\x40\x00\x45\x00\x1c\x00\x00\x30\x31\x32\x33\x34\x35\x36\x37\
+    \x00\xf1\x53\x65\xa0\x0f\x00\x00\x28\x00\x00\x00\x28\x00\x00\x00\x45\x00\x00\x28\x00\x00\x00\x00\x40\x06\x00\x00\xc0\x00\x02\x01\xc0\x00\x02\x07\x00\x00\x00\x00\x00\x00\x00\x00\x00\x00\x00\x00\x00\x00\x00\x00\x00\x00\x00\x00\
+    \x00\xf1\x53\x65\x88\x13\x00\x00\x1c\x00\x00\x00\x1c\x00\x00\x00\x45\x00\x00\x1c\x00\x0b\x20\x00\x40\x11\x00\x00\xc0\x00\x02\x01\xc0\x00\x02\x07\x49\x4a\x4b\x4c\x4d\x4e\x4f\x50\
+    \x00\xf1\x53\x65\x70\x17\x00\x00\x1c\x00\x00\x00\x1c\x00\x00\x00\x45\x00\x00\x1c\x00\x09\x20\x01\x40\x11\x00\x00\xc0\x00\x02\x01\xc0\x00\x02\x07\x61\x62\x63\x64\x65\x66\x67\x68\
+    \x1f\xf1\x53\x65\x70\x17\x00\x00\x1c\x00\x00\x00\x1c\x00\x00\x00\x45\x00\x00\x1c\x00\x0b\x20\x00\x40\x11\x00\x00\xc0\x00\x02\x01\xc0\x00\x02\x07\x51\x52\x53\x54\x55\x56\x57\x58";
 
 /// Want of memory as the tests tell it, and any other fault by its frame.
 fn failed(fault: PcapFault) -> Fail {
@@ -36,44 +26,70 @@ fn failed(fault: PcapFault) -> Fail {
     }
 }
 
-/// What became of a frame: the payload of its datagram, or that it waits (`~`), or why it is left out (`!` and a letter).
-fn told<'a>(event: &'a Event) -> &'a [u8] {
-    match event.fate() {
-        Fate::Datagram(datagram) => datagram.payload,
-        Fate::Waits => b"~",
-        Fate::Left(LeftOut::Frame(_)) => b"!f",
-        Fate::Left(LeftOut::Apart) => b"!a",
-        Fate::Left(_) => b"!?",
+/// What is told of a frame.
+enum Told {
+    /// It is a datagram with this payload.
+    Payload(&'static [u8]),
+    /// It waits for others of its packet.
+    Waits,
+    /// It carries no UDP.
+    NoUdp,
+    /// Its bytes are not those that came before.
+    Apart,
+}
+
+fn has_payload(fate: Fate<'_>, payload: &[u8]) -> bool {
+    match fate {
+        Fate::Datagram(datagram) => datagram.payload == payload,
+        _ => false,
     }
 }
 
-/// Of each frame what became of it, the frames that share that, and those that were too old.
-const FATES: [(&[u8], &[u64], &[u64]); 8] = [
-    (b"~", &[], &[]),
-    (b"hello", &[], &[]),
-    (b"~", &[], &[]),
-    (b"0123456789abcdefghij", &[1, 4], &[]),
-    (b"!f", &[], &[]),
-    (b"~", &[], &[]),
-    (b"!a", &[3], &[]),
-    (b"~", &[], &[6]),
+fn is_told(fate: Fate<'_>, told: &Told) -> bool {
+    match told {
+        Told::Payload(payload) => has_payload(fate, payload),
+        Told::Waits => matches!(fate, Fate::Waits),
+        Told::NoUdp => matches!(fate, Fate::Left(LeftOut::Frame(_))),
+        Told::Apart => matches!(fate, Fate::Left(LeftOut::Apart)),
+    }
+}
+
+/// Of each frame what is told, the frames that share that, and those that were too old.
+const FATES: [(Told, &[u64], &[u64]); 8] = [
+    (Told::Waits, &[], &[]),
+    (Told::Payload(b"hello"), &[], &[]),
+    (Told::Waits, &[], &[]),
+    (Told::Payload(b"0123456789abcdefghij"), &[1, 4], &[]),
+    (Told::NoUdp, &[], &[]),
+    (Told::Waits, &[], &[]),
+    (Told::Apart, &[3], &[]),
+    (Told::Waits, &[], &[6]),
 ];
+
+/// Reads the next frame, and answers whether this is told of it.
+fn reads(
+    rt: &HostRuntime,
+    frames: &mut RecordingReader,
+    reader: &mut Tallied<DripReader>,
+    event: &mut Event,
+    wanted: &(Told, &[u64], &[u64]),
+) -> Result<bool, Fail> {
+    let (told, sharers, old) = wanted;
+    let is_read = frames.next_into(rt.alloc(), reader, event).map_err(failed)?;
+    let is_shared = event.sharers() == *sharers && event.old() == *old;
+    Ok(is_read && is_shared && is_told(event.fate(), told))
+}
 
 /// However the reader cuts the bytes.
 #[test]
 fn each_frame_has_its_fate(rt: HostRuntime) -> Result<(), Fail> {
-    let bytes = recording(&rt)?;
     for piece in [1usize, 7, 4096] {
-        let mut reader = Tallied::new(DripReader::new(bytes.as_slice(), piece, 0, None));
+        let mut reader = Tallied::new(DripReader::new(RECORDING, piece, 0, None));
         let mut frames = RecordingReader::begin(rt.alloc(), &mut reader).map_err(failed)?;
         let mut event = Event::empty(rt.alloc());
-        for (number, (fate, sharers, old)) in (1u64..).zip(FATES) {
-            let read = frames.next_into(rt.alloc(), &mut reader, &mut event);
-            assert!(rt; read.map_err(failed)?);
-            assert_eq!(rt; event.number(), number);
-            assert!(rt; told(&event) == fate);
-            assert!(rt; event.sharers() == sharers);
-            assert!(rt; event.old() == old);
+        for (number, wanted) in (1u64..).zip(&FATES) {
+            let is_right = reads(&rt, &mut frames, &mut reader, &mut event, wanted)?;
+            assert!(rt; is_right && event.number() == number);
         }
         for _ in 0..2 {
             let read = frames.next_into(rt.alloc(), &mut reader, &mut event);
@@ -94,8 +110,7 @@ fn each_frame_has_its_fate(rt: HostRuntime) -> Result<(), Fail> {
 /// A recording that is cut within its last record has a fault there for good, and the frames before it.
 #[test]
 fn a_cut_recording_has_the_frames_before(rt: HostRuntime) -> Result<(), Fail> {
-    let bytes = recording(&rt)?;
-    let Some((_, front)) = bytes.as_slice().split_last() else {
+    let Some((_, front)) = RECORDING.split_last() else {
         return Err(Fail::new("empty"));
     };
     let mut reader = Tallied::new(DripReader::new(front, 5, 0, None));
