@@ -21,7 +21,7 @@ use Rattle.tftp_nego.specs.declared.fault.NegoFault.{NegoFault}
 use Rattle.tftp_nego.proofs.Tested.{no_fault}
 use Rattle.tftp_law.specs.Rules.{number_of, Agrees, Begins, NotAnswered, FirstAnswer, IsWrongKind, GoesOn, ClientWentOn}
 use Rattle.tftp_judge.specs.Finds.{Finds, NoneBreaks, IsFirstOf, IsBlockOrAck, stop_of_fault}
-use Rattle.tftp_law.specs.MessageRules.{AreTermsAfter, RequestBreaks, FirstOackBreaks, LaterOackBreaks, OackBreaks, TermsBreak, KindBreaks, MessageBreaks, rule_of_end}
+use Rattle.tftp_law.specs.MessageRules.{AreTermsAfter, BlockSent, RequestBreaks, FirstOackBreaks, LaterOackBreaks, OackBreaks, TermsBreak, KindBreaks, MessageBreaks, rule_of_end}
 use Rattle.tftp_law.specs.declared.rule.Rule.{Rule}
 use Rattle.tftp_judge.specs.declared.stop.Stop.{Stop}
 use Rattle.tftp_judge.proofs.FirstAnswers.{not_both, first_once, terms_once, block_answers}
@@ -306,3 +306,65 @@ module _ (h : Header) (asked : RequestParts) (passed : List Datagram) (dir : Dir
 
       pub again_passes : (dir ≡ Out → ClientWentOn passed → ⊥) → NoneBreaks Again
       again_passes early = (kind_finds h asked passed dir (Message.Request asked) (right_by (author_of h.named dir) other) stays (Unit {0}) (Ok tt) (request_passes asked passed dir asked refl early, tt)).0
+
+-- ---- the first OACK again
+
+module _ (side : Side) (passed : List Datagram) (dir : Dir) (first oack : OptionMap) (same : oack ≡ first) where
+  pub later_late : (dir ≡ Out) × (side ≡ Get) × BlockSent passed → IsFirstOf (LaterOackBreaks side passed dir first oack) Rule.OackAfterStart
+  later_late late = (late, below)
+    where
+      below : (lower : Rule) → number_of lower < number_of Rule.OackAfterStart → LaterOackBreaks side passed dir first oack lower → ⊥
+      below Rule.OackChanged low apart = apart same
+      below Rule.OackAfterStart low b = omega (arith, low)
+      below rule low b = b
+
+  pub later_passes : ((dir ≡ Out) × (side ≡ Get) × BlockSent passed → ⊥) → NoneBreaks (LaterOackBreaks side passed dir first oack)
+  later_passes early Rule.OackChanged apart = apart same
+  later_passes early Rule.OackAfterStart b = early b
+  later_passes early rule b = b
+
+client_agrees : (side : Side) (oack : OptionMap) → IsWrongKind Client side (Message.Oack oack)
+client_agrees Get oack = tt
+client_agrees Put oack = tt
+
+server_agrees : (side : Side) (oack : OptionMap) → IsWrongKind Server side (Message.Oack oack) → ⊥
+server_agrees Get oack wrong = wrong
+server_agrees Put oack wrong = wrong
+
+module _ (h : Header) (asked : RequestParts) (passed : List Datagram) (dir : Dir) (oack : OptionMap) where
+  abbrev OackAgain : Rule → Type 0
+  OackAgain = MessageBreaks h asked passed dir (Message.Oack oack)
+
+  pub oack_again_wrong : author_of h.named dir ≡ Client → IsFirstOf OackAgain Rule.WrongKind
+  oack_again_wrong client = (inl (refl, subst (λ (e : End). IsWrongKind e asked.side (Message.Oack oack)) (sym client) (client_agrees asked.side oack)), below)
+    where
+      below : (other : Rule) → number_of other < 6 → OackAgain other → ⊥
+      below other low (inl (is, wrong)) = let same = ap number_of is in omega (arith, low, same)
+      below other low (inr (inl (is, on))) = let same = ap number_of is in omega (arith, low, same)
+      below other low (inr (inr b)) = let high = kind_from h asked passed dir (Message.Oack oack) other b in omega (arith, low, high)
+
+  oack_right_by : (author : End) → (author ≡ Client → ⊥) → IsWrongKind author asked.side (Message.Oack oack) → ⊥
+  oack_right_by Client other wrong = other refl
+  oack_right_by Server other wrong = server_agrees asked.side oack wrong
+
+  module _ (other : author_of h.named dir ≡ Client → ⊥) where
+    pub oack_again_ended : dir ≡ Out → (code : ℕ) × (text : List ℕ) × Passed Out (Message.Error code text) passed → IsFirstOf OackAgain Rule.AfterError
+    oack_again_ended out (code, text, stop) = gone_on h asked passed dir (Message.Oack oack) (oack_right_by (author_of h.named dir) other)
+        (Message.Error code text, (code, text, refl), subst (λ way. Passed way (Message.Error code text) passed) (sym out) stop, (λ e. cc), inl out)
+
+    -- no ERROR went this way, or it came in
+    pub oack_again_goes : (dir ≡ Out → (code : ℕ) × (text : List ℕ) × Passed Out (Message.Error code text) passed → ⊥) → GoesOn passed dir (Message.Oack oack) → ⊥
+    oack_again_goes none (stop, (code, text, is), went, differs, inl out) =
+        none out (code, text, subst (λ way. Passed way (Message.Error code text) passed) out (subst (λ m. Passed dir m passed) is went))
+    oack_again_goes none (stop, is, went, differs, inr (code, text, e)) = cc
+
+    module _ (first : FirstAnswer asked.side passed (Agrees oack)) (stays : GoesOn passed dir (Message.Oack oack) → ⊥) where
+      oack_found : (r : Result (Unit {0}) Stop) → Finds (LaterOackBreaks asked.side passed dir oack oack) (Unit {0}) r → Finds OackAgain (Unit {0}) r
+      oack_found r found = kind_finds h asked passed dir (Message.Oack oack) (oack_right_by (author_of h.named dir) other) stays (Unit {0}) r
+          (later_oack_finds asked passed dir oack oack first (Unit {0}) (Unit {0}) (λ a. a) r found)
+
+      pub oack_again_late : (dir ≡ Out) × (asked.side ≡ Get) × BlockSent passed → IsFirstOf OackAgain Rule.OackAfterStart
+      oack_again_late late = oack_found (Err (Stop.Broken Rule.OackAfterStart)) (later_late asked.side passed dir oack oack refl late)
+
+      pub oack_again_passes : ((dir ≡ Out) × (asked.side ≡ Get) × BlockSent passed → ⊥) → NoneBreaks OackAgain
+      oack_again_passes early = (oack_found (Ok tt) (later_passes asked.side passed dir oack oack refl early, tt)).0

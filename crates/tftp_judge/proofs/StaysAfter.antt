@@ -16,11 +16,12 @@ use Rattle.tftp_ends.proofs.AfterReceiver.{receiver_aside}
 use Rattle.tftp_ends.proofs.AfterSender.{sender_aside}
 use Rattle.tftp_ends.proofs.Passing.{another, aside_no_block, aside_no_ack}
 use Rattle.tftp_law.specs.MessageRules.{AckSent, BlockSent}
-use Rattle.tftp_law.specs.Rules.{Answer, Agrees, Begins, IsAnswer, IsWrongKind, NotAnswered, terms_after}
+use Rattle.tftp_law.specs.Rules.{Answer, Agrees, Begins, FirstAnswer, IsAnswer, IsWrongKind, NotAnswered, terms_after}
 use Rattle.tftp_law.proofs.Spelled.{spelled_once}
 use Rattle.tftp_judge.proofs.ErrorsAside.{errors_aside}
 use Rattle.tftp_judge.specs.Courses.{DiffersByCourse, DiffersBySent}
 use Rattle.tftp_judge.specs.Finds.{IsBlockOrAck}
+use Rattle.tftp_judge.specs.SentByKept.{HasAgreed}
 use Rattle.tftp_judge.specs.Kept.{Course, Unanswered, Begun, Agreed, HasBegun, IsCourse, Transfer, IsTransferAfter, Errors, AreErrors}
 
 -- a message of no such kind
@@ -117,6 +118,24 @@ pub transfer_with_later_oack : (t : Transfer) (h : Header) (passed : List Datagr
     → Spells d.payload (Message.Oack oack) → IsTransferAfter t h (d ∷ passed)
 transfer_with_later_oack t h passed d oack options end is after spells =
     transfer_aside t h passed d (Message.Oack oack) after spells tt (λ code text e. absurd (cc)) (λ e. let no : Unanswered ≡ Agreed options end = sym e ∙ is in absurd (cc))
+
+-- ---- the first OACK again
+
+pub agreed_first : (h : Header) (asked : RequestParts) (passed : List Datagram) (course : Course) (given : OptionMap) → HasAgreed course given → IsCourse h asked passed course
+    → FirstAnswer asked.side passed (Agrees given)
+agreed_first h asked passed Unanswered given is kept = absurd is
+agreed_first h asked passed (Begun end) given is kept = absurd is
+agreed_first h asked passed (Agreed options end) given is kept = subst (λ o. FirstAnswer asked.side passed (Agrees o)) (sym is) kept.answered
+
+was_answered : (course : Course) (given : OptionMap) → HasAgreed course given → course ≡ Unanswered → ⊥
+was_answered Unanswered given is e = is
+was_answered (Begun end) given is e = is
+was_answered (Agreed options end) given is e = absurd (cc)
+
+pub transfer_with_oack_again : (t : Transfer) (h : Header) (passed : List Datagram) (d : Datagram) (given : OptionMap) → HasAgreed t.course given → IsTransferAfter t h passed
+    → Spells d.payload (Message.Oack given) → IsTransferAfter t h (d ∷ passed)
+transfer_with_oack_again t h passed d given is after spells =
+    transfer_aside t h passed d (Message.Oack given) after spells tt (λ code text e. absurd (cc)) (λ e. absurd (was_answered t.course given is e))
 
 -- ---- a block or an ACK that was kept
 

@@ -1,6 +1,6 @@
 -- What the judge keeps of the datagrams that it has accepted, and for which datagrams that stands. The lists `earlier` and
 -- `passed` have the datagrams of the capture and those of the transfer, the newest first.
-use Rattle.std.specs.Prelude.{◌≡◌, ◌↔◌, ◌≤◌, ℕ, Bool, true, List, [], All, length, Option, Some, None, is_some, ⊤}
+use Rattle.std.specs.Prelude.{◌≡◌, ◌⊎◌, ◌↔◌, ◌≤◌, ℕ, Bool, true, List, [], All, length, Option, Some, None, is_some, ⊤}
 use Rattle.tftp_packet.specs.OptionMap.{OptionMap}
 use Rattle.tftp_packet.specs.Message.{Message, RequestParts}
 use Rattle.tftp_packet.specs.Spelling.{Spells}
@@ -112,6 +112,10 @@ IsKept h earlier (Some transfer) = FirstAsked h earlier transfer.asked × IsTran
 abbrev pub AreBytesOf : List ℕ → Option Transfer → Type 0
 AreBytesOf bytes None = ⊤
 AreBytesOf bytes (Some transfer) = Spells bytes (Message.Request transfer.asked)
+
+-- these bytes spell the first OACK, unless none are kept
+abbrev pub AreOackBytes : List ℕ → OptionMap → Type 0
+AreOackBytes bytes options = (bytes ≡ []) ⊎ Spells bytes (Message.Oack options)
 
 -- what is kept of these datagrams
 pub record HasKept (k : Keeper) (h : Header) (earlier : List Datagram) : Type 0 where

@@ -1,5 +1,6 @@
 ghost use Rattle.std.specs.Prelude.{◌≡◌, ◌⊎◌, ◌↔◌, IsTrue, List, ◌∷◌, OnOk, IfErr, OnErr};
-ghost use Rattle.tftp_packet.specs.Message.{RequestParts};
+ghost use Rattle.tftp_packet.specs.Message.{Message, RequestParts};
+ghost use Rattle.tftp_packet.specs.Spelling.{Spells};
 ghost use Rattle.tftp_packet.specs.Meaning.{meaning};
 ghost use Rattle.tftp_packet.specs.Written.{map_of};
 ghost use Rattle.tftp_ends.specs.CaptureText.{Datagram, Header};
@@ -11,11 +12,11 @@ ghost use Rattle.tftp_judge.specs.Courses.{HasAnswer, IsNewBlockOn, MayKeepOn};
 ghost use Rattle.tftp_judge.specs.Finds.{NoneBreaks, IsFirstOf};
 ghost use Rattle.tftp_judge.specs.Kept.{IsCourse};
 ghost use Rattle.tftp_judge.specs.KeptCode.{course_of};
-ghost use Rattle.tftp_judge.specs.SentByKept.{HasAgreed, HasBlock};
+ghost use Rattle.tftp_judge.specs.SentByKept.{HasAgreed, HasBlock, IsAgreedBy};
 
+use crate::first_oack::FirstOack;
 use std::alloc::{AllocError, Global};
 use tftp_ends::{Delivered, EndFault, NamedEnd};
-use tftp_nego::Agreed;
 use tftp_packet::{Dir, OptionsView, Packet, same_options};
 
 /// How the request was answered, and the named end that began with the answer (RFC 1350, section 4; RFC 2347).
@@ -26,7 +27,7 @@ pub enum Course<D: Delivered + Drop> {
     /// By a block or an ACK 0, and so with nothing agreed.
     Begun(NamedEnd<D>),
     /// By an OACK that agrees to these options.
-    Agreed(Agreed, NamedEnd<D>),
+    Agreed(FirstOack, NamedEnd<D>),
 }
 
 impl<D: Delivered + Drop> Course<D> {
@@ -70,7 +71,30 @@ impl<D: Delivered + Drop> Course<D> {
         match self {
             Course::Unanswered => false,
             Course::Begun(_) => false,
-            Course::Agreed(agreed, _) => same_options(agreed.options(), oack),
+            Course::Agreed(first, _) => same_options(first.agreed().options(), oack),
+        }
+    }
+
+    /// Whether the first OACK had these bytes. Where its bytes were not kept it is not known by them.
+    #[inline]
+    pub fn has_agreed_by(&self, payload: &[u8]) -> bool
+        ensures { IsTrue result → IsAgreedBy (course_of self.now) payload.now }
+    {
+        match self {
+            Course::Agreed(first, _) => first.has_bytes(payload),
+            _ => false,
+        }
+    }
+
+    /// Keeps the bytes of an OACK that has passed, unless some are kept.
+    pub fn keep_oack(&mut self, alloc: Global, oack: &OptionsView<'_>, payload: &[u8])
+        requires { Spells payload.now (Message.Oack (map_of oack.now)) }
+        ensures { course_of self.new ≡ course_of self.old }
+    {
+        if let Course::Agreed(first, _) = self {
+            if !first.has_kept() && same_options(first.agreed().options(), oack) {
+                first.keep(alloc, payload);
+            }
         }
     }
 

@@ -129,7 +129,8 @@ impl<D: Delivered + Drop> Keeper<D> {
         self.transfer
     }
 
-    /// What is found of a datagram of the transfer. The first request again is known by its bytes, and is not read.
+    /// What is found of a datagram of the transfer. The first request again and the first OACK again
+    /// are known by their bytes, and are not read.
     fn pass_message(
         &mut self,
         alloc: Global,
@@ -151,6 +152,9 @@ impl<D: Delivered + Drop> Keeper<D> {
         if let Some(transfer) = &self.transfer {
             if payload == self.asked.as_slice() {
                 return transfer.pass_again(dir);
+            }
+            if transfer.has_agreed_by(payload) {
+                return transfer.pass_oack_again(dir);
             }
         }
         self.pass_read(alloc, route, dir, payload)
@@ -183,7 +187,11 @@ impl<D: Delivered + Drop> Keeper<D> {
             Err(fault) => return Err(Stop::Broken(Rule::Malformed(fault))),
         };
         match (&mut self.transfer, &packet) {
-            (Some(transfer), _) => transfer.pass(alloc, dir, &packet),
+            (Some(transfer), _) => {
+                transfer.pass(alloc, dir, &packet)?;
+                transfer.keep_oack(alloc, &packet, payload);
+                Ok(())
+            }
             (None, Packet::Request(asked)) => {
                 let asked = own_request(alloc, asked)?;
                 self.asked = Bytes::of(Vec::from_slice(alloc, payload)?);

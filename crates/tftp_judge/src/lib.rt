@@ -5,6 +5,7 @@ mod course;
 mod errors;
 mod extraction;
 mod file;
+mod first_oack;
 mod judging;
 mod keeping;
 mod kinds;

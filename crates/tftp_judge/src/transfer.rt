@@ -1,5 +1,8 @@
 ghost use Rattle.std.specs.Prelude.{◌≡◌, ◌≢◌, ◌≤◌, ◌↔◌, IsTrue, true, ℕ, List, [], ◌∷◌, length, reverse, OnOk, OnErr, IfErr, Err};
+ghost use Rattle.tftp_packet.specs.OptionMap.{OptionMap};
 ghost use Rattle.tftp_packet.specs.Message.{Message};
+ghost use Rattle.tftp_packet.specs.declared.kinds.Dir.TheVariants.{Out};
+ghost use Rattle.tftp_packet.specs.declared.kinds.Side.TheVariants.{Get};
 ghost use Rattle.tftp_packet.specs.Spelling.{Spells};
 ghost use Rattle.tftp_packet.specs.Meaning.{meaning};
 ghost use Rattle.tftp_packet.specs.Written.{parts, map_of};
@@ -16,7 +19,7 @@ ghost use Rattle.tftp_judge.specs.Finds.{Finds, stop_of_fault, IsBlockOrAck};
 ghost use Rattle.tftp_judge.specs.Courses.{HasAnswer, WaitsForReply, DiffersByCourse, DiffersBySent};
 ghost use Rattle.tftp_judge.specs.Memory.{IsNew, TakesForJoin};
 ghost use Rattle.tftp_judge.specs.Kept.{AreErrors, Unanswered, IsCourse, IsTransferAfter, IsTransferOf};
-ghost use Rattle.tftp_judge.specs.SentByKept.{HasSentBy, flags_of};
+ghost use Rattle.tftp_judge.specs.SentByKept.{HasAgreed, HasSentBy, IsAgreedBy, flags_of};
 ghost use Rattle.tftp_judge.specs.Verdict.{IsVerdictByRules};
 ghost use Rattle.tftp_judge.specs.declared.refusal.Refusal.{Refusal as RefusalKind};
 ghost use Rattle.tftp_judge.specs.declared.stop.Stop.{Stop as StopKind};
@@ -24,6 +27,7 @@ ghost use Rattle.tftp_judge.specs.declared.stop.Stop.{Stop as StopKind};
 use crate::course::Course;
 use crate::errors::Errors;
 use crate::file::{file_of, written_blocks};
+use crate::first_oack::FirstOack;
 use crate::kinds::{author_of, is_wrong_kind};
 use crate::meaning::Meaning;
 use crate::refusal::Refusal;
@@ -135,6 +139,30 @@ impl<D: Delivered + Drop> Transfer<D> {
         Ok(())
     }
 
+    /// What the first OACK breaks that comes again with the same bytes, as `pass` says it: a client sends it, its end has
+    /// sent an ERROR, or the server of a read has sent a block (RFC 1350, section 7; RFC 2347).
+    pub fn pass_oack_again(&self, dir: Dir) -> Result<(), Stop>
+        ensures finds { (h : Header) (passed : List Datagram) (d : Datagram) (given : OptionMap) → IsTransferAfter self.now h passed
+            → HasAgreed self.now.course given → Says d dir (Message.Oack given)
+            → Finds (MessageBreaks h self.now.asked passed dir (Message.Oack given)) (IsTransferAfter self.now h (d ∷ passed)) result }
+        ensures takes_none { result ≢ Err StopKind.Memory }
+    {
+        if author_of(self.named, dir) == End::Client {
+            return Err(Stop::Broken(Rule::WrongKind));
+        }
+        if dir != Dir::Out {
+            return Ok(());
+        }
+        let has_stopped = self.errors.has_gone_out();
+        if has_stopped {
+            return Err(Stop::Broken(Rule::AfterError));
+        }
+        if self.late_oack(dir) {
+            return Err(Stop::Broken(Rule::OackAfterStart));
+        }
+        Ok(())
+    }
+
     /// A request after the first one: it is not that one again, or it comes after a block or an ACK of the client (RFC
     /// 1350, section 4).
     fn pass_request(&mut self, dir: Dir, now: &RequestView<'_>) -> Result<(), Stop>
@@ -197,18 +225,44 @@ impl<D: Delivered + Drop> Transfer<D> {
 
     /// What an OACK breaks after the first one: it is not that one again, or the server of a read sends it after a block
     /// (RFC 2347).
-    fn later_oack(&self, dir: Dir, first: &Agreed, oack: &OptionsView<'_>) -> Result<(), Stop>
+    fn later_oack(&self, dir: Dir, first: &FirstOack, oack: &OptionsView<'_>) -> Result<(), Stop>
         ensures finds { (h : Header) (passed : List Datagram) → IsTransferAfter self.now h passed
             → Finds (LaterOackBreaks self.now.asked.side passed dir first.now (map_of oack.now)) (Unit {0}) result }
         ensures takes_none { result ≢ Err StopKind.Memory }
     {
-        if !same_options(first.options(), oack) {
+        if !same_options(first.agreed().options(), oack) {
             return Err(Stop::Broken(Rule::OackChanged));
         }
-        if dir == Dir::Out && self.asked.side() == Side::Get && self.block_sent {
+        if self.late_oack(dir) {
             return Err(Stop::Broken(Rule::OackAfterStart));
         }
         Ok(())
+    }
+
+    /// Whether an OACK goes out of the server of a read after a block (RFC 2347).
+    fn late_oack(&self, dir: Dir) -> bool
+        ensures { (h : Header) (passed : List Datagram) → IsTransferAfter self.now h passed
+            → (IsTrue result ↔ ((dir ≡ Out) × (self.now.asked.side ≡ Get) × BlockSent passed)) }
+    {
+        dir == Dir::Out && self.asked.side() == Side::Get && self.block_sent
+    }
+
+    /// Whether the first OACK had these bytes. Where its bytes were not kept it is not known by them.
+    #[inline]
+    pub fn has_agreed_by(&self, payload: &[u8]) -> bool
+        ensures { IsTrue result → IsAgreedBy self.now.course payload.now }
+    {
+        self.course.has_agreed_by(payload)
+    }
+
+    /// Keeps the bytes of a packet that has passed, where it is the first OACK; without memory for them it keeps none.
+    pub fn keep_oack(&mut self, alloc: Global, packet: &Packet<'_>, payload: &[u8])
+        requires { Spells payload.now (meaning packet.now) }
+        ensures { self.new ≡ self.old }
+    {
+        if let Packet::Oack(oack) = packet {
+            self.course.keep_oack(alloc, oack, payload);
+        }
     }
 
     /// What the first OACK breaks: it has no option, or one that may not be agreed (RFC 2347; RFC 2348; RFC 2349;
@@ -226,7 +280,7 @@ impl<D: Delivered + Drop> Transfer<D> {
             Err(fault) => return Err(stop_of(fault)),
         };
         let end = self.begin(alloc, agreed_terms(self.named, &self.asked, &agreed));
-        self.course = Course::Agreed(agreed, end);
+        self.course = Course::Agreed(FirstOack::of(alloc, agreed), end);
         Ok(())
     }
 
@@ -354,7 +408,7 @@ impl<D: Delivered + Drop> Transfer<D> {
         let (agreed, end) = match course {
             Course::Unanswered => return Err(errors.unfinished(count)),
             Course::Begun(end) => (nothing_agreed(alloc), end),
-            Course::Agreed(agreed, end) => (agreed, end),
+            Course::Agreed(first, end) => (first.into_agreed(), end),
         };
         if !end.done() {
             return Err(errors.unfinished(count));

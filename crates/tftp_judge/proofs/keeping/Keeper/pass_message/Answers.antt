@@ -20,3 +20,15 @@ returns-then-eq-clause-finds g c = λ h earlier d at one kept is on dir payload.
     let kept_now : IsKept h earlier (Some t) = subst (λ (o : Option Transfer). IsKept h earlier o) there kept in
     subst (λ (o : Option Transfer). FindsOf h earlier d (IsKept h (d ∷ earlier) o) c.pass_again.result) (sym there)
     (message_found h earlier d c.args.dir m t t dir routed spells kept_now refl c.pass_again.result (c.pass_again.ensures.finds h (transfer_of h earlier) d kept_now.1 (dir, spells)))
+
+pub returns-then-has_agreed_by-clause-finds : goal.returns-then-has_agreed_by-clause-finds
+returns-then-has_agreed_by-clause-finds g c = λ h earlier d at one kept is on dir payload.
+    let t = c.in-Some.transfer in
+    let (given, agreed, bytes) = c.has_agreed_by.ensures c.if-has_agreed_by.true in
+    let m = Message.Oack given in
+    let routed : is_of_transfer (route_of h earlier d) ≡ true = ap is_of_transfer (sym is) ∙ on in
+    let there : c.args.self.now.transfer ≡ Some t = sym (ap (λ (k : Keeper). k.transfer) c.self.view_is) ∙ c.in-Some.is in
+    let spells : Spells d.payload m = subst (λ (bytes : List _). Spells bytes m) (sym payload) bytes in
+    let kept_now : IsKept h earlier (Some t) = subst (λ (o : Option Transfer). IsKept h earlier o) there kept in
+    subst (λ (o : Option Transfer). FindsOf h earlier d (IsKept h (d ∷ earlier) o) c.pass_oack_again.result) (sym there)
+    (message_found h earlier d c.args.dir m t t dir routed spells kept_now refl c.pass_oack_again.result (c.pass_oack_again.ensures.finds h (transfer_of h earlier) d given kept_now.1 agreed (dir, spells)))

@@ -1,4 +1,4 @@
-use Rattle.std.proofs.Common.{◌≡◌, true, List, [], Option, Some, None, inr, rules, sym, subst, ap, ◌∙◌}
+use Rattle.std.proofs.Common.{◌≡◌, true, List, [], ◌∷◌, Option, Some, None, Ok, Err, inr, rules, sym, subst, ap, ◌∙◌}
 use Rattle.std.proofs.lemmas.Bool.{false≢true}
 use Rattle.tftp_packet.specs.Message.{Message, RequestParts}
 use Rattle.tftp_packet.specs.Meaning.{meaning}
@@ -8,20 +8,36 @@ use Rattle.tftp_packet.specs.declared.packet.Packet.{Packet}
 use Rattle.tftp_ends.specs.CaptureText.{Header}
 use Rattle.tftp_ends.specs.Ports.{Route, route_of, is_of_transfer, transfer_of}
 use Rattle.tftp_ends.specs.declared.route.Route.TheVariants as may
-use Rattle.tftp_judge.specs.Kept.{Keeper, Transfer, IsKept}
+use Rattle.tftp_judge.specs.Finds.{FindsOf}
+use Rattle.tftp_judge.specs.Kept.{Keeper, Transfer, IsKept, IsTransferAfter}
 use Rattle.tftp_judge.specs.Memory.{IsNew}
 use Rattle.tftp_judge.proofs.Accepting.{message_found, peer_is, request_found}
 use Rattle.tftp_judge.proofs.keeping.Keeper.pass_read.Goals as goal
 use Rattle.tftp_judge.proofs.keeping.Keeper.pass_read.Goals.{else-is_none-via-then-is_none+else-eq, else-is_none-via-else-is_none}
 
-pub returns-in-Some-default-clause-finds : goal.returns-in-Some-default-clause-finds
-returns-in-Some-default-clause-finds g c = λ h earlier d at one kept is on dir payload.
+pub returns-in_err-pass-in-Some-default-clause-finds : goal.returns-in_err-pass-in-Some-default-clause-finds
+returns-in_err-pass-in-Some-default-clause-finds g c = λ h earlier d at one kept is on dir payload.
     let routed : is_of_transfer (route_of h earlier d) ≡ true = ap is_of_transfer (sym is) ∙ on in
     let spells : Spells d.payload (meaning c.in-Ok.packet) = subst (λ (bytes : List _). Spells bytes (meaning c.in-Ok.packet)) (sym payload) c.in-Ok.ensures.found in
     let there : c.args.self.now.transfer ≡ Some c.in-Some-default.transfer = sym (ap (λ (k : Keeper). k.transfer) c.self.view_is) ∙ c.in-Some-default.is-0 in
     let kept_now : IsKept h earlier (Some c.in-Some-default.transfer) = subst (λ (t : Option Transfer). IsKept h earlier t) there kept in
-    message_found h earlier d c.args.dir (meaning c.in-Ok.packet) c.in-Some-default.transfer c.pass.new.self dir routed spells kept_now c.pass.ensures.asked c.pass.result
-    (c.pass.ensures.finds h (transfer_of h earlier) d kept_now.1 (dir, spells))
+    let same : Err c.in_err-pass-in-Some-default.field-0.0 ≡ c.from_residual.result = search rules in
+    subst (FindsOf h earlier d (IsKept h (d ∷ earlier) (Some c.pass.new.self))) same
+    (message_found h earlier d c.args.dir (meaning c.in-Ok.packet) c.in-Some-default.transfer c.pass.new.self dir routed spells kept_now c.pass.ensures.asked (Err c.in_err-pass-in-Some-default.field-0.0)
+    (c.in_err-pass-in-Some-default.ensures.finds h (transfer_of h earlier) d kept_now.1 (dir, spells)))
+
+pub returns-in_ok-pass-in-Some-default-clause-finds : goal.returns-in_ok-pass-in-Some-default-clause-finds
+returns-in_ok-pass-in-Some-default-clause-finds g c = λ h earlier d at one kept is on dir payload.
+    let m = meaning c.in-Ok.packet in
+    let t = c.in-Some-default.transfer in
+    let passed = transfer_of h earlier in
+    let routed : is_of_transfer (route_of h earlier d) ≡ true = ap is_of_transfer (sym is) ∙ on in
+    let spells : Spells d.payload m = subst (λ (bytes : List _). Spells bytes m) (sym payload) c.in-Ok.ensures.found in
+    let there : c.args.self.now.transfer ≡ Some t = sym (ap (λ (k : Keeper). k.transfer) c.self.view_is) ∙ c.in-Some-default.is-0 in
+    let kept_now : IsKept h earlier (Some t) = subst (λ (o : Option Transfer). IsKept h earlier o) there kept in
+    let found = c.in_ok-pass-in-Some-default.ensures.finds h passed d kept_now.1 (dir, spells) in
+    message_found h earlier d c.args.dir m t c.keep_oack.new.self dir routed spells kept_now (ap (λ (u : Transfer). u.asked) c.keep_oack.ensures ∙ c.pass.ensures.asked) (Ok tt)
+    (found.0, subst (λ (u : Transfer). IsTransferAfter u h (d ∷ passed)) (sym c.keep_oack.ensures) found.1)
 
 pub returns-in_ok-from_slice-in-None-Request-clause-finds : goal.returns-in_ok-from_slice-in-None-Request-clause-finds
 returns-in_ok-from_slice-in-None-Request-clause-finds g c = λ h earlier d at one kept is on dir payload.
@@ -41,12 +57,13 @@ returns-in_ok-from_slice-in-None-Request-clause-finds g c = λ h earlier d at on
 
 -- ---- want of memory
 
-pub returns-in-Some-default-clause-memory : goal.returns-in-Some-default-clause-memory
-returns-in-Some-default-clause-memory g c = λ h earlier d kept is on dir payload want.
+pub returns-in_err-pass-in-Some-default-clause-memory : goal.returns-in_err-pass-in-Some-default-clause-memory
+returns-in_err-pass-in-Some-default-clause-memory g c = λ h earlier d kept is on dir payload want.
     let there : c.args.self.now.transfer ≡ Some c.in-Some-default.transfer = sym (ap (λ (k : Keeper). k.transfer) c.self.view_is) ∙ c.in-Some-default.is-0 in
     let kept_now : IsKept h earlier (Some c.in-Some-default.transfer) = subst (λ (t : Option Transfer). IsKept h earlier t) there kept in
+    let same : Err c.in_err-pass-in-Some-default.field-0.0 ≡ c.from_residual.result = search rules in
     inr (
       meaning c.in-Ok.packet,
       record { routed = ap is_of_transfer (sym is) ∙ on; spells = subst (λ (bytes : List _). Spells bytes (meaning c.in-Ok.packet)) (sym payload) c.in-Ok.ensures.found },
-      subst (λ w. IsNew (transfer_of h earlier) w (meaning c.in-Ok.packet)) (sym dir) (c.pass.ensures.memory h (transfer_of h earlier) kept_now.1 want),
+      subst (λ w. IsNew (transfer_of h earlier) w (meaning c.in-Ok.packet)) (sym dir) (c.in_err-pass-in-Some-default.ensures.memory h (transfer_of h earlier) kept_now.1 (same ∙ want)),
     )

@@ -11,7 +11,7 @@ use Rattle.tftp_law.specs.Fits.{IsWritable, written_wire}
 use Rattle.tftp_law.specs.OneEnded.{OneEnded, Meant}
 use Rattle.tftp_law.specs.Owned.{meaning_from}
 use Rattle.tftp_law.specs.Rules.{FirstAsked}
-use Rattle.tftp_judge.specs.Kept.{Transfer, AreErrors, IsTransferAfter}
+use Rattle.tftp_judge.specs.Kept.{Agreed, Transfer, AreErrors, IsTransferAfter}
 use Rattle.tftp_judge.specs.Verdict.{IsVerdictByRules}
 use Rattle.tftp_judge.specs.KeptCode.{course_of}
 use Rattle.tftp_judge.proofs.EndedTransfer.{BeganBy, begun_by, agreed_to, unanswered_by, held_file, fits_by, unanswered_not_meant, undone_not_meant, ended_by, meant_by, can_be_written, meant_verdict, long_verdict, memory_verdict, unfinished_verdict}
@@ -24,7 +24,7 @@ use Rattle.tftp_judge.proofs.transfer.Transfer.finish.Goals.{in-Begun, in-Agreed
 began : (g : Over) (c : After-done g) (h : Header) (passed : List Datagram) → IsTransferAfter c.args.self h passed → BeganBy h c.args.self.asked passed c.match-course.agreed.0 c.match-course.agreed.1
 began g c h passed after = elim c.match-course.branch [
   | in-Begun w ↦ rw (w.agreed-is) (begun_by h c.args.self passed after w.in-Begun.end w.nothing_agreed.result (sym (ap (λ (t : Transfer). t.course) c.self.view_is) ∙ ap course_of w.in-Begun.is) w.nothing_agreed.ensures)
-  | in-Agreed w ↦ rw (w.agreed-is) (agreed_to h c.args.self passed after w.in-Agreed.end w.in-Agreed.agreed (sym (ap (λ (t : Transfer). t.course) c.self.view_is) ∙ ap course_of w.in-Agreed.is))
+  | in-Agreed w ↦ rw (w.agreed-is) (agreed_to h c.args.self passed after w.in-Agreed.end w.into_agreed.result (sym (ap (λ (t : Transfer). t.course) c.self.view_is) ∙ ap course_of w.in-Agreed.is ∙ ap (λ o. Agreed o w.in-Agreed.end) (sym w.into_agreed.ensures)))
 ]
 
 -- ---- the file is that of a whole transfer

@@ -5,6 +5,7 @@ use Rattle.tftp_packet.specs.Written.{map_of}
 use Rattle.tftp_nego.specs.Agreement.{MayAgree}
 use Rattle.tftp_nego.specs.Faults.{FirstFault}
 use Rattle.tftp_law.specs.MessageRules.{FirstOackBreaks}
+use Rattle.tftp_law.specs.Rules.{Agrees, terms_after}
 use Rattle.tftp_judge.specs.Finds.{Finds}
 use Rattle.tftp_judge.specs.Kept.{Transfer, IsTransferAfter}
 use Rattle.tftp_judge.specs.declared.stop.Stop.{Stop}
@@ -28,6 +29,6 @@ returns-clause-finds g c = λ h passed d after spells.
       none_of_agreed c.args.self.now.asked (map_of c.args.oack.now)
           (λ e. ok.1 (ok.0 ∙ e))
           (subst (λ (asked : RequestParts). MayAgree asked (map_of c.args.oack.now)) asked_is (subst (λ (o : OptionMap). MayAgree c.self.inside.asked o) ok.0 ok.2)),
-      transfer_agreed _ h passed d (map_of c.args.oack.now) c.in-Ok.agreed c.begin-end.result was (ap (λ (t : Transfer). t.course) c.self.view_is ∙ c.requires) spells ok.0
-          (c.begin-end.ensures.terms ∙ c.agreed_terms.ensures.are h (sym was.named)) (c.begin-end.ensures.before passed after.errors),
+      transfer_agreed _ h passed d (map_of c.args.oack.now) c.of.result c.begin-end.result was (ap (λ (t : Transfer). t.course) c.self.view_is ∙ c.requires) spells (c.of.ensures ∙ ok.0)
+          (c.begin-end.ensures.terms ∙ c.agreed_terms.ensures.are h (sym was.named) ∙ ap (λ (o : OptionMap). terms_after h c.self.inside.asked (Agrees o)) (sym c.of.ensures)) (c.begin-end.ensures.before passed after.errors),
     )
