@@ -32,12 +32,13 @@ fn datagram(
     remote_port: u16,
     payload: &[u8],
 ) -> Result<Datagram, AllocError> {
+    let payload = Bytes::of(Vec::from_slice(alloc, payload)?);
     Ok(Datagram {
         dir,
         local_port: 40000,
         remote_host: Host::none(),
         remote_port,
-        payload: Bytes::of(Vec::from_slice(alloc, payload)?),
+        payload,
     })
 }
 

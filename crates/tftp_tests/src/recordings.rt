@@ -38,14 +38,11 @@ enum Told {
     Apart,
 }
 
-fn has_payload(fate: Fate<'_>, payload: &[u8]) -> bool {
-    match fate {
-        Fate::Datagram(datagram) => datagram.payload == payload,
-        _ => false,
-    }
+fn has_payload(fate: &Fate<'_>, payload: &[u8]) -> bool {
+    matches!(fate, Fate::Datagram(datagram) if datagram.payload == payload)
 }
 
-fn is_told(fate: Fate<'_>, told: &Told) -> bool {
+fn is_told(fate: &Fate<'_>, told: &Told) -> bool {
     match told {
         Told::Payload(payload) => has_payload(fate, payload),
         Told::Waits => matches!(fate, Fate::Waits),
@@ -77,7 +74,7 @@ fn reads(
     let (told, sharers, old) = wanted;
     let is_read = frames.next_into(rt.alloc(), reader, event).map_err(failed)?;
     let is_shared = event.sharers() == *sharers && event.old() == *old;
-    Ok(is_read && is_shared && is_told(event.fate(), told))
+    Ok(is_read && is_shared && is_told(&event.fate(), told))
 }
 
 /// However the reader cuts the bytes.
