@@ -54,16 +54,17 @@ pub(crate) fn has_repeat_of_many(bytes: &[u8]) -> bool
         let Some(rest) = after_a_table(left) else {
             return true;
         };
-        if !rest.is_empty() && left.len() - rest.len() < CROWDED {
-            return has_repeat_in_order(rest);
+        if rest.len() == left.len() {
+            return has_repeat_in_order(left);
         }
         left = rest;
     }
     false
 }
 
-/// Puts the first names into a table, and gives the options that are left; none where one of these names came twice. It is a
-/// function of its own, so that the table does not stay on the stack while names are sorted.
+/// Puts the first names into a table, and gives the options that are left; none where one of these names came twice. Where the
+/// table is crowded all are left, and none of them was looked for in it. It is a function of its own, so that the table does
+/// not stay on the stack while names are sorted.
 #[inline(never)]
 fn after_a_table(bytes: &[u8]) -> Option<&[u8]>
     ensures decides { MatchOption result
@@ -76,6 +77,9 @@ fn after_a_table(bytes: &[u8]) -> Option<&[u8]>
         marks: [0; SLOTS],
     };
     let rest = fill(bytes, &mut table)?;
+    if !rest.is_empty() && bytes.len() - rest.len() < CROWDED {
+        return Some(bytes);
+    }
     if has_one_of(bytes, &table, rest) {
         return None;
     }
