@@ -1,5 +1,5 @@
 -- A table of names: what is put into it is found, and nothing else.
-use Rattle.std.proofs.Common.{◌≡◌, ◌≢◌, ◌↔◌, inl, inr, ℕ, zero, suc, ◌+◌, ◌-◌, ◌≤◌, List, [], ◌∷◌, ◌++◌, length, get_or, drop, set, take, refl, sym, ap, subst, ◌∙◌, append_assoc, get_or-set_same, get_or-set_other, length-append, length-drop, take_all, arith}
+use Rattle.std.proofs.Common.{◌≡◌, ◌≢◌, ◌↔◌, inl, inr, ℕ, zero, suc, ◌+◌, ◌-◌, ◌<◌, ◌≤◌, List, [], ◌∷◌, ◌++◌, length, get_or, drop, set, take, refl, sym, ap, subst, ◌∙◌, append_assoc, get_or-set_same, get_or-set_other, length-append, length-drop, take_all, arith}
 use Rattle.std.proofs.lemmas.List.{drop_all}
 use Rattle.std.specs.Prelude.{replicate, map as each}
 use Rattle.std.specs.List.{AllByRecursion}
@@ -9,7 +9,7 @@ use Rattle.tftp_packet.specs.OptionMap.{lower}
 use Rattle.tftp_packet.specs.Written.{IsString, pairs_of}
 use Rattle.tftp_packet.specs.Faults.{AnyOf, HasRepeat}
 use Rattle.tftp_packet.specs.Names.{HasTwo}
-use Rattle.tftp_packet.specs.NameTable.{StandsFirst, keys_of, string_first, key_at, IsHeld, IsFound, IsFree, StandForSome, Holds}
+use Rattle.tftp_packet.specs.NameTable.{StandsFirst, keys_of, string_first, mark_of, key_at, AreMarked, IsHeld, IsFound, IsFree, StandForSome, Holds}
 use Rattle.tftp_packet.proofs.NameLists.{any_left, any_right, two_right, two_across, two_skipped, two_behind, all_more, any_of}
 use Rattle.tftp_packet.proofs.NameOrder.{two_of_repeat, repeat_of_two}
 
@@ -93,6 +93,20 @@ module _ (bytes table key : List ℕ) (slot entry : ℕ) (free : IsFree table ke
         ]
         )
   ]
+
+  pub marked_more : (marks : List ℕ) (mark : ℕ) → slot < length marks → mark ≡ mark_of key → AreMarked bytes table marks → AreMarked bytes (set table slot entry) (set marks slot mark)
+  marked_more marks mark within of marked t = elim (cases_eq t slot) [
+    | inl same ↦ λ _. ap (λ s. get_or (set marks slot mark) s 0) same ∙ get_or-set_same marks slot mark 0 within ∙ of
+        ∙ ap mark_of (sym (ap (λ s. key_at bytes (get_or (set table slot entry) s 0)) same ∙ ap (key_at bytes) there ∙ is))
+    | inr away ↦ (
+        let kept = get_or-set_other table slot t entry 0 away in
+        λ taken. get_or-set_other marks slot t mark 0 away ∙ marked t (λ none. taken (kept ∙ none)) ∙ ap (λ e. mark_of (key_at bytes e)) (sym kept)
+        )
+  ]
+
+-- a name of another hash is not the one in the slot
+pub not_marked : (bytes table marks key : List ℕ) (t : ℕ) → AreMarked bytes table marks → get_or table t 0 ≢ 0 → get_or marks t 0 ≢ mark_of key → key_at bytes (get_or table t 0) ≢ key
+not_marked bytes table marks key t marked taken away same = away (marked t taken ∙ ap mark_of same)
 
 among_held : (bytes table key : List ℕ) (names : List (List ℕ)) → AllByRecursion (IsHeld bytes table) names → AnyOf (λ name. key ≡ name) names → IsHeld bytes table key
 among_held bytes table key [] all any = absurd any

@@ -25,6 +25,10 @@ mixed hash (b ∷ bs) = mixed (((hash + b) % 2 ^ 64) * 11400714819323198485 % 2 
 unfoldable pub first_slot : List ℕ → ℕ
 first_slot name = mixed 0 name / 2 ^ 52
 
+-- the byte that is kept of a name's hash, one of 256
+unfoldable pub mark_of : List ℕ → ℕ
+mark_of name = mixed 0 name / 2 ^ 44 % 2 ^ 8
+
 -- the bytes before the first zero byte, or all
 abbrev pub string_first : List ℕ → List ℕ
 string_first [] = []
@@ -33,6 +37,10 @@ string_first (b ∷ bs) = cond (nat_eq b 0) [] (b ∷ string_first bs)
 -- the name for which a slot stands, in lower case: the slot has one more than the place of the name
 unfoldable pub key_at : List ℕ → ℕ → List ℕ
 key_at bytes entry = lower (string_first (drop (entry - 1) bytes))
+
+-- for each slot that is taken, the byte of its name's hash is kept
+abbrev pub AreMarked : List ℕ → List ℕ → List ℕ → Type 0
+AreMarked bytes table marks = (t : ℕ) → slice_index table t ≢ 0 → slice_index marks t ≡ mark_of (key_at bytes (slice_index table t))
 
 -- a name is in the table: no slot is free from its first slot to its own, which is one of 64
 pub record IsHeld (bytes table key : List ℕ) : Type 0 where
@@ -57,7 +65,7 @@ pub record IsFree (table key : List ℕ) (slot : ℕ) : Type 0 where
 -- what a look into the table tells of a name
 abbrev pub Tells : List ℕ → List ℕ → List ℕ → Slot → Type 0
 Tells bytes table key slot.Held = IsFound bytes table key
-Tells bytes table key (slot.Free at) = IsFree table key at × (IsHeld bytes table key → ⊥)
+Tells bytes table key (slot.Free at mark) = IsFree table key at × (mark ≡ mark_of key) × (IsHeld bytes table key → ⊥)
 Tells bytes table key slot.Full = IsHeld bytes table key → ⊥
 
 -- each slot that is taken stands for one of the names

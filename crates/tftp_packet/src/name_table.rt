@@ -4,7 +4,7 @@ ghost use Rattle.std.specs.Prelude.{◌≡◌, ◌↔◌, ◌+◌, ◌-◌, ◌<
 ghost use Rattle.tftp_packet.specs.OptionMap.{lower};
 ghost use Rattle.tftp_packet.specs.Written.{pairs_of};
 ghost use Rattle.tftp_packet.specs.Faults.{AnyOf, HasRepeat};
-ghost use Rattle.tftp_packet.specs.NameTable.{string_first, first_slot, key_at, keys_of, IsHeld, IsFound, Tells, Holds};
+ghost use Rattle.tftp_packet.specs.NameTable.{string_first, first_slot, mark_of, key_at, keys_of, AreMarked, IsHeld, IsFound, Tells, Holds};
 
 use crate::name_order::has_repeat_in_order;
 use crate::text::{split_pair, split_string};
@@ -24,13 +24,22 @@ const MOST_NAMES: usize = 2_048;
 /// A table that has so few bytes of options, and not all of them, is crowded by hashes that are alike.
 const CROWDED: usize = 4_096;
 
+/// Names that stand in bytes, each in a slot that its hash leads to.
+#[derive(Drop)]
+struct Table {
+    /// Of each slot one more than the place of its name, and 0 where the slot is free.
+    places: [u16; SLOTS],
+    /// Of each slot that is taken a byte of its name's hash: a name whose byte is another is not compared with it.
+    marks: [u8; SLOTS],
+}
+
 /// What a look into a table tells of a name.
 #[derive(Debug, Drop)]
 pub(crate) enum Slot {
     /// The name is there.
     Held,
-    /// The name is not there, and may be put into this slot.
-    Free(usize),
+    /// The name is not there, and may be put into this slot, under this byte of its hash.
+    Free(usize, u8),
     /// The name is not there, and has no room.
     Full,
 }
@@ -45,16 +54,17 @@ pub(crate) fn has_repeat_of_many(bytes: &[u8]) -> bool
         let Some(rest) = after_a_table(left) else {
             return true;
         };
-        if !rest.is_empty() && left.len() - rest.len() < CROWDED {
-            return has_repeat_in_order(rest);
+        if rest.len() == left.len() {
+            return has_repeat_in_order(left);
         }
         left = rest;
     }
     false
 }
 
-/// Puts the first names into a table, and gives the options that are left; none where one of these names came twice. It is a
-/// function of its own, so that the table does not stay on the stack while names are sorted.
+/// Puts the first names into a table, and gives the options that are left; none where one of these names came twice. Where the
+/// table is crowded all are left, and none of them was looked for in it. It is a function of its own, so that the table does
+/// not stay on the stack while names are sorted.
 #[inline(never)]
 fn after_a_table(bytes: &[u8]) -> Option<&[u8]>
     ensures decides { MatchOption result
@@ -62,8 +72,14 @@ fn after_a_table(bytes: &[u8]) -> Option<&[u8]>
         (λ rest. HasRepeat (pairs_of rest.now) ↔ HasRepeat (pairs_of bytes.now)) }
     ensures shorter { IfSome result (λ rest. length rest.now ≤ length bytes.now) }
 {
-    let mut table = [0; SLOTS];
+    let mut table = Table {
+        places: [0; SLOTS],
+        marks: [0; SLOTS],
+    };
     let rest = fill(bytes, &mut table)?;
+    if !rest.is_empty() && bytes.len() - rest.len() < CROWDED {
+        return Some(bytes);
+    }
     if has_one_of(bytes, &table, rest) {
         return None;
     }
@@ -71,11 +87,11 @@ fn after_a_table(bytes: &[u8]) -> Option<&[u8]>
 }
 
 /// Puts names into an empty table, as many as have room, and gives the options that are left; none where a name came twice.
-fn fill<'a>(bytes: &'a [u8], table: &mut [u16]) -> Option<&'a [u8]>
-    requires size { length table.old ≡ SLOTS }
-    requires empty { (t : ℕ) → slice_index table.old t ≡ 0 }
+fn fill<'a>(bytes: &'a [u8], table: &mut Table) -> Option<&'a [u8]>
+    requires empty { (t : ℕ) → slice_index table.old.places t ≡ 0 }
     ensures twice { IfNone result (HasRepeat (pairs_of bytes.now)) }
-    ensures once { IfSome result (λ rest. Holds bytes.now table.new rest.now) }
+    ensures once { IfSome result (λ rest. Holds bytes.now table.new.places rest.now) }
+    ensures marked { AreMarked bytes.now table.new.places table.new.marks }
     ensures shorter { IfSome result (λ rest. length rest.now ≤ length bytes.now) }
 {
     let mut count = 0;
@@ -90,7 +106,10 @@ fn fill<'a>(bytes: &'a [u8], table: &mut [u16]) -> Option<&'a [u8]>
         match look(bytes, table, name) {
             Slot::Held => return None,
             Slot::Full => return Some(rest),
-            Slot::Free(slot) => table[slot] = entry,
+            Slot::Free(slot, mark) => {
+                table.places[slot] = entry;
+                table.marks[slot] = mark;
+            }
         }
         count += 1;
         rest = after;
@@ -99,9 +118,11 @@ fn fill<'a>(bytes: &'a [u8], table: &mut [u16]) -> Option<&'a [u8]>
 }
 
 /// Whether one of the names that are left is in the table.
-fn has_one_of(bytes: &[u8], table: &[u16], rest: &[u8]) -> bool
-    requires { length table.now ≡ SLOTS }
-    ensures { MatchBool result (AnyOf (IsFound bytes.now table.now) (keys_of rest.now)) (AnyOf (IsHeld bytes.now table.now) (keys_of rest.now) → ⊥) }
+fn has_one_of(bytes: &[u8], table: &Table, rest: &[u8]) -> bool
+    requires { AreMarked bytes.now table.now.places table.now.marks }
+    ensures { MatchBool result
+        (AnyOf (IsFound bytes.now table.now.places) (keys_of rest.now))
+        (AnyOf (IsHeld bytes.now table.now.places) (keys_of rest.now) → ⊥) }
 {
     let mut left = rest;
     while let Some((name, _, after)) = split_pair(left) {
@@ -114,17 +135,17 @@ fn has_one_of(bytes: &[u8], table: &[u16], rest: &[u8]) -> bool
 }
 
 /// Looks for a name in the table.
-fn look(bytes: &[u8], table: &[u16], name: &[u8]) -> Slot
-    requires { length table.now ≡ SLOTS }
-    ensures { Tells bytes.now table.now (lower name.now) result }
+fn look(bytes: &[u8], table: &Table, name: &[u8]) -> Slot
+    requires { AreMarked bytes.now table.now.places table.now.marks }
+    ensures { Tells bytes.now table.now.places (lower name.now) result }
 {
-    let first = slot_of(name);
+    let (first, mark) = slot_of(name);
     for slot in first..first + TRIED {
-        let entry = table[slot];
+        let entry = table.places[slot];
         if entry == 0 {
-            return Slot::Free(slot);
+            return Slot::Free(slot, mark);
         }
-        if name_at(bytes, entry).eq_ignore_ascii_case(name) {
+        if table.marks[slot] == mark && name_at(bytes, entry).eq_ignore_ascii_case(name) {
             return Slot::Held;
         }
     }
@@ -153,11 +174,12 @@ fn first_string(bytes: &[u8]) -> &[u8]
     }
 }
 
-#[tactic(auto, unfolding(crate::specs::NameTable::first_slot))]
-/// The first slot in which a name is looked for. Letter case counts for nothing.
-fn slot_of(name: &[u8]) -> usize
-    ensures slot { result ≡ first_slot (lower name.now) }
-    ensures within { result < FIRST_SLOTS }
+#[tactic(auto, unfolding(crate::specs::NameTable::first_slot, crate::specs::NameTable::mark_of))]
+/// The first slot in which a name is looked for, and the byte that is kept of its hash. Letter case counts for nothing.
+fn slot_of(name: &[u8]) -> (usize, u8)
+    ensures slot { result.0 ≡ first_slot (lower name.now) }
+    ensures mark { result.1 ≡ mark_of (lower name.now) }
+    ensures within { result.0 < FIRST_SLOTS }
 {
     let mut hash: u64 = 0;
     let mut left = name;
@@ -167,5 +189,5 @@ fn slot_of(name: &[u8]) -> usize
             .wrapping_mul(0x9E37_79B9_7F4A_7C15);
         left = rest;
     }
-    (hash >> 52) as usize
+    ((hash >> 52) as usize, ((hash >> 44) % 256) as u8)
 }

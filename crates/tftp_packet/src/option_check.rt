@@ -31,7 +31,7 @@ pub fn has_empty_name(bytes: &[u8]) -> bool
 }
 
 /// Whether two options have one name, letter case ignored. No memory is taken: more than 8 options are looked for
-/// in a table of 8 KB on the stack, by the hashes of their names.
+/// in a table of 12 KB on the stack, by the hashes of their names.
 pub fn has_repeat(bytes: &[u8]) -> bool
     ensures { IsTrue result ↔ HasRepeat (pairs_of bytes.now) }
 {
