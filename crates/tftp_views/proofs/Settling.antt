@@ -1,0 +1,76 @@
+-- Who the ends are stays, once it is known.
+use Rattle.std.proofs.Common.{◌≡◌, ℕ, ◌&&◌, ◌||◌, ◌==◌, Bool, true, false, true≢false, List, [], ◌∷◌, ◌++◌, Option, Some, None, refl, sym, ap, ◌∙◌}
+use Rattle.std.specs.Prelude.{filter, is_some, option_map}
+use Rattle.std.proofs.lemmas.Bool.{and_parts}
+use Rattle.std.proofs.lemmas.List.Elements.{filter-append, filter_agree}
+use Rattle.tftp_ends.specs.Ports.{first_of, or_this}
+use Rattle.tftp_transfers.specs.declared.endpoint.Endpoint.{Endpoint}
+use Rattle.tftp_transfers.specs.declared.place.Place.{Place}
+use Rattle.tftp_transfers.specs.declared.place.Place.TheVariants.{Opens, Repeats, Talks, Apart, Beside, Nowhere}
+use Rattle.tftp_transfers.specs.Recording.{Recorded}
+use Rattle.tftp_transfers.specs.Places.{Placed}
+use Rattle.tftp_transfers.specs.Views.{answered_by, asked_of, comes, goes_on, has_host, has_port, is_at_server, is_end, is_server, opened_it, server_of, server_view, went_on_with}
+use Rattle.tftp_views.specs.Settled.{is_settled}
+
+first_stays : (test : Placed → Bool) (more placed : List Placed) (e : Placed) → first_of test placed ≡ Some e → first_of test (more ++ placed) ≡ Some e
+first_stays test [] placed e is = is
+first_stays test (p ∷ more) placed e is = ap (λ o. or_this o (test p) p) (first_stays test more placed e is)
+
+told_stays : (end : Placed → Endpoint) (test : Placed → Bool) (more placed : List Placed) → is_some (option_map end (first_of test placed)) ≡ true
+    → option_map end (first_of test (more ++ placed)) ≡ option_map end (first_of test placed)
+told_stays end test more placed = by (first_of test placed) refl where
+  by : (o : Option Placed) → first_of test placed ≡ o → is_some (option_map end (first_of test placed)) ≡ true → option_map end (first_of test (more ++ placed)) ≡ option_map end (first_of test placed)
+  by None none told = absurd (true≢false (sym told ∙ ap (λ o. is_some (option_map end o)) none))
+  by (Some e) is told = ap (option_map end) (first_stays test more placed e is ∙ sym is)
+
+-- with whom the client went on is the server
+serves : (n : ℕ) (placed : List Placed) (s : Endpoint) → went_on_with n placed ≡ Some s → server_of n placed ≡ Some s
+serves n placed s is = rw is refl
+
+module _ (n : ℕ) (more placed : List Placed) (settled : is_settled n placed ≡ true) where
+  told : ((is_some (asked_of n placed) && is_some (answered_by n placed)) ≡ true) × (is_some (went_on_with n placed) ≡ true)
+  told = and_parts (is_some (asked_of n placed) && is_some (answered_by n placed)) (is_some (went_on_with n placed)) settled
+
+  told_first : (is_some (asked_of n placed) ≡ true) × (is_some (answered_by n placed) ≡ true)
+  told_first = and_parts (is_some (asked_of n placed)) (is_some (answered_by n placed)) told.0
+
+  asked : asked_of n (more ++ placed) ≡ asked_of n placed
+  asked = told_stays (λ p. p.datagram.target) (opened_it n) more placed told_first.0
+
+  answered : answered_by n (more ++ placed) ≡ answered_by n placed
+  answered = told_stays (λ p. p.datagram.source) (comes n) more placed told_first.1
+
+  went_on : went_on_with n (more ++ placed) ≡ went_on_with n placed
+  went_on = told_stays (λ p. p.datagram.target) (goes_on n) more placed told.1
+
+  server : server_of n (more ++ placed) ≡ server_of n placed
+  server = by (went_on_with n placed) refl where
+    by : (o : Option Endpoint) → went_on_with n placed ≡ o → server_of n (more ++ placed) ≡ server_of n placed
+    by None none = absurd (true≢false (sym told.1 ∙ ap is_some none))
+    by (Some s) is = serves n (more ++ placed) s (went_on ∙ is) ∙ sym (serves n placed s is)
+
+  is_server_stays : (o : Endpoint) → is_server n (more ++ placed) o ≡ is_server n placed o
+  is_server_stays o =
+      ap (λ s. has_port o s && (has_host o (asked_of n (more ++ placed)) || has_host o (answered_by n (more ++ placed)) || has_host o (went_on_with n (more ++ placed)))) server
+      ∙ ap (λ s. has_port o (server_of n placed) && (has_host o s || has_host o (answered_by n (more ++ placed)) || has_host o (went_on_with n (more ++ placed)))) asked
+      ∙ ap (λ s. has_port o (server_of n placed) && (has_host o (asked_of n placed) || has_host o s || has_host o (went_on_with n (more ++ placed)))) answered
+      ∙ ap (λ s. has_port o (server_of n placed) && (has_host o (asked_of n placed) || has_host o (answered_by n placed) || has_host o s)) went_on
+
+  at_place : (d : Recorded) (now : ℕ) (place : Place) → is_at_server n (more ++ placed) (record { datagram = d; moment = now; place = place }) ≡ is_at_server n placed (record { datagram = d; moment = now; place = place })
+  at_place d now (Opens x) = refl
+  at_place d now (Repeats x) = refl
+  at_place d now (Talks x) =
+      ap (λ b. (x.number == n) && (b || is_server n (more ++ placed) d.target)) (is_server_stays d.source)
+      ∙ ap (λ b. (x.number == n) && (is_server n placed d.source || b)) (is_server_stays d.target)
+  at_place d now (Apart c) = refl
+  at_place d now (Beside x) = ap (λ s. (x.number == n) && (is_end d.source s || is_end d.target s)) server
+  at_place d now Nowhere = refl
+
+  pub at_server_stays : (p : Placed) → is_at_server n (more ++ placed) p ≡ is_at_server n placed p
+  at_server_stays p = at_place p.datagram p.moment p.place
+
+  pub view_stays : server_view n (more ++ placed) ≡ filter (is_at_server n (more ++ placed)) more ++ server_view n placed
+  view_stays = filter-append (is_at_server n (more ++ placed)) more placed ∙ ap (λ l. filter (is_at_server n (more ++ placed)) more ++ l) (filter_agree (is_at_server n (more ++ placed)) (is_at_server n placed) at_server_stays placed)
+
+  pub server_stays : server_of n (more ++ placed) ≡ server_of n placed
+  server_stays = server

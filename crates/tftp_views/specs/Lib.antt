@@ -1,0 +1,5 @@
+pub mod Captured
+pub mod Judged
+pub mod Kept
+pub mod Worked
+pub mod Settled
