@@ -1,6 +1,6 @@
 -- Who the ends are stays, once it is known.
-use Rattle.std.proofs.Common.{◌≡◌, ℕ, ◌&&◌, ◌||◌, ◌==◌, Bool, true, false, true≢false, List, [], ◌∷◌, ◌++◌, Option, Some, None, refl, sym, ap, ◌∙◌}
-use Rattle.std.specs.Prelude.{filter, is_some, option_map}
+use Rattle.std.proofs.Common.{◌≡◌, ℕ, ◌&&◌, ◌||◌, ◌==◌, Bool, true, false, true≢false, List, [], ◌∷◌, ◌++◌, Option, Some, None, refl, sym, ap, subst, map, ◌∙◌}
+use Rattle.std.specs.Prelude.{filter, is_some, option_map, if◌then◌else◌}
 use Rattle.std.proofs.lemmas.Bool.{and_parts}
 use Rattle.std.proofs.lemmas.List.Elements.{filter-append, filter_agree}
 use Rattle.tftp_ends.specs.Ports.{first_of, or_this}
@@ -10,7 +10,15 @@ use Rattle.tftp_transfers.specs.declared.place.Place.TheVariants.{Opens, Repeats
 use Rattle.tftp_transfers.specs.Recording.{Recorded}
 use Rattle.tftp_transfers.specs.Places.{Placed}
 use Rattle.tftp_transfers.specs.Views.{answered_by, asked_of, comes, goes_on, has_host, has_port, is_at_server, is_end, is_server, opened_it, server_of, server_view, went_on_with}
-use Rattle.tftp_views.specs.Settled.{is_settled}
+use Rattle.tftp_transfers.specs.Settled.{is_settled}
+use Rattle.tftp_transfers.specs.Kept.{AreEndsAfter}
+use Rattle.tftp_transfers.specs.declared.place.Transfer.{Transfer}
+use Rattle.tftp_transfers.specs.declared.views.TransferEnds.{TransferEnds}
+use Rattle.tftp_packet.specs.declared.kinds.Dir.TheVariants.{In, Out}
+use Rattle.tftp_ends.specs.CaptureText.{Datagram}
+use Rattle.tftp_views.specs.Captured.{Naming, captured, captured_at_server, server_capture, server_header, way_at_server}
+use Rattle.tftp_views.specs.Judged.{HasJudged}
+use Rattle.tftp_views.specs.Kept.{IsServerAfter, Server}
 
 first_stays : (test : Placed → Bool) (more placed : List Placed) (e : Placed) → first_of test placed ≡ Some e → first_of test (more ++ placed) ≡ Some e
 first_stays test [] placed e is = is
@@ -74,3 +82,46 @@ module _ (n : ℕ) (more placed : List Placed) (settled : is_settled n placed �
 
   pub server_stays : server_of n (more ++ placed) ≡ server_of n placed
   server_stays = server
+
+  pub settled_stays : is_settled n (more ++ placed) ≡ true
+  settled_stays = ap (λ o. is_some o && is_some (answered_by n (more ++ placed)) && is_some (went_on_with n (more ++ placed))) asked
+      ∙ ap (λ o. is_some (asked_of n placed) && is_some o && is_some (went_on_with n (more ++ placed))) answered
+      ∙ ap (λ o. is_some (asked_of n placed) && is_some (answered_by n placed) && is_some o) went_on
+      ∙ settled
+
+  pub ends_stay : (t : TransferEnds) → t.number ≡ n → AreEndsAfter t placed → AreEndsAfter t (more ++ placed)
+  ends_stay t is after = record {
+    asked = after.asked ∙ ap (λ k. asked_of k placed) is ∙ sym asked ∙ ap (λ k. asked_of k (more ++ placed)) (sym is);
+    answered = after.answered ∙ ap (λ k. answered_by k placed) is ∙ sym answered ∙ ap (λ k. answered_by k (more ++ placed)) (sym is);
+    went_on = after.went_on ∙ ap (λ k. went_on_with k placed) is ∙ sym went_on ∙ ap (λ k. went_on_with k (more ++ placed)) (sym is);
+  }
+
+-- ---- the server's capture
+
+map_agree : (f g : Placed → Datagram) → ((p : Placed) → f p ≡ g p) → (ps : List Placed) → map f ps ≡ map g ps
+map_agree f g same [] = refl
+map_agree f g same (p ∷ ps) = ap (λ d. d ∷ map f ps) (same p) ∙ ap (λ l. g p ∷ l) (map_agree f g same ps)
+
+module _ (name : Naming) (x : Transfer) (more placed : List Placed) (settled : is_settled x.number placed ≡ true) where
+  way_at : (d : Recorded) (now : ℕ) (place : Place) → way_at_server x (more ++ placed) (record { datagram = d; moment = now; place = place }) ≡ way_at_server x placed (record { datagram = d; moment = now; place = place })
+  way_at d now (Opens y) = refl
+  way_at d now (Repeats y) = refl
+  way_at d now (Talks y) = refl
+  way_at d now (Apart c) = refl
+  way_at d now (Beside y) = ap (λ s. if is_end d.source s then Out else In) (server_stays x.number more placed settled)
+  way_at d now Nowhere = refl
+
+  same_datagram : (p : Placed) → captured_at_server name x (more ++ placed) p ≡ captured_at_server name x placed p
+  same_datagram p = ap (λ w. captured name w p.datagram) (way_at p.datagram p.moment p.place)
+
+  pub capture_stays : (part : List Placed) → server_capture name x placed part ≡ server_capture name x (more ++ placed) part
+  capture_stays part =
+      sym (map_agree (captured_at_server name x (more ++ placed)) (captured_at_server name x placed) same_datagram (filter (is_at_server x.number placed) part))
+      ∙ ap (map (captured_at_server name x (more ++ placed))) (sym (filter_agree (is_at_server x.number (more ++ placed)) (is_at_server x.number placed) (at_server_stays x.number more placed settled) part))
+
+pub server_goes_on : (s : Server) (name : Naming) (more placed part : List Placed) → is_settled s.transfer.number placed ≡ true → IsServerAfter s name placed part → IsServerAfter s name (more ++ placed) part
+server_goes_on s name more placed part settled after = record {
+  number = after.number;
+  ends = ends_stay s.transfer.number more placed settled s.ends after.number after.ends;
+  judged = subst (HasJudged s.judge (server_header s.transfer)) (capture_stays name s.transfer more placed settled part) after.judged;
+}

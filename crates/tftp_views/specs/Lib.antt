@@ -2,4 +2,3 @@ pub mod Captured
 pub mod Judged
 pub mod Kept
 pub mod Worked
-pub mod Settled

@@ -12,7 +12,7 @@ ghost use Rattle.tftp_transfers.specs.Places.{Placed, placed};
 ghost use Rattle.tftp_transfers.specs.Views.{is_at_server, server_of, server_view};
 ghost use Rattle.tftp_transfers.specs.Worked.{asked_twice};
 ghost use Rattle.tftp_views.specs.Captured.{client_capture, server_capture};
-ghost use Rattle.tftp_views.specs.Settled.{is_settled};
+ghost use Rattle.tftp_transfers.specs.Settled.{is_settled};
 ghost use Rattle.tftp_views.specs.Judged.{AreWritten, of_text};
 ghost use Rattle.tftp_views.specs.Worked.{asked_twice_at_client, asked_twice_at_server, by_bytes, first_transfer};
 

@@ -4,6 +4,7 @@ ghost use Rattle.std.specs.Prelude.{◌≡◌, ◌^◌, ◌<◌, ◌≤◌, ◌�
 ghost use Rattle.tftp_packet.specs.declared.kinds.Dir.TheVariants.{In, Out};
 ghost use Rattle.tftp_transfers.specs.Kept.{AreEndsAfter};
 ghost use Rattle.tftp_transfers.specs.Places.{Placed};
+ghost use Rattle.tftp_transfers.specs.Settled.{is_settled};
 ghost use Rattle.tftp_transfers.specs.Views.{is_at_server, is_end, server_of};
 ghost use Rattle.tftp_views.specs.Captured.{Naming, server_capture, server_header, way_at_server};
 ghost use Rattle.tftp_views.specs.Judged.{IsJudgedWith};
@@ -91,6 +92,29 @@ impl<D: Delivered + Drop> ServerJudge<D> {
             self.judge
                 .put(alloc, Dir::In, local, &source.host, remote, payload)
         }
+    }
+
+    /// Takes the next datagram as the recording comes, where it is known who the server is, whatever comes. Where there
+    /// is no memory for it, it was not taken.
+    pub fn go_on(
+        &mut self,
+        alloc: Global,
+        place: &Place,
+        source: &Party,
+        target: &Party,
+        payload: &[u8],
+    ) -> Result<(), AllocError>
+        requires few { self.old.judge.fed < 2 ^ 40 }
+        requires short { length payload.now ≤ 65527 }
+        ensures after { (name : Naming) (p : Placed) (older : List Placed) → IsServerAfter self.old name older older
+            → is_settled self.old.transfer.number older ≡ true → IsFed name p place.now source.now target.now payload.now
+            → OnOk result (IsServerAfter self.new name (p ∷ older) (p ∷ older)) }
+        ensures settled { (p : Placed) (older : List Placed) → is_settled self.old.transfer.number older ≡ true
+            → is_settled self.new.transfer.number (p ∷ older) ≡ true }
+        ensures same { OnErr result (self.new ≡ self.old) }
+        ensures transfer { self.new.transfer ≡ self.old.transfer }
+    {
+        self.feed(alloc, place, source, target, payload)
     }
 
     /// Whether the server sent what belongs there.
