@@ -5,3 +5,4 @@ pub mod Views
 pub mod Doubts
 pub mod Fair
 pub mod Worked
+pub mod Settled

@@ -5,6 +5,7 @@ ghost use Rattle.tftp_ends.specs.Ports.{or_this};
 ghost use Rattle.tftp_transfers.specs.Places.{Placed};
 ghost use Rattle.tftp_transfers.specs.Views.{is_of, opened_it, comes, goes_on, server_of, has_host, has_port, is_end, is_server, is_at_server};
 ghost use Rattle.tftp_transfers.specs.Kept.{AreEndsAfter};
+ghost use Rattle.tftp_transfers.specs.Settled.{is_settled};
 
 use crate::endpoint::Endpoint;
 use crate::place::Place;
@@ -91,6 +92,13 @@ impl TransferEnds {
             Some(end) => Some(end),
             None => self.answered,
         }
+    }
+
+    /// Whether all three are known, so that no later datagram changes who the server is.
+    pub fn is_settled(&self) -> bool
+        ensures { (placed : List Placed) → AreEndsAfter self.now placed → result ≡ is_settled self.now.number placed }
+    {
+        self.asked.is_some() && self.answered.is_some() && self.went_on.is_some()
     }
 
     /// Whether a datagram that belongs there is of the client's view.

@@ -1,0 +1,127 @@
+-- Who the ends are stays, once it is known.
+use Rattle.std.proofs.Common.{◌≡◌, ℕ, ◌&&◌, ◌||◌, ◌==◌, Bool, true, false, true≢false, List, [], ◌∷◌, ◌++◌, Option, Some, None, refl, sym, ap, subst, map, ◌∙◌}
+use Rattle.std.specs.Prelude.{filter, is_some, option_map, if◌then◌else◌}
+use Rattle.std.proofs.lemmas.Bool.{and_parts}
+use Rattle.std.proofs.lemmas.List.Elements.{filter-append, filter_agree}
+use Rattle.tftp_ends.specs.Ports.{first_of, or_this}
+use Rattle.tftp_transfers.specs.declared.endpoint.Endpoint.{Endpoint}
+use Rattle.tftp_transfers.specs.declared.place.Place.{Place}
+use Rattle.tftp_transfers.specs.declared.place.Place.TheVariants.{Opens, Repeats, Talks, Apart, Beside, Nowhere}
+use Rattle.tftp_transfers.specs.Recording.{Recorded}
+use Rattle.tftp_transfers.specs.Places.{Placed}
+use Rattle.tftp_transfers.specs.Views.{answered_by, asked_of, comes, goes_on, has_host, has_port, is_at_server, is_end, is_server, opened_it, server_of, server_view, went_on_with}
+use Rattle.tftp_transfers.specs.Settled.{is_settled}
+use Rattle.tftp_transfers.specs.Kept.{AreEndsAfter}
+use Rattle.tftp_transfers.specs.declared.place.Transfer.{Transfer}
+use Rattle.tftp_transfers.specs.declared.views.TransferEnds.{TransferEnds}
+use Rattle.tftp_packet.specs.declared.kinds.Dir.TheVariants.{In, Out}
+use Rattle.tftp_ends.specs.CaptureText.{Datagram}
+use Rattle.tftp_views.specs.Captured.{Naming, captured, captured_at_server, server_capture, server_header, way_at_server}
+use Rattle.tftp_views.specs.Judged.{HasJudged}
+use Rattle.tftp_views.specs.Kept.{IsServerAfter, Server}
+
+first_stays : (test : Placed → Bool) (more placed : List Placed) (e : Placed) → first_of test placed ≡ Some e → first_of test (more ++ placed) ≡ Some e
+first_stays test [] placed e is = is
+first_stays test (p ∷ more) placed e is = ap (λ o. or_this o (test p) p) (first_stays test more placed e is)
+
+told_stays : (end : Placed → Endpoint) (test : Placed → Bool) (more placed : List Placed) → is_some (option_map end (first_of test placed)) ≡ true
+    → option_map end (first_of test (more ++ placed)) ≡ option_map end (first_of test placed)
+told_stays end test more placed = by (first_of test placed) refl where
+  by : (o : Option Placed) → first_of test placed ≡ o → is_some (option_map end (first_of test placed)) ≡ true → option_map end (first_of test (more ++ placed)) ≡ option_map end (first_of test placed)
+  by None none told = absurd (true≢false (sym told ∙ ap (λ o. is_some (option_map end o)) none))
+  by (Some e) is told = ap (option_map end) (first_stays test more placed e is ∙ sym is)
+
+-- with whom the client went on is the server
+serves : (n : ℕ) (placed : List Placed) (s : Endpoint) → went_on_with n placed ≡ Some s → server_of n placed ≡ Some s
+serves n placed s is = rw is refl
+
+module _ (n : ℕ) (more placed : List Placed) (settled : is_settled n placed ≡ true) where
+  told : ((is_some (asked_of n placed) && is_some (answered_by n placed)) ≡ true) × (is_some (went_on_with n placed) ≡ true)
+  told = and_parts (is_some (asked_of n placed) && is_some (answered_by n placed)) (is_some (went_on_with n placed)) settled
+
+  told_first : (is_some (asked_of n placed) ≡ true) × (is_some (answered_by n placed) ≡ true)
+  told_first = and_parts (is_some (asked_of n placed)) (is_some (answered_by n placed)) told.0
+
+  asked : asked_of n (more ++ placed) ≡ asked_of n placed
+  asked = told_stays (λ p. p.datagram.target) (opened_it n) more placed told_first.0
+
+  answered : answered_by n (more ++ placed) ≡ answered_by n placed
+  answered = told_stays (λ p. p.datagram.source) (comes n) more placed told_first.1
+
+  went_on : went_on_with n (more ++ placed) ≡ went_on_with n placed
+  went_on = told_stays (λ p. p.datagram.target) (goes_on n) more placed told.1
+
+  server : server_of n (more ++ placed) ≡ server_of n placed
+  server = by (went_on_with n placed) refl where
+    by : (o : Option Endpoint) → went_on_with n placed ≡ o → server_of n (more ++ placed) ≡ server_of n placed
+    by None none = absurd (true≢false (sym told.1 ∙ ap is_some none))
+    by (Some s) is = serves n (more ++ placed) s (went_on ∙ is) ∙ sym (serves n placed s is)
+
+  is_server_stays : (o : Endpoint) → is_server n (more ++ placed) o ≡ is_server n placed o
+  is_server_stays o =
+      ap (λ s. has_port o s && (has_host o (asked_of n (more ++ placed)) || has_host o (answered_by n (more ++ placed)) || has_host o (went_on_with n (more ++ placed)))) server
+      ∙ ap (λ s. has_port o (server_of n placed) && (has_host o s || has_host o (answered_by n (more ++ placed)) || has_host o (went_on_with n (more ++ placed)))) asked
+      ∙ ap (λ s. has_port o (server_of n placed) && (has_host o (asked_of n placed) || has_host o s || has_host o (went_on_with n (more ++ placed)))) answered
+      ∙ ap (λ s. has_port o (server_of n placed) && (has_host o (asked_of n placed) || has_host o (answered_by n placed) || has_host o s)) went_on
+
+  at_place : (d : Recorded) (now : ℕ) (place : Place) → is_at_server n (more ++ placed) (record { datagram = d; moment = now; place = place }) ≡ is_at_server n placed (record { datagram = d; moment = now; place = place })
+  at_place d now (Opens x) = refl
+  at_place d now (Repeats x) = refl
+  at_place d now (Talks x) =
+      ap (λ b. (x.number == n) && (b || is_server n (more ++ placed) d.target)) (is_server_stays d.source)
+      ∙ ap (λ b. (x.number == n) && (is_server n placed d.source || b)) (is_server_stays d.target)
+  at_place d now (Apart c) = refl
+  at_place d now (Beside x) = ap (λ s. (x.number == n) && (is_end d.source s || is_end d.target s)) server
+  at_place d now Nowhere = refl
+
+  pub at_server_stays : (p : Placed) → is_at_server n (more ++ placed) p ≡ is_at_server n placed p
+  at_server_stays p = at_place p.datagram p.moment p.place
+
+  pub view_stays : server_view n (more ++ placed) ≡ filter (is_at_server n (more ++ placed)) more ++ server_view n placed
+  view_stays = filter-append (is_at_server n (more ++ placed)) more placed ∙ ap (λ l. filter (is_at_server n (more ++ placed)) more ++ l) (filter_agree (is_at_server n (more ++ placed)) (is_at_server n placed) at_server_stays placed)
+
+  pub server_stays : server_of n (more ++ placed) ≡ server_of n placed
+  server_stays = server
+
+  pub settled_stays : is_settled n (more ++ placed) ≡ true
+  settled_stays = ap (λ o. is_some o && is_some (answered_by n (more ++ placed)) && is_some (went_on_with n (more ++ placed))) asked
+      ∙ ap (λ o. is_some (asked_of n placed) && is_some o && is_some (went_on_with n (more ++ placed))) answered
+      ∙ ap (λ o. is_some (asked_of n placed) && is_some (answered_by n placed) && is_some o) went_on
+      ∙ settled
+
+  pub ends_stay : (t : TransferEnds) → t.number ≡ n → AreEndsAfter t placed → AreEndsAfter t (more ++ placed)
+  ends_stay t is after = record {
+    asked = after.asked ∙ ap (λ k. asked_of k placed) is ∙ sym asked ∙ ap (λ k. asked_of k (more ++ placed)) (sym is);
+    answered = after.answered ∙ ap (λ k. answered_by k placed) is ∙ sym answered ∙ ap (λ k. answered_by k (more ++ placed)) (sym is);
+    went_on = after.went_on ∙ ap (λ k. went_on_with k placed) is ∙ sym went_on ∙ ap (λ k. went_on_with k (more ++ placed)) (sym is);
+  }
+
+-- ---- the server's capture
+
+map_agree : (f g : Placed → Datagram) → ((p : Placed) → f p ≡ g p) → (ps : List Placed) → map f ps ≡ map g ps
+map_agree f g same [] = refl
+map_agree f g same (p ∷ ps) = ap (λ d. d ∷ map f ps) (same p) ∙ ap (λ l. g p ∷ l) (map_agree f g same ps)
+
+module _ (name : Naming) (x : Transfer) (more placed : List Placed) (settled : is_settled x.number placed ≡ true) where
+  way_at : (d : Recorded) (now : ℕ) (place : Place) → way_at_server x (more ++ placed) (record { datagram = d; moment = now; place = place }) ≡ way_at_server x placed (record { datagram = d; moment = now; place = place })
+  way_at d now (Opens y) = refl
+  way_at d now (Repeats y) = refl
+  way_at d now (Talks y) = refl
+  way_at d now (Apart c) = refl
+  way_at d now (Beside y) = ap (λ s. if is_end d.source s then Out else In) (server_stays x.number more placed settled)
+  way_at d now Nowhere = refl
+
+  same_datagram : (p : Placed) → captured_at_server name x (more ++ placed) p ≡ captured_at_server name x placed p
+  same_datagram p = ap (λ w. captured name w p.datagram) (way_at p.datagram p.moment p.place)
+
+  pub capture_stays : (part : List Placed) → server_capture name x placed part ≡ server_capture name x (more ++ placed) part
+  capture_stays part =
+      sym (map_agree (captured_at_server name x (more ++ placed)) (captured_at_server name x placed) same_datagram (filter (is_at_server x.number placed) part))
+      ∙ ap (map (captured_at_server name x (more ++ placed))) (sym (filter_agree (is_at_server x.number (more ++ placed)) (is_at_server x.number placed) (at_server_stays x.number more placed settled) part))
+
+pub server_goes_on : (s : Server) (name : Naming) (more placed part : List Placed) → is_settled s.transfer.number placed ≡ true → IsServerAfter s name placed part → IsServerAfter s name (more ++ placed) part
+server_goes_on s name more placed part settled after = record {
+  number = after.number;
+  ends = ends_stay s.transfer.number more placed settled s.ends after.number after.ends;
+  judged = subst (HasJudged s.judge (server_header s.transfer)) (capture_stays name s.transfer more placed settled part) after.judged;
+}

@@ -1,0 +1,123 @@
+//! The judge of a transfer's client, fed with a recording.
+
+ghost use Rattle.std.specs.Prelude.{◌≡◌, ◌^◌, ◌<◌, ◌≤◌, ◌∷◌, ℕ, List, [], length, OnOk, OnErr, Ok, true, false};
+ghost use Rattle.tftp_packet.specs.declared.kinds.Dir.TheVariants.{In, Out};
+ghost use Rattle.tftp_transfers.specs.Places.{Placed};
+ghost use Rattle.tftp_transfers.specs.Views.{is_of};
+ghost use Rattle.tftp_views.specs.Captured.{Naming, client_capture, client_header, way_at_client};
+ghost use Rattle.tftp_views.specs.Judged.{IsJudgedWith};
+ghost use Rattle.tftp_views.specs.Kept.{IsClientAfter, IsFed};
+
+use crate::end_judge::EndJudge;
+use crate::party::Party;
+use std::alloc::{AllocError, Global};
+use std::marker::Model;
+use tftp_capture::Header;
+use tftp_ends::Delivered;
+use tftp_judge::{Meaning, Refusal};
+use tftp_packet::{Dir, End};
+use tftp_transfers::{Endpoint, Place, Transfer};
+
+/// The judge of a transfer at its client (RFC 1350, section 2): it picks the client's view out of a recording.
+#[derive(Drop)]
+pub struct ClientJudge<D: Delivered + Drop> {
+    transfer: Transfer,
+    judge: EndJudge<D>,
+}
+
+impl<D: Delivered + Drop> Model for ClientJudge<D> {
+    ghost use Rattle.std.specs.Coded.{codes};
+    ghost use Rattle.tftp_ends.specs.StatesKept.{sender_code, receiver_code};
+    ghost use Rattle.tftp_packet.specs.Owned.{options_code, parts_code};
+    ghost use Rattle.tftp_views.specs.Kept.{Client};
+
+    ghost Value = { Client };
+
+    ghost coded = { Prim.hlevel (codes, sender_code, receiver_code, options_code, parts_code) };
+
+    ghost view = { λ c. record { transfer = c.transfer; judge = c.judge } };
+}
+
+impl<D: Delivered + Drop> ClientJudge<D> {
+    /// Of this transfer, before any datagram. Takes no memory.
+    pub fn new(alloc: Global, transfer: Transfer) -> Self
+        ensures after { (name : Naming) → IsClientAfter result name [] }
+        ensures transfer { result.transfer ≡ transfer }
+        ensures none { result.judge.fed ≡ 0 }
+    {
+        let header = Header {
+            named: End::Client,
+            service: transfer.asked.port,
+        };
+        ClientJudge {
+            transfer,
+            judge: EndJudge::new(alloc, &header),
+        }
+    }
+
+    /// Takes the next datagram of the recording, of this transfer or of another, which belongs there. Where there is no
+    /// memory for it, it was not taken.
+    pub fn feed(
+        &mut self,
+        alloc: Global,
+        place: &Place,
+        source: &Party,
+        target: &Party,
+        payload: &[u8],
+    ) -> Result<(), AllocError>
+        requires few { self.old.judge.fed < 2 ^ 40 }
+        requires short { length payload.now ≤ 65527 }
+        ensures after { (name : Naming) (p : Placed) (older : List Placed) → IsClientAfter self.old name older
+            → IsFed name p place.now source.now target.now payload.now → OnOk result (IsClientAfter self.new name (p ∷ older)) }
+        ensures others { (p : Placed) → place.now ≡ p.place → is_of self.old.transfer.number p ≡ false
+            → (result ≡ Ok tt) × (self.new ≡ self.old) }
+        ensures same { OnErr result (self.new ≡ self.old) }
+        ensures transfer { self.new.transfer ≡ self.old.transfer }
+    {
+        if !self.is_at_client(place) {
+            return Ok(());
+        }
+        if self.goes_out(source.end) {
+            let (local, remote) = (source.end.port, target.end.port);
+            self.judge
+                .put(alloc, Dir::Out, local, &target.host, remote, payload)
+        } else {
+            let (local, remote) = (target.end.port, source.end.port);
+            self.judge
+                .put(alloc, Dir::In, local, &source.host, remote, payload)
+        }
+    }
+
+    /// Whether the client sent it.
+    fn goes_out(&self, source: Endpoint) -> bool
+        ensures yes { (p : Placed) → p.datagram.source ≡ source → result ≡ true → way_at_client self.now.transfer p ≡ Out }
+        ensures no { (p : Placed) → p.datagram.source ≡ source → result ≡ false → way_at_client self.now.transfer p ≡ In }
+    {
+        source == self.transfer.client
+    }
+
+    fn is_at_client(&self, place: &Place) -> bool
+        ensures { (p : Placed) → place.now ≡ p.place → result ≡ is_of self.now.transfer.number p }
+    {
+        match place.transfer() {
+            None => false,
+            Some(transfer) => transfer.number == self.transfer.number,
+        }
+    }
+
+    /// How many datagrams of the client's view were accepted.
+    pub fn fed(&self) -> u64
+        ensures { result ≡ self.now.judge.fed }
+    {
+        self.judge.fed()
+    }
+
+    /// What there is to say of the client's view: the verdict of the text that has just it, or want of memory.
+    pub fn finish(self, alloc: Global) -> Result<Meaning, Refusal>
+        ensures { (name : Naming) (placed : List Placed) → IsClientAfter self name placed
+            → IsJudgedWith (client_header self.transfer) (client_capture name self.transfer placed) result }
+    {
+        let ClientJudge { transfer: _, judge } = self;
+        judge.finish(alloc)
+    }
+}

@@ -1,0 +1,40 @@
+//! Laws of the definitions in `specs/`. Each is the contract of a function that does nothing.
+
+ghost use Rattle.std.specs.Prelude.{◌≡◌, [], ◌++◌, ℕ, List, Result, filter, reverse, true};
+ghost use Rattle.tftp_ends.specs.CaptureText.{Datagram, Header};
+ghost use Rattle.tftp_ends.specs.Meaning.{Meaning};
+ghost use Rattle.tftp_judge.specs.Verdict.{IsVerdict};
+ghost use Rattle.tftp_capture.specs.CaptureText.{text_with_hosts};
+ghost use Rattle.tftp_judge.specs.TextVerdict.{IsTextVerdict};
+ghost use Rattle.tftp_judge.specs.Verdict.{IsSaid};
+ghost use Rattle.tftp_judge.specs.declared.refusal.Refusal.{Refusal};
+ghost use Rattle.tftp_transfers.specs.Places.{Placed, placed};
+ghost use Rattle.tftp_transfers.specs.Views.{is_at_server, server_of, server_view};
+ghost use Rattle.tftp_transfers.specs.Worked.{asked_twice};
+ghost use Rattle.tftp_views.specs.Captured.{client_capture, server_capture};
+ghost use Rattle.tftp_transfers.specs.Settled.{is_settled};
+ghost use Rattle.tftp_views.specs.Judged.{AreWritten, of_text};
+ghost use Rattle.tftp_views.specs.Worked.{asked_twice_at_client, asked_twice_at_server, by_bytes, first_transfer};
+
+/// What there is to say of datagrams is what there is to say of the text that has just them.
+pub fn verdict_is_that_of_the_text()
+    ensures { (h : Header) (given : List Datagram) (said : Result Meaning Refusal) → AreWritten h given → IsSaid said
+        → IsVerdict h (reverse given) said → IsTextVerdict (text_with_hosts h (reverse given)) (of_text said) }
+{}
+
+/// Once it is known whom a client asked, who answered and with whom it went on, what of the recording is the server's
+/// view stays, whatever comes.
+pub fn settled_views_stay()
+    ensures datagrams { (n : ℕ) (more placed : List Placed) → is_settled n placed ≡ true
+        → (p : Placed) → is_at_server n (more ++ placed) p ≡ is_at_server n placed p }
+    ensures view { (n : ℕ) (more placed : List Placed) → is_settled n placed ≡ true
+        → server_view n (more ++ placed) ≡ filter (is_at_server n (more ++ placed)) more ++ server_view n placed }
+    ensures server { (n : ℕ) (more placed : List Placed) → is_settled n placed ≡ true → server_of n (more ++ placed) ≡ server_of n placed }
+{}
+
+/// What an end sent goes out there; the client's stray comes in from its own host, and the server has not seen it.
+pub fn worked_captures()
+    ensures client { client_capture by_bytes first_transfer (placed [] asked_twice) ≡ asked_twice_at_client }
+    ensures server { server_capture by_bytes first_transfer (placed [] asked_twice) (placed [] asked_twice) ≡ asked_twice_at_server }
+    ensures settled { is_settled 0 (placed [] asked_twice) ≡ true }
+{}

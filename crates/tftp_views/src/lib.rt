@@ -1,0 +1,13 @@
+//! The judges of one transfer's two ends, fed with a recording datagram by datagram.
+#![tactic(auto)]
+
+mod client;
+mod end_judge;
+pub mod laws;
+mod party;
+mod server;
+
+pub use client::ClientJudge;
+pub use end_judge::EndJudge;
+pub use party::Party;
+pub use server::ServerJudge;
