@@ -4,3 +4,4 @@ pub mod Fate
 pub mod History
 pub mod Accounts
 pub mod Contents
+pub mod OneWay

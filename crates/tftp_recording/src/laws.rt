@@ -1,8 +1,11 @@
 ghost use Rattle.std.specs.Prelude.{◌≡◌, ◌⊎◌, ◌≤◌, ◌∷◌, ℕ, List, Some, length};
 ghost use Rattle.std.specs.Global.{Vec};
+ghost use Rattle.tftp_pcap.specs.History.{IsWrong};
+ghost use Rattle.tftp_pcap.specs.declared.fault.FaultKind.{FaultKind};
 ghost use Rattle.tftp_recording.specs.Accounts.{IsSettled, IsWaiting, NoneTwice, ToldOneWay};
 ghost use Rattle.tftp_recording.specs.Contents.{IsPutTogether};
 ghost use Rattle.tftp_recording.specs.History.{IsHistory, Step, waiting};
+ghost use Rattle.tftp_recording.specs.OneWay.{AreToldAlike, IsRead, IsReadTo, NoneOusted};
 
 use tftp_fragments::Outcome;
 
@@ -20,4 +23,14 @@ pub fn each_frame_is_accounted_for_once()
 /// are the frames that it is told to be of.
 pub fn content_is_of_its_frames()
     ensures { (before : List Step) (step : Step) (content frames : Vec ℕ) → IsHistory (step ∷ before) → step.brought.outcome ≡ Some (Outcome.Whole content frames) → IsPutTogether (step ∷ before) content.items frames.items }
+{}
+
+/// A recording is read in one way: two readings of the same bytes tell the same of each of its frames, in order: the same
+/// datagrams, the same frames left out for the same reasons, and the same fault that ends it. This is of recordings whose
+/// fragments never had to make room for others; each reading tells with which frame they did.
+pub fn recording_is_read_in_one_way()
+    ensures whole { (bytes : List ℕ) (some others : List Step) → IsRead bytes some → IsRead bytes others → NoneOusted some → NoneOusted others → AreToldAlike some others }
+    ensures fault { (bytes : List ℕ) (some others : List Step) (one other : FaultKind) → IsWrong one → IsWrong other → IsReadTo one bytes some → IsReadTo other bytes others → NoneOusted some → NoneOusted others
+        → AreToldAlike some others × (one ≡ other) }
+    ensures apart { (bytes : List ℕ) (some others : List Step) (kind : FaultKind) → IsWrong kind → IsReadTo kind bytes some → IsRead bytes others → ⊥ }
 {}
