@@ -7,3 +7,4 @@ pub mod Liking
 pub mod KeptOnce
 pub mod OneFate
 pub mod OneWay
+pub mod Examples

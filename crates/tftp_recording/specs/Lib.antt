@@ -5,3 +5,4 @@ pub mod History
 pub mod Accounts
 pub mod Contents
 pub mod OneWay
+pub mod Worked
