@@ -1,5 +1,5 @@
 -- The same fragments wait in two readings, and the same becomes of the next.
-use Rattle.std.proofs.Common.{◌≡◌, ◌≢◌, ℕ, ◌+◌, ◌<◌, ◌≤◌, Bool, true, false, inl, inr, List, [], ◌∷◌, ◌++◌, length, length-append, map, Option, Some, None, Vec, Global, refl, sym, ap, ◌∙◌, subst, arith}
+use Rattle.std.proofs.Common.{◌≡◌, ◌⊎◌, ◌≢◌, ◌↔◌, ℕ, ◌+◌, ◌<◌, ◌≤◌, Bool, true, false, inl, inr, List, [], ◌∷◌, ◌++◌, length, length-append, map, Option, Some, None, Vec, Global, refl, sym, ap, ◌∙◌, subst, arith}
 use Rattle.std.proofs.lemmas.List.{get_or-map, get_or_append_left, length-map}
 use Rattle.tftp_fragments.specs.Held.{Held, HoldsPart, StandsFor}
 use Rattle.tftp_fragments.specs.Key.{same_key}
@@ -12,6 +12,7 @@ use Rattle.tftp_fragments.specs.declared.outcome.Outcome.TheVariants.{Waits, Who
 use Rattle.tftp_fragments.proofs.Contents.{one_content}
 use Rattle.tftp_fragments.proofs.Members.{all_weaker}
 use Rattle.tftp_recording.specs.Brought.{BroughtState, LetsGoOld, MakesRoom, TakesPart}
+use Rattle.tftp_recording.specs.OneWay.{frames_at}
 use Rattle.tftp_recording.proofs.Keys.{same_set_at, truth}
 
 not_both : (b : Bool) → b ≡ true → b ≡ false → ⊥
@@ -222,23 +223,50 @@ let_go_alike key time old new others later gone away v w alike =
 
 -- ---- a fragment
 
+nil_or : (sets : Sets) → (sets ≡ []) ⊎ (sets ≢ [])
+nil_or [] = inl refl
+nil_or (x ∷ xs) = inr (λ e. cc)
+
 stays : (p : Part) (old new ousted : Sets) → MakesRoom p old new ousted → ousted ≡ [] → new ≡ old
 stays p old new ousted (inl h) e = h.1
 stays p old new ousted (inr h) e = h.2 ∙ sym e ∙ h.1
 
-pub part_alike : (key : Key) (a : Arrival) (old new others later : Sets) (b d : BroughtState) → (t : TakesPart key a old new b) → (u : TakesPart key a others later d) → b.ousted ≡ [] → d.ousted ≡ [] → Alike old others
-    → Alike new later × (b.old ≡ d.old) × IsSame t.outcome u.outcome
-part_alike key a old new others later b d t u none neither alike =
+all_goes : (p : Part) (old new ousted : Sets) → MakesRoom p old new ousted → ousted ≢ [] → (new ≡ []) × (ousted ≡ old)
+all_goes p old new ousted (inl h) some = absurd (some h.0)
+all_goes p old new ousted (inr h) some = (h.2, h.1)
+
+alike_at : (old new others later : Sets) → new ≡ old → later ≡ others → Alike old others → Alike new later
+alike_at old new others later e f alike = subst (λ (s : Sets). Alike s later) (sym e) (subst (λ (s : Sets). Alike old s) (sym f) alike)
+
+nothing_alike : Alike [] []
+nothing_alike = record { at = λ key. nothing_same }
+
+alike_frames : (some others : Sets) → Alike some others → (key : Key) → frames_at key some ≡ frames_at key others
+alike_frames some others alike key = let s = alike.at key in kept_frames (set_at key some) (set_at key others) s.arrivals s.one s.other
+
+room_alike : (p : Part) (old new ousted others later gone : Sets) → MakesRoom p old new ousted → MakesRoom p others later gone → (ousted ≡ []) ↔ (gone ≡ []) → Alike old others → Alike new later × Alike ousted gone
+room_alike p old new ousted others later gone g h same alike = elim (nil_or ousted) [
+  | inl e ↦ let f = same.0 e in (alike_at old new others later (stays p old new ousted g e) (stays p others later gone h f) alike, alike_at [] ousted [] gone e f nothing_alike)
+  | inr some ↦
+      let one = all_goes p old new ousted g some in
+      let other = all_goes p others later gone h (λ f. some (same.1 f)) in
+      (alike_at [] new [] later one.0 other.0 nothing_alike, alike_at old ousted others gone one.1 other.1 alike)
+]
+
+pub part_alike : (key : Key) (a : Arrival) (old new others later : Sets) (b d : BroughtState) → (t : TakesPart key a old new b) → (u : TakesPart key a others later d) → (b.ousted ≡ []) ↔ (d.ousted ≡ []) → Alike old others
+    → Alike new later × (b.old ≡ d.old) × IsSame t.outcome u.outcome × ((k : Key) → frames_at k b.ousted ≡ frames_at k d.ousted)
+part_alike key a old new others later b d t u same_room alike =
     let young = let_go_alike key a.time old t.young others u.young b.old d.old t.lets_go u.lets_go alike in
-    let roomy : (k : Key) → Same (set_at k t.roomy) (set_at k u.roomy) = λ k. same_at _ _ _ _ (ap (set_at k) (sym (stays a.part t.young t.roomy b.ousted t.makes_room none))) (ap (set_at k) (sym (stays a.part u.young u.roomy d.ousted u.makes_room neither))) (young.0.at k) in
-    let s = roomy key in
+    let roomy = room_alike a.part t.young t.roomy b.ousted u.young u.roomy d.ousted t.makes_room u.makes_room same_room young.0 in
+    let s = roomy.0.at key in
     let put = put_alike (set_at key t.roomy) (set_at key new) (set_at key u.roomy) (set_at key later) _ _ a s.arrivals s.one s.other t.outcome u.outcome t.ends u.ends t.tried u.tried t.not_full u.not_full in (
       record {
         at = λ k. elim (truth (same_key key k)) [
           | inl same ↦ same_at _ _ _ _ (same_set_at key k new same) (same_set_at key k later same) put.0
-          | inr other ↦ same_at _ _ _ _ (sym (t.others k other)) (sym (u.others k other)) (roomy k)
+          | inr other ↦ same_at _ _ _ _ (sym (t.others k other)) (sym (u.others k other)) (roomy.0.at k)
         ];
       },
       young.1,
       put.1,
+      alike_frames b.ousted d.ousted roomy.1,
     )
