@@ -1,5 +1,5 @@
 -- What waits under each key, and what becomes of a fragment.
-use Rattle.std.specs.Prelude.{◌≡◌, ◌≢◌, ℕ, ◌+◌, ◌-◌, ◌*◌, ◌<◌, ◌≤◌, ◌||◌, nat_lt, Bool, false, List, [], ◌∷◌, ◌++◌, length, Option, Some, None}
+use Rattle.std.specs.Prelude.{◌≡◌, ◌≢◌, ℕ, ◌+◌, ◌-◌, ◌*◌, ◌<◌, ◌≤◌, ◌||◌, nat_lt, Bool, true, false, List, [], ◌∷◌, ◌++◌, length, Option, Some, None}
 use Rattle.std.specs.List.{sum_by}
 use Rattle.std.specs.Map.{lookup, values_of}
 use Rattle.tftp_fragments.specs.declared.key.Key.{Key}
@@ -66,6 +66,24 @@ PutEnds old new all a (Apart frames) = Comes old new a × (frames.items ≡ fram
 PutEnds old new all a Empty = (new ≡ old) × (a.part.content ≡ [])
 PutEnds old new all a TooLong = (new ≡ old) × ((whole : List ℕ) → HasPart whole a.part → 65535 < length whole)
 PutEnds old new all a Full = (new ≡ old) × (most_room < all + (2 * end_of a.part + 264)) × (end_of a.part ≤ 65535)
+
+-- how many bytes the part's packet has behind it at least
+abbrev pub least_behind : Bool → ℕ
+least_behind true = 1
+least_behind false = 0
+
+-- the part brings bytes, and its packet may be of 65,535 bytes at most
+abbrev pub MayBePut : Part → Type 0
+MayBePut p = (1 ≤ length p.content) × (end_of p + least_behind p.more ≤ 65535)
+
+-- what is told of a part by itself comes first: that it brings no byte, and then that its packet would be too long
+abbrev pub IsTried : Part → Outcome → Type 0
+IsTried p Waits = MayBePut p
+IsTried p (Whole content frames) = MayBePut p
+IsTried p (Apart frames) = MayBePut p
+IsTried p Empty = p.content ≡ []
+IsTried p TooLong = (1 ≤ length p.content) × (65535 < end_of p + least_behind p.more)
+IsTried p Full = MayBePut p
 
 -- memory is wanted only for a fragment that is taken: it brings bytes, its packet may be as long, there is room for it, and
 -- it may be of one packet with those that wait

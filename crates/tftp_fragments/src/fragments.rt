@@ -3,7 +3,7 @@ ghost use Rattle.tftp_fragments.specs.Whole.{end_of};
 ghost use Rattle.tftp_fragments.specs.Held.{part_of, Agrees, IsComplete};
 ghost use Rattle.tftp_fragments.specs.Key.{same_key};
 ghost use Rattle.tftp_fragments.specs.Set.{SetState};
-ghost use Rattle.tftp_fragments.specs.Store.{set_at, room_of_all, most_room, is_long, frames_of, Comes, PutEnds, JoinEnds, WantsMemory};
+ghost use Rattle.tftp_fragments.specs.Store.{set_at, room_of_all, most_room, is_long, frames_of, Comes, PutEnds, MayBePut, IsTried, JoinEnds, WantsMemory};
 
 use crate::key::Key;
 use crate::outcome::Outcome;
@@ -128,6 +128,7 @@ impl Fragments {
         requires young { (s : SetState) → set_at key self.old ≡ Some s → is_long s.began time ≡ false }
         ensures other { (other : Key) → same_key key other ≡ false → set_at other self.new ≡ set_at other self.old }
         ensures ends { IfOk result (PutEnds (set_at key self.old) (set_at key self.new) (room_of_all self.old) (record { part = part_of part.now; time = time; frame = frame })) }
+        ensures tried { IfOk result (IsTried (part_of part.now)) }
         ensures full { result ≡ Ok Outcome.Full → self.new ≡ self.old }
         ensures wants { OnErr result (WantsMemory (set_at key self.old) (room_of_all self.old) (part_of part.now)) }
         ensures err { OnErr result ((self.new ≡ self.old) ⊎ Comes (set_at key self.old) (set_at key self.new) (record { part = part_of part.now; time = time; frame = frame })) }
@@ -168,6 +169,7 @@ impl Fragments {
         requires room { room_of_all self.old + (2 * end_of (part_of part.now) + 264) ≤ most_room }
         ensures other { (other : Key) → same_key key other ≡ false → set_at other self.new ≡ set_at other self.old }
         ensures taken { result ≢ Ok Outcome.Full }
+        ensures tried { MayBePut (part_of part.now) → IfOk result (IsTried (part_of part.now)) }
         ensures ends { IfOk result (PutEnds None (set_at key self.new) (room_of_all self.old) (record { part = part_of part.now; time = time; frame = frame })) }
         ensures err { OnErr result (self.new ≡ self.old) }
     {

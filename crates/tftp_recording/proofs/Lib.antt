@@ -4,3 +4,7 @@ pub mod Continuing
 pub mod Gathering
 pub mod Keys
 pub mod Liking
+pub mod KeptOnce
+pub mod OneFate
+pub mod OneWay
+pub mod Examples

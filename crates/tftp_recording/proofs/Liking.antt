@@ -1,6 +1,5 @@
 -- Which packets are copies, by what is told of them.
-use Rattle.std.proofs.Common.{◌≡◌, ◌<◌, ◌↔◌, ℕ, Bool, true, false, inr, List, ◌∷◌, length, Option, Some, IsTrue, refl, sym, subst, ap, ◌∙◌, arith}
-use Rattle.std.specs.List.{slice_get}
+use Rattle.std.proofs.Common.{◌≡◌, ◌<◌, ◌↔◌, ℕ, Bool, true, false, inr, List, ◌∷◌, length, Option, Some, IsTrue, refl, sym, subst, ap, arith}
 use Rattle.tftp_copies.specs.Copies.{Packet as Recorded, IsCopy}
 use Rattle.tftp_copies.specs.Held.{RecentState, StandsFor}
 use Rattle.tftp_frames.specs.Ip.{Packet, is_identified}

@@ -5,7 +5,7 @@ use Rattle.tftp_frames.specs.Ip.{Packet}
 use Rattle.tftp_frames.specs.declared.packet.Fragment.{Fragment}
 use Rattle.tftp_fragments.specs.Key.{same_key}
 use Rattle.tftp_fragments.specs.Set.{Arrival, SetState}
-use Rattle.tftp_fragments.specs.Store.{Sets, PutEnds, WantsMemory, is_long, most_room, room_of_all, set_at}
+use Rattle.tftp_fragments.specs.Store.{Sets, PutEnds, IsTried, WantsMemory, is_long, most_room, room_of_all, set_at}
 use Rattle.tftp_fragments.specs.Whole.{Part, end_of}
 use Rattle.tftp_fragments.specs.declared.key.Key.{Key}
 use Rattle.tftp_fragments.specs.declared.outcome.Outcome.{Outcome}
@@ -57,6 +57,7 @@ pub record TakesPart (key : Key) (a : Arrival) (old new : Sets) (b : BroughtStat
   pub makes_room : MakesRoom a.part young roomy b.ousted
   pub others : OthersStay key roomy new
   pub ends : PutEnds (set_at key roomy) (set_at key new) (room_of_all roomy) a outcome
+  pub tried : IsTried a.part outcome
   pub not_full : outcome ≢ Full
   pub is : b.outcome ≡ Some outcome
 

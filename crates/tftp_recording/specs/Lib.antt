@@ -4,3 +4,5 @@ pub mod Fate
 pub mod History
 pub mod Accounts
 pub mod Contents
+pub mod OneWay
+pub mod Worked

@@ -1,8 +1,19 @@
-ghost use Rattle.std.specs.Prelude.{◌≡◌, ◌⊎◌, ◌≤◌, ◌∷◌, ℕ, List, Some, length};
+ghost use Rattle.std.specs.Prelude.{◌≡◌, ◌⊎◌, ◌≤◌, ◌∷◌, ℕ, List, [], Some, length};
 ghost use Rattle.std.specs.Global.{Vec};
+ghost use Rattle.tftp_frames.specs.Udp.{SpellsUdp};
+ghost use Rattle.tftp_frames.specs.Worked.{acknowledgement, udp_bytes};
+ghost use Rattle.tftp_pcap.specs.History.{IsWrong};
+ghost use Rattle.tftp_pcap.specs.declared.fault.FaultKind.{FaultKind};
 ghost use Rattle.tftp_recording.specs.Accounts.{IsSettled, IsWaiting, NoneTwice, ToldOneWay};
 ghost use Rattle.tftp_recording.specs.Contents.{IsPutTogether};
 ghost use Rattle.tftp_recording.specs.History.{IsHistory, Step, waiting};
+ghost use Rattle.tftp_recording.specs.Fate.{IsDatagram, IsFateOf};
+ghost use Rattle.tftp_recording.specs.OneWay.{AreToldAlike, IsRead, IsReadTo, MadeRoomAlike};
+ghost use Rattle.tftp_recording.specs.Worked.{cooked_step, ethernet_step, first_step, last_part, last_step};
+ghost use Rattle.tftp_recording.specs.declared.fate.Datagram.{Datagram};
+ghost use Rattle.tftp_recording.specs.declared.fate.Fate.{Fate};
+ghost use Rattle.tftp_recording.specs.declared.fate.LeftOut.{LeftOut};
+ghost use Rattle.tftp_recording.specs.declared.likeness.Likeness.{Likeness};
 
 use tftp_fragments::Outcome;
 
@@ -20,4 +31,31 @@ pub fn each_frame_is_accounted_for_once()
 /// are the frames that it is told to be of.
 pub fn content_is_of_its_frames()
     ensures { (before : List Step) (step : Step) (content frames : Vec ℕ) → IsHistory (step ∷ before) → step.brought.outcome ≡ Some (Outcome.Whole content frames) → IsPutTogether (step ∷ before) content.items frames.items }
+{}
+
+/// A recording is read in one way: two readings of the same bytes tell the same of each of its frames, in order: the same
+/// datagrams, the same frames left out for the same reasons, and the same fault that ends it. Where fragments had to make
+/// room they did so for the same frames, if any; each reading tells for which.
+pub fn recording_is_read_in_one_way()
+    ensures whole { (bytes : List ℕ) (some others : List Step) → IsRead bytes some → IsRead bytes others → MadeRoomAlike some others → AreToldAlike some others }
+    ensures fault { (bytes : List ℕ) (some others : List Step) (one other : FaultKind) → IsWrong one → IsWrong other → IsReadTo one bytes some → IsReadTo other bytes others → MadeRoomAlike some others
+        → AreToldAlike some others × (one ≡ other) }
+    ensures apart { (bytes : List ℕ) (some others : List Step) (kind : FaultKind) → IsWrong kind → IsReadTo kind bytes some → IsRead bytes others → ⊥ }
+{}
+
+/// Worked example: an acknowledgement in two fragments (RFC 791, section 3.2). The first waits; the last gives the content of
+/// both, of frames 1 and 2, and it is the datagram.
+pub fn worked_fragments()
+    ensures history { (content frames : Vec ℕ) → content.items ≡ udp_bytes → frames.items ≡ 1 ∷ 2 ∷ [] → IsHistory (last_step content frames ∷ first_step ∷ []) }
+    ensures waits { IsFateOf first_step.frame first_step.likeness first_step.brought.outcome Fate.Waits }
+    ensures datagram { (content frames : Vec ℕ) (d : Datagram) → content.items ≡ udp_bytes → IsDatagram (last_step content frames).frame last_part acknowledgement d
+        → IsFateOf (last_step content frames).frame Likeness.New (last_step content frames).brought.outcome (Fate.Datagram d) }
+{}
+
+/// Worked examples: a packet that is recorded in Ethernet, and 1 ms later at another interface, is a copy; one nanosecond
+/// later still it is a datagram again.
+pub fn worked_copies()
+    ensures copy { IsHistory (cooked_step Likeness.Copy 1000000000 1001000000 ∷ ethernet_step 1000000000 ∷ []) }
+    ensures left { IsFateOf (cooked_step Likeness.Copy 1000000000 1001000000).frame Likeness.Copy (cooked_step Likeness.Copy 1000000000 1001000000).brought.outcome (Fate.Left LeftOut.Copy) }
+    ensures later { IsHistory (cooked_step Likeness.New 1000000000 1001000001 ∷ ethernet_step 1000000000 ∷ []) }
 {}

@@ -10,5 +10,8 @@ mod reader;
 
 pub use event::Event;
 pub use fate::{Datagram, Fate, LeftOut};
-pub use laws::{content_is_of_its_frames, each_frame_is_accounted_for_once};
+pub use laws::{
+    content_is_of_its_frames, each_frame_is_accounted_for_once, recording_is_read_in_one_way,
+    worked_copies, worked_fragments,
+};
 pub use reader::RecordingReader;

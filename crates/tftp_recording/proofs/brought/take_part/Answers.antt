@@ -43,6 +43,7 @@ returns-clause-ok c =
       makes_room = makes_room (set_at c.args.key c.let_go_old-old.new.waiting) (set_at c.args.key c.put.new.self) _ _ _ a _ c.in-Full.is c.in_ok-outcome.ensures.ends (c.replace-ousted.ensures.value ∙ c.in_ok-outcome.ensures.full (ap (λ (o : Outcome). Ok o) c.in-Full.is)) none;
       others = c.in_ok-outcome-2.ensures.other;
       ends = c.in_ok-outcome-2.ensures.ends;
+      tried = c.in_ok-outcome-2.ensures.tried;
       not_full = never_full _ _ c.replace-ousted.new.dest a c.in_ok-outcome-2.outcome none c.in_ok-outcome-2.ensures.ends;
       is = refl;
     }

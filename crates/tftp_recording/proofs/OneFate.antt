@@ -1,0 +1,157 @@
+-- What becomes of a frame is one thing.
+use Rattle.std.proofs.Common.{◌≡◌, ℕ, true, false, inl, inr, List, ◌∷◌, Option, Some, None, refl, sym, ap, ◌∙◌, subst}
+use Rattle.tftp_copies.specs.Copies.{Packet as Recorded}
+use Rattle.tftp_fragments.specs.declared.outcome.Outcome.{Outcome}
+use Rattle.tftp_fragments.specs.declared.outcome.Outcome.TheVariants.{Waits as Held, Whole, Apart as Torn, Empty as Bare, TooLong as Long, Full as Crowded}
+use Rattle.tftp_frames.specs.Frame.{SpellsFrame}
+use Rattle.tftp_frames.specs.Ip.{Packet}
+use Rattle.tftp_frames.specs.Udp.{HoldsUdp, SpellsUdp, Udp}
+use Rattle.tftp_frames.specs.declared.fault.FrameFault.{FrameFault}
+use Rattle.tftp_frames.specs.declared.fault.UdpFault.{UdpFault}
+use Rattle.tftp_frames.proofs.Datagrams.{fault_one, udp_one}
+use Rattle.tftp_frames.proofs.Datagrams as datagrams
+use Rattle.tftp_frames.proofs.FaultOrder.{first_one, no_fault, packet_one}
+use Rattle.tftp_pcap.specs.Frames.{FrameParts}
+use Rattle.tftp_recording.specs.Fate.{IsDatagram, IsFate, IsFateOf, Says, content_of, sharers}
+use Rattle.tftp_recording.specs.Likeness.{Comes, IsLike, recorded}
+use Rattle.tftp_recording.specs.OneWay.{IsSameDatagram, IsSameFate}
+use Rattle.tftp_recording.specs.declared.fate.Datagram.{Datagram as Given}
+use Rattle.tftp_recording.specs.declared.fate.Fate.{Fate}
+use Rattle.tftp_recording.specs.declared.fate.Fate.TheVariants.{Datagram, Left, Waits}
+use Rattle.tftp_recording.specs.declared.fate.LeftOut.{LeftOut}
+use Rattle.tftp_recording.specs.declared.fate.LeftOut.TheVariants.{Frame, Udp as NoUdp, Apart, Empty, TooLong, Full, Copy}
+use Rattle.tftp_recording.specs.declared.likeness.Likeness.{Likeness}
+use Rattle.tftp_recording.specs.declared.likeness.Likeness.TheVariants as likeness
+use Rattle.tftp_recording.proofs.KeptOnce.{IsSame}
+
+impossible : false ≡ true → ⊥
+impossible e = cc
+
+-- ---- likeness
+
+like_one : (before : List Recorded) (time : Option ℕ) (p : Packet) (l m : Likeness) → IsLike before time p l → IsLike before time p m → l ≡ m
+like_one before time p likeness.New likeness.New a b = refl
+like_one before time p likeness.New likeness.Doubtful a b = absurd (a b.0)
+like_one before time p likeness.New likeness.Copy a b = absurd (a b.0)
+like_one before time p likeness.Doubtful likeness.New a b = absurd (b a.0)
+like_one before time p likeness.Doubtful likeness.Doubtful a b = refl
+like_one before time p likeness.Doubtful likeness.Copy a b = absurd (impossible (sym a.1 ∙ b.1))
+like_one before time p likeness.Copy likeness.New a b = absurd (b a.0)
+like_one before time p likeness.Copy likeness.Doubtful a b = absurd (impossible (sym b.1 ∙ a.1))
+like_one before time p likeness.Copy likeness.Copy a b = refl
+
+pub comes_one : (before : List Recorded) (frame : FrameParts) (l m : Likeness) (came now : List Recorded) → Comes before frame l came → Comes before frame m now → (l ≡ m) × (came ≡ now)
+comes_one before frame l m came now (inl a) (inl b) = (a.1 ∙ sym b.1, a.2 ∙ sym b.2)
+comes_one before frame l m came now (inl a) (inr b) = absurd (a.0 b.0 b.1)
+comes_one before frame l m came now (inr a) (inl b) = absurd (b.0 a.0 a.1)
+comes_one before frame l m came now (inr a) (inr b) =
+    let e : b.0 ≡ a.0 = packet_one frame.link frame.bytes b.0 a.0 b.1 a.1 in
+    (like_one before frame.time a.0 l m a.2 (subst (λ (x : Packet). IsLike before frame.time x m) e b.2), a.3 ∙ ap (λ (x : Packet). recorded frame.time x ∷ before) (sym e) ∙ sym b.3)
+
+-- ---- what a frame says
+
+same_datagram : (frame : FrameParts) (p : Packet) (udp : Udp) (d e : Given) → IsDatagram frame p udp d → IsDatagram frame p udp e → IsSameDatagram d e
+same_datagram frame p udp d e g h = record {
+  direction = g.direction ∙ sym h.direction;
+  source = g.source ∙ sym h.source;
+  source_port = g.source_port ∙ sym h.source_port;
+  target = g.target ∙ sym h.target;
+  target_port = g.target_port ∙ sym h.target_port;
+  payload = g.payload ∙ sym h.payload;
+}
+
+module _ (frame : FrameParts) (whole : Option (List ℕ)) where
+  one_packet : (p q : Packet) → SpellsFrame frame.link frame.bytes p → SpellsFrame frame.link frame.bytes q → q ≡ p
+  one_packet p q s t = packet_one frame.link frame.bytes q p t s
+
+  with_datagram : (d : Given) (fate : Fate) → Says frame whole (Datagram d) → Says frame whole fate → IsSameFate (Datagram d) fate
+  with_datagram d (Datagram e) (p, udp, s, u, is) (q, other, t, v, has) =
+      let same : q ≡ p = one_packet p q s t in
+      let one : other ≡ udp = udp_one p.protocol (content_of p whole) other udp (subst (λ (x : Packet). SpellsUdp x.protocol (content_of x whole) other) same v) u in
+      (e, refl, same_datagram frame p udp d e is (subst (λ (x : Udp). IsDatagram frame p x e) one (subst (λ (x : Packet). IsDatagram frame x other e) same has)))
+  with_datagram d (Left (Frame fault)) (p, udp, s, u, is) h = absurd (no_fault frame.link frame.bytes p fault s h.0)
+  with_datagram d (Left (NoUdp fault)) (p, udp, s, u, is) (q, t, holds) =
+      absurd (datagrams.no_fault p.protocol (content_of p whole) udp fault u (subst (λ (x : Packet). HoldsUdp fault x.protocol (content_of x whole)) (one_packet p q s t) holds))
+  with_datagram d (Left Apart) g h = absurd h
+  with_datagram d (Left Empty) g h = absurd h
+  with_datagram d (Left TooLong) g h = absurd h
+  with_datagram d (Left Full) g h = absurd h
+  with_datagram d (Left Copy) g h = absurd h
+  with_datagram d Waits g h = absurd h
+
+  with_fault : (fault : FrameFault) (fate : Fate) → Says frame whole (Left (Frame fault)) → Says frame whole fate → IsSameFate (Left (Frame fault)) fate
+  with_fault fault (Datagram e) g (q, other, t, v, has) = absurd (no_fault frame.link frame.bytes q fault t g.0)
+  with_fault fault (Left (Frame other)) g h = ap (λ (f : FrameFault). Left (Frame f)) (first_one frame.link frame.bytes other fault h g)
+  with_fault fault (Left (NoUdp other)) g (q, t, holds) = absurd (no_fault frame.link frame.bytes q fault t g.0)
+  with_fault fault (Left Apart) g h = absurd h
+  with_fault fault (Left Empty) g h = absurd h
+  with_fault fault (Left TooLong) g h = absurd h
+  with_fault fault (Left Full) g h = absurd h
+  with_fault fault (Left Copy) g h = absurd h
+  with_fault fault Waits g h = absurd h
+
+  with_udp : (fault : UdpFault) (fate : Fate) → Says frame whole (Left (NoUdp fault)) → Says frame whole fate → IsSameFate (Left (NoUdp fault)) fate
+  with_udp fault (Datagram e) (p, s, holds) (q, other, t, v, has) =
+      absurd (datagrams.no_fault p.protocol (content_of p whole) other fault (subst (λ (x : Packet). SpellsUdp x.protocol (content_of x whole) other) (one_packet p q s t) v) holds)
+  with_udp fault (Left (Frame other)) (p, s, holds) h = absurd (no_fault frame.link frame.bytes p other s h.0)
+  with_udp fault (Left (NoUdp other)) (p, s, holds) (q, t, has) =
+      ap (λ (f : UdpFault). Left (NoUdp f)) (fault_one p.protocol (content_of p whole) other fault (subst (λ (x : Packet). HoldsUdp other x.protocol (content_of x whole)) (one_packet p q s t) has) holds)
+  with_udp fault (Left Apart) g h = absurd h
+  with_udp fault (Left Empty) g h = absurd h
+  with_udp fault (Left TooLong) g h = absurd h
+  with_udp fault (Left Full) g h = absurd h
+  with_udp fault (Left Copy) g h = absurd h
+  with_udp fault Waits g h = absurd h
+
+  says_one : (fate same : Fate) → Says frame whole fate → Says frame whole same → IsSameFate fate same
+  says_one (Datagram d) same g h = with_datagram d same g h
+  says_one (Left (Frame fault)) same g h = with_fault fault same g h
+  says_one (Left (NoUdp fault)) same g h = with_udp fault same g h
+  says_one (Left Apart) same g h = absurd g
+  says_one (Left Empty) same g h = absurd g
+  says_one (Left TooLong) same g h = absurd g
+  says_one (Left Full) same g h = absurd g
+  says_one (Left Copy) same g h = absurd g
+  says_one Waits same g h = absurd g
+
+-- ---- what became of a frame
+
+both_left : (why : LeftOut) (fate same : Fate) → fate ≡ Left why → same ≡ Left why → IsSameFate fate same
+both_left why fate same e h = subst (λ (x : Fate). IsSameFate x same) (sym e) h
+
+both_wait : (fate same : Fate) → fate ≡ Waits → same ≡ Waits → IsSameFate fate same
+both_wait fate same e h = subst (λ (x : Fate). IsSameFate x same) (sym e) h
+
+abbrev pub IsSameIf : Option Outcome → Option Outcome → Type 0
+IsSameIf None other = other ≡ None
+IsSameIf (Some x) other = (y : Outcome) × (other ≡ Some y) × IsSame x y
+
+fate_with : (frame : FrameParts) (x y : Outcome) (fate same : Fate) → IsSame x y → IsFate frame (Some x) fate → IsFate frame (Some y) same → IsSameFate fate same
+fate_with frame Held y fate same e g h = both_wait fate same g (subst (λ (o : Outcome). IsFate frame (Some o) same) e h)
+fate_with frame (Whole content frames) y fate same (others, shares, e, is, are) g h =
+    says_one frame (Some content.items) fate same g (subst (λ (l : List ℕ). Says frame (Some l) same) (sym is) (subst (λ (o : Outcome). IsFate frame (Some o) same) e h))
+fate_with frame (Torn frames) y fate same (shares, e, are) g h = both_left Apart fate same g (subst (λ (o : Outcome). IsFate frame (Some o) same) e h)
+fate_with frame Bare y fate same e g h = both_left Empty fate same g (subst (λ (o : Outcome). IsFate frame (Some o) same) e h)
+fate_with frame Long y fate same e g h = both_left TooLong fate same g (subst (λ (o : Outcome). IsFate frame (Some o) same) e h)
+fate_with frame Crowded y fate same e g h = both_left Full fate same g (subst (λ (o : Outcome). IsFate frame (Some o) same) e h)
+
+fate_one : (frame : FrameParts) (o m : Option Outcome) (fate same : Fate) → IsSameIf o m → IsFate frame o fate → IsFate frame m same → IsSameFate fate same
+fate_one frame None m fate same e g h = says_one frame None fate same g (subst (λ (x : Option Outcome). IsFate frame x same) e h)
+fate_one frame (Some x) m fate same (y, e, is) g h = fate_with frame x y fate same is g (subst (λ (o : Option Outcome). IsFate frame o same) e h)
+
+pub fate_of_one : (frame : FrameParts) (l : Likeness) (o m : Option Outcome) (fate same : Fate) → IsSameIf o m → IsFateOf frame l o fate → IsFateOf frame l m same → IsSameFate fate same
+fate_of_one frame likeness.New o m fate same is g h = fate_one frame o m fate same is g h
+fate_of_one frame likeness.Doubtful o m fate same is g h = fate_one frame o m fate same is g h
+fate_of_one frame likeness.Copy o m fate same is g h = both_left Copy fate same g h
+
+sharers_with : (x y : Outcome) → IsSame x y → sharers (Some x) ≡ sharers (Some y)
+sharers_with Held y e = ap (λ (o : Outcome). sharers (Some o)) (sym e)
+sharers_with (Whole content frames) y (others, shares, e, is, are) = are ∙ ap (λ (o : Outcome). sharers (Some o)) (sym e)
+sharers_with (Torn frames) y (shares, e, are) = are ∙ ap (λ (o : Outcome). sharers (Some o)) (sym e)
+sharers_with Bare y e = ap (λ (o : Outcome). sharers (Some o)) (sym e)
+sharers_with Long y e = ap (λ (o : Outcome). sharers (Some o)) (sym e)
+sharers_with Crowded y e = ap (λ (o : Outcome). sharers (Some o)) (sym e)
+
+pub sharers_one : (o m : Option Outcome) → IsSameIf o m → sharers o ≡ sharers m
+sharers_one None m e = ap sharers (sym e)
+sharers_one (Some x) m (y, e, is) = sharers_with x y is ∙ ap sharers (sym e)

@@ -1,0 +1,77 @@
+-- Frames for worked examples: the acknowledgement of the worked frames of tftp_frames, in two fragments, and recorded twice.
+use Rattle.std.specs.Prelude.{ℕ, List, [], ◌∷◌, ◌++◌, length, map, Option, Some, true, false}
+use Rattle.std.specs.Global.{Vec}
+use Rattle.tftp_copies.specs.Copies.{Packet as Recorded}
+use Rattle.tftp_fragments.specs.Set.{SetState}
+use Rattle.tftp_fragments.specs.declared.key.Key.{Key}
+use Rattle.tftp_fragments.specs.declared.outcome.Outcome.TheVariants.{Waits, Whole}
+use Rattle.tftp_frames.specs.Ip.{Packet}
+use Rattle.tftp_frames.specs.Worked.{cooked_head, host, ipv4_bytes, ipv4_packet, two_tags}
+use Rattle.tftp_frames.specs.declared.packet.Direction.TheVariants.{Unknown}
+use Rattle.tftp_pcap.specs.Frames.{FrameParts}
+use Rattle.tftp_pcap.specs.declared.frame.Direction.TheVariants as recorded
+use Rattle.tftp_recording.specs.Brought.{nothing_brought}
+use Rattle.tftp_recording.specs.History.{Step}
+use Rattle.tftp_recording.specs.declared.likeness.Likeness.{Likeness}
+use Rattle.tftp_recording.specs.declared.likeness.Likeness.TheVariants.{New}
+
+-- ---- in two fragments, of the link type of raw IPv4, recorded at one time
+
+abbrev pub first_bytes : List ℕ
+first_bytes = 69 ∷ 0 ∷ 0 ∷ 28 ∷ 0 ∷ 7 ∷ 32 ∷ 0 ∷ 64 ∷ 17 ∷ 214 ∷ 193 ∷ 192 ∷ 0 ∷ 2 ∷ 7 ∷ 192 ∷ 0 ∷ 2 ∷ 1 ∷ 156 ∷ 64 ∷ 0 ∷ 69 ∷ 0 ∷ 12 ∷ 223 ∷ 66 ∷ []
+
+abbrev pub last_bytes : List ℕ
+last_bytes = 69 ∷ 0 ∷ 0 ∷ 24 ∷ 0 ∷ 7 ∷ 0 ∷ 1 ∷ 64 ∷ 17 ∷ 246 ∷ 196 ∷ 192 ∷ 0 ∷ 2 ∷ 7 ∷ 192 ∷ 0 ∷ 2 ∷ 1 ∷ 0 ∷ 4 ∷ 0 ∷ 1 ∷ []
+
+abbrev pub first_part : Packet
+first_part = record (ipv4_packet Unknown first_bytes) { fragment = Some (record { id = 7; place = 0; more = true }); content = 156 ∷ 64 ∷ 0 ∷ 69 ∷ 0 ∷ 12 ∷ 223 ∷ 66 ∷ [] }
+
+abbrev pub last_part : Packet
+last_part = record (ipv4_packet Unknown last_bytes) { fragment = Some (record { id = 7; place = 8; more = false }); content = 0 ∷ 4 ∷ 0 ∷ 1 ∷ [] }
+
+abbrev pub worked_time : Option ℕ
+worked_time = Some 1000000000
+
+abbrev pub raw_frame : List ℕ → FrameParts
+raw_frame bytes = record { link = 228; time = worked_time; direction = recorded.Unknown; original = length bytes; bytes = bytes }
+
+abbrev pub worked_key : Key
+worked_key = record { source = host 7; target = host 1; protocol = 17; id = 7 }
+
+-- what waits after the first fragment
+abbrev pub first_set : SetState
+first_set = record { held = record { cells = map (λ b. Some b) first_part.content; ended = false }; frames = 1 ∷ []; began = worked_time; spoiled = false }
+
+abbrev pub recorded_first : Recorded
+recorded_first = record { time = worked_time; bytes = first_bytes }
+
+-- the first fragment waits
+abbrev pub first_step : Step
+first_step = record { frame = raw_frame first_bytes; likeness = New; brought = record nothing_brought { outcome = Some Waits }; waits = (worked_key, first_set) ∷ []; came = recorded_first ∷ [] }
+
+-- the last one gives a content, of those frames, and none waits
+abbrev pub last_step : Vec ℕ → Vec ℕ → Step
+last_step content frames = record { frame = raw_frame last_bytes; likeness = New; brought = record nothing_brought { outcome = Some (Whole content frames) }; waits = []; came = record { time = worked_time; bytes = last_bytes } ∷ recorded_first ∷ [] }
+
+-- ---- recorded at an interface of Ethernet, and then at one of Linux cooked
+
+abbrev pub recorded_at : ℕ → Recorded
+recorded_at time = record { time = Some time; bytes = ipv4_bytes }
+
+abbrev pub ethernet_step : ℕ → Step
+ethernet_step time = record {
+  frame = record { link = 1; time = Some time; direction = recorded.Unknown; original = length (two_tags ++ ipv4_bytes); bytes = two_tags ++ ipv4_bytes };
+  likeness = New;
+  brought = nothing_brought;
+  waits = [];
+  came = recorded_at time ∷ [];
+}
+
+abbrev pub cooked_step : Likeness → ℕ → ℕ → Step
+cooked_step likeness before time = record {
+  frame = record { link = 113; time = Some time; direction = recorded.Unknown; original = length (cooked_head ++ ipv4_bytes); bytes = cooked_head ++ ipv4_bytes };
+  likeness = likeness;
+  brought = nothing_brought;
+  waits = [];
+  came = recorded_at time ∷ recorded_at before ∷ [];
+}
