@@ -29,6 +29,7 @@ empty_set began = record {
   held = λ e. nothing_stands;
   frames = λ e. refl;
   apart = λ e. absurd (not_both false e refl);
+  nothing = λ e. absurd (not_both false e refl);
 }
 
 some_arrivals : (a : Arrival) (arrivals : List Arrival) → (a ∷ arrivals) ≢ []

@@ -1,5 +1,5 @@
 -- How many bytes are counted after a set has changed, gone or come.
-use Rattle.std.proofs.Common.{◌≡◌, ℕ, ◌+◌, ◌*◌, ◌-◌, ◌≤◌, Option, Some, None, Result, Ok, Err, OnErr, sym, ap, ◌∙◌, arith}
+use Rattle.std.proofs.Common.{◌≡◌, ℕ, ◌+◌, ◌*◌, ◌-◌, ◌≤◌, Option, Some, None, Result, Ok, Err, OnErr, refl, sym, ap, ◌∙◌, subst, arith}
 use Rattle.std.specs.Option.{option_map, unwrap_or}
 use Rattle.std.specs.Map.{keys_of, remove_entry, set_value}
 use Rattle.std.specs.List.Sorted.{IsStrictlySortedBy}
@@ -12,7 +12,7 @@ use Rattle.tftp_fragments.specs.Whole.{Part, end_of}
 use Rattle.tftp_fragments.specs.Key.{key_cmp, same_key}
 use Rattle.tftp_fragments.specs.KeyOrder.{key_total}
 use Rattle.tftp_fragments.specs.Set.{SetState, TakeEnds, room_of}
-use Rattle.tftp_fragments.specs.Store.{Sets, IsCounted, most_room, room_of_all, set_at}
+use Rattle.tftp_fragments.specs.Store.{CountsAt, Sets, IsCounted, most_room, room_of_all, room_under, set_at}
 
 pub removed_room : (key : Key) (sets : Sets) (s : SetState) → set_at key sets ≡ Some s → room_of_all (remove_entry (same_key key) sets) + room_of s ≡ room_of_all sets
 removed_room key sets s e =
@@ -64,3 +64,25 @@ same_set s t e = cc
 
 pub no_set : (s : SetState) → None ≡ Some s → ⊥
 no_set s e = cc
+
+-- ---- what is counted where a set is gone, has changed or has come
+
+pub counts_removed : (key : Key) (sets old new : Sets) (s : SetState) → sets ≡ old → set_at key sets ≡ Some s → set_at key new ≡ None → new ≡ remove_entry (same_key key) sets → CountsAt key old new
+counts_removed key sets old new s view e gone is =
+    let sum : room_of_all new + room_of s ≡ room_of_all sets = ap (λ (l : Sets). room_of_all l + room_of s) is ∙ removed_room key sets s e in
+    subst (λ (l : Sets). CountsAt key l new) view (omega (arith, sum, ap room_under e, ap room_under gone))
+
+pub counts_changed : (key : Key) (sets old new : Sets) (s t : SetState) → sets ≡ old → set_at key sets ≡ Some s → set_at key new ≡ Some t → new ≡ set_value (same_key key) sets t → CountsAt key old new
+counts_changed key sets old new s t view e now is =
+    let sum : room_of_all new + room_of s ≡ room_of_all sets + room_of t = ap (λ (l : Sets). room_of_all l + room_of s) is ∙ changed_room key sets s t e in
+    subst (λ (l : Sets). CountsAt key l new) view (omega (arith, sum, ap room_under e, ap room_under now))
+
+pub counts_inserted : (key : Key) (sets old new : Sets) (t : SetState) → sets ≡ old → IsStrictlySortedBy key_cmp (keys_of sets) → set_at key sets ≡ None → set_at key new ≡ Some t → new ≡ insert_entry key_cmp sets key t → CountsAt key old new
+counts_inserted key sets old new t view ordered e now is =
+    let sum = sum_by-insert_entry room_of key_total sets key t ordered in
+    let none : unwrap_or (option_map room_of (set_at key sets)) 0 ≡ 0 = ap (λ (o : Option SetState). unwrap_or (option_map room_of o) 0) e in
+    let all : room_of_all new ≡ room_of_all sets + room_of t = ap room_of_all is ∙ omega (arith, sum, none) in
+    subst (λ (l : Sets). CountsAt key l new) view (omega (arith, all, ap room_under e, ap room_under now))
+
+pub counts_same : (key : Key) (old new : Sets) → new ≡ old → CountsAt key old new
+counts_same key old new e = subst (λ (l : Sets). CountsAt key l new) e refl

@@ -13,18 +13,20 @@ still_apart s arrivals a e is =
         held = λ f. absurd (not_both s.spoiled e f);
         frames = λ f. absurd (not_both s.spoiled e f);
         apart = λ f. ((is.apart e).0, apart);
+        nothing = λ f. is.nothing e;
       },
     )
 
-pub now_apart : (old new : SetState) (arrivals : List Arrival) (a : Arrival) (p : Part) → a.part ≡ p → 1 ≤ length p.content → old.spoiled ≡ false → (Agrees old.held p → ⊥) → new.spoiled ≡ true → new.frames ≡ []
+pub now_apart : (old new : SetState) (arrivals : List Arrival) (a : Arrival) (p : Part) → a.part ≡ p → 1 ≤ length p.content → old.spoiled ≡ false → (Agrees old.held p → ⊥) → new.spoiled ≡ true → new.frames ≡ [] → new.held ≡ nothing_held
     → IsSetOf old arrivals → AreApart (parts_of (a ∷ arrivals)) × IsSetOf new (a ∷ arrivals)
-now_apart old new arrivals a p same some whole_before not_agreed spoiled none is =
+now_apart old new arrivals a p same some whole_before not_agreed spoiled none empty is =
     let apart : AreApart (parts_of (a ∷ arrivals)) = λ whole h. not_agreed (agreed old.held (parts_of arrivals) p whole some (is.held whole_before) h.1 (subst (HasPart whole) same h.0)) in (
       apart,
       record {
         held = λ f. absurd (not_both new.spoiled spoiled f);
         frames = λ f. absurd (not_both new.spoiled spoiled f);
         apart = λ f. (none, apart);
+        nothing = λ f. empty;
       },
     )
 

@@ -3,7 +3,7 @@ use Rattle.std.specs.Prelude.{◌≡◌, ℕ, ◌+◌, ◌*◌, ◌^◌, ◌≤�
 use Rattle.std.specs.List.{AllByRecursion}
 use Rattle.std.specs.Global.{Vec}
 use Rattle.tftp_fragments.specs.Whole.{Part, HasPart, end_of}
-use Rattle.tftp_fragments.specs.Held.{Agrees, Held, StandsFor}
+use Rattle.tftp_fragments.specs.Held.{Agrees, Held, StandsFor, nothing_held}
 
 -- a fragment that came: its part, when it came in nanoseconds, where the recording says so, and the number of its frame
 pub record Arrival : Type 0 where
@@ -30,16 +30,18 @@ pub record SetState : Type 0 where
 abbrev pub room_of : SetState → ℕ
 room_of s = 2 * length s.held.cells + 8 * length s.frames + 256
 
--- no frames are kept of a spoiled set
-pub record IsSound (frames : List ℕ) (spoiled : Bool) : Type 0 where
+-- nothing is kept of a spoiled set
+pub record IsSound (held : Held) (frames : List ℕ) (spoiled : Bool) : Type 0 where
   pub few : length frames ≤ 2 ^ 40
   pub none : spoiled ≡ true → frames ≡ []
+  pub nothing : spoiled ≡ true → held ≡ nothing_held
 
 -- what is kept of these fragments, the last one first; where two cannot be of one packet nothing of them is
 pub record IsSetOf (s : SetState) (arrivals : List Arrival) : Type 0 where
   pub held : s.spoiled ≡ false → StandsFor s.held (parts_of arrivals)
   pub frames : s.spoiled ≡ false → s.frames ≡ reverse (map (λ a. a.frame) arrivals)
   pub apart : s.spoiled ≡ true → (s.frames ≡ []) × AreApart (parts_of arrivals)
+  pub nothing : s.spoiled ≡ true → s.held ≡ nothing_held
 
 -- what becomes of a fragment that is taken: it waits with the others, or it cannot be of one packet with them, and the
 -- answer is the frames that waited

@@ -27,6 +27,23 @@ room_of_all sets = sum_by room_of (values_of sets)
 abbrev pub most_room : ℕ
 most_room = 67108864
 
+-- for how many bytes what waits under a key is counted
+abbrev pub room_under : Option SetState → ℕ
+room_under None = 0
+room_under (Some s) = room_of s
+
+-- what waits under the key is counted as it is now, and all else as before
+abbrev pub CountsAt : Key → Sets → Sets → Type 0
+CountsAt key old new = room_of_all new + room_under (set_at key old) ≡ room_of_all old + room_under (set_at key new)
+
+-- where so many bytes wait there is room for the part: it is counted for at most 264 more than two for each byte
+abbrev pub HasRoom : ℕ → Part → Type 0
+HasRoom all p = all + (2 * end_of p + 264) ≤ most_room
+
+-- there is none
+abbrev pub IsFull : ℕ → Part → Type 0
+IsFull all p = most_room < all + (2 * end_of p + 264)
+
 -- how many bytes wait is counted, and they are not too many
 pub record IsCounted (sets : Sets) (counted : ℕ) : Type 0 where
   pub counts : counted ≡ room_of_all sets
@@ -65,7 +82,7 @@ PutEnds old new all a (Whole content frames) = (new ≡ None) × ((arrivals : Li
 PutEnds old new all a (Apart frames) = Comes old new a × (frames.items ≡ frames_of old) × ((arrivals : List Arrival) → IsKeptOf old arrivals → AreApart (parts_of (a ∷ arrivals))) × (frames_of new ≡ [])
 PutEnds old new all a Empty = (new ≡ old) × (a.part.content ≡ [])
 PutEnds old new all a TooLong = (new ≡ old) × ((whole : List ℕ) → HasPart whole a.part → 65535 < length whole)
-PutEnds old new all a Full = (new ≡ old) × (most_room < all + (2 * end_of a.part + 264)) × (end_of a.part ≤ 65535)
+PutEnds old new all a Full = (new ≡ old) × IsFull all a.part × (end_of a.part ≤ 65535)
 
 -- how many bytes the part's packet has behind it at least
 abbrev pub least_behind : Bool → ℕ
@@ -76,21 +93,22 @@ least_behind false = 0
 abbrev pub MayBePut : Part → Type 0
 MayBePut p = (1 ≤ length p.content) × (end_of p + least_behind p.more ≤ 65535)
 
--- what is told of a part by itself comes first: that it brings no byte, and then that its packet would be too long
-abbrev pub IsTried : Part → Outcome → Type 0
-IsTried p Waits = MayBePut p
-IsTried p (Whole content frames) = MayBePut p
-IsTried p (Apart frames) = MayBePut p
-IsTried p Empty = p.content ≡ []
-IsTried p TooLong = (1 ≤ length p.content) × (65535 < end_of p + least_behind p.more)
-IsTried p Full = MayBePut p
+-- what is told of a part by itself comes first: that it brings no byte, and then that its packet would be too long; and
+-- then whether there is room, where so many bytes wait
+abbrev pub IsTried : ℕ → Part → Outcome → Type 0
+IsTried all p Waits = MayBePut p × HasRoom all p
+IsTried all p (Whole content frames) = MayBePut p × HasRoom all p
+IsTried all p (Apart frames) = MayBePut p × HasRoom all p
+IsTried all p Empty = p.content ≡ []
+IsTried all p TooLong = (1 ≤ length p.content) × (65535 < end_of p + least_behind p.more)
+IsTried all p Full = MayBePut p × IsFull all p
 
 -- memory is wanted only for a fragment that is taken: it brings bytes, its packet may be as long, there is room for it, and
 -- it may be of one packet with those that wait
 pub record WantsMemory (old : Option SetState) (all : ℕ) (p : Part) : Type 0 where
   pub some : 1 ≤ length p.content
   pub short : end_of p ≤ 65535
-  pub room : all + (2 * end_of p + 264) ≤ most_room
+  pub room : HasRoom all p
   pub agrees : (s : SetState) → old ≡ Some s → (s.spoiled ≡ false) × Agrees s.held p
 
 -- the same of a fragment that comes to a set that waits, or to none

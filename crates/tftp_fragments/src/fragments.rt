@@ -3,7 +3,7 @@ ghost use Rattle.tftp_fragments.specs.Whole.{end_of};
 ghost use Rattle.tftp_fragments.specs.Held.{part_of, Agrees, IsComplete};
 ghost use Rattle.tftp_fragments.specs.Key.{same_key};
 ghost use Rattle.tftp_fragments.specs.Set.{SetState};
-ghost use Rattle.tftp_fragments.specs.Store.{set_at, room_of_all, most_room, is_long, frames_of, Comes, PutEnds, MayBePut, IsTried, JoinEnds, WantsMemory};
+ghost use Rattle.tftp_fragments.specs.Store.{set_at, room_of_all, most_room, is_long, frames_of, Comes, CountsAt, HasRoom, PutEnds, MayBePut, IsTried, JoinEnds, WantsMemory};
 
 use crate::key::Key;
 use crate::outcome::Outcome;
@@ -78,6 +78,7 @@ impl Fragments {
     /// (in nanoseconds; RFC 8200, section 4.5, waits 60 s, and most systems 30).
     pub fn let_go_old(&mut self, key: Key, time: Option<u64>) -> Option<Vec<u64>>
         ensures other { (other : Key) → same_key key other ≡ false → set_at other self.new ≡ set_at other self.old }
+        ensures room { CountsAt key self.old self.new }
         ensures gone { (s : SetState) → set_at key self.old ≡ Some s → is_long s.began time ≡ true → (set_at key self.new ≡ None) × IsSomeAnd result (λ frames. frames.items ≡ s.frames) }
         ensures kept { (s : SetState) → set_at key self.old ≡ Some s → is_long s.began time ≡ false → (set_at key self.new ≡ Some s) × (result ≡ None) }
         ensures none { set_at key self.old ≡ None → (set_at key self.new ≡ None) × (result ≡ None) }
@@ -93,6 +94,7 @@ impl Fragments {
     /// Lets go what waits under a key, and answers its frames.
     fn let_go(&mut self, key: Key) -> Option<Vec<u64>>
         ensures other { (other : Key) → same_key key other ≡ false → set_at other self.new ≡ set_at other self.old }
+        ensures room { CountsAt key self.old self.new }
         ensures gone { set_at key self.new ≡ None }
         ensures frames { MatchOption result (set_at key self.old ≡ None) (λ frames. (s : SetState) × (set_at key self.old ≡ Some s) × (frames.items ≡ s.frames)) }
     {
@@ -127,8 +129,9 @@ impl Fragments {
     ) -> Result<Outcome, AllocError>
         requires young { (s : SetState) → set_at key self.old ≡ Some s → is_long s.began time ≡ false }
         ensures other { (other : Key) → same_key key other ≡ false → set_at other self.new ≡ set_at other self.old }
+        ensures room { CountsAt key self.old self.new }
         ensures ends { IfOk result (PutEnds (set_at key self.old) (set_at key self.new) (room_of_all self.old) (record { part = part_of part.now; time = time; frame = frame })) }
-        ensures tried { IfOk result (IsTried (part_of part.now)) }
+        ensures tried { IfOk result (IsTried (room_of_all self.old) (part_of part.now)) }
         ensures full { result ≡ Ok Outcome.Full → self.new ≡ self.old }
         ensures wants { OnErr result (WantsMemory (set_at key self.old) (room_of_all self.old) (part_of part.now)) }
         ensures err { OnErr result ((self.new ≡ self.old) ⊎ Comes (set_at key self.old) (set_at key self.new) (record { part = part_of part.now; time = time; frame = frame })) }
@@ -166,10 +169,11 @@ impl Fragments {
         requires none { set_at key self.old ≡ None }
         requires some { 1 ≤ length part.now.content.now }
         requires short { end_of (part_of part.now) ≤ 65535 }
-        requires room { room_of_all self.old + (2 * end_of (part_of part.now) + 264) ≤ most_room }
+        requires room { HasRoom (room_of_all self.old) (part_of part.now) }
         ensures other { (other : Key) → same_key key other ≡ false → set_at other self.new ≡ set_at other self.old }
+        ensures room { CountsAt key self.old self.new }
         ensures taken { result ≢ Ok Outcome.Full }
-        ensures tried { MayBePut (part_of part.now) → IfOk result (IsTried (part_of part.now)) }
+        ensures tried { MayBePut (part_of part.now) → IfOk result (IsTried (room_of_all self.old) (part_of part.now)) }
         ensures ends { IfOk result (PutEnds None (set_at key self.new) (room_of_all self.old) (record { part = part_of part.now; time = time; frame = frame })) }
         ensures err { OnErr result (self.new ≡ self.old) }
     {
@@ -190,6 +194,7 @@ impl Fragments {
     fn hand_out(&mut self, alloc: Global, key: Key) -> Result<(Vec<u8>, Vec<u64>), AllocError>
         requires { (s : SetState) × (set_at key self.old ≡ Some s) × IsComplete s.held }
         ensures other { (other : Key) → same_key key other ≡ false → set_at other self.new ≡ set_at other self.old }
+        ensures room { CountsAt key self.old self.new }
         ensures content { IfOk result (λ out. (s : SetState) → set_at key self.old ≡ Some s → s.held.cells ≡ map (λ b. Some b) out.0.items) }
         ensures frames { IfOk result (λ out. (s : SetState) → set_at key self.old ≡ Some s → out.1.items ≡ s.frames) }
         ensures gone { OnOk result (set_at key self.new ≡ None) }
@@ -224,8 +229,9 @@ impl Fragments {
     ) -> Result<Joined, AllocError>
         requires some { 1 ≤ length part.now.content.now }
         requires short { end_of (part_of part.now) ≤ 65535 }
-        requires room { room_of_all self.old + (2 * end_of (part_of part.now) + 264) ≤ most_room }
+        requires room { HasRoom (room_of_all self.old) (part_of part.now) }
         ensures other { (other : Key) → same_key key other ≡ false → set_at other self.new ≡ set_at other self.old }
+        ensures room { CountsAt key self.old self.new }
         ensures none { IfOk result (λ joined. joined ≡ Joined.NoSet → self.new ≡ self.old) }
         ensures wants { OnErr result ((s : SetState) → set_at key self.old ≡ Some s → (s.spoiled ≡ false) × Agrees s.held (part_of part.now)) }
         ensures ends { IfOk result (JoinEnds (set_at key self.old) (set_at key self.new) (part_of part.now) frame) }

@@ -31,7 +31,7 @@ impl Model for Set {
 
     ghost view = { λ s. record { held = s.parts; frames = s.frames.items; began = s.began; spoiled = s.spoiled } };
 
-    ghost invariant = { λ s. IsSound s.frames.items s.spoiled };
+    ghost invariant = { λ s. IsSound s.parts s.frames.items s.spoiled };
 }
 
 impl Set {

@@ -5,7 +5,7 @@ use Rattle.tftp_fragments.specs.Set.{Arrival, IsSetOf, SetState, TakeEnds, room_
 use Rattle.tftp_fragments.specs.Store.{Comes, Sets, frames_of, room_of_all, set_at}
 use Rattle.tftp_fragments.proofs.Holding.{not_both}
 use Rattle.tftp_fragments.proofs.Puts.{came_first, empty_set, given, not_given, nothing_agrees}
-use Rattle.tftp_fragments.proofs.Rooms.{counted_inserted}
+use Rattle.tftp_fragments.proofs.Rooms.{counted_inserted, counts_inserted}
 use Rattle.tftp_fragments.proofs.fragments.Fragments.begin.Goals as goal
 
 pub returns-then-is_whole-clause-ends : goal.returns-then-is_whole-clause-ends
@@ -48,3 +48,7 @@ returns-clause-ends c =
       λ arrivals whole e. not_given t (a ∷ arrivals) whole ends.0 (subst (λ (l : List Arrival). IsSetOf t (a ∷ l)) (sym e) (ends.2 [] a refl refl (empty_set c.args.time))) (λ all. not_both c.is_whole.result (c.is_whole.ensures.1 (ends.0, all)) c.if-is_whole.false),
       ap frames_of c.in_ok-insert.ensures.updates.1 ∙ ends.5,
     )
+
+pub returns-clause-room : goal.returns-clause-room
+returns-clause-room c =
+    counts_inserted c.args.key c.self.inside.sets.entries c.args.self.now c.insert.new.self.entries c.take.new.self c.self.view_is c.insert.ensures.was_ordered (ap (λ (sets : Sets). set_at c.args.key sets) c.self.view_is ∙ c.requires.none) c.in_ok-insert.ensures.updates.1 c.in_ok-insert.ensures.entries

@@ -4,7 +4,7 @@ use Rattle.tftp_fragments.specs.Held.{Agrees, part_of}
 use Rattle.tftp_fragments.specs.Set.{SetState, TakeEnds}
 use Rattle.tftp_fragments.specs.Store.{IsCounted, JoinEnds, Sets, room_of_all, set_at}
 use Rattle.tftp_fragments.proofs.Holding.{not_both}
-use Rattle.tftp_fragments.proofs.Rooms.{counted_changed, on_err, same_set, same_sets, take_room}
+use Rattle.tftp_fragments.proofs.Rooms.{counted_changed, counts_changed, counts_same, on_err, same_set, same_sets, take_room}
 use Rattle.tftp_fragments.proofs.fragments.Fragments.join.Goals as goal
 use Rattle.tftp_fragments.proofs.fragments.Fragments.join.Goals.{in-Some-taken, in-None, in-None-2}
 
@@ -55,3 +55,13 @@ returns-in_err-taken-clause-wants c =
     on_err c.from_residual.result _ (λ s e.
     let found = c.in-Some.ensures.value ∙ ap (λ (sets : Sets). set_at c.args.key sets) c.self.view_is ∙ e in
     subst (λ (t : SetState). (t.spoiled ≡ false) × Agrees t.held (part_of c.args.part.now)) (same_set _ s found) c.in_err-taken.ensures.wants)
+
+pub returns-in_err-taken-clause-room : goal.returns-in_err-taken-clause-room
+returns-in_err-taken-clause-room c =
+    let same = same_sets c.args.key c.self.inside.sets.entries _ c.in-Some.set.now c.take.new.self (sym c.in-Some.ensures.value) (c.get_mut.follows.holds c.take.new.self).0 c.in_err-taken.ensures.err in
+    counts_same c.args.key c.args.self.now _ (same ∙ c.self.view_is)
+
+pub returns-clause-room : goal.returns-clause-room
+returns-clause-room c =
+    let updates = (c.get_mut.follows.holds c.take.new.self).3 (subst IsSome c.in-Some.ensures.value refl) in
+    counts_changed c.args.key c.self.inside.sets.entries c.args.self.now _ c.in-Some.set.now c.take.new.self c.self.view_is (sym c.in-Some.ensures.value) updates.1 (c.get_mut.follows.holds c.take.new.self).0

@@ -1,6 +1,6 @@
 use Rattle.std.proofs.Common.{sym, ap, ◌∙◌, arith}
 use Rattle.tftp_fragments.specs.Store.{Sets, set_at}
-use Rattle.tftp_fragments.proofs.Rooms.{counted_removed, found_room}
+use Rattle.tftp_fragments.proofs.Rooms.{counted_removed, counts_removed, found_room}
 use Rattle.tftp_fragments.proofs.fragments.Fragments.let_go.Goals as goal
 
 pub overflow_sub-self : goal.overflow_sub-self
@@ -11,3 +11,6 @@ invariant_of-self c = counted_removed c.args.key c.self.inside.sets.entries c.re
 
 pub returns-in-Some-clause-other : goal.returns-in-Some-clause-other
 returns-in-Some-clause-other c = λ other e. c.in-Some.ensures.updates.2 other e ∙ ap (λ (sets : Sets). set_at other sets) c.self.view_is
+
+pub returns-in-Some-clause-room : goal.returns-in-Some-clause-room
+returns-in-Some-clause-room c = counts_removed c.args.key c.self.inside.sets.entries c.args.self.now c.remove.new.self.entries c.in-Some.set c.self.view_is (sym c.in-Some.ensures.value) c.in-Some.ensures.updates.1 c.in-Some.ensures.entries

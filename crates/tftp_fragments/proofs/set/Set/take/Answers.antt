@@ -18,6 +18,6 @@ returns-then-not-agree-clause-ends c =
       refl,
       small_room (record { held = c.new-then-not-agree.result; frames = c.replace.new.dest.items; began = c.self.inside.began; spoiled = true }) c.args.self.now c.new-then-not-agree.ensures (search rules),
       search rules,
-      λ arrivals a e is. now_apart c.args.self.now _ arrivals a (part_of c.args.part.now) e c.requires.some whole (λ g. not_both c.agree.result (c.agree.ensures.1 (subst (λ (h : Held). Agrees h (part_of c.args.part.now)) (sym held) g)) c.if-not-agree.true) refl (search rules) is,
+      λ arrivals a e is. now_apart c.args.self.now _ arrivals a (part_of c.args.part.now) e c.requires.some whole (λ g. not_both c.agree.result (c.agree.ensures.1 (subst (λ (h : Held). Agrees h (part_of c.args.part.now)) (sym held) g)) c.if-not-agree.true) refl (search rules) c.new-then-not-agree.ensures is,
       search rules,
     )
