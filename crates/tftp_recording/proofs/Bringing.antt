@@ -1,5 +1,5 @@
 -- What a frame does among the fragments that wait.
-use Rattle.std.proofs.Common.{◌≡◌, ◌≢◌, ℕ, inr, List, [], Option, None, Result, Ok, Err, OnErr, sym, ap, ◌∙◌, subst, arith}
+use Rattle.std.proofs.Common.{◌≡◌, ◌≢◌, ℕ, inr, List, [], Option, None, Result, Ok, Err, OnErr, length, refl, sym, ap, ◌∙◌, subst, arith}
 use Rattle.std.specs.Result.{IsOkAnd}
 use Rattle.tftp_frames.specs.Frame.{SpellsFrame}
 use Rattle.tftp_frames.specs.Ip.{Packet}
@@ -7,9 +7,10 @@ use Rattle.tftp_frames.specs.Parts.{shown}
 use Rattle.tftp_frames.specs.declared.fault.FrameFault.{FrameFault}
 use Rattle.tftp_frames.specs.declared.packet.IpPacket.{IpPacket}
 use Rattle.tftp_fragments.specs.Set.{Arrival, SetState}
-use Rattle.tftp_fragments.specs.Store.{PutEnds, Sets, room_of_all}
+use Rattle.tftp_fragments.specs.Store.{HasRoom, IsTried, MayBePut, PutEnds, Sets, room_of_all}
+use Rattle.tftp_fragments.specs.Whole.{Part}
 use Rattle.tftp_fragments.specs.declared.outcome.Outcome.{Outcome}
-use Rattle.tftp_fragments.specs.declared.outcome.Outcome.TheVariants.{Full}
+use Rattle.tftp_fragments.specs.declared.outcome.Outcome.TheVariants.{Waits, Whole, Apart, Empty, TooLong, Full}
 use Rattle.tftp_recording.specs.Brought.{MakesRoom}
 
 pub on_err : {A E : Type 0} (r : Result A E) (X : Type 0) → X → OnErr r X
@@ -39,7 +40,19 @@ never_full old new roomy a outcome none ends full =
     let h = subst (PutEnds old new (room_of_all roomy) a) full ends in
     absurd (omega (arith, h.1, h.2, ap room_of_all none))
 
+-- there is room for a part that may be put, where it is not said that there is none
+pub has_room : (all : ℕ) (p : Part) (outcome : Outcome) → IsTried all p outcome → outcome ≢ Full → MayBePut p → HasRoom all p
+has_room all p Waits t n may = t.1
+has_room all p (Whole content frames) t n may = t.1
+has_room all p (Apart frames) t n may = t.1
+has_room all p Empty t n may = absurd (omega (arith, may.0, ap length t))
+has_room all p TooLong t n may = absurd (omega (arith, may.1, t.1))
+has_room all p Full t n may = absurd (n refl)
+
+pub may_be_put : (all : ℕ) (p : Part) (outcome : Outcome) → outcome ≡ Full → IsTried all p outcome → MayBePut p
+may_be_put all p outcome full t = (subst (IsTried all p) full t).0
+
 -- all that waited makes room
 pub makes_room : (key_old key_new : Option SetState) (young roomy ousted : Sets) (a : Arrival) (outcome : Outcome) → outcome ≡ Full → PutEnds key_old key_new (room_of_all young) a outcome → ousted ≡ young → roomy ≡ []
-    → MakesRoom a.part young roomy ousted
-makes_room key_old key_new young roomy ousted a outcome full ends same none = inr ((subst (PutEnds key_old key_new (room_of_all young) a) full ends).1, same, none)
+    → MayBePut a.part → MakesRoom a.part young roomy ousted
+makes_room key_old key_new young roomy ousted a outcome full ends same none may = inr ((subst (PutEnds key_old key_new (room_of_all young) a) full ends).1, same, none, may)

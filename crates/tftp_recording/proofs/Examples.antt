@@ -5,7 +5,7 @@ use Rattle.tftp_copies.specs.Copies.{Packet as Recorded, IsCopy}
 use Rattle.tftp_fragments.specs.Held.{Agrees, AreLaid, Held, nothing_held}
 use Rattle.tftp_fragments.specs.Key.{same_key}
 use Rattle.tftp_fragments.specs.Set.{Arrival, IsSetOf, SetState, parts_of}
-use Rattle.tftp_fragments.specs.Store.{IsKeptOf, PutEnds, Sets, is_long, set_at}
+use Rattle.tftp_fragments.specs.Store.{IsKeptOf, PutEnds, Sets, is_long, room_under, set_at}
 use Rattle.tftp_fragments.specs.Whole.{Give, Part}
 use Rattle.tftp_fragments.specs.declared.key.Key.{Key}
 use Rattle.tftp_fragments.specs.declared.outcome.Outcome.{Outcome}
@@ -193,6 +193,7 @@ one_set s t e = cc
 nothing_goes : LetsGoOld worked_key worked_time [] [] []
 nothing_goes = record {
   others = λ other e. refl;
+  counted = refl;
   none = λ e. (refl, refl);
   long = λ s e. absurd (none_some s e);
   young = λ s e. absurd (none_some s e);
@@ -207,6 +208,7 @@ is_young = refl
 none_goes : LetsGoOld worked_key worked_time waits_first waits_first []
 none_goes = record {
   others = λ other e. refl;
+  counted = refl;
   none = λ e. absurd (none_some first_set (sym e ∙ at_key worked_key first_set));
   long = λ s e long. absurd (not_both (is_long worked_time worked_time) (ap (λ (x : SetState). is_long x.began worked_time) (one_set first_set s (sym (at_key worked_key first_set) ∙ e)) ∙ long) is_young);
   young = λ s e young. (e, refl);
@@ -222,6 +224,7 @@ first_set_is = record {
   held = λ e. stands_more nothing_held (part_in first_part 0 true) first_set.held (nothing_agrees (part_in first_part 0 true) (omega arith)) first_added [] ((empty_set worked_time).held refl);
   frames = λ e. refl;
   apart = λ e. absurd (not_both false e refl);
+  nothing = λ e. absurd (not_both false e refl);
 }
 
 first_kept : IsKeptOf (Some first_set) (first_arrival ∷ [])
@@ -246,10 +249,11 @@ first_takes = record {
   roomy = [];
   outcome = Waits;
   lets_go = nothing_goes;
-  makes_room = inl (refl, refl);
+  makes_room = inl (refl, refl, λ may. omega arith);
   others = λ other e. at_other worked_key other first_set e;
+  counted = sym (ap room_under (at_key worked_key first_set));
   ends = subst (λ (o : Option SetState). PutEnds None o 0 first_arrival Waits) (sym (at_key worked_key first_set)) first_ends;
-  tried = (omega arith, omega arith);
+  tried = ((omega arith, omega arith), omega arith);
   not_full = not_full_waits;
   is = refl;
 }
@@ -283,10 +287,11 @@ module _ (content frames : Vec ℕ Global) (e : content.items ≡ udp_bytes) (f 
     roomy = waits_first;
     outcome = Whole content frames;
     lets_go = none_goes;
-    makes_room = inl (refl, refl);
+    makes_room = inl (refl, refl, λ may. omega arith);
+    counted = ap room_under (at_key worked_key first_set);
     others = λ other differs. sym (at_other worked_key other first_set differs);
     ends = subst (λ (o : Option SetState). PutEnds o None 0 last_arrival (Whole content frames)) (sym (at_key worked_key first_set)) last_ends;
-    tried = (omega arith, omega arith);
+    tried = ((omega arith, omega arith), omega arith);
     not_full = not_full_whole content frames;
     is = refl;
   }

@@ -1,16 +1,17 @@
 -- The same fragments wait in two readings, and the same becomes of the next.
 use Rattle.std.proofs.Common.{◌≡◌, ◌⊎◌, ◌≢◌, ◌↔◌, ℕ, ◌+◌, ◌<◌, ◌≤◌, Bool, true, false, inl, inr, List, [], ◌∷◌, ◌++◌, length, length-append, map, Option, Some, None, Vec, Global, refl, sym, ap, ◌∙◌, subst, arith}
+use Rattle.std.proofs.lemmas.Bool.{cases_lt}
 use Rattle.std.proofs.lemmas.List.{get_or-map, get_or_append_left, length-map}
 use Rattle.tftp_fragments.specs.Held.{Held, HoldsPart, StandsFor}
 use Rattle.tftp_fragments.specs.Key.{same_key}
 use Rattle.tftp_fragments.specs.Set.{AreApart, Arrival, IsSetOf, SetState, parts_of}
-use Rattle.tftp_fragments.specs.Store.{IsKeptOf, IsTried, MayBePut, PutEnds, Sets, frames_of, is_long, least_behind, set_at}
+use Rattle.tftp_fragments.specs.Store.{CountsAt, IsFull, IsKeptOf, IsTried, MayBePut, PutEnds, Sets, frames_of, is_long, least_behind, room_of_all, room_under, set_at}
 use Rattle.tftp_fragments.specs.Whole.{EndsRightly, HasPart, Part, end_of}
 use Rattle.tftp_fragments.specs.declared.key.Key.{Key}
 use Rattle.tftp_fragments.specs.declared.outcome.Outcome.{Outcome}
 use Rattle.tftp_fragments.specs.declared.outcome.Outcome.TheVariants.{Waits, Whole, Apart, Empty, TooLong, Full}
 use Rattle.tftp_fragments.proofs.Contents.{one_content}
-use Rattle.tftp_fragments.proofs.Members.{all_weaker}
+use Rattle.tftp_fragments.proofs.Members.{all_at, all_weaker, member}
 use Rattle.tftp_recording.specs.Brought.{BroughtState, LetsGoOld, MakesRoom, TakesPart}
 use Rattle.tftp_recording.specs.OneWay.{frames_at}
 use Rattle.tftp_recording.proofs.Keys.{same_set_at, truth}
@@ -73,6 +74,37 @@ kept_frames None (Some t) arrivals g h = absurd (h.0 g)
 kept_frames (Some s) None arrivals g h = absurd (g.0 h)
 kept_frames (Some s) (Some t) arrivals g h = set_frames s t arrivals g.2 h.2
 
+-- up to the furthest end of the parts
+held_within : (h k : Held) (parts : List Part) → StandsFor h parts → StandsFor k parts → length k.cells ≤ length h.cells
+held_within h k parts s t = elim (cases_lt (length h.cells) (length k.cells)) [
+  | inl less ↦
+      let m = member (λ q. end_of q ≡ length k.cells) parts (t.reach (omega (arith, less))) in
+      let held = all_at (HoldsPart h) parts m.0 s.each m.2 in
+      absurd (omega (arith, less, held.within, m.1))
+  | inr within ↦ within
+]
+
+held_size : (h k : Held) (parts : List Part) → StandsFor h parts → StandsFor k parts → length h.cells ≡ length k.cells
+held_size h k parts s t = omega (arith, held_within h k parts s t, held_within k h parts t s)
+
+set_size : (s t : SetState) (arrivals : List Arrival) → IsSetOf s arrivals → IsSetOf t arrivals → length s.held.cells ≡ length t.held.cells
+set_size s t arrivals g h = elim (truth s.spoiled) [
+  | inl a ↦ elim (truth t.spoiled) [
+    | inl b ↦ ap (λ (x : Held). length x.cells) (g.nothing a ∙ sym (h.nothing b))
+    | inr b ↦ absurd (held_not_apart t.held (parts_of arrivals) (h.held b) (g.apart a).1)
+  ]
+  | inr a ↦ elim (truth t.spoiled) [
+    | inl b ↦ absurd (held_not_apart s.held (parts_of arrivals) (g.held a) (h.apart b).1)
+    | inr b ↦ held_size s.held t.held (parts_of arrivals) (g.held a) (h.held b)
+  ]
+]
+
+kept_room : (o m : Option SetState) (arrivals : List Arrival) → IsKeptOf o arrivals → IsKeptOf m arrivals → room_under o ≡ room_under m
+kept_room None None arrivals g h = refl
+kept_room None (Some t) arrivals g h = absurd (h.0 g)
+kept_room (Some s) None arrivals g h = absurd (g.0 h)
+kept_room (Some s) (Some t) arrivals g h = omega (arith, set_size s t arrivals g.2 h.2, ap length (set_frames s t arrivals g.2 h.2))
+
 no_snoc : (frames : List ℕ) (n : ℕ) → [] ≡ frames ++ n ∷ [] → ⊥
 no_snoc [] n e = cc
 no_snoc (x ∷ xs) n e = cc
@@ -92,6 +124,13 @@ pub record Same (o m : Option SetState) : Type 0 where
 
 pub record Alike (some others : Sets) : Type 0 where
   pub at : (key : Key) → Same (set_at key some) (set_at key others)
+  pub room : room_of_all some ≡ room_of_all others
+
+-- what waits under one key has changed, in both readings alike
+alike_changed : (key : Key) (old new others later : Sets) → CountsAt key old new → CountsAt key others later → Alike old others → Same (set_at key new) (set_at key later) → room_of_all new ≡ room_of_all later
+alike_changed key old new others later v w alike now =
+    let before = alike.at key in
+    omega (arith, v, w, alike.room, kept_room (set_at key old) (set_at key others) before.arrivals before.one before.other, kept_room (set_at key new) (set_at key later) now.arrivals now.one now.other)
 
 same_at : (o x m y : Option SetState) → o ≡ x → m ≡ y → Same o m → Same x y
 same_at o x m y e f s = record {
@@ -132,7 +171,7 @@ module _ (o x m y : Option SetState) (all most : ℕ) (a : Arrival) (l : List Ar
   both_stay : x ≡ o → y ≡ m → Same x y
   both_stay e f = same_at o x m y (sym e) (sym f) (record { arrivals = l; one = g; other = h })
 
-  when_waits : (v : Outcome) → PutEnds o x all a Waits → PutEnds m y most a v → MayBePut a.part → IsTried a.part v → v ≢ Full → Same x y × IsSame Waits v
+  when_waits : (v : Outcome) → PutEnds o x all a Waits → PutEnds m y most a v → MayBePut a.part → IsTried most a.part v → v ≢ Full → Same x y × IsSame Waits v
   when_waits Waits e f t u n = (record { arrivals = a ∷ l; one = e.0 l g; other = f.0 l h }, refl)
   when_waits (Whole content frames) e f t u n = absurd (e.1 l content.items g (f.1 l h))
   when_waits (Apart frames) e f t u n = absurd (waits_not_apart x (a ∷ l) (frames_of o) a.frame (e.0 l g) e.2 (f.2 l h))
@@ -140,7 +179,7 @@ module _ (o x m y : Option SetState) (all most : ℕ) (a : Arrival) (l : List Ar
   when_waits TooLong e f t u n = absurd (put_not_long a.part t u.1)
   when_waits Full e f t u n = absurd (n refl)
 
-  when_whole : (content frames : Vec ℕ Global) (v : Outcome) → PutEnds o x all a (Whole content frames) → PutEnds m y most a v → MayBePut a.part → IsTried a.part v → v ≢ Full → Same x y × IsSame (Whole content frames) v
+  when_whole : (content frames : Vec ℕ Global) (v : Outcome) → PutEnds o x all a (Whole content frames) → PutEnds m y most a v → MayBePut a.part → IsTried most a.part v → v ≢ Full → Same x y × IsSame (Whole content frames) v
   when_whole content frames Waits e f t u n = absurd (f.1 l content.items h (e.1 l g))
   when_whole content frames (Whole others shares) e f t u n =
       (both_gone e.0 f.0, (others, shares, refl, one_content (parts_of (a ∷ l)) content.items others.items (e.1 l g) (f.1 l h), e.2 ∙ frames_more ∙ sym f.2))
@@ -149,7 +188,7 @@ module _ (o x m y : Option SetState) (all most : ℕ) (a : Arrival) (l : List Ar
   when_whole content frames TooLong e f t u n = absurd (put_not_long a.part t u.1)
   when_whole content frames Full e f t u n = absurd (n refl)
 
-  when_apart : (frames : Vec ℕ Global) (v : Outcome) → PutEnds o x all a (Apart frames) → PutEnds m y most a v → MayBePut a.part → IsTried a.part v → v ≢ Full → Same x y × IsSame (Apart frames) v
+  when_apart : (frames : Vec ℕ Global) (v : Outcome) → PutEnds o x all a (Apart frames) → PutEnds m y most a v → MayBePut a.part → IsTried most a.part v → v ≢ Full → Same x y × IsSame (Apart frames) v
   when_apart frames Waits e f t u n = absurd (waits_not_apart y (a ∷ l) (frames_of m) a.frame (f.0 l h) f.2 (e.2 l g))
   when_apart frames (Whole content others) e f t u n = absurd (e.2 l g content.items (f.1 l h).each)
   when_apart frames (Apart others) e f t u n = (record { arrivals = a ∷ l; one = e.0 l g; other = f.0 l h }, (others, refl, e.1 ∙ kept_frames o m l g h ∙ sym f.1))
@@ -157,26 +196,26 @@ module _ (o x m y : Option SetState) (all most : ℕ) (a : Arrival) (l : List Ar
   when_apart frames TooLong e f t u n = absurd (put_not_long a.part t u.1)
   when_apart frames Full e f t u n = absurd (n refl)
 
-  when_empty : (v : Outcome) → PutEnds o x all a Empty → PutEnds m y most a v → a.part.content ≡ [] → IsTried a.part v → v ≢ Full → Same x y × IsSame Empty v
-  when_empty Waits e f t u n = absurd (put_not_empty a.part u t)
-  when_empty (Whole content frames) e f t u n = absurd (put_not_empty a.part u t)
-  when_empty (Apart frames) e f t u n = absurd (put_not_empty a.part u t)
+  when_empty : (v : Outcome) → PutEnds o x all a Empty → PutEnds m y most a v → a.part.content ≡ [] → IsTried most a.part v → v ≢ Full → Same x y × IsSame Empty v
+  when_empty Waits e f t u n = absurd (put_not_empty a.part u.0 t)
+  when_empty (Whole content frames) e f t u n = absurd (put_not_empty a.part u.0 t)
+  when_empty (Apart frames) e f t u n = absurd (put_not_empty a.part u.0 t)
   when_empty Empty e f t u n = (both_stay e.0 f.0, refl)
   when_empty TooLong e f t u n = absurd (long_not_empty a.part u.0 t)
   when_empty Full e f t u n = absurd (n refl)
 
-  when_long : (v : Outcome) → PutEnds o x all a TooLong → PutEnds m y most a v → IsTried a.part TooLong → IsTried a.part v → v ≢ Full → Same x y × IsSame TooLong v
-  when_long Waits e f t u n = absurd (put_not_long a.part u t.1)
-  when_long (Whole content frames) e f t u n = absurd (put_not_long a.part u t.1)
-  when_long (Apart frames) e f t u n = absurd (put_not_long a.part u t.1)
+  when_long : (v : Outcome) → PutEnds o x all a TooLong → PutEnds m y most a v → IsTried all a.part TooLong → IsTried most a.part v → v ≢ Full → Same x y × IsSame TooLong v
+  when_long Waits e f t u n = absurd (put_not_long a.part u.0 t.1)
+  when_long (Whole content frames) e f t u n = absurd (put_not_long a.part u.0 t.1)
+  when_long (Apart frames) e f t u n = absurd (put_not_long a.part u.0 t.1)
   when_long Empty e f t u n = absurd (long_not_empty a.part t.0 u)
   when_long TooLong e f t u n = (both_stay e.0 f.0, refl)
   when_long Full e f t u n = absurd (n refl)
 
-  put_alike : (w v : Outcome) → PutEnds o x all a w → PutEnds m y most a v → IsTried a.part w → IsTried a.part v → w ≢ Full → v ≢ Full → Same x y × IsSame w v
-  put_alike Waits v e f t u k n = when_waits v e f t u n
-  put_alike (Whole content frames) v e f t u k n = when_whole content frames v e f t u n
-  put_alike (Apart frames) v e f t u k n = when_apart frames v e f t u n
+  put_alike : (w v : Outcome) → PutEnds o x all a w → PutEnds m y most a v → IsTried all a.part w → IsTried most a.part v → w ≢ Full → v ≢ Full → Same x y × IsSame w v
+  put_alike Waits v e f t u k n = when_waits v e f t.0 u n
+  put_alike (Whole content frames) v e f t u k n = when_whole content frames v e f t.0 u n
+  put_alike (Apart frames) v e f t u k n = when_apart frames v e f t.0 u n
   put_alike Empty v e f t u k n = when_empty v e f t u n
   put_alike TooLong v e f t u k n = when_long v e f t u n
   put_alike Full v e f t u k n = absurd (k refl)
@@ -217,47 +256,41 @@ let_go_alike key time old new others later gone away v w alike =
           | inl same ↦ same_at _ _ _ _ (same_set_at key k new same) (same_set_at key k later same) here.0
           | inr other ↦ same_at _ _ _ _ (sym (v.others k other)) (sym (w.others k other)) (alike.at k)
         ];
+        room = alike_changed key old new others later v.counted w.counted alike here.0;
       },
       here.1,
     )
 
 -- ---- a fragment
 
-nil_or : (sets : Sets) → (sets ≡ []) ⊎ (sets ≢ [])
-nil_or [] = inl refl
-nil_or (x ∷ xs) = inr (λ e. cc)
-
-stays : (p : Part) (old new ousted : Sets) → MakesRoom p old new ousted → ousted ≡ [] → new ≡ old
-stays p old new ousted (inl h) e = h.1
-stays p old new ousted (inr h) e = h.2 ∙ sym e ∙ h.1
-
-all_goes : (p : Part) (old new ousted : Sets) → MakesRoom p old new ousted → ousted ≢ [] → (new ≡ []) × (ousted ≡ old)
-all_goes p old new ousted (inl h) some = absurd (some h.0)
-all_goes p old new ousted (inr h) some = (h.2, h.1)
-
 alike_at : (old new others later : Sets) → new ≡ old → later ≡ others → Alike old others → Alike new later
 alike_at old new others later e f alike = subst (λ (s : Sets). Alike s later) (sym e) (subst (λ (s : Sets). Alike old s) (sym f) alike)
 
 nothing_alike : Alike [] []
-nothing_alike = record { at = λ key. nothing_same }
+nothing_alike = record { at = λ key. nothing_same; room = refl }
 
 alike_frames : (some others : Sets) → Alike some others → (key : Key) → frames_at key some ≡ frames_at key others
 alike_frames some others alike key = let s = alike.at key in kept_frames (set_at key some) (set_at key others) s.arrivals s.one s.other
 
-room_alike : (p : Part) (old new ousted others later gone : Sets) → MakesRoom p old new ousted → MakesRoom p others later gone → (ousted ≡ []) ↔ (gone ≡ []) → Alike old others → Alike new later × Alike ousted gone
-room_alike p old new ousted others later gone g h same alike = elim (nil_or ousted) [
-  | inl e ↦ let f = same.0 e in (alike_at old new others later (stays p old new ousted g e) (stays p others later gone h f) alike, alike_at [] ousted [] gone e f nothing_alike)
-  | inr some ↦
-      let one = all_goes p old new ousted g some in
-      let other = all_goes p others later gone h (λ f. some (same.1 f)) in
-      (alike_at [] new [] later one.0 other.0 nothing_alike, alike_at old ousted others gone one.1 other.1 alike)
-]
+-- some waits where there is no room
+some_waits : (p : Part) (sets : Sets) → MayBePut p → IsFull (room_of_all sets) p → sets ≡ [] → ⊥
+some_waits p sets may full none = omega (arith, may.1, full, ap room_of_all none)
 
-pub part_alike : (key : Key) (a : Arrival) (old new others later : Sets) (b d : BroughtState) → (t : TakesPart key a old new b) → (u : TakesPart key a others later d) → (b.ousted ≡ []) ↔ (d.ousted ≡ []) → Alike old others
-    → Alike new later × (b.old ≡ d.old) × IsSame t.outcome u.outcome × ((k : Key) → frames_at k b.ousted ≡ frames_at k d.ousted)
-part_alike key a old new others later b d t u same_room alike =
+room_alike : (p : Part) (old new ousted others later gone : Sets) → MakesRoom p old new ousted → MakesRoom p others later gone → Alike old others → Alike new later × Alike ousted gone × ((ousted ≡ []) ↔ (gone ≡ []))
+room_alike p old new ousted others later gone (inl g) (inl h) alike = (alike_at old new others later g.1 h.1 alike, alike_at [] ousted [] gone g.0 h.0 nothing_alike, ((λ e. h.0), (λ e. g.0)))
+room_alike p old new ousted others later gone (inl g) (inr h) alike = let room = g.2 h.3 in absurd (omega (arith, alike.room, room, h.0))
+room_alike p old new ousted others later gone (inr g) (inl h) alike = let room = h.2 g.3 in absurd (omega (arith, alike.room, room, g.0))
+room_alike p old new ousted others later gone (inr g) (inr h) alike = (
+  alike_at [] new [] later g.2 h.2 nothing_alike,
+  alike_at old ousted others gone g.1 h.1 alike,
+  ((λ e. absurd (some_waits p old g.3 g.0 (sym g.1 ∙ e))), (λ e. absurd (some_waits p others h.3 h.0 (sym h.1 ∙ e)))),
+)
+
+pub part_alike : (key : Key) (a : Arrival) (old new others later : Sets) (b d : BroughtState) → (t : TakesPart key a old new b) → (u : TakesPart key a others later d) → Alike old others
+    → Alike new later × (b.old ≡ d.old) × IsSame t.outcome u.outcome × ((k : Key) → frames_at k b.ousted ≡ frames_at k d.ousted) × ((b.ousted ≡ []) ↔ (d.ousted ≡ []))
+part_alike key a old new others later b d t u alike =
     let young = let_go_alike key a.time old t.young others u.young b.old d.old t.lets_go u.lets_go alike in
-    let roomy = room_alike a.part t.young t.roomy b.ousted u.young u.roomy d.ousted t.makes_room u.makes_room same_room young.0 in
+    let roomy = room_alike a.part t.young t.roomy b.ousted u.young u.roomy d.ousted t.makes_room u.makes_room young.0 in
     let s = roomy.0.at key in
     let put = put_alike (set_at key t.roomy) (set_at key new) (set_at key u.roomy) (set_at key later) _ _ a s.arrivals s.one s.other t.outcome u.outcome t.ends u.ends t.tried u.tried t.not_full u.not_full in (
       record {
@@ -265,8 +298,10 @@ part_alike key a old new others later b d t u same_room alike =
           | inl same ↦ same_at _ _ _ _ (same_set_at key k new same) (same_set_at key k later same) put.0
           | inr other ↦ same_at _ _ _ _ (sym (t.others k other)) (sym (u.others k other)) (roomy.0.at k)
         ];
+        room = alike_changed key t.roomy new u.roomy later t.counted u.counted roomy.0 put.0;
       },
       young.1,
       put.1,
       alike_frames b.ousted d.ousted roomy.1,
+      roomy.2,
     )

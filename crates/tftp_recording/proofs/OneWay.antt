@@ -17,7 +17,7 @@ use Rattle.tftp_recording.specs.Brought.{BroughtState, DoesNothing, IsPart, Take
 use Rattle.tftp_recording.specs.Fate.{IsFateOf}
 use Rattle.tftp_recording.specs.History.{IsHistory, Step, frames_of, packets_of, waiting}
 use Rattle.tftp_recording.specs.Likeness.{Comes, is_copy}
-use Rattle.tftp_recording.specs.OneWay.{AreToldAlike, IsRead, IsReadTo, MadeRoomAlike, frames_at}
+use Rattle.tftp_recording.specs.OneWay.{AreToldAlike, IsRead, IsReadTo, frames_at}
 use Rattle.tftp_recording.specs.declared.likeness.Likeness.{Likeness}
 use Rattle.tftp_recording.proofs.KeptOnce.{Alike, IsSame, part_alike}
 use Rattle.tftp_recording.proofs.OneFate.{IsSameIf, comes_one, fate_of_one, sharers_one}
@@ -35,23 +35,24 @@ same_if o m x y e f is = subst (λ (z : Option Outcome). IsSameIf z m) (sym e) (
 none_if : (o m : Option Outcome) → o ≡ None → m ≡ None → IsSameIf o m
 none_if o m e f = subst (λ (z : Option Outcome). IsSameIf z m) (sym e) f
 
-takes_alike : (copy : Bool) (frame : FrameParts) (n : ℕ) (old new others later : Sets) (b d : BroughtState) → Takes copy old frame n b new → Takes copy others frame n d later → (b.ousted ≡ []) ↔ (d.ousted ≡ []) → Alike old others
-    → Alike new later × (b.old ≡ d.old) × IsSameIf b.outcome d.outcome × ((k : Key) → frames_at k b.ousted ≡ frames_at k d.ousted)
-takes_alike copy frame n old new others later b d (inl t) (inl u) room alike = (
+takes_alike : (copy : Bool) (frame : FrameParts) (n : ℕ) (old new others later : Sets) (b d : BroughtState) → Takes copy old frame n b new → Takes copy others frame n d later → Alike old others
+    → Alike new later × (b.old ≡ d.old) × IsSameIf b.outcome d.outcome × ((k : Key) → frames_at k b.ousted ≡ frames_at k d.ousted) × ((b.ousted ≡ []) ↔ (d.ousted ≡ []))
+takes_alike copy frame n old new others later b d (inl t) (inl u) alike = (
   subst (λ (s : Sets). Alike s later) (sym t.2) (subst (λ (s : Sets). Alike old s) (sym u.2) alike),
   ap (λ (x : BroughtState). x.old) (t.1 ∙ sym u.1),
   none_if b.outcome d.outcome (ap (λ (x : BroughtState). x.outcome) t.1) (ap (λ (x : BroughtState). x.outcome) u.1),
-  λ k. ap (λ (x : BroughtState). frames_at k x.ousted) (t.1 ∙ sym u.1),
+  (λ k. ap (λ (x : BroughtState). frames_at k x.ousted) (t.1 ∙ sym u.1)),
+  ((λ e. ap (λ (x : BroughtState). x.ousted) u.1), (λ e. ap (λ (x : BroughtState). x.ousted) t.1)),
 )
-takes_alike copy frame n old new others later b d (inl t) (inr u) room alike = absurd (no_part copy frame u.0 u.1 t.0 u.2 u.4)
-takes_alike copy frame n old new others later b d (inr t) (inl u) room alike = absurd (no_part copy frame t.0 t.1 u.0 t.2 t.4)
-takes_alike copy frame n old new others later b d (inr (p, f, is, t, one)) (inr (q, g, has, u, other)) room alike =
+takes_alike copy frame n old new others later b d (inl t) (inr u) alike = absurd (no_part copy frame u.0 u.1 t.0 u.2 u.4)
+takes_alike copy frame n old new others later b d (inr t) (inl u) alike = absurd (no_part copy frame t.0 t.1 u.0 t.2 t.4)
+takes_alike copy frame n old new others later b d (inr (p, f, is, t, one)) (inr (q, g, has, u, other)) alike =
     let e : q ≡ p = packet_one frame.link frame.bytes q p has.0 is.0 in
     let h : g ≡ f = one_fragment f g (sym has.1 ∙ ap (λ (x : Packet). x.fragment) e ∙ is.1) in
     let same : TakesPart (key_of p f) (arrival_of frame n p f) others later d =
     subst (λ (x : Fragment). TakesPart (key_of p x) (arrival_of frame n p x) others later d) h (subst (λ (x : Packet). TakesPart (key_of x g) (arrival_of frame n x g) others later d) e u) in
-    let both = part_alike (key_of p f) (arrival_of frame n p f) old new others later b d t same room alike in
-    (both.0, both.1, same_if b.outcome d.outcome t.outcome same.outcome t.is same.is both.2, both.3)
+    let both = part_alike (key_of p f) (arrival_of frame n p f) old new others later b d t same alike in
+    (both.0, both.1, same_if b.outcome d.outcome t.outcome same.outcome t.is same.is both.2, both.3, both.4)
 
 -- ---- whole histories
 
@@ -73,15 +74,15 @@ same_head x y xs ys e = cc
 same_tail : (x y : FrameParts) (xs ys : List FrameParts) → x ∷ xs ≡ y ∷ ys → xs ≡ ys
 same_tail x y xs ys e = cc
 
-step_alike : (s t : Step) (before rest : List Step) → s.frame ≡ t.frame → Both before rest → IsHistory (s ∷ before) → IsHistory (t ∷ rest) → (s.brought.ousted ≡ []) ↔ (t.brought.ousted ≡ []) → Both (s ∷ before) (t ∷ rest)
-step_alike s t before rest e both g h room =
+step_alike : (s t : Step) (before rest : List Step) → s.frame ≡ t.frame → Both before rest → IsHistory (s ∷ before) → IsHistory (t ∷ rest) → Both (s ∷ before) (t ∷ rest)
+step_alike s t before rest e both g h =
     let comes : Comes (packets_of before) s.frame t.likeness t.came = subst (λ (f : FrameParts). Comes (packets_of before) f t.likeness t.came) (sym e) (subst (λ (l : List Recorded). Comes l t.frame t.likeness t.came) (sym both.came) h.2) in
     let like = comes_one (packets_of before) s.frame s.likeness t.likeness s.came t.came g.2 comes in
     let takes : Takes (is_copy s.likeness) (waiting rest) s.frame (length before + 1) t.brought t.waits =
     subst (λ (l : Likeness). Takes (is_copy l) (waiting rest) s.frame (length before + 1) t.brought t.waits) (sym like.0)
     (subst (λ (f : FrameParts). Takes (is_copy t.likeness) (waiting rest) f (length before + 1) t.brought t.waits) (sym e)
     (subst (λ (n : ℕ). Takes (is_copy t.likeness) (waiting rest) t.frame (n + 1) t.brought t.waits) (sym both.count) h.0)) in
-    let alike = takes_alike (is_copy s.likeness) s.frame (length before + 1) (waiting before) s.waits (waiting rest) t.waits s.brought t.brought g.0 takes room both.sets in
+    let alike = takes_alike (is_copy s.likeness) s.frame (length before + 1) (waiting before) s.waits (waiting rest) t.waits s.brought t.brought g.0 takes both.sets in
     record {
       told = (
         record {
@@ -92,6 +93,7 @@ step_alike s t before rest e both g h room =
           sharers = sharers_one s.brought.outcome t.brought.outcome alike.2;
           old = alike.1;
           ousted = alike.3;
+          made_room = alike.4;
         },
         both.told,
       );
@@ -100,24 +102,24 @@ step_alike s t before rest e both g h room =
       count = omega (arith, both.count);
     }
 
-all_alike : (some others : List Step) → frames_in some ≡ frames_in others → IsHistory some → IsHistory others → MadeRoomAlike some others → Both some others
-all_alike [] [] e g h room = record { told = tt; sets = record { at = λ key. record { arrivals = []; one = refl; other = refl } }; came = refl; count = refl }
-all_alike [] (t ∷ rest) e g h room = absurd (no_frames t.frame (frames_in rest) e)
-all_alike (s ∷ before) [] e g h room = absurd (no_frames s.frame (frames_in before) (sym e))
-all_alike (s ∷ before) (t ∷ rest) e g h room =
-    step_alike s t before rest (same_head s.frame t.frame (frames_in before) (frames_in rest) e) (all_alike before rest (same_tail s.frame t.frame (frames_in before) (frames_in rest) e) g.1 h.1 room.1) g h room.0
+all_alike : (some others : List Step) → frames_in some ≡ frames_in others → IsHistory some → IsHistory others → Both some others
+all_alike [] [] e g h = record { told = tt; sets = record { at = λ key. record { arrivals = []; one = refl; other = refl }; room = refl }; came = refl; count = refl }
+all_alike [] (t ∷ rest) e g h = absurd (no_frames t.frame (frames_in rest) e)
+all_alike (s ∷ before) [] e g h = absurd (no_frames s.frame (frames_in before) (sym e))
+all_alike (s ∷ before) (t ∷ rest) e g h =
+    step_alike s t before rest (same_head s.frame t.frame (frames_in before) (frames_in rest) e) (all_alike before rest (same_tail s.frame t.frame (frames_in before) (frames_in rest) e) g.1 h.1) g h
 
 same_frames : (some others : List Step) → frames_of some ≡ frames_of others → frames_in some ≡ frames_in others
 same_frames some others e = sym (reverse-reverse (frames_in some)) ∙ ap (λ (l : List FrameParts). reverse l) e ∙ reverse-reverse (frames_in others)
 
-pub whole_one : (bytes : List ℕ) (some others : List Step) → IsRead bytes some → IsRead bytes others → MadeRoomAlike some others → AreToldAlike some others
-whole_one bytes some others g h room = (all_alike some others (same_frames some others (recording_one bytes (frames_of some) (frames_of others) g.recording h.recording)) g.became h.became room).told
+pub whole_one : (bytes : List ℕ) (some others : List Step) → IsRead bytes some → IsRead bytes others → AreToldAlike some others
+whole_one bytes some others g h = (all_alike some others (same_frames some others (recording_one bytes (frames_of some) (frames_of others) g.recording h.recording)) g.became h.became).told
 
-pub fails_one : (bytes : List ℕ) (some others : List Step) (one other : FaultKind) → IsWrong one → IsWrong other → IsReadTo one bytes some → IsReadTo other bytes others → MadeRoomAlike some others
+pub fails_one : (bytes : List ℕ) (some others : List Step) (one other : FaultKind) → IsWrong one → IsWrong other → IsReadTo one bytes some → IsReadTo other bytes others
     → AreToldAlike some others × (one ≡ other)
-fails_one bytes some others one other u v g h room =
+fails_one bytes some others one other u v g h =
     let fault = fault_one bytes (frames_of some) (frames_of others) one other u v g.fails h.fails in
-    ((all_alike some others (same_frames some others fault.0) g.became h.became room).told, fault.1)
+    ((all_alike some others (same_frames some others fault.0) g.became h.became).told, fault.1)
 
 pub apart_one : (bytes : List ℕ) (some others : List Step) (kind : FaultKind) → IsWrong kind → IsReadTo kind bytes some → IsRead bytes others → ⊥
 apart_one bytes some others kind wrong g h = fault_or_recording bytes (frames_of some) (frames_of others) kind wrong g.fails h.recording

@@ -1,12 +1,12 @@
 -- What a frame does among the fragments that wait (RFC 791, section 3.2; RFC 8200, section 4.5).
-use Rattle.std.specs.Prelude.{◌≡◌, ◌≢◌, ◌⊎◌, ◌+◌, ◌*◌, ◌<◌, ℕ, Bool, true, false, List, [], Option, Some, None}
+use Rattle.std.specs.Prelude.{◌≡◌, ◌≢◌, ◌⊎◌, ℕ, Bool, true, false, List, [], Option, Some, None}
 use Rattle.tftp_frames.specs.Frame.{SpellsFrame}
 use Rattle.tftp_frames.specs.Ip.{Packet}
 use Rattle.tftp_frames.specs.declared.packet.Fragment.{Fragment}
 use Rattle.tftp_fragments.specs.Key.{same_key}
 use Rattle.tftp_fragments.specs.Set.{Arrival, SetState}
-use Rattle.tftp_fragments.specs.Store.{Sets, PutEnds, IsTried, WantsMemory, is_long, most_room, room_of_all, set_at}
-use Rattle.tftp_fragments.specs.Whole.{Part, end_of}
+use Rattle.tftp_fragments.specs.Store.{Sets, CountsAt, HasRoom, IsFull, IsTried, MayBePut, PutEnds, WantsMemory, is_long, room_of_all, set_at}
+use Rattle.tftp_fragments.specs.Whole.{Part}
 use Rattle.tftp_fragments.specs.declared.key.Key.{Key}
 use Rattle.tftp_fragments.specs.declared.outcome.Outcome.{Outcome}
 use Rattle.tftp_fragments.specs.declared.outcome.Outcome.TheVariants.{Full}
@@ -36,17 +36,16 @@ OthersStay key old new = (other : Key) → same_key key other ≡ false → set_
 -- what waits under the key is let go where it began more than 30 s before that time, or after it
 pub record LetsGoOld (key : Key) (time : Option ℕ) (old new : Sets) (gone : List ℕ) : Type 0 where
   pub others : OthersStay key old new
+  pub counted : CountsAt key old new
   pub none : set_at key old ≡ None → (set_at key new ≡ None) × (gone ≡ [])
   pub long : (s : SetState) → set_at key old ≡ Some s → is_long s.began time ≡ true → (set_at key new ≡ None) × (gone ≡ s.frames)
   pub young : (s : SetState) → set_at key old ≡ Some s → is_long s.began time ≡ false → (set_at key new ≡ Some s) × (gone ≡ [])
 
--- with the part more than 64 MB would wait
-abbrev pub IsFull : Sets → Part → Type 0
-IsFull sets p = most_room < room_of_all sets + (2 * end_of p + 264)
-
--- all that waits is let go where there is no room for the part beside it
+-- all that waits is let go where there is no room beside it for the part, which may be put, and else nothing is
 abbrev pub MakesRoom : Part → Sets → Sets → Sets → Type 0
-MakesRoom p old new ousted = ((ousted ≡ []) × (new ≡ old)) ⊎ (IsFull old p × (ousted ≡ old) × (new ≡ []))
+MakesRoom p old new ousted =
+    ((ousted ≡ []) × (new ≡ old) × (MayBePut p → HasRoom (room_of_all old) p))
+    ⊎ (IsFull (room_of_all old) p × (ousted ≡ old) × (new ≡ []) × MayBePut p)
 
 -- a fragment comes: what is too old is let go, all where there is no room, and then it is put with the others of its packet
 pub record TakesPart (key : Key) (a : Arrival) (old new : Sets) (b : BroughtState) : Type 0 where
@@ -56,8 +55,9 @@ pub record TakesPart (key : Key) (a : Arrival) (old new : Sets) (b : BroughtStat
   pub lets_go : LetsGoOld key a.time old young b.old
   pub makes_room : MakesRoom a.part young roomy b.ousted
   pub others : OthersStay key roomy new
+  pub counted : CountsAt key roomy new
   pub ends : PutEnds (set_at key roomy) (set_at key new) (room_of_all roomy) a outcome
-  pub tried : IsTried a.part outcome
+  pub tried : IsTried (room_of_all roomy) a.part outcome
   pub not_full : outcome ≢ Full
   pub is : b.outcome ≡ Some outcome
 

@@ -11,12 +11,6 @@ use Rattle.tftp_recording.specs.declared.fate.Datagram.{Datagram as Given}
 use Rattle.tftp_recording.specs.declared.fate.Fate.{Fate}
 use Rattle.tftp_recording.specs.declared.fate.Fate.TheVariants.{Datagram, Left, Waits}
 
--- fragments had to make room for the same frames
-abbrev pub MadeRoomAlike : List Step → List Step → Type 0
-MadeRoomAlike [] others = Unit {0}
-MadeRoomAlike (step ∷ before) [] = Unit {0}
-MadeRoomAlike (step ∷ before) (other ∷ others) = ((step.brought.ousted ≡ []) ↔ (other.brought.ousted ≡ [])) × MadeRoomAlike before others
-
 -- the bytes are a recording, and this became of its frames
 pub record IsRead (bytes : List ℕ) (history : List Step) : Type 0 where
   pub recording : IsRecording bytes (frames_of history)
@@ -55,6 +49,7 @@ pub record IsToldAlike (some other : Step) : Type 0 where
   pub sharers : sharers some.brought.outcome ≡ sharers other.brought.outcome
   pub old : some.brought.old ≡ other.brought.old
   pub ousted : (key : Key) → frames_at key some.brought.ousted ≡ frames_at key other.brought.ousted
+  pub made_room : (some.brought.ousted ≡ []) ↔ (other.brought.ousted ≡ [])
 
 -- the same of each frame, of which there are as many
 abbrev pub AreToldAlike : List Step → List Step → Type 0

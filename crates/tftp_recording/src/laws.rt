@@ -8,7 +8,7 @@ ghost use Rattle.tftp_recording.specs.Accounts.{IsSettled, IsWaiting, NoneTwice,
 ghost use Rattle.tftp_recording.specs.Contents.{IsPutTogether};
 ghost use Rattle.tftp_recording.specs.History.{IsHistory, Step, waiting};
 ghost use Rattle.tftp_recording.specs.Fate.{IsDatagram, IsFateOf};
-ghost use Rattle.tftp_recording.specs.OneWay.{AreToldAlike, IsRead, IsReadTo, MadeRoomAlike};
+ghost use Rattle.tftp_recording.specs.OneWay.{AreToldAlike, IsRead, IsReadTo};
 ghost use Rattle.tftp_recording.specs.Worked.{cooked_step, ethernet_step, first_step, last_part, last_step};
 ghost use Rattle.tftp_recording.specs.declared.fate.Datagram.{Datagram};
 ghost use Rattle.tftp_recording.specs.declared.fate.Fate.{Fate};
@@ -34,11 +34,11 @@ pub fn content_is_of_its_frames()
 {}
 
 /// A recording is read in one way: two readings of the same bytes tell the same of each of its frames, in order: the same
-/// datagrams, the same frames left out for the same reasons, and the same fault that ends it. Where fragments had to make
-/// room they did so for the same frames, if any; each reading tells for which.
+/// datagrams, the same frames left out for the same reasons, fragments that made room for the same frames, and the same
+/// fault that ends it.
 pub fn recording_is_read_in_one_way()
-    ensures whole { (bytes : List ℕ) (some others : List Step) → IsRead bytes some → IsRead bytes others → MadeRoomAlike some others → AreToldAlike some others }
-    ensures fault { (bytes : List ℕ) (some others : List Step) (one other : FaultKind) → IsWrong one → IsWrong other → IsReadTo one bytes some → IsReadTo other bytes others → MadeRoomAlike some others
+    ensures whole { (bytes : List ℕ) (some others : List Step) → IsRead bytes some → IsRead bytes others → AreToldAlike some others }
+    ensures fault { (bytes : List ℕ) (some others : List Step) (one other : FaultKind) → IsWrong one → IsWrong other → IsReadTo one bytes some → IsReadTo other bytes others
         → AreToldAlike some others × (one ≡ other) }
     ensures apart { (bytes : List ℕ) (some others : List Step) (kind : FaultKind) → IsWrong kind → IsReadTo kind bytes some → IsRead bytes others → ⊥ }
 {}

@@ -3,7 +3,7 @@ use Rattle.tftp_fragments.specs.Held.{part_of}
 use Rattle.tftp_fragments.specs.Set.{Arrival}
 use Rattle.tftp_fragments.specs.Store.{set_at}
 use Rattle.tftp_fragments.specs.declared.outcome.Outcome.{Outcome}
-use Rattle.tftp_recording.proofs.Bringing.{makes_room, never_full, on_err}
+use Rattle.tftp_recording.proofs.Bringing.{makes_room, may_be_put, never_full, on_err}
 use Rattle.tftp_recording.proofs.brought.take_part.Goals as goal
 
 pub returns-in_err-outcome-clause-wants : goal.returns-in_err-outcome-clause-wants
@@ -14,7 +14,7 @@ returns-in_err-outcome-clause-wants c =
       gone = c.let_go_old-old.result.items;
       ousted = [];
       lets_go = c.let_go_old-old.ensures.goes;
-      makes_room = inl (refl, refl);
+      makes_room = inl (refl, refl, λ may. c.in_err-outcome.ensures.wants.room);
       wants = c.in_err-outcome.ensures.wants;
     })
 
@@ -27,7 +27,7 @@ returns-in_err-outcome-2-clause-wants c =
       gone = c.let_go_old-old.result.items;
       ousted = c.replace-ousted.result;
       lets_go = c.let_go_old-old.ensures.goes;
-      makes_room = makes_room (set_at c.args.key c.let_go_old-old.new.waiting) (set_at c.args.key c.put.new.self) _ _ _ a _ c.in-Full.is c.in_ok-outcome.ensures.ends (c.replace-ousted.ensures.value ∙ c.in_ok-outcome.ensures.full (ap (λ (o : Outcome). Ok o) c.in-Full.is)) (c.replace-ousted.ensures.after ∙ c.new-2.ensures);
+      makes_room = makes_room (set_at c.args.key c.let_go_old-old.new.waiting) (set_at c.args.key c.put.new.self) _ _ _ a _ c.in-Full.is c.in_ok-outcome.ensures.ends (c.replace-ousted.ensures.value ∙ c.in_ok-outcome.ensures.full (ap (λ (o : Outcome). Ok o) c.in-Full.is)) (c.replace-ousted.ensures.after ∙ c.new-2.ensures) (may_be_put _ _ _ c.in-Full.is c.in_ok-outcome.ensures.tried);
       wants = c.in_err-outcome-2.ensures.wants;
     })
 
@@ -40,8 +40,9 @@ returns-clause-ok c =
       roomy = c.replace-ousted.new.dest;
       outcome = c.in_ok-outcome-2.outcome;
       lets_go = c.let_go_old-old.ensures.goes;
-      makes_room = makes_room (set_at c.args.key c.let_go_old-old.new.waiting) (set_at c.args.key c.put.new.self) _ _ _ a _ c.in-Full.is c.in_ok-outcome.ensures.ends (c.replace-ousted.ensures.value ∙ c.in_ok-outcome.ensures.full (ap (λ (o : Outcome). Ok o) c.in-Full.is)) none;
+      makes_room = makes_room (set_at c.args.key c.let_go_old-old.new.waiting) (set_at c.args.key c.put.new.self) _ _ _ a _ c.in-Full.is c.in_ok-outcome.ensures.ends (c.replace-ousted.ensures.value ∙ c.in_ok-outcome.ensures.full (ap (λ (o : Outcome). Ok o) c.in-Full.is)) none (may_be_put _ _ _ c.in-Full.is c.in_ok-outcome.ensures.tried);
       others = c.in_ok-outcome-2.ensures.other;
+      counted = c.in_ok-outcome-2.ensures.room;
       ends = c.in_ok-outcome-2.ensures.ends;
       tried = c.in_ok-outcome-2.ensures.tried;
       not_full = never_full _ _ c.replace-ousted.new.dest a c.in_ok-outcome-2.outcome none c.in_ok-outcome-2.ensures.ends;
