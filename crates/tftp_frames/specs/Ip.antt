@@ -1,10 +1,10 @@
 -- What the bytes of an IP packet say (RFC 791, section 3.1; RFC 8200, section 3). Checksums are not looked at: a
 -- recording at the sender has them before they are made.
-use Rattle.std.specs.Prelude.{◌≡◌, ◌+◌, ◌-◌, ◌*◌, ◌/◌, ◌%◌, ◌≤◌, ◌==◌, ◌||◌, ◌&&◌, ℕ, Bool, true, false, List, [], ◌∷◌, length, take, drop, Option, Some, None, nat_lt, if◌then◌else◌}
+use Rattle.std.specs.Prelude.{◌≡◌, ◌+◌, ◌-◌, ◌*◌, ◌/◌, ◌%◌, ◌≤◌, ◌==◌, ◌||◌, ℕ, Bool, true, false, List, [], ◌∷◌, length, take, drop, Option, Some, None, nat_lt, if◌then◌else◌}
 use Rattle.std.specs.declared.net.ip_addr.IpAddr.{IpAddr}
 use Rattle.std.specs.declared.net.ip_addr.IpAddr.TheVariants.{V4, V6}
 use Rattle.tftp_frames.specs.Number.{at, pair}
-use Rattle.tftp_frames.specs.Extension.{Reached, ReachesOver, is_extension}
+use Rattle.tftp_frames.specs.Extension.{Reached, ReachesOver}
 use Rattle.tftp_frames.specs.declared.packet.Fragment.{Fragment}
 use Rattle.tftp_frames.specs.declared.packet.Direction.{Direction}
 use Rattle.tftp_frames.specs.declared.link.Network.{Network}
@@ -65,10 +65,10 @@ abbrev pub is_part : Option Fragment → Bool
 is_part None = false
 is_part (Some part) = true
 
--- UDP, or a fragment of IPv6 that begins with an extension header
+-- UDP, or a fragment of IPv6: what the packet carries only its first fragment tells (RFC 8200, section 4.5)
 abbrev pub may_be_udp : Network → Reached → Bool
 may_be_udp Ipv4 r = r.protocol == 17
-may_be_udp Ipv6 r = (r.protocol == 17) || (is_part r.fragment && is_extension r.protocol)
+may_be_udp Ipv6 r = (r.protocol == 17) || is_part r.fragment
 
 -- a packet, or a fragment of one
 pub record Packet : Type 0 where

@@ -1,6 +1,6 @@
 -- Frames for worked examples, as scapy 2.5.0 makes them: 192.0.2.7 or 2001:db8::7 sends from port 40000 to port 69 of
 -- 192.0.2.1 or 2001:db8::1 an acknowledgement of TFTP.
-use Rattle.std.specs.Prelude.{ℕ, List, [], ◌∷◌, Some, None, true}
+use Rattle.std.specs.Prelude.{ℕ, List, [], ◌∷◌, ◌++◌, take, drop, Some, None, true}
 use Rattle.std.specs.declared.net.ip_addr.IpAddr.{IpAddr}
 use Rattle.std.specs.declared.net.ip_addr.IpAddr.TheVariants.{V4, V6}
 use Rattle.tftp_frames.specs.Ip.{Packet}
@@ -43,6 +43,10 @@ ipv6_with_extensions = 96 ∷ 0 ∷ 0 ∷ 0 ∷ 0 ∷ 28 ∷ 0 ∷ 64 ∷ 32 ∷
 -- a fragment of IPv6, more following, at place 181 in units of 8 bytes
 abbrev pub ipv6_fragment : List ℕ
 ipv6_fragment = 96 ∷ 0 ∷ 0 ∷ 0 ∷ 0 ∷ 16 ∷ 44 ∷ 64 ∷ 32 ∷ 1 ∷ 13 ∷ 184 ∷ 0 ∷ 0 ∷ 0 ∷ 0 ∷ 0 ∷ 0 ∷ 0 ∷ 0 ∷ 0 ∷ 0 ∷ 0 ∷ 7 ∷ 32 ∷ 1 ∷ 13 ∷ 184 ∷ 0 ∷ 0 ∷ 0 ∷ 0 ∷ 0 ∷ 0 ∷ 0 ∷ 0 ∷ 0 ∷ 0 ∷ 0 ∷ 1 ∷ 17 ∷ 0 ∷ 5 ∷ 169 ∷ 1 ∷ 2 ∷ 3 ∷ 4 ∷ 104 ∷ 101 ∷ 108 ∷ 108 ∷ 111 ∷ 49 ∷ 50 ∷ 51 ∷ []
+
+-- the same, whose fragment header names ICMP
+abbrev pub ipv6_fragment_of_icmp : List ℕ
+ipv6_fragment_of_icmp = take 40 ipv6_fragment ++ 58 ∷ drop 41 ipv6_fragment
 
 -- the head of an Ethernet frame with two tags (IEEE 802.1ad and 802.1Q)
 abbrev pub two_tags : List ℕ

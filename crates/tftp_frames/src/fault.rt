@@ -15,7 +15,7 @@ pub enum FrameFault {
     /// There is no whole header of IPv4 (RFC 791, section 3.1) or IPv6 (RFC 8200, section 3).
     #[error("no whole IP header")]
     Header,
-    /// The packet carries another protocol than UDP.
+    /// The packet carries another protocol than UDP, and is no fragment of IPv6.
     #[error("not UDP")]
     Protocol,
     /// The packet's length is less than that of its header.

@@ -4,7 +4,7 @@ ghost use Rattle.tftp_frames.specs.Ip.{HasHeader, size_of, total_of, source_of, 
 ghost use Rattle.tftp_frames.specs.Faults.{JudgesIp, IsNotWhole};
 ghost use Rattle.tftp_frames.specs.Parts.{reached};
 
-use crate::extension::{Upper, is_extension_header, skip_extensions};
+use crate::extension::{Upper, skip_extensions};
 use crate::fault::FrameFault;
 use crate::link::Network;
 use crate::number::pair_at;
@@ -170,17 +170,15 @@ fn reach(network: Network, bytes: &[u8]) -> Option<Upper<'_>>
     }
 }
 
-/// Whether what a packet carries is UDP, or may turn out to be when its fragments are put together.
+/// Whether what a packet carries is UDP, or may turn out to be when its fragments are put together: in IPv6 the first of
+/// them tells (RFC 8200, section 4.5).
 #[inline]
 fn is_udp(network: Network, upper: &Upper<'_>) -> bool
     ensures { result ≡ may_be_udp network (reached upper.now) }
 {
     match network {
         Network::Ipv4 => upper.protocol == UDP,
-        Network::Ipv6 => {
-            upper.protocol == UDP
-                || (upper.fragment.is_some() && is_extension_header(upper.protocol))
-        }
+        Network::Ipv6 => upper.protocol == UDP || upper.fragment.is_some(),
     }
 }
 

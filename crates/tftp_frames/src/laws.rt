@@ -7,7 +7,7 @@ ghost use Rattle.tftp_frames.specs.Ip.{Packet, is_identified};
 ghost use Rattle.tftp_frames.specs.Frame.{SpellsFrame};
 ghost use Rattle.tftp_frames.specs.Faults.{Holds, FirstFault};
 ghost use Rattle.tftp_frames.specs.Udp.{Udp, SpellsUdp, HoldsUdp};
-ghost use Rattle.tftp_frames.specs.Worked.{udp_bytes, ipv4_bytes, ipv4_with_options, ipv4_fragment, ipv6_with_extensions, ipv6_fragment, two_tags, cooked_head, cooked_two_head, null_head, ipv4_packet, ipv4_part, ipv6_packet, ipv6_part, acknowledgement, host, host_of_ipv6};
+ghost use Rattle.tftp_frames.specs.Worked.{udp_bytes, ipv4_bytes, ipv4_with_options, ipv4_fragment, ipv6_with_extensions, ipv6_fragment, ipv6_fragment_of_icmp, two_tags, cooked_head, cooked_two_head, null_head, ipv4_packet, ipv4_part, ipv6_packet, ipv6_part, acknowledgement, host, host_of_ipv6};
 ghost use Rattle.tftp_frames.specs.declared.fault.FrameFault.{FrameFault};
 ghost use Rattle.tftp_frames.specs.declared.fault.UdpFault.{UdpFault};
 ghost use Rattle.tftp_frames.specs.declared.packet.Direction.{Direction};
@@ -50,7 +50,7 @@ pub fn worked_addresses()
 {}
 
 /// Worked examples: a packet in Ethernet with two tags and two bytes of padding, in Linux cooked, with options, and a
-/// fragment; and the same of IPv6.
+/// fragment; and the same of IPv6, also of a fragment that names ICMP (58) and is not the first.
 pub fn worked_frames()
     ensures tags { SpellsFrame 1 (two_tags ++ ipv4_bytes ++ 0 ∷ 0 ∷ []) (ipv4_packet Direction.Unknown ipv4_bytes) }
     ensures cooked { SpellsFrame 113 (cooked_head ++ ipv4_bytes) (ipv4_packet Direction.Out ipv4_bytes) }
@@ -59,6 +59,7 @@ pub fn worked_frames()
     ensures part { SpellsFrame 228 ipv4_fragment ipv4_part }
     ensures extensions { SpellsFrame 229 ipv6_with_extensions ipv6_packet }
     ensures ipv6_part { SpellsFrame 0 (null_head ++ ipv6_fragment) ipv6_part }
+    ensures another { SpellsFrame 229 ipv6_fragment_of_icmp (record ipv6_part { protocol = 58; packet = ipv6_fragment_of_icmp }) }
 {}
 
 /// Worked examples: the first fault of a packet whose last byte was not recorded, of one of TCP (protocol 6), of ARP

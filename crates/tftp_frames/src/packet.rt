@@ -35,7 +35,8 @@ pub struct IpPacket<'a> {
     pub source: IpAddr,
     /// The host to which it went.
     pub target: IpAddr,
-    /// With what the content begins: 17 for UDP; in a fragment of IPv6 perhaps an extension header.
+    /// With what the content begins: 17 for UDP. In a fragment of IPv6 it is what the fragment header names, any number;
+    /// that of the packet's first fragment counts (RFC 8200, section 4.5).
     pub protocol: u8,
     /// The identification of an IPv4 packet, also of one that is whole; IPv6 has none.
     pub identification: Option<u16>,

@@ -9,8 +9,8 @@ use crate::number::pair_at;
 use crate::packet::UdpDatagram;
 
 /// The UDP datagram that the content of a whole packet is (RFC 768). The content begins with a header of the number
-/// `protocol`: 17, or that of an extension header, which a fragment of IPv6 may begin with. The checksum is not looked
-/// at.
+/// `protocol`: 17, or that of an extension header, which a packet of IPv6 in fragments may begin with. The checksum is not
+/// looked at.
 pub fn read_udp(protocol: u8, content: &[u8]) -> Result<UdpDatagram<'_>, UdpFault>
     ensures found { IfOk result (λ d. SpellsUdp protocol content.now (datagram d)) }
     ensures only { (d : Udp) → SpellsUdp protocol content.now d → IsOkAnd result (λ found. datagram found ≡ d) }

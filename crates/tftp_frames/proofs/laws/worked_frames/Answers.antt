@@ -3,7 +3,7 @@ use Rattle.std.specs.Prelude.{Some, None}
 use Rattle.tftp_frames.specs.declared.link.LinkType.TheVariants.{Null, Ethernet, Raw, Cooked, RawIpv4, RawIpv6, CookedTwo}
 use Rattle.tftp_frames.specs.declared.link.Network.TheVariants.{Ipv4, Ipv6}
 use Rattle.tftp_frames.specs.declared.packet.Direction.TheVariants.{Unknown, In, Out}
-use Rattle.tftp_frames.specs.Worked.{udp_bytes_of_ipv6, ipv4_bytes, ipv4_with_options, ipv4_fragment, ipv6_with_extensions, ipv6_fragment, ipv6_part}
+use Rattle.tftp_frames.specs.Worked.{udp_bytes_of_ipv6, ipv4_bytes, ipv4_with_options, ipv4_fragment, ipv6_with_extensions, ipv6_fragment, ipv6_fragment_of_icmp, ipv6_part}
 use Rattle.tftp_frames.proofs.laws.worked_frames.Goals as goal
 
 pub returns-clause-tags : goal.returns-clause-tags
@@ -112,6 +112,22 @@ returns-clause-ipv6_part c = (
     header = (omega arith, refl);
     whole = (omega arith, omega arith);
     upper = record { protocol = 17; fragment = ipv6_part.fragment; content = ipv6_part.content };
+    reaches = (0, inr (refl, omega arith, refl, refl));
+    udp = refl;
+    packet = refl;
+  },
+)
+
+pub returns-clause-another : goal.returns-clause-another
+returns-clause-another c = (
+  record { direction = Unknown; network = Some Ipv6; content = ipv6_fragment_of_icmp },
+  Ipv6,
+  (RawIpv6, refl, (omega arith, refl, (refl, refl))),
+  refl,
+  record {
+    header = (omega arith, refl);
+    whole = (omega arith, omega arith);
+    upper = record { protocol = 58; fragment = ipv6_part.fragment; content = ipv6_part.content };
     reaches = (0, inr (refl, omega arith, refl, refl));
     udp = refl;
     packet = refl;
