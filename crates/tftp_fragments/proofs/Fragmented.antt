@@ -1,18 +1,20 @@
 -- What becomes of the last fragment of a packet.
 use Rattle.std.proofs.Common.{◌≡◌, ◌≢◌, ℕ, ◌≤◌, List, [], ◌∷◌, Option, Vec, Global, length, refl, arith}
+use Rattle.tftp_fragments.specs.declared.content.Content.{Content as Given}
 use Rattle.tftp_fragments.specs.declared.outcome.Outcome.{Outcome}
 use Rattle.tftp_fragments.specs.declared.outcome.Outcome.TheVariants.{Waits, Whole, Apart, Empty, TooLong, Full}
-use Rattle.tftp_fragments.specs.Whole.{AreSame, InRow, Part}
+use Rattle.tftp_fragments.specs.Whole.{AreSame, Content, IsCutInto, Part}
+use Rattle.tftp_fragments.specs.Held.{content_of}
 use Rattle.tftp_fragments.specs.Set.{Arrival, SetState, parts_of}
 use Rattle.tftp_fragments.specs.Store.{IsKeptOf, PutEnds}
 use Rattle.tftp_fragments.proofs.Contents.{in_any_order, one_content}
 
-pub last_gives : (old new : Option SetState) (all : ℕ) (arrivals : List Arrival) (a : Arrival) (parts : List Part) (whole : List ℕ) (outcome : Outcome)
-    → InRow 0 parts whole → AreSame parts (parts_of (a ∷ arrivals)) → length whole ≤ 65535 → a.part.content ≢ [] → IsKeptOf old arrivals → PutEnds old new all a outcome → outcome ≢ Full
-    → (content : Vec ℕ Global) × (frames : Vec ℕ Global) × (outcome ≡ Whole content frames) × (content.items ≡ whole)
+pub last_gives : (old new : Option SetState) (all : ℕ) (arrivals : List Arrival) (a : Arrival) (parts : List Part) (whole : Content) (outcome : Outcome)
+    → IsCutInto whole parts → AreSame parts (parts_of (a ∷ arrivals)) → length whole.bytes ≤ 65535 → a.part.content ≢ [] → IsKeptOf old arrivals → PutEnds old new all a outcome → outcome ≢ Full
+    → (content : Given) × (frames : Vec ℕ Global) × (outcome ≡ Whole content frames) × (content_of content ≡ whole)
 last_gives old new all arrivals a parts whole Waits row same few some kept ends not_full = absurd (ends.1 arrivals whole kept (in_any_order parts (parts_of (a ∷ arrivals)) whole row same))
 last_gives old new all arrivals a parts whole (Whole content frames) row same few some kept ends not_full =
-    (content, frames, refl, one_content (parts_of (a ∷ arrivals)) content.items whole (ends.1 arrivals kept) (in_any_order parts (parts_of (a ∷ arrivals)) whole row same))
+    (content, frames, refl, one_content (parts_of (a ∷ arrivals)) (content_of content) whole (ends.1 arrivals kept) (in_any_order parts (parts_of (a ∷ arrivals)) whole row same))
 last_gives old new all arrivals a parts whole (Apart frames) row same few some kept ends not_full = absurd (ends.2 arrivals kept whole (in_any_order parts (parts_of (a ∷ arrivals)) whole row same).each)
 last_gives old new all arrivals a parts whole Empty row same few some kept ends not_full = absurd (some ends.1)
 last_gives old new all arrivals a parts whole TooLong row same few some kept ends not_full =

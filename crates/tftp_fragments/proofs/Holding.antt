@@ -1,11 +1,11 @@
 -- What is held of parts: what it says of the content, and one more part.
-use Rattle.std.proofs.Common.{◌≡◌, ℕ, ◌+◌, ◌-◌, ◌<◌, ◌≤◌, Bool, true, false, ◌⊎◌, inl, inr, List, ◌∷◌, length, map, slice_index, slice_index_or, Some, None, refl, sym, ap, ◌∙◌, subst, arith}
+use Rattle.std.proofs.Common.{◌≡◌, ◌≢◌, ℕ, zero, suc, ◌+◌, ◌-◌, ◌<◌, ◌≤◌, Bool, true, false, ◌⊎◌, inl, inr, List, ◌∷◌, length, slice_index, slice_index_or, Some, None, refl, sym, ap, ◌∙◌, subst, arith}
 use Rattle.std.specs.List.{AllByRecursion}
 use Rattle.std.proofs.lemmas.Bool.{cases_lt}
 use Rattle.std.proofs.lemmas.List.{get_or-map, length-map}
-use Rattle.tftp_fragments.specs.Whole.{Part, Among, Covers, EndsRightly, Give, HasPart, end_of}
-use Rattle.tftp_fragments.specs.Held.{Agrees, AreLaid, Held, HoldsPart, IsComplete, StandsFor, cell}
-use Rattle.tftp_fragments.proofs.Members.{all_at, all_weaker, among_weaker, byte_of, ends_within, inner_ends, last_ends, member}
+use Rattle.tftp_fragments.specs.Whole.{Among, Content, Covers, EndsRightly, Give, HasPart, Part, end_of}
+use Rattle.tftp_fragments.specs.Held.{Agrees, AreLaid, Held, HoldsPart, IsComplete, IsHeld, StandsFor, cell}
+use Rattle.tftp_fragments.proofs.Members.{all_at, all_weaker, among_weaker, byte_of, ends_within, first_part, inner_ends, last_ends, member}
 
 some_is : (a b : ℕ) → Some a ≡ Some b → a ≡ b
 some_is a b e = cc
@@ -21,30 +21,35 @@ by_end : (more : Bool) (end size : ℕ) → (more ≡ false → end ≡ size) �
 by_end true end size last inner = inner refl
 by_end false end size last inner = last refl
 
+first_or_not : (place : ℕ) → (place ≡ 0) ⊎ (place ≢ 0)
+first_or_not zero = inl refl
+first_or_not (suc n) = inr (λ e. absurd (omega (arith, e)))
+
 -- ---- all of the content
 
-pub whole_given : (h : Held) (parts : List Part) (whole : List ℕ) → StandsFor h parts → h.ended ≡ true → h.cells ≡ map (λ b. Some b) whole → Give parts whole
+pub whole_given : (h : Held) (parts : List Part) (whole : Content) → StandsFor h parts → h.ended ≡ true → IsHeld h whole → Give parts whole
 whole_given h parts whole s ended are =
-    let size : length h.cells ≡ length whole = ap length are ∙ length-map whole (λ (b : ℕ). Some b) in
-    let at : (k : ℕ) → k < length whole → cell h k ≡ Some (slice_index whole k) = λ k within. ap (λ l. slice_index_or l k None) are ∙ get_or-map (λ (b : ℕ). Some b) whole k 0 None within in
+    let size : length h.cells ≡ length whole.bytes = ap length are.0 ∙ length-map whole.bytes (λ (b : ℕ). Some b) in
+    let at : (k : ℕ) → k < length whole.bytes → cell h k ≡ Some (slice_index whole.bytes k) = λ k within. ap (λ l. slice_index_or l k None) are.0 ∙ get_or-map (λ (b : ℕ). Some b) whole.bytes k 0 None within in
     record {
       each = all_weaker (HoldsPart h) (HasPart whole) (λ p held. record {
         bytes = λ i within. some_is _ _ (sym (at (p.place + i) (omega (arith, held.within))) ∙ held.bytes i within);
-        ends = by_end p.more (end_of p) (length whole) (λ e. (held.last e).1 ∙ size) (λ e. omega (arith, held.inner e ended));
+        ends = by_end p.more (end_of p) (length whole.bytes) (λ e. (held.last e).1 ∙ size) (λ e. omega (arith, held.inner e ended));
+        first = λ e. some_is _ _ (sym (held.first e) ∙ are.1);
       }) parts s.each;
-      covered = λ k within. among_weaker (λ p. Covers k p × (slice_index p.content (k - p.place) ≡ slice_index whole k)) (Covers k) (λ p c. c.0) parts (s.brought k (slice_index whole k) (at k within));
+      covered = λ k within. among_weaker (λ p. Covers k p × (slice_index p.content (k - p.place) ≡ slice_index whole.bytes k)) (Covers k) (λ p c. c.0) parts (s.brought k (slice_index whole.bytes k) (at k within));
       last = s.last ended;
     }
 
 -- the size of the content, where its last part is held
-known_size : (h : Held) (parts : List Part) (whole : List ℕ) → AllByRecursion (HasPart whole) parts → StandsFor h parts → Among (λ p. p.more ≡ false) parts → (h.ended ≡ true) × (length whole ≡ length h.cells)
+known_size : (h : Held) (parts : List Part) (whole : Content) → AllByRecursion (HasPart whole) parts → StandsFor h parts → Among (λ p. p.more ≡ false) parts → (h.ended ≡ true) × (length whole.bytes ≡ length h.cells)
 known_size h parts whole all s a =
     let m = member (λ p. p.more ≡ false) parts a in
     let held = all_at (HoldsPart h) parts m.0 s.each m.2 in
     let has = all_at (HasPart whole) parts m.0 all m.2 in
-    ((held.last m.1).0, sym (last_ends m.0.more (end_of m.0) (length whole) m.1 has.ends) ∙ (held.last m.1).1)
+    ((held.last m.1).0, sym (last_ends m.0.more (end_of m.0) (length whole.bytes) m.1 has.ends) ∙ (held.last m.1).1)
 
-pub complete : (h : Held) (parts : List Part) (whole : List ℕ) → StandsFor h parts → Give parts whole → IsComplete h
+pub complete : (h : Held) (parts : List Part) (whole : Content) → StandsFor h parts → Give parts whole → IsComplete h
 complete h parts whole s g =
     let known = known_size h parts whole g.each s g.last in
     record {
@@ -54,11 +59,12 @@ complete h parts whole s g =
           let held = all_at (HoldsPart h) parts m.0 s.each m.2 in
           let e : m.0.place + (k - m.0.place) ≡ k = omega (arith, m.1) in
           (slice_index m.0.content (k - m.0.place), rw e at (held.bytes (k - m.0.place) (omega (arith, m.1))));
+      named = let m = first_part parts whole g in (m.0.protocol, (all_at (HoldsPart h) parts m.0 s.each m.2).first m.1);
     }
 
 -- ---- parts of one content agree
 
-pub agreed : (h : Held) (parts : List Part) (p : Part) (whole : List ℕ) → 1 ≤ length p.content → StandsFor h parts → AllByRecursion (HasPart whole) parts → HasPart whole p → Agrees h p
+pub agreed : (h : Held) (parts : List Part) (p : Part) (whole : Content) → 1 ≤ length p.content → StandsFor h parts → AllByRecursion (HasPart whole) parts → HasPart whole p → Agrees h p
 agreed h parts p whole some s all has = record {
   bytes = λ i b within e.
       let m = member (λ q. Covers (p.place + i) q × (slice_index q.content (p.place + i - q.place) ≡ b)) parts (s.brought (p.place + i) b e) in
@@ -71,13 +77,16 @@ agreed h parts p whole some s all has = record {
           let m = member (λ q. end_of q ≡ length h.cells) parts (s.reach (omega arith)) in
           let held = all_at (HoldsPart h) parts m.0 s.each m.2 in
           let there = all_at (HasPart whole) parts m.0 all m.2 in
-          let size = last_ends p.more (end_of p) (length whole) last has.ends in
+          let size = last_ends p.more (end_of p) (length whole.bytes) last has.ends in
           elim (truth m.0.more) [
-            | inl inner ↦ let short = inner_ends m.0.more (end_of m.0) (length whole) inner there.ends in absurd (omega (arith, m.1))
+            | inl inner ↦ let short = inner_ends m.0.more (end_of m.0) (length whole.bytes) inner there.ends in absurd (omega (arith, m.1))
             | inr outer ↦ absurd (not_both h.ended (held.last outer).0 e)
           ]
     ]),
   );
+  names = λ n at e.
+      let m = member (λ q. (q.place ≡ 0) × (q.protocol ≡ n)) parts (s.named n e) in
+      has.first at ∙ sym ((all_at (HasPart whole) parts m.0 all m.2).first m.1.0) ∙ m.1.1;
 }
 
 -- ---- one more part
@@ -87,6 +96,8 @@ pub record Added (h : Held) (p : Part) (new : Held) : Type 0 where
   pub kept : h.ended ≡ true → new.ended ≡ true
   pub set : p.more ≡ false → new.ended ≡ true
   pub only : new.ended ≡ true → (h.ended ≡ true) ⊎ (p.more ≡ false)
+  pub first : p.place ≡ 0 → new.protocol ≡ Some p.protocol
+  pub other : p.place ≢ 0 → new.protocol ≡ h.protocol
 
 module _ (h : Held) (p : Part) (new : Held) (agrees : Agrees h p) (added : Added h p new) where
   -- where the last part had come, nothing is longer
@@ -117,6 +128,12 @@ module _ (h : Held) (p : Part) (new : Held) (agrees : Agrees h p) (added : Added
         ]
       ]
 
+  name_kept : (n : ℕ) → h.protocol ≡ Some n → new.protocol ≡ Some n
+  name_kept n e = elim (first_or_not p.place) [
+    | inl at ↦ added.first at ∙ ap (λ m. Some m) (agrees.names n at e)
+    | inr away ↦ added.other away ∙ e
+  ]
+
   still : (q : Part) → HoldsPart h q → HoldsPart new q
   still q held = record {
     bytes = λ i within. cell_kept (q.place + i) (slice_index q.content i) (held.bytes i within);
@@ -129,6 +146,7 @@ module _ (h : Held) (p : Part) (new : Held) (agrees : Agrees h p) (added : Added
         | inr before ↦ let past = agrees.ends.1 before last in omega (arith, past, held.within, added.laid.reached)
       ]
     ];
+    first = λ e. name_kept q.protocol (held.first e);
   }
 
   pub stands_more : (parts : List Part) → StandsFor h parts → StandsFor new (p ∷ parts)
@@ -142,6 +160,7 @@ module _ (h : Held) (p : Part) (new : Held) (agrees : Agrees h p) (added : Added
           | inl before ↦ let short = inner_ends p.more (end_of p) (length h.cells) e (agrees.ends.0 before) in omega (arith, short, added.laid.longer)
           | inr last ↦ absurd (not_both p.more e last)
         ];
+        first = added.first;
       },
       all_weaker (HoldsPart h) (HoldsPart new) still parts s.each,
     );
@@ -161,4 +180,8 @@ module _ (h : Held) (p : Part) (new : Held) (agrees : Agrees h p) (added : Added
       | inr grown ↦ inl (sym grown)
     ];
     last = λ e. elim (added.only e) [ inl before ↦ inr (s.last before) | inr last ↦ inl last ];
+    named = λ n e. elim (first_or_not p.place) [
+      | inl at ↦ inl (at, some_is _ _ (sym (added.first at) ∙ e))
+      | inr away ↦ inr (s.named n (sym (added.other away) ∙ e))
+    ];
   }

@@ -31,8 +31,8 @@ kept_more old new place bytes front next kept laid few within after here = recor
   few = elim laid.exact [ inl same ↦ omega (arith, same, kept.few) | inr grown ↦ omega (arith, grown) ];
 }
 
-pub complete_from : (h : Held) (front : ℕ) → IsKept h.cells front → h.ended ≡ true → front ≡ length h.cells → IsComplete h
-complete_from h front kept ended e = record { last = ended; full = λ k within. kept.before k (omega (arith, e)) }
+pub complete_from : (h : Held) (front n : ℕ) → IsKept h.cells front → h.ended ≡ true → front ≡ length h.cells → h.protocol ≡ Some n → IsComplete h
+complete_from h front n kept ended e named = record { last = ended; named = (n, named); full = λ k within. kept.before k (omega (arith, e)) }
 
 pub no_byte : (o : Option ℕ) (b : ℕ) → o ≡ None → o ≡ Some b → ⊥
 no_byte o b e f = cc

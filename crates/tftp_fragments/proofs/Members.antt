@@ -1,7 +1,8 @@
 -- Parts of a list, and what holds of them.
 use Rattle.std.proofs.Common.{◌≡◌, ℕ, ◌+◌, ◌-◌, ◌<◌, ◌≤◌, Bool, true, false, inl, inr, List, [], ◌∷◌, length, slice_index, refl, arith, subst, sym}
 use Rattle.std.specs.List.{AllByRecursion}
-use Rattle.tftp_fragments.specs.Whole.{Part, Among, Covers, EndsRightly, HasPart}
+use Rattle.std.proofs.lemmas.Bool.{cases_lt}
+use Rattle.tftp_fragments.specs.Whole.{Among, Content, Covers, EndsRightly, Give, HasPart, Part, end_of}
 
 pub pick : (P Q : Part → Type 0) (ps : List Part) → Among P ps → AllByRecursion Q ps → (p : Part) × P p × Q p
 pick P Q [] a h = absurd a
@@ -39,7 +40,7 @@ among_at P ps p h a = among_weaker (λ q. q ≡ p) P (λ q e. subst P (sym e) h)
 
 -- ---- one part and the content
 
-pub byte_of : (whole : List ℕ) (p : Part) (k : ℕ) → HasPart whole p → Covers k p → slice_index whole k ≡ slice_index p.content (k - p.place)
+pub byte_of : (whole : Content) (p : Part) (k : ℕ) → HasPart whole p → Covers k p → slice_index whole.bytes k ≡ slice_index p.content (k - p.place)
 byte_of whole p k h c =
     let i : k - p.place < length p.content = omega arith in
     let e : p.place + (k - p.place) ≡ k = omega arith in
@@ -56,3 +57,13 @@ inner_ends false end size e h = cc
 pub ends_within : (more : Bool) (end size : ℕ) → EndsRightly more end size → end ≤ size
 ends_within true end size h = omega arith
 ends_within false end size h = omega arith
+
+-- the first part of a content
+pub first_part : (parts : List Part) (whole : Content) → Give parts whole → (p : Part) × (p.place ≡ 0) × Among (λ q. q ≡ p) parts
+first_part parts whole g = elim (cases_lt 0 (length whole.bytes)) [
+  | inl some ↦ let m = member (Covers 0) parts (g.covered 0 some) in (m.0, omega (arith, m.1.0), m.2)
+  | inr none ↦
+      let m = member (λ p. p.more ≡ false) parts g.last in
+      let ends = last_ends m.0.more (end_of m.0) (length whole.bytes) m.1 (all_at (HasPart whole) parts m.0 g.each m.2).ends in
+      (m.0, omega (arith, ends, none), m.2)
+]

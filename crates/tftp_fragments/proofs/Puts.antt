@@ -1,7 +1,7 @@
 -- A fragment that came, and what is known then.
-use Rattle.std.proofs.Common.{◌≡◌, ◌≢◌, ℕ, ◌+◌, ◌<◌, ◌≤◌, inl, inr, true, false, List, [], ◌∷◌, Option, Some, None, Vec, Global, length, map, refl, sym, ◌∙◌, subst, arith}
-use Rattle.tftp_fragments.specs.Whole.{Part, Give, HasPart, end_of}
-use Rattle.tftp_fragments.specs.Held.{Agrees, IsComplete, StandsFor, nothing_held}
+use Rattle.std.proofs.Common.{◌≡◌, ◌≢◌, ℕ, ◌+◌, ◌<◌, ◌≤◌, inl, inr, true, false, List, [], ◌∷◌, Option, Some, None, Vec, Global, length, refl, sym, ◌∙◌, subst, arith}
+use Rattle.tftp_fragments.specs.Whole.{Content, Give, HasPart, Part, end_of}
+use Rattle.tftp_fragments.specs.Held.{Agrees, IsComplete, IsHeld, StandsFor, nothing_held}
 use Rattle.tftp_fragments.specs.Set.{Arrival, IsSetOf, SetState, TakeEnds, parts_of}
 use Rattle.tftp_fragments.specs.Store.{Comes, IsKeptOf, began_of}
 use Rattle.tftp_fragments.proofs.Holding.{complete, not_both, truth, whole_given}
@@ -16,12 +16,14 @@ nothing_stands = record {
   brought = λ k b e. absurd (no_byte_held k b e);
   reach = λ some. absurd (omega (arith, some));
   last = λ e. absurd (not_both false e refl);
+  named = λ n e. absurd (no_byte_held 0 n e);
 }
 
 pub nothing_agrees : (p : Part) → 1 ≤ length p.content → Agrees nothing_held p
 nothing_agrees p some = record {
   bytes = λ i b within e. absurd (no_byte_held i b e);
   ends = (λ e. absurd (not_both false e refl), λ e last. omega arith);
+  names = λ n at e. absurd (no_byte_held 0 n e);
 }
 
 pub empty_set : (began : Option ℕ) → IsSetOf (record { held = nothing_held; frames = []; began = began; spoiled = false }) []
@@ -50,17 +52,17 @@ came_first s t a e is h arrivals none =
     let all = h.2 [] a refl refl is in
     (some_arrivals a arrivals, subst (λ (l : List Arrival). t.began ≡ began_of (a ∷ l)) (sym none) e, subst (λ (l : List Arrival). IsSetOf t (a ∷ l)) (sym none) all)
 
-pub not_given : (t : SetState) (arrivals : List Arrival) (whole : List ℕ) → t.spoiled ≡ false → IsSetOf t arrivals → (IsComplete t.held → ⊥) → Give (parts_of arrivals) whole → ⊥
+pub not_given : (t : SetState) (arrivals : List Arrival) (whole : Content) → t.spoiled ≡ false → IsSetOf t arrivals → (IsComplete t.held → ⊥) → Give (parts_of arrivals) whole → ⊥
 not_given t arrivals whole e is not_all g = not_all (complete t.held (parts_of arrivals) whole (is.held e) g)
 
-pub given : (t : SetState) (arrivals : List Arrival) (content : List ℕ) → t.spoiled ≡ false → IsSetOf t arrivals → IsComplete t.held → t.held.cells ≡ map (λ (b : ℕ). Some b) content → Give (parts_of arrivals) content
+pub given : (t : SetState) (arrivals : List Arrival) (content : Content) → t.spoiled ≡ false → IsSetOf t arrivals → IsComplete t.held → IsHeld t.held content → Give (parts_of arrivals) content
 given t arrivals content e is all are = whole_given t.held (parts_of arrivals) content (is.held e) all.last are
 
-pub too_long : (p : Part) (whole : List ℕ) (bit : ℕ) → (p.more ≡ true → bit ≡ 1) → (p.more ≡ false → bit ≡ 0) → 65535 < end_of p + bit → HasPart whole p → 65535 < length whole
+pub too_long : (p : Part) (whole : Content) (bit : ℕ) → (p.more ≡ true → bit ≡ 1) → (p.more ≡ false → bit ≡ 0) → 65535 < end_of p + bit → HasPart whole p → 65535 < length whole.bytes
 too_long p whole bit with_more without long h =
     elim (truth p.more) [
-      | inl more ↦ let short = inner_ends p.more (end_of p) (length whole) more h.ends in omega (arith, with_more more)
-      | inr last ↦ let same = last_ends p.more (end_of p) (length whole) last h.ends in omega (arith, without last)
+      | inl more ↦ let short = inner_ends p.more (end_of p) (length whole.bytes) more h.ends in omega (arith, with_more more)
+      | inr last ↦ let same = last_ends p.more (end_of p) (length whole.bytes) last h.ends in omega (arith, without last)
     ]
 
 -- ---- the same under a key

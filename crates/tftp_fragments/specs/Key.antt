@@ -2,6 +2,7 @@
 use Rattle.std.specs.Prelude.{Bool}
 use Rattle.std.specs.declared.cmp.Ordering.{Ordering}
 use Rattle.std.specs.declared.net.ip_addr.IpAddr.{IpAddr}
+use Rattle.std.specs.Option.{option_cmp}
 use Rattle.std.specs.Ordering.{is_eq, nat_cmp, on, then_cmp}
 use Rattle.std.specs.contracts.net.ip_addr.IpAddrOrd.TheImpl as address_order
 use Rattle.tftp_fragments.specs.declared.key.Key.{Key}
@@ -12,7 +13,7 @@ address_cmp = (address_order.cmp-value).it
 
 -- an order of keys: by each of the four in turn
 abbrev pub key_cmp : Key → Key → Ordering
-key_cmp = then_cmp (on (λ k. k.id) nat_cmp) (then_cmp (on (λ k. k.protocol) nat_cmp) (then_cmp (on (λ k. k.source) address_cmp) (on (λ k. k.target) address_cmp)))
+key_cmp = then_cmp (on (λ k. k.id) nat_cmp) (then_cmp (on (λ k. k.protocol) (option_cmp nat_cmp)) (then_cmp (on (λ k. k.source) address_cmp) (on (λ k. k.target) address_cmp)))
 
 -- no part of the two keys tells them apart
 abbrev pub same_key : Key → Key → Bool

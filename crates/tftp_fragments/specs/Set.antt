@@ -2,7 +2,7 @@
 use Rattle.std.specs.Prelude.{◌≡◌, ℕ, ◌+◌, ◌*◌, ◌^◌, ◌≤◌, Bool, true, false, List, [], ◌∷◌, ◌++◌, length, map, reverse, Option, Some, None}
 use Rattle.std.specs.List.{AllByRecursion}
 use Rattle.std.specs.Global.{Vec}
-use Rattle.tftp_fragments.specs.Whole.{Part, HasPart, end_of}
+use Rattle.tftp_fragments.specs.Whole.{Content, HasPart, Part, end_of}
 use Rattle.tftp_fragments.specs.Held.{Agrees, Held, StandsFor, nothing_held}
 
 -- a fragment that came: its part, when it came in nanoseconds, where the recording says so, and the number of its frame
@@ -17,7 +17,7 @@ parts_of arrivals = map (λ a. a.part) arrivals
 
 -- no content has all of the parts
 abbrev pub AreApart : List Part → Type 0
-AreApart parts = (whole : List ℕ) → AllByRecursion (HasPart whole) parts → ⊥
+AreApart parts = (whole : Content) → AllByRecursion (HasPart whole) parts → ⊥
 
 -- what is kept: the parts and the frames of the fragments, when the first came, and whether two cannot be of one packet
 pub record SetState : Type 0 where

@@ -7,8 +7,8 @@ use Rattle.tftp_fragments.specs.declared.outcome.Outcome.{Outcome}
 use Rattle.tftp_fragments.specs.declared.outcome.Outcome.TheVariants.{Waits, Whole, Apart, Empty, TooLong, Full}
 use Rattle.tftp_fragments.specs.declared.fragments.Joined.{Joined}
 use Rattle.tftp_fragments.specs.declared.fragments.Joined.TheVariants as joined
-use Rattle.tftp_fragments.specs.Whole.{Part, Give, HasPart, end_of}
-use Rattle.tftp_fragments.specs.Held.{Agrees, IsComplete}
+use Rattle.tftp_fragments.specs.Whole.{Content, Give, HasPart, Part, end_of}
+use Rattle.tftp_fragments.specs.Held.{Agrees, IsComplete, content_of}
 use Rattle.tftp_fragments.specs.Key.{same_key}
 use Rattle.tftp_fragments.specs.Set.{Arrival, AreApart, IsSetOf, SetState, TakeEnds, parts_of, room_of}
 
@@ -77,11 +77,11 @@ Comes old new a = (arrivals : List Arrival) → IsKeptOf old arrivals → IsKept
 
 -- what becomes of a fragment, and of what waits under its key; so many bytes waited under all keys
 abbrev pub PutEnds : Option SetState → Option SetState → ℕ → Arrival → Outcome → Type 0
-PutEnds old new all a Waits = Comes old new a × ((arrivals : List Arrival) (whole : List ℕ) → IsKeptOf old arrivals → Give (parts_of (a ∷ arrivals)) whole → ⊥) × (frames_of new ≡ frames_of old ++ a.frame ∷ [])
-PutEnds old new all a (Whole content frames) = (new ≡ None) × ((arrivals : List Arrival) → IsKeptOf old arrivals → Give (parts_of (a ∷ arrivals)) content.items) × (frames.items ≡ frames_of old ++ a.frame ∷ [])
+PutEnds old new all a Waits = Comes old new a × ((arrivals : List Arrival) (whole : Content) → IsKeptOf old arrivals → Give (parts_of (a ∷ arrivals)) whole → ⊥) × (frames_of new ≡ frames_of old ++ a.frame ∷ [])
+PutEnds old new all a (Whole content frames) = (new ≡ None) × ((arrivals : List Arrival) → IsKeptOf old arrivals → Give (parts_of (a ∷ arrivals)) (content_of content)) × (frames.items ≡ frames_of old ++ a.frame ∷ [])
 PutEnds old new all a (Apart frames) = Comes old new a × (frames.items ≡ frames_of old) × ((arrivals : List Arrival) → IsKeptOf old arrivals → AreApart (parts_of (a ∷ arrivals))) × (frames_of new ≡ [])
 PutEnds old new all a Empty = (new ≡ old) × (a.part.content ≡ [])
-PutEnds old new all a TooLong = (new ≡ old) × ((whole : List ℕ) → HasPart whole a.part → 65535 < length whole)
+PutEnds old new all a TooLong = (new ≡ old) × ((whole : Content) → HasPart whole a.part → 65535 < length whole.bytes)
 PutEnds old new all a Full = (new ≡ old) × IsFull all a.part × (end_of a.part ≤ 65535)
 
 -- how many bytes the part's packet has behind it at least

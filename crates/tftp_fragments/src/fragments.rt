@@ -1,10 +1,11 @@
-ghost use Rattle.std.specs.Prelude.{◌≡◌, ◌≢◌, ◌+◌, ◌*◌, ◌^◌, ◌<◌, ◌≤◌, ◌⊎◌, ◌∷◌, [], ℕ, List, Option, Some, None, length, map, true, false, Ok, IfOk, OnOk, OnErr, IsTrue, ◌↔◌, IsSomeAnd, MatchOption};
+ghost use Rattle.std.specs.Prelude.{◌≡◌, ◌≢◌, ◌+◌, ◌*◌, ◌^◌, ◌<◌, ◌≤◌, ◌⊎◌, ◌∷◌, [], ℕ, List, Option, Some, None, length, true, false, Ok, IfOk, OnOk, OnErr, IsTrue, ◌↔◌, IsSomeAnd, MatchOption};
 ghost use Rattle.tftp_fragments.specs.Whole.{end_of};
-ghost use Rattle.tftp_fragments.specs.Held.{part_of, Agrees, IsComplete};
+ghost use Rattle.tftp_fragments.specs.Held.{content_of, part_of, Agrees, IsComplete, IsHeld};
 ghost use Rattle.tftp_fragments.specs.Key.{same_key};
 ghost use Rattle.tftp_fragments.specs.Set.{SetState};
 ghost use Rattle.tftp_fragments.specs.Store.{set_at, room_of_all, most_room, is_long, frames_of, Comes, CountsAt, HasRoom, PutEnds, MayBePut, IsTried, JoinEnds, WantsMemory};
 
+use crate::content::Content;
 use crate::key::Key;
 use crate::outcome::Outcome;
 use crate::part::Part;
@@ -191,11 +192,11 @@ impl Fragments {
     }
 
     /// Hands out the content of a packet of which no part is missing, and its frames, and lets its fragments go.
-    fn hand_out(&mut self, alloc: Global, key: Key) -> Result<(Vec<u8>, Vec<u64>), AllocError>
+    fn hand_out(&mut self, alloc: Global, key: Key) -> Result<(Content, Vec<u64>), AllocError>
         requires { (s : SetState) × (set_at key self.old ≡ Some s) × IsComplete s.held }
         ensures other { (other : Key) → same_key key other ≡ false → set_at other self.new ≡ set_at other self.old }
         ensures room { CountsAt key self.old self.new }
-        ensures content { IfOk result (λ out. (s : SetState) → set_at key self.old ≡ Some s → s.held.cells ≡ map (λ b. Some b) out.0.items) }
+        ensures content { IfOk result (λ out. (s : SetState) → set_at key self.old ≡ Some s → IsHeld s.held (content_of out.0)) }
         ensures frames { IfOk result (λ out. (s : SetState) → set_at key self.old ≡ Some s → out.1.items ≡ s.frames) }
         ensures gone { OnOk result (set_at key self.new ≡ None) }
         ensures err { OnErr result (self.new ≡ self.old) }
@@ -208,13 +209,16 @@ impl Fragments {
     }
 
     /// The content of a packet of which no part is missing.
-    fn content_at(&self, alloc: Global, key: Key) -> Result<Vec<u8>, AllocError>
+    fn content_at(&self, alloc: Global, key: Key) -> Result<Content, AllocError>
         requires { (s : SetState) × (set_at key self.now ≡ Some s) × IsComplete s.held }
-        ensures { IfOk result (λ content. (s : SetState) → set_at key self.now ≡ Some s → s.held.cells ≡ map (λ b. Some b) content.items) }
+        ensures { IfOk result (λ content. (s : SetState) → set_at key self.now ≡ Some s → IsHeld s.held (content_of content)) }
     {
         let content = match self.sets.get(&key) {
             Some(set) => set.content(alloc)?,
-            None => Vec::new(alloc),
+            None => Content {
+                protocol: 0,
+                bytes: Vec::new(alloc),
+            },
         };
         Ok(content)
     }

@@ -8,8 +8,8 @@ pub struct Key {
     pub source: IpAddr,
     /// The host to which it went.
     pub target: IpAddr,
-    /// The number of the protocol that it carries.
-    pub protocol: u8,
+    /// The number of the protocol that it carries, in IPv4. None in IPv6, where only the first fragment of a packet tells it.
+    pub protocol: Option<u8>,
     /// Its identification: 16 bits in IPv4, 32 in IPv6.
     pub id: u32,
 }

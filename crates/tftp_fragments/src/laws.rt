@@ -1,25 +1,28 @@
 ghost use Rattle.std.specs.Prelude.{◌≡◌, ◌≢◌, ◌≤◌, ◌∷◌, [], List, Option, ℕ, length};
 ghost use Rattle.std.specs.Global.{Vec};
-ghost use Rattle.tftp_fragments.specs.Whole.{Part, Give, InRow, AreSame};
+ghost use Rattle.tftp_fragments.specs.declared.content.Content.{Content as Given};
+ghost use Rattle.tftp_fragments.specs.Held.{content_of};
+ghost use Rattle.tftp_fragments.specs.Whole.{Content, Part, Give, IsCutInto, AreSame};
 ghost use Rattle.tftp_fragments.specs.Set.{Arrival, SetState, parts_of};
 ghost use Rattle.tftp_fragments.specs.Store.{IsKeptOf, PutEnds};
 
 use crate::outcome::Outcome;
 
-/// Parts give one content at most.
+/// Parts give one content at most, of one protocol.
 pub fn parts_give_one_content()
-    ensures { (parts : List Part) (one other : List ℕ) → Give parts one → Give parts other → one ≡ other }
+    ensures { (parts : List Part) (one other : Content) → Give parts one → Give parts other → one ≡ other }
 {}
 
-/// The parts that a packet's content was cut into give it back in any order, also where some come several times.
+/// The parts that a packet's content was cut into give it back in any order, also where some come several times, and
+/// whatever protocols the others than the first name.
 pub fn parts_in_any_order_give_their_content()
-    ensures { (parts others : List Part) (whole : List ℕ) → InRow 0 parts whole → AreSame parts others → Give others whole }
+    ensures { (parts others : List Part) (whole : Content) → IsCutInto whole parts → AreSame parts others → Give others whole }
 {}
 
 /// Once the parts that a packet's content was cut into have all come, in whatever order and any of them several times, what
 /// becomes of the last one is that content, where there is room for it.
 pub fn last_fragment_gives_the_content()
-    ensures { (old new : Option SetState) (all : ℕ) (arrivals : List Arrival) (a : Arrival) (parts : List Part) (whole : List ℕ) (outcome : Outcome)
-        → InRow 0 parts whole → AreSame parts (parts_of (a ∷ arrivals)) → length whole ≤ 65535 → a.part.content ≢ [] → IsKeptOf old arrivals → PutEnds old new all a outcome → outcome ≢ Outcome.Full
-        → (content : Vec ℕ) × (frames : Vec ℕ) × (outcome ≡ Outcome.Whole content frames) × (content.items ≡ whole) }
+    ensures { (old new : Option SetState) (all : ℕ) (arrivals : List Arrival) (a : Arrival) (parts : List Part) (whole : Content) (outcome : Outcome)
+        → IsCutInto whole parts → AreSame parts (parts_of (a ∷ arrivals)) → length whole.bytes ≤ 65535 → a.part.content ≢ [] → IsKeptOf old arrivals → PutEnds old new all a outcome → outcome ≢ Outcome.Full
+        → (content : Given) × (frames : Vec ℕ) × (outcome ≡ Outcome.Whole content frames) × (content_of content ≡ whole) }
 {}

@@ -1,6 +1,7 @@
 //! Fragments of IP packets, put together in whatever order they come.
 #![tactic(auto)]
 
+mod content;
 mod fragments;
 mod key;
 mod laws;
@@ -9,6 +10,7 @@ mod part;
 mod parts;
 mod set;
 
+pub use content::Content;
 pub use fragments::Fragments;
 pub use key::Key;
 pub use laws::{

@@ -1,3 +1,5 @@
+use crate::content::Content;
+
 /// What became of a fragment.
 #[derive(Debug, Drop)]
 pub enum Outcome {
@@ -6,12 +8,12 @@ pub enum Outcome {
     /// It was the last one missing of its packet.
     Whole {
         /// The packet's content.
-        content: Vec<u8>,
+        content: Content,
         /// The frames that brought its parts, in the order in which they came, the fragment's own the last.
         frames: Vec<u64>,
     },
-    /// It cannot be of one packet with others that came: bytes differ, or ends do. The frames are those that waited until
-    /// now; its own is not among them.
+    /// It cannot be of one packet with others that came: bytes differ, or ends do, or two first ones name another protocol.
+    /// The frames are those that waited until now; its own is not among them.
     Apart(Vec<u64>),
     /// It brings no byte.
     Empty,

@@ -1,8 +1,9 @@
-ghost use Rattle.std.specs.Prelude.{◌≡◌, ◌+◌, ◌<◌, ◌≤◌, ◌∷◌, ℕ, List, Option, Some, None, length, map, true, false, IfOk, OnOk, OnErr, IsTrue, ◌↔◌, slice_index, slice_index_or, take};
+ghost use Rattle.std.specs.Prelude.{◌≡◌, ◌≢◌, ◌+◌, ◌<◌, ◌≤◌, ◌∷◌, ℕ, List, Option, Some, None, length, map, true, false, IfOk, OnOk, OnErr, IsTrue, ◌↔◌, slice_index, slice_index_or, take};
 ghost use Rattle.std.specs.List.{AllByRecursion};
 ghost use Rattle.tftp_fragments.specs.Whole.{Part as Piece, end_of, HasPart, Give};
-ghost use Rattle.tftp_fragments.specs.Held.{part_of, nothing_held, StandsFor, Agrees, EndsAgree, AreLaid, IsComplete};
+ghost use Rattle.tftp_fragments.specs.Held.{part_of, content_of, nothing_held, StandsFor, Agrees, EndsAgree, NamesAgree, AreLaid, IsComplete, IsHeld};
 
+use crate::content::Content;
 use crate::part::Part;
 use std::alloc::{AllocError, Global};
 use std::marker::Model;
@@ -13,6 +14,7 @@ pub(crate) struct Parts {
     cells: Vec<Option<u8>>,
     front: usize,
     ended: bool,
+    protocol: Option<u8>,
 }
 
 impl Model for Parts {
@@ -20,7 +22,7 @@ impl Model for Parts {
 
     ghost Value = { Held };
 
-    ghost view = { λ p. record { cells = p.cells.items; ended = p.ended } };
+    ghost view = { λ p. record { cells = p.cells.items; ended = p.ended; protocol = p.protocol } };
 
     ghost invariant = { λ p. IsKept p.cells.items p.front };
 }
@@ -34,6 +36,7 @@ impl Parts {
             cells: Vec::new(alloc),
             front: 0,
             ended: false,
+            protocol: None,
         }
     }
 
@@ -50,7 +53,19 @@ impl Parts {
         requires room { end_of (part_of part.now) ≤ 65535 }
         ensures { IsTrue result ↔ Agrees self.now (part_of part.now) }
     {
-        self.ends_agree(part) && !differ(&self.cells, part.place as usize, part.content)
+        self.names_agree(part)
+            && self.ends_agree(part)
+            && !differ(&self.cells, part.place as usize, part.content)
+    }
+
+    /// Whether the part names what the first one did, if it is the first too.
+    fn names_agree(&self, part: &Part) -> bool
+        ensures { IsTrue result ↔ NamesAgree self.now (part_of part.now) }
+    {
+        match self.protocol {
+            Some(protocol) => part.place != 0 || part.protocol == protocol,
+            None => true,
+        }
     }
 
     /// Whether the part ends where it may.
@@ -78,6 +93,7 @@ impl Parts {
     {
         lay(&mut self.cells, part.place as usize, part.content)?;
         self.front = front_after(&self.cells, self.front);
+        self.protocol = named_with(self.protocol, part);
         if !part.more {
             self.ended = true;
         }
@@ -88,22 +104,40 @@ impl Parts {
     pub(crate) fn are_whole(&self) -> bool
         ensures { IsTrue result ↔ IsComplete self.now }
     {
-        self.ended && self.front == self.cells.len()
+        match self.protocol {
+            Some(_) => self.ended && self.front == self.cells.len(),
+            None => false,
+        }
     }
 
     /// The content.
-    pub(crate) fn content(&self, alloc: Global) -> Result<Vec<u8>, AllocError>
+    pub(crate) fn content(&self, alloc: Global) -> Result<Content, AllocError>
         requires { IsComplete self.now }
-        ensures { IfOk result (λ content. self.now.cells ≡ map (λ b. Some b) content.items) }
+        ensures { IfOk result (λ content. IsHeld self.now (content_of content)) }
     {
-        let mut content = Vec::with_capacity(alloc, self.cells.len())?;
+        let mut bytes = Vec::with_capacity(alloc, self.cells.len())?;
         for cell in &self.cells {
             match cell {
-                Some(byte) => content.push(*byte)?,
+                Some(byte) => bytes.push(*byte)?,
                 None => {}
             }
         }
-        Ok(content)
+        Ok(Content {
+            protocol: self.protocol.unwrap(),
+            bytes,
+        })
+    }
+}
+
+/// What the first part names, once a part more has come.
+fn named_with(named: Option<u8>, part: &Part) -> Option<u8>
+    ensures first { part.now.place ≡ 0 → result ≡ Some part.now.protocol }
+    ensures other { part.now.place ≢ 0 → result ≡ named }
+{
+    if part.place == 0 {
+        Some(part.protocol)
+    } else {
+        named
     }
 }
 

@@ -1,8 +1,9 @@
-ghost use Rattle.std.specs.Prelude.{◌≡◌, ◌+◌, ◌*◌, ◌^◌, ◌<◌, ◌≤◌, ◌∷◌, [], ℕ, List, Option, Some, None, length, map, false, IfOk, OnErr, IsTrue, ◌↔◌};
+ghost use Rattle.std.specs.Prelude.{◌≡◌, ◌+◌, ◌*◌, ◌^◌, ◌<◌, ◌≤◌, ◌∷◌, [], ℕ, List, Option, Some, None, length, false, IfOk, OnErr, IsTrue, ◌↔◌};
 ghost use Rattle.tftp_fragments.specs.Whole.{end_of};
-ghost use Rattle.tftp_fragments.specs.Held.{part_of, nothing_held, Agrees, IsComplete};
+ghost use Rattle.tftp_fragments.specs.Held.{content_of, part_of, nothing_held, Agrees, IsComplete, IsHeld};
 ghost use Rattle.tftp_fragments.specs.Set.{Arrival, IsSetOf, TakeEnds, room_of};
 
+use crate::content::Content;
 use crate::part::Part;
 use crate::parts::Parts;
 use std::alloc::{AllocError, Global};
@@ -99,9 +100,9 @@ impl Set {
     }
 
     /// The packet's content.
-    pub(crate) fn content(&self, alloc: Global) -> Result<Vec<u8>, AllocError>
+    pub(crate) fn content(&self, alloc: Global) -> Result<Content, AllocError>
         requires { IsComplete self.now.held }
-        ensures { IfOk result (λ content. self.now.held.cells ≡ map (λ b. Some b) content.items) }
+        ensures { IfOk result (λ content. IsHeld self.now.held (content_of content)) }
     {
         self.parts.content(alloc)
     }

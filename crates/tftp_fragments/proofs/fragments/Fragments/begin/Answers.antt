@@ -1,6 +1,6 @@
 use Rattle.std.proofs.Common.{◌≡◌, ◌+◌, ◌*◌, ◌≤◌, false, List, [], ◌∷◌, Option, None, refl, sym, ap, ◌∙◌, subst, arith}
 use Rattle.tftp_fragments.specs.Whole.{end_of}
-use Rattle.tftp_fragments.specs.Held.{Agrees, Held, nothing_held, part_of}
+use Rattle.tftp_fragments.specs.Held.{Agrees, Held, content_of, nothing_held, part_of}
 use Rattle.tftp_fragments.specs.Set.{Arrival, IsSetOf, SetState, TakeEnds, room_of}
 use Rattle.tftp_fragments.specs.Store.{Comes, Sets, frames_of, room_of_all, set_at}
 use Rattle.tftp_fragments.proofs.Holding.{not_both}
@@ -17,7 +17,7 @@ returns-then-is_whole-clause-ends c =
     let ends : TakeEnds s t a.part a.frame None = subst (λ (x : SetState). TakeEnds x t a.part a.frame None) c.new-set.ensures (subst (TakeEnds c.new-set.result t a.part a.frame) none c.in_ok-_apart.ensures.ends) in
     let is : IsSetOf t (a ∷ []) = ends.2 [] a refl refl (empty_set c.args.time) in (
       c.requires.none,
-      λ arrivals e. given t (a ∷ arrivals) c.in_ok-content.content.items ends.0 (subst (λ (l : List Arrival). IsSetOf t (a ∷ l)) (sym e) is) (c.is_whole.ensures.0 c.if-is_whole.true).1 c.in_ok-content.ensures,
+      λ arrivals e. given t (a ∷ arrivals) (content_of c.in_ok-content.content) ends.0 (subst (λ (l : List Arrival). IsSetOf t (a ∷ l)) (sym e) is) (c.is_whole.ensures.0 c.if-is_whole.true).1 c.in_ok-content.ensures,
       c.into_frames-frames.ensures ∙ ends.5,
     )
 

@@ -1,10 +1,14 @@
-use Rattle.std.proofs.Common.{ℕ, Some, Vec, Global, map, sym, ap, ◌∙◌, subst}
-use Rattle.tftp_fragments.specs.Held.{IsComplete}
+use Rattle.std.proofs.Common.{◌≡◌, sym, ap, ◌∙◌, subst}
+use Rattle.tftp_fragments.specs.Held.{IsComplete, IsHeld, content_of}
+use Rattle.tftp_fragments.specs.declared.content.Content.{Content as Given}
 use Rattle.tftp_fragments.specs.Set.{SetState}
 use Rattle.tftp_fragments.specs.Store.{Sets, set_at}
 use Rattle.tftp_fragments.proofs.Rooms.{no_set, same_set}
 use Rattle.tftp_fragments.proofs.fragments.Fragments.content_at.Goals as goal
 use Rattle.tftp_fragments.proofs.fragments.Fragments.content_at.Goals.{in-Some+in_ok-content-in-Some, in-None}
+
+held_at : (s t : SetState) (c d : Given) → s ≡ t → d ≡ c → IsHeld s.held (content_of c) → IsHeld t.held (content_of d)
+held_at s t c d e f h = subst (λ (x : SetState). IsHeld x.held (content_of d)) e (subst (λ (x : Given). IsHeld s.held (content_of x)) (sym f) h)
 
 pub content-requires : goal.content-requires
 content-requires c =
@@ -16,6 +20,6 @@ returns c = λ s e.
     elim c.match-get.branch [
       | in-Some+in_ok-content-in-Some w ↦
           let found = w.in-Some.ensures.value ∙ ap (λ (sets : Sets). set_at c.args.key sets) c.self.view_is ∙ e in
-          ap (λ (t : SetState). t.held.cells) (sym (same_set _ s found)) ∙ w.in_ok-content-in-Some.ensures ∙ ap (λ (v : Vec ℕ Global). map (λ (b : ℕ). Some b) v.items) (sym w.content-is)
+          held_at _ s w.in_ok-content-in-Some.content _ (same_set _ s found) w.content-is w.in_ok-content-in-Some.ensures
       | in-None w ↦ absurd (no_set s (w.in-None.ensures.value ∙ ap (λ (sets : Sets). set_at c.args.key sets) c.self.view_is ∙ e))
     ]

@@ -1,5 +1,5 @@
 use Rattle.std.proofs.Common.{◌≡◌, inl, ◌∷◌, [], ◌++◌, Option, refl, sym, ap, ◌∙◌, subst, arith, rules, false, IfOk}
-use Rattle.tftp_fragments.specs.Held.{Agrees, part_of}
+use Rattle.tftp_fragments.specs.Held.{Agrees, content_of, part_of}
 use Rattle.tftp_fragments.specs.Set.{Arrival, SetState}
 use Rattle.tftp_fragments.specs.Store.{JoinEnds, PutEnds, Sets, frames_of, room_of_all, set_at}
 use Rattle.tftp_fragments.proofs.Puts.{came, came_apart, comes_at, given, kept_at, not_given}
@@ -36,7 +36,7 @@ returns-in_ok-content-in-Whole-clause-ends c =
     let a : Arrival = record { part = part_of c.args.part.now; time = c.args.time; frame = c.args.frame } in
     let ends = subst (JoinEnds (set_at c.args.key c.args.self.now) (set_at c.args.key c.join.new.self) a.part a.frame) c.in-Whole.is c.in_ok-join.ensures.ends in (
       c.in_ok-content-in-Whole.ensures.gone,
-      λ arrivals kept. given ends.1 (a ∷ arrivals) c.in_ok-content-in-Whole.content.items ends.5.0 (ends.5.2 arrivals a refl refl (kept_at _ ends.0 arrivals ends.2 kept).2) ends.6 (c.in_ok-content-in-Whole.ensures.content ends.1 ends.3),
+      λ arrivals kept. given ends.1 (a ∷ arrivals) (content_of c.in_ok-content-in-Whole.content) ends.5.0 (ends.5.2 arrivals a refl refl (kept_at _ ends.0 arrivals ends.2 kept).2) ends.6 (c.in_ok-content-in-Whole.ensures.content ends.1 ends.3),
       c.in_ok-content-in-Whole.ensures.frames ends.1 ends.3 ∙ ends.5.5 ∙ ap (λ (o : Option SetState). frames_of o ++ a.frame ∷ []) (sym ends.2),
     )
 

@@ -19,22 +19,26 @@ invariant_of-self-else-not-part c =
 pub returns-then-not-part-clause-ok : goal.returns-then-not-part-clause-ok
 returns-then-not-part-clause-ok c = λ parts s.
     let cells = ap (λ (h : Held). h.cells) c.self.view_is in
-    let added : Added c.args.self.now (part_of c.args.part.now) (record { cells = c.lay.new.cells.items; ended = true }) = record {
+    let added : Added c.args.self.now (part_of c.args.part.now) (record { cells = c.lay.new.cells.items; ended = true; protocol = c.named_with-self-inside.result }) = record {
       laid = rw cells at c.in_ok-lay.ensures.ok;
       kept = λ e. refl;
       set = λ e. refl;
       only = λ e. inr c.if-not-part.true;
+      first = c.named_with-self-inside.ensures.first;
+      other = λ away. c.named_with-self-inside.ensures.other away ∙ ap (λ (h : Held). h.protocol) c.self.view_is;
     } in
-    stands_more c.args.self.now (part_of c.args.part.now) (record { cells = c.lay.new.cells.items; ended = true }) c.requires.agrees added parts s
+    stands_more c.args.self.now (part_of c.args.part.now) (record { cells = c.lay.new.cells.items; ended = true; protocol = c.named_with-self-inside.result }) c.requires.agrees added parts s
 
 pub returns-else-not-part-clause-ok : goal.returns-else-not-part-clause-ok
 returns-else-not-part-clause-ok c = λ parts s.
     let cells = ap (λ (h : Held). h.cells) c.self.view_is in
     let ended = ap (λ (h : Held). h.ended) c.self.view_is in
-    let added : Added c.args.self.now (part_of c.args.part.now) (record { cells = c.lay.new.cells.items; ended = c.self.inside.ended }) = record {
+    let added : Added c.args.self.now (part_of c.args.part.now) (record { cells = c.lay.new.cells.items; ended = c.self.inside.ended; protocol = c.named_with-self-inside.result }) = record {
       laid = rw cells at c.in_ok-lay.ensures.ok;
       kept = λ e. ended ∙ e;
       set = λ e. absurd (not_both c.args.part.now.more c.if-not-part.false e);
       only = λ e. inl (sym ended ∙ e);
+      first = c.named_with-self-inside.ensures.first;
+      other = λ away. c.named_with-self-inside.ensures.other away ∙ ap (λ (h : Held). h.protocol) c.self.view_is;
     } in
-    stands_more c.args.self.now (part_of c.args.part.now) (record { cells = c.lay.new.cells.items; ended = c.self.inside.ended }) c.requires.agrees added parts s
+    stands_more c.args.self.now (part_of c.args.part.now) (record { cells = c.lay.new.cells.items; ended = c.self.inside.ended; protocol = c.named_with-self-inside.result }) c.requires.agrees added parts s
