@@ -119,6 +119,14 @@ impl<D: Delivered + Drop> Judge<D> {
         self.keeper.last_was_of_transfer()
     }
 
+    /// The refusal that it answers for good, if it has refused a datagram.
+    #[inline]
+    pub fn refused(&self) -> Option<Refusal>
+        ensures { result ≡ self.now.refused }
+    {
+        self.refused
+    }
+
     /// How many datagrams were accepted.
     #[inline]
     pub fn fed(&self) -> u64

@@ -7,3 +7,4 @@ pub mod Ends
 pub mod Serving
 pub mod Doubting
 pub mod Seeing
+pub mod OwnDatagrams

@@ -88,3 +88,14 @@ is_at_server n placed p = by p.place where
 
 abbrev pub server_view : ℕ → List Placed → List Placed
 server_view n placed = filter (is_at_server n placed) placed
+
+-- it passed at the transfer's client, or beside its server: no other is in either view
+abbrev pub is_about : ℕ → Placed → Bool
+is_about n p = by p.place where
+  by : Place → Bool
+  by (Opens x) = x.number == n
+  by (Repeats x) = x.number == n
+  by (Talks x) = x.number == n
+  by (Apart c) = false
+  by (Beside x) = x.number == n
+  by Nowhere = false

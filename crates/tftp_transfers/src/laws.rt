@@ -1,9 +1,10 @@
 //! Laws of the definitions in `specs/`. Each is the contract of a function that does nothing.
 
-ghost use Rattle.std.specs.Prelude.{◌≡◌, ◌≢◌, ◌⊎◌, ℕ, List, true, false, [], ◌∷◌, codes};
+ghost use Rattle.std.specs.Prelude.{◌≡◌, ◌≢◌, ◌⊎◌, ℕ, List, true, false, [], ◌∷◌, codes, filter};
 ghost use Rattle.tftp_transfers.specs.Recording.{Recorded};
 ghost use Rattle.tftp_transfers.specs.Places.{Placed, live, line, place_of};
-ghost use Rattle.tftp_transfers.specs.Views.{is_of, is_at_server};
+ghost use Rattle.tftp_transfers.specs.Settled.{is_settled};
+ghost use Rattle.tftp_transfers.specs.Views.{client_view, is_about, is_at_server, is_of, server_of, server_view};
 ghost use Rattle.tftp_transfers.specs.Doubts.{is_beside};
 ghost use Rattle.tftp_transfers.specs.declared.place.Place.{Place};
 ghost use Rattle.tftp_transfers.specs.declared.place.Transfer.{Transfer};
@@ -106,4 +107,14 @@ pub fn a_datagram_is_of_one_transfer()
     ensures client { (n m : ℕ) (p : Placed) → is_of n p ≡ true → is_of m p ≡ true → n ≡ m }
     ensures server { (n m : ℕ) (one other : List Placed) (p : Placed) → is_at_server n one p ≡ true → is_at_server m other p ≡ true → n ≡ m }
     ensures strays { (n : ℕ) (placed : List Placed) (p : Placed) → is_at_server n placed p ≡ true → (is_of n p ≡ true) ⊎ (is_beside p ≡ true) }
+{}
+
+/// Who the server of a transfer is, whether that is settled, and which datagrams it saw, the transfer's own datagrams
+/// tell; and each end saw none but those and what passed beside the server.
+pub fn a_transfers_own_datagrams_tell_its_views()
+    ensures server { (n : ℕ) (placed : List Placed) → server_of n (filter (is_of n) placed) ≡ server_of n placed }
+    ensures settled { (n : ℕ) (placed : List Placed) → is_settled n (filter (is_of n) placed) ≡ is_settled n placed }
+    ensures at_server { (n : ℕ) (placed : List Placed) (p : Placed) → is_at_server n (filter (is_of n) placed) p ≡ is_at_server n placed p }
+    ensures client_view { (n : ℕ) (placed : List Placed) → client_view n (filter (is_about n) placed) ≡ client_view n placed }
+    ensures server_view { (n : ℕ) (placed : List Placed) → server_view n (filter (is_about n) placed) ≡ server_view n placed }
 {}

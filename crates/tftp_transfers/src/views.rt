@@ -1,9 +1,9 @@
 //! The two ends of one transfer, and which datagrams each of them saw.
 
-ghost use Rattle.std.specs.Prelude.{◌≡◌, ◌∷◌, ℕ, List, []};
+ghost use Rattle.std.specs.Prelude.{◌≡◌, ◌∷◌, ℕ, List, [], false};
 ghost use Rattle.tftp_ends.specs.Ports.{or_this};
 ghost use Rattle.tftp_transfers.specs.Places.{Placed};
-ghost use Rattle.tftp_transfers.specs.Views.{is_of, opened_it, comes, goes_on, server_of, has_host, has_port, is_end, is_server, is_at_server};
+ghost use Rattle.tftp_transfers.specs.Views.{is_about, is_of, opened_it, comes, goes_on, server_of, has_host, has_port, is_end, is_server, is_at_server};
 ghost use Rattle.tftp_transfers.specs.Kept.{AreEndsAfter};
 ghost use Rattle.tftp_transfers.specs.Settled.{is_settled};
 
@@ -39,6 +39,7 @@ impl TransferEnds {
         ensures stands { (p : Placed) (older : List Placed) → AreEndsAfter self.old older → place.now ≡ p.place
             → p.datagram.source ≡ source → p.datagram.target ≡ target → p.datagram.payload ≡ payload.now
             → AreEndsAfter self.new (p ∷ older) }
+        ensures others { (p : Placed) → place.now ≡ p.place → is_of self.old.number p ≡ false → self.new ≡ self.old }
         ensures number { self.new.number ≡ self.old.number }
     {
         let (opens, comes, goes_on) = (
@@ -99,6 +100,21 @@ impl TransferEnds {
         ensures { (placed : List Placed) → AreEndsAfter self.now placed → result ≡ is_settled self.now.number placed }
     {
         self.asked.is_some() && self.answered.is_some() && self.went_on.is_some()
+    }
+
+    /// Whether a datagram that belongs there is of the transfer at its client, or passed beside its server: no other is of
+    /// either view.
+    pub fn is_about(&self, place: &Place) -> bool
+        ensures { (p : Placed) → place.now ≡ p.place → result ≡ is_about self.now.number p }
+    {
+        match place {
+            Place::Opens(transfer) => transfer.number == self.number,
+            Place::Repeats(transfer) => transfer.number == self.number,
+            Place::Talks(transfer) => transfer.number == self.number,
+            Place::Beside(transfer) => transfer.number == self.number,
+            Place::Apart(_) => false,
+            Place::Nowhere => false,
+        }
     }
 
     /// Whether a datagram that belongs there is of the client's view.

@@ -43,6 +43,10 @@ module _ (old new : Judge) (h : Header) (given : List Datagram) (d : Datagram) (
     by None is after = fed_now result (accepts after) (refuses after) keeps (goes_on is) after.lawful
     by (Some refusal) is was = refused_before refusal is was
 
+-- what has refused nothing stands for all that it was given
+pub stands_for : (j : Judge) (h : Header) (given : List Datagram) → j.refused ≡ None → HasJudged j h given → IsJudgeAfter j h given
+stands_for j h given none judged = subst (λ o. JudgedBy o j h given) none judged
+
 -- ---- the verdict
 
 newest_last : (later earlier : List Datagram) (d : Datagram) → reverse (later ++ d ∷ earlier) ≡ reverse earlier ++ d ∷ reverse later

@@ -1,2 +1,3 @@
 mod Judging
 mod Settling
+mod Feeding

@@ -123,5 +123,5 @@ pub server_goes_on : (s : Server) (name : Naming) (more placed part : List Place
 server_goes_on s name more placed part settled after = record {
   number = after.number;
   ends = ends_stay s.transfer.number more placed settled s.ends after.number after.ends;
-  judged = subst (HasJudged s.judge (server_header s.transfer)) (capture_stays name s.transfer more placed settled part) after.judged;
+  judged = subst (HasJudged s.end.judge (server_header s.transfer)) (capture_stays name s.transfer more placed settled part) after.judged;
 }

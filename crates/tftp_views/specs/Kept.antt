@@ -1,19 +1,31 @@
--- What the judge of one end keeps, and for which datagrams of a recording it stands.
-use Rattle.std.specs.Prelude.{◌≡◌, ℕ, List}
+-- What the judges of the two ends keep, and for which datagrams of a recording they stand.
+use Rattle.std.specs.Prelude.{◌≡◌, ℕ, true, false, List, [], filter, length, reverse, Option, Some, None, Bool}
+use Rattle.std.specs.List.{AllZip}
 use Rattle.tftp_judge.specs.Kept.{Judge}
+use Rattle.tftp_judge.specs.declared.refusal.Refusal.{Refusal}
 use Rattle.tftp_transfers.specs.declared.endpoint.Endpoint.{Endpoint}
 use Rattle.tftp_transfers.specs.declared.place.Place.{Place}
 use Rattle.tftp_transfers.specs.declared.place.Transfer.{Transfer}
 use Rattle.tftp_transfers.specs.Places.{Placed}
+use Rattle.tftp_transfers.specs.Settled.{is_settled}
+use Rattle.tftp_transfers.specs.Views.{is_about}
+use Rattle.tftp_views.specs.declared.held.Held.{Held}
 use Rattle.tftp_views.specs.declared.party.Party.{Party}
 use Rattle.tftp_transfers.specs.declared.views.TransferEnds.{TransferEnds}
 use Rattle.tftp_transfers.specs.Kept.{AreEndsAfter}
 use Rattle.tftp_views.specs.Captured.{Naming, client_capture, client_header, server_capture, server_header}
 use Rattle.tftp_views.specs.Judged.{HasJudged}
 
+-- ---- one end
+
+-- The judge, and for how long a payload there is room at least: the one that it was given last.
+pub record OneEnd : Type 0 where
+  pub judge : Judge
+  pub room : ℕ
+
 pub record Client : Type 0 where
   pub transfer : Transfer
-  pub judge : Judge
+  pub end : OneEnd
 
 -- A datagram with its place, as it is fed: with the names of its hosts.
 pub record IsFed (name : Naming) (p : Placed) (place : Place) (source target : Party) (payload : List ℕ) : Type 0 where
@@ -26,15 +38,64 @@ pub record IsFed (name : Naming) (p : Placed) (place : Place) (source target : P
 
 -- It was given the client's view of these datagrams of a recording, and nothing else.
 abbrev pub IsClientAfter : Client → Naming → List Placed → Type 0
-IsClientAfter c name placed = HasJudged c.judge (client_header c.transfer) (client_capture name c.transfer placed)
+IsClientAfter c name placed = HasJudged c.end.judge (client_header c.transfer) (client_capture name c.transfer placed)
 
 pub record Server : Type 0 where
   pub transfer : Transfer
   pub ends : TransferEnds
-  pub judge : Judge
+  pub end : OneEnd
 
 -- It knows the ends by the whole recording, and was given the server's view of a part of it, and nothing else.
 pub record IsServerAfter (s : Server) (name : Naming) (whole part : List Placed) : Type 0 where
   pub number : s.ends.number ≡ s.transfer.number
   pub ends : AreEndsAfter s.ends whole
-  pub judged : HasJudged s.judge (server_header s.transfer) (server_capture name s.transfer whole part)
+  pub judged : HasJudged s.end.judge (server_header s.transfer) (server_capture name s.transfer whole part)
+
+-- ---- the server, in one pass
+
+-- The transfer's datagrams that are held, the oldest first, until it is known who the server is; then its judge.
+pub record View : Type 0 where
+  pub transfer : Transfer
+  pub ends : TransferEnds
+  pub held : List Held
+  pub judge : Option Server
+
+-- these datagrams are held, as they were fed
+abbrev pub AreHeld : Naming → List Held → List Placed → Type 0
+AreHeld name held placed = AllZip (λ h p. IsFed name p h.place h.source h.target h.payload) held placed
+
+-- It is not known yet who the server is: those of the transfer are held, and no others.
+pub record IsWaiting (v : View) (name : Naming) (placed : List Placed) : Type 0 where
+  pub number : v.ends.number ≡ v.transfer.number
+  pub ends : AreEndsAfter v.ends placed
+  pub unsettled : is_settled v.transfer.number placed ≡ false
+  pub held : AreHeld name v.held (reverse (filter (is_about v.transfer.number) placed))
+
+-- It is known: none is held, and the judge was given the server's view.
+pub record IsGoingOn (s : Server) (v : View) (name : Naming) (placed : List Placed) : Type 0 where
+  pub transfer : s.transfer ≡ v.transfer
+  pub settled : is_settled v.transfer.number placed ≡ true
+  pub none : v.held ≡ []
+  pub after : IsServerAfter s name placed placed
+
+abbrev pub ViewedBy : Option Server → View → Naming → List Placed → Type 0
+ViewedBy None v name placed = IsWaiting v name placed
+ViewedBy (Some s) v name placed = IsGoingOn s v name placed
+
+-- It was fed these datagrams of a recording, and nothing else.
+abbrev pub IsViewAfter : View → Naming → List Placed → Type 0
+IsViewAfter v name placed = ViewedBy v.judge v name placed
+
+-- how many are held, or were accepted
+abbrev pub fed_to : View → ℕ
+fed_to v = by v.judge where
+  by : Option Server → ℕ
+  by None = length v.held
+  by (Some s) = s.end.judge.fed
+
+-- what its judge refused a datagram for, where it is known who the server is
+abbrev pub has_refused : View → Option Refusal
+has_refused v = by v.judge where
+  by : Option Server → Option Refusal
+  by None = None
+  by (Some s) = s.end.judge.refused

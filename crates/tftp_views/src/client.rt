@@ -1,6 +1,10 @@
 //! The judge of a transfer's client, fed with a recording.
 
-ghost use Rattle.std.specs.Prelude.{◌≡◌, ◌^◌, ◌<◌, ◌≤◌, ◌∷◌, ℕ, List, [], length, OnOk, OnErr, Ok, true, false};
+ghost use Rattle.std.specs.Prelude.{◌≡◌, ◌+◌, ◌^◌, ◌<◌, ◌≤◌, ◌∷◌, ℕ, List, [], length, OnOk, OnErr, Ok, Err, None, Some, true, false};
+ghost use Rattle.tftp_ends.specs.Ports.{transfer_of};
+ghost use Rattle.tftp_judge.specs.Memory.{TakesForJoin};
+ghost use Rattle.tftp_judge.specs.declared.refusal.Refusal.{Refusal as RefusalKind};
+ghost use Rattle.tftp_law.specs.OneEnded.{IsEnded};
 ghost use Rattle.tftp_packet.specs.declared.kinds.Dir.TheVariants.{In, Out};
 ghost use Rattle.tftp_transfers.specs.Places.{Placed};
 ghost use Rattle.tftp_transfers.specs.Views.{is_of};
@@ -35,7 +39,7 @@ impl<D: Delivered + Drop> Model for ClientJudge<D> {
 
     ghost coded = { Prim.hlevel (codes, sender_code, receiver_code, options_code, parts_code) };
 
-    ghost view = { λ c. record { transfer = c.transfer; judge = c.judge } };
+    ghost view = { λ c. record { transfer = c.transfer; end = c.judge } };
 }
 
 impl<D: Delivered + Drop> ClientJudge<D> {
@@ -43,7 +47,8 @@ impl<D: Delivered + Drop> ClientJudge<D> {
     pub fn new(alloc: Global, transfer: Transfer) -> Self
         ensures after { (name : Naming) → IsClientAfter result name [] }
         ensures transfer { result.transfer ≡ transfer }
-        ensures none { result.judge.fed ≡ 0 }
+        ensures none { result.end.judge.fed ≡ 0 }
+        ensures goes_on { result.end.judge.refused ≡ None }
     {
         let header = Header {
             named: End::Client,
@@ -55,8 +60,8 @@ impl<D: Delivered + Drop> ClientJudge<D> {
         }
     }
 
-    /// Takes the next datagram of the recording, of this transfer or of another, which belongs there. Where there is no
-    /// memory for it, it was not taken.
+    /// Takes the next datagram of the recording, of this transfer or of another, which belongs there. Memory is wanted only
+    /// of one whose payload is longer than that of the one before it, and then it was not taken. A refusal is kept.
     pub fn feed(
         &mut self,
         alloc: Global,
@@ -65,13 +70,16 @@ impl<D: Delivered + Drop> ClientJudge<D> {
         target: &Party,
         payload: &[u8],
     ) -> Result<(), AllocError>
-        requires few { self.old.judge.fed < 2 ^ 40 }
+        requires few { self.old.end.judge.fed < 2 ^ 40 }
         requires short { length payload.now ≤ 65527 }
         ensures after { (name : Naming) (p : Placed) (older : List Placed) → IsClientAfter self.old name older
             → IsFed name p place.now source.now target.now payload.now → OnOk result (IsClientAfter self.new name (p ∷ older)) }
         ensures others { (p : Placed) → place.now ≡ p.place → is_of self.old.transfer.number p ≡ false
             → (result ≡ Ok tt) × (self.new ≡ self.old) }
+        ensures longer { OnErr result (self.old.end.room < length payload.now) }
         ensures same { OnErr result (self.new ≡ self.old) }
+        ensures counts { self.new.end.judge.fed ≤ self.old.end.judge.fed + 1 }
+        ensures for_good { (refusal : RefusalKind) → self.old.end.judge.refused ≡ Some refusal → self.new.end.judge ≡ self.old.end.judge }
         ensures transfer { self.new.transfer ≡ self.old.transfer }
     {
         if !self.is_at_client(place) {
@@ -107,15 +115,27 @@ impl<D: Delivered + Drop> ClientJudge<D> {
 
     /// How many datagrams of the client's view were accepted.
     pub fn fed(&self) -> u64
-        ensures { result ≡ self.now.judge.fed }
+        ensures { result ≡ self.now.end.judge.fed }
     {
         self.judge.fed()
     }
 
+    /// What a datagram of the client's view was refused for, or that memory was wanting for one: what `finish` will answer.
+    pub fn refused(&self) -> Option<Refusal>
+        ensures { result ≡ self.now.end.judge.refused }
+    {
+        self.judge.refused()
+    }
+
     /// What there is to say of the client's view: the verdict of the text that has just it, or want of memory.
     pub fn finish(self, alloc: Global) -> Result<Meaning, Refusal>
-        ensures { (name : Naming) (placed : List Placed) → IsClientAfter self name placed
+        ensures judged { (name : Naming) (placed : List Placed) → IsClientAfter self name placed
             → IsJudgedWith (client_header self.transfer) (client_capture name self.transfer placed) result }
+        ensures for_good { (refusal : RefusalKind) → self.end.judge.refused ≡ Some refusal → result ≡ Err refusal }
+        ensures memory { (name : Naming) (placed : List Placed) (count : ℕ) → IsClientAfter self name placed
+            → self.end.judge.refused ≡ None → result ≡ Err (RefusalKind.Memory count)
+            → IsEnded (client_header self.transfer) (client_capture name self.transfer placed)
+            × TakesForJoin D.join_takes (transfer_of (client_header self.transfer) (client_capture name self.transfer placed)) }
     {
         let ClientJudge { transfer: _, judge } = self;
         judge.finish(alloc)

@@ -3,11 +3,13 @@
 
 mod client;
 mod end_judge;
+mod held;
 pub mod laws;
 mod party;
 mod server;
 
 pub use client::ClientJudge;
 pub use end_judge::EndJudge;
+pub use held::Held;
 pub use party::Party;
 pub use server::ServerJudge;

@@ -1,6 +1,11 @@
 //! The judge of a transfer's server, fed with a recording once it is known who the server is.
 
-ghost use Rattle.std.specs.Prelude.{◌≡◌, ◌^◌, ◌<◌, ◌≤◌, ◌∷◌, ℕ, List, [], length, OnOk, OnErr, Ok, true, false};
+ghost use Rattle.std.specs.Prelude.{◌≡◌, ◌+◌, ◌^◌, ◌<◌, ◌≤◌, ◌∷◌, ℕ, List, [], length, OnOk, OnErr, Ok, Err, None, Some, true, false};
+ghost use Rattle.tftp_ends.specs.Ports.{transfer_of};
+ghost use Rattle.tftp_judge.specs.Memory.{TakesForJoin};
+ghost use Rattle.tftp_judge.specs.declared.refusal.Refusal.{Refusal as RefusalKind};
+ghost use Rattle.tftp_law.specs.OneEnded.{IsEnded};
+ghost use Rattle.tftp_capture.specs.Fields.{datagram_of};
 ghost use Rattle.tftp_packet.specs.declared.kinds.Dir.TheVariants.{In, Out};
 ghost use Rattle.tftp_transfers.specs.Kept.{AreEndsAfter};
 ghost use Rattle.tftp_transfers.specs.Places.{Placed};
@@ -11,10 +16,11 @@ ghost use Rattle.tftp_views.specs.Judged.{IsJudgedWith};
 ghost use Rattle.tftp_views.specs.Kept.{IsFed, IsServerAfter};
 
 use crate::end_judge::EndJudge;
+use crate::held::Held;
 use crate::party::Party;
 use std::alloc::{AllocError, Global};
 use std::marker::Model;
-use tftp_capture::Header;
+use tftp_capture::{Datagram, Header};
 use tftp_ends::Delivered;
 use tftp_judge::{Meaning, Refusal};
 use tftp_packet::{Dir, End};
@@ -38,7 +44,7 @@ impl<D: Delivered + Drop> Model for ServerJudge<D> {
 
     ghost coded = { Prim.hlevel (codes, sender_code, receiver_code, options_code, parts_code) };
 
-    ghost view = { λ s. record { transfer = s.transfer; ends = s.ends; judge = s.judge } };
+    ghost view = { λ s. record { transfer = s.transfer; ends = s.ends; end = s.judge } };
 }
 
 impl<D: Delivered + Drop> ServerJudge<D> {
@@ -47,7 +53,8 @@ impl<D: Delivered + Drop> ServerJudge<D> {
         requires number { ends.number ≡ transfer.number }
         ensures after { (name : Naming) (whole : List Placed) → AreEndsAfter ends whole → IsServerAfter result name whole [] }
         ensures transfer { result.transfer ≡ transfer }
-        ensures none { result.judge.fed ≡ 0 }
+        ensures none { result.end.judge.fed ≡ 0 }
+        ensures goes_on { result.end.judge.refused ≡ None }
     {
         let header = Header {
             named: End::Server,
@@ -61,7 +68,8 @@ impl<D: Delivered + Drop> ServerJudge<D> {
     }
 
     /// Takes the next datagram of the recording, from its first on, of this transfer or of another, which belongs there.
-    /// Where there is no memory for it, it was not taken.
+    /// Memory is wanted only of one whose payload is longer than that of the one before it, and then it was not taken. A
+    /// refusal is kept.
     pub fn feed(
         &mut self,
         alloc: Global,
@@ -70,14 +78,17 @@ impl<D: Delivered + Drop> ServerJudge<D> {
         target: &Party,
         payload: &[u8],
     ) -> Result<(), AllocError>
-        requires few { self.old.judge.fed < 2 ^ 40 }
+        requires few { self.old.end.judge.fed < 2 ^ 40 }
         requires short { length payload.now ≤ 65527 }
         ensures after { (name : Naming) (whole : List Placed) (p : Placed) (part : List Placed) → IsServerAfter self.old name whole part
             → IsFed name p place.now source.now target.now payload.now → OnOk result (IsServerAfter self.new name whole (p ∷ part)) }
         ensures others { (name : Naming) (whole : List Placed) (p : Placed) (part : List Placed) → IsServerAfter self.old name whole part
             → IsFed name p place.now source.now target.now payload.now → is_at_server self.old.transfer.number whole p ≡ false
             → (result ≡ Ok tt) × (self.new ≡ self.old) }
+        ensures longer { OnErr result (self.old.end.room < length payload.now) }
         ensures same { OnErr result (self.new ≡ self.old) }
+        ensures counts { self.new.end.judge.fed ≤ self.old.end.judge.fed + 1 }
+        ensures for_good { (refusal : RefusalKind) → self.old.end.judge.refused ≡ Some refusal → self.new.end.judge ≡ self.old.end.judge }
         ensures transfer { self.new.transfer ≡ self.old.transfer }
     {
         if !self.ends.is_at_server(place, source.end, target.end) {
@@ -94,8 +105,8 @@ impl<D: Delivered + Drop> ServerJudge<D> {
         }
     }
 
-    /// Takes the next datagram as the recording comes, where it is known who the server is, whatever comes. Where there
-    /// is no memory for it, it was not taken.
+    /// Takes the next datagram as the recording comes, where it is known who the server is, whatever comes. Memory is
+    /// wanted as by `feed`.
     pub fn go_on(
         &mut self,
         alloc: Global,
@@ -104,17 +115,39 @@ impl<D: Delivered + Drop> ServerJudge<D> {
         target: &Party,
         payload: &[u8],
     ) -> Result<(), AllocError>
-        requires few { self.old.judge.fed < 2 ^ 40 }
+        requires few { self.old.end.judge.fed < 2 ^ 40 }
         requires short { length payload.now ≤ 65527 }
         ensures after { (name : Naming) (p : Placed) (older : List Placed) → IsServerAfter self.old name older older
             → is_settled self.old.transfer.number older ≡ true → IsFed name p place.now source.now target.now payload.now
             → OnOk result (IsServerAfter self.new name (p ∷ older) (p ∷ older)) }
         ensures settled { (p : Placed) (older : List Placed) → is_settled self.old.transfer.number older ≡ true
             → is_settled self.new.transfer.number (p ∷ older) ≡ true }
+        ensures longer { OnErr result (self.old.end.room < length payload.now) }
         ensures same { OnErr result (self.new ≡ self.old) }
+        ensures counts { self.new.end.judge.fed ≤ self.old.end.judge.fed + 1 }
+        ensures for_good { (refusal : RefusalKind) → self.old.end.judge.refused ≡ Some refusal → self.new.end.judge ≡ self.old.end.judge }
         ensures transfer { self.new.transfer ≡ self.old.transfer }
     {
         self.feed(alloc, place, source, target, payload)
+    }
+
+    /// The same as `feed`, of one that was held, whose memory it takes over.
+    pub fn take(&mut self, alloc: Global, held: Held)
+        requires few { self.old.end.judge.fed < 2 ^ 40 }
+        requires short { length held.payload ≤ 65527 }
+        ensures after { (name : Naming) (whole : List Placed) (p : Placed) (part : List Placed) → IsServerAfter self.old name whole part
+            → IsFed name p held.place held.source held.target held.payload → IsServerAfter self.new name whole (p ∷ part) }
+        ensures counts { self.new.end.judge.fed ≤ self.old.end.judge.fed + 1 }
+        ensures transfer { self.new.transfer ≡ self.old.transfer }
+    {
+        if !self
+            .ends
+            .is_at_server(&held.place, held.source.end, held.target.end)
+        {
+            return;
+        }
+        let goes_out = self.goes_out(&held.place, held.source.end);
+        self.judge.give(alloc, passed(goes_out, held));
     }
 
     /// Whether the server sent what belongs there.
@@ -142,18 +175,55 @@ impl<D: Delivered + Drop> ServerJudge<D> {
 
     /// How many datagrams of the server's view were accepted.
     pub fn fed(&self) -> u64
-        ensures { result ≡ self.now.judge.fed }
+        ensures { result ≡ self.now.end.judge.fed }
     {
         self.judge.fed()
+    }
+
+    /// What a datagram of the server's view was refused for, or that memory was wanting for one: what `finish` will answer.
+    pub fn refused(&self) -> Option<Refusal>
+        ensures { result ≡ self.now.end.judge.refused }
+    {
+        self.judge.refused()
     }
 
     /// What there is to say of the server's view, once the whole was fed: the verdict of the text that has just it, or want
     /// of memory.
     pub fn finish(self, alloc: Global) -> Result<Meaning, Refusal>
-        ensures { (name : Naming) (whole part : List Placed) → IsServerAfter self name whole part
+        ensures judged { (name : Naming) (whole part : List Placed) → IsServerAfter self name whole part
             → IsJudgedWith (server_header self.transfer) (server_capture name self.transfer whole part) result }
+        ensures for_good { (refusal : RefusalKind) → self.end.judge.refused ≡ Some refusal → result ≡ Err refusal }
+        ensures memory { (name : Naming) (whole part : List Placed) (count : ℕ) → IsServerAfter self name whole part
+            → self.end.judge.refused ≡ None → result ≡ Err (RefusalKind.Memory count)
+            → IsEnded (server_header self.transfer) (server_capture name self.transfer whole part)
+            × TakesForJoin D.join_takes (transfer_of (server_header self.transfer) (server_capture name self.transfer whole part)) }
     {
         let ServerJudge { judge, .. } = self;
         judge.finish(alloc)
+    }
+}
+
+/// A datagram as the capture of its end has it.
+fn passed(goes_out: bool, held: Held) -> Datagram
+    ensures yes { goes_out ≡ true → datagram_of result ≡ record { dir = Out; local = held.source.end.port; host = held.target.host; remote = held.target.end.port; payload = held.payload } }
+    ensures no { goes_out ≡ false → datagram_of result ≡ record { dir = In; local = held.target.end.port; host = held.source.host; remote = held.source.end.port; payload = held.payload } }
+{
+    let Held {
+        source,
+        target,
+        payload,
+        ..
+    } = held;
+    let (local, remote) = if goes_out {
+        (source.end.port, target)
+    } else {
+        (target.end.port, source)
+    };
+    Datagram {
+        dir: if goes_out { Dir::Out } else { Dir::In },
+        local_port: local,
+        remote_host: remote.host,
+        remote_port: remote.end.port,
+        payload,
     }
 }

@@ -1,9 +1,15 @@
-use Rattle.std.proofs.Common.{sym, subst}
+use Rattle.std.proofs.Common.{None, ap, ◌∙◌, sym, subst}
 use Rattle.tftp_views.specs.Judged.{HasJudged}
-use Rattle.tftp_views.proofs.Judging.{finished, judged_with}
+use Rattle.tftp_views.specs.Kept.{OneEnd}
+use Rattle.tftp_views.proofs.Judging.{finished, judged_with, stands_for}
 use Rattle.tftp_views.proofs.end_judge.EndJudge.finish.Goals as goal
 
-pub returns : goal.returns
-returns g c h given judged =
+pub returns-clause-judged : goal.returns-clause-judged
+returns-clause-judged g c h given judged =
     judged_with h given c.finish.result
-    (finished h given c.self.inside.judge c.finish.result (c.finish.ensures.verdict h given) c.finish.ensures.for_good (subst (λ j. HasJudged j h given) (sym c.self.view_is) judged))
+    (finished h given c.self.inside.judge c.finish.result (c.finish.ensures.verdict h given) c.finish.ensures.for_good (subst (λ (e : OneEnd). HasJudged e.judge h given) (sym c.self.view_is) judged))
+
+pub returns-clause-memory : goal.returns-clause-memory
+returns-clause-memory g c h given count judged none is =
+    let after = stands_for c.self.inside.judge h given (ap (λ (e : OneEnd). e.judge.refused) c.self.view_is ∙ none) (subst (λ (e : OneEnd). HasJudged e.judge h given) (sym c.self.view_is) judged) in
+    (c.finish.ensures.memory h given count after is, c.finish.ensures.joins h given count after is)

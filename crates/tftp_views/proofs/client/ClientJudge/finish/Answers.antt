@@ -1,0 +1,12 @@
+use Rattle.std.proofs.Common.{ap, ◌∙◌, sym, subst}
+use Rattle.tftp_views.specs.Captured.{client_capture, client_header}
+use Rattle.tftp_views.specs.Judged.{HasJudged}
+use Rattle.tftp_views.specs.Kept.{Client}
+use Rattle.tftp_views.proofs.client.ClientJudge.finish.Goals as goal
+
+pub returns-clause-memory : goal.returns-clause-memory
+returns-clause-memory g c name placed count after none is =
+    let x = c.args.self.transfer in
+    c.finish.ensures.memory (client_header x) (client_capture name x placed) count
+    (subst (λ (k : Client). HasJudged k.end.judge (client_header x) (client_capture name x placed)) (sym c.self.view_is) after)
+    (ap (λ (k : Client). k.end.judge.refused) c.self.view_is ∙ none) is

@@ -1,0 +1,11 @@
+use Rattle.std.proofs.Common.{sym, subst}
+use Rattle.tftp_capture.specs.Fields.{datagram_of}
+use Rattle.tftp_views.specs.Judged.{HasJudged}
+use Rattle.tftp_views.specs.Kept.{OneEnd}
+use Rattle.tftp_views.proofs.Judging.{given_more}
+use Rattle.tftp_views.proofs.end_judge.EndJudge.give.Goals as goal
+
+pub returns-clause-judged : goal.returns-clause-judged
+returns-clause-judged g c h given judged =
+    given_more c.self.inside.judge c.feed.new.self h given (datagram_of c.args.datagram) c.feed.result (c.feed.ensures.accepts h given) (c.feed.ensures.refuses h given) c.feed.ensures.keeps c.feed.ensures.for_good c.feed.ensures.goes_on
+    (subst (λ (e : OneEnd). HasJudged e.judge h given) (sym c.self.view_is) judged)

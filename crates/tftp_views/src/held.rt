@@ -1,0 +1,16 @@
+use crate::party::Party;
+use tftp_packet::Bytes;
+use tftp_transfers::Place;
+
+/// A datagram that is held until it is known who the server is.
+#[derive(Drop)]
+pub struct Held {
+    /// Where it belongs.
+    pub place: Place,
+    /// Where it came from.
+    pub source: Party,
+    /// Where it went.
+    pub target: Party,
+    /// What it carried.
+    pub payload: Bytes,
+}
