@@ -1,6 +1,6 @@
 //! The commands: what is printed, and the status.
 
-use crate::cases::{ACK_1, CLIENT, HI, READ, capture};
+use crate::scripts::{CLIENT, capture};
 use std::alloc::{AllocError, Global};
 use std::test::Fail;
 use tftp_capture::{DripReader, DripWriter, Tallied};
@@ -13,7 +13,10 @@ mod shows;
 mod texts;
 mod words;
 
-pub use normals::{is_normal, normal_text};
+pub use normals::is_normal;
+
+/// How a capture at the client begins.
+const START: &str = "tftp-capture 1\nend client\nservice 69\n";
 
 /// What `show` says of its datagrams.
 const SHOWN: [&str; 3] = ["1 out RRQ\n", "2 in DATA 1 2\n", "3 out ACK 1\n"];
@@ -22,8 +25,8 @@ const SHOWN: [&str; 3] = ["1 out RRQ\n", "2 in DATA 1 2\n", "3 out ACK 1\n"];
 const ROOM: usize = 65_536;
 
 /// The text of the read of `hi`.
-fn read_of_hi(alloc: Global) -> Result<Vec<u8>, AllocError> {
-    capture(alloc, CLIENT, &[READ, HI, ACK_1])
+fn read_of_hi(alloc: Global) -> Result<String, Fail> {
+    capture(alloc, CLIENT, "READ, HI, ACK_1")
 }
 
 /// What `show` writes of the read of `hi` where a fault on the line `number`, counted from 1, ends it.
@@ -38,7 +41,7 @@ fn shown_before(alloc: Global, number: usize, fault: &str) -> Result<String, All
 
 /// The text of a capture of many datagrams, and what `show` writes of it: more than two pieces of 16,384 bytes.
 fn many_datagrams(alloc: Global) -> Result<(String, String), AllocError> {
-    let mut text = String::from_str(alloc, CLIENT)?;
+    let mut text = String::from_str(alloc, START)?;
     let mut lines = String::new(alloc);
     for number in 1..=2000u32 {
         text.push_str("in 40000 41000 0003007b3131313131313131\n")?;

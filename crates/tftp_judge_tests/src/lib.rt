@@ -9,4 +9,6 @@ mod commands;
 #[cfg(test)]
 mod judges;
 #[cfg(test)]
+mod scripts;
+#[cfg(test)]
 mod verdicts;

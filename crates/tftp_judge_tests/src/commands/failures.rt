@@ -1,5 +1,6 @@
-use super::{ROOM, has_said, many_datagrams, ran, read_of_hi, shown_before};
-use crate::cases::{ACCEPTED, ACK_2, CLIENT, HI, READ, capture};
+use super::{ROOM, START, has_said, many_datagrams, ran, read_of_hi, shown_before};
+use crate::cases::ACCEPTED;
+use crate::scripts::{CLIENT, capture};
 use std::test::Fail;
 use tftp_capture::{DripReader, DripWriter};
 
@@ -28,7 +29,7 @@ fn line_ends(bytes: &[u8]) -> usize {
 #[test]
 fn each_read_fails(rt: HostRuntime) -> Result<(), Fail> {
     let whole = read_of_hi(rt.alloc())?;
-    let text = whole.as_slice();
+    let text = whole.as_bytes();
     for taken in 0..=text.len() {
         let line = line_ends(text.get(..taken).unwrap_or(text)).saturating_add(1);
         let read = taken as u64 + 1;
@@ -44,7 +45,7 @@ fn each_read_fails(rt: HostRuntime) -> Result<(), Fail> {
 #[test]
 fn the_read_after_a_whole_text_fails(rt: HostRuntime) -> Result<(), Fail> {
     let whole = read_of_hi(rt.alloc())?;
-    let text = whole.as_slice();
+    let text = whole.as_bytes();
     let fault = "fault line 8 Read\n";
     fails_to_read(&rt, "check", text, usize::MAX, 2, fault)?;
     let shown = shown_before(rt.alloc(), 8, fault)?;
@@ -59,7 +60,9 @@ fn a_failed_read_in_a_wrong_text(rt: HostRuntime) -> Result<(), Fail> {
         let read = "fault line 1 Read\n";
         fails_to_read(&rt, command, b"tftp-capture 3", usize::MAX, 2, read)?;
     }
-    let unlawful = format!(in rt.alloc(); "{CLIENT}{READ}\n{HI}\n{ACK_2}\n")?;
+    let unlawful = format!(in rt.alloc();
+        "{START}out 40000 69 000161006f6374657400\nin 40000 41000 000300016869\nout 40000 41000 00040002\n"
+    )?;
     let text = unlawful.as_bytes();
     let shown = "1 out RRQ\n2 in DATA 1 2\n3 out ACK 2\nfault line 7 Read\n";
     fails_to_read(&rt, "show", text, usize::MAX, 2, shown)?;
@@ -146,10 +149,10 @@ fn each_write_fails(
 #[test]
 fn a_verdict_that_is_not_written(rt: HostRuntime) -> Result<(), Fail> {
     let accepted = read_of_hi(rt.alloc())?;
-    each_write_fails(&rt, "check", accepted.as_slice(), ACCEPTED)?;
-    let refused = capture(rt.alloc(), CLIENT, &[READ, HI, ACK_2])?;
+    each_write_fails(&rt, "check", accepted.as_bytes(), ACCEPTED)?;
+    let refused = capture(rt.alloc(), CLIENT, "READ, HI, ACK_2")?;
     let line = "refused datagram 3 rule 26 AckAhead\n";
-    each_write_fails(&rt, "check", refused.as_slice(), line)?;
+    each_write_fails(&rt, "check", refused.as_bytes(), line)?;
     each_write_fails(&rt, "check", b"", "fault line 1 Truncated\n")?;
     each_write_fails(&rt, "judge", b"", "fault usage\n")
 }
@@ -158,8 +161,8 @@ fn a_verdict_that_is_not_written(rt: HostRuntime) -> Result<(), Fail> {
 fn datagrams_that_are_not_written(rt: HostRuntime) -> Result<(), Fail> {
     let whole = read_of_hi(rt.alloc())?;
     let lines = "1 out RRQ\n2 in DATA 1 2\n3 out ACK 1\n";
-    each_write_fails(&rt, "show", whole.as_slice(), lines)?;
-    let cut = format!(in rt.alloc(); "{CLIENT}{READ}\n")?;
+    each_write_fails(&rt, "show", whole.as_bytes(), lines)?;
+    let cut = format!(in rt.alloc(); "{START}out 40000 69 000161006f6374657400\n")?;
     let lines = "1 out RRQ\nfault line 5 Truncated\n";
     each_write_fails(&rt, "show", cut.as_bytes(), lines)
 }

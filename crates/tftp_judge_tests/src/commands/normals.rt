@@ -1,25 +1,10 @@
-use super::{ROOM, ran, says};
-use crate::cases::{ACK_1, ACK_2, CLIENT, HI, READ, capture};
-use std::alloc::{AllocError, Global};
+use super::{ROOM, ran, read_of_hi, says};
+use crate::scripts::{CLIENT, Script, capture};
+use std::alloc::AllocError;
 use std::test::Fail;
 use tftp_capture::{DripReader, DripWriter, Tallied};
 use tftp_judge::judge_text;
 use tftp_normal::{NormalFault, normal_capture, normal_count, normalise};
-
-/// A read in text mode.
-const READ_TEXT: &str = "out 40000 69 000161006e6574617363696900";
-
-/// The text of a normal capture.
-pub fn normal_text(alloc: Global, datagrams: &[&str]) -> Result<String, AllocError> {
-    let mut text = String::from_str(alloc, CLIENT)?;
-    for datagram in datagrams {
-        text.push_str(datagram)?;
-        text.push_str("\n")?;
-    }
-    let total = format!(in alloc; "total {}\n", datagrams.len())?;
-    text.push_str(total.as_str())?;
-    Ok(text)
-}
 
 /// What `normalise` writes for a text; nothing where it answers a fault.
 fn normalised(rt: &HostRuntime, text: &[u8]) -> Result<DripWriter, AllocError> {
@@ -44,7 +29,8 @@ fn captured(rt: &HostRuntime, text: &[u8]) -> Result<(DripWriter, u64), AllocErr
 }
 
 /// Fails unless this is the normal text of a text, and as many its datagrams, by the commands and by the calls.
-pub fn is_normal(rt: &HostRuntime, text: &[u8], normal: &str, count: usize) -> Result<(), Fail> {
+pub fn is_normal(rt: &HostRuntime, text: &[u8], normal: &str) -> Result<(), Fail> {
+    let count = normal.lines().count().saturating_sub(4);
     let line = format!(in rt.alloc(); "normal datagrams {count}\n")?;
     says(rt, "normal", text, normal, 0)?;
     says(rt, "count", text, line.as_str(), 0)?;
@@ -63,13 +49,8 @@ pub fn is_normal(rt: &HostRuntime, text: &[u8], normal: &str, count: usize) -> R
 /// 511 line ends that came alone are two blocks when they are written: more datagrams than the capture's.
 #[test]
 fn count_of_bare_line_ends(rt: HostRuntime) -> Result<(), Fail> {
-    let mut text = String::from_str(rt.alloc(), CLIENT)?;
-    text.push_str(READ_TEXT)?;
-    text.push_str("\nin 40000 41000 00030001")?;
-    for _ in 0..511 {
-        text.push_str("0a")?;
-    }
-    text.push_str("\nout 40000 41000 00040001\ntotal 3\n")?;
+    let words = "out 40000 69 000161006e6574617363696900, in 40000 41000 00030001{0a*511}, ACK_1";
+    let text = capture(rt.alloc(), CLIENT, words)?;
     let text = text.as_bytes();
     says(
         &rt,
@@ -81,50 +62,41 @@ fn count_of_bare_line_ends(rt: HostRuntime) -> Result<(), Fail> {
     says(&rt, "count", text, "normal datagrams 5\n", 0)
 }
 
-/// Captures that are not accepted, what `check` and `count` say of them, and the status: `normal` writes nothing.
-const NONE: [(&[&str], &str, u8); 4] = [
-    (&[], "incomplete after 0\n", 1),
-    (&[READ, HI], "incomplete after 2\n", 1),
-    (
-        &[READ, HI, ACK_2],
-        "refused datagram 3 rule 26 AckAhead\n",
-        1,
-    ),
-    (
-        &[READ, "in 40000 41000 0005000100"],
-        "aborted by peer code 1\n",
-        1,
-    ),
-];
+/// Captures that are not accepted, and what `check` and `count` say of them: `normal` writes nothing.
+const NONE: &str = "
+tftp-capture 1, end client, service 69
+=> incomplete after 0
+READ, HI => incomplete after 2
+READ, HI, ACK_2 => refused datagram 3 rule 26 AckAhead
+READ, in 40000 41000 0005000100 => aborted by peer code 1
+";
 
 #[test]
 fn nothing_normal_of_others(rt: HostRuntime) -> Result<(), Fail> {
-    for (datagrams, line, status) in NONE {
-        let text = capture(rt.alloc(), CLIENT, datagrams)?;
-        says(&rt, "normal", text.as_slice(), "", status)?;
-        says(&rt, "count", text.as_slice(), line, status)?;
+    let mut script = Script::new(NONE);
+    for _ in 0..4 {
+        let (text, said) = script.next(rt.alloc())?;
+        let line = format!(in rt.alloc(); "{said}\n")?;
+        says(&rt, "normal", text.as_bytes(), "", 1)?;
+        says(&rt, "count", text.as_bytes(), line.as_str(), 1)?;
     }
-    let mut text = capture(rt.alloc(), CLIENT, &[READ, HI, ACK_1])?;
+    script.ends()?;
+    let mut text = read_of_hi(rt.alloc())?;
     text.pop();
-    says(&rt, "normal", text.as_slice(), "", 2)?;
-    says(&rt, "count", text.as_slice(), "fault line 7 Truncated\n", 2)
+    says(&rt, "normal", text.as_bytes(), "", 2)?;
+    says(&rt, "count", text.as_bytes(), "fault line 7 Truncated\n", 2)
 }
 
 /// Each write of seven bytes fails in turn: what was written is the normal text's beginning, and the status is 2.
 #[test]
 fn a_part_of_the_normal_text_where_a_write_fails(rt: HostRuntime) -> Result<(), Fail> {
-    let text = capture(rt.alloc(), CLIENT, &[READ, HI, ACK_1])?;
-    let normal = normal_text(
-        rt.alloc(),
-        &[
-            "out 50000 69 000161006f6374657400",
-            "in 50000 50001 000300016869",
-            "out 50000 50001 00040001",
-        ],
-    )?;
+    let text = read_of_hi(rt.alloc())?;
+    let words =
+        "out 50000 69 000161006f6374657400, in 50000 50001 000300016869, out 50000 50001 00040001";
+    let normal = capture(rt.alloc(), CLIENT, words)?;
     let whole = normal.as_bytes();
     for write in 1..=whole.len().div_ceil(7) {
-        let reader = DripReader::new(text.as_slice(), usize::MAX, 0, None);
+        let reader = DripReader::new(text.as_bytes(), usize::MAX, 0, None);
         let writer = DripWriter::new(rt.alloc(), ROOM, 7, write as u64, false)?;
         let it = ran(&rt, &["tftp-audit", "normal"], reader, writer);
         let taken = it.written.taken();
@@ -138,10 +110,10 @@ fn a_part_of_the_normal_text_where_a_write_fails(rt: HostRuntime) -> Result<(), 
 /// A fault of the text, and a write that fails, are told apart by `normalise`.
 #[test]
 fn faults_of_normalise(rt: HostRuntime) -> Result<(), Fail> {
-    let whole = capture(rt.alloc(), CLIENT, &[READ, HI, ACK_1])?;
+    let whole = read_of_hi(rt.alloc())?;
     for (text, write_fails, is_verdict) in [
         (&b"tftp-capture 3\n"[..], 0, true),
-        (whole.as_slice(), 1, false),
+        (whole.as_bytes(), 1, false),
     ] {
         let mut reader = Tallied::new(DripReader::new(text, usize::MAX, 0, None));
         let mut writer = Tallied::new(DripWriter::new(rt.alloc(), ROOM, 7, write_fails, false)?);
