@@ -169,16 +169,6 @@ fn text_of(alloc: Global, header: &str, datagrams: &[&str]) -> Result<String, Fa
     Ok(text)
 }
 
-/// The text of the capture with this header, its lines with commas between, and the datagrams of these words.
-pub fn capture(alloc: Global, header: &str, words: &str) -> Result<String, Fail> {
-    let mut datagrams = Datagrams {
-        script: "",
-        all: Vec::new(alloc),
-    };
-    datagrams.add(words)?;
-    text_of(alloc, header, datagrams.all.as_slice())
-}
-
 /// A script, and how much of it is left.
 #[derive(Drop)]
 pub struct Script<'a> {
@@ -232,15 +222,20 @@ impl<'a> Script<'a> {
     }
 }
 
+/// The text of the capture with this header, its lines with commas between, and the datagrams of these words.
+pub fn capture(alloc: Global, header: &str, words: &str) -> Result<String, Fail> {
+    let script = format!(in alloc; "{header}\n{words} => -\n")?;
+    let (text, _) = Script::new(script.as_str()).next(alloc)?;
+    Ok(text)
+}
+
 /// Fails unless all say this of a capture text: the status of `check`, and its line.
 fn is_said(rt: &HostRuntime, text: &[u8], said: &str) -> Result<(), Fail> {
     let Some((status, line)) = said.split_once(" ") else {
         return Err(Fail::new("no status"));
     };
-    let status = match status {
-        "0" => 0,
-        "1" => 1,
-        _ => 2,
+    let Ok(status) = status.parse::<u8>() else {
+        return Err(Fail::new("no status"));
     };
     let line = format!(in rt.alloc(); "{line}\n")?;
     holds(rt, text, line.as_str(), status)

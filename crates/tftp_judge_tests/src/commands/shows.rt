@@ -75,7 +75,7 @@ fn a_request_that_is_too_long_is_shown(rt: HostRuntime) -> Result<(), Fail> {
 /// A fault of the text ends what is shown, with its line.
 #[test]
 fn a_fault_ends_what_is_shown(rt: HostRuntime) -> Result<(), Fail> {
-    let words = "# x, READ, HI, in 40000 41000 0g, ACK_1";
+    let words = "READ, # x, HI, in 40000 41000 0g, ACK_1";
     let text = capture(rt.alloc(), CLIENT, words)?;
     says(
         &rt,
