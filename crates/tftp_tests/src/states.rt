@@ -28,6 +28,19 @@ enum Step {
 /// How a state begins: its side, whether an OACK was agreed, the block size, the window, and the size if it is agreed.
 type Start = (Side, bool, u16, u16, Option<u64>);
 
+/// Sends a block that may go out; false where a growth is refused.
+fn is_sent<D: Delivered>(
+    rt: &HostRuntime,
+    sender: &mut SenderState<D>,
+    number: u16,
+    bytes: &[u8],
+) -> Result<bool, Fail> {
+    match sender.may_data(number, bytes) {
+        Ok(()) => Ok(sender.sent(rt.alloc(), number, bytes).is_ok()),
+        Err(_) => Err(Fail::new("may not go out")),
+    }
+}
+
 /// Sends a block that may go out. Where a growth is refused the block still may, and is sent then.
 fn send<D: Delivered>(
     rt: &HostRuntime,
@@ -35,17 +48,22 @@ fn send<D: Delivered>(
     number: u16,
     bytes: &[u8],
 ) -> Result<(), Fail> {
-    match sender.may_data(number, bytes) {
-        Ok(()) => {}
-        Err(_) => return Err(Fail::new("may not go out")),
+    if is_sent(rt, sender, number, bytes)? || is_sent(rt, sender, number, bytes)? {
+        return Ok(());
     }
-    match sender.sent(rt.alloc(), number, bytes) {
-        Ok(()) => return Ok(()),
-        Err(AllocError) => {}
-    }
-    match sender.may_data(number, bytes) {
-        Ok(()) => Ok(sender.sent(rt.alloc(), number, bytes)?),
-        Err(_) => Err(Fail::new("may not go out again")),
+    Err(Fail::from(AllocError))
+}
+
+/// Takes a block that may come in; false where a growth is refused.
+fn is_taken<D: Delivered>(
+    rt: &HostRuntime,
+    receiver: &mut ReceiverState<D>,
+    number: u16,
+    bytes: &[u8],
+) -> Result<bool, Fail> {
+    match receiver.may_data(number, bytes) {
+        Ok(()) => Ok(receiver.take_data(rt.alloc(), number, bytes).is_ok()),
+        Err(_) => Err(Fail::new("may not come in")),
     }
 }
 
@@ -56,18 +74,10 @@ fn take<D: Delivered>(
     number: u16,
     bytes: &[u8],
 ) -> Result<(), Fail> {
-    match receiver.may_data(number, bytes) {
-        Ok(()) => {}
-        Err(_) => return Err(Fail::new("may not come in")),
+    if is_taken(rt, receiver, number, bytes)? || is_taken(rt, receiver, number, bytes)? {
+        return Ok(());
     }
-    match receiver.take_data(rt.alloc(), number, bytes) {
-        Ok(()) => return Ok(()),
-        Err(AllocError) => {}
-    }
-    match receiver.may_data(number, bytes) {
-        Ok(()) => Ok(receiver.take_data(rt.alloc(), number, bytes)?),
-        Err(_) => Err(Fail::new("may not come in again")),
-    }
+    Err(Fail::from(AllocError))
 }
 
 /// Notes an ACK that may come in.
