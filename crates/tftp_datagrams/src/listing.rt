@@ -69,15 +69,13 @@ fn put_event(rt: HostRuntime, event: &mut Event) -> io::Result<()> {
 /// A frame that is left out, and those that share its fate.
 fn put_left_out(rt: HostRuntime, event: &Event, why: LeftOut) -> io::Result<()> {
     match why {
-        LeftOut::Frame(fault) => println!(rt; "left {} {fault:?}", event.number()),
+        LeftOut::Frame(fault) => {
+            let kind = format!(in rt.alloc(); "{fault:?}")?;
+            put_shared(rt, event, kind.as_str())
+        }
         LeftOut::Udp(fault) => {
-            if event.sharers().is_empty() {
-                return println!(rt; "left {} {fault:?}", event.number());
-            }
-            for frame in event.sharers() {
-                println!(rt; "left {frame} {fault:?}")?;
-            }
-            Ok(())
+            let kind = format!(in rt.alloc(); "{fault:?}")?;
+            put_shared(rt, event, kind.as_str())
         }
         LeftOut::Apart => {
             put_left(rt, event.sharers(), "FragmentsApart")?;
@@ -87,6 +85,15 @@ fn put_left_out(rt: HostRuntime, event: &Event, why: LeftOut) -> io::Result<()> 
         LeftOut::TooLong => put_left(rt, &[event.number()], "FragmentTooLong"),
         LeftOut::Full => put_left(rt, &[event.number()], "FragmentFull"),
         LeftOut::Copy => put_left(rt, &[event.number()], "Copy"),
+    }
+}
+
+/// A frame that is left out, or those of the packet that it made whole.
+fn put_shared(rt: HostRuntime, event: &Event, kind: &str) -> io::Result<()> {
+    if event.sharers().is_empty() {
+        put_left(rt, &[event.number()], kind)
+    } else {
+        put_left(rt, event.sharers(), kind)
     }
 }
 

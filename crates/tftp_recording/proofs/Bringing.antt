@@ -4,7 +4,9 @@ use Rattle.std.specs.Result.{IsOkAnd}
 use Rattle.tftp_frames.specs.Frame.{SpellsFrame}
 use Rattle.tftp_frames.specs.Ip.{Packet}
 use Rattle.tftp_frames.specs.Parts.{shown}
+use Rattle.tftp_frames.specs.Udp.{HoldsUdp, SpellsUdp, Udp}
 use Rattle.tftp_frames.specs.declared.fault.FrameFault.{FrameFault}
+use Rattle.tftp_frames.specs.declared.fault.UdpFault.{UdpFault}
 use Rattle.tftp_frames.specs.declared.packet.IpPacket.{IpPacket}
 use Rattle.tftp_fragments.specs.Set.{Arrival, SetState}
 use Rattle.tftp_fragments.specs.Store.{HasRoom, IsTried, MayBePut, PutEnds, Sets, room_of_all}
@@ -19,6 +21,12 @@ on_err (Err e) X x = x
 
 pub spells_here : (link other : ℕ) (bytes others : List ℕ) (p : Packet) → other ≡ link → others ≡ bytes → SpellsFrame link bytes p → SpellsFrame other others p
 spells_here link other bytes others p e f h = subst (λ (l : ℕ). SpellsFrame l others p) (sym e) (subst (λ (l : List ℕ). SpellsFrame link l p) (sym f) h)
+
+pub spells_udp_here : (protocol other : ℕ) (bytes others : List ℕ) (udp : Udp) → protocol ≡ other → bytes ≡ others → SpellsUdp protocol bytes udp → SpellsUdp other others udp
+spells_udp_here protocol other bytes others udp e f h = subst (λ (n : ℕ). SpellsUdp n others udp) e (subst (λ (l : List ℕ). SpellsUdp protocol l udp) f h)
+
+pub holds_udp_here : (fault : UdpFault) (protocol other : ℕ) (bytes others : List ℕ) → protocol ≡ other → bytes ≡ others → HoldsUdp fault protocol bytes → HoldsUdp fault other others
+holds_udp_here fault protocol other bytes others e f h = subst (λ (n : ℕ). HoldsUdp fault n others) e (subst (λ (l : List ℕ). HoldsUdp fault protocol l) f h)
 
 -- a frame that is no packet, and one that is a whole one
 pub not_read : (r : Result IpPacket FrameFault) (p : Packet) (e : FrameFault) → r ≡ Err e → IsOkAnd r (λ found. shown found ≡ p) → ⊥

@@ -2,11 +2,12 @@
 use Rattle.std.proofs.Common.{◌≡◌, ℕ, ◌+◌, Bool, true, false, inl, inr, List, [], ◌∷◌, ◌++◌, length, length-append, map, Option, Some, None, Vec, Global, cond, refl, sym, ap, ◌∙◌, subst, arith, rules}
 use Rattle.std.proofs.lemmas.List.{get_or-append-add, get_or-map, get_or_append_left, get_or_past, length-map}
 use Rattle.tftp_copies.specs.Copies.{Packet as Recorded, IsCopy}
-use Rattle.tftp_fragments.specs.Held.{Agrees, AreLaid, Held, nothing_held}
+use Rattle.tftp_fragments.specs.Held.{Agrees, AreLaid, Held, IsHeld, content_of as put_together, nothing_held}
 use Rattle.tftp_fragments.specs.Key.{same_key}
 use Rattle.tftp_fragments.specs.Set.{Arrival, IsSetOf, SetState, parts_of}
 use Rattle.tftp_fragments.specs.Store.{IsKeptOf, PutEnds, Sets, is_long, room_under, set_at}
-use Rattle.tftp_fragments.specs.Whole.{Give, Part}
+use Rattle.tftp_fragments.specs.Whole.{Content, Give, Part}
+use Rattle.tftp_fragments.specs.declared.content.Content.{Content as Made}
 use Rattle.tftp_fragments.specs.declared.key.Key.{Key}
 use Rattle.tftp_fragments.specs.declared.outcome.Outcome.{Outcome}
 use Rattle.tftp_fragments.specs.declared.outcome.Outcome.TheVariants.{Waits, Whole}
@@ -23,7 +24,7 @@ use Rattle.tftp_frames.proofs.FaultOrder.{packet_one}
 use Rattle.tftp_recording.specs.Brought.{LetsGoOld, TakesPart, arrival_of}
 use Rattle.tftp_recording.specs.Fate.{IsDatagram, IsFateOf}
 use Rattle.tftp_recording.specs.History.{IsHistory}
-use Rattle.tftp_recording.specs.Worked.{cooked_step, ethernet_step, first_bytes, first_part, first_set, first_step, last_bytes, last_part, last_step, raw_frame, recorded_at, recorded_first, worked_key, worked_time}
+use Rattle.tftp_recording.specs.Worked.{cooked_step, ethernet_step, first_bytes, first_part, first_set, first_step, last_bytes, last_part, last_step, raw_frame, recorded_at, recorded_first, worked_content, worked_key, worked_time}
 use Rattle.tftp_recording.specs.declared.fate.Datagram.{Datagram as Given}
 use Rattle.tftp_recording.specs.declared.fate.Fate.TheVariants.{Datagram}
 use Rattle.tftp_recording.specs.declared.likeness.Likeness.TheVariants.{Copy, New}
@@ -144,16 +145,16 @@ laid old bytes =
     }
 
 abbrev part_in : Packet → ℕ → Bool → Part
-part_in p place more = record { place = place; more = more; content = p.content }
+part_in p place more = record { protocol = p.protocol; place = place; more = more; content = p.content }
 
 abbrev all_held : Held
-all_held = record { cells = first_set.held.cells ++ map (λ b. Some b) last_part.content; ended = true }
+all_held = record { cells = first_set.held.cells ++ map (λ b. Some b) last_part.content; ended = true; protocol = Some 17 }
 
 first_added : Added nothing_held (part_in first_part 0 true) first_set.held
-first_added = record { laid = laid [] first_part.content; kept = λ e. absurd (not_both false e refl); set = λ e. absurd (not_both true refl e); only = λ e. absurd (not_both false e refl) }
+first_added = record { laid = laid [] first_part.content; kept = λ e. absurd (not_both false e refl); set = λ e. absurd (not_both true refl e); only = λ e. absurd (not_both false e refl); first = λ at. refl; other = λ away. absurd (away refl) }
 
 last_added : Added first_set.held (part_in last_part 8 false) all_held
-last_added = record { laid = laid first_set.held.cells last_part.content; kept = λ e. refl; set = λ e. refl; only = λ e. inr refl }
+last_added = record { laid = laid first_set.held.cells last_part.content; kept = λ e. refl; set = λ e. refl; only = λ e. inr refl; first = λ at. absurd (omega (arith, at)); other = λ away. refl }
 
 no_byte : (o : Option ℕ) (b : ℕ) → o ≡ None → o ≡ Some b → ⊥
 no_byte o b e f = cc
@@ -162,6 +163,7 @@ last_agrees : Agrees first_set.held (part_in last_part 8 false)
 last_agrees = record {
   bytes = λ i b within e. absurd (no_byte _ b (get_or_past first_set.held.cells (8 + i) None (omega arith)) e);
   ends = (λ e. absurd (not_both false e refl), λ e last. omega arith);
+  names = λ n at e. absurd (omega (arith, at));
 }
 
 abbrev first_arrival : Arrival
@@ -230,7 +232,7 @@ first_set_is = record {
 first_kept : IsKeptOf (Some first_set) (first_arrival ∷ [])
 first_kept = (some_arrival [], refl, first_set_is)
 
-not_all : (whole : List ℕ) → Give (parts_of (first_arrival ∷ [])) whole → ⊥
+not_all : (whole : Content) → Give (parts_of (first_arrival ∷ [])) whole → ⊥
 not_all whole give = elim give.last [ inl e ↦ not_both true refl e | inr none ↦ none ]
 
 first_ends : PutEnds None (Some first_set) 0 first_arrival Waits
@@ -267,19 +269,19 @@ first_history = (
 
 -- ---- the last gives the content
 
-last_gives : (content : List ℕ) → content ≡ udp_bytes → (arrivals : List Arrival) → IsKeptOf (Some first_set) arrivals → Give (parts_of (last_arrival ∷ arrivals)) content
+last_gives : (content : Content) → content ≡ worked_content → (arrivals : List Arrival) → IsKeptOf (Some first_set) arrivals → Give (parts_of (last_arrival ∷ arrivals)) content
 last_gives content e arrivals kept =
-    whole_given all_held (parts_of (last_arrival ∷ arrivals)) content (stands_more first_set.held (part_in last_part 8 false) all_held last_agrees last_added (parts_of arrivals) (kept.2.held refl)) refl (ap (λ (l : List ℕ). map (λ (b : ℕ). Some b) l) (sym e))
+    whole_given all_held (parts_of (last_arrival ∷ arrivals)) content (stands_more first_set.held (part_in last_part 8 false) all_held last_agrees last_added (parts_of arrivals) (kept.2.held refl)) refl (subst (IsHeld all_held) (sym e) (refl, refl))
 
-not_full_whole : (content frames : Vec ℕ Global) → Whole content frames ≡ Outcome.Full → ⊥
+not_full_whole : (content : Made) (frames : Vec ℕ Global) → Whole content frames ≡ Outcome.Full → ⊥
 not_full_whole content frames e = cc
 
 not_one : IsCopy (recorded_first ∷ []) (record { time = worked_time; bytes = last_bytes }) → ⊥
 not_one copy = search rules
 
-module _ (content frames : Vec ℕ Global) (e : content.items ≡ udp_bytes) (f : frames.items ≡ 1 ∷ 2 ∷ []) where
+module _ (content : Made) (frames : Vec ℕ Global) (e : put_together content ≡ worked_content) (f : frames.items ≡ 1 ∷ 2 ∷ []) where
   last_ends : PutEnds (Some first_set) None 0 last_arrival (Whole content frames)
-  last_ends = (refl, last_gives content.items e, f)
+  last_ends = (refl, last_gives (put_together content) e, f)
 
   last_takes : TakesPart worked_key last_arrival waits_first [] (last_step content frames).brought
   last_takes = record {
@@ -303,12 +305,12 @@ module _ (content frames : Vec ℕ Global) (e : content.items ≡ udp_bytes) (f 
     inr (last_part, last_spells, not_one, refl),
   )
 
-pub last_history : (content frames : Vec ℕ Global) → content.items ≡ udp_bytes → frames.items ≡ 1 ∷ 2 ∷ [] → IsHistory (last_step content frames ∷ first_step ∷ [])
+pub last_history : (content : Made) (frames : Vec ℕ Global) → put_together content ≡ worked_content → frames.items ≡ 1 ∷ 2 ∷ [] → IsHistory (last_step content frames ∷ first_step ∷ [])
 last_history = last_is
 
 says_acknowledgement : SpellsUdp 17 udp_bytes acknowledgement
 says_acknowledgement = (udp_bytes, (0, inl (refl, (λ e. omega arith), refl)), omega arith, (omega arith, omega arith), (λ e. omega arith), (λ e. omega arith), refl)
 
-pub datagram_fate : (content frames : Vec ℕ Global) (d : Given) → content.items ≡ udp_bytes → IsDatagram (last_step content frames).frame last_part acknowledgement d
+pub datagram_fate : (content : Made) (frames : Vec ℕ Global) (d : Given) → put_together content ≡ worked_content → IsDatagram (last_step content frames).frame last_part acknowledgement d
     → IsFateOf (last_step content frames).frame New (last_step content frames).brought.outcome (Datagram d)
-datagram_fate content frames d e is = (last_part, acknowledgement, last_spells, subst (λ (l : List ℕ). SpellsUdp 17 l acknowledgement) (sym e) says_acknowledgement, is)
+datagram_fate content frames d e is = (last_part, acknowledgement, last_spells, subst (λ (c : Content). SpellsUdp c.protocol c.bytes acknowledgement) (sym e) says_acknowledgement, is)

@@ -7,7 +7,9 @@ use Rattle.tftp_frames.specs.declared.packet.Fragment.{Fragment}
 use Rattle.tftp_fragments.specs.Key.{same_key}
 use Rattle.tftp_fragments.specs.Set.{Arrival, SetState, parts_of}
 use Rattle.tftp_fragments.specs.Store.{IsKeptOf, PutEnds, Sets, frames_of, set_at}
-use Rattle.tftp_fragments.specs.Whole.{Give, Part}
+use Rattle.tftp_fragments.specs.Whole.{Content, Give, Part}
+use Rattle.tftp_fragments.specs.Held.{content_of}
+use Rattle.tftp_fragments.specs.declared.content.Content.{Content as Given}
 use Rattle.tftp_fragments.specs.declared.key.Key.{Key}
 use Rattle.tftp_fragments.specs.declared.outcome.Outcome.{Outcome}
 use Rattle.tftp_fragments.specs.declared.outcome.Outcome.TheVariants.{Waits, Whole, Apart, Empty, TooLong, Full}
@@ -84,16 +86,16 @@ all_kept (step ∷ before) h k = elim h.0 [
 
 -- ---- a content that was put together
 
-frames_kept : (o : Option SetState) (arrivals : List Arrival) (a : Arrival) (content : List ℕ) → IsKeptOf o arrivals → Give (parts_of (a ∷ arrivals)) content → frames_of o ≡ reverse (map (λ (x : Arrival). x.frame) arrivals)
+frames_kept : (o : Option SetState) (arrivals : List Arrival) (a : Arrival) (content : Content) → IsKeptOf o arrivals → Give (parts_of (a ∷ arrivals)) content → frames_of o ≡ reverse (map (λ (x : Arrival). x.frame) arrivals)
 frames_kept None arrivals a content kept give = ap (λ (l : List Arrival). reverse (map (λ (x : Arrival). x.frame) l)) (sym kept)
 frames_kept (Some s) arrivals a content kept give = elim (truth s.spoiled) [
   | inl apart ↦ absurd ((kept.2.apart apart).1 content give.each.1)
   | inr sound ↦ kept.2.frames sound
 ]
 
-put_together : (before : List Step) (step : Step) (content frames : Vec ℕ Global) → IsHistory before → (p : Packet) (f : Fragment) → IsPart step.frame p f
+put_together : (before : List Step) (step : Step) (content : Given) (frames : Vec ℕ Global) → IsHistory before → (p : Packet) (f : Fragment) → IsPart step.frame p f
     → (t : TakesPart (key_of p f) (arrival_of step.frame (length before + 1) p f) (waiting before) step.waits step.brought) → t.outcome ≡ Whole content frames
-    → IsPutTogether (step ∷ before) content.items frames.items
+    → IsPutTogether (step ∷ before) (content_of content) frames.items
 put_together before step content frames h p f is t e =
     let key = key_of p f in
     let a : Arrival = arrival_of step.frame (length before + 1) p f in
@@ -105,10 +107,10 @@ put_together before step content frames h p f is t e =
       arrivals = a ∷ r.arrivals;
       brought = (inl (p, f, is, same_itself key, refl), later step before key r.arrivals r.brought);
       give = give;
-      frames_are = ends.2 ∙ ap (λ (l : List ℕ). l ++ a.frame ∷ []) (frames_kept (set_at key t.roomy) r.arrivals a content.items r.kept give) ∙ sym (reverse-append (a.frame ∷ []) (map (λ (x : Arrival). x.frame) r.arrivals));
+      frames_are = ends.2 ∙ ap (λ (l : List ℕ). l ++ a.frame ∷ []) (frames_kept (set_at key t.roomy) r.arrivals a (content_of content) r.kept give) ∙ sym (reverse-append (a.frame ∷ []) (map (λ (x : Arrival). x.frame) r.arrivals));
     }
 
-pub whole_put_together : (before : List Step) (step : Step) (content frames : Vec ℕ Global) → IsHistory (step ∷ before) → step.brought.outcome ≡ Some (Whole content frames) → IsPutTogether (step ∷ before) content.items frames.items
+pub whole_put_together : (before : List Step) (step : Step) (content : Given) (frames : Vec ℕ Global) → IsHistory (step ∷ before) → step.brought.outcome ≡ Some (Whole content frames) → IsPutTogether (step ∷ before) (content_of content) frames.items
 whole_put_together before step content frames h e = elim h.0 [
   | inl alone ↦ absurd (none_waits (Whole content frames) (sym (ap (λ (x : BroughtState). x.outcome) alone.1) ∙ e))
   | inr part ↦ put_together before step content frames h.1 part.0 part.1 part.2 part.3 (some_is part.3.outcome (Whole content frames) (sym part.3.is ∙ e))

@@ -2,11 +2,12 @@
 use Rattle.std.proofs.Common.{◌≡◌, ◌⊎◌, ◌≢◌, ◌↔◌, ℕ, ◌+◌, ◌<◌, ◌≤◌, Bool, true, false, inl, inr, List, [], ◌∷◌, ◌++◌, length, length-append, map, Option, Some, None, Vec, Global, refl, sym, ap, ◌∙◌, subst, arith}
 use Rattle.std.proofs.lemmas.Bool.{cases_lt}
 use Rattle.std.proofs.lemmas.List.{get_or-map, get_or_append_left, length-map}
-use Rattle.tftp_fragments.specs.Held.{Held, HoldsPart, StandsFor}
+use Rattle.tftp_fragments.specs.Held.{Held, HoldsPart, StandsFor, content_of}
 use Rattle.tftp_fragments.specs.Key.{same_key}
 use Rattle.tftp_fragments.specs.Set.{AreApart, Arrival, IsSetOf, SetState, parts_of}
 use Rattle.tftp_fragments.specs.Store.{CountsAt, IsFull, IsKeptOf, IsTried, MayBePut, PutEnds, Sets, frames_of, is_long, least_behind, room_of_all, room_under, set_at}
-use Rattle.tftp_fragments.specs.Whole.{EndsRightly, HasPart, Part, end_of}
+use Rattle.tftp_fragments.specs.Whole.{Content, EndsRightly, HasPart, Part, end_of}
+use Rattle.tftp_fragments.specs.declared.content.Content.{Content as Given}
 use Rattle.tftp_fragments.specs.declared.key.Key.{Key}
 use Rattle.tftp_fragments.specs.declared.outcome.Outcome.{Outcome}
 use Rattle.tftp_fragments.specs.declared.outcome.Outcome.TheVariants.{Waits, Whole, Apart, Empty, TooLong, Full}
@@ -32,6 +33,9 @@ abbrev behind : Bool → List ℕ
 behind true = []
 behind false = 0 ∷ []
 
+abbrev filled_content : Held → Content
+filled_content h = record { protocol = byte_or h.protocol; bytes = filled h ++ behind h.ended }
+
 filled_size : (h : Held) (ended : Bool) → length (filled h ++ behind ended) ≡ length h.cells + length (behind ended)
 filled_size h ended = length-append (filled h) (behind ended) ∙ ap (λ n. n + length (behind ended)) (length-map h.cells byte_or)
 
@@ -43,16 +47,17 @@ filled_ends : (h : Held) (ended : Bool) (p : Part) → h.ended ≡ ended → Hol
 filled_ends h true p e held = by_end p.more (end_of p) (length (filled h ++ behind true)) (λ last. omega (arith, (held.last last).1, filled_size h true)) (λ more. omega (arith, held.inner more e, filled_size h true))
 filled_ends h false p e held = by_end p.more (end_of p) (length (filled h ++ behind false)) (λ last. absurd (not_both h.ended (held.last last).0 e)) (λ more. omega (arith, held.within, filled_size h false))
 
-filled_has : (h : Held) (p : Part) → HoldsPart h p → HasPart (filled h ++ behind h.ended) p
+filled_has : (h : Held) (p : Part) → HoldsPart h p → HasPart (filled_content h) p
 filled_has h p held = record {
   bytes = λ i within.
       let inside : p.place + i < length h.cells = omega (arith, held.within) in
       get_or_append_left (filled h) (behind h.ended) 0 (p.place + i) (omega (arith, inside, length-map h.cells byte_or)) ∙ get_or-map byte_or h.cells (p.place + i) None 0 inside ∙ ap byte_or (held.bytes i within);
   ends = filled_ends h h.ended p refl held;
+  first = λ at. sym (ap byte_or (held.first at));
 }
 
 held_not_apart : (h : Held) (parts : List Part) → StandsFor h parts → AreApart parts → ⊥
-held_not_apart h parts s apart = apart (filled h ++ behind h.ended) (all_weaker (HoldsPart h) (HasPart (filled h ++ behind h.ended)) (filled_has h) parts s.each)
+held_not_apart h parts s apart = apart (filled_content h) (all_weaker (HoldsPart h) (HasPart (filled_content h)) (filled_has h) parts s.each)
 
 -- ---- what is kept of the same fragments
 
@@ -146,7 +151,7 @@ nothing_same = record { arrivals = []; one = refl; other = refl }
 
 abbrev pub IsSame : Outcome → Outcome → Type 0
 IsSame Waits other = other ≡ Waits
-IsSame (Whole content frames) other = (d : Vec ℕ Global) × (g : Vec ℕ Global) × (other ≡ Whole d g) × (content.items ≡ d.items) × (frames.items ≡ g.items)
+IsSame (Whole content frames) other = (d : Given) × (g : Vec ℕ Global) × (other ≡ Whole d g) × (content_of content ≡ content_of d) × (frames.items ≡ g.items)
 IsSame (Apart frames) other = (g : Vec ℕ Global) × (other ≡ Apart g) × (frames.items ≡ g.items)
 IsSame Empty other = other ≡ Empty
 IsSame TooLong other = other ≡ TooLong
@@ -173,24 +178,24 @@ module _ (o x m y : Option SetState) (all most : ℕ) (a : Arrival) (l : List Ar
 
   when_waits : (v : Outcome) → PutEnds o x all a Waits → PutEnds m y most a v → MayBePut a.part → IsTried most a.part v → v ≢ Full → Same x y × IsSame Waits v
   when_waits Waits e f t u n = (record { arrivals = a ∷ l; one = e.0 l g; other = f.0 l h }, refl)
-  when_waits (Whole content frames) e f t u n = absurd (e.1 l content.items g (f.1 l h))
+  when_waits (Whole content frames) e f t u n = absurd (e.1 l (content_of content) g (f.1 l h))
   when_waits (Apart frames) e f t u n = absurd (waits_not_apart x (a ∷ l) (frames_of o) a.frame (e.0 l g) e.2 (f.2 l h))
   when_waits Empty e f t u n = absurd (put_not_empty a.part t u)
   when_waits TooLong e f t u n = absurd (put_not_long a.part t u.1)
   when_waits Full e f t u n = absurd (n refl)
 
-  when_whole : (content frames : Vec ℕ Global) (v : Outcome) → PutEnds o x all a (Whole content frames) → PutEnds m y most a v → MayBePut a.part → IsTried most a.part v → v ≢ Full → Same x y × IsSame (Whole content frames) v
-  when_whole content frames Waits e f t u n = absurd (f.1 l content.items h (e.1 l g))
+  when_whole : (content : Given) (frames : Vec ℕ Global) (v : Outcome) → PutEnds o x all a (Whole content frames) → PutEnds m y most a v → MayBePut a.part → IsTried most a.part v → v ≢ Full → Same x y × IsSame (Whole content frames) v
+  when_whole content frames Waits e f t u n = absurd (f.1 l (content_of content) h (e.1 l g))
   when_whole content frames (Whole others shares) e f t u n =
-      (both_gone e.0 f.0, (others, shares, refl, one_content (parts_of (a ∷ l)) content.items others.items (e.1 l g) (f.1 l h), e.2 ∙ frames_more ∙ sym f.2))
-  when_whole content frames (Apart others) e f t u n = absurd (f.2 l h content.items (e.1 l g).each)
+      (both_gone e.0 f.0, (others, shares, refl, one_content (parts_of (a ∷ l)) (content_of content) (content_of others) (e.1 l g) (f.1 l h), e.2 ∙ frames_more ∙ sym f.2))
+  when_whole content frames (Apart others) e f t u n = absurd (f.2 l h (content_of content) (e.1 l g).each)
   when_whole content frames Empty e f t u n = absurd (put_not_empty a.part t u)
   when_whole content frames TooLong e f t u n = absurd (put_not_long a.part t u.1)
   when_whole content frames Full e f t u n = absurd (n refl)
 
   when_apart : (frames : Vec ℕ Global) (v : Outcome) → PutEnds o x all a (Apart frames) → PutEnds m y most a v → MayBePut a.part → IsTried most a.part v → v ≢ Full → Same x y × IsSame (Apart frames) v
   when_apart frames Waits e f t u n = absurd (waits_not_apart y (a ∷ l) (frames_of m) a.frame (f.0 l h) f.2 (e.2 l g))
-  when_apart frames (Whole content others) e f t u n = absurd (e.2 l g content.items (f.1 l h).each)
+  when_apart frames (Whole content others) e f t u n = absurd (e.2 l g (content_of content) (f.1 l h).each)
   when_apart frames (Apart others) e f t u n = (record { arrivals = a ∷ l; one = e.0 l g; other = f.0 l h }, (others, refl, e.1 ∙ kept_frames o m l g h ∙ sym f.1))
   when_apart frames Empty e f t u n = absurd (put_not_empty a.part t u)
   when_apart frames TooLong e f t u n = absurd (put_not_long a.part t u.1)

@@ -7,7 +7,7 @@ use Rattle.tftp_frames.specs.Frame.{SpellsFrame}
 use Rattle.tftp_frames.specs.declared.packet.Fragment.{Fragment}
 use Rattle.tftp_fragments.specs.Store.{Sets}
 use Rattle.tftp_pcap.specs.Frames.{FrameParts}
-use Rattle.tftp_recording.specs.Brought.{DoesNothing, IsNoPart, Wants, WantsPart, key_of}
+use Rattle.tftp_recording.specs.Brought.{DoesNothing, IsNoPart, Wants, WantsPart, key_of, key_protocol}
 use Rattle.tftp_recording.specs.Likeness.{Comes, IsLike, WantsToHold, likeness_by, recorded}
 use Rattle.tftp_recording.specs.declared.likeness.Likeness.{Likeness}
 
@@ -35,12 +35,12 @@ pub does_nothing : (b : Bool) (frame : FrameParts) → IsNoPart frame → DoesNo
 does_nothing true frame h = tt
 does_nothing false frame h = h
 
-pub wants_part : (frame : FrameParts) (number at : ℕ) (time : Option ℕ) (p : Packet) (f : Fragment) (old : Sets) → SpellsFrame frame.link frame.bytes p → p.fragment ≡ Some f → time ≡ frame.time → at ≡ number
-    → WantsPart (key_of p f) (record { part = record { place = f.place; more = f.more; content = p.content }; time = time; frame = at }) old → Wants old frame number
-wants_part frame number at time p f old spells is e n wants = (
+pub wants_part : (frame : FrameParts) (number at : ℕ) (named time : Option ℕ) (p : Packet) (f : Fragment) (old : Sets) → named ≡ key_protocol p.source p.protocol → SpellsFrame frame.link frame.bytes p → p.fragment ≡ Some f → time ≡ frame.time → at ≡ number
+    → WantsPart (record { source = p.source; target = p.target; protocol = named; id = f.id }) (record { part = record { protocol = p.protocol; place = f.place; more = f.more; content = p.content }; time = time; frame = at }) old → Wants old frame number
+wants_part frame number at named time p f old k spells is e n wants = (
   p,
   f,
   (spells, is),
-  subst (λ (m : ℕ). WantsPart (key_of p f) (record { part = record { place = f.place; more = f.more; content = p.content }; time = frame.time; frame = m }) old) n
-      (subst (λ (t : Option ℕ). WantsPart (key_of p f) (record { part = record { place = f.place; more = f.more; content = p.content }; time = t; frame = at }) old) e wants),
+  subst (λ (m : ℕ). WantsPart (key_of p f) (record { part = record { protocol = p.protocol; place = f.place; more = f.more; content = p.content }; time = frame.time; frame = m }) old) n
+      (subst (λ (t : Option ℕ). WantsPart (key_of p f) (record { part = record { protocol = p.protocol; place = f.place; more = f.more; content = p.content }; time = t; frame = at }) old) e (subst (λ (o : Option ℕ). WantsPart (record { source = p.source; target = p.target; protocol = o; id = f.id }) (record { part = record { protocol = p.protocol; place = f.place; more = f.more; content = p.content }; time = time; frame = at }) old) k wants)),
 )

@@ -1,6 +1,8 @@
 -- What becomes of a frame is one thing.
 use Rattle.std.proofs.Common.{◌≡◌, ℕ, true, false, inl, inr, List, ◌∷◌, Option, Some, None, refl, sym, ap, ◌∙◌, subst}
 use Rattle.tftp_copies.specs.Copies.{Packet as Recorded}
+use Rattle.tftp_fragments.specs.Held.{content_of as put_together}
+use Rattle.tftp_fragments.specs.Whole.{Content}
 use Rattle.tftp_fragments.specs.declared.outcome.Outcome.{Outcome}
 use Rattle.tftp_fragments.specs.declared.outcome.Outcome.TheVariants.{Waits as Held, Whole, Apart as Torn, Empty as Bare, TooLong as Long, Full as Crowded}
 use Rattle.tftp_frames.specs.Frame.{SpellsFrame}
@@ -8,11 +10,12 @@ use Rattle.tftp_frames.specs.Ip.{Packet}
 use Rattle.tftp_frames.specs.Udp.{HoldsUdp, SpellsUdp, Udp}
 use Rattle.tftp_frames.specs.declared.fault.FrameFault.{FrameFault}
 use Rattle.tftp_frames.specs.declared.fault.UdpFault.{UdpFault}
+use Rattle.tftp_frames.specs.declared.fault.UdpFault.TheVariants.{Protocol as NotUdp}
 use Rattle.tftp_frames.proofs.Datagrams.{fault_one, udp_one}
 use Rattle.tftp_frames.proofs.Datagrams as datagrams
 use Rattle.tftp_frames.proofs.FaultOrder.{first_one, no_fault, packet_one}
 use Rattle.tftp_pcap.specs.Frames.{FrameParts}
-use Rattle.tftp_recording.specs.Fate.{IsDatagram, IsFate, IsFateOf, Says, content_of, sharers}
+use Rattle.tftp_recording.specs.Fate.{HasFault, IsDatagram, IsFate, IsFateOf, Says, content_of, sharers}
 use Rattle.tftp_recording.specs.Likeness.{Comes, IsLike, recorded}
 use Rattle.tftp_recording.specs.OneWay.{IsSameDatagram, IsSameFate}
 use Rattle.tftp_recording.specs.declared.fate.Datagram.{Datagram as Given}
@@ -60,18 +63,29 @@ same_datagram frame p udp d e g h = record {
   payload = g.payload ∙ sym h.payload;
 }
 
-module _ (frame : FrameParts) (whole : Option (List ℕ)) where
+module _ (frame : FrameParts) (whole : Option Content) where
   one_packet : (p q : Packet) → SpellsFrame frame.link frame.bytes p → SpellsFrame frame.link frame.bytes q → q ≡ p
   one_packet p q s t = packet_one frame.link frame.bytes q p t s
+
+  one_datagram : (p q : Packet) (udp : Udp) → SpellsFrame frame.link frame.bytes p → SpellsFrame frame.link frame.bytes q → SpellsUdp (content_of q whole).protocol (content_of q whole).bytes udp → SpellsUdp (content_of p whole).protocol (content_of p whole).bytes udp
+  one_datagram p q udp s t u = subst (λ (x : Packet). SpellsUdp (content_of x whole).protocol (content_of x whole).bytes udp) (one_packet p q s t) u
+
+  -- a content that is a datagram has no fault, and others have one
+  no_fault_of : (p : Packet) (udp : Udp) (fault : UdpFault) → SpellsFrame frame.link frame.bytes p → SpellsUdp (content_of p whole).protocol (content_of p whole).bytes udp → HasFault frame whole fault → ⊥
+  no_fault_of p udp fault s u (q, t, holds) = datagrams.no_fault (content_of q whole).protocol (content_of q whole).bytes udp fault (one_datagram q p udp t s u) holds
+
+  one_fault_of : (one other : UdpFault) → HasFault frame whole one → HasFault frame whole other → other ≡ one
+  one_fault_of one other (p, s, holds) (q, t, has) =
+      fault_one (content_of p whole).protocol (content_of p whole).bytes other one (subst (λ (x : Packet). HoldsUdp other (content_of x whole).protocol (content_of x whole).bytes) (one_packet p q s t) has) holds
 
   with_datagram : (d : Given) (fate : Fate) → Says frame whole (Datagram d) → Says frame whole fate → IsSameFate (Datagram d) fate
   with_datagram d (Datagram e) (p, udp, s, u, is) (q, other, t, v, has) =
       let same : q ≡ p = one_packet p q s t in
-      let one : other ≡ udp = udp_one p.protocol (content_of p whole) other udp (subst (λ (x : Packet). SpellsUdp x.protocol (content_of x whole) other) same v) u in
+      let one : other ≡ udp = udp_one (content_of p whole).protocol (content_of p whole).bytes other udp (one_datagram p q other s t v) u in
       (e, refl, same_datagram frame p udp d e is (subst (λ (x : Udp). IsDatagram frame p x e) one (subst (λ (x : Packet). IsDatagram frame x other e) same has)))
-  with_datagram d (Left (Frame fault)) (p, udp, s, u, is) h = absurd (no_fault frame.link frame.bytes p fault s h.0)
-  with_datagram d (Left (NoUdp fault)) (p, udp, s, u, is) (q, t, holds) =
-      absurd (datagrams.no_fault p.protocol (content_of p whole) udp fault u (subst (λ (x : Packet). HoldsUdp fault x.protocol (content_of x whole)) (one_packet p q s t) holds))
+  with_datagram d (Left (Frame fault)) (p, udp, s, u, is) (inl h) = absurd (no_fault frame.link frame.bytes p fault s h.0)
+  with_datagram d (Left (Frame fault)) (p, udp, s, u, is) (inr h) = absurd (no_fault_of p udp NotUdp s u h.1)
+  with_datagram d (Left (NoUdp fault)) (p, udp, s, u, is) h = absurd (no_fault_of p udp fault s u h.0)
   with_datagram d (Left Apart) g h = absurd h
   with_datagram d (Left Empty) g h = absurd h
   with_datagram d (Left TooLong) g h = absurd h
@@ -80,9 +94,14 @@ module _ (frame : FrameParts) (whole : Option (List ℕ)) where
   with_datagram d Waits g h = absurd h
 
   with_fault : (fault : FrameFault) (fate : Fate) → Says frame whole (Left (Frame fault)) → Says frame whole fate → IsSameFate (Left (Frame fault)) fate
-  with_fault fault (Datagram e) g (q, other, t, v, has) = absurd (no_fault frame.link frame.bytes q fault t g.0)
-  with_fault fault (Left (Frame other)) g h = ap (λ (f : FrameFault). Left (Frame f)) (first_one frame.link frame.bytes other fault h g)
-  with_fault fault (Left (NoUdp other)) g (q, t, holds) = absurd (no_fault frame.link frame.bytes q fault t g.0)
+  with_fault fault (Datagram e) (inl g) (q, other, t, v, has) = absurd (no_fault frame.link frame.bytes q fault t g.0)
+  with_fault fault (Datagram e) (inr g) (q, other, t, v, has) = absurd (no_fault_of q other NotUdp t v g.1)
+  with_fault fault (Left (Frame other)) (inl g) (inl h) = ap (λ (f : FrameFault). Left (Frame f)) (first_one frame.link frame.bytes other fault h g)
+  with_fault fault (Left (Frame other)) (inl g) (inr h) = absurd (no_fault frame.link frame.bytes h.1.0 fault h.1.1 g.0)
+  with_fault fault (Left (Frame other)) (inr g) (inl h) = absurd (no_fault frame.link frame.bytes g.1.0 other g.1.1 h.0)
+  with_fault fault (Left (Frame other)) (inr g) (inr h) = ap (λ (f : FrameFault). Left (Frame f)) (h.0 ∙ sym g.0)
+  with_fault fault (Left (NoUdp other)) (inl g) h = absurd (no_fault frame.link frame.bytes h.0.0 fault h.0.1 g.0)
+  with_fault fault (Left (NoUdp other)) (inr g) h = absurd (h.1 (one_fault_of NotUdp other g.1 h.0))
   with_fault fault (Left Apart) g h = absurd h
   with_fault fault (Left Empty) g h = absurd h
   with_fault fault (Left TooLong) g h = absurd h
@@ -91,11 +110,10 @@ module _ (frame : FrameParts) (whole : Option (List ℕ)) where
   with_fault fault Waits g h = absurd h
 
   with_udp : (fault : UdpFault) (fate : Fate) → Says frame whole (Left (NoUdp fault)) → Says frame whole fate → IsSameFate (Left (NoUdp fault)) fate
-  with_udp fault (Datagram e) (p, s, holds) (q, other, t, v, has) =
-      absurd (datagrams.no_fault p.protocol (content_of p whole) other fault (subst (λ (x : Packet). SpellsUdp x.protocol (content_of x whole) other) (one_packet p q s t) v) holds)
-  with_udp fault (Left (Frame other)) (p, s, holds) h = absurd (no_fault frame.link frame.bytes p other s h.0)
-  with_udp fault (Left (NoUdp other)) (p, s, holds) (q, t, has) =
-      ap (λ (f : UdpFault). Left (NoUdp f)) (fault_one p.protocol (content_of p whole) other fault (subst (λ (x : Packet). HoldsUdp other x.protocol (content_of x whole)) (one_packet p q s t) has) holds)
+  with_udp fault (Datagram e) g (q, other, t, v, has) = absurd (no_fault_of q other fault t v g.0)
+  with_udp fault (Left (Frame other)) g (inl h) = absurd (no_fault frame.link frame.bytes g.0.0 other g.0.1 h.0)
+  with_udp fault (Left (Frame other)) g (inr h) = absurd (g.1 (one_fault_of NotUdp fault h.1 g.0))
+  with_udp fault (Left (NoUdp other)) g h = ap (λ (f : UdpFault). Left (NoUdp f)) (one_fault_of fault other g.0 h.0)
   with_udp fault (Left Apart) g h = absurd h
   with_udp fault (Left Empty) g h = absurd h
   with_udp fault (Left TooLong) g h = absurd h
@@ -129,7 +147,7 @@ IsSameIf (Some x) other = (y : Outcome) × (other ≡ Some y) × IsSame x y
 fate_with : (frame : FrameParts) (x y : Outcome) (fate same : Fate) → IsSame x y → IsFate frame (Some x) fate → IsFate frame (Some y) same → IsSameFate fate same
 fate_with frame Held y fate same e g h = both_wait fate same g (subst (λ (o : Outcome). IsFate frame (Some o) same) e h)
 fate_with frame (Whole content frames) y fate same (others, shares, e, is, are) g h =
-    says_one frame (Some content.items) fate same g (subst (λ (l : List ℕ). Says frame (Some l) same) (sym is) (subst (λ (o : Outcome). IsFate frame (Some o) same) e h))
+    says_one frame (Some (put_together content)) fate same g (subst (λ (l : Content). Says frame (Some l) same) (sym is) (subst (λ (o : Outcome). IsFate frame (Some o) same) e h))
 fate_with frame (Torn frames) y fate same (shares, e, are) g h = both_left Apart fate same g (subst (λ (o : Outcome). IsFate frame (Some o) same) e h)
 fate_with frame Bare y fate same e g h = both_left Empty fate same g (subst (λ (o : Outcome). IsFate frame (Some o) same) e h)
 fate_with frame Long y fate same e g h = both_left TooLong fate same g (subst (λ (o : Outcome). IsFate frame (Some o) same) e h)

@@ -1,5 +1,7 @@
 -- What a frame does among the fragments that wait (RFC 791, section 3.2; RFC 8200, section 4.5).
 use Rattle.std.specs.Prelude.{◌≡◌, ◌≢◌, ◌⊎◌, ℕ, Bool, true, false, List, [], Option, Some, None}
+use Rattle.std.specs.declared.net.ip_addr.IpAddr.{IpAddr}
+use Rattle.std.specs.declared.net.ip_addr.IpAddr.TheVariants.{V4, V6}
 use Rattle.tftp_frames.specs.Frame.{SpellsFrame}
 use Rattle.tftp_frames.specs.Ip.{Packet}
 use Rattle.tftp_frames.specs.declared.packet.Fragment.{Fragment}
@@ -21,13 +23,19 @@ pub record BroughtState : Type 0 where
 abbrev pub nothing_brought : BroughtState
 nothing_brought = record { old = []; ousted = []; outcome = None }
 
+-- The protocol tells packets of IPv4 apart (RFC 791, section 3.2), but not those of IPv6, of which only the first fragment
+-- tells it (RFC 8200, section 4.5).
+abbrev pub key_protocol : IpAddr → ℕ → Option ℕ
+key_protocol (V4 host) protocol = Some protocol
+key_protocol (V6 host) protocol = None
+
 -- what tells the packet of a fragment from others
 abbrev pub key_of : Packet → Fragment → Key
-key_of p f = record { source = p.source; target = p.target; protocol = p.protocol; id = f.id }
+key_of p f = record { source = p.source; target = p.target; protocol = key_protocol p.source p.protocol; id = f.id }
 
 -- the part that a fragment brings, with the time and the number of its frame
 abbrev pub arrival_of : FrameParts → ℕ → Packet → Fragment → Arrival
-arrival_of frame number p f = record { part = record { place = f.place; more = f.more; content = p.content }; time = frame.time; frame = number }
+arrival_of frame number p f = record { part = record { protocol = p.protocol; place = f.place; more = f.more; content = p.content }; time = frame.time; frame = number }
 
 -- what waits under every other key stays
 abbrev pub OthersStay : Key → Sets → Sets → Type 0

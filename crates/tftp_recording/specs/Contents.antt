@@ -5,7 +5,7 @@ use Rattle.tftp_frames.specs.Ip.{Packet}
 use Rattle.tftp_frames.specs.declared.packet.Fragment.{Fragment}
 use Rattle.tftp_fragments.specs.Key.{same_key}
 use Rattle.tftp_fragments.specs.Set.{Arrival, parts_of}
-use Rattle.tftp_fragments.specs.Whole.{Give}
+use Rattle.tftp_fragments.specs.Whole.{Content, Give}
 use Rattle.tftp_fragments.specs.declared.key.Key.{Key}
 use Rattle.tftp_recording.specs.Brought.{IsPart, arrival_of, key_of}
 use Rattle.tftp_recording.specs.History.{Step}
@@ -19,7 +19,7 @@ IsBrought (step ∷ before) key a =
 
 -- the content is that of a packet: fragments of one key give it, each of which one of the frames brought, and these are
 -- the frames
-pub record IsPutTogether (history : List Step) (content frames : List ℕ) : Type 0 where
+pub record IsPutTogether (history : List Step) (content : Content) (frames : List ℕ) : Type 0 where
   pub key : Key
   pub arrivals : List Arrival
   pub brought : AllByRecursion (IsBrought history key) arrivals

@@ -1,11 +1,16 @@
 -- What became of a frame.
-use Rattle.std.specs.Prelude.{◌≡◌, ℕ, List, [], Option, Some, None}
+use Rattle.std.specs.Prelude.{◌≡◌, ◌≢◌, ◌⊎◌, ℕ, List, [], Option, Some, None}
+use Rattle.tftp_fragments.specs.Held.{content_of as put_together}
+use Rattle.tftp_fragments.specs.Whole.{Content}
 use Rattle.tftp_fragments.specs.declared.outcome.Outcome.{Outcome}
 use Rattle.tftp_fragments.specs.declared.outcome.Outcome.TheVariants as outcome
 use Rattle.tftp_frames.specs.Faults.{FirstFault}
 use Rattle.tftp_frames.specs.Frame.{SpellsFrame}
 use Rattle.tftp_frames.specs.Ip.{Packet}
 use Rattle.tftp_frames.specs.Udp.{Udp, HoldsUdp, SpellsUdp}
+use Rattle.tftp_frames.specs.declared.fault.FrameFault.TheVariants.{Protocol}
+use Rattle.tftp_frames.specs.declared.fault.UdpFault.{UdpFault}
+use Rattle.tftp_frames.specs.declared.fault.UdpFault.TheVariants.{Protocol as NotUdp}
 use Rattle.tftp_frames.specs.declared.packet.Direction.{Direction as LinkDirection}
 use Rattle.tftp_frames.specs.declared.packet.Direction.TheVariants as link
 use Rattle.tftp_pcap.specs.Frames.{FrameParts}
@@ -34,15 +39,20 @@ pub record IsDatagram (frame : FrameParts) (p : Packet) (udp : Udp) (d : Given) 
   pub payload : d.payload.now ≡ udp.payload
 
 -- the content of a packet: the one that was put together, or else the packet's own
-abbrev pub content_of : Packet → Option (List ℕ) → List ℕ
-content_of p None = p.content
+abbrev pub content_of : Packet → Option Content → Content
+content_of p None = record { protocol = p.protocol; bytes = p.content }
 content_of p (Some whole) = whole
 
--- what a frame says whose packet is whole, or was put together
-abbrev pub Says : FrameParts → Option (List ℕ) → Fate → Type 0
-Says frame whole (Datagram d) = (p : Packet) × (udp : Udp) × SpellsFrame frame.link frame.bytes p × SpellsUdp p.protocol (content_of p whole) udp × IsDatagram frame p udp d
-Says frame whole (Left (Frame fault)) = FirstFault frame.link frame.bytes fault
-Says frame whole (Left (NoUdp fault)) = (p : Packet) × SpellsFrame frame.link frame.bytes p × HoldsUdp fault p.protocol (content_of p whole)
+-- that content has the fault
+abbrev pub HasFault : FrameParts → Option Content → UdpFault → Type 0
+HasFault frame whole fault = (p : Packet) × SpellsFrame frame.link frame.bytes p × HoldsUdp fault (content_of p whole).protocol (content_of p whole).bytes
+
+-- What a frame says whose packet is whole, or was put together. Where this is of another protocol than UDP, the same is
+-- told as of one that came whole.
+abbrev pub Says : FrameParts → Option Content → Fate → Type 0
+Says frame whole (Datagram d) = (p : Packet) × (udp : Udp) × SpellsFrame frame.link frame.bytes p × SpellsUdp (content_of p whole).protocol (content_of p whole).bytes udp × IsDatagram frame p udp d
+Says frame whole (Left (Frame fault)) = FirstFault frame.link frame.bytes fault ⊎ ((fault ≡ Protocol) × HasFault frame whole NotUdp)
+Says frame whole (Left (NoUdp fault)) = HasFault frame whole fault × (fault ≢ NotUdp)
 Says frame whole (Left Apart) = ⊥
 Says frame whole (Left Empty) = ⊥
 Says frame whole (Left TooLong) = ⊥
@@ -54,7 +64,7 @@ Says frame whole Waits = ⊥
 abbrev pub IsFate : FrameParts → Option Outcome → Fate → Type 0
 IsFate frame None fate = Says frame None fate
 IsFate frame (Some outcome.Waits) fate = fate ≡ Waits
-IsFate frame (Some (outcome.Whole content frames)) fate = Says frame (Some content.items) fate
+IsFate frame (Some (outcome.Whole content frames)) fate = Says frame (Some (put_together content)) fate
 IsFate frame (Some (outcome.Apart frames)) fate = fate ≡ Left Apart
 IsFate frame (Some outcome.Empty) fate = fate ≡ Left Empty
 IsFate frame (Some outcome.TooLong) fate = fate ≡ Left TooLong

@@ -3,10 +3,12 @@ use Rattle.std.specs.Prelude.{ℕ, List, [], ◌∷◌, ◌++◌, length, map, O
 use Rattle.std.specs.Global.{Vec}
 use Rattle.tftp_copies.specs.Copies.{Packet as Recorded}
 use Rattle.tftp_fragments.specs.Set.{SetState}
+use Rattle.tftp_fragments.specs.Whole.{Content}
+use Rattle.tftp_fragments.specs.declared.content.Content.{Content as Given}
 use Rattle.tftp_fragments.specs.declared.key.Key.{Key}
 use Rattle.tftp_fragments.specs.declared.outcome.Outcome.TheVariants.{Waits, Whole}
 use Rattle.tftp_frames.specs.Ip.{Packet}
-use Rattle.tftp_frames.specs.Worked.{cooked_head, host, ipv4_bytes, ipv4_packet, two_tags}
+use Rattle.tftp_frames.specs.Worked.{cooked_head, host, ipv4_bytes, ipv4_packet, two_tags, udp_bytes}
 use Rattle.tftp_frames.specs.declared.packet.Direction.TheVariants.{Unknown}
 use Rattle.tftp_pcap.specs.Frames.{FrameParts}
 use Rattle.tftp_pcap.specs.declared.frame.Direction.TheVariants as recorded
@@ -36,11 +38,11 @@ abbrev pub raw_frame : List ℕ → FrameParts
 raw_frame bytes = record { link = 228; time = worked_time; direction = recorded.Unknown; original = length bytes; bytes = bytes }
 
 abbrev pub worked_key : Key
-worked_key = record { source = host 7; target = host 1; protocol = 17; id = 7 }
+worked_key = record { source = host 7; target = host 1; protocol = Some 17; id = 7 }
 
 -- what waits after the first fragment
 abbrev pub first_set : SetState
-first_set = record { held = record { cells = map (λ b. Some b) first_part.content; ended = false }; frames = 1 ∷ []; began = worked_time; spoiled = false }
+first_set = record { held = record { cells = map (λ b. Some b) first_part.content; ended = false; protocol = Some 17 }; frames = 1 ∷ []; began = worked_time; spoiled = false }
 
 abbrev pub recorded_first : Recorded
 recorded_first = record { time = worked_time; bytes = first_bytes }
@@ -49,8 +51,11 @@ recorded_first = record { time = worked_time; bytes = first_bytes }
 abbrev pub first_step : Step
 first_step = record { frame = raw_frame first_bytes; likeness = New; brought = record nothing_brought { outcome = Some Waits }; waits = (worked_key, first_set) ∷ []; came = recorded_first ∷ [] }
 
+abbrev pub worked_content : Content
+worked_content = record { protocol = 17; bytes = udp_bytes }
+
 -- the last one gives a content, of those frames, and none waits
-abbrev pub last_step : Vec ℕ → Vec ℕ → Step
+abbrev pub last_step : Given → Vec ℕ → Step
 last_step content frames = record { frame = raw_frame last_bytes; likeness = New; brought = record nothing_brought { outcome = Some (Whole content frames) }; waits = []; came = record { time = worked_time; bytes = last_bytes } ∷ recorded_first ∷ [] }
 
 -- ---- recorded at an interface of Ethernet, and then at one of Linux cooked

@@ -2,7 +2,7 @@ ghost use Rattle.std.specs.Prelude.{◌≡◌, List, [], IfOk, OnErr, Some, None
 ghost use Rattle.tftp_fragments.specs.Held.{part_of};
 ghost use Rattle.tftp_fragments.specs.Set.{SetState};
 ghost use Rattle.tftp_fragments.specs.Store.{is_long, set_at};
-ghost use Rattle.tftp_recording.specs.Brought.{nothing_brought, LetsGoOld, Takes, TakesPart, WantsPart};
+ghost use Rattle.tftp_recording.specs.Brought.{key_protocol, nothing_brought, LetsGoOld, Takes, TakesPart, WantsPart};
 ghost use Rattle.tftp_recording.specs.History.{WantsNext};
 ghost use Rattle.tftp_recording.specs.Likeness.{Comes, is_copy};
 ghost use Rattle.tftp_copies.specs.Copies.{Packet as Recorded};
@@ -12,6 +12,7 @@ use crate::likeness::{Likeness, likeness_of};
 use std::alloc::{AllocError, Global};
 use std::marker::Model;
 use std::mem;
+use std::net::IpAddr;
 use tftp_copies::Recent;
 use tftp_fragments::{Fragments, Key, Outcome, Part};
 use tftp_frames::read_frame;
@@ -83,16 +84,28 @@ pub(crate) fn take_frame(
     let key = Key {
         source: packet.source,
         target: packet.target,
-        protocol: packet.protocol,
+        protocol: key_protocol(packet.source, packet.protocol),
         id: fragment.id,
     };
     let part = Part {
+        protocol: packet.protocol,
         place: fragment.place,
         more: fragment.more,
         content: packet.content,
     };
     let brought = take_part(alloc, waiting, key, &part, frame.time(), frame.number())?;
     Ok((likeness, brought))
+}
+
+/// What a packet's protocol has to say of which packet a fragment is.
+#[inline]
+fn key_protocol(source: IpAddr, protocol: u8) -> Option<u8>
+    ensures { result ≡ key_protocol source protocol }
+{
+    match source {
+        IpAddr::V4(_) => Some(protocol),
+        IpAddr::V6(_) => None,
+    }
 }
 
 /// Lets go what waits under a key and is too old for that time, and answers its frames.

@@ -1,4 +1,5 @@
 ghost use Rattle.std.specs.Prelude.{◌≡◌, [], None, option_map};
+ghost use Rattle.tftp_fragments.specs.Held.{content_of as put_together};
 ghost use Rattle.tftp_frames.specs.Parts.{shown};
 ghost use Rattle.tftp_pcap.specs.Frames.{no_frame};
 ghost use Rattle.tftp_recording.specs.Brought.{nothing_brought};
@@ -12,8 +13,10 @@ use crate::likeness::Likeness;
 use std::alloc::Global;
 use std::marker::Model;
 use std::mem;
-use tftp_fragments::{Fragments, Outcome};
-use tftp_frames::{Direction as LinkDirection, IpPacket, read_frame, read_udp};
+use tftp_fragments::{Content, Fragments, Outcome};
+use tftp_frames::{
+    Direction as LinkDirection, FrameFault, IpPacket, UdpFault, read_frame, read_udp,
+};
 use tftp_pcap::{Direction, Frame};
 
 /// A frame of a recording, what became of it, and of which frames it decided; to be filled by a reader, in its memory.
@@ -138,7 +141,7 @@ fn fate_of<'a>(frame: &'a Frame, outcome: &'a Option<Outcome>) -> Fate<'a>
     match outcome {
         None => says(frame, None),
         Some(Outcome::Waits) => Fate::Waits,
-        Some(Outcome::Whole { content, .. }) => says(frame, Some(content.as_slice())),
+        Some(Outcome::Whole { content, .. }) => says(frame, Some(content)),
         Some(Outcome::Apart(_)) => Fate::Left(LeftOut::Apart),
         Some(Outcome::Empty) => Fate::Left(LeftOut::Empty),
         Some(Outcome::TooLong) => Fate::Left(LeftOut::TooLong),
@@ -148,14 +151,15 @@ fn fate_of<'a>(frame: &'a Frame, outcome: &'a Option<Outcome>) -> Fate<'a>
 
 /// What a frame says, or the packet of that content which it made whole.
 #[inline]
-fn says<'a>(frame: &'a Frame, whole: Option<&'a [u8]>) -> Fate<'a>
-    ensures { Says frame.now.parts (option_map (λ content. content.now) whole.entry) result }
+fn says<'a>(frame: &'a Frame, whole: Option<&'a Content>) -> Fate<'a>
+    ensures { Says frame.now.parts (option_map (λ content. put_together content.now) whole.entry) result }
 {
     let packet = match read_frame(frame.link(), frame.bytes()) {
         Ok(packet) => packet,
         Err(fault) => return Fate::Left(LeftOut::Frame(fault)),
     };
-    match read_udp(packet.protocol, content_of(whole, &packet)) {
+    let (protocol, content) = content_of(whole, &packet);
+    match read_udp(protocol, content) {
         Ok(udp) => Fate::Datagram(Datagram {
             direction: direction_of(frame.direction(), packet.direction),
             source: packet.source,
@@ -164,18 +168,20 @@ fn says<'a>(frame: &'a Frame, whole: Option<&'a [u8]>) -> Fate<'a>
             target_port: udp.target_port,
             payload: udp.payload,
         }),
+        Err(UdpFault::Protocol) => Fate::Left(LeftOut::Frame(FrameFault::Protocol)),
         Err(fault) => Fate::Left(LeftOut::Udp(fault)),
     }
 }
 
-/// The content of a packet: the one that was put together, or else the packet's own.
+/// The content of a packet, with what it begins and its bytes: the one that was put together, or else the packet's own.
 #[inline]
-fn content_of<'a>(whole: Option<&'a [u8]>, packet: &IpPacket<'a>) -> &'a [u8]
-    ensures { result.now ≡ content_of (shown packet.now) (option_map (λ content. content.now) whole.entry) }
+fn content_of<'a>(whole: Option<&'a Content>, packet: &IpPacket<'a>) -> (u8, &'a [u8])
+    ensures protocol { result.0 ≡ (content_of (shown packet.now) (option_map (λ content. put_together content.now) whole.entry)).protocol }
+    ensures bytes { result.1.now ≡ (content_of (shown packet.now) (option_map (λ content. put_together content.now) whole.entry)).bytes }
 {
     match whole {
-        Some(content) => content,
-        None => packet.content,
+        Some(content) => (content.protocol, content.bytes.as_slice()),
+        None => (packet.protocol, packet.content),
     }
 }
 

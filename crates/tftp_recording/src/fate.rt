@@ -22,9 +22,9 @@ pub struct Datagram<'a> {
 /// Why frames are no datagram of UDP, nor part of one.
 #[derive(Clone, Copy, Debug, PartialEq, Eq)]
 pub enum LeftOut {
-    /// The frame is no IP packet that may carry UDP.
+    /// The frame is no IP packet that may carry UDP, or the last part of one put together that does not: that is Protocol.
     Frame(FrameFault),
-    /// The content of the packet, which is whole, is no datagram of UDP.
+    /// The content of the packet, which is whole and of UDP, is no datagram; never Protocol.
     Udp(UdpFault),
     /// It is a fragment that cannot be of one packet with others that came.
     Apart,

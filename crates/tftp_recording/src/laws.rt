@@ -1,7 +1,9 @@
 ghost use Rattle.std.specs.Prelude.{◌≡◌, ◌⊎◌, ◌≤◌, ◌∷◌, ℕ, List, [], Some, length};
 ghost use Rattle.std.specs.Global.{Vec};
+ghost use Rattle.tftp_fragments.specs.Held.{content_of};
+ghost use Rattle.tftp_fragments.specs.declared.content.Content.{Content};
 ghost use Rattle.tftp_frames.specs.Udp.{SpellsUdp};
-ghost use Rattle.tftp_frames.specs.Worked.{acknowledgement, udp_bytes};
+ghost use Rattle.tftp_frames.specs.Worked.{acknowledgement};
 ghost use Rattle.tftp_pcap.specs.History.{IsWrong};
 ghost use Rattle.tftp_pcap.specs.declared.fault.FaultKind.{FaultKind};
 ghost use Rattle.tftp_recording.specs.Accounts.{IsSettled, IsWaiting, NoneTwice, ToldOneWay};
@@ -9,7 +11,7 @@ ghost use Rattle.tftp_recording.specs.Contents.{IsPutTogether};
 ghost use Rattle.tftp_recording.specs.History.{IsHistory, Step, waiting};
 ghost use Rattle.tftp_recording.specs.Fate.{IsDatagram, IsFateOf};
 ghost use Rattle.tftp_recording.specs.OneWay.{AreToldAlike, IsRead, IsReadTo};
-ghost use Rattle.tftp_recording.specs.Worked.{cooked_step, ethernet_step, first_step, last_part, last_step};
+ghost use Rattle.tftp_recording.specs.Worked.{cooked_step, ethernet_step, first_step, last_part, last_step, worked_content};
 ghost use Rattle.tftp_recording.specs.declared.fate.Datagram.{Datagram};
 ghost use Rattle.tftp_recording.specs.declared.fate.Fate.{Fate};
 ghost use Rattle.tftp_recording.specs.declared.fate.LeftOut.{LeftOut};
@@ -30,7 +32,7 @@ pub fn each_frame_is_accounted_for_once()
 /// A content that was put together is given by fragments which frames of the recording brought, all of one key, and these
 /// are the frames that it is told to be of.
 pub fn content_is_of_its_frames()
-    ensures { (before : List Step) (step : Step) (content frames : Vec ℕ) → IsHistory (step ∷ before) → step.brought.outcome ≡ Some (Outcome.Whole content frames) → IsPutTogether (step ∷ before) content.items frames.items }
+    ensures { (before : List Step) (step : Step) (content : Content) (frames : Vec ℕ) → IsHistory (step ∷ before) → step.brought.outcome ≡ Some (Outcome.Whole content frames) → IsPutTogether (step ∷ before) (content_of content) frames.items }
 {}
 
 /// A recording is read in one way: two readings of the same bytes tell the same of each of its frames, in order: the same
@@ -46,9 +48,9 @@ pub fn recording_is_read_in_one_way()
 /// Worked example: an acknowledgement in two fragments (RFC 791, section 3.2). The first waits; the last gives the content of
 /// both, of frames 1 and 2, and it is the datagram.
 pub fn worked_fragments()
-    ensures history { (content frames : Vec ℕ) → content.items ≡ udp_bytes → frames.items ≡ 1 ∷ 2 ∷ [] → IsHistory (last_step content frames ∷ first_step ∷ []) }
+    ensures history { (content : Content) (frames : Vec ℕ) → content_of content ≡ worked_content → frames.items ≡ 1 ∷ 2 ∷ [] → IsHistory (last_step content frames ∷ first_step ∷ []) }
     ensures waits { IsFateOf first_step.frame first_step.likeness first_step.brought.outcome Fate.Waits }
-    ensures datagram { (content frames : Vec ℕ) (d : Datagram) → content.items ≡ udp_bytes → IsDatagram (last_step content frames).frame last_part acknowledgement d
+    ensures datagram { (content : Content) (frames : Vec ℕ) (d : Datagram) → content_of content ≡ worked_content → IsDatagram (last_step content frames).frame last_part acknowledgement d
         → IsFateOf (last_step content frames).frame Likeness.New (last_step content frames).brought.outcome (Fate.Datagram d) }
 {}
 

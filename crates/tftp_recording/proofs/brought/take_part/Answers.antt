@@ -27,7 +27,7 @@ returns-in_err-outcome-2-clause-wants c =
       gone = c.let_go_old-old.result.items;
       ousted = c.replace-ousted.result;
       lets_go = c.let_go_old-old.ensures.goes;
-      makes_room = makes_room (set_at c.args.key c.let_go_old-old.new.waiting) (set_at c.args.key c.put.new.self) _ _ _ a _ c.in-Full.is c.in_ok-outcome.ensures.ends (c.replace-ousted.ensures.value ∙ c.in_ok-outcome.ensures.full (ap (λ (o : Outcome). Ok o) c.in-Full.is)) (c.replace-ousted.ensures.after ∙ c.new-2.ensures) (may_be_put _ _ _ c.in-Full.is c.in_ok-outcome.ensures.tried);
+      makes_room = makes_room (set_at c.args.key c.let_go_old-old.new.waiting) (set_at c.args.key c.put.new.self) _ _ _ a _ c.in-Full.is c.in_ok-outcome.ensures.ends (c.replace-ousted.ensures.value ∙ c.in_ok-outcome.ensures.full (ap (λ (o : Outcome). Ok o) c.in-Full.is)) (c.replace-ousted.ensures.after ∙ c.new-2.ensures) (may_be_put _ a.part _ c.in-Full.is c.in_ok-outcome.ensures.tried);
       wants = c.in_err-outcome-2.ensures.wants;
     })
 
@@ -40,7 +40,7 @@ returns-clause-ok c =
       roomy = c.replace-ousted.new.dest;
       outcome = c.in_ok-outcome-2.outcome;
       lets_go = c.let_go_old-old.ensures.goes;
-      makes_room = makes_room (set_at c.args.key c.let_go_old-old.new.waiting) (set_at c.args.key c.put.new.self) _ _ _ a _ c.in-Full.is c.in_ok-outcome.ensures.ends (c.replace-ousted.ensures.value ∙ c.in_ok-outcome.ensures.full (ap (λ (o : Outcome). Ok o) c.in-Full.is)) none (may_be_put _ _ _ c.in-Full.is c.in_ok-outcome.ensures.tried);
+      makes_room = makes_room (set_at c.args.key c.let_go_old-old.new.waiting) (set_at c.args.key c.put.new.self) _ _ _ a _ c.in-Full.is c.in_ok-outcome.ensures.ends (c.replace-ousted.ensures.value ∙ c.in_ok-outcome.ensures.full (ap (λ (o : Outcome). Ok o) c.in-Full.is)) none (may_be_put _ a.part _ c.in-Full.is c.in_ok-outcome.ensures.tried);
       others = c.in_ok-outcome-2.ensures.other;
       counted = c.in_ok-outcome-2.ensures.room;
       ends = c.in_ok-outcome-2.ensures.ends;

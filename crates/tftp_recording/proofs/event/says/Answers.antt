@@ -1,9 +1,10 @@
-use Rattle.std.proofs.Common.{ℕ, List, refl, sym, ap, ◌∙◌, subst}
+use Rattle.std.proofs.Common.{inr, Err, ℕ, List, refl, sym, ap, ◌∙◌, subst}
 use Rattle.tftp_frames.specs.Parts.{shown}
 use Rattle.tftp_frames.specs.Udp.{SpellsUdp, datagram}
 use Rattle.tftp_pcap.specs.declared.frame.Direction.{Direction}
 use Rattle.tftp_recording.specs.Fate.{direction_of}
-use Rattle.tftp_recording.proofs.Bringing.{spells_here}
+use Rattle.tftp_frames.specs.declared.fault.UdpFault.TheVariants.{Protocol as NotUdp}
+use Rattle.tftp_recording.proofs.Bringing.{holds_udp_here, spells_here, spells_udp_here}
 use Rattle.tftp_recording.proofs.event.says.Goals as goal
 
 pub returns-in-Ok-read_udp : goal.returns-in-Ok-read_udp
@@ -11,7 +12,7 @@ returns-in-Ok-read_udp c = (
   shown c.in-Ok.packet,
   datagram c.in-Ok-read_udp.udp,
   spells_here _ _ _ _ (shown c.in-Ok.packet) (sym c.link.ensures) (sym c.bytes.ensures) c.in-Ok.ensures.found,
-  subst (λ (content : List ℕ). SpellsUdp c.in-Ok.packet.protocol content (datagram c.in-Ok-read_udp.udp)) c.content_of.ensures c.in-Ok-read_udp.ensures.found,
+  spells_udp_here _ _ _ _ (datagram c.in-Ok-read_udp.udp) c.content_of-protocol.ensures.protocol c.content_of-protocol.ensures.bytes c.in-Ok-read_udp.ensures.found,
   record {
     direction = c.direction_of.ensures ∙ ap (λ (d : Direction). direction_of d c.in-Ok.packet.direction) c.direction.ensures;
     source = refl;
@@ -20,4 +21,14 @@ returns-in-Ok-read_udp c = (
     target_port = refl;
     payload = refl;
   },
+)
+
+pub returns-in-Err-Protocol : goal.returns-in-Err-Protocol
+returns-in-Err-Protocol c = inr (
+  refl,
+  (
+    shown c.in-Ok.packet,
+    spells_here _ _ _ _ (shown c.in-Ok.packet) (sym c.link.ensures) (sym c.bytes.ensures) c.in-Ok.ensures.found,
+    holds_udp_here NotUdp _ _ _ _ c.content_of-protocol.ensures.protocol c.content_of-protocol.ensures.bytes ((c.read_udp.ensures.fault NotUdp).0 (c.in-Err-Protocol.is ∙ ap Err c.in-Err-Protocol.field-0-is)),
+  ),
 )
