@@ -1,3 +1,4 @@
 mod Judging
 mod Settling
 mod Feeding
+mod Holding

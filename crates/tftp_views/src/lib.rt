@@ -7,9 +7,11 @@ mod held;
 pub mod laws;
 mod party;
 mod server;
+mod server_view;
 
 pub use client::ClientJudge;
 pub use end_judge::EndJudge;
 pub use held::Held;
 pub use party::Party;
 pub use server::ServerJudge;
+pub use server_view::ServerView;

@@ -1,0 +1,156 @@
+-- What is held until it is known who the server is, and is then given to its judge.
+use Rattle.std.proofs.Common.{◌≡◌, ◌≤◌, ℕ, suc, true, false, cond, List, [], ◌∷◌, ◌++◌, length, Option, Some, None, refl, sym, ap, ◌∙◌, subst, append_assoc, append-nil, arith, map, reverse}
+use Rattle.std.specs.Prelude.{filter, Result, Ok, Err, OnOk}
+use Rattle.std.specs.declared.alloc.AllocError.{AllocError}
+use Rattle.std.proofs.lemmas.List.{length-reverse, reverse-append, reverse-reverse}
+use Rattle.tftp_ends.specs.CaptureText.{Datagram}
+use Rattle.tftp_transfers.specs.declared.place.Transfer.{Transfer}
+use Rattle.tftp_transfers.specs.declared.views.TransferEnds.{TransferEnds}
+use Rattle.tftp_transfers.specs.Kept.{AreEndsAfter}
+use Rattle.tftp_transfers.specs.Places.{Placed}
+use Rattle.tftp_transfers.specs.Settled.{is_settled}
+use Rattle.tftp_transfers.specs.Views.{answered_by, asked_of, is_about, is_at_server, went_on_with}
+use Rattle.tftp_transfers.proofs.OwnDatagrams.{about_none, answered_kept, asked_kept, filter_kept, seen_none, settled_kept, went_on_kept}
+use Rattle.tftp_views.specs.declared.held.Held.{Held}
+use Rattle.tftp_views.specs.Captured.{Naming, captured_at_server, server_capture, server_header}
+use Rattle.tftp_views.specs.Judged.{HasJudged}
+use Rattle.tftp_views.specs.Kept.{AreHeld, IsFed, IsGoingOn, IsServerAfter, IsViewAfter, IsWaiting, Server, View, ViewedBy}
+use Rattle.tftp_views.proofs.Feeding.{not_seen}
+use Rattle.tftp_views.proofs.Settling.{server_goes_on, settled_stays}
+
+pub on_ok : {A B : Type 0} (r : Result (Unit {0}) AllocError) → (A → B) → OnOk r A → OnOk r B
+on_ok (Ok u) f a = f a
+on_ok (Err e) f a = tt
+
+-- ---- the oldest of those that are held are given first
+
+-- of this part of the whole so much was given, and the rest is held
+pub record IsGivenSoFar (s : Server) (name : Naming) (whole part : List Placed) (held : List Held) : Type 0 where
+  pub given : List Placed
+  pub rest : List Placed
+  pub are : reverse part ≡ given ++ rest
+  pub left : AreHeld name held rest
+  pub after : IsServerAfter s name whole (reverse given)
+
+pub given_none : (s : Server) (name : Naming) (whole part : List Placed) (held : List Held) → AreHeld name held (reverse part) → IsServerAfter s name whole [] → IsGivenSoFar s name whole part held
+given_none s name whole part held are after = record { given = []; rest = reverse part; are = refl; left = are; after = after }
+
+pub given_one : (old new : Server) (name : Naming) (whole part : List Placed) (h : Held) (held : List Held)
+    → ((p : Placed) (before : List Placed) → IsServerAfter old name whole before → IsFed name p h.place h.source h.target h.payload → IsServerAfter new name whole (p ∷ before))
+    → IsGivenSoFar old name whole part (h ∷ held) → IsGivenSoFar new name whole part held
+given_one old new name whole part h held takes so = by so.rest so.are so.left where
+  by : (rest : List Placed) → reverse part ≡ so.given ++ rest → AreHeld name (h ∷ held) rest → IsGivenSoFar new name whole part held
+  by [] are left = absurd left
+  by (p ∷ rest) are left = record {
+    given = so.given ++ p ∷ [];
+    rest = rest;
+    are = are ∙ sym (append_assoc so.given (p ∷ []) rest);
+    left = left.1;
+    after = subst (IsServerAfter new name whole) (sym (reverse-append so.given (p ∷ []))) (takes p (reverse so.given) so.after left.0);
+  }
+
+pub given_all : (s : Server) (name : Naming) (whole part : List Placed) → IsGivenSoFar s name whole part [] → IsServerAfter s name whole part
+given_all s name whole part so = by so.rest so.are so.left where
+  by : (rest : List Placed) → reverse part ≡ so.given ++ rest → AreHeld name [] rest → IsServerAfter s name whole part
+  by [] are left = subst (IsServerAfter s name whole) (ap reverse (sym (are ∙ append-nil so.given)) ∙ reverse-reverse part) so.after
+  by (p ∷ rest) are left = absurd left
+
+-- ---- one more is held
+
+pub held_more : (name : Naming) (held : List Held) (ps : List Placed) (h : Held) (p : Placed) → AreHeld name held ps → IsFed name p h.place h.source h.target h.payload → AreHeld name (held ++ h ∷ []) (ps ++ p ∷ [])
+held_more name [] [] h p are fed = (fed, tt)
+held_more name [] (q ∷ ps) h p are fed = absurd are
+held_more name (g ∷ held) [] h p are fed = absurd are
+held_more name (g ∷ held) (q ∷ ps) h p are fed = (are.0, held_more name held ps h p are.1 fed)
+
+-- as the newest of the transfer's
+pub held_newest : (n : ℕ) (name : Naming) (held : List Held) (older : List Placed) (h : Held) (p : Placed) → is_about n p ≡ true → AreHeld name held (reverse (filter (is_about n) older)) → IsFed name p h.place h.source h.target h.payload
+    → AreHeld name (held ++ h ∷ []) (reverse (filter (is_about n) (p ∷ older)))
+held_newest n name held older h p about are fed =
+    subst (AreHeld name (held ++ h ∷ [])) (sym (ap (λ b. reverse (cond b (p ∷ filter (is_about n) older) (filter (is_about n) older))) about ∙ reverse-append (p ∷ []) (filter (is_about n) older)))
+    (held_more name held (reverse (filter (is_about n) older)) h p are fed)
+
+-- ---- the transfer's own datagrams are enough
+
+pub own_alone : (s : Server) (name : Naming) (whole : List Placed) → IsServerAfter s name whole (filter (is_about s.transfer.number) whole) → IsServerAfter s name whole whole
+own_alone s name whole after =
+    let x : Transfer = s.transfer in
+    record {
+      number = after.number;
+      ends = after.ends;
+      judged = subst (λ (l : List Placed). HasJudged s.end.judge (server_header x) (map (captured_at_server name x whole) l)) (filter_kept (is_at_server x.number whole) (is_about x.number) (seen_none x.number whole) whole) after.judged;
+    }
+
+-- ---- one that is not of the transfer
+
+module _ (n : ℕ) (p : Placed) (older : List Placed) (off : is_about n p ≡ false) where
+  same_own : filter (is_about n) (p ∷ older) ≡ filter (is_about n) older
+  same_own = ap (λ b. cond b (p ∷ filter (is_about n) older) (filter (is_about n) older)) off
+
+  asked_too : asked_of n older ≡ asked_of n (p ∷ older)
+  asked_too = sym (asked_kept n (is_about n) (about_none n) older) ∙ ap (asked_of n) (sym same_own) ∙ asked_kept n (is_about n) (about_none n) (p ∷ older)
+
+  answered_too : answered_by n older ≡ answered_by n (p ∷ older)
+  answered_too = sym (answered_kept n (is_about n) (about_none n) older) ∙ ap (answered_by n) (sym same_own) ∙ answered_kept n (is_about n) (about_none n) (p ∷ older)
+
+  went_on_too : went_on_with n older ≡ went_on_with n (p ∷ older)
+  went_on_too = sym (went_on_kept n (is_about n) (about_none n) older) ∙ ap (went_on_with n) (sym same_own) ∙ went_on_kept n (is_about n) (about_none n) (p ∷ older)
+
+  settled_too : is_settled n older ≡ is_settled n (p ∷ older)
+  settled_too = sym (settled_kept n (is_about n) (about_none n) older) ∙ ap (is_settled n) (sym same_own) ∙ settled_kept n (is_about n) (about_none n) (p ∷ older)
+
+  ends_too : (t : TransferEnds) → t.number ≡ n → AreEndsAfter t older → AreEndsAfter t (p ∷ older)
+  ends_too t is after = record {
+    asked = after.asked ∙ ap (λ k. asked_of k older) is ∙ asked_too ∙ ap (λ k. asked_of k (p ∷ older)) (sym is);
+    answered = after.answered ∙ ap (λ k. answered_by k older) is ∙ answered_too ∙ ap (λ k. answered_by k (p ∷ older)) (sym is);
+    went_on = after.went_on ∙ ap (λ k. went_on_with k older) is ∙ went_on_too ∙ ap (λ k. went_on_with k (p ∷ older)) (sym is);
+  }
+
+pub passes_by : (v : View) (name : Naming) (p : Placed) (older : List Placed) → v.ends.number ≡ v.transfer.number → is_about v.transfer.number p ≡ false → IsViewAfter v name older → IsViewAfter v name (p ∷ older)
+passes_by v name p older number off = by v.judge where
+  by : (o : Option Server) → ViewedBy o v name older → ViewedBy o v name (p ∷ older)
+  by None waits = record {
+    ends = ends_too v.transfer.number p older off v.ends number waits.ends;
+    unsettled = sym (settled_too v.transfer.number p older off) ∙ waits.unsettled;
+    held = subst (λ (l : List Placed). AreHeld name v.held (reverse l)) (sym (same_own v.transfer.number p older off)) waits.held;
+  }
+  by (Some s) goes = record {
+    transfer = goes.transfer;
+    settled = sym (settled_too v.transfer.number p older off) ∙ goes.settled;
+    none = goes.none;
+    after =
+      let settled : is_settled s.transfer.number older ≡ true = ap (λ (x : Transfer). is_settled x.number older) goes.transfer ∙ goes.settled in
+      let on : IsServerAfter s name (p ∷ older) older = server_goes_on s name (p ∷ []) older older settled goes.after in
+      let off_here : is_about s.transfer.number p ≡ false = ap (λ (x : Transfer). is_about x.number p) goes.transfer ∙ off in
+      record {
+        number = on.number;
+        ends = on.ends;
+        judged = subst (HasJudged s.end.judge (server_header s.transfer)) (sym (not_seen name s.transfer (p ∷ older) p older (seen_none s.transfer.number (p ∷ older) p off_here))) on.judged;
+      };
+  }
+
+-- ---- the judge goes on
+
+pub goes_on_too : (old new : Server) (v w : View) (name : Naming) (p : Placed) (older : List Placed) → w.transfer ≡ v.transfer → w.held ≡ v.held → new.transfer ≡ old.transfer → IsGoingOn old v name older → IsServerAfter new name (p ∷ older) (p ∷ older) → IsGoingOn new w name (p ∷ older)
+goes_on_too old new v w name p older of held same goes after = record {
+  transfer = same ∙ goes.transfer ∙ sym of;
+  settled = ap (λ (x : Transfer). is_settled x.number (p ∷ older)) of ∙ settled_stays v.transfer.number (p ∷ []) older goes.settled;
+  none = held ∙ goes.none;
+  after = after;
+}
+
+-- ---- what is held is the transfer's
+
+as_many : (name : Naming) (held : List Held) (ps : List Placed) → AreHeld name held ps → length held ≡ length ps
+as_many name [] [] are = refl
+as_many name [] (p ∷ ps) are = absurd are
+as_many name (h ∷ held) [] are = absurd are
+as_many name (h ∷ held) (p ∷ ps) are = ap suc (as_many name held ps are.1)
+
+pub held_own : (v : View) (name : Naming) (placed : List Placed) → IsViewAfter v name placed → length v.held ≤ length (filter (is_about v.transfer.number) placed)
+held_own v name placed = by v.judge where
+  by : (o : Option Server) → ViewedBy o v name placed → length v.held ≤ length (filter (is_about v.transfer.number) placed)
+  by None waits =
+      let same : length v.held ≡ length (filter (is_about v.transfer.number) placed) = as_many name v.held (reverse (filter (is_about v.transfer.number) placed)) waits.held ∙ length-reverse (filter (is_about v.transfer.number) placed) in
+      omega arith
+  by (Some s) goes = let none : length v.held ≡ 0 = ap length goes.none in omega arith

@@ -1,0 +1,25 @@
+use Rattle.std.proofs.Common.{◌≡◌, ◌∷◌, Some, false, true, refl, sym, ap, ◌∙◌, subst}
+use Rattle.std.specs.Prelude.{Option}
+use Rattle.tftp_transfers.specs.Views.{is_about}
+use Rattle.tftp_transfers.specs.Settled.{is_settled}
+use Rattle.tftp_transfers.specs.declared.place.Transfer.{Transfer}
+use Rattle.tftp_views.specs.Kept.{IsGoingOn, IsViewAfter, Server, View, ViewedBy}
+use Rattle.tftp_views.proofs.Holding.{goes_on_too, on_ok, passes_by}
+use Rattle.tftp_views.proofs.server_view.ServerView.feed.Goals as goal
+
+pub returns-then-not-is_about-clause-after : goal.returns-then-not-is_about-clause-after
+returns-then-not-is_about-clause-after g c name p older after fed =
+    let v : View = record { transfer = c.self.inside.transfer; ends = c.self.inside.ends; held = c.self.inside.held.items; judge = c.self.inside.judge } in
+    let number = c.self.invariant.0 in
+    let off : is_about v.transfer.number p ≡ false = ap (λ k. is_about k p) (sym number) ∙ sym (c.is_about.ensures p fed.belongs) ∙ c.if-not-is_about.true in
+    subst (λ (v : View). IsViewAfter v name (p ∷ older)) c.self.view_is
+    (passes_by v name p older number off (subst (λ (v : View). IsViewAfter v name older) (sym c.self.view_is) after))
+
+pub returns-in-Some-clause-after : goal.returns-in-Some-clause-after
+returns-in-Some-clause-after g c name p older after fed =
+    let v : View = record { transfer = c.self.inside.transfer; ends = c.self.inside.ends; held = c.self.inside.held.items; judge = c.self.inside.judge } in
+    let w : View = record { transfer = c.self.inside.transfer; ends = c.self.inside.ends; held = c.self.inside.held.items; judge = Some c.go_on.new.self } in
+    let goes : IsGoingOn c.in-Some.judge v name older = subst (λ (o : Option Server). ViewedBy o v name older) c.in-Some.is (subst (λ (v : View). IsViewAfter v name older) (sym c.self.view_is) after) in
+    let settled : is_settled c.in-Some.judge.transfer.number older ≡ true = ap (λ (x : Transfer). is_settled x.number older) goes.transfer ∙ goes.settled in
+    on_ok c.go_on.result (λ next. goes_on_too c.in-Some.judge c.go_on.new.self v w name p older refl refl c.go_on.ensures.transfer goes next)
+    (c.go_on.ensures.after name p older goes.after settled fed)

@@ -1,0 +1,21 @@
+use Rattle.std.proofs.Common.{◌≡◌, ◌+◌, ◌≤◌, List, All, length, reverse}
+use Rattle.std.specs.VecDeque.{deque_len}
+use Rattle.tftp_transfers.specs.Kept.{AreEndsAfter}
+use Rattle.tftp_transfers.specs.Places.{Placed}
+use Rattle.tftp_views.specs.declared.held.Held.{Held}
+use Rattle.tftp_views.specs.Captured.{Naming}
+use Rattle.tftp_views.specs.Kept.{AreHeld}
+use Rattle.tftp_views.proofs.Holding.{IsGivenSoFar}
+use Rattle.tftp_views.proofs.server_view.judge_of.Given as goal
+
+-- the oldest were given, and the rest is held
+abbrev pub invariant-loop-next : goal.invariant-loop-next
+invariant-loop-next g l = record {
+  given : (name : Naming) (whole part : List Placed) → AreEndsAfter l.fn.ends whole → AreHeld name l.fn.held.items (reverse part) → IsGivenSoFar l.judge name whole part l.held.items;
+  counted : l.judge.end.judge.fed + deque_len l.held ≤ deque_len l.fn.held;
+  short : All (λ (h : Held). length h.payload ≤ 65527) l.held.items;
+  transfer : l.judge.transfer ≡ l.fn.transfer;
+}
+
+abbrev pub decreases-loop-next : goal.decreases-loop-next
+decreases-loop-next g l = deque_len l.held
