@@ -1,0 +1,3 @@
+pub mod PartLemmas
+pub mod Having
+pub mod Saying
