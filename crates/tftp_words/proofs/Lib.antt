@@ -1,3 +1,4 @@
 pub mod PartLemmas
 pub mod Having
 pub mod Saying
+pub mod Reading
