@@ -2,3 +2,4 @@ pub mod PartLemmas
 pub mod Having
 pub mod Saying
 pub mod Reading
+pub mod Asking

@@ -86,7 +86,7 @@ impl<'a> Given<'a> {
 }
 
 /// The word at a place, where there is one.
-fn word_at<S: AsStr>(words: &[S], at: usize) -> Option<&str>
+pub fn word_at<S: AsStr>(words: &[S], at: usize) -> Option<&str>
     ensures { option_map (λ s. s.now) result ≡ slice_get (map S.text words.entry.now) at }
 {
     match words.get(at) {

@@ -3,3 +3,4 @@
 
 mod given;
 mod part;
+mod request;
