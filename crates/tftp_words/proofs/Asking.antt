@@ -130,7 +130,7 @@ pub the_arguments : (a : Asked) (w : Word) (ws : List Word) (c : Command) (k : �
 the_arguments a w ws c k request at names =
     let found = told a w ws request at in
     let same = one_command w c (command_in a) k found.0 names found.1 in
-    (subst (λ d. Calls d a) (sym same.0) (calls_itself a), found.2, subst (λ n. Say (drop n ws) found.2) (sym same.1) found.3, argues_once a found.2 found.4, found.4)
+    (subst (λ d. Calls d a) (sym same.0) (calls_itself a), found.2.0, subst (λ n. Say (drop n ws) found.2.0) (sym same.1) found.2.1, argues_once a found.2.0 found.2.2, found.2.2)
 
 pub count_fits : (w : Word) (ws : List Word) (c : Command) (k : ℕ) → slice_get ws 1 ≡ Some w → Names w c k → k ≤ length ws
 count_fits w ws command.List k at (inl (two, is)) = omega (arith, two, slice_get_within ws 1 w at)
