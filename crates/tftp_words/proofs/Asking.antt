@@ -1,0 +1,148 @@
+-- What the words ask for, by the command.
+use Rattle.std.proofs.Common.{◌≡◌, ◌≢◌, ◌⊎◌, inl, inr, ℕ, List, [], ◌∷◌, ◌++◌, drop, Option, Some, None, codes, slice_get, get_or, refl, sym, ap, ◌∙◌, subst, arith, ◌≤◌, length, map, Bool, true, false, if◌then◌else◌, option_to_list, Bor}
+use Rattle.std.proofs.lemmas.Option.{slice_get_within}
+use Rattle.tftp_packet.specs.declared.kinds.End.{End}
+use Rattle.tftp_words.specs.declared.request.Command.{Command}
+use Rattle.tftp_words.specs.declared.request.Command.TheVariants as command
+use Rattle.tftp_words.specs.Parts.{Word, Part, Say, Have, IsOnce, IsTransfer, end_word, plains}
+use Rattle.tftp_words.specs.Asked.{Asked, Listed, Written, Judged, Argues, IsRequest, IsNoName, Names, Calls}
+
+-- the arguments of what is asked
+abbrev pub Arguments : Asked → List Word → Type 0
+Arguments a words = (ps : List Part) × Say words ps × Argues a ps
+
+abbrev pub command_in : Asked → Command
+command_in (Listed services json file) = command.List
+command_in (Written number end services file) = command.Text
+command_in (Judged at services json files) = command.Check
+
+pub calls_itself : (a : Asked) → Calls (command_in a) a
+calls_itself (Listed services json file) = tt
+calls_itself (Written number end services file) = tt
+calls_itself (Judged at services json files) = tt
+
+-- ---- from the words to the command
+
+second_word : (p w x : Word) (ws rest : List Word) → ws ≡ p ∷ x ∷ rest → slice_get ws 1 ≡ Some w → w ≡ x
+second_word p w x ws rest are at = (let e : Some x ≡ Some w = sym (ap (λ l. slice_get l 1) are) ∙ at in cc)
+
+-- the command that the words tell, and its arguments
+abbrev Told : Asked → Word → List Word → Type 0
+Told a w ws = (count : ℕ) × Names w (command_in a) count × Arguments a (drop count ws)
+
+pub told : (a : Asked) (w : Word) (ws : List Word) → IsRequest a ws → slice_get ws 1 ≡ Some w → Told a w ws
+told (Listed services json file) w ws (arguments, (p, inl are), ps, say, argues) at =
+    (2, inl (refl, second_word p w (codes "list") ws arguments are at), subst (Arguments (Listed services json file)) (sym (ap (drop 2) are)) (ps, say, argues))
+told (Listed services json file) w ws (arguments, (p, inr (x, rest, name, begins, are)), ps, say, argues) at =
+    (1, inr (refl, subst IsNoName (sym (second_word p w x ws rest (are ∙ ap (λ l. p ∷ l) begins) at)) name), subst (Arguments (Listed services json file)) (sym (ap (drop 1) are)) (ps, say, argues))
+told (Written number end services file) w ws (arguments, (p, are), ps, say, argues) at =
+    (2, (refl, second_word p w (codes "text") ws arguments are at), subst (Arguments (Written number end services file)) (sym (ap (drop 2) are)) (ps, say, argues))
+told (Judged end services json files) w ws (arguments, (p, inl are), ps, say, argues) at =
+    (2, (refl, inl (second_word p w (codes "check") ws arguments are at)), subst (Arguments (Judged end services json files)) (sym (ap (drop 2) are)) (ps, say, argues))
+told (Judged end services json files) w ws (arguments, (p, inr are), ps, say, argues) at =
+    (2, (refl, inr (second_word p w (codes "--check") ws arguments are at)), subst (Arguments (Judged end services json files)) (sym (ap (drop 2) are)) (ps, say, argues))
+
+-- ---- and back
+
+two_words : (w : Word) (ws : List Word) → slice_get ws 1 ≡ Some w → (p : Word) × (ws ≡ p ∷ w ∷ drop 2 ws)
+two_words w [] at = cc
+two_words w (p ∷ []) at = cc
+two_words w (p ∷ x ∷ ws) at = (p, ap (λ y. p ∷ y ∷ ws) (let e : x ≡ w = cc in e))
+
+pub asks : (a : Asked) (w : Word) (ws : List Word) (c : Command) (count : ℕ) → slice_get ws 1 ≡ Some w → Names w c count → Calls c a → Arguments a (drop count ws) → IsRequest a ws
+asks (Listed services json file) w ws command.List count at (inl (two, is)) calls said =
+    let found = two_words w ws at in
+    let it = subst (λ n. Arguments (Listed services json file) (drop n ws)) two said in
+    (drop 2 ws, (found.0, inl (found.1 ∙ ap (λ x. found.0 ∷ x ∷ drop 2 ws) is)), it.0, it.1, it.2)
+asks (Listed services json file) w ws command.List count at (inr (one, name)) calls said =
+    let found = two_words w ws at in
+    let rest : drop 1 ws ≡ w ∷ drop 2 ws = ap (drop 1) found.1 in
+    let it = subst (λ n. Arguments (Listed services json file) (drop n ws)) one said in
+    (drop 1 ws, (found.0, inr (w, drop 2 ws, name, rest, found.1 ∙ ap (λ l. found.0 ∷ l) (sym rest))), it.0, it.1, it.2)
+asks (Written number end services file) w ws command.Text count at (two, is) calls said =
+    let found = two_words w ws at in
+    let it = subst (λ n. Arguments (Written number end services file) (drop n ws)) two said in
+    (drop 2 ws, (found.0, found.1 ∙ ap (λ x. found.0 ∷ x ∷ drop 2 ws) is), it.0, it.1, it.2)
+asks (Judged end services json files) w ws command.Check count at (two, inl is) calls said =
+    let found = two_words w ws at in
+    let it = subst (λ n. Arguments (Judged end services json files) (drop n ws)) two said in
+    (drop 2 ws, (found.0, inl (found.1 ∙ ap (λ x. found.0 ∷ x ∷ drop 2 ws) is)), it.0, it.1, it.2)
+asks (Judged end services json files) w ws command.Check count at (two, inr is) calls said =
+    let found = two_words w ws at in
+    let it = subst (λ n. Arguments (Judged end services json files) (drop n ws)) two said in
+    (drop 2 ws, (found.0, inr (found.1 ∙ ap (λ x. found.0 ∷ x ∷ drop 2 ws) is)), it.0, it.1, it.2)
+asks (Listed services json file) w ws command.Text count at names calls said = absurd calls
+asks (Listed services json file) w ws command.Check count at names calls said = absurd calls
+asks (Written number end services file) w ws command.List count at names calls said = absurd calls
+asks (Written number end services file) w ws command.Check count at names calls said = absurd calls
+asks (Judged end services json files) w ws command.List count at names calls said = absurd calls
+asks (Judged end services json files) w ws command.Text count at names calls said = absurd calls
+
+-- ---- a word tells one command
+
+-- the first letters of the commands differ
+letters : (w a b : Word) (x y : ℕ) → w ≡ a → w ≡ b → get_or a 0 0 ≡ x → get_or b 0 0 ≡ y → x ≢ y → ⊥
+letters w a b x y one other ax by not = not (sym ax ∙ ap (λ v. get_or v 0 0) (sym one ∙ other) ∙ by)
+
+pub one_command : (w : Word) (c d : Command) (k l : ℕ) → Names w c k → Names w d l → (c ≡ d) × (k ≡ l)
+one_command w command.List command.List k l (inl one) (inl other) = (refl, one.0 ∙ sym other.0)
+one_command w command.List command.List k l (inl one) (inr other) = absurd (other.1.0 one.1)
+one_command w command.List command.List k l (inr one) (inl other) = absurd (one.1.0 other.1)
+one_command w command.List command.List k l (inr one) (inr other) = (refl, one.0 ∙ sym other.0)
+one_command w command.List command.Text k l (inl one) other = absurd (letters w (codes "list") (codes "text") 108 116 one.1 other.1 refl refl (λ e. omega (arith, e)))
+one_command w command.List command.Text k l (inr one) other = absurd (one.1.1 other.1)
+one_command w command.List command.Check k l (inl one) (two, inl is) = absurd (letters w (codes "list") (codes "check") 108 99 one.1 is refl refl (λ e. omega (arith, e)))
+one_command w command.List command.Check k l (inl one) (two, inr is) = absurd (letters w (codes "list") (codes "--check") 108 45 one.1 is refl refl (λ e. omega (arith, e)))
+one_command w command.List command.Check k l (inr one) (two, inl is) = absurd (one.1.2 is)
+one_command w command.List command.Check k l (inr one) (two, inr is) = absurd (one.1.3 is)
+one_command w command.Text command.List k l one (inl other) = absurd (letters w (codes "text") (codes "list") 116 108 one.1 other.1 refl refl (λ e. omega (arith, e)))
+one_command w command.Text command.List k l one (inr other) = absurd (other.1.1 one.1)
+one_command w command.Text command.Text k l one other = (refl, one.0 ∙ sym other.0)
+one_command w command.Text command.Check k l one (two, inl is) = absurd (letters w (codes "text") (codes "check") 116 99 one.1 is refl refl (λ e. omega (arith, e)))
+one_command w command.Text command.Check k l one (two, inr is) = absurd (letters w (codes "text") (codes "--check") 116 45 one.1 is refl refl (λ e. omega (arith, e)))
+one_command w command.Check command.List k l (two, inl is) (inl other) = absurd (letters w (codes "check") (codes "list") 99 108 is other.1 refl refl (λ e. omega (arith, e)))
+one_command w command.Check command.List k l (two, inr is) (inl other) = absurd (letters w (codes "--check") (codes "list") 45 108 is other.1 refl refl (λ e. omega (arith, e)))
+one_command w command.Check command.List k l (two, inl is) (inr other) = absurd (other.1.2 is)
+one_command w command.Check command.List k l (two, inr is) (inr other) = absurd (other.1.3 is)
+one_command w command.Check command.Text k l (two, inl is) other = absurd (letters w (codes "check") (codes "text") 99 116 is other.1 refl refl (λ e. omega (arith, e)))
+one_command w command.Check command.Text k l (two, inr is) other = absurd (letters w (codes "--check") (codes "text") 45 116 is other.1 refl refl (λ e. omega (arith, e)))
+one_command w command.Check command.Check k l one other = (refl, one.0 ∙ sym other.0)
+
+-- ---- the arguments
+
+at_most_one : (json : Bool) → (if json then 1 else 0) ≤ 1
+at_most_one true = omega arith
+at_most_one false = omega arith
+
+one_end : (at : Option End) → length (option_to_list at) ≤ 1
+one_end None = omega arith
+one_end (Some x) = omega arith
+
+once : (ps : List Part) (ports : List ℕ) (json : Bool) (at : Option End) (words : List Word) → Have ps ports json at words → IsOnce ps
+once ps ports json at words h = (subst (λ n. n ≤ 1) (sym h.1) (at_most_one json), subst (λ l. length l ≤ 1) (sym h.2) (one_end at))
+
+argues_once : (a : Asked) (ps : List Part) → Argues a ps → IsOnce ps
+argues_once (Listed services json file) ps argues = once ps services json None (file ∷ []) argues
+argues_once (Written number end services file) ps argues = once ps services false None (argues.0 ∷ end_word end ∷ file ∷ []) argues.2
+argues_once (Judged at services json files) ps argues = once ps services json at files argues.1
+
+pub the_arguments : (a : Asked) (w : Word) (ws : List Word) (c : Command) (k : ℕ) → IsRequest a ws → slice_get ws 1 ≡ Some w → Names w c k → Calls c a × (ps : List Part) × Say (drop k ws) ps × IsOnce ps × Argues a ps
+the_arguments a w ws c k request at names =
+    let found = told a w ws request at in
+    let same = one_command w c (command_in a) k found.0 names found.1 in
+    (subst (λ d. Calls d a) (sym same.0) (calls_itself a), found.2.0, subst (λ n. Say (drop n ws) found.2.0) (sym same.1) found.2.1, argues_once a found.2.0 found.2.2, found.2.2)
+
+pub count_fits : (w : Word) (ws : List Word) (c : Command) (k : ℕ) → slice_get ws 1 ≡ Some w → Names w c k → k ≤ length ws
+count_fits w ws command.List k at (inl (two, is)) = omega (arith, two, slice_get_within ws 1 w at)
+count_fits w ws command.List k at (inr (one, name)) = omega (arith, one, slice_get_within ws 1 w at)
+count_fits w ws command.Text k at (two, is) = omega (arith, two, slice_get_within ws 1 w at)
+count_fits w ws command.Check k at (two, is) = omega (arith, two, slice_get_within ws 1 w at)
+
+-- no transfer has this number
+pub no_number : (items : List (Bor Word)) (d : Bor Word) (ps : List Part) (a : Asked) → plains ps ≡ map (λ (w : Bor Word). w.now) items → Calls command.Text a → Argues a ps → ((n : ℕ) → IsTransfer (get_or items 0 d).now n → ⊥) → ⊥
+no_number items d ps (Listed services json file) are calls argues none = calls
+no_number items d ps (Judged at services json files) are calls argues none = calls
+no_number [] d ps (Written number end services file) are calls argues none = (let bad : [] ≡ argues.0 ∷ end_word end ∷ file ∷ [] = sym are ∙ argues.2.3 in cc)
+no_number (x ∷ items) d ps (Written number end services file) are calls argues none =
+    let same : argues.0 ≡ x.now = ap (λ l. get_or l 0 []) (sym argues.2.3 ∙ are) in
+    none number (subst (λ t. IsTransfer t number) same argues.1)

@@ -1,0 +1,5 @@
+pub mod PartLemmas
+pub mod Having
+pub mod Saying
+pub mod Reading
+pub mod Asking

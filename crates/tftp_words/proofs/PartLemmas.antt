@@ -1,0 +1,84 @@
+-- How the words begin.
+use Rattle.std.proofs.Common.{◌≡◌, ◌≢◌, ◌⊎◌, inl, inr, ℕ, List, [], ◌∷◌, ◌++◌, length, Bool, true, false, Option, Some, codes, ◌==◌, refl, sym, ap, ◌∙◌, append-nil, get_or, subst, arith}
+use Rattle.tftp_packet.specs.declared.kinds.End.{End}
+use Rattle.std.proofs.lemmas.List.{append_cancel_left}
+use Rattle.tftp_words.specs.Parts.{Word, Part, Service, Json, At, Plain, IsOption, IsPlain, IsPort, Gives, Begins, Says, end_word}
+
+pub no_name : (name word : Word) (next : Option Word) → ((rest : Word) → word ≡ name ++ rest → ⊥) → (value : Word) (count : ℕ) → Gives name word next value count → ⊥
+no_name name word next not value count (inl (one, is)) = not _ is
+no_name name word next not value count (inr (two, is, second)) = not [] (is ∙ sym (append-nil name))
+
+pub no_value : (name word after : Word) (next : Option Word) → word ≡ name ++ after → (length after == 0) ≡ false → ((rest : Word) → after ≡ 61 ∷ rest → ⊥) → (value : Word) (count : ℕ) → Gives name word next value count → ⊥
+no_value name word after next are some not value count (inl (one, is)) = not value (append_cancel_left name after (61 ∷ value) (sym are ∙ is))
+no_value name word after next are some not value count (inr (two, is, second)) =
+    let none : after ≡ [] = append_cancel_left name after [] (sym are ∙ is ∙ sym (append-nil name)) in
+    let bad : true ≡ false = sym (ap (λ w. length w == 0) none) ∙ some in
+    cc
+
+-- an option has one value
+pub one_value : (name word : Word) (next : Option Word) (v w : Word) (k l : ℕ) → Gives name word next v k → Gives name word next w l → v ≡ w
+one_value name word next v w k l (inl (one, is)) (inl (other, also)) = let both : 61 ∷ v ≡ 61 ∷ w = append_cancel_left name (61 ∷ v) (61 ∷ w) (sym is ∙ also) in cc
+one_value name word next v w k l (inl (one, is)) (inr (other, also, second)) =
+    let bad : 61 ∷ v ≡ [] = append_cancel_left name (61 ∷ v) [] (sym is ∙ also ∙ sym (append-nil name)) in cc
+one_value name word next v w k l (inr (one, is, first)) (inl (other, also)) =
+    let bad : 61 ∷ w ≡ [] = append_cancel_left name (61 ∷ w) [] (sym also ∙ is ∙ sym (append-nil name)) in cc
+one_value name word next v w k l (inr (one, is, first)) (inr (other, also, second)) = cc
+
+-- an option is given by one word or by two
+pub given_by_one : (name value word : Word) (next : Option Word) (count : ℕ) → count ≡ 1 → IsOption name value (word ∷ []) → Gives name word next value count
+given_by_one name value word next count one (inl is) = cc
+given_by_one name value word next count one (inr is) = inl (one, cc)
+
+pub given_by_two : (name value word second : Word) (next : Option Word) (count : ℕ) → count ≡ 2 → next ≡ Some second → IsOption name value (word ∷ second ∷ []) → Gives name word next value count
+given_by_two name value word second next count two at (inl is) = inr (two, cc, cc)
+given_by_two name value word second next count two at (inr is) = cc
+
+pub service_given : (word : Word) (next : Option Word) (port count : ℕ) → Begins word next (Service port) count → (text : Word) × IsPort text port × Gives (codes "--service") word next text count
+service_given word next port count (inl (one, (text, is, option))) = (text, is, given_by_one (codes "--service") text word next count one option)
+service_given word next port count (inr (two, second, at, (text, is, option))) = (text, is, given_by_two (codes "--service") text word second next count two at option)
+
+pub end_given : (word : Word) (next : Option Word) (end : End) (count : ℕ) → Begins word next (At end) count → Gives (codes "--end") word next (end_word end) count
+end_given word next end count (inl (one, option)) = given_by_one (codes "--end") (end_word end) word next count one option
+end_given word next end count (inr (two, second, at, option)) = given_by_two (codes "--end") (end_word end) word second next count two at option
+
+pub third_of : (name word : Word) (next : Option Word) (v : Word) (k x : ℕ) → ((rest : Word) → get_or (name ++ rest) 2 0 ≡ x) → Gives name word next v k → get_or word 2 0 ≡ x
+third_of name word next v k x at (inl (one, is)) = ap (λ w. get_or w 2 0) is ∙ at (61 ∷ v)
+third_of name word next v k x at (inr (two, is, second)) = ap (λ w. get_or w 2 0) (is ∙ sym (append-nil name)) ∙ at []
+
+-- no words begin with two options
+pub two_names : (word : Word) (next : Option Word) (v w : Word) (k l : ℕ) → Gives (codes "--service") word next v k → Gives (codes "--end") word next w l → ⊥
+two_names word next v w k l one other =
+    let bad : 115 ≡ 101 = sym (third_of (codes "--service") word next v k 115 (λ rest. refl) one) ∙ third_of (codes "--end") word next w l 101 (λ rest. refl) other in
+    absurd (omega (arith, bad))
+
+not_json : (word : Word) (next : Option Word) (count : ℕ) → word ≢ codes "--json" → Begins word next Json count → ⊥
+not_json word next count not (inl (one, is)) = not (ap (λ ws. get_or ws 0 []) is)
+not_json word next count not (inr (two, second, at, is)) = cc
+
+not_plain : (word w : Word) (next : Option Word) (count : ℕ) → (IsPlain word → ⊥) → Begins word next (Plain w) count → ⊥
+not_plain word w next count not (inl (one, (plain, is))) = not (subst IsPlain (sym (ap (λ ws. get_or ws 0 []) is)) plain)
+not_plain word w next count not (inr (two, second, at, (plain, is))) = cc
+
+-- the words of an option without its value are no part
+pub no_port : (word : Word) (next : Option Word) (text : Word) (k : ℕ) → (IsPlain word → ⊥) → word ≢ codes "--json" → Gives (codes "--service") word next text k → ((port : ℕ) → IsPort text port → ⊥)
+    → (p : Part) (count : ℕ) → Begins word next p count → ⊥
+no_port word next text k plain json option none (Service port) count begins =
+    let given = service_given word next port count begins in
+    none port (subst (λ t. IsPort t port) (one_value (codes "--service") word next given.0 text count k given.2 option) given.1)
+no_port word next text k plain json option none Json count begins = not_json word next count json begins
+no_port word next text k plain json option none (At end) count begins = two_names word next text (end_word end) k count option (end_given word next end count begins)
+no_port word next text k plain json option none (Plain w) count begins = not_plain word w next count plain begins
+
+pub no_end : (word : Word) (next : Option Word) (text : Word) (k : ℕ) → (IsPlain word → ⊥) → word ≢ codes "--json" → Gives (codes "--end") word next text k → ((end : End) → text ≢ end_word end)
+    → (p : Part) (count : ℕ) → Begins word next p count → ⊥
+no_end word next text k plain json option none (Service port) count begins = let given = service_given word next port count begins in two_names word next given.0 text count k given.2 option
+no_end word next text k plain json option none Json count begins = not_json word next count json begins
+no_end word next text k plain json option none (At end) count begins = none end (one_value (codes "--end") word next text (end_word end) k count option (end_given word next end count begins))
+no_end word next text k plain json option none (Plain w) count begins = not_plain word w next count plain begins
+
+pub no_part : (word : Word) (next : Option Word) → (IsPlain word → ⊥) → word ≢ codes "--json" → ((v : Word) (k : ℕ) → Gives (codes "--service") word next v k → ⊥) → ((v : Word) (k : ℕ) → Gives (codes "--end") word next v k → ⊥)
+    → (p : Part) (count : ℕ) → Begins word next p count → ⊥
+no_part word next plain json service end (Service port) count begins = let given = service_given word next port count begins in service given.0 count given.2
+no_part word next plain json service end Json count begins = not_json word next count json begins
+no_part word next plain json service end (At at) count begins = end (end_word at) count (end_given word next at count begins)
+no_part word next plain json service end (Plain w) count begins = not_plain word w next count plain begins

@@ -1,0 +1,108 @@
+-- The parts of a command line: options with their values, and words that are none.
+use Rattle.std.specs.Prelude.{◌≡◌, ◌≢◌, ◌⊎◌, ◌≤◌, ◌<◌, ◌^◌, ℕ, ◌+◌, List, [], ◌∷◌, ◌++◌, codes, map, Option, Some, Bool, if◌then◌else◌, option_to_list, length}
+use Rattle.tftp_words.specs.declared.given.Given.{Given}
+use Rattle.std.specs.Str.Parse.{IsNumeral, digits_value, without_leading_plus}
+use Rattle.tftp_packet.specs.declared.kinds.End.{End}
+use Rattle.tftp_packet.specs.declared.kinds.End.TheVariants as end
+use Rattle.tftp_words.specs.declared.part.Part.TheVariants as code
+use Rattle.tftp_words.specs.declared.part.Part as code_part
+
+abbrev pub Word : Type 0
+Word = List ℕ
+
+-- a port to which requests go, JSON, the end at which the recording was made, a word that is no option
+pub data Part : Type 0 where
+  Service : (port : ℕ) → Part
+  Json : Part
+  At : (end : End) → Part
+  Plain : (word : Word) → Part
+
+-- decimal digits, before which a plus may stand, write this number
+abbrev pub IsNumber : Word → ℕ → Type 0
+IsNumber text n = IsNumeral 10 (without_leading_plus text) × (n ≡ digits_value 10 (without_leading_plus text))
+
+abbrev pub IsPort : Word → ℕ → Type 0
+IsPort text port = IsNumber text port × (1 ≤ port) × (port < 2 ^ 16)
+
+-- the number of a transfer, of which the first is 1
+abbrev pub IsTransfer : Word → ℕ → Type 0
+IsTransfer text number = IsNumber text number × (1 ≤ number) × (number < 2 ^ 64)
+
+abbrev pub end_word : End → Word
+end_word end.Client = codes "client"
+end_word end.Server = codes "server"
+
+-- an option's name and its value, in two words or with = in one
+abbrev pub IsOption : Word → Word → List Word → Type 0
+IsOption name value words = (words ≡ name ∷ value ∷ []) ⊎ (words ≡ (name ++ (codes "=" ++ value)) ∷ [])
+
+-- a word that begins with no minus, or is a minus alone
+abbrev pub IsPlain : Word → Type 0
+IsPlain word = ((rest : Word) → word ≢ codes "-" ++ rest) ⊎ (word ≡ codes "-")
+
+-- the words say this part, and nothing else
+abbrev pub Says : List Word → Part → Type 0
+Says words (Service port) = (text : Word) × IsPort text port × IsOption (codes "--service") text words
+Says words Json = words ≡ codes "--json" ∷ []
+Says words (At end) = IsOption (codes "--end") (end_word end) words
+Says words (Plain word) = IsPlain word × (words ≡ word ∷ [])
+
+-- the words begin with this option, which takes one of them or two
+abbrev pub Gives : Word → Word → Option Word → Word → ℕ → Type 0
+Gives name word next value count =
+    ((count ≡ 1) × (word ≡ name ++ (codes "=" ++ value)))
+    ⊎ ((count ≡ 2) × (word ≡ name) × (next ≡ Some value))
+
+-- the words begin with this part, which takes one of them or two
+abbrev pub Begins : Word → Option Word → Part → ℕ → Type 0
+Begins word next p count =
+    ((count ≡ 1) × Says (word ∷ []) p)
+    ⊎ ((count ≡ 2) × (second : Word) × (next ≡ Some second) × Says (word ∷ second ∷ []) p)
+
+-- The words say these parts, one after the other; each word after `--` is no option.
+pub data Say : List Word → List Part → Type 0 where
+  Done : Say [] []
+  First : (mine rest : List Word) (p : Part) (ps : List Part) → Says mine p → Say rest ps → Say (mine ++ rest) (p ∷ ps)
+  Rest : (words : List Word) → Say (codes "--" ∷ words) (map Plain words)
+
+-- ---- what the parts have, each in its order
+
+abbrev pub services : List Part → List ℕ
+services [] = []
+services (Service port ∷ ps) = port ∷ services ps
+services (_ ∷ ps) = services ps
+
+abbrev pub ends : List Part → List End
+ends [] = []
+ends (At end ∷ ps) = end ∷ ends ps
+ends (_ ∷ ps) = ends ps
+
+abbrev pub plains : List Part → List Word
+plains [] = []
+plains (Plain word ∷ ps) = word ∷ plains ps
+plains (_ ∷ ps) = plains ps
+
+-- how often JSON is wanted
+abbrev pub jsons : List Part → ℕ
+jsons [] = 0
+jsons (Json ∷ ps) = 1 + jsons ps
+jsons (_ ∷ ps) = jsons ps
+
+-- JSON and an end are said once at most
+abbrev pub IsOnce : List Part → Type 0
+IsOnce ps = (jsons ps ≤ 1) × (length (ends ps) ≤ 1)
+
+-- the parts have these ports, JSON or not, this end if any, and these words
+abbrev pub Have : List Part → List ℕ → Bool → Option End → List Word → Type 0
+Have ps ports json at words =
+    (services ps ≡ ports) × (jsons ps ≡ (if json then 1 else 0)) × (ends ps ≡ option_to_list at) × (plains ps ≡ words)
+
+-- what the code holds of a part
+abbrev pub part : code_part.Part → Part
+part (code.Service port) = Service port
+part code.Json = Json
+part (code.End end) = At end
+part (code.Plain word) = Plain word.now
+
+abbrev pub Holds : Given → List Part → Type 0
+Holds given ps = Have ps given.services.items given.json given.end (map (λ word. word.now) given.plain.items)

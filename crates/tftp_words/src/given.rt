@@ -1,0 +1,117 @@
+ghost use Rattle.std.specs.Prelude.{◌≡◌, ◌++◌, ◌∷◌, [], ◌⊎◌, Err, IfOk, OnOk, IsOkAnd, map, option_map, slice_get};
+ghost use Rattle.tftp_words.specs.Parts.{Holds, IsOnce, Plain, Say};
+ghost use Rattle.tftp_words.specs.Parts.{part as part_said};
+ghost use Rattle.tftp_words.specs.declared.given.ReadFault.TheVariants.{Memory};
+
+use crate::part::{Part, first_part};
+use std::alloc::{AllocError, AllocFailed, Global};
+use std::convert::AsStr;
+use tftp_packet::End;
+
+/// What the parts of the words give.
+#[derive(Debug, Drop)]
+pub struct Given<'a> {
+    /// The ports to which requests go, in the order of the words.
+    pub services: Vec<u16>,
+    /// Whether the answer is wanted in JSON.
+    pub json: bool,
+    /// Where the recording was made, if that is said.
+    pub end: Option<End>,
+    /// The words that are no options, in their order.
+    pub plain: Vec<&'a str>,
+}
+
+/// Why words are not read.
+#[derive(Clone, Copy, Debug, PartialEq, Eq)]
+pub enum ReadFault {
+    /// They say nothing that the program can be asked for.
+    Unknown,
+    /// Memory was refused.
+    Memory,
+}
+
+impl From<AllocError> for ReadFault {
+    ghost from_gives = { λ _ fault. fault ≡ Memory };
+
+    fn from(_error: AllocError) -> ReadFault {
+        ReadFault::Memory
+    }
+}
+
+impl<T: Drop> From<AllocFailed<T>> for ReadFault {
+    ghost from_gives = { λ _ fault. fault ≡ Memory };
+
+    fn from(_error: AllocFailed<T>) -> ReadFault {
+        ReadFault::Memory
+    }
+}
+
+impl<'a> Given<'a> {
+    fn new(alloc: Global) -> Given<'a>
+        ensures { Holds result [] }
+    {
+        Given {
+            services: Vec::new(alloc),
+            json: false,
+            end: None,
+            plain: Vec::new(alloc),
+        }
+    }
+
+    /// Adds a part; JSON and an end are said once at most.
+    fn add(&mut self, part: Part<'a>) -> Result<(), ReadFault>
+        ensures ok { (ps : _) → Holds self.old ps → OnOk result (Holds self.new (ps ++ part_said part.entry ∷ [])) }
+        ensures once { (ps qs : _) → Holds self.old ps → result ≡ Err ReadFault.Unknown → IsOnce (ps ++ part_said part.entry ∷ qs) → ⊥ }
+    {
+        match part {
+            Part::Service(port) => self.services.push(port)?,
+            Part::Json if self.json => return Err(ReadFault::Unknown),
+            Part::Json => self.json = true,
+            Part::End(_) if self.end.is_some() => return Err(ReadFault::Unknown),
+            Part::End(end) => self.end = Some(end),
+            Part::Plain(word) => self.plain.push(word)?,
+        }
+        Ok(())
+    }
+
+    /// Adds words that are no options.
+    fn add_plain<S: AsStr>(&mut self, words: &'a [S]) -> Result<(), AllocError>
+        ensures { (ps : _) → Holds self.old ps → OnOk result (Holds self.new (ps ++ map Plain (map S.text words.entry.now))) }
+    {
+        for word in words {
+            self.plain.push(word.as_str())?;
+        }
+        Ok(())
+    }
+}
+
+/// The word at a place, where there is one.
+pub fn word_at<S: AsStr>(words: &[S], at: usize) -> Option<&str>
+    ensures { option_map (λ s. s.now) result ≡ slice_get (map S.text words.entry.now) at }
+{
+    match words.get(at) {
+        Some(word) => Some(word.as_str()),
+        None => None,
+    }
+}
+
+/// What the words give, part after part.
+pub fn given_of<'a, S: AsStr>(alloc: Global, words: &'a [S]) -> Result<Given<'a>, ReadFault>
+    ensures ok { IfOk result (λ given. (ps : _) × Say (map S.text words.entry.now) ps × Holds given ps) }
+    ensures only { (ps : _) → Say (map S.text words.entry.now) ps → IsOnce ps → IsOkAnd result (λ given. Holds given ps) ⊎ (result ≡ Err Memory) }
+{
+    let mut given = Given::new(alloc);
+    let mut rest = words;
+    while let Some(word) = word_at(rest, 0) {
+        if word == "--" {
+            given.add_plain(rest.split_at(1).1)?;
+            return Ok(given);
+        }
+        let Some((part, count)) = first_part(word, word_at(rest, 1)) else {
+            return Err(ReadFault::Unknown);
+        };
+        given.add(part)?;
+        rest = rest.split_at(count).1;
+    }
+    Ok(given)
+}

@@ -1,0 +1,159 @@
+ghost use Rattle.std.specs.Prelude.{◌≡◌, ◌⊎◌, ℕ, Err, IfOk, IsOkAnd, MatchOption, map};
+ghost use Rattle.tftp_words.specs.Parts.{Holds};
+ghost use Rattle.tftp_words.specs.Asked.{Argues, Calls, IsRequest, Names, asked};
+ghost use Rattle.tftp_words.specs.declared.given.ReadFault.TheVariants.{Memory};
+
+use crate::given::{Given, ReadFault, given_of, word_at};
+use crate::part::{end_of, transfer_of};
+use std::alloc::Global;
+use std::convert::AsStr;
+use tftp_packet::End;
+
+/// What the program is asked for.
+#[derive(Debug, Drop)]
+pub enum Request<'a> {
+    /// The transfers of a recording, a line each.
+    List(ListRequest<'a>),
+    /// The capture text of a transfer.
+    Text(TextRequest<'a>),
+    /// The verdict on each transfer.
+    Check(CheckRequest<'a>),
+}
+
+/// Which transfers are to be listed.
+#[derive(Debug, Drop)]
+pub struct ListRequest<'a> {
+    /// The ports that were named, to which requests go as they do to 69.
+    pub services: Vec<u16>,
+    /// Whether each line is a JSON object.
+    pub json: bool,
+    /// The recording; `-` is standard input.
+    pub file: &'a str,
+}
+
+/// Of which transfer the text is wanted.
+#[derive(Debug, Drop)]
+pub struct TextRequest<'a> {
+    /// Its number in the recording, from 1.
+    pub number: u64,
+    /// The end at which the text is that of the capture.
+    pub end: End,
+    /// The ports that were named, to which requests go as they do to 69.
+    pub services: Vec<u16>,
+    /// The recording; `-` is standard input.
+    pub file: &'a str,
+}
+
+/// Which transfers are to be judged.
+#[derive(Debug, Drop)]
+pub struct CheckRequest<'a> {
+    /// The end at which the recordings were made, if that is said.
+    pub end: Option<End>,
+    /// The ports that were named, to which requests go as they do to 69.
+    pub services: Vec<u16>,
+    /// Whether each line is a JSON object.
+    pub json: bool,
+    /// The recordings, one or more; `-` is standard input.
+    pub files: Vec<&'a str>,
+}
+
+/// What the program is told to do.
+#[derive(Clone, Copy, Debug, PartialEq, Eq)]
+enum Command {
+    List,
+    Text,
+    Check,
+}
+
+/// The command that the word after the program's name tells, and how many words stand before its arguments. A word that
+/// names none is the first argument of `list`.
+fn command_of(word: &str) -> Option<(Command, usize)>
+    ensures { MatchOption result ((command : _) (count : ℕ) → Names word.now command count → ⊥) (λ told. Names word.now told.0 told.1) }
+{
+    match word {
+        "list" => Some((Command::List, 2)),
+        "text" => Some((Command::Text, 2)),
+        "check" => Some((Command::Check, 2)),
+        "--check" => Some((Command::Check, 2)),
+        "help" => None,
+        _ => Some((Command::List, 1)),
+    }
+}
+
+fn list_of<'a>(given: Given<'a>) -> Result<Request<'a>, ReadFault>
+    ensures ok { (ps : _) → Holds given.entry ps → IfOk result (λ r. Calls Command.List (asked r) × Argues (asked r) ps) }
+    ensures only { (ps a : _) → Holds given.entry ps → Calls Command.List a → Argues a ps → IsOkAnd result (λ r. asked r ≡ a) }
+{
+    let Given {
+        services,
+        json,
+        end,
+        plain,
+    } = given;
+    match (end, plain.as_slice()) {
+        (None, [file]) => Ok(Request::List(ListRequest {
+            services,
+            json,
+            file: *file,
+        })),
+        _ => Err(ReadFault::Unknown),
+    }
+}
+
+fn text_of<'a>(given: Given<'a>) -> Result<Request<'a>, ReadFault>
+    ensures ok { (ps : _) → Holds given.entry ps → IfOk result (λ r. Calls Command.Text (asked r) × Argues (asked r) ps) }
+    ensures only { (ps a : _) → Holds given.entry ps → Calls Command.Text a → Argues a ps → IsOkAnd result (λ r. asked r ≡ a) }
+{
+    let Given {
+        services,
+        json,
+        end,
+        plain,
+    } = given;
+    if json || end.is_some() {
+        return Err(ReadFault::Unknown);
+    }
+    match plain.as_slice() {
+        [number, end, file] => Ok(Request::Text(TextRequest {
+            number: transfer_of(*number).ok_or(ReadFault::Unknown)?,
+            end: end_of(*end).ok_or(ReadFault::Unknown)?,
+            services,
+            file: *file,
+        })),
+        _ => Err(ReadFault::Unknown),
+    }
+}
+
+fn check_of<'a>(given: Given<'a>) -> Result<Request<'a>, ReadFault>
+    ensures ok { (ps : _) → Holds given.entry ps → IfOk result (λ r. Calls Command.Check (asked r) × Argues (asked r) ps) }
+    ensures only { (ps a : _) → Holds given.entry ps → Calls Command.Check a → Argues a ps → IsOkAnd result (λ r. asked r ≡ a) }
+{
+    if given.plain.is_empty() {
+        return Err(ReadFault::Unknown);
+    }
+    Ok(Request::Check(CheckRequest {
+        end: given.end,
+        services: given.services,
+        json: given.json,
+        files: given.plain,
+    }))
+}
+
+/// The request that the words make, the first of which is the program's name.
+pub fn requested<'a, S: AsStr>(alloc: Global, words: &'a [S]) -> Result<Request<'a>, ReadFault>
+    ensures ok { IfOk result (λ r. IsRequest (asked r) (map S.text words.entry.now)) }
+    ensures only { (a : _) → IsRequest a (map S.text words.entry.now) → IsOkAnd result (λ r. asked r ≡ a) ⊎ (result ≡ Err Memory) }
+{
+    let Some(word) = word_at(words, 1) else {
+        return Err(ReadFault::Unknown);
+    };
+    let Some((command, count)) = command_of(word) else {
+        return Err(ReadFault::Unknown);
+    };
+    let given = given_of(alloc, words.split_at(count).1)?;
+    match command {
+        Command::List => list_of(given),
+        Command::Text => text_of(given),
+        Command::Check => check_of(given),
+    }
+}
