@@ -46,8 +46,8 @@ OTHERS = {
 
 @dataclasses.dataclass
 class Made:
-    """A recording, the lines of its datagrams, the numbers of the frames that are left out, and whether tshark reads it as
-    RFC 8200 has it."""
+    """A recording, the lines of its datagrams, the numbers of the frames that are left out, and whether tshark reads
+    it as RFC 8200 has it."""
 
     file: bytes
     rows: list[str]
@@ -108,7 +108,8 @@ class Maker:
             return self.whole()
         self.chance.shuffle(parts)
         link = [self.chance.choice(self.links)]
-        frames = [self.frame(self.packet(it, content, self.named(it, part), part), links=link) for part, content in parts]
+        packets = [self.packet(it, content, self.named(it, part), part) for part, content in parts]
+        frames = [self.frame(packet, links=link) for packet in packets]
         return [(frame, None) for frame in frames[:-1]] + [(frames[-1], it)]
 
     def named(self, it: Datagram, part: Fragment) -> int:
@@ -265,8 +266,8 @@ class DatagramTrial(Trial):
             self.check(f"identification {id}, {apart} ns apart", got == (rows, left, "", 0), (got, rows, left))
 
     def try_protocols(self) -> None:
-        """A datagram of IPv6 in two fragments, of which the second names ICMP (RFC 8200, section 4.5), in both orders; and
-        ICMP whose second one names UDP."""
+        """A datagram of IPv6 in two fragments, of which the second names ICMP (RFC 8200, section 4.5), in both orders;
+        and ICMP whose second one names UDP."""
         it = Datagram("2001:db8::7", 40_000, "2001:db8::1", 69, bytes(range(32)))
         (first, head), (last, rest) = recorded.parts_of(recorded.udp(it), 24, 7)
         for kinds in (recorded.UDP, recorded.ICMP), (recorded.ICMP, recorded.UDP):

@@ -458,7 +458,8 @@ class Reader:
         """A packet whose last missing part came; all its frames share its fate."""
         try:
             content = bytes(it.cells[k] for k in range(it.reach))
-            self.add(at, frame, packet._replace(protocol=it.protocol, content=content))
+            protocol = packet.protocol if it.protocol is None else it.protocol
+            self.add(at, frame, packet._replace(protocol=protocol, content=content))
         except Fault as fault:
             self.leave(it.frames, str(fault))
 
