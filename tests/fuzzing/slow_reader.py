@@ -308,7 +308,7 @@ def ipv6(way: str, it: bytes) -> Packet:
         raise Fault("Header")
     total = 40 + number(it, 4)
     reached = over_headers(it[6], it[40:total])
-    if reached and not (reached[0] == UDP or (reached[1] and reached[0] in EXTENSIONS)):
+    if reached and reached[0] != UDP and not reached[1]:
         raise Fault("Protocol")
     if len(it) < total:
         raise Fault("Cut")
@@ -361,13 +361,15 @@ def udp_of(protocol: int, content: bytes) -> Udp:
 
 @dataclasses.dataclass
 class Waiting:
-    """The fragments of a packet that came: when the first did, their frames, their bytes by place, where it ends."""
+    """The fragments of a packet that came: when the first did, their frames, their bytes by place, where it ends, and
+    what the one at place 0 names."""
 
     began: Optional[int]
     frames: list[int] = dataclasses.field(default_factory=list)
     cells: dict[int, int] = dataclasses.field(default_factory=dict)
     reach: int = 0
     end: Optional[int] = None
+    protocol: Optional[int] = None
     is_spoiled: bool = False
 
     def room(self) -> int:
@@ -376,9 +378,11 @@ class Waiting:
     def is_old(self, time: Optional[int]) -> bool:
         return self.began is not None and time is not None and abs(self.began - time) > PATIENCE
 
-    def take(self, part: Part, content: bytes) -> bool:
+    def take(self, part: Part, protocol: int, content: bytes) -> bool:
         """Whether it can be of one packet with the others."""
         end = part.place + len(content)
+        if part.place == 0 and self.protocol not in (None, protocol):
+            return False
         if self.end is not None and (end > self.end or (end == self.end) == part.more):
             return False
         if not part.more and self.end is None and end <= self.reach:
@@ -388,13 +392,15 @@ class Waiting:
         self.cells.update((part.place + k, byte) for k, byte in enumerate(content))
         self.reach = max(self.reach, end)
         self.end = self.end if part.more else end
+        self.protocol = self.protocol if part.place else protocol
         return True
 
     def is_whole(self) -> bool:
         return self.end is not None and len(self.cells) == self.end
 
 
-Key = tuple[bytes, bytes, int, int]
+# The protocol tells packets of IPv4 apart alone (RFC 8200, section 4.5).
+Key = tuple[bytes, bytes, Optional[int], int]
 
 
 class Reader:
@@ -420,7 +426,7 @@ class Reader:
             if packet.part:
                 self.take_part(at, frame, packet, packet.part)
             else:
-                self.add(at, frame, packet, packet.content)
+                self.add(at, frame, packet)
         except Fault as fault:
             self.leave([at], str(fault))
 
@@ -431,7 +437,7 @@ class Reader:
 
     def take_part(self, at: int, frame: Frame, packet: Packet, part: Part) -> None:
         """A fragment: it waits, or none is missing any more, or it is left out."""
-        key = packet.source, packet.target, packet.protocol, part.id
+        key = packet.source, packet.target, packet.protocol if packet.version == IPV4 else None, part.id
         if key in self.waiting and self.waiting[key].is_old(frame.time):
             self.leave(self.waiting.pop(key).frames, "FragmentOld")
         if not packet.content:
@@ -439,7 +445,7 @@ class Reader:
         if part.place + len(packet.content) + part.more > LONGEST_PACKET:
             raise Fault("FragmentTooLong")
         it = self.waiting.setdefault(key, Waiting(frame.time))
-        if it.is_spoiled or not it.take(part, packet.content):
+        if it.is_spoiled or not it.take(part, packet.protocol, packet.content):
             self.leave(it.frames + [at], "FragmentsApart")
             it.frames, it.is_spoiled = [], True
             return
@@ -451,13 +457,15 @@ class Reader:
     def add_whole(self, at: int, frame: Frame, packet: Packet, it: Waiting) -> None:
         """A packet whose last missing part came; all its frames share its fate."""
         try:
-            self.add(at, frame, packet, bytes(it.cells[k] for k in range(it.reach)))
+            content = bytes(it.cells[k] for k in range(it.reach))
+            protocol = packet.protocol if it.protocol is None else it.protocol
+            self.add(at, frame, packet._replace(protocol=protocol, content=content))
         except Fault as fault:
             self.leave(it.frames, str(fault))
 
-    def add(self, at: int, frame: Frame, packet: Packet, content: bytes) -> None:
+    def add(self, at: int, frame: Frame, packet: Packet) -> None:
         """A whole packet."""
-        it = udp_of(packet.protocol, content)
+        it = udp_of(packet.protocol, packet.content)
         way = packet.way if packet.way != "unknown" else frame.way
         time = "-" if frame.time is None else str(frame.time)
         ends = written(packet.source), str(it.source), written(packet.target), str(it.target)

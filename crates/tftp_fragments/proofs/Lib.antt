@@ -1,4 +1,5 @@
 pub mod Contents
+pub mod Examples
 pub mod Fragmented
 pub mod Holding
 pub mod Keeping

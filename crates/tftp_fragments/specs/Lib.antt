@@ -4,3 +4,4 @@ pub mod KeyOrder
 pub mod Set
 pub mod Whole
 pub mod Store
+pub mod Worked

@@ -3,8 +3,9 @@ ghost use Rattle.std.specs.Global.{Vec};
 ghost use Rattle.tftp_fragments.specs.declared.content.Content.{Content as Given};
 ghost use Rattle.tftp_fragments.specs.Held.{content_of};
 ghost use Rattle.tftp_fragments.specs.Whole.{Content, Part, Give, IsCutInto, AreSame};
-ghost use Rattle.tftp_fragments.specs.Set.{Arrival, SetState, parts_of};
+ghost use Rattle.tftp_fragments.specs.Set.{AreApart, Arrival, SetState, parts_of};
 ghost use Rattle.tftp_fragments.specs.Store.{IsKeptOf, PutEnds};
+ghost use Rattle.tftp_fragments.specs.Worked.{first_of_icmp, first_of_udp, last_of_icmp, worked_content};
 
 use crate::outcome::Outcome;
 
@@ -25,4 +26,12 @@ pub fn last_fragment_gives_the_content()
     ensures { (old new : Option SetState) (all : ℕ) (arrivals : List Arrival) (a : Arrival) (parts : List Part) (whole : Content) (outcome : Outcome)
         → IsCutInto whole parts → AreSame parts (parts_of (a ∷ arrivals)) → length whole.bytes ≤ 65535 → a.part.content ≢ [] → IsKeptOf old arrivals → PutEnds old new all a outcome → outcome ≢ Outcome.Full
         → (content : Given) × (frames : Vec ℕ) × (outcome ≡ Outcome.Whole content frames) × (content_of content ≡ whole) }
+{}
+
+/// Worked examples: of two parts the first names UDP (17) and the last ICMP (58), and the content is of UDP, in either order
+/// (RFC 8200, section 4.5); and two first parts of which one names UDP and one ICMP are of no content together.
+pub fn worked_protocols()
+    ensures first { Give (first_of_udp ∷ last_of_icmp ∷ []) worked_content }
+    ensures last { Give (last_of_icmp ∷ first_of_udp ∷ []) worked_content }
+    ensures apart { AreApart (first_of_udp ∷ first_of_icmp ∷ []) }
 {}

@@ -15,6 +15,7 @@ pub use fragments::Fragments;
 pub use key::Key;
 pub use laws::{
     last_fragment_gives_the_content, parts_give_one_content, parts_in_any_order_give_their_content,
+    worked_protocols,
 };
 pub use outcome::Outcome;
 pub use part::Part;

@@ -1,5 +1,5 @@
 -- The worked examples.
-use Rattle.std.proofs.Common.{◌≡◌, ℕ, ◌+◌, Bool, true, false, inl, inr, List, [], ◌∷◌, ◌++◌, length, length-append, map, Option, Some, None, Vec, Global, cond, refl, sym, ap, ◌∙◌, subst, arith, rules}
+use Rattle.std.proofs.Common.{◌≡◌, ℕ, zero, suc, ◌+◌, Bool, true, false, inl, inr, List, [], ◌∷◌, ◌++◌, length, length-append, map, Option, Some, None, Vec, Global, cond, refl, sym, ap, ◌∙◌, subst, arith, rules}
 use Rattle.std.proofs.lemmas.List.{get_or-append-add, get_or-map, get_or_append_left, get_or_past, length-map}
 use Rattle.tftp_copies.specs.Copies.{Packet as Recorded, IsCopy}
 use Rattle.tftp_fragments.specs.Held.{Agrees, AreLaid, Held, IsHeld, content_of as put_together, nothing_held}
@@ -15,18 +15,22 @@ use Rattle.tftp_fragments.proofs.Holding.{Added, stands_more, whole_given}
 use Rattle.tftp_fragments.proofs.Puts.{empty_set, nothing_agrees}
 use Rattle.tftp_frames.specs.Frame.{SpellsFrame}
 use Rattle.tftp_frames.specs.Ip.{Packet}
-use Rattle.tftp_frames.specs.Udp.{SpellsUdp}
+use Rattle.tftp_frames.specs.Udp.{HasUdp, HoldsUdp, SpellsUdp}
+use Rattle.tftp_frames.specs.Extension.{Reached}
+use Rattle.tftp_frames.specs.declared.fault.FrameFault.TheVariants.{Protocol}
+use Rattle.tftp_frames.specs.declared.fault.UdpFault.TheVariants.{Protocol as NotUdp}
 use Rattle.tftp_frames.specs.Worked.{acknowledgement, cooked_head, ipv4_bytes, ipv4_packet, two_tags, udp_bytes}
-use Rattle.tftp_frames.specs.declared.link.LinkType.TheVariants.{Cooked, Ethernet, RawIpv4}
-use Rattle.tftp_frames.specs.declared.link.Network.TheVariants.{Ipv4}
+use Rattle.tftp_frames.specs.declared.link.LinkType.TheVariants.{Cooked, Ethernet, RawIpv4, RawIpv6}
+use Rattle.tftp_frames.specs.declared.link.Network.TheVariants.{Ipv4, Ipv6}
 use Rattle.tftp_frames.specs.declared.packet.Direction.TheVariants.{Out, Unknown}
 use Rattle.tftp_frames.proofs.FaultOrder.{packet_one}
 use Rattle.tftp_recording.specs.Brought.{LetsGoOld, TakesPart, arrival_of}
 use Rattle.tftp_recording.specs.Fate.{IsDatagram, IsFateOf}
 use Rattle.tftp_recording.specs.History.{IsHistory}
-use Rattle.tftp_recording.specs.Worked.{cooked_step, ethernet_step, first_bytes, first_part, first_set, first_step, last_bytes, last_part, last_step, raw_frame, recorded_at, recorded_first, worked_content, worked_key, worked_time}
+use Rattle.tftp_recording.specs.Worked.{cooked_step, ethernet_step, first_bytes, first_part, first_set, first_step, icmp_content, icmp_frame, last_bytes, last_named, last_of_icmp, last_part, last_step, part_of_icmp, raw_frame, recorded_at, recorded_first, worked_content, worked_key, worked_time}
 use Rattle.tftp_recording.specs.declared.fate.Datagram.{Datagram as Given}
-use Rattle.tftp_recording.specs.declared.fate.Fate.TheVariants.{Datagram}
+use Rattle.tftp_recording.specs.declared.fate.Fate.TheVariants.{Datagram, Left}
+use Rattle.tftp_recording.specs.declared.fate.LeftOut.TheVariants.{Frame}
 use Rattle.tftp_recording.specs.declared.likeness.Likeness.TheVariants.{Copy, New}
 use Rattle.tftp_recording.proofs.Keys.{same_back, same_itself, truth}
 
@@ -314,3 +318,32 @@ says_acknowledgement = (udp_bytes, (0, inl (refl, (λ e. omega arith), refl)), o
 pub datagram_fate : (content : Made) (frames : Vec ℕ Global) (d : Given) → put_together content ≡ worked_content → IsDatagram (last_step content frames).frame last_part acknowledgement d
     → IsFateOf (last_step content frames).frame New (last_step content frames).brought.outcome (Datagram d)
 datagram_fate content frames d e is = (last_part, acknowledgement, last_spells, subst (λ (c : Content). SpellsUdp c.protocol c.bytes acknowledgement) (sym e) says_acknowledgement, is)
+
+-- ---- of a packet of IPv6 the first fragment names the protocol
+
+icmp_spells : SpellsFrame 229 last_of_icmp part_of_icmp
+icmp_spells = (
+  record { direction = Unknown; network = Some Ipv6; content = last_of_icmp },
+  Ipv6,
+  (RawIpv6, refl, (omega arith, refl, (refl, refl))),
+  refl,
+  record {
+    header = (omega arith, refl);
+    whole = (omega arith, omega arith);
+    upper = record { protocol = 58; fragment = Some last_named; content = part_of_icmp.content };
+    reaches = (0, inr (refl, omega arith, refl, refl));
+    udp = refl;
+    packet = refl;
+  },
+)
+
+pub udp_fate : (content : Made) (frames : Vec ℕ Global) (d : Given) → put_together content ≡ worked_content → IsDatagram icmp_frame part_of_icmp acknowledgement d → IsFateOf icmp_frame New (Some (Whole content frames)) (Datagram d)
+udp_fate content frames d e is = (part_of_icmp, acknowledgement, icmp_spells, subst (λ (c : Content). SpellsUdp c.protocol c.bytes acknowledgement) (sym e) says_acknowledgement, is)
+
+no_udp : (bytes : List ℕ) → HasUdp 58 udp_bytes bytes → ⊥
+no_udp bytes (zero, inl h) = let e = ap (λ (r : Reached). r.protocol) h.2 in absurd (omega (arith, e))
+no_udp bytes (zero, inr h) = absurd (omega (arith, h.0))
+no_udp bytes (suc n, h) = elim h.0.2 [ inl e ↦ not_both false e refl | inr e ↦ absurd (omega (arith, e.0)) ]
+
+pub icmp_fate : (content : Made) (frames : Vec ℕ Global) → put_together content ≡ icmp_content → IsFateOf icmp_frame New (Some (Whole content frames)) (Left (Frame Protocol))
+icmp_fate content frames e = inr (refl, (part_of_icmp, icmp_spells, subst (λ (c : Content). HoldsUdp NotUdp c.protocol c.bytes) (sym e) no_udp))

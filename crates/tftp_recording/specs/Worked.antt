@@ -8,8 +8,9 @@ use Rattle.tftp_fragments.specs.declared.content.Content.{Content as Given}
 use Rattle.tftp_fragments.specs.declared.key.Key.{Key}
 use Rattle.tftp_fragments.specs.declared.outcome.Outcome.TheVariants.{Waits, Whole}
 use Rattle.tftp_frames.specs.Ip.{Packet}
-use Rattle.tftp_frames.specs.Worked.{cooked_head, host, ipv4_bytes, ipv4_packet, two_tags, udp_bytes}
+use Rattle.tftp_frames.specs.Worked.{cooked_head, host, ipv4_bytes, ipv4_packet, ipv6_part, two_tags, udp_bytes}
 use Rattle.tftp_frames.specs.declared.packet.Direction.TheVariants.{Unknown}
+use Rattle.tftp_frames.specs.declared.packet.Fragment.{Fragment}
 use Rattle.tftp_pcap.specs.Frames.{FrameParts}
 use Rattle.tftp_pcap.specs.declared.frame.Direction.TheVariants as recorded
 use Rattle.tftp_recording.specs.Brought.{nothing_brought}
@@ -57,6 +58,29 @@ worked_content = record { protocol = 17; bytes = udp_bytes }
 -- the last one gives a content, of those frames, and none waits
 abbrev pub last_step : Given → Vec ℕ → Step
 last_step content frames = record { frame = raw_frame last_bytes; likeness = New; brought = record nothing_brought { outcome = Some (Whole content frames) }; waits = []; came = record { time = worked_time; bytes = last_bytes } ∷ recorded_first ∷ [] }
+
+-- ---- the last fragment of a packet of IPv6, which names ICMP (58), of the link type of raw IPv6
+
+abbrev pub last_of_icmp : List ℕ
+last_of_icmp = 96 ∷ 0 ∷ 0 ∷ 0 ∷ 0 ∷ 12 ∷ 44 ∷ 64 ∷ 32 ∷ 1 ∷ 13 ∷ 184 ∷ 0 ∷ 0 ∷ 0 ∷ 0 ∷ 0 ∷ 0 ∷ 0 ∷ 0 ∷ 0 ∷ 0 ∷ 0 ∷ 7 ∷ 32 ∷ 1 ∷ 13 ∷ 184 ∷ 0 ∷ 0 ∷ 0 ∷ 0 ∷ 0 ∷ 0 ∷ 0 ∷ 0 ∷ 0 ∷ 0 ∷ 0 ∷ 1 ∷ 58 ∷ 0 ∷ 0 ∷ 8 ∷ 0 ∷ 0 ∷ 0 ∷ 7 ∷ 0 ∷ 4 ∷ 0 ∷ 1 ∷ []
+
+-- the fragment, of the packet with identification 7
+abbrev pub last_named : Fragment
+last_named = record { id = 7; place = 8; more = false }
+
+abbrev pub part_of_icmp : Packet
+part_of_icmp = record ipv6_part { protocol = 58; fragment = Some last_named; content = 0 ∷ 4 ∷ 0 ∷ 1 ∷ []; packet = last_of_icmp }
+
+-- the same, which names UDP
+abbrev pub part_of_udp : Packet
+part_of_udp = record part_of_icmp { protocol = 17 }
+
+abbrev pub icmp_frame : FrameParts
+icmp_frame = record { link = 229; time = worked_time; direction = recorded.Unknown; original = length last_of_icmp; bytes = last_of_icmp }
+
+-- the content that is put together, where the first fragment names ICMP
+abbrev pub icmp_content : Content
+icmp_content = record { protocol = 58; bytes = udp_bytes }
 
 -- ---- recorded at an interface of Ethernet, and then at one of Linux cooked
 

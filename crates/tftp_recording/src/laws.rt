@@ -1,23 +1,26 @@
-ghost use Rattle.std.specs.Prelude.{◌≡◌, ◌⊎◌, ◌≤◌, ◌∷◌, ℕ, List, [], Some, length};
+ghost use Rattle.std.specs.Prelude.{◌≡◌, ◌⊎◌, ◌≤◌, ◌∷◌, ℕ, List, [], Some, false, length};
 ghost use Rattle.std.specs.Global.{Vec};
 ghost use Rattle.tftp_fragments.specs.Held.{content_of};
+ghost use Rattle.tftp_fragments.specs.Key.{same_key};
 ghost use Rattle.tftp_fragments.specs.declared.content.Content.{Content};
 ghost use Rattle.tftp_frames.specs.Udp.{SpellsUdp};
 ghost use Rattle.tftp_frames.specs.Worked.{acknowledgement};
 ghost use Rattle.tftp_pcap.specs.History.{IsWrong};
 ghost use Rattle.tftp_pcap.specs.declared.fault.FaultKind.{FaultKind};
 ghost use Rattle.tftp_recording.specs.Accounts.{IsSettled, IsWaiting, NoneTwice, ToldOneWay};
+ghost use Rattle.tftp_recording.specs.Brought.{key_of};
 ghost use Rattle.tftp_recording.specs.Contents.{IsPutTogether};
 ghost use Rattle.tftp_recording.specs.History.{IsHistory, Step, waiting};
 ghost use Rattle.tftp_recording.specs.Fate.{IsDatagram, IsFateOf};
 ghost use Rattle.tftp_recording.specs.OneWay.{AreToldAlike, IsRead, IsReadTo};
-ghost use Rattle.tftp_recording.specs.Worked.{cooked_step, ethernet_step, first_step, last_part, last_step, worked_content};
+ghost use Rattle.tftp_recording.specs.Worked.{cooked_step, ethernet_step, first_step, icmp_content, icmp_frame, last_named, last_part, last_step, part_of_icmp, part_of_udp, worked_content};
 ghost use Rattle.tftp_recording.specs.declared.fate.Datagram.{Datagram};
 ghost use Rattle.tftp_recording.specs.declared.fate.Fate.{Fate};
 ghost use Rattle.tftp_recording.specs.declared.fate.LeftOut.{LeftOut};
 ghost use Rattle.tftp_recording.specs.declared.likeness.Likeness.{Likeness};
 
 use tftp_fragments::Outcome;
+use tftp_frames::FrameFault;
 
 /// Each frame of a recording is accounted for, and none that is not of it: what became of it was told, or it waits still;
 /// never both; and it was told with one frame alone.
@@ -52,6 +55,18 @@ pub fn worked_fragments()
     ensures waits { IsFateOf first_step.frame first_step.likeness first_step.brought.outcome Fate.Waits }
     ensures datagram { (content : Content) (frames : Vec ℕ) (d : Datagram) → content_of content ≡ worked_content → IsDatagram (last_step content frames).frame last_part acknowledgement d
         → IsFateOf (last_step content frames).frame Likeness.New (last_step content frames).brought.outcome (Fate.Datagram d) }
+{}
+
+/// Worked examples: fragments that name ICMP (58) and UDP (17) are of one packet in IPv6, and not in IPv4. Where the last
+/// fragment names ICMP and the first UDP, the packet is a datagram; where the first names ICMP, it is of another protocol
+/// (RFC 8200, section 4.5).
+pub fn worked_protocols()
+    ensures ipv6 { key_of part_of_icmp last_named ≡ key_of part_of_udp last_named }
+    ensures ipv4 { same_key (key_of (record last_part { protocol = 1 }) last_named) (key_of last_part last_named) ≡ false }
+    ensures udp { (content : Content) (frames : Vec ℕ) (d : Datagram) → content_of content ≡ worked_content → IsDatagram icmp_frame part_of_icmp acknowledgement d
+        → IsFateOf icmp_frame Likeness.New (Some (Outcome.Whole content frames)) (Fate.Datagram d) }
+    ensures icmp { (content : Content) (frames : Vec ℕ) → content_of content ≡ icmp_content
+        → IsFateOf icmp_frame Likeness.New (Some (Outcome.Whole content frames)) (Fate.Left (LeftOut.Frame FrameFault.Protocol)) }
 {}
 
 /// Worked examples: a packet that is recorded in Ethernet, and 1 ms later at another interface, is a copy; one nanosecond

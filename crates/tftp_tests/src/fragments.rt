@@ -18,7 +18,7 @@ fn key(target: u8, id: u32) -> Key {
     Key {
         source: IpAddr::V4(Ipv4Addr::new(192, 0, 2, 1)),
         target: IpAddr::V4(Ipv4Addr::new(192, 0, 2, target)),
-        protocol: 17,
+        protocol: Some(17),
         id,
     }
 }
@@ -27,16 +27,19 @@ fn key(target: u8, id: u32) -> Key {
 fn parts() -> [Part<'static>; 3] {
     [
         Part {
+            protocol: 17,
             place: 0,
             more: true,
             content: b"0123456789abcdef",
         },
         Part {
+            protocol: 17,
             place: 16,
             more: true,
             content: b"ghijklmnopqrstuv",
         },
         Part {
+            protocol: 17,
             place: 32,
             more: false,
             content: b"wxyzABCD",
@@ -65,7 +68,9 @@ fn waits(outcome: &Outcome) -> bool {
 /// Whether the outcome is this content.
 fn is_whole(outcome: &Outcome, content: &[u8]) -> bool {
     match outcome {
-        Outcome::Whole { content: bytes, .. } => bytes.as_slice() == content,
+        Outcome::Whole { content: whole, .. } => {
+            whole.protocol == 17 && whole.bytes.as_slice() == content
+        }
         _ => false,
     }
 }
@@ -106,6 +111,7 @@ fn the_same_bytes_may_come_twice(rt: HostRuntime) -> Result<(), Fail> {
     let [first, _, last] = parts();
     let mut fragments = Fragments::new(rt.alloc());
     let long = Part {
+        protocol: 17,
         place: 8,
         more: true,
         content: b"89abcdefghijklmnopqrstuvwxyz",
@@ -125,6 +131,7 @@ fn other_bytes_are_never_put_together(rt: HostRuntime) -> Result<(), Fail> {
     let [first, middle, last] = parts();
     let mut fragments = Fragments::new(rt.alloc());
     let other = Part {
+        protocol: 17,
         place: 8,
         more: true,
         content: b"89abcdeF",
@@ -151,6 +158,7 @@ fn what_is_apart_leaves_the_others(rt: HostRuntime) -> Result<(), Fail> {
     let [first, middle, last] = parts();
     let mut fragments = Fragments::new(rt.alloc());
     let other = Part {
+        protocol: 17,
         place: 8,
         more: true,
         content: b"89abcdeF",
@@ -183,6 +191,7 @@ fn other_ends_are_apart(rt: HostRuntime) -> Result<(), Fail> {
         assert!(rt; waits(&outcome));
         let content = b"wxyzABCD";
         let part = Part {
+            protocol: 17,
             place,
             more,
             content,
@@ -230,6 +239,7 @@ fn parts_of_no_packet(rt: HostRuntime) -> Result<(), Fail> {
         (8, true, b"".as_slice()),
     ] {
         let part = Part {
+            protocol: 17,
             place,
             more,
             content,
@@ -241,6 +251,7 @@ fn parts_of_no_packet(rt: HostRuntime) -> Result<(), Fail> {
         }
     }
     let part = Part {
+        protocol: 17,
         place: 65_528,
         more: false,
         content: b"1234567",
@@ -254,6 +265,7 @@ fn parts_of_no_packet(rt: HostRuntime) -> Result<(), Fail> {
 #[test]
 fn no_more_than_64_mb_wait(rt: HostRuntime) -> Result<(), Fail> {
     let part = Part {
+        protocol: 17,
         place: 65_528,
         more: false,
         content: b"1234567",
@@ -289,7 +301,10 @@ fn keys_are_told_apart(rt: HostRuntime) -> Result<(), Fail> {
     let mapped = IpAddr::V6(Ipv6Addr::new(0, 0, 0, 0, 0, 0xffff, 0xc000, 0x0202));
     for other in [
         Key { id: 8, ..one },
-        Key { protocol: 6, ..one },
+        Key {
+            protocol: Some(6),
+            ..one
+        },
         Key {
             target: one.source,
             ..one
@@ -308,6 +323,35 @@ fn keys_are_told_apart(rt: HostRuntime) -> Result<(), Fail> {
             let outcome = put(&rt, &mut fragments, key, part, 5, 1)?;
             assert!(rt; waits(&outcome));
         }
+    }
+    Ok(())
+}
+
+/// The protocol is that of the first part, whatever others name and in whatever order they come (RFC 8200, section 4.5).
+#[test]
+fn the_first_part_names_the_protocol(rt: HostRuntime) -> Result<(), Fail> {
+    let [first, middle, last] = parts();
+    let another = Part {
+        protocol: 58,
+        ..last
+    };
+    for order in [[&first, &middle, &another], [&another, &middle, &first]] {
+        let mut fragments = Fragments::new(rt.alloc());
+        for (number, part) in (1u64..).zip(&order) {
+            let outcome = put(&rt, &mut fragments, key(2, 7), part, 5, number)?;
+            assert!(rt; waits(&outcome) == (number < 3));
+            assert!(rt; number < 3 || is_whole(&outcome, CONTENT));
+        }
+    }
+    let mut fragments = Fragments::new(rt.alloc());
+    let second = Part {
+        protocol: 58,
+        ..first
+    };
+    assert!(rt; waits(&put(&rt, &mut fragments, key(2, 7), &first, 5, 1)?));
+    match put(&rt, &mut fragments, key(2, 7), &second, 5, 2)? {
+        Outcome::Apart(frames) => assert_eq!(rt; frames.as_slice(), [1u64].as_slice()),
+        _ => return Err(Fail::new("apart")),
     }
     Ok(())
 }
