@@ -3,7 +3,6 @@ use Rattle.std.proofs.Common.{◌≡◌, ◌≤◌, ℕ, suc, true, false, cond,
 use Rattle.std.specs.Prelude.{filter, Result, Ok, Err, OnOk}
 use Rattle.std.specs.declared.alloc.AllocError.{AllocError}
 use Rattle.std.proofs.lemmas.List.{length-reverse, reverse-append, reverse-reverse}
-use Rattle.tftp_ends.specs.CaptureText.{Datagram}
 use Rattle.tftp_transfers.specs.declared.place.Transfer.{Transfer}
 use Rattle.tftp_transfers.specs.declared.views.TransferEnds.{TransferEnds}
 use Rattle.tftp_transfers.specs.Kept.{AreEndsAfter}
@@ -12,9 +11,9 @@ use Rattle.tftp_transfers.specs.Settled.{is_settled}
 use Rattle.tftp_transfers.specs.Views.{answered_by, asked_of, is_about, is_at_server, went_on_with}
 use Rattle.tftp_transfers.proofs.OwnDatagrams.{about_none, answered_kept, asked_kept, filter_kept, seen_none, settled_kept, went_on_kept}
 use Rattle.tftp_views.specs.declared.held.Held.{Held}
-use Rattle.tftp_views.specs.Captured.{Naming, captured_at_server, server_capture, server_header}
+use Rattle.tftp_views.specs.Captured.{Naming, captured_at_server, server_header}
 use Rattle.tftp_views.specs.Judged.{HasJudged}
-use Rattle.tftp_views.specs.Kept.{AreHeld, IsFed, IsGoingOn, IsServerAfter, IsViewAfter, IsWaiting, Server, View, ViewedBy}
+use Rattle.tftp_views.specs.Kept.{AreHeld, IsFed, IsGoingOn, IsServerAfter, IsViewAfter, Server, View, ViewedBy}
 use Rattle.tftp_views.proofs.Feeding.{not_seen}
 use Rattle.tftp_views.proofs.Settling.{server_goes_on, settled_stays}
 
@@ -119,14 +118,14 @@ passes_by v name p older number off = by v.judge where
     settled = sym (settled_too v.transfer.number p older off) ∙ goes.settled;
     none = goes.none;
     after =
-      let settled : is_settled s.transfer.number older ≡ true = ap (λ (x : Transfer). is_settled x.number older) goes.transfer ∙ goes.settled in
-      let on : IsServerAfter s name (p ∷ older) older = server_goes_on s name (p ∷ []) older older settled goes.after in
-      let off_here : is_about s.transfer.number p ≡ false = ap (λ (x : Transfer). is_about x.number p) goes.transfer ∙ off in
-      record {
-        number = on.number;
-        ends = on.ends;
-        judged = subst (HasJudged s.end.judge (server_header s.transfer)) (sym (not_seen name s.transfer (p ∷ older) p older (seen_none s.transfer.number (p ∷ older) p off_here))) on.judged;
-      };
+        let settled : is_settled s.transfer.number older ≡ true = ap (λ (x : Transfer). is_settled x.number older) goes.transfer ∙ goes.settled in
+        let on : IsServerAfter s name (p ∷ older) older = server_goes_on s name (p ∷ []) older older settled goes.after in
+        let off_here : is_about s.transfer.number p ≡ false = ap (λ (x : Transfer). is_about x.number p) goes.transfer ∙ off in
+        record {
+          number = on.number;
+          ends = on.ends;
+          judged = subst (HasJudged s.end.judge (server_header s.transfer)) (sym (not_seen name s.transfer (p ∷ older) p older (seen_none s.transfer.number (p ∷ older) p off_here))) on.judged;
+        };
   }
 
 -- ---- the judge goes on

@@ -1,8 +1,8 @@
 -- The verdict on what a judge was given, and on the text that has just that.
-use Rattle.std.proofs.Common.{◌≡◌, ℕ, ◌+◌, ◌^◌, ◌≤◌, List, [], ◌∷◌, ◌++◌, All, length, reverse, map, Option, Some, None, Result, Ok, Err, refl, sym, ap, ◌∙◌, subst, append_assoc}
+use Rattle.std.proofs.Common.{◌≡◌, ℕ, ◌+◌, List, [], ◌∷◌, ◌++◌, reverse, Option, Some, None, Result, Ok, Err, refl, sym, ap, ◌∙◌, subst, append_assoc}
 use Rattle.std.specs.Prelude.{OnOk, IfErr}
 use Rattle.std.proofs.lemmas.List.{length-reverse, reverse-append, reverse-reverse}
-use Rattle.tftp_capture.specs.CaptureText.{IsCapture, IsLawful, IsPort, numbered, text_with_hosts}
+use Rattle.tftp_capture.specs.CaptureText.{IsCapture, numbered, text_with_hosts}
 use Rattle.tftp_capture.proofs.Beginnings.{capture_begins}
 use Rattle.tftp_capture.proofs.Canonical.{hosts_are_read}
 use Rattle.tftp_ends.specs.CaptureText.{Datagram, Header}

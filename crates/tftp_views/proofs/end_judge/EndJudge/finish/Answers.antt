@@ -1,4 +1,4 @@
-use Rattle.std.proofs.Common.{None, ap, ◌∙◌, sym, subst}
+use Rattle.std.proofs.Common.{ap, ◌∙◌, sym, subst}
 use Rattle.tftp_views.specs.Judged.{HasJudged}
 use Rattle.tftp_views.specs.Kept.{OneEnd}
 use Rattle.tftp_views.proofs.Judging.{finished, judged_with, stands_for}

@@ -1,5 +1,5 @@
 use Rattle.std.proofs.Common.{◌∷◌, []}
-use Rattle.tftp_views.proofs.Settling.{server_goes_on, settled_stays}
+use Rattle.tftp_views.proofs.Settling.{server_goes_on}
 use Rattle.tftp_views.proofs.server.ServerJudge.go_on.Goals as goal
 
 pub returns-clause-after : goal.returns-clause-after

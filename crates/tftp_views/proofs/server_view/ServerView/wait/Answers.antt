@@ -1,4 +1,4 @@
-use Rattle.std.proofs.Common.{◌≡◌, ◌∷◌, ◌++◌, [], List, None, Some, true, false, reverse, sym, ap, ◌∙◌, subst}
+use Rattle.std.proofs.Common.{◌≡◌, ◌∷◌, List, None, Some, true, reverse, sym, ap, ◌∙◌, subst}
 use Rattle.std.specs.Prelude.{filter, Option}
 use Rattle.tftp_transfers.specs.Kept.{AreEndsAfter}
 use Rattle.tftp_transfers.specs.declared.place.Transfer.{Transfer}
@@ -39,9 +39,9 @@ returns-then-is_settled-clause-after g c name p older after fed about =
     let ends : AreEndsAfter c.note.new.self (p ∷ older) = c.note.ensures.stands p older waits.ends fed.belongs fed.from fed.to fed.carries in
     let known = ap (λ k. is_settled k (p ∷ older)) (sym (c.note.ensures.number ∙ c.self.invariant.0)) ∙ sym (c.is_settled.ensures (p ∷ older) ends) in
     let held : AreHeld name c.push_back.new.self.items (reverse (filter (is_about v.transfer.number) (p ∷ older))) =
-        subst (λ (l : List Held). AreHeld name l (reverse (filter (is_about v.transfer.number) (p ∷ older)))) (sym c.in_ok-push_back.ensures.items) (held_newest v.transfer.number name v.held older h p of_it waits.held as_held) in
+    subst (λ (l : List Held). AreHeld name l (reverse (filter (is_about v.transfer.number) (p ∷ older)))) (sym c.in_ok-push_back.ensures.items) (held_newest v.transfer.number name v.held older h p of_it waits.held as_held) in
     let own = c.judge_of.ensures.after name (p ∷ older) (filter (is_about v.transfer.number) (p ∷ older)) ends
-        (subst (λ (l : List Held). AreHeld name l (reverse (filter (is_about v.transfer.number) (p ∷ older)))) (sym (ap (λ q. q.items) c.replace-held.ensures.value)) held) in
+    (subst (λ (l : List Held). AreHeld name l (reverse (filter (is_about v.transfer.number) (p ∷ older)))) (sym (ap (λ q. q.items) c.replace-held.ensures.value)) held) in
     let goes : IsGoingOn c.judge_of.result w name (p ∷ older) = record {
       transfer = c.judge_of.ensures.transfer;
       settled = known ∙ c.if-is_settled.true;
