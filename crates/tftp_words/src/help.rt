@@ -8,9 +8,11 @@ static ENDS: [&str; 2] = ["client", "server"];
 /// The version that is told.
 const VERSION: &str = "0.1.0";
 
-const ABOUT: &str = "From a recording to its TFTP transfers, their capture texts and their verdicts";
+const ABOUT: &str =
+    "From a recording to its TFTP transfers, their capture texts and their verdicts";
 
-const AFTER: &str = "FILE is a recording, pcap or pcapng; - is standard input.\n`list` may be left out, and `check` may be written --check.\n\nStatus: 0; with check 1 where a transfer is not accepted; 2 where something could not be read or judged.";
+const AFTER: &str =
+    "FILE is a recording, pcap or pcapng; - is standard input.\n`list` may be left out, and `check` may be written --check.\n\nStatus: 0; with check 1 where a transfer is not accepted; 2 where something could not be read or judged.";
 
 fn service<'a>(alloc: Global) -> Arg<'a> {
     Arg::new(alloc, "service")

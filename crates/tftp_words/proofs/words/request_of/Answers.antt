@@ -1,4 +1,4 @@
-use Rattle.std.proofs.Common.{◌≡◌, inl, inr, Ok, Err}
+use Rattle.std.proofs.Common.{◌≡◌, inl, inr}
 use Rattle.tftp_words.specs.declared.given.ReadFault.TheVariants as fault
 use Rattle.tftp_words.proofs.words.request_of.Goals as goal
 
