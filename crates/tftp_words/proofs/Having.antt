@@ -1,5 +1,5 @@
 -- What more parts have.
-use Rattle.std.proofs.Common.{◌≡◌, ◌≤◌, ℕ, ◌+◌, List, [], ◌∷◌, ◌++◌, length, Bool, true, Option, Some, None, if◌then◌else◌, option_to_list, is_some, false, map, Bor, refl, sym, ap, ◌∙◌, append-nil, append_assoc, length-append, arith}
+use Rattle.std.proofs.Common.{◌≡◌, ℕ, ◌+◌, List, [], ◌∷◌, ◌++◌, length, Bool, true, Option, Some, None, option_to_list, is_some, false, map, Bor, refl, ap, ◌∙◌, append-nil, arith}
 use Rattle.std.proofs.lemmas.List.{map-append}
 use Rattle.tftp_packet.specs.declared.kinds.End.{End}
 use Rattle.tftp_words.specs.Parts.{Word, Part, Service, Json, At, Plain, services, jsons, ends, plains, Have, IsOnce}

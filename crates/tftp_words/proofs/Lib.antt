@@ -3,3 +3,4 @@ pub mod Having
 pub mod Saying
 pub mod Reading
 pub mod Asking
+pub mod Worked

@@ -1,5 +1,5 @@
 -- What is read of the words, and what is left of them.
-use Rattle.std.proofs.Common.{◌≡◌, ◌≢◌, ◌⊎◌, ℕ, ◌+◌, ◌<◌, List, [], ◌∷◌, ◌++◌, length, drop, take, map, Bool, Option, Some, None, codes, slice_get, get_or, Bor, refl, sym, ap, ◌∙◌, subst, append-nil, append_assoc, add-one, arith}
+use Rattle.std.proofs.Common.{◌≡◌, ◌≢◌, ℕ, ◌+◌, ◌<◌, List, [], ◌∷◌, ◌++◌, length, drop, take, map, Bool, Option, Some, None, codes, slice_get, get_or, Bor, refl, sym, ap, ◌∙◌, subst, append-nil, append_assoc, add-one}
 use Rattle.std.proofs.lemmas.List.{map-append}
 use Rattle.std.proofs.Math.Seq.{take-suc}
 use Rattle.tftp_packet.specs.declared.kinds.End.{End}
@@ -24,18 +24,18 @@ pub read_end : (words left : List Word) (given : Given) → Read words left give
 read_end words left given (done, holds, on, back) end = (
   (done, subst (Say words) (append-nil done) (on [] (say_end left end)), holds),
   λ ps say.
-  let found = back ps say in
-  let same : ps ≡ done = found.1 ∙ ap (λ qs. done ++ qs) (said_end left found.0 end found.2) ∙ append-nil done in
-  subst (Holds given) (sym same) holds,
+      let found = back ps say in
+      let same : ps ≡ done = found.1 ∙ ap (λ qs. done ++ qs) (said_end left found.0 end found.2) ∙ append-nil done in
+      subst (Holds given) (sym same) holds,
 )
 
 pub read_rest : (words left : List Word) (old new : Given) (w : Word) → Read words left old → slice_get left 0 ≡ Some w → w ≡ codes "--" → ((ps : List Part) → Holds old ps → Holds new (ps ++ map Plain (drop 1 left))) → Whole words new
 read_rest words left old new w (done, holds, on, back) zeroth is adds = (
   (done ++ map Plain (drop 1 left), on (map Plain (drop 1 left)) (say_plain left w zeroth is), adds done holds),
   λ ps say.
-  let found = back ps say in
-  let same : ps ≡ done ++ map Plain (drop 1 left) = found.1 ∙ ap (λ qs. done ++ qs) (said_plain left w found.0 zeroth is found.2) in
-  subst (Holds new) (sym same) (adds done holds),
+      let found = back ps say in
+      let same : ps ≡ done ++ map Plain (drop 1 left) = found.1 ∙ ap (λ qs. done ++ qs) (said_plain left w found.0 zeroth is found.2) in
+      subst (Holds new) (sym same) (adds done holds),
 )
 
 pub read_part : (words left : List Word) (old new : Given) (w : Word) (next : Option Word) (p : Part) (k : ℕ) → Read words left old → slice_get left 0 ≡ Some w → slice_get left 1 ≡ next → w ≢ codes "--" → Begins w next p k
@@ -45,9 +45,9 @@ read_part words left old new w next p k (done, holds, on, back) zeroth second no
   adds done holds,
   λ ps say. subst (Say words) (sym (append_assoc done (p ∷ []) ps)) (on (p ∷ ps) (say_on left w next p k ps begins zeroth second say)),
   λ all say.
-  let found = back all say in
-  let step = say_step left w next p k found.0 begins zeroth second not found.2 in
-  (step.0, found.1 ∙ ap (λ qs. done ++ qs) step.1 ∙ sym (append_assoc done (p ∷ []) step.0), step.2),
+      let found = back all say in
+      let step = say_step left w next p k found.0 begins zeroth second not found.2 in
+      (step.0, found.1 ∙ ap (λ qs. done ++ qs) step.1 ∙ sym (append_assoc done (p ∷ []) step.0), step.2),
 )
 
 pub read_nothing : (words left : List Word) (given : Given) (w : Word) (next : Option Word) → Read words left given → slice_get left 0 ≡ Some w → slice_get left 1 ≡ next → w ≢ codes "--" → ((p : Part) (k : ℕ) → Begins w next p k → ⊥)
@@ -71,9 +71,9 @@ pub more_word : {A : Type 0} (f : A → Word) (xs : List A) (i : ℕ) (x : A) (p
     → Have (ps ++ map Plain (map f (take i xs))) ports json at (map (λ w. w.now) items) → Have (ps ++ map Plain (map f (take (i + 1) xs))) ports json at (map (λ w. w.now) (items ++ word ∷ []))
 more_word f xs i x ps ports json at items word within is same h =
     let more : ps ++ map Plain (map f (take (i + 1) xs)) ≡ (ps ++ map Plain (map f (take i xs))) ++ Plain word.now ∷ [] =
-        ap (λ l. ps ++ map Plain (map f l)) (ap (λ n. take n xs) (add-one i) ∙ take-suc xs i x within ∙ ap (λ y. take i xs ++ y ∷ []) (sym is))
-        ∙ ap (λ l. ps ++ map Plain l) (map-append f (take i xs) (x ∷ []))
-        ∙ ap (λ l. ps ++ l) (map-append Plain (map f (take i xs)) (f x ∷ []))
-        ∙ sym (append_assoc ps (map Plain (map f (take i xs))) (Plain (f x) ∷ []))
-        ∙ ap (λ y. (ps ++ map Plain (map f (take i xs))) ++ Plain y ∷ []) (sym same) in
+    ap (λ l. ps ++ map Plain (map f l)) (ap (λ n. take n xs) (add-one i) ∙ take-suc xs i x within ∙ ap (λ y. take i xs ++ y ∷ []) (sym is))
+    ∙ ap (λ l. ps ++ map Plain l) (map-append f (take i xs) (x ∷ []))
+    ∙ ap (λ l. ps ++ l) (map-append Plain (map f (take i xs)) (f x ∷ []))
+    ∙ sym (append_assoc ps (map Plain (map f (take i xs))) (Plain (f x) ∷ []))
+    ∙ ap (λ y. (ps ++ map Plain (map f (take i xs))) ++ Plain y ∷ []) (sym same) in
     subst (λ qs. Have qs ports json at (map (λ w. w.now) (items ++ word ∷ []))) (sym more) (have_word (ps ++ map Plain (map f (take i xs))) ports json at items word h)

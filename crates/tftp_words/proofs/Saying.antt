@@ -1,5 +1,5 @@
 -- Words say one list of parts.
-use Rattle.std.proofs.Common.{◌≡◌, ◌≢◌, ◌⊎◌, inl, inr, ℕ, ◌+◌, ◌≤◌, zero, suc, List, [], ◌∷◌, ◌++◌, length, drop, map, Bool, true, false, Option, Some, None, codes, slice_get, refl, sym, ap, ◌∙◌, get_or, subst, arith, append-nil}
+use Rattle.std.proofs.Common.{◌≡◌, ◌≢◌, ◌⊎◌, inl, inr, ℕ, ◌≤◌, List, [], ◌∷◌, ◌++◌, length, drop, map, Option, Some, None, codes, slice_get, refl, sym, ap, ◌∙◌, get_or, subst, arith, append-nil}
 use Rattle.std.proofs.lemmas.List.{append_cancel_left}
 use Rattle.tftp_packet.specs.declared.kinds.End.{End}
 use Rattle.tftp_packet.specs.declared.kinds.End.TheVariants as end
@@ -119,13 +119,13 @@ says_begins : (ws mine rest : List Word) (w : Word) (next : Option Word) (p : Pa
     → Begins w next p (length mine) × (drop (length mine) ws ≡ rest)
 says_begins ws mine rest w next p are says zeroth second = elim (part_size p mine says) [
   | inl (a, is) ↦
-    let all : ws ≡ a ∷ rest = are ∙ ap (λ m. m ++ rest) is in
-    let same : a ≡ w = (let e : Some a ≡ Some w = sym (ap (λ l. slice_get l 0) all) ∙ zeroth in cc) in
-    (inl (ap length is, subst (λ m. Says m p) (is ∙ ap (λ x. x ∷ []) same) says), ap (λ m. drop (length m) ws) is ∙ ap (drop 1) all)
+      let all : ws ≡ a ∷ rest = are ∙ ap (λ m. m ++ rest) is in
+      let same : a ≡ w = (let e : Some a ≡ Some w = sym (ap (λ l. slice_get l 0) all) ∙ zeroth in cc) in
+      (inl (ap length is, subst (λ m. Says m p) (is ∙ ap (λ x. x ∷ []) same) says), ap (λ m. drop (length m) ws) is ∙ ap (drop 1) all)
   | inr (a, b, is) ↦
-    let all : ws ≡ a ∷ b ∷ rest = are ∙ ap (λ m. m ++ rest) is in
-    let same : a ≡ w = (let e : Some a ≡ Some w = sym (ap (λ l. slice_get l 0) all) ∙ zeroth in cc) in
-    (inr (ap length is, b, sym second ∙ ap (λ l. slice_get l 1) all, subst (λ m. Says m p) (is ∙ ap (λ x. x ∷ b ∷ []) same) says), ap (λ m. drop (length m) ws) is ∙ ap (drop 2) all)
+      let all : ws ≡ a ∷ b ∷ rest = are ∙ ap (λ m. m ++ rest) is in
+      let same : a ≡ w = (let e : Some a ≡ Some w = sym (ap (λ l. slice_get l 0) all) ∙ zeroth in cc) in
+      (inr (ap length is, b, sym second ∙ ap (λ l. slice_get l 1) all, subst (λ m. Says m p) (is ∙ ap (λ x. x ∷ b ∷ []) same) says), ap (λ m. drop (length m) ws) is ∙ ap (drop 2) all)
 ]
 
 abbrev Splits : List Word → Part → ℕ → Type 0
@@ -172,9 +172,9 @@ pub say_step : (ws : List Word) (w : Word) (next : Option Word) (p : Part) (k : 
 say_step ws w next p k all begins zeroth second not say = elim (say_cases ws all say) [
   | inl (nil, _) ↦ (let bad : None ≡ Some w = sym (ap (λ l. slice_get l 0) nil) ∙ zeroth in cc)
   | inr (inl (mine, rest, q, qs, are, is, says, more)) ↦
-    let found = says_begins ws mine rest w next q are says zeroth second in
-    let same = one_begin w next p q k (length mine) begins found.0 in
-    (qs, is ∙ ap (λ x. x ∷ qs) (sym same.0), subst (λ l. Say l qs) (sym (ap (λ n. drop n ws) same.1 ∙ found.1)) more)
+      let found = says_begins ws mine rest w next q are says zeroth second in
+      let same = one_begin w next p q k (length mine) begins found.0 in
+      (qs, is ∙ ap (λ x. x ∷ qs) (sym same.0), subst (λ l. Say l qs) (sym (ap (λ n. drop n ws) same.1 ∙ found.1)) more)
   | inr (inr (words, are, is)) ↦ absurd (not (let e : Some (codes "--") ≡ Some w = sym (ap (λ l. slice_get l 0) are) ∙ zeroth in cc))
 ]
 
@@ -224,7 +224,7 @@ pub said_plain : (ws : List Word) (w : Word) (all : List Part) → slice_get ws 
 said_plain ws w all e is say =
     let dashes = dash_words ws w e is in
     elim (say_cases ws all say) [
-  | inl (nil, _) ↦ (let bad : None ≡ Some w = sym (ap (λ l. slice_get l 0) nil) ∙ e in cc)
-  | inr (inl (mine, rest, q, qs, are, so, says, more)) ↦ absurd (dashes_say_nothing q mine rest (drop 1 ws) (sym dashes ∙ are) says)
-  | inr (inr (words, are, so)) ↦ so ∙ ap (λ l. map Plain (drop 1 l)) (sym are)
-]
+      | inl (nil, _) ↦ (let bad : None ≡ Some w = sym (ap (λ l. slice_get l 0) nil) ∙ e in cc)
+      | inr (inl (mine, rest, q, qs, are, so, says, more)) ↦ absurd (dashes_say_nothing q mine rest (drop 1 ws) (sym dashes ∙ are) says)
+      | inr (inr (words, are, so)) ↦ so ∙ ap (λ l. map Plain (drop 1 l)) (sym are)
+    ]

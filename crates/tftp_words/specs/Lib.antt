@@ -1,2 +1,3 @@
 pub mod Parts
 pub mod Asked
+pub mod Told

@@ -2,5 +2,10 @@
 #![tactic(auto)]
 
 mod given;
+mod help;
 mod part;
 mod request;
+mod words;
+
+pub use request::{CheckRequest, ListRequest, Request, TextRequest};
+pub use words::{WordsFault, request_of};

@@ -1,4 +1,4 @@
-use Rattle.std.proofs.Common.{rules, map, length, inl, inr, sym, ap, ◌∙◌, ◌≡◌, ◌≤◌, drop, subst, Err, ◌⊎◌}
+use Rattle.std.proofs.Common.{map, inl, inr, sym, ap, ◌∙◌, ◌≡◌, drop, subst}
 use Rattle.std.proofs.lemmas.List.{drop-map, length-map}
 use Rattle.std.proofs.lemmas.Result.{IfOk-weaker}
 use Rattle.tftp_words.specs.Parts.{Say}

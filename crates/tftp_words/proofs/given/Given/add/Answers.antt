@@ -1,4 +1,4 @@
-use Rattle.std.proofs.Common.{rules, sym, ◌∙◌}
+use Rattle.std.proofs.Common.{sym, ◌∙◌}
 use Rattle.tftp_words.proofs.Having.{have_service, have_json, have_end, have_word, json_twice, end_twice}
 use Rattle.tftp_words.proofs.given.Given.add.Goals as goal
 

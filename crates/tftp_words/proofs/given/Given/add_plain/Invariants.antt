@@ -1,4 +1,4 @@
-use Rattle.std.proofs.Common.{◌≡◌, ◌++◌, List, map, take}
+use Rattle.std.proofs.Common.{◌++◌, List, map, take}
 use Rattle.tftp_words.specs.Parts.{Part, Plain, Holds}
 use Rattle.tftp_words.proofs.given.Given.add_plain.Given as goal
 

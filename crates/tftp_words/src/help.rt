@@ -1,0 +1,101 @@
+//! What clap knows of the command line: its help, and what it says of words that ask for nothing.
+
+use clap::{Arg, ArgAction, Command, value_parser};
+use std::alloc::{AllocError, Global};
+
+static ENDS: [&str; 2] = ["client", "server"];
+
+/// The version that is told.
+const VERSION: &str = "0.1.0";
+
+const ABOUT: &str =
+    "From a recording to its TFTP transfers, their capture texts and their verdicts";
+
+const AFTER: &str =
+    "FILE is a recording, pcap or pcapng; - is standard input.\n`list` may be left out, and `check` may be written --check.\n\nStatus: 0; with check 1 where a transfer is not accepted; 2 where something could not be read or judged.";
+
+fn service<'a>(alloc: Global) -> Arg<'a> {
+    Arg::new(alloc, "service")
+        .long("service")
+        .value_name("PORT")
+        .action(ArgAction::Append)
+        .value_parser(value_parser!(u16).range(1..))
+        .help("A port to which requests go, beside 69; may be given several times")
+}
+
+fn json<'a>(alloc: Global) -> Arg<'a> {
+    Arg::new(alloc, "json")
+        .long("json")
+        .action(ArgAction::SetTrue)
+        .help("A JSON object a line")
+}
+
+fn file<'a>(alloc: Global) -> Arg<'a> {
+    Arg::new(alloc, "file")
+        .value_name("FILE")
+        .required(true)
+        .help("The recording")
+}
+
+fn list<'a>(alloc: Global) -> Result<Command<'a>, AllocError> {
+    Command::new(alloc, "list")
+        .about("The transfers, a line each")
+        .arg(service(alloc))?
+        .arg(json(alloc))?
+        .arg(file(alloc))
+}
+
+fn text<'a>(alloc: Global) -> Result<Command<'a>, AllocError> {
+    let number = Arg::new(alloc, "number")
+        .value_name("N")
+        .required(true)
+        .value_parser(value_parser!(u64).range(1..))
+        .help("The number of the transfer, from 1");
+    let end = Arg::new(alloc, "end")
+        .value_name("END")
+        .required(true)
+        .value_parser(ENDS.as_slice())
+        .help("The end of the transfer");
+    Command::new(alloc, "text")
+        .about("The capture text of transfer N at an end")
+        .arg(service(alloc))?
+        .arg(number)?
+        .arg(end)?
+        .arg(file(alloc))
+}
+
+fn check<'a>(alloc: Global) -> Result<Command<'a>, AllocError> {
+    let end = Arg::new(alloc, "end")
+        .long("end")
+        .value_name("END")
+        .value_parser(ENDS.as_slice())
+        .help("The end at which the recordings were made");
+    let files = Arg::new(alloc, "file")
+        .value_name("FILE")
+        .required(true)
+        .action(ArgAction::Append)
+        .num_args(1..)
+        .help("The recordings");
+    Command::new(alloc, "check")
+        .about("The verdict on each transfer")
+        .alias("--check")?
+        .arg(end)?
+        .arg(service(alloc))?
+        .arg(json(alloc))?
+        .arg(files)
+}
+
+/// The command line with its help.
+pub fn command_line<'a>(alloc: Global) -> Result<Command<'a>, AllocError> {
+    Command::new(alloc, "tftp-transfers")
+        .version(VERSION)
+        .about(ABOUT)
+        .after_help(AFTER)
+        .args_conflicts_with_subcommands(true)
+        .arg(service(alloc))?
+        .arg(json(alloc))?
+        .arg(file(alloc))?
+        .subcommand(list(alloc)?)?
+        .subcommand(text(alloc)?)?
+        .subcommand(check(alloc)?)
+}
