@@ -64,10 +64,10 @@ def row(number: int, frame: Frame, it: Datagram) -> str:
 
 
 class Maker:
-    """Makes the frames of a recording of one section or file."""
+    """Makes the frames of a recording of one section or file, with identifications from a first one on."""
 
-    def __init__(self, chance: random.Random, links: list[int]) -> None:
-        self.chance, self.links, self.id, self.time = chance, links, 1, recorded.FIRST_TIME
+    def __init__(self, chance: random.Random, links: list[int], first: int = 1) -> None:
+        self.chance, self.links, self.id, self.time = chance, links, first, recorded.FIRST_TIME
         # tshark puts only fragments of one VLAN together.
         self.tags = chance.choice(recorded.TAGGED)
         # Whether fragments of IPv6 name anything, but for the first, where tshark goes by the one that comes last.
@@ -170,10 +170,11 @@ def made_pcap(chance: random.Random) -> Made:
 
 def made_pcapng(chance: random.Random) -> Made:
     """A file in the format pcapng, of one to three sections with one to three interfaces each."""
-    file, everything, is_naming = b"", [], False
+    file, everything, is_naming, first = b"", [], False, 1
     for _ in range(chance.randrange(1, 4)):
         links = [chance.choice(recorded.LINKS) for _ in range(chance.randrange(1, 4))]
-        order, maker = chance.choice("<>"), Maker(chance, links)
+        # No two packets of a file have one identification, also not in two sections.
+        order, maker = chance.choice("<>"), Maker(chance, links, first)
         units, offsets = (None, 6, 9, 3, 0x80 | 20), (0, 0, 3_600)
         interfaces = [Interface(link, chance.choice(units), chance.choice(offsets)) for link in links]
         taken = maker.frames(chance.randrange(12))
@@ -193,6 +194,7 @@ def made_pcapng(chance: random.Random) -> Made:
         file += recorded.section(order, interfaces, blocks, chance)
         everything += taken
         is_naming |= maker.is_naming
+        first = maker.id + 1
     return listed(file, everything, not is_naming)
 
 
