@@ -1,0 +1,2 @@
+mod Names
+mod Addresses
