@@ -2,3 +2,4 @@ mod Judging
 mod Settling
 mod Feeding
 mod Holding
+mod Passing

@@ -1,6 +1,6 @@
 //! Laws of the definitions in `specs/`. Each is the contract of a function that does nothing.
 
-ghost use Rattle.std.specs.Prelude.{◌≡◌, [], ◌++◌, ℕ, List, Result, filter, reverse, true};
+ghost use Rattle.std.specs.Prelude.{◌≡◌, [], ◌++◌, ◌∷◌, ℕ, List, Result, filter, reverse, false, true};
 ghost use Rattle.tftp_ends.specs.CaptureText.{Datagram, Header};
 ghost use Rattle.tftp_ends.specs.Meaning.{Meaning};
 ghost use Rattle.tftp_judge.specs.Verdict.{IsVerdict};
@@ -9,9 +9,13 @@ ghost use Rattle.tftp_judge.specs.TextVerdict.{IsTextVerdict};
 ghost use Rattle.tftp_judge.specs.Verdict.{IsSaid};
 ghost use Rattle.tftp_judge.specs.declared.refusal.Refusal.{Refusal};
 ghost use Rattle.tftp_transfers.specs.Places.{Placed, placed};
-ghost use Rattle.tftp_transfers.specs.Views.{is_at_server, server_of, server_view};
+ghost use Rattle.tftp_transfers.specs.Doubts.{is_it, may_be_answer_of};
+ghost use Rattle.tftp_transfers.specs.Kept.{IsDoubtedAfter};
+ghost use Rattle.tftp_transfers.specs.Views.{is_about, is_at_server, server_of, server_view};
+ghost use Rattle.tftp_transfers.specs.declared.doubted.TransferDoubts.{TransferDoubts};
 ghost use Rattle.tftp_transfers.specs.Worked.{asked_twice};
-ghost use Rattle.tftp_views.specs.Captured.{client_capture, server_capture};
+ghost use Rattle.tftp_views.specs.Captured.{Naming, client_capture, server_capture};
+ghost use Rattle.tftp_views.specs.Kept.{Client, IsClientAfter, IsViewAfter, View};
 ghost use Rattle.tftp_transfers.specs.Settled.{is_settled};
 ghost use Rattle.tftp_views.specs.Judged.{AreWritten, of_text};
 ghost use Rattle.tftp_views.specs.Worked.{asked_twice_at_client, asked_twice_at_server, by_bytes, first_transfer};
@@ -37,4 +41,15 @@ pub fn worked_captures()
     ensures client { client_capture by_bytes first_transfer (placed [] asked_twice) ≡ asked_twice_at_client }
     ensures server { server_capture by_bytes first_transfer (placed [] asked_twice) (placed [] asked_twice) ≡ asked_twice_at_server }
     ensures settled { is_settled 0 (placed [] asked_twice) ≡ true }
+{}
+
+/// A datagram that is not about a transfer tells its judges nothing, and makes nothing of it doubtful unless it may be its
+/// first answer: what stands for the datagrams before it stands for it too.
+pub fn what_is_not_about_a_transfer_changes_nothing()
+    ensures client { (c : Client) (name : Naming) (p : Placed) (older : List Placed) → is_about c.transfer.number p ≡ false
+        → IsClientAfter c name older → IsClientAfter c name (p ∷ older) }
+    ensures server { (v : View) (name : Naming) (p : Placed) (older : List Placed) → v.ends.number ≡ v.transfer.number
+        → is_about v.transfer.number p ≡ false → IsViewAfter v name older → IsViewAfter v name (p ∷ older) }
+    ensures doubts { (t : TransferDoubts) (p : Placed) (older : List Placed) → is_about t.number p ≡ false
+        → is_it t.number (may_be_answer_of p older) ≡ false → IsDoubtedAfter t older → IsDoubtedAfter t (p ∷ older) }
 {}

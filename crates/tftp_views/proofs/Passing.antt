@@ -1,0 +1,28 @@
+-- What is not about a transfer changes nothing of it.
+use Rattle.std.proofs.Common.{◌≡◌, ℕ, Bool, true, false, cond, List, ◌∷◌, refl, sym, ap, ◌∙◌, subst, map}
+use Rattle.std.specs.Prelude.{◌&&◌, ◌||◌, filter}
+use Rattle.tftp_transfers.specs.declared.doubted.TransferDoubts.{TransferDoubts}
+use Rattle.tftp_transfers.specs.Doubts.{goes_over, is_answered_apart, is_asked_again, is_disordered, is_it, is_late, may_be_answer_of, some_of}
+use Rattle.tftp_transfers.specs.Kept.{IsDoubtedAfter}
+use Rattle.tftp_transfers.specs.Places.{Placed}
+use Rattle.tftp_transfers.specs.Views.{is_about, is_of}
+use Rattle.tftp_transfers.proofs.OwnDatagrams.{about_none}
+use Rattle.tftp_views.specs.Captured.{Naming, captured_at_client, client_capture, client_header}
+use Rattle.tftp_views.specs.Judged.{HasJudged}
+use Rattle.tftp_views.specs.Kept.{Client, IsClientAfter}
+
+pub client_passes_by : (c : Client) (name : Naming) (p : Placed) (older : List Placed) → is_about c.transfer.number p ≡ false → IsClientAfter c name older → IsClientAfter c name (p ∷ older)
+client_passes_by c name p older off = subst (HasJudged c.end.judge (client_header c.transfer))
+    (sym (ap (λ b. map (captured_at_client name c.transfer) (cond b (p ∷ filter (is_of c.transfer.number) older) (filter (is_of c.transfer.number) older))) (about_none c.transfer.number p off)))
+
+none_of : (n : ℕ) (test : Placed → List Placed → Bool) (p : Placed) (older : List Placed) → is_about n p ≡ false → some_of n test (p ∷ older) ≡ some_of n test older
+none_of n test p older off = ap (λ b. (b && test p older) || some_of n test older) (about_none n p off)
+
+pub doubts_pass_by : (t : TransferDoubts) (p : Placed) (older : List Placed) → is_about t.number p ≡ false → is_it t.number (may_be_answer_of p older) ≡ false → IsDoubtedAfter t older → IsDoubtedAfter t (p ∷ older)
+doubts_pass_by t p older off apart after = record {
+  goes_over = after.goes_over ∙ sym (none_of t.number goes_over p older off);
+  is_late = after.is_late ∙ sym (none_of t.number is_late p older off);
+  is_disordered = after.is_disordered ∙ sym (none_of t.number is_disordered p older off);
+  is_asked_again = after.is_asked_again ∙ sym (none_of t.number is_asked_again p older off);
+  is_answered_apart = after.is_answered_apart ∙ sym (ap (λ b. b || is_answered_apart t.number older) apart);
+}
