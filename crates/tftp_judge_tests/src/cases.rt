@@ -1,6 +1,7 @@
 //! Captures, and what is said of each: by `check`, by `judge_text`, and by a judge on each store.
 
 use crate::commands::says;
+use crate::scripts::all_hold;
 use crate::verdicts::{is_judged, is_verdict};
 use std::test::Fail;
 use tftp_ends::{MapDelivered, RingDelivered};
@@ -23,4 +24,23 @@ pub fn holds(rt: &HostRuntime, text: &[u8], line: &str, status: u8) -> Result<()
     is_verdict(rt, text, line)?;
     is_judged::<MapDelivered>(rt, text, line)?;
     is_judged::<RingDelivered>(rt, text, line)
+}
+
+/// The scripts of captures, and how many each has.
+const SCRIPTS: [(&str, u32); 7] = [
+    (rules::SCRIPT, 31),
+    (reads::SCRIPT, 26),
+    (hosts::SCRIPT, 21),
+    (options::SCRIPT, 19),
+    (windows::SCRIPT, 34),
+    (errors::SCRIPT, 53),
+    (limits::SCRIPT, 12),
+];
+
+#[test]
+fn captures_of_all_scripts(rt: HostRuntime) -> Result<(), Fail> {
+    for (script, count) in SCRIPTS {
+        all_hold(&rt, script, count)?;
+    }
+    Ok(())
 }

@@ -39,17 +39,30 @@ fn shown_before(alloc: Global, number: usize, fault: &str) -> Result<String, All
     Ok(shown)
 }
 
-/// The text of a capture of many datagrams, and what `show` writes of it: more than two pieces of 16,384 bytes.
-fn many_datagrams(alloc: Global) -> Result<(String, String), AllocError> {
-    let mut text = String::from_str(alloc, START)?;
+/// Adds what `show` writes of the datagram with this number.
+fn add_shown(alloc: Global, lines: &mut String, number: u32) -> Result<(), AllocError> {
+    let line = format!(in alloc; "{number} in DATA 123 8\n")?;
+    lines.push_str(line.as_str())?;
+    Ok(())
+}
+
+/// What `show` writes of the text of many datagrams: more than two pieces of 16,384 bytes.
+fn many_shown(alloc: Global) -> Result<String, AllocError> {
     let mut lines = String::new(alloc);
     for number in 1..=2000u32 {
+        add_shown(alloc, &mut lines, number)?;
+    }
+    Ok(lines)
+}
+
+/// The text of a capture of many datagrams.
+fn many_datagrams(alloc: Global) -> Result<String, AllocError> {
+    let mut text = String::from_str(alloc, START)?;
+    for _ in 1..=2000u32 {
         text.push_str("in 40000 41000 0003007b3131313131313131\n")?;
-        let line = format!(in alloc; "{number} in DATA 123 8\n")?;
-        lines.push_str(line.as_str())?;
     }
     text.push_str("total 2000\n")?;
-    Ok((text, lines))
+    Ok(text)
 }
 
 /// What was written by a run, how it ended, and whether a read and a write failed.
@@ -74,6 +87,26 @@ fn ran(rt: &HostRuntime, words: &[&str], reader: DripReader<'_>, writer: DripWri
     }
 }
 
+/// How a text is read: how many bytes each read gives, and the read, counted from 1, that fails; none where it is 0.
+type Reading = (usize, u64);
+
+/// How output is taken: how many bytes each write takes, the write that fails, likewise, and whether that takes no byte in
+/// place of an error.
+type Writing = (usize, u64, bool);
+
+/// Runs a command. It promises nothing, and makes its reader and its writer, so that no test has to know of them.
+fn ran_on(
+    rt: &HostRuntime,
+    command: &str,
+    text: &[u8],
+    (piece, read): Reading,
+    (taken, write, none): Writing,
+) -> Result<Outcome, Fail> {
+    let reader = DripReader::new(text, piece, read, None);
+    let writer = DripWriter::new(rt.alloc(), ROOM, taken, write, none)?;
+    Ok(ran(rt, &["tftp-audit", command], reader, writer))
+}
+
 /// Fails unless that was written, this is the status, and no write failed, and a read only if `fails`.
 fn has_said(ran: &Outcome, output: &str, status: u8, fails: bool) -> Result<(), Fail> {
     let taken = ran.written.taken();
@@ -88,6 +121,19 @@ fn has_said(ran: &Outcome, output: &str, status: u8, fails: bool) -> Result<(), 
     }
 }
 
+/// Fails unless the command writes this for the text, ends with this status, and a read failed only if `fails`, where the
+/// text is read so and where each write takes so many bytes.
+fn says_at(
+    rt: &HostRuntime,
+    command: &str,
+    text: &[u8],
+    (reading, taken): (Reading, usize),
+    (output, status, fails): (&str, u8, bool),
+) -> Result<(), Fail> {
+    let it = ran_on(rt, command, text, reading, (taken, 0, false))?;
+    has_said(&it, output, status, fails)
+}
+
 /// Fails unless the command writes all this for the text, and ends with this status: where the text is given whole,
 /// and where it is given, and the output taken, one byte at a time.
 pub fn says(
@@ -98,10 +144,13 @@ pub fn says(
     status: u8,
 ) -> Result<(), Fail> {
     for piece in [usize::MAX, 1] {
-        let reader = DripReader::new(text, piece, 0, None);
-        let writer = DripWriter::new(rt.alloc(), ROOM, piece, 0, false)?;
-        let it = ran(rt, &["tftp-audit", command], reader, writer);
-        has_said(&it, output, status, false)?;
+        says_at(
+            rt,
+            command,
+            text,
+            ((piece, 0), piece),
+            (output, status, false),
+        )?;
     }
     Ok(())
 }

@@ -22,9 +22,6 @@ const BLOCK_2: &[u8] = b"\x00\x03\x00\x0222";
 
 const ACK_1: &[u8] = b"\x00\x04\x00\x01";
 
-/// What is told where a growth was refused.
-const NO_MEMORY: &str = "want of memory";
-
 /// A datagram at port 40000 of the client.
 fn datagram(
     alloc: Global,
@@ -54,32 +51,58 @@ pub fn fed<D: Delivered + Drop>(
     judge.feed(alloc, datagram)
 }
 
-/// A refusal is answered for good, and counts no datagram.
-fn refuses_for_good<D: Delivered + Drop>(rt: &HostRuntime) -> Result<(), Fail> {
-    let alloc = rt.alloc();
-    let mut judge: Judge<D> = Judge::new(alloc, &HEADER);
-    let read = datagram(alloc, Dir::Out, 69, READ)?;
-    let overrun = datagram(alloc, Dir::In, 41000, BLOCK_2)?;
-    let hi = datagram(alloc, Dir::In, 41000, HI)?;
-    let refusal = Err(Refusal::Unlawful(2, Rule::WindowOverrun));
-    let answers = [
-        fed(alloc, &mut judge, &read),
-        fed(alloc, &mut judge, &overrun),
-        fed(alloc, &mut judge, &hi),
-    ];
-    if answers != [Ok(()), refusal, refusal] || judge.fed() != 1 {
-        return Err(Fail::new("another answer"));
-    }
+/// A judge on this store, which has been fed nothing.
+fn begun<D: Delivered + Drop>(alloc: Global) -> Judge<D> {
+    Judge::new(alloc, &HEADER)
+}
+
+/// What a judge answers to a datagram.
+fn answer<D: Delivered + Drop>(
+    alloc: Global,
+    judge: &mut Judge<D>,
+    (dir, remote_port, payload): (Dir, u16, &[u8]),
+) -> Result<Result<(), Refusal>, AllocError> {
+    let datagram = datagram(alloc, dir, remote_port, payload)?;
+    Ok(fed(alloc, judge, &datagram))
+}
+
+/// The refusal of block 2 before block 1.
+const OVERRUN: Refusal = Refusal::Unlawful(2, Rule::WindowOverrun);
+
+/// Datagrams, and what is answered to each.
+const REFUSED: [((Dir, u16, &[u8]), Result<(), Refusal>); 3] = [
+    ((Dir::Out, 69, READ), Ok(())),
+    ((Dir::In, 41000, BLOCK_2), Err(OVERRUN)),
+    ((Dir::In, 41000, HI), Err(OVERRUN)),
+];
+
+/// Whether the end of a judge is that refusal.
+fn is_overrun<D: Delivered + Drop>(alloc: Global, judge: Judge<D>) -> bool {
     match judge.finish(alloc) {
-        Err(Refusal::Unlawful(2, Rule::WindowOverrun)) => Ok(()),
-        _ => Err(Fail::new("another end")),
+        Ok(_) => false,
+        Err(refusal) => refusal == OVERRUN,
+    }
+}
+
+/// A refusal is answered for good, and counts no datagram.
+fn refuses_for_good<D: Delivered + Drop>(alloc: Global) -> Result<(), Fail> {
+    let mut judge = begun::<D>(alloc);
+    for (datagram, wanted) in REFUSED {
+        if answer(alloc, &mut judge, datagram)? != wanted {
+            return Err(Fail::new("another answer"));
+        }
+    }
+    if judge.fed() == 1 && is_overrun(alloc, judge) {
+        Ok(())
+    } else {
+        Err(Fail::new("another end"))
     }
 }
 
 #[test]
 fn refusals_are_for_good(rt: HostRuntime) -> Result<(), Fail> {
-    refuses_for_good::<MapDelivered>(&rt)?;
-    refuses_for_good::<RingDelivered>(&rt)
+    refuses_for_good::<MapDelivered>(rt.alloc())?;
+    refuses_for_good::<RingDelivered>(rt.alloc())
 }
 
 /// The datagrams of the read of `hi`, with a stray: the way, the port at the other side and the payload of each.
@@ -90,30 +113,44 @@ const READ_OF_HI: [(Dir, u16, &[u8]); 4] = [
     (Dir::Out, 41000, ACK_1),
 ];
 
+/// Want of memory as the tests tell it, and any other refusal.
+fn refused(refusal: Refusal) -> Fail {
+    match refusal {
+        Refusal::Memory(_) => Fail::new("want of memory"),
+        _ => Fail::new("refused"),
+    }
+}
+
+/// Fails unless a judge accepts the file `hi` at the end.
+fn accepts_hi<D: Delivered + Drop>(alloc: Global, judge: Judge<D>) -> Result<(), Fail> {
+    match judge.finish(alloc) {
+        Ok(meaning) => {
+            if meaning.file() == b"hi".as_slice() {
+                Ok(())
+            } else {
+                Err(Fail::new("another file"))
+            }
+        }
+        Err(refusal) => Err(refused(refusal)),
+    }
+}
+
 /// The read of `hi` is accepted, and each datagram counts, strays too.
-fn accepts<D: Delivered + Drop>(rt: &HostRuntime) -> Result<(), Fail> {
-    let alloc = rt.alloc();
-    let mut judge: Judge<D> = Judge::new(alloc, &HEADER);
-    for (dir, remote_port, payload) in READ_OF_HI {
-        let datagram = datagram(alloc, dir, remote_port, payload)?;
-        match fed(alloc, &mut judge, &datagram) {
-            Ok(()) => {}
-            Err(Refusal::Memory(_)) => return Err(Fail::new(NO_MEMORY)),
-            Err(_) => return Err(Fail::new("a datagram is refused")),
+fn accepts<D: Delivered + Drop>(alloc: Global) -> Result<(), Fail> {
+    let mut judge = begun::<D>(alloc);
+    for datagram in READ_OF_HI {
+        if let Err(refusal) = answer(alloc, &mut judge, datagram)? {
+            return Err(refused(refusal));
         }
     }
     if judge.fed() != 4 {
         return Err(Fail::new("another count"));
     }
-    match judge.finish(alloc) {
-        Ok(meaning) if meaning.file() == b"hi".as_slice() => Ok(()),
-        Err(Refusal::Memory(_)) => Err(Fail::new(NO_MEMORY)),
-        _ => Err(Fail::new("another end")),
-    }
+    accepts_hi(alloc, judge)
 }
 
 #[test]
 fn a_read_is_accepted(rt: HostRuntime) -> Result<(), Fail> {
-    accepts::<MapDelivered>(&rt)?;
-    accepts::<RingDelivered>(&rt)
+    accepts::<MapDelivered>(rt.alloc())?;
+    accepts::<RingDelivered>(rt.alloc())
 }

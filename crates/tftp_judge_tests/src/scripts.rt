@@ -157,6 +157,13 @@ fn add_header(text: &mut String, header: &str) -> Result<(), Fail> {
     Ok(())
 }
 
+/// Writes the last line of a capture of so many datagrams.
+fn add_total(alloc: Global, text: &mut String, count: usize) -> Result<(), AllocError> {
+    let total = format!(in alloc; "total {count}\n")?;
+    text.push_str(total.as_str())?;
+    Ok(())
+}
+
 /// The text of a capture with this header, its lines with commas between, and these datagrams.
 fn text_of(alloc: Global, header: &str, datagrams: &[&str]) -> Result<String, Fail> {
     let mut text = String::new(alloc);
@@ -164,8 +171,7 @@ fn text_of(alloc: Global, header: &str, datagrams: &[&str]) -> Result<String, Fa
     for datagram in datagrams {
         add_line(&mut text, datagram)?;
     }
-    let total = format!(in alloc; "total {}", datagrams.len())?;
-    add_line(&mut text, total.as_str())?;
+    add_total(alloc, &mut text, datagrams.len())?;
     Ok(text)
 }
 
@@ -198,18 +204,30 @@ impl<'a> Script<'a> {
                 break;
             };
             self.rest = rest;
-            match Line::of(line) {
-                Line::Beside => {}
-                Line::Header(header) => self.header = header,
-                Line::First(words) => datagrams.add(words)?,
-                Line::Last(words, said) => {
-                    datagrams.add(words)?;
-                    let text = text_of(alloc, self.header, datagrams.all.as_slice())?;
-                    return Ok((text, said));
-                }
+            if let Some(said) = self.read_line(&mut datagrams, line)? {
+                let text = text_of(alloc, self.header, datagrams.all.as_slice())?;
+                return Ok((text, said));
             }
         }
         Err(Fail::new("too few captures"))
+    }
+
+    /// Reads a line, and adds its datagrams; what is said of a capture where the line ends it.
+    fn read_line(
+        &mut self,
+        datagrams: &mut Datagrams<'a>,
+        line: &'a str,
+    ) -> Result<Option<&'a str>, AllocError> {
+        match Line::of(line) {
+            Line::Beside => {}
+            Line::Header(header) => self.header = header,
+            Line::First(words) => datagrams.add(words)?,
+            Line::Last(words, said) => {
+                datagrams.add(words)?;
+                return Ok(Some(said));
+            }
+        }
+        Ok(None)
     }
 
     /// Fails unless nothing is left of it.
@@ -224,17 +242,23 @@ impl<'a> Script<'a> {
 
 /// The text of the capture with this header, its lines with commas between, and the datagrams of these words.
 pub fn capture(alloc: Global, header: &str, words: &str) -> Result<String, Fail> {
-    let script = format!(in alloc; "{header}\n{words} => -\n")?;
-    let (text, _) = Script::new(script.as_str()).next(alloc)?;
-    Ok(text)
+    let mut datagrams = Datagrams {
+        script: "",
+        all: Vec::new(alloc),
+    };
+    datagrams.add(words)?;
+    text_of(alloc, header, datagrams.all.as_slice())
+}
+
+/// The status of `check`, and its line.
+fn status_of(said: &str) -> Option<(u8, &str)> {
+    let (status, line) = said.split_once(" ")?;
+    Some((status.parse::<u8>().ok()?, line))
 }
 
 /// Fails unless all say this of a capture text: the status of `check`, and its line.
 fn is_said(rt: &HostRuntime, text: &[u8], said: &str) -> Result<(), Fail> {
-    let Some((status, line)) = said.split_once(" ") else {
-        return Err(Fail::new("no status"));
-    };
-    let Ok(status) = status.parse::<u8>() else {
+    let Some((status, line)) = status_of(said) else {
         return Err(Fail::new("no status"));
     };
     let line = format!(in rt.alloc(); "{line}\n")?;

@@ -26,47 +26,89 @@ fn capture_of(rt: &HostRuntime, text: &[u8]) -> Result<(Header, Vec<Datagram>), 
     Ok((header, datagrams))
 }
 
-/// What a judge on this store says of the datagrams.
-fn judged<D: Delivered + Drop>(
+/// A judge on this store. It promises nothing, as all here, so that what the libraries promise is not read again in each
+/// function.
+fn begun<D: Delivered + Drop>(alloc: Global, header: &Header) -> Judge<D> {
+    Judge::new(alloc, header)
+}
+
+/// Feeds a judge the datagrams, up to one that it refuses.
+fn feed_all<D: Delivered + Drop>(
     alloc: Global,
-    header: &Header,
+    judge: &mut Judge<D>,
     datagrams: &[Datagram],
-) -> Result<Meaning, Refusal> {
-    let mut judge: Judge<D> = Judge::new(alloc, header);
+) -> Result<(), Refusal> {
     for datagram in datagrams {
-        fed(alloc, &mut judge, datagram)?;
+        fed(alloc, judge, datagram)?;
     }
+    Ok(())
+}
+
+/// What a judge says at the end.
+fn finished<D: Delivered + Drop>(alloc: Global, judge: Judge<D>) -> Result<Meaning, Refusal> {
     judge.finish(alloc)
+}
+
+/// What a judge on this store says of the datagrams of a capture text.
+fn judged<D: Delivered + Drop>(
+    rt: &HostRuntime,
+    text: &[u8],
+) -> Result<Result<Meaning, Refusal>, Fail> {
+    let (header, datagrams) = capture_of(rt, text)?;
+    let mut judge = begun::<D>(rt.alloc(), &header);
+    match feed_all(rt.alloc(), &mut judge, datagrams.as_slice()) {
+        Ok(()) => Ok(finished(rt.alloc(), judge)),
+        Err(refusal) => Ok(Err(refusal)),
+    }
+}
+
+/// The name of a side.
+fn side_name(side: Side) -> &'static str {
+    match side {
+        Side::Get => "get",
+        Side::Put => "put",
+    }
+}
+
+/// The name of a mode.
+fn mode_name(mode: Mode) -> &'static str {
+    match mode {
+        Mode::Octet => "octet",
+        Mode::Netascii => "netascii",
+    }
+}
+
+/// The names of the side and of the mode of what was accepted.
+fn request_names(meaning: &Meaning) -> (&'static str, &'static str) {
+    let request = meaning.request();
+    (side_name(request.side()), mode_name(request.mode()))
+}
+
+/// The numbers of its blocks and of its bytes.
+fn sizes(meaning: &Meaning) -> (u64, usize) {
+    (u64::from(meaning.blocks()), meaning.file().len())
 }
 
 /// The line of what is accepted.
 fn accepted_line(alloc: Global, meaning: &Meaning) -> Result<String, AllocError> {
-    let request = meaning.request();
-    let side = match request.side() {
-        Side::Get => "get",
-        Side::Put => "put",
-    };
-    let mode = match request.mode() {
-        Mode::Octet => "octet",
-        Mode::Netascii => "netascii",
-    };
-    let blocks = meaning.blocks();
-    let bytes = meaning.file().len();
+    let (side, mode) = request_names(meaning);
+    let (blocks, bytes) = sizes(meaning);
     format!(in alloc; "accepted {side} {mode} blocks {blocks} bytes {bytes}\n")
+}
+
+/// The line of a datagram that breaks a rule.
+fn unlawful_line(alloc: Global, index: u64, rule: Rule) -> Result<String, AllocError> {
+    let (number, name) = (rule.number(), rule.name());
+    if let Rule::Malformed(fault) = rule {
+        return format!(in alloc; "refused datagram {index} rule {number} {name} {fault:?}\n");
+    }
+    format!(in alloc; "refused datagram {index} rule {number} {name}\n")
 }
 
 /// The line of what is not.
 fn refused_line(alloc: Global, refusal: Refusal) -> Result<String, AllocError> {
     match refusal {
-        Refusal::Unlawful(index, Rule::Malformed(fault)) => {
-            let rule = Rule::Malformed(fault);
-            let (number, name) = (rule.number(), rule.name());
-            format!(in alloc; "refused datagram {index} rule {number} {name} {fault:?}\n")
-        }
-        Refusal::Unlawful(index, rule) => {
-            let (number, name) = (rule.number(), rule.name());
-            format!(in alloc; "refused datagram {index} rule {number} {name}\n")
-        }
+        Refusal::Unlawful(index, rule) => unlawful_line(alloc, index, rule),
         Refusal::Aborted(By::Local, code) => format!(in alloc; "aborted by local code {code}\n"),
         Refusal::Aborted(By::Peer, code) => format!(in alloc; "aborted by peer code {code}\n"),
         Refusal::Incomplete(count) => format!(in alloc; "incomplete after {count}\n"),
@@ -92,15 +134,25 @@ fn line_of(alloc: Global, found: &Result<Meaning, Refusal>) -> Result<String, Al
     }
 }
 
-/// The line of what `judge_text` answers to a text of which each read gives so many bytes, and one fails.
+/// What `judge_text` answers to a text of which each read gives so many bytes, and one fails.
+fn verdict_of(
+    rt: &HostRuntime,
+    text: &[u8],
+    piece: usize,
+    fails_at: u64,
+) -> Result<Meaning, Verdict> {
+    let mut reader = Tallied::new(DripReader::new(text, piece, fails_at, None));
+    judge_text(rt.alloc(), &mut reader)
+}
+
+/// The line of that answer.
 fn verdict_line(
     rt: &HostRuntime,
     text: &[u8],
     piece: usize,
     fails_at: u64,
 ) -> Result<String, AllocError> {
-    let mut reader = Tallied::new(DripReader::new(text, piece, fails_at, None));
-    match judge_text(rt.alloc(), &mut reader) {
+    match verdict_of(rt, text, piece, fails_at) {
         Ok(meaning) => accepted_line(rt.alloc(), &meaning),
         Err(Verdict::Refused(refusal)) => refused_line(rt.alloc(), refusal),
         Err(Verdict::Capture(fault)) => fault_line(rt.alloc(), fault),
@@ -122,9 +174,16 @@ pub fn is_judged<D: Delivered + Drop>(
     text: &[u8],
     line: &str,
 ) -> Result<(), Fail> {
-    let (header, datagrams) = capture_of(rt, text)?;
-    let found = judged::<D>(rt.alloc(), &header, &datagrams);
+    let found = judged::<D>(rt, text)?;
     is_line(line_of(rt.alloc(), &found)?, line)
+}
+
+/// Whether a judge has accepted this file.
+pub fn has_file(found: &Result<Meaning, Refusal>, file: &[u8]) -> bool {
+    match found {
+        Ok(meaning) => meaning.file() == file,
+        Err(_) => false,
+    }
 }
 
 /// Fails unless the capture text is accepted with this file, by a judge on this store.
@@ -133,10 +192,10 @@ pub fn is_file<D: Delivered + Drop>(
     text: &[u8],
     file: &[u8],
 ) -> Result<(), Fail> {
-    let (header, datagrams) = capture_of(rt, text)?;
-    match judged::<D>(rt.alloc(), &header, &datagrams) {
-        Ok(meaning) if meaning.file() == file => Ok(()),
-        _ => Err(Fail::new("another file, or none")),
+    if has_file(&judged::<D>(rt, text)?, file) {
+        Ok(())
+    } else {
+        Err(Fail::new("another file, or none"))
     }
 }
 

@@ -1,9 +1,8 @@
 //! Requests, and what an OACK agrees to.
 
-use crate::views::{oack_of, request_of};
+use crate::views::{is_so, oack_of, owned_request_of};
 use std::test::Fail;
 use tftp_nego::{Agreed, NegoFault, agree, nothing_agreed};
-use tftp_packet::own_request;
 
 mod faults;
 
@@ -13,13 +12,32 @@ fn answer(
     request: &[u8],
     oack: &[u8],
 ) -> Result<Result<Agreed, NegoFault>, Fail> {
-    let request = own_request(rt.alloc(), &request_of(request)?)?;
+    let request = owned_request_of(rt, request)?;
     let options = oack_of(oack)?;
     Ok(agree(rt.alloc(), &request, &options))
 }
 
+/// The block size, the window, the timeout and the size.
+type Numbers = (u16, u16, Option<u8>, Option<u64>);
+
+/// Whether these were agreed.
+fn has_numbers(agreed: &Agreed, (blksize, windowsize, timeout, tsize): Numbers) -> bool {
+    agreed.blksize() == blksize
+        && agreed.windowsize() == windowsize
+        && agreed.timeout() == timeout
+        && agreed.tsize() == tsize
+}
+
+/// Want of memory as the tests tell it, and any other fault.
+fn refused(fault: NegoFault) -> Fail {
+    match fault {
+        NegoFault::Memory => Fail::new("want of memory"),
+        _ => Fail::from(fault),
+    }
+}
+
 /// Requests and OACKs that may be agreed, with the block size, the window, the timeout and the size.
-const AGREED: [(&[u8], &[u8], (u16, u16, Option<u8>, Option<u64>)); 12] = [
+const AGREED: [(&[u8], &[u8], Numbers); 12] = [
     (
         b"\x00\x01a\x00octet\x00blksize\x008\x00windowsize\x004\x00",
         b"\x00\x06blksize\x008\x00windowsize\x004\x00",
@@ -82,31 +100,37 @@ const AGREED: [(&[u8], &[u8], (u16, u16, Option<u8>, Option<u64>)); 12] = [
     ),
 ];
 
+/// Fails unless the OACK agrees to these numbers.
+fn agrees(rt: &HostRuntime, request: &[u8], oack: &[u8], numbers: Numbers) -> Result<(), Fail> {
+    match answer(rt, request, oack)? {
+        Ok(agreed) => is_so(is_agreed(&agreed, numbers), "other numbers"),
+        Err(fault) => Err(refused(fault)),
+    }
+}
+
+/// Whether options were agreed with these numbers.
+fn is_agreed(agreed: &Agreed, numbers: Numbers) -> bool {
+    has_numbers(agreed, numbers) && !agreed.is_empty() && !agreed.options().is_empty()
+}
+
 #[test]
 fn agrees_to_options(rt: HostRuntime) -> Result<(), Fail> {
-    for (request, oack, (blksize, windowsize, timeout, tsize)) in AGREED {
-        match answer(&rt, request, oack)? {
-            Ok(agreed) => {
-                assert_eq!(rt; agreed.blksize(), blksize, "{oack:?}");
-                assert_eq!(rt; agreed.windowsize(), windowsize, "{oack:?}");
-                assert_eq!(rt; agreed.timeout(), timeout, "{oack:?}");
-                assert_eq!(rt; agreed.tsize(), tsize, "{oack:?}");
-                assert!(rt; !agreed.is_empty(), "{oack:?}");
-                assert!(rt; !agreed.options().is_empty(), "{oack:?}");
-            }
-            Err(fault) => assert!(rt; false, "{fault:?} {oack:?}"),
-        }
+    for (request, oack, numbers) in AGREED {
+        agrees(&rt, request, oack, numbers)?;
     }
     Ok(())
 }
 
+/// Whether no options were agreed, with these numbers.
+fn is_not_agreed(agreed: &Agreed, numbers: Numbers) -> bool {
+    has_numbers(agreed, numbers) && agreed.is_empty() && agreed.options().len() == 0
+}
+
 #[test]
-fn nothing_agreed_has_the_defaults(rt: HostRuntime) {
+fn nothing_agreed_has_the_defaults(rt: HostRuntime) -> Result<(), Fail> {
     let agreed = nothing_agreed(rt.alloc());
-    assert_eq!(rt; agreed.blksize(), 512);
-    assert_eq!(rt; agreed.windowsize(), 1);
-    assert_eq!(rt; agreed.timeout(), None);
-    assert_eq!(rt; agreed.tsize(), None);
-    assert!(rt; agreed.is_empty());
-    assert_eq!(rt; agreed.options().len(), 0);
+    is_so(
+        is_not_agreed(&agreed, (512, 1, None, None)),
+        "other numbers",
+    )
 }

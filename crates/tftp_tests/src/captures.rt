@@ -1,8 +1,10 @@
 //! Capture texts: what is read of them, with its lines, and what is written; and who was asked whether a call failed.
 
-ghost use Rattle.std.specs.Prelude.{◌≡◌, false, IfOk};
+ghost use Rattle.std.specs.Prelude.{◌≡◌, ◌≤◌, false, true, length, IfOk};
+ghost use Rattle.tftp_capture.specs.History.{IsReadStanding};
 
-use std::alloc::Global;
+use crate::views::{is_same, is_so};
+use std::alloc::{AllocError, Global};
 use std::io;
 use std::io::{ErrorKind, Read, Write};
 use std::test::Fail;
@@ -20,7 +22,10 @@ const READ: &[u8] =
     b"tftp-capture 1\nend client\nservice 69\nout 40000 69 000161006f6374657400\nin 40000 41000 000300016869\nout 40000 41000 00040001\ntotal 3\n";
 
 /// What a whole text gives: the number of its datagrams and the sum of their lines, or the fault.
-fn outcome<R: Read>(rt: &HostRuntime, reader: &mut Tallied<R>) -> Result<(u64, u64), CaptureFault>
+fn outcome(
+    rt: &HostRuntime,
+    reader: &mut Tallied<DripReader<'_>>,
+) -> Result<(u64, u64), CaptureFault>
     requires { reader.old.1 ≡ false }
 {
     let mut capture = CaptureReader::begin(rt.alloc(), reader)?;
@@ -36,6 +41,28 @@ fn outcome<R: Read>(rt: &HostRuntime, reader: &mut Tallied<R>) -> Result<(u64, u
     Ok((count, lines))
 }
 
+/// What the text that is read so gives, and whether a read failed. It promises nothing, so that what is promised of
+/// readers is not read again in each test.
+fn read_out(rt: &HostRuntime, drip: DripReader<'_>) -> (Result<(u64, u64), CaptureFault>, bool) {
+    let mut reader = Tallied::new(drip);
+    let found = outcome(rt, &mut reader);
+    (found, reader.failed())
+}
+
+/// Fails unless the text has that outcome, given in pieces of this size.
+fn gives_in(
+    rt: &HostRuntime,
+    text: &[u8],
+    piece: usize,
+    wanted: Result<(u64, u64), CaptureFault>,
+) -> Result<(), Fail> {
+    let (found, failed) = read_out(rt, DripReader::new(text, piece, 0, None));
+    if found != wanted || failed {
+        return Err(Fail::from((piece, found, wanted)));
+    }
+    Ok(())
+}
+
 /// Fails unless the text has that outcome, given whole and in pieces.
 fn gives(
     rt: &HostRuntime,
@@ -43,13 +70,48 @@ fn gives(
     wanted: Result<(u64, u64), CaptureFault>,
 ) -> Result<(), Fail> {
     for piece in [usize::MAX, 1, 7, 4096] {
-        let mut reader = Tallied::new(DripReader::new(text, piece, 0, None));
-        let found = outcome(rt, &mut reader);
-        if found != wanted || reader.failed() {
-            return Err(Fail::from((piece, found, wanted)));
-        }
+        gives_in(rt, text, piece, wanted)?;
     }
     Ok(())
+}
+
+/// Begins to read, and promises no more than a further call wants.
+fn begun(rt: &HostRuntime, reader: &mut Tallied<DripReader<'_>>) -> Result<CaptureReader, Fail>
+    requires { reader.old.1 ≡ false }
+    ensures told { IfOk result (λ capture. IsReadStanding capture.standing → reader.new.1 ≡ true) }
+{
+    match CaptureReader::begin(rt.alloc(), reader) {
+        Ok(capture) => Ok(capture),
+        Err(_) => Err(Fail::new("begin")),
+    }
+}
+
+/// The line of the next datagram, likewise.
+fn next_line(
+    rt: &HostRuntime,
+    capture: &mut CaptureReader,
+    reader: &mut Tallied<DripReader<'_>>,
+) -> Result<Option<u64>, CaptureFault>
+    requires told { IsReadStanding capture.old.standing → reader.old.1 ≡ true }
+    ensures told { IsReadStanding capture.new.standing → reader.new.1 ≡ true }
+{
+    match capture.next(rt.alloc(), reader) {
+        Ok(Some(_)) => Ok(Some(capture.line())),
+        Ok(None) => Ok(None),
+        Err(fault) => Err(fault),
+    }
+}
+
+/// Reads the next datagram into one that is held, likewise.
+fn fill(
+    capture: &mut CaptureReader,
+    reader: &mut Tallied<DripReader<'_>>,
+    held: &mut Datagram,
+) -> Result<bool, CaptureFault>
+    requires told { IsReadStanding capture.old.standing → reader.old.1 ≡ true }
+    ensures told { IsReadStanding capture.new.standing → reader.new.1 ≡ true }
+{
+    capture.next_into(reader, held)
 }
 
 /// A text of seven lines with its line `number`, counted from 1, changed.
@@ -85,30 +147,38 @@ type Sound = (usize, &'static [u8], (u8, usize), u64);
 
 /// Fails unless each changed text has its three datagrams.
 fn all_pass(rt: &HostRuntime, whole: &[u8], rows: &[Sound]) -> Result<(), Fail> {
-    for (number, start, (byte, count), lines) in rows {
-        let line = long(rt, start, *byte, *count)?;
-        let text = changed_in(rt, whole, *number, line.as_slice())?;
-        gives(rt, text.as_slice(), Ok((3, *lines)))?;
+    for row in rows {
+        passes(rt, whole, row)?;
     }
     Ok(())
+}
+
+/// Fails unless the changed text has its three datagrams.
+fn passes(
+    rt: &HostRuntime,
+    whole: &[u8],
+    (number, start, (byte, count), lines): &Sound,
+) -> Result<(), Fail> {
+    let line = long(rt, start, *byte, *count)?;
+    let text = changed_in(rt, whole, *number, line.as_slice())?;
+    gives(rt, text.as_slice(), Ok((3, *lines)))
+}
+
+/// The header of a text, and its last line.
+fn header_of(rt: &HostRuntime, text: &[u8]) -> Result<(Header, u64), Fail> {
+    let mut reader = Tallied::new(DripReader::new(text, usize::MAX, 0, None));
+    let capture = begun(rt, &mut reader)?;
+    Ok((*capture.header(), capture.line()))
 }
 
 #[test]
 fn a_read_is_read(rt: HostRuntime) -> Result<(), Fail> {
     gives(&rt, READ, Ok((3, 15)))?;
-    let mut reader = Tallied::new(DripReader::new(READ, usize::MAX, 0, None));
-    let Ok(capture) = CaptureReader::begin(rt.alloc(), &mut reader) else {
-        return Err(Fail::new("begin"));
+    let header = Header {
+        named: End::Client,
+        service: 69,
     };
-    assert_eq!(rt;
-        *capture.header(),
-        Header {
-            named: End::Client,
-            service: 69
-        }
-    );
-    assert_eq!(rt; capture.line(), 3);
-    Ok(())
+    is_so(header_of(&rt, READ)? == (header, 3), "another header")
 }
 
 /// The longest payload and comment; comments and empty lines, which are no datagrams, and hex digits of either case.
@@ -126,24 +196,23 @@ fn lines_without_a_fault(rt: HostRuntime) -> Result<(), Fail> {
     all_pass(&rt, READ, &SOUND)
 }
 
-#[test]
-fn readers_that_never_end(rt: HostRuntime) {
-    let mut reader = Tallied::new(DripReader::new(b"", usize::MAX, 0, Some(b'a')));
-    assert_eq!(rt;
-        outcome(&rt, &mut reader),
-        Err(CaptureFault::Text(1, TextFault::LineTooLong))
-    );
-    let mut reader = Tallied::new(DripReader::new(b"tftp-capture 1\n", usize::MAX, 0, Some(b'#')));
-    assert_eq!(rt;
-        outcome(&rt, &mut reader),
-        Err(CaptureFault::Text(2, TextFault::LineTooLong))
-    );
+/// Fails unless a text, after which this byte comes for ever, has a line that is too long.
+fn is_too_long(rt: &HostRuntime, text: &[u8], byte: u8, line: u64) -> Result<(), Fail> {
+    let (found, _) = read_out(rt, DripReader::new(text, usize::MAX, 0, Some(byte)));
+    let fault = CaptureFault::Text(line, TextFault::LineTooLong);
+    is_so(found == Err(fault), "another outcome")
 }
 
-/// How many LFs there are, and one more.
-fn line_after(bytes: &[u8]) -> u64 {
+#[test]
+fn readers_that_never_end(rt: HostRuntime) -> Result<(), Fail> {
+    is_too_long(&rt, b"", b'a', 1)?;
+    is_too_long(&rt, b"tftp-capture 1\n", b'#', 2)
+}
+
+/// The line of the byte after so many.
+fn line_after(text: &[u8], taken: usize) -> u64 {
     let mut line = 1u64;
-    for byte in bytes {
+    for byte in text.get(..taken).unwrap_or(text) {
         if *byte == b'\n' {
             line = line.saturating_add(1);
         }
@@ -151,67 +220,117 @@ fn line_after(bytes: &[u8]) -> u64 {
     line
 }
 
-#[test]
-fn each_read_fails_in_turn(rt: HostRuntime) {
-    for i in 0..=READ.len() {
-        let mut reader = Tallied::new(DripReader::new(READ, 1, i as u64 + 1, None));
-        let line = line_after(READ.get(..i).unwrap_or(READ));
-        assert_eq!(rt;
-            outcome(&rt, &mut reader),
-            Err(CaptureFault::Read(line)),
-            "read {i}"
-        );
-        assert!(rt; reader.failed());
+/// Fails unless the read of one byte after so many fails.
+fn fails_after(rt: &HostRuntime, taken: usize) -> Result<(), Fail> {
+    let read = (taken as u64).saturating_add(1);
+    let (found, failed) = read_out(rt, DripReader::new(READ, 1, read, None));
+    if found == Err(CaptureFault::Read(line_after(READ, taken))) && failed {
+        Ok(())
+    } else {
+        Err(Fail::from((taken, found, failed)))
     }
 }
 
 #[test]
-fn faults_and_the_end_are_answered_for_good(rt: HostRuntime) -> Result<(), Fail> {
-    let mut reader = Tallied::new(DripReader::new(READ, 80, 2, None));
-    let Ok(mut capture) = CaptureReader::begin(rt.alloc(), &mut reader) else {
-        return Err(Fail::new("begin"));
-    };
-    assert!(rt; matches!(capture.next(rt.alloc(), &mut reader), Ok(Some(_))));
-    for _ in 0..3 {
-        assert!(rt;
-            matches!(
-                capture.next(rt.alloc(), &mut reader),
-                Err(CaptureFault::Read(5))
-            )
-        );
-        assert_eq!(rt; capture.line(), 4);
-    }
-    let mut reader = Tallied::new(DripReader::new(READ, usize::MAX, 0, None));
-    let Ok(mut capture) = CaptureReader::begin(rt.alloc(), &mut reader) else {
-        return Err(Fail::new("begin"));
-    };
-    for line in 4..7 {
-        assert!(rt; matches!(capture.next(rt.alloc(), &mut reader), Ok(Some(_))));
-        assert_eq!(rt; capture.line(), line);
-    }
-    for _ in 0..3 {
-        assert!(rt; matches!(capture.next(rt.alloc(), &mut reader), Ok(None)));
+fn each_read_fails_in_turn(rt: HostRuntime) -> Result<(), Fail> {
+    for taken in 0..=READ.len() {
+        fails_after(&rt, taken)?;
     }
     Ok(())
+}
+
+/// Fails unless the next datagrams stand on these lines.
+fn next_are(
+    rt: &HostRuntime,
+    capture: &mut CaptureReader,
+    reader: &mut Tallied<DripReader<'_>>,
+    lines: &[u64],
+) -> Result<(), Fail>
+    requires told { IsReadStanding capture.old.standing → reader.old.1 ≡ true }
+    ensures told { IsReadStanding capture.new.standing → reader.new.1 ≡ true }
+{
+    for line in lines {
+        let found = next_line(rt, capture, reader);
+        if found != Ok(Some(*line)) {
+            return Err(Fail::from((*line, found)));
+        }
+    }
+    Ok(())
+}
+
+/// Fails unless that is answered three times, and the line stays.
+fn answers_for_good(
+    rt: &HostRuntime,
+    capture: &mut CaptureReader,
+    reader: &mut Tallied<DripReader<'_>>,
+    wanted: Result<Option<u64>, CaptureFault>,
+) -> Result<(), Fail>
+    requires told { IsReadStanding capture.old.standing → reader.old.1 ≡ true }
+{
+    let line = capture.line();
+    for _ in 0..3 {
+        let found = next_line(rt, capture, reader);
+        if found != wanted || capture.line() != line {
+            return Err(Fail::from((found, capture.line(), line)));
+        }
+    }
+    Ok(())
+}
+
+/// The lines of a text's service and of its datagrams, and what is answered after these.
+type Lines = (u64, &'static [u64], Result<Option<u64>, CaptureFault>);
+
+/// Fails unless the lines are those, the line at the end is that of the last datagram, and the end is answered for good.
+fn stands_on(
+    rt: &HostRuntime,
+    drip: DripReader<'_>,
+    (service, datagrams, end): Lines,
+) -> Result<(), Fail> {
+    let mut reader = Tallied::new(drip);
+    let mut capture = begun(rt, &mut reader)?;
+    if capture.line() != service {
+        return Err(Fail::from((capture.line(), service)));
+    }
+    next_are(rt, &mut capture, &mut reader, datagrams)?;
+    answers_for_good(rt, &mut capture, &mut reader, end)
+}
+
+#[test]
+fn faults_and_the_end_are_answered_for_good(rt: HostRuntime) -> Result<(), Fail> {
+    let fails = DripReader::new(READ, 80, 2, None);
+    stands_on(&rt, fails, (3, &[4], Err(CaptureFault::Read(5))))?;
+    let ends = DripReader::new(READ, usize::MAX, 0, None);
+    stands_on(&rt, ends, (3, &[4, 5, 6], Ok(None)))
 }
 
 /// Fails unless the datagrams of the text, read into one that is held, carry these payloads.
 fn fills(rt: &HostRuntime, text: &[u8], payloads: &[&[u8]]) -> Result<(), Fail> {
     let mut reader = Tallied::new(DripReader::new(text, 7, 0, None));
-    let Ok(mut capture) = CaptureReader::begin(rt.alloc(), &mut reader) else {
-        return Err(Fail::new("begin"));
-    };
+    let mut capture = begun(rt, &mut reader)?;
     let mut held = Datagram::empty(rt.alloc());
     for payload in payloads {
-        let more = capture.next_into(&mut reader, &mut held);
+        let more = fill(&mut capture, &mut reader, &mut held);
         if more != Ok(true) || held.payload.as_slice() != *payload {
             return Err(Fail::from(more));
         }
     }
-    for _ in 0..2 {
-        let more = capture.next_into(&mut reader, &mut held);
-        if more != Ok(false) {
-            return Err(Fail::from(more));
+    fills_for_good(&mut capture, &mut reader, &mut held, Ok(false))
+}
+
+/// Fails unless that is answered three times, and the line stays.
+fn fills_for_good(
+    capture: &mut CaptureReader,
+    reader: &mut Tallied<DripReader<'_>>,
+    held: &mut Datagram,
+    wanted: Result<bool, CaptureFault>,
+) -> Result<(), Fail>
+    requires told { IsReadStanding capture.old.standing → reader.old.1 ≡ true }
+{
+    let line = capture.line();
+    for _ in 0..3 {
+        let found = fill(capture, reader, held);
+        if found != wanted || capture.line() != line {
+            return Err(Fail::from((found, capture.line(), line)));
         }
     }
     Ok(())
@@ -219,129 +338,106 @@ fn fills(rt: &HostRuntime, text: &[u8], payloads: &[&[u8]]) -> Result<(), Fail> 
 
 #[test]
 fn a_held_datagram_is_filled_anew(rt: HostRuntime) -> Result<(), Fail> {
-    fills(
-        &rt,
-        READ,
-        &[b"\0\x01a\0octet\0", b"\0\x03\0\x01hi", b"\0\x04\0\x01"],
-    )?;
-    fills(
-        &rt,
-        &changed(&rt, 5, b"in 1 2 -")?,
-        &[b"\0\x01a\0octet\0", b"", b"\0\x04\0\x01"],
-    )
+    let payloads: [&[u8]; 3] = [b"\0\x01a\0octet\0", b"\0\x03\0\x01hi", b"\0\x04\0\x01"];
+    fills(&rt, READ, &payloads)
+}
+
+#[test]
+fn a_held_datagram_is_emptied(rt: HostRuntime) -> Result<(), Fail> {
+    let text = changed(&rt, 5, b"in 1 2 -")?;
+    let payloads: [&[u8]; 3] = [b"\0\x01a\0octet\0", b"", b"\0\x04\0\x01"];
+    fills(&rt, text.as_slice(), &payloads)
+}
+
+/// Whether this is the request of `READ`.
+fn is_the_request(held: &Datagram) -> bool {
+    held.dir == Dir::Out && held.local_port == 40_000 && held.remote_port == 69
 }
 
 #[test]
 fn a_fault_is_answered_for_good_to_who_holds_a_datagram(rt: HostRuntime) -> Result<(), Fail> {
     let text = changed(&rt, 5, b"in 1 2 0g")?;
     let mut reader = Tallied::new(DripReader::new(&text, 7, 0, None));
-    let Ok(mut capture) = CaptureReader::begin(rt.alloc(), &mut reader) else {
-        return Err(Fail::new("begin"));
-    };
+    let mut capture = begun(&rt, &mut reader)?;
     let mut held = Datagram::empty(rt.alloc());
-    assert_eq!(rt; capture.next_into(&mut reader, &mut held), Ok(true));
-    assert_eq!(rt; held.dir, Dir::Out);
-    assert_eq!(rt; (held.local_port, held.remote_port), (40_000, 69));
-    for _ in 0..3 {
-        assert_eq!(rt;
-            capture.next_into(&mut reader, &mut held),
-            Err(CaptureFault::Text(5, TextFault::BadHex))
-        );
-        assert_eq!(rt; capture.line(), 4);
-    }
-    Ok(())
+    let more = fill(&mut capture, &mut reader, &mut held);
+    is_so(
+        more == Ok(true) && is_the_request(&held) && capture.line() == 4,
+        "another datagram",
+    )?;
+    let fault = CaptureFault::Text(5, TextFault::BadHex);
+    fills_for_good(&mut capture, &mut reader, &mut held, Err(fault))
 }
 
-/// Fails unless the text's service line and its datagrams stand on these lines, and the last of them is named on.
-fn stands_on(rt: &HostRuntime, text: &[u8], service: u64, datagrams: &[u64]) -> Result<(), Fail> {
-    let mut reader = Tallied::new(DripReader::new(text, 7, 0, None));
-    let Ok(mut capture) = CaptureReader::begin(rt.alloc(), &mut reader) else {
-        return Err(Fail::new("begin"));
-    };
-    let mut last = capture.line();
-    if last != service {
-        return Err(Fail::from((last, service)));
-    }
-    for line in datagrams {
-        let more = matches!(capture.next(rt.alloc(), &mut reader), Ok(Some(_)));
-        last = capture.line();
-        if !more || last != *line {
-            return Err(Fail::from((more, last, *line)));
-        }
-    }
-    for _ in 0..2 {
-        let ends = matches!(capture.next(rt.alloc(), &mut reader), Ok(None));
-        if !ends || capture.line() != last {
-            return Err(Fail::from((ends, capture.line(), last)));
-        }
-    }
-    Ok(())
-}
-
-/// A changed line of the text, by its number, and the lines of the service and of the datagrams then.
-const HANDED_OUT: [(usize, &[u8], u64, [u64; 3]); 4] = [
-    (1, b"tftp-capture 1", 3, [4, 5, 6]),
-    (2, b"\n#\x00\xff\nend server", 5, [6, 7, 8]),
-    (3, b"#\n\nservice 69\n#", 5, [7, 8, 9]),
-    (6, b"out 1 2 -\n\n#", 3, [4, 5, 6]),
+/// A changed line of the text, by its number, and the lines then. The line stays where a fault or the end is answered.
+const HANDED_OUT: [(usize, &[u8], Lines); 7] = [
+    (1, b"tftp-capture 1", (3, &[4, 5, 6], Ok(None))),
+    (2, b"\n#\x00\xff\nend server", (5, &[6, 7, 8], Ok(None))),
+    (3, b"#\n\nservice 69\n#", (5, &[7, 8, 9], Ok(None))),
+    (6, b"out 1 2 -\n\n#", (3, &[4, 5, 6], Ok(None))),
+    (
+        4,
+        b"#\n#\nin",
+        (3, &[], Err(CaptureFault::Text(6, TextFault::BadLine))),
+    ),
+    (
+        5,
+        b"#\nin 1",
+        (3, &[4], Err(CaptureFault::Text(6, TextFault::BadLine))),
+    ),
+    (
+        7,
+        b"#\n#\ntotal 4",
+        (
+            3,
+            &[4, 5, 6],
+            Err(CaptureFault::Text(9, TextFault::TotalWrong)),
+        ),
+    ),
 ];
+
+/// Fails unless the text with that line has those lines.
+fn hands_out(rt: &HostRuntime, number: usize, line: &[u8], lines: Lines) -> Result<(), Fail> {
+    let text = changed(rt, number, line)?;
+    stands_on(rt, DripReader::new(text.as_slice(), 7, 0, None), lines)
+}
 
 #[test]
 fn the_line_is_that_of_what_was_handed_out(rt: HostRuntime) -> Result<(), Fail> {
-    for (number, line, service, datagrams) in HANDED_OUT {
-        let text = changed(&rt, number, line)?;
-        stands_on(&rt, text.as_slice(), service, &datagrams)?;
+    for (number, line, lines) in HANDED_OUT {
+        hands_out(&rt, number, line, lines)?;
     }
-    stands_on(
-        &rt,
-        b"tftp-capture 1\n#\nend client\n#\nservice 69\n#\ntotal 0\n",
-        5,
-        &[],
-    )
+    let text = b"tftp-capture 1\n#\nend client\n#\nservice 69\n#\ntotal 0\n";
+    stands_on(&rt, DripReader::new(text, 7, 0, None), (5, &[], Ok(None)))
 }
 
-#[test]
-fn the_line_stays_at_a_fault(rt: HostRuntime) -> Result<(), Fail> {
-    for (number, line, wanted) in [
-        (4, b"#\n#\nin".as_slice(), 3),
-        (5, b"#\nin 1", 4),
-        (7, b"#\n#\ntotal 4", 6),
-    ] {
-        let text = changed(&rt, number, line)?;
-        let mut reader = Tallied::new(DripReader::new(&text, 7, 0, None));
-        let Ok(mut capture) = CaptureReader::begin(rt.alloc(), &mut reader) else {
-            return Err(Fail::new("begin"));
-        };
-        for _ in 4..number {
-            assert!(rt; matches!(capture.next(rt.alloc(), &mut reader), Ok(Some(_))));
-        }
-        for _ in 0..2 {
-            assert!(rt;
-                matches!(
-                    capture.next(rt.alloc(), &mut reader),
-                    Err(CaptureFault::Text(..))
-                )
-            );
-            assert_eq!(rt; capture.line(), wanted);
-        }
+/// Fails unless the text has that outcome, byte by byte, or memory is wanting on one of so many lines.
+fn gives_or_wants(
+    rt: &HostRuntime,
+    text: &[u8],
+    wanted: Result<(u64, u64), CaptureFault>,
+    lines: u64,
+) -> Result<(), Fail> {
+    let (found, _) = read_out(rt, DripReader::new(text, 1, 0, None));
+    if found == wanted || wants_memory(found, lines) {
+        Ok(())
+    } else {
+        Err(Fail::from((found, wanted)))
     }
-    Ok(())
+}
+
+/// Whether memory is wanting on one of so many lines.
+fn wants_memory(found: Result<(u64, u64), CaptureFault>, lines: u64) -> bool {
+    matches!(found, Err(CaptureFault::Memory(line)) if 1 <= line && line <= lines)
 }
 
 /// With a growth refused the answer is the text's own, or want of memory on one of its lines.
 #[test]
-fn texts_with_a_growth_refused(rt: HostRuntime) {
+fn texts_with_a_growth_refused(rt: HostRuntime) -> Result<(), Fail> {
     let bad: &[u8] = b"tftp-capture 1\nend client\nservice 69\nout 1 2 0g\n";
-    for (text, wanted, lines) in [
-        (READ, Ok((3, 15)), 7),
-        (bad, Err(CaptureFault::Text(4, TextFault::BadHex)), 4),
-    ] {
-        let mut reader = Tallied::new(DripReader::new(text, 1, 0, None));
-        match outcome(&rt, &mut reader) {
-            Err(CaptureFault::Memory(line)) => assert!(rt; 1 <= line && line <= lines),
-            found => assert_eq!(rt; found, wanted),
-        }
-    }
+    let fault = CaptureFault::Text(4, TextFault::BadHex);
+    gives_or_wants(&rt, READ, Ok((3, 15)), 7)?;
+    gives_or_wants(&rt, bad, Err(fault), 4)
 }
 
 /// A reader and a writer that counts how often it was asked, and answers one call with an error.
@@ -380,44 +476,74 @@ impl Write for Asked {
     }
 }
 
-#[test]
-fn each_read_asks_once(rt: HostRuntime) {
-    for fails_at in 0..4 {
-        let mut reader = Tallied::new(Asked { calls: 0, fails_at });
-        let mut buf = [0u8; 2];
-        for call in 1..4u64 {
-            let answer = reader.read(&mut buf);
-            assert_eq!(rt; answer.ok(), if call == fails_at { None } else { Some(2) });
-            assert_eq!(rt; reader.failed(), fails_at != 0 && fails_at <= call);
-        }
-        assert_eq!(rt; reader.into_inner().calls, 3);
+/// Of which one call of three fails, or none.
+fn failing_at(fails_at: u64) -> Tallied<Asked> {
+    Tallied::new(Asked { calls: 0, fails_at })
+}
+
+/// Whether this call answers what is wanted, and the failure is kept from then on.
+fn is_kept(found: Option<usize>, failed: bool, call: u64, fails_at: u64) -> bool {
+    let wanted = if call == fails_at { None } else { Some(2) };
+    found == wanted && failed == (fails_at != 0 && fails_at <= call)
+}
+
+/// Whether a read answers so.
+fn reads(reader: &mut Tallied<Asked>, call: u64, fails_at: u64) -> bool {
+    let found = reader.read(&mut [0u8; 2]).ok();
+    is_kept(found, reader.failed(), call, fails_at)
+}
+
+/// Whether a write answers so.
+fn writes(writer: &mut Tallied<Asked>, call: u64, fails_at: u64) -> bool {
+    let found = writer.write(b"ab").ok();
+    is_kept(found, writer.failed(), call, fails_at)
+}
+
+/// Whether a flush answers so.
+fn flushes(writer: &mut Tallied<Asked>, call: u64, fails_at: u64) -> bool {
+    let found = if writer.flush().is_ok() {
+        Some(2)
+    } else {
+        None
+    };
+    is_kept(found, writer.failed(), call, fails_at)
+}
+
+/// Fails unless each of three reads asks once.
+fn reads_ask_once(fails_at: u64) -> Result<(), Fail> {
+    let mut reader = failing_at(fails_at);
+    for call in 1..4u64 {
+        is_so(reads(&mut reader, call, fails_at), "another answer")?;
     }
+    is_so(reader.into_inner().calls == 3, "another count")
+}
+
+/// Fails unless each of three writes asks once.
+fn writes_ask_once(fails_at: u64) -> Result<(), Fail> {
+    let mut writer = failing_at(fails_at);
+    for call in 1..4u64 {
+        is_so(writes(&mut writer, call, fails_at), "another answer")?;
+    }
+    is_so(writer.into_inner().calls == 3, "another count")
+}
+
+/// Fails unless each of three flushes asks once.
+fn flushes_ask_once(fails_at: u64) -> Result<(), Fail> {
+    let mut writer = failing_at(fails_at);
+    for call in 1..4u64 {
+        is_so(flushes(&mut writer, call, fails_at), "another answer")?;
+    }
+    is_so(writer.into_inner().calls == 3, "another count")
 }
 
 #[test]
-fn each_write_asks_once(rt: HostRuntime) {
+fn each_call_asks_once(_rt: HostRuntime) -> Result<(), Fail> {
     for fails_at in 0..4 {
-        let mut writer = Tallied::new(Asked { calls: 0, fails_at });
-        for call in 1..4u64 {
-            let answer = writer.write(b"ab");
-            assert_eq!(rt; answer.ok(), if call == fails_at { None } else { Some(2) });
-            assert_eq!(rt; writer.failed(), fails_at != 0 && fails_at <= call);
-        }
-        assert_eq!(rt; writer.into_inner().calls, 3);
+        reads_ask_once(fails_at)?;
+        writes_ask_once(fails_at)?;
+        flushes_ask_once(fails_at)?;
     }
-}
-
-#[test]
-fn each_flush_asks_once(rt: HostRuntime) {
-    for fails_at in 0..4 {
-        let mut writer = Tallied::new(Asked { calls: 0, fails_at });
-        for call in 1..4u64 {
-            let answer = writer.flush();
-            assert_eq!(rt; answer.is_ok(), call != fails_at);
-            assert_eq!(rt; writer.failed(), fails_at != 0 && fails_at <= call);
-        }
-        assert_eq!(rt; writer.into_inner().calls, 3);
-    }
+    Ok(())
 }
 
 /// Writes the text of `READ`.
@@ -435,55 +561,95 @@ fn write_read(alloc: Global, writer: &mut Tallied<DripWriter>) -> Result<(), Wri
     capture.close(writer)
 }
 
+/// What was written, the answer, and whether a write failed.
+type Written = (DripWriter, Result<(), WriteFault>, bool);
+
+/// Fails unless that was written, with this answer: a write failed where it is a fault.
+fn has_written(
+    (drip, answer, failed): &Written,
+    wanted: Result<(), WriteFault>,
+    text: &[u8],
+) -> Result<(), Fail> {
+    if *answer != wanted || *failed != wanted.is_err() {
+        return Err(Fail::from((*answer, *failed)));
+    }
+    is_same(drip.taken(), text)
+}
+
+/// Writes the text of `READ` there.
+fn read_written(rt: &HostRuntime, drip: DripWriter) -> Written {
+    let mut writer = Tallied::new(drip);
+    let answer = write_read(rt.alloc(), &mut writer);
+    let failed = writer.failed();
+    (writer.into_inner(), answer, failed)
+}
+
 #[test]
 fn a_read_is_written(rt: HostRuntime) -> Result<(), Fail> {
     for piece in [usize::MAX, 1, 5] {
-        let mut writer = Tallied::new(DripWriter::new(rt.alloc(), READ.len(), piece, 0, false)?);
-        assert_eq!(rt; write_read(rt.alloc(), &mut writer), Ok(()));
-        assert!(rt; !writer.failed());
-        assert_eq!(rt; writer.into_inner().taken(), READ);
+        let drip = DripWriter::new(rt.alloc(), READ.len(), piece, 0, false)?;
+        has_written(&read_written(&rt, drip), Ok(()), READ)?;
     }
     Ok(())
+}
+
+/// Fails unless so many bytes stay where the write after them fails, by an error or by taking none.
+fn stays_written(rt: &HostRuntime, count: usize, none: bool) -> Result<(), Fail> {
+    let write = (count as u64).saturating_add(1);
+    let drip = DripWriter::new(rt.alloc(), READ.len(), 1, write, none)?;
+    let taken = READ.get(..count).unwrap_or(READ);
+    has_written(&read_written(rt, drip), Err(WriteFault), taken)
 }
 
 #[test]
 fn each_write_fails_in_turn(rt: HostRuntime) -> Result<(), Fail> {
-    for i in 1..=READ.len() {
-        for none in [false, true] {
-            let drip = DripWriter::new(rt.alloc(), READ.len(), 1, i as u64, none)?;
-            let mut writer = Tallied::new(drip);
-            assert_eq!(rt; write_read(rt.alloc(), &mut writer), Err(WriteFault));
-            assert!(rt; writer.failed());
-            assert_eq!(rt;
-                writer.into_inner().taken(),
-                READ.get(..i - 1).unwrap_or(READ)
-            );
-        }
+    for count in 0..READ.len() {
+        stays_written(&rt, count, false)?;
+        stays_written(&rt, count, true)?;
     }
     Ok(())
 }
 
-#[test]
-fn an_empty_and_the_longest_payload_are_written(rt: HostRuntime) -> Result<(), Fail> {
+/// Writes two datagrams at a server.
+fn write_two(
+    alloc: Global,
+    writer: &mut Tallied<DripWriter>,
+    payload: &[u8],
+) -> Result<(), WriteFault>
+    requires clean { writer.old.1 ≡ false }
+    requires short { length payload.now ≤ 65527 }
+{
     let header = Header {
         named: End::Server,
         service: 6969,
     };
-    let payload = long(&rt, b"", b'\xab', 65_527)?;
+    let mut capture = CaptureWriter::begin(alloc, writer, &header)?;
+    capture.put(writer, Dir::In, 1, 65_535, b"")?;
+    capture.put(writer, Dir::Out, 65_535, 1, payload)?;
+    capture.close(writer)
+}
+
+/// What is written of them.
+fn two_written(rt: &HostRuntime, payload: &[u8]) -> Result<DripWriter, Fail> {
     if payload.len() != 65_527 {
         return Err(Fail::from(payload.len()));
     }
     let mut writer = Tallied::new(DripWriter::new(rt.alloc(), 200_000, 1000, 0, false)?);
-    let mut capture = CaptureWriter::begin(rt.alloc(), &mut writer, &header)?;
-    capture.put(&mut writer, Dir::In, 1, 65_535, b"")?;
-    capture.put(&mut writer, Dir::Out, 65_535, 1, &payload)?;
-    capture.close(&mut writer)?;
-    let inner = writer.into_inner();
+    write_two(rt.alloc(), &mut writer, payload)?;
+    Ok(writer.into_inner())
+}
+
+#[test]
+fn an_empty_and_the_longest_payload_are_written(rt: HostRuntime) -> Result<(), Fail> {
+    let payload = long(&rt, b"", b'\xab', 65_527)?;
+    let inner = two_written(&rt, payload.as_slice())?;
     let start = b"tftp-capture 1\nend server\nservice 6969\nin 1 65535 -\nout 65535 1 ab";
-    assert!(rt; inner.taken().starts_with(start));
-    assert_eq!(rt; inner.taken().len(), start.len() + 2 * 65_526 + 9);
-    gives(&rt, inner.taken(), Ok((2, 9)))?;
-    Ok(())
+    is_so(inner.taken().starts_with(start), "another start")?;
+    is_so(
+        inner.taken().len() == start.len() + 2 * 65_526 + 9,
+        "another length",
+    )?;
+    gives(&rt, inner.taken(), Ok((2, 9)))
 }
 
 /// Gathers two bytes as they are, and the others as digits, and writes what waits.
@@ -500,19 +666,40 @@ fn gather_digits(
     gathered.write(writer)
 }
 
+/// Gathers digits there.
+fn digits_gathered(rt: &HostRuntime, drip: DripWriter, bytes: &[u8]) -> Written {
+    let mut writer = Tallied::new(drip);
+    let answer = gather_digits(rt.alloc(), &mut writer, bytes);
+    let failed = writer.failed();
+    (writer.into_inner(), answer, failed)
+}
+
+/// Two bytes and 9,000 times another.
+fn many_bytes(rt: &HostRuntime) -> Result<Vec<u8>, AllocError> {
+    let mut bytes = Vec::from_slice(rt.alloc(), b"\x00\x1f")?;
+    for _ in 0..9000 {
+        bytes.push(0xab)?;
+    }
+    Ok(bytes)
+}
+
+/// Their digits.
+fn many_digits(rt: &HostRuntime) -> Result<Vec<u8>, AllocError> {
+    let mut text = Vec::from_slice(rt.alloc(), b"- 001f")?;
+    for _ in 0..9000 {
+        text.extend_from_slice(b"ab")?;
+    }
+    Ok(text)
+}
+
 /// More digits than wait together.
 #[test]
 fn bytes_are_gathered_as_digits(rt: HostRuntime) -> Result<(), Fail> {
-    let mut bytes = Vec::from_slice(rt.alloc(), b"\x00\x1f")?;
-    let mut text = Vec::from_slice(rt.alloc(), b"- 001f")?;
-    for _ in 0..9000 {
-        bytes.push(0xab)?;
-        text.extend_from_slice(b"ab")?;
-    }
+    let bytes = many_bytes(&rt)?;
+    let text = many_digits(&rt)?;
     for piece in [usize::MAX, 7] {
-        let mut writer = Tallied::new(DripWriter::new(rt.alloc(), text.len(), piece, 0, false)?);
-        assert_eq!(rt; gather_digits(rt.alloc(), &mut writer, &bytes), Ok(()));
-        assert_eq!(rt; writer.into_inner().taken(), text.as_slice());
+        let drip = DripWriter::new(rt.alloc(), text.len(), piece, 0, false)?;
+        has_written(&digits_gathered(&rt, drip, &bytes), Ok(()), text.as_slice())?;
     }
     Ok(())
 }
@@ -530,30 +717,55 @@ fn gather(alloc: Global, writer: &mut Tallied<DripWriter>, bytes: &[u8]) -> Resu
     gathered.write(writer)
 }
 
-#[test]
-fn pieces_of_any_length_are_gathered(rt: HostRuntime) -> Result<(), Fail> {
+/// Gathers pieces there.
+fn pieces_gathered(rt: &HostRuntime, drip: DripWriter, bytes: &[u8]) -> Written {
+    let mut writer = Tallied::new(drip);
+    let answer = gather(rt.alloc(), &mut writer, bytes);
+    let failed = writer.failed();
+    (writer.into_inner(), answer, failed)
+}
+
+/// Bytes that repeat after 251.
+fn other_bytes(rt: &HostRuntime) -> Result<Vec<u8>, AllocError> {
     let mut bytes = Vec::new(rt.alloc());
     for index in 0..32_879u32 {
         bytes.push((index % 251) as u8)?;
     }
+    Ok(bytes)
+}
+
+#[test]
+fn pieces_of_any_length_are_gathered(rt: HostRuntime) -> Result<(), Fail> {
+    let bytes = other_bytes(&rt)?;
     for piece in [usize::MAX, 1000, 7] {
-        let mut writer = Tallied::new(DripWriter::new(rt.alloc(), bytes.len(), piece, 0, false)?);
-        assert_eq!(rt; gather(rt.alloc(), &mut writer, &bytes), Ok(()));
-        assert!(rt; !writer.failed());
-        assert_eq!(rt; writer.into_inner().taken(), bytes.as_slice());
+        let drip = DripWriter::new(rt.alloc(), bytes.len(), piece, 0, false)?;
+        has_written(
+            &pieces_gathered(&rt, drip, &bytes),
+            Ok(()),
+            bytes.as_slice(),
+        )?;
     }
+    Ok(())
+}
+
+/// Fails unless so many bytes are taken before this write, which fails.
+fn stays_gathered(
+    rt: &HostRuntime,
+    bytes: &[u8],
+    (write, none): (u64, bool),
+    taken: usize,
+) -> Result<(), Fail> {
+    let drip = DripWriter::new(rt.alloc(), bytes.len(), usize::MAX, write, none)?;
+    let front = bytes.get(..taken).unwrap_or(bytes);
+    has_written(&pieces_gathered(rt, drip, bytes), Err(WriteFault), front)
+}
+
+#[test]
+fn pieces_stay_where_a_write_fails(rt: HostRuntime) -> Result<(), Fail> {
+    let bytes = other_bytes(&rt)?;
     for (write, taken) in [(1, 0), (2, 100), (3, 16_484), (4, 32_869)] {
-        for none in [false, true] {
-            let drip = DripWriter::new(rt.alloc(), bytes.len(), usize::MAX, write, none)?;
-            let mut writer = Tallied::new(drip);
-            assert_eq!(rt;
-                gather(rt.alloc(), &mut writer, &bytes),
-                Err(WriteFault),
-                "write {write}"
-            );
-            assert!(rt; writer.failed());
-            assert_eq!(rt; Some(writer.into_inner().taken()), bytes.get(..taken));
-        }
+        stays_gathered(&rt, &bytes, (write, false), taken)?;
+        stays_gathered(&rt, &bytes, (write, true), taken)?;
     }
     Ok(())
 }

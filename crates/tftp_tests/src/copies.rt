@@ -44,25 +44,35 @@ fn copies_are_told(rt: HostRuntime) -> Result<(), Fail> {
     Ok(())
 }
 
-/// Of sixteen packets between a packet and its copy one is too many.
+/// Packets of one byte that come at once, from one number up to another, and whether they are copies: of sixteen packets
+/// between a packet and its copy one is too many.
+const AT_ONCE: [(u8, u8, bool); 5] = [
+    (0, 1, false),
+    (1, 16, false),
+    (0, 1, true),
+    (16, 32, false),
+    (0, 1, false),
+];
+
+/// Fails unless each of the packets is a copy, or none is.
+fn all_are(
+    rt: &HostRuntime,
+    recent: &mut Recent,
+    (from, until, copy): (u8, u8, bool),
+) -> Result<(), Fail> {
+    for number in from..until {
+        if take(rt, recent, Some(0), &[number])? != copy {
+            return Err(Fail::from(number));
+        }
+    }
+    Ok(())
+}
+
 #[test]
 fn the_seventeenth_before_is_forgotten(rt: HostRuntime) -> Result<(), Fail> {
     let mut recent = Recent::new(rt.alloc())?;
-    let first = take(&rt, &mut recent, Some(0), &[0u8])?;
-    for number in 1..16u8 {
-        if take(&rt, &mut recent, Some(0), &[number])? {
-            return Err(Fail::from(number));
-        }
+    for packets in AT_ONCE {
+        all_are(&rt, &mut recent, packets)?;
     }
-    let told = take(&rt, &mut recent, Some(0), &[0u8])?;
-    for number in 16..32u8 {
-        if take(&rt, &mut recent, Some(0), &[number])? {
-            return Err(Fail::from(number));
-        }
-    }
-    if !first && told && !take(&rt, &mut recent, Some(0), &[0u8])? {
-        Ok(())
-    } else {
-        Err(Fail::new("forgotten or not"))
-    }
+    Ok(())
 }

@@ -1,7 +1,6 @@
 //! Fragments put together: in any order, repeated, apart from one another, too old, too long, and too many.
 
-ghost use Rattle.std.specs.Prelude.{◌≡◌, ◌≤◌, length};
-
+use crate::views::is_so;
 use std::alloc::AllocError;
 use std::net::{IpAddr, Ipv4Addr, Ipv6Addr};
 use std::test::Fail;
@@ -23,28 +22,35 @@ fn key(target: u8, id: u32) -> Key {
     }
 }
 
+/// A part: the protocol that it names, its place, whether others follow it, and its bytes.
+type Named = (u8, u32, bool, &'static [u8]);
+
 /// The parts of the content.
-fn parts() -> [Part<'static>; 3] {
-    [
-        Part {
-            protocol: 17,
-            place: 0,
-            more: true,
-            content: b"0123456789abcdef",
-        },
-        Part {
-            protocol: 17,
-            place: 16,
-            more: true,
-            content: b"ghijklmnopqrstuv",
-        },
-        Part {
-            protocol: 17,
-            place: 32,
-            more: false,
-            content: b"wxyzABCD",
-        },
-    ]
+const FIRST: Named = (17, 0, true, b"0123456789abcdef");
+
+const MIDDLE: Named = (17, 16, true, b"ghijklmnopqrstuv");
+
+const LAST: Named = (17, 32, false, b"wxyzABCD");
+
+/// The last part, which names another protocol.
+const ANOTHER: Named = (58, 32, false, b"wxyzABCD");
+
+/// A part that has other bytes than the first one.
+const OTHER: Named = (17, 8, true, b"89abcdeF");
+
+/// What becomes of a part.
+#[derive(Clone, Copy)]
+enum Told {
+    /// It waits for others.
+    Waits,
+    /// With it the content is whole.
+    Whole,
+    /// It is apart from those of these frames.
+    Apart(&'static [u64]),
+    /// It brings no byte.
+    Empty,
+    /// It ends behind 65,535 bytes.
+    TooLong,
 }
 
 /// Puts a part, after what is too old for it has gone.
@@ -52,254 +58,303 @@ fn put(
     rt: &HostRuntime,
     fragments: &mut Fragments,
     key: Key,
-    part: &Part,
-    time: u64,
-    frame: u64,
+    (protocol, place, more, content): Named,
+    (time, frame): (u64, u64),
 ) -> Result<Outcome, AllocError> {
+    let part = Part {
+        protocol,
+        place,
+        more,
+        content,
+    };
     let _old = fragments.let_go_old(key, Some(time));
-    fragments.put(rt.alloc(), key, part, Some(time), frame)
+    fragments.put(rt.alloc(), key, &part, Some(time), frame)
 }
 
-/// Whether it waits for others.
-fn waits(outcome: &Outcome) -> bool {
-    matches!(outcome, Outcome::Waits)
-}
-
-/// Whether the outcome is this content.
-fn is_whole(outcome: &Outcome, content: &[u8]) -> bool {
-    match outcome {
-        Outcome::Whole { content: whole, .. } => {
-            whole.protocol == 17 && whole.bytes.as_slice() == content
+/// Whether that has become of a part.
+fn is_told(outcome: &Outcome, told: Told) -> bool {
+    match (outcome, told) {
+        (Outcome::Waits, Told::Waits) => true,
+        (Outcome::Whole { content, .. }, Told::Whole) => {
+            content.protocol == 17 && content.bytes.as_slice() == CONTENT.as_slice()
         }
+        (Outcome::Apart(found), Told::Apart(frames)) => found.as_slice() == frames,
+        (Outcome::Empty, Told::Empty) => true,
+        (Outcome::TooLong, Told::TooLong) => true,
         _ => false,
+    }
+}
+
+/// Whether that becomes of a part.
+fn answers(
+    rt: &HostRuntime,
+    fragments: &mut Fragments,
+    key: Key,
+    part: Named,
+    (time, frame): (u64, u64),
+    told: Told,
+) -> Result<bool, AllocError> {
+    let outcome = put(rt, fragments, key, part, (time, frame))?;
+    Ok(is_told(&outcome, told))
+}
+
+/// A part by the last byte of its target, with its frame and what becomes of it.
+type Row = (u8, Named, u64, Told);
+
+/// Fails unless that becomes of each part, in turn.
+fn all_answer(
+    rt: &HostRuntime,
+    fragments: &mut Fragments,
+    name: &'static str,
+    rows: &[Row],
+) -> Result<(), Fail> {
+    for (target, part, frame, told) in rows {
+        if !answers(rt, fragments, key(*target, 7), *part, (5, *frame), *told)? {
+            return Err(Fail::from((name, *frame)));
+        }
+    }
+    Ok(())
+}
+
+/// The parts in each order, the first one of them four times.
+const ORDERS: [[Named; 3]; 6] = [
+    [FIRST, MIDDLE, LAST],
+    [FIRST, LAST, MIDDLE],
+    [MIDDLE, FIRST, LAST],
+    [MIDDLE, LAST, FIRST],
+    [LAST, FIRST, MIDDLE],
+    [LAST, MIDDLE, FIRST],
+];
+
+/// Fails unless the parts give the content in this order, and nothing is left then.
+fn order_gives(
+    rt: &HostRuntime,
+    fragments: &mut Fragments,
+    [first, second, third]: [Named; 3],
+) -> Result<(), Fail> {
+    let rows = [
+        (2, first, 1, Told::Waits),
+        (2, first, 1, Told::Waits),
+        (2, second, 1, Told::Waits),
+        (2, first, 1, Told::Waits),
+        (2, third, 1, Told::Whole),
+    ];
+    all_answer(rt, fragments, "an order", &rows)?;
+    if fragments.room() == 0 {
+        Ok(())
+    } else {
+        Err(Fail::from(fragments.room()))
     }
 }
 
 #[test]
 fn each_order_gives_the_content(rt: HostRuntime) -> Result<(), Fail> {
-    let parts = parts();
     let mut fragments = Fragments::new(rt.alloc());
-    for order in [
-        [0usize, 1, 2],
-        [0, 2, 1],
-        [1, 0, 2],
-        [1, 2, 0],
-        [2, 0, 1],
-        [2, 1, 0],
-    ] {
-        let [first, second, third] = order;
-        for at in [first, first, second, first] {
-            let Some(part) = parts.get(at) else {
-                return Err(Fail::new("order"));
-            };
-            let outcome = put(&rt, &mut fragments, key(2, 7), part, 5, 1)?;
-            assert!(rt; waits(&outcome));
-        }
-        let Some(part) = parts.get(third) else {
-            return Err(Fail::new("order"));
-        };
-        let outcome = put(&rt, &mut fragments, key(2, 7), part, 5, 1)?;
-        assert!(rt; is_whole(&outcome, CONTENT));
-        assert_eq!(rt; fragments.room(), 0);
+    for order in ORDERS {
+        order_gives(&rt, &mut fragments, order)?;
     }
     Ok(())
 }
 
 /// Parts that overlap with the same bytes are put together.
-#[test]
-fn the_same_bytes_may_come_twice(rt: HostRuntime) -> Result<(), Fail> {
-    let [first, _, last] = parts();
-    let mut fragments = Fragments::new(rt.alloc());
-    let long = Part {
-        protocol: 17,
-        place: 8,
-        more: true,
-        content: b"89abcdefghijklmnopqrstuvwxyz",
-    };
-    let outcome = put(&rt, &mut fragments, key(2, 7), &last, 5, 1)?;
-    assert!(rt; waits(&outcome));
-    let outcome = put(&rt, &mut fragments, key(2, 7), &long, 5, 2)?;
-    assert!(rt; waits(&outcome));
-    let outcome = put(&rt, &mut fragments, key(2, 7), &first, 5, 3)?;
-    assert!(rt; is_whole(&outcome, CONTENT));
-    Ok(())
-}
+const THE_SAME_BYTES: [Row; 3] = [
+    (2, LAST, 1, Told::Waits),
+    (
+        2,
+        (17, 8, true, b"89abcdefghijklmnopqrstuvwxyz"),
+        2,
+        Told::Waits,
+    ),
+    (2, FIRST, 3, Told::Whole),
+];
 
-/// Bytes that differ: both parts are named, and those that come later; another packet's go on.
-#[test]
-fn other_bytes_are_never_put_together(rt: HostRuntime) -> Result<(), Fail> {
-    let [first, middle, last] = parts();
-    let mut fragments = Fragments::new(rt.alloc());
-    let other = Part {
-        protocol: 17,
-        place: 8,
-        more: true,
-        content: b"89abcdeF",
-    };
-    for part in [&first, &middle] {
-        if !waits(&put(&rt, &mut fragments, key(2, 7), part, 5, 4)?) {
-            return Err(Fail::new("waits"));
-        }
-    }
-    match put(&rt, &mut fragments, key(2, 7), &other, 5, 6)? {
-        Outcome::Apart(frames) => assert_eq!(rt; frames.as_slice(), [4u64, 4].as_slice()),
-        _ => return Err(Fail::new("apart")),
-    }
-    match put(&rt, &mut fragments, key(2, 7), &last, 5, 7)? {
-        Outcome::Apart(frames) => assert!(rt; frames.is_empty()),
-        _ => return Err(Fail::new("still apart")),
-    }
-    Ok(())
-}
+/// Bytes that differ: both parts are named, and those that come later.
+const OTHER_BYTES: [Row; 4] = [
+    (2, FIRST, 4, Told::Waits),
+    (2, MIDDLE, 4, Told::Waits),
+    (2, OTHER, 6, Told::Apart(&[4, 4])),
+    (2, LAST, 7, Told::Apart(&[])),
+];
 
 /// What is apart takes nothing from the fragments of another packet.
-#[test]
-fn what_is_apart_leaves_the_others(rt: HostRuntime) -> Result<(), Fail> {
-    let [first, middle, last] = parts();
+const APART_FROM_ONE: [Row; 5] = [
+    (2, FIRST, 4, Told::Waits),
+    (3, FIRST, 4, Told::Waits),
+    (3, MIDDLE, 4, Told::Waits),
+    (2, OTHER, 6, Told::Apart(&[4])),
+    (3, LAST, 8, Told::Whole),
+];
+
+/// Two ends that differ, and a part behind the end.
+const LATER_END: [Row; 2] = [
+    (2, LAST, 1, Told::Waits),
+    (2, (17, 40, false, b"wxyzABCD"), 1, Told::Apart(&[1])),
+];
+
+const EARLIER_END: [Row; 2] = [
+    (2, LAST, 1, Told::Waits),
+    (2, (17, 16, false, b"wxyzABCD"), 1, Told::Apart(&[1])),
+];
+
+const NO_END: [Row; 2] = [
+    (2, LAST, 1, Told::Waits),
+    (2, (17, 32, true, b"wxyzABCD"), 1, Told::Apart(&[1])),
+];
+
+const BEHIND_THE_END: [Row; 2] = [
+    (2, LAST, 1, Told::Waits),
+    (2, (17, 40, true, b"wxyzABCD"), 1, Told::Apart(&[1])),
+];
+
+/// What brings no byte, what ends behind 65,535 bytes, and the furthest that does not.
+const OF_NO_PACKET: [Row; 4] = [
+    (2, (17, 65_528, false, b"wxyzABCD"), 1, Told::TooLong),
+    (2, (17, 65_528, true, b"1234567"), 1, Told::TooLong),
+    (2, (17, 8, true, b""), 1, Told::Empty),
+    (2, (17, 65_528, false, b"1234567"), 1, Told::Waits),
+];
+
+/// The protocol is that of the first part, whatever others name and in whatever order they come (RFC 8200, section 4.5).
+const FIRST_NAMES: [Row; 3] = [
+    (2, FIRST, 1, Told::Waits),
+    (2, MIDDLE, 2, Told::Waits),
+    (2, ANOTHER, 3, Told::Whole),
+];
+
+const FIRST_NAMES_AT_LAST: [Row; 3] = [
+    (2, ANOTHER, 1, Told::Waits),
+    (2, MIDDLE, 2, Told::Waits),
+    (2, FIRST, 3, Told::Whole),
+];
+
+/// Two first parts of two protocols.
+const TWO_FIRST: [Row; 2] = [
+    (2, FIRST, 1, Told::Waits),
+    (2, (58, 0, true, b"0123456789abcdef"), 2, Told::Apart(&[1])),
+];
+
+/// What comes in turn where nothing waits before.
+const CASES: [(&str, &[Row]); 11] = [
+    ("the same bytes may come twice", &THE_SAME_BYTES),
+    ("other bytes are never put together", &OTHER_BYTES),
+    ("what is apart leaves the others", &APART_FROM_ONE),
+    ("a later end", &LATER_END),
+    ("an earlier end", &EARLIER_END),
+    ("an end that is none", &NO_END),
+    ("a part behind the end", &BEHIND_THE_END),
+    ("parts of no packet", &OF_NO_PACKET),
+    ("the first part names the protocol", &FIRST_NAMES),
+    ("it does so where it comes last", &FIRST_NAMES_AT_LAST),
+    ("two protocols are apart", &TWO_FIRST),
+];
+
+/// Fails unless that becomes of the parts of a case.
+fn holds(rt: &HostRuntime, name: &'static str, rows: &[Row]) -> Result<(), Fail> {
     let mut fragments = Fragments::new(rt.alloc());
-    let other = Part {
-        protocol: 17,
-        place: 8,
-        more: true,
-        content: b"89abcdeF",
-    };
-    for (key, part) in [
-        (key(2, 7), &first),
-        (key(3, 7), &first),
-        (key(3, 7), &middle),
-    ] {
-        if !waits(&put(&rt, &mut fragments, key, part, 5, 4)?) {
-            return Err(Fail::new("waits"));
-        }
+    all_answer(rt, &mut fragments, name, rows)
+}
+
+#[test]
+fn parts_and_what_becomes_of_them(rt: HostRuntime) -> Result<(), Fail> {
+    for (name, rows) in CASES {
+        holds(&rt, name, rows)?;
     }
-    match put(&rt, &mut fragments, key(2, 7), &other, 5, 6)? {
-        Outcome::Apart(_) => {}
-        _ => return Err(Fail::new("apart")),
-    }
-    let outcome = put(&rt, &mut fragments, key(3, 7), &last, 5, 8)?;
-    assert!(rt; is_whole(&outcome, CONTENT));
     Ok(())
 }
 
-/// Two ends that differ, and a part behind the end.
-#[test]
-fn other_ends_are_apart(rt: HostRuntime) -> Result<(), Fail> {
-    let [_, _, last] = parts();
-    for (place, more) in [(40, false), (16, false), (32, true), (40, true)] {
-        let mut fragments = Fragments::new(rt.alloc());
-        let outcome = put(&rt, &mut fragments, key(2, 7), &last, 5, 1)?;
-        assert!(rt; waits(&outcome));
-        let content = b"wxyzABCD";
-        let part = Part {
-            protocol: 17,
-            place,
-            more,
-            content,
-        };
-        let outcome = put(&rt, &mut fragments, key(2, 7), &part, 5, 1)?;
-        assert!(rt; matches!(outcome, Outcome::Apart(_)));
+/// Whether the frames of the old set are gone, or none is.
+fn is_gone(gone: &Option<Vec<u64>>, whole: bool) -> bool {
+    match gone {
+        Some(frames) => !whole && frames.as_slice() == [9u64, 9].as_slice(),
+        None => whole,
+    }
+}
+
+/// Fails unless the parts wait at this time.
+fn both_wait(
+    rt: &HostRuntime,
+    fragments: &mut Fragments,
+    key: Key,
+    (time, frame): (u64, u64),
+) -> Result<(), Fail> {
+    for part in [FIRST, MIDDLE] {
+        let waits = answers(rt, fragments, key, part, (time, frame), Told::Waits)?;
+        is_so(waits, "waits")?;
     }
     Ok(())
+}
+
+/// Fails unless a last part at this time makes two others whole, which came earlier, or waits alone.
+fn joins(rt: &HostRuntime, time: u64, told: Told) -> Result<(), Fail> {
+    let mut fragments = Fragments::new(rt.alloc());
+    both_wait(rt, &mut fragments, key(2, 7), (PATIENCE, 9))?;
+    let gone = fragments.let_go_old(key(2, 7), Some(time));
+    is_so(is_gone(&gone, matches!(told, Told::Whole)), "old")?;
+    let joins = answers(rt, &mut fragments, key(2, 7), LAST, (time, 10), told)?;
+    is_so(joins, "the last part")
 }
 
 /// After 30 s to the nanosecond a part still comes to the others; after more, or before, it begins anew.
 #[test]
 fn an_old_set_is_not_joined(rt: HostRuntime) -> Result<(), Fail> {
-    let [first, middle, last] = parts();
-    for (time, whole) in [
-        (PATIENCE, true),
-        (2 * PATIENCE, true),
-        (2 * PATIENCE + 1, false),
-    ] {
-        let mut fragments = Fragments::new(rt.alloc());
-        for part in [&first, &middle] {
-            let outcome = put(&rt, &mut fragments, key(2, 7), part, PATIENCE, 9)?;
-            assert!(rt; waits(&outcome));
-        }
-        let gone = fragments.let_go_old(key(2, 7), Some(time));
-        match gone {
-            Some(frames) if !whole => assert_eq!(rt; frames.as_slice(), [9u64, 9].as_slice()),
-            None if whole => {}
-            _ => return Err(Fail::new("old")),
-        }
-        let outcome = put(&rt, &mut fragments, key(2, 7), &last, time, 10)?;
-        assert_eq!(rt; is_whole(&outcome, CONTENT), whole);
-    }
-    Ok(())
+    joins(&rt, PATIENCE, Told::Whole)?;
+    joins(&rt, 2 * PATIENCE, Told::Whole)?;
+    joins(&rt, 2 * PATIENCE + 1, Told::Waits)
 }
 
-/// What brings no byte, what ends behind 65,535 bytes, and the furthest that does not.
-#[test]
-fn parts_of_no_packet(rt: HostRuntime) -> Result<(), Fail> {
-    let mut fragments = Fragments::new(rt.alloc());
-    let content = b"wxyzABCD";
-    for (place, more, content) in [
-        (65_528, false, content.as_slice()),
-        (65_528, true, b"1234567".as_slice()),
-        (8, true, b"".as_slice()),
-    ] {
-        let part = Part {
-            protocol: 17,
-            place,
-            more,
-            content,
-        };
-        match put(&rt, &mut fragments, key(2, 7), &part, 5, 1)? {
-            Outcome::TooLong => assert!(rt; !content.is_empty()),
-            Outcome::Empty => assert!(rt; content.is_empty()),
-            _ => return Err(Fail::new("no part")),
-        }
-    }
-    let part = Part {
-        protocol: 17,
-        place: 65_528,
-        more: false,
-        content: b"1234567",
-    };
-    let outcome = put(&rt, &mut fragments, key(2, 7), &part, 5, 1)?;
-    assert!(rt; waits(&outcome));
-    Ok(())
-}
+/// The furthest part.
+const FURTHEST: Named = (17, 65_528, false, b"1234567");
 
-/// Each set of a part at the furthest end is counted for 131,334 bytes, and 64 MB hold 510 of them.
-#[test]
-fn no_more_than_64_mb_wait(rt: HostRuntime) -> Result<(), Fail> {
-    let part = Part {
-        protocol: 17,
-        place: 65_528,
-        more: false,
-        content: b"1234567",
-    };
-    let mut fragments = Fragments::new(rt.alloc());
+/// How many of 600 packets of the furthest part wait.
+fn waiting_of(rt: &HostRuntime, fragments: &mut Fragments) -> Result<u32, Fail> {
     let mut waiting = 0u32;
     for id in 0..600u32 {
-        match put(&rt, &mut fragments, key(2, id), &part, 5, u64::from(id))? {
+        match put(rt, fragments, key(2, id), FURTHEST, (5, u64::from(id)))? {
             Outcome::Waits => waiting = waiting.saturating_add(1),
             Outcome::Full => {}
             _ => return Err(Fail::new("full")),
         }
     }
-    assert_eq!(rt; waiting, 510);
-    for id in 0..510u64 {
-        match fragments.let_go_any() {
-            Some((key, frames)) => {
-                assert_eq!(rt; u64::from(key.id), id);
-                assert_eq!(rt; frames.as_slice(), [id].as_slice());
-            }
-            None => return Err(Fail::new("gone")),
-        }
-    }
-    assert!(rt; fragments.let_go_any().is_none());
-    Ok(())
+    Ok(waiting)
 }
 
-/// Packets that differ in one thing alone are two.
+/// Whether the packet that has waited for the longest has this number, and one frame of the same.
+fn goes_next(fragments: &mut Fragments, id: u64) -> bool {
+    match fragments.let_go_any() {
+        Some((key, frames)) => u64::from(key.id) == id && frames.as_slice() == [id].as_slice(),
+        None => false,
+    }
+}
+
+/// Each set of a part at the furthest end is counted for 131,334 bytes, and 64 MB hold 510 of them.
 #[test]
-fn keys_are_told_apart(rt: HostRuntime) -> Result<(), Fail> {
-    let [first, middle, last] = parts();
-    let one = key(2, 7);
+fn no_more_than_64_mb_wait(rt: HostRuntime) -> Result<(), Fail> {
+    let mut fragments = Fragments::new(rt.alloc());
+    let waiting = waiting_of(&rt, &mut fragments)?;
+    for id in 0..510u64 {
+        if !goes_next(&mut fragments, id) {
+            return Err(Fail::from(id));
+        }
+    }
+    if waiting == 510 && fragments.let_go_any().is_none() {
+        Ok(())
+    } else {
+        Err(Fail::from(waiting))
+    }
+}
+
+/// Fails unless a last part of this key is of another packet than the parts of the first.
+fn is_another(rt: &HostRuntime, one: Key, other: Key) -> Result<(), Fail> {
+    let mut fragments = Fragments::new(rt.alloc());
+    both_wait(rt, &mut fragments, one, (5, 1))?;
+    let waits = answers(rt, &mut fragments, other, LAST, (5, 1), Told::Waits)?;
+    is_so(waits, "waits")
+}
+
+/// Keys that differ from one in one thing alone.
+fn other_keys(one: Key) -> [Key; 5] {
     let mapped = IpAddr::V6(Ipv6Addr::new(0, 0, 0, 0, 0, 0xffff, 0xc000, 0x0202));
-    for other in [
+    [
         Key { id: 8, ..one },
         Key {
             protocol: Some(6),
@@ -317,41 +372,14 @@ fn keys_are_told_apart(rt: HostRuntime) -> Result<(), Fail> {
             target: mapped,
             ..one
         },
-    ] {
-        let mut fragments = Fragments::new(rt.alloc());
-        for (key, part) in [(one, &first), (one, &middle), (other, &last)] {
-            let outcome = put(&rt, &mut fragments, key, part, 5, 1)?;
-            assert!(rt; waits(&outcome));
-        }
-    }
-    Ok(())
+    ]
 }
 
-/// The protocol is that of the first part, whatever others name and in whatever order they come (RFC 8200, section 4.5).
 #[test]
-fn the_first_part_names_the_protocol(rt: HostRuntime) -> Result<(), Fail> {
-    let [first, middle, last] = parts();
-    let another = Part {
-        protocol: 58,
-        ..last
-    };
-    for order in [[&first, &middle, &another], [&another, &middle, &first]] {
-        let mut fragments = Fragments::new(rt.alloc());
-        for (number, part) in (1u64..).zip(&order) {
-            let outcome = put(&rt, &mut fragments, key(2, 7), part, 5, number)?;
-            assert!(rt; waits(&outcome) == (number < 3));
-            assert!(rt; number < 3 || is_whole(&outcome, CONTENT));
-        }
-    }
-    let mut fragments = Fragments::new(rt.alloc());
-    let second = Part {
-        protocol: 58,
-        ..first
-    };
-    assert!(rt; waits(&put(&rt, &mut fragments, key(2, 7), &first, 5, 1)?));
-    match put(&rt, &mut fragments, key(2, 7), &second, 5, 2)? {
-        Outcome::Apart(frames) => assert_eq!(rt; frames.as_slice(), [1u64].as_slice()),
-        _ => return Err(Fail::new("apart")),
+fn keys_are_told_apart(rt: HostRuntime) -> Result<(), Fail> {
+    let one = key(2, 7);
+    for other in other_keys(one) {
+        is_another(&rt, one, other)?;
     }
     Ok(())
 }

@@ -1,6 +1,7 @@
 //! Netascii: texts and what they read as, whole and in pieces, and what files are written as. Where a growth is refused,
 //! the answer that is asked for again is the text's own.
 
+use crate::views::{is_same, is_so};
 use std::alloc::{AllocError, Global};
 use std::test::Fail;
 use tftp_netascii::{Decoder, decode, decode_pieces, encode, encoded_len};
@@ -28,7 +29,7 @@ fn decoded(alloc: Global, wire: &[u8]) -> Result<Vec<u8>, AllocError> {
 #[test]
 fn decodes_whole_texts(rt: HostRuntime) -> Result<(), Fail> {
     for (wire, file) in TEXTS {
-        assert_eq!(rt; decoded(rt.alloc(), wire)?.as_slice(), file);
+        is_same(decoded(rt.alloc(), wire)?.as_slice(), file)?;
     }
     Ok(())
 }
@@ -52,8 +53,8 @@ fn encoded(alloc: Global, file: &[u8]) -> Result<Vec<u8>, AllocError> {
 #[test]
 fn encodes_files(rt: HostRuntime) -> Result<(), Fail> {
     for (file, wire) in FILES {
-        assert_eq!(rt; encoded(rt.alloc(), file)?.as_slice(), wire);
-        assert_eq!(rt; encoded_len(file), wire.len() as u64);
+        is_same(encoded(rt.alloc(), file)?.as_slice(), wire)?;
+        is_so(encoded_len(file) == wire.len() as u64, "another length")?;
     }
     Ok(())
 }
@@ -72,7 +73,7 @@ fn decoded_pieces(alloc: Global, pieces: &[&[u8]]) -> Result<Vec<u8>, AllocError
 #[test]
 fn joins_a_pair_that_was_cut(rt: HostRuntime) -> Result<(), Fail> {
     for (pieces, file) in PIECES {
-        assert_eq!(rt; decoded_pieces(rt.alloc(), &pieces)?.as_slice(), file);
+        is_same(decoded_pieces(rt.alloc(), &pieces)?.as_slice(), file)?;
     }
     Ok(())
 }
@@ -112,16 +113,22 @@ const STEPS: [(&[u8], bool, &[u8]); 6] = [
     (b"", true, b"\n\r\na\r"),
 ];
 
+/// Feeds a piece, and ends the text where it is the last.
+fn step(decoder: &mut Decoder, piece: &[u8], ends: bool, file: &mut Vec<u8>) -> Result<(), Fail> {
+    fed(decoder, piece, file)?;
+    if ends {
+        finished(decoder, file)?;
+    }
+    Ok(())
+}
+
 #[test]
 fn holds_a_return_back(rt: HostRuntime) -> Result<(), Fail> {
     let mut decoder = Decoder::new();
     let mut file = Vec::new(rt.alloc());
     for (piece, ends, written) in STEPS {
-        fed(&mut decoder, piece, &mut file)?;
-        if ends {
-            finished(&mut decoder, &mut file)?;
-        }
-        assert_eq!(rt; file.as_slice(), written);
+        step(&mut decoder, piece, ends, &mut file)?;
+        is_same(file.as_slice(), written)?;
     }
     Ok(())
 }
@@ -134,9 +141,18 @@ fn a_return_is_written_at_the_end(rt: HostRuntime) -> Result<(), Fail> {
     fed(&mut decoder, b"\r", &mut file)?;
     let mut end = Vec::new(rt.alloc());
     finished(&mut decoder, &mut end)?;
-    assert!(rt; file.is_empty());
-    assert_eq!(rt; end.as_slice(), b"\r".as_slice());
-    Ok(())
+    is_same(file.as_slice(), b"")?;
+    is_same(end.as_slice(), b"\r")
+}
+
+/// Feeds a piece. It promises nothing.
+fn feed(decoder: &mut Decoder, piece: &[u8], file: &mut Vec<u8>) -> Result<(), AllocError> {
+    decoder.feed(piece, file)
+}
+
+/// Ends a text, likewise.
+fn finish(decoder: &mut Decoder, file: &mut Vec<u8>) -> Result<(), AllocError> {
+    decoder.finish(file)
 }
 
 /// Bit i of `cuts` ends a piece after byte i.
@@ -148,21 +164,20 @@ fn cut(alloc: Global, cuts: u32) -> Result<Vec<u8>, Fail> {
     for byte in b"\r\r\n\r\0\rA" {
         piece.push(*byte)?;
         if later_cuts & 1 == 1 {
-            decoder.feed(&piece, &mut file)?;
+            feed(&mut decoder, piece.as_slice(), &mut file)?;
             piece.clear();
         }
         later_cuts >>= 1;
     }
-    decoder.feed(&piece, &mut file)?;
-    decoder.finish(&mut file)?;
+    feed(&mut decoder, piece.as_slice(), &mut file)?;
+    finish(&mut decoder, &mut file)?;
     Ok(file)
 }
 
 #[test]
 fn every_cut_gives_what_the_whole_gives(rt: HostRuntime) -> Result<(), Fail> {
     for cuts in 0..64u32 {
-        let file = cut(rt.alloc(), cuts)?;
-        assert_eq!(rt; file.as_slice(), b"\r\n\r\rA".as_slice(), "at cuts {cuts}");
+        is_same(cut(rt.alloc(), cuts)?.as_slice(), b"\r\n\r\rA")?;
     }
     Ok(())
 }
@@ -172,13 +187,12 @@ fn every_cut_gives_what_the_whole_gives(rt: HostRuntime) -> Result<(), Fail> {
 fn clones_hold_a_return_back(rt: HostRuntime) -> Result<(), Fail> {
     let mut decoder = Decoder::default();
     let mut file = Vec::new(rt.alloc());
-    decoder.feed(b"a\r", &mut file)?;
+    feed(&mut decoder, b"a\r", &mut file)?;
     let mut other = decoder.clone()?;
     let mut end = Vec::new(rt.alloc());
-    other.finish(&mut end)?;
-    assert_eq!(rt; end.as_slice(), b"\r".as_slice());
-    decoder.feed(b"\n", &mut file)?;
-    decoder.finish(&mut file)?;
-    assert_eq!(rt; file.as_slice(), b"a\n".as_slice());
-    Ok(())
+    finish(&mut other, &mut end)?;
+    is_same(end.as_slice(), b"\r")?;
+    feed(&mut decoder, b"\n", &mut file)?;
+    finish(&mut decoder, &mut file)?;
+    is_same(file.as_slice(), b"a\n")
 }

@@ -1,10 +1,11 @@
 //! Packets and options: payloads and what they spell, and what is written.
 
-use crate::views::{oack_of, request_of};
+use crate::views::{is_same, is_so, oack_of, owned_request_of, request_of};
+use std::alloc::AllocError;
 use std::test::Fail;
 use tftp_packet::{
-    Bytes, Host, Mode, Options, OptionsView, Packet, PacketFault, Request, Side, Value, opcode,
-    own_options, own_request, read_packet, same_options, same_request, write_oack, write_packet,
+    Bytes, Host, Mode, Options, OptionsView, Packet, PacketFault, Request, RequestView, Side,
+    Value, opcode, own_options, read_packet, same_options, same_request, write_oack, write_packet,
     write_request,
 };
 
@@ -27,52 +28,49 @@ fn fault_of(payload: &[u8]) -> Option<PacketFault> {
     }
 }
 
-/// The block of a DATA, and its bytes.
-fn block_of(payload: &[u8]) -> Result<(u16, &[u8]), Fail> {
+/// Whether a payload is a DATA of this block with these bytes.
+fn is_data(payload: &[u8], number: u16, content: &[u8]) -> bool {
     match read_packet(payload) {
-        Ok(Packet::Data { block, bytes }) => Ok((block, bytes)),
-        _ => Err(Fail::new("no block")),
+        Ok(Packet::Data { block, bytes }) => block == number && bytes == content,
+        _ => false,
     }
 }
 
-/// The code of an ERROR, and its message.
-fn error_of(payload: &[u8]) -> Result<(u16, &[u8]), Fail> {
+/// Whether a payload is an ERROR of this code with this message.
+fn is_error(payload: &[u8], number: u16, text: &[u8]) -> bool {
     match read_packet(payload) {
-        Ok(Packet::Error { code, message }) => Ok((code, message)),
-        _ => Err(Fail::new("no error")),
+        Ok(Packet::Error { code, message }) => code == number && message == text,
+        _ => false,
     }
 }
 
-/// The block that an ACK acknowledges.
-fn ack_of(payload: &[u8]) -> Result<u16, Fail> {
+/// Whether a payload is an ACK of this block.
+fn is_ack(payload: &[u8], number: u16) -> bool {
     match read_packet(payload) {
-        Ok(Packet::Ack { block }) => Ok(block),
-        _ => Err(Fail::new("no ACK")),
+        Ok(Packet::Ack { block }) => block == number,
+        _ => false,
     }
 }
 
 #[test]
-fn reads_each_kind(rt: HostRuntime) -> Result<(), Fail> {
-    let (block, bytes) = block_of(b"\x00\x03\x00\x01")?;
-    assert_eq!(rt; block, 1);
-    assert_eq!(rt; bytes, b"".as_slice());
-    let (code, message) = error_of(b"\x00\x05\x00\x05\x00")?;
-    assert_eq!(rt; code, 5);
-    assert_eq!(rt; message, b"".as_slice());
-    assert_eq!(rt; ack_of(b"\x00\x04\x01\x02")?, 258);
-    assert_eq!(rt; oack_of(b"\x00\x06")?.len(), 0);
-    assert_eq!(rt; opcode(b"\x00\x06"), 6);
-    Ok(())
+fn reads_each_kind(_rt: HostRuntime) -> Result<(), Fail> {
+    is_so(is_data(b"\x00\x03\x00\x01", 1, b""), "DATA")?;
+    is_so(is_error(b"\x00\x05\x00\x05\x00", 5, b""), "ERROR")?;
+    is_so(is_ack(b"\x00\x04\x01\x02", 258), "ACK")?;
+    is_so(oack_of(b"\x00\x06")?.len() == 0, "OACK")?;
+    is_so(opcode(b"\x00\x06") == 6, "opcode")
+}
+
+/// Whether this reads a file without a name, in octet mode and without options.
+fn has_no_name(request: &RequestView<'_>) -> bool {
+    let is_read = request.side() == Side::Get && request.mode() == Mode::Octet;
+    is_read && request.name().is_empty() && request.options().is_empty()
 }
 
 #[test]
-fn reads_a_request_without_a_name(rt: HostRuntime) -> Result<(), Fail> {
+fn reads_a_request_without_a_name(_rt: HostRuntime) -> Result<(), Fail> {
     let request = request_of(b"\x00\x01\x00octet\x00")?;
-    assert_eq!(rt; request.side(), Side::Get);
-    assert_eq!(rt; request.name(), b"".as_slice());
-    assert_eq!(rt; request.mode(), Mode::Octet);
-    assert!(rt; request.options().is_empty());
-    Ok(())
+    is_so(has_no_name(&request), "another request")
 }
 
 /// Whether the options are these, in this order and byte for byte.
@@ -87,33 +85,34 @@ fn has_pairs(options: &OptionsView<'_>, want: &[(&[u8], &[u8])]) -> bool {
     pairs.next().is_none()
 }
 
-#[test]
-fn views_options_in_order(rt: HostRuntime) -> Result<(), Fail> {
-    let options = request_of(ASKED)?.options();
-    let want = [
-        (b"WindowSize".as_slice(), b"4".as_slice()),
-        (b"BLKSIZE".as_slice(), b"08".as_slice()),
-    ];
-    assert!(rt; has_pairs(&options, &want));
-    assert_eq!(rt; options.len(), 2);
-    assert_eq!(rt; options.get(b"blkSize"), Some(b"08".as_slice()));
-    assert_eq!(rt; options.number(b"blksize"), Some(8));
-    assert_eq!(rt; options.number(b"tsize"), None);
-    Ok(())
+/// Whether the options have this number under this name; none where they have none.
+fn has_number(options: &OptionsView<'_>, name: &[u8], number: Option<u64>) -> bool {
+    options.number(name) == number
 }
 
 #[test]
-fn views_an_oack_in_capitals(rt: HostRuntime) -> Result<(), Fail> {
+fn views_options_in_order(_rt: HostRuntime) -> Result<(), Fail> {
+    let options = request_of(ASKED)?.options();
+    let want: [(&[u8], &[u8]); 2] = [(b"WindowSize", b"4"), (b"BLKSIZE", b"08")];
+    is_so(
+        has_pairs(&options, &want) && options.len() == 2,
+        "other options",
+    )?;
+    is_so(options.get(b"blkSize") == Some(b"08".as_slice()), "blksize")?;
+    is_so(has_number(&options, b"blksize", Some(8)), "its number")?;
+    is_so(has_number(&options, b"tsize", None), "tsize")
+}
+
+#[test]
+fn views_an_oack_in_capitals(_rt: HostRuntime) -> Result<(), Fail> {
     let options = oack_of(CAPITALS)?;
-    let want = [
-        (b"WINDOWSIZE".as_slice(), b"4".as_slice()),
-        (b"BLKSIZE".as_slice(), b"08".as_slice()),
-    ];
-    assert!(rt; has_pairs(&options, &want));
-    assert_eq!(rt; options.len(), 2);
-    assert_eq!(rt; options.get(b"blksize"), Some(b"08".as_slice()));
-    assert_eq!(rt; options.number(b"windowsize"), Some(4));
-    Ok(())
+    let want: [(&[u8], &[u8]); 2] = [(b"WINDOWSIZE", b"4"), (b"BLKSIZE", b"08")];
+    is_so(
+        has_pairs(&options, &want) && options.len() == 2,
+        "other options",
+    )?;
+    is_so(options.get(b"blksize") == Some(b"08".as_slice()), "blksize")?;
+    is_so(has_number(&options, b"windowsize", Some(4)), "windowsize")
 }
 
 /// Whether an owned request has the parts of `ASKED`.
@@ -128,77 +127,80 @@ fn has_what_was_asked(request: &Request) -> bool {
 
 #[test]
 fn owns_a_request(rt: HostRuntime) -> Result<(), Fail> {
+    let request = owned_request_of(&rt, ASKED)?;
     let view = request_of(ASKED)?;
-    let request = own_request(rt.alloc(), &view)?;
-    if !has_what_was_asked(&request) {
-        return Err(Fail::new("other parts"));
-    }
-    assert!(rt; same_request(&request, &view));
-    Ok(())
+    is_so(has_what_was_asked(&request), "other parts")?;
+    is_so(same_request(&request, &view), "another request")
+}
+
+/// What is written of a request.
+fn request_written(rt: &HostRuntime, request: &Request) -> Result<Vec<u8>, AllocError> {
+    write_request(rt.alloc(), request)
 }
 
 #[test]
 fn writes_a_request_canonically(rt: HostRuntime) -> Result<(), Fail> {
-    let view = request_of(ASKED)?;
-    let request = own_request(rt.alloc(), &view)?;
-    let written = write_request(rt.alloc(), &request)?;
-    assert_eq!(rt; written.as_slice(), CANONICAL);
-    Ok(())
+    let request = owned_request_of(&rt, ASKED)?;
+    is_same(request_written(&rt, &request)?.as_slice(), CANONICAL)
+}
+
+/// Fails unless this is written of a packet.
+fn is_written(rt: &HostRuntime, packet: &Packet<'_>, wanted: &[u8]) -> Result<(), Fail> {
+    let written = write_packet(rt.alloc(), packet)?;
+    is_same(written.as_slice(), wanted)
 }
 
 #[test]
 fn writes_a_read_request_as_a_packet(rt: HostRuntime) -> Result<(), Fail> {
-    let packet = Packet::Request(request_of(ASKED)?);
-    let written = write_packet(rt.alloc(), &packet)?;
-    assert_eq!(rt; written.as_slice(), CANONICAL);
-    Ok(())
+    is_written(&rt, &Packet::Request(request_of(ASKED)?), CANONICAL)
+}
+
+/// The options of an OACK, owned.
+fn owned_oack_of(rt: &HostRuntime, payload: &[u8]) -> Result<Options, Fail> {
+    let view = oack_of(payload)?;
+    Ok(own_options(rt.alloc(), &view)?)
+}
+
+/// What is written of options.
+fn oack_written(rt: &HostRuntime, options: &Options) -> Result<Vec<u8>, AllocError> {
+    write_oack(rt.alloc(), options)
+}
+
+/// Whether these are the options of an OACK, and none are not.
+fn is_oack(rt: &HostRuntime, options: &Options, view: &OptionsView<'_>) -> bool {
+    let none = Options::none(rt.alloc());
+    same_options(options, view) && none.is_empty() && !same_options(&none, view)
 }
 
 #[test]
 fn writes_an_oack_canonically(rt: HostRuntime) -> Result<(), Fail> {
-    let view = oack_of(CAPITALS)?;
-    let options = own_options(rt.alloc(), &view)?;
-    assert!(rt; same_options(&options, &view));
-    let none = Options::none(rt.alloc());
-    assert!(rt; none.is_empty());
-    assert!(rt; !same_options(&none, &view));
-    let written = write_oack(rt.alloc(), &options)?;
-    assert_eq!(rt; written.as_slice(), AGREED);
-    let again = write_packet(rt.alloc(), &Packet::Oack(view))?;
-    assert_eq!(rt; again.as_slice(), AGREED);
-    Ok(())
+    let options = owned_oack_of(&rt, CAPITALS)?;
+    is_so(is_oack(&rt, &options, &oack_of(CAPITALS)?), "other options")?;
+    is_same(oack_written(&rt, &options)?.as_slice(), AGREED)?;
+    is_written(&rt, &Packet::Oack(oack_of(CAPITALS)?), AGREED)
 }
 
 #[test]
 fn writes_blocks(rt: HostRuntime) -> Result<(), Fail> {
-    let ack = write_packet(rt.alloc(), &Packet::Ack { block: 1 })?;
-    assert_eq!(rt; ack.as_slice(), b"\x00\x04\x00\x01".as_slice());
-    let data = write_packet(
-        rt.alloc(),
-        &Packet::Data {
-            block: 1,
-            bytes: b"hi",
-        },
-    )?;
-    assert_eq!(rt; data.as_slice(), b"\x00\x03\x00\x01hi".as_slice());
-    let error = write_packet(
-        rt.alloc(),
-        &Packet::Error {
-            code: 5,
-            message: b"",
-        },
-    )?;
-    assert_eq!(rt; error.as_slice(), b"\x00\x05\x00\x05\x00".as_slice());
-    Ok(())
+    is_written(&rt, &Packet::Ack { block: 1 }, b"\x00\x04\x00\x01")?;
+    let data = Packet::Data {
+        block: 1,
+        bytes: b"hi",
+    };
+    is_written(&rt, &data, b"\x00\x03\x00\x01hi")?;
+    let error = Packet::Error {
+        code: 5,
+        message: b"",
+    };
+    is_written(&rt, &error, b"\x00\x05\x00\x05\x00")
 }
 
 /// Bytes are the vector that was taken over, and given back.
 #[test]
 fn bytes_are_a_vector(rt: HostRuntime) -> Result<(), Fail> {
     let bytes = Bytes::of(Vec::from_slice(rt.alloc(), b"ab")?);
-    assert_eq!(rt; bytes.as_slice(), b"ab".as_slice());
-    assert_eq!(rt; bytes.into_vec().as_slice(), b"ab".as_slice());
-    Ok(())
+    is_same(bytes.as_slice(), b"ab")?;
+    is_same(bytes.into_vec().as_slice(), b"ab")
 }
 
 /// Whether the bytes name a host, which has these bytes.
@@ -209,12 +211,21 @@ fn names_host(bytes: &[u8]) -> bool {
     }
 }
 
-#[test]
-fn hosts_are_1_to_45_signs(rt: HostRuntime) {
+/// Whether so many signs name a host, or do not.
+fn is_taken_of(count: usize, taken: bool) -> bool {
     let signs = [b'a'; 46];
+    names_host(signs.get(..count).unwrap_or(b"")) == taken
+}
+
+/// Whether a byte alone and between two letters names a host, or does not.
+fn is_taken(byte: u8, taken: bool) -> bool {
+    names_host(&[byte]) == taken && names_host(&[b'a', byte, b'a']) == taken
+}
+
+#[test]
+fn hosts_are_1_to_45_signs(_rt: HostRuntime) -> Result<(), Fail> {
     for (count, taken) in [(0, false), (1, true), (45, true), (46, false)] {
-        let bytes = signs.get(..count).unwrap_or(b"");
-        assert_eq!(rt; names_host(bytes), taken, "{count}");
+        is_so(is_taken_of(count, taken), "so many signs")?;
     }
     for (byte, taken) in [
         (0, false),
@@ -224,20 +235,24 @@ fn hosts_are_1_to_45_signs(rt: HostRuntime) {
         (127, false),
         (255, false),
     ] {
-        assert_eq!(rt; names_host(&[byte]), taken, "{byte}");
-        assert_eq!(rt; names_host(&[b'a', byte, b'a']), taken, "{byte}");
+        is_so(is_taken(byte, taken), "a sign")?;
     }
+    Ok(())
+}
+
+/// Whether two names are of one host.
+fn is_one_host(one: &[u8], other: &[u8]) -> bool {
+    Host::new(one) == Host::new(other)
 }
 
 #[test]
-fn hosts_are_compared_byte_by_byte(rt: HostRuntime) {
-    let host = Host::new(b"10.0.0.1");
-    assert!(rt; host == Host::new(b"10.0.0.1"));
-    assert!(rt; host != Host::new(b"10.0.0.2"));
-    assert!(rt; host != Host::new(b"10.0.0.10"));
-    assert!(rt; Host::new(b"a") != Host::new(b"A"));
-    assert_eq!(rt; Host::none().bytes(), b"-".as_slice());
-    assert!(rt; Some(Host::none()) == Host::new(b"-"));
+fn hosts_are_compared_byte_by_byte(_rt: HostRuntime) -> Result<(), Fail> {
+    is_so(is_one_host(b"10.0.0.1", b"10.0.0.1"), "one host")?;
+    is_so(!is_one_host(b"10.0.0.1", b"10.0.0.2"), "another host")?;
+    is_so(!is_one_host(b"10.0.0.1", b"10.0.0.10"), "a longer name")?;
+    is_so(!is_one_host(b"a", b"A"), "a capital")?;
+    is_same(Host::none().bytes(), b"-")?;
+    is_so(Some(Host::none()) == Host::new(b"-"), "no host")
 }
 
 /// A request to read with a name of so many bytes, and these bytes after its mode.
@@ -251,13 +266,20 @@ fn long_request(rt: &HostRuntime, name: usize, options: &[u8]) -> Result<Vec<u8>
     Ok(payload)
 }
 
+/// Fails unless such a request has this length, and no fault.
+fn is_long_enough(
+    rt: &HostRuntime,
+    name: usize,
+    options: &[u8],
+    length: usize,
+) -> Result<(), Fail> {
+    let payload = long_request(rt, name, options)?;
+    is_so(payload.len() == length, "another length")?;
+    is_so(fault_of(payload.as_slice()) == None, "a fault")
+}
+
 #[test]
 fn limits_requests_with_options(rt: HostRuntime) -> Result<(), Fail> {
-    let longest = long_request(&rt, 493, b"blksize\x008\x00")?;
-    assert_eq!(rt; longest.len(), 512);
-    assert_eq!(rt; fault_of(longest.as_slice()), None);
-    let plain = long_request(&rt, 65_518, b"")?;
-    assert_eq!(rt; plain.len(), 65_527);
-    assert_eq!(rt; fault_of(plain.as_slice()), None);
-    Ok(())
+    is_long_enough(&rt, 493, b"blksize\x008\x00", 512)?;
+    is_long_enough(&rt, 65_518, b"", 65_527)
 }

@@ -1,5 +1,6 @@
 //! A recording of twelve frames of raw IP: what became of each, and what was told with it.
 
+use crate::views::is_so;
 use std::test::Fail;
 use tftp_capture::{DripReader, Tallied};
 use tftp_pcap::{FaultKind, PcapFault};
@@ -73,45 +74,92 @@ const FATES: [(Told, &[u64], &[u64]); 12] = [
     (Told::NoUdp, &[11, 12], &[]),
 ];
 
-/// Reads the next frame, and answers whether this is told of it.
-fn reads(
-    rt: &HostRuntime,
-    frames: &mut RecordingReader,
-    reader: &mut Tallied<DripReader>,
-    event: &mut Event,
-    wanted: &(Told, &[u64], &[u64]),
-) -> Result<bool, Fail> {
-    let (told, sharers, old) = wanted;
-    let is_read = frames.next_into(rt.alloc(), reader, event).map_err(failed)?;
+/// A recording, how far it is read, and the last event. It hides what the libraries promise.
+#[derive(Drop)]
+struct Reading<'a> {
+    reader: Tallied<DripReader<'a>>,
+    frames: RecordingReader,
+    event: Event,
+}
+
+/// Begins to read a recording in pieces of this size.
+fn begun<'a>(rt: &HostRuntime, bytes: &'a [u8], piece: usize) -> Result<Reading<'a>, Fail> {
+    let mut reader = Tallied::new(DripReader::new(bytes, piece, 0, None));
+    let frames = RecordingReader::begin(rt.alloc(), &mut reader).map_err(failed)?;
+    let event = Event::empty(rt.alloc());
+    Ok(Reading {
+        reader,
+        frames,
+        event,
+    })
+}
+
+/// Reads the next frame, where there is one.
+fn next(rt: &HostRuntime, reading: &mut Reading<'_>) -> Result<bool, PcapFault> {
+    reading
+        .frames
+        .next_into(rt.alloc(), &mut reading.reader, &mut reading.event)
+}
+
+/// Whether this is told of the last frame, which has this number.
+fn was_told(event: &Event, number: u64, (told, sharers, old): &(Told, &[u64], &[u64])) -> bool {
     let is_shared = event.sharers() == *sharers && event.old() == *old;
-    Ok(is_read && is_shared && is_told(&event.fate(), told))
+    event.number() == number && is_shared && is_told(&event.fate(), told)
+}
+
+/// Fails unless the next frames have their fates, and none follows.
+fn all_have_fates(rt: &HostRuntime, reading: &mut Reading<'_>) -> Result<(), Fail> {
+    for (number, wanted) in (1u64..).zip(&FATES) {
+        let is_read = next(rt, reading).map_err(failed)?;
+        is_so(
+            is_read && was_told(&reading.event, number, wanted),
+            "another fate",
+        )?;
+    }
+    for _ in 0..2 {
+        is_so(!next(rt, reading).map_err(failed)?, "another frame")?;
+    }
+    Ok(())
+}
+
+/// The frames that wait at the end for others.
+fn waiting_of(rt: &HostRuntime, reading: Reading<'_>) -> Result<Vec<u64>, Fail> {
+    let Reading { frames, .. } = reading;
+    let mut waiting = frames.into_waiting();
+    let mut missing = Vec::new(rt.alloc());
+    for _ in 0..3 {
+        if let Some((_, gone)) = waiting.let_go_any() {
+            missing.extend_from_slice(gone.as_slice())?;
+        }
+    }
+    Ok(missing)
 }
 
 /// However the reader cuts the bytes.
 #[test]
 fn each_frame_has_its_fate(rt: HostRuntime) -> Result<(), Fail> {
     for piece in [1usize, 7, 4096] {
-        let mut reader = Tallied::new(DripReader::new(RECORDING, piece, 0, None));
-        let mut frames = RecordingReader::begin(rt.alloc(), &mut reader).map_err(failed)?;
-        let mut event = Event::empty(rt.alloc());
-        for (number, wanted) in (1u64..).zip(&FATES) {
-            let is_right = reads(&rt, &mut frames, &mut reader, &mut event, wanted)?;
-            assert!(rt; is_right && event.number() == number);
-        }
-        for _ in 0..2 {
-            let read = frames.next_into(rt.alloc(), &mut reader, &mut event);
-            assert!(rt; !read.map_err(failed)?);
-        }
-        let mut waiting = frames.into_waiting();
-        let mut missing = Vec::new(rt.alloc());
-        for _ in 0..3 {
-            if let Some((_, gone)) = waiting.let_go_any() {
-                missing.extend_from_slice(gone.as_slice())?;
-            }
-        }
-        assert!(rt; missing.as_slice() == [8u64].as_slice());
+        let mut reading = begun(&rt, RECORDING, piece)?;
+        all_have_fates(&rt, &mut reading)?;
+        let missing = waiting_of(&rt, reading)?;
+        is_so(missing.as_slice() == [8u64].as_slice(), "other frames wait")?;
     }
     Ok(())
+}
+
+/// The fault of a recording that is cut within its last record.
+const CUT: PcapFault = PcapFault {
+    kind: FaultKind::Truncated,
+    frame: 12,
+};
+
+/// Fails unless the next frame has that fault.
+fn is_cut(rt: &HostRuntime, reading: &mut Reading<'_>) -> Result<(), Fail> {
+    match next(rt, reading) {
+        Ok(_) => Err(Fail::new("a frame")),
+        Err(fault) if fault == CUT => Ok(()),
+        Err(fault) => Err(failed(fault)),
+    }
 }
 
 /// A recording that is cut within its last record has a fault there for good, and the frames before it.
@@ -120,23 +168,10 @@ fn a_cut_recording_has_the_frames_before(rt: HostRuntime) -> Result<(), Fail> {
     let Some((_, front)) = RECORDING.split_last() else {
         return Err(Fail::new("empty"));
     };
-    let mut reader = Tallied::new(DripReader::new(front, 5, 0, None));
-    let mut frames = RecordingReader::begin(rt.alloc(), &mut reader).map_err(failed)?;
-    let mut event = Event::empty(rt.alloc());
+    let mut reading = begun(&rt, front, 5)?;
     for _ in 0..11 {
-        let read = frames.next_into(rt.alloc(), &mut reader, &mut event);
-        assert!(rt; read.map_err(failed)?);
+        is_so(next(&rt, &mut reading).map_err(failed)?, "no frame")?;
     }
-    let cut = PcapFault {
-        kind: FaultKind::Truncated,
-        frame: 12,
-    };
-    for _ in 0..2 {
-        match frames.next_into(rt.alloc(), &mut reader, &mut event) {
-            Ok(_) => return Err(Fail::new("a frame")),
-            Err(fault) if fault == cut => {}
-            Err(fault) => return Err(failed(fault)),
-        }
-    }
-    Ok(())
+    is_cut(&rt, &mut reading)?;
+    is_cut(&rt, &mut reading)
 }

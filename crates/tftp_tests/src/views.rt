@@ -1,8 +1,8 @@
-//! Views of payloads, for the tests of all libraries. These functions promise nothing, so that what `read_packet`
-//! promises is not read again in each test.
+//! Views of payloads, and comparisons, for the tests of all libraries. These functions promise nothing, so that what
+//! `read_packet` and others promise is not read again in each test.
 
 use std::test::Fail;
-use tftp_packet::{OptionsView, Packet, RequestView, read_packet};
+use tftp_packet::{OptionsView, Packet, Request, RequestView, own_request, read_packet};
 
 /// The request that a payload spells.
 pub fn request_of(payload: &[u8]) -> Result<RequestView<'_>, Fail> {
@@ -12,10 +12,30 @@ pub fn request_of(payload: &[u8]) -> Result<RequestView<'_>, Fail> {
     }
 }
 
+/// That request, owned.
+pub fn owned_request_of(rt: &HostRuntime, payload: &[u8]) -> Result<Request, Fail> {
+    let view = request_of(payload)?;
+    Ok(own_request(rt.alloc(), &view)?)
+}
+
 /// The options of an OACK.
 pub fn oack_of(payload: &[u8]) -> Result<OptionsView<'_>, Fail> {
     match read_packet(payload) {
         Ok(Packet::Oack(options)) => Ok(options),
         _ => Err(Fail::new("no OACK")),
     }
+}
+
+/// Fails unless these bytes were found.
+pub fn is_same(found: &[u8], wanted: &[u8]) -> Result<(), Fail> {
+    if found == wanted {
+        Ok(())
+    } else {
+        Err(Fail::from((found.len(), wanted.len())))
+    }
+}
+
+/// Fails with what was tried unless it holds.
+pub fn is_so(holds: bool, tried: &'static str) -> Result<(), Fail> {
+    if holds { Ok(()) } else { Err(Fail::new(tried)) }
 }

@@ -1,8 +1,5 @@
-use crate::scripts::all_hold;
-use std::test::Fail;
-
 /// Captures with ERRORs.
-const SCRIPT: &str = "
+pub const SCRIPT: &str = "
 NOT_FOUND = in 40000 41000 0005000100
 STOPPED = in 40000 41000 0005000000
 IN_01234567 = in 40000 41000 000300013031323334353637
@@ -95,8 +92,3 @@ in 69 40000 000261006f6374657400, in 69 40000 0005000000 => 1 refused datagram 2
 ASKED_2_BY_8, AGREED_2_BY_8, TAKEN_0, SENT_1, BROKEN_OFF, TAKEN_1 => 1 aborted by peer code 0
 ASKED_2_BY_8, AGREED_2_BY_8, TAKEN_0, BROKEN_OFF, SENT_1, TAKEN_1 => 1 refused datagram 6 rule 26 AckAhead
 ";
-
-#[test]
-fn transfers_with_errors(rt: HostRuntime) -> Result<(), Fail> {
-    all_hold(&rt, SCRIPT, 53)
-}

@@ -1,13 +1,13 @@
 use super::holds;
 use crate::commands::says;
-use crate::scripts::{CLIENT, Script, all_hold, capture};
+use crate::scripts::{CLIENT, Script, capture};
 use crate::verdicts::is_verdict;
 use std::alloc::{AllocError, Global};
 use std::test::Fail;
 
 /// Names of any length, though a request with options has 512 bytes at most; blocks that are whole, so that an empty one
 /// follows; and 511 bare LFs, which are written in two blocks.
-const LONG: &str = "
+pub const SCRIPT: &str = "
 tftp-capture 1, end client, service 69
 out 40000 69 0001{61*494}006f6374657400626c6b73697a65003800, HI,
   ACK_1 => 1 refused datagram 1 rule 5 Malformed RequestTooLong
@@ -34,11 +34,6 @@ out 40000 69 000161006e6574617363696900, in 40000 41000 00030001{0a*511},
   ACK_1 => 0 accepted get netascii blocks 2 bytes 511
 ";
 
-#[test]
-fn long_names_and_blocks(rt: HostRuntime) -> Result<(), Fail> {
-    all_hold(&rt, LONG, 12)
-}
-
 /// A block of 512 bytes without the one that ends the read after it: nothing is normal yet.
 const WITHOUT_END: &str = "READ, in 40000 41000 00030001{61*512}, ACK_1";
 
@@ -57,14 +52,19 @@ tftp-capture 1, end client, service 65535
 out 65535 65535 0001{61*65519}006f6374657400, HI, ACK_1 => fault line 4 LineTooLong
 ";
 
+/// Fails unless `check` and `judge_text` say this of a text.
+fn is_too_long(rt: &HostRuntime, text: &[u8], said: &str) -> Result<(), Fail> {
+    let line = format!(in rt.alloc(); "{said}\n")?;
+    says(rt, "check", text, line.as_str(), 2)?;
+    is_verdict(rt, text, line.as_str())
+}
+
 #[test]
 fn names_that_are_too_long(rt: HostRuntime) -> Result<(), Fail> {
     let mut script = Script::new(TOO_LONG);
     for _ in 0..2 {
         let (text, said) = script.next(rt.alloc())?;
-        let line = format!(in rt.alloc(); "{said}\n")?;
-        says(&rt, "check", text.as_bytes(), line.as_str(), 2)?;
-        is_verdict(&rt, text.as_bytes(), line.as_str())?;
+        is_too_long(&rt, text.as_bytes(), said)?;
     }
     script.ends()
 }
@@ -79,32 +79,59 @@ struct Window {
     backwards: bool,
 }
 
-/// What is asked and agreed.
-const OPTIONS: &str = "626c6b73697a6500380077696e646f7773697a6500363535333500";
+/// How such a read begins, but for its mode, and what follows the mode.
+const BEFORE_MODE: &str = "tftp-capture 1\nend client\nservice 69\nout 40000 69 00016100";
+
+const AFTER_MODE: &str =
+    "00626c6b73697a6500380077696e646f7773697a6500363535333500\nin 40000 41000 0006626c6b73697a6500380077696e646f7773697a6500363535333500\nout 40000 41000 00040000\n";
+
+/// The number of the block that comes after so many.
+fn number_at(window: &Window, step: u16) -> u16 {
+    if window.backwards {
+        window.count.saturating_sub(step)
+    } else {
+        step.saturating_add(1)
+    }
+}
+
+/// The digits of a block.
+fn digits_of(window: &Window, number: u16) -> &'static str {
+    if number == window.count {
+        window.last
+    } else {
+        window.whole
+    }
+}
+
+/// Adds the line of a block.
+fn add_block(
+    alloc: Global,
+    text: &mut String,
+    window: &Window,
+    number: u16,
+) -> Result<(), AllocError> {
+    let line = format!(in alloc; "in 40000 41000 0003{number:04x}")?;
+    text.push_str(line.as_str())?;
+    text.push_str(digits_of(window, number))?;
+    text.push_str("\n")?;
+    Ok(())
+}
+
+/// The acknowledgement of the last block, and the total.
+fn end_of(alloc: Global, count: u16) -> Result<String, AllocError> {
+    let total = u32::from(count) + 4;
+    format!(in alloc; "out 40000 41000 0004{count:04x}\ntotal {total}\n")
+}
 
 /// The text of such a read, with an acknowledgement of the last block at its end.
 fn window_text(alloc: Global, window: &Window) -> Result<String, AllocError> {
-    let (mode, count) = (window.mode, window.count);
-    let mut text = format!(in alloc;
-        "tftp-capture 1\nend client\nservice 69\nout 40000 69 00016100{mode}00{OPTIONS}\nin 40000 41000 0006{OPTIONS}\nout 40000 41000 00040000\n"
-    )?;
-    for step in 0..count {
-        let number = if window.backwards {
-            count - step
-        } else {
-            step + 1
-        };
-        let digits = if number == count {
-            window.last
-        } else {
-            window.whole
-        };
-        let line = format!(in alloc; "in 40000 41000 0003{number:04x}{digits}\n")?;
-        text.push_str(line.as_str())?;
+    let mut text = String::from_str(alloc, BEFORE_MODE)?;
+    text.push_str(window.mode)?;
+    text.push_str(AFTER_MODE)?;
+    for step in 0..window.count {
+        add_block(alloc, &mut text, window, number_at(window, step))?;
     }
-    let total = u32::from(count) + 4;
-    let end = format!(in alloc; "out 40000 41000 0004{count:04x}\ntotal {total}\n")?;
-    text.push_str(end.as_str())?;
+    text.push_str(end_of(alloc, window.count)?.as_str())?;
     Ok(text)
 }
 
@@ -154,12 +181,22 @@ const WINDOWS: [(Window, &str, &str, u8); 3] = [
     ),
 ];
 
+/// Fails unless all say the line of a text, and `count` the other, with this status.
+fn is_counted(
+    rt: &HostRuntime,
+    text: &[u8],
+    (line, count): (&str, &str),
+    status: u8,
+) -> Result<(), Fail> {
+    holds(rt, text, line, status)?;
+    says(rt, "count", text, count, status)
+}
+
 #[test]
 fn as_many_blocks_as_there_may_be(rt: HostRuntime) -> Result<(), Fail> {
     for (window, line, count, status) in &WINDOWS {
         let text = window_text(rt.alloc(), window)?;
-        holds(&rt, text.as_bytes(), line, *status)?;
-        says(&rt, "count", text.as_bytes(), count, *status)?;
+        is_counted(&rt, text.as_bytes(), (line, count), *status)?;
     }
     Ok(())
 }

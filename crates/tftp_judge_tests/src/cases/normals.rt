@@ -85,18 +85,27 @@ out 40000 69 000261006f6374657400, ACKED_0, out 40000 41000 000300016869,
 out 50000 69 000261006f6374657400, in 50000 50001 00040000, out 50000 50001 000300016869, N_ACKED_1 => normal
 ";
 
-/// The normal text of each, which means the same and is its own normal text.
+/// Fails unless the line is said of a text, and the other is its normal text.
+fn is_said_and_normal(rt: &HostRuntime, text: &str, line: &str, normal: &str) -> Result<(), Fail> {
+    holds(rt, text.as_bytes(), line, 0)?;
+    is_normal(rt, text.as_bytes(), normal)
+}
+
+/// Fails unless the next two captures are one of which this is said, and its normal text, which means the same and is its
+/// own normal text.
+fn next_are_normal(rt: &HostRuntime, script: &mut Script<'_>) -> Result<(), Fail> {
+    let (text, said) = script.next(rt.alloc())?;
+    let (normal, _) = script.next(rt.alloc())?;
+    let line = format!(in rt.alloc(); "{said}\n")?;
+    is_said_and_normal(rt, text.as_str(), line.as_str(), normal.as_str())?;
+    is_said_and_normal(rt, normal.as_str(), line.as_str(), normal.as_str())
+}
+
 #[test]
 fn normal_texts_of_accepted_captures(rt: HostRuntime) -> Result<(), Fail> {
     let mut script = Script::new(SCRIPT);
     for _ in 0..13 {
-        let (text, said) = script.next(rt.alloc())?;
-        let (normal, _) = script.next(rt.alloc())?;
-        let line = format!(in rt.alloc(); "{said}\n")?;
-        for text in [&text, &normal] {
-            holds(&rt, text.as_bytes(), line.as_str(), 0)?;
-            is_normal(&rt, text.as_bytes(), normal.as_str())?;
-        }
+        next_are_normal(&rt, &mut script)?;
     }
     script.ends()
 }

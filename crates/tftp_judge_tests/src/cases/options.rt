@@ -1,8 +1,5 @@
-use crate::scripts::all_hold;
-use std::test::Fail;
-
 /// Captures with options.
-const SCRIPT: &str = "
+pub const SCRIPT: &str = "
 READ_FOO = out 40000 69 000161006f6374657400666f6f003100
 READ_MULTICAST = out 40000 69 000161006f63746574006d756c7469636173740000
 IN_NINE = in 40000 41000 00030001393939393939393939
@@ -49,8 +46,3 @@ READ_SIZE,
   in 40000 41000 0006626c6b73697a650038007473697a650035323432383000 => 1 refused datagram 2 rule 20 BeyondBlock65535
 READ_SIZE, in 40000 41000 0006626c6b73697a650038007473697a650035323432373900 => 1 incomplete after 2
 ";
-
-#[test]
-fn options_and_what_is_agreed(rt: HostRuntime) -> Result<(), Fail> {
-    all_hold(&rt, SCRIPT, 19)
-}

@@ -1,8 +1,5 @@
-use crate::scripts::all_hold;
-use std::test::Fail;
-
 /// Reads, and strays beside them.
-const SCRIPT: &str = "
+pub const SCRIPT: &str = "
 READ_TEXT_BY_8 = out 40000 69 000161006e6574617363696900626c6b73697a65003800
 READ_TEXT = out 40000 69 000161006e6574617363696900
 
@@ -49,8 +46,3 @@ READ, HI, STRAY, in 40001 41000 000300016869, ACK_1 => 1 refused datagram 4 rule
 READ, HI, STRAY, out 40000 42000 00040001, ACK_1 => 1 refused datagram 4 rule 3 StrayAnswer
 READ, HI, STRAY, out 40000 43000 00040001, ACK_1 => 1 refused datagram 4 rule 2 WrongPort
 ";
-
-#[test]
-fn reads_and_strays(rt: HostRuntime) -> Result<(), Fail> {
-    all_hold(&rt, SCRIPT, 26)
-}

@@ -1,8 +1,5 @@
-use crate::scripts::all_hold;
-use std::test::Fail;
-
 /// Captures of many blocks, in windows.
-const SCRIPT: &str = "
+pub const SCRIPT: &str = "
 IN_5 = in 40000 41000 000300053535353535353535
 IN_666 = in 40000 41000 00030006363636
 SENT_1 = out 41000 40000 000300013131313131313131
@@ -81,8 +78,3 @@ ASKED_2_BY_8, AGREED_2_BY_8, SENT_1 => 1 refused datagram 3 rule 18 NotStarted
 ASKED_2_BY_8, AGREED_2_BY_8, TAKEN_ACK_0,
   out 41000 40000 000300033333333333333333 => 1 refused datagram 4 rule 22 WindowOverrun
 ";
-
-#[test]
-fn blocks_and_windows(rt: HostRuntime) -> Result<(), Fail> {
-    all_hold(&rt, SCRIPT, 34)
-}

@@ -1,9 +1,8 @@
-use super::{ROOM, START, has_said, ran, read_of_hi, says};
+use super::{ROOM, START, ran_on, read_of_hi, says, says_at};
 use crate::scripts::{CLIENT, Script, capture};
 use crate::verdicts::is_file;
-use std::alloc::Global;
+use std::alloc::{AllocError, Global};
 use std::test::Fail;
-use tftp_capture::{DripReader, DripWriter};
 use tftp_ends::{MapDelivered, RingDelivered};
 
 /// Captures of whole transfers, and the files that `extract` writes, in hex digits; `-` where the file is empty.
@@ -33,30 +32,42 @@ READ_TEXT, in 40000 41000 000300010d0d0a, ACK_1 => 0d0a
 READ_TEXT, in 40000 41000 000300010d41, ACK_1 => 0d41
 ";
 
+/// Fails unless the file of these hex digits is that of a text, by `extract` and by a judge on each store.
+fn has_file(rt: &HostRuntime, text: &[u8], digits: &str) -> Result<(), Fail> {
+    let file = file_of(rt.alloc(), digits)?;
+    says(rt, "extract", text, file.as_str(), 0)?;
+    is_file::<MapDelivered>(rt, text, file.as_bytes())?;
+    is_file::<RingDelivered>(rt, text, file.as_bytes())
+}
+
 #[test]
 fn files_of_accepted_captures(rt: HostRuntime) -> Result<(), Fail> {
     let mut script = Script::new(FILES);
     for _ in 0..13 {
         let (text, digits) = script.next(rt.alloc())?;
-        let file = file_of(rt.alloc(), digits)?;
-        says(&rt, "extract", text.as_bytes(), file.as_str(), 0)?;
-        is_file::<MapDelivered>(&rt, text.as_bytes(), file.as_bytes())?;
-        is_file::<RingDelivered>(&rt, text.as_bytes(), file.as_bytes())?;
+        has_file(&rt, text.as_bytes(), digits)?;
     }
     script.ends()
 }
 
 /// The file of these hex digits.
 fn file_of(alloc: Global, digits: &str) -> Result<String, Fail> {
+    if digits == "-" {
+        return Ok(String::new(alloc));
+    }
+    let bytes = hex::decode(alloc, digits.as_bytes())?;
+    Ok(string_of(alloc, bytes.as_slice())?)
+}
+
+/// The string whose signs have these numbers.
+fn string_of(alloc: Global, bytes: &[u8]) -> Result<String, AllocError> {
     let mut file = String::new(alloc);
-    if digits != "-" {
-        let bytes = hex::decode(alloc, digits.as_bytes())?;
-        for byte in bytes.as_slice() {
-            file.push(char::from(*byte))?;
-        }
+    for byte in bytes {
+        file.push(char::from(*byte))?;
     }
     Ok(file)
 }
+
 /// Captures that are not accepted, and the status.
 const NONE: &str = "
 tftp-capture 1, end client, service 69
@@ -73,7 +84,11 @@ fn nothing_of_others(rt: HostRuntime) -> Result<(), Fail> {
         let (text, _) = script.next(rt.alloc())?;
         says(&rt, "extract", text.as_bytes(), "", 1)?;
     }
-    script.ends()?;
+    script.ends()
+}
+
+#[test]
+fn nothing_of_a_cut_text(rt: HostRuntime) -> Result<(), Fail> {
     let mut text = read_of_hi(rt.alloc())?;
     text.pop();
     says(&rt, "extract", text.as_bytes(), "", 2)
@@ -87,37 +102,62 @@ const OF_SIX_BLOCKS: &str =
 /// The read or the write with a number that fails, and what was written. A write takes seven bytes.
 const CUTS: [(u64, u64, &[u8]); 3] = [(0, 1, b""), (0, 3, b"11111111222222"), (2, 0, b"")];
 
+/// Fails unless `extract` writes this of a text, and ends with status 2.
+fn is_cut(
+    rt: &HostRuntime,
+    text: &[u8],
+    (read_fails, write_fails): (u64, u64),
+    written: &[u8],
+) -> Result<(), Fail> {
+    let it = ran_on(
+        rt,
+        "extract",
+        text,
+        (usize::MAX, read_fails),
+        (7, write_fails, false),
+    )?;
+    if it.written.taken() != written || it.status != 2 {
+        return Err(Fail::from((read_fails, write_fails, it.status)));
+    }
+    Ok(())
+}
+
 /// A part of the file where a write fails, and nothing where a read fails.
 #[test]
 fn a_part_where_a_write_fails(rt: HostRuntime) -> Result<(), Fail> {
     let text = capture(rt.alloc(), CLIENT, OF_SIX_BLOCKS)?;
     for (read_fails, write_fails, written) in CUTS {
-        let reader = DripReader::new(text.as_bytes(), usize::MAX, read_fails, None);
-        let writer = DripWriter::new(rt.alloc(), ROOM, 7, write_fails, false)?;
-        let it = ran(&rt, &["tftp-audit", "extract"], reader, writer);
-        if it.written.taken() != written || it.status != 2 {
-            return Err(Fail::from((read_fails, write_fails, it.status)));
-        }
+        is_cut(&rt, text.as_bytes(), (read_fails, write_fails), written)?;
     }
     Ok(())
+}
+
+/// A capture that is refused at its second datagram, and 4,096 lines of comments.
+fn refused_early(alloc: Global) -> Result<String, AllocError> {
+    let mut text = String::from_str(alloc, START)?;
+    text.push_str("out 40000 69 000161006f6374657400\nin 40000 41000 000300026869\n")?;
+    for _ in 0..4096 {
+        text.push_str("#\n")?;
+    }
+    Ok(text)
 }
 
 // Nothing is read after a refusal: 4,096 lines of comments follow it, and the last read would fail.
 #[test]
 fn refusals_end_the_reading(rt: HostRuntime) -> Result<(), Fail> {
-    let mut text = String::from_str(rt.alloc(), START)?;
-    text.push_str("out 40000 69 000161006f6374657400\nin 40000 41000 000300026869\n")?;
-    for _ in 0..4096 {
-        text.push_str("#\n")?;
-    }
+    let text = refused_early(rt.alloc())?;
+    let reading = (1, text.len() as u64);
     for (command, line) in [
         ("check", "refused datagram 2 rule 22 WindowOverrun\n"),
         ("extract", ""),
     ] {
-        let reader = DripReader::new(text.as_bytes(), 1, text.len() as u64, None);
-        let writer = DripWriter::new(rt.alloc(), ROOM, ROOM, 0, false)?;
-        let it = ran(&rt, &["tftp-audit", command], reader, writer);
-        has_said(&it, line, 1, false)?;
+        says_at(
+            &rt,
+            command,
+            text.as_bytes(),
+            (reading, ROOM),
+            (line, 1, false),
+        )?;
     }
     Ok(())
 }

@@ -1,8 +1,10 @@
-use super::{ROOM, START, has_said, many_datagrams, ran, read_of_hi, shown_before};
+use super::{
+    ROOM, Writing, has_said, many_datagrams, many_shown, ran_on, read_of_hi, says_at, shown_before,
+};
 use crate::cases::ACCEPTED;
 use crate::scripts::{CLIENT, capture};
 use std::test::Fail;
-use tftp_capture::{DripReader, DripWriter};
+use tftp_capture::DripWriter;
 
 /// Fails unless the command writes this, and ends with status 2, where the text comes in pieces of this size and this
 /// read, counted from 1, fails.
@@ -14,15 +16,32 @@ fn fails_to_read(
     read: u64,
     output: &str,
 ) -> Result<(), Fail> {
-    let reader = DripReader::new(text, piece, read, None);
-    let writer = DripWriter::new(rt.alloc(), ROOM, 1, 0, false)?;
-    let it = ran(rt, &["tftp-audit", command], reader, writer);
-    has_said(&it, output, 2, true)
+    says_at(rt, command, text, ((piece, read), 1), (output, 2, true))
 }
 
-/// How many LFs there are.
-fn line_ends(bytes: &[u8]) -> usize {
-    bytes.iter().filter(|byte| **byte == b'\n').count()
+/// Fails unless both commands say the fault of a read on this line, `show` after the datagrams before it.
+fn both_fail_to_read(
+    rt: &HostRuntime,
+    text: &[u8],
+    piece: usize,
+    read: u64,
+    line: usize,
+) -> Result<(), Fail> {
+    let fault = format!(in rt.alloc(); "fault line {line} Read\n")?;
+    fails_to_read(rt, "check", text, piece, read, fault.as_str())?;
+    let shown = shown_before(rt.alloc(), line, fault.as_str())?;
+    fails_to_read(rt, "show", text, piece, read, shown.as_str())
+}
+
+/// The line of the byte after so many.
+fn line_after(text: &[u8], taken: usize) -> usize {
+    let mut line = 1usize;
+    for byte in text.get(..taken).unwrap_or(text) {
+        if *byte == b'\n' {
+            line = line.saturating_add(1);
+        }
+    }
+    line
 }
 
 /// Each read of one byte fails in turn, the one after the whole text too: the line is that of the next byte.
@@ -31,12 +50,8 @@ fn each_read_fails(rt: HostRuntime) -> Result<(), Fail> {
     let whole = read_of_hi(rt.alloc())?;
     let text = whole.as_bytes();
     for taken in 0..=text.len() {
-        let line = line_ends(text.get(..taken).unwrap_or(text)).saturating_add(1);
-        let read = taken as u64 + 1;
-        let fault = format!(in rt.alloc(); "fault line {line} Read\n")?;
-        fails_to_read(&rt, "check", text, 1, read, fault.as_str())?;
-        let shown = shown_before(rt.alloc(), line, fault.as_str())?;
-        fails_to_read(&rt, "show", text, 1, read, shown.as_str())?;
+        let read = (taken as u64).saturating_add(1);
+        both_fail_to_read(&rt, text, 1, read, line_after(text, taken))?;
     }
     Ok(())
 }
@@ -45,53 +60,38 @@ fn each_read_fails(rt: HostRuntime) -> Result<(), Fail> {
 #[test]
 fn the_read_after_a_whole_text_fails(rt: HostRuntime) -> Result<(), Fail> {
     let whole = read_of_hi(rt.alloc())?;
-    let text = whole.as_bytes();
-    let fault = "fault line 8 Read\n";
-    fails_to_read(&rt, "check", text, usize::MAX, 2, fault)?;
-    let shown = shown_before(rt.alloc(), 8, fault)?;
-    fails_to_read(&rt, "show", text, usize::MAX, 2, shown.as_str())
+    both_fail_to_read(&rt, whole.as_bytes(), usize::MAX, 2, 8)
 }
 
-/// A part of a line that would be wrong is no fault before its end; a datagram that breaks a rule comes before the
-/// read that failed on a later line.
+/// A part of a line that would be wrong is no fault before its end.
+#[test]
+fn a_failed_read_in_a_wrong_line(rt: HostRuntime) -> Result<(), Fail> {
+    both_fail_to_read(&rt, b"tftp-capture 3", usize::MAX, 2, 1)
+}
+
+/// A capture without its end, whose last datagram breaks a rule.
+const UNLAWFUL: &[u8] =
+    b"tftp-capture 1\nend client\nservice 69\nout 40000 69 000161006f6374657400\nin 40000 41000 000300016869\nout 40000 41000 00040002\n";
+
+/// A datagram that breaks a rule comes before the read that failed on a later line.
 #[test]
 fn a_failed_read_in_a_wrong_text(rt: HostRuntime) -> Result<(), Fail> {
-    for command in ["check", "show"] {
-        let read = "fault line 1 Read\n";
-        fails_to_read(&rt, command, b"tftp-capture 3", usize::MAX, 2, read)?;
-    }
-    let unlawful = format!(in rt.alloc();
-        "{START}out 40000 69 000161006f6374657400\nin 40000 41000 000300016869\nout 40000 41000 00040002\n"
-    )?;
-    let text = unlawful.as_bytes();
     let shown = "1 out RRQ\n2 in DATA 1 2\n3 out ACK 2\nfault line 7 Read\n";
-    fails_to_read(&rt, "show", text, usize::MAX, 2, shown)?;
-    let reader = DripReader::new(text, usize::MAX, 2, None);
-    let writer = DripWriter::new(rt.alloc(), ROOM, 1, 0, false)?;
-    let it = ran(&rt, &["tftp-audit", "check"], reader, writer);
-    has_said(
-        &it,
-        "refused datagram 3 rule 26 AckAhead\n",
-        1,
-        it.read_failed,
-    )
+    fails_to_read(&rt, "show", UNLAWFUL, usize::MAX, 2, shown)?;
+    let it = ran_on(&rt, "check", UNLAWFUL, (usize::MAX, 2), (1, 0, false))?;
+    let refused = "refused datagram 3 rule 26 AckAhead\n";
+    has_said(&it, refused, 1, it.read_failed)
 }
 
 /// A whole wrong line is a fault, and no further read is tried.
 #[test]
 fn a_fault_is_said_before_the_next_read(rt: HostRuntime) -> Result<(), Fail> {
-    let text = b"tftp-capture 3\n";
+    let wanted = ("fault line 1 BadHeader\n", 2, false);
     for command in ["check", "show"] {
-        let reader = DripReader::new(text, 1, 16, None);
-        let writer = DripWriter::new(rt.alloc(), ROOM, 1, 0, false)?;
-        let it = ran(&rt, &["tftp-audit", command], reader, writer);
-        has_said(&it, "fault line 1 BadHeader\n", 2, false)?;
+        says_at(&rt, command, b"tftp-capture 3\n", ((1, 16), 1), wanted)?;
     }
     Ok(())
 }
-
-/// How a writer fails: the size of its pieces, the write that fails, and whether it takes no byte in place of an error.
-type Failing = (usize, u64, bool);
 
 /// Runs the command with a writer of which one write fails, and gives what was taken; only that write fails, so that
 /// what is written after it would be taken. Fails unless the status is 2.
@@ -99,15 +99,19 @@ fn taken_of(
     rt: &HostRuntime,
     command: &str,
     text: &[u8],
-    (piece, write, none): Failing,
+    writing: Writing,
 ) -> Result<DripWriter, Fail> {
-    let reader = DripReader::new(text, usize::MAX, 0, None);
-    let writer = DripWriter::new(rt.alloc(), ROOM, piece, write, none)?;
-    let it = ran(rt, &["tftp-audit", command], reader, writer);
+    let it = ran_on(rt, command, text, (usize::MAX, 0), writing)?;
     if it.status != 2 || !it.write_failed || it.read_failed {
-        return Err(Fail::from((piece, write, it.status, it.read_failed)));
+        return Err(Fail::from((writing, it.status, it.read_failed)));
     }
     Ok(it.written)
+}
+
+/// Whether what was taken is a beginning of the output, of a length in this range.
+fn is_front(taken: &[u8], output: &str, (least, most): (usize, usize)) -> bool {
+    let length = taken.len();
+    least <= length && length <= most && output.as_bytes().starts_with(taken)
 }
 
 /// Fails unless what was written before that write of one byte stays, and nothing follows.
@@ -118,16 +122,12 @@ fn leaves_its_front(
     output: &str,
     (count, none): (usize, bool),
 ) -> Result<(), Fail> {
-    let written = taken_of(
-        rt,
-        command,
-        text,
-        (1, (count as u64).saturating_add(1), none),
-    )?;
-    if Some(written.taken()) == output.as_bytes().get(..count) {
+    let write = (count as u64).saturating_add(1);
+    let written = taken_of(rt, command, text, (1, write, none))?;
+    if is_front(written.taken(), output, (count, count)) {
         Ok(())
     } else {
-        Err(Fail::from((count, none, written.taken().len())))
+        Err(Fail::from((count, none)))
     }
 }
 
@@ -157,18 +157,19 @@ fn a_verdict_that_is_not_written(rt: HostRuntime) -> Result<(), Fail> {
     each_write_fails(&rt, "judge", b"", "fault usage\n")
 }
 
+/// A capture that is cut after its first datagram.
+const CUT: &[u8] = b"tftp-capture 1\nend client\nservice 69\nout 40000 69 000161006f6374657400\n";
+
 #[test]
 fn datagrams_that_are_not_written(rt: HostRuntime) -> Result<(), Fail> {
     let whole = read_of_hi(rt.alloc())?;
     let lines = "1 out RRQ\n2 in DATA 1 2\n3 out ACK 1\n";
     each_write_fails(&rt, "show", whole.as_bytes(), lines)?;
-    let cut = format!(in rt.alloc(); "{START}out 40000 69 000161006f6374657400\n")?;
-    let lines = "1 out RRQ\nfault line 5 Truncated\n";
-    each_write_fails(&rt, "show", cut.as_bytes(), lines)
+    each_write_fails(&rt, "show", CUT, "1 out RRQ\nfault line 5 Truncated\n")
 }
 
 /// Writes that fail, and the least and the most of what was taken before them.
-const FAILING: [(Failing, usize, usize); 8] = [
+const FAILING: [(Writing, usize, usize); 8] = [
     ((16_384, 1, false), 0, 0),
     ((16_384, 1, true), 0, 0),
     ((16_384, 2, false), 1, 16_384),
@@ -183,12 +184,13 @@ const FAILING: [(Failing, usize, usize); 8] = [
 /// follows.
 #[test]
 fn writes_that_fail_among_many_datagrams(rt: HostRuntime) -> Result<(), Fail> {
-    let (text, lines) = many_datagrams(rt.alloc())?;
-    for (failing, least, most) in FAILING {
-        let written = taken_of(&rt, "show", text.as_bytes(), failing)?;
-        let taken = written.taken();
-        assert!(rt; lines.as_bytes().starts_with(taken), "{failing:?}");
-        assert!(rt; least <= taken.len() && taken.len() <= most, "{failing:?}");
+    let text = many_datagrams(rt.alloc())?;
+    let lines = many_shown(rt.alloc())?;
+    for (writing, least, most) in FAILING {
+        let written = taken_of(&rt, "show", text.as_bytes(), writing)?;
+        if !is_front(written.taken(), lines.as_str(), (least, most)) {
+            return Err(Fail::from((writing, written.taken().len())));
+        }
     }
     Ok(())
 }

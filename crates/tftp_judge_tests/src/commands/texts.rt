@@ -1,7 +1,7 @@
 use super::{START, read_of_hi, says, shown_before};
 use crate::cases::ACCEPTED;
 use crate::scripts::add_line;
-use std::alloc::Global;
+use std::alloc::{AllocError, Global};
 use std::test::Fail;
 
 /// The lines of the read of `hi`.
@@ -47,13 +47,18 @@ fn is_fault(rt: &HostRuntime, text: &[u8], number: usize, fault: &str) -> Result
 /// between.
 fn all_are_faults(rt: &HostRuntime, lines: &str, cases: &str) -> Result<(), Fail> {
     for case in cases.split('\n') {
-        let Some((number, fault, line)) = parts_of(case) else {
-            return Err(Fail::new("no case"));
-        };
-        let text = changed(rt.alloc(), lines, number, line)?;
-        is_fault(rt, text.as_bytes(), number, fault)?;
+        has_fault(rt, lines, case)?;
     }
     Ok(())
+}
+
+/// Fails unless the changed line of a case has its fault.
+fn has_fault(rt: &HostRuntime, lines: &str, case: &str) -> Result<(), Fail> {
+    let Some((number, fault, line)) = parts_of(case) else {
+        return Err(Fail::new("no case"));
+    };
+    let text = changed(rt.alloc(), lines, number, line)?;
+    is_fault(rt, text.as_bytes(), number, fault)
 }
 
 fn parts_of(case: &str) -> Option<(usize, &str, &str)> {
@@ -126,6 +131,7 @@ const WITH_HOSTS: &str = "\
 4|BadHost|out 40000  69 00
 4|BadHost|out 40000 \t 69 0
 4|BadHost|out 40000 a\u{7f} 69 00
+4|BadHost|out 40000 {a*46} 69 000161006f6374657400
 5|BadHost|in 40000 10.0.0.1\r 41000 00
 6|BadHost|out 40000 \u{e9} 41000 00
 4|BadHex|out 40000 10.0.0.1 69 0
@@ -139,17 +145,14 @@ const WITH_HOSTS: &str = "\
 #[test]
 fn faults_of_texts_with_hosts(rt: HostRuntime) -> Result<(), Fail> {
     all_are_faults(&rt, LINES_WITH_HOSTS, WITH_HOSTS)?;
-    for (lines, version) in [
-        (LINES, "tftp-capture 2"),
-        (LINES_WITH_HOSTS, "tftp-capture 1"),
-    ] {
-        let text = changed(rt.alloc(), lines, 1, version)?;
-        is_fault(&rt, text.as_bytes(), 4, "BadLine")?;
-    }
-    let host = "a".repeat(rt.alloc(), 46)?;
-    let line = format!(in rt.alloc(); "out 40000 {host} 69 000161006f6374657400")?;
-    let third = changed(rt.alloc(), LINES_WITH_HOSTS, 4, line.as_str())?;
-    is_fault(&rt, third.as_bytes(), 4, "BadHost")
+    is_of_another_version(&rt, LINES, "tftp-capture 2")?;
+    is_of_another_version(&rt, LINES_WITH_HOSTS, "tftp-capture 1")
+}
+
+/// Fails unless the lines with this first line have a fault on their first datagram's.
+fn is_of_another_version(rt: &HostRuntime, lines: &str, version: &str) -> Result<(), Fail> {
+    let text = changed(rt.alloc(), lines, 1, version)?;
+    is_fault(rt, text.as_bytes(), 4, "BadLine")
 }
 
 const TOTALS: &str = "\
@@ -199,28 +202,34 @@ fn lines_and_payloads_that_are_too_long(rt: HostRuntime) -> Result<(), Fail> {
 fn the_longest_payloads(rt: HostRuntime) -> Result<(), Fail> {
     let text = changed(rt.alloc(), LINES, 5, "in 40000 41000 {0*131054}")?;
     let refused = "refused datagram 2 rule 5 Malformed Opcode\n";
-    says(&rt, "check", text.as_bytes(), refused, 1)?;
     let shown = "1 out RRQ\n2 in malformed Opcode\n3 out ACK 1\n";
-    says(&rt, "show", text.as_bytes(), shown, 0)?;
+    is_refused_and_shown(&rt, text.as_bytes(), refused, (shown, 0))
+}
+
+#[test]
+fn the_longest_payloads_to_hosts(rt: HostRuntime) -> Result<(), Fail> {
     let line = "out 65535 aaaaaaaaaaaaaaaaaaaaaaaaaaaaaaaaaaaaaaaaaaaaa 65535 {0*131054}";
     let text = changed(rt.alloc(), LINES_WITH_HOSTS, 6, line)?;
     let refused = "refused datagram 3 rule 1 ForeignPort\n";
-    says(&rt, "check", text.as_bytes(), refused, 1)?;
     let shown = "1 out RRQ\n2 in DATA 1 2\n3 out malformed Opcode\n";
-    says(&rt, "show", text.as_bytes(), shown, 0)
+    is_refused_and_shown(&rt, text.as_bytes(), refused, (shown, 0))
 }
 
-/// Comments of the most bytes.
-#[test]
-fn the_longest_comments(rt: HostRuntime) -> Result<(), Fail> {
-    for (lines, line) in [
-        (LINES, "service 69\n#{#*131069}"),
-        (LINES_WITH_HOSTS, "service 69\n#{#*131115}"),
-    ] {
-        let text = changed(rt.alloc(), lines, 3, line)?;
-        is_read_of_hi(&rt, text.as_bytes())?;
-    }
-    Ok(())
+/// Fails unless `check` refuses a text by this line, and `show` writes the others and ends with that status.
+fn is_refused_and_shown(
+    rt: &HostRuntime,
+    text: &[u8],
+    refused: &str,
+    (shown, status): (&str, u8),
+) -> Result<(), Fail> {
+    says(rt, "check", text, refused, 1)?;
+    says(rt, "show", text, shown, status)
+}
+
+/// Fails unless the lines with the line `number` changed are those of the read of `hi` for both commands.
+fn says_the_same(rt: &HostRuntime, (lines, number, line): (&str, usize, &str)) -> Result<(), Fail> {
+    let text = changed(rt.alloc(), lines, number, line)?;
+    is_read_of_hi(rt, text.as_bytes())
 }
 
 /// Texts that end too early, and the line where they do.
@@ -248,19 +257,26 @@ fn texts_that_end_too_early(rt: HostRuntime) -> Result<(), Fail> {
     Ok(())
 }
 
-#[test]
-fn texts_that_go_on(rt: HostRuntime) -> Result<(), Fail> {
-    let long = "a".repeat(rt.alloc(), 131_071)?;
-    for more in ["#\n", "\n", "x", "total 3\n", long.as_str()] {
-        let mut text = read_of_hi(rt.alloc())?;
-        text.push_str(more)?;
-        is_fault(&rt, text.as_bytes(), 8, "TrailingText")?;
-    }
-    Ok(())
+/// Fails unless more after the end of the text is a fault.
+fn is_trailing(rt: &HostRuntime, more: &str) -> Result<(), Fail> {
+    let mut text = read_of_hi(rt.alloc())?;
+    text.push_str(more)?;
+    is_fault(rt, text.as_bytes(), 8, "TrailingText")
 }
 
-/// Comments, empty lines and hex digits of either case change nothing.
-const THE_SAME: [(&str, usize, &str); 6] = [
+#[test]
+fn texts_that_go_on(rt: HostRuntime) -> Result<(), Fail> {
+    for more in ["#\n", "\n", "x", "total 3\n"] {
+        is_trailing(&rt, more)?;
+    }
+    let long = "a".repeat(rt.alloc(), 131_071)?;
+    is_trailing(&rt, long.as_str())
+}
+
+/// Comments, empty lines and hex digits of either case change nothing, nor do comments of the most bytes.
+const THE_SAME: [(&str, usize, &str); 8] = [
+    (LINES, 3, "service 69\n#{#*131069}"),
+    (LINES_WITH_HOSTS, 3, "service 69\n#{#*131115}"),
     (LINES, 3, "service 69\n# x"),
     (LINES, 1, "tftp-capture 1\n\n# any text\r\n\n"),
     (LINES, 6, "out 40000 41000 00040001\n#"),
@@ -279,32 +295,44 @@ const WITH_BYTES: &[u8] =
 
 #[test]
 fn texts_that_say_the_same(rt: HostRuntime) -> Result<(), Fail> {
-    for (lines, number, line) in THE_SAME {
-        let text = changed(rt.alloc(), lines, number, line)?;
-        is_read_of_hi(&rt, text.as_bytes())?;
+    for case in THE_SAME {
+        says_the_same(&rt, case)?;
     }
     is_read_of_hi(&rt, WITH_BYTES)
+}
+
+/// The end of a text whose second datagram breaks a rule, and its fault.
+const LATER_FAULTS: [(&str, &str); 4] = [
+    ("out 40000 41000 0\ntotal 3\n", "fault line 6 BadHex\n"),
+    ("total 3\n", "fault line 6 TotalWrong\n"),
+    ("total 2\n#\n", "fault line 7 TrailingText\n"),
+    ("", "fault line 6 Truncated\n"),
+];
+
+/// Its beginning.
+const REFUSED: &str =
+    "tftp-capture 1\nend client\nservice 69\nout 40000 69 000161006f6374657400\nin 40000 41000 000300026869\n";
+
+/// Fails unless that text with this end is refused, and `show` says the fault.
+fn is_refused_before(rt: &HostRuntime, end: &str, fault: &str) -> Result<(), Fail> {
+    let text = joined(rt.alloc(), REFUSED, end)?;
+    let shown = joined(rt.alloc(), "1 out RRQ\n2 in DATA 2 2\n", fault)?;
+    let refused = "refused datagram 2 rule 22 WindowOverrun\n";
+    is_refused_and_shown(rt, text.as_bytes(), refused, (shown.as_str(), 2))
+}
+
+/// Two texts as one.
+fn joined(alloc: Global, start: &str, end: &str) -> Result<String, AllocError> {
+    let mut text = String::from_str(alloc, start)?;
+    text.push_str(end)?;
+    Ok(text)
 }
 
 /// A datagram that breaks a rule comes before a fault of a later line, and `show` judges nothing.
 #[test]
 fn a_refusal_comes_before_a_later_fault(rt: HostRuntime) -> Result<(), Fail> {
-    let refused = "refused datagram 2 rule 22 WindowOverrun\n";
-    let shown = "1 out RRQ\n2 in DATA 2 2\n";
-    let start = format!(in rt.alloc();
-        "{START}out 40000 69 000161006f6374657400\nin 40000 41000 000300026869\n"
-    )?;
-    let cases = [
-        ("out 40000 41000 0\ntotal 3\n", "fault line 6 BadHex\n"),
-        ("total 3\n", "fault line 6 TotalWrong\n"),
-        ("total 2\n#\n", "fault line 7 TrailingText\n"),
-        ("", "fault line 6 Truncated\n"),
-    ];
-    for (rest, fault) in cases {
-        let text = format!(in rt.alloc(); "{start}{rest}")?;
-        says(&rt, "check", text.as_bytes(), refused, 1)?;
-        let all = format!(in rt.alloc(); "{shown}{fault}")?;
-        says(&rt, "show", text.as_bytes(), all.as_str(), 2)?;
+    for (end, fault) in LATER_FAULTS {
+        is_refused_before(&rt, end, fault)?;
     }
     Ok(())
 }

@@ -31,17 +31,34 @@ tftp-audit|
 tftp-audit|--
 tftp-audit|check ";
 
+/// Fails unless the words between the bars are no command.
+fn is_no_command_line(rt: &HostRuntime, line: &str) -> Result<(), Fail> {
+    let mut words = Vec::new(rt.alloc());
+    for word in line.split('|') {
+        words.push(word)?;
+    }
+    is_no_command(rt, words.as_slice())
+}
+
 #[test]
 fn words_that_are_no_command(rt: HostRuntime) -> Result<(), Fail> {
     is_no_command(&rt, &[])?;
     for line in WORDS.lines() {
-        let mut words = Vec::new(rt.alloc());
-        for word in line.split('|') {
-            words.push(word)?;
-        }
-        is_no_command(&rt, words.as_slice())?;
+        is_no_command_line(&rt, line)?;
     }
     Ok(())
+}
+
+/// Fails unless a program of this name checks the text.
+fn checks(rt: &HostRuntime, name: &str, text: &[u8]) -> Result<(), Fail> {
+    let reader = DripReader::new(text, 100, 0, None);
+    let writer = DripWriter::new(rt.alloc(), 100, 100, 0, false)?;
+    has_said(
+        &ran(rt, &[name, "check"], reader, writer),
+        ACCEPTED,
+        0,
+        false,
+    )
 }
 
 /// The program's name is any word.
@@ -49,14 +66,7 @@ fn words_that_are_no_command(rt: HostRuntime) -> Result<(), Fail> {
 fn any_name_of_the_program(rt: HostRuntime) -> Result<(), Fail> {
     let text = read_of_hi(rt.alloc())?;
     for name in ["", "check", "--help", "/usr/bin/tftp-audit"] {
-        let reader = DripReader::new(text.as_bytes(), 100, 0, None);
-        let writer = DripWriter::new(rt.alloc(), 100, 100, 0, false)?;
-        has_said(
-            &ran(&rt, &[name, "check"], reader, writer),
-            ACCEPTED,
-            0,
-            false,
-        )?;
+        checks(&rt, name, text.as_bytes())?;
     }
     Ok(())
 }

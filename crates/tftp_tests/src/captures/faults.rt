@@ -13,13 +13,23 @@ const NO_MORE: (u8, usize) = (b' ', 0);
 
 /// Fails unless each changed line of the text has that fault.
 fn all_have(rt: &HostRuntime, whole: &[u8], fault: TextFault, lines: &[Line]) -> Result<(), Fail> {
-    for (number, start, (byte, count)) in lines {
-        let line = long(rt, start, *byte, *count)?;
-        let text = changed_in(rt, whole, *number, line.as_slice())?;
-        let found = CaptureFault::Text(*number as u64, fault);
-        gives(rt, text.as_slice(), Err(found))?;
+    for line in lines {
+        has(rt, whole, fault, line)?;
     }
     Ok(())
+}
+
+/// Fails unless the changed line of the text has that fault.
+fn has(
+    rt: &HostRuntime,
+    whole: &[u8],
+    fault: TextFault,
+    (number, start, (byte, count)): &Line,
+) -> Result<(), Fail> {
+    let line = long(rt, start, *byte, *count)?;
+    let text = changed_in(rt, whole, *number, line.as_slice())?;
+    let found = CaptureFault::Text(*number as u64, fault);
+    gives(rt, text.as_slice(), Err(found))
 }
 
 #[test]

@@ -1,6 +1,9 @@
-ghost use Rattle.std.specs.Prelude.{◌≡◌, false};
+ghost use Rattle.std.specs.Prelude.{◌≡◌, false, true};
+ghost use Rattle.tftp_capture.specs.History.{IsReadStanding};
 
-use super::{READ, Sound, all_pass, changed_in, gives};
+use super::{
+    READ, Sound, Written, all_pass, begun, changed_in, gives, gives_or_wants, has_written,
+};
 use std::alloc::Global;
 use std::test::Fail;
 use tftp_capture::{
@@ -44,16 +47,29 @@ fn lines_of_version_2_without_a_fault(rt: HostRuntime) -> Result<(), Fail> {
     all_pass(&rt, NAMED, &SOUND)
 }
 
+/// Whether the next datagram has this host.
+fn is_next(
+    rt: &HostRuntime,
+    capture: &mut CaptureReader,
+    reader: &mut Tallied<DripReader<'_>>,
+    host: &[u8],
+) -> bool
+    requires told { IsReadStanding capture.old.standing → reader.old.1 ≡ true }
+    ensures told { IsReadStanding capture.new.standing → reader.new.1 ≡ true }
+{
+    match capture.next(rt.alloc(), reader) {
+        Ok(Some(datagram)) => datagram.remote_host.bytes() == host,
+        _ => false,
+    }
+}
+
 /// Fails unless the datagrams have these hosts, in order.
 fn names(rt: &HostRuntime, text: &[u8], hosts: &[&[u8]]) -> Result<(), Fail> {
     let mut reader = Tallied::new(DripReader::new(text, 7, 0, None));
-    let Ok(mut capture) = CaptureReader::begin(rt.alloc(), &mut reader) else {
-        return Err(Fail::new("begin"));
-    };
+    let mut capture = begun(rt, &mut reader)?;
     for host in hosts {
-        match capture.next(rt.alloc(), &mut reader) {
-            Ok(Some(datagram)) if datagram.remote_host.bytes() == *host => {}
-            _ => return Err(Fail::from("host")),
+        if !is_next(rt, &mut capture, &mut reader, host) {
+            return Err(Fail::from("host"));
         }
     }
     Ok(())
@@ -66,25 +82,24 @@ fn hosts_are_those_of_their_lines(rt: HostRuntime) -> Result<(), Fail> {
     names(&rt, READ, &[b"-", b"-", b"-"])
 }
 
+/// Fails unless the first datagram's line is wrong in a text whose first line is this.
+fn is_of_another_version(rt: &HostRuntime, whole: &[u8], line: &[u8]) -> Result<(), Fail> {
+    let text = changed_in(rt, whole, 1, line)?;
+    let fault = CaptureFault::Text(4, TextFault::BadLine);
+    gives(rt, text.as_slice(), Err(fault))
+}
+
 /// A text whose first line is that of the other version.
 #[test]
 fn texts_of_another_version(rt: HostRuntime) -> Result<(), Fail> {
-    for (whole, line) in [(READ, b"tftp-capture 2"), (NAMED, b"tftp-capture 1")] {
-        let text = changed_in(&rt, whole, 1, line)?;
-        let fault = CaptureFault::Text(4, TextFault::BadLine);
-        gives(&rt, text.as_slice(), Err(fault))?;
-    }
-    Ok(())
+    is_of_another_version(&rt, READ, b"tftp-capture 2")?;
+    is_of_another_version(&rt, NAMED, b"tftp-capture 1")
 }
 
 /// With a growth refused the answer is the text's own, or want of memory on one of its lines.
 #[test]
-fn texts_of_version_2_with_a_growth_refused(rt: HostRuntime) {
-    let mut reader = Tallied::new(DripReader::new(NAMED, 1, 0, None));
-    match super::outcome(&rt, &mut reader) {
-        Err(CaptureFault::Memory(line)) => assert!(rt; 1 <= line && line <= 7),
-        found => assert_eq!(rt; found, Ok((3, 15))),
-    }
+fn texts_of_version_2_with_a_growth_refused(rt: HostRuntime) -> Result<(), Fail> {
+    gives_or_wants(&rt, NAMED, Ok((3, 15)), 7)
 }
 
 /// Writes the text of `NAMED`.
@@ -109,16 +124,22 @@ fn write_named(
     capture.close(writer)
 }
 
+/// Writes the text of `NAMED` there.
+fn named_written(rt: &HostRuntime, drip: DripWriter, host: &Host) -> Written {
+    let mut writer = Tallied::new(drip);
+    let answer = write_named(rt.alloc(), &mut writer, host);
+    let failed = writer.failed();
+    (writer.into_inner(), answer, failed)
+}
+
 #[test]
 fn a_read_with_its_hosts_is_written(rt: HostRuntime) -> Result<(), Fail> {
     let Some(host) = Host::new(b"10.0.0.1") else {
         return Err(Fail::new("host"));
     };
     for piece in [usize::MAX, 1, 5] {
-        let mut writer = Tallied::new(DripWriter::new(rt.alloc(), NAMED.len(), piece, 0, false)?);
-        assert_eq!(rt; write_named(rt.alloc(), &mut writer, &host), Ok(()));
-        assert!(rt; !writer.failed());
-        assert_eq!(rt; writer.into_inner().taken(), NAMED);
+        let drip = DripWriter::new(rt.alloc(), NAMED.len(), piece, 0, false)?;
+        has_written(&named_written(&rt, drip, &host), Ok(()), NAMED)?;
     }
     Ok(())
 }

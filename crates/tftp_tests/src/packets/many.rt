@@ -1,9 +1,9 @@
 //! OACKs of many options: names that are found by their hashes, and names that are sorted since their hashes are alike.
 
-use super::fault_of;
-use crate::views::oack_of;
+use super::{fault_of, owned_oack_of};
+use crate::views::{is_so, oack_of};
 use std::test::Fail;
-use tftp_packet::{PacketFault, own_options, same_options};
+use tftp_packet::{Options, PacketFault, same_options};
 
 /// 70 names of five letters whose hashes begin at one slot, found by a program of its own.
 const ALIKE: &[u8] =
@@ -43,49 +43,86 @@ fn holds_each_once(payload: &mut Vec<u8>, count: usize, twice: &[u8]) -> Result<
     }
 }
 
+/// Fails unless an OACK of so many options holds each name once.
+fn all_stand_once(rt: &HostRuntime, count: u32, twice: &[u8]) -> Result<(), Fail> {
+    let mut payload = oack(rt, count)?;
+    holds_each_once(&mut payload, count as usize, twice)
+}
+
 #[test]
 fn each_name_stands_once(rt: HostRuntime) -> Result<(), Fail> {
     for count in [8, 9, 64, 65, 120, 4_096, 4_097, 10_000] {
-        for twice in [b"AAA\x00\x00".as_slice(), b"aaH\x00\x00"] {
-            holds_each_once(&mut oack(&rt, count)?, count as usize, twice)?;
+        all_stand_once(&rt, count, b"AAA\x00\x00")?;
+        all_stand_once(&rt, count, b"aaH\x00\x00")?;
+    }
+    Ok(())
+}
+
+/// Appends the names whose hashes are alike, without a value.
+fn add_alike(payload: &mut Vec<u8>) -> Result<(), Fail> {
+    for name in ALIKE.chunks(5) {
+        payload.extend_from_slice(name)?;
+        payload.extend_from_slice(b"\x00\x00")?;
+    }
+    Ok(())
+}
+
+/// Fails unless an OACK of those and of so many others holds each name once.
+fn alike_stand_once(rt: &HostRuntime, count: u32, twice: &[u8]) -> Result<(), Fail> {
+    let mut payload = Vec::from_slice(rt.alloc(), b"\x00\x06")?;
+    add_alike(&mut payload)?;
+    add_options(&mut payload, count)?;
+    holds_each_once(&mut payload, (count as usize).saturating_add(70), twice)
+}
+
+/// Options that come twice.
+const TWICE: [&[u8]; 4] = [
+    b"AAYQK\x00\x00",
+    b"bjvrb\x00\x00",
+    b"AAA\x00\x00",
+    b"aac\x00\x00",
+];
+
+#[test]
+fn names_of_one_hash_stand_once(rt: HostRuntime) -> Result<(), Fail> {
+    for count in [3, 1_017, 1_018, 1_019, 3_000] {
+        for twice in TWICE {
+            alike_stand_once(&rt, count, twice)?;
         }
     }
     Ok(())
 }
 
-#[test]
-fn names_of_one_hash_stand_once(rt: HostRuntime) -> Result<(), Fail> {
-    for count in [3, 1_017, 1_018, 1_019, 3_000] {
-        for twice in [
-            b"AAYQK\x00\x00".as_slice(),
-            b"bjvrb\x00\x00",
-            b"AAA\x00\x00",
-            b"aac\x00\x00",
-        ] {
-            let mut payload = Vec::from_slice(rt.alloc(), b"\x00\x06")?;
-            for name in ALIKE.chunks(5) {
-                payload.extend_from_slice(name)?;
-                payload.extend_from_slice(b"\x00\x00")?;
-            }
-            add_options(&mut payload, count)?;
-            holds_each_once(&mut payload, 70 + count as usize, twice)?;
-        }
-    }
-    Ok(())
+/// Whether the options are so many, with `aac` and without `zzz`.
+fn has_names(options: &Options, count: usize) -> bool {
+    options.len() == count && options.get(b"AAC").is_some() && options.get(b"zzz").is_none()
+}
+
+/// Whether the options are those of a payload.
+fn are_options_of(options: &Options, payload: &[u8]) -> Result<bool, Fail> {
+    Ok(same_options(options, &oack_of(payload)?))
+}
+
+/// Fails unless so many options are owned, and not the same as one fewer.
+fn are_owned(rt: &HostRuntime, count: u32) -> Result<(), Fail> {
+    let payload = oack(rt, count)?;
+    let options = owned_oack_of(rt, payload.as_slice())?;
+    is_so(has_names(&options, count as usize), "other names")?;
+    is_so(
+        are_options_of(&options, payload.as_slice())?,
+        "other options",
+    )?;
+    let fewer = oack(rt, count.saturating_sub(1))?;
+    is_so(
+        !are_options_of(&options, fewer.as_slice())?,
+        "the same as fewer",
+    )
 }
 
 #[test]
 fn many_options_are_owned(rt: HostRuntime) -> Result<(), Fail> {
     for count in [65, 120, 1_000] {
-        let payload = oack(&rt, count)?;
-        let view = oack_of(payload.as_slice())?;
-        let options = own_options(rt.alloc(), &view)?;
-        assert_eq!(rt; options.len(), count as usize);
-        assert!(rt; same_options(&options, &view));
-        assert!(rt; options.get(b"AAC").is_some());
-        assert!(rt; options.get(b"zzz").is_none());
-        let fewer = oack(&rt, count - 1)?;
-        assert!(rt; !same_options(&options, &oack_of(fewer.as_slice())?));
+        are_owned(&rt, count)?;
     }
     Ok(())
 }

@@ -4,6 +4,3 @@ use Rattle.tftp_tests.proofs.captures.fills.Given as goal
 
 abbrev pub invariant-loop-payload : goal.invariant-loop-payload
 invariant-loop-payload l = IsReadStanding l.capture.standing → l.reader.1 ≡ true
-
-abbrev pub invariant-loop : goal.invariant-loop
-invariant-loop l = IsReadStanding l.capture.standing → l.reader.1 ≡ true

@@ -3,4 +3,4 @@ use Rattle.tftp_capture.specs.History.{IsReadStanding}
 use Rattle.tftp_tests.proofs.captures.outcome.Given as goal
 
 abbrev pub invariant-loop : goal.invariant-loop
-invariant-loop g l = IsReadStanding l.capture.standing → l.reader.1 ≡ true
+invariant-loop l = IsReadStanding l.capture.standing → l.reader.1 ≡ true
