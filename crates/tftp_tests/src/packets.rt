@@ -1,5 +1,7 @@
 //! Packets and options: payloads and what they spell, and what is written.
 
+ghost use Rattle.tftp_packet.specs.Meaning.{HasStringMessage};
+
 use crate::views::{is_same, is_so, oack_of, owned_request_of, request_of};
 use std::alloc::AllocError;
 use std::test::Fail;
@@ -145,7 +147,9 @@ fn writes_a_request_canonically(rt: HostRuntime) -> Result<(), Fail> {
 }
 
 /// Fails unless this is written of a packet.
-fn is_written(rt: &HostRuntime, packet: &Packet<'_>, wanted: &[u8]) -> Result<(), Fail> {
+fn is_written(rt: &HostRuntime, packet: &Packet<'_>, wanted: &[u8]) -> Result<(), Fail>
+    requires { HasStringMessage packet.now }
+{
     let written = write_packet(rt.alloc(), packet)?;
     is_same(written.as_slice(), wanted)
 }
