@@ -173,7 +173,7 @@ either_is (Repeats x) other = or_talks_is (Repeats x) other
 either_is (Apart c) other = or_talks_is (Apart c) other
 either_is (Beside x) other = or_talks_is (Beside x) other
 
-client_end : (older : List Placed) (now : ℕ) (d : Recorded) → IsEndAt older now d (at_client older now d)
+pub client_end : (older : List Placed) (now : ℕ) (d : Recorded) → IsEndAt older now d (at_client older now d)
 client_end older now d =
     let one = place_at d.source d.target (live now (line d.source older)) d in
     let other = place_at d.target d.source (live now (line d.target older)) d in
@@ -187,7 +187,7 @@ client_end older now d =
 nowhere_end : (older : List Placed) (now : ℕ) (d : Recorded) → IsEndAt older now d Nowhere
 nowhere_end older now d = record { talks = λ x e. absurd (cc); apart = λ a e. absurd (cc); opens = λ x e. absurd (cc); repeats = λ x e. absurd (cc) }
 
-beside_end : (older : List Placed) (now : ℕ) (d : Recorded) (one other : Option Transfer) → IsEndAt older now d (beside_by one other)
+pub beside_end : (older : List Placed) (now : ℕ) (d : Recorded) (one other : Option Transfer) → IsEndAt older now d (beside_by one other)
 beside_end older now d (Some y) other = record { talks = λ x e. absurd (cc); apart = λ a e. absurd (cc); opens = λ x e. absurd (cc); repeats = λ x e. absurd (cc) }
 beside_end older now d None (Some y) = record { talks = λ x e. absurd (cc); apart = λ a e. absurd (cc); opens = λ x e. absurd (cc); repeats = λ x e. absurd (cc) }
 beside_end older now d None None = nowhere_end older now d

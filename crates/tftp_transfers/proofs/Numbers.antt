@@ -16,7 +16,7 @@ use Rattle.tftp_transfers.specs.Views.{is_about}
 use Rattle.tftp_transfers.specs.Doubts.{other_of, is_another, is_it, is_next_data, answer_of, may_be_answer_of, is_answered_apart}
 use Rattle.tftp_transfers.proofs.Lines.{by_test}
 use Rattle.tftp_transfers.proofs.AllLines.{line_here, line_elsewhere}
-use Rattle.tftp_transfers.proofs.Ends.{opened, again, asked_as, either_is, spoken, asked_place}
+use Rattle.tftp_transfers.proofs.Ends.{opened, again, asked_as, either_is, spoken, asked_place, beside_end, client_end}
 
 -- ---- places that name no transfer of this number or above
 
@@ -259,3 +259,36 @@ none_answers bound n up (p ∷ ps) all =
 
 pub none_answers_before : (named : List ℕ) (recorded : List Recorded) (n : ℕ) → length recorded ≤ n → is_answered_apart n (placed named recorded) ≡ false
 none_answers_before named recorded n up = none_answers (length recorded) n up (placed named recorded) (placed_below named recorded)
+
+-- ---- the number of an opening
+
+abbrev IsNumbered : ℕ → Place → Type 0
+IsNumbered number place = (x : Transfer) → place ≡ Opens x → x.number ≡ number
+
+asked_numbered : (older : List Placed) (now : ℕ) (d : Recorded) → IsNumbered (length older) (asked_place older now d)
+asked_numbered older now d = by (newest_of (λ p. not (is_apart p)) (live now (line d.source older))) refl where
+  opening : (place : Place) → place ≡ opened_by (length older) d → IsNumbered (length older) place
+  opening place is x e =
+      let both : opened_by (length older) d ≡ Opens x = sym is ∙ e in
+      let same : record { number = length older; client = d.source; asked = d.target } ≡ x = cc in sym (ap (λ z. z.number) same)
+
+  by : (found : Option Placed) → newest_of (λ p. not (is_apart p)) (live now (line d.source older)) ≡ found → IsNumbered (length older) (asked_place older now d)
+  by None none = opening (asked_place older now d) (rw none refl)
+  by (Some p) found =
+      let is : asked_place older now d ≡ asked_after (opened_by (length older) d) p.place (is_again p.datagram d) = rw found refl in
+      elim (asked_as p.place (is_again p.datagram d) (length older) d) [
+        | opened e ↦ opening (asked_place older now d) (is ∙ e)
+        | again y e of ↦ λ x opens. let both : Repeats y ≡ Opens x = sym (is ∙ e) ∙ opens in absurd (cc)
+      ]
+
+chosen_numbered : (number : ℕ) (b : Bool) (one other : Place) → IsNumbered number one → IsNumbered number other → IsNumbered number (if b then one else other)
+chosen_numbered number true one other is also = is
+chosen_numbered number false one other is also = also
+
+pub opening_number : (named : List ℕ) (older : List Placed) (now : ℕ) (d : Recorded) → IsNumbered (length older) (place_of named older now d)
+opening_number named older now d =
+    chosen_numbered (length older) (asks named older now d) (asked_place older now d) (if is_nowhere (at_client older now d) then beside named older now d else at_client older now d)
+    (asked_numbered older now d)
+    (chosen_numbered (length older) (is_nowhere (at_client older now d)) (beside named older now d) (at_client older now d)
+    (λ x e. absurd ((beside_end older now d (served_at named older now d.source) (served_at named older now d.target)).opens x e))
+    (λ x e. absurd ((client_end older now d).opens x e)))

@@ -122,6 +122,8 @@ pub fn a_transfers_own_datagrams_tell_its_views()
 
 /// A transfer's number is how many datagrams came before it was opened: none of those is about it or may be its answer.
 pub fn no_datagram_before_an_opening_is_about_it()
+    ensures number { (named : List ℕ) (older : List Placed) (now : ℕ) (d : Recorded) (x : Transfer)
+        → place_of named older now d ≡ Place.Opens x → x.number ≡ length older }
     ensures about { (named : List ℕ) (recorded : List Recorded) (n : ℕ) → length recorded ≤ n → All (λ (p : Placed). is_about n p ≡ false) (placed named recorded) }
     ensures answers { (named : List ℕ) (recorded : List Recorded) (n : ℕ) → length recorded ≤ n → is_answered_apart n (placed named recorded) ≡ false }
 {}
