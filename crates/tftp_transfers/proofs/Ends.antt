@@ -66,7 +66,7 @@ latest_at c ps x all is = by (newest_of opens ps) refl where
       let this : transfer_of p.place ≡ Some x = rw found at is in
       transfer_at c p.datagram p.moment p.place x (newest_at c opens ps p all found).0 this
 
-abbrev spoken : Endpoint → Endpoint → Placed → Bool
+abbrev pub spoken : Endpoint → Endpoint → Placed → Bool
 spoken c o p = not (is_request p) && is_between c o p.datagram
 
 talks_at : (c o : Endpoint) (ps : List Placed) (t : Talk) (x : Transfer) → AreAt c ps → talk_in c o ps ≡ Some t → t.transfer ≡ Some x → x.client ≡ c
@@ -165,7 +165,7 @@ or_talks_is one (Apart c) = inl refl
 or_talks_is one (Beside x) = inl refl
 or_talks_is one Nowhere = inl refl
 
-either_is : (one other : Place) → (either one other ≡ one) ⊎ (either one other ≡ other)
+pub either_is : (one other : Place) → (either one other ≡ one) ⊎ (either one other ≡ other)
 either_is (Talks x) other = inl refl
 either_is Nowhere other = inr refl
 either_is (Opens x) other = or_talks_is (Opens x) other
@@ -173,7 +173,7 @@ either_is (Repeats x) other = or_talks_is (Repeats x) other
 either_is (Apart c) other = or_talks_is (Apart c) other
 either_is (Beside x) other = or_talks_is (Beside x) other
 
-client_end : (older : List Placed) (now : ℕ) (d : Recorded) → IsEndAt older now d (at_client older now d)
+pub client_end : (older : List Placed) (now : ℕ) (d : Recorded) → IsEndAt older now d (at_client older now d)
 client_end older now d =
     let one = place_at d.source d.target (live now (line d.source older)) d in
     let other = place_at d.target d.source (live now (line d.target older)) d in
@@ -187,7 +187,7 @@ client_end older now d =
 nowhere_end : (older : List Placed) (now : ℕ) (d : Recorded) → IsEndAt older now d Nowhere
 nowhere_end older now d = record { talks = λ x e. absurd (cc); apart = λ a e. absurd (cc); opens = λ x e. absurd (cc); repeats = λ x e. absurd (cc) }
 
-beside_end : (older : List Placed) (now : ℕ) (d : Recorded) (one other : Option Transfer) → IsEndAt older now d (beside_by one other)
+pub beside_end : (older : List Placed) (now : ℕ) (d : Recorded) (one other : Option Transfer) → IsEndAt older now d (beside_by one other)
 beside_end older now d (Some y) other = record { talks = λ x e. absurd (cc); apart = λ a e. absurd (cc); opens = λ x e. absurd (cc); repeats = λ x e. absurd (cc) }
 beside_end older now d None (Some y) = record { talks = λ x e. absurd (cc); apart = λ a e. absurd (cc); opens = λ x e. absurd (cc); repeats = λ x e. absurd (cc) }
 beside_end older now d None None = nowhere_end older now d
@@ -214,7 +214,7 @@ chosen_as : (place : Place) (x : Transfer) (b : Bool) (number : ℕ) (d : Record
 chosen_as place x true number d is = again x refl is
 chosen_as place x false number d is = opened refl
 
-asked_as : (place : Place) (b : Bool) (number : ℕ) (d : Recorded) → IsAskedAs place (asked_after (opened_by number d) place b) number d
+pub asked_as : (place : Place) (b : Bool) (number : ℕ) (d : Recorded) → IsAskedAs place (asked_after (opened_by number d) place b) number d
 asked_as (Opens x) b number d = chosen_as (Opens x) x b number d refl
 asked_as (Repeats x) b number d = chosen_as (Repeats x) x b number d refl
 asked_as (Talks x) b number d = opened refl

@@ -8,3 +8,4 @@ pub mod Serving
 pub mod Doubting
 pub mod Seeing
 pub mod OwnDatagrams
+pub mod Numbers

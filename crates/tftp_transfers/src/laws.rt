@@ -1,11 +1,12 @@
 //! Laws of the definitions in `specs/`. Each is the contract of a function that does nothing.
 
-ghost use Rattle.std.specs.Prelude.{◌≡◌, ◌≢◌, ◌⊎◌, ℕ, List, true, false, [], ◌∷◌, codes, filter};
+ghost use Rattle.std.specs.Prelude.{◌≡◌, ◌≢◌, ◌⊎◌, ◌≤◌, ℕ, List, true, false, [], ◌∷◌, codes, filter, length};
+ghost use Rattle.std.specs.List.{All};
 ghost use Rattle.tftp_transfers.specs.Recording.{Recorded};
-ghost use Rattle.tftp_transfers.specs.Places.{Placed, live, line, place_of};
+ghost use Rattle.tftp_transfers.specs.Places.{Placed, live, line, place_of, placed};
 ghost use Rattle.tftp_transfers.specs.Settled.{is_settled};
 ghost use Rattle.tftp_transfers.specs.Views.{client_view, is_about, is_at_server, is_of, server_of, server_view};
-ghost use Rattle.tftp_transfers.specs.Doubts.{is_beside};
+ghost use Rattle.tftp_transfers.specs.Doubts.{is_answered_apart, is_beside};
 ghost use Rattle.tftp_transfers.specs.declared.place.Place.{Place};
 ghost use Rattle.tftp_transfers.specs.declared.place.Transfer.{Transfer};
 ghost use Rattle.tftp_transfers.specs.Worked.{
@@ -117,4 +118,12 @@ pub fn a_transfers_own_datagrams_tell_its_views()
     ensures at_server { (n : ℕ) (placed : List Placed) (p : Placed) → is_at_server n (filter (is_of n) placed) p ≡ is_at_server n placed p }
     ensures client_view { (n : ℕ) (placed : List Placed) → client_view n (filter (is_about n) placed) ≡ client_view n placed }
     ensures server_view { (n : ℕ) (placed : List Placed) → server_view n (filter (is_about n) placed) ≡ server_view n placed }
+{}
+
+/// A transfer's number is how many datagrams came before it was opened: none of those is about it or may be its answer.
+pub fn no_datagram_before_an_opening_is_about_it()
+    ensures number { (named : List ℕ) (older : List Placed) (now : ℕ) (d : Recorded) (x : Transfer)
+        → place_of named older now d ≡ Place.Opens x → x.number ≡ length older }
+    ensures about { (named : List ℕ) (recorded : List Recorded) (n : ℕ) → length recorded ≤ n → All (λ (p : Placed). is_about n p ≡ false) (placed named recorded) }
+    ensures answers { (named : List ℕ) (recorded : List Recorded) (n : ℕ) → length recorded ≤ n → is_answered_apart n (placed named recorded) ≡ false }
 {}
