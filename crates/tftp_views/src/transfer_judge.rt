@@ -1,7 +1,8 @@
 //! The judges of a transfer's two ends, beside each other.
 
-ghost use Rattle.std.specs.Prelude.{◌≡◌, ◌+◌, ◌^◌, ◌<◌, ◌≤◌, ◌∷◌, ℕ, List, [], length, IsErr, OnOk, OnErr, true, false};
+ghost use Rattle.std.specs.Prelude.{◌≡◌, ◌+◌, ◌^◌, ◌<◌, ◌≤◌, ◌∷◌, ℕ, List, [], length, IsErr, OnOk, OnErr, Ok, true, false};
 ghost use Rattle.tftp_transfers.specs.Places.{Placed};
+ghost use Rattle.tftp_transfers.specs.Views.{is_about};
 ghost use Rattle.tftp_views.specs.Captured.{Naming, client_capture, client_header, server_capture, server_header};
 ghost use Rattle.tftp_views.specs.Judged.{IsJudgedWith};
 ghost use Rattle.tftp_views.specs.Kept.{AreBothAfter, IsFed, fed_to};
@@ -75,6 +76,9 @@ impl<D: Delivered + Drop> TransferJudge<D> {
         requires short { length payload.now ≤ 65527 }
         ensures after { (name : Naming) (p : Placed) (older : List Placed) → AreBothAfter self.old name older
             → IsFed name p place.now source.now target.now payload.now → OnOk result (AreBothAfter self.new name (p ∷ older)) }
+        ensures others { (p : Placed) → place.now ≡ p.place → self.old.client.transfer ≡ self.old.server.transfer
+            → is_about self.old.server.transfer.number p ≡ false → self.old.failed ≡ false
+            → (result ≡ Ok tt) × (self.new ≡ self.old) }
         ensures fails { OnErr result (self.new.failed ≡ true) }
         ensures for_good { self.old.failed ≡ true → IsErr result }
         ensures client { self.new.client.transfer ≡ self.old.client.transfer }
