@@ -91,16 +91,17 @@ fn has_answer<D: Delivered + Drop>(
     }
 }
 
-/// Fails unless the judge answers so to each datagram, in turn.
+/// Fails unless the judge answers so to each datagram, in turn, and has counted so many then.
 fn all_have_answers<D: Delivered + Drop>(
     alloc: Global,
     judge: &mut Judge<D>,
     rows: &[Row],
+    count: u64,
 ) -> Result<(), Fail> {
     for row in rows {
         has_answer(alloc, judge, *row)?;
     }
-    Ok(())
+    has_fed(judge, count)
 }
 
 /// Fails unless the judge has counted so many datagrams.
@@ -122,8 +123,14 @@ const REFUSED: [Row; 3] = [
     ((Dir::In, 41000, HI), Err(OVERRUN)),
 ];
 
-/// Fails unless the end of a judge is that refusal.
-fn is_overrun<D: Delivered + Drop>(alloc: Global, judge: Judge<D>) -> Result<(), Fail> {
+/// Fails as the answers before did, or unless the end of a judge is that refusal. A judge is let go in such functions
+/// alone, since that is dear to prove.
+fn is_overrun<D: Delivered + Drop>(
+    alloc: Global,
+    judge: Judge<D>,
+    answers: Result<(), Fail>,
+) -> Result<(), Fail> {
+    answers?;
     match judge.finish(alloc) {
         Err(Refusal::Unlawful(2, Rule::WindowOverrun)) => Ok(()),
         _ => Err(Fail::new("another end")),
@@ -133,9 +140,8 @@ fn is_overrun<D: Delivered + Drop>(alloc: Global, judge: Judge<D>) -> Result<(),
 /// A refusal is answered for good, and counts no datagram.
 fn refuses_for_good<D: Delivered + Drop>(alloc: Global) -> Result<(), Fail> {
     let mut judge = begun::<D>(alloc);
-    all_have_answers(alloc, &mut judge, &REFUSED)?;
-    has_fed(&judge, 1)?;
-    is_overrun(alloc, judge)
+    let answers = all_have_answers(alloc, &mut judge, &REFUSED, 1);
+    is_overrun(alloc, judge, answers)
 }
 
 #[test]
@@ -152,8 +158,13 @@ const READ_OF_HI: [Row; 4] = [
     ((Dir::Out, 41000, ACK_1), Ok(())),
 ];
 
-/// Fails unless a judge accepts the file `hi` at the end.
-fn accepts_hi<D: Delivered + Drop>(alloc: Global, judge: Judge<D>) -> Result<(), Fail> {
+/// Fails as the answers before did, or unless a judge accepts the file `hi` at the end.
+fn accepts_hi<D: Delivered + Drop>(
+    alloc: Global,
+    judge: Judge<D>,
+    answers: Result<(), Fail>,
+) -> Result<(), Fail> {
+    answers?;
     match judge.finish(alloc) {
         Ok(meaning) => is_hi(meaning.file()),
         Err(refusal) => Err(other(Err(refusal))),
@@ -172,9 +183,8 @@ fn is_hi(file: &[u8]) -> Result<(), Fail> {
 /// The read of `hi` is accepted, and each datagram counts, strays too.
 fn accepts<D: Delivered + Drop>(alloc: Global) -> Result<(), Fail> {
     let mut judge = begun::<D>(alloc);
-    all_have_answers(alloc, &mut judge, &READ_OF_HI)?;
-    has_fed(&judge, 4)?;
-    accepts_hi(alloc, judge)
+    let answers = all_have_answers(alloc, &mut judge, &READ_OF_HI, 4);
+    accepts_hi(alloc, judge, answers)
 }
 
 #[test]

@@ -195,6 +195,13 @@ fn is_cut(rt: &HostRuntime, reading: &mut Reading<'_>) -> Result<(), Fail> {
     }
 }
 
+/// Fails unless so many frames are read, and that fault is answered for good.
+fn is_cut_after(rt: &HostRuntime, reading: &mut Reading<'_>, count: u32) -> Result<(), Fail> {
+    has_frames(rt, reading, count, true)?;
+    is_cut(rt, reading)?;
+    is_cut(rt, reading)
+}
+
 /// A recording that is cut within its last record has a fault there for good, and the frames before it.
 #[test]
 fn a_cut_recording_has_the_frames_before(rt: HostRuntime) -> Result<(), Fail> {
@@ -202,7 +209,5 @@ fn a_cut_recording_has_the_frames_before(rt: HostRuntime) -> Result<(), Fail> {
         return Err(Fail::new("empty"));
     };
     let mut reading = begun(&rt, front, 5)?;
-    has_frames(&rt, &mut reading, 11, true)?;
-    is_cut(&rt, &mut reading)?;
-    is_cut(&rt, &mut reading)
+    is_cut_after(&rt, &mut reading, 11)
 }
