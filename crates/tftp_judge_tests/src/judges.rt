@@ -1,10 +1,11 @@
 //! The judge itself, datagram by datagram.
 
+use crate::verdicts::finished;
 use std::alloc::{AllocError, Global};
 use std::test::Fail;
 use tftp_capture::{Datagram, Header};
 use tftp_ends::{Delivered, MapDelivered, RingDelivered};
-use tftp_judge::{Judge, Refusal, Rule};
+use tftp_judge::{Judge, Meaning, Refusal, Rule};
 use tftp_packet::{Bytes, Dir, End, Host};
 
 /// At the client, whose server is asked at port 69.
@@ -123,15 +124,9 @@ const REFUSED: [Row; 3] = [
     ((Dir::In, 41000, HI), Err(OVERRUN)),
 ];
 
-/// Fails as the answers before did, or unless the end of a judge is that refusal. A judge is let go in such functions
-/// alone, since that is dear to prove.
-fn is_overrun<D: Delivered + Drop>(
-    alloc: Global,
-    judge: Judge<D>,
-    answers: Result<(), Fail>,
-) -> Result<(), Fail> {
-    answers?;
-    match judge.finish(alloc) {
+/// Fails unless the end of a judge is that refusal.
+fn is_overrun(end: Result<Meaning, Refusal>) -> Result<(), Fail> {
+    match end {
         Err(Refusal::Unlawful(2, Rule::WindowOverrun)) => Ok(()),
         _ => Err(Fail::new("another end")),
     }
@@ -141,7 +136,9 @@ fn is_overrun<D: Delivered + Drop>(
 fn refuses_for_good<D: Delivered + Drop>(alloc: Global) -> Result<(), Fail> {
     let mut judge = begun::<D>(alloc);
     let answers = all_have_answers(alloc, &mut judge, &REFUSED, 1);
-    is_overrun(alloc, judge, answers)
+    let end = finished(alloc, judge);
+    answers?;
+    is_overrun(end)
 }
 
 #[test]
@@ -158,14 +155,9 @@ const READ_OF_HI: [Row; 4] = [
     ((Dir::Out, 41000, ACK_1), Ok(())),
 ];
 
-/// Fails as the answers before did, or unless a judge accepts the file `hi` at the end.
-fn accepts_hi<D: Delivered + Drop>(
-    alloc: Global,
-    judge: Judge<D>,
-    answers: Result<(), Fail>,
-) -> Result<(), Fail> {
-    answers?;
-    match judge.finish(alloc) {
+/// Fails unless a judge accepts the file `hi` at the end.
+fn accepts_hi(end: Result<Meaning, Refusal>) -> Result<(), Fail> {
+    match end {
         Ok(meaning) => is_hi(meaning.file()),
         Err(refusal) => Err(other(Err(refusal))),
     }
@@ -184,7 +176,9 @@ fn is_hi(file: &[u8]) -> Result<(), Fail> {
 fn accepts<D: Delivered + Drop>(alloc: Global) -> Result<(), Fail> {
     let mut judge = begun::<D>(alloc);
     let answers = all_have_answers(alloc, &mut judge, &READ_OF_HI, 4);
-    accepts_hi(alloc, judge, answers)
+    let end = finished(alloc, judge);
+    answers?;
+    accepts_hi(end)
 }
 
 #[test]
