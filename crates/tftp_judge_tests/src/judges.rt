@@ -1,10 +1,11 @@
 //! The judge itself, datagram by datagram.
 
+use crate::verdicts::finished;
 use std::alloc::{AllocError, Global};
 use std::test::Fail;
 use tftp_capture::{Datagram, Header};
 use tftp_ends::{Delivered, MapDelivered, RingDelivered};
-use tftp_judge::{Judge, Refusal, Rule};
+use tftp_judge::{Judge, Meaning, Refusal, Rule};
 use tftp_packet::{Bytes, Dir, End, Host};
 
 /// At the client, whose server is asked at port 69.
@@ -66,37 +67,78 @@ fn answer<D: Delivered + Drop>(
     Ok(fed(alloc, judge, &datagram))
 }
 
+/// A datagram by its way, the port at the other side and its payload, and what is answered to it.
+type Row = ((Dir, u16, &'static [u8]), Result<(), Refusal>);
+
+/// Want of memory as the tests tell it, and any other answer.
+fn other(found: Result<(), Refusal>) -> Fail {
+    match found {
+        Err(Refusal::Memory(_)) => Fail::new("want of memory"),
+        _ => Fail::new("another answer"),
+    }
+}
+
+/// Fails unless the judge answers so to a datagram.
+fn has_answer<D: Delivered + Drop>(
+    alloc: Global,
+    judge: &mut Judge<D>,
+    (datagram, wanted): Row,
+) -> Result<(), Fail> {
+    let found = answer(alloc, judge, datagram)?;
+    if found == wanted {
+        Ok(())
+    } else {
+        Err(other(found))
+    }
+}
+
+/// Fails unless the judge answers so to each datagram, in turn, and has counted so many then.
+fn all_have_answers<D: Delivered + Drop>(
+    alloc: Global,
+    judge: &mut Judge<D>,
+    rows: &[Row],
+    count: u64,
+) -> Result<(), Fail> {
+    for row in rows {
+        has_answer(alloc, judge, *row)?;
+    }
+    has_fed(judge, count)
+}
+
+/// Fails unless the judge has counted so many datagrams.
+fn has_fed<D: Delivered + Drop>(judge: &Judge<D>, count: u64) -> Result<(), Fail> {
+    if judge.fed() == count {
+        Ok(())
+    } else {
+        Err(Fail::new("another count"))
+    }
+}
+
 /// The refusal of block 2 before block 1.
 const OVERRUN: Refusal = Refusal::Unlawful(2, Rule::WindowOverrun);
 
-/// Datagrams, and what is answered to each.
-const REFUSED: [((Dir, u16, &[u8]), Result<(), Refusal>); 3] = [
+/// A refusal is answered for good.
+const REFUSED: [Row; 3] = [
     ((Dir::Out, 69, READ), Ok(())),
     ((Dir::In, 41000, BLOCK_2), Err(OVERRUN)),
     ((Dir::In, 41000, HI), Err(OVERRUN)),
 ];
 
-/// Whether the end of a judge is that refusal.
-fn is_overrun<D: Delivered + Drop>(alloc: Global, judge: Judge<D>) -> bool {
-    match judge.finish(alloc) {
-        Ok(_) => false,
-        Err(refusal) => refusal == OVERRUN,
+/// Fails unless the end of a judge is that refusal.
+fn is_overrun(end: Result<Meaning, Refusal>) -> Result<(), Fail> {
+    match end {
+        Err(Refusal::Unlawful(2, Rule::WindowOverrun)) => Ok(()),
+        _ => Err(Fail::new("another end")),
     }
 }
 
 /// A refusal is answered for good, and counts no datagram.
 fn refuses_for_good<D: Delivered + Drop>(alloc: Global) -> Result<(), Fail> {
     let mut judge = begun::<D>(alloc);
-    for (datagram, wanted) in REFUSED {
-        if answer(alloc, &mut judge, datagram)? != wanted {
-            return Err(Fail::new("another answer"));
-        }
-    }
-    if judge.fed() == 1 && is_overrun(alloc, judge) {
-        Ok(())
-    } else {
-        Err(Fail::new("another end"))
-    }
+    let answers = all_have_answers(alloc, &mut judge, &REFUSED, 1);
+    let end = finished(alloc, judge);
+    answers?;
+    is_overrun(end)
 }
 
 #[test]
@@ -105,48 +147,38 @@ fn refusals_are_for_good(rt: HostRuntime) -> Result<(), Fail> {
     refuses_for_good::<RingDelivered>(rt.alloc())
 }
 
-/// The datagrams of the read of `hi`, with a stray: the way, the port at the other side and the payload of each.
-const READ_OF_HI: [(Dir, u16, &[u8]); 4] = [
-    (Dir::Out, 69, READ),
-    (Dir::In, 41000, HI),
-    (Dir::In, 42000, HI),
-    (Dir::Out, 41000, ACK_1),
+/// The read of `hi`, with a stray.
+const READ_OF_HI: [Row; 4] = [
+    ((Dir::Out, 69, READ), Ok(())),
+    ((Dir::In, 41000, HI), Ok(())),
+    ((Dir::In, 42000, HI), Ok(())),
+    ((Dir::Out, 41000, ACK_1), Ok(())),
 ];
 
-/// Want of memory as the tests tell it, and any other refusal.
-fn refused(refusal: Refusal) -> Fail {
-    match refusal {
-        Refusal::Memory(_) => Fail::new("want of memory"),
-        _ => Fail::new("refused"),
+/// Fails unless a judge accepts the file `hi` at the end.
+fn accepts_hi(end: Result<Meaning, Refusal>) -> Result<(), Fail> {
+    match end {
+        Ok(meaning) => is_hi(meaning.file()),
+        Err(refusal) => Err(other(Err(refusal))),
     }
 }
 
-/// Fails unless a judge accepts the file `hi` at the end.
-fn accepts_hi<D: Delivered + Drop>(alloc: Global, judge: Judge<D>) -> Result<(), Fail> {
-    match judge.finish(alloc) {
-        Ok(meaning) => {
-            if meaning.file() == b"hi".as_slice() {
-                Ok(())
-            } else {
-                Err(Fail::new("another file"))
-            }
-        }
-        Err(refusal) => Err(refused(refusal)),
+/// Fails unless a file is `hi`.
+fn is_hi(file: &[u8]) -> Result<(), Fail> {
+    if file == b"hi".as_slice() {
+        Ok(())
+    } else {
+        Err(Fail::new("another file"))
     }
 }
 
 /// The read of `hi` is accepted, and each datagram counts, strays too.
 fn accepts<D: Delivered + Drop>(alloc: Global) -> Result<(), Fail> {
     let mut judge = begun::<D>(alloc);
-    for datagram in READ_OF_HI {
-        if let Err(refusal) = answer(alloc, &mut judge, datagram)? {
-            return Err(refused(refusal));
-        }
-    }
-    if judge.fed() != 4 {
-        return Err(Fail::new("another count"));
-    }
-    accepts_hi(alloc, judge)
+    let answers = all_have_answers(alloc, &mut judge, &READ_OF_HI, 4);
+    let end = finished(alloc, judge);
+    answers?;
+    accepts_hi(end)
 }
 
 #[test]

@@ -45,8 +45,23 @@ fn feed_all<D: Delivered + Drop>(
 }
 
 /// What a judge says at the end.
-fn finished<D: Delivered + Drop>(alloc: Global, judge: Judge<D>) -> Result<Meaning, Refusal> {
+pub fn finished<D: Delivered + Drop>(alloc: Global, judge: Judge<D>) -> Result<Meaning, Refusal> {
     judge.finish(alloc)
+}
+
+/// What a judge on this store says of the datagrams. It is let go in one place, since that is dear to prove.
+fn judged_of<D: Delivered + Drop>(
+    alloc: Global,
+    header: &Header,
+    datagrams: &[Datagram],
+) -> Result<Meaning, Refusal> {
+    let mut judge = begun::<D>(alloc, header);
+    let fed = feed_all(alloc, &mut judge, datagrams);
+    let end = finished(alloc, judge);
+    match fed {
+        Ok(()) => end,
+        Err(refusal) => Err(refusal),
+    }
 }
 
 /// What a judge on this store says of the datagrams of a capture text.
@@ -55,11 +70,7 @@ fn judged<D: Delivered + Drop>(
     text: &[u8],
 ) -> Result<Result<Meaning, Refusal>, Fail> {
     let (header, datagrams) = capture_of(rt, text)?;
-    let mut judge = begun::<D>(rt.alloc(), &header);
-    match feed_all(rt.alloc(), &mut judge, datagrams.as_slice()) {
-        Ok(()) => Ok(finished(rt.alloc(), judge)),
-        Err(refusal) => Ok(Err(refusal)),
-    }
+    Ok(judged_of::<D>(rt.alloc(), &header, datagrams.as_slice()))
 }
 
 /// The name of a side.

@@ -107,19 +107,47 @@ fn was_told(event: &Event, number: u64, (told, sharers, old): &(Told, &[u64], &[
     event.number() == number && is_shared && is_told(&event.fate(), told)
 }
 
+/// Whether there was another frame, or a fault as the tests tell it.
+fn is_next(rt: &HostRuntime, reading: &mut Reading<'_>) -> Result<bool, Fail> {
+    match next(rt, reading) {
+        Ok(is_read) => Ok(is_read),
+        Err(fault) => Err(failed(fault)),
+    }
+}
+
+/// Fails unless the next frame has this number and this fate.
+fn has_fate(
+    rt: &HostRuntime,
+    reading: &mut Reading<'_>,
+    number: u64,
+    wanted: &(Told, &[u64], &[u64]),
+) -> Result<(), Fail> {
+    let is_read = is_next(rt, reading)?;
+    is_so(
+        is_read && was_told(&reading.event, number, wanted),
+        "another fate",
+    )
+}
+
+/// Fails unless there are frames so often, or none.
+fn has_frames(
+    rt: &HostRuntime,
+    reading: &mut Reading<'_>,
+    count: u32,
+    is_read: bool,
+) -> Result<(), Fail> {
+    for _ in 0..count {
+        is_so(is_next(rt, reading)? == is_read, "a frame or none")?;
+    }
+    Ok(())
+}
+
 /// Fails unless the next frames have their fates, and none follows.
 fn all_have_fates(rt: &HostRuntime, reading: &mut Reading<'_>) -> Result<(), Fail> {
     for (number, wanted) in (1u64..).zip(&FATES) {
-        let is_read = next(rt, reading).map_err(failed)?;
-        is_so(
-            is_read && was_told(&reading.event, number, wanted),
-            "another fate",
-        )?;
+        has_fate(rt, reading, number, wanted)?;
     }
-    for _ in 0..2 {
-        is_so(!next(rt, reading).map_err(failed)?, "another frame")?;
-    }
-    Ok(())
+    has_frames(rt, reading, 2, false)
 }
 
 /// The frames that wait at the end for others.
@@ -135,14 +163,19 @@ fn waiting_of(rt: &HostRuntime, reading: Reading<'_>) -> Result<Vec<u64>, Fail> 
     Ok(missing)
 }
 
+/// Fails unless the recording in such pieces has its fates, and one frame waits at the end.
+fn is_read_in(rt: &HostRuntime, piece: usize) -> Result<(), Fail> {
+    let mut reading = begun(rt, RECORDING, piece)?;
+    all_have_fates(rt, &mut reading)?;
+    let missing = waiting_of(rt, reading)?;
+    is_so(missing.as_slice() == [8u64].as_slice(), "other frames wait")
+}
+
 /// However the reader cuts the bytes.
 #[test]
 fn each_frame_has_its_fate(rt: HostRuntime) -> Result<(), Fail> {
     for piece in [1usize, 7, 4096] {
-        let mut reading = begun(&rt, RECORDING, piece)?;
-        all_have_fates(&rt, &mut reading)?;
-        let missing = waiting_of(&rt, reading)?;
-        is_so(missing.as_slice() == [8u64].as_slice(), "other frames wait")?;
+        is_read_in(&rt, piece)?;
     }
     Ok(())
 }
@@ -162,6 +195,13 @@ fn is_cut(rt: &HostRuntime, reading: &mut Reading<'_>) -> Result<(), Fail> {
     }
 }
 
+/// Fails unless so many frames are read, and that fault is answered for good.
+fn is_cut_after(rt: &HostRuntime, reading: &mut Reading<'_>, count: u32) -> Result<(), Fail> {
+    has_frames(rt, reading, count, true)?;
+    is_cut(rt, reading)?;
+    is_cut(rt, reading)
+}
+
 /// A recording that is cut within its last record has a fault there for good, and the frames before it.
 #[test]
 fn a_cut_recording_has_the_frames_before(rt: HostRuntime) -> Result<(), Fail> {
@@ -169,9 +209,5 @@ fn a_cut_recording_has_the_frames_before(rt: HostRuntime) -> Result<(), Fail> {
         return Err(Fail::new("empty"));
     };
     let mut reading = begun(&rt, front, 5)?;
-    for _ in 0..11 {
-        is_so(next(&rt, &mut reading).map_err(failed)?, "no frame")?;
-    }
-    is_cut(&rt, &mut reading)?;
-    is_cut(&rt, &mut reading)
+    is_cut_after(&rt, &mut reading, 11)
 }
