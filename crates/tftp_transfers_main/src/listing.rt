@@ -1,147 +1,160 @@
 //! The transfers of a recording, a line each.
 
-use crate::known::Known;
-use crate::parties::shown;
-use crate::sources::{read_file, tell_notes};
-use crate::tables::{Field, Table, json_object, print_line};
+use crate::cells::{put_cell, put_number, put_number_cell, put_plain};
+use crate::checking::tell_session;
+use crate::session::Session;
+use crate::shown::shown;
+use crate::teller::{Teller, What};
+use crate::texts::Kept;
+use crate::trail::Trail;
 use anyhow::Result;
+use serde::Serialize;
 use std::alloc::{AllocError, Global};
 use tftp_packet::{Mode, OptionsView, Packet, RequestView, Side, read_packet};
 use tftp_words::ListRequest;
 
-const HEADS: [&str; 9] = [
-    "number",
-    "client",
-    "server",
-    "kind",
-    "mode",
-    "file",
-    "options",
-    "datagrams",
-    "frames",
-];
-
-/// What a transfer's request asks for.
-#[derive(Drop)]
-struct Asked {
+/// A row of the list.
+#[derive(Drop, Serialize)]
+pub struct ListRow {
+    number: u64,
+    client: String,
+    server: String,
     kind: &'static str,
     mode: &'static str,
     file: String,
     options: String,
+    datagrams: u64,
+    first_frame: u64,
+    last_frame: u64,
 }
 
 /// Lists the transfers of a recording.
 pub fn list(rt: HostRuntime, asked: &ListRequest<'_>) -> Result<u8> {
-    let session = read_file(rt, asked.file, asked.services.as_slice(), None)?;
-    let is_whole = tell_notes(rt, "", &session.notes)?;
-    let mut table = Table::new(rt.alloc(), &HEADS)?;
-    let mut number = 0u64;
-    for known in session.transfers.values() {
-        number = number.saturating_add(1);
-        if asked.json {
-            print_line(rt, json_of(rt.alloc(), number, known)?.as_str())?;
-        } else {
-            table.add(row_of(rt.alloc(), number, known)?)?;
-        }
+    let services = asked.services.as_slice();
+    let mut session = Session::new(rt.alloc(), services, Kept::none(rt.alloc()))?;
+    let mut teller = Teller::new(What::List, asked.json, 0);
+    tell_session(rt, asked.file, &mut session, &mut teller)?;
+    Ok(teller.status)
+}
+
+impl ListRow {
+    /// The row of a transfer.
+    pub fn new(alloc: Global, number: u64, trail: &Trail) -> Result<Self, AllocError> {
+        let request = request_of(trail.request.as_slice());
+        let client = shown(alloc, trail.transfer.client)?;
+        let server = shown(alloc, trail.server())?;
+        let file = file_of(alloc, &request)?;
+        let options = options_of(alloc, &request)?;
+        Ok(ListRow {
+            number,
+            client,
+            server,
+            kind: kind_of(&request),
+            mode: mode_of(&request),
+            file,
+            options,
+            datagrams: trail.count,
+            first_frame: trail.first,
+            last_frame: trail.last,
+        })
     }
-    table.print(rt)?;
-    Ok(if is_whole { 0 } else { 2 })
 }
 
-fn row_of(alloc: Global, number: u64, known: &Known) -> Result<Vec<String>, AllocError> {
-    let asked = asked_of(alloc, known.request.as_slice())?;
-    let server = known.server().unwrap_or(known.transfer.asked);
-    let (count, first, last) = (known.count, known.first, known.last);
-    let mut row = Vec::new(alloc);
-    row.push(format!(in alloc; "{number}")?)?;
-    row.push(shown(alloc, known.transfer.client)?)?;
-    row.push(shown(alloc, server)?)?;
-    row.push(String::from_str(alloc, asked.kind)?)?;
-    row.push(String::from_str(alloc, asked.mode)?)?;
-    row.push(asked.file)?;
-    row.push(asked.options)?;
-    row.push(format!(in alloc; "{count}")?)?;
-    row.push(format!(in alloc; "{first}-{last}")?)?;
-    Ok(row)
+/// Puts the line of the columns' heads.
+pub fn put_list_head(line: &mut String) -> Result<(), AllocError> {
+    put_cell(line, "number", 6)?;
+    put_cell(line, "client", 21)?;
+    put_cell(line, "server", 21)?;
+    put_cell(line, "kind", 4)?;
+    put_cell(line, "mode", 8)?;
+    put_cell(line, "file", 16)?;
+    put_cell(line, "options", 16)?;
+    put_cell(line, "datagrams", 9)?;
+    line.push_str("frames\n")
 }
 
-fn json_of(alloc: Global, number: u64, known: &Known) -> Result<String, AllocError> {
-    let asked = asked_of(alloc, known.request.as_slice())?;
-    let client = shown(alloc, known.transfer.client)?;
-    let server = shown(alloc, known.server().unwrap_or(known.transfer.asked))?;
-    json_object(
-        alloc,
-        &[
-            ("number", Field::Number(number)),
-            ("client", Field::Text(client.as_str())),
-            ("server", Field::Text(server.as_str())),
-            ("kind", Field::Text(asked.kind)),
-            ("mode", Field::Text(asked.mode)),
-            ("file", Field::Text(asked.file.as_str())),
-            ("options", Field::Text(asked.options.as_str())),
-            ("datagrams", Field::Number(known.count)),
-            ("first_frame", Field::Number(known.first)),
-            ("last_frame", Field::Number(known.last)),
-        ],
-    )
+/// Puts the row of a transfer under them.
+pub fn put_list_row(line: &mut String, row: &ListRow) -> Result<(), AllocError> {
+    put_number_cell(line, row.number, 6)?;
+    put_cell(line, row.client.as_str(), 21)?;
+    put_cell(line, row.server.as_str(), 21)?;
+    put_cell(line, row.kind, 4)?;
+    put_cell(line, row.mode, 8)?;
+    put_cell(line, row.file.as_str(), 16)?;
+    put_cell(line, row.options.as_str(), 16)?;
+    put_number_cell(line, row.datagrams, 9)?;
+    put_number(line, row.first_frame)?;
+    line.push('-')?;
+    put_number(line, row.last_frame)
 }
 
-/// What a request asks for; question marks where it spells none.
-fn asked_of(alloc: Global, payload: &[u8]) -> Result<Asked, AllocError> {
+/// The request that a payload spells.
+fn request_of(payload: &[u8]) -> Option<RequestView<'_>> {
     match read_packet(payload) {
-        Ok(Packet::Request(request)) => asked_by(alloc, &request),
-        _ => Ok(Asked {
-            kind: "?",
-            mode: "?",
-            file: String::from_str(alloc, "?")?,
-            options: String::from_str(alloc, "?")?,
-        }),
+        Ok(Packet::Request(request)) => Some(request),
+        _ => None,
     }
 }
 
-fn asked_by(alloc: Global, request: &RequestView<'_>) -> Result<Asked, AllocError> {
-    let mut file = String::from_str(alloc, "\"")?;
-    put_plain(alloc, &mut file, request.name())?;
-    file.push('"')?;
-    Ok(Asked {
-        kind: match request.side() {
+fn kind_of(request: &Option<RequestView<'_>>) -> &'static str {
+    match request {
+        Some(request) => match request.side() {
             Side::Get => "get",
             Side::Put => "put",
         },
-        mode: match request.mode() {
+        None => "?",
+    }
+}
+
+fn mode_of(request: &Option<RequestView<'_>>) -> &'static str {
+    match request {
+        Some(request) => match request.mode() {
             Mode::Netascii => "netascii",
             Mode::Octet => "octet",
         },
-        file,
-        options: options_of(alloc, request.options())?,
-    })
+        None => "?",
+    }
 }
 
-fn options_of(alloc: Global, options: OptionsView<'_>) -> Result<String, AllocError> {
+/// The file's name, in quotes.
+fn file_of(alloc: Global, request: &Option<RequestView<'_>>) -> Result<String, AllocError> {
+    let mut file = String::new(alloc);
+    let put = match request {
+        Some(request) => put_quoted(&mut file, request.name()),
+        None => file.push('?'),
+    };
+    put?;
+    Ok(file)
+}
+
+fn put_quoted(file: &mut String, name: &[u8]) -> Result<(), AllocError> {
+    file.push('"')?;
+    put_plain(file, name)?;
+    file.push('"')
+}
+
+/// The options, by their names and values.
+fn options_of(alloc: Global, request: &Option<RequestView<'_>>) -> Result<String, AllocError> {
     let mut told = String::new(alloc);
+    let put = match request {
+        Some(request) => put_options(&mut told, request.options()),
+        None => told.push('?'),
+    };
+    put?;
+    Ok(told)
+}
+
+fn put_options(told: &mut String, options: OptionsView<'_>) -> Result<(), AllocError> {
     for (name, value) in options.pairs() {
         if !told.is_empty() {
             told.push(',')?;
         }
-        put_plain(alloc, &mut told, name)?;
+        put_plain(told, name)?;
         told.push('=')?;
-        put_plain(alloc, &mut told, value)?;
+        put_plain(told, value)?;
     }
     if told.is_empty() {
         told.push('-')?;
-    }
-    Ok(told)
-}
-
-/// Bytes as a person may read them: what is no plain sign of ASCII, a space, a quote or a backslash is escaped.
-fn put_plain(alloc: Global, told: &mut String, bytes: &[u8]) -> Result<(), AllocError> {
-    for byte in bytes {
-        let byte = *byte;
-        if byte.is_ascii_graphic() && byte != b'"' && byte != b'\\' {
-            told.push(char::from(byte))?;
-        } else {
-            told.push_str(format!(in alloc; "\\x{byte:02x}")?.as_str())?;
-        }
     }
     Ok(())
 }

@@ -1,27 +1,30 @@
 //! From a recording to its TFTP transfers, their capture texts and their verdicts.
 #![tactic(auto)]
 
+mod blame;
+mod cells;
 mod checking;
-mod known;
+mod headed;
 mod listing;
 mod notes;
-mod parties;
 mod passing;
+mod reading;
 mod reasons;
+mod recording_judge;
 mod session;
-mod sources;
-mod tables;
+mod shown;
+mod teller;
 mod texts;
+mod trail;
 mod twice;
 mod verdicts;
 
 use crate::checking::check;
 use crate::listing::list;
-use crate::sources::tell;
 use crate::texts::write_text;
-use anyhow::Result;
-use std::env;
+use anyhow::{Error, Result};
 use std::process::ExitCode;
+use std::{env, io};
 use tftp_words::{Request, WordsFault, request_of};
 
 /// Ends with status 0, 1 where a transfer is not accepted, or 2 after a fault.
@@ -32,11 +35,7 @@ fn main(rt: HostRuntime) -> ExitCode {
     let Ok(words) = words.collect::<Vec<String>>(rt.alloc()) else {
         return ExitCode::from(2);
     };
-    let told = match request_of(rt.alloc(), words.as_slice()) {
-        Ok(request) => answer(rt, &request),
-        Err(fault) => tell_fault(rt, &fault),
-    };
-    match told {
+    match answer(rt, words.as_slice()) {
         Ok(status) => ExitCode::from(status),
         Err(error) => {
             let _ = tell(rt, &error);
@@ -46,12 +45,18 @@ fn main(rt: HostRuntime) -> ExitCode {
 }
 
 /// Does what the words ask for, and answers the status.
-fn answer(rt: HostRuntime, request: &Request<'_>) -> Result<u8> {
-    match request {
-        Request::List(asked) => list(rt, asked),
-        Request::Text(asked) => write_text(rt, asked),
-        Request::Check(asked) => check(rt, asked),
+fn answer(rt: HostRuntime, words: &[String]) -> Result<u8> {
+    match request_of(rt.alloc(), words) {
+        Ok(Request::List(asked)) => list(rt, &asked),
+        Ok(Request::Text(asked)) => write_text(rt, &asked),
+        Ok(Request::Check(asked)) => check(rt, &asked),
+        Err(fault) => tell_fault(rt, &fault),
     }
+}
+
+/// Tells an error.
+fn tell(rt: HostRuntime, error: &Error) -> io::Result<()> {
+    eprintln!(rt; "tftp-transfers: {error}")
 }
 
 /// What there is to say of words that make no request.

@@ -1,3 +1,6 @@
+//! A datagram of a recording.
+
+use tftp_transfers::Place;
 use tftp_views::Party;
 
 /// A datagram as it passed in a recording.
@@ -12,4 +15,16 @@ pub struct Passing<'a> {
     pub source: Party,
     pub target: Party,
     pub payload: &'a [u8],
+}
+
+/// The number of the transfer of which a datagram there is, at its client or beside its server.
+pub fn about(place: &Place) -> Option<u64> {
+    match place {
+        Place::Opens(transfer) => Some(transfer.number),
+        Place::Repeats(transfer) => Some(transfer.number),
+        Place::Talks(transfer) => Some(transfer.number),
+        Place::Beside(transfer) => Some(transfer.number),
+        Place::Apart(_) => None,
+        Place::Nowhere => None,
+    }
 }

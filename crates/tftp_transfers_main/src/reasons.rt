@@ -1,6 +1,6 @@
 //! Why a refusal is no accusation.
 
-use crate::known::Blamed;
+use crate::blame::Blamed;
 use std::alloc::{AllocError, Global};
 use tftp_transfers::TransferDoubts;
 
@@ -12,6 +12,8 @@ pub struct Doubted {
     pub is_twice: bool,
     /// The frame of a datagram that may be a copy of the one before.
     pub copied_from: Option<u64>,
+    /// From this frame on datagrams may be missing.
+    pub lost_from: Option<u64>,
 }
 
 const DISORDERED: &str = "its datagrams are not in the order of their times";
@@ -30,37 +32,47 @@ const BESIDE: &str =
 
 const TWICE: &str = "each of its datagrams stands beside its equal: recorded twice";
 
+/// Adds a reason, if it holds.
+fn put(alloc: Global, reasons: &mut Vec<String>, holds: bool, why: &str) -> Result<(), AllocError> {
+    if holds {
+        reasons.push(String::from_str(alloc, why)?)?;
+    }
+    Ok(())
+}
+
 impl Doubted {
-    /// The reasons for which a refusal there is doubtful: none where it is an accusation. From the frame `lost_from` on
-    /// datagrams may be missing.
-    pub fn reasons(
+    /// Adds the reasons for which a refusal there is doubtful: none where it is an accusation.
+    pub fn put_reasons(
         &self,
         alloc: Global,
+        reasons: &mut Vec<String>,
         blamed: &Blamed,
-        lost_from: Option<u64>,
-    ) -> Result<Vec<String>, AllocError> {
+    ) -> Result<(), AllocError> {
         let doubts = &self.doubts;
-        let mut reasons = Vec::new(alloc);
-        for (holds, why) in [
-            (doubts.is_disordered(), DISORDERED),
-            (doubts.is_asked_again(), AGAIN),
-            (doubts.is_answered_apart(), APART),
-            (doubts.goes_over(), OVER),
-            (blamed.is_late, LATE),
-            (blamed.is_beside, BESIDE),
-            (self.is_twice, TWICE),
-        ] {
-            if holds {
-                reasons.push(String::from_str(alloc, why)?)?;
-            }
-        }
-        if let Some(frame) = known_by(lost_from, blamed.frame) {
+        put(alloc, reasons, doubts.is_disordered(), DISORDERED)?;
+        put(alloc, reasons, doubts.is_asked_again(), AGAIN)?;
+        put(alloc, reasons, doubts.is_answered_apart(), APART)?;
+        put(alloc, reasons, doubts.goes_over(), OVER)?;
+        put(alloc, reasons, blamed.is_late, LATE)?;
+        put(alloc, reasons, blamed.is_beside, BESIDE)?;
+        put(alloc, reasons, self.is_twice, TWICE)?;
+        self.put_frames(alloc, reasons, blamed)
+    }
+
+    /// Adds those that come with an earlier frame.
+    fn put_frames(
+        &self,
+        alloc: Global,
+        reasons: &mut Vec<String>,
+        blamed: &Blamed,
+    ) -> Result<(), AllocError> {
+        if let Some(frame) = known_by(self.lost_from, blamed.frame) {
             reasons.push(format!(in alloc; "frame {frame} is not there whole")?)?;
         }
         if let Some(frame) = known_by(self.copied_from, blamed.frame) {
             reasons.push(format!(in alloc; "frame {frame} may be a copy of the one before")?)?;
         }
-        Ok(reasons)
+        Ok(())
     }
 }
 

@@ -1,81 +1,64 @@
-//! A recording, read to its end.
+//! A recording, as far as it was read.
 
-use crate::known::Known;
 use crate::notes::Notes;
-use crate::parties::party_of;
-use crate::passing::Passing;
+use crate::passing::{Passing, about};
+use crate::recording_judge::{RecordingJudge, Watched};
 use crate::texts::Kept;
+use crate::trail::Trail;
 use anyhow::{Result, bail};
-use std::alloc::Global;
+use std::alloc::{AllocError, Global};
 use std::collections::BTreeMap;
-use std::io::Read;
-use tftp_capture::Tallied;
-use tftp_recording::{Datagram, Event, Fate, RecordingReader};
-use tftp_transfers::{Attributed, Attribution, AttributionFault, Place, spells_request};
+use tftp_ends::RingDelivered;
+use tftp_parties::party_of;
+use tftp_recording::{Datagram, Event, Fate};
+use tftp_transfers::{Attributed, AttributionFault, Place, Transfer, spells_request};
+
+/// A longer payload fits no datagram of UDP (RFC 768).
+const LONGEST: usize = 65_527;
 
 /// What a recording has: its transfers by how many datagrams came before each, and what is to be told of it.
 #[derive(Drop)]
 pub struct Session {
-    attribution: Attribution,
-    pub transfers: BTreeMap<u64, Known>,
+    judge: RecordingJudge<RingDelivered>,
+    trails: BTreeMap<u64, Trail>,
+    /// What is to be told of the recording as a whole.
     pub notes: Notes,
     /// The datagrams of the transfer whose text is wanted.
-    pub kept: Option<Kept>,
+    pub kept: Kept,
 }
 
-/// Reads a recording. Requests go to port 69 and to the ports that are named.
-pub fn read_session<R: Read + Drop>(
-    alloc: Global,
-    reader: R,
-    services: &[u16],
-    kept: Option<Kept>,
-) -> Result<Session> {
-    let mut session = Session {
-        attribution: Attribution::new(alloc, services)?,
-        transfers: BTreeMap::new(alloc),
-        notes: Notes::new(alloc),
-        kept,
-    };
-    let mut reader = Tallied::new(reader);
-    let mut recording = RecordingReader::begin(alloc, &mut reader)?;
-    let mut event = Event::empty(alloc);
-    for _ in 0..u64::MAX {
-        match recording.next_into(alloc, &mut reader, &mut event) {
-            Ok(true) => session.take(alloc, &mut event)?,
-            Ok(false) => break,
-            Err(fault) => {
-                session.notes.fault = Some(fault);
-                break;
-            }
-        }
-    }
-    session.notes.lose_all(recording.into_waiting())?;
-    Ok(session)
-}
-
-/// The transfer of which a datagram is, at its client or beside its server.
-fn about(place: &Place) -> Option<u64> {
-    match place {
-        Place::Beside(transfer) => Some(transfer.number),
-        place => place.transfer().map(|transfer| transfer.number),
-    }
+/// A transfer that no datagram joins any more.
+#[derive(Drop)]
+pub struct Ended {
+    pub trail: Trail,
+    pub watched: Watched<RingDelivered>,
 }
 
 impl Session {
+    /// Nothing was read. Requests go to port 69 and to the ports that are named.
+    pub fn new(alloc: Global, services: &[u16], kept: Kept) -> Result<Self, AllocError> {
+        Ok(Session {
+            judge: RecordingJudge::new(alloc, services)?,
+            trails: BTreeMap::new(alloc),
+            notes: Notes::new(alloc),
+            kept,
+        })
+    }
+
     /// Takes what became of a frame.
-    fn take(&mut self, alloc: Global, event: &mut Event) -> Result<()> {
+    pub fn take(&mut self, alloc: Global, event: &mut Event) -> Result<()> {
         self.notes.lose(event.old())?;
         self.notes.lose_all(event.take_ousted(alloc))?;
         match event.fate() {
-            Fate::Datagram(datagram) => self.pass(alloc, event, &datagram)?,
-            Fate::Left(why) => self.notes.leave(why, event.number(), event.sharers())?,
-            Fate::Waits => {}
+            Fate::Datagram(datagram) => self.pass(alloc, event, &datagram),
+            Fate::Left(why) => Ok(self.notes.leave(why, event.number(), event.sharers())?),
+            Fate::Waits => Ok(self.notes.wait(event.number())?),
         }
-        Ok(())
     }
 
     /// Takes a datagram.
     fn pass(&mut self, alloc: Global, event: &Event, datagram: &Datagram<'_>) -> Result<()> {
+        self.notes.find(event.sharers());
         let passing = Passing {
             frame: event.number(),
             time: event.time(),
@@ -87,22 +70,22 @@ impl Session {
         self.notes.pass(passing.frame, passing.time)?;
         let found = self.place(alloc, &passing)?;
         if let Place::Opens(transfer) = found.place {
-            let known = Known::new(alloc, transfer, &passing)?;
-            self.transfers.insert(transfer.number, known)?;
+            self.open(alloc, transfer, &passing)?;
         }
-        if let Some(kept) = &mut self.kept {
-            kept.note(alloc, &found.place, &passing)?;
-        }
-        self.hand_on(alloc, &found, &passing)
+        self.kept.note(alloc, &found.place, &passing)?;
+        Ok(self.follow(&found, &passing)?)
     }
 
-    /// Where a datagram belongs.
+    /// Where a datagram belongs, which the judges of its transfer are given.
     fn place(&mut self, alloc: Global, passing: &Passing<'_>) -> Result<Attributed> {
-        let fed = self.attribution.feed(
+        if passing.payload.len() > LONGEST {
+            bail!("a datagram that is too long");
+        }
+        let fed = self.judge.feed(
             alloc,
-            passing.time.unwrap_or(0),
-            passing.source.end,
-            passing.target.end,
+            self.notes.clock(),
+            &passing.source,
+            &passing.target,
             passing.payload,
             spells_request(passing.payload),
         );
@@ -113,20 +96,63 @@ impl Session {
         }
     }
 
-    /// Hands a datagram to the transfers of which it says something.
-    fn hand_on(&mut self, alloc: Global, found: &Attributed, passing: &Passing<'_>) -> Result<()> {
-        if let Some(number) = found.doubts.may_be_answer_of {
-            if let Some(known) = self.transfers.get_mut(&number) {
-                known.doubt(found);
-            }
-        }
+    /// Keeps a transfer that a request opens.
+    fn open(
+        &mut self,
+        alloc: Global,
+        transfer: Transfer,
+        request: &Passing<'_>,
+    ) -> Result<(), AllocError> {
+        let payload = Vec::from_slice(alloc, request.payload)?;
+        let trail = Trail::new(alloc, transfer, payload, request.frame);
+        self.trails.insert(transfer.number, trail)?;
+        Ok(())
+    }
+
+    /// Notes a datagram at the transfer that it is about.
+    fn follow(&mut self, found: &Attributed, passing: &Passing<'_>) -> Result<(), AllocError> {
         let Some(number) = about(&found.place) else {
-            self.notes.of_none.add(passing.frame)?;
-            return Ok(());
+            return self.notes.leave_out(passing);
         };
-        match self.transfers.get_mut(&number) {
-            Some(known) => known.take(alloc, found, passing),
-            None => Ok(()),
+        match (self.trails.get_mut(&number), self.judge.watched(number)) {
+            (Some(trail), Some(watched)) => trail.take(found, passing, watched),
+            _ => Ok(()),
         }
+    }
+
+    /// Hands out the oldest transfer, if no datagram joins it any more.
+    pub fn pop_over(&mut self) -> Option<Ended> {
+        if self.is_first_over() {
+            self.pop()
+        } else {
+            None
+        }
+    }
+
+    fn is_first_over(&self) -> bool {
+        match self.trails.first_key_value() {
+            Some((_, trail)) => self
+                .judge
+                .is_over(&trail.transfer.client, self.notes.clock()),
+            None => false,
+        }
+    }
+
+    /// Hands out the oldest transfer.
+    pub fn pop(&mut self) -> Option<Ended> {
+        match (self.trails.pop_first(), self.judge.pop_first()) {
+            (Some((_, trail)), Some(watched)) => Some(Ended { trail, watched }),
+            _ => None,
+        }
+    }
+
+    /// The transfer with this number.
+    pub fn trail(&self, number: u64) -> Option<&Trail> {
+        self.trails.get(&number)
+    }
+
+    /// How many transfers there are that were not handed out.
+    pub fn count(&self) -> usize {
+        self.trails.len()
     }
 }

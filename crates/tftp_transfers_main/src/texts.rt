@@ -1,12 +1,14 @@
 //! The capture text of one transfer at an end.
 
-use crate::known::Known;
-use crate::parties::shown;
-use crate::passing::Passing;
-use crate::sources::{read_file, tell_notes};
+use crate::cells::{put_number, put_plain};
+use crate::passing::{Passing, about};
+use crate::reading::read_file;
+use crate::session::Session;
+use crate::shown::shown;
+use crate::teller::{Teller, What};
+use crate::trail::Trail;
 use anyhow::{Result, bail};
 use std::alloc::{AllocError, Global};
-use std::io::{self, BufWriter, Write};
 use tftp_packet::End;
 use tftp_transfers::Place;
 use tftp_views::Party;
@@ -15,7 +17,7 @@ use tftp_words::TextRequest;
 /// The datagrams of the transfer whose text is wanted, as they passed.
 #[derive(Drop)]
 pub struct Kept {
-    /// Which transfer of the recording it is, from 1.
+    /// Which transfer of the recording it is, from 1; 0 where none is wanted.
     wanted: u64,
     opened: u64,
     number: Option<u64>,
@@ -33,7 +35,16 @@ struct Written {
     payload: Vec<u8>,
 }
 
+/// When so many bytes are gathered, they are written.
+const PIECE: usize = 1 << 16;
+
 impl Kept {
+    /// No text is wanted.
+    pub fn none(alloc: Global) -> Self {
+        Kept::new(alloc, 0)
+    }
+
+    /// The text of this transfer of the recording is wanted, from 1.
     pub fn new(alloc: Global, wanted: u64) -> Self {
         Kept {
             wanted,
@@ -56,86 +67,103 @@ impl Kept {
                 self.number = Some(transfer.number);
             }
         }
-        if !self.is_about(place) {
+        let about = about(place);
+        if about.is_none() || about != self.number {
             return Ok(());
         }
+        let payload = Vec::from_slice(alloc, passing.payload)?;
         self.datagrams.push(Written {
             frame: passing.frame,
             time: passing.time,
             place: *place,
             source: passing.source,
             target: passing.target,
-            payload: Vec::from_slice(alloc, passing.payload)?,
+            payload,
         })?;
         Ok(())
-    }
-
-    fn is_about(&self, place: &Place) -> bool {
-        let about = match place {
-            Place::Beside(transfer) => Some(transfer.number),
-            place => place.transfer().map(|transfer| transfer.number),
-        };
-        about.is_some() && about == self.number
     }
 }
 
 /// Writes the capture text of a transfer at an end, unless the recording is not whole.
 pub fn write_text(rt: HostRuntime, asked: &TextRequest<'_>) -> Result<u8> {
     let kept = Kept::new(rt.alloc(), asked.number);
-    let session = read_file(rt, asked.file, asked.services.as_slice(), Some(kept))?;
-    let is_whole = tell_notes(rt, "", &session.notes)?;
-    let Some(kept) = session.kept else {
-        return Ok(2);
-    };
-    let Some(known) = kept
-        .number
-        .and_then(|number| session.transfers.get(&number))
-    else {
-        let (wanted, count) = (asked.number, session.transfers.len());
+    let mut session = Session::new(rt.alloc(), asked.services.as_slice(), kept)?;
+    write_session(rt, asked, &mut session)?;
+    Ok(0)
+}
+
+fn write_session(rt: HostRuntime, asked: &TextRequest<'_>, session: &mut Session) -> Result<()> {
+    let mut teller = Teller::new(What::Text, false, 0);
+    read_file(rt, asked.file, session, &mut teller)?;
+    let is_whole = session.notes.tell(rt, asked.file)?;
+    let found = session.kept.number.and_then(|number| session.trail(number));
+    let Some(trail) = found else {
+        let (wanted, count) = (asked.number, session.count());
         bail!("there is no transfer {wanted}: the recording has 1 to {count}");
     };
     if !is_whole {
         bail!("nothing is written, since the recording is not whole");
     }
-    let mut writer = BufWriter::new(rt.alloc(), io::writer(&rt))?;
-    put_text(rt.alloc(), &mut writer, asked, known, &kept)?;
-    writer.flush()?;
-    Ok(0)
+    let mut page = String::new(rt.alloc());
+    let put = put_text(rt, &mut page, asked, trail, &session.kept);
+    put?;
+    print!(rt; "{page}")?;
+    Ok(())
 }
 
-fn put_text<W: Write>(
-    alloc: Global,
-    writer: &mut W,
+fn put_text(
+    rt: HostRuntime,
+    page: &mut String,
     asked: &TextRequest<'_>,
-    known: &Known,
+    trail: &Trail,
     kept: &Kept,
 ) -> Result<()> {
-    let (end, service) = (word_of(asked.end), known.transfer.asked.port);
-    let (number, file) = (asked.number, asked.file);
-    let client = shown(alloc, known.transfer.client)?;
-    let server = shown(alloc, known.server().unwrap_or(known.transfer.asked))?;
-    let told = format!(in alloc;
-        "# transfer {number} of '{file}', at the {end}; client {client}, server {server}"
-    )?;
-    put(writer, "tftp-capture 2\n")?;
-    put(writer, told.as_str())?;
-    put(
-        writer,
-        format!(in alloc; "\nend {end}\nservice {service}\n")?.as_str(),
-    )?;
+    put_head(rt.alloc(), page, asked, trail)?;
     let mut total = 0u64;
     for datagram in kept.datagrams.iter() {
-        if is_in_view(asked.end, known, datagram) {
+        if is_in_view(asked.end, trail, datagram) {
             total = total.saturating_add(1);
-            put_datagram(alloc, writer, asked.end, known, datagram)?;
+            put_datagram(rt.alloc(), page, asked.end, trail, datagram)?;
+            print_piece(rt, page)?;
         }
     }
-    put(writer, format!(in alloc; "total {total}\n")?.as_str())
+    page.push_str("total ")?;
+    put_number(page, total)?;
+    page.push('\n')?;
+    Ok(())
 }
 
-fn put<W: Write>(writer: &mut W, text: &str) -> Result<()> {
-    writer.write_all(text.as_bytes())?;
+/// Prints what is gathered, once it is long.
+fn print_piece(rt: HostRuntime, page: &mut String) -> Result<()> {
+    if page.len() < PIECE {
+        return Ok(());
+    }
+    print!(rt; "{page}")?;
+    page.clear();
     Ok(())
+}
+
+fn put_head(
+    alloc: Global,
+    page: &mut String,
+    asked: &TextRequest<'_>,
+    trail: &Trail,
+) -> Result<(), AllocError> {
+    page.push_str("tftp-capture 2\n# transfer ")?;
+    put_number(page, asked.number)?;
+    page.push_str(" of '")?;
+    put_plain(page, asked.file.as_bytes())?;
+    page.push_str("', at the ")?;
+    page.push_str(word_of(asked.end))?;
+    page.push_str("; client ")?;
+    page.push_str(shown(alloc, trail.transfer.client)?.as_str())?;
+    page.push_str(", server ")?;
+    page.push_str(shown(alloc, trail.server())?.as_str())?;
+    page.push_str("\nend ")?;
+    page.push_str(word_of(asked.end))?;
+    page.push_str("\nservice ")?;
+    put_number(page, u64::from(trail.transfer.asked.port))?;
+    page.push('\n')
 }
 
 fn word_of(end: End) -> &'static str {
@@ -145,58 +173,79 @@ fn word_of(end: End) -> &'static str {
     }
 }
 
-fn is_in_view(end: End, known: &Known, datagram: &Written) -> bool {
+fn is_in_view(end: End, trail: &Trail, datagram: &Written) -> bool {
     match end {
         End::Client => datagram.place.transfer().is_some(),
         End::Server => {
-            known.is_at_server(&datagram.place, datagram.source.end, datagram.target.end)
+            trail.is_at_server(&datagram.place, datagram.source.end, datagram.target.end)
         }
     }
 }
 
 /// Whether the end sent it.
-fn goes_out(end: End, known: &Known, datagram: &Written) -> bool {
+fn goes_out(end: End, trail: &Trail, datagram: &Written) -> bool {
     let source = datagram.source.end;
     match (end, &datagram.place) {
-        (End::Client, _) => source == known.transfer.client,
-        (End::Server, Place::Talks(_)) => source != known.transfer.client,
-        (End::Server, Place::Beside(_)) => known.server() == Some(source),
+        (End::Client, _) => source == trail.transfer.client,
+        (End::Server, Place::Talks(_)) => source != trail.transfer.client,
+        (End::Server, Place::Beside(_)) => source == trail.server(),
         _ => false,
     }
 }
 
-fn put_datagram<W: Write>(
+fn put_datagram(
     alloc: Global,
-    writer: &mut W,
+    page: &mut String,
     end: End,
-    known: &Known,
+    trail: &Trail,
     datagram: &Written,
 ) -> Result<()> {
-    let frame = datagram.frame;
-    put(writer, format!(in alloc; "# frame {frame}")?.as_str())?;
-    if let Some(time) = datagram.time {
-        let (seconds, rest) = (time / 1_000_000_000, time % 1_000_000_000);
-        put(
-            writer,
-            format!(in alloc; " time {seconds}.{rest:09}")?.as_str(),
-        )?;
-    }
-    let is_out = goes_out(end, known, datagram);
-    let (way, ours, theirs) = if is_out {
-        ("out", &datagram.source, &datagram.target)
+    page.push_str("# frame ")?;
+    put_number(page, datagram.frame)?;
+    put_time(page, datagram.time)?;
+    if goes_out(end, trail, datagram) {
+        page.push_str("\nout ")?;
+        put_ends(page, &datagram.source, &datagram.target)?;
     } else {
-        ("in", &datagram.target, &datagram.source)
-    };
-    let (local, remote) = (ours.end.port, theirs.end.port);
-    put(writer, format!(in alloc; "\n{way} {local} ")?.as_str())?;
-    writer.write_all(theirs.host.bytes())?;
-    put(writer, format!(in alloc; " {remote} ")?.as_str())?;
-    if datagram.payload.is_empty() {
-        return put(writer, "-\n");
+        page.push_str("\nin ")?;
+        put_ends(page, &datagram.target, &datagram.source)?;
     }
-    put(
-        writer,
-        hex::encode(alloc, datagram.payload.as_slice())?.as_str(),
-    )?;
-    put(writer, "\n")
+    if datagram.payload.is_empty() {
+        page.push_str("-\n")?;
+        return Ok(());
+    }
+    page.push_str(hex::encode(alloc, datagram.payload.as_slice())?.as_str())?;
+    page.push('\n')?;
+    Ok(())
+}
+
+/// Puts a time in seconds since 1970.
+fn put_time(page: &mut String, time: Option<u64>) -> Result<(), AllocError> {
+    let Some(time) = time else {
+        return Ok(());
+    };
+    page.push_str(" time ")?;
+    put_number(page, time / 1_000_000_000)?;
+    page.push('.')?;
+    put_rest(page, time % 1_000_000_000)
+}
+
+/// Puts nanoseconds, in nine digits.
+fn put_rest(page: &mut String, nanoseconds: u64) -> Result<(), AllocError> {
+    let mut buffer = itoa::Buffer::new();
+    let digits = buffer.format(nanoseconds);
+    for _ in digits.len()..9 {
+        page.push('0')?;
+    }
+    page.push_str(digits)
+}
+
+/// Puts the port at the end, and the other host and its port.
+fn put_ends(page: &mut String, ours: &Party, theirs: &Party) -> Result<(), AllocError> {
+    put_number(page, u64::from(ours.end.port))?;
+    page.push(' ')?;
+    put_plain(page, theirs.host.bytes())?;
+    page.push(' ')?;
+    put_number(page, u64::from(theirs.end.port))?;
+    page.push(' ')
 }
