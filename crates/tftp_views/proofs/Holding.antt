@@ -105,11 +105,12 @@ module _ (n : ℕ) (p : Placed) (older : List Placed) (off : is_about n p ≡ fa
     went_on = after.went_on ∙ ap (λ k. went_on_with k older) is ∙ went_on_too ∙ ap (λ k. went_on_with k (p ∷ older)) (sym is);
   }
 
-pub passes_by : (v : View) (name : Naming) (p : Placed) (older : List Placed) → v.ends.number ≡ v.transfer.number → is_about v.transfer.number p ≡ false → IsViewAfter v name older → IsViewAfter v name (p ∷ older)
-passes_by v name p older number off = by v.judge where
+pub passes_by : (v : View) (name : Naming) (p : Placed) (older : List Placed) → is_about v.transfer.number p ≡ false → IsViewAfter v name older → IsViewAfter v name (p ∷ older)
+passes_by v name p older off = by v.judge where
   by : (o : Option Server) → ViewedBy o v name older → ViewedBy o v name (p ∷ older)
   by None waits = record {
-    ends = ends_too v.transfer.number p older off v.ends number waits.ends;
+    number = waits.number;
+    ends = ends_too v.transfer.number p older off v.ends waits.number waits.ends;
     unsettled = sym (settled_too v.transfer.number p older off) ∙ waits.unsettled;
     held = subst (λ (l : List Placed). AreHeld name v.held (reverse l)) (sym (same_own v.transfer.number p older off)) waits.held;
   }

@@ -65,6 +65,7 @@ AreHeld name held placed = AllZip (λ h p. IsFed name p h.place h.source h.targe
 
 -- It is not known yet who the server is: those of the transfer are held, and no others.
 pub record IsWaiting (v : View) (name : Naming) (placed : List Placed) : Type 0 where
+  pub number : v.ends.number ≡ v.transfer.number
   pub ends : AreEndsAfter v.ends placed
   pub unsettled : is_settled v.transfer.number placed ≡ false
   pub held : AreHeld name v.held (reverse (filter (is_about v.transfer.number) placed))

@@ -113,6 +113,13 @@ impl<D: Delivered + Drop> ClientJudge<D> {
         }
     }
 
+    /// The transfer that is judged.
+    pub fn transfer(&self) -> Transfer
+        ensures { result ≡ self.now.transfer }
+    {
+        self.transfer
+    }
+
     /// How many datagrams of the client's view were accepted.
     pub fn fed(&self) -> u64
         ensures { result ≡ self.now.end.judge.fed }

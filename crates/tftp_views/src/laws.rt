@@ -48,8 +48,8 @@ pub fn worked_captures()
 pub fn what_is_not_about_a_transfer_changes_nothing()
     ensures client { (c : Client) (name : Naming) (p : Placed) (older : List Placed) → is_about c.transfer.number p ≡ false
         → IsClientAfter c name older → IsClientAfter c name (p ∷ older) }
-    ensures server { (v : View) (name : Naming) (p : Placed) (older : List Placed) → v.ends.number ≡ v.transfer.number
-        → is_about v.transfer.number p ≡ false → IsViewAfter v name older → IsViewAfter v name (p ∷ older) }
+    ensures server { (v : View) (name : Naming) (p : Placed) (older : List Placed) → is_about v.transfer.number p ≡ false
+        → IsViewAfter v name older → IsViewAfter v name (p ∷ older) }
     ensures doubts { (t : TransferDoubts) (p : Placed) (older : List Placed) → is_about t.number p ≡ false
         → is_it t.number (may_be_answer_of p older) ≡ false → IsDoubtedAfter t older → IsDoubtedAfter t (p ∷ older) }
 {}

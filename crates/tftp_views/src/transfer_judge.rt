@@ -95,6 +95,13 @@ impl<D: Delivered + Drop> TransferJudge<D> {
         Ok(())
     }
 
+    /// The transfer that is judged.
+    pub fn transfer(&self) -> Transfer
+        ensures { result ≡ self.now.client.transfer }
+    {
+        self.client.transfer()
+    }
+
     /// The judge at the client.
     pub fn client(&self) -> &ClientJudge<D>
         ensures { result.now ≡ self.now.client }

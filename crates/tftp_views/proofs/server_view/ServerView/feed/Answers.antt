@@ -13,7 +13,7 @@ returns-then-not-is_about-clause-after g c name p older after fed =
     let number = c.self.invariant.0 in
     let off : is_about v.transfer.number p ≡ false = ap (λ k. is_about k p) (sym number) ∙ sym (c.is_about.ensures p fed.belongs) ∙ c.if-not-is_about.true in
     subst (λ (v : View). IsViewAfter v name (p ∷ older)) c.self.view_is
-    (passes_by v name p older number off (subst (λ (v : View). IsViewAfter v name older) (sym c.self.view_is) after))
+    (passes_by v name p older off (subst (λ (v : View). IsViewAfter v name older) (sym c.self.view_is) after))
 
 pub returns-in-Some-clause-after : goal.returns-in-Some-clause-after
 returns-in-Some-clause-after g c name p older after fed =

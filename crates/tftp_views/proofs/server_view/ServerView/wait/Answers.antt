@@ -22,6 +22,7 @@ returns-else-is_settled-clause-after g c name p older after fed about =
     let ends : AreEndsAfter c.note.new.self (p ∷ older) = c.note.ensures.stands p older waits.ends fed.belongs fed.from fed.to fed.carries in
     let known = ap (λ k. is_settled k (p ∷ older)) (sym (c.note.ensures.number ∙ c.self.invariant.0)) ∙ sym (c.is_settled.ensures (p ∷ older) ends) in
     subst (λ (o : Option Server). ViewedBy o w name (p ∷ older)) (sym none) (record {
+      number = c.note.ensures.number ∙ c.self.invariant.0;
       ends = ends;
       unsettled = known ∙ c.if-is_settled.false;
       held = subst (λ (l : List Held). AreHeld name l (reverse (filter (is_about v.transfer.number) (p ∷ older)))) (sym c.in_ok-push_back.ensures.items) (held_newest v.transfer.number name v.held older h p of_it waits.held as_held);

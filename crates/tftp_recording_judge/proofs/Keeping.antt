@@ -1,0 +1,160 @@
+-- What is kept of all transfers, with one datagram more.
+use Rattle.std.proofs.Common.{rules, ◌≡◌, ℕ, Bool, true, false, cond, List, [], ◌∷◌, Option, Some, None, Result, Ok, Err, ◌⊎◌, inl, inr, refl, sym, ap, subst, ◌∙◌}
+use Rattle.std.specs.Prelude.{◌==◌, ◌&&◌, ◌||◌, not, OnOk, if◌then◌else◌}
+use Rattle.std.specs.BTreeMap.{get, BTreeMap}
+use Rattle.std.specs.Ordering.{is_eq, nat_cmp}
+use Rattle.std.specs.List.{All}
+use Rattle.std.proofs.lemmas.Bool.{eqb-true, or_parts}
+use Rattle.std.proofs.lemmas.List.Elements.{All-head, All-tail}
+use Rattle.tftp_transfers.specs.declared.place.Place.{Place}
+use Rattle.tftp_transfers.specs.declared.place.Place.TheVariants.{Opens, Repeats, Talks, Apart, Beside, Nowhere}
+use Rattle.tftp_transfers.specs.declared.place.Transfer.{Transfer}
+use Rattle.tftp_transfers.specs.Recording.{Recorded}
+use Rattle.tftp_transfers.specs.Places.{Placed, newest_of, transfer_of}
+use Rattle.tftp_transfers.specs.Views.{is_about, opened_it}
+use Rattle.tftp_transfers.specs.Doubts.{is_answered_apart, is_it, may_be_answer_of}
+use Rattle.tftp_transfers.proofs.Lines.{by_test}
+use Rattle.tftp_views.specs.Captured.{Naming}
+use Rattle.tftp_recording_judge.specs.Kept.{AreHanded, AreKept, IsKept, IsUnheard, IsWatching, Watched, is_among, opened}
+use Rattle.tftp_recording_judge.proofs.Watching.{watching_on, watching_unheard}
+
+pub same_number : (m n : ℕ) → is_eq (nat_cmp m n) ≡ (m == n)
+same_number m n = search rules
+
+pub is_itself : (n : ℕ) → (n == n) ≡ true
+is_itself n = search rules
+
+-- ---- which transfers were opened
+
+opening_about : (n : ℕ) (d : Recorded) (now : ℕ) (place : Place) → is_about n (record { datagram = d; moment = now; place = place }) ≡ false
+    → opened_it n (record { datagram = d; moment = now; place = place }) ≡ false
+opening_about n d now (Opens x) off = off
+opening_about n d now (Repeats x) off = refl
+opening_about n d now (Talks x) off = refl
+opening_about n d now (Apart c) off = refl
+opening_about n d now (Beside x) off = refl
+opening_about n d now Nowhere off = refl
+
+found_opening : Option Placed → Option Transfer
+found_opening None = None
+found_opening (Some p) = transfer_of p.place
+
+opened_as : (n : ℕ) (placed : List Placed) → opened n placed ≡ found_opening (newest_of (opened_it n) placed)
+opened_as n placed = by (newest_of (opened_it n) placed) refl where
+  by : (found : Option Placed) → newest_of (opened_it n) placed ≡ found → opened n placed ≡ found_opening (newest_of (opened_it n) placed)
+  by None is = rw is refl
+  by (Some p) is = rw is refl
+
+pub opened_elsewhere : (n : ℕ) (p : Placed) (older : List Placed) → opened_it n p ≡ false → opened n (p ∷ older) ≡ opened n older
+opened_elsewhere n p older off =
+    opened_as n (p ∷ older) ∙ ap (λ b. found_opening (if b then Some p else newest_of (opened_it n) older)) off ∙ sym (opened_as n older)
+
+opened_here : (n : ℕ) (p : Placed) (older : List Placed) → opened_it n p ≡ true → opened n (p ∷ older) ≡ transfer_of p.place
+opened_here n p older is = opened_as n (p ∷ older) ∙ ap (λ b. found_opening (if b then Some p else newest_of (opened_it n) older)) is
+
+none_opened : (n : ℕ) (older : List Placed) → All (λ (p : Placed). is_about n p ≡ false) older → opened n older ≡ None
+none_opened n [] all = refl
+none_opened n (p ∷ older) all =
+    opened_elsewhere n p older (opening_about n p.datagram p.moment p.place (All-head (λ (q : Placed). is_about n q ≡ false) p older all))
+    ∙ none_opened n older (All-tail (λ (q : Placed). is_about n q ≡ false) p older all)
+
+opening_of : (n : ℕ) (d : Recorded) (now : ℕ) (place : Place) (x : Transfer) → place ≡ Opens x → opened_it n (record { datagram = d; moment = now; place = place }) ≡ (x.number == n)
+opening_of n d now place x is = ap (λ (q : Place). opened_it n (record { datagram = d; moment = now; place = q })) is
+
+opening_number : (n : ℕ) (d : Recorded) (now : ℕ) (place : Place) (x : Transfer) → opened_it n (record { datagram = d; moment = now; place = place }) ≡ true → transfer_of place ≡ Some x → x.number ≡ n
+opening_number n d now (Opens y) x is of = let this : y ≡ x = cc in eqb-true x.number n (subst (λ (z : Transfer). (z.number == n) ≡ true) this is)
+opening_number n d now (Repeats y) x is of = absurd (cc)
+opening_number n d now (Talks y) x is of = absurd (cc)
+opening_number n d now (Apart c) x is of = absurd (cc)
+opening_number n d now (Beside y) x is of = absurd (cc)
+opening_number n d now Nowhere x is of = absurd (cc)
+
+pub opened_number : (n : ℕ) (placed : List Placed) (x : Transfer) → opened n placed ≡ Some x → x.number ≡ n
+opened_number n [] x is = absurd (cc)
+opened_number n (p ∷ older) x is = by_test (opened_it n p)
+    (λ yes. opening_number n p.datagram p.moment p.place x yes (sym (opened_here n p older yes) ∙ is))
+    (λ no. opened_number n older x (sym (opened_elsewhere n p older no) ∙ is))
+
+-- ---- a datagram that opens none
+
+kept_opened : (name : Naming) (out : List ℕ) (one other fed : List Placed) (n : ℕ) (o : Option Watched) → opened n other ≡ opened n one → IsKept name out one fed n o → IsKept name out other fed n o
+kept_opened name out one other fed n None same (inl none) = inl (same ∙ none)
+kept_opened name out one other fed n None same (inr gone) = inr gone
+kept_opened name out one other fed n (Some w) same kept = (same ∙ kept.0, kept.1)
+
+pub opens_none : (watched : BTreeMap ℕ Watched) (name : Naming) (out : List ℕ) (p : Placed) (older : List Placed) → ((n : ℕ) → opened_it n p ≡ false)
+    → AreKept watched name out older older → AreKept watched name out (p ∷ older) older
+opens_none watched name out p older none kept = λ n. kept_opened name out older (p ∷ older) older n (get nat_cmp watched n) (opened_elsewhere n p older (none n)) (kept n)
+
+-- ---- a datagram that opens one
+
+pub opens_one : (old new : BTreeMap ℕ Watched) (w : Watched) (x : Transfer) (name : Naming) (out : List ℕ) (p : Placed) (older : List Placed) → p.place ≡ Opens x → IsUnheard x.number older → IsWatching w x name []
+    → ((n : ℕ) → get nat_cmp new n ≡ cond (is_eq (nat_cmp x.number n)) (Some w) (get nat_cmp old n))
+    → AreKept old name out older older → AreKept new name out (p ∷ older) older
+opens_one old new w x name out p older opens unheard fresh updates kept = λ n. by_test (x.number == n)
+    (λ is. subst (IsKept name out (p ∷ older) older n) (sym (updates n ∙ ap (λ b. cond b (Some w) (get nat_cmp old n)) (same_number x.number n ∙ is)))
+    (let on : IsWatching w x name older = watching_unheard w x name older unheard fresh in (
+      opened_here n p older (opening_of n p.datagram p.moment p.place x opens ∙ is) ∙ ap transfer_of opens ∙ ap Some (sym on.client),
+      subst (λ (y : Transfer). IsWatching w y name older) (sym on.client) on,
+    )))
+    (λ off. subst (IsKept name out (p ∷ older) older n) (sym (updates n ∙ ap (λ b. cond b (Some w) (get nat_cmp old n)) (same_number x.number n ∙ off)))
+    (kept_opened name out older (p ∷ older) older n (get nat_cmp old n) (opened_elsewhere n p older (opening_of n p.datagram p.moment p.place x opens ∙ off)) (kept n)))
+
+-- ---- a datagram is handed to one
+
+kept_fed : (name : Naming) (out : List ℕ) (all one other : List Placed) (n : ℕ) → IsKept name out all one n None → IsKept name out all other n None
+kept_fed name out all one other n (inl none) = inl none
+kept_fed name out all one other n (inr gone) = inr gone
+
+module _ (got : ℕ → Bool) (old new : BTreeMap ℕ Watched) (name : Naming) (out : List ℕ) (p : Placed) (older : List Placed) (m : ℕ) (fresh : got m ≡ false) where
+  handed_others : (n : ℕ) → (m == n) ≡ false → get nat_cmp new n ≡ get nat_cmp old n → AreHanded got old name out p older
+      → IsKept name out (p ∷ older) (if ((m == n) || got n) then p ∷ older else older) n (get nat_cmp new n)
+  handed_others n off same kept = subst (IsKept name out (p ∷ older) (if ((m == n) || got n) then p ∷ older else older) n) (sym same)
+      (subst (λ b. IsKept name out (p ∷ older) (if b then p ∷ older else older) n (get nat_cmp old n)) (sym (ap (λ b. b || got n) off)) (kept n))
+
+  pub handed_none : get nat_cmp old m ≡ None → ((n : ℕ) → get nat_cmp new n ≡ get nat_cmp old n) → AreHanded got old name out p older → AreHanded (λ n. is_it n (Some m) || got n) new name out p older
+  handed_none none same kept = λ n. by_test (m == n)
+      (λ is. subst (IsKept name out (p ∷ older) (if ((m == n) || got n) then p ∷ older else older) n) (sym (same n ∙ ap (get nat_cmp old) (sym (eqb-true m n is)) ∙ none))
+      (kept_fed name out (p ∷ older) (if got n then p ∷ older else older) (if ((m == n) || got n) then p ∷ older else older) n
+      (subst (IsKept name out (p ∷ older) (if got n then p ∷ older else older) n) (ap (get nat_cmp old) (sym (eqb-true m n is)) ∙ none) (kept n))))
+      (λ off. handed_others n off (same n) kept)
+
+  pub handed_one : (w v : Watched) → get nat_cmp old m ≡ Some w → ((n : ℕ) → get nat_cmp new n ≡ cond (is_eq (nat_cmp m n)) (Some v) (get nat_cmp old n))
+      → v.judge.client.transfer ≡ w.judge.client.transfer → IsWatching v w.judge.client.transfer name (p ∷ older)
+      → AreHanded got old name out p older → AreHanded (λ n. is_it n (Some m) || got n) new name out p older
+  handed_one w v was updates same stands kept = λ n. by_test (m == n)
+      (λ is. subst (λ k. IsKept name out (p ∷ older) (if ((m == k) || got k) then p ∷ older else older) k (get nat_cmp new k)) (eqb-true m n is) here)
+      (λ off. handed_others n off (updates n ∙ ap (λ b. cond b (Some v) (get nat_cmp old n)) (same_number m n ∙ off)) kept) where
+        held : IsKept name out (p ∷ older) older m (Some w)
+        held = subst (λ b. IsKept name out (p ∷ older) (if b then p ∷ older else older) m (Some w)) fresh (subst (IsKept name out (p ∷ older) (if got m then p ∷ older else older) m) was (kept m))
+
+        here : IsKept name out (p ∷ older) (if ((m == m) || got m) then p ∷ older else older) m (get nat_cmp new m)
+        here = subst (IsKept name out (p ∷ older) (if ((m == m) || got m) then p ∷ older else older) m)
+            (sym (updates m ∙ ap (λ b. cond b (Some v) (get nat_cmp old m)) (same_number m m ∙ is_itself m)))
+            (subst (λ b. IsKept name out (p ∷ older) (if (b || got m) then p ∷ older else older) m (Some v)) (sym (is_itself m))
+            (held.0 ∙ ap Some (sym same), subst (λ (y : Transfer). IsWatching v y name (p ∷ older)) (sym same) stands))
+
+pub has_it : (m : ℕ) (got : ℕ → Bool) → ((k : ℕ) → is_it k (Some m) ≡ true → got k ≡ false) → got m ≡ false
+has_it m got fresh = fresh m (is_itself m)
+
+-- ---- it was handed to all of which it says something
+
+no_answer : (may own : Bool) → own ≡ false → (may && not own) ≡ false → may ≡ false
+no_answer may own off none = by_test may (λ yes. absurd (cc)) (λ no. no)
+
+pub handed_all : (watched : BTreeMap ℕ Watched) (name : Naming) (out : List ℕ) (p : Placed) (older : List Placed) (own answered : Option ℕ)
+    → ((n : ℕ) → is_about n p ≡ is_it n own) → ((n : ℕ) → is_it n answered ≡ (is_it n (may_be_answer_of p older) && not (is_it n own)))
+    → AreHanded (λ n. is_it n answered || is_it n own) watched name out p older → AreKept watched name out (p ∷ older) (p ∷ older)
+handed_all watched name out p older own answered about apart kept = λ n. by n (get nat_cmp watched n) (kept n) where
+  by : (n : ℕ) (o : Option Watched) → IsKept name out (p ∷ older) (if (is_it n answered || is_it n own) then p ∷ older else older) n o → IsKept name out (p ∷ older) (p ∷ older) n o
+  by n None is = kept_fed name out (p ∷ older) (if (is_it n answered || is_it n own) then p ∷ older else older) (p ∷ older) n is
+  by n (Some w) is = by_test (is_it n answered || is_it n own)
+      (λ yes. subst (λ b. IsKept name out (p ∷ older) (if b then p ∷ older else older) n (Some w)) yes is)
+      (λ no.
+      let parts = or_parts (is_it n answered) (is_it n own) no in
+      let own_no : is_it n own ≡ false = parts.1 in
+      let here : IsKept name out (p ∷ older) older n (Some w) = subst (λ b. IsKept name out (p ∷ older) (if b then p ∷ older else older) n (Some w)) no is in
+      let number : w.judge.client.transfer.number ≡ n = opened_number n (p ∷ older) w.judge.client.transfer here.0 in
+      let off : is_about w.judge.client.transfer.number p ≡ false = ap (λ k. is_about k p) number ∙ about n ∙ own_no in
+      let away : is_it w.judge.client.transfer.number (may_be_answer_of p older) ≡ false = ap (λ k. is_it k (may_be_answer_of p older)) number ∙ no_answer (is_it n (may_be_answer_of p older)) (is_it n own) own_no (sym (apart n) ∙ parts.0) in
+      (here.0, watching_on w w.judge.client.transfer name p older off away here.1))

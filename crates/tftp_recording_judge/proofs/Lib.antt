@@ -1,0 +1,2 @@
+mod Watching
+mod Keeping

@@ -1,0 +1,142 @@
+//! The judge of a whole recording.
+
+ghost use Rattle.std.specs.Prelude.{◌≡◌, ◌≢◌, ◌≤◌, ◌+◌, ◌^◌, ◌<◌, ◌∷◌, ◌⊎◌, ℕ, List, [], length, max, IfOk, IfSome, IsErr, IsSome, MatchBool, MatchOption, OnErr, OnOk, Err, None, Some, true, false};
+ghost use Rattle.tftp_recording_judge.specs.Kept.{AreCrowded, IsCalled, IsWatching, StandsAfter, is_among, opened};
+ghost use Rattle.tftp_transfers.specs.Doubts.{doubts_of};
+ghost use Rattle.tftp_transfers.specs.Kept.{IsRecorded};
+ghost use Rattle.tftp_transfers.specs.Places.{clock, line, live, place_of, placed};
+ghost use Rattle.tftp_transfers.specs.Recording.{Recorded};
+ghost use Rattle.tftp_transfers.specs.declared.attribution.AttributionFault.{AttributionFault};
+ghost use Rattle.tftp_transfers.specs.declared.place.Place.TheVariants.{Nowhere};
+ghost use Rattle.tftp_views.specs.Captured.{Naming};
+
+use crate::hands::{hand_on, open};
+use crate::watched::Watched;
+use std::alloc::{AllocError, Global};
+use std::collections::BTreeMap;
+use std::marker::Model;
+use tftp_ends::Delivered;
+use tftp_transfers::{Attributed, Attribution, AttributionFault, Endpoint};
+use tftp_views::Party;
+
+/// The judge of a whole recording, fed from its first datagram to its last: it divides what passed into transfers, and
+/// judges each at both its ends.
+#[derive(Drop)]
+pub struct RecordingJudge<D: Delivered + Drop> {
+    attribution: Attribution,
+    watched: BTreeMap<u64, Watched<D>>,
+    failed: bool,
+}
+
+impl<D: Delivered + Drop> Model for RecordingJudge<D> {
+    ghost use Rattle.std.specs.Coded.{codes};
+    ghost use Rattle.tftp_ends.specs.StatesKept.{sender_code, receiver_code};
+    ghost use Rattle.tftp_packet.specs.Owned.{options_code, parts_code};
+    ghost use Rattle.tftp_recording_judge.specs.Kept.{Recording};
+
+    ghost Value = { Recording };
+
+    ghost coded = { Prim.hlevel (codes, sender_code, receiver_code, options_code, parts_code) };
+
+    ghost view = { λ r. record { attribution = r.attribution; watched = r.watched; failed = r.failed } };
+}
+
+impl<D: Delivered + Drop> RecordingJudge<D> {
+    /// Nothing has passed. Requests go to port 69 (RFC 1350, section 4) and to the ports that are named.
+    pub fn new(alloc: Global, named: &[u16]) -> Result<Self, AllocError>
+        ensures { (name : Naming) → IfOk result (λ r. StandsAfter r named.now name [] []) }
+    {
+        Ok(RecordingJudge {
+            attribution: Attribution::new(alloc, named)?,
+            watched: BTreeMap::new(alloc),
+            failed: false,
+        })
+    }
+
+    /// Takes the next datagram of the recording, and answers where it belongs and what it makes doubtful. The time is in
+    /// nanoseconds; `is_spelled` says whether the payload spells a request from its first byte to its last. After a fault
+    /// it has failed for good.
+    pub fn feed(
+        &mut self,
+        alloc: Global,
+        time: u64,
+        source: &Party,
+        target: &Party,
+        payload: &[u8],
+        is_spelled: bool,
+    ) -> Result<Attributed, AttributionFault>
+        requires short { length payload.now ≤ 65527 }
+        ensures place { (named : List ℕ) (name : Naming) (out : List ℕ) (recorded : List Recorded) (d : Recorded)
+            → StandsAfter self.old named name out recorded
+            → IsRecorded d time source.now.end target.now.end payload.now is_spelled
+            → IfOk result (λ found. found.place ≡ place_of named (placed named recorded) (max time (clock (placed named recorded))) d) }
+        ensures stands { (named : List ℕ) (name : Naming) (out : List ℕ) (recorded : List Recorded) (d : Recorded)
+            → StandsAfter self.old named name out recorded
+            → IsRecorded d time source.now.end target.now.end payload.now is_spelled
+            → IsCalled name source.now → IsCalled name target.now
+            → OnOk result (StandsAfter self.new named name out (d ∷ recorded)) }
+        ensures spare { (named : List ℕ) (name : Naming) (out : List ℕ) (recorded : List Recorded) (d : Recorded)
+            → StandsAfter self.old named name out recorded
+            → IsRecorded d time source.now.end target.now.end payload.now is_spelled
+            → place_of named (placed named recorded) (max time (clock (placed named recorded))) d ≡ Nowhere
+            → result ≢ Err AttributionFault.Memory }
+        ensures full { result ≡ Err AttributionFault.TooMany → (self.old.attribution.count + 1 ≡ 2 ^ 64) ⊎ AreCrowded self.old.watched }
+        ensures fails { OnErr result (self.new.failed ≡ true) }
+        ensures for_good { self.old.failed ≡ true → IsErr result }
+    {
+        if self.failed {
+            return Err(AttributionFault::Memory);
+        }
+        self.failed = true;
+        let found = self
+            .attribution
+            .feed(alloc, time, source.end, target.end, payload, is_spelled)?;
+        open(&mut self.watched, alloc, &found.place)?;
+        hand_on(&mut self.watched, alloc, &found, source, target, payload)?;
+        self.failed = false;
+        Ok(found)
+    }
+
+    /// The transfer with this number, if it was opened and not handed out.
+    pub fn watched(&self, number: u64) -> Option<&Watched<D>>
+        ensures { (named : List ℕ) (name : Naming) (out : List ℕ) (recorded : List Recorded)
+            → StandsAfter self.now named name out recorded
+            → MatchOption result ((opened number (placed named recorded) ≡ None) ⊎ (is_among number out ≡ true))
+            (λ w. (opened number (placed named recorded) ≡ Some w.now.judge.client.transfer)
+            × IsWatching w.now w.now.judge.client.transfer name (placed named recorded)) }
+    {
+        self.watched.get(&number)
+    }
+
+    /// Hands out the transfer that was opened first of those that were not handed out.
+    pub fn pop_first(&mut self) -> Option<Watched<D>>
+        ensures all { (named : List ℕ) (name : Naming) (out : List ℕ) (recorded : List Recorded)
+            → StandsAfter self.old named name out recorded → result ≡ None
+            → (n : ℕ) → (opened n (placed named recorded) ≡ None) ⊎ (is_among n out ≡ true) }
+        ensures watched { (named : List ℕ) (name : Naming) (out : List ℕ) (recorded : List Recorded)
+            → StandsAfter self.old named name out recorded
+            → IfSome result (λ w. (opened w.judge.client.transfer.number (placed named recorded) ≡ Some w.judge.client.transfer)
+            × IsWatching w w.judge.client.transfer name (placed named recorded)) }
+        ensures stands { (named : List ℕ) (name : Naming) (out : List ℕ) (recorded : List Recorded)
+            → StandsAfter self.old named name out recorded
+            → IfSome result (λ w. StandsAfter self.new named name (w.judge.client.transfer.number ∷ out) recorded) }
+        ensures first { (named : List ℕ) (name : Naming) (out : List ℕ) (recorded : List Recorded) (n : ℕ)
+            → StandsAfter self.old named name out recorded → IsSome (opened n (placed named recorded)) → is_among n out ≡ false
+            → IfSome result (λ w. w.judge.client.transfer.number ≤ n) }
+    {
+        let (_, first) = self.watched.pop_first()?;
+        Some(first)
+    }
+
+    /// Whether at this time no line of the client's goes on: it has been silent for more than 300 s, or has not begun.
+    /// Then no datagram joins its transfers any more.
+    pub fn is_over(&self, client: &Endpoint, time: u64) -> bool
+        ensures { (named : List ℕ) (name : Naming) (out : List ℕ) (recorded : List Recorded)
+            → StandsAfter self.now named name out recorded
+            → MatchBool result
+            (live (max time (clock (placed named recorded))) (line client.now (placed named recorded)) ≡ [])
+            (live (max time (clock (placed named recorded))) (line client.now (placed named recorded)) ≢ []) }
+    {
+        self.attribution.is_over(client, time)
+    }
+}
