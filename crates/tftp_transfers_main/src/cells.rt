@@ -43,10 +43,7 @@ pub fn put_plain(line: &mut String, bytes: &[u8]) -> Result<(), AllocError> {
     Ok(())
 }
 
+/// The digit of a value below 16.
 fn digit_of(value: u8) -> char {
-    char::from(if value < 10 {
-        b'0' + value
-    } else {
-        b'a' + value - 10
-    })
+    char::from_digit(u32::from(value), 16).unwrap_or('?')
 }

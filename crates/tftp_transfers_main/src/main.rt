@@ -10,7 +10,6 @@ mod notes;
 mod passing;
 mod reading;
 mod reasons;
-mod recording_judge;
 mod session;
 mod shown;
 mod teller;

@@ -2,7 +2,6 @@
 
 use crate::notes::Notes;
 use crate::passing::{Passing, about};
-use crate::recording_judge::{RecordingJudge, Watched};
 use crate::texts::Kept;
 use crate::trail::Trail;
 use anyhow::{Result, bail};
@@ -11,6 +10,7 @@ use std::collections::BTreeMap;
 use tftp_ends::RingDelivered;
 use tftp_parties::party_of;
 use tftp_recording::{Datagram, Event, Fate};
+use tftp_recording_judge::{RecordingJudge, Watched};
 use tftp_transfers::{Attributed, AttributionFault, Place, Transfer, spells_request};
 
 /// A longer payload fits no datagram of UDP (RFC 768).

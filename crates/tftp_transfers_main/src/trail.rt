@@ -3,11 +3,11 @@
 use crate::blame::{Blame, Blamed};
 use crate::passing::Passing;
 use crate::reasons::Doubted;
-use crate::recording_judge::Watched;
 use crate::twice::Twice;
 use std::alloc::{AllocError, Global};
 use tftp_ends::RingDelivered;
 use tftp_judge::{Meaning, Refusal};
+use tftp_recording_judge::Watched;
 use tftp_transfers::{Attributed, Endpoint, Place, Transfer, TransferDoubts, TransferEnds};
 
 /// A transfer, as far as it was read.
