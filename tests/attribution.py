@@ -24,8 +24,8 @@ from captures import EndName
 from fuzzing.dense import alone, drawn_reads, whole
 from fuzzing.places import differences, spoiled
 from fuzzing.program import Program
-from fuzzing.recorded import checked, recording
 from fuzzing.sessions import SERVER, STRANGER, simulated
+from judged import checked, recording
 from tftp_tools.attribution import Attribution, Datagram, Transfer, attributed
 
 Told = collections.Counter[tuple[str, str]]
