@@ -73,22 +73,24 @@ def read(
     return [request, block, Datagram(mine, client, theirs, server, ack(1)[0])]
 
 
-def rows_at_both(rows: list[Row]) -> list[list[str]]:
-    """Rows of the table, a row at each end, where both say the same too."""
-    table = []
-    for row in rows:
-        for place in ("client", "server") if row.place == "both" else (row.place,):
-            table.append(["-", str(row.number), place, str(row.frame or "-"), row.verdict])
-    return table
+def table_of(*ends: list[Row]) -> list[list[str]]:
+    """Rows of the table, of each transfer one at each end."""
+    return [["-", str(it.number), it.place, str(it.frame or "-"), it.verdict] for pair in zip(*ends) for it in pair]
 
 
 def try_examples(trial: Trial, program: str) -> None:
     for case in CASES:
         given = (EXAMPLES / f"loopback-{case.name}.pcap").read_bytes()
+        at_ends = [checked(program, given, "--end", end) for end in ("client", "server")]
+        holds = are_wanted(case, table_of(*(rows for rows, _, _ in at_ends)))
+        trial.check(f"{case.name}, the verdicts", holds, at_ends)
+        for rows, _, status in at_ends:
+            is_bad = any(not row.verdict.startswith("accepted") for row in rows)
+            trial.check(f"{case.name}, the status", status == is_bad and not any(it.doubts for it in rows), at_ends)
         rows, told, status = checked(program, given)
-        refused = any(not row.verdict.startswith("accepted") for row in rows)
-        holds = are_wanted(case, rows_at_both(rows)) and status == refused and not any(row.doubts for row in rows)
-        trial.check(f"{case.name}, the verdicts", holds, (rows, told, status))
+        is_bad = any(not row.verdict.startswith("accepted") for row in rows)
+        holds = len(rows) == len(case.verdicts) and status == is_bad and not told
+        trial.check(f"{case.name}, where no end is named", holds, (rows, told, status))
     session = EXAMPLES / "loopback-session.pcap"
     output, _, status = said(program, [str(session)], b"")
     listed = "".join(" ".join(line.split()) + "\n" for line in output.splitlines())
@@ -98,6 +100,9 @@ def try_examples(trial: Trial, program: str) -> None:
     wanted = {"number": 1, "client": "192.0.2.1:34056", "server": "192.0.2.1:51973", "kind": "get", "mode": "octet"}
     wanted |= {"file": '"boot.cfg"', "options": "-", "datagrams": 7, "first_frame": 1, "last_frame": 7}
     trial.check("the list of a session in JSON", first == wanted, first)
+    rows, _, status = checked(program, session.read_bytes())
+    frames = [(row.place, row.frame) for row in rows]
+    trial.check("both ends at one host", frames == [("both", 17 if row.number == 3 else None) for row in rows], rows)
     rows, _, status = checked(program, session.read_bytes(), *AT_CLIENT)
     wanted_row = Row(3, "client", 17, "refused datagram 3 rule 26 AckAhead")
     trial.check("the frame of a refused datagram", rows[2] == wanted_row and status == 1, rows)
