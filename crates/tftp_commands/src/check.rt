@@ -33,7 +33,8 @@ pub fn check<R: Read, W: Write>(
     }
 }
 
-fn say_accepted<W: Write>(alloc: Global, writer: &mut Tallied<W>, meaning: &Meaning) -> Status
+/// Says what a text means that is accepted.
+pub fn say_accepted<W: Write>(alloc: Global, writer: &mut Tallied<W>, meaning: &Meaning) -> Status
     requires { writer.old.1 ≡ false }
     ensures { IsWritten (W.contents writer.old.0) (W.contents writer.new.0) writer.new.1 (checked (Ok meaning.now)) result }
 {

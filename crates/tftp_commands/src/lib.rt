@@ -15,5 +15,6 @@ mod status;
 mod verdicts;
 mod words;
 
+pub use check::{say_accepted, say_verdict};
 pub use session::run;
 pub use status::Status;
