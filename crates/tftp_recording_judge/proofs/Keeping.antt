@@ -1,8 +1,9 @@
 -- What is kept of all transfers, with one datagram more.
-use Rattle.std.proofs.Common.{rules, ◌≡◌, ℕ, Bool, true, false, cond, List, [], ◌∷◌, Option, Some, None, Result, Ok, Err, ◌⊎◌, inl, inr, refl, sym, ap, subst, ◌∙◌}
-use Rattle.std.specs.Prelude.{◌==◌, ◌&&◌, ◌||◌, not, OnOk, if◌then◌else◌}
-use Rattle.std.specs.BTreeMap.{get, BTreeMap}
-use Rattle.std.specs.Ordering.{is_eq, nat_cmp}
+use Rattle.std.proofs.Common.{rules, arith, ◌≡◌, ◌≤◌, ◌<◌, ◌^◌, ℕ, suc, Bool, true, false, cond, List, [], ◌∷◌, length, Option, Some, None, Result, Ok, Err, ◌⊎◌, inl, inr, refl, sym, ap, subst, ◌∙◌}
+use Rattle.std.specs.Prelude.{◌==◌, ◌&&◌, ◌||◌, not, IsSome, OnOk, if◌then◌else◌}
+use Rattle.std.specs.BTreeMap.{get, is_at, BTreeMap, IsLowerBound, IsUnchanged}
+use Rattle.std.specs.Map.{lookup}
+use Rattle.std.specs.Ordering.{is_eq, is_gt, nat_cmp}
 use Rattle.std.specs.List.{All}
 use Rattle.std.proofs.lemmas.Bool.{eqb-true, or_parts}
 use Rattle.std.proofs.lemmas.List.Elements.{All-head, All-tail}
@@ -10,12 +11,14 @@ use Rattle.tftp_transfers.specs.declared.place.Place.{Place}
 use Rattle.tftp_transfers.specs.declared.place.Place.TheVariants.{Opens, Repeats, Talks, Apart, Beside, Nowhere}
 use Rattle.tftp_transfers.specs.declared.place.Transfer.{Transfer}
 use Rattle.tftp_transfers.specs.Recording.{Recorded}
-use Rattle.tftp_transfers.specs.Places.{Placed, newest_of, transfer_of}
+use Rattle.tftp_transfers.specs.Places.{Placed, newest_of, place_of, placed, transfer_of}
 use Rattle.tftp_transfers.specs.Views.{is_about, opened_it}
-use Rattle.tftp_transfers.specs.Doubts.{is_answered_apart, is_it, may_be_answer_of}
+use Rattle.tftp_transfers.specs.Doubts.{is_it, may_be_answer_of}
 use Rattle.tftp_transfers.proofs.Lines.{by_test}
+use Rattle.tftp_transfers.proofs.Numbers.{none_answers_before, none_before, opening_number}
 use Rattle.tftp_views.specs.Captured.{Naming}
-use Rattle.tftp_recording_judge.specs.Kept.{AreHanded, AreKept, IsKept, IsUnheard, IsWatching, Watched, is_among, opened}
+use Rattle.tftp_views.specs.Kept.{fed_to}
+use Rattle.tftp_recording_judge.specs.Kept.{AreCrowded, AreHanded, AreKept, IsCrowded, IsKept, IsUnheard, IsWatching, Watched, is_among, opened}
 use Rattle.tftp_recording_judge.proofs.Watching.{watching_on, watching_unheard}
 
 pub same_number : (m n : ℕ) → is_eq (nat_cmp m n) ≡ (m == n)
@@ -35,7 +38,7 @@ opening_about n d now (Apart c) off = refl
 opening_about n d now (Beside x) off = refl
 opening_about n d now Nowhere off = refl
 
-found_opening : Option Placed → Option Transfer
+abbrev found_opening : Option Placed → Option Transfer
 found_opening None = None
 found_opening (Some p) = transfer_of p.place
 
@@ -61,18 +64,18 @@ none_opened n (p ∷ older) all =
 opening_of : (n : ℕ) (d : Recorded) (now : ℕ) (place : Place) (x : Transfer) → place ≡ Opens x → opened_it n (record { datagram = d; moment = now; place = place }) ≡ (x.number == n)
 opening_of n d now place x is = ap (λ (q : Place). opened_it n (record { datagram = d; moment = now; place = q })) is
 
-opening_number : (n : ℕ) (d : Recorded) (now : ℕ) (place : Place) (x : Transfer) → opened_it n (record { datagram = d; moment = now; place = place }) ≡ true → transfer_of place ≡ Some x → x.number ≡ n
-opening_number n d now (Opens y) x is of = let this : y ≡ x = cc in eqb-true x.number n (subst (λ (z : Transfer). (z.number == n) ≡ true) this is)
-opening_number n d now (Repeats y) x is of = absurd (cc)
-opening_number n d now (Talks y) x is of = absurd (cc)
-opening_number n d now (Apart c) x is of = absurd (cc)
-opening_number n d now (Beside y) x is of = absurd (cc)
-opening_number n d now Nowhere x is of = absurd (cc)
+numbered : (n : ℕ) (d : Recorded) (now : ℕ) (place : Place) (x : Transfer) → opened_it n (record { datagram = d; moment = now; place = place }) ≡ true → transfer_of place ≡ Some x → x.number ≡ n
+numbered n d now (Opens y) x is of = let this : y ≡ x = cc in eqb-true x.number n (subst (λ (z : Transfer). (z.number == n) ≡ true) this is)
+numbered n d now (Repeats y) x is of = absurd (cc)
+numbered n d now (Talks y) x is of = absurd (cc)
+numbered n d now (Apart c) x is of = absurd (cc)
+numbered n d now (Beside y) x is of = absurd (cc)
+numbered n d now Nowhere x is of = absurd (cc)
 
 pub opened_number : (n : ℕ) (placed : List Placed) (x : Transfer) → opened n placed ≡ Some x → x.number ≡ n
 opened_number n [] x is = absurd (cc)
 opened_number n (p ∷ older) x is = by_test (opened_it n p)
-    (λ yes. opening_number n p.datagram p.moment p.place x yes (sym (opened_here n p older yes) ∙ is))
+    (λ yes. numbered n p.datagram p.moment p.place x yes (sym (opened_here n p older yes) ∙ is))
     (λ no. opened_number n older x (sym (opened_elsewhere n p older no) ∙ is))
 
 -- ---- a datagram that opens none
@@ -134,8 +137,27 @@ module _ (got : ℕ → Bool) (old new : BTreeMap ℕ Watched) (name : Naming) (
             (subst (λ b. IsKept name out (p ∷ older) (if (b || got m) then p ∷ older else older) m (Some v)) (sym (is_itself m))
             (held.0 ∙ ap Some (sym same), subst (λ (y : Transfer). IsWatching v y name (p ∷ older)) (sym same) stands))
 
-pub has_it : (m : ℕ) (got : ℕ → Bool) → ((k : ℕ) → is_it k (Some m) ≡ true → got k ≡ false) → got m ≡ false
-has_it m got fresh = fresh m (is_itself m)
+  pub held_one : (w : Watched) → get nat_cmp old m ≡ Some w → AreHanded got old name out p older → (w.judge.client.transfer.number ≡ m) × IsWatching w w.judge.client.transfer name older
+  held_one w was kept =
+      let held : IsKept name out (p ∷ older) older m (Some w) = subst (λ b. IsKept name out (p ∷ older) (if b then p ∷ older else older) m (Some w)) fresh (subst (IsKept name out (p ∷ older) (if got m then p ∷ older else older) m) was (kept m)) in
+      (opened_number m (p ∷ older) w.judge.client.transfer held.0, held.1)
+
+pub or_none : (b : Bool) → (b || false) ≡ b
+or_none true = refl
+or_none false = refl
+
+pub handed_alone : (watched : BTreeMap ℕ Watched) (name : Naming) (out : List ℕ) (p : Placed) (older : List Placed) (m : ℕ)
+    → AreHanded (λ n. is_it n (Some m) || false) watched name out p older → AreHanded (λ n. is_it n (Some m)) watched name out p older
+handed_alone watched name out p older m kept = λ n. subst (λ b. IsKept name out (p ∷ older) (if b then p ∷ older else older) n (get nat_cmp watched n)) (or_none (m == n)) (kept n)
+
+pub on_ok_map : {X E P Q : Type 0} (r : Result X E) → (P → Q) → OnOk r P → OnOk r Q
+on_ok_map (Ok x) f is = f is
+on_ok_map (Err e) f is = tt
+
+pub not_own : (may own : Bool) → (may && not own) ≡ true → own ≡ false
+not_own true false is = refl
+not_own true true is = absurd (cc)
+not_own false own is = absurd (cc)
 
 -- ---- it was handed to all of which it says something
 
@@ -158,3 +180,93 @@ handed_all watched name out p older own answered about apart kept = λ n. by n (
       let off : is_about w.judge.client.transfer.number p ≡ false = ap (λ k. is_about k p) number ∙ about n ∙ own_no in
       let away : is_it w.judge.client.transfer.number (may_be_answer_of p older) ≡ false = ap (λ k. is_it k (may_be_answer_of p older)) number ∙ no_answer (is_it n (may_be_answer_of p older)) (is_it n own) own_no (sym (apart n) ∙ parts.0) in
       (here.0, watching_on w w.judge.client.transfer name p older off away here.1))
+
+-- ---- how many datagrams a judge has
+
+pub crowded_same : (old new : BTreeMap ℕ Watched) → IsUnchanged old new → AreCrowded new → AreCrowded old
+crowded_same old new same crowded = record {
+  number = crowded.number;
+  one = crowded.one;
+  kept = ap (λ es. lookup (is_at (nat_cmp crowded.number)) es) (sym same) ∙ crowded.kept;
+  crowded = crowded.crowded;
+}
+
+pub empty_get : (watched : BTreeMap ℕ Watched) (n : ℕ) → length watched.entries ≡ 0 → get nat_cmp watched n ≡ None
+empty_get watched n none = ap (λ es. lookup (is_at (nat_cmp n)) es) (empty watched.entries none) where
+  empty : {X : Type 0} (xs : List X) → length xs ≡ 0 → xs ≡ []
+  empty [] none = refl
+  empty (x ∷ xs) none = absurd (cc)
+
+pub crowded_more : (old new : BTreeMap ℕ Watched) (w : Watched) (m : ℕ) → (w.judge.client.end.judge.fed ≡ 0) × (fed_to w.judge.server ≡ 0)
+    → ((n : ℕ) → get nat_cmp new n ≡ cond (is_eq (nat_cmp m n)) (Some w) (get nat_cmp old n)) → AreCrowded new → AreCrowded old
+crowded_more old new w m none updates crowded = by_test (m == crowded.number)
+    (λ is. let this : Some w ≡ Some crowded.one = sym (updates crowded.number ∙ ap (λ b. cond b (Some w) (get nat_cmp old crowded.number)) (same_number m crowded.number ∙ is)) ∙ crowded.kept in
+    let same : w ≡ crowded.one = cc in
+    absurd (empty w none (subst IsCrowded (sym same) crowded.crowded)))
+    (λ off. record {
+      number = crowded.number;
+      one = crowded.one;
+      kept = sym (updates crowded.number ∙ ap (λ b. cond b (Some w) (get nat_cmp old crowded.number)) (same_number m crowded.number ∙ off)) ∙ crowded.kept;
+      crowded = crowded.crowded;
+    })
+  where
+    empty : (w : Watched) → (w.judge.client.end.judge.fed ≡ 0) × (fed_to w.judge.server ≡ 0) → IsCrowded w → ⊥
+    empty w none (inl many) = let no : 2 ^ 40 ≤ 0 = subst (λ n. 2 ^ 40 ≤ n) none.0 many in omega arith
+    empty w none (inr many) = let no : 2 ^ 40 ≤ 0 = subst (λ n. 2 ^ 40 ≤ n) none.1 many in omega arith
+
+-- ---- before an opening
+
+placed_length : (named : List ℕ) (recorded : List Recorded) → length (placed named recorded) ≡ length recorded
+placed_length named [] = refl
+placed_length named (d ∷ recorded) = ap suc (placed_length named recorded)
+
+pub unheard_before : (named : List ℕ) (recorded : List Recorded) (now : ℕ) (d : Recorded) (x : Transfer) → place_of named (placed named recorded) now d ≡ Opens x → IsUnheard x.number (placed named recorded)
+unheard_before named recorded now d x opens =
+    let number : x.number ≡ length (placed named recorded) = opening_number named (placed named recorded) now d x opens in
+    let same : length (placed named recorded) ≡ length recorded = placed_length named recorded in
+    let up : length recorded ≤ x.number = omega arith in
+    (none_before named recorded x.number up, none_answers_before named recorded x.number up)
+
+-- ---- one is handed out
+
+pub kept_here : (watched : BTreeMap ℕ Watched) (name : Naming) (out : List ℕ) (all : List Placed) (k : ℕ) (w : Watched) → get nat_cmp watched k ≡ Some w → AreKept watched name out all all
+    → (w.judge.client.transfer.number ≡ k) × ((opened w.judge.client.transfer.number all ≡ Some w.judge.client.transfer) × IsWatching w w.judge.client.transfer name all)
+kept_here watched name out all k w was kept =
+    let held : IsKept name out all all k (Some w) = subst (IsKept name out all all k) was (kept k) in
+    let number : w.judge.client.transfer.number ≡ k = opened_number k all w.judge.client.transfer held.0 in
+    (number, (ap (λ n. opened n all) number ∙ held.0, held.1))
+
+or_yes : (one other : Bool) → other ≡ true → (one || other) ≡ true
+or_yes true other is = refl
+or_yes false other is = is
+
+kept_out : (name : Naming) (out : List ℕ) (m : ℕ) (all : List Placed) (n : ℕ) (o : Option Watched) → IsKept name out all all n o → IsKept name (m ∷ out) all all n o
+kept_out name out m all n None (inl none) = inl none
+kept_out name out m all n None (inr gone) = inr (or_yes (m == n) (is_among n out) gone)
+kept_out name out m all n (Some w) kept = kept
+
+pub kept_less : (old new : BTreeMap ℕ Watched) (name : Naming) (out : List ℕ) (all : List Placed) (k : ℕ) (w : Watched) → get nat_cmp old k ≡ Some w
+    → ((n : ℕ) → get nat_cmp new n ≡ cond (is_eq (nat_cmp k n)) None (get nat_cmp old n)) → AreKept old name out all all → AreKept new name (w.judge.client.transfer.number ∷ out) all all
+kept_less old new name out all k w was updates kept = λ n. by_test (k == n)
+    (λ is. subst (IsKept name (w.judge.client.transfer.number ∷ out) all all n) (sym (updates n ∙ ap (λ b. cond b None (get nat_cmp old n)) (same_number k n ∙ is)))
+    (inr (ap (λ m. (m == n) || is_among n out) (kept_here old name out all k w was kept).0 ∙ ap (λ b. b || is_among n out) is)))
+    (λ off. subst (IsKept name (w.judge.client.transfer.number ∷ out) all all n) (sym (updates n ∙ ap (λ b. cond b None (get nat_cmp old n)) (same_number k n ∙ off)))
+    (kept_out name out w.judge.client.transfer.number all n (get nat_cmp old n) (kept n)))
+
+pub none_kept : (watched : BTreeMap ℕ Watched) (name : Naming) (out : List ℕ) (all : List Placed) (n : ℕ) → ((0 < length watched.entries) → ⊥) → IsKept name out all all n (get nat_cmp watched n)
+    → (opened n all ≡ None) ⊎ (is_among n out ≡ true)
+none_kept watched name out all n none kept = subst (IsKept name out all all n) (empty_get watched n (no_length watched.entries none)) kept where
+  no_length : {X : Type 0} (xs : List X) → ((0 < length xs) → ⊥) → length xs ≡ 0
+  no_length [] none = refl
+  no_length (x ∷ xs) none = absurd (none (omega arith))
+
+pub least_kept : (watched : BTreeMap ℕ Watched) (name : Naming) (out : List ℕ) (all : List Placed) (k n : ℕ) → IsLowerBound nat_cmp watched k → IsSome (opened n all) → is_among n out ≡ false
+    → IsKept name out all all n (get nat_cmp watched n) → k ≤ n
+least_kept watched name out all k n least some here kept = at_most k n (least n (by (get nat_cmp watched n) kept)) where
+  by : (o : Option Watched) → IsKept name out all all n o → IsSome o
+  by None (inl none) = let no : false ≡ true = subst IsSome none some in absurd (cc)
+  by None (inr gone) = let both : true ≡ false = sym gone ∙ here in absurd (cc)
+  by (Some w) kept = refl
+
+  at_most : (k n : ℕ) → is_gt (nat_cmp k n) ≡ false → k ≤ n
+  at_most k n off = search rules

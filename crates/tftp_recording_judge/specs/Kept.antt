@@ -1,5 +1,5 @@
 -- What the judge of a recording keeps, and for which recordings it stands. Lists have the newest first.
-use Rattle.std.specs.Prelude.{◌≡◌, ◌≤◌, ◌^◌, ◌⊎◌, ◌==◌, ℕ, Bool, true, false, List, All, Option, Some, None, if◌then◌else◌}
+use Rattle.std.specs.Prelude.{◌≡◌, ◌≤◌, ◌^◌, ◌⊎◌, ◌==◌, ◌∷◌, ℕ, Bool, true, false, List, All, Option, Some, None, if◌then◌else◌}
 use Rattle.std.specs.BTreeMap.{BTreeMap, get}
 use Rattle.std.specs.List.{list_any}
 use Rattle.std.specs.Ordering.{nat_cmp}
@@ -63,18 +63,12 @@ IsKept name out all fed n (Some w) = (opened n all ≡ Some w.judge.client.trans
 abbrev pub AreKept : BTreeMap ℕ Watched → Naming → List ℕ → List Placed → List Placed → Type 0
 AreKept watched name out all fed = (n : ℕ) → IsKept name out all fed n (get nat_cmp watched n)
 
--- The places of the datagrams, and the judges of the transfers; or memory was wanting for a datagram.
-pub record Recording : Type 0 where
-  pub attribution : Attribution
-  pub watched : BTreeMap ℕ Watched
-  pub failed : Bool
-
--- It was fed this recording, and nothing else: each transfer of it has its judges, but for those that were handed out.
--- `named` are the service ports that were named, `name` names each host.
-pub record StandsAfter (r : Recording) (named : List ℕ) (name : Naming) (out : List ℕ) (recorded : List Recorded) : Type 0 where
-  pub works : r.failed ≡ false
-  pub attribution : IsAfter r.attribution named (placed named recorded)
-  pub transfers : AreKept r.watched name out (placed named recorded) (placed named recorded)
+-- What places the datagrams and the judges of the transfers were fed this recording, and nothing else: each transfer of it
+-- has its judges, but for those that were handed out. `named` are the service ports that were named, `name` names each host.
+pub record StandsAfter (a : Attribution) (watched : BTreeMap ℕ Watched) (failed : Bool) (named : List ℕ) (name : Naming) (out : List ℕ) (recorded : List Recorded) : Type 0 where
+  pub works : failed ≡ false
+  pub attribution : IsAfter a named (placed named recorded)
+  pub transfers : AreKept watched name out (placed named recorded) (placed named recorded)
 
 -- the host of an end is called by its name
 abbrev pub IsCalled : Naming → Party → Type 0

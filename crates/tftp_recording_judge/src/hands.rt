@@ -51,9 +51,13 @@ fn begin<D: Delivered + Drop>(
         → AreKept watched.old name out older older → OnOk result (AreKept watched.new name out (p ∷ older) older) }
     ensures crowded { AreCrowded watched.new → AreCrowded watched.old }
 {
-    watched.insert(transfer.number, Watched::new(alloc, transfer))?;
+    let before = watched.insert(transfer.number, Watched::new(alloc, transfer))?;
+    let_go(before);
     Ok(())
 }
+
+/// Lets what was kept go.
+fn let_go<D: Delivered + Drop>(_before: Option<Watched<D>>) {}
 
 /// The number of the transfer that a datagram is about: it passed at its client, or beside its server.
 pub(crate) fn about(place: &Place) -> Option<u64>

@@ -14,7 +14,6 @@ use crate::hands::{hand_on, open};
 use crate::watched::Watched;
 use std::alloc::{AllocError, Global};
 use std::collections::BTreeMap;
-use std::marker::Model;
 use tftp_ends::Delivered;
 use tftp_transfers::{Attributed, Attribution, AttributionFault, Endpoint};
 use tftp_views::Party;
@@ -28,23 +27,10 @@ pub struct RecordingJudge<D: Delivered + Drop> {
     failed: bool,
 }
 
-impl<D: Delivered + Drop> Model for RecordingJudge<D> {
-    ghost use Rattle.std.specs.Coded.{codes};
-    ghost use Rattle.tftp_ends.specs.StatesKept.{sender_code, receiver_code};
-    ghost use Rattle.tftp_packet.specs.Owned.{options_code, parts_code};
-    ghost use Rattle.tftp_recording_judge.specs.Kept.{Recording};
-
-    ghost Value = { Recording };
-
-    ghost coded = { Prim.hlevel (codes, sender_code, receiver_code, options_code, parts_code) };
-
-    ghost view = { λ r. record { attribution = r.attribution; watched = r.watched; failed = r.failed } };
-}
-
 impl<D: Delivered + Drop> RecordingJudge<D> {
     /// Nothing has passed. Requests go to port 69 (RFC 1350, section 4) and to the ports that are named.
     pub fn new(alloc: Global, named: &[u16]) -> Result<Self, AllocError>
-        ensures { (name : Naming) → IfOk result (λ r. StandsAfter r named.now name [] []) }
+        ensures { (name : Naming) → IfOk result (λ r. StandsAfter r.attribution r.watched r.failed named.now name [] []) }
     {
         Ok(RecordingJudge {
             attribution: Attribution::new(alloc, named)?,
@@ -67,16 +53,16 @@ impl<D: Delivered + Drop> RecordingJudge<D> {
     ) -> Result<Attributed, AttributionFault>
         requires short { length payload.now ≤ 65527 }
         ensures place { (named : List ℕ) (name : Naming) (out : List ℕ) (recorded : List Recorded) (d : Recorded)
-            → StandsAfter self.old named name out recorded
+            → StandsAfter self.old.attribution self.old.watched self.old.failed named name out recorded
             → IsRecorded d time source.now.end target.now.end payload.now is_spelled
             → IfOk result (λ found. found.place ≡ place_of named (placed named recorded) (max time (clock (placed named recorded))) d) }
         ensures stands { (named : List ℕ) (name : Naming) (out : List ℕ) (recorded : List Recorded) (d : Recorded)
-            → StandsAfter self.old named name out recorded
+            → StandsAfter self.old.attribution self.old.watched self.old.failed named name out recorded
             → IsRecorded d time source.now.end target.now.end payload.now is_spelled
             → IsCalled name source.now → IsCalled name target.now
-            → OnOk result (StandsAfter self.new named name out (d ∷ recorded)) }
+            → OnOk result (StandsAfter self.new.attribution self.new.watched self.new.failed named name out (d ∷ recorded)) }
         ensures spare { (named : List ℕ) (name : Naming) (out : List ℕ) (recorded : List Recorded) (d : Recorded)
-            → StandsAfter self.old named name out recorded
+            → StandsAfter self.old.attribution self.old.watched self.old.failed named name out recorded
             → IsRecorded d time source.now.end target.now.end payload.now is_spelled
             → place_of named (placed named recorded) (max time (clock (placed named recorded))) d ≡ Nowhere
             → result ≢ Err AttributionFault.Memory }
@@ -100,7 +86,7 @@ impl<D: Delivered + Drop> RecordingJudge<D> {
     /// The transfer with this number, if it was opened and not handed out.
     pub fn watched(&self, number: u64) -> Option<&Watched<D>>
         ensures { (named : List ℕ) (name : Naming) (out : List ℕ) (recorded : List Recorded)
-            → StandsAfter self.now named name out recorded
+            → StandsAfter self.now.attribution self.now.watched self.now.failed named name out recorded
             → MatchOption result ((opened number (placed named recorded) ≡ None) ⊎ (is_among number out ≡ true))
             (λ w. (opened number (placed named recorded) ≡ Some w.now.judge.client.transfer)
             × IsWatching w.now w.now.judge.client.transfer name (placed named recorded)) }
@@ -111,17 +97,17 @@ impl<D: Delivered + Drop> RecordingJudge<D> {
     /// Hands out the transfer that was opened first of those that were not handed out.
     pub fn pop_first(&mut self) -> Option<Watched<D>>
         ensures all { (named : List ℕ) (name : Naming) (out : List ℕ) (recorded : List Recorded)
-            → StandsAfter self.old named name out recorded → result ≡ None
+            → StandsAfter self.old.attribution self.old.watched self.old.failed named name out recorded → result ≡ None
             → (n : ℕ) → (opened n (placed named recorded) ≡ None) ⊎ (is_among n out ≡ true) }
         ensures watched { (named : List ℕ) (name : Naming) (out : List ℕ) (recorded : List Recorded)
-            → StandsAfter self.old named name out recorded
+            → StandsAfter self.old.attribution self.old.watched self.old.failed named name out recorded
             → IfSome result (λ w. (opened w.judge.client.transfer.number (placed named recorded) ≡ Some w.judge.client.transfer)
             × IsWatching w w.judge.client.transfer name (placed named recorded)) }
         ensures stands { (named : List ℕ) (name : Naming) (out : List ℕ) (recorded : List Recorded)
-            → StandsAfter self.old named name out recorded
-            → IfSome result (λ w. StandsAfter self.new named name (w.judge.client.transfer.number ∷ out) recorded) }
+            → StandsAfter self.old.attribution self.old.watched self.old.failed named name out recorded
+            → IfSome result (λ w. StandsAfter self.new.attribution self.new.watched self.new.failed named name (w.judge.client.transfer.number ∷ out) recorded) }
         ensures first { (named : List ℕ) (name : Naming) (out : List ℕ) (recorded : List Recorded) (n : ℕ)
-            → StandsAfter self.old named name out recorded → IsSome (opened n (placed named recorded)) → is_among n out ≡ false
+            → StandsAfter self.old.attribution self.old.watched self.old.failed named name out recorded → IsSome (opened n (placed named recorded)) → is_among n out ≡ false
             → IfSome result (λ w. w.judge.client.transfer.number ≤ n) }
     {
         let (_, first) = self.watched.pop_first()?;
@@ -132,7 +118,7 @@ impl<D: Delivered + Drop> RecordingJudge<D> {
     /// Then no datagram joins its transfers any more.
     pub fn is_over(&self, client: &Endpoint, time: u64) -> bool
         ensures { (named : List ℕ) (name : Naming) (out : List ℕ) (recorded : List Recorded)
-            → StandsAfter self.now named name out recorded
+            → StandsAfter self.now.attribution self.now.watched self.now.failed named name out recorded
             → MatchBool result
             (live (max time (clock (placed named recorded))) (line client.now (placed named recorded)) ≡ [])
             (live (max time (clock (placed named recorded))) (line client.now (placed named recorded)) ≢ []) }

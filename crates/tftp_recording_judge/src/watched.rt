@@ -1,6 +1,6 @@
 //! One transfer of a recording.
 
-ghost use Rattle.std.specs.Prelude.{◌≡◌, ◌≤◌, ◌∷◌, ℕ, List, [], length, OnOk, Err};
+ghost use Rattle.std.specs.Prelude.{◌≡◌, ◌≤◌, ◌∷◌, ℕ, List, [], length, OnOk, Err, false};
 ghost use Rattle.tftp_recording_judge.specs.Kept.{IsCrowded, IsWatching};
 ghost use Rattle.tftp_transfers.specs.Doubts.{doubts_of};
 ghost use Rattle.tftp_transfers.specs.Places.{Placed};

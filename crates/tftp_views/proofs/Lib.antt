@@ -1,5 +1,5 @@
 mod Judging
 mod Settling
 mod Feeding
-mod Holding
-mod Passing
+pub mod Holding
+pub mod Passing

@@ -1,0 +1,26 @@
+use Rattle.std.proofs.Common.{◌≡◌, List, refl, sym, ap, ◌∙◌}
+use Rattle.std.specs.Prelude.{max}
+use Rattle.tftp_transfers.specs.Doubts.{doubts_of}
+use Rattle.tftp_transfers.specs.Places.{Placed, clock, place_of, placed}
+use Rattle.tftp_views.specs.Kept.{IsFed}
+use Rattle.tftp_recording_judge.proofs.Keeping.{unheard_before}
+use Rattle.tftp_recording_judge.proofs.recording_judge.RecordingJudge.feed.Goals as goal
+
+pub returns-clause-stands : goal.returns-clause-stands
+returns-clause-stands g c named name out recorded d stands of from to =
+    let older : List Placed = placed named recorded in
+    let p : Placed = record { datagram = d; moment = max d.time (clock older); place = place_of named older (max d.time (clock older)) d } in
+    let belongs : c.in_ok-found.found.place ≡ p.place =
+    c.in_ok-found.ensures.place named older d stands.attribution of ∙ ap (λ t. place_of named older (max t (clock older)) d) (sym of.time) in
+    let doubts : c.in_ok-found.found.doubts ≡ doubts_of p older =
+    c.in_ok-found.ensures.doubts named older d stands.attribution of
+    ∙ ap (λ t. doubts_of (record { datagram = d; moment = max t (clock older); place = c.in_ok-found.found.place }) older) (sym of.time)
+    ∙ ap (λ q. doubts_of (record { datagram = d; moment = max d.time (clock older); place = q }) older) belongs in
+    let fed : IsFed name p c.in_ok-found.found.place c.args.source.now c.args.target.now c.args.payload.now =
+    record { belongs = belongs; from = of.source; to = of.target; carries = of.payload; from_host = from; to_host = to } in
+    record {
+      works = refl;
+      attribution = c.in_ok-found.ensures.stands named older d stands.attribution of;
+      transfers = c.in_ok-hand_on.ensures.kept name out p older fed doubts
+          (c.in_ok-open.ensures.kept name out p older belongs (unheard_before named recorded (max d.time (clock older)) d) stands.transfers);
+    }
