@@ -36,7 +36,9 @@ fn check_file<'a>(
 ) -> Result<()> {
     let mut session = Session::new(rt.alloc(), services, Kept::none(rt.alloc()))?;
     teller.begin(file);
-    tell_session(rt, file, &mut session, teller)
+    let told = tell_session(rt, file, &mut session, teller);
+    session.let_go();
+    told
 }
 
 /// Reads a recording, and tells all that there is to tell of it.

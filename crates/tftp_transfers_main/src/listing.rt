@@ -33,7 +33,9 @@ pub fn list(rt: HostRuntime, asked: &ListRequest<'_>) -> Result<u8> {
     let services = asked.services.as_slice();
     let mut session = Session::new(rt.alloc(), services, Kept::none(rt.alloc()))?;
     let mut teller = Teller::new(What::List, asked.json, 0);
-    tell_session(rt, asked.file, &mut session, &mut teller)?;
+    let told = tell_session(rt, asked.file, &mut session, &mut teller);
+    session.let_go();
+    told?;
     Ok(teller.status)
 }
 

@@ -10,7 +10,7 @@ use crate::trail::Trail;
 use anyhow::{Result, bail};
 use std::alloc::{AllocError, Global};
 use tftp_packet::End;
-use tftp_transfers::Place;
+use tftp_transfers::{Endpoint, Place};
 use tftp_views::Party;
 use tftp_words::TextRequest;
 
@@ -88,7 +88,9 @@ impl Kept {
 pub fn write_text(rt: HostRuntime, asked: &TextRequest<'_>) -> Result<u8> {
     let kept = Kept::new(rt.alloc(), asked.number);
     let mut session = Session::new(rt.alloc(), asked.services.as_slice(), kept)?;
-    write_session(rt, asked, &mut session)?;
+    let written = write_session(rt, asked, &mut session);
+    session.let_go();
+    written?;
     Ok(0)
 }
 
@@ -107,6 +109,10 @@ fn write_session(rt: HostRuntime, asked: &TextRequest<'_>, session: &mut Session
     let mut page = String::new(rt.alloc());
     let put = put_text(rt, &mut page, asked, trail, &session.kept);
     put?;
+    print_page(rt, page)
+}
+
+fn print_page(rt: HostRuntime, page: String) -> Result<()> {
     print!(rt; "{page}")?;
     Ok(())
 }
@@ -127,10 +133,14 @@ fn put_text(
             print_piece(rt, page)?;
         }
     }
+    put_total(page, total)?;
+    Ok(())
+}
+
+fn put_total(page: &mut String, total: u64) -> Result<(), AllocError> {
     page.push_str("total ")?;
     put_number(page, total)?;
-    page.push('\n')?;
-    Ok(())
+    page.push('\n')
 }
 
 /// Prints what is gathered, once it is long.
@@ -150,19 +160,39 @@ fn put_head(
     trail: &Trail,
 ) -> Result<(), AllocError> {
     page.push_str("tftp-capture 2\n# transfer ")?;
+    put_source(page, asked)?;
+    put_party(alloc, page, "; client ", trail.transfer.client)?;
+    put_party(alloc, page, ", server ", trail.server())?;
+    put_header(page, asked.end, trail.transfer.asked.port)
+}
+
+/// Puts which transfer of which file it is, at which end.
+fn put_source(page: &mut String, asked: &TextRequest<'_>) -> Result<(), AllocError> {
     put_number(page, asked.number)?;
     page.push_str(" of '")?;
     put_plain(page, asked.file.as_bytes())?;
     page.push_str("', at the ")?;
-    page.push_str(word_of(asked.end))?;
-    page.push_str("; client ")?;
-    page.push_str(shown(alloc, trail.transfer.client)?.as_str())?;
-    page.push_str(", server ")?;
-    page.push_str(shown(alloc, trail.server())?.as_str())?;
+    page.push_str(word_of(asked.end))
+}
+
+/// Puts an endpoint after some words.
+fn put_party(
+    alloc: Global,
+    page: &mut String,
+    words: &str,
+    party: Endpoint,
+) -> Result<(), AllocError> {
+    page.push_str(words)?;
+    let shown = shown(alloc, party)?;
+    page.push_str(shown.as_str())
+}
+
+/// Puts the lines that name the end and the service port.
+fn put_header(page: &mut String, end: End, service: u16) -> Result<(), AllocError> {
     page.push_str("\nend ")?;
-    page.push_str(word_of(asked.end))?;
+    page.push_str(word_of(end))?;
     page.push_str("\nservice ")?;
-    put_number(page, u64::from(trail.transfer.asked.port))?;
+    put_number(page, u64::from(service))?;
     page.push('\n')
 }
 
@@ -204,19 +234,28 @@ fn put_datagram(
     put_number(page, datagram.frame)?;
     put_time(page, datagram.time)?;
     if goes_out(end, trail, datagram) {
-        page.push_str("\nout ")?;
-        put_ends(page, &datagram.source, &datagram.target)?;
+        put_ends(page, "\nout ", &datagram.source, &datagram.target)?;
     } else {
-        page.push_str("\nin ")?;
-        put_ends(page, &datagram.target, &datagram.source)?;
+        put_ends(page, "\nin ", &datagram.target, &datagram.source)?;
     }
-    if datagram.payload.is_empty() {
+    put_payload(alloc, page, datagram.payload.as_slice())
+}
+
+/// Puts a payload in hex, and ends the line.
+fn put_payload(alloc: Global, page: &mut String, payload: &[u8]) -> Result<()> {
+    if payload.is_empty() {
         page.push_str("-\n")?;
         return Ok(());
     }
-    page.push_str(hex::encode(alloc, datagram.payload.as_slice())?.as_str())?;
-    page.push('\n')?;
+    let digits = hex::encode(alloc, payload)?;
+    let put = put_line(page, digits.as_str());
+    put?;
     Ok(())
+}
+
+fn put_line(page: &mut String, digits: &str) -> Result<(), AllocError> {
+    page.push_str(digits)?;
+    page.push('\n')
 }
 
 /// Puts a time in seconds since 1970.
@@ -240,8 +279,9 @@ fn put_rest(page: &mut String, nanoseconds: u64) -> Result<(), AllocError> {
     page.push_str(digits)
 }
 
-/// Puts the port at the end, and the other host and its port.
-fn put_ends(page: &mut String, ours: &Party, theirs: &Party) -> Result<(), AllocError> {
+/// Puts which way it went, the port at the end, and the other host and its port.
+fn put_ends(page: &mut String, way: &str, ours: &Party, theirs: &Party) -> Result<(), AllocError> {
+    page.push_str(way)?;
     put_number(page, u64::from(ours.end.port))?;
     page.push(' ')?;
     put_plain(page, theirs.host.bytes())?;
