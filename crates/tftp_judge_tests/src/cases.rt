@@ -39,8 +39,8 @@ const SCRIPTS: [(&str, u32); 7] = [
 
 #[test]
 fn captures_of_all_scripts(rt: HostRuntime) -> Result<(), Fail> {
-    for (script, count) in SCRIPTS {
-        all_hold(&rt, script, count)?;
+    for (script, count) in &SCRIPTS {
+        all_hold(&rt, script, *count)?;
     }
     Ok(())
 }

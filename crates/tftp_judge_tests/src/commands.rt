@@ -29,21 +29,25 @@ fn read_of_hi(alloc: Global) -> Result<String, Fail> {
     capture(alloc, CLIENT, "READ, HI, ACK_1")
 }
 
-/// What `show` writes of the read of `hi` where a fault on the line `number`, counted from 1, ends it.
-fn shown_before(alloc: Global, number: usize, fault: &str) -> Result<String, AllocError> {
-    let mut shown = String::new(alloc);
+/// Adds what `show` writes of the read of `hi` where a fault on the line `number`, counted from 1, ends it.
+fn add_shown_before(shown: &mut String, number: usize, fault: &str) -> Result<(), AllocError> {
     for datagram in SHOWN.iter().take(number.saturating_sub(4)) {
         shown.push_str(datagram)?;
     }
-    shown.push_str(fault)?;
+    shown.push_str(fault)
+}
+
+/// What `show` writes then.
+fn shown_before(alloc: Global, number: usize, fault: &str) -> Result<String, AllocError> {
+    let mut shown = String::new(alloc);
+    add_shown_before(&mut shown, number, fault)?;
     Ok(shown)
 }
 
 /// Adds what `show` writes of the datagram with this number.
 fn add_shown(alloc: Global, lines: &mut String, number: u32) -> Result<(), AllocError> {
     let line = format!(in alloc; "{number} in DATA 123 8\n")?;
-    lines.push_str(line.as_str())?;
-    Ok(())
+    lines.push_str(line.as_str())
 }
 
 /// What `show` writes of the text of many datagrams: more than two pieces of 16,384 bytes.
@@ -55,13 +59,18 @@ fn many_shown(alloc: Global) -> Result<String, AllocError> {
     Ok(lines)
 }
 
-/// The text of a capture of many datagrams.
-fn many_datagrams(alloc: Global) -> Result<String, AllocError> {
-    let mut text = String::from_str(alloc, START)?;
+/// Adds many datagrams, and the total.
+fn add_many(text: &mut String) -> Result<(), AllocError> {
     for _ in 1..=2000u32 {
         text.push_str("in 40000 41000 0003007b3131313131313131\n")?;
     }
-    text.push_str("total 2000\n")?;
+    text.push_str("total 2000\n")
+}
+
+/// The text of a capture of many datagrams.
+fn many_datagrams(alloc: Global) -> Result<String, AllocError> {
+    let mut text = String::from_str(alloc, START)?;
+    add_many(&mut text)?;
     Ok(text)
 }
 
@@ -143,14 +152,7 @@ pub fn says(
     output: &str,
     status: u8,
 ) -> Result<(), Fail> {
-    for piece in [usize::MAX, 1] {
-        says_at(
-            rt,
-            command,
-            text,
-            ((piece, 0), piece),
-            (output, status, false),
-        )?;
-    }
-    Ok(())
+    let wanted = (output, status, false);
+    says_at(rt, command, text, ((usize::MAX, 0), usize::MAX), wanted)?;
+    says_at(rt, command, text, ((1, 0), 1), wanted)
 }

@@ -160,23 +160,32 @@ fn add_header(text: &mut String, header: &str) -> Result<(), Fail> {
 /// Writes the last line of a capture of so many datagrams.
 fn add_total(alloc: Global, text: &mut String, count: usize) -> Result<(), AllocError> {
     let total = format!(in alloc; "total {count}\n")?;
-    text.push_str(total.as_str())?;
-    Ok(())
+    text.push_str(total.as_str())
 }
 
-/// The text of a capture with this header, its lines with commas between, and these datagrams.
+/// Writes a capture with this header, its lines with commas between, and these datagrams.
+fn add_capture(
+    alloc: Global,
+    text: &mut String,
+    header: &str,
+    datagrams: &[&str],
+) -> Result<(), Fail> {
+    add_header(text, header)?;
+    for datagram in datagrams {
+        add_line(text, datagram)?;
+    }
+    Ok(add_total(alloc, text, datagrams.len())?)
+}
+
+/// The text of such a capture.
 fn text_of(alloc: Global, header: &str, datagrams: &[&str]) -> Result<String, Fail> {
     let mut text = String::new(alloc);
-    add_header(&mut text, header)?;
-    for datagram in datagrams {
-        add_line(&mut text, datagram)?;
-    }
-    add_total(alloc, &mut text, datagrams.len())?;
+    add_capture(alloc, &mut text, header, datagrams)?;
     Ok(text)
 }
 
 /// A script, and how much of it is left.
-#[derive(Drop)]
+#[derive(Clone, Copy)]
 pub struct Script<'a> {
     whole: &'a str,
     rest: &'a str,
@@ -193,23 +202,29 @@ impl<'a> Script<'a> {
         }
     }
 
+    /// Reads lines up to the end of a capture, and adds its datagrams; what is said of it.
+    fn read_capture(&mut self, datagrams: &mut Datagrams<'a>) -> Result<&'a str, Fail> {
+        for _ in 0..self.rest.len() {
+            let Some((line, rest)) = self.rest.split_once("\n") else {
+                break;
+            };
+            self.rest = rest;
+            if let Some(said) = self.read_line(datagrams, line)? {
+                return Ok(said);
+            }
+        }
+        Err(Fail::new("too few captures"))
+    }
+
     /// The text of the next capture, and what is said of it.
     pub fn next(&mut self, alloc: Global) -> Result<(String, &'a str), Fail> {
         let mut datagrams = Datagrams {
             script: self.whole,
             all: Vec::new(alloc),
         };
-        for _ in 0..self.rest.len() {
-            let Some((line, rest)) = self.rest.split_once("\n") else {
-                break;
-            };
-            self.rest = rest;
-            if let Some(said) = self.read_line(&mut datagrams, line)? {
-                let text = text_of(alloc, self.header, datagrams.all.as_slice())?;
-                return Ok((text, said));
-            }
-        }
-        Err(Fail::new("too few captures"))
+        let said = self.read_capture(&mut datagrams)?;
+        let text = text_of(alloc, self.header, datagrams.all.as_slice())?;
+        Ok((text, said))
     }
 
     /// Reads a line, and adds its datagrams; what is said of a capture where the line ends it.
@@ -265,12 +280,17 @@ fn is_said(rt: &HostRuntime, text: &[u8], said: &str) -> Result<(), Fail> {
     holds(rt, text, line.as_str(), status)
 }
 
+/// Fails unless all say of the next capture of a script what is wanted.
+fn next_holds(rt: &HostRuntime, script: &mut Script<'_>) -> Result<(), Fail> {
+    let (text, said) = script.next(rt.alloc())?;
+    is_said(rt, text.as_bytes(), said)
+}
+
 /// Fails unless all say of each capture of a script what is wanted, and it has as many as this.
 pub fn all_hold(rt: &HostRuntime, script: &str, count: u32) -> Result<(), Fail> {
     let mut script = Script::new(script);
     for _ in 0..count {
-        let (text, said) = script.next(rt.alloc())?;
-        is_said(rt, text.as_bytes(), said)?;
+        next_holds(rt, &mut script)?;
     }
     script.ends()
 }

@@ -1,5 +1,8 @@
 //! Verdicts on lists of datagrams and on capture texts.
 
+ghost use Rattle.std.specs.Prelude.{◌≡◌, false, true, IfOk};
+ghost use Rattle.tftp_capture.specs.History.{IsReadStanding};
+
 use crate::judges::fed;
 use std::alloc::{AllocError, Global};
 use std::test::Fail;
@@ -8,22 +11,75 @@ use tftp_ends::Delivered;
 use tftp_judge::{By, Judge, Meaning, Refusal, Rule, Verdict, judge_text};
 use tftp_packet::{Mode, Side};
 
+/// Begins to read, and promises no more than a further call wants.
+fn opened(
+    rt: &HostRuntime,
+    reader: &mut Tallied<DripReader<'_>>,
+) -> Result<CaptureReader, CaptureFault>
+    requires { reader.old.1 ≡ false }
+    ensures told { IfOk result (λ capture. IsReadStanding capture.standing → reader.new.1 ≡ true) }
+{
+    CaptureReader::begin(rt.alloc(), reader)
+}
+
+/// The next datagram, where there is one, likewise.
+fn next(
+    rt: &HostRuntime,
+    capture: &mut CaptureReader,
+    reader: &mut Tallied<DripReader<'_>>,
+) -> Result<Option<Datagram>, CaptureFault>
+    requires told { IsReadStanding capture.old.standing → reader.old.1 ≡ true }
+    ensures told { IsReadStanding capture.new.standing → reader.new.1 ≡ true }
+{
+    capture.next(rt.alloc(), reader)
+}
+
+/// Adds the next datagram; whether there was one.
+fn is_added(
+    rt: &HostRuntime,
+    capture: &mut CaptureReader,
+    reader: &mut Tallied<DripReader<'_>>,
+    datagrams: &mut Vec<Datagram>,
+) -> Result<bool, AllocError>
+    requires told { IsReadStanding capture.old.standing → reader.old.1 ≡ true }
+    ensures told { IsReadStanding capture.new.standing → reader.new.1 ≡ true }
+{
+    match next(rt, capture, reader) {
+        Ok(Some(datagram)) => {
+            datagrams.push(datagram)?;
+            Ok(true)
+        }
+        _ => Ok(false),
+    }
+}
+
+/// Adds the datagrams that are left, up to the end or the first fault.
+fn add_datagrams(
+    rt: &HostRuntime,
+    capture: &mut CaptureReader,
+    reader: &mut Tallied<DripReader<'_>>,
+    datagrams: &mut Vec<Datagram>,
+    most: usize,
+) -> Result<(), AllocError>
+    requires told { IsReadStanding capture.old.standing → reader.old.1 ≡ true }
+{
+    for _ in 0..most {
+        if !is_added(rt, capture, reader, datagrams)? {
+            break;
+        }
+    }
+    Ok(())
+}
+
 /// The header and the datagrams of a capture text, up to its end or its first fault.
 fn capture_of(rt: &HostRuntime, text: &[u8]) -> Result<(Header, Vec<Datagram>), Fail> {
     let mut reader = Tallied::new(DripReader::new(text, usize::MAX, 0, None));
-    let mut capture = match CaptureReader::begin(rt.alloc(), &mut reader) {
-        Ok(capture) => capture,
-        Err(_) => return Err(Fail::new("no header")),
+    let Ok(mut capture) = opened(rt, &mut reader) else {
+        return Err(Fail::new("no header"));
     };
-    let header = *capture.header();
     let mut datagrams = Vec::new(rt.alloc());
-    for _ in 0..text.len() {
-        match capture.next(rt.alloc(), &mut reader) {
-            Ok(Some(datagram)) => datagrams.push(datagram)?,
-            _ => break,
-        }
-    }
-    Ok((header, datagrams))
+    add_datagrams(rt, &mut capture, &mut reader, &mut datagrams, text.len())?;
+    Ok((*capture.header(), datagrams))
 }
 
 /// A judge on this store. It promises nothing, as all here, so that what the libraries promise is not read again in each
@@ -179,14 +235,20 @@ fn is_line(found: String, wanted: &str) -> Result<(), Fail> {
     }
 }
 
+/// The line of what a judge on this store says of a capture text's datagrams.
+fn judged_line<D: Delivered + Drop>(rt: &HostRuntime, text: &[u8]) -> Result<String, Fail> {
+    let found = judged::<D>(rt, text)?;
+    Ok(line_of(rt.alloc(), &found)?)
+}
+
 /// Fails unless a judge on this store says this of a capture text's datagrams.
 pub fn is_judged<D: Delivered + Drop>(
     rt: &HostRuntime,
     text: &[u8],
     line: &str,
 ) -> Result<(), Fail> {
-    let found = judged::<D>(rt, text)?;
-    is_line(line_of(rt.alloc(), &found)?, line)
+    let found = judged_line::<D>(rt, text)?;
+    is_line(found, line)
 }
 
 /// Whether a judge has accepted this file.
@@ -210,10 +272,21 @@ pub fn is_file<D: Delivered + Drop>(
     }
 }
 
+/// Fails unless `judge_text` says this of a text of which each read gives so many bytes, and one fails.
+fn has_line(
+    rt: &HostRuntime,
+    text: &[u8],
+    (piece, fails_at): (usize, u64),
+    line: &str,
+) -> Result<(), Fail> {
+    let found = verdict_line(rt, text, piece, fails_at)?;
+    is_line(found, line)
+}
+
 /// Fails unless `judge_text` says this of a text, given whole and in pieces.
 pub fn is_verdict(rt: &HostRuntime, text: &[u8], line: &str) -> Result<(), Fail> {
-    for piece in [usize::MAX, 1, 7] {
-        is_line(verdict_line(rt, text, piece, 0)?, line)?;
+    for piece in &[usize::MAX, 1, 7] {
+        has_line(rt, text, (*piece, 0), line)?;
     }
     Ok(())
 }
@@ -248,14 +321,17 @@ const TEXTS: [(&[u8], &str); 7] = [
 
 #[test]
 fn texts_have_their_verdicts(rt: HostRuntime) -> Result<(), Fail> {
-    for (text, line) in TEXTS {
-        is_verdict(&rt, text, line)?;
+    for (text, line) in &TEXTS {
+        is_verdict(&rt, *text, *line)?;
     }
     Ok(())
 }
 
-/// Texts of which each read gives so many bytes, the read that fails, and what is said. The first has 132 bytes.
-const FAILED_READS: [(&[u8], usize, u64, &str); 5] = [
+/// A text of which each read gives so many bytes, the read that fails, and what is said.
+type FailedRead = (&'static [u8], usize, u64, &'static str);
+
+/// Such texts. The first has 132 bytes.
+const FAILED_READS: [FailedRead; 5] = [
     (READ_OF_HI, 1, 1, "fault line 1 Read\n"),
     (READ_OF_HI, usize::MAX, 2, "fault line 8 Read\n"),
     (READ_OF_HI, 1, 133, "fault line 8 Read\n"),
@@ -270,8 +346,8 @@ const FAILED_READS: [(&[u8], usize, u64, &str); 5] = [
 
 #[test]
 fn reads_that_fail_have_their_lines(rt: HostRuntime) -> Result<(), Fail> {
-    for (text, piece, fails_at, line) in FAILED_READS {
-        is_line(verdict_line(&rt, text, piece, fails_at)?, line)?;
+    for (text, piece, fails_at, line) in &FAILED_READS {
+        has_line(&rt, *text, (*piece, *fails_at), *line)?;
     }
     Ok(())
 }

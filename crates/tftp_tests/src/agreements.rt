@@ -115,8 +115,8 @@ fn is_agreed(agreed: &Agreed, numbers: Numbers) -> bool {
 
 #[test]
 fn agrees_to_options(rt: HostRuntime) -> Result<(), Fail> {
-    for (request, oack, numbers) in AGREED {
-        agrees(&rt, request, oack, numbers)?;
+    for (request, oack, numbers) in &AGREED {
+        agrees(&rt, *request, *oack, *numbers)?;
     }
     Ok(())
 }

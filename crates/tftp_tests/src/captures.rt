@@ -1,6 +1,7 @@
 //! Capture texts: what is read of them, with its lines, and what is written; and who was asked whether a call failed.
 
-ghost use Rattle.std.specs.Prelude.{◌≡◌, ◌≤◌, false, true, length, IfOk};
+ghost use Rattle.std.specs.Prelude.{◌≡◌, ◌≤◌, ◌<◌, ◌+◌, ◌^◌, false, true, length, IfOk, OnOk};
+ghost use Rattle.tftp_capture.specs.CaptureText.{IsPort};
 ghost use Rattle.tftp_capture.specs.History.{IsReadStanding};
 
 use crate::views::{is_same, is_so};
@@ -21,6 +22,65 @@ mod hosts;
 const READ: &[u8] =
     b"tftp-capture 1\nend client\nservice 69\nout 40000 69 000161006f6374657400\nin 40000 41000 000300016869\nout 40000 41000 00040001\ntotal 3\n";
 
+/// Begins to read, and promises no more than a further call wants.
+fn opened(
+    rt: &HostRuntime,
+    reader: &mut Tallied<DripReader<'_>>,
+) -> Result<CaptureReader, CaptureFault>
+    requires { reader.old.1 ≡ false }
+    ensures told { IfOk result (λ capture. IsReadStanding capture.standing → reader.new.1 ≡ true) }
+{
+    CaptureReader::begin(rt.alloc(), reader)
+}
+
+/// The next datagram, likewise.
+fn next(
+    rt: &HostRuntime,
+    capture: &mut CaptureReader,
+    reader: &mut Tallied<DripReader<'_>>,
+) -> Result<Option<Datagram>, CaptureFault>
+    requires told { IsReadStanding capture.old.standing → reader.old.1 ≡ true }
+    ensures told { IsReadStanding capture.new.standing → reader.new.1 ≡ true }
+{
+    capture.next(rt.alloc(), reader)
+}
+
+/// The line of the next datagram, likewise.
+fn next_line(
+    rt: &HostRuntime,
+    capture: &mut CaptureReader,
+    reader: &mut Tallied<DripReader<'_>>,
+) -> Result<Option<u64>, CaptureFault>
+    requires told { IsReadStanding capture.old.standing → reader.old.1 ≡ true }
+    ensures told { IsReadStanding capture.new.standing → reader.new.1 ≡ true }
+{
+    match next(rt, capture, reader) {
+        Ok(Some(_)) => Ok(Some(capture.line())),
+        Ok(None) => Ok(None),
+        Err(fault) => Err(fault),
+    }
+}
+
+/// The number of the datagrams that are left and the sum of their lines, or the fault.
+fn totals(
+    rt: &HostRuntime,
+    capture: &mut CaptureReader,
+    reader: &mut Tallied<DripReader<'_>>,
+) -> Result<(u64, u64), CaptureFault>
+    requires told { IsReadStanding capture.old.standing → reader.old.1 ≡ true }
+{
+    let mut count = 0u64;
+    let mut lines = 0u64;
+    for _ in 0..u64::MAX {
+        let Some(line) = next_line(rt, capture, reader)? else {
+            return Ok((count, lines));
+        };
+        count = count.saturating_add(1);
+        lines = lines.saturating_add(line);
+    }
+    Ok((count, lines))
+}
+
 /// What a whole text gives: the number of its datagrams and the sum of their lines, or the fault.
 fn outcome(
     rt: &HostRuntime,
@@ -28,17 +88,8 @@ fn outcome(
 ) -> Result<(u64, u64), CaptureFault>
     requires { reader.old.1 ≡ false }
 {
-    let mut capture = CaptureReader::begin(rt.alloc(), reader)?;
-    let mut count = 0u64;
-    let mut lines = 0u64;
-    for _ in 0..u64::MAX {
-        let Some(_) = capture.next(rt.alloc(), reader)? else {
-            return Ok((count, lines));
-        };
-        count = count.saturating_add(1);
-        lines = lines.saturating_add(capture.line());
-    }
-    Ok((count, lines))
+    let mut capture = opened(rt, reader)?;
+    totals(rt, &mut capture, reader)
 }
 
 /// What the text that is read so gives, and whether a read failed. It promises nothing, so that what is promised of
@@ -75,30 +126,14 @@ fn gives(
     Ok(())
 }
 
-/// Begins to read, and promises no more than a further call wants.
+/// Begins to read a text whose header has no fault, likewise.
 fn begun(rt: &HostRuntime, reader: &mut Tallied<DripReader<'_>>) -> Result<CaptureReader, Fail>
     requires { reader.old.1 ≡ false }
     ensures told { IfOk result (λ capture. IsReadStanding capture.standing → reader.new.1 ≡ true) }
 {
-    match CaptureReader::begin(rt.alloc(), reader) {
+    match opened(rt, reader) {
         Ok(capture) => Ok(capture),
         Err(_) => Err(Fail::new("begin")),
-    }
-}
-
-/// The line of the next datagram, likewise.
-fn next_line(
-    rt: &HostRuntime,
-    capture: &mut CaptureReader,
-    reader: &mut Tallied<DripReader<'_>>,
-) -> Result<Option<u64>, CaptureFault>
-    requires told { IsReadStanding capture.old.standing → reader.old.1 ≡ true }
-    ensures told { IsReadStanding capture.new.standing → reader.new.1 ≡ true }
-{
-    match capture.next(rt.alloc(), reader) {
-        Ok(Some(_)) => Ok(Some(capture.line())),
-        Ok(None) => Ok(None),
-        Err(fault) => Err(fault),
     }
 }
 
@@ -114,16 +149,33 @@ fn fill(
     capture.next_into(reader, held)
 }
 
-/// A text of seven lines with its line `number`, counted from 1, changed.
+/// Adds a text with its line `number`, counted from 1, changed.
+fn add_changed(
+    text: &mut Vec<u8>,
+    whole: &[u8],
+    number: usize,
+    line: &[u8],
+) -> Result<(), AllocError> {
+    let mut current = 1usize;
+    for byte in whole {
+        let ends = *byte == b'\n';
+        if ends && current == number {
+            text.extend_from_slice(line)?;
+        }
+        if ends || current != number {
+            text.push(*byte)?;
+        }
+        if ends {
+            current = current.saturating_add(1);
+        }
+    }
+    Ok(())
+}
+
+/// A text with its line `number`, counted from 1, changed. It ends with a line.
 fn changed_in(rt: &HostRuntime, whole: &[u8], number: usize, line: &[u8]) -> Result<Vec<u8>, Fail> {
     let mut text = Vec::new(rt.alloc());
-    for (index, old) in whole.split(|byte| *byte == b'\n').enumerate() {
-        if index == 7 {
-            break;
-        }
-        text.extend_from_slice(if index + 1 == number { line } else { old })?;
-        text.push(b'\n')?;
-    }
+    add_changed(&mut text, whole, number, line)?;
     Ok(text)
 }
 
@@ -239,6 +291,24 @@ fn each_read_fails_in_turn(rt: HostRuntime) -> Result<(), Fail> {
     Ok(())
 }
 
+/// Fails unless the next datagram stands on this line.
+fn next_is(
+    rt: &HostRuntime,
+    capture: &mut CaptureReader,
+    reader: &mut Tallied<DripReader<'_>>,
+    line: u64,
+) -> Result<(), Fail>
+    requires told { IsReadStanding capture.old.standing → reader.old.1 ≡ true }
+    ensures told { IsReadStanding capture.new.standing → reader.new.1 ≡ true }
+{
+    let found = next_line(rt, capture, reader);
+    if found == Ok(Some(line)) {
+        Ok(())
+    } else {
+        Err(Fail::from((line, found)))
+    }
+}
+
 /// Fails unless the next datagrams stand on these lines.
 fn next_are(
     rt: &HostRuntime,
@@ -250,10 +320,7 @@ fn next_are(
     ensures told { IsReadStanding capture.new.standing → reader.new.1 ≡ true }
 {
     for line in lines {
-        let found = next_line(rt, capture, reader);
-        if found != Ok(Some(*line)) {
-            return Err(Fail::from((*line, found)));
-        }
+        next_is(rt, capture, reader, *line)?;
     }
     Ok(())
 }
@@ -303,18 +370,45 @@ fn faults_and_the_end_are_answered_for_good(rt: HostRuntime) -> Result<(), Fail>
     stands_on(&rt, ends, (3, &[4, 5, 6], Ok(None)))
 }
 
+/// Fails unless the next datagram, read into one that is held, carries this payload.
+fn fills_next(
+    capture: &mut CaptureReader,
+    reader: &mut Tallied<DripReader<'_>>,
+    held: &mut Datagram,
+    payload: &[u8],
+) -> Result<(), Fail>
+    requires told { IsReadStanding capture.old.standing → reader.old.1 ≡ true }
+    ensures told { IsReadStanding capture.new.standing → reader.new.1 ≡ true }
+{
+    let more = fill(capture, reader, held);
+    if more == Ok(true) && held.payload.as_slice() == payload {
+        Ok(())
+    } else {
+        Err(Fail::from(more))
+    }
+}
+
+/// Fails unless the datagrams that are left carry these payloads, and the end is answered for good.
+fn fills_all(
+    capture: &mut CaptureReader,
+    reader: &mut Tallied<DripReader<'_>>,
+    held: &mut Datagram,
+    payloads: &[&[u8]],
+) -> Result<(), Fail>
+    requires told { IsReadStanding capture.old.standing → reader.old.1 ≡ true }
+{
+    for payload in payloads {
+        fills_next(capture, reader, held, *payload)?;
+    }
+    fills_for_good(capture, reader, held, Ok(false))
+}
+
 /// Fails unless the datagrams of the text, read into one that is held, carry these payloads.
 fn fills(rt: &HostRuntime, text: &[u8], payloads: &[&[u8]]) -> Result<(), Fail> {
     let mut reader = Tallied::new(DripReader::new(text, 7, 0, None));
     let mut capture = begun(rt, &mut reader)?;
     let mut held = Datagram::empty(rt.alloc());
-    for payload in payloads {
-        let more = fill(&mut capture, &mut reader, &mut held);
-        if more != Ok(true) || held.payload.as_slice() != *payload {
-            return Err(Fail::from(more));
-        }
-    }
-    fills_for_good(&mut capture, &mut reader, &mut held, Ok(false))
+    fills_all(&mut capture, &mut reader, &mut held, payloads)
 }
 
 /// Fails unless that is answered three times, and the line stays.
@@ -354,23 +448,54 @@ fn is_the_request(held: &Datagram) -> bool {
     held.dir == Dir::Out && held.local_port == 40_000 && held.remote_port == 69
 }
 
+/// Fails unless the next datagram is that request, on its line.
+fn fills_the_request(
+    capture: &mut CaptureReader,
+    reader: &mut Tallied<DripReader<'_>>,
+    held: &mut Datagram,
+) -> Result<(), Fail>
+    requires told { IsReadStanding capture.old.standing → reader.old.1 ≡ true }
+    ensures told { IsReadStanding capture.new.standing → reader.new.1 ≡ true }
+{
+    let more = fill(capture, reader, held);
+    is_so(
+        more == Ok(true) && is_the_request(held) && capture.line() == 4,
+        "another datagram",
+    )
+}
+
+/// Fails unless the request is followed by that fault, for good.
+fn fails_after_the_request(
+    capture: &mut CaptureReader,
+    reader: &mut Tallied<DripReader<'_>>,
+    held: &mut Datagram,
+) -> Result<(), Fail>
+    requires told { IsReadStanding capture.old.standing → reader.old.1 ≡ true }
+{
+    fills_the_request(capture, reader, held)?;
+    let fault = CaptureFault::Text(5, TextFault::BadHex);
+    fills_for_good(capture, reader, held, Err(fault))
+}
+
+/// Fails unless the request of a text is followed by that fault, for good.
+fn fails_for_good(rt: &HostRuntime, text: &[u8]) -> Result<(), Fail> {
+    let mut reader = Tallied::new(DripReader::new(text, 7, 0, None));
+    let mut capture = begun(rt, &mut reader)?;
+    let mut held = Datagram::empty(rt.alloc());
+    fails_after_the_request(&mut capture, &mut reader, &mut held)
+}
+
 #[test]
 fn a_fault_is_answered_for_good_to_who_holds_a_datagram(rt: HostRuntime) -> Result<(), Fail> {
     let text = changed(&rt, 5, b"in 1 2 0g")?;
-    let mut reader = Tallied::new(DripReader::new(&text, 7, 0, None));
-    let mut capture = begun(&rt, &mut reader)?;
-    let mut held = Datagram::empty(rt.alloc());
-    let more = fill(&mut capture, &mut reader, &mut held);
-    is_so(
-        more == Ok(true) && is_the_request(&held) && capture.line() == 4,
-        "another datagram",
-    )?;
-    let fault = CaptureFault::Text(5, TextFault::BadHex);
-    fills_for_good(&mut capture, &mut reader, &mut held, Err(fault))
+    fails_for_good(&rt, text.as_slice())
 }
 
-/// A changed line of the text, by its number, and the lines then. The line stays where a fault or the end is answered.
-const HANDED_OUT: [(usize, &[u8], Lines); 7] = [
+/// A changed line of the text, by its number, and the lines then.
+type HandedOut = (usize, &'static [u8], Lines);
+
+/// The line stays where a fault or the end is answered.
+const HANDED_OUT: [HandedOut; 7] = [
     (1, b"tftp-capture 1", (3, &[4, 5, 6], Ok(None))),
     (2, b"\n#\x00\xff\nend server", (5, &[6, 7, 8], Ok(None))),
     (3, b"#\n\nservice 69\n#", (5, &[7, 8, 9], Ok(None))),
@@ -397,15 +522,15 @@ const HANDED_OUT: [(usize, &[u8], Lines); 7] = [
 ];
 
 /// Fails unless the text with that line has those lines.
-fn hands_out(rt: &HostRuntime, number: usize, line: &[u8], lines: Lines) -> Result<(), Fail> {
-    let text = changed(rt, number, line)?;
-    stands_on(rt, DripReader::new(text.as_slice(), 7, 0, None), lines)
+fn hands_out(rt: &HostRuntime, (number, line, lines): &HandedOut) -> Result<(), Fail> {
+    let text = changed(rt, *number, *line)?;
+    stands_on(rt, DripReader::new(text.as_slice(), 7, 0, None), *lines)
 }
 
 #[test]
 fn the_line_is_that_of_what_was_handed_out(rt: HostRuntime) -> Result<(), Fail> {
-    for (number, line, lines) in HANDED_OUT {
-        hands_out(&rt, number, line, lines)?;
+    for row in &HANDED_OUT {
+        hands_out(&rt, row)?;
     }
     let text = b"tftp-capture 1\n#\nend client\n#\nservice 69\n#\ntotal 0\n";
     stands_on(&rt, DripReader::new(text, 7, 0, None), (5, &[], Ok(None)))
@@ -546,6 +671,72 @@ fn each_call_asks_once(_rt: HostRuntime) -> Result<(), Fail> {
     Ok(())
 }
 
+/// Begins to write, and promises no more than a further call wants.
+fn started(
+    alloc: Global,
+    writer: &mut Tallied<DripWriter>,
+    header: &Header,
+) -> Result<CaptureWriter, WriteFault>
+    requires clean { writer.old.1 ≡ false }
+    requires service { IsPort header.now.service }
+    ensures told { IfOk result (λ begun. begun.failed ≡ true → writer.new.1 ≡ true) }
+    ensures count { IfOk result (λ begun. begun.count ≡ 0) }
+{
+    CaptureWriter::begin(alloc, writer, header)
+}
+
+/// Writes a datagram, likewise.
+fn put(
+    capture: &mut CaptureWriter,
+    writer: &mut Tallied<DripWriter>,
+    dir: Dir,
+    local: u16,
+    remote: u16,
+    payload: &[u8],
+) -> Result<(), WriteFault>
+    requires told { capture.old.failed ≡ true → writer.old.1 ≡ true }
+    requires local { IsPort local }
+    requires remote { IsPort remote }
+    requires payload { length payload.now ≤ 65527 }
+    requires few { capture.old.count < 2 ^ 40 }
+    ensures told { capture.new.failed ≡ true → writer.new.1 ≡ true }
+    ensures counted { OnOk result (capture.new.count ≡ capture.old.count + 1) }
+{
+    capture.put(writer, dir, local, remote, payload)
+}
+
+/// Writes the datagrams of `READ`.
+fn put_read(capture: &mut CaptureWriter, writer: &mut Tallied<DripWriter>) -> Result<(), WriteFault>
+    requires told { capture.old.failed ≡ true → writer.old.1 ≡ true }
+    requires few { capture.old.count ≡ 0 }
+    ensures told { capture.new.failed ≡ true → writer.new.1 ≡ true }
+{
+    put(
+        capture,
+        writer,
+        Dir::Out,
+        40_000,
+        69,
+        b"\x00\x01a\x00octet\x00",
+    )?;
+    put(
+        capture,
+        writer,
+        Dir::In,
+        40_000,
+        41_000,
+        b"\x00\x03\x00\x01hi",
+    )?;
+    put(
+        capture,
+        writer,
+        Dir::Out,
+        40_000,
+        41_000,
+        b"\x00\x04\x00\x01",
+    )
+}
+
 /// Writes the text of `READ`.
 fn write_read(alloc: Global, writer: &mut Tallied<DripWriter>) -> Result<(), WriteFault>
     requires { writer.old.1 ≡ false }
@@ -554,10 +745,8 @@ fn write_read(alloc: Global, writer: &mut Tallied<DripWriter>) -> Result<(), Wri
         named: End::Client,
         service: 69,
     };
-    let mut capture = CaptureWriter::begin(alloc, writer, &header)?;
-    capture.put(writer, Dir::Out, 40_000, 69, b"\x00\x01a\x00octet\x00")?;
-    capture.put(writer, Dir::In, 40_000, 41_000, b"\x00\x03\x00\x01hi")?;
-    capture.put(writer, Dir::Out, 40_000, 41_000, b"\x00\x04\x00\x01")?;
+    let mut capture = started(alloc, writer, &header)?;
+    put_read(&mut capture, writer)?;
     capture.close(writer)
 }
 
@@ -610,6 +799,21 @@ fn each_write_fails_in_turn(rt: HostRuntime) -> Result<(), Fail> {
     Ok(())
 }
 
+/// Writes an empty payload, and this one.
+fn put_two(
+    capture: &mut CaptureWriter,
+    writer: &mut Tallied<DripWriter>,
+    payload: &[u8],
+) -> Result<(), WriteFault>
+    requires told { capture.old.failed ≡ true → writer.old.1 ≡ true }
+    requires few { capture.old.count ≡ 0 }
+    requires short { length payload.now ≤ 65527 }
+    ensures told { capture.new.failed ≡ true → writer.new.1 ≡ true }
+{
+    put(capture, writer, Dir::In, 1, 65_535, b"")?;
+    put(capture, writer, Dir::Out, 65_535, 1, payload)
+}
+
 /// Writes two datagrams at a server.
 fn write_two(
     alloc: Global,
@@ -623,9 +827,8 @@ fn write_two(
         named: End::Server,
         service: 6969,
     };
-    let mut capture = CaptureWriter::begin(alloc, writer, &header)?;
-    capture.put(writer, Dir::In, 1, 65_535, b"")?;
-    capture.put(writer, Dir::Out, 65_535, 1, payload)?;
+    let mut capture = started(alloc, writer, &header)?;
+    put_two(&mut capture, writer, payload)?;
     capture.close(writer)
 }
 
@@ -675,12 +878,8 @@ fn digits_gathered(rt: &HostRuntime, drip: DripWriter, bytes: &[u8]) -> Written 
 }
 
 /// Two bytes and 9,000 times another.
-fn many_bytes(rt: &HostRuntime) -> Result<Vec<u8>, AllocError> {
-    let mut bytes = Vec::from_slice(rt.alloc(), b"\x00\x1f")?;
-    for _ in 0..9000 {
-        bytes.push(0xab)?;
-    }
-    Ok(bytes)
+fn many_bytes(rt: &HostRuntime) -> Result<Vec<u8>, Fail> {
+    long(rt, b"\x00\x1f", 0xab, 9000)
 }
 
 /// Their digits.
@@ -760,12 +959,30 @@ fn stays_gathered(
     has_written(&pieces_gathered(rt, drip, bytes), Err(WriteFault), front)
 }
 
+/// Fails unless so many bytes are taken before this write, which fails by an error or by taking none.
+fn both_stay_gathered(
+    rt: &HostRuntime,
+    bytes: &[u8],
+    write: u64,
+    taken: usize,
+) -> Result<(), Fail> {
+    stays_gathered(rt, bytes, (write, false), taken)?;
+    stays_gathered(rt, bytes, (write, true), taken)
+}
+
+/// Writes that fail, and how many bytes are taken before them.
+const STAYING: [(u64, usize); 4] = [(1, 0), (2, 100), (3, 16_484), (4, 32_869)];
+
+/// Fails unless that is so of each of them.
+fn all_stay_gathered(rt: &HostRuntime, bytes: &[u8]) -> Result<(), Fail> {
+    for (write, taken) in &STAYING {
+        both_stay_gathered(rt, bytes, *write, *taken)?;
+    }
+    Ok(())
+}
+
 #[test]
 fn pieces_stay_where_a_write_fails(rt: HostRuntime) -> Result<(), Fail> {
     let bytes = other_bytes(&rt)?;
-    for (write, taken) in [(1, 0), (2, 100), (3, 16_484), (4, 32_869)] {
-        stays_gathered(&rt, &bytes, (write, false), taken)?;
-        stays_gathered(&rt, &bytes, (write, true), taken)?;
-    }
-    Ok(())
+    all_stay_gathered(&rt, bytes.as_slice())
 }

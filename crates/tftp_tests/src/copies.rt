@@ -71,8 +71,8 @@ fn all_are(
 #[test]
 fn the_seventeenth_before_is_forgotten(rt: HostRuntime) -> Result<(), Fail> {
     let mut recent = Recent::new(rt.alloc())?;
-    for packets in AT_ONCE {
-        all_are(&rt, &mut recent, packets)?;
+    for packets in &AT_ONCE {
+        all_are(&rt, &mut recent, *packets)?;
     }
     Ok(())
 }

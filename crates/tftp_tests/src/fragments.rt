@@ -126,20 +126,31 @@ const ORDERS: [[Named; 3]; 6] = [
     [LAST, MIDDLE, FIRST],
 ];
 
+/// Fails unless each of these parts waits.
+fn all_wait(
+    rt: &HostRuntime,
+    fragments: &mut Fragments,
+    (name, key): (&'static str, Key),
+    parts: &[Named],
+    (time, frame): (u64, u64),
+) -> Result<(), Fail> {
+    for part in parts {
+        let waits = answers(rt, fragments, key, *part, (time, frame), Told::Waits)?;
+        is_so(waits, name)?;
+    }
+    Ok(())
+}
+
 /// Fails unless the parts give the content in this order, and nothing is left then.
 fn order_gives(
     rt: &HostRuntime,
     fragments: &mut Fragments,
-    [first, second, third]: [Named; 3],
+    [first, second, third]: &[Named; 3],
 ) -> Result<(), Fail> {
-    let rows = [
-        (2, first, 1, Told::Waits),
-        (2, first, 1, Told::Waits),
-        (2, second, 1, Told::Waits),
-        (2, first, 1, Told::Waits),
-        (2, third, 1, Told::Whole),
-    ];
-    all_answer(rt, fragments, "an order", &rows)?;
+    let parts = [*first, *first, *second, *first];
+    all_wait(rt, fragments, ("an order", key(2, 7)), &parts, (5, 1))?;
+    let is_whole = answers(rt, fragments, key(2, 7), *third, (5, 1), Told::Whole)?;
+    is_so(is_whole, "an order")?;
     if fragments.room() == 0 {
         Ok(())
     } else {
@@ -150,7 +161,7 @@ fn order_gives(
 #[test]
 fn each_order_gives_the_content(rt: HostRuntime) -> Result<(), Fail> {
     let mut fragments = Fragments::new(rt.alloc());
-    for order in ORDERS {
+    for order in &ORDERS {
         order_gives(&rt, &mut fragments, order)?;
     }
     Ok(())
@@ -256,8 +267,8 @@ fn holds(rt: &HostRuntime, name: &'static str, rows: &[Row]) -> Result<(), Fail>
 
 #[test]
 fn parts_and_what_becomes_of_them(rt: HostRuntime) -> Result<(), Fail> {
-    for (name, rows) in CASES {
-        holds(&rt, name, rows)?;
+    for (name, rows) in &CASES {
+        holds(&rt, *name, *rows)?;
     }
     Ok(())
 }
@@ -270,24 +281,19 @@ fn is_gone(gone: &Option<Vec<u64>>, whole: bool) -> bool {
     }
 }
 
-/// Fails unless the parts wait at this time.
-fn both_wait(
-    rt: &HostRuntime,
-    fragments: &mut Fragments,
-    key: Key,
-    (time, frame): (u64, u64),
-) -> Result<(), Fail> {
-    for part in [FIRST, MIDDLE] {
-        let waits = answers(rt, fragments, key, part, (time, frame), Told::Waits)?;
-        is_so(waits, "waits")?;
-    }
-    Ok(())
-}
+/// The parts before the last.
+const BOTH: [Named; 2] = [FIRST, MIDDLE];
 
 /// Fails unless a last part at this time makes two others whole, which came earlier, or waits alone.
 fn joins(rt: &HostRuntime, time: u64, told: Told) -> Result<(), Fail> {
     let mut fragments = Fragments::new(rt.alloc());
-    both_wait(rt, &mut fragments, key(2, 7), (PATIENCE, 9))?;
+    all_wait(
+        rt,
+        &mut fragments,
+        ("waits", key(2, 7)),
+        &BOTH,
+        (PATIENCE, 9),
+    )?;
     let gone = fragments.let_go_old(key(2, 7), Some(time));
     is_so(is_gone(&gone, matches!(told, Told::Whole)), "old")?;
     let joins = answers(rt, &mut fragments, key(2, 7), LAST, (time, 10), told)?;
@@ -346,7 +352,7 @@ fn no_more_than_64_mb_wait(rt: HostRuntime) -> Result<(), Fail> {
 /// Fails unless a last part of this key is of another packet than the parts of the first.
 fn is_another(rt: &HostRuntime, one: Key, other: Key) -> Result<(), Fail> {
     let mut fragments = Fragments::new(rt.alloc());
-    both_wait(rt, &mut fragments, one, (5, 1))?;
+    all_wait(rt, &mut fragments, ("waits", one), &BOTH, (5, 1))?;
     let waits = answers(rt, &mut fragments, other, LAST, (5, 1), Told::Waits)?;
     is_so(waits, "waits")
 }

@@ -26,10 +26,15 @@ fn decoded(alloc: Global, wire: &[u8]) -> Result<Vec<u8>, AllocError> {
     }
 }
 
+/// Fails unless a text reads as this file.
+fn reads_as(alloc: Global, wire: &[u8], file: &[u8]) -> Result<(), Fail> {
+    is_same(decoded(alloc, wire)?.as_slice(), file)
+}
+
 #[test]
 fn decodes_whole_texts(rt: HostRuntime) -> Result<(), Fail> {
-    for (wire, file) in TEXTS {
-        is_same(decoded(rt.alloc(), wire)?.as_slice(), file)?;
+    for (wire, file) in &TEXTS {
+        reads_as(rt.alloc(), wire, file)?;
     }
     Ok(())
 }
@@ -50,11 +55,21 @@ fn encoded(alloc: Global, file: &[u8]) -> Result<Vec<u8>, AllocError> {
     }
 }
 
+/// Whether the text of a file has this length.
+fn has_length(file: &[u8], length: usize) -> bool {
+    encoded_len(file) == length as u64
+}
+
+/// Fails unless a file is written as this text.
+fn is_written_as(alloc: Global, file: &[u8], wire: &[u8]) -> Result<(), Fail> {
+    is_same(encoded(alloc, file)?.as_slice(), wire)?;
+    is_so(has_length(file, wire.len()), "another length")
+}
+
 #[test]
 fn encodes_files(rt: HostRuntime) -> Result<(), Fail> {
-    for (file, wire) in FILES {
-        is_same(encoded(rt.alloc(), file)?.as_slice(), wire)?;
-        is_so(encoded_len(file) == wire.len() as u64, "another length")?;
+    for (file, wire) in &FILES {
+        is_written_as(rt.alloc(), file, wire)?;
     }
     Ok(())
 }
@@ -70,10 +85,15 @@ fn decoded_pieces(alloc: Global, pieces: &[&[u8]]) -> Result<Vec<u8>, AllocError
     }
 }
 
+/// Fails unless a text in pieces reads as this file.
+fn read_as(alloc: Global, pieces: &[&[u8]], file: &[u8]) -> Result<(), Fail> {
+    is_same(decoded_pieces(alloc, pieces)?.as_slice(), file)
+}
+
 #[test]
 fn joins_a_pair_that_was_cut(rt: HostRuntime) -> Result<(), Fail> {
-    for (pieces, file) in PIECES {
-        is_same(decoded_pieces(rt.alloc(), &pieces)?.as_slice(), file)?;
+    for (pieces, file) in &PIECES {
+        read_as(rt.alloc(), pieces, file)?;
     }
     Ok(())
 }
@@ -122,15 +142,20 @@ fn step(decoder: &mut Decoder, piece: &[u8], ends: bool, file: &mut Vec<u8>) -> 
     Ok(())
 }
 
+/// Fails unless that is written after each step.
+fn all_are_steps(decoder: &mut Decoder, file: &mut Vec<u8>) -> Result<(), Fail> {
+    for (piece, ends, written) in &STEPS {
+        step(decoder, piece, *ends, file)?;
+        is_same(file.as_slice(), written)?;
+    }
+    Ok(())
+}
+
 #[test]
 fn holds_a_return_back(rt: HostRuntime) -> Result<(), Fail> {
     let mut decoder = Decoder::new();
     let mut file = Vec::new(rt.alloc());
-    for (piece, ends, written) in STEPS {
-        step(&mut decoder, piece, ends, &mut file)?;
-        is_same(file.as_slice(), written)?;
-    }
-    Ok(())
+    all_are_steps(&mut decoder, &mut file)
 }
 
 /// What the end gives is written into another vector too.
@@ -174,10 +199,15 @@ fn cut(alloc: Global, cuts: u32) -> Result<Vec<u8>, Fail> {
     Ok(file)
 }
 
+/// Fails unless those pieces give what the whole gives.
+fn gives_the_whole(alloc: Global, cuts: u32) -> Result<(), Fail> {
+    is_same(cut(alloc, cuts)?.as_slice(), b"\r\n\r\rA")
+}
+
 #[test]
 fn every_cut_gives_what_the_whole_gives(rt: HostRuntime) -> Result<(), Fail> {
     for cuts in 0..64u32 {
-        is_same(cut(rt.alloc(), cuts)?.as_slice(), b"\r\n\r\rA")?;
+        gives_the_whole(rt.alloc(), cuts)?;
     }
     Ok(())
 }

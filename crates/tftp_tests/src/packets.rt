@@ -54,13 +54,23 @@ fn is_ack(payload: &[u8], number: u16) -> bool {
     }
 }
 
+/// How many options an OACK has.
+fn count_of(payload: &[u8]) -> Result<usize, Fail> {
+    Ok(oack_of(payload)?.len())
+}
+
+/// Whether a payload has this opcode.
+fn has_opcode(payload: &[u8], number: u16) -> bool {
+    opcode(payload) == number
+}
+
 #[test]
 fn reads_each_kind(_rt: HostRuntime) -> Result<(), Fail> {
     is_so(is_data(b"\x00\x03\x00\x01", 1, b""), "DATA")?;
     is_so(is_error(b"\x00\x05\x00\x05\x00", 5, b""), "ERROR")?;
     is_so(is_ack(b"\x00\x04\x01\x02", 258), "ACK")?;
-    is_so(oack_of(b"\x00\x06")?.len() == 0, "OACK")?;
-    is_so(opcode(b"\x00\x06") == 6, "opcode")
+    is_so(count_of(b"\x00\x06")? == 0, "OACK")?;
+    is_so(has_opcode(b"\x00\x06", 6), "opcode")
 }
 
 /// Whether this reads a file without a name, in octet mode and without options.
@@ -92,15 +102,27 @@ fn has_number(options: &OptionsView<'_>, name: &[u8], number: Option<u64>) -> bo
     options.number(name) == number
 }
 
+/// Whether the options have this text under this name.
+fn has_text(options: &OptionsView<'_>, name: &[u8], text: &[u8]) -> bool {
+    options.get(name) == Some(text)
+}
+
+/// Whether the options are these, and so many.
+fn has_all(options: &OptionsView<'_>, want: &[(&[u8], &[u8])], count: usize) -> bool {
+    has_pairs(options, want) && options.len() == count
+}
+
+/// The options of a request.
+fn options_of(payload: &[u8]) -> Result<OptionsView<'_>, Fail> {
+    Ok(request_of(payload)?.options())
+}
+
 #[test]
 fn views_options_in_order(_rt: HostRuntime) -> Result<(), Fail> {
-    let options = request_of(ASKED)?.options();
+    let options = options_of(ASKED)?;
     let want: [(&[u8], &[u8]); 2] = [(b"WindowSize", b"4"), (b"BLKSIZE", b"08")];
-    is_so(
-        has_pairs(&options, &want) && options.len() == 2,
-        "other options",
-    )?;
-    is_so(options.get(b"blkSize") == Some(b"08".as_slice()), "blksize")?;
+    is_so(has_all(&options, &want, 2), "other options")?;
+    is_so(has_text(&options, b"blkSize", b"08"), "blksize")?;
     is_so(has_number(&options, b"blksize", Some(8)), "its number")?;
     is_so(has_number(&options, b"tsize", None), "tsize")
 }
@@ -109,11 +131,8 @@ fn views_options_in_order(_rt: HostRuntime) -> Result<(), Fail> {
 fn views_an_oack_in_capitals(_rt: HostRuntime) -> Result<(), Fail> {
     let options = oack_of(CAPITALS)?;
     let want: [(&[u8], &[u8]); 2] = [(b"WINDOWSIZE", b"4"), (b"BLKSIZE", b"08")];
-    is_so(
-        has_pairs(&options, &want) && options.len() == 2,
-        "other options",
-    )?;
-    is_so(options.get(b"blksize") == Some(b"08".as_slice()), "blksize")?;
+    is_so(has_all(&options, &want, 2), "other options")?;
+    is_so(has_text(&options, b"blksize", b"08"), "blksize")?;
     is_so(has_number(&options, b"windowsize", Some(4)), "windowsize")
 }
 
@@ -127,12 +146,21 @@ fn has_what_was_asked(request: &Request) -> bool {
     is_read && request.name() == b"a".as_slice() && request.options().len() == 2 && number == 8
 }
 
+/// Whether an owned request is that of a payload.
+fn is_request_of(request: &Request, payload: &[u8]) -> Result<bool, Fail> {
+    Ok(same_request(request, &request_of(payload)?))
+}
+
+/// Fails unless an owned request is that of `ASKED`.
+fn is_what_was_asked(request: &Request) -> Result<(), Fail> {
+    is_so(has_what_was_asked(request), "other parts")?;
+    is_so(is_request_of(request, ASKED)?, "another request")
+}
+
 #[test]
 fn owns_a_request(rt: HostRuntime) -> Result<(), Fail> {
     let request = owned_request_of(&rt, ASKED)?;
-    let view = request_of(ASKED)?;
-    is_so(has_what_was_asked(&request), "other parts")?;
-    is_so(same_request(&request, &view), "another request")
+    is_what_was_asked(&request)
 }
 
 /// What is written of a request.
@@ -140,10 +168,15 @@ fn request_written(rt: &HostRuntime, request: &Request) -> Result<Vec<u8>, Alloc
     write_request(rt.alloc(), request)
 }
 
+/// Fails unless this is written of a request.
+fn is_request_written(rt: &HostRuntime, request: &Request, wanted: &[u8]) -> Result<(), Fail> {
+    is_same(request_written(rt, request)?.as_slice(), wanted)
+}
+
 #[test]
 fn writes_a_request_canonically(rt: HostRuntime) -> Result<(), Fail> {
     let request = owned_request_of(&rt, ASKED)?;
-    is_same(request_written(&rt, &request)?.as_slice(), CANONICAL)
+    is_request_written(&rt, &request, CANONICAL)
 }
 
 /// Fails unless this is written of a packet.
@@ -159,10 +192,15 @@ fn writes_a_read_request_as_a_packet(rt: HostRuntime) -> Result<(), Fail> {
     is_written(&rt, &Packet::Request(request_of(ASKED)?), CANONICAL)
 }
 
+/// Options, owned.
+fn owned(rt: &HostRuntime, view: &OptionsView<'_>) -> Result<Options, AllocError> {
+    own_options(rt.alloc(), view)
+}
+
 /// The options of an OACK, owned.
 fn owned_oack_of(rt: &HostRuntime, payload: &[u8]) -> Result<Options, Fail> {
     let view = oack_of(payload)?;
-    Ok(own_options(rt.alloc(), &view)?)
+    Ok(owned(rt, &view)?)
 }
 
 /// What is written of options.
@@ -176,11 +214,20 @@ fn is_oack(rt: &HostRuntime, options: &Options, view: &OptionsView<'_>) -> bool 
     same_options(options, view) && none.is_empty() && !same_options(&none, view)
 }
 
+/// Fails unless options are those of `CAPITALS`, and are written canonically.
+fn are_written(rt: &HostRuntime, options: &Options) -> Result<(), Fail> {
+    is_so(is_oack(rt, options, &oack_of(CAPITALS)?), "other options")?;
+    is_same(oack_written(rt, options)?.as_slice(), AGREED)
+}
+
 #[test]
 fn writes_an_oack_canonically(rt: HostRuntime) -> Result<(), Fail> {
     let options = owned_oack_of(&rt, CAPITALS)?;
-    is_so(is_oack(&rt, &options, &oack_of(CAPITALS)?), "other options")?;
-    is_same(oack_written(&rt, &options)?.as_slice(), AGREED)?;
+    are_written(&rt, &options)
+}
+
+#[test]
+fn writes_an_oack_as_a_packet(rt: HostRuntime) -> Result<(), Fail> {
     is_written(&rt, &Packet::Oack(oack_of(CAPITALS)?), AGREED)
 }
 

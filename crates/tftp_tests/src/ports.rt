@@ -19,19 +19,35 @@ fn class(
     }
 }
 
+/// Fails unless a datagram has its answer.
+fn has_answer(
+    ports: &mut Ports,
+    index: usize,
+    (dir, local, host, remote, opcode, wanted): &Row,
+) -> Result<(), Fail> {
+    let Some(host) = Host::new(*host) else {
+        return Err(Fail::new("no host"));
+    };
+    let found = class(ports, (*dir, *local, host, *remote, *opcode));
+    if found == *wanted {
+        Ok(())
+    } else {
+        Err(Fail::from((index, found, *wanted)))
+    }
+}
+
 /// Fails unless each datagram has its answer after those before it.
-fn answers(rt: &HostRuntime, end: End, service: u16, rows: &[Row]) -> Result<(), Fail> {
-    let mut ports = Ports::new(rt.alloc(), end, service);
-    for (index, (dir, local, host, remote, opcode, wanted)) in rows.iter().enumerate() {
-        let Some(host) = Host::new(*host) else {
-            return Err(Fail::new("no host"));
-        };
-        let found = class(&mut ports, (*dir, *local, host, *remote, *opcode));
-        if found != *wanted {
-            return Err(Fail::from((index, found, *wanted)));
-        }
+fn all_have_answers(ports: &mut Ports, rows: &[Row]) -> Result<(), Fail> {
+    for (index, row) in rows.iter().enumerate() {
+        has_answer(ports, index, row)?;
     }
     Ok(())
+}
+
+/// Fails unless each datagram has its answer, the first one where nothing passed before.
+fn answers(rt: &HostRuntime, end: End, service: u16, rows: &[Row]) -> Result<(), Fail> {
+    let mut ports = Ports::new(rt.alloc(), end, service);
+    all_have_answers(&mut ports, rows)
 }
 
 /// A read, a stray, and what answers it.
@@ -225,8 +241,8 @@ const ROWS: [(End, u16, &[Row]); 7] = [
 
 #[test]
 fn datagrams_belong_where_their_ports_say(rt: HostRuntime) -> Result<(), Fail> {
-    for (end, service, rows) in ROWS {
-        answers(&rt, end, service, rows)?;
+    for (end, service, rows) in &ROWS {
+        answers(&rt, *end, *service, rows)?;
     }
     Ok(())
 }
@@ -266,19 +282,34 @@ fn all_are_answered(ports: &mut Ports) -> Result<(), Fail> {
     Ok(())
 }
 
-#[test]
-fn client_notes_each_stray(rt: HostRuntime) -> Result<(), Fail> {
-    let mut ports = Ports::new(rt.alloc(), End::Client, 69);
+/// Whether the request is routed, whether the server is then known, and still is after all strays, and what is answered to a
+/// datagram to another host.
+type Noted = (bool, bool, bool, Result<Route, PortFault>);
+
+/// That of a client, with each stray and what answers it between.
+fn noted(ports: &mut Ports) -> Result<Noted, Fail> {
     let host = Host::none();
-    let asked = belongs(&mut ports, Dir::Out, host, 69, 1, Route::Request);
-    let known = belongs(&mut ports, Dir::In, host, 65535, 3, Route::Peer);
-    all_are_strays(&mut ports)?;
-    all_are_answered(&mut ports)?;
-    let still = belongs(&mut ports, Dir::In, host, 65535, 3, Route::Peer);
+    let asked = belongs(ports, Dir::Out, host, 69, 1, Route::Request);
+    let known = belongs(ports, Dir::In, host, 65535, 3, Route::Peer);
+    all_are_strays(ports)?;
+    all_are_answered(ports)?;
+    let still = belongs(ports, Dir::In, host, 65535, 3, Route::Peer);
     let Some(other) = Host::new(b"10.0.0.1") else {
         return Err(Fail::new("no host"));
     };
-    let refused = class(&mut ports, (Dir::Out, 40000, other, 1, 5));
+    let refused = class(ports, (Dir::Out, 40000, other, 1, 5));
+    Ok((asked, known, still, refused))
+}
+
+/// That of a new client.
+fn noted_at_a_client(rt: &HostRuntime) -> Result<Noted, Fail> {
+    let mut ports = Ports::new(rt.alloc(), End::Client, 69);
+    noted(&mut ports)
+}
+
+#[test]
+fn client_notes_each_stray(rt: HostRuntime) -> Result<(), Fail> {
+    let (asked, known, still, refused) = noted_at_a_client(&rt)?;
     if asked && known && still && refused == Err(PortFault::WrongPort) {
         Ok(())
     } else {

@@ -1,5 +1,8 @@
 //! The states of the two ends, on each of the two stores by the same steps.
 
+ghost use Rattle.std.specs.Prelude.{OnOk};
+ghost use Rattle.tftp_ends.specs.States.{Fits, MaySend};
+
 use std::alloc::AllocError;
 use std::test::Fail;
 use tftp_ends::{Delivered, EndFault, MapDelivered, ReceiverState, RingDelivered, SenderState};
@@ -28,6 +31,18 @@ enum Step {
 /// How a state begins: its side, whether an OACK was agreed, the block size, the window, and the size if it is agreed.
 type Start = (Side, bool, u16, u16, Option<u64>);
 
+/// Whether a block may go out. It promises no more than `sent` wants, and the same function of a receiver no more than
+/// `take_data` wants, since all that the libraries promise is dear to read again where a call rests on it.
+fn may_go_out<D: Delivered>(
+    sender: &SenderState<D>,
+    number: u16,
+    bytes: &[u8],
+) -> Result<(), EndFault>
+    ensures { OnOk result (MaySend sender.now number bytes.now) }
+{
+    sender.may_data(number, bytes)
+}
+
 /// Sends a block that may go out; false where a growth is refused.
 fn is_sent<D: Delivered>(
     rt: &HostRuntime,
@@ -35,7 +50,7 @@ fn is_sent<D: Delivered>(
     number: u16,
     bytes: &[u8],
 ) -> Result<bool, Fail> {
-    match sender.may_data(number, bytes) {
+    match may_go_out(sender, number, bytes) {
         Ok(()) => Ok(sender.sent(rt.alloc(), number, bytes).is_ok()),
         Err(_) => Err(Fail::new("may not go out")),
     }
@@ -54,6 +69,17 @@ fn send<D: Delivered>(
     Err(Fail::from(AllocError))
 }
 
+/// Whether a block may come in.
+fn may_come_in<D: Delivered>(
+    receiver: &ReceiverState<D>,
+    number: u16,
+    bytes: &[u8],
+) -> Result<(), EndFault>
+    ensures { OnOk result (Fits receiver.now.terms receiver.now.held number bytes.now) }
+{
+    receiver.may_data(number, bytes)
+}
+
 /// Takes a block that may come in; false where a growth is refused.
 fn is_taken<D: Delivered>(
     rt: &HostRuntime,
@@ -61,7 +87,7 @@ fn is_taken<D: Delivered>(
     number: u16,
     bytes: &[u8],
 ) -> Result<bool, Fail> {
-    match receiver.may_data(number, bytes) {
+    match may_come_in(receiver, number, bytes) {
         Ok(()) => Ok(receiver.take_data(rt.alloc(), number, bytes).is_ok()),
         Err(_) => Err(Fail::new("may not come in")),
     }
@@ -102,6 +128,33 @@ fn acknowledge<D: Delivered>(receiver: &mut ReceiverState<D>, number: u16) -> Re
     }
 }
 
+/// Whether a store holds these bytes of a block.
+fn has_block<D: Delivered>(store: &D, number: u16, bytes: &[u8]) -> bool {
+    store.block(number) == Some(bytes)
+}
+
+/// Whether a store has this front, and so many blocks wait above it.
+fn has_front<D: Delivered>(store: &D, front: u16, pending: usize) -> bool {
+    store.front() == front && store.pending() == pending
+}
+
+/// Whether an ACK may come in.
+fn may_hear<D: Delivered>(sender: &SenderState<D>, number: u16) -> Result<(), EndFault> {
+    sender.may_ack(number)
+}
+
+/// Whether a sender answers what is wanted to a step that changes nothing.
+fn sender_answers<D: Delivered>(sender: &SenderState<D>, step: &Step) -> bool {
+    match step {
+        Step::May(number, bytes, wanted) => may_go_out(sender, *number, bytes) == *wanted,
+        Step::MayAck(number, wanted) => may_hear(sender, *number) == *wanted,
+        Step::Done(done) => sender.done() == *done,
+        Step::Block(number, bytes) => has_block(sender.store(), *number, bytes),
+        Step::Front(front, pending) => has_front(sender.store(), *front, *pending),
+        _ => false,
+    }
+}
+
 /// Whether the call answers what is wanted, at a sender.
 fn sender_holds<D: Delivered>(
     rt: &HostRuntime,
@@ -109,25 +162,28 @@ fn sender_holds<D: Delivered>(
     step: &Step,
 ) -> Result<bool, Fail> {
     match step {
-        Step::May(number, bytes, wanted) => Ok(sender.may_data(*number, bytes) == *wanted),
-        Step::MayAck(number, wanted) => Ok(sender.may_ack(*number) == *wanted),
-        Step::Data(number, bytes) => {
-            send(rt, sender, *number, bytes)?;
-            Ok(true)
-        }
-        Step::Ack(number) => {
-            hear(sender, *number)?;
-            Ok(true)
-        }
-        Step::Stopped => {
-            sender.peer_stopped();
-            Ok(true)
-        }
-        Step::Done(done) => Ok(sender.done() == *done),
-        Step::Block(number, bytes) => Ok(sender.store().block(*number) == Some(*bytes)),
-        Step::Front(front, pending) => Ok(
-            sender.store().front() == *front && sender.store().pending() == *pending,
-        ),
+        Step::Data(number, bytes) => send(rt, sender, *number, bytes)?,
+        Step::Ack(number) => hear(sender, *number)?,
+        Step::Stopped => sender.peer_stopped(),
+        _ => return Ok(sender_answers(sender, step)),
+    }
+    Ok(true)
+}
+
+/// Whether an ACK may go out.
+fn may_acknowledge<D: Delivered>(receiver: &ReceiverState<D>, number: u16) -> Result<(), EndFault> {
+    receiver.may_ack(number)
+}
+
+/// Whether a receiver answers what is wanted to a step that changes nothing.
+fn receiver_answers<D: Delivered>(receiver: &ReceiverState<D>, step: &Step) -> bool {
+    match step {
+        Step::May(number, bytes, wanted) => may_come_in(receiver, *number, bytes) == *wanted,
+        Step::MayAck(number, wanted) => may_acknowledge(receiver, *number) == *wanted,
+        Step::Done(done) => receiver.done() == *done,
+        Step::Block(number, bytes) => has_block(receiver.store(), *number, bytes),
+        Step::Front(front, pending) => has_front(receiver.store(), *front, *pending),
+        _ => false,
     }
 }
 
@@ -138,26 +194,12 @@ fn receiver_holds<D: Delivered>(
     step: &Step,
 ) -> Result<bool, Fail> {
     match step {
-        Step::May(number, bytes, wanted) => Ok(receiver.may_data(*number, bytes) == *wanted),
-        Step::MayAck(number, wanted) => Ok(receiver.may_ack(*number) == *wanted),
-        Step::Data(number, bytes) => {
-            take(rt, receiver, *number, bytes)?;
-            Ok(true)
-        }
-        Step::Ack(number) => {
-            acknowledge(receiver, *number)?;
-            Ok(true)
-        }
-        Step::Stopped => {
-            receiver.peer_stopped();
-            Ok(true)
-        }
-        Step::Done(done) => Ok(receiver.done() == *done),
-        Step::Block(number, bytes) => Ok(receiver.store().block(*number) == Some(*bytes)),
-        Step::Front(front, pending) => Ok(
-            receiver.store().front() == *front && receiver.store().pending() == *pending,
-        ),
+        Step::Data(number, bytes) => take(rt, receiver, *number, bytes)?,
+        Step::Ack(number) => acknowledge(receiver, *number)?,
+        Step::Stopped => receiver.peer_stopped(),
+        _ => return Ok(receiver_answers(receiver, step)),
     }
+    Ok(true)
 }
 
 /// A server sends two blocks in a window of two, once its OACK is acknowledged.
@@ -203,8 +245,11 @@ const LARGEST_SENDER: [Step; 4] = [
     Step::May(65535, b"11111111", Err(EndFault::BeyondBlock65535)),
 ];
 
-/// Senders, with the highest block that they have sent at the end.
-const SENDERS: [(&str, Start, &[Step], u16); 3] = [
+/// A sender by its name, with the highest block that it has sent at the end.
+type Sender = (&'static str, Start, &'static [Step], u16);
+
+/// Senders.
+const SENDERS: [Sender; 3] = [
     (
         "a read in windows",
         (Side::Get, true, 8, 2, None),
@@ -307,8 +352,11 @@ const LARGEST_RECEIVER: [Step; 6] = [
     Step::May(65534, b"1111111", Err(EndFault::BlockLength)),
 ];
 
-/// Receivers, with the wire that they have at the end.
-const RECEIVERS: [(&str, Start, &[Step], &[u8]); 9] = [
+/// A receiver by its name, with the wire that it has at the end.
+type Receiver = (&'static str, Start, &'static [Step], &'static [u8]);
+
+/// Receivers.
+const RECEIVERS: [Receiver; 9] = [
     (
         "a write out of order",
         (Side::Put, true, 8, 4, None),
@@ -360,71 +408,157 @@ const RECEIVERS: [(&str, Start, &[Step], &[u8]); 9] = [
     ),
 ];
 
+/// A new sender, unless its block size or its window is too small.
+fn sender_of<D: Delivered>(
+    rt: &HostRuntime,
+    (side, oacked, blksize, windowsize, size): Start,
+) -> Option<SenderState<D>> {
+    if blksize < 8 || windowsize < 1 {
+        return None;
+    }
+    let store = D::new(rt.alloc(), blksize, windowsize);
+    Some(SenderState::new(side, oacked, blksize, windowsize, size, store))
+}
+
+/// Fails unless each step answers what is wanted.
+fn all_hold_at_sender<D: Delivered>(
+    rt: &HostRuntime,
+    sender: &mut SenderState<D>,
+    name: &'static str,
+    steps: &[Step],
+) -> Result<(), Fail> {
+    for (index, step) in steps.iter().enumerate() {
+        if !sender_holds(rt, sender, step)? {
+            return Err(Fail::from((name, index)));
+        }
+    }
+    Ok(())
+}
+
+/// The highest block that a sender has sent. A state is let go in such functions alone, since that is dear to prove.
+fn highest_of<D: Delivered + Drop>(sender: SenderState<D>) -> u16 {
+    sender.into_store().highest()
+}
+
 /// Fails unless each step answers what is wanted at a sender, which has then sent blocks up to this one.
 fn sends<D: Delivered + Drop>(
     rt: &HostRuntime,
-    name: &'static str,
-    (side, oacked, blksize, windowsize, size): Start,
-    steps: &[Step],
-    highest: u16,
+    (name, start, steps, highest): &Sender,
 ) -> Result<(), Fail> {
-    if blksize < 8 || windowsize < 1 {
-        return Err(Fail::new(name));
-    }
-    let store = D::new(rt.alloc(), blksize, windowsize);
-    let mut sender = SenderState::new(side, oacked, blksize, windowsize, size, store);
-    for (index, step) in steps.iter().enumerate() {
-        if !sender_holds(rt, &mut sender, step)? {
-            return Err(Fail::from((name, index)));
-        }
-    }
-    if sender.into_store().highest() == highest {
+    let Some(mut sender) = sender_of::<D>(rt, *start) else {
+        return Err(Fail::new(*name));
+    };
+    let held = all_hold_at_sender(rt, &mut sender, *name, *steps);
+    let found = highest_of(sender);
+    held?;
+    if found == *highest {
         Ok(())
     } else {
-        Err(Fail::from((name, "the highest block")))
+        Err(Fail::from((*name, "the highest block")))
     }
 }
 
-/// Fails unless each step answers what is wanted at a receiver, which then has this wire.
-fn receives<D: Delivered + Drop>(
+/// A new receiver, likewise.
+fn receiver_of<D: Delivered>(
     rt: &HostRuntime,
-    name: &'static str,
     (side, oacked, blksize, windowsize, size): Start,
-    steps: &[Step],
-    wire: &[u8],
-) -> Result<(), Fail> {
+) -> Option<ReceiverState<D>> {
     if blksize < 8 || windowsize < 1 {
-        return Err(Fail::new(name));
+        return None;
     }
     let store = D::new(rt.alloc(), blksize, windowsize);
-    let mut receiver = ReceiverState::new(side, oacked, blksize, windowsize, size, store);
+    Some(ReceiverState::new(side, oacked, blksize, windowsize, size, store))
+}
+
+/// Fails unless each step answers what is wanted.
+fn all_hold_at_receiver<D: Delivered>(
+    rt: &HostRuntime,
+    receiver: &mut ReceiverState<D>,
+    name: &'static str,
+    steps: &[Step],
+) -> Result<(), Fail> {
     for (index, step) in steps.iter().enumerate() {
-        if !receiver_holds(rt, &mut receiver, step)? {
+        if !receiver_holds(rt, receiver, step)? {
             return Err(Fail::from((name, index)));
         }
     }
-    if receiver.into_store().into_wire(rt.alloc())?.as_slice() == wire {
+    Ok(())
+}
+
+/// The wire of a receiver.
+fn wire_of<D: Delivered + Drop>(
+    rt: &HostRuntime,
+    receiver: ReceiverState<D>,
+) -> Result<Vec<u8>, AllocError> {
+    receiver.into_store().into_wire(rt.alloc())
+}
+
+/// Fails unless this is the wire.
+fn is_wire(name: &'static str, found: &[u8], wanted: &[u8]) -> Result<(), Fail> {
+    if found == wanted {
         Ok(())
     } else {
         Err(Fail::from((name, "wire")))
     }
 }
 
-/// All blocks but the first wait, the highest before the others, and none waits once the first is there.
-fn whole_window<D: Delivered + Drop>(rt: &HostRuntime) -> Result<(), Fail> {
+/// Fails unless each step answers what is wanted at a receiver, which then has this wire.
+fn receives<D: Delivered + Drop>(
+    rt: &HostRuntime,
+    (name, start, steps, wire): &Receiver,
+) -> Result<(), Fail> {
+    let Some(mut receiver) = receiver_of::<D>(rt, *start) else {
+        return Err(Fail::new(*name));
+    };
+    let held = all_hold_at_receiver(rt, &mut receiver, *name, *steps);
+    let found = wire_of(rt, receiver);
+    held?;
+    is_wire(*name, found?.as_slice(), *wire)
+}
+
+/// How many blocks wait.
+fn waiting_of<D: Delivered>(receiver: &ReceiverState<D>) -> usize {
+    receiver.store().pending()
+}
+
+/// Takes all blocks but the first, the highest before the others.
+fn take_all_but_one<D: Delivered>(
+    rt: &HostRuntime,
+    receiver: &mut ReceiverState<D>,
+) -> Result<(), Fail> {
+    take(rt, receiver, 65535, b".......")?;
+    for below in 1..65534u16 {
+        take(rt, receiver, 65535 - below, b"........")?;
+    }
+    Ok(())
+}
+
+/// How many blocks wait before the first is there, what an ACK of it is answered then, how many wait after it, and whether
+/// all is done.
+type Filled = (usize, Result<(), EndFault>, usize, bool);
+
+/// That of a receiver which takes a whole window.
+fn filled<D: Delivered>(rt: &HostRuntime, receiver: &mut ReceiverState<D>) -> Result<Filled, Fail> {
+    acknowledge(receiver, 0)?;
+    take_all_but_one(rt, receiver)?;
+    let waiting = waiting_of(receiver);
+    let early = may_acknowledge(receiver, 1);
+    take(rt, receiver, 1, b"........")?;
+    let left = waiting_of(receiver);
+    acknowledge(receiver, 65535)?;
+    Ok((waiting, early, left, receiver.done()))
+}
+
+/// That of a new receiver.
+fn filled_on<D: Delivered + Drop>(rt: &HostRuntime) -> Result<Filled, Fail> {
     let store = D::new(rt.alloc(), 8, 65535);
     let mut receiver = ReceiverState::new(Side::Get, true, 8, 65535, None, store);
-    acknowledge(&mut receiver, 0)?;
-    take(rt, &mut receiver, 65535, b".......")?;
-    for below in 1..65534u16 {
-        take(rt, &mut receiver, 65535 - below, b"........")?;
-    }
-    let waiting = receiver.store().pending();
-    let early = receiver.may_ack(1);
-    take(rt, &mut receiver, 1, b"........")?;
-    let left = receiver.store().pending();
-    acknowledge(&mut receiver, 65535)?;
-    let done = receiver.done();
+    filled(rt, &mut receiver)
+}
+
+/// All blocks but the first wait, the highest before the others, and none waits once the first is there.
+fn whole_window<D: Delivered + Drop>(rt: &HostRuntime) -> Result<(), Fail> {
+    let (waiting, early, left, done) = filled_on::<D>(rt)?;
     if waiting == 65534 && early == Err(EndFault::AckAhead) && left == 0 && done {
         Ok(())
     } else {
@@ -434,16 +568,16 @@ fn whole_window<D: Delivered + Drop>(rt: &HostRuntime) -> Result<(), Fail> {
 
 /// Fails unless all senders on this store answer what is wanted.
 fn all_send<D: Delivered + Drop>(rt: &HostRuntime) -> Result<(), Fail> {
-    for (name, start, steps, highest) in SENDERS {
-        sends::<D>(rt, name, start, steps, highest)?;
+    for sender in &SENDERS {
+        sends::<D>(rt, sender)?;
     }
     Ok(())
 }
 
 /// Fails unless all receivers on this store answer what is wanted.
 fn all_receive<D: Delivered + Drop>(rt: &HostRuntime) -> Result<(), Fail> {
-    for (name, start, steps, wire) in RECEIVERS {
-        receives::<D>(rt, name, start, steps, wire)?;
+    for receiver in &RECEIVERS {
+        receives::<D>(rt, receiver)?;
     }
     whole_window::<D>(rt)
 }

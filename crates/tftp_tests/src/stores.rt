@@ -16,6 +16,38 @@ enum Step {
     Block(u16, Option<&'static [u8]>),
 }
 
+/// The front, the highest block and the number of those that wait; and whether a block is held.
+fn state_of<D: Delivered>(store: &D, number: u16) -> (u16, u16, usize, bool) {
+    let held = store.block(number).is_some();
+    (store.front(), store.highest(), store.pending(), held)
+}
+
+/// Whether nothing has changed.
+fn is_as_before<D: Delivered>(
+    store: &D,
+    number: u16,
+    (front, highest, pending, held): (u16, u16, usize, bool),
+) -> bool {
+    stands(store, front, highest, pending) && store.block(number).is_some() == held
+}
+
+/// Puts a block that the store takes; none where a growth is refused.
+fn put_once<D: Delivered>(
+    rt: &HostRuntime,
+    store: &mut D,
+    number: u16,
+    bytes: &[u8],
+    refused: &'static str,
+) -> Result<Option<Placed>, Fail> {
+    if !store.takes(number, bytes.len()) {
+        return Err(Fail::new(refused));
+    }
+    match store.put(rt.alloc(), number, bytes) {
+        Ok(placed) => Ok(Some(placed)),
+        Err(AllocError) => Ok(None),
+    }
+}
+
 /// Puts a block that the store takes. Where a growth is refused nothing may have changed, and the block is put again.
 fn put<D: Delivered>(
     rt: &HostRuntime,
@@ -23,24 +55,17 @@ fn put<D: Delivered>(
     number: u16,
     bytes: &[u8],
 ) -> Result<Placed, Fail> {
-    if !store.takes(number, bytes.len()) {
-        return Err(Fail::new("not taken"));
+    let before = state_of(store, number);
+    if let Some(placed) = put_once(rt, store, number, bytes, "not taken")? {
+        return Ok(placed);
     }
-    let before = (store.front(), store.highest(), store.pending());
-    let held = store.block(number).is_some();
-    match store.put(rt.alloc(), number, bytes) {
-        Ok(placed) => return Ok(placed),
-        Err(AllocError) => {}
-    }
-    if (store.front(), store.highest(), store.pending()) != before
-        || store.block(number).is_some() != held
-    {
+    if !is_as_before(store, number, before) {
         return Err(Fail::new("changed after want of memory"));
     }
-    if !store.takes(number, bytes.len()) {
-        return Err(Fail::new("not taken again"));
+    match put_once(rt, store, number, bytes, "not taken again")? {
+        Some(placed) => Ok(placed),
+        None => Err(Fail::from(AllocError)),
     }
-    Ok(store.put(rt.alloc(), number, bytes)?)
 }
 
 /// Whether the front, the highest block and the number of those that wait are these.
@@ -93,8 +118,11 @@ const SHORT_BLOCK: [Step; 9] = [
     Step::Stands(1, 3, 1),
 ];
 
-/// Steps on a new store of blocks of eight bytes with a window of 4, and its wire at the end.
-const STEPS: [(&str, &[Step], &[u8]); 2] = [
+/// Steps on a new store of blocks of eight bytes with a window of 4 by their name, and its wire at the end.
+type Case = (&'static str, &'static [Step], &'static [u8]);
+
+/// Such steps.
+const STEPS: [Case; 2] = [
     (
         "four blocks",
         &FOUR_BLOCKS,
@@ -103,38 +131,69 @@ const STEPS: [(&str, &[Step], &[u8]); 2] = [
     ("a short block", &SHORT_BLOCK, b"11111111"),
 ];
 
-/// Fails unless each step answers what is wanted, and the wire is this.
-fn keeps<D: Delivered + Drop>(
+/// Fails unless each step answers what is wanted.
+fn all_hold<D: Delivered>(
     rt: &HostRuntime,
+    store: &mut D,
     name: &'static str,
     steps: &[Step],
-    wire: &[u8],
 ) -> Result<(), Fail> {
-    let mut store = D::new(rt.alloc(), 8, 4);
     for (index, step) in steps.iter().enumerate() {
-        if !holds(rt, &mut store, step)? {
+        if !holds(rt, store, step)? {
             return Err(Fail::from((name, index)));
         }
     }
-    if store.into_wire(rt.alloc())?.as_slice() == wire {
+    Ok(())
+}
+
+/// The wire of a store, which is let go in this place alone, since that is dear to prove.
+fn wire_of<D: Delivered + Drop>(rt: &HostRuntime, store: D) -> Result<Vec<u8>, AllocError> {
+    store.into_wire(rt.alloc())
+}
+
+/// Fails unless this is the wire.
+fn is_wire(name: &'static str, found: &[u8], wanted: &[u8]) -> Result<(), Fail> {
+    if found == wanted {
         Ok(())
     } else {
         Err(Fail::from((name, "wire")))
     }
 }
 
-/// All blocks but the first wait, the highest before the others, and none waits once the first is there.
-fn whole_window<D: Delivered + Drop>(rt: &HostRuntime) -> Result<(), Fail> {
-    let mut store = D::new(rt.alloc(), 8, 65535);
+/// Fails unless each step answers what is wanted, and the wire is this.
+fn keeps<D: Delivered + Drop>(rt: &HostRuntime, (name, steps, wanted): &Case) -> Result<(), Fail> {
+    let mut store = D::new(rt.alloc(), 8, 4);
+    let held = all_hold(rt, &mut store, *name, *steps);
+    let wire = wire_of(rt, store);
+    held?;
+    is_wire(*name, wire?.as_slice(), *wanted)
+}
+
+/// Fails unless each block but the first is new, the highest before the others.
+fn all_are_new<D: Delivered>(rt: &HostRuntime, store: &mut D) -> Result<(), Fail> {
     for below in 0..65534u16 {
-        if put(rt, &mut store, 65535 - below, b"........")? != Placed::New {
+        if put(rt, store, 65535 - below, b"........")? != Placed::New {
             return Err(Fail::from(below));
         }
     }
-    let waits = stands(&store, 0, 65535, 65534);
-    let last = put(rt, &mut store, 1, b"........")?;
-    let stands = stands(&store, 65535, 65535, 0);
-    let length = store.into_wire(rt.alloc())?.len();
+    Ok(())
+}
+
+/// Whether all blocks but the first wait, what becomes of the first, and whether none waits then.
+fn filled<D: Delivered>(rt: &HostRuntime, store: &mut D) -> Result<(bool, Placed, bool), Fail> {
+    all_are_new(rt, store)?;
+    let waits = stands(store, 0, 65535, 65534);
+    let last = put(rt, store, 1, b"........")?;
+    Ok((waits, last, stands(store, 65535, 65535, 0)))
+}
+
+/// All blocks but the first wait, the highest before the others, and none waits once the first is there.
+fn whole_window<D: Delivered + Drop>(rt: &HostRuntime) -> Result<(), Fail> {
+    let mut store = D::new(rt.alloc(), 8, 65535);
+    let found = filled(rt, &mut store);
+    let wire = wire_of(rt, store);
+    let (waits, last, stands) = found?;
+    let length = wire?.len();
     if waits && last == Placed::New && stands && length == 524_280 {
         Ok(())
     } else {
@@ -144,8 +203,8 @@ fn whole_window<D: Delivered + Drop>(rt: &HostRuntime) -> Result<(), Fail> {
 
 /// Fails unless the store keeps blocks as is wanted.
 fn keeps_all<D: Delivered + Drop>(rt: &HostRuntime) -> Result<(), Fail> {
-    for (name, steps, wire) in STEPS {
-        keeps::<D>(rt, name, steps, wire)?;
+    for case in &STEPS {
+        keeps::<D>(rt, case)?;
     }
     whole_window::<D>(rt)
 }
@@ -160,20 +219,39 @@ fn ring_keeps_blocks(rt: HostRuntime) -> Result<(), Fail> {
     keeps_all::<RingDelivered>(&rt)
 }
 
+/// How many bytes a ring keeps after a block is put.
+fn kept_after(
+    rt: &HostRuntime,
+    store: &mut RingDelivered,
+    number: u16,
+    bytes: &[u8],
+) -> Result<usize, Fail> {
+    put(rt, store, number, bytes)?;
+    Ok(store.kept())
+}
+
+/// How many bytes a ring keeps of two blocks that wait, after the first block, and after the third.
+fn kept_of(rt: &HostRuntime, store: &mut RingDelivered) -> Result<(usize, usize, usize), Fail> {
+    put(rt, store, 2, b"22222222")?;
+    let two = kept_after(rt, store, 4, b"44444444")?;
+    let one = kept_after(rt, store, 1, b"11111111")?;
+    let none = kept_after(rt, store, 3, b"33333333")?;
+    Ok((two, one, none))
+}
+
+/// The same of a new ring.
+fn kept(rt: &HostRuntime) -> Result<(usize, usize, usize), Fail> {
+    let mut store = RingDelivered::new(rt.alloc(), 8, 4);
+    kept_of(rt, &mut store)
+}
+
 /// A ring keeps the bytes of blocks that have left for as long as others wait, and none where none waits.
 #[test]
 fn ring_keeps_no_bytes_where_none_waits(rt: HostRuntime) -> Result<(), Fail> {
-    let mut store = RingDelivered::new(rt.alloc(), 8, 4);
-    put(&rt, &mut store, 2, b"22222222")?;
-    put(&rt, &mut store, 4, b"44444444")?;
-    let two = store.kept();
-    put(&rt, &mut store, 1, b"11111111")?;
-    let one = store.kept();
-    put(&rt, &mut store, 3, b"33333333")?;
-    let none = store.kept();
-    if (two, one, none) == (16, 16, 0) {
+    let found = kept(&rt)?;
+    if found == (16, 16, 0) {
         Ok(())
     } else {
-        Err(Fail::from((two, one, none)))
+        Err(Fail::from(found))
     }
 }

@@ -74,8 +74,8 @@ const HOSTS: [&str; 5] = [
 
 #[test]
 fn names_of_hosts(rt: HostRuntime) -> Result<(), Fail> {
-    for host in HOSTS {
-        is_host(&rt, host)?;
+    for host in &HOSTS {
+        is_host(&rt, *host)?;
     }
     Ok(())
 }

@@ -37,11 +37,16 @@ out 40000 69 000161006e6574617363696900, in 40000 41000 00030001{0a*511},
 /// A block of 512 bytes without the one that ends the read after it: nothing is normal yet.
 const WITHOUT_END: &str = "READ, in 40000 41000 00030001{61*512}, ACK_1";
 
+/// Fails unless nothing is counted or normal of a text.
+fn is_not_counted(rt: &HostRuntime, text: &[u8]) -> Result<(), Fail> {
+    says(rt, "count", text, "incomplete after 3\n", 1)?;
+    says(rt, "normal", text, "", 1)
+}
+
 #[test]
 fn no_count_of_a_read_without_its_end(rt: HostRuntime) -> Result<(), Fail> {
     let text = capture(rt.alloc(), CLIENT, WITHOUT_END)?;
-    says(&rt, "count", text.as_bytes(), "incomplete after 3\n", 1)?;
-    says(&rt, "normal", text.as_bytes(), "", 1)
+    is_not_counted(&rt, text.as_bytes())
 }
 
 /// Names that are too long for a payload, and for a line.
@@ -52,19 +57,29 @@ tftp-capture 1, end client, service 65535
 out 65535 65535 0001{61*65519}006f6374657400, HI, ACK_1 => fault line 4 LineTooLong
 ";
 
+/// Fails unless `check` and `judge_text` say this line of a text.
+fn is_line_of(rt: &HostRuntime, text: &[u8], line: &str) -> Result<(), Fail> {
+    says(rt, "check", text, line, 2)?;
+    is_verdict(rt, text, line)
+}
+
 /// Fails unless `check` and `judge_text` say this of a text.
 fn is_too_long(rt: &HostRuntime, text: &[u8], said: &str) -> Result<(), Fail> {
     let line = format!(in rt.alloc(); "{said}\n")?;
-    says(rt, "check", text, line.as_str(), 2)?;
-    is_verdict(rt, text, line.as_str())
+    is_line_of(rt, text, line.as_str())
+}
+
+/// Fails unless the next text of a script is too long.
+fn next_is_too_long(rt: &HostRuntime, script: &mut Script<'_>) -> Result<(), Fail> {
+    let (text, said) = script.next(rt.alloc())?;
+    is_too_long(rt, text.as_bytes(), said)
 }
 
 #[test]
 fn names_that_are_too_long(rt: HostRuntime) -> Result<(), Fail> {
     let mut script = Script::new(TOO_LONG);
     for _ in 0..2 {
-        let (text, said) = script.next(rt.alloc())?;
-        is_too_long(&rt, text.as_bytes(), said)?;
+        next_is_too_long(&rt, &mut script)?;
     }
     script.ends()
 }
@@ -103,6 +118,12 @@ fn digits_of(window: &Window, number: u16) -> &'static str {
     }
 }
 
+/// Adds the beginning of the line of a block.
+fn add_number(alloc: Global, text: &mut String, number: u16) -> Result<(), AllocError> {
+    let line = format!(in alloc; "in 40000 41000 0003{number:04x}")?;
+    text.push_str(line.as_str())
+}
+
 /// Adds the line of a block.
 fn add_block(
     alloc: Global,
@@ -110,11 +131,9 @@ fn add_block(
     window: &Window,
     number: u16,
 ) -> Result<(), AllocError> {
-    let line = format!(in alloc; "in 40000 41000 0003{number:04x}")?;
-    text.push_str(line.as_str())?;
+    add_number(alloc, text, number)?;
     text.push_str(digits_of(window, number))?;
-    text.push_str("\n")?;
-    Ok(())
+    text.push_str("\n")
 }
 
 /// The acknowledgement of the last block, and the total.
@@ -123,15 +142,26 @@ fn end_of(alloc: Global, count: u16) -> Result<String, AllocError> {
     format!(in alloc; "out 40000 41000 0004{count:04x}\ntotal {total}\n")
 }
 
-/// The text of such a read, with an acknowledgement of the last block at its end.
-fn window_text(alloc: Global, window: &Window) -> Result<String, AllocError> {
-    let mut text = String::from_str(alloc, BEFORE_MODE)?;
+/// Adds the acknowledgement of the last block, and the total.
+fn add_end(alloc: Global, text: &mut String, count: u16) -> Result<(), AllocError> {
+    let end = end_of(alloc, count)?;
+    text.push_str(end.as_str())
+}
+
+/// Adds the lines of such a read, with an acknowledgement of the last block at its end.
+fn add_window(alloc: Global, text: &mut String, window: &Window) -> Result<(), AllocError> {
     text.push_str(window.mode)?;
     text.push_str(AFTER_MODE)?;
     for step in 0..window.count {
-        add_block(alloc, &mut text, window, number_at(window, step))?;
+        add_block(alloc, text, window, number_at(window, step))?;
     }
-    text.push_str(end_of(alloc, window.count)?.as_str())?;
+    add_end(alloc, text, window.count)
+}
+
+/// The text of such a read.
+fn window_text(alloc: Global, window: &Window) -> Result<String, AllocError> {
+    let mut text = String::from_str(alloc, BEFORE_MODE)?;
+    add_window(alloc, &mut text, window)?;
     Ok(text)
 }
 
@@ -140,9 +170,12 @@ const OCTET_MODE: &str = "6f63746574";
 
 const NETASCII_MODE: &str = "6e65746173636969";
 
+/// A read, what all say of it, what `count` says, and the status.
+type Case = (Window, &'static str, &'static str, u8);
+
 /// As many blocks as there may be, the last one first; and a text of bare LFs, which are two bytes each when they are
 /// written, in half as many: with one more there would be block 65536.
-const WINDOWS: [(Window, &str, &str, u8); 3] = [
+const WINDOWS: [Case; 3] = [
     (
         Window {
             mode: OCTET_MODE,
@@ -192,11 +225,16 @@ fn is_counted(
     says(rt, "count", text, count, status)
 }
 
+/// Fails unless that is said of such a read.
+fn window_is_counted(rt: &HostRuntime, (window, line, count, status): &Case) -> Result<(), Fail> {
+    let text = window_text(rt.alloc(), window)?;
+    is_counted(rt, text.as_bytes(), (*line, *count), *status)
+}
+
 #[test]
 fn as_many_blocks_as_there_may_be(rt: HostRuntime) -> Result<(), Fail> {
-    for (window, line, count, status) in &WINDOWS {
-        let text = window_text(rt.alloc(), window)?;
-        is_counted(&rt, text.as_bytes(), (line, count), *status)?;
+    for window in &WINDOWS {
+        window_is_counted(&rt, window)?;
     }
     Ok(())
 }

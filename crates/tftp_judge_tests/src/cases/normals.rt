@@ -91,14 +91,24 @@ fn is_said_and_normal(rt: &HostRuntime, text: &str, line: &str, normal: &str) ->
     is_normal(rt, text.as_bytes(), normal)
 }
 
+/// Fails unless the line is said of a text, and of its normal text, which means the same and is its own normal text.
+fn both_are_normal(rt: &HostRuntime, text: &str, line: &str, normal: &str) -> Result<(), Fail> {
+    is_said_and_normal(rt, text, line, normal)?;
+    is_said_and_normal(rt, normal, line, normal)
+}
+
+/// Fails unless this is said of a text, with a line end after it, and the other is its normal text, likewise.
+fn are_normal(rt: &HostRuntime, text: &str, said: &str, normal: &str) -> Result<(), Fail> {
+    let line = format!(in rt.alloc(); "{said}\n")?;
+    both_are_normal(rt, text, line.as_str(), normal)
+}
+
 /// Fails unless the next two captures are one of which this is said, and its normal text, which means the same and is its
 /// own normal text.
 fn next_are_normal(rt: &HostRuntime, script: &mut Script<'_>) -> Result<(), Fail> {
     let (text, said) = script.next(rt.alloc())?;
     let (normal, _) = script.next(rt.alloc())?;
-    let line = format!(in rt.alloc(); "{said}\n")?;
-    is_said_and_normal(rt, text.as_str(), line.as_str(), normal.as_str())?;
-    is_said_and_normal(rt, normal.as_str(), line.as_str(), normal.as_str())
+    are_normal(rt, text.as_str(), said, normal.as_str())
 }
 
 #[test]

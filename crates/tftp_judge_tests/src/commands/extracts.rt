@@ -32,20 +32,30 @@ READ_TEXT, in 40000 41000 000300010d0d0a, ACK_1 => 0d0a
 READ_TEXT, in 40000 41000 000300010d41, ACK_1 => 0d41
 ";
 
-/// Fails unless the file of these hex digits is that of a text, by `extract` and by a judge on each store.
-fn has_file(rt: &HostRuntime, text: &[u8], digits: &str) -> Result<(), Fail> {
-    let file = file_of(rt.alloc(), digits)?;
-    says(rt, "extract", text, file.as_str(), 0)?;
+/// Fails unless this is the file of a text, by `extract` and by a judge on each store.
+fn is_file_of(rt: &HostRuntime, text: &[u8], file: &str) -> Result<(), Fail> {
+    says(rt, "extract", text, file, 0)?;
     is_file::<MapDelivered>(rt, text, file.as_bytes())?;
     is_file::<RingDelivered>(rt, text, file.as_bytes())
+}
+
+/// Fails unless the file of these hex digits is that of a text.
+fn has_file(rt: &HostRuntime, text: &[u8], digits: &str) -> Result<(), Fail> {
+    let file = file_of(rt.alloc(), digits)?;
+    is_file_of(rt, text, file.as_str())
+}
+
+/// Fails unless the next capture of a script has its file.
+fn next_has_file(rt: &HostRuntime, script: &mut Script<'_>) -> Result<(), Fail> {
+    let (text, digits) = script.next(rt.alloc())?;
+    has_file(rt, text.as_bytes(), digits)
 }
 
 #[test]
 fn files_of_accepted_captures(rt: HostRuntime) -> Result<(), Fail> {
     let mut script = Script::new(FILES);
     for _ in 0..13 {
-        let (text, digits) = script.next(rt.alloc())?;
-        has_file(&rt, text.as_bytes(), digits)?;
+        next_has_file(&rt, &mut script)?;
     }
     script.ends()
 }
@@ -77,12 +87,17 @@ READ_BY_8, OACK_BY_8, ACK_0, IN_1, ACK_1, IN_22, in 40000 41000 000300023333 => 
 READ, in 40000 41000 0005000100 => 1
 ";
 
+/// Fails unless nothing is written of the next capture of a script.
+fn next_has_none(rt: &HostRuntime, script: &mut Script<'_>) -> Result<(), Fail> {
+    let (text, _) = script.next(rt.alloc())?;
+    says(rt, "extract", text.as_bytes(), "", 1)
+}
+
 #[test]
 fn nothing_of_others(rt: HostRuntime) -> Result<(), Fail> {
     let mut script = Script::new(NONE);
     for _ in 0..4 {
-        let (text, _) = script.next(rt.alloc())?;
-        says(&rt, "extract", text.as_bytes(), "", 1)?;
+        next_has_none(&rt, &mut script)?;
     }
     script.ends()
 }
@@ -99,8 +114,11 @@ const OF_SIX_BLOCKS: &str =
     "READ_4_BY_8, OACK_4_BY_8, ACK_0, IN_1, IN_2, IN_4, ACK_2, IN_3, IN_4, in 40000 41000 000300053535353535353535, \
       in 40000 41000 00030006363636, out 40000 41000 00040006";
 
-/// The read or the write with a number that fails, and what was written. A write takes seven bytes.
-const CUTS: [(u64, u64, &[u8]); 3] = [(0, 1, b""), (0, 3, b"11111111222222"), (2, 0, b"")];
+/// The read or the write with a number that fails, and what was written.
+type Cut = (u64, u64, &'static [u8]);
+
+/// A write takes seven bytes.
+const CUTS: [Cut; 3] = [(0, 1, b""), (0, 3, b"11111111222222"), (2, 0, b"")];
 
 /// Fails unless `extract` writes this of a text, and ends with status 2.
 fn is_cut(
@@ -122,12 +140,26 @@ fn is_cut(
     Ok(())
 }
 
+/// Fails unless a text is cut so.
+fn all_are_cut(rt: &HostRuntime, text: &[u8]) -> Result<(), Fail> {
+    for (read_fails, write_fails, written) in &CUTS {
+        is_cut(rt, text, (*read_fails, *write_fails), *written)?;
+    }
+    Ok(())
+}
+
 /// A part of the file where a write fails, and nothing where a read fails.
 #[test]
 fn a_part_where_a_write_fails(rt: HostRuntime) -> Result<(), Fail> {
     let text = capture(rt.alloc(), CLIENT, OF_SIX_BLOCKS)?;
-    for (read_fails, write_fails, written) in CUTS {
-        is_cut(&rt, text.as_bytes(), (read_fails, write_fails), written)?;
+    all_are_cut(&rt, text.as_bytes())
+}
+
+/// Adds a datagram and one that is refused, and 4,096 lines of comments.
+fn add_refused_early(text: &mut String) -> Result<(), AllocError> {
+    text.push_str("out 40000 69 000161006f6374657400\nin 40000 41000 000300026869\n")?;
+    for _ in 0..4096 {
+        text.push_str("#\n")?;
     }
     Ok(())
 }
@@ -135,29 +167,21 @@ fn a_part_where_a_write_fails(rt: HostRuntime) -> Result<(), Fail> {
 /// A capture that is refused at its second datagram, and 4,096 lines of comments.
 fn refused_early(alloc: Global) -> Result<String, AllocError> {
     let mut text = String::from_str(alloc, START)?;
-    text.push_str("out 40000 69 000161006f6374657400\nin 40000 41000 000300026869\n")?;
-    for _ in 0..4096 {
-        text.push_str("#\n")?;
-    }
+    add_refused_early(&mut text)?;
     Ok(text)
+}
+
+/// Fails unless the commands say this of a text which is read byte by byte, and whose last read would fail.
+fn both_end(rt: &HostRuntime, text: &[u8]) -> Result<(), Fail> {
+    let reading = (1, text.len() as u64);
+    let line = "refused datagram 2 rule 22 WindowOverrun\n";
+    says_at(rt, "check", text, (reading, ROOM), (line, 1, false))?;
+    says_at(rt, "extract", text, (reading, ROOM), ("", 1, false))
 }
 
 // Nothing is read after a refusal: 4,096 lines of comments follow it, and the last read would fail.
 #[test]
 fn refusals_end_the_reading(rt: HostRuntime) -> Result<(), Fail> {
     let text = refused_early(rt.alloc())?;
-    let reading = (1, text.len() as u64);
-    for (command, line) in [
-        ("check", "refused datagram 2 rule 22 WindowOverrun\n"),
-        ("extract", ""),
-    ] {
-        says_at(
-            &rt,
-            command,
-            text.as_bytes(),
-            (reading, ROOM),
-            (line, 1, false),
-        )?;
-    }
-    Ok(())
+    both_end(&rt, text.as_bytes())
 }

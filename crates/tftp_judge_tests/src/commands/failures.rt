@@ -19,6 +19,17 @@ fn fails_to_read(
     says_at(rt, command, text, ((piece, read), 1), (output, 2, true))
 }
 
+/// Fails unless `check` says this fault, and `show` that.
+fn both_say_failed(
+    rt: &HostRuntime,
+    text: &[u8],
+    (piece, read): (usize, u64),
+    (fault, shown): (&str, &str),
+) -> Result<(), Fail> {
+    fails_to_read(rt, "check", text, piece, read, fault)?;
+    fails_to_read(rt, "show", text, piece, read, shown)
+}
+
 /// Fails unless both commands say the fault of a read on this line, `show` after the datagrams before it.
 fn both_fail_to_read(
     rt: &HostRuntime,
@@ -28,9 +39,8 @@ fn both_fail_to_read(
     line: usize,
 ) -> Result<(), Fail> {
     let fault = format!(in rt.alloc(); "fault line {line} Read\n")?;
-    fails_to_read(rt, "check", text, piece, read, fault.as_str())?;
     let shown = shown_before(rt.alloc(), line, fault.as_str())?;
-    fails_to_read(rt, "show", text, piece, read, shown.as_str())
+    both_say_failed(rt, text, (piece, read), (fault.as_str(), shown.as_str()))
 }
 
 /// The line of the byte after so many.
@@ -44,16 +54,20 @@ fn line_after(text: &[u8], taken: usize) -> usize {
     line
 }
 
+/// Fails unless that is so of each read of one byte.
+fn all_reads_fail(rt: &HostRuntime, text: &[u8]) -> Result<(), Fail> {
+    for taken in 0..=text.len() {
+        let read = (taken as u64).saturating_add(1);
+        both_fail_to_read(rt, text, 1, read, line_after(text, taken))?;
+    }
+    Ok(())
+}
+
 /// Each read of one byte fails in turn, the one after the whole text too: the line is that of the next byte.
 #[test]
 fn each_read_fails(rt: HostRuntime) -> Result<(), Fail> {
     let whole = read_of_hi(rt.alloc())?;
-    let text = whole.as_bytes();
-    for taken in 0..=text.len() {
-        let read = (taken as u64).saturating_add(1);
-        both_fail_to_read(&rt, text, 1, read, line_after(text, taken))?;
-    }
-    Ok(())
+    all_reads_fail(&rt, whole.as_bytes())
 }
 
 /// The text comes whole, and the next read fails: it is not accepted.
@@ -87,10 +101,9 @@ fn a_failed_read_in_a_wrong_text(rt: HostRuntime) -> Result<(), Fail> {
 #[test]
 fn a_fault_is_said_before_the_next_read(rt: HostRuntime) -> Result<(), Fail> {
     let wanted = ("fault line 1 BadHeader\n", 2, false);
-    for command in ["check", "show"] {
-        says_at(&rt, command, b"tftp-capture 3\n", ((1, 16), 1), wanted)?;
-    }
-    Ok(())
+    let text = b"tftp-capture 3\n";
+    says_at(&rt, "check", text, ((1, 16), 1), wanted)?;
+    says_at(&rt, "show", text, ((1, 16), 1), wanted)
 }
 
 /// Runs the command with a writer of which one write fails, and gives what was taken; only that write fails, so that
@@ -149,10 +162,18 @@ fn each_write_fails(
 #[test]
 fn a_verdict_that_is_not_written(rt: HostRuntime) -> Result<(), Fail> {
     let accepted = read_of_hi(rt.alloc())?;
-    each_write_fails(&rt, "check", accepted.as_bytes(), ACCEPTED)?;
+    each_write_fails(&rt, "check", accepted.as_bytes(), ACCEPTED)
+}
+
+#[test]
+fn a_refusal_that_is_not_written(rt: HostRuntime) -> Result<(), Fail> {
     let refused = capture(rt.alloc(), CLIENT, "READ, HI, ACK_2")?;
     let line = "refused datagram 3 rule 26 AckAhead\n";
-    each_write_fails(&rt, "check", refused.as_bytes(), line)?;
+    each_write_fails(&rt, "check", refused.as_bytes(), line)
+}
+
+#[test]
+fn a_fault_that_is_not_written(rt: HostRuntime) -> Result<(), Fail> {
     each_write_fails(&rt, "check", b"", "fault line 1 Truncated\n")?;
     each_write_fails(&rt, "judge", b"", "fault usage\n")
 }
@@ -168,8 +189,11 @@ fn datagrams_that_are_not_written(rt: HostRuntime) -> Result<(), Fail> {
     each_write_fails(&rt, "show", CUT, "1 out RRQ\nfault line 5 Truncated\n")
 }
 
-/// Writes that fail, and the least and the most of what was taken before them.
-const FAILING: [(Writing, usize, usize); 8] = [
+/// A write that fails, and the least and the most of what was taken before it.
+type Failing = (Writing, usize, usize);
+
+/// Such writes.
+const FAILING: [Failing; 8] = [
     ((16_384, 1, false), 0, 0),
     ((16_384, 1, true), 0, 0),
     ((16_384, 2, false), 1, 16_384),
@@ -180,17 +204,34 @@ const FAILING: [(Writing, usize, usize); 8] = [
     ((1, 5000, false), 4999, 4999),
 ];
 
+/// Fails unless the beginning of these lines is written of a text where that write fails.
+fn is_begun(
+    rt: &HostRuntime,
+    text: &[u8],
+    lines: &str,
+    (writing, least, most): &Failing,
+) -> Result<(), Fail> {
+    let written = taken_of(rt, "show", text, *writing)?;
+    if is_front(written.taken(), lines, (*least, *most)) {
+        Ok(())
+    } else {
+        Err(Fail::from((*writing, written.taken().len())))
+    }
+}
+
+/// Fails unless that is so of each such write.
+fn all_are_begun(rt: &HostRuntime, text: &[u8], lines: &str) -> Result<(), Fail> {
+    for failing in &FAILING {
+        is_begun(rt, text, lines, failing)?;
+    }
+    Ok(())
+}
+
 /// Of more lines than wait together, a write in the middle fails: what was taken is their beginning, and nothing
 /// follows.
 #[test]
 fn writes_that_fail_among_many_datagrams(rt: HostRuntime) -> Result<(), Fail> {
     let text = many_datagrams(rt.alloc())?;
     let lines = many_shown(rt.alloc())?;
-    for (writing, least, most) in FAILING {
-        let written = taken_of(&rt, "show", text.as_bytes(), writing)?;
-        if !is_front(written.taken(), lines.as_str(), (least, most)) {
-            return Err(Fail::from((writing, written.taken().len())));
-        }
-    }
-    Ok(())
+    all_are_begun(&rt, text.as_bytes(), lines.as_str())
 }

@@ -31,13 +31,43 @@ fn written_of(rt: &HostRuntime, meaning: &Meaning) -> Result<DripWriter, AllocEr
     }
 }
 
+/// Whether this was written.
+fn is_taken(written: &DripWriter, normal: &str) -> bool {
+    written.taken() == normal.as_bytes()
+}
+
+/// Whether `normal_count` counts so many for a meaning.
+fn is_counted(meaning: &Meaning, count: u64) -> bool {
+    normal_count(meaning) == count
+}
+
+/// Whether `normal_capture` writes this for a meaning, and `normal_count` counts so many.
+fn is_written(
+    rt: &HostRuntime,
+    meaning: &Meaning,
+    normal: &str,
+    count: u64,
+) -> Result<bool, AllocError> {
+    let written = written_of(rt, meaning)?;
+    Ok(is_taken(&written, normal) && is_counted(meaning, count))
+}
+
 /// Whether `normal_capture` writes this for the meaning of a text, and `normal_count` counts so many.
-fn is_captured(rt: &HostRuntime, text: &[u8], normal: &str, count: u64) -> Result<bool, Fail> {
-    let Some(meaning) = meaning_of(rt, text) else {
-        return Ok(false);
-    };
-    let written = written_of(rt, &meaning)?;
-    Ok(written.taken() == normal.as_bytes() && normal_count(&meaning) == count)
+fn is_captured(
+    rt: &HostRuntime,
+    text: &[u8],
+    normal: &str,
+    count: u64,
+) -> Result<bool, AllocError> {
+    match meaning_of(rt, text) {
+        Some(meaning) => is_written(rt, &meaning, normal, count),
+        None => Ok(false),
+    }
+}
+
+/// Whether `normalise` writes this for a text.
+fn is_normalised(rt: &HostRuntime, text: &[u8], normal: &str) -> Result<bool, AllocError> {
+    Ok(is_taken(&normalised(rt, text)?, normal))
 }
 
 /// The number of the datagrams of a text of version 1 without comments.
@@ -45,18 +75,28 @@ fn count_of(text: &str) -> u64 {
     (text.lines().count() as u64).saturating_sub(4)
 }
 
+/// Fails unless `normal` writes this of a text, and `count` that, and both end with this status.
+fn both_say(
+    rt: &HostRuntime,
+    text: &[u8],
+    (normal, count): (&str, &str),
+    status: u8,
+) -> Result<(), Fail> {
+    says(rt, "normal", text, normal, status)?;
+    says(rt, "count", text, count, status)
+}
+
 /// Fails unless the commands say that this is the normal text of a text, and so many its datagrams.
 fn says_normal(rt: &HostRuntime, text: &[u8], normal: &str, count: u64) -> Result<(), Fail> {
     let line = format!(in rt.alloc(); "normal datagrams {count}\n")?;
-    says(rt, "normal", text, normal, 0)?;
-    says(rt, "count", text, line.as_str(), 0)
+    both_say(rt, text, (normal, line.as_str()), 0)
 }
 
 /// Fails unless this is the normal text of a text, and as many its datagrams, by the commands and by the calls.
 pub fn is_normal(rt: &HostRuntime, text: &[u8], normal: &str) -> Result<(), Fail> {
     let count = count_of(normal);
     says_normal(rt, text, normal, count)?;
-    let is_written = normalised(rt, text)?.taken() == normal.as_bytes();
+    let is_written = is_normalised(rt, text, normal)?;
     let is_captured = is_captured(rt, text, normal, count)?;
     if is_written && is_captured {
         Ok(())
@@ -65,15 +105,19 @@ pub fn is_normal(rt: &HostRuntime, text: &[u8], normal: &str) -> Result<(), Fail
     }
 }
 
+/// Fails unless a text of two blocks has five datagrams when it is normal.
+fn is_counted_beyond(rt: &HostRuntime, text: &[u8]) -> Result<(), Fail> {
+    let accepted = "accepted get netascii blocks 2 bytes 511\n";
+    says(rt, "check", text, accepted, 0)?;
+    says(rt, "count", text, "normal datagrams 5\n", 0)
+}
+
 /// 511 line ends that came alone are two blocks when they are written: more datagrams than the capture's.
 #[test]
 fn count_of_bare_line_ends(rt: HostRuntime) -> Result<(), Fail> {
     let words = "out 40000 69 000161006e6574617363696900, in 40000 41000 00030001{0a*511}, ACK_1";
     let text = capture(rt.alloc(), CLIENT, words)?;
-    let text = text.as_bytes();
-    let accepted = "accepted get netascii blocks 2 bytes 511\n";
-    says(&rt, "check", text, accepted, 0)?;
-    says(&rt, "count", text, "normal datagrams 5\n", 0)
+    is_counted_beyond(&rt, text.as_bytes())
 }
 
 /// Captures that are not accepted, and what `check` and `count` say of them: `normal` writes nothing.
@@ -88,16 +132,20 @@ READ, in 40000 41000 0005000100 => aborted by peer code 1
 /// Fails unless `normal` writes nothing of a text, `count` the line, and both end with this status.
 fn is_not_normal(rt: &HostRuntime, text: &[u8], said: &str, status: u8) -> Result<(), Fail> {
     let line = format!(in rt.alloc(); "{said}\n")?;
-    says(rt, "normal", text, "", status)?;
-    says(rt, "count", text, line.as_str(), status)
+    both_say(rt, text, ("", line.as_str()), status)
+}
+
+/// Fails unless the next capture of a script has no normal text.
+fn next_is_not_normal(rt: &HostRuntime, script: &mut Script<'_>) -> Result<(), Fail> {
+    let (text, said) = script.next(rt.alloc())?;
+    is_not_normal(rt, text.as_bytes(), said, 1)
 }
 
 #[test]
 fn nothing_normal_of_others(rt: HostRuntime) -> Result<(), Fail> {
     let mut script = Script::new(NONE);
     for _ in 0..4 {
-        let (text, said) = script.next(rt.alloc())?;
-        is_not_normal(&rt, text.as_bytes(), said, 1)?;
+        next_is_not_normal(&rt, &mut script)?;
     }
     script.ends()
 }
@@ -124,14 +172,19 @@ fn is_cut_at(rt: &HostRuntime, text: &[u8], write: u64) -> Result<(), Fail> {
     }
 }
 
+/// Fails unless that is so of each write of a text.
+fn all_are_cut(rt: &HostRuntime, text: &[u8]) -> Result<(), Fail> {
+    for write in 1..=NORMAL.len().div_ceil(7) {
+        is_cut_at(rt, text, write as u64)?;
+    }
+    Ok(())
+}
+
 /// Each write of seven bytes fails in turn: what was written is the normal text's beginning, and the status is 2.
 #[test]
 fn a_part_of_the_normal_text_where_a_write_fails(rt: HostRuntime) -> Result<(), Fail> {
     let text = read_of_hi(rt.alloc())?;
-    for write in 1..=NORMAL.len().div_ceil(7) {
-        is_cut_at(&rt, text.as_bytes(), write as u64)?;
-    }
-    Ok(())
+    all_are_cut(&rt, text.as_bytes())
 }
 
 /// What `normalise` answers to a text where this write of seven bytes fails.

@@ -47,25 +47,35 @@ fn is_shown(rt: &HostRuntime, text: &[u8], said: &str) -> Result<(), Fail> {
     says(rt, "show", text, shown.as_str(), 0)
 }
 
+/// Fails unless `show` writes the lines of the next capture of a script.
+fn next_is_shown(rt: &HostRuntime, script: &mut Script<'_>) -> Result<(), Fail> {
+    let (text, said) = script.next(rt.alloc())?;
+    is_shown(rt, text.as_bytes(), said)
+}
+
 #[test]
 fn datagrams_are_shown(rt: HostRuntime) -> Result<(), Fail> {
     let mut script = Script::new(SCRIPT);
     for _ in 0..22 {
-        let (text, said) = script.next(rt.alloc())?;
-        is_shown(&rt, text.as_bytes(), said)?;
+        next_is_shown(&rt, &mut script)?;
     }
     script.ends()
+}
+
+/// Adds the lines between the slashes.
+fn add_lines(lines: &mut String, said: &str) -> Result<(), AllocError> {
+    for line in said.split(" / ") {
+        lines.push_str(line)?;
+        lines.push_str("\n")?;
+    }
+    Ok(())
 }
 
 /// The lines between the slashes; none of `-`.
 fn lines_of(alloc: Global, said: &str) -> Result<String, AllocError> {
     let mut lines = String::new(alloc);
-    if said == "-" {
-        return Ok(lines);
-    }
-    for line in said.split(" / ") {
-        lines.push_str(line)?;
-        lines.push_str("\n")?;
+    if said != "-" {
+        add_lines(&mut lines, said)?;
     }
     Ok(lines)
 }

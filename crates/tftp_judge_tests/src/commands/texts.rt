@@ -24,23 +24,34 @@ in 40000 10.0.0.1 41000 000300016869
 out 40000 10.0.0.1 41000 00040001
 total 3";
 
-/// The text of these lines with the line `number`, counted from 1, changed; signs between braces come as often as the
-/// number after the star says.
+/// Adds these lines with the line `number`, counted from 1, changed; signs between braces come as often as the number after
+/// the star says.
+fn add_changed(text: &mut String, lines: &str, number: usize, line: &str) -> Result<(), Fail> {
+    for (index, old) in lines.split('\n').enumerate() {
+        add_line(text, if index + 1 == number { line } else { old })?;
+    }
+    Ok(())
+}
+
+/// The text of these lines, likewise.
 fn changed(alloc: Global, lines: &str, number: usize, line: &str) -> Result<String, Fail> {
     let mut text = String::new(alloc);
-    for (index, old) in lines.split('\n').enumerate() {
-        add_line(&mut text, if index + 1 == number { line } else { old })?;
-    }
+    add_changed(&mut text, lines, number, line)?;
     Ok(text)
+}
+
+/// Fails unless `check` says this line, and `show` those, and both end with status 2.
+fn both_say(rt: &HostRuntime, text: &[u8], line: &str, shown: &str) -> Result<(), Fail> {
+    says(rt, "check", text, line, 2)?;
+    says(rt, "show", text, shown, 2)
 }
 
 /// Fails unless both commands say this fault of this line, `show` after the datagrams on the lines before it: the
 /// first stands on line 4, and each on a line.
 fn is_fault(rt: &HostRuntime, text: &[u8], number: usize, fault: &str) -> Result<(), Fail> {
     let line = format!(in rt.alloc(); "fault line {number} {fault}\n")?;
-    says(rt, "check", text, line.as_str(), 2)?;
     let shown = shown_before(rt.alloc(), number, line.as_str())?;
-    says(rt, "show", text, shown.as_str(), 2)
+    both_say(rt, text, line.as_str(), shown.as_str())
 }
 
 /// Fails unless each changed line of these has its fault: the number of a line, the fault, and the changed line, with bars
@@ -166,8 +177,8 @@ const TOTALS: &str = "\
 
 #[test]
 fn faults_of_texts(rt: HostRuntime) -> Result<(), Fail> {
-    for cases in [HEADERS, VERSIONS, DATAGRAMS, TOTALS] {
-        all_are_faults(&rt, LINES, cases)?;
+    for cases in &[HEADERS, VERSIONS, DATAGRAMS, TOTALS] {
+        all_are_faults(&rt, LINES, *cases)?;
     }
     Ok(())
 }
@@ -227,8 +238,11 @@ fn is_refused_and_shown(
 }
 
 /// Fails unless the lines with the line `number` changed are those of the read of `hi` for both commands.
-fn says_the_same(rt: &HostRuntime, (lines, number, line): (&str, usize, &str)) -> Result<(), Fail> {
-    let text = changed(rt.alloc(), lines, number, line)?;
+fn says_the_same(
+    rt: &HostRuntime,
+    (lines, number, line): &(&str, usize, &str),
+) -> Result<(), Fail> {
+    let text = changed(rt.alloc(), *lines, *number, *line)?;
     is_read_of_hi(rt, text.as_bytes())
 }
 
@@ -251,8 +265,8 @@ const SHORT: [(&str, usize); 7] = [
 
 #[test]
 fn texts_that_end_too_early(rt: HostRuntime) -> Result<(), Fail> {
-    for (text, line) in SHORT {
-        is_fault(&rt, text.as_bytes(), line, "Truncated")?;
+    for (text, line) in &SHORT {
+        is_fault(&rt, text.as_bytes(), *line, "Truncated")?;
     }
     Ok(())
 }
@@ -266,8 +280,8 @@ fn is_trailing(rt: &HostRuntime, more: &str) -> Result<(), Fail> {
 
 #[test]
 fn texts_that_go_on(rt: HostRuntime) -> Result<(), Fail> {
-    for more in ["#\n", "\n", "x", "total 3\n"] {
-        is_trailing(&rt, more)?;
+    for more in &["#\n", "\n", "x", "total 3\n"] {
+        is_trailing(&rt, *more)?;
     }
     let long = "a".repeat(rt.alloc(), 131_071)?;
     is_trailing(&rt, long.as_str())
@@ -295,7 +309,7 @@ const WITH_BYTES: &[u8] =
 
 #[test]
 fn texts_that_say_the_same(rt: HostRuntime) -> Result<(), Fail> {
-    for case in THE_SAME {
+    for case in &THE_SAME {
         says_the_same(&rt, case)?;
     }
     is_read_of_hi(&rt, WITH_BYTES)
@@ -331,8 +345,8 @@ fn joined(alloc: Global, start: &str, end: &str) -> Result<String, AllocError> {
 /// A datagram that breaks a rule comes before a fault of a later line, and `show` judges nothing.
 #[test]
 fn a_refusal_comes_before_a_later_fault(rt: HostRuntime) -> Result<(), Fail> {
-    for (end, fault) in LATER_FAULTS {
-        is_refused_before(&rt, end, fault)?;
+    for (end, fault) in &LATER_FAULTS {
+        is_refused_before(&rt, *end, *fault)?;
     }
     Ok(())
 }

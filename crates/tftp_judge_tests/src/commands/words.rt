@@ -1,5 +1,6 @@
 use super::{has_said, ran, read_of_hi};
 use crate::cases::ACCEPTED;
+use std::alloc::AllocError;
 use std::test::Fail;
 use tftp_capture::{DripReader, DripWriter};
 
@@ -31,12 +32,18 @@ tftp-audit|
 tftp-audit|--
 tftp-audit|check ";
 
-/// Fails unless the words between the bars are no command.
-fn is_no_command_line(rt: &HostRuntime, line: &str) -> Result<(), Fail> {
-    let mut words = Vec::new(rt.alloc());
+/// Adds the words between the bars.
+fn add_words<'a>(words: &mut Vec<&'a str>, line: &'a str) -> Result<(), AllocError> {
     for word in line.split('|') {
         words.push(word)?;
     }
+    Ok(())
+}
+
+/// Fails unless the words between the bars are no command.
+fn is_no_command_line(rt: &HostRuntime, line: &str) -> Result<(), Fail> {
+    let mut words = Vec::new(rt.alloc());
+    add_words(&mut words, line)?;
     is_no_command(rt, words.as_slice())
 }
 
@@ -61,12 +68,17 @@ fn checks(rt: &HostRuntime, name: &str, text: &[u8]) -> Result<(), Fail> {
     )
 }
 
+/// Fails unless programs of these names check the text.
+fn all_check(rt: &HostRuntime, text: &[u8]) -> Result<(), Fail> {
+    for name in &["", "check", "--help", "/usr/bin/tftp-audit"] {
+        checks(rt, *name, text)?;
+    }
+    Ok(())
+}
+
 /// The program's name is any word.
 #[test]
 fn any_name_of_the_program(rt: HostRuntime) -> Result<(), Fail> {
     let text = read_of_hi(rt.alloc())?;
-    for name in ["", "check", "--help", "/usr/bin/tftp-audit"] {
-        checks(&rt, name, text.as_bytes())?;
-    }
-    Ok(())
+    all_check(&rt, text.as_bytes())
 }

@@ -122,8 +122,8 @@ const FAULTS: [(NegoFault, Case); 14] = [
 
 #[test]
 fn faults_of_oacks(rt: HostRuntime) -> Result<(), Fail> {
-    for (fault, (request, oack)) in FAULTS {
-        has(&rt, fault, request, oack)?;
+    for (fault, (request, oack)) in &FAULTS {
+        has(&rt, *fault, *request, *oack)?;
     }
     Ok(())
 }

@@ -1,8 +1,9 @@
-ghost use Rattle.std.specs.Prelude.{◌≡◌, false, true};
+ghost use Rattle.std.specs.Prelude.{◌≡◌, ◌≤◌, ◌<◌, ◌+◌, ◌^◌, false, true, length, IfOk, OnOk};
+ghost use Rattle.tftp_capture.specs.CaptureText.{IsPort};
 ghost use Rattle.tftp_capture.specs.History.{IsReadStanding};
 
 use super::{
-    READ, Sound, Written, all_pass, begun, changed_in, gives, gives_or_wants, has_written,
+    READ, Sound, Written, all_pass, begun, changed_in, gives, gives_or_wants, has_written, next,
 };
 use std::alloc::Global;
 use std::test::Fail;
@@ -57,7 +58,7 @@ fn is_next(
     requires told { IsReadStanding capture.old.standing → reader.old.1 ≡ true }
     ensures told { IsReadStanding capture.new.standing → reader.new.1 ≡ true }
 {
-    match capture.next(rt.alloc(), reader) {
+    match next(rt, capture, reader) {
         Ok(Some(datagram)) => datagram.remote_host.bytes() == host,
         _ => false,
     }
@@ -102,6 +103,59 @@ fn texts_of_version_2_with_a_growth_refused(rt: HostRuntime) -> Result<(), Fail>
     gives_or_wants(&rt, NAMED, Ok((3, 15)), 7)
 }
 
+/// Begins to write, and promises no more than a further call wants.
+fn started(
+    alloc: Global,
+    writer: &mut Tallied<DripWriter>,
+    header: &Header,
+) -> Result<HostCaptureWriter, WriteFault>
+    requires clean { writer.old.1 ≡ false }
+    requires service { IsPort header.now.service }
+    ensures told { IfOk result (λ begun. begun.failed ≡ true → writer.new.1 ≡ true) }
+    ensures count { IfOk result (λ begun. begun.count ≡ 0) }
+{
+    HostCaptureWriter::begin(alloc, writer, header)
+}
+
+/// Writes a datagram, likewise.
+fn put(
+    capture: &mut HostCaptureWriter,
+    writer: &mut Tallied<DripWriter>,
+    dir: Dir,
+    local: u16,
+    host: &Host,
+    remote: u16,
+    payload: &[u8],
+) -> Result<(), WriteFault>
+    requires told { capture.old.failed ≡ true → writer.old.1 ≡ true }
+    requires local { IsPort local }
+    requires remote { IsPort remote }
+    requires payload { length payload.now ≤ 65527 }
+    requires few { capture.old.count < 2 ^ 40 }
+    ensures told { capture.new.failed ≡ true → writer.new.1 ≡ true }
+    ensures counted { OnOk result (capture.new.count ≡ capture.old.count + 1) }
+{
+    capture.put(writer, dir, local, host, remote, payload)
+}
+
+/// Writes the datagrams of `NAMED`.
+fn put_named(
+    capture: &mut HostCaptureWriter,
+    writer: &mut Tallied<DripWriter>,
+    host: &Host,
+) -> Result<(), WriteFault>
+    requires told { capture.old.failed ≡ true → writer.old.1 ≡ true }
+    requires few { capture.old.count ≡ 0 }
+    ensures told { capture.new.failed ≡ true → writer.new.1 ≡ true }
+{
+    let request = b"\x00\x01a\x00octet\x00";
+    put(capture, writer, Dir::Out, 40_000, host, 69, request)?;
+    let data = b"\x00\x03\x00\x01hi";
+    put(capture, writer, Dir::In, 40_000, host, 41_000, data)?;
+    let ack = b"\x00\x04\x00\x01";
+    put(capture, writer, Dir::Out, 40_000, host, 41_000, ack)
+}
+
 /// Writes the text of `NAMED`.
 fn write_named(
     alloc: Global,
@@ -114,13 +168,8 @@ fn write_named(
         named: End::Client,
         service: 69,
     };
-    let mut capture = HostCaptureWriter::begin(alloc, writer, &header)?;
-    let request = b"\x00\x01a\x00octet\x00";
-    capture.put(writer, Dir::Out, 40_000, host, 69, request)?;
-    let data = b"\x00\x03\x00\x01hi";
-    capture.put(writer, Dir::In, 40_000, host, 41_000, data)?;
-    let ack = b"\x00\x04\x00\x01";
-    capture.put(writer, Dir::Out, 40_000, host, 41_000, ack)?;
+    let mut capture = started(alloc, writer, &header)?;
+    put_named(&mut capture, writer, host)?;
     capture.close(writer)
 }
 

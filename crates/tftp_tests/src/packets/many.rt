@@ -1,6 +1,6 @@
 //! OACKs of many options: names that are found by their hashes, and names that are sorted since their hashes are alike.
 
-use super::{fault_of, owned_oack_of};
+use super::{count_of, fault_of, owned_oack_of};
 use crate::views::{is_so, oack_of};
 use std::test::Fail;
 use tftp_packet::{Options, PacketFault, same_options};
@@ -30,17 +30,22 @@ fn oack(rt: &HostRuntime, count: u32) -> Result<Vec<u8>, Fail> {
     Ok(payload)
 }
 
+/// Fails unless an option of so many comes twice.
+fn has_one_twice(payload: &[u8], count: usize) -> Result<(), Fail> {
+    match fault_of(payload) {
+        Some(PacketFault::DuplicateOption) => Ok(()),
+        other => Err(Fail::from((count, other))),
+    }
+}
+
 /// Fails unless the options are so many, until one comes twice.
 fn holds_each_once(payload: &mut Vec<u8>, count: usize, twice: &[u8]) -> Result<(), Fail> {
-    let read = oack_of(payload.as_slice())?.len();
+    let read = count_of(payload.as_slice())?;
     if read != count {
         return Err(Fail::from((read, count)));
     }
     payload.extend_from_slice(twice)?;
-    match fault_of(payload.as_slice()) {
-        Some(PacketFault::DuplicateOption) => Ok(()),
-        other => Err(Fail::from((count, other))),
-    }
+    has_one_twice(payload.as_slice(), count)
 }
 
 /// Fails unless an OACK of so many options holds each name once.
@@ -86,8 +91,8 @@ const TWICE: [&[u8]; 4] = [
 #[test]
 fn names_of_one_hash_stand_once(rt: HostRuntime) -> Result<(), Fail> {
     for count in [3, 1_017, 1_018, 1_019, 3_000] {
-        for twice in TWICE {
-            alike_stand_once(&rt, count, twice)?;
+        for twice in &TWICE {
+            alike_stand_once(&rt, count, *twice)?;
         }
     }
     Ok(())
