@@ -1,10 +1,10 @@
 """What the program that reads recordings says of them: lists, texts and verdicts.
 
-    rows.py PROGRAM
+    rows.py PROGRAM [REFUSE]
 
 The recordings of examples/ have the verdicts that they had when they were made; others are made here, with the rows
-that they must have by the rules. Prints each case that is not as it should be, then 'N passed, M failed'; status 1 if
-any failed.
+that they must have by the rules. With REFUSE, which is tests/refuse.c when it is built, each growth of memory is
+refused in turn. Prints each case that is not as it should be, then 'N passed, M failed'; status 1 if any failed.
 """
 from __future__ import annotations
 
@@ -16,11 +16,12 @@ import pathlib
 import random
 import subprocess
 import sys
+import tempfile
 from collections.abc import Sequence
 
 import recorded
 from captures import ack, data, error, read_request
-from judged import Row, checked, packet_of, row_of, said
+from judged import CAN_TAKE, Row, checked, packet_of, row_of, said
 from loopback import CASES, are_wanted
 from recorded import Datagram, Fragment, Frame, Interface
 from trial import Trial
@@ -367,8 +368,30 @@ def try_words(trial: Trial, program: str) -> None:
     trial.check("a file that is missing among others", holds, (output, told, status))
 
 
-def main(program: str) -> int:
+def try_growths(trial: Trial, program: str, refuse: str) -> None:
+    """Each growth refused in turn: the right answer, or the rows before it and status 2; never a signal."""
+    given, folder = (EXAMPLES / "loopback-session.pcap").read_bytes(), tempfile.TemporaryDirectory()
+    met = pathlib.Path(folder.name) / "met"
+    for words in (["check", "--json", "-"], ["-"], ["text", "3", "client", "-"]):
+        right, turn = said(program, words, given), 0
+        while not turn or met.exists():
+            met.unlink(missing_ok=True)
+            turn += 1
+            env = {**os.environ, "LD_PRELOAD": refuse, "REFUSE": str(turn), "MET": str(met)}
+            done = subprocess.run([program, *words], input=given, capture_output=True, timeout=CAN_TAKE, env=env)
+            output, told = done.stdout.decode("ascii"), done.stderr.decode()
+            is_right = (output, told, done.returncode) == right
+            kept = all(it in right[0] or "memory" in it for it in output.splitlines())
+            holds = is_right if not met.exists() else is_right or done.returncode == 2 and kept
+            trial.check(f"{words}, growth {turn} refused", holds, (output, told, done.returncode))
+        trial.check(f"{words}, growths", turn > 20, turn)
+    folder.cleanup()
+
+
+def main(program: str, *refuse: str) -> int:
     trial = Trial()
+    for one in refuse:
+        try_growths(trial, program, one)
     for part in (
         try_examples, try_links, try_fragments, try_losses, try_sessions, try_live, try_splitting, try_doubts, try_words,
     ):
@@ -377,4 +400,4 @@ def main(program: str) -> int:
 
 
 if __name__ == "__main__":
-    sys.exit(main(os.path.abspath(sys.argv[1])))
+    sys.exit(main(*map(os.path.abspath, sys.argv[1:])))

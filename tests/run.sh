@@ -32,7 +32,7 @@ echo "transfers of drawn recordings:"
 transfers=$here/../crates/tftp_transfers_main/out/tftp_transfers_main
 python3 "$here/attribution.py" --cases 8 --places "$here/../crates/tftp_places/out/tftp_places" --transfers "$transfers" "$1"
 echo "transfers, texts and verdicts of recordings:"
-python3 "$here/rows.py" "$transfers"
+python3 "$here/rows.py" "$transfers" "$shim/refuse.so"
 echo "tftp-transfers:"
 python3 "$here/transfers.py" "$1"
 echo "tftp-explain:"
