@@ -56,6 +56,10 @@ impl<D: Delivered + Drop> RecordingJudge<D> {
             → StandsAfter self.old.attribution self.old.watched self.old.failed named name out recorded
             → IsRecorded d time source.now.end target.now.end payload.now is_spelled
             → IfOk result (λ found. found.place ≡ place_of named (placed named recorded) (max time (clock (placed named recorded))) d) }
+        ensures doubts { (named : List ℕ) (name : Naming) (out : List ℕ) (recorded : List Recorded) (d : Recorded)
+            → StandsAfter self.old.attribution self.old.watched self.old.failed named name out recorded
+            → IsRecorded d time source.now.end target.now.end payload.now is_spelled
+            → IfOk result (λ found. found.doubts ≡ doubts_of (record { datagram = d; moment = max time (clock (placed named recorded)); place = found.place }) (placed named recorded)) }
         ensures stands { (named : List ℕ) (name : Naming) (out : List ℕ) (recorded : List Recorded) (d : Recorded)
             → StandsAfter self.old.attribution self.old.watched self.old.failed named name out recorded
             → IsRecorded d time source.now.end target.now.end payload.now is_spelled

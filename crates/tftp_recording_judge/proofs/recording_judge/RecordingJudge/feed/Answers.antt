@@ -6,6 +6,9 @@ use Rattle.tftp_views.specs.Kept.{IsFed}
 use Rattle.tftp_recording_judge.proofs.Keeping.{unheard_before}
 use Rattle.tftp_recording_judge.proofs.recording_judge.RecordingJudge.feed.Goals as goal
 
+pub returns-clause-doubts : goal.returns-clause-doubts
+returns-clause-doubts g c named name out recorded d stands of = c.in_ok-found.ensures.doubts named (placed named recorded) d stands.attribution of
+
 pub returns-clause-stands : goal.returns-clause-stands
 returns-clause-stands g c named name out recorded d stands of from to =
     let older : List Placed = placed named recorded in
