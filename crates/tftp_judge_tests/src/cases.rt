@@ -27,7 +27,7 @@ pub fn holds(rt: &HostRuntime, text: &[u8], line: &str, status: u8) -> Result<()
 }
 
 /// The scripts of captures, and how many each has.
-const SCRIPTS: [(&str, u32); 7] = [
+const SCRIPTS: &[(&str, u32)] = &[
     (rules::SCRIPT, 31),
     (reads::SCRIPT, 26),
     (hosts::SCRIPT, 21),
@@ -39,7 +39,7 @@ const SCRIPTS: [(&str, u32); 7] = [
 
 #[test]
 fn captures_of_all_scripts(rt: HostRuntime) -> Result<(), Fail> {
-    for (script, count) in &SCRIPTS {
+    for (script, count) in SCRIPTS {
         all_hold(&rt, script, *count)?;
     }
     Ok(())

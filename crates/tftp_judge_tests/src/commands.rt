@@ -19,7 +19,7 @@ pub use normals::is_normal;
 const START: &str = "tftp-capture 1\nend client\nservice 69\n";
 
 /// What `show` says of its datagrams.
-const SHOWN: [&str; 3] = ["1 out RRQ\n", "2 in DATA 1 2\n", "3 out ACK 1\n"];
+const SHOWN: &[&str] = &["1 out RRQ\n", "2 in DATA 1 2\n", "3 out ACK 1\n"];
 
 /// The room of a writer, more than any test writes.
 const ROOM: usize = 65_536;

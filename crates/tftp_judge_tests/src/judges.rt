@@ -118,7 +118,7 @@ fn has_fed<D: Delivered + Drop>(judge: &Judge<D>, count: u64) -> Result<(), Fail
 const OVERRUN: Refusal = Refusal::Unlawful(2, Rule::WindowOverrun);
 
 /// A refusal is answered for good.
-const REFUSED: [Row; 3] = [
+const REFUSED: &[Row] = &[
     ((Dir::Out, 69, READ), Ok(())),
     ((Dir::In, 41000, BLOCK_2), Err(OVERRUN)),
     ((Dir::In, 41000, HI), Err(OVERRUN)),
@@ -135,7 +135,7 @@ fn is_overrun(end: Result<Meaning, Refusal>) -> Result<(), Fail> {
 /// A refusal is answered for good, and counts no datagram.
 fn refuses_for_good<D: Delivered + Drop>(alloc: Global) -> Result<(), Fail> {
     let mut judge = begun::<D>(alloc);
-    let answers = all_have_answers(alloc, &mut judge, &REFUSED, 1);
+    let answers = all_have_answers(alloc, &mut judge, REFUSED, 1);
     let end = finished(alloc, judge);
     answers?;
     is_overrun(end)
@@ -148,7 +148,7 @@ fn refusals_are_for_good(rt: HostRuntime) -> Result<(), Fail> {
 }
 
 /// The read of `hi`, with a stray.
-const READ_OF_HI: [Row; 4] = [
+const READ_OF_HI: &[Row] = &[
     ((Dir::Out, 69, READ), Ok(())),
     ((Dir::In, 41000, HI), Ok(())),
     ((Dir::In, 42000, HI), Ok(())),
@@ -175,7 +175,7 @@ fn is_hi(file: &[u8]) -> Result<(), Fail> {
 /// The read of `hi` is accepted, and each datagram counts, strays too.
 fn accepts<D: Delivered + Drop>(alloc: Global) -> Result<(), Fail> {
     let mut judge = begun::<D>(alloc);
-    let answers = all_have_answers(alloc, &mut judge, &READ_OF_HI, 4);
+    let answers = all_have_answers(alloc, &mut judge, READ_OF_HI, 4);
     let end = finished(alloc, judge);
     answers?;
     accepts_hi(end)

@@ -300,7 +300,7 @@ const OVERRUN: &[u8] =
     b"tftp-capture 1\nend client\nservice 69\nout 40000 69 000161006f6374657400\nin 40000 41000 000300026869\nout 40000 41000 0\ntotal 3\n";
 
 /// Texts, and what is said of each.
-const TEXTS: [(&[u8], &str); 7] = [
+const TEXTS: &[(&[u8], &str)] = &[
     (READ_OF_HI, "accepted get octet blocks 1 bytes 2\n"),
     (OVERRUN, "refused datagram 2 rule 22 WindowOverrun\n"),
     (
@@ -321,7 +321,7 @@ const TEXTS: [(&[u8], &str); 7] = [
 
 #[test]
 fn texts_have_their_verdicts(rt: HostRuntime) -> Result<(), Fail> {
-    for (text, line) in &TEXTS {
+    for (text, line) in TEXTS {
         is_verdict(&rt, *text, *line)?;
     }
     Ok(())
@@ -331,7 +331,7 @@ fn texts_have_their_verdicts(rt: HostRuntime) -> Result<(), Fail> {
 type FailedRead = (&'static [u8], usize, u64, &'static str);
 
 /// Such texts. The first has 132 bytes.
-const FAILED_READS: [FailedRead; 5] = [
+const FAILED_READS: &[FailedRead] = &[
     (READ_OF_HI, 1, 1, "fault line 1 Read\n"),
     (READ_OF_HI, usize::MAX, 2, "fault line 8 Read\n"),
     (READ_OF_HI, 1, 133, "fault line 8 Read\n"),
@@ -346,7 +346,7 @@ const FAILED_READS: [FailedRead; 5] = [
 
 #[test]
 fn reads_that_fail_have_their_lines(rt: HostRuntime) -> Result<(), Fail> {
-    for (text, piece, fails_at, line) in &FAILED_READS {
+    for (text, piece, fails_at, line) in FAILED_READS {
         has_line(&rt, *text, (*piece, *fails_at), *line)?;
     }
     Ok(())

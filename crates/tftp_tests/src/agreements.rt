@@ -37,7 +37,7 @@ fn refused(fault: NegoFault) -> Fail {
 }
 
 /// Requests and OACKs that may be agreed, with the block size, the window, the timeout and the size.
-const AGREED: [(&[u8], &[u8], Numbers); 12] = [
+const AGREED: &[(&[u8], &[u8], Numbers)] = &[
     (
         b"\x00\x01a\x00octet\x00blksize\x008\x00windowsize\x004\x00",
         b"\x00\x06blksize\x008\x00windowsize\x004\x00",
@@ -115,7 +115,7 @@ fn is_agreed(agreed: &Agreed, numbers: Numbers) -> bool {
 
 #[test]
 fn agrees_to_options(rt: HostRuntime) -> Result<(), Fail> {
-    for (request, oack, numbers) in &AGREED {
+    for (request, oack, numbers) in AGREED {
         agrees(&rt, *request, *oack, *numbers)?;
     }
     Ok(())

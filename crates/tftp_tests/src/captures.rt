@@ -234,7 +234,7 @@ fn a_read_is_read(rt: HostRuntime) -> Result<(), Fail> {
 }
 
 /// The longest payload and comment; comments and empty lines, which are no datagrams, and hex digits of either case.
-const SOUND: [Sound; 6] = [
+const SOUND: &[Sound] = &[
     (4, b"in 1 1 ", (b'0', 131_054), 15),
     (3, b"service 69\n#", (b'#', 131_069), 18),
     (3, b"service 69\n# x", (b' ', 0), 18),
@@ -245,7 +245,7 @@ const SOUND: [Sound; 6] = [
 
 #[test]
 fn lines_without_a_fault(rt: HostRuntime) -> Result<(), Fail> {
-    all_pass(&rt, READ, &SOUND)
+    all_pass(&rt, READ, SOUND)
 }
 
 /// Fails unless a text, after which this byte comes for ever, has a line that is too long.
@@ -495,7 +495,7 @@ fn a_fault_is_answered_for_good_to_who_holds_a_datagram(rt: HostRuntime) -> Resu
 type HandedOut = (usize, &'static [u8], Lines);
 
 /// The line stays where a fault or the end is answered.
-const HANDED_OUT: [HandedOut; 7] = [
+const HANDED_OUT: &[HandedOut] = &[
     (1, b"tftp-capture 1", (3, &[4, 5, 6], Ok(None))),
     (2, b"\n#\x00\xff\nend server", (5, &[6, 7, 8], Ok(None))),
     (3, b"#\n\nservice 69\n#", (5, &[7, 8, 9], Ok(None))),
@@ -529,7 +529,7 @@ fn hands_out(rt: &HostRuntime, (number, line, lines): &HandedOut) -> Result<(), 
 
 #[test]
 fn the_line_is_that_of_what_was_handed_out(rt: HostRuntime) -> Result<(), Fail> {
-    for row in &HANDED_OUT {
+    for row in HANDED_OUT {
         hands_out(&rt, row)?;
     }
     let text = b"tftp-capture 1\n#\nend client\n#\nservice 69\n#\ntotal 0\n";
@@ -971,11 +971,11 @@ fn both_stay_gathered(
 }
 
 /// Writes that fail, and how many bytes are taken before them.
-const STAYING: [(u64, usize); 4] = [(1, 0), (2, 100), (3, 16_484), (4, 32_869)];
+const STAYING: &[(u64, usize)] = &[(1, 0), (2, 100), (3, 16_484), (4, 32_869)];
 
 /// Fails unless that is so of each of them.
 fn all_stay_gathered(rt: &HostRuntime, bytes: &[u8]) -> Result<(), Fail> {
-    for (write, taken) in &STAYING {
+    for (write, taken) in STAYING {
         both_stay_gathered(rt, bytes, *write, *taken)?;
     }
     Ok(())

@@ -7,7 +7,7 @@ use tftp_copies::Recent;
 type Taken = (Option<u64>, &'static [u8], bool);
 
 /// Two interfaces of a host, and what looks like a copy and is none.
-const TAKEN: [Taken; 9] = [
+const TAKEN: &[Taken] = &[
     (Some(5_000_000), b"first", false),
     (Some(5_000_900), b"first", true),
     (Some(5_001_000), b"second", false),
@@ -46,7 +46,7 @@ fn copies_are_told(rt: HostRuntime) -> Result<(), Fail> {
 
 /// Packets of one byte that come at once, from one number up to another, and whether they are copies: of sixteen packets
 /// between a packet and its copy one is too many.
-const AT_ONCE: [(u8, u8, bool); 5] = [
+const AT_ONCE: &[(u8, u8, bool)] = &[
     (0, 1, false),
     (1, 16, false),
     (0, 1, true),
@@ -71,7 +71,7 @@ fn all_are(
 #[test]
 fn the_seventeenth_before_is_forgotten(rt: HostRuntime) -> Result<(), Fail> {
     let mut recent = Recent::new(rt.alloc())?;
-    for packets in &AT_ONCE {
+    for packets in AT_ONCE {
         all_are(&rt, &mut recent, *packets)?;
     }
     Ok(())

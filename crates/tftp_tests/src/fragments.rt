@@ -117,7 +117,7 @@ fn all_answer(
 }
 
 /// The parts in each order, the first one of them four times.
-const ORDERS: [[Named; 3]; 6] = [
+const ORDERS: &[[Named; 3]] = &[
     [FIRST, MIDDLE, LAST],
     [FIRST, LAST, MIDDLE],
     [MIDDLE, FIRST, LAST],
@@ -161,14 +161,14 @@ fn order_gives(
 #[test]
 fn each_order_gives_the_content(rt: HostRuntime) -> Result<(), Fail> {
     let mut fragments = Fragments::new(rt.alloc());
-    for order in &ORDERS {
+    for order in ORDERS {
         order_gives(&rt, &mut fragments, order)?;
     }
     Ok(())
 }
 
 /// Parts that overlap with the same bytes are put together.
-const THE_SAME_BYTES: [Row; 3] = [
+const THE_SAME_BYTES: &[Row] = &[
     (2, LAST, 1, Told::Waits),
     (
         2,
@@ -180,7 +180,7 @@ const THE_SAME_BYTES: [Row; 3] = [
 ];
 
 /// Bytes that differ: both parts are named, and those that come later.
-const OTHER_BYTES: [Row; 4] = [
+const OTHER_BYTES: &[Row] = &[
     (2, FIRST, 4, Told::Waits),
     (2, MIDDLE, 4, Told::Waits),
     (2, OTHER, 6, Told::Apart(&[4, 4])),
@@ -188,7 +188,7 @@ const OTHER_BYTES: [Row; 4] = [
 ];
 
 /// What is apart takes nothing from the fragments of another packet.
-const APART_FROM_ONE: [Row; 5] = [
+const APART_FROM_ONE: &[Row] = &[
     (2, FIRST, 4, Told::Waits),
     (3, FIRST, 4, Told::Waits),
     (3, MIDDLE, 4, Told::Waits),
@@ -197,28 +197,28 @@ const APART_FROM_ONE: [Row; 5] = [
 ];
 
 /// Two ends that differ, and a part behind the end.
-const LATER_END: [Row; 2] = [
+const LATER_END: &[Row] = &[
     (2, LAST, 1, Told::Waits),
     (2, (17, 40, false, b"wxyzABCD"), 1, Told::Apart(&[1])),
 ];
 
-const EARLIER_END: [Row; 2] = [
+const EARLIER_END: &[Row] = &[
     (2, LAST, 1, Told::Waits),
     (2, (17, 16, false, b"wxyzABCD"), 1, Told::Apart(&[1])),
 ];
 
-const NO_END: [Row; 2] = [
+const NO_END: &[Row] = &[
     (2, LAST, 1, Told::Waits),
     (2, (17, 32, true, b"wxyzABCD"), 1, Told::Apart(&[1])),
 ];
 
-const BEHIND_THE_END: [Row; 2] = [
+const BEHIND_THE_END: &[Row] = &[
     (2, LAST, 1, Told::Waits),
     (2, (17, 40, true, b"wxyzABCD"), 1, Told::Apart(&[1])),
 ];
 
 /// What brings no byte, what ends behind 65,535 bytes, and the furthest that does not.
-const OF_NO_PACKET: [Row; 4] = [
+const OF_NO_PACKET: &[Row] = &[
     (2, (17, 65_528, false, b"wxyzABCD"), 1, Told::TooLong),
     (2, (17, 65_528, true, b"1234567"), 1, Told::TooLong),
     (2, (17, 8, true, b""), 1, Told::Empty),
@@ -226,37 +226,37 @@ const OF_NO_PACKET: [Row; 4] = [
 ];
 
 /// The protocol is that of the first part, whatever others name and in whatever order they come (RFC 8200, section 4.5).
-const FIRST_NAMES: [Row; 3] = [
+const FIRST_NAMES: &[Row] = &[
     (2, FIRST, 1, Told::Waits),
     (2, MIDDLE, 2, Told::Waits),
     (2, ANOTHER, 3, Told::Whole),
 ];
 
-const FIRST_NAMES_AT_LAST: [Row; 3] = [
+const FIRST_NAMES_AT_LAST: &[Row] = &[
     (2, ANOTHER, 1, Told::Waits),
     (2, MIDDLE, 2, Told::Waits),
     (2, FIRST, 3, Told::Whole),
 ];
 
 /// Two first parts of two protocols.
-const TWO_FIRST: [Row; 2] = [
+const TWO_FIRST: &[Row] = &[
     (2, FIRST, 1, Told::Waits),
     (2, (58, 0, true, b"0123456789abcdef"), 2, Told::Apart(&[1])),
 ];
 
 /// What comes in turn where nothing waits before.
-const CASES: [(&str, &[Row]); 11] = [
-    ("the same bytes may come twice", &THE_SAME_BYTES),
-    ("other bytes are never put together", &OTHER_BYTES),
-    ("what is apart leaves the others", &APART_FROM_ONE),
-    ("a later end", &LATER_END),
-    ("an earlier end", &EARLIER_END),
-    ("an end that is none", &NO_END),
-    ("a part behind the end", &BEHIND_THE_END),
-    ("parts of no packet", &OF_NO_PACKET),
-    ("the first part names the protocol", &FIRST_NAMES),
-    ("it does so where it comes last", &FIRST_NAMES_AT_LAST),
-    ("two protocols are apart", &TWO_FIRST),
+const CASES: &[(&str, &[Row])] = &[
+    ("the same bytes may come twice", THE_SAME_BYTES),
+    ("other bytes are never put together", OTHER_BYTES),
+    ("what is apart leaves the others", APART_FROM_ONE),
+    ("a later end", LATER_END),
+    ("an earlier end", EARLIER_END),
+    ("an end that is none", NO_END),
+    ("a part behind the end", BEHIND_THE_END),
+    ("parts of no packet", OF_NO_PACKET),
+    ("the first part names the protocol", FIRST_NAMES),
+    ("it does so where it comes last", FIRST_NAMES_AT_LAST),
+    ("two protocols are apart", TWO_FIRST),
 ];
 
 /// Fails unless that becomes of the parts of a case.
@@ -267,7 +267,7 @@ fn holds(rt: &HostRuntime, name: &'static str, rows: &[Row]) -> Result<(), Fail>
 
 #[test]
 fn parts_and_what_becomes_of_them(rt: HostRuntime) -> Result<(), Fail> {
-    for (name, rows) in &CASES {
+    for (name, rows) in CASES {
         holds(&rt, *name, *rows)?;
     }
     Ok(())
@@ -282,7 +282,7 @@ fn is_gone(gone: &Option<Vec<u64>>, whole: bool) -> bool {
 }
 
 /// The parts before the last.
-const BOTH: [Named; 2] = [FIRST, MIDDLE];
+const BOTH: &[Named] = &[FIRST, MIDDLE];
 
 /// Fails unless a last part at this time makes two others whole, which came earlier, or waits alone.
 fn joins(rt: &HostRuntime, time: u64, told: Told) -> Result<(), Fail> {
@@ -291,7 +291,7 @@ fn joins(rt: &HostRuntime, time: u64, told: Told) -> Result<(), Fail> {
         rt,
         &mut fragments,
         ("waits", key(2, 7)),
-        &BOTH,
+        BOTH,
         (PATIENCE, 9),
     )?;
     let gone = fragments.let_go_old(key(2, 7), Some(time));
@@ -352,7 +352,7 @@ fn no_more_than_64_mb_wait(rt: HostRuntime) -> Result<(), Fail> {
 /// Fails unless a last part of this key is of another packet than the parts of the first.
 fn is_another(rt: &HostRuntime, one: Key, other: Key) -> Result<(), Fail> {
     let mut fragments = Fragments::new(rt.alloc());
-    all_wait(rt, &mut fragments, ("waits", one), &BOTH, (5, 1))?;
+    all_wait(rt, &mut fragments, ("waits", one), BOTH, (5, 1))?;
     let waits = answers(rt, &mut fragments, other, LAST, (5, 1), Told::Waits)?;
     is_so(waits, "waits")
 }

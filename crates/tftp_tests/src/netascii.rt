@@ -7,7 +7,7 @@ use std::test::Fail;
 use tftp_netascii::{Decoder, decode, decode_pieces, encode, encoded_len};
 
 /// Texts, and the files that they read as.
-const TEXTS: [(&[u8], &[u8]); 8] = [
+const TEXTS: &[(&[u8], &[u8])] = &[
     (b"", b""),
     (b"\r\n", b"\n"),
     (b"\r\0", b"\r"),
@@ -33,14 +33,14 @@ fn reads_as(alloc: Global, wire: &[u8], file: &[u8]) -> Result<(), Fail> {
 
 #[test]
 fn decodes_whole_texts(rt: HostRuntime) -> Result<(), Fail> {
-    for (wire, file) in &TEXTS {
+    for (wire, file) in TEXTS {
         reads_as(rt.alloc(), wire, file)?;
     }
     Ok(())
 }
 
 /// Files, and the texts that they are written as.
-const FILES: [(&[u8], &[u8]); 4] = [
+const FILES: &[(&[u8], &[u8])] = &[
     (b"", b""),
     (b"\r\n", b"\r\0\r\n"),
     (b"\r\0", b"\r\0\0"),
@@ -68,14 +68,14 @@ fn is_written_as(alloc: Global, file: &[u8], wire: &[u8]) -> Result<(), Fail> {
 
 #[test]
 fn encodes_files(rt: HostRuntime) -> Result<(), Fail> {
-    for (file, wire) in &FILES {
+    for (file, wire) in FILES {
         is_written_as(rt.alloc(), file, wire)?;
     }
     Ok(())
 }
 
 /// Texts in two pieces, and the files that they read as.
-const PIECES: [([&[u8]; 2], &[u8]); 2] = [([b"\r", b"\n"], b"\n"), ([b"a\r", b"\nb"], b"a\nb")];
+const PIECES: &[([&[u8]; 2], &[u8])] = &[([b"\r", b"\n"], b"\n"), ([b"a\r", b"\nb"], b"a\nb")];
 
 /// The file of a text in pieces, asked for again where a growth was refused.
 fn decoded_pieces(alloc: Global, pieces: &[&[u8]]) -> Result<Vec<u8>, AllocError> {
@@ -92,7 +92,7 @@ fn read_as(alloc: Global, pieces: &[&[u8]], file: &[u8]) -> Result<(), Fail> {
 
 #[test]
 fn joins_a_pair_that_was_cut(rt: HostRuntime) -> Result<(), Fail> {
-    for (pieces, file) in &PIECES {
+    for (pieces, file) in PIECES {
         read_as(rt.alloc(), pieces, file)?;
     }
     Ok(())
@@ -124,7 +124,7 @@ fn finished(decoder: &mut Decoder, file: &mut Vec<u8>) -> Result<(), Fail> {
 
 /// Pieces of texts, each with whether the text ends after it, and all that was written by then. After an end the decoder
 /// is as new.
-const STEPS: [(&[u8], bool, &[u8]); 6] = [
+const STEPS: &[(&[u8], bool, &[u8])] = &[
     (b"\r", false, b""),
     (b"\n", false, b"\n"),
     (b"\r", true, b"\n\r"),
@@ -144,7 +144,7 @@ fn step(decoder: &mut Decoder, piece: &[u8], ends: bool, file: &mut Vec<u8>) -> 
 
 /// Fails unless that is written after each step.
 fn all_are_steps(decoder: &mut Decoder, file: &mut Vec<u8>) -> Result<(), Fail> {
-    for (piece, ends, written) in &STEPS {
+    for (piece, ends, written) in STEPS {
         step(decoder, piece, *ends, file)?;
         is_same(file.as_slice(), written)?;
     }

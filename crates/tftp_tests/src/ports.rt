@@ -51,7 +51,7 @@ fn answers(rt: &HostRuntime, end: End, service: u16, rows: &[Row]) -> Result<(),
 }
 
 /// A read, a stray, and what answers it.
-const WITH_A_STRAY: [Row; 6] = [
+const WITH_A_STRAY: &[Row] = &[
     (Dir::Out, 40000, b"-", 70, 1, Err(PortFault::WrongPort)),
     (Dir::Out, 40000, b"-", 69, 1, Ok(Route::Request)),
     (Dir::In, 40000, b"-", 41000, 3, Ok(Route::Peer)),
@@ -61,7 +61,7 @@ const WITH_A_STRAY: [Row; 6] = [
 ];
 
 /// Before the first request, before the server is known, and after.
-const AT_A_CLIENT: [Row; 23] = [
+const AT_A_CLIENT: &[Row] = &[
     (Dir::In, 40000, b"-", 41000, 3, Ok(Route::Peer)),
     (Dir::Out, 40000, b"-", 69, 4, Ok(Route::Peer)),
     (Dir::Out, 40000, b"-", 70, 2, Err(PortFault::WrongPort)),
@@ -88,7 +88,7 @@ const AT_A_CLIENT: [Row; 23] = [
 ];
 
 /// Before the first request, before the server's own port is known, and after.
-const AT_A_SERVER: [Row; 27] = [
+const AT_A_SERVER: &[Row] = &[
     (Dir::Out, 3000, b"-", 2000, 3, Ok(Route::Peer)),
     (Dir::In, 6970, b"-", 2000, 1, Err(PortFault::WrongPort)),
     (Dir::In, 6969, b"-", 2000, 4, Ok(Route::Peer)),
@@ -119,7 +119,7 @@ const AT_A_SERVER: [Row; 27] = [
 ];
 
 /// A server that answers from its service port.
-const AT_THE_SERVICE_PORT: [Row; 9] = [
+const AT_THE_SERVICE_PORT: &[Row] = &[
     (Dir::In, 69, b"-", 2000, 1, Ok(Route::Request)),
     (Dir::Out, 69, b"-", 2000, 3, Ok(Route::Peer)),
     (Dir::In, 69, b"-", 2000, 1, Ok(Route::Request)),
@@ -132,7 +132,7 @@ const AT_THE_SERVICE_PORT: [Row; 9] = [
 ];
 
 /// A stray from another host at the server's port, and a request to another host.
-const HOSTS_AT_A_CLIENT: [Row; 8] = [
+const HOSTS_AT_A_CLIENT: &[Row] = &[
     (Dir::Out, 40000, b"10.0.0.1", 69, 1, Ok(Route::Request)),
     (
         Dir::Out,
@@ -172,7 +172,7 @@ const HOSTS_AT_A_CLIENT: [Row; 8] = [
 ];
 
 /// A server that answers from another host than the one asked.
-const ANOTHER_HOST_ANSWERS: [Row; 5] = [
+const ANOTHER_HOST_ANSWERS: &[Row] = &[
     (Dir::Out, 40000, b"10.0.0.1", 69, 1, Ok(Route::Request)),
     (Dir::In, 40000, b"10.0.0.2", 41000, 3, Ok(Route::Peer)),
     (
@@ -188,7 +188,7 @@ const ANOTHER_HOST_ANSWERS: [Row; 5] = [
 ];
 
 /// Two hosts with one port.
-const HOSTS_AT_A_SERVER: [Row; 9] = [
+const HOSTS_AT_A_SERVER: &[Row] = &[
     (Dir::In, 69, b"10.0.0.1", 2000, 1, Ok(Route::Request)),
     (
         Dir::In,
@@ -229,19 +229,19 @@ const HOSTS_AT_A_SERVER: [Row; 9] = [
 ];
 
 /// The end, its service port, and what passes there.
-const ROWS: [(End, u16, &[Row]); 7] = [
-    (End::Client, 69, &WITH_A_STRAY),
-    (End::Client, 69, &AT_A_CLIENT),
-    (End::Server, 6969, &AT_A_SERVER),
-    (End::Server, 69, &AT_THE_SERVICE_PORT),
-    (End::Client, 69, &HOSTS_AT_A_CLIENT),
-    (End::Client, 69, &ANOTHER_HOST_ANSWERS),
-    (End::Server, 69, &HOSTS_AT_A_SERVER),
+const ROWS: &[(End, u16, &[Row])] = &[
+    (End::Client, 69, WITH_A_STRAY),
+    (End::Client, 69, AT_A_CLIENT),
+    (End::Server, 6969, AT_A_SERVER),
+    (End::Server, 69, AT_THE_SERVICE_PORT),
+    (End::Client, 69, HOSTS_AT_A_CLIENT),
+    (End::Client, 69, ANOTHER_HOST_ANSWERS),
+    (End::Server, 69, HOSTS_AT_A_SERVER),
 ];
 
 #[test]
 fn datagrams_belong_where_their_ports_say(rt: HostRuntime) -> Result<(), Fail> {
-    for (end, service, rows) in &ROWS {
+    for (end, service, rows) in ROWS {
         answers(&rt, *end, *service, rows)?;
     }
     Ok(())

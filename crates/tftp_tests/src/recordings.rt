@@ -59,7 +59,7 @@ fn is_told(fate: &Fate<'_>, told: &Told) -> bool {
 }
 
 /// Of each frame what is told, the frames that share that, and those that were too old.
-const FATES: [(Told, &[u64], &[u64]); 12] = [
+const FATES: &[(Told, &[u64], &[u64])] = &[
     (Told::Waits, &[], &[]),
     (Told::Payload(b"hello"), &[], &[]),
     (Told::Waits, &[], &[]),
@@ -144,7 +144,7 @@ fn has_frames(
 
 /// Fails unless the next frames have their fates, and none follows.
 fn all_have_fates(rt: &HostRuntime, reading: &mut Reading<'_>) -> Result<(), Fail> {
-    for (number, wanted) in (1u64..).zip(&FATES) {
+    for (number, wanted) in (1u64..).zip(FATES) {
         has_fate(rt, reading, number, wanted)?;
     }
     has_frames(rt, reading, 2, false)

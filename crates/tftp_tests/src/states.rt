@@ -203,7 +203,7 @@ fn receiver_holds<D: Delivered>(
 }
 
 /// A server sends two blocks in a window of two, once its OACK is acknowledged.
-const READ_IN_WINDOWS: [Step; 17] = [
+const READ_IN_WINDOWS: &[Step] = &[
     Step::May(1, b"11111111", Err(EndFault::NotStarted)),
     Step::MayAck(0, Ok(())),
     Step::Ack(0),
@@ -224,7 +224,7 @@ const READ_IN_WINDOWS: [Step; 17] = [
 ];
 
 /// A sender hears of no block that it sent after the ERROR.
-const STOPPED_SENDER: [Step; 10] = [
+const STOPPED_SENDER: &[Step] = &[
     Step::Ack(0),
     Step::Data(1, b"11111111"),
     Step::Ack(1),
@@ -238,7 +238,7 @@ const STOPPED_SENDER: [Step; 10] = [
 ];
 
 /// The largest window goes past the last number that a block can have.
-const LARGEST_SENDER: [Step; 4] = [
+const LARGEST_SENDER: &[Step] = &[
     Step::Data(1, b"11111111"),
     Step::Ack(1),
     Step::May(65535, b"1111111", Err(EndFault::BlockSkipped)),
@@ -249,29 +249,29 @@ const LARGEST_SENDER: [Step; 4] = [
 type Sender = (&'static str, Start, &'static [Step], u16);
 
 /// Senders.
-const SENDERS: [Sender; 3] = [
+const SENDERS: &[Sender] = &[
     (
         "a read in windows",
         (Side::Get, true, 8, 2, None),
-        &READ_IN_WINDOWS,
+        READ_IN_WINDOWS,
         3,
     ),
     (
         "a sender that is stopped",
         (Side::Put, false, 8, 1, None),
-        &STOPPED_SENDER,
+        STOPPED_SENDER,
         2,
     ),
     (
         "a sender with the largest window",
         (Side::Put, true, 8, 65535, None),
-        &LARGEST_SENDER,
+        LARGEST_SENDER,
         1,
     ),
 ];
 
 /// A server takes a block of a write before the one below it.
-const WRITTEN_OUT_OF_ORDER: [Step; 15] = [
+const WRITTEN_OUT_OF_ORDER: &[Step] = &[
     Step::MayAck(0, Err(EndFault::AckZero)),
     Step::May(0, b"00000000", Err(EndFault::BlockZero)),
     Step::Data(2, b"22222222"),
@@ -290,7 +290,7 @@ const WRITTEN_OUT_OF_ORDER: [Step; 15] = [
 ];
 
 /// What a receiver acknowledges after an ERROR has come in, the other end has not used; but it may be all there was.
-const STOPPED_RECEIVER: [Step; 9] = [
+const STOPPED_RECEIVER: &[Step] = &[
     Step::May(1, b"11111111", Err(EndFault::NotStarted)),
     Step::Ack(0),
     Step::Data(1, b"11111111"),
@@ -303,14 +303,14 @@ const STOPPED_RECEIVER: [Step; 9] = [
 ];
 
 /// ACK 0 after the ERROR.
-const STOPPED_AT_ONCE: [Step; 3] = [
+const STOPPED_AT_ONCE: &[Step] = &[
     Step::Stopped,
     Step::Ack(0),
     Step::May(1, b"1", Err(EndFault::NotStarted)),
 ];
 
 /// A receiver that has all blocks is done by an ACK after the ERROR too.
-const STOPPED_AT_THE_END: [Step; 6] = [
+const STOPPED_AT_THE_END: &[Step] = &[
     Step::MayAck(0, Err(EndFault::AckZero)),
     Step::Data(1, b"hi"),
     Step::Stopped,
@@ -320,7 +320,7 @@ const STOPPED_AT_THE_END: [Step; 6] = [
 ];
 
 /// An agreed size tells which block is the last, and how long it is.
-const KNOWN_SIZE: [Step; 8] = [
+const KNOWN_SIZE: &[Step] = &[
     Step::May(1, b"1111111", Err(EndFault::BlockLength)),
     Step::May(2, b"22222222", Err(EndFault::BlockLength)),
     Step::May(2, b"2", Err(EndFault::BlockLength)),
@@ -331,19 +331,19 @@ const KNOWN_SIZE: [Step; 8] = [
     Step::Done(true),
 ];
 
-const EMPTY: [Step; 2] = [
+const EMPTY: &[Step] = &[
     Step::May(1, b"", Ok(())),
     Step::May(1, b"1", Err(EndFault::BlockLength)),
 ];
 
-const ONE_WHOLE_BLOCK: [Step; 1] = [Step::May(2, b"", Ok(()))];
+const ONE_WHOLE_BLOCK: &[Step] = &[Step::May(2, b"", Ok(()))];
 
-const THE_LARGEST_SIZE: [Step; 2] = [
+const THE_LARGEST_SIZE: &[Step] = &[
     Step::May(1, b"11111111", Ok(())),
     Step::May(1, b"1", Err(EndFault::BlockLength)),
 ];
 
-const LARGEST_RECEIVER: [Step; 6] = [
+const LARGEST_RECEIVER: &[Step] = &[
     Step::Data(65535, b"1111111"),
     Step::Data(1, b"11111111"),
     Step::Ack(1),
@@ -356,54 +356,54 @@ const LARGEST_RECEIVER: [Step; 6] = [
 type Receiver = (&'static str, Start, &'static [Step], &'static [u8]);
 
 /// Receivers.
-const RECEIVERS: [Receiver; 9] = [
+const RECEIVERS: &[Receiver] = &[
     (
         "a write out of order",
         (Side::Put, true, 8, 4, None),
-        &WRITTEN_OUT_OF_ORDER,
+        WRITTEN_OUT_OF_ORDER,
         b"1111111122222222333",
     ),
     (
         "a receiver that is stopped",
         (Side::Get, true, 8, 1, None),
-        &STOPPED_RECEIVER,
+        STOPPED_RECEIVER,
         b"11111111",
     ),
     (
         "a receiver that is stopped at once",
         (Side::Get, true, 8, 1, None),
-        &STOPPED_AT_ONCE,
+        STOPPED_AT_ONCE,
         b"",
     ),
     (
         "a receiver that is stopped at its end",
         (Side::Get, false, 512, 1, None),
-        &STOPPED_AT_THE_END,
+        STOPPED_AT_THE_END,
         b"hi",
     ),
     (
         "a known size",
         (Side::Put, true, 8, 4, Some(10)),
-        &KNOWN_SIZE,
+        KNOWN_SIZE,
         b"1111111122",
     ),
-    ("no bytes", (Side::Get, false, 8, 1, Some(0)), &EMPTY, b""),
+    ("no bytes", (Side::Get, false, 8, 1, Some(0)), EMPTY, b""),
     (
         "one whole block",
         (Side::Get, false, 8, 2, Some(8)),
-        &ONE_WHOLE_BLOCK,
+        ONE_WHOLE_BLOCK,
         b"",
     ),
     (
         "the largest size",
         (Side::Get, false, 8, 1, Some(u64::MAX)),
-        &THE_LARGEST_SIZE,
+        THE_LARGEST_SIZE,
         b"",
     ),
     (
         "a receiver with the largest window",
         (Side::Put, true, 8, 65535, None),
-        &LARGEST_RECEIVER,
+        LARGEST_RECEIVER,
         b"11111111",
     ),
 ];
@@ -568,7 +568,7 @@ fn whole_window<D: Delivered + Drop>(rt: &HostRuntime) -> Result<(), Fail> {
 
 /// Fails unless all senders on this store answer what is wanted.
 fn all_send<D: Delivered + Drop>(rt: &HostRuntime) -> Result<(), Fail> {
-    for sender in &SENDERS {
+    for sender in SENDERS {
         sends::<D>(rt, sender)?;
     }
     Ok(())
@@ -576,7 +576,7 @@ fn all_send<D: Delivered + Drop>(rt: &HostRuntime) -> Result<(), Fail> {
 
 /// Fails unless all receivers on this store answer what is wanted.
 fn all_receive<D: Delivered + Drop>(rt: &HostRuntime) -> Result<(), Fail> {
-    for receiver in &RECEIVERS {
+    for receiver in RECEIVERS {
         receives::<D>(rt, receiver)?;
     }
     whole_window::<D>(rt)

@@ -84,7 +84,7 @@ fn holds<D: Delivered>(rt: &HostRuntime, store: &mut D, step: &Step) -> Result<b
 }
 
 /// Four blocks of eight bytes, the last one before the two in the middle.
-const FOUR_BLOCKS: [Step; 18] = [
+const FOUR_BLOCKS: &[Step] = &[
     Step::Stands(0, 0, 0),
     Step::Takes(0, 8, false),
     Step::Put(1, b"11111111", Placed::New),
@@ -106,7 +106,7 @@ const FOUR_BLOCKS: [Step; 18] = [
 ];
 
 /// A short block is the last one. What waits is not in the wire.
-const SHORT_BLOCK: [Step; 9] = [
+const SHORT_BLOCK: &[Step] = &[
     Step::Put(1, b"11111111", Placed::New),
     Step::Put(3, b"333", Placed::New),
     Step::Takes(4, 8, false),
@@ -122,13 +122,13 @@ const SHORT_BLOCK: [Step; 9] = [
 type Case = (&'static str, &'static [Step], &'static [u8]);
 
 /// Such steps.
-const STEPS: [Case; 2] = [
+const STEPS: &[Case] = &[
     (
         "four blocks",
-        &FOUR_BLOCKS,
+        FOUR_BLOCKS,
         b"11111111222222223333333344444444",
     ),
-    ("a short block", &SHORT_BLOCK, b"11111111"),
+    ("a short block", SHORT_BLOCK, b"11111111"),
 ];
 
 /// Fails unless each step answers what is wanted.
@@ -203,7 +203,7 @@ fn whole_window<D: Delivered + Drop>(rt: &HostRuntime) -> Result<(), Fail> {
 
 /// Fails unless the store keeps blocks as is wanted.
 fn keeps_all<D: Delivered + Drop>(rt: &HostRuntime) -> Result<(), Fail> {
-    for case in &STEPS {
+    for case in STEPS {
         keeps::<D>(rt, case)?;
     }
     whole_window::<D>(rt)

@@ -64,7 +64,7 @@ fn is_host(rt: &HostRuntime, host: &str) -> Result<(), Fail> {
 }
 
 /// Any 1 to 45 signs but the space are a host.
-const HOSTS: [&str; 5] = [
+const HOSTS: &[&str] = &[
     "-",
     "#",
     "!~",
@@ -74,7 +74,7 @@ const HOSTS: [&str; 5] = [
 
 #[test]
 fn names_of_hosts(rt: HostRuntime) -> Result<(), Fail> {
-    for host in &HOSTS {
+    for host in HOSTS {
         is_host(&rt, *host)?;
     }
     Ok(())

@@ -175,7 +175,7 @@ type Case = (Window, &'static str, &'static str, u8);
 
 /// As many blocks as there may be, the last one first; and a text of bare LFs, which are two bytes each when they are
 /// written, in half as many: with one more there would be block 65536.
-const WINDOWS: [Case; 3] = [
+const WINDOWS: &[Case] = &[
     (
         Window {
             mode: OCTET_MODE,
@@ -233,7 +233,7 @@ fn window_is_counted(rt: &HostRuntime, (window, line, count, status): &Case) -> 
 
 #[test]
 fn as_many_blocks_as_there_may_be(rt: HostRuntime) -> Result<(), Fail> {
-    for window in &WINDOWS {
+    for window in WINDOWS {
         window_is_counted(&rt, window)?;
     }
     Ok(())

@@ -118,7 +118,7 @@ const OF_SIX_BLOCKS: &str =
 type Cut = (u64, u64, &'static [u8]);
 
 /// A write takes seven bytes.
-const CUTS: [Cut; 3] = [(0, 1, b""), (0, 3, b"11111111222222"), (2, 0, b"")];
+const CUTS: &[Cut] = &[(0, 1, b""), (0, 3, b"11111111222222"), (2, 0, b"")];
 
 /// Fails unless `extract` writes this of a text, and ends with status 2.
 fn is_cut(
@@ -142,7 +142,7 @@ fn is_cut(
 
 /// Fails unless a text is cut so.
 fn all_are_cut(rt: &HostRuntime, text: &[u8]) -> Result<(), Fail> {
-    for (read_fails, write_fails, written) in &CUTS {
+    for (read_fails, write_fails, written) in CUTS {
         is_cut(rt, text, (*read_fails, *write_fails), *written)?;
     }
     Ok(())

@@ -193,7 +193,7 @@ fn datagrams_that_are_not_written(rt: HostRuntime) -> Result<(), Fail> {
 type Failing = (Writing, usize, usize);
 
 /// Such writes.
-const FAILING: [Failing; 8] = [
+const FAILING: &[Failing] = &[
     ((16_384, 1, false), 0, 0),
     ((16_384, 1, true), 0, 0),
     ((16_384, 2, false), 1, 16_384),
@@ -221,7 +221,7 @@ fn is_begun(
 
 /// Fails unless that is so of each such write.
 fn all_are_begun(rt: &HostRuntime, text: &[u8], lines: &str) -> Result<(), Fail> {
-    for failing in &FAILING {
+    for failing in FAILING {
         is_begun(rt, text, lines, failing)?;
     }
     Ok(())

@@ -247,7 +247,7 @@ fn says_the_same(
 }
 
 /// Texts that end too early, and the line where they do.
-const SHORT: [(&str, usize); 7] = [
+const SHORT: &[(&str, usize)] = &[
     ("", 1),
     ("tftp-capture 3", 1),
     (START, 4),
@@ -265,7 +265,7 @@ const SHORT: [(&str, usize); 7] = [
 
 #[test]
 fn texts_that_end_too_early(rt: HostRuntime) -> Result<(), Fail> {
-    for (text, line) in &SHORT {
+    for (text, line) in SHORT {
         is_fault(&rt, text.as_bytes(), *line, "Truncated")?;
     }
     Ok(())
@@ -288,7 +288,7 @@ fn texts_that_go_on(rt: HostRuntime) -> Result<(), Fail> {
 }
 
 /// Comments, empty lines and hex digits of either case change nothing, nor do comments of the most bytes.
-const THE_SAME: [(&str, usize, &str); 8] = [
+const THE_SAME: &[(&str, usize, &str)] = &[
     (LINES, 3, "service 69\n#{#*131069}"),
     (LINES_WITH_HOSTS, 3, "service 69\n#{#*131115}"),
     (LINES, 3, "service 69\n# x"),
@@ -309,14 +309,14 @@ const WITH_BYTES: &[u8] =
 
 #[test]
 fn texts_that_say_the_same(rt: HostRuntime) -> Result<(), Fail> {
-    for case in &THE_SAME {
+    for case in THE_SAME {
         says_the_same(&rt, case)?;
     }
     is_read_of_hi(&rt, WITH_BYTES)
 }
 
 /// The end of a text whose second datagram breaks a rule, and its fault.
-const LATER_FAULTS: [(&str, &str); 4] = [
+const LATER_FAULTS: &[(&str, &str)] = &[
     ("out 40000 41000 0\ntotal 3\n", "fault line 6 BadHex\n"),
     ("total 3\n", "fault line 6 TotalWrong\n"),
     ("total 2\n#\n", "fault line 7 TrailingText\n"),
@@ -345,7 +345,7 @@ fn joined(alloc: Global, start: &str, end: &str) -> Result<String, AllocError> {
 /// A datagram that breaks a rule comes before a fault of a later line, and `show` judges nothing.
 #[test]
 fn a_refusal_comes_before_a_later_fault(rt: HostRuntime) -> Result<(), Fail> {
-    for (end, fault) in &LATER_FAULTS {
+    for (end, fault) in LATER_FAULTS {
         is_refused_before(&rt, *end, *fault)?;
     }
     Ok(())

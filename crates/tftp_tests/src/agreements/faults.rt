@@ -25,7 +25,7 @@ fn has(rt: &HostRuntime, fault: NegoFault, request: &[u8], oack: &[u8]) -> Resul
 type Case = (&'static [u8], &'static [u8]);
 
 /// Each fault, with requests and OACKs that have it first.
-const FAULTS: [(NegoFault, Case); 14] = [
+const FAULTS: &[(NegoFault, Case)] = &[
     (
         NegoFault::OackEmpty,
         (b"\x00\x01a\x00octet\x00", b"\x00\x06"),
@@ -122,7 +122,7 @@ const FAULTS: [(NegoFault, Case); 14] = [
 
 #[test]
 fn faults_of_oacks(rt: HostRuntime) -> Result<(), Fail> {
-    for (fault, (request, oack)) in &FAULTS {
+    for (fault, (request, oack)) in FAULTS {
         has(&rt, *fault, *request, *oack)?;
     }
     Ok(())

@@ -22,7 +22,7 @@ const HOSTS: &[u8] =
     b"tftp-capture 2\nend client\nservice 69\nout 40000 a.example 69 000161006f6374657400\nin 40000 # 41000 000300016869\nout 40000 - 41000 00040001\ntotal 3\n";
 
 /// Hosts of one and of 45 signs, comments, and the longest lines.
-const SOUND: [Sound; 6] = [
+const SOUND: &[Sound] = &[
     (4, b"in 1 ! 65535 -", (b' ', 0), 15),
     (4, b"in 1 ~ 65535 AB", (b' ', 0), 15),
     (3, b"#\n\nservice 69\n# in 1 2 3", (b' ', 0), 24),
@@ -45,7 +45,7 @@ const SOUND: [Sound; 6] = [
 fn lines_of_version_2_without_a_fault(rt: HostRuntime) -> Result<(), Fail> {
     gives(&rt, NAMED, Ok((3, 15)))?;
     gives(&rt, HOSTS, Ok((3, 15)))?;
-    all_pass(&rt, NAMED, &SOUND)
+    all_pass(&rt, NAMED, SOUND)
 }
 
 /// Whether the next datagram has this host.

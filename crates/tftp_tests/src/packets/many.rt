@@ -81,7 +81,7 @@ fn alike_stand_once(rt: &HostRuntime, count: u32, twice: &[u8]) -> Result<(), Fa
 }
 
 /// Options that come twice.
-const TWICE: [&[u8]; 4] = [
+const TWICE: &[&[u8]] = &[
     b"AAYQK\x00\x00",
     b"bjvrb\x00\x00",
     b"AAA\x00\x00",
@@ -91,7 +91,7 @@ const TWICE: [&[u8]; 4] = [
 #[test]
 fn names_of_one_hash_stand_once(rt: HostRuntime) -> Result<(), Fail> {
     for count in [3, 1_017, 1_018, 1_019, 3_000] {
-        for twice in &TWICE {
+        for twice in TWICE {
             alike_stand_once(&rt, count, *twice)?;
         }
     }
