@@ -2,12 +2,13 @@
 by the definition as the scripts have it, and each transfer's capture is judged by the built program.
 Nobody may be accused: each refusal must have a doubt.
 
-    attribution.py [--cases N] [--seed SEED] [--places PLACES] PROGRAM
+    attribution.py [--cases N] [--seed SEED] [--places PLACES] [--transfers TRANSFERS] PROGRAM
 
 Each case is one recording of reads with dense strays and repeated requests, and one session recorded at each end and
 between. The first has the seed SEED, and each further one the next number. With PLACES, the program tftp_places, what
 that says of each of these recordings, and of each of them spoiled, is compared with the prototype: the place of every
-datagram, and the doubts of every transfer. The last line is 'N passed, M failed'; status 1 if any failed.
+datagram, and the doubts of every transfer. With TRANSFERS, the program that reads recordings, each is written as a file
+too, and nobody may be accused by that program. The last line is 'N passed, M failed'; status 1 if any failed.
 """
 from __future__ import annotations
 
@@ -24,6 +25,7 @@ from fuzzing.dense import alone, drawn_reads, whole
 from fuzzing.places import differences, spoiled
 from fuzzing.program import Program
 from fuzzing.sessions import SERVER, STRANGER, simulated
+from judged import checked, recording
 from tftp_tools.attribution import Attribution, Datagram, Transfer, attributed
 
 Told = collections.Counter[tuple[str, str]]
@@ -46,8 +48,8 @@ def text_of(one: Transfer, end: EndName, view: list[Datagram]) -> bytes:
 
 
 class Trier:
-    def __init__(self, program: Program) -> None:
-        self.program = program
+    def __init__(self, program: Program, transfers: str = "") -> None:
+        self.program, self.transfers = program, transfers
         self.told: Told = collections.Counter()
 
     def check(self, one: Transfer, end: EndName, view: list[Datagram]) -> str:
@@ -78,19 +80,33 @@ class Trier:
             if word == "refused":
                 yield f"{kind}, {tap}: transfer {one.number}, datagram {why}"
 
+    def accused_in_file(self, kind: str, tap: Tap, drawn: list[Datagram]) -> Iterator[str]:
+        """The transfers that the program accuses which reads recordings, at this end and where none is named."""
+        if not self.transfers or not drawn:
+            return
+        ends: tuple[tuple[str, ...], ...] = ((),) if tap == "between" else ((), ("--end", tap))
+        for words in ends:
+            for row in checked(self.transfers, recording(drawn), *words)[0]:
+                word = "accused" if row.is_accused() else "doubtful" if row.doubts else row.verdict.split()[0]
+                self.told[f"{kind}, {tap}, as a file, {' '.join(words) or 'no end'}", word] += 1
+                if row.is_accused():
+                    yield f"{kind}, {tap}, as a file, {words}: {row}"
+
     def dense_case(self, seed: int) -> list[str]:
         reads = drawn_reads(seed)
         ones = [alone(passed, port) for passed, port in reads]
         if any(self.check(one, "client", one.seen).startswith("refused") for one in ones):
             self.told["dense", "not lawful when drawn"] += 1
             return []
-        return list(self.refusals("dense", "client", attributed(whole(reads))))
+        drawn = whole(reads)
+        return [*self.refusals("dense", "client", attributed(drawn)), *self.accused_in_file("dense", "client", drawn)]
 
     def session_case(self, seed: int) -> list[str]:
         kind, recorded = simulated(seed)
         named: dict[str, Tap] = {SERVER: "server", "between": "between"}
         taps = [(named.get(place, "client"), place) for place in recorded if place != STRANGER]
-        return [said for tap, place in taps for said in self.refusals(kind, tap, attributed(recorded[place]))]
+        refused = [said for tap, place in taps for said in self.refusals(kind, tap, attributed(recorded[place]))]
+        return refused + [said for tap, place in taps for said in self.accused_in_file(kind, tap, recorded[place])]
 
 
 def recordings_of(seed: int) -> list[list[Datagram]]:
@@ -105,6 +121,7 @@ def words_of(arguments: list[str]) -> argparse.Namespace:
     parser.add_argument("--cases", type=int, default=100, help="how many cases are tried")
     parser.add_argument("--seed", type=int, help="the seed of the first case; each further one has the next number")
     parser.add_argument("--places", metavar="PLACES", help="the program tftp_places, which is compared with it")
+    parser.add_argument("--transfers", metavar="TRANSFERS", default="", help="the program that reads recordings")
     parser.add_argument("program")
     words = parser.parse_args(arguments)
     if not os.access(words.program, os.X_OK):
@@ -117,7 +134,7 @@ def words_of(arguments: list[str]) -> argparse.Namespace:
 def main(arguments: list[str]) -> int:
     words = words_of(arguments)
     program = Program(os.path.abspath(words.program))
-    trier, failed = Trier(program), 0
+    trier, failed = Trier(program, os.path.abspath(words.transfers) if words.transfers else ""), 0
     for seed in range(words.seed, words.seed + words.cases):
         accused = [*trier.dense_case(seed), *trier.session_case(seed)]
         if words.places:

@@ -1,0 +1,60 @@
+//! The verdict on each transfer of recordings.
+
+use crate::reading::read_file;
+use crate::session::Session;
+use crate::teller::{Teller, What};
+use crate::texts::Kept;
+use anyhow::Result;
+use tftp_words::CheckRequest;
+
+/// Judges the transfers of recordings. A recording that can't be read does not end it.
+pub fn check(rt: HostRuntime, asked: &CheckRequest<'_>) -> Result<u8> {
+    let width = widest(asked.files.as_slice());
+    let mut teller = Teller::new(What::Check(asked.end), asked.json, width);
+    for file in asked.files.iter() {
+        if let Err(error) = check_file(rt, *file, asked.services.as_slice(), &mut teller) {
+            eprintln!(rt; "tftp-transfers: {}: {error}", *file)?;
+            teller.status = 2;
+        }
+    }
+    Ok(teller.status)
+}
+
+fn widest(files: &[&str]) -> usize {
+    let mut widest = 4;
+    for file in files {
+        widest = widest.max(file.len());
+    }
+    widest
+}
+
+fn check_file<'a>(
+    rt: HostRuntime,
+    file: &'a str,
+    services: &[u16],
+    teller: &mut Teller<'a>,
+) -> Result<()> {
+    let mut session = Session::new(rt.alloc(), services, Kept::none(rt.alloc()))?;
+    teller.begin(file);
+    let told = tell_session(rt, file, &mut session, teller);
+    session.let_go();
+    told
+}
+
+/// Reads a recording, and tells all that there is to tell of it.
+pub fn tell_session(
+    rt: HostRuntime,
+    file: &str,
+    session: &mut Session,
+    teller: &mut Teller<'_>,
+) -> Result<()> {
+    read_file(rt, file, session, teller)?;
+    teller.tell_all(rt, session)?;
+    if !session.notes.tell(rt, file)? {
+        teller.status = 2;
+    }
+    if teller.told == 0 {
+        session.notes.tell_asked(rt, file)?;
+    }
+    Ok(())
+}

@@ -1,0 +1,162 @@
+//! The transfers of a recording, a line each.
+
+use crate::cells::{put_cell, put_number, put_number_cell, put_plain};
+use crate::checking::tell_session;
+use crate::session::Session;
+use crate::shown::shown;
+use crate::teller::{Teller, What};
+use crate::texts::Kept;
+use crate::trail::Trail;
+use anyhow::Result;
+use serde::Serialize;
+use std::alloc::{AllocError, Global};
+use tftp_packet::{Mode, OptionsView, Packet, RequestView, Side, read_packet};
+use tftp_words::ListRequest;
+
+/// A row of the list.
+#[derive(Drop, Serialize)]
+pub struct ListRow {
+    number: u64,
+    client: String,
+    server: String,
+    kind: &'static str,
+    mode: &'static str,
+    file: String,
+    options: String,
+    datagrams: u64,
+    first_frame: u64,
+    last_frame: u64,
+}
+
+/// Lists the transfers of a recording.
+pub fn list(rt: HostRuntime, asked: &ListRequest<'_>) -> Result<u8> {
+    let services = asked.services.as_slice();
+    let mut session = Session::new(rt.alloc(), services, Kept::none(rt.alloc()))?;
+    let mut teller = Teller::new(What::List, asked.json, 0);
+    let told = tell_session(rt, asked.file, &mut session, &mut teller);
+    session.let_go();
+    told?;
+    Ok(teller.status)
+}
+
+impl ListRow {
+    /// The row of a transfer.
+    pub fn new(alloc: Global, number: u64, trail: &Trail) -> Result<Self, AllocError> {
+        let request = request_of(trail.request.as_slice());
+        let client = shown(alloc, trail.transfer.client)?;
+        let server = shown(alloc, trail.server())?;
+        let file = file_of(alloc, &request)?;
+        let options = options_of(alloc, &request)?;
+        Ok(ListRow {
+            number,
+            client,
+            server,
+            kind: kind_of(&request),
+            mode: mode_of(&request),
+            file,
+            options,
+            datagrams: trail.count,
+            first_frame: trail.first,
+            last_frame: trail.last,
+        })
+    }
+}
+
+/// Puts the line of the columns' heads.
+pub fn put_list_head(line: &mut String) -> Result<(), AllocError> {
+    put_cell(line, "number", 6)?;
+    put_cell(line, "client", 21)?;
+    put_cell(line, "server", 21)?;
+    put_cell(line, "kind", 4)?;
+    put_cell(line, "mode", 8)?;
+    put_cell(line, "file", 16)?;
+    put_cell(line, "options", 16)?;
+    put_cell(line, "datagrams", 9)?;
+    line.push_str("frames\n")
+}
+
+/// Puts the row of a transfer under them.
+pub fn put_list_row(line: &mut String, row: &ListRow) -> Result<(), AllocError> {
+    put_number_cell(line, row.number, 6)?;
+    put_cell(line, row.client.as_str(), 21)?;
+    put_cell(line, row.server.as_str(), 21)?;
+    put_cell(line, row.kind, 4)?;
+    put_cell(line, row.mode, 8)?;
+    put_cell(line, row.file.as_str(), 16)?;
+    put_cell(line, row.options.as_str(), 16)?;
+    put_number_cell(line, row.datagrams, 9)?;
+    put_number(line, row.first_frame)?;
+    line.push('-')?;
+    put_number(line, row.last_frame)
+}
+
+/// The request that a payload spells.
+fn request_of(payload: &[u8]) -> Option<RequestView<'_>> {
+    match read_packet(payload) {
+        Ok(Packet::Request(request)) => Some(request),
+        _ => None,
+    }
+}
+
+fn kind_of(request: &Option<RequestView<'_>>) -> &'static str {
+    match request {
+        Some(request) => match request.side() {
+            Side::Get => "get",
+            Side::Put => "put",
+        },
+        None => "?",
+    }
+}
+
+fn mode_of(request: &Option<RequestView<'_>>) -> &'static str {
+    match request {
+        Some(request) => match request.mode() {
+            Mode::Netascii => "netascii",
+            Mode::Octet => "octet",
+        },
+        None => "?",
+    }
+}
+
+/// The file's name, in quotes.
+fn file_of(alloc: Global, request: &Option<RequestView<'_>>) -> Result<String, AllocError> {
+    let mut file = String::new(alloc);
+    let put = match request {
+        Some(request) => put_quoted(&mut file, request.name()),
+        None => file.push('?'),
+    };
+    put?;
+    Ok(file)
+}
+
+fn put_quoted(file: &mut String, name: &[u8]) -> Result<(), AllocError> {
+    file.push('"')?;
+    put_plain(file, name)?;
+    file.push('"')
+}
+
+/// The options, by their names and values.
+fn options_of(alloc: Global, request: &Option<RequestView<'_>>) -> Result<String, AllocError> {
+    let mut told = String::new(alloc);
+    let put = match request {
+        Some(request) => put_options(&mut told, request.options()),
+        None => told.push('?'),
+    };
+    put?;
+    Ok(told)
+}
+
+fn put_options(told: &mut String, options: OptionsView<'_>) -> Result<(), AllocError> {
+    for (name, value) in options.pairs() {
+        if !told.is_empty() {
+            told.push(',')?;
+        }
+        put_plain(told, name)?;
+        told.push('=')?;
+        put_plain(told, value)?;
+    }
+    if told.is_empty() {
+        told.push('-')?;
+    }
+    Ok(())
+}

@@ -1,0 +1,77 @@
+//! From a recording to its TFTP transfers, their capture texts and their verdicts.
+#![tactic(auto)]
+
+mod blame;
+mod cells;
+mod checking;
+mod headed;
+mod listing;
+mod notes;
+mod passing;
+mod reading;
+mod reasons;
+mod session;
+mod shown;
+mod teller;
+mod texts;
+mod trail;
+mod twice;
+mod verdicts;
+
+use crate::checking::check;
+use crate::listing::list;
+use crate::texts::write_text;
+use anyhow::{Error, Result};
+use std::process::ExitCode;
+use std::{env, io};
+use tftp_words::{Request, WordsFault, request_of};
+
+/// Ends with status 0, 1 where a transfer is not accepted, or 2 after a fault.
+fn main(rt: HostRuntime) -> ExitCode {
+    let Ok(words) = env::args(&rt) else {
+        return ExitCode::from(2);
+    };
+    let Ok(words) = words.collect::<Vec<String>>(rt.alloc()) else {
+        return ExitCode::from(2);
+    };
+    match answer(rt, words.as_slice()) {
+        Ok(status) => ExitCode::from(status),
+        Err(error) => {
+            let _ = tell(rt, &error);
+            ExitCode::from(2)
+        }
+    }
+}
+
+/// Does what the words ask for, and answers the status.
+fn answer(rt: HostRuntime, words: &[String]) -> Result<u8> {
+    match request_of(rt.alloc(), words) {
+        Ok(Request::List(asked)) => list(rt, &asked),
+        Ok(Request::Text(asked)) => write_text(rt, &asked),
+        Ok(Request::Check(asked)) => check(rt, &asked),
+        Err(fault) => tell_fault(rt, &fault),
+    }
+}
+
+/// Tells an error.
+fn tell(rt: HostRuntime, error: &Error) -> io::Result<()> {
+    eprintln!(rt; "tftp-transfers: {error}")
+}
+
+/// What there is to say of words that make no request.
+fn tell_fault(rt: HostRuntime, fault: &WordsFault) -> Result<u8> {
+    match fault {
+        WordsFault::Asked(text) => {
+            print!(rt; "{text}")?;
+            Ok(0)
+        }
+        WordsFault::Wrong(text) => {
+            eprint!(rt; "{text}")?;
+            Ok(2)
+        }
+        WordsFault::Memory => {
+            eprintln!(rt; "tftp-transfers: no memory")?;
+            Ok(2)
+        }
+    }
+}

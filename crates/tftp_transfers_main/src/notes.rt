@@ -1,0 +1,239 @@
+//! What is to be told of a recording as a whole.
+
+use crate::cells::put_number;
+use crate::passing::Passing;
+use anyhow::Result;
+use std::alloc::{AllocError, Global};
+use std::collections::BTreeSet;
+use tftp_fragments::Fragments;
+use tftp_frames::{FrameFault, UdpFault};
+use tftp_pcap::PcapFault;
+use tftp_recording::LeftOut;
+
+/// How many frames or ports are named.
+const NAMED: usize = 5;
+
+/// Frames of which one thing is told: how many they are, and the first ones.
+#[derive(Drop)]
+pub struct Frames {
+    count: u64,
+    first: Vec<u64>,
+}
+
+impl Frames {
+    fn new(alloc: Global) -> Self {
+        Frames {
+            count: 0,
+            first: Vec::new(alloc),
+        }
+    }
+
+    fn add(&mut self, frame: u64) -> Result<(), AllocError> {
+        self.count = self.count.saturating_add(1);
+        if self.first.len() < NAMED {
+            self.first.push(frame)?;
+        }
+        Ok(())
+    }
+
+    /// Tells how many they are and which ones, if there are any.
+    fn tell(&self, rt: HostRuntime, file: &str, what: &str) -> Result<()> {
+        if self.count == 0 {
+            return Ok(());
+        }
+        let mut named = String::new(rt.alloc());
+        let put = put_numbers(&mut named, self.first.as_slice());
+        put?;
+        let (count, named) = (self.count, named.as_str());
+        let (datagrams, frames) = if count == 1 {
+            ("datagram", "frame")
+        } else {
+            ("datagrams", "frames")
+        };
+        let more = if count > NAMED as u64 { " .." } else { "" };
+        eprintln!(rt;
+            "tftp-transfers: {file}: {count} {datagrams} {what} ({frames}{named}{more})"
+        )?;
+        Ok(())
+    }
+}
+
+/// Puts numbers, with a space before the first.
+fn put_numbers(named: &mut String, numbers: &[u64]) -> Result<(), AllocError> {
+    for (place, number) in numbers.iter().enumerate() {
+        named.push_str(if place == 0 { " " } else { ", " })?;
+        put_number(named, *number)?;
+    }
+    Ok(())
+}
+
+/// What is to be told of a recording.
+#[derive(Drop)]
+pub struct Notes {
+    /// Frames that may have been datagrams of UDP, or parts of such, and can't be read.
+    lost: Frames,
+    /// The first of them: from there on a refusal is doubtful.
+    lost_from: Option<u64>,
+    /// Frames that wait for others of their packets.
+    waiting: BTreeSet<u64>,
+    /// Frames whose link type is not known.
+    other_links: Frames,
+    /// Datagrams that were left out as copies.
+    copies: Frames,
+    /// Datagrams of no transfer.
+    of_none: Frames,
+    /// Ports at which one of these looks like a request.
+    asked: Vec<u64>,
+    /// Datagrams that are older than the one before.
+    backwards: Frames,
+    /// Why it was read no further.
+    pub fault: Option<PcapFault>,
+    last_time: u64,
+}
+
+impl Notes {
+    /// Nothing was read.
+    pub fn new(alloc: Global) -> Self {
+        Notes {
+            lost: Frames::new(alloc),
+            lost_from: None,
+            waiting: BTreeSet::new(alloc),
+            other_links: Frames::new(alloc),
+            copies: Frames::new(alloc),
+            of_none: Frames::new(alloc),
+            asked: Vec::new(alloc),
+            backwards: Frames::new(alloc),
+            fault: None,
+            last_time: 0,
+        }
+    }
+
+    /// The time of the last datagram that has one, in nanoseconds.
+    pub fn clock(&self) -> u64 {
+        self.last_time
+    }
+
+    /// Notes a datagram's time.
+    pub fn pass(&mut self, frame: u64, time: Option<u64>) -> Result<(), AllocError> {
+        let Some(time) = time else {
+            return Ok(());
+        };
+        let last = self.last_time;
+        self.last_time = time;
+        if time < last {
+            return self.backwards.add(frame);
+        }
+        Ok(())
+    }
+
+    /// Notes a frame that waits for others of its packet.
+    pub fn wait(&mut self, frame: u64) -> Result<(), AllocError> {
+        self.waiting.insert(frame)?;
+        Ok(())
+    }
+
+    /// Notes frames for which no others are missing any more.
+    pub fn find(&mut self, frames: &[u64]) {
+        for frame in frames {
+            self.waiting.remove(frame);
+        }
+    }
+
+    /// Notes frames that can't be read.
+    pub fn lose(&mut self, frames: &[u64]) -> Result<(), AllocError> {
+        for frame in frames {
+            self.lost.add(*frame)?;
+            self.lost_from = Some(self.lost_from.unwrap_or(*frame).min(*frame));
+        }
+        self.find(frames);
+        Ok(())
+    }
+
+    /// Notes fragments that were let go.
+    pub fn lose_all(&mut self, mut fragments: Fragments) -> Result<(), AllocError> {
+        for _ in 0..u64::MAX {
+            let Some((_, frames)) = fragments.let_go_any() else {
+                return Ok(());
+            };
+            self.lose(frames.as_slice())?;
+        }
+        Ok(())
+    }
+
+    /// Notes a frame that is left out, and those that share its fate.
+    pub fn leave(&mut self, why: LeftOut, frame: u64, sharers: &[u64]) -> Result<(), AllocError> {
+        match why {
+            LeftOut::Copy => self.copies.add(frame),
+            LeftOut::Frame(FrameFault::Link) => self.other_links.add(frame),
+            LeftOut::Frame(FrameFault::Network | FrameFault::Protocol) => {
+                self.find(sharers);
+                Ok(())
+            }
+            LeftOut::Udp(UdpFault::Port) => {
+                self.find(sharers);
+                Ok(())
+            }
+            _ => {
+                self.lose(sharers)?;
+                self.lose(&[frame])
+            }
+        }
+    }
+
+    /// Notes a datagram of no transfer.
+    pub fn leave_out(&mut self, passing: &Passing<'_>) -> Result<(), AllocError> {
+        let port = u64::from(passing.target.end.port);
+        let is_request = matches!(passing.payload, [0, 1 | 2, _, ..]);
+        if is_request && self.asked.len() < NAMED && !self.asked.contains(&port) {
+            self.asked.push(port)?;
+        }
+        self.of_none.add(passing.frame)
+    }
+
+    /// The first frame that is not there whole, or waits for others still: from there on datagrams may be missing.
+    pub fn lost_from(&self) -> Option<u64> {
+        match (self.lost_from, self.waiting.first()) {
+            (Some(lost), Some(waiting)) => Some(lost.min(*waiting)),
+            (None, Some(waiting)) => Some(*waiting),
+            (lost, None) => lost,
+        }
+    }
+
+    /// Tells what there is to tell; whether the recording was read to its end and nothing is missing.
+    pub fn tell(&self, rt: HostRuntime, file: &str) -> Result<bool> {
+        self.copies.tell(rt, file, "left out as copies")?;
+        self.other_links.tell(rt, file, "of another link type")?;
+        self.of_none.tell(rt, file, "of UDP of no transfer")?;
+        self.backwards.tell(
+            rt,
+            file,
+            "older than the one before; reordercap puts them in order",
+        )?;
+        self.lost.tell(
+            rt,
+            file,
+            "not there whole, so that datagrams may be missing",
+        )?;
+        if let Some(fault) = &self.fault {
+            eprintln!(rt;
+                "tftp-transfers: {file}: frame {}: {}",
+                fault.frame, fault.kind
+            )?;
+        }
+        Ok(self.fault.is_none() && self.lost.count == 0)
+    }
+
+    /// Tells at which ports something looks like a request, where no transfer was found.
+    pub fn tell_asked(&self, rt: HostRuntime, file: &str) -> Result<()> {
+        if self.asked.is_empty() {
+            return Ok(());
+        }
+        let mut ports = String::new(rt.alloc());
+        let put = put_numbers(&mut ports, self.asked.as_slice());
+        put?;
+        eprintln!(rt;
+            "tftp-transfers: {file}: what looks like a request went to port{ports}: name the port by --service"
+        )?;
+        Ok(())
+    }
+}

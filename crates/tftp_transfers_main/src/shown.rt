@@ -1,0 +1,21 @@
+//! Endpoints as they are shown.
+
+use std::alloc::{AllocError, Global};
+use std::net::{IpAddr, Ipv4Addr, Ipv6Addr};
+use tftp_transfers::{Address, Endpoint};
+
+/// An endpoint as it is shown: the address and the port, an IPv6 address in brackets (RFC 3986, section 3.2.2).
+pub fn shown(alloc: Global, end: Endpoint) -> Result<String, AllocError> {
+    let (address, port) = (ip_of(end.address), end.port);
+    match address {
+        IpAddr::V4(address) => format!(in alloc; "{address}:{port}"),
+        IpAddr::V6(address) => format!(in alloc; "[{address}]:{port}"),
+    }
+}
+
+fn ip_of(address: Address) -> IpAddr {
+    match address {
+        Address::V4(bytes) => IpAddr::V4(Ipv4Addr::from(bytes)),
+        Address::V6(bytes) => IpAddr::V6(Ipv6Addr::from(bytes)),
+    }
+}

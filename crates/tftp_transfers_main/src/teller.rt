@@ -1,0 +1,204 @@
+//! Transfers are told, a row each.
+
+use crate::cells::{pad, put_cell, put_number_cell, put_plain};
+use crate::listing::{ListRow, put_list_head, put_list_row};
+use crate::session::{Ended, Session};
+use crate::verdicts::{Judged, Told};
+use anyhow::Result;
+use serde::Serialize;
+use std::alloc::AllocError;
+use tftp_packet::End;
+
+/// What is told of each transfer.
+#[derive(Clone, Copy)]
+pub enum What {
+    /// What its request asks for.
+    List,
+    /// The verdict on it, at the end that was recorded, if that is known.
+    Check(Option<End>),
+    /// Nothing: the text of one of them is wanted.
+    Text,
+}
+
+/// A row of verdicts.
+#[derive(Drop, Serialize)]
+struct VerdictRow<'a> {
+    file: &'a str,
+    number: u64,
+    place: &'a str,
+    frame: Option<u64>,
+    verdict: &'a str,
+    doubts: Vec<String>,
+}
+
+/// Tells transfers, each as soon as no datagram joins it any more.
+#[derive(Clone, Copy)]
+pub struct Teller<'a> {
+    what: What,
+    is_json: bool,
+    /// How wide the column of files is.
+    width: usize,
+    file: &'a str,
+    /// How many transfers of the file were told.
+    pub told: u64,
+    /// 0 where all were accepted, else 1, or 2 after a fault.
+    pub status: u8,
+    is_headed: bool,
+}
+
+impl<'a> Teller<'a> {
+    /// Nothing was told.
+    pub fn new(what: What, is_json: bool, width: usize) -> Self {
+        Teller {
+            what,
+            is_json,
+            width,
+            file: "",
+            told: 0,
+            status: 0,
+            is_headed: false,
+        }
+    }
+
+    /// Begins with a file.
+    pub fn begin(&mut self, file: &'a str) {
+        self.file = file;
+        self.told = 0;
+    }
+
+    /// Tells the transfers of which all is known, from the oldest on.
+    pub fn tell_over(&mut self, rt: HostRuntime, session: &mut Session) -> Result<()> {
+        if let What::Text = self.what {
+            return Ok(());
+        }
+        while let Some(ended) = session.pop_over() {
+            self.tell(rt, ended, session.notes.lost_from())?;
+        }
+        Ok(())
+    }
+
+    /// Tells all transfers that were not told, where the recording has ended.
+    pub fn tell_all(&mut self, rt: HostRuntime, session: &mut Session) -> Result<()> {
+        while let Some(ended) = session.pop() {
+            self.tell(rt, ended, session.notes.lost_from())?;
+        }
+        Ok(())
+    }
+
+    /// Tells a transfer. From the frame `lost_from` on datagrams may be missing.
+    fn tell(&mut self, rt: HostRuntime, ended: Ended, lost_from: Option<u64>) -> Result<()> {
+        self.told = self.told.saturating_add(1);
+        match self.what {
+            What::List => {
+                let row = ListRow::new(rt.alloc(), self.told, &ended.trail)?;
+                self.tell_listed(rt, &row)
+            }
+            What::Check(end) => {
+                let judged = Judged::new(rt.alloc(), ended, lost_from)?;
+                self.tell_judged(rt, &judged, end)
+            }
+            What::Text => Ok(()),
+        }
+    }
+
+    /// Tells what a transfer's request asks for.
+    fn tell_listed(&mut self, rt: HostRuntime, row: &ListRow) -> Result<()> {
+        if self.is_json {
+            return print_json(rt, row);
+        }
+        let mut line = String::new(rt.alloc());
+        let put = self.put_listed(&mut line, row);
+        put?;
+        println!(rt; "{line}")?;
+        Ok(())
+    }
+
+    fn put_listed(&mut self, line: &mut String, row: &ListRow) -> Result<(), AllocError> {
+        if !self.is_headed {
+            put_list_head(line)?;
+            self.is_headed = true;
+        }
+        put_list_row(line, row)
+    }
+
+    /// Tells the verdict on a transfer: at the end that is named; where none is, at both ends if they are at one host, and
+    /// else so that what either end's view clears is not blamed.
+    fn tell_judged(&mut self, rt: HostRuntime, judged: &Judged, end: Option<End>) -> Result<()> {
+        let (client, server) = (&judged.client, &judged.server);
+        match end {
+            Some(End::Client) => self.tell_one(rt, judged, &Told::of("client", client)),
+            Some(End::Server) => self.tell_one(rt, judged, &Told::of("server", server)),
+            None if !judged.is_at_one_host => self.tell_one(rt, judged, &judged.anywhere()),
+            None if judged.are_same() => self.tell_one(rt, judged, &Told::of("both", client)),
+            None => {
+                self.tell_one(rt, judged, &Told::of("client", client))?;
+                self.tell_one(rt, judged, &Told::of("server", server))
+            }
+        }
+    }
+
+    fn tell_one(&mut self, rt: HostRuntime, judged: &Judged, told: &Told<'_>) -> Result<()> {
+        let mut doubts = Vec::new(rt.alloc());
+        let put = told.put_reasons(rt.alloc(), &mut doubts, &judged.doubted);
+        put?;
+        self.status = self.status.max(told.view.status());
+        let row = VerdictRow {
+            file: self.file,
+            number: self.told,
+            place: told.place,
+            frame: told.view.frame(),
+            verdict: told.view.line(),
+            doubts,
+        };
+        self.tell_row(rt, &row)
+    }
+
+    fn tell_row(&mut self, rt: HostRuntime, row: &VerdictRow<'_>) -> Result<()> {
+        if self.is_json {
+            return print_json(rt, row);
+        }
+        let mut line = String::new(rt.alloc());
+        let put = self.put_row(&mut line, row);
+        put?;
+        println!(rt; "{line}")?;
+        Ok(())
+    }
+
+    fn put_row(&mut self, line: &mut String, row: &VerdictRow<'_>) -> Result<(), AllocError> {
+        if !self.is_headed {
+            put_cell(line, "file", self.width)?;
+            line.push_str("number  place    frame     verdict\n")?;
+            self.is_headed = true;
+        }
+        let start = line.len();
+        put_plain(line, row.file.as_bytes())?;
+        pad(line, line.len().saturating_sub(start), self.width)?;
+        put_number_cell(line, row.number, 6)?;
+        put_cell(line, row.place, 7)?;
+        match row.frame {
+            Some(frame) => put_number_cell(line, frame, 8)?,
+            None => put_cell(line, "-", 8)?,
+        }
+        put_verdict(line, row)
+    }
+}
+
+/// Puts the verdict, and where it is doubtful why.
+fn put_verdict(line: &mut String, row: &VerdictRow<'_>) -> Result<(), AllocError> {
+    if !row.doubts.is_empty() {
+        line.push_str("doubtful ")?;
+    }
+    line.push_str(row.verdict)?;
+    for (place, why) in row.doubts.iter().enumerate() {
+        line.push_str(if place == 0 { ": " } else { "; " })?;
+        line.push_str(why.as_str())?;
+    }
+    Ok(())
+}
+
+/// Prints a row as a JSON object (RFC 8259), in a line.
+fn print_json<T: Serialize>(rt: HostRuntime, row: &T) -> Result<()> {
+    let line = serde_json::to_string(rt.alloc(), row)?;
+    println!(rt; "{line}")?;
+    Ok(())
+}

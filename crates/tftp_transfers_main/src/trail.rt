@@ -1,0 +1,135 @@
+//! What is kept of a transfer beside its judges.
+
+use crate::blame::{Blame, Blamed};
+use crate::passing::Passing;
+use crate::reasons::Doubted;
+use crate::twice::Twice;
+use std::alloc::{AllocError, Global};
+use tftp_ends::RingDelivered;
+use tftp_judge::{Meaning, Refusal};
+use tftp_recording_judge::Watched;
+use tftp_transfers::{Attributed, Endpoint, Place, Transfer, TransferDoubts, TransferEnds};
+
+/// A transfer, as far as it was read.
+#[derive(Drop)]
+pub struct Trail {
+    /// Which transfer it is.
+    pub transfer: Transfer,
+    /// The payload of its request.
+    pub request: Vec<u8>,
+    /// The frames of its first and its last datagram at the client.
+    pub first: u64,
+    pub last: u64,
+    /// How many these are.
+    pub count: u64,
+    ends: TransferEnds,
+    twice: Twice,
+    /// The frame of a datagram that may be a copy.
+    copied_from: Option<u64>,
+    blame: Blame,
+}
+
+impl Trail {
+    /// The transfer that this request opens in this frame, before any datagram.
+    pub fn new(alloc: Global, transfer: Transfer, request: Vec<u8>, frame: u64) -> Self {
+        Trail {
+            transfer,
+            request,
+            first: frame,
+            last: frame,
+            count: 0,
+            ends: TransferEnds::new(transfer.number),
+            twice: Twice::new(alloc),
+            copied_from: None,
+            blame: Blame::new(alloc),
+        }
+    }
+
+    /// Takes a datagram of the transfer at its client, or beside its server, which its judges have been given.
+    pub fn take(
+        &mut self,
+        found: &Attributed,
+        passing: &Passing<'_>,
+        watched: &Watched<RingDelivered>,
+    ) -> Result<(), AllocError> {
+        if found.place.transfer().is_some() {
+            self.count = self.count.saturating_add(1);
+            self.last = passing.frame;
+            self.twice.note(passing)?;
+        }
+        if passing.is_doubtful && self.copied_from.is_none() {
+            self.copied_from = Some(passing.frame);
+        }
+        self.note_blame(found.place, passing, watched)
+    }
+
+    /// Notes at which frame an end's view was refused.
+    fn note_blame(
+        &mut self,
+        place: Place,
+        passing: &Passing<'_>,
+        watched: &Watched<RingDelivered>,
+    ) -> Result<(), AllocError> {
+        let blamed = Blamed {
+            frame: passing.frame,
+            is_late: watched.doubts().is_late(),
+            is_beside: matches!(place, Place::Beside(_)),
+        };
+        let at_client = watched.judge().client().refused();
+        let at_server = watched.judge().server().refused();
+        self.blame.note_client(blamed, at_client.is_some());
+        if self.ends.is_settled() {
+            self.blame.note_server(blamed, at_server.is_some());
+            return Ok(());
+        }
+        self.blame.keep(blamed, place, passing)?;
+        let (source, target) = (passing.source.end, passing.target.end);
+        self.ends.note(&place, source, target, passing.payload);
+        if self.ends.is_settled() {
+            self.blame.settle(&self.ends, at_server);
+        }
+        Ok(())
+    }
+
+    /// The server: with whom the client went on, or who answered it first, or else whom it asked.
+    pub fn server(&self) -> Endpoint {
+        self.ends.server().unwrap_or(self.transfer.asked)
+    }
+
+    /// Whether a datagram that belongs there is of the server's view.
+    pub fn is_at_server(&self, place: &Place, source: Endpoint, target: Endpoint) -> bool {
+        self.ends.is_at_server(place, source, target)
+    }
+
+    /// Whether both ends are at one host, so that what was recorded passed at both.
+    pub fn is_at_one_host(&self) -> bool {
+        match self.ends.server() {
+            Some(server) => server.address == self.transfer.client.address,
+            None => false,
+        }
+    }
+
+    /// What makes a refusal doubtful, beside its own doubts; from the frame `lost_from` on datagrams may be missing.
+    pub fn doubted(&self, doubts: TransferDoubts, lost_from: Option<u64>) -> Doubted {
+        Doubted {
+            doubts,
+            is_twice: self.twice.are_all_twice(),
+            copied_from: self.copied_from,
+            lost_from,
+        }
+    }
+
+    /// Where the client's view was refused.
+    pub fn at_client(&self) -> Option<Blamed> {
+        self.blame.at_client()
+    }
+
+    /// Where the server's view was refused.
+    pub fn at_server(&self, verdict: &Result<Meaning, Refusal>) -> Option<Blamed> {
+        let refusal = match verdict {
+            Ok(_) => None,
+            Err(refusal) => Some(*refusal),
+        };
+        self.blame.at_server(&self.ends, refusal)
+    }
+}

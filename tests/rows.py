@@ -1,0 +1,403 @@
+"""What the program that reads recordings says of them: lists, texts and verdicts.
+
+    rows.py PROGRAM [REFUSE]
+
+The recordings of examples/ have the verdicts that they had when they were made; others are made here, with the rows
+that they must have by the rules. With REFUSE, which is tests/refuse.c when it is built, each growth of memory is
+refused in turn. Prints each case that is not as it should be, then 'N passed, M failed'; status 1 if any failed.
+"""
+from __future__ import annotations
+
+import dataclasses
+import itertools
+import json
+import os
+import pathlib
+import random
+import subprocess
+import sys
+import tempfile
+from collections.abc import Sequence
+
+import recorded
+from captures import ack, data, error, read_request
+from judged import CAN_TAKE, Row, checked, packet_of, row_of, said
+from loopback import CASES, are_wanted
+from recorded import Datagram, Fragment, Frame, Interface
+from trial import Trial
+
+EXAMPLES = pathlib.Path(__file__).resolve().parent.parent / "examples"
+C, S, THIRD = "192.0.2.7", "192.0.2.1", "192.0.2.9"
+C_6, S_6 = "2001:db8::7", "2001:db8::1"
+LISTED = """number client server kind mode file options datagrams frames
+1 192.0.2.1:34056 192.0.2.1:51973 get octet "boot.cfg" - 7 1-7
+2 192.0.2.1:34056 192.0.2.1:54848 get octet "boot.cfg" - 7 8-14
+3 192.0.2.1:34056 192.0.2.1:42245 get octet "missing.cfg" - 3 15-17
+4 192.0.2.1:34056 192.0.2.1:36322 get octet "whole.img" - 7 19-25
+5 192.0.2.1:34056 192.0.2.1:60212 put octet "upload.log" - 10 26-35
+"""
+SOUND = "accepted get octet blocks 1 bytes 2"
+WHOLE = Row(1, "unknown", None, SOUND)
+AT_CLIENT = ("--end", "client")
+SECOND = 1_000_000_000
+
+
+def at(second: float) -> int:
+    """A time in nanoseconds since 1970."""
+    return recorded.FIRST_TIME + round(second * SECOND)
+
+
+def framed(packets: Sequence[bytes], times: Sequence[float] = (), link: int = recorded.RAW) -> list[Frame]:
+    """Frames of these packets, a millisecond after one another where no times are given."""
+    return [Frame(link, packet, at(times[place] if times else place / 1000)) for place, packet in enumerate(packets)]
+
+
+def packets_of(passed: Sequence[Datagram]) -> list[bytes]:
+    return [packet_of(it, number) for number, it in enumerate(passed)]
+
+
+def file_of(passed: Sequence[Datagram], times: Sequence[float] = ()) -> bytes:
+    return recorded.pcap(framed(packets_of(passed), times), is_nano=True)
+
+
+def file_of_packets(packets: Sequence[bytes]) -> bytes:
+    return recorded.pcap(framed(packets), is_nano=True)
+
+
+def read(
+    file: str, client: int, server: int, hosts: tuple[str, str] = (C, S), service: int = 69, content: bytes = b"hi"
+) -> list[Datagram]:
+    """A read of a file in one block."""
+    mine, theirs = hosts
+    request = Datagram(mine, client, theirs, service, read_request(file, "octet")[0])
+    block = Datagram(theirs, server, mine, client, data(1, content)[0])
+    return [request, block, Datagram(mine, client, theirs, server, ack(1)[0])]
+
+
+def table_of(*ends: list[Row]) -> list[list[str]]:
+    """Rows of the table, of each transfer one at each end."""
+    return [["-", str(it.number), it.place, str(it.frame or "-"), it.verdict] for pair in zip(*ends) for it in pair]
+
+
+def try_examples(trial: Trial, program: str) -> None:
+    for case in CASES:
+        given = (EXAMPLES / f"loopback-{case.name}.pcap").read_bytes()
+        at_ends = [checked(program, given, "--end", end) for end in ("client", "server")]
+        holds = are_wanted(case, table_of(*(rows for rows, _, _ in at_ends)))
+        trial.check(f"{case.name}, the verdicts", holds, at_ends)
+        for rows, _, status in at_ends:
+            is_bad = any(not row.verdict.startswith("accepted") for row in rows)
+            trial.check(f"{case.name}, the status", status == is_bad and not any(it.doubts for it in rows), at_ends)
+        rows, told, status = checked(program, given)
+        is_bad = any(not row.verdict.startswith("accepted") for row in rows)
+        holds = len(rows) == len(case.verdicts) and status == is_bad and not told
+        trial.check(f"{case.name}, where no end is named", holds, (rows, told, status))
+    session = EXAMPLES / "loopback-session.pcap"
+    output, _, status = said(program, [str(session)], b"")
+    listed = "".join(" ".join(line.split()) + "\n" for line in output.splitlines())
+    trial.check("the list of a session", (listed, status) == (LISTED, 0), output)
+    output, _, _ = said(program, ["list", "--json", str(session)], b"")
+    first = json.loads(output.splitlines()[0])
+    wanted = {"number": 1, "client": "192.0.2.1:34056", "server": "192.0.2.1:51973", "kind": "get", "mode": "octet"}
+    wanted |= {"file": '"boot.cfg"', "options": "-", "datagrams": 7, "first_frame": 1, "last_frame": 7}
+    trial.check("the list of a session in JSON", first == wanted, first)
+    rows, _, status = checked(program, session.read_bytes())
+    frames = [(row.place, row.frame) for row in rows]
+    trial.check("both ends at one host", frames == [("both", 17 if row.number == 3 else None) for row in rows], rows)
+    rows, _, status = checked(program, session.read_bytes(), *AT_CLIENT)
+    wanted_row = Row(3, "client", 17, "refused datagram 3 rule 26 AckAhead")
+    trial.check("the frame of a refused datagram", rows[2] == wanted_row and status == 1, rows)
+    output, _, status = said(program, ["text", "3", "client", str(session)], b"")
+    lines = output.splitlines()
+    trial.check("a text's head", lines[0] == "tftp-capture 2" and lines[2:4] == ["end client", "service 69"], lines[:4])
+    frames = [line.split()[2] for line in lines if line.startswith("# frame ")]
+    trial.check("a text's frames", frames == ["15", "16", "17"] and status == 0, frames)
+
+
+def try_links(trial: Trial, program: str) -> None:
+    """One transfer in frames of each link type, in each format: what carries it changes nothing."""
+    chance, times = random.Random(1), [0.0, 0.1, 0.2]
+    four, six = read("a", 40_000, 41_000), read("a", 40_000, 41_000, (C_6, S_6))
+    kinds = (("none", recorded.ETHERNET, ()), ("VLAN", recorded.ETHERNET, recorded.TAGGED[1]))
+    kinds += (("QinQ", recorded.ETHERNET, recorded.TAGGED[2]), ("cooked v1", recorded.COOKED, ()))
+    kinds += (("cooked v2", recorded.COOKED_2, ()), ("raw", recorded.RAW, ()), ("NULL", recorded.NULL, ()))
+    kinds += (("LOOP", recorded.LOOP, ()),)
+    for name, link, tags in kinds:
+        for passed in (four, six):
+            carried = [recorded.carried(link, it, chance, "unknown", None, tags) for it in packets_of(passed)]
+            for order, is_nano in itertools.product("<>", (False, True)):
+                got = checked(program, recorded.pcap(framed(carried, times, link), order, is_nano))
+                trial.check(f"{name}, {order}, nanoseconds {is_nano}", got == ([WHOLE], "", 0), got)
+    interfaces = [Interface(recorded.ETHERNET, 9), Interface(recorded.RAW, 9)]
+    for order in "<>":
+        blocks: list[tuple[int, recorded.Block]] = []
+        for place, (packet, time) in enumerate(zip(packets_of(four), times)):
+            link = interfaces[place % 2].link
+            content = recorded.carried(link, packet, chance, "unknown", None, ())
+            blocks.append((place % 2, Frame(link, content, at(time))))
+        got = checked(program, recorded.section(order, interfaces, blocks, chance))
+        trial.check(f"pcapng of two interfaces in nanoseconds, {order}", got == ([WHOLE], "", 0), got)
+    kinds_6 = (recorded.HOP_BY_HOP, recorded.ROUTING, recorded.DESTINATION)
+    got = checked(program, file_of_packets([recorded.ipv6(it, recorded.udp(it), kinds=kinds_6) for it in six]))
+    trial.check("IPv6 with extension headers", got == ([WHOLE], "", 0), got)
+
+
+def try_fragments(trial: Trial, program: str) -> None:
+    """A block in fragments, in any order, one that is not there, and one of ICMP in between."""
+    sound = dataclasses.replace(WHOLE, verdict=SOUND.replace(" 2", " 511"))
+    for hosts in ((C, S), (C_6, S_6)):
+        request, block, answer = passed = read("a", 40_000, 41_000, hosts, content=b"." * 511)
+        parts = recorded.parts_of(recorded.udp(block), 200, 9)
+        make = recorded.ipv4 if block.version == 4 else recorded.ipv6
+        pieces = [make(block, content, recorded.UDP, part) for part, content in parts]
+        first, _, last = packets_of(passed)
+        for order in itertools.permutations(pieces):
+            got = checked(program, file_of_packets([first, *order, last]))
+            trial.check(f"fragments from {block.source}, {len(order)}", got == ([sound], "", 0), got)
+        # Without block 1 the client acknowledges at a port from which nothing came.
+        got = checked(program, file_of_packets([first, *pieces[:2], last]), *AT_CLIENT)
+        wanted = Row(1, "client", 4, "refused datagram 2 rule 2 WrongPort", ("frame 2 is not there whole",))
+        holds = (got[0], got[2]) == ([wanted], 2) and "2 datagrams not there whole" in got[1]
+        trial.check(f"a lost fragment from {block.source}", holds, got)
+    passed = read("a", 40_000, 41_000)
+    ping = recorded.ipv4(passed[1], bytes(64), recorded.ICMP, Fragment(9, 0, True))
+    packets = packets_of(passed)
+    got = checked(program, file_of_packets([packets[0], ping, *packets[1:]]))
+    trial.check("a fragment of ICMP in between", got == ([WHOLE], "", 0), got)
+
+
+def try_losses(trial: Trial, program: str) -> None:
+    """What was cut, and times that go back."""
+    passed = read("a", 40_000, 41_000, content=b"." * 300)
+    frames = framed(packets_of(passed))
+    for it in frames:
+        it.original, it.content = len(it.content), it.content[:96]
+    got = checked(program, recorded.pcap(frames, is_nano=True, snaplen=96), *AT_CLIENT)
+    wanted = Row(1, "client", 3, "refused datagram 2 rule 2 WrongPort", ("frame 2 is not there whole",))
+    trial.check("a recording with a small snaplen", (got[0], got[2]) == ([wanted], 2) and "(frame 2)" in got[1], got)
+    given = recorded.pcap(frames, is_nano=True)
+    output, told, status = said(program, ["text", "1", "client", "-"], given)
+    trial.check("no text of what is cut", output == "" and "not whole" in told and status == 2, (output, told))
+    whole = file_of(read("a", 40_000, 41_000))
+    got = checked(program, whole[:-2], *AT_CLIENT)
+    holds = (got[0], got[2]) == ([Row(1, "client", None, "incomplete after 2")], 2) and "frame 3: the rec" in got[1]
+    trial.check("a cut last packet", holds, got)
+    got = checked(program, file_of(read("a", 40_000, 41_000), [0.0, 0.2, 0.1]), *AT_CLIENT)
+    holds = got[0] == [Row(1, "client", None, SOUND)] and "(frame 3)" in got[1] and "reordercap" in got[1]
+    trial.check("times that go back", holds, got)
+    ahead = [*read("a", 40_000, 41_000)[:2], Datagram(C, 40_000, S, 41_000, ack(3)[0])]
+    got = checked(program, file_of(ahead, [0.0, 0.2, 0.1]), *AT_CLIENT)
+    reasons = [row.doubts for row in got[0]]
+    trial.check("refused where times go back", reasons == [("its datagrams are not in the order of their times",)], got)
+    elsewhere = [*read("a", 40_000, 41_000), Datagram(C, 40_000, "192.0.2.53", 53, b"\x12\x34\x01\x00")]
+    got = checked(program, file_of(elsewhere, [0.0, 0.1, 0.2, 400.0]))
+    trial.check("a datagram of no transfer", got[2] == 0 and "1 datagram of UDP of no transfer (frame 4)" in got[1], got)
+
+
+def mixed(*transfers: list[Datagram]) -> list[Datagram]:
+    """One datagram of each in turn."""
+    return [it for each in itertools.zip_longest(*transfers) for it in each if it]
+
+
+def twice(passed: list[Datagram], inside: str, outside: str) -> list[Datagram]:
+    """Each datagram before and behind a router that writes another address in place of the client's."""
+
+    def named(it: Datagram) -> Datagram:
+        source, target = (outside if host == inside else host for host in (it.source, it.target))
+        return dataclasses.replace(it, source=source, target=target)
+
+    return [one for it in passed for one in ((it, named(it)) if it.source == inside else (named(it), it))]
+
+
+def try_sessions(trial: Trial, program: str) -> None:
+    """Many transfers in one recording, each with its row."""
+    first, last = data(1, b"." * 512)[0], data(2, b"!")[0]
+    out, back = (C, 40_000, S, 41_000), (S, 41_000, C, 40_000)
+    reset = [read("a", 40_000, 41_000)[0], Datagram(*back, first), Datagram(*out, ack(1)[0]), Datagram(*back, last)]
+    again = [replaced(it, 41_000, 42_000) for it in [*reset, Datagram(*out, ack(2)[0])]]
+    hours = [hour * 3600 + step / 10 for hour in range(3) for step in range(3)]
+    sound = [dataclasses.replace(WHOLE, number=number) for number in (1, 2, 3)]
+    other = (THIRD, S)
+    cases: tuple[tuple[str, list[Datagram], Sequence[float], list[Row]], ...] = (
+        ("two clients on one port", mixed(read("a", 40_000, 41_000), read("a", 40_000, 42_000, other)), (), sound[:2]),
+        ("a client's port again", read("a", 40_000, 41_000) + read("b", 40_000, 42_000), (), sound[:2]),
+        ("one file twice, of one port", read("a", 40_000, 41_000) * 2, (), sound[:2]),
+        ("a server on 69", read("a", 40_000, 69) + read("b", 40_001, 69), (), sound[:2]),
+        ("other service ports", read("a", 40_000, 41_000, service=6969), (), sound[:1]),
+        ("before and behind NAT", twice(read("a", 40_000, 41_000), C, "198.51.100.1"), (), sound[:2]),
+        ("boots hours apart", read("a", 40_000, 41_000) * 3, hours, sound),
+        (
+            "a reset in mid-boot, and the same request", reset + again, (),
+            [Row(1, "unknown", None, "incomplete after 4"),
+             Row(2, "unknown", None, "accepted get octet blocks 2 bytes 513")],
+        ),
+    )
+    for name, passed, times, rows in cases:
+        got = checked(program, file_of(passed, times))
+        status = int(any(row != WHOLE and not row.verdict.startswith("accepted") for row in rows))
+        trial.check(name, got == (rows, "", status), got)
+
+
+def replaced(it: Datagram, port: int, by: int) -> Datagram:
+    """A datagram with another port in place of the server's."""
+    source, target = (by if one == port else one for one in (it.source_port, it.target_port))
+    return dataclasses.replace(it, source_port=source, target_port=target)
+
+
+def try_live(trial: Trial, program: str) -> None:
+    """A row comes as soon as it is final, while the recording goes on."""
+    given = file_of([*read("a", 40_000, 41_000), *read("b", 40_001, 42_000)], [0.0, 0.1, 0.2, 400.0, 400.1, 400.2])
+    words = [program, "check", "--json", "-"]
+    with subprocess.Popen(words, stdin=subprocess.PIPE, stdout=subprocess.PIPE) as running:
+        assert running.stdin and running.stdout
+        running.stdin.write(given[:-1])
+        running.stdin.flush()
+        row = row_of(running.stdout.readline().decode())
+        trial.check("a row while the recording goes on", row == WHOLE and running.poll() is None, row)
+        running.stdin.write(given[-1:])
+        running.stdin.close()
+        rest = [row_of(line.decode()) for line in running.stdout]
+    holds = rest == [dataclasses.replace(WHOLE, number=2)] and running.returncode == 0
+    trial.check("the last row at the end", holds, rest)
+
+
+def texts(program: str, passed: list[Datagram], *wanted: tuple[int, str]) -> list[list[str]]:
+    """The datagrams of transfers' texts, without their payloads."""
+    got = []
+    for number, end in wanted:
+        output = said(program, ["text", str(number), end, "-"], file_of(passed))[0]
+        lines = [line for line in output.splitlines() if not line.startswith("#")]
+        got.append([line.rsplit(" ", 1)[0] for line in lines[3:-1]])
+    return got
+
+
+def try_splitting(trial: Trial, program: str) -> None:
+    """One port for transfer after transfer, strays, late datagrams, two answers, and a server on the service port."""
+    two = read("a", 40_000, 41_000) + read("a", 40_000, 42_000)
+    first = [f"out 40000 {S} 69", f"in 40000 {S} 41000", f"out 40000 {S} 41000"]
+    second = [line.replace("41000", "42000") for line in first]
+    got = texts(program, [*two[:4], two[1], *two[4:]], (1, "client"), (2, "client"))
+    wanted = [first, [second[0], first[1], *second[1:]]]
+    trial.check("a block 1 that may be the next answer", got == wanted, got)
+    got = texts(program, [*two[:4], two[2], *two[4:]], (1, "client"), (2, "client"))
+    trial.check("what is no answer stays with its transfer", got == [[*first, first[2]], second], got)
+    got = texts(program, [two[0], *two[:3]], (1, "client"))
+    trial.check("a repeated request begins no transfer", got == [[first[0], *first]], got)
+    stray = Datagram(THIRD, 41_000, C, 40_000, data(1, b"x")[0])
+    answer, at_server = (Datagram(C, 40_000, THIRD, 41_000, error(5, "stray")[0]),
+                         Datagram(THIRD, 40_000, S, 41_000, ack(1)[0]))
+    got = texts(program, [*two[:2], stray, answer, at_server, two[2]], (1, "client"), (1, "server"))
+    wanted = [[*first[:2], f"in 40000 {THIRD} 41000", f"out 40000 {THIRD} 41000", first[2]]]
+    wanted.append([f"in 69 {C} 40000", f"out 41000 {C} 40000", f"in 41000 {THIRD} 40000", f"in 41000 {C} 40000"])
+    trial.check("strays at both ends", got == wanted, got)
+    other = Datagram(S, 43_000, C, 40_000, data(1, b"hi")[0])
+    refused = Datagram(C, 40_000, S, 43_000, error(5, "other")[0])
+    got = texts(program, [two[0], two[1], other, refused, two[2]], (1, "server"))
+    trial.check("the answer with which the client went on", got == [[wanted[1][0], wanted[1][1], wanted[1][3]]], got)
+    got = texts(program, read("a", 40_000, 69), (1, "server"))
+    wanted = [[f"in 69 {C} 40000", f"out 69 {C} 40000", f"in 69 {C} 40000"]]
+    trial.check("a server on the service port", got == wanted, got)
+
+
+def try_doubts(trial: Trial, program: str) -> None:
+    """A refusal that the recording does not carry is doubtful, with the reason, and its status is 1."""
+    first, last = data(1, b"." * 512)[0], data(2, b"!")[0]
+    out, back = (C, 40_000, S, 41_000), (S, 41_000, C, 40_000)
+    asked, acked = read("a", 40_000, 41_000)[0], [Datagram(*out, ack(number)[0]) for number in (1, 2, 3)]
+    # Block 1 is repeated after block 2: at the client it came late, at the server it was sent against the lock step.
+    late = [asked, Datagram(*back, first), acked[0], Datagram(*back, last), Datagram(*back, first), acked[1]]
+    sound, unsound = "accepted get octet blocks 2 bytes 513", "refused datagram 5 rule 24 GoneBack"
+    at_one = [dataclasses.replace(it, source=S, target=S) for it in late]
+    stray = Datagram(S, 42_000, C, 40_000, data(7, b"stray")[0])
+    again = "its client had asked the same and sent nothing else since: the transfer before goes on"
+    overrun, incomplete = "refused datagram 2 rule 22 WindowOverrun", "incomplete after 3"
+    elsewhere = "where it was recorded is not known, and at the client it is incomplete after 5"
+    cases: tuple[tuple[str, list[Datagram], tuple[str, ...], list[Row], int], ...] = (
+        ("what one end clears is not blamed", late, (), [Row(1, "unknown", None, sound)], 0),
+        ("refused at the end that is named", late, ("--end", "server"), [Row(1, "server", 5, unsound)], 1),
+        ("accepted at the end that is named", late, AT_CLIENT, [Row(1, "client", None, sound)], 0),
+        ("refused at one end alone", late[:5], (), [Row(1, "unknown", 5, unsound, (elsewhere,))], 1),
+        ("both ends at one host", at_one, (), [Row(1, "client", None, sound), Row(1, "server", 5, unsound)], 1),
+        (
+            "refused at both ends by one rule", [*late[:2], acked[2]], (),
+            [Row(1, "unknown", 3, "refused datagram 3 rule 26 AckAhead")], 1,
+        ),
+        (
+            "the same request again", [*late[:2], asked, stray, acked[0]], AT_CLIENT,
+            [Row(1, "client", None, incomplete), Row(2, "client", 4, overrun, (again,))], 1,
+        ),
+    )
+    for name, passed, words, rows, status in cases:
+        got = checked(program, file_of(passed), *words)
+        trial.check(name, (got[0], got[2]) == (rows, status), got)
+    rows = checked(program, file_of(late[:5]), "--end", "server")[0]
+    trial.check("the frame of a refusal at the server", rows == [Row(1, "server", 5, unsound)], rows)
+    rows = checked(program, file_of([asked, Datagram(*back, first), Datagram(*back, last)]), "--end", "server")[0]
+    holds = [(row.frame, row.verdict) for row in rows] == [(3, "refused datagram 3 rule 22 WindowOverrun")]
+    trial.check("the frame of a refusal before the client goes on", holds, rows)
+
+
+def try_words(trial: Trial, program: str) -> None:
+    given = file_of(read("a", 40_000, 41_000))
+    for name, words, input_, told in (
+        ("no such file", ["/no/such/file"], b"", "tftp-transfers: "),
+        ("no such transfer", ["text", "2", "client", "-"], given, "there is no transfer 2: the recording has 1 to 1"),
+        ("an empty file", ["check", "-"], b"", "no recording: the file is empty"),
+        ("a text", ["-"], b"tftp-capture 1\nend client\n", "no recording: this is a capture text: tftp-audit check"),
+        ("a file of gzip", ["check", "-"], b"\x1f\x8b\x08\0" + bytes(40), "gunzip it first"),
+        ("a program", ["-"], b"\x7fELF\2\1\1" + bytes(60), "no recording: it is a program"),
+        ("zeros", ["-"], bytes(64), "no recording\n"),
+        ("three bytes", ["-"], b"\xd4\xc3\xb2", "no recording\n"),
+        ("no words", [], b"", "Usage"),
+        ("a port 0", ["--service", "0", "-"], given, "--service"),
+        ("an end that is none", ["check", "--end", "peer", "-"], given, "peer"),
+    ):
+        got = said(program, words, input_)
+        trial.check(name, got[0] == "" and told in got[1] and got[2] == 2, got)
+    output, told, status = said(program, ["--help"], b"")
+    trial.check("the help", (told, status) == ("", 0) and output.startswith("From a recording"), output)
+    request = Datagram(C, 40_000, S, 6969, read_request("a", "octet")[0][:-1])
+    other = file_of([request])
+    got = said(program, ["-", "--service", "67", "--service", "6969"], other)
+    trial.check("another service port, named", got[0].count("\n") == 2 and got[2] == 0, got)
+    got = said(program, ["-"], other)
+    trial.check("another service port, not named", got[0] == "" and "to port 6969: name the port" in got[1], got)
+    example = str(EXAMPLES / "loopback-session.pcap")
+    output, told, status = said(program, ["check", "/no/such/file", example], b"")
+    holds = output.count("\n") == 6 and "/no/such/file: No such file" in told and status == 2
+    trial.check("a file that is missing among others", holds, (output, told, status))
+
+
+def try_growths(trial: Trial, program: str, refuse: str) -> None:
+    """Each growth refused in turn: the right answer, or the rows before it and status 2; never a signal."""
+    given, folder = (EXAMPLES / "loopback-session.pcap").read_bytes(), tempfile.TemporaryDirectory()
+    met = pathlib.Path(folder.name) / "met"
+    for words in (["check", "--json", "-"], ["-"], ["text", "3", "client", "-"]):
+        right, turn = said(program, words, given), 0
+        while not turn or met.exists():
+            met.unlink(missing_ok=True)
+            turn += 1
+            env = {**os.environ, "LD_PRELOAD": refuse, "REFUSE": str(turn), "MET": str(met)}
+            done = subprocess.run([program, *words], input=given, capture_output=True, timeout=CAN_TAKE, env=env)
+            output, told = done.stdout.decode("ascii"), done.stderr.decode()
+            is_right = (output, told, done.returncode) == right
+            kept = all(it in right[0] or "memory" in it for it in output.splitlines())
+            holds = is_right if not met.exists() else is_right or done.returncode == 2 and kept
+            trial.check(f"{words}, growth {turn} refused", holds, (output, told, done.returncode))
+        trial.check(f"{words}, growths", turn > 20, turn)
+    folder.cleanup()
+
+
+def main(program: str, *refuse: str) -> int:
+    trial = Trial()
+    for one in refuse:
+        try_growths(trial, program, one)
+    for part in (
+        try_examples, try_links, try_fragments, try_losses, try_sessions, try_live, try_splitting, try_doubts, try_words,
+    ):
+        part(trial, program)
+    return trial.end()
+
+
+if __name__ == "__main__":
+    sys.exit(main(*map(os.path.abspath, sys.argv[1:])))
