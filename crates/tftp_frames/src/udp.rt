@@ -1,4 +1,4 @@
-ghost use Rattle.std.specs.Prelude.{◌≡◌, ◌↔◌, IfOk, IsOkAnd, ℕ, List, MatchOption};
+ghost use Rattle.std.specs.Prelude.{◌≡◌, ◌↔◌, ◌≤◌, IfOk, IsOkAnd, ℕ, List, MatchOption, length};
 ghost use Rattle.tftp_frames.specs.Udp.{Udp, SpellsUdp, HasUdp, HoldsUdp, JudgesUdp, datagram};
 ghost use Rattle.tftp_frames.specs.declared.fault.UdpFault.{UdpFault};
 
@@ -15,6 +15,7 @@ pub fn read_udp(protocol: u8, content: &[u8]) -> Result<UdpDatagram<'_>, UdpFaul
     ensures found { IfOk result (λ d. SpellsUdp protocol content.now (datagram d)) }
     ensures only { (d : Udp) → SpellsUdp protocol content.now d → IsOkAnd result (λ found. datagram found ≡ d) }
     ensures fault { (f : UdpFault) → (result ≡ Err f) ↔ HoldsUdp f protocol content.now }
+    ensures short { IfOk result (λ d. length d.payload.now ≤ 65527) }
 {
     judge_udp(protocol, content)
 }
@@ -39,7 +40,8 @@ fn udp_bytes(protocol: u8, content: &[u8]) -> Option<&[u8]>
 /// The datagram, or the fault.
 #[inline]
 fn judge_udp(protocol: u8, content: &[u8]) -> Result<UdpDatagram<'_>, UdpFault>
-    ensures { JudgesUdp protocol content.now result }
+    ensures judges { JudgesUdp protocol content.now result }
+    ensures short { IfOk result (λ d. length d.payload.now ≤ 65527) }
 {
     let Some(bytes) = udp_bytes(protocol, content) else {
         return Err(UdpFault::Protocol);

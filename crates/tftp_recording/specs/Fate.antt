@@ -1,5 +1,5 @@
 -- What became of a frame.
-use Rattle.std.specs.Prelude.{◌≡◌, ◌≢◌, ◌⊎◌, ℕ, List, [], Option, Some, None}
+use Rattle.std.specs.Prelude.{◌≡◌, ◌≢◌, ◌≤◌, ◌⊎◌, ℕ, List, [], length, Option, Some, None}
 use Rattle.tftp_fragments.specs.Held.{content_of as put_together}
 use Rattle.tftp_fragments.specs.Whole.{Content}
 use Rattle.tftp_fragments.specs.declared.outcome.Outcome.{Outcome}
@@ -85,3 +85,9 @@ sharers (Some (outcome.Apart frames)) = frames.items
 sharers (Some outcome.Empty) = []
 sharers (Some outcome.TooLong) = []
 sharers (Some outcome.Full) = []
+
+-- a datagram has at most 65,527 bytes: its length, of 16 bits, counts the header of 8 bytes in (RFC 768)
+abbrev pub IsShort : Fate → Type 0
+IsShort (Datagram d) = length d.payload.now ≤ 65527
+IsShort (Left why) = Unit {0}
+IsShort Waits = Unit {0}

@@ -3,7 +3,7 @@ ghost use Rattle.tftp_fragments.specs.Held.{content_of as put_together};
 ghost use Rattle.tftp_frames.specs.Parts.{shown};
 ghost use Rattle.tftp_pcap.specs.Frames.{no_frame};
 ghost use Rattle.tftp_recording.specs.Brought.{nothing_brought};
-ghost use Rattle.tftp_recording.specs.Fate.{content_of, direction_of, IsFate, IsFateOf, Says, sharers};
+ghost use Rattle.tftp_recording.specs.Fate.{content_of, direction_of, IsFate, IsFateOf, IsShort, Says, sharers};
 ghost use Rattle.tftp_recording.specs.Likeness.{is_doubtful};
 ghost use Rattle.tftp_recording.specs.declared.likeness.Likeness.{Likeness};
 
@@ -81,7 +81,8 @@ impl Event {
     /// What became of the frame. A datagram borrows its payload from the frame, or from the packet that was put together.
     #[inline]
     pub fn fate(&self) -> Fate<'_>
-        ensures { IsFateOf self.now.frame.parts self.now.likeness self.now.brought.outcome result }
+        ensures is { IsFateOf self.now.frame.parts self.now.likeness self.now.brought.outcome result }
+        ensures short { IsShort result }
     {
         match self.likeness {
             Likeness::New | Likeness::Doubtful => fate_of(&self.frame, self.brought.outcome()),
@@ -136,7 +137,8 @@ impl Event {
 /// What became of a frame, by what became of it as a fragment.
 #[inline]
 fn fate_of<'a>(frame: &'a Frame, outcome: &'a Option<Outcome>) -> Fate<'a>
-    ensures { IsFate frame.now.parts outcome.now result }
+    ensures is { IsFate frame.now.parts outcome.now result }
+    ensures short { IsShort result }
 {
     match outcome {
         None => says(frame, None),
@@ -152,7 +154,8 @@ fn fate_of<'a>(frame: &'a Frame, outcome: &'a Option<Outcome>) -> Fate<'a>
 /// What a frame says, or the packet of that content which it made whole.
 #[inline]
 fn says<'a>(frame: &'a Frame, whole: Option<&'a Content>) -> Fate<'a>
-    ensures { Says frame.now.parts (option_map (λ content. put_together content.now) whole.entry) result }
+    ensures says { Says frame.now.parts (option_map (λ content. put_together content.now) whole.entry) result }
+    ensures short { IsShort result }
 {
     let packet = match read_frame(frame.link(), frame.bytes()) {
         Ok(packet) => packet,

@@ -66,8 +66,8 @@ impl Blame {
         self.passed.push(Passed {
             blamed,
             place,
-            source: passing.source.end,
-            target: passing.target.end,
+            source: passing.source,
+            target: passing.target,
         })?;
         Ok(())
     }

@@ -108,11 +108,6 @@ impl Notes {
         }
     }
 
-    /// The time of the last datagram that has one, in nanoseconds.
-    pub fn clock(&self) -> u64 {
-        self.last_time
-    }
-
     /// Notes a datagram's time.
     pub fn pass(&mut self, frame: u64, time: Option<u64>) -> Result<(), AllocError> {
         let Some(time) = time else {
@@ -182,7 +177,7 @@ impl Notes {
 
     /// Notes a datagram of no transfer.
     pub fn leave_out(&mut self, passing: &Passing<'_>) -> Result<(), AllocError> {
-        let port = u64::from(passing.target.end.port);
+        let port = u64::from(passing.target.port);
         let is_request = matches!(passing.payload, [0, 1 | 2, _, ..]);
         if is_request && self.asked.len() < NAMED && !self.asked.contains(&port) {
             self.asked.push(port)?;

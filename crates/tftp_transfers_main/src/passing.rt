@@ -1,7 +1,6 @@
 //! A datagram of a recording.
 
-use tftp_transfers::Place;
-use tftp_views::Party;
+use tftp_transfers::{Endpoint, Place};
 
 /// A datagram as it passed in a recording.
 #[derive(Clone, Copy)]
@@ -12,8 +11,8 @@ pub struct Passing<'a> {
     pub time: Option<u64>,
     /// Whether it may be a copy of the datagram before it.
     pub is_doubtful: bool,
-    pub source: Party,
-    pub target: Party,
+    pub source: Endpoint,
+    pub target: Endpoint,
     pub payload: &'a [u8],
 }
 

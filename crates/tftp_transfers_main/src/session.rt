@@ -8,18 +8,16 @@ use anyhow::{Result, bail};
 use std::alloc::{AllocError, Global};
 use std::collections::BTreeMap;
 use tftp_ends::RingDelivered;
-use tftp_parties::party_of;
+use tftp_parties::address_of;
 use tftp_recording::{Datagram, Event, Fate};
-use tftp_recording_judge::{RecordingJudge, Watched};
-use tftp_transfers::{Attributed, AttributionFault, Place, Transfer, spells_request};
-
-/// A longer payload fits no datagram of UDP (RFC 768).
-const LONGEST: usize = 65_527;
+use tftp_recording_audit::RecordingAudit;
+use tftp_recording_judge::Watched;
+use tftp_transfers::{Attributed, AttributionFault, Endpoint, Place, Transfer};
 
 /// What a recording has: its transfers by how many datagrams came before each, and what is to be told of it.
 #[derive(Drop)]
 pub struct Session {
-    judge: RecordingJudge<RingDelivered>,
+    audit: RecordingAudit<RingDelivered>,
     trails: BTreeMap<u64, Trail>,
     /// What is to be told of the recording as a whole.
     pub notes: Notes,
@@ -38,7 +36,7 @@ impl Session {
     /// Nothing was read. Requests go to port 69 and to the ports that are named.
     pub fn new(alloc: Global, services: &[u16], kept: Kept) -> Result<Self, AllocError> {
         Ok(Session {
-            judge: RecordingJudge::new(alloc, services)?,
+            audit: RecordingAudit::new(alloc, services)?,
             trails: BTreeMap::new(alloc),
             notes: Notes::new(alloc),
             kept,
@@ -49,51 +47,42 @@ impl Session {
     pub fn take(&mut self, alloc: Global, event: &mut Event) -> Result<()> {
         self.notes.lose(event.old())?;
         self.notes.lose_all(event.take_ousted(alloc))?;
+        let found = self.place(alloc, event)?;
         match event.fate() {
-            Fate::Datagram(datagram) => self.pass(alloc, event, &datagram),
+            Fate::Datagram(datagram) => self.pass(alloc, event, &datagram, found),
             Fate::Left(why) => Ok(self.notes.leave(why, event.number(), event.sharers())?),
             Fate::Waits => Ok(self.notes.wait(event.number())?),
         }
     }
 
-    /// Takes a datagram.
-    fn pass(&mut self, alloc: Global, event: &Event, datagram: &Datagram<'_>) -> Result<()> {
-        self.notes.find(event.sharers());
-        let passing = Passing {
-            frame: event.number(),
-            time: event.time(),
-            is_doubtful: event.is_doubtful(),
-            source: party_of(datagram.source, datagram.source_port),
-            target: party_of(datagram.target, datagram.target_port),
-            payload: datagram.payload,
+    /// Where the datagram of a frame belongs, which the judges of its transfer are given.
+    fn place(&mut self, alloc: Global, event: &Event) -> Result<Option<Attributed>> {
+        match self.audit.take(alloc, event) {
+            Ok(found) => Ok(found),
+            Err(AttributionFault::Memory) => bail!("no memory"),
+            Err(AttributionFault::TooMany) => bail!("too many datagrams"),
+        }
+    }
+
+    /// Notes a datagram that has its place.
+    fn pass(
+        &mut self,
+        alloc: Global,
+        event: &Event,
+        datagram: &Datagram<'_>,
+        found: Option<Attributed>,
+    ) -> Result<()> {
+        let Some(found) = found else {
+            return Ok(());
         };
+        self.notes.find(event.sharers());
+        let passing = passing_of(event, datagram);
         self.notes.pass(passing.frame, passing.time)?;
-        let found = self.place(alloc, &passing)?;
         if let Place::Opens(transfer) = found.place {
             self.open(alloc, transfer, &passing)?;
         }
         self.kept.note(alloc, &found.place, &passing)?;
         Ok(self.follow(&found, &passing)?)
-    }
-
-    /// Where a datagram belongs, which the judges of its transfer are given.
-    fn place(&mut self, alloc: Global, passing: &Passing<'_>) -> Result<Attributed> {
-        if passing.payload.len() > LONGEST {
-            bail!("a datagram that is too long");
-        }
-        let fed = self.judge.feed(
-            alloc,
-            self.notes.clock(),
-            &passing.source,
-            &passing.target,
-            passing.payload,
-            spells_request(passing.payload),
-        );
-        match fed {
-            Ok(found) => Ok(found),
-            Err(AttributionFault::Memory) => bail!("no memory"),
-            Err(AttributionFault::TooMany) => bail!("too many datagrams"),
-        }
     }
 
     /// Keeps a transfer that a request opens.
@@ -114,7 +103,7 @@ impl Session {
         let Some(number) = about(&found.place) else {
             return self.notes.leave_out(passing);
         };
-        match (self.trails.get_mut(&number), self.judge.watched(number)) {
+        match (self.trails.get_mut(&number), self.audit.watched(number)) {
             (Some(trail), Some(watched)) => trail.take(found, passing, watched),
             _ => Ok(()),
         }
@@ -131,19 +120,15 @@ impl Session {
 
     fn is_first_over(&self) -> bool {
         match self.trails.first_key_value() {
-            Some((_, trail)) => self
-                .judge
-                .is_over(&trail.transfer.client, self.notes.clock()),
+            Some((_, trail)) => self.audit.is_over(&trail.transfer.client),
             None => false,
         }
     }
 
     /// Hands out the oldest transfer.
     pub fn pop(&mut self) -> Option<Ended> {
-        match (self.trails.pop_first(), self.judge.pop_first()) {
-            (Some((_, trail)), Some(watched)) => Some(Ended { trail, watched }),
-            _ => None,
-        }
+        let (_, trail) = self.trails.pop_first()?;
+        joined(trail, self.audit.pop_first())
     }
 
     /// The transfer with this number.
@@ -157,5 +142,31 @@ impl Session {
     /// How many transfers there are that were not handed out.
     pub fn count(&self) -> usize {
         self.trails.len()
+    }
+}
+
+/// A transfer that has ended, with its judges.
+fn joined(trail: Trail, watched: Option<Watched<RingDelivered>>) -> Option<Ended> {
+    match watched {
+        Some(watched) => Some(Ended { trail, watched }),
+        None => None,
+    }
+}
+
+/// A datagram, as it passed.
+fn passing_of<'a>(event: &Event, datagram: &Datagram<'a>) -> Passing<'a> {
+    Passing {
+        frame: event.number(),
+        time: event.time(),
+        is_doubtful: event.is_doubtful(),
+        source: Endpoint {
+            address: address_of(datagram.source),
+            port: datagram.source_port,
+        },
+        target: Endpoint {
+            address: address_of(datagram.target),
+            port: datagram.target_port,
+        },
+        payload: datagram.payload,
     }
 }

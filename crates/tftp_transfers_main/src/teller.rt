@@ -90,8 +90,9 @@ impl<'a> Teller<'a> {
         self.told = self.told.saturating_add(1);
         match self.what {
             What::List => {
-                let row = ListRow::new(rt.alloc(), self.told, &ended.trail)?;
-                self.tell_listed(rt, &row)
+                let row = ListRow::new(rt.alloc(), self.told, &ended.trail);
+                let_go(ended);
+                self.tell_listed(rt, &row?)
             }
             What::Check(end) => {
                 let judged = Judged::new(rt.alloc(), ended, lost_from)?;
@@ -182,6 +183,8 @@ impl<'a> Teller<'a> {
         put_verdict(line, row)
     }
 }
+
+fn let_go(_ended: Ended) {}
 
 /// Puts the verdict, and where it is doubtful why.
 fn put_verdict(line: &mut String, row: &VerdictRow<'_>) -> Result<(), AllocError> {

@@ -10,8 +10,8 @@ use crate::trail::Trail;
 use anyhow::{Result, bail};
 use std::alloc::{AllocError, Global};
 use tftp_packet::End;
+use tftp_parties::host_of;
 use tftp_transfers::{Endpoint, Place};
-use tftp_views::Party;
 use tftp_words::TextRequest;
 
 /// The datagrams of the transfer whose text is wanted, as they passed.
@@ -30,8 +30,8 @@ struct Written {
     frame: u64,
     time: Option<u64>,
     place: Place,
-    source: Party,
-    target: Party,
+    source: Endpoint,
+    target: Endpoint,
     payload: Vec<u8>,
 }
 
@@ -207,14 +207,14 @@ fn is_in_view(end: End, trail: &Trail, datagram: &Written) -> bool {
     match end {
         End::Client => datagram.place.transfer().is_some(),
         End::Server => {
-            trail.is_at_server(&datagram.place, datagram.source.end, datagram.target.end)
+            trail.is_at_server(&datagram.place, datagram.source, datagram.target)
         }
     }
 }
 
 /// Whether the end sent it.
 fn goes_out(end: End, trail: &Trail, datagram: &Written) -> bool {
-    let source = datagram.source.end;
+    let source = datagram.source;
     match (end, &datagram.place) {
         (End::Client, _) => source == trail.transfer.client,
         (End::Server, Place::Talks(_)) => source != trail.transfer.client,
@@ -280,12 +280,17 @@ fn put_rest(page: &mut String, nanoseconds: u64) -> Result<(), AllocError> {
 }
 
 /// Puts which way it went, the port at the end, and the other host and its port.
-fn put_ends(page: &mut String, way: &str, ours: &Party, theirs: &Party) -> Result<(), AllocError> {
+fn put_ends(
+    page: &mut String,
+    way: &str,
+    ours: &Endpoint,
+    theirs: &Endpoint,
+) -> Result<(), AllocError> {
     page.push_str(way)?;
-    put_number(page, u64::from(ours.end.port))?;
+    put_number(page, u64::from(ours.port))?;
     page.push(' ')?;
-    put_plain(page, theirs.host.bytes())?;
+    put_plain(page, host_of(&theirs.address).bytes())?;
     page.push(' ')?;
-    put_number(page, u64::from(theirs.end.port))?;
+    put_number(page, u64::from(theirs.port))?;
     page.push(' ')
 }

@@ -83,8 +83,8 @@ impl Trail {
             return Ok(());
         }
         self.blame.keep(blamed, place, passing)?;
-        let (source, target) = (passing.source.end, passing.target.end);
-        self.ends.note(&place, source, target, passing.payload);
+        self.ends
+            .note(&place, passing.source, passing.target, passing.payload);
         if self.ends.is_settled() {
             self.blame.settle(&self.ends, at_server);
         }

@@ -28,7 +28,7 @@ impl Twice {
         if self.is_broken {
             return Ok(());
         }
-        let ends = Some((passing.source.end, passing.target.end));
+        let ends = Some((passing.source, passing.target));
         if self.ends == ends && self.last.as_slice() == passing.payload {
             self.row = self.row.saturating_add(1);
             return Ok(());

@@ -3,10 +3,12 @@
 use crate::blame::Blamed;
 use crate::reasons::Doubted;
 use crate::session::Ended;
+use crate::trail::Trail;
 use std::alloc::{AllocError, Global};
 use tftp_capture::Tallied;
 use tftp_commands::{say_accepted, say_verdict};
 use tftp_judge::{Meaning, Refusal, Rule, Verdict};
+use tftp_views::Verdicts;
 
 /// What a verdict says.
 #[derive(Clone, Copy, PartialEq, Eq)]
@@ -53,10 +55,23 @@ impl Judged {
         let Ended { trail, watched } = ended;
         let doubted = trail.doubted(watched.doubts(), lost_from);
         let verdicts = watched.finish(alloc);
+        let judged = Judged::of(alloc, &trail, &verdicts, doubted);
+        let_go(trail, verdicts);
+        judged
+    }
+
+    fn of(
+        alloc: Global,
+        trail: &Trail,
+        verdicts: &Verdicts,
+        doubted: Doubted,
+    ) -> Result<Self, AllocError> {
         let at_server = trail.at_server(&verdicts.server);
+        let client = Viewed::new(alloc, &verdicts.client, trail.at_client())?;
+        let server = Viewed::new(alloc, &verdicts.server, at_server)?;
         Ok(Judged {
-            client: Viewed::new(alloc, &verdicts.client, trail.at_client())?,
-            server: Viewed::new(alloc, &verdicts.server, at_server)?,
+            client,
+            server,
             is_at_one_host: trail.is_at_one_host(),
             doubted,
         })
@@ -86,6 +101,8 @@ impl Judged {
         client.frame() == server.frame() && client.line() == server.line()
     }
 }
+
+fn let_go(_trail: Trail, _verdicts: Verdicts) {}
 
 /// Whether both are refused by one rule at one datagram.
 fn are_both_refused(one: &Viewed, other: &Viewed) -> bool {

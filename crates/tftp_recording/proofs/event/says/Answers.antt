@@ -7,8 +7,8 @@ use Rattle.tftp_frames.specs.declared.fault.UdpFault.TheVariants.{Protocol as No
 use Rattle.tftp_recording.proofs.Bringing.{holds_udp_here, spells_here, spells_udp_here}
 use Rattle.tftp_recording.proofs.event.says.Goals as goal
 
-pub returns-in-Ok-read_udp : goal.returns-in-Ok-read_udp
-returns-in-Ok-read_udp c = (
+pub returns-in-Ok-read_udp-clause-says : goal.returns-in-Ok-read_udp-clause-says
+returns-in-Ok-read_udp-clause-says c = (
   shown c.in-Ok.packet,
   datagram c.in-Ok-read_udp.udp,
   spells_here _ _ _ _ (shown c.in-Ok.packet) (sym c.link.ensures) (sym c.bytes.ensures) c.in-Ok.ensures.found,
@@ -23,8 +23,8 @@ returns-in-Ok-read_udp c = (
   },
 )
 
-pub returns-in-Err-Protocol : goal.returns-in-Err-Protocol
-returns-in-Err-Protocol c = inr (
+pub returns-in-Err-Protocol-clause-says : goal.returns-in-Err-Protocol-clause-says
+returns-in-Err-Protocol-clause-says c = inr (
   refl,
   (
     shown c.in-Ok.packet,

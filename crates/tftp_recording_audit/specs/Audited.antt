@@ -1,0 +1,34 @@
+-- What the audit of a recording keeps, and for which frames it stands. Lists have the newest first.
+use Rattle.std.specs.Prelude.{◌≡◌, ℕ, Bool, List, max}
+use Rattle.std.specs.BTreeMap.{BTreeMap}
+use Rattle.tftp_parties.specs.Naming.{host_name}
+use Rattle.tftp_recording.specs.History.{EventState, Step}
+use Rattle.tftp_recording_judge.specs.Kept.{StandsAfter, Watched}
+use Rattle.tftp_recording_audit.specs.Passed.{HasPassed, last_time}
+use Rattle.tftp_transfers.specs.declared.attribution.Attributed.{Attributed}
+use Rattle.tftp_transfers.specs.declared.attribution.Attribution.{Attribution}
+use Rattle.tftp_transfers.specs.Doubts.{doubts_of}
+use Rattle.tftp_transfers.specs.Places.{Placed, clock, place_of, placed}
+use Rattle.tftp_transfers.specs.Recording.{Recorded}
+
+-- The judges were given what these frames of a recording have given, and nothing else; each host is named by its address.
+-- `named` are the service ports that were named, `out` the numbers of the transfers that were handed out.
+pub record AuditsAfter (a : Attribution) (watched : BTreeMap ℕ Watched) (failed : Bool) (last : ℕ) (named out : List ℕ) (history : List Step) (passed : List Recorded) : Type 0 where
+  pub passed : HasPassed history passed
+  pub judges : StandsAfter a watched failed named host_name out passed
+  pub time : last ≡ last_time passed
+
+-- the frame is that of the event
+pub record IsOf (step : Step) (event : EventState) : Type 0 where
+  pub frame : step.frame ≡ event.frame.parts
+  pub likeness : step.likeness ≡ event.likeness
+  pub outcome : step.brought.outcome ≡ event.brought.outcome
+
+-- a datagram, after these
+abbrev pub placed_after : List ℕ → List Placed → Recorded → Placed
+placed_after named older d = record { datagram = d; moment = max d.time (clock older); place = place_of named older (max d.time (clock older)) d }
+
+-- where it belongs and what it makes doubtful, by the definition
+abbrev pub IsAttributed : List ℕ → List Recorded → Recorded → Attributed → Type 0
+IsAttributed named older d a =
+    (a.place ≡ (placed_after named (placed named older) d).place) × (a.doubts ≡ doubts_of (placed_after named (placed named older) d) (placed named older))

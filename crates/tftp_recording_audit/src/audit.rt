@@ -1,0 +1,147 @@
+//! The judges of a recording, given what became of each of its frames.
+
+ghost use Rattle.std.specs.Prelude.{◌≡◌, ◌≤◌, ◌+◌, ◌^◌, ◌∷◌, ◌⊎◌, ℕ, List, [], length, max, IfOk, IfSome, IsErr, IsSome, MatchBool, MatchOption, OnErr, Err, None, Some, false, true};
+ghost use Rattle.tftp_recording.specs.Fate.{IsFateOf};
+ghost use Rattle.tftp_recording.specs.History.{Step};
+ghost use Rattle.tftp_recording.specs.declared.fate.Datagram.{Datagram};
+ghost use Rattle.tftp_recording.specs.declared.fate.Fate.{Fate};
+ghost use Rattle.tftp_recording_audit.specs.Audited.{AuditsAfter, IsAttributed, IsOf};
+ghost use Rattle.tftp_recording_audit.specs.Passed.{IsTaken, last_time, time_by};
+ghost use Rattle.tftp_recording_judge.specs.Kept.{AreCrowded, IsWatching, StandsAfter, is_among, opened};
+ghost use Rattle.tftp_parties.specs.Naming.{host_name};
+ghost use Rattle.tftp_transfers.specs.declared.attribution.AttributionFault.{AttributionFault};
+ghost use Rattle.tftp_transfers.specs.Places.{clock, line, live, placed};
+ghost use Rattle.tftp_transfers.specs.Recording.{Recorded};
+
+use std::alloc::{AllocError, Global};
+use tftp_ends::Delivered;
+use tftp_parties::party_of;
+use tftp_recording::{Datagram, Event, Fate};
+use tftp_recording_judge::{RecordingJudge, Watched};
+use tftp_transfers::{Attributed, AttributionFault, Endpoint, spells_request};
+
+/// The judges of a recording's transfers, to be given what became of each of its frames, from the first to the last.
+#[derive(Drop)]
+pub struct RecordingAudit<D: Delivered + Drop> {
+    judge: RecordingJudge<D>,
+    /// The time of the last datagram, in nanoseconds.
+    last_time: u64,
+}
+
+impl<D: Delivered + Drop> RecordingAudit<D> {
+    /// No frame was read. Requests go to port 69 (RFC 1350, section 4) and to the ports that are named.
+    pub fn new(alloc: Global, named: &[u16]) -> Result<Self, AllocError>
+        ensures { IfOk result (λ a. AuditsAfter a.judge.attribution a.judge.watched a.judge.failed a.last_time named.now [] [] []) }
+    {
+        Ok(RecordingAudit {
+            judge: RecordingJudge::new(alloc, named)?,
+            last_time: 0,
+        })
+    }
+
+    /// Takes what became of the next frame. Of a datagram it answers where it belongs and what it makes doubtful; nothing of a
+    /// frame that has given none. A datagram of which the recording tells no time passes at that of the one before it. After
+    /// a fault it has failed for good.
+    pub fn take(
+        &mut self,
+        alloc: Global,
+        event: &Event,
+    ) -> Result<Option<Attributed>, AttributionFault>
+        ensures stands { (named : List ℕ) (out : List ℕ) (history : List Step) (passed : List Recorded) (step : Step)
+            → AuditsAfter self.old.judge.attribution self.old.judge.watched self.old.judge.failed self.old.last_time named out history passed
+            → IsOf step event.now
+            → IfOk result (λ found. MatchOption found
+            (AuditsAfter self.new.judge.attribution self.new.judge.watched self.new.judge.failed self.new.last_time named out (step ∷ history) passed)
+            (λ a. (d : Recorded) × IsAttributed named passed d a
+            × AuditsAfter self.new.judge.attribution self.new.judge.watched self.new.judge.failed self.new.last_time named out (step ∷ history) (d ∷ passed))) }
+        ensures spare { OnErr result ((given : Datagram) × IsFateOf event.now.frame.parts event.now.likeness event.now.brought.outcome (Fate.Datagram given)) }
+        ensures full { result ≡ Err AttributionFault.TooMany → (self.old.judge.attribution.count + 1 ≡ 2 ^ 64) ⊎ AreCrowded self.old.judge.watched }
+        ensures fails { OnErr result (self.new.judge.failed ≡ true) }
+        ensures for_good { self.old.judge.failed ≡ true → self.new.judge.failed ≡ true }
+    {
+        match event.fate() {
+            Fate::Datagram(datagram) => {
+                let found = self.feed(alloc, event.time(), &datagram)?;
+                Ok(Some(found))
+            }
+            _ => Ok(None),
+        }
+    }
+
+    /// Hands a datagram to the judges, at the time of its frame.
+    fn feed(
+        &mut self,
+        alloc: Global,
+        time: Option<u64>,
+        datagram: &Datagram<'_>,
+    ) -> Result<Attributed, AttributionFault>
+        requires short { length datagram.now.payload.now ≤ 65527 }
+        ensures stands { (named : List ℕ) (out : List ℕ) (passed : List Recorded)
+            → StandsAfter self.old.judge.attribution self.old.judge.watched self.old.judge.failed named host_name out passed
+            → self.old.last_time ≡ last_time passed
+            → IfOk result (λ a. (d : Recorded) × IsTaken datagram.now (time_by time passed) d × IsAttributed named passed d a
+            × StandsAfter self.new.judge.attribution self.new.judge.watched self.new.judge.failed named host_name out (d ∷ passed)
+            × (self.new.last_time ≡ d.time)) }
+        ensures full { result ≡ Err AttributionFault.TooMany → (self.old.judge.attribution.count + 1 ≡ 2 ^ 64) ⊎ AreCrowded self.old.judge.watched }
+        ensures fails { OnErr result (self.new.judge.failed ≡ true) }
+        ensures for_good { self.old.judge.failed ≡ true → IsErr result }
+    {
+        let time = time.unwrap_or(self.last_time);
+        let source = party_of(datagram.source, datagram.source_port);
+        let target = party_of(datagram.target, datagram.target_port);
+        let is_spelled = spells_request(datagram.payload);
+        let found = self.judge.feed(
+            alloc,
+            time,
+            &source,
+            &target,
+            datagram.payload,
+            is_spelled,
+        )?;
+        self.last_time = time;
+        Ok(found)
+    }
+
+    /// The transfer with this number, if it was opened and not handed out.
+    pub fn watched(&self, number: u64) -> Option<&Watched<D>>
+        ensures { (named : List ℕ) (out : List ℕ) (history : List Step) (passed : List Recorded)
+            → AuditsAfter self.now.judge.attribution self.now.judge.watched self.now.judge.failed self.now.last_time named out history passed
+            → MatchOption result ((opened number (placed named passed) ≡ None) ⊎ (is_among number out ≡ true))
+            (λ w. (opened number (placed named passed) ≡ Some w.now.judge.client.transfer)
+            × IsWatching w.now w.now.judge.client.transfer host_name (placed named passed)) }
+    {
+        self.judge.watched(number)
+    }
+
+    /// Hands out the transfer that was opened first of those that were not handed out.
+    pub fn pop_first(&mut self) -> Option<Watched<D>>
+        ensures all { (named : List ℕ) (out : List ℕ) (history : List Step) (passed : List Recorded)
+            → AuditsAfter self.old.judge.attribution self.old.judge.watched self.old.judge.failed self.old.last_time named out history passed
+            → result ≡ None → (n : ℕ) → (opened n (placed named passed) ≡ None) ⊎ (is_among n out ≡ true) }
+        ensures watched { (named : List ℕ) (out : List ℕ) (history : List Step) (passed : List Recorded)
+            → AuditsAfter self.old.judge.attribution self.old.judge.watched self.old.judge.failed self.old.last_time named out history passed
+            → IfSome result (λ w. (opened w.judge.client.transfer.number (placed named passed) ≡ Some w.judge.client.transfer)
+            × IsWatching w w.judge.client.transfer host_name (placed named passed)) }
+        ensures stands { (named : List ℕ) (out : List ℕ) (history : List Step) (passed : List Recorded)
+            → AuditsAfter self.old.judge.attribution self.old.judge.watched self.old.judge.failed self.old.last_time named out history passed
+            → IfSome result (λ w. AuditsAfter self.new.judge.attribution self.new.judge.watched self.new.judge.failed self.new.last_time named (w.judge.client.transfer.number ∷ out) history passed) }
+        ensures first { (named : List ℕ) (out : List ℕ) (history : List Step) (passed : List Recorded) (n : ℕ)
+            → AuditsAfter self.old.judge.attribution self.old.judge.watched self.old.judge.failed self.old.last_time named out history passed
+            → IsSome (opened n (placed named passed)) → is_among n out ≡ false
+            → IfSome result (λ w. w.judge.client.transfer.number ≤ n) }
+    {
+        self.judge.pop_first()
+    }
+
+    /// Whether no datagram of this client's joins its transfers any more: it has been silent for more than 300 s of the
+    /// recording's time, or has not begun.
+    pub fn is_over(&self, client: &Endpoint) -> bool
+        ensures { (named : List ℕ) (out : List ℕ) (history : List Step) (passed : List Recorded)
+            → AuditsAfter self.now.judge.attribution self.now.judge.watched self.now.judge.failed self.now.last_time named out history passed
+            → MatchBool result
+            (live (clock (placed named passed)) (line client.now (placed named passed)) ≡ [])
+            (live (clock (placed named passed)) (line client.now (placed named passed)) ≢ []) }
+    {
+        self.judge.is_over(client, self.last_time)
+    }
+}

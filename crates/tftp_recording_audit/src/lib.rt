@@ -1,0 +1,6 @@
+//! The audit of a recording: what became of each of its frames comes in, and the verdicts on its transfers go out.
+#![tactic(auto)]
+
+mod audit;
+
+pub use audit::RecordingAudit;
