@@ -1,5 +1,5 @@
 -- Which contents of an IP packet are a UDP datagram (RFC 768), and why others are none.
-use Rattle.std.specs.Prelude.{◌≡◌, ◌≢◌, ◌⊎◌, ◌-◌, ◌<◌, ◌≤◌, ℕ, List, length, take, drop, None, Result, MatchResult}
+use Rattle.std.specs.Prelude.{◌≡◌, ◌≢◌, ◌⊎◌, ◌-◌, ◌<◌, ◌≤◌, ℕ, List, length, take, drop, None, Result, MatchResult, slice_index}
 use Rattle.tftp_frames.specs.Number.{pair}
 use Rattle.tftp_frames.specs.Extension.{ReachesOver}
 use Rattle.tftp_frames.specs.declared.packet.UdpDatagram.{UdpDatagram}
@@ -28,6 +28,13 @@ abbrev pub SpellsUdp : ℕ → List ℕ → Udp → Type 0
 SpellsUdp protocol content udp =
     (bytes : List ℕ) × HasUdp protocol content bytes × (8 ≤ length bytes) × IsSized bytes × (pair bytes 0 ≢ 0) × (pair bytes 2 ≢ 0)
     × (udp ≡ record { source_port = pair bytes 0; target_port = pair bytes 2; payload = take (pair bytes 4 - 8) (drop 8 bytes) })
+
+-- The ports fill 16 bits and are not 0; so do the length and the header of 8 bytes that it counts in.
+pub record IsSound (d : Udp) : Type 0 where
+  pub source_port : (1 ≤ d.source_port) × (d.source_port ≤ 65535)
+  pub target_port : (1 ≤ d.target_port) × (d.target_port ≤ 65535)
+  pub bytes : (k : ℕ) → slice_index d.payload k < 256
+  pub fits : length d.payload ≤ 65527
 
 -- what each fault says of a content
 abbrev pub HoldsUdp : UdpFault → ℕ → List ℕ → Type 0

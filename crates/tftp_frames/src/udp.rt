@@ -1,5 +1,5 @@
 ghost use Rattle.std.specs.Prelude.{◌≡◌, ◌↔◌, ◌≤◌, IfOk, IsOkAnd, ℕ, List, MatchOption, length};
-ghost use Rattle.tftp_frames.specs.Udp.{Udp, SpellsUdp, HasUdp, HoldsUdp, JudgesUdp, datagram};
+ghost use Rattle.tftp_frames.specs.Udp.{Udp, IsSound, SpellsUdp, HasUdp, HoldsUdp, JudgesUdp, datagram};
 ghost use Rattle.tftp_frames.specs.declared.fault.UdpFault.{UdpFault};
 
 use crate::extension::skip_extensions;
@@ -15,7 +15,7 @@ pub fn read_udp(protocol: u8, content: &[u8]) -> Result<UdpDatagram<'_>, UdpFaul
     ensures found { IfOk result (λ d. SpellsUdp protocol content.now (datagram d)) }
     ensures only { (d : Udp) → SpellsUdp protocol content.now d → IsOkAnd result (λ found. datagram found ≡ d) }
     ensures fault { (f : UdpFault) → (result ≡ Err f) ↔ HoldsUdp f protocol content.now }
-    ensures short { IfOk result (λ d. length d.payload.now ≤ 65527) }
+    ensures sound { IfOk result (λ d. IsSound (datagram d)) }
 {
     judge_udp(protocol, content)
 }
@@ -41,7 +41,7 @@ fn udp_bytes(protocol: u8, content: &[u8]) -> Option<&[u8]>
 #[inline]
 fn judge_udp(protocol: u8, content: &[u8]) -> Result<UdpDatagram<'_>, UdpFault>
     ensures judges { JudgesUdp protocol content.now result }
-    ensures short { IfOk result (λ d. length d.payload.now ≤ 65527) }
+    ensures sound { IfOk result (λ d. IsSound (datagram d)) }
 {
     let Some(bytes) = udp_bytes(protocol, content) else {
         return Err(UdpFault::Protocol);
@@ -58,9 +58,22 @@ fn judge_udp(protocol: u8, content: &[u8]) -> Result<UdpDatagram<'_>, UdpFault>
     if source_port == 0 || target_port == 0 {
         return Err(UdpFault::Port);
     }
-    Ok(UdpDatagram {
+    let payload = bytes.split_at(8).1.split_at(length - 8).0;
+    Ok(datagram_of(source_port, target_port, payload))
+}
+
+/// The datagram of these ports, of which none is 0.
+#[inline]
+fn datagram_of(source_port: u16, target_port: u16, payload: &[u8]) -> UdpDatagram<'_>
+    requires source { 1 ≤ source_port }
+    requires target { 1 ≤ target_port }
+    requires fits { length payload.now ≤ 65527 }
+    ensures is { datagram result ≡ record { source_port = source_port; target_port = target_port; payload = payload.now } }
+    ensures sound { IsSound (datagram result) }
+{
+    UdpDatagram {
         source_port,
         target_port,
-        payload: bytes.split_at(8).1.split_at(length - 8).0,
-    })
+        payload,
+    }
 }

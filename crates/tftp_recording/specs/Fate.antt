@@ -1,5 +1,5 @@
 -- What became of a frame.
-use Rattle.std.specs.Prelude.{◌≡◌, ◌≢◌, ◌≤◌, ◌⊎◌, ℕ, List, [], length, Option, Some, None}
+use Rattle.std.specs.Prelude.{◌≡◌, ◌≢◌, ◌⊎◌, ℕ, List, [], Option, Some, None}
 use Rattle.tftp_fragments.specs.Held.{content_of as put_together}
 use Rattle.tftp_fragments.specs.Whole.{Content}
 use Rattle.tftp_fragments.specs.declared.outcome.Outcome.{Outcome}
@@ -7,7 +7,7 @@ use Rattle.tftp_fragments.specs.declared.outcome.Outcome.TheVariants as outcome
 use Rattle.tftp_frames.specs.Faults.{FirstFault}
 use Rattle.tftp_frames.specs.Frame.{SpellsFrame}
 use Rattle.tftp_frames.specs.Ip.{Packet}
-use Rattle.tftp_frames.specs.Udp.{Udp, HoldsUdp, SpellsUdp}
+use Rattle.tftp_frames.specs.Udp.{Udp, HoldsUdp, IsSound, SpellsUdp}
 use Rattle.tftp_frames.specs.declared.fault.FrameFault.TheVariants.{Protocol}
 use Rattle.tftp_frames.specs.declared.fault.UdpFault.{UdpFault}
 use Rattle.tftp_frames.specs.declared.fault.UdpFault.TheVariants.{Protocol as NotUdp}
@@ -86,8 +86,8 @@ sharers (Some outcome.Empty) = []
 sharers (Some outcome.TooLong) = []
 sharers (Some outcome.Full) = []
 
--- a datagram has at most 65,527 bytes: its length, of 16 bits, counts the header of 8 bytes in (RFC 768)
-abbrev pub IsShort : Fate → Type 0
-IsShort (Datagram d) = length d.payload.now ≤ 65527
-IsShort (Left why) = Unit {0}
-IsShort Waits = Unit {0}
+-- the ports and the payload of a datagram are sound
+abbrev pub IsSoundFate : Fate → Type 0
+IsSoundFate (Datagram d) = IsSound (record { source_port = d.source_port; target_port = d.target_port; payload = d.payload.now })
+IsSoundFate (Left why) = Unit {0}
+IsSoundFate Waits = Unit {0}

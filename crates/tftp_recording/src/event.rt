@@ -3,7 +3,7 @@ ghost use Rattle.tftp_fragments.specs.Held.{content_of as put_together};
 ghost use Rattle.tftp_frames.specs.Parts.{shown};
 ghost use Rattle.tftp_pcap.specs.Frames.{no_frame};
 ghost use Rattle.tftp_recording.specs.Brought.{nothing_brought};
-ghost use Rattle.tftp_recording.specs.Fate.{content_of, direction_of, IsFate, IsFateOf, IsShort, Says, sharers};
+ghost use Rattle.tftp_recording.specs.Fate.{content_of, direction_of, IsFate, IsFateOf, IsSoundFate, Says, sharers};
 ghost use Rattle.tftp_recording.specs.Likeness.{is_doubtful};
 ghost use Rattle.tftp_recording.specs.declared.likeness.Likeness.{Likeness};
 
@@ -82,7 +82,7 @@ impl Event {
     #[inline]
     pub fn fate(&self) -> Fate<'_>
         ensures is { IsFateOf self.now.frame.parts self.now.likeness self.now.brought.outcome result }
-        ensures short { IsShort result }
+        ensures sound { IsSoundFate result }
     {
         match self.likeness {
             Likeness::New | Likeness::Doubtful => fate_of(&self.frame, self.brought.outcome()),
@@ -138,7 +138,7 @@ impl Event {
 #[inline]
 fn fate_of<'a>(frame: &'a Frame, outcome: &'a Option<Outcome>) -> Fate<'a>
     ensures is { IsFate frame.now.parts outcome.now result }
-    ensures short { IsShort result }
+    ensures sound { IsSoundFate result }
 {
     match outcome {
         None => says(frame, None),
@@ -155,7 +155,7 @@ fn fate_of<'a>(frame: &'a Frame, outcome: &'a Option<Outcome>) -> Fate<'a>
 #[inline]
 fn says<'a>(frame: &'a Frame, whole: Option<&'a Content>) -> Fate<'a>
     ensures says { Says frame.now.parts (option_map (λ content. put_together content.now) whole.entry) result }
-    ensures short { IsShort result }
+    ensures sound { IsSoundFate result }
 {
     let packet = match read_frame(frame.link(), frame.bytes()) {
         Ok(packet) => packet,

@@ -1,0 +1,13 @@
+-- The clock of what has passed.
+use Rattle.std.proofs.Common.{◌≡◌, ℕ, max, List, [], ◌∷◌, refl}
+use Rattle.tftp_recording_audit.specs.Passed.{last_time}
+use Rattle.tftp_transfers.specs.Places.{clock, placed}
+use Rattle.tftp_transfers.specs.Recording.{Recorded}
+
+later_of : (a b : ℕ) → max a (max a b) ≡ max a b
+later_of a b = omega arith
+
+-- it is not before the time of the last datagram
+pub clock_stays : (named : List ℕ) (passed : List Recorded) → max (last_time passed) (clock (placed named passed)) ≡ clock (placed named passed)
+clock_stays named [] = refl
+clock_stays named (d ∷ older) = later_of d.time (clock (placed named older))
