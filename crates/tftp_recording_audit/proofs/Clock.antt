@@ -1,5 +1,5 @@
 -- The clock of what has passed.
-use Rattle.std.proofs.Common.{◌≡◌, ℕ, max, List, [], ◌∷◌, refl}
+use Rattle.std.proofs.Common.{◌≡◌, ℕ, max, List, [], ◌∷◌, refl, arith}
 use Rattle.tftp_recording_audit.specs.Passed.{last_time}
 use Rattle.tftp_transfers.specs.Places.{clock, placed}
 use Rattle.tftp_transfers.specs.Recording.{Recorded}

@@ -1,1 +1,2 @@
 mod Clock
+mod Taking

@@ -14,7 +14,7 @@ use Rattle.tftp_transfers.specs.Recording.{Recorded}
 -- The judges were given what these frames of a recording have given, and nothing else; each host is named by its address.
 -- `named` are the service ports that were named, `out` the numbers of the transfers that were handed out.
 pub record AuditsAfter (a : Attribution) (watched : BTreeMap ℕ Watched) (failed : Bool) (last : ℕ) (named out : List ℕ) (history : List Step) (passed : List Recorded) : Type 0 where
-  pub passed : HasPassed history passed
+  pub frames : HasPassed history passed
   pub judges : StandsAfter a watched failed named host_name out passed
   pub time : last ≡ last_time passed
 

@@ -30,8 +30,8 @@ time_by (Some time) older = time
 time_by None older = last_time older
 
 -- the datagram that was read, as the judges take it
-pub record IsTaken (given : Given) (time : ℕ) (d : Recorded) : Type 0 where
-  pub time : d.time ≡ time
+pub record IsTaken (given : Given) (moment : ℕ) (d : Recorded) : Type 0 where
+  pub time : d.time ≡ moment
   pub source : d.source ≡ end_of given.source given.source_port
   pub target : d.target ≡ end_of given.target given.target_port
   pub payload : d.payload ≡ given.payload.now

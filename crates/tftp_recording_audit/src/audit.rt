@@ -1,6 +1,6 @@
 //! The judges of a recording, given what became of each of its frames.
 
-ghost use Rattle.std.specs.Prelude.{◌≡◌, ◌≤◌, ◌+◌, ◌^◌, ◌∷◌, ◌⊎◌, ℕ, List, [], length, max, IfOk, IfSome, IsErr, IsSome, MatchBool, MatchOption, OnErr, Err, None, Some, false, true};
+ghost use Rattle.std.specs.Prelude.{◌≡◌, ◌≤◌, ◌+◌, ◌^◌, ◌∷◌, ◌⊎◌, ℕ, List, [], length, max, IfOk, IfSome, IsErr, IsSome, MatchBool, MatchOption, OnErr, Err, None, Some, false, true, ◌≢◌};
 ghost use Rattle.tftp_recording.specs.Fate.{IsFateOf};
 ghost use Rattle.tftp_recording.specs.History.{Step};
 ghost use Rattle.tftp_recording.specs.declared.fate.Datagram.{Datagram};
@@ -90,14 +90,7 @@ impl<D: Delivered + Drop> RecordingAudit<D> {
         let source = party_of(datagram.source, datagram.source_port);
         let target = party_of(datagram.target, datagram.target_port);
         let is_spelled = spells_request(datagram.payload);
-        let found = self.judge.feed(
-            alloc,
-            time,
-            &source,
-            &target,
-            datagram.payload,
-            is_spelled,
-        )?;
+        let found = self.judge.feed(alloc, time, &source, &target, datagram.payload, is_spelled)?;
         self.last_time = time;
         Ok(found)
     }
