@@ -1,5 +1,5 @@
 -- What a frame adds to what has passed.
-use Rattle.std.proofs.Common.{◌≡◌, ℕ, List, Option, Some, None, refl, sym, subst}
+use Rattle.std.proofs.Common.{◌≡◌, ◌≢◌, ℕ, List, ◌∷◌, Result, Ok, Err, Option, Some, None, refl, sym, subst}
 use Rattle.std.specs.Option.{unwrap_or}
 use Rattle.std.specs.Prelude.{IfSome}
 use Rattle.tftp_fragments.specs.declared.outcome.Outcome.{Outcome}
@@ -8,7 +8,12 @@ use Rattle.tftp_recording.specs.Fate.{IsFateOf}
 use Rattle.tftp_recording.specs.History.{EventState, Step}
 use Rattle.tftp_recording.specs.declared.fate.Fate.{Fate}
 use Rattle.tftp_recording.specs.declared.likeness.Likeness.{Likeness}
-use Rattle.tftp_recording_audit.specs.Audited.{IsOf}
+use Rattle.tftp_pcap.specs.declared.fault.PcapFault.{PcapFault}
+use Rattle.tftp_recording_audit.specs.Audited.{GoesOn, IsNoted, IsOf}
+use Rattle.tftp_recording_audit.specs.declared.next.AuditFault.{AuditFault}
+use Rattle.tftp_recording_audit.specs.declared.next.AuditFault.TheVariants.{Recording, Judges}
+use Rattle.tftp_recording_audit.specs.declared.next.NextFrame.{NextFrame}
+use Rattle.tftp_recording_audit.specs.declared.next.NextFrame.TheVariants.{End, Nothing, Datagram}
 use Rattle.tftp_recording_audit.specs.Passed.{last_time, time_by}
 use Rattle.tftp_transfers.specs.Recording.{Recorded}
 
@@ -29,3 +34,13 @@ fate_here step e fate of is =
 pub if_some : {X : Type 0} (P Q : X → Type 0) (found : Option X) → ((x : X) → P x → Q x) → IfSome found P → IfSome found Q
 if_some P Q None more known = known
 if_some P Q (Some x) more known = more x known
+
+-- what was noted of a frame that was read goes on what was read
+pub noted_goes_on : (Reads : List Step → Type 0) (Stand : List Step → List Recorded → Type 0) (named : List ℕ) (history : List Step) (passed : List Recorded) (step : Step)
+    (result : Result NextFrame AuditFault) → Reads (step ∷ history) → result ≢ Ok End → ((fault : PcapFault) → result ≢ Err (Recording fault))
+    → IsNoted (Stand (step ∷ history)) named passed result → GoesOn (λ frames datagrams. Reads frames × Stand frames datagrams) named history passed result
+noted_goes_on Reads Stand named history passed step (Ok End) read no_end no_stop noted = absurd (no_end refl)
+noted_goes_on Reads Stand named history passed step (Ok Nothing) read no_end no_stop noted = (step, (read, noted))
+noted_goes_on Reads Stand named history passed step (Ok (Datagram a)) read no_end no_stop noted = (step, noted.0, noted.1, (read, noted.2))
+noted_goes_on Reads Stand named history passed step (Err (Recording fault)) read no_end no_stop noted = absurd (no_stop fault refl)
+noted_goes_on Reads Stand named history passed step (Err (Judges fault)) read no_end no_stop noted = tt

@@ -1,10 +1,14 @@
 -- What the audit of a recording keeps, and for which frames it stands. Lists have the newest first.
-use Rattle.std.specs.Prelude.{◌≡◌, ℕ, Bool, List, max}
+use Rattle.std.specs.Prelude.{◌≡◌, ◌∷◌, ℕ, Bool, List, max, Result, Ok, Err}
 use Rattle.std.specs.BTreeMap.{BTreeMap}
 use Rattle.tftp_parties.specs.Naming.{host_name}
 use Rattle.tftp_recording.specs.History.{EventState, Step}
 use Rattle.tftp_recording_judge.specs.Kept.{StandsAfter, Watched}
 use Rattle.tftp_recording_audit.specs.Passed.{HasPassed, last_time}
+use Rattle.tftp_recording_audit.specs.declared.next.AuditFault.{AuditFault}
+use Rattle.tftp_recording_audit.specs.declared.next.AuditFault.TheVariants.{Recording, Judges}
+use Rattle.tftp_recording_audit.specs.declared.next.NextFrame.{NextFrame}
+use Rattle.tftp_recording_audit.specs.declared.next.NextFrame.TheVariants.{End, Nothing, Datagram}
 use Rattle.tftp_transfers.specs.declared.attribution.Attributed.{Attributed}
 use Rattle.tftp_transfers.specs.declared.attribution.Attribution.{Attribution}
 use Rattle.tftp_transfers.specs.Doubts.{doubts_of}
@@ -32,3 +36,20 @@ placed_after named older d = record { datagram = d; moment = max d.time (clock o
 abbrev pub IsAttributed : List ℕ → List Recorded → Recorded → Attributed → Type 0
 IsAttributed named older d a =
     (a.place ≡ (placed_after named (placed named older) d).place) × (a.doubts ≡ doubts_of (placed_after named (placed named older) d) (placed named older))
+
+-- ---- the next frame
+
+-- What stands of what has passed, by what was noted of a frame. A fault of the judges leaves nothing.
+abbrev pub IsNoted : (List Recorded → Type 0) → List ℕ → List Recorded → Result NextFrame AuditFault → Type 0
+IsNoted Stand named passed (Ok End) = Unit {0}
+IsNoted Stand named passed (Ok Nothing) = Stand passed
+IsNoted Stand named passed (Ok (Datagram a)) = (d : Recorded) × IsAttributed named passed d a × Stand (d ∷ passed)
+IsNoted Stand named passed (Err fault) = Unit {0}
+
+-- What stands of the frames that were read and of what has passed, by the answer.
+abbrev pub GoesOn : (List Step → List Recorded → Type 0) → List ℕ → List Step → List Recorded → Result NextFrame AuditFault → Type 0
+GoesOn Stand named history passed (Ok End) = Stand history passed
+GoesOn Stand named history passed (Ok Nothing) = (step : Step) × Stand (step ∷ history) passed
+GoesOn Stand named history passed (Ok (Datagram a)) = (step : Step) × (d : Recorded) × IsAttributed named passed d a × Stand (step ∷ history) (d ∷ passed)
+GoesOn Stand named history passed (Err (Recording fault)) = Stand history passed
+GoesOn Stand named history passed (Err (Judges fault)) = Unit {0}

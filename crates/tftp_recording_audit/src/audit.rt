@@ -1,11 +1,16 @@
 //! The judges of a recording, given what became of each of its frames.
 
-ghost use Rattle.std.specs.Prelude.{◌≡◌, ◌≤◌, ◌+◌, ◌^◌, ◌∷◌, ◌⊎◌, ℕ, List, [], length, max, IfOk, IfSome, IsErr, IsSome, MatchBool, MatchOption, OnErr, Err, None, Some, false, true, ◌≢◌};
+ghost use Rattle.std.specs.Prelude.{◌≡◌, ◌≤◌, ◌+◌, ◌++◌, ◌^◌, ◌∷◌, ◌⊎◌, ℕ, List, [], length, max, IfOk, IfSome, IsErr, IsSome, MatchBool, MatchOption, OnErr, Ok, Err, None, Some, false, true, ◌≢◌};
+ghost use Rattle.std.specs.Io.KnownBytes.{Consumes, prepend_known};
+ghost use Rattle.tftp_pcap.specs.declared.fault.PcapFault.{PcapFault};
+ghost use Rattle.tftp_pcap.specs.declared.standing.Standing.{Standing};
 ghost use Rattle.tftp_recording.specs.Fate.{IsFateOf};
-ghost use Rattle.tftp_recording.specs.History.{Step};
+ghost use Rattle.tftp_recording.specs.History.{StandsFor, Step, standing_of};
 ghost use Rattle.tftp_recording.specs.declared.fate.Datagram.{Datagram};
 ghost use Rattle.tftp_recording.specs.declared.fate.Fate.{Fate};
-ghost use Rattle.tftp_recording_audit.specs.Audited.{AuditsAfter, IsAttributed, IsOf};
+ghost use Rattle.tftp_recording_audit.specs.Audited.{AuditsAfter, GoesOn, IsAttributed, IsNoted, IsOf};
+ghost use Rattle.tftp_recording_audit.specs.declared.next.AuditFault.{AuditFault};
+ghost use Rattle.tftp_recording_audit.specs.declared.next.NextFrame.{NextFrame};
 ghost use Rattle.tftp_recording_audit.specs.Passed.{IsTaken, last_time, time_by};
 ghost use Rattle.tftp_recording_judge.specs.Kept.{AreCrowded, IsWatching, StandsAfter, is_among, opened};
 ghost use Rattle.tftp_parties.specs.Naming.{host_name};
@@ -13,10 +18,13 @@ ghost use Rattle.tftp_transfers.specs.declared.attribution.AttributionFault.{Att
 ghost use Rattle.tftp_transfers.specs.Places.{clock, line, live, placed};
 ghost use Rattle.tftp_transfers.specs.Recording.{Recorded};
 
+use crate::next::{AuditFault, NextFrame};
 use std::alloc::{AllocError, Global};
+use std::io::Read;
+use tftp_capture::Tallied;
 use tftp_ends::Delivered;
 use tftp_parties::party_of;
-use tftp_recording::{Datagram, Event, Fate};
+use tftp_recording::{Datagram, Event, Fate, RecordingReader};
 use tftp_recording_judge::{RecordingJudge, Watched};
 use tftp_transfers::{Attributed, AttributionFault, Endpoint, spells_request};
 
@@ -65,6 +73,49 @@ impl<D: Delivered + Drop> RecordingAudit<D> {
                 Ok(Some(found))
             }
             _ => Ok(None),
+        }
+    }
+
+    /// Reads the next frame of a recording, and takes what became of it, which the event then holds.
+    pub fn next_into<R: Read>(
+        &mut self,
+        alloc: Global,
+        reader: &mut Tallied<R>,
+        recording: &mut RecordingReader,
+        event: &mut Event,
+    ) -> Result<NextFrame, AuditFault>
+        ensures continues { (named : List ℕ) (out : List ℕ) (bytes : List ℕ) (history : List Step) (passed : List Recorded)
+            → StandsFor recording.old bytes history
+            → AuditsAfter self.old.judge.attribution self.old.judge.watched self.old.judge.failed self.old.last_time named out history passed
+            → (taken : List ℕ)
+            × Consumes (prepend_known recording.old.frames.pieces.ahead (R.remaining reader.old.0)) (prepend_known recording.new.frames.pieces.ahead (R.remaining reader.new.0)) taken
+            × GoesOn (λ frames datagrams. StandsFor recording.new (bytes ++ taken) frames
+            × AuditsAfter self.new.judge.attribution self.new.judge.watched self.new.judge.failed self.new.last_time named out frames datagrams) named history passed result }
+        ensures ends { result ≡ Ok NextFrame.End → standing_of recording.new ≡ Standing.Over }
+        ensures stops { (fault : PcapFault) → result ≡ Err (AuditFault.Recording fault) → standing_of recording.new ≡ Standing.Failed fault }
+        ensures fails { (fault : AttributionFault) → result ≡ Err (AuditFault.Judges fault) → self.new.judge.failed ≡ true }
+    {
+        match recording.next_into(alloc, reader, event) {
+            Ok(true) => self.note(alloc, event),
+            Ok(false) => Ok(NextFrame::End),
+            Err(fault) => Err(AuditFault::Recording(fault)),
+        }
+    }
+
+    /// Takes what became of a frame that was read.
+    fn note(&mut self, alloc: Global, event: &Event) -> Result<NextFrame, AuditFault>
+        ensures stands { (named : List ℕ) (out : List ℕ) (history : List Step) (passed : List Recorded) (step : Step)
+            → AuditsAfter self.old.judge.attribution self.old.judge.watched self.old.judge.failed self.old.last_time named out history passed
+            → IsOf step event.now
+            → IsNoted (λ datagrams. AuditsAfter self.new.judge.attribution self.new.judge.watched self.new.judge.failed self.new.last_time named out (step ∷ history) datagrams) named passed result }
+        ensures no_end { result ≢ Ok NextFrame.End }
+        ensures no_stop { (fault : PcapFault) → result ≢ Err (AuditFault.Recording fault) }
+        ensures fails { OnErr result (self.new.judge.failed ≡ true) }
+    {
+        match self.take(alloc, event) {
+            Ok(Some(found)) => Ok(NextFrame::Datagram(found)),
+            Ok(None) => Ok(NextFrame::Nothing),
+            Err(fault) => Err(AuditFault::Judges(fault)),
         }
     }
 

@@ -2,5 +2,7 @@
 #![tactic(auto)]
 
 mod audit;
+mod next;
 
 pub use audit::RecordingAudit;
+pub use next::{AuditFault, NextFrame};

@@ -44,16 +44,6 @@ fn begin<R: Read>(alloc: Global, reader: &mut Tallied<R>) -> Result<RecordingRea
     RecordingReader::begin(alloc, reader)
 }
 
-/// Reads to the next frame of which something is known, and answers whether there is one.
-fn next<R: Read>(
-    alloc: Global,
-    reader: &mut Tallied<R>,
-    recording: &mut RecordingReader,
-    event: &mut Event,
-) -> Result<bool, PcapFault> {
-    recording.next_into(alloc, reader, event)
-}
-
 fn refuse_file<R: Drop>(fault: &PcapFault, file: Headed<R>) -> Result<()> {
     refuse(fault, file.head())
 }
@@ -98,31 +88,10 @@ fn read_frames<R: Read>(
     teller: &mut Teller<'_>,
 ) -> Result<()> {
     for _ in 0..u64::MAX {
-        let is_read = next(rt.alloc(), reader, recording, event);
-        if !take(rt.alloc(), is_read, event, session)? {
+        if !session.next(rt.alloc(), reader, recording, event)? {
             return Ok(());
         }
         teller.tell_over(rt, session)?;
     }
     Ok(())
-}
-
-/// Takes what became of a frame, and answers whether the recording goes on.
-fn take(
-    alloc: Global,
-    is_read: Result<bool, PcapFault>,
-    event: &mut Event,
-    session: &mut Session,
-) -> Result<bool> {
-    match is_read {
-        Ok(true) => {
-            session.take(alloc, event)?;
-            Ok(true)
-        }
-        Ok(false) => Ok(false),
-        Err(fault) => {
-            session.notes.fault = Some(fault);
-            Ok(false)
-        }
-    }
 }

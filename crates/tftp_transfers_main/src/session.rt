@@ -7,10 +7,12 @@ use crate::trail::Trail;
 use anyhow::{Result, bail};
 use std::alloc::{AllocError, Global};
 use std::collections::BTreeMap;
+use std::io::Read;
+use tftp_capture::Tallied;
 use tftp_ends::RingDelivered;
 use tftp_parties::address_of;
-use tftp_recording::{Datagram, Event, Fate};
-use tftp_recording_audit::RecordingAudit;
+use tftp_recording::{Datagram, Event, Fate, RecordingReader};
+use tftp_recording_audit::{AuditFault, NextFrame, RecordingAudit};
 use tftp_recording_judge::Watched;
 use tftp_transfers::{Attributed, AttributionFault, Endpoint, Place, Transfer};
 
@@ -43,25 +45,41 @@ impl Session {
         })
     }
 
-    /// Takes what became of a frame.
-    pub fn take(&mut self, alloc: Global, event: &mut Event) -> Result<()> {
-        self.notes.lose(event.old())?;
-        self.notes.lose_all(event.take_ousted(alloc))?;
-        let found = self.place(alloc, event)?;
-        match event.fate() {
-            Fate::Datagram(datagram) => self.pass(alloc, event, &datagram, found),
-            Fate::Left(why) => Ok(self.notes.leave(why, event.number(), event.sharers())?),
-            Fate::Waits => Ok(self.notes.wait(event.number())?),
+    /// Reads the next frame and takes what became of it; whether the recording goes on.
+    pub fn next<R: Read>(
+        &mut self,
+        alloc: Global,
+        reader: &mut Tallied<R>,
+        recording: &mut RecordingReader,
+        event: &mut Event,
+    ) -> Result<bool> {
+        match self.audit.next_into(alloc, reader, recording, event) {
+            Ok(NextFrame::End) => Ok(false),
+            Ok(NextFrame::Nothing) => self.take(alloc, event, None),
+            Ok(NextFrame::Datagram(found)) => self.take(alloc, event, Some(found)),
+            Err(AuditFault::Recording(fault)) => {
+                self.notes.fault = Some(fault);
+                Ok(false)
+            }
+            Err(AuditFault::Judges(fault)) => refuse(fault),
         }
     }
 
-    /// Where the datagram of a frame belongs, which the judges of its transfer are given.
-    fn place(&mut self, alloc: Global, event: &Event) -> Result<Option<Attributed>> {
-        match self.audit.take(alloc, event) {
-            Ok(found) => Ok(found),
-            Err(AttributionFault::Memory) => bail!("no memory"),
-            Err(AttributionFault::TooMany) => bail!("too many datagrams"),
+    /// Takes what became of a frame, and where its datagram belongs.
+    fn take(
+        &mut self,
+        alloc: Global,
+        event: &mut Event,
+        found: Option<Attributed>,
+    ) -> Result<bool> {
+        self.notes.lose(event.old())?;
+        self.notes.lose_all(event.take_ousted(alloc))?;
+        match event.fate() {
+            Fate::Datagram(datagram) => self.pass(alloc, event, &datagram, found)?,
+            Fate::Left(why) => self.notes.leave(why, event.number(), event.sharers())?,
+            Fate::Waits => self.notes.wait(event.number())?,
         }
+        Ok(true)
     }
 
     /// Notes a datagram that has its place.
@@ -142,6 +160,14 @@ impl Session {
     /// How many transfers there are that were not handed out.
     pub fn count(&self) -> usize {
         self.trails.len()
+    }
+}
+
+/// The judges take no datagram any more.
+fn refuse(fault: AttributionFault) -> Result<bool> {
+    match fault {
+        AttributionFault::Memory => bail!("no memory"),
+        AttributionFault::TooMany => bail!("too many datagrams"),
     }
 }
 

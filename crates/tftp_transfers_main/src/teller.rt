@@ -89,17 +89,30 @@ impl<'a> Teller<'a> {
     fn tell(&mut self, rt: HostRuntime, ended: Ended, lost_from: Option<u64>) -> Result<()> {
         self.told = self.told.saturating_add(1);
         match self.what {
-            What::List => {
-                let row = ListRow::new(rt.alloc(), self.told, &ended.trail);
+            What::List => self.tell_request(rt, ended),
+            What::Check(end) => self.tell_verdict(rt, ended, lost_from, end),
+            What::Text => {
                 let_go(ended);
-                self.tell_listed(rt, &row?)
+                Ok(())
             }
-            What::Check(end) => {
-                let judged = Judged::new(rt.alloc(), ended, lost_from)?;
-                self.tell_judged(rt, &judged, end)
-            }
-            What::Text => Ok(()),
         }
+    }
+
+    fn tell_request(&mut self, rt: HostRuntime, ended: Ended) -> Result<()> {
+        let row = ListRow::new(rt.alloc(), self.told, &ended.trail);
+        let_go(ended);
+        self.tell_listed(rt, &row?)
+    }
+
+    fn tell_verdict(
+        &mut self,
+        rt: HostRuntime,
+        ended: Ended,
+        lost_from: Option<u64>,
+        end: Option<End>,
+    ) -> Result<()> {
+        let judged = Judged::new(rt.alloc(), ended, lost_from)?;
+        self.tell_judged(rt, &judged, end)
     }
 
     /// Tells what a transfer's request asks for.

@@ -206,9 +206,7 @@ fn word_of(end: End) -> &'static str {
 fn is_in_view(end: End, trail: &Trail, datagram: &Written) -> bool {
     match end {
         End::Client => datagram.place.transfer().is_some(),
-        End::Server => {
-            trail.is_at_server(&datagram.place, datagram.source, datagram.target)
-        }
+        End::Server => { trail.is_at_server(&datagram.place, datagram.source, datagram.target) }
     }
 }
 
