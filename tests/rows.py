@@ -21,14 +21,15 @@ from collections.abc import Sequence
 
 import recorded
 from captures import ack, data, error, read_request
-from judged import CAN_TAKE, Row, checked, packet_of, row_of, said
+from judged import CAN_TAKE, Row, checked, row_of, said
 from loopback import CASES, are_wanted
+from made import (
+    C_6, S_6, THIRD, C, S, asked_again, at, at_one_host, file_of, file_of_packets, framed, late_block, packets_of, read,
+)
 from recorded import Datagram, Fragment, Frame, Interface
 from trial import Trial
 
 EXAMPLES = pathlib.Path(__file__).resolve().parent.parent / "examples"
-C, S, THIRD = "192.0.2.7", "192.0.2.1", "192.0.2.9"
-C_6, S_6 = "2001:db8::7", "2001:db8::1"
 LISTED = """number client server kind mode file options datagrams frames
 1 192.0.2.1:34056 192.0.2.1:51973 get octet "boot.cfg" - 7 1-7
 2 192.0.2.1:34056 192.0.2.1:54848 get octet "boot.cfg" - 7 8-14
@@ -39,39 +40,6 @@ LISTED = """number client server kind mode file options datagrams frames
 SOUND = "accepted get octet blocks 1 bytes 2"
 WHOLE = Row(1, "unknown", None, SOUND)
 AT_CLIENT = ("--end", "client")
-SECOND = 1_000_000_000
-
-
-def at(second: float) -> int:
-    """A time in nanoseconds since 1970."""
-    return recorded.FIRST_TIME + round(second * SECOND)
-
-
-def framed(packets: Sequence[bytes], times: Sequence[float] = (), link: int = recorded.RAW) -> list[Frame]:
-    """Frames of these packets, a millisecond after one another where no times are given."""
-    return [Frame(link, packet, at(times[place] if times else place / 1000)) for place, packet in enumerate(packets)]
-
-
-def packets_of(passed: Sequence[Datagram]) -> list[bytes]:
-    return [packet_of(it, number) for number, it in enumerate(passed)]
-
-
-def file_of(passed: Sequence[Datagram], times: Sequence[float] = ()) -> bytes:
-    return recorded.pcap(framed(packets_of(passed), times), is_nano=True)
-
-
-def file_of_packets(packets: Sequence[bytes]) -> bytes:
-    return recorded.pcap(framed(packets), is_nano=True)
-
-
-def read(
-    file: str, client: int, server: int, hosts: tuple[str, str] = (C, S), service: int = 69, content: bytes = b"hi"
-) -> list[Datagram]:
-    """A read of a file in one block."""
-    mine, theirs = hosts
-    request = Datagram(mine, client, theirs, service, read_request(file, "octet")[0])
-    block = Datagram(theirs, server, mine, client, data(1, content)[0])
-    return [request, block, Datagram(mine, client, theirs, server, ack(1)[0])]
 
 
 def table_of(*ends: list[Row]) -> list[list[str]]:
@@ -301,14 +269,8 @@ def try_splitting(trial: Trial, program: str) -> None:
 
 def try_doubts(trial: Trial, program: str) -> None:
     """A refusal that the recording does not carry is doubtful, with the reason, and its status is 1."""
-    first, last = data(1, b"." * 512)[0], data(2, b"!")[0]
-    out, back = (C, 40_000, S, 41_000), (S, 41_000, C, 40_000)
-    asked, acked = read("a", 40_000, 41_000)[0], [Datagram(*out, ack(number)[0]) for number in (1, 2, 3)]
-    # Block 1 is repeated after block 2: at the client it came late, at the server it was sent against the lock step.
-    late = [asked, Datagram(*back, first), acked[0], Datagram(*back, last), Datagram(*back, first), acked[1]]
+    late, ahead = late_block(), Datagram(C, 40_000, S, 41_000, ack(3)[0])
     sound, unsound = "accepted get octet blocks 2 bytes 513", "refused datagram 5 rule 24 GoneBack"
-    at_one = [dataclasses.replace(it, source=S, target=S) for it in late]
-    stray = Datagram(S, 42_000, C, 40_000, data(7, b"stray")[0])
     again = "its client had asked the same and sent nothing else since: the transfer before goes on"
     overrun, incomplete = "refused datagram 2 rule 22 WindowOverrun", "incomplete after 3"
     elsewhere = "where it was recorded is not known, and at the client it is incomplete after 5"
@@ -317,13 +279,13 @@ def try_doubts(trial: Trial, program: str) -> None:
         ("refused at the end that is named", late, ("--end", "server"), [Row(1, "server", 5, unsound)], 1),
         ("accepted at the end that is named", late, AT_CLIENT, [Row(1, "client", None, sound)], 0),
         ("refused at one end alone", late[:5], (), [Row(1, "unknown", 5, unsound, (elsewhere,))], 1),
-        ("both ends at one host", at_one, (), [Row(1, "client", None, sound), Row(1, "server", 5, unsound)], 1),
+        ("both ends at one host", at_one_host(late), (), [Row(1, "client", None, sound), Row(1, "server", 5, unsound)], 1),
         (
-            "refused at both ends by one rule", [*late[:2], acked[2]], (),
+            "refused at both ends by one rule", [*late[:2], ahead], (),
             [Row(1, "unknown", 3, "refused datagram 3 rule 26 AckAhead")], 1,
         ),
         (
-            "the same request again", [*late[:2], asked, stray, acked[0]], AT_CLIENT,
+            "the same request again", asked_again(), AT_CLIENT,
             [Row(1, "client", None, incomplete), Row(2, "client", 4, overrun, (again,))], 1,
         ),
     )
@@ -332,7 +294,7 @@ def try_doubts(trial: Trial, program: str) -> None:
         trial.check(name, (got[0], got[2]) == (rows, status), got)
     rows = checked(program, file_of(late[:5]), "--end", "server")[0]
     trial.check("the frame of a refusal at the server", rows == [Row(1, "server", 5, unsound)], rows)
-    rows = checked(program, file_of([asked, Datagram(*back, first), Datagram(*back, last)]), "--end", "server")[0]
+    rows = checked(program, file_of([*late[:2], late[3]]), "--end", "server")[0]
     holds = [(row.frame, row.verdict) for row in rows] == [(3, "refused datagram 3 rule 22 WindowOverrun")]
     trial.check("the frame of a refusal before the client goes on", holds, rows)
 

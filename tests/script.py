@@ -272,6 +272,10 @@ def installed_scripts(trial: ScriptTrial, scratch: Scratch) -> None:
     done = subprocess.run([folder / "tftp-explain"], input="", capture_output=True, text=True)
     holds = done.returncode == 2 and f"'{folder / AUDIT.name}' gave no verdict" in done.stderr
     trial.check("tftp-explain, installed, runs the program beside it", holds, done)
+    recording = TOP / "examples" / "loopback-session.pcap"
+    done = subprocess.run([folder / "tftp-explain", recording], capture_output=True, text=True)
+    holds = done.returncode == 2 and f"'{folder / TRANSFERS.name}' gave no rows" in done.stderr
+    trial.check("tftp-explain, installed, asks the program beside it for a recording's rows", holds, done)
 
 
 def gates(trial: ScriptTrial, scratch: Scratch) -> None:
