@@ -285,14 +285,15 @@ def try_examples(trial: Trial, programs: Words) -> None:
     session, oack_again = (EXAMPLES / f"loopback-{name}.pcap" for name in ("session", "repeated-oack"))
     several = f"the recording has 2 transfers: name one and its end, as in tftp-explain {oack_again} 1 client"
     changed = "refused datagram 4 rule 25 BlockChanged"
-    for name, words, wanted, said in (
+    cases: tuple[tuple[str, list[object], tuple[str, int], str], ...] = (
         ("the refused one", [session], (refused, 1), "frame 17 of the recording"),
         ("the one that is named", [session, 1, "server"], (sound, 0), "accepted"),
         ("the one whose number is named", [oack_again, 2], (changed, 1), "frame 9 of the recording"),
         ("none of several", [oack_again], ("", 2), several),
         ("no such one", [session, 9, "client"], ("", 2), "there is no transfer 9 to judge: the recording has 1 to 5"),
         ("a text has no number", [EXAMPLES / "one-block.capture", 1, "client"], ("", 2), "is no recording"),
-    ):
+    )
+    for name, words, wanted, said in cases:
         output, errors, status = run([*programs, *words])
         got = output.partition("\n")[0], status
         trial.check(f"tftp-explain, {name}", got == wanted and said in plain(output + errors), (output, errors))
@@ -341,7 +342,7 @@ def try_recordings(trial: Trial, programs: Words, folder: pathlib.Path) -> None:
 
 
 def try_no_recordings(trial: Trial, programs: Words, folder: pathlib.Path) -> None:
-    """What the program says of a file that is no recording, of one that is not whole, and a program that says nothing."""
+    """A file that is no recording, a recording that is not whole, and a program that says nothing of one."""
     path = folder / "a file"
     passed = made.late_block()
     cut = made.file_of(passed)[:-2]

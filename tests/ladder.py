@@ -132,7 +132,8 @@ def try_times(trial: Trial, program: str) -> None:
 def try_recordings(trial: Trial, program: str, transfers: str) -> None:
     """The transfer of a recording that is named, and the one that is refused."""
     recording = TOP / "examples" / "loopback-session.pcap"
-    for words in ([3, "client"], [3], []):
+    named: tuple[list[object], ...] = ([3, "client"], [3], [])
+    for words in named:
         output, errors, status = run(["--program", program, "--transfers", transfers, recording, *words], b"")
         picture = Picture(output)
         is_red = picture.heads.count(RED) == 1 and picture.has("ACK 1, rule 26 AckAhead")

@@ -47,8 +47,8 @@ def read(
 
 
 def late_block() -> list[Datagram]:
-    """A read in two blocks, the first of which is repeated after the second: at the client it came late, at the server it
-    was sent against the lock step."""
+    """A read in two blocks, the first of which is repeated after the second: at the client it came late, at the server
+    it was sent against the lock step."""
     first, last = data(1, b"." * 512)[0], data(2, b"!")[0]
     out, back = (C, 40_000, S, 41_000), (S, 41_000, C, 40_000)
     asked, acked = read("a", 40_000, 41_000)[0], [Datagram(*out, ack(number)[0]) for number in (1, 2)]
@@ -61,7 +61,7 @@ def at_one_host(passed: Sequence[Datagram]) -> list[Datagram]:
 
 
 def asked_again() -> list[Datagram]:
-    """The same request comes again after the first block, before the client went on, and then another server's block."""
+    """The same request again after the first block, before the client went on, and then another server's block."""
     passed = late_block()
     stray = Datagram(S, 42_000, C, 40_000, data(7, b"stray")[0])
     return [*passed[:2], passed[0], stray, passed[2]]

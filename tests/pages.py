@@ -20,7 +20,7 @@ from tftp_tools.rules import LISTED, PACKET_FAULTS
 from tftp_tools.textfaults import MEANINGS
 from trial import Trial
 
-SCRIPTS = ("tftp-explain", "tftp-ladder")
+SCRIPTS, EXAMPLES = ("tftp-explain", "tftp-ladder"), TOP / "examples"
 # The pages that show commands with what they print.
 SHOWING = ("README.md", "docs/VERDICTS.md", "docs/RECORDING.md")
 NAMED = re.compile(r"`((?:docs|tools|tests|examples)/[A-Za-z0-9_./-]+)`")
@@ -59,9 +59,9 @@ def helped(command: list[str]) -> str:
 
 
 def try_manual(trial: Trial, transfers: str) -> None:
-    """The manual page of tftp-transfers and of each script names each option, and reads well where mandoc can say so."""
+    """The manual pages of tftp-transfers and of the scripts name each option, and read well where mandoc can say so."""
     said = {name: helped([str(TOP / "tools" / name)]) for name in SCRIPTS}
-    of_commands = [helped([transfers, *command]) for command in ([], ["list"], ["text"], ["check"])]
+    of_commands = [helped([transfers]), *(helped([transfers, command]) for command in ("list", "text", "check"))]
     for name, words in {**said, "tftp-transfers": "".join(of_commands)}.items():
         page = (TOP / "docs" / "man" / f"{name}.1").read_text().replace("\\-", "-")
         for option in sorted(set(re.findall(r"--[a-z]+", words))):
@@ -70,9 +70,9 @@ def try_manual(trial: Trial, transfers: str) -> None:
         print("mandoc is not installed, so the manual pages are not tried with it")
         return
     for path in sorted((TOP / "docs" / "man").glob("*.1")):
-        words = ["mandoc", "-T", "lint", "-W", "warning", path]
-        said = subprocess.run(words, capture_output=True, text=True).stdout
-        trial.check(f"{path.name}, mandoc", said == "", said)
+        lint = ["mandoc", "-T", "lint", "-W", "warning", str(path)]
+        found = subprocess.run(lint, capture_output=True, text=True).stdout
+        trial.check(f"{path.name}, mandoc", found == "", found)
 
 
 def try_names(trial: Trial) -> None:
@@ -158,7 +158,7 @@ def try_proof(trial: Trial, sources: Sources) -> None:
 
 def try_picture(trial: Trial, program: str, transfers: str) -> None:
     """The picture of examples/ is that of the recording beside it."""
-    recording = TOP / "examples" / "loopback-repeated-oack.pcap"
+    recording = EXAMPLES / "loopback-repeated-oack.pcap"
     words = [str(TOP / "tools" / "tftp-ladder"), "--program", program, "--transfers", transfers]
     drawn = subprocess.run([*words, str(recording), "1", "client"], capture_output=True, check=True).stdout
     trial.check("the picture of examples/", drawn == recording.with_suffix(".svg").read_bytes())
@@ -177,7 +177,7 @@ def try_shown(trial: Trial, program: str, transfers: str) -> None:
     """Each command that a page shows writes what stands below it, in a folder with the two programs in their places."""
     with tempfile.TemporaryDirectory() as name:
         folder = pathlib.Path(name)
-        for place, stands in (("tftp-audit", program), ("tftp-transfers", transfers), ("examples", TOP / "examples")):
+        for place, stands in (("tftp-audit", program), ("tftp-transfers", transfers), ("examples", str(EXAMPLES))):
             (folder / place).symlink_to(stands)
         # the scripts look for the programs in the folder above their own
         shutil.copytree(TOP / "tools", folder / "tools")

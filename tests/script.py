@@ -27,7 +27,8 @@ from trial import Trial
 Word = Union[str, pathlib.Path]
 # What the script writes, what it writes as errors, its status, and how often rt was called.
 Ran = tuple[str, str, int, int]
-# A build reads the source at its start; $MEANWHILE is done while the crate $TRIED is built, and a source that says 'broken' fails.
+# A build reads the source at its start; $MEANWHILE is done while the crate $TRIED is built, and a source that says
+# 'broken' fails.
 # As rt's, its ci first sets aside what stands in out/, and runs nothing.
 STAND_IN = r"""#!/bin/sh
 build() {
@@ -261,7 +262,7 @@ def failing(trial: ScriptTrial, scratch: Scratch) -> None:
 
 
 def installed_scripts(trial: ScriptTrial, scratch: Scratch) -> None:
-    """The scripts run from where they are installed, with the programs beside them; these and those have their pages."""
+    """The scripts run from where they are installed, with the programs beside them, and all have their pages."""
     folder = scratch.installed().parent
     for name in ("tftp-explain", "tftp-ladder"):
         done = subprocess.run([folder / name, "--help"], capture_output=True, text=True)
@@ -356,8 +357,8 @@ def recordings(trial: ScriptTrial, scratch: Scratch) -> None:
     recording = folder / "the recording"
     recording.write_text("its bytes")
     passed: tuple[list[Word], ...] = (
-        ["check", recording], ["check", "missing", recording], ["check", recording, "missing"], ["check", "--json", "-"],
-        ["check"], ["check", "--help"], ["check", "missing", "--json"],
+        ["check", recording], ["check", "missing", recording], ["check", recording, "missing"],
+        ["check", "--json", "-"], ["check"], ["check", "--help"], ["check", "missing", "--json"],
     )
     for words in passed:
         got = scratch.run(*words, given="other")

@@ -1,6 +1,6 @@
-# What ./tftp-audit and ./tftp-transfers share: a program is proved and built where its sources are not those that it was
-# built of. Before it reads this, a launcher sets `top`, where the repository is; `name` and `crate`, of its program;
-# `takes`, how long it is built; and trial_run, which builds the program and tries it.
+# What ./tftp-audit and ./tftp-transfers share: a program is proved and built where its sources are not those that it
+# was built of. Before it reads this, a launcher sets `top`, where the repository is; `name` and `crate`, those of its
+# program; `takes`, how long a build takes; and trial_run, which builds the program and tries it.
 #   NAME --build   only builds the program
 #   NAME --gate    proves all from nothing with rt ci, which builds both programs too; its status is rt's
 
@@ -28,8 +28,8 @@ is_built() {
         [ "$(checksums && cksum <"$program")" = "$(cat "$program.sources")" ]
 }
 
-# Does what builds the programs of these crates, and records what they were built of. An edit meanwhile, even one that was
-# taken back, may stand in a program: nothing is recorded then, and it is built again at the next call.
+# Does what builds the programs of these crates, and records what they were built of. An edit meanwhile, even one that
+# was taken back, may stand in a program: nothing is recorded then, and it is built again at the next call.
 build_by() {
     crates=$1
     shift

@@ -98,7 +98,7 @@ def named(services: Sequence[str]) -> list[str]:
 
 
 def rows_of(script: str, program: str, path: str, end: Optional[str], services: Sequence[str]) -> list[Row]:
-    """The verdicts on the transfers of a recording, at an end if one is named. What the program tells beside is told."""
+    """The verdicts on the transfers of a recording, at an end if one is named; what is told beside them is told."""
     at = ["--end", end] if end else []
     written, beside, status = ask(program, ["check", "--json", *at, *named(services), "--", path])
     for line in beside[: None if written else -1]:

@@ -24,8 +24,8 @@ def add_words(parser: argparse.ArgumentParser) -> None:
                         " refused, or the only one")
     parser.add_argument("end", nargs="?", choices=ENDS, help="the end at which it was recorded; without it the one that"
                         " is refused")
-    parser.add_argument("--service", action="append", default=[], metavar="PORT", help="a port to which requests go in the"
-                        " recording, beside 69; may be given several times")
+    parser.add_argument("--service", action="append", default=[], metavar="PORT", help="a port to which requests go in"
+                        " the recording, beside 69; may be given several times")
     for name, option in OPTIONS.items():
         told = f"the program {name}, where it is not found by itself"
         parser.add_argument(option, metavar="PATH", help=told)
@@ -49,8 +49,8 @@ def is_text(path: str) -> bool:
 
 
 def row_asked(script: str, path: str, rows: list[Row], number: Optional[str]) -> Row:
-    """The row of the transfer that is named, or else of the one that is refused, or of the only one; of its rows the one
-    that accuses, or else refuses."""
+    """The row of the transfer that is named, or else of the one that is refused, or of the only one; of its rows the
+    one that accuses, or else refuses."""
     numbers = {row.number for row in rows}
     wanted = [row for row in rows if number in (None, str(row.number))]
     if not wanted:
