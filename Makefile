@@ -30,7 +30,7 @@ plants:
 # How fast the program and its libraries are, beside wc -l, a plain copy and the hex crate alone on the same bytes.
 bench: build
 	@cd crates/tftp_bench && rt run -- copy </dev/null >/dev/null
-	sh bench/run.sh $(PROGRAM) $(BENCH)
+	sh bench/run.sh $(PROGRAM) $(BENCH) $(TRANSFERS)
 
 # Simulated ends and networks, and changes of what passed, tried on the built program; and recordings of lawful ends, divided
 # into transfers, of which none may be blamed: make fuzz N=1000000 SEED=1, and one recording for each hundred cases. For each
@@ -39,7 +39,7 @@ N = 10000
 JOBS = 2
 fuzz: build
 	python3 tests/fuzz.py --cases $(N) --jobs $(JOBS) $(if $(SEED),--seed $(SEED)) $(PROGRAM)
-	python3 tests/attribution.py --cases $$(($(N) / 100 + 1)) $(if $(SEED),--seed $(SEED)) $(PROGRAM)
+	python3 tests/attribution.py --cases $$(($(N) / 100 + 1)) $(if $(SEED),--seed $(SEED)) --transfers $(TRANSFERS) $(PROGRAM)
 	@cd crates/tftp_datagrams && rt run -- </dev/null >/dev/null || test $$? -eq 2
 	python3 tests/datagrams.py --cases 0 --changes $$(($(N) / 10 + 1)) $(if $(SEED),--seed $(SEED)) $(DATAGRAMS)
 
