@@ -19,8 +19,8 @@
     wire        a text whose lines end in CR LF
     random      bytes of every value, the same each time
     recording   a recording of that read in the format pcap, in frames of Ethernet, IPv4 and UDP
-    transfers   a recording of lawful reads one after another, in blocks of 1,428 bytes in lock step, each of a file of as
-                many bytes as a third word says, or without one of a single read
+    transfers   a recording of lawful reads one after another, in blocks of 1,428 bytes in lock step, each of a file of
+                as many bytes as a third word says, or without one of a single read
     ports       the ports 1 to 65534 in another order, and again, by two bytes each
 
 The bytes of the blocks are random, as those of firmware are, and the same each time; the last block is shorter. There

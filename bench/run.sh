@@ -1,9 +1,8 @@
 #!/bin/sh
 # How fast the program and the libraries are, and the most memory that they take, each beside `wc -l` and `cat` on the
-# same bytes: bench/run.sh PROGRAM BENCH TRANSFERS, where BENCH is the program of crates/tftp_bench, and TRANSFERS the one
-# that reads recordings. First a table of the
-# program's commands (commands.sh), then a line for each call of the libraries. The texts, of up to 1 GB, stand in a
-# folder that is removed at the end.
+# same bytes: bench/run.sh PROGRAM BENCH TRANSFERS, where BENCH is the program of crates/tftp_bench, and TRANSFERS the
+# one that reads recordings. First a table of the program's commands (commands.sh), then a line for each call of the
+# libraries, and for the verdicts on recordings. The texts, of up to 1 GB, stand in a folder that is removed at the end.
 set -eu
 here=$(dirname "$0")
 program=$1
