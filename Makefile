@@ -1,20 +1,22 @@
 PREFIX = /usr/local
 PROGRAM = crates/tftp_audit/out/tftp_audit
+TRANSFERS = crates/tftp_transfers_main/out/tftp_transfers_main
 BENCH = crates/tftp_bench/out/tftp_bench
 DATAGRAMS = crates/tftp_datagrams/out/tftp_datagrams
-SCRIPTS = tftp-transfers tftp-explain tftp-ladder
+SCRIPTS = tftp-explain tftp-ladder
 BIN = $(DESTDIR)$(PREFIX)/bin
 LIB = $(DESTDIR)$(PREFIX)/lib/tftp-audit
 MAN = $(DESTDIR)$(PREFIX)/share/man/man1
 
 .PHONY: build test plants bench fuzz install
 
-# Proves the program and builds it, where its sources are not those that it was built of.
+# Proves the two programs and builds them, each where its sources are not those that it was built of.
 build:
 	@./tftp-audit --build
+	@./tftp-transfers --build
 
-# The gate: rt ci, which is every proof from nothing, the must-fail edits, the tests and the program's stored run; then
-# the program that it built, with failing reads, writes and growths, on larger captures and on the recorded transfers.
+# The gate: rt ci, which is every proof from nothing, the must-fail edits, the tests and the programs' stored runs; then
+# the programs that it built, with failing reads, writes and growths, on larger captures and on recorded transfers.
 test:
 	@./tftp-audit --gate
 	sh tests/run.sh $(PROGRAM)
@@ -28,7 +30,7 @@ plants:
 # How fast the program and its libraries are, beside wc -l, a plain copy and the hex crate alone on the same bytes.
 bench: build
 	@cd crates/tftp_bench && rt run -- copy </dev/null >/dev/null
-	sh bench/run.sh $(PROGRAM) $(BENCH)
+	sh bench/run.sh $(PROGRAM) $(BENCH) $(TRANSFERS)
 
 # Simulated ends and networks, and changes of what passed, tried on the built program; and recordings of lawful ends, divided
 # into transfers, of which none may be blamed: make fuzz N=1000000 SEED=1, and one recording for each hundred cases. For each
@@ -37,13 +39,14 @@ N = 10000
 JOBS = 2
 fuzz: build
 	python3 tests/fuzz.py --cases $(N) --jobs $(JOBS) $(if $(SEED),--seed $(SEED)) $(PROGRAM)
-	python3 tests/attribution.py --cases $$(($(N) / 100 + 1)) $(if $(SEED),--seed $(SEED)) $(PROGRAM)
+	python3 tests/attribution.py --cases $$(($(N) / 100 + 1)) $(if $(SEED),--seed $(SEED)) --transfers $(TRANSFERS) $(PROGRAM)
 	@cd crates/tftp_datagrams && rt run -- </dev/null >/dev/null || test $$? -eq 2
 	python3 tests/datagrams.py --cases 0 --changes $$(($(N) / 10 + 1)) $(if $(SEED),--seed $(SEED)) $(DATAGRAMS)
 
-# The program alone in bin; the scripts beside their modules in lib, with links in bin; the manual pages.
+# The programs alone in bin; the scripts beside their modules in lib, with links in bin; the manual pages.
 install: build
 	install -D -m 755 $(PROGRAM) "$(BIN)/tftp-audit"
+	install -D -m 755 $(TRANSFERS) "$(BIN)/tftp-transfers"
 	install -d "$(LIB)/tftp_tools" "$(MAN)"
 	install -m 644 tools/tftp_tools/*.py "$(LIB)/tftp_tools"
 	install -m 644 docs/man/*.1 "$(MAN)"

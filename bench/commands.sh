@@ -19,11 +19,11 @@ rows() {
     for size in $sizes; do
         [ "$size" -le "$largest" ] || continue
         python3 "$here/generate.py" "$kind" "${size}000000" "$@" >"$folder/capture"
-        python3 "$here/rows.py" "$program" "$name, $size MB" "$folder/capture"
+        python3 "$here/table.py" "$program" "$name, $size MB" "$folder/capture"
     done
 }
 
-python3 "$here/rows.py"
+python3 "$here/table.py"
 # A capture of 65,535 blocks of 512 bytes, each once, has 70 MB.
 rows "blocks of 512 in lock step" "10 100 1000" capture 512
 rows "blocks of 1,428 by windows of 16" "10 100" capture 1428 16

@@ -19,6 +19,8 @@
     wire        a text whose lines end in CR LF
     random      bytes of every value, the same each time
     recording   a recording of that read in the format pcap, in frames of Ethernet, IPv4 and UDP
+    transfers   a recording of lawful reads one after another, in blocks of 1,428 bytes in lock step, each of a file of
+                as many bytes as a third word says, or without one of a single read
     ports       the ports 1 to 65534 in another order, and again, by two bytes each
 
 The bytes of the blocks are random, as those of firmware are, and the same each time; the last block is shorter. There
@@ -197,10 +199,10 @@ def comments(line: bytes, wanted: int) -> None:
     out.write(total_line(before))
 
 
-def record(number: int, source: int, target: int, payload: bytes) -> bytes:
+def record(number: int, source: int, target: int, payload: bytes, client: int = 40_000) -> bytes:
     """A datagram between the two ends in a frame, a tenth of a millisecond after the one before."""
     udp = struct.pack("!HHHH", source, target, 8 + len(payload), 0) + payload
-    hosts = bytes((192, 0, 2, 1, 192, 0, 2, 7)) if target == 40_000 else bytes((192, 0, 2, 7, 192, 0, 2, 1))
+    hosts = bytes((192, 0, 2, 1, 192, 0, 2, 7)) if target == client else bytes((192, 0, 2, 7, 192, 0, 2, 1))
     ip = struct.pack("!BBHHHBBH", 0x45, 0, 20 + len(udp), number % 65_535 + 1, 0, 64, 17, 0) + hosts
     frame = bytes(12) + b"\x08\0" + ip + udp
     seconds, part = divmod(100 * number, 1_000_000)
@@ -216,6 +218,29 @@ def recording(wanted: int, size: int = USUAL) -> None:
         block = struct.pack("!H", pair % MOST + 1)
         out.write(record(2 * pair + 1, SERVER, 40_000, b"\0\3" + block + chance.randbytes(size)))
         out.write(record(2 * pair + 2, 40_000, SERVER, b"\0\4" + block))
+
+
+def one_transfer(first: int, client: int, server: int, size: int) -> int:
+    """A read of so many bytes from this frame on, in blocks of one frame each, with its OACK: how many frames."""
+    options = b"blksize\0%d\0" % FRAME
+    payloads = [REQUEST + options, b"\0\6" + options, b"\0\4\0\0"]
+    for number in range(1, size // FRAME + 2):
+        block = struct.pack("!H", number)
+        payloads += [b"\0\3" + block + chance.randbytes(min(FRAME, size - (number - 1) * FRAME)), b"\0\4" + block]
+    for place, payload in enumerate(payloads):
+        source, target = (server, client) if place % 2 else (client, server if place else 69)
+        out.write(record(first + place, source, target, payload, client))
+    return len(payloads)
+
+
+def transfers(wanted: int, size: int = 0) -> None:
+    """A recording of so many reads of this size, or of one, that it has about so many bytes."""
+    pair = len(record(0, SERVER, 40_000, bytes(4 + FRAME))) + len(record(0, 40_000, SERVER, bytes(4)))
+    size = size or min(MOST - 1, wanted // pair) * FRAME
+    out.write(struct.pack("<IHHiIII", 0xA1B2C3D4, 2, 4, 0, 0, 262_144, 1))
+    frames = 0
+    for number in range(max(1, wanted // ((size // FRAME + 1) * pair))):
+        frames += one_transfer(frames, 20_000 + number % 10_000, 40_000 + number % 10_000, size)
 
 
 def ports(wanted: int) -> None:
@@ -236,6 +261,7 @@ def wire(wanted: int) -> None:
 
 KINDS: dict[str, Callable[..., object]] = {
     "recording": recording,
+    "transfers": transfers,
     "capture": capture,
     "netascii": netascii,
     "reversed": backwards,

@@ -73,13 +73,15 @@ def best_of(turns: int, path: str, *commands: Sequence[str]) -> list[Run]:
 def main(name: str, path: str, command: Sequence[str]) -> None:
     size = os.path.getsize(path)
     (seconds, memory, answer), lines, copy = best_of(3, path, command, LINES, COPY)
+    rows = answer.splitlines()
+    told = answer if len(rows) < 2 else f"{len(rows)} lines, the last {rows[-1]}"
     # Of a run that is over at once the memory is not seen.
     held = f"{memory / 1e6:.1f} MB of memory " if seconds > 0.05 else ""
     print(
         f"{name}: {figures(seconds)} s, {figures(size / seconds / 1e6)} MB/s,"
         f" {figures(seconds / size * 1e9)} ns a byte,"
         f" {figures(seconds / lines.seconds)} times wc -l, {figures(seconds / copy.seconds)} times cat,"
-        f" {held}for {figures(size / 1e6)} MB" + (f": {answer}" if answer else ""),
+        f" {held}for {figures(size / 1e6)} MB" + (f": {told}" if told else ""),
         flush=True,
     )
 

@@ -1,12 +1,13 @@
 #!/bin/sh
 # How fast the program and the libraries are, and the most memory that they take, each beside `wc -l` and `cat` on the
-# same bytes: bench/run.sh PROGRAM BENCH, where BENCH is the program of crates/tftp_bench. First a table of the
-# program's commands (commands.sh), then a line for each call of the libraries. The texts, of up to 1 GB, stand in a
-# folder that is removed at the end.
+# same bytes: bench/run.sh PROGRAM BENCH TRANSFERS, where BENCH is the program of crates/tftp_bench, and TRANSFERS the
+# one that reads recordings. First a table of the program's commands (commands.sh), then a line for each call of the
+# libraries, and for the verdicts on recordings. The texts, of up to 1 GB, stand in a folder that is removed at the end.
 set -eu
 here=$(dirname "$0")
 program=$1
 bench=$2
+transfers=$3
 folder=$(mktemp -d)
 trap 'rm -rf "$folder"' EXIT
 text=$folder/text
@@ -58,6 +59,14 @@ for block in 512 1428; do
     measure "recording reader, blocks of $block" "$bench" recording
     measure "cat, recording in blocks of $block" cat
 done
+# Their verdicts: of one transfer, beside that of its text, and of a thousand.
+generate transfers 100000000
+measure "tftp-transfers check, one transfer in blocks of 1428" "$transfers" check --json -
+"$transfers" text 1 client "$text" >"$folder/written"
+mv "$folder/written" "$text"
+measure "tftp-audit check, its text" "$program" check
+generate transfers 13968000 12000
+measure "tftp-transfers check, 1,000 transfers of 12 kB" "$transfers" check --json -
 generate capture 1000000000
 measure "capture reader, 1 GB" "$bench" capture
 generate acks 100000000

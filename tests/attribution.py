@@ -1,5 +1,5 @@
 """Tries the definition of which datagrams of a recording are one transfer: recordings of lawful ends are drawn, divided
-by the definition as the scripts have it, and each transfer's capture is judged by the built program.
+by the definition as a slow script has it, and each transfer's capture is judged by the built program.
 Nobody may be accused: each refusal must have a doubt.
 
     attribution.py [--cases N] [--seed SEED] [--places PLACES] [--transfers TRANSFERS] PROGRAM
@@ -26,7 +26,7 @@ from fuzzing.places import differences, spoiled
 from fuzzing.program import Program
 from fuzzing.sessions import SERVER, STRANGER, simulated
 from judged import checked, recording
-from tftp_tools.attribution import Attribution, Datagram, Transfer, attributed
+from fuzzing.attribution import Attribution, Datagram, Transfer, attributed
 
 Told = collections.Counter[tuple[str, str]]
 # Where a session is recorded.

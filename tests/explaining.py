@@ -1,23 +1,29 @@
-"""What tools/tftp-explain says of captures: one for each rule, and one for each other line of the program.
+"""What tools/tftp-explain says of captures: one for each rule, and one for each other line of the program. And which
+transfer of a recording it explains, at which end, with which doubts.
 
-    explaining.py PROGRAM
+    explaining.py PROGRAM TRANSFERS
 
 Prints each case that is not as it should be, then a last line 'N passed, M failed'; status 1 if any failed.
 """
 from __future__ import annotations
 
+import dataclasses
 import pathlib
 import subprocess
 import sys
+import tempfile
 from collections.abc import Sequence
 from dataclasses import dataclass
-from typing import Final, NamedTuple
+from typing import Final, NamedTuple, Union
 
+import made
+import recorded
 from captures import Capture, EndName, Packet, ack, data, error, oack, read_request, write_request
 from trial import Trial
 
 TOP = pathlib.Path(__file__).resolve().parent.parent
-SCRIPT = TOP / "tools" / "tftp-explain"
+SCRIPT, EXAMPLES = TOP / "tools" / "tftp-explain", TOP / "examples"
+Words = tuple[Union[str, int, pathlib.Path], ...]
 EIGHT, WHOLE = b"12345678", b"w" * 512
 READ, WRITE = read_request("a", "octet"), write_request("a", "octet")
 WINDOWED = {"blksize": 8, "windowsize": 4}
@@ -273,8 +279,95 @@ def try_cases(trial: Trial, program: str) -> None:
             trial.check(f"tftp-explain, {case.line}, {words!r}", plain(words) in plain(rest), output)
 
 
-def main(program: str) -> int:
+def try_examples(trial: Trial, programs: Words) -> None:
+    """The transfer and end that are named, or the one that is refused."""
+    refused, sound = "refused datagram 3 rule 26 AckAhead", "accepted get octet blocks 3 bytes 1300"
+    session, oack_again = (EXAMPLES / f"loopback-{name}.pcap" for name in ("session", "repeated-oack"))
+    several = f"the recording has 2 transfers: name one and its end, as in tftp-explain {oack_again} 1 client"
+    changed = "refused datagram 4 rule 25 BlockChanged"
+    cases: tuple[tuple[str, list[object], tuple[str, int], str], ...] = (
+        ("the refused one", [session], (refused, 1), "frame 17 of the recording"),
+        ("the one that is named", [session, 1, "server"], (sound, 0), "accepted"),
+        ("the one whose number is named", [oack_again, 2], (changed, 1), "frame 9 of the recording"),
+        ("none of several", [oack_again], ("", 2), several),
+        ("no such one", [session, 9, "client"], ("", 2), "there is no transfer 9 to judge: the recording has 1 to 5"),
+        ("a text has no number", [EXAMPLES / "one-block.capture", 1, "client"], ("", 2), "is no recording"),
+    )
+    for name, words, wanted, said in cases:
+        output, errors, status = run([*programs, *words])
+        got = output.partition("\n")[0], status
+        trial.check(f"tftp-explain, {name}", got == wanted and said in plain(output + errors), (output, errors))
+
+
+def try_recordings(trial: Trial, programs: Words, folder: pathlib.Path) -> None:
+    """Recordings that are made here: at which end a refusal is explained, its doubts, and what the program tells."""
+    late, path = made.late_block(), folder / "a recording"
+    begun, gone_back = late[:5], "refused datagram 5 rule 24 GoneBack"
+    elsewhere = "Doubtful: where it was recorded is not known, and at the client it is incomplete after 5"
+    again = "Doubtful: its client had asked the same and sent nothing else since: the transfer before goes on"
+    at_server, at_client = "out, from port 41000 of the server to", "in, from 192.0.2.1 port 42000 to port 40000 of the"
+    other_port = made.read("a", 40_000, 41_000, service=6969)
+    # without the zero byte at its end it has not the form of a request, by which one at another port is found
+    other_port[0] = dataclasses.replace(other_port[0], payload=other_port[0].payload[:-1])
+    name = recorded.Datagram(made.C, 40_001, "192.0.2.53", 53, b"a question")
+    sound = "accepted get octet blocks 2 bytes 513"
+    cases: tuple[tuple[str, bytes, Words, str, tuple[str, ...]], ...] = (
+        ("what either end clears", made.file_of(late), (), sound, ("at the client",)),
+        ("refused at the server alone", made.file_of(begun), (), gone_back, (at_server, elsewhere)),
+        ("refused at the end that is named", made.file_of(late), (1, "server"), gone_back, (at_server,)),
+        ("both ends at one host", made.file_of(made.at_one_host(late)), (), gone_back, (at_server,)),
+        (
+            "a doubt of a transfer", made.file_of(made.asked_again()), (2, "client"),
+            "refused datagram 2 rule 22 WindowOverrun", (at_client, again),
+        ),
+        (
+            "what is told beside", made.file_of([*late, name]), (), sound,
+            (f"tftp-explain: {path}: 1 datagram of UDP of no transfer (frame 7)",),
+        ),
+        ("no transfer", made.file_of(other_port), (), "", ("went to port 6969: name the port by --service",)),
+        (
+            "another service port", made.file_of(other_port), ("--service", 6969),
+            "refused datagram 1 rule 5 Malformed NoTerminator", ("out, from port 40000 of the client to 192.0.2.1",),
+        ),
+    )
+    for name_of_case, given, words, line, said in cases:
+        path.write_bytes(given)
+        output, errors, status = run([*programs, path, *words])
+        wanted = 2 if not line else 0 if line.startswith("accepted") else 1
+        holds = output.partition("\n")[0] == line and status == wanted
+        holds = holds and ("Doubtful:" in output) == any("Doubtful:" in it for it in said)
+        trial.check(f"tftp-explain, {name_of_case}", holds, (output, errors, status))
+        for it in said:
+            trial.check(f"tftp-explain, {name_of_case}, {it}", it in plain(output + errors), (output, errors))
+
+
+def try_no_recordings(trial: Trial, programs: Words, folder: pathlib.Path) -> None:
+    """A file that is no recording, a recording that is not whole, and a program that says nothing of one."""
+    path = folder / "a file"
+    passed = made.late_block()
+    cut = made.file_of(passed)[:-2]
+    for name, given, words, told in (
+        ("an empty file", b"", (), f"{path}: no recording: the file is empty"),
+        ("a file of gzip", b"\x1f\x8b\x08\0" + bytes(40), (), f"{path}: no recording: it is compressed by gzip:"),
+        ("zeros", bytes(64), (2, "client"), f"{path}: no recording\n"),
+        ("a recording of nothing", made.file_of([]), (), f"{path}: there is no transfer in the recording"),
+        ("a recording that is cut", cut, (1, "client"), "nothing is written, since the recording is not whole"),
+        ("a program without a word", cut, ("--transfers", "/bin/false"), "'/bin/false' gave no rows for"),
+        ("a program with other words", cut, ("--transfers", "/bin/echo"), "'/bin/echo' gave no rows for"),
+        ("no program", cut, ("--transfers", "/no/such"), "cannot run '/no/such': No such file or directory"),
+    ):
+        path.write_bytes(given)
+        output, errors, status = run([*programs, path, *words])
+        trial.check(f"tftp-explain, {name}", output == "" and told in errors and status == 2, (output, errors, status))
+
+
+def main(program: str, transfers: str) -> int:
     trial = Trial()
+    programs = "--program", program, "--transfers", transfers
+    try_examples(trial, programs)
+    with tempfile.TemporaryDirectory() as folder:
+        try_recordings(trial, programs, pathlib.Path(folder))
+        try_no_recordings(trial, programs, pathlib.Path(folder))
     tried = {int(case.line.split()[4]) for case in RULES}
     trial.check("each rule is tried", tried == set(range(1, 28)), tried)
     try_cases(trial, program)
@@ -290,4 +383,4 @@ def main(program: str) -> int:
     return trial.end()
 
 
-sys.exit(main(sys.argv[1]))
+sys.exit(main(*sys.argv[1:]))

@@ -9,7 +9,7 @@ from dataclasses import dataclass
 import recorded
 import repository  # noqa: F401
 from recorded import Frame
-from tftp_tools.attribution import Datagram
+from fuzzing.attribution import Datagram
 
 # Of the identifications of IPv4, 0 says nothing (RFC 6864, section 4.1).
 IDENTIFICATIONS = 65_535

@@ -1,6 +1,6 @@
 """The pictures of tools/tftp-ladder: which arrows they have, in which colours, and what is folded.
 
-    ladder.py PROGRAM
+    ladder.py PROGRAM TRANSFERS
 
 Prints each case that is not as it should be, then a last line 'N passed, M failed'; status 1 if any failed.
 """
@@ -129,9 +129,25 @@ def try_times(trial: Trial, program: str) -> None:
     trial.check("by time the pause is drawn", picture.has("1.000 s") and heights[0] != heights[1], heights)
 
 
-def main(program: str) -> int:
+def try_recordings(trial: Trial, program: str, transfers: str) -> None:
+    """The transfer of a recording that is named, and the one that is refused."""
+    recording = TOP / "examples" / "loopback-session.pcap"
+    named: tuple[list[object], ...] = ([3, "client"], [3], [])
+    for words in named:
+        output, errors, status = run(["--program", program, "--transfers", transfers, recording, *words], b"")
+        picture = Picture(output)
+        is_red = picture.heads.count(RED) == 1 and picture.has("ACK 1, rule 26 AckAhead")
+        trial.check(f"of a recording, {words}", (errors, status) == ("", 0) and is_red, (picture.words, errors))
+    output, errors, status = run(["--program", program, "--transfers", transfers, recording, 1, "server"], b"")
+    picture = Picture(output)
+    is_whole = len(picture.heads) == 7 and picture.has("server (recorded here)")
+    trial.check("of a recording, at the server", (errors, status) == ("", 0) and is_whole, (picture.words, errors))
+
+
+def main(program: str, transfers: str) -> int:
     trial = Trial()
     try_small(trial, program)
+    try_recordings(trial, program, transfers)
     with tempfile.TemporaryDirectory() as folder:
         try_large(trial, pathlib.Path(folder))
     try_times(trial, program)
@@ -149,4 +165,4 @@ def main(program: str) -> int:
     return trial.end()
 
 
-sys.exit(main(sys.argv[1]))
+sys.exit(main(*sys.argv[1:]))

@@ -1,7 +1,7 @@
 """Makes recordings of real transfers over the loopback, in a network namespace of their own, and tries tftp-transfers
 on them: tftp-hpa, atftp and curl as clients, tftpd-hpa, atftpd and dnsmasq as servers, as far as they are installed.
 
-    loopback.py PROGRAM [FOLDER]
+    loopback.py TRANSFERS [FOLDER]
 
 The recordings stay in FOLDER, where one is named. What is not installed is told, and not tried. Prints each case that
 is not as it should be, then a last line 'N passed, M failed'; status 1 if any failed.
@@ -19,20 +19,19 @@ import subprocess
 import sys
 import tempfile
 import time
-from collections.abc import Iterator
+from collections.abc import Iterator, Sequence
 from typing import Optional
 
+from judged import Row, checked
 from relay import Disturbance, Relay
 from trial import Trial
 
-TOP = pathlib.Path(__file__).resolve().parent.parent
-SCRIPT = TOP / "tools" / "tftp-transfers"
 SERVER, CLIENT, RELAY = "192.0.2.1", "192.0.2.7", "192.0.2.2"
 SERVER_6, CLIENT_6 = "2001:db8::1", "2001:db8::7"
 INSIDE = "TFTP_AUDIT_NAMESPACE"
 CLIENTS = ("curl", "tftp", "atftp")
 CLIENT_SECONDS = "60"
-ALWAYS = ("tshark", "tcpdump", "ip", "unshare")
+ALWAYS = ("tcpdump", "ip", "unshare")
 SIZES = {"boot.cfg": 1_300, "whole.img": 1_024, "kernel.img": 9_000, "empty.txt": 0}
 # What the clients send.
 UPLOADS = {"upload.log": 1_536, "report.bin": 5_000}
@@ -208,36 +207,33 @@ def record(case: Case, recording: pathlib.Path, folder: pathlib.Path) -> None:
         time.sleep(1)
 
 
-def table(program: str, recording: pathlib.Path) -> tuple[list[list[str]], str]:
-    """The rows of the verdicts, and what is told."""
-    words = [str(SCRIPT), "--check", "--program", program, str(recording)]
-    done = subprocess.run(words, capture_output=True, text=True, timeout=60)
-    return [line.split(None, 4) for line in done.stdout.splitlines()[1:]], done.stderr
+def at_each_end(transfers: str, recording: pathlib.Path) -> list[tuple[list[Row], str, int]]:
+    """What tftp-transfers says of a recording, made at the client and made at the server."""
+    given = recording.read_bytes()
+    return [checked(transfers, given, "--end", end) for end in ("client", "server")]
 
 
-def are_wanted(case: Case, rows: list[list[str]]) -> bool:
-    """Whether the table has the verdicts of the case."""
-    wanted = [
-        (str(number), end, verdict)
-        for number, verdicts in enumerate(case.verdicts, 1)
-        for end, verdict in zip(("client", "server"), verdicts)
-    ]
-    same = len(rows) == len(wanted)
-    return same and all(
-        (number, end) == (row[1], row[2]) and re.fullmatch(verdict, row[4])
-        for row, (number, end, verdict) in zip(rows, wanted)
-    )
+def are_wanted(case: Case, at_ends: Sequence[tuple[list[Row], str, int]]) -> bool:
+    """Whether the rows have the verdicts of the case, without a doubt, and nothing is told beside."""
+    for (rows, told, status), wanted in zip(at_ends, zip(*case.verdicts)):
+        is_bad = any(not row.verdict.startswith("accepted") for row in rows)
+        holds = len(rows) == len(wanted) and told == "" and status == int(is_bad)
+        for number, (row, verdict) in enumerate(zip(rows, wanted), 1):
+            holds = holds and row.number == number and not row.doubts and bool(re.fullmatch(verdict, row.verdict))
+        if not holds:
+            return False
+    return True
 
 
-def try_case(trial: Trial, program: str, case: Case, keep: pathlib.Path) -> None:
+def try_case(trial: Trial, transfers: str, case: Case, keep: pathlib.Path) -> None:
     with tempfile.TemporaryDirectory() as name:
         folder = pathlib.Path(name)
         folder.chmod(0o755)
         make_files(folder)
         recording = keep / f"loopback-{case.name}.pcap"
         record(case, recording, folder)
-        got, told = table(program, recording)
-        trial.check(f"{case.name}, the verdicts", are_wanted(case, got), (got, told))
+        got = at_each_end(transfers, recording)
+        trial.check(f"{case.name}, the verdicts", are_wanted(case, got), got)
         for place, sizes in (("client", SIZES), ("root", UPLOADS)):
             other = folder / ("root" if place == "client" else "client")
             for name in sizes:
@@ -265,7 +261,7 @@ def enter_namespace(words: list[str]) -> int:
     return subprocess.run(command, env={**os.environ, INSIDE: "1"}).returncode
 
 
-def main(program: str, folder: Optional[str]) -> int:
+def main(transfers: str, folder: Optional[str]) -> int:
     subprocess.run(["ip", "link", "set", "lo", "up"], check=True)
     for address in (f"{SERVER}/32", f"{CLIENT}/32", f"{RELAY}/32", f"{SERVER_6}/128", f"{CLIENT_6}/128"):
         subprocess.run(["ip", "addr", "add", address, "dev", "lo"], check=True)
@@ -276,7 +272,7 @@ def main(program: str, folder: Optional[str]) -> int:
             if lacking:
                 print(f"{case.name} is not tried, since it is not installed: {', '.join(lacking)}")
             else:
-                try_case(trial, program, case, pathlib.Path(folder or scratch).resolve())
+                try_case(trial, transfers, case, pathlib.Path(folder or scratch).resolve())
     return trial.end()
 
 

@@ -1,23 +1,28 @@
-"""What the pages for readers say of the scripts, the rules and the proof, beside the scripts and the sources; and the
-picture in examples/.
+"""What the pages for readers say of the programs, the scripts, the rules and the proof, beside these and the sources;
+the commands that they show, each with what stands below it; and the picture in examples/.
 
-    pages.py PROGRAM
+    pages.py PROGRAM TRANSFERS
 
 Prints each case that is not as it should be, then a last line 'N passed, M failed'; status 1 if any failed.
 """
 from __future__ import annotations
 
+import pathlib
 import re
 import shutil
 import subprocess
 import sys
+import tempfile
+from collections.abc import Iterator
 
 from repository import TOP
 from tftp_tools.rules import LISTED, PACKET_FAULTS
 from tftp_tools.textfaults import MEANINGS
 from trial import Trial
 
-SCRIPTS = ("tftp-transfers", "tftp-explain", "tftp-ladder")
+SCRIPTS, EXAMPLES = ("tftp-explain", "tftp-ladder"), TOP / "examples"
+# The pages that show commands with what they print.
+SHOWING = ("README.md", "docs/VERDICTS.md", "docs/RECORDING.md")
 NAMED = re.compile(r"`((?:docs|tools|tests|examples)/[A-Za-z0-9_./-]+)`")
 # The crates of which docs/PROOF.md names each file.
 MAPPED = ("tftp_ends", "tftp_law", "tftp_judge", "tftp_normal", "tftp_commands")
@@ -49,20 +54,25 @@ def try_verdicts(trial: Trial) -> None:
         trial.check(f"{name} in VERDICTS.md", any(line.startswith(row) for line in lines))
 
 
-def try_manual(trial: Trial) -> None:
-    """Each script's manual page names each of its options, and reads well where mandoc can say so."""
-    for name in SCRIPTS:
-        said = subprocess.run([TOP / "tools" / name, "--help"], capture_output=True, text=True, check=True).stdout
+def helped(command: list[str]) -> str:
+    return subprocess.run([*command, "--help"], capture_output=True, text=True, check=True).stdout
+
+
+def try_manual(trial: Trial, transfers: str) -> None:
+    """The manual pages of tftp-transfers and of the scripts name each option, and read well where mandoc can say so."""
+    said = {name: helped([str(TOP / "tools" / name)]) for name in SCRIPTS}
+    of_commands = [helped([transfers]), *(helped([transfers, command]) for command in ("list", "text", "check"))]
+    for name, words in {**said, "tftp-transfers": "".join(of_commands)}.items():
         page = (TOP / "docs" / "man" / f"{name}.1").read_text().replace("\\-", "-")
-        for option in sorted(set(re.findall(r"--[a-z]+", said))):
+        for option in sorted(set(re.findall(r"--[a-z]+", words))):
             trial.check(f"{name}(1) has {option}", option in page)
     if not shutil.which("mandoc"):
         print("mandoc is not installed, so the manual pages are not tried with it")
         return
     for path in sorted((TOP / "docs" / "man").glob("*.1")):
-        said = subprocess.run(["mandoc", "-T", "lint", "-W", "warning", path], capture_output=True, text=True).stdout
-        said = "".join(line for line in said.splitlines() if "missing date" not in line)
-        trial.check(f"{path.name}, mandoc", said == "", said)
+        lint = ["mandoc", "-T", "lint", "-W", "warning", str(path)]
+        found = subprocess.run(lint, capture_output=True, text=True).stdout
+        trial.check(f"{path.name}, mandoc", found == "", found)
 
 
 def try_names(trial: Trial) -> None:
@@ -146,27 +156,52 @@ def try_proof(trial: Trial, sources: Sources) -> None:
             trial.check(f"{crate}/{part} in PROOF.md, each file once", named == there, differ)
 
 
-def try_picture(trial: Trial, program: str) -> None:
+def try_picture(trial: Trial, program: str, transfers: str) -> None:
     """The picture of examples/ is that of the recording beside it."""
-    if not shutil.which("tshark"):
-        return
-    recording, folder = "loopback-repeated-oack", TOP / "examples"
-    words = [str(TOP / "tools" / "tftp-transfers"), f"examples/{recording}.pcap", "1", "client"]
-    text = subprocess.run(words, capture_output=True, check=True, cwd=TOP).stdout
-    words = [str(TOP / "tools" / "tftp-ladder"), "--program", program]
-    drawn = subprocess.run(words, input=text, capture_output=True, check=True).stdout
-    trial.check("the picture of examples/", drawn == (folder / f"{recording}.svg").read_bytes())
+    recording = EXAMPLES / "loopback-repeated-oack.pcap"
+    words = [str(TOP / "tools" / "tftp-ladder"), "--program", program, "--transfers", transfers]
+    drawn = subprocess.run([*words, str(recording), "1", "client"], capture_output=True, check=True).stdout
+    trial.check("the picture of examples/", drawn == recording.with_suffix(".svg").read_bytes())
 
 
-def main(program: str) -> int:
+def shown(page: str) -> Iterator[tuple[str, str]]:
+    """The commands in the blocks of a page, each with what stands below it."""
+    for block in re.findall(r"(?ms)^```\n(\$ .*?)^```$", page):
+        for step in re.split(r"(?m)^\$ ", block)[1:]:
+            first, *lines = step.splitlines(keepends=True)
+            further = [line for line in lines if line.startswith("> ")]
+            yield first + "".join(line[2:] for line in further), "".join(lines[len(further) :])
+
+
+def try_shown(trial: Trial, program: str, transfers: str) -> None:
+    """Each command that a page shows writes what stands below it, in a folder with the two programs in their places."""
+    with tempfile.TemporaryDirectory() as name:
+        folder = pathlib.Path(name)
+        for place, stands in (("tftp-audit", program), ("tftp-transfers", transfers), ("examples", str(EXAMPLES))):
+            (folder / place).symlink_to(stands)
+        # the scripts look for the programs in the folder above their own
+        shutil.copytree(TOP / "tools", folder / "tools")
+        for page in SHOWING:
+            for command, wanted in shown((TOP / page).read_text()):
+                done = subprocess.run(
+                    ["sh", "-c", command], cwd=folder, text=True, stdout=subprocess.PIPE, stderr=subprocess.STDOUT
+                )
+                # a file need not end in a line's end, and a page's line does
+                got = done.stdout if done.stdout.endswith("\n") else f"{done.stdout}\n"
+                trial.check(f"{page}, {command.splitlines()[0]}", got == wanted, got)
+
+
+def main(program: str, transfers: str) -> int:
     trial = Trial()
-    for part in (try_verdicts, try_manual, try_names):
-        part(trial)
+    try_verdicts(trial)
+    try_manual(trial, transfers)
+    try_names(trial)
     sources = Sources()
     for of_sources in (try_laws, try_proof):
         of_sources(trial, sources)
-    try_picture(trial, program)
+    for of_programs in (try_picture, try_shown):
+        of_programs(trial, program, transfers)
     return trial.end()
 
 
-sys.exit(main(sys.argv[1]))
+sys.exit(main(*(str(pathlib.Path(word).resolve()) for word in sys.argv[1:])))

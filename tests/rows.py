@@ -14,6 +14,7 @@ import json
 import os
 import pathlib
 import random
+import shlex
 import subprocess
 import sys
 import tempfile
@@ -21,14 +22,15 @@ from collections.abc import Sequence
 
 import recorded
 from captures import ack, data, error, read_request
-from judged import CAN_TAKE, Row, checked, packet_of, row_of, said
-from loopback import CASES, are_wanted
+from judged import CAN_TAKE, Row, checked, row_of, said
+from loopback import CASES, are_wanted, at_each_end
+from made import (
+    C_6, S_6, THIRD, C, S, asked_again, at, at_one_host, file_of, file_of_packets, framed, late_block, packets_of, read,
+)
 from recorded import Datagram, Fragment, Frame, Interface
 from trial import Trial
 
 EXAMPLES = pathlib.Path(__file__).resolve().parent.parent / "examples"
-C, S, THIRD = "192.0.2.7", "192.0.2.1", "192.0.2.9"
-C_6, S_6 = "2001:db8::7", "2001:db8::1"
 LISTED = """number client server kind mode file options datagrams frames
 1 192.0.2.1:34056 192.0.2.1:51973 get octet "boot.cfg" - 7 1-7
 2 192.0.2.1:34056 192.0.2.1:54848 get octet "boot.cfg" - 7 8-14
@@ -39,56 +41,16 @@ LISTED = """number client server kind mode file options datagrams frames
 SOUND = "accepted get octet blocks 1 bytes 2"
 WHOLE = Row(1, "unknown", None, SOUND)
 AT_CLIENT = ("--end", "client")
-SECOND = 1_000_000_000
-
-
-def at(second: float) -> int:
-    """A time in nanoseconds since 1970."""
-    return recorded.FIRST_TIME + round(second * SECOND)
-
-
-def framed(packets: Sequence[bytes], times: Sequence[float] = (), link: int = recorded.RAW) -> list[Frame]:
-    """Frames of these packets, a millisecond after one another where no times are given."""
-    return [Frame(link, packet, at(times[place] if times else place / 1000)) for place, packet in enumerate(packets)]
-
-
-def packets_of(passed: Sequence[Datagram]) -> list[bytes]:
-    return [packet_of(it, number) for number, it in enumerate(passed)]
-
-
-def file_of(passed: Sequence[Datagram], times: Sequence[float] = ()) -> bytes:
-    return recorded.pcap(framed(packets_of(passed), times), is_nano=True)
-
-
-def file_of_packets(packets: Sequence[bytes]) -> bytes:
-    return recorded.pcap(framed(packets), is_nano=True)
-
-
-def read(
-    file: str, client: int, server: int, hosts: tuple[str, str] = (C, S), service: int = 69, content: bytes = b"hi"
-) -> list[Datagram]:
-    """A read of a file in one block."""
-    mine, theirs = hosts
-    request = Datagram(mine, client, theirs, service, read_request(file, "octet")[0])
-    block = Datagram(theirs, server, mine, client, data(1, content)[0])
-    return [request, block, Datagram(mine, client, theirs, server, ack(1)[0])]
-
-
-def table_of(*ends: list[Row]) -> list[list[str]]:
-    """Rows of the table, of each transfer one at each end."""
-    return [["-", str(it.number), it.place, str(it.frame or "-"), it.verdict] for pair in zip(*ends) for it in pair]
 
 
 def try_examples(trial: Trial, program: str) -> None:
     for case in CASES:
-        given = (EXAMPLES / f"loopback-{case.name}.pcap").read_bytes()
-        at_ends = [checked(program, given, "--end", end) for end in ("client", "server")]
-        holds = are_wanted(case, table_of(*(rows for rows, _, _ in at_ends)))
-        trial.check(f"{case.name}, the verdicts", holds, at_ends)
-        for rows, _, status in at_ends:
-            is_bad = any(not row.verdict.startswith("accepted") for row in rows)
-            trial.check(f"{case.name}, the status", status == is_bad and not any(it.doubts for it in rows), at_ends)
-        rows, told, status = checked(program, given)
+        recording = EXAMPLES / f"loopback-{case.name}.pcap"
+        at_ends = at_each_end(program, recording)
+        trial.check(f"{case.name}, the verdicts", are_wanted(case, at_ends), at_ends)
+        for (rows, _, _), end in zip(at_ends, ("client", "server")):
+            trial.check(f"{case.name}, the place {end}", {row.place for row in rows} == {end}, rows)
+        rows, told, status = checked(program, recording.read_bytes())
         is_bad = any(not row.verdict.startswith("accepted") for row in rows)
         holds = len(rows) == len(case.verdicts) and status == is_bad and not told
         trial.check(f"{case.name}, where no end is named", holds, (rows, told, status))
@@ -110,15 +72,16 @@ def try_examples(trial: Trial, program: str) -> None:
     output, _, status = said(program, ["text", "3", "client", str(session)], b"")
     lines = output.splitlines()
     trial.check("a text's head", lines[0] == "tftp-capture 2" and lines[2:4] == ["end client", "service 69"], lines[:4])
-    frames = [line.split()[2] for line in lines if line.startswith("# frame ")]
-    trial.check("a text's frames", frames == ["15", "16", "17"] and status == 0, frames)
+    named = [line.split()[2] for line in lines if line.startswith("# frame ")]
+    trial.check("a text's frames", named == ["15", "16", "17"] and status == 0, named)
 
 
 def try_links(trial: Trial, program: str) -> None:
     """One transfer in frames of each link type, in each format: what carries it changes nothing."""
     chance, times = random.Random(1), [0.0, 0.1, 0.2]
     four, six = read("a", 40_000, 41_000), read("a", 40_000, 41_000, (C_6, S_6))
-    kinds = (("none", recorded.ETHERNET, ()), ("VLAN", recorded.ETHERNET, recorded.TAGGED[1]))
+    kinds: tuple[tuple[str, int, tuple[int, ...]], ...] = ()
+    kinds += (("none", recorded.ETHERNET, ()), ("VLAN", recorded.ETHERNET, recorded.TAGGED[1]))
     kinds += (("QinQ", recorded.ETHERNET, recorded.TAGGED[2]), ("cooked v1", recorded.COOKED, ()))
     kinds += (("cooked v2", recorded.COOKED_2, ()), ("raw", recorded.RAW, ()), ("NULL", recorded.NULL, ()))
     kinds += (("LOOP", recorded.LOOP, ()),)
@@ -148,8 +111,11 @@ def try_fragments(trial: Trial, program: str) -> None:
     for hosts in ((C, S), (C_6, S_6)):
         request, block, answer = passed = read("a", 40_000, 41_000, hosts, content=b"." * 511)
         parts = recorded.parts_of(recorded.udp(block), 200, 9)
-        make = recorded.ipv4 if block.version == 4 else recorded.ipv6
-        pieces = [make(block, content, recorded.UDP, part) for part, content in parts]
+        is_four = block.version == 4
+        pieces = [
+            recorded.ipv4(block, content, part=part) if is_four else recorded.ipv6(block, content, part=part)
+            for part, content in parts
+        ]
         first, _, last = packets_of(passed)
         for order in itertools.permutations(pieces):
             got = checked(program, file_of_packets([first, *order, last]))
@@ -178,7 +144,16 @@ def try_losses(trial: Trial, program: str) -> None:
     given = recorded.pcap(frames, is_nano=True)
     output, told, status = said(program, ["text", "1", "client", "-"], given)
     trial.check("no text of what is cut", output == "" and "not whole" in told and status == 2, (output, told))
+    output, told, status = said(program, ["-"], given)
+    holds = output.count("\n") == 2 and "1 datagram not there whole" in told and status == 2
+    trial.check("what is cut, listed", holds, (output, told, status))
     whole = file_of(read("a", 40_000, 41_000))
+    output, told, status = said(program, ["-"], whole[:-2])
+    holds = output.count("\n") == 2 and "frame 3: the rec" in told and status == 2
+    trial.check("a cut last packet, listed", holds, (output, told, status))
+    output, told, status = said(program, ["text", "1", "client", "-"], whole[:-2])
+    holds = output == "" and "frame 3: the rec" in told and "not whole" in told and status == 2
+    trial.check("a cut last packet, no text", holds, (output, told, status))
     got = checked(program, whole[:-2], *AT_CLIENT)
     holds = (got[0], got[2]) == ([Row(1, "client", None, "incomplete after 2")], 2) and "frame 3: the rec" in got[1]
     trial.check("a cut last packet", holds, got)
@@ -191,7 +166,35 @@ def try_losses(trial: Trial, program: str) -> None:
     trial.check("refused where times go back", reasons == [("its datagrams are not in the order of their times",)], got)
     elsewhere = [*read("a", 40_000, 41_000), Datagram(C, 40_000, "192.0.2.53", 53, b"\x12\x34\x01\x00")]
     got = checked(program, file_of(elsewhere, [0.0, 0.1, 0.2, 400.0]))
-    trial.check("a datagram of no transfer", got[2] == 0 and "1 datagram of UDP of no transfer (frame 4)" in got[1], got)
+    holds = got[2] == 0 and "1 datagram of UDP of no transfer (frame 4)" in got[1]
+    trial.check("a datagram of no transfer", holds, got)
+    before = Datagram(S, 41_000, C, 40_000, data(9, b"old")[0])
+    got = checked(program, file_of([before, *read("a", 40_000, 41_000)]))
+    told = "tftp-transfers: -: 1 datagram of UDP of no transfer (frame 1)\n"
+    trial.check("what came before the request", got == ([WHOLE], told, 0), got)
+
+
+def try_layers(trial: Trial, program: str) -> None:
+    """Datagrams that were recorded twice, and tunnels, which are not looked into."""
+    passed, twofold = read("a", 40_000, 41_000), "each of its datagrams stands beside its equal: recorded twice"
+    got = checked(program, file_of([it for it in passed for _ in (0, 1)]))
+    trial.check("each twice", (got[0], got[2]) == ([WHOLE], 0), got)
+    ahead = [*late_block()[:2], Datagram(C, 40_000, S, 41_000, ack(3)[0])]
+    rows, _, status = checked(program, file_of([it for it in ahead for _ in (0, 1)]), *AT_CLIENT)
+    verdicts = [(row.verdict, twofold in row.doubts) for row in rows]
+    trial.check("each twice, refused", (verdicts, status) == ([("refused datagram 5 rule 26 AckAhead", True)], 1), rows)
+    router = Datagram("192.0.2.53", 5000, "192.0.2.54", 4789, b"")
+    # the header of VXLAN, and that of Ethernet
+    head = bytes((8, 0, 0, 0, 0, 0, 5, 0)) + b"\2\0\0\0\0\1\2\0\0\0\0\2\x08\0"
+    wrapped = [dataclasses.replace(router, payload=head + packet) for packet in packets_of(passed)]
+    of_none = "tftp-transfers: -: 3 datagrams of UDP of no transfer (frames 1, 2, 3)\n"
+    for name, packets, told in (
+        ("IP in IP", [recorded.ipv4(router, packet, 4) for packet in packets_of(passed)], ""),
+        ("GRE", [recorded.ipv4(router, b"\0\0\x08\0" + packet, 47) for packet in packets_of(passed)], ""),
+        ("VXLAN", packets_of(wrapped), of_none),
+    ):
+        got = checked(program, file_of_packets(packets))
+        trial.check(f"in {name}", got == ([], told, 0), got)
 
 
 def mixed(*transfers: list[Datagram]) -> list[Datagram]:
@@ -283,6 +286,13 @@ def try_splitting(trial: Trial, program: str) -> None:
     trial.check("what is no answer stays with its transfer", got == [[*first, first[2]], second], got)
     got = texts(program, [two[0], *two[:3]], (1, "client"))
     trial.check("a repeated request begins no transfer", got == [[first[0], *first]], got)
+    got = texts(program, [*two[:2], *two[:3]], (1, "server"), (2, "server"))
+    begun = [f"in 69 {C} 40000", f"out 41000 {C} 40000"]
+    wanted = [begun, [*begun, f"in 41000 {C} 40000"]]
+    trial.check("a request that comes again after a block", got == wanted, got)
+    output, told, status = said(program, ["-"], file_of([two[0], *read("b", 40_000, 41_000)]))
+    listed = output.count("\n"), told, status
+    trial.check("another request begins another transfer", listed == (3, "", 0), output)
     stray = Datagram(THIRD, 41_000, C, 40_000, data(1, b"x")[0])
     answer, at_server = (Datagram(C, 40_000, THIRD, 41_000, error(5, "stray")[0]),
                          Datagram(THIRD, 40_000, S, 41_000, ack(1)[0]))
@@ -301,14 +311,8 @@ def try_splitting(trial: Trial, program: str) -> None:
 
 def try_doubts(trial: Trial, program: str) -> None:
     """A refusal that the recording does not carry is doubtful, with the reason, and its status is 1."""
-    first, last = data(1, b"." * 512)[0], data(2, b"!")[0]
-    out, back = (C, 40_000, S, 41_000), (S, 41_000, C, 40_000)
-    asked, acked = read("a", 40_000, 41_000)[0], [Datagram(*out, ack(number)[0]) for number in (1, 2, 3)]
-    # Block 1 is repeated after block 2: at the client it came late, at the server it was sent against the lock step.
-    late = [asked, Datagram(*back, first), acked[0], Datagram(*back, last), Datagram(*back, first), acked[1]]
+    late, ahead = late_block(), Datagram(C, 40_000, S, 41_000, ack(3)[0])
     sound, unsound = "accepted get octet blocks 2 bytes 513", "refused datagram 5 rule 24 GoneBack"
-    at_one = [dataclasses.replace(it, source=S, target=S) for it in late]
-    stray = Datagram(S, 42_000, C, 40_000, data(7, b"stray")[0])
     again = "its client had asked the same and sent nothing else since: the transfer before goes on"
     overrun, incomplete = "refused datagram 2 rule 22 WindowOverrun", "incomplete after 3"
     elsewhere = "where it was recorded is not known, and at the client it is incomplete after 5"
@@ -317,13 +321,16 @@ def try_doubts(trial: Trial, program: str) -> None:
         ("refused at the end that is named", late, ("--end", "server"), [Row(1, "server", 5, unsound)], 1),
         ("accepted at the end that is named", late, AT_CLIENT, [Row(1, "client", None, sound)], 0),
         ("refused at one end alone", late[:5], (), [Row(1, "unknown", 5, unsound, (elsewhere,))], 1),
-        ("both ends at one host", at_one, (), [Row(1, "client", None, sound), Row(1, "server", 5, unsound)], 1),
         (
-            "refused at both ends by one rule", [*late[:2], acked[2]], (),
+            "both ends at one host", at_one_host(late), (),
+            [Row(1, "client", None, sound), Row(1, "server", 5, unsound)], 1,
+        ),
+        (
+            "refused at both ends by one rule", [*late[:2], ahead], (),
             [Row(1, "unknown", 3, "refused datagram 3 rule 26 AckAhead")], 1,
         ),
         (
-            "the same request again", [*late[:2], asked, stray, acked[0]], AT_CLIENT,
+            "the same request again", asked_again(), AT_CLIENT,
             [Row(1, "client", None, incomplete), Row(2, "client", 4, overrun, (again,))], 1,
         ),
     )
@@ -332,14 +339,14 @@ def try_doubts(trial: Trial, program: str) -> None:
         trial.check(name, (got[0], got[2]) == (rows, status), got)
     rows = checked(program, file_of(late[:5]), "--end", "server")[0]
     trial.check("the frame of a refusal at the server", rows == [Row(1, "server", 5, unsound)], rows)
-    rows = checked(program, file_of([asked, Datagram(*back, first), Datagram(*back, last)]), "--end", "server")[0]
+    rows = checked(program, file_of([*late[:2], late[3]]), "--end", "server")[0]
     holds = [(row.frame, row.verdict) for row in rows] == [(3, "refused datagram 3 rule 22 WindowOverrun")]
     trial.check("the frame of a refusal before the client goes on", holds, rows)
 
 
 def try_words(trial: Trial, program: str) -> None:
     given = file_of(read("a", 40_000, 41_000))
-    for name, words, input_, told in (
+    cases: tuple[tuple[str, list[str], bytes, str], ...] = (
         ("no such file", ["/no/such/file"], b"", "tftp-transfers: "),
         ("no such transfer", ["text", "2", "client", "-"], given, "there is no transfer 2: the recording has 1 to 1"),
         ("an empty file", ["check", "-"], b"", "no recording: the file is empty"),
@@ -348,15 +355,24 @@ def try_words(trial: Trial, program: str) -> None:
         ("a program", ["-"], b"\x7fELF\2\1\1" + bytes(60), "no recording: it is a program"),
         ("zeros", ["-"], bytes(64), "no recording\n"),
         ("three bytes", ["-"], b"\xd4\xc3\xb2", "no recording\n"),
+        ("a file of words", ["-"], b"no recording at all\n" * 9, "no recording\n"),
         ("no words", [], b"", "Usage"),
+        ("a number behind the file", ["-", "1"], given, "Usage"),
+        ("a number and an end behind the file", ["-", "1", "client"], given, "Usage"),
+        ("an end that a list has not", ["--end", "client", "-"], given, "Usage"),
+        ("a text of no end", ["text", "1", "peer", "-"], given, "peer"),
+        ("a text of no number", ["text", "0", "client", "-"], given, "N"),
         ("a port 0", ["--service", "0", "-"], given, "--service"),
         ("an end that is none", ["check", "--end", "peer", "-"], given, "peer"),
-    ):
+    )
+    for name, words, input_, told in cases:
         got = said(program, words, input_)
         trial.check(name, got[0] == "" and told in got[1] and got[2] == 2, got)
     output, told, status = said(program, ["--help"], b"")
     trial.check("the help", (told, status) == ("", 0) and output.startswith("From a recording"), output)
     request = Datagram(C, 40_000, S, 6969, read_request("a", "octet")[0][:-1])
+    listed = said(program, ["-"], file_of([dataclasses.replace(request, payload=read_request("a", "octet")[0])]))
+    trial.check("another service port, found", " 192.0.2.1:6969 " in listed[0] and listed[1:] == ("", 0), listed)
     other = file_of([request])
     got = said(program, ["-", "--service", "67", "--service", "6969"], other)
     trial.check("another service port, named", got[0].count("\n") == 2 and got[2] == 0, got)
@@ -366,6 +382,29 @@ def try_words(trial: Trial, program: str) -> None:
     output, told, status = said(program, ["check", "/no/such/file", example], b"")
     holds = output.count("\n") == 6 and "/no/such/file: No such file" in told and status == 2
     trial.check("a file that is missing among others", holds, (output, told, status))
+
+
+def broken_pipe() -> int:
+    """A pipe that nobody reads."""
+    ours, theirs = os.pipe()
+    os.close(ours)
+    return theirs
+
+
+def try_streams(trial: Trial, program: str) -> None:
+    """Standard input or output that is closed or broken is told in one line, and the status is 2."""
+    example, call = shlex.quote(str(EXAMPLES / "loopback-session.pcap")), shlex.quote(program)
+    for words in ("check", "list", "text 1 client"):
+        for name, redirected, why in (
+            ("closed input", "- <&-", "a read failed"),
+            ("closed output", f"{example} >&-", "Bad file descriptor"),
+            ("a broken pipe", example, "Broken pipe"),
+        ):
+            pipe, command = broken_pipe(), f"exec {call} {words} {redirected}"
+            done = subprocess.run(command, shell=True, stdout=pipe, stderr=subprocess.PIPE, text=True, timeout=60)
+            os.close(pipe)
+            told = done.stderr.startswith("tftp-transfers: ") and done.stderr.count("\n") == 1 and why in done.stderr
+            trial.check(f"{words}, {name}", told and done.returncode == 2, (done.stderr, done.returncode))
 
 
 def try_growths(trial: Trial, program: str, refuse: str) -> None:
@@ -393,11 +432,12 @@ def main(program: str, *refuse: str) -> int:
     for one in refuse:
         try_growths(trial, program, one)
     for part in (
-        try_examples, try_links, try_fragments, try_losses, try_sessions, try_live, try_splitting, try_doubts, try_words,
+        try_examples, try_links, try_fragments, try_losses, try_layers, try_sessions, try_live, try_splitting,
+        try_doubts, try_words, try_streams,
     ):
         part(trial, program)
     return trial.end()
 
 
 if __name__ == "__main__":
-    sys.exit(main(*map(os.path.abspath, sys.argv[1:])))
+    sys.exit(main(*(os.path.abspath(word) for word in sys.argv[1:])))

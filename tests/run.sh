@@ -1,16 +1,18 @@
 #!/bin/sh
-# Tries the built program, tests/run.sh PROGRAM: the script tftp-audit with a stand-in for rt; that each wrong body can
-# still be made; each growth refused, each read and each write failing, in turn, and each growth in the tests of the
-# libraries' calls; larger captures; simulated transfers and changes of them, for some seconds; the recorded transfers of
-# examples/, from their fields on; the datagrams that are read of recordings, and which transfer they are of; the
-# scripts that lead from a recording to its verdicts and reasons; and what stands in the pages for readers.
+# Tries the two built programs, tests/run.sh PROGRAM, of which the one that reads recordings stands in its crate: the
+# launchers with a stand-in for rt; that each wrong body can still be made; each growth refused, each read and each write
+# failing, in turn, and each growth in the tests of the libraries' calls; larger captures; simulated transfers and changes
+# of them, for some seconds; the recorded transfers of examples/; the datagrams that are read of recordings, and which
+# transfer they are of; the rows, lists and texts of recordings; the scripts that explain and draw; and what stands in the
+# pages for readers.
 set -eu
 here=$(dirname "$0")
+transfers=$here/../crates/tftp_transfers_main/out/tftp_transfers_main
 shim=$(mktemp -d)
 trap 'rm -rf "$shim"' EXIT
 export PYTHONDONTWRITEBYTECODE=1
 cc -O1 -shared -fPIC -o "$shim/refuse.so" "$here/refuse.c" -ldl
-echo "script:"
+echo "launchers:"
 python3 "$here/script.py"
 echo "wrong bodies:"
 python3 "$here/edits.py"
@@ -25,21 +27,18 @@ python3 "$here/fuzz.py" --seconds 10 --slower 5 --refuse "$shim/refuse.so" "$1"
 echo "a spoiled program, fuzzed:"
 python3 "$here/spoiled.py" "$1"
 echo "recordings:"
-python3 "$here/recordings.py" "$1"
+python3 "$here/recordings.py" "$1" "$transfers"
 echo "datagrams of recordings:"
 python3 "$here/datagrams.py" "$here/../crates/tftp_datagrams/out/tftp_datagrams"
 echo "transfers of drawn recordings:"
-transfers=$here/../crates/tftp_transfers_main/out/tftp_transfers_main
 python3 "$here/attribution.py" --cases 8 --places "$here/../crates/tftp_places/out/tftp_places" --transfers "$transfers" "$1"
 echo "transfers, texts and verdicts of recordings:"
 python3 "$here/rows.py" "$transfers" "$shim/refuse.so"
-echo "tftp-transfers:"
-python3 "$here/transfers.py" "$1"
 echo "tftp-explain:"
-python3 "$here/explaining.py" "$1"
+python3 "$here/explaining.py" "$1" "$transfers"
 echo "tftp-ladder:"
-python3 "$here/ladder.py" "$1"
+python3 "$here/ladder.py" "$1" "$transfers"
 echo "loopback:"
-python3 "$here/loopback.py" "$1"
+python3 "$here/loopback.py" "$transfers"
 echo "pages:"
-python3 "$here/pages.py" "$1"
+python3 "$here/pages.py" "$1" "$transfers"

@@ -1,13 +1,15 @@
-"""The script tftp-audit and the Makefile's targets that build, on a scratch copy with a stand-in for rt.
+"""The launchers tftp-audit and tftp-transfers and the Makefile's targets that build, each on a scratch copy with a
+stand-in for rt.
 
     script.py
 
-The stand-in's program says of which source it was built, what its words are and what its input is. Prints each case
-that is not as it should be, then a last line 'N passed, M failed'; status 1 if any failed.
+The stand-in's programs say of which source they were built, what their words are and what their input is. Prints each
+case that is not as it should be, then a last line 'N passed, M failed'; status 1 if any failed.
 """
 from __future__ import annotations
 
 import contextlib
+import dataclasses
 import os
 import pathlib
 import pty
@@ -15,6 +17,7 @@ import shutil
 import subprocess
 import sys
 import tempfile
+from collections.abc import Sequence
 from typing import Union
 
 from commands import COMMANDS
@@ -24,76 +27,115 @@ from trial import Trial
 Word = Union[str, pathlib.Path]
 # What the script writes, what it writes as errors, its status, and how often rt was called.
 Ran = tuple[str, str, int, int]
-# A build reads the source at its start; $MEANWHILE is done while it builds, and a source that says 'broken' fails.
+# A build reads the source at its start; $MEANWHILE is done while the crate $TRIED is built, and a source that says
+# 'broken' fails.
 # As rt's, its ci first sets aside what stands in out/, and runs nothing.
 STAND_IN = r"""#!/bin/sh
-echo "rt: $*" >>"$CALLS"
-[ "$1" = ci ] && { cd crates/tftp_audit && rm -rf out || exit 1; }
-mkdir -p out
-text=$(cat src/main.rt)
-echo "rt: progress on $text" >&2
-eval "${MEANWHILE:-}"
-case $text in *broken*) echo "error: $text" >&2 && exit 1 ;; esac
-cat >out/tftp_audit <<'END'
+build() {
+    mkdir -p out
+    text=$(cat src/main.rt)
+    echo "rt: progress on $text" >&2
+    [ "$1" = "$TRIED" ] && eval "${MEANWHILE:-}"
+    case $text in *broken*) echo "error: $text" >&2 && return 1 ;; esac
+    cat >out/$1 <<'END'
 #!/bin/sh
 echo "BUILT_OF: $# words $*: $(cat)"
 case $1 in check) exit STATUS ;; *) exit 2 ;; esac
 END
-status=$(echo "$text" | tr -cd 0-9)
-sed -i "s/BUILT_OF/$text/; s/STATUS/${status:-0}/" out/tftp_audit
-chmod +x out/tftp_audit
-[ "$1" = ci ] && exit 0
+    status=$(echo "$text" | tr -cd 0-9)
+    sed -i "s/BUILT_OF/$text/; s/STATUS/${status:-0}/" out/$1
+    chmod +x out/$1
+}
+echo "rt: $*" >>"$CALLS"
+if [ "$1" = ci ]; then
+    for crate in tftp_audit tftp_transfers_main; do
+        (cd crates/$crate && rm -rf out && build $crate) || exit 1
+    done
+    exit 0
+fi
+crate=$(basename "$PWD")
+build "$crate" || exit 1
 shift 2
-exec out/tftp_audit "$@"
+exec "out/$crate" "$@"
 """
-TRIED = "echo tests were run >>\"$CALLS\"\n"
-SAYS_TIME = "tftp-audit: proving and building the program: about a quarter of an hour"
-NOT_BUILT = "tftp-audit: the program was not built, so nothing is run\n"
+TESTED = "echo tests were run >>\"$CALLS\"\n"
 WRONG_WORDS: tuple[list[str], ...] = (
     [], [""], ["help"], ["--help"], ["Check"], ["extrac", "x"], ["check", "x", "y"], ["--build", "x"],
 )
 HINT = f"tftp-audit: call it as ./tftp-audit {'|'.join(COMMANDS)} [FILE]"
 
 
-class Scratch:
-    """A copy of the script and the Makefile, with small sources, in a folder whose name has spaces."""
+@dataclasses.dataclass(frozen=True)
+class Launcher:
+    """A launcher, the crate of its program, how long it says that a build takes, words that read standard input, and
+    others, right and wrong ones."""
 
-    def __init__(self, folder: pathlib.Path) -> None:
-        self.top = folder / "the top"
-        self.source = self.top / "crates" / "tftp_audit" / "src" / "main.rt"
-        self.program = self.top / "crates" / "tftp_audit" / "out" / "tftp_audit"
+    name: str
+    crate: str
+    takes: str
+    words: tuple[str, ...]
+    others: tuple[tuple[str, ...], ...]
+
+    def said(self, message: str) -> str:
+        return f"{self.name}: {message}"
+
+    def says_time(self) -> str:
+        return self.said(f"proving and building the program: {self.takes} from nothing")
+
+
+AUDIT = Launcher("tftp-audit", "tftp_audit", "about a quarter of an hour", ("check",), (("show",), ("extrac",)))
+TRANSFERS = Launcher(
+    "tftp-transfers", "tftp_transfers_main", "half an hour or so", ("check", "-"), (("-",), ("chec", "-"), ("--help",)),
+)
+
+
+class Scratch:
+    """A copy of the launchers and the Makefile, with small sources, in a folder whose name has spaces; one launcher of
+    the two is tried."""
+
+    def __init__(self, folder: pathlib.Path, launcher: Launcher) -> None:
+        self.top, self.launcher = folder / "the top", launcher
+        crates = self.top / "crates"
+        self.source, self.program = crates / launcher.crate / "src" / "main.rt", self.program_of(launcher)
         self.calls, self.bin = folder / "calls", folder / "bin"
-        for part in ("tftp_audit/src", "tftp_low/src", "tftp_low/specs", "tftp_low/proofs/deep", "tftp_low/must-fail"):
-            (self.top / "crates" / part).mkdir(parents=True)
-            (self.top / "crates" / part / "first.rt").write_text("first")
-        for name in ("tftp-audit", "Makefile"):
+        of_low = ("src", "specs", "proofs/deep", "must-fail")
+        for part in (f"{AUDIT.crate}/src", f"{TRANSFERS.crate}/src", *(f"tftp_low/{it}" for it in of_low)):
+            (crates / part).mkdir(parents=True)
+            (crates / part / "first.rt").write_text("first")
+        for name in (AUDIT.name, TRANSFERS.name, "Makefile"):
             shutil.copy(TOP / name, self.top)
         for name in ("tools", "docs/man"):
             shutil.copytree(TOP / name, self.top / name)
         (self.top / "crates.txt").write_text("tftp_audit: tftp_low\n")
         for file, text, mode in (
             (self.top / "examples" / "one-block.capture", "an example", 0o644),
-            (self.top / "tests" / "run.sh", TRIED, 0o644),
+            (self.top / "tests" / "run.sh", TESTED, 0o644),
             (self.bin / "rt", STAND_IN, 0o755),
         ):
             file.parent.mkdir()
             file.write_text(text)
             file.chmod(mode)
-        self.source.write_text("one")
+        for it in (AUDIT, TRANSFERS):
+            (crates / it.crate / "src" / "main.rt").write_text("one" if it == launcher else "other")
 
     def run(
         self, *words: Word, script: Word | None = None, folder: pathlib.Path | None = None, given: str = "",
         meanwhile: str = "", errors: int = subprocess.PIPE,
     ) -> Ran:
-        """What the script writes, what it writes as errors, its status, and how often rt was called."""
+        """What the launcher writes, what it writes as errors, its status, and how often rt was called."""
         self.calls.write_text("")
-        environment = {"PATH": f"{self.bin}:{os.environ['PATH']}", "CALLS": str(self.calls), "MEANWHILE": meanwhile}
+        environment = {"PATH": f"{self.bin}:{os.environ['PATH']}", "CALLS": str(self.calls)}
+        environment |= {"MEANWHILE": meanwhile, "TRIED": self.launcher.crate}
         done = subprocess.run(
-            [script or self.top / "tftp-audit", *words],
+            [script or self.top / self.launcher.name, *words],
             input=given, cwd=folder or self.top, env=environment, text=True, stdout=subprocess.PIPE, stderr=errors,
             timeout=60,
         )
-        return done.stdout, done.stderr, done.returncode, self.calls.read_text().count("rt: run -- check\n")
+        return done.stdout, done.stderr, done.returncode, self.calls.read_text().count("rt: run -- check")
+
+    def call(self, given: str = "", meanwhile: str = "") -> Ran:
+        """The same of the words that read standard input."""
+        return self.run(*self.launcher.words, given=given, meanwhile=meanwhile)
 
     def make(self, target: str, meanwhile: str = "") -> tuple[int, str, bool]:
         """The status of a target of the Makefile, what it writes as errors, and whether the tests were run."""
@@ -101,20 +143,36 @@ class Scratch:
         _, errors, status, _ = self.run(*words, script="make", meanwhile=meanwhile)
         return status, errors, "tests were run" in self.calls.read_text()
 
+    def program_of(self, launcher: Launcher) -> pathlib.Path:
+        return self.top / "crates" / launcher.crate / "out" / launcher.crate
+
     def installed(self) -> pathlib.Path:
-        return self.top.parent / "a prefix" / "bin" / "tftp-audit"
+        return self.top.parent / "a prefix" / "bin" / self.launcher.name
+
+
+def said_of(words: Sequence[Word]) -> str:
+    """What the stand-in's program says of its words."""
+    return f"{len(words)} words {' '.join(map(str, words))}"
 
 
 class ScriptTrial(Trial):
-    """The runs of the script."""
+    """The runs of a launcher."""
+
+    def __init__(self, launcher: Launcher) -> None:
+        super().__init__()
+        self.launcher = launcher
+
+    def not_built(self) -> str:
+        return self.launcher.said("the program was not built, so nothing is run\n")
 
     def runs(
-        self, name: str, got: Ran, text: str, builds: int, words: str = "1 words check", given: str = "",
-        status: int = 0,
+        self, name: str, got: Ran, text: str, builds: int, words: str = "", given: str = "", status: int = 0
     ) -> None:
         """The program that was built of this text ran, after so many builds, and nothing else is told of it."""
         output, errors, ended, calls = got
-        told = errors == "" if builds == 0 else errors.startswith(SAYS_TIME) and "rt: progress" in errors
+        says_time = errors.startswith(self.launcher.says_time()) and "rt: progress" in errors
+        told = errors == "" if builds == 0 else says_time
+        words = words or said_of(self.launcher.words)
         holds = output == f"{text}: {words}: {given}\n" and ended == status and calls == builds and told
         self.check(name, holds, got)
 
@@ -125,61 +183,62 @@ class ScriptTrial(Trial):
 
 
 def building(trial: ScriptTrial, scratch: Scratch) -> None:
-    trial.runs("the first call", scratch.run("check", given="text"), "one", 1, given="text")
-    trial.runs("nothing changed", scratch.run("check"), "one", 0)
+    trial.runs("the first call", scratch.call("text"), "one", 1, given="text")
+    trial.runs("nothing changed", scratch.call(), "one", 0)
     got = scratch.run("--build")
     trial.check("--build, nothing changed", got == ("", "", 0, 0), got)
     scratch.source.write_text("two 1")
-    trial.refuses("a trial run that fails", scratch.run("check"), NOT_BUILT, 1)
+    trial.refuses("a trial run that fails", scratch.call(), trial.not_built(), 1)
     scratch.source.write_text("two")
-    trial.runs("an edit", scratch.run("check"), "two", 1)
+    trial.runs("an edit", scratch.call(), "two", 1)
     scratch.source.write_text("six")
     os.utime(scratch.source, (0, 0))
-    trial.runs("an edit with an old date", scratch.run("check"), "six", 1)
+    trial.runs("an edit with an old date", scratch.call(), "six", 1)
     os.utime(scratch.source, (4_000_000_000, 4_000_000_000))
     scratch.source.with_name("first.rt").write_text("edited")
-    trial.runs("an edit beside a date that is to come", scratch.run("check"), "six", 1)
-    trial.runs("nothing changed beside a date that is to come", scratch.run("check"), "six", 0)
+    trial.runs("an edit beside a date that is to come", scratch.call(), "six", 1)
+    trial.runs("nothing changed beside a date that is to come", scratch.call(), "six", 0)
     scratch.program.write_text(scratch.program.read_text().replace("six", "not ours"))
-    trial.runs("another program in its place", scratch.run("check"), "six", 1)
+    trial.runs("another program in its place", scratch.call(), "six", 1)
     crates = scratch.top / "crates"
     for file in (scratch.top / "crates.txt", crates / "tftp_low" / "proofs" / "deep" / "first.rt"):
         file.write_text("edited")
-        trial.runs(f"an edit of {file.name}", scratch.run("check"), "six", 1)
+        trial.runs(f"an edit of {file.name}", scratch.call(), "six", 1)
     for folder in ("src", "specs", "proofs"):
         file = crates / "tftp_low" / folder / "another name.rt"
         file.write_text("")
-        trial.runs(f"a file more in {folder}", scratch.run("check"), "six", 1)
+        trial.runs(f"a file more in {folder}", scratch.call(), "six", 1)
         file.unlink()
-        trial.runs(f"a file less in {folder}", scratch.run("check"), "six", 1)
+        trial.runs(f"a file less in {folder}", scratch.call(), "six", 1)
     (crates / "tftp_low" / "must-fail" / "one.edit").write_text("")
-    trial.runs("a must-fail edit more", scratch.run("check"), "six", 0)
+    trial.runs("a must-fail edit more", scratch.call(), "six", 0)
 
 
 def edits_meanwhile(trial: ScriptTrial, scratch: Scratch) -> None:
     scratch.source.write_text("three")
-    got = scratch.run("check", meanwhile="echo four >src/main.rt")
+    got = scratch.call(meanwhile="echo four >src/main.rt")
     trial.runs("an edit while it builds", got, "three", 1)
-    trial.runs("the call after it", scratch.run("check"), "four", 1)
-    trial.runs("the call after that", scratch.run("check"), "four", 0)
+    trial.runs("the call after it", scratch.call(), "four", 1)
+    trial.runs("the call after that", scratch.call(), "four", 0)
     scratch.source.write_text("five")
     meanwhile = "text=mixture; echo mixture >src/main.rt; printf five >src/main.rt"
-    trial.runs("an edit that is taken back", scratch.run("check", meanwhile=meanwhile), "mixture", 1)
-    trial.runs("the call after the edit was taken back", scratch.run("check"), "five", 1)
-    trial.runs("the next call", scratch.run("check"), "five", 0)
+    trial.runs("an edit that is taken back", scratch.call(meanwhile=meanwhile), "mixture", 1)
+    trial.runs("the call after the edit was taken back", scratch.call(), "five", 1)
+    trial.runs("the next call", scratch.call(), "five", 0)
     meanwhile = "rm ../tftp_low/src/first.rt"
     scratch.source.write_text("six")
-    trial.runs("a source that is removed while it builds", scratch.run("check", meanwhile=meanwhile), "six", 1)
-    trial.runs("the call after a source was removed", scratch.run("check"), "six", 1)
+    trial.runs("a source that is removed while it builds", scratch.call(meanwhile=meanwhile), "six", 1)
+    trial.runs("the call after a source was removed", scratch.call(), "six", 1)
 
 
 def failing(trial: ScriptTrial, scratch: Scratch) -> None:
     """A build that fails beside an older program."""
     old = scratch.program.read_bytes(), scratch.program.stat().st_mtime_ns
     scratch.source.write_text("broken")
-    for words in (["check"], ["check"], ["show"], ["--build"], ["extrac"], ["check", "tests/run.sh"]):
+    right = scratch.launcher.words
+    for words in (right, right, *scratch.launcher.others, ("--build",), ("check", "tests/run.sh")):
         got = scratch.run(*words)
-        trial.refuses(f"a failed build, {words}", got, "error: broken\n" + NOT_BUILT, 1)
+        trial.refuses(f"a failed build, {words}", got, "error: broken\n" + trial.not_built(), 1)
     for target in ("build", "install"):
         status, errors, tested = scratch.make(target)
         holds = status == 2 and "error: broken\n" in errors and not tested
@@ -191,25 +250,33 @@ def failing(trial: ScriptTrial, scratch: Scratch) -> None:
     holds = status == 2 and "error: broken\n" in errors and not tested and not scratch.program.exists()
     trial.check("a failed gate", holds, errors)
     scratch.source.write_text("mended")
-    trial.runs("a mended source", scratch.run("check"), "mended", 1)
+    trial.runs("a mended source", scratch.call(), "mended", 1)
+    trial.check("make build, where the other program is to be built", scratch.make("build")[0] == 0)
     for target in ("build", "install"):
         trial.check(f"make {target}", scratch.make(target) == (0, "", False))
-    same = scratch.installed().exists() and scratch.installed().read_bytes() == scratch.program.read_bytes()
-    trial.check("make install", same)
+    for it in (AUDIT, TRANSFERS):
+        program, installed = scratch.program_of(it), scratch.installed().with_name(it.name)
+        same = installed.exists() and installed.read_bytes() == program.read_bytes()
+        trial.check(f"make install, {it.name}", same and not installed.is_symlink())
     installed_scripts(trial, scratch)
 
 
 def installed_scripts(trial: ScriptTrial, scratch: Scratch) -> None:
-    """The scripts run from where they are installed, with the program beside them, and have their pages."""
+    """The scripts run from where they are installed, with the programs beside them, and all have their pages."""
     folder = scratch.installed().parent
-    for name in ("tftp-transfers", "tftp-explain", "tftp-ladder"):
+    for name in ("tftp-explain", "tftp-ladder"):
         done = subprocess.run([folder / name, "--help"], capture_output=True, text=True)
         trial.check(f"{name}, installed", done.returncode == 0 and done.stdout.startswith(f"usage: {name}"), done)
+    for name in (AUDIT.name, TRANSFERS.name, "tftp-explain", "tftp-ladder"):
         page = folder.parent / "share" / "man" / "man1" / f"{name}.1"
         trial.check(f"{name}, its page installed", page.is_file())
     done = subprocess.run([folder / "tftp-explain"], input="", capture_output=True, text=True)
-    holds = done.returncode == 2 and f"'{scratch.installed()}' gave no verdict" in done.stderr
+    holds = done.returncode == 2 and f"'{folder / AUDIT.name}' gave no verdict" in done.stderr
     trial.check("tftp-explain, installed, runs the program beside it", holds, done)
+    recording = TOP / "examples" / "loopback-session.pcap"
+    done = subprocess.run([folder / "tftp-explain", recording], capture_output=True, text=True)
+    holds = done.returncode == 2 and f"'{folder / TRANSFERS.name}' gave no rows" in done.stderr
+    trial.check("tftp-explain, installed, asks the program beside it for a recording's rows", holds, done)
 
 
 def gates(trial: ScriptTrial, scratch: Scratch) -> None:
@@ -220,34 +287,40 @@ def gates(trial: ScriptTrial, scratch: Scratch) -> None:
         calls = scratch.calls.read_text()
         holds = status == 0 and tested and calls == "rt: ci\ntests were run\n"
         trial.check(f"make test of {text}", holds, (errors, calls))
-        trial.runs(f"the call after make test of {text}", scratch.run("check"), text, 0)
+        trial.runs(f"the call after make test of {text}", scratch.call(), text, 0)
     status, errors, tested = scratch.make("test", meanwhile="echo later >src/main.rt")
     trial.check("an edit while the gate runs", status == 0 and tested, errors)
-    trial.runs("the call after the gate", scratch.run("check"), "later", 1)
+    trial.runs("the call after the gate", scratch.call(), "later", 1)
     meanwhile = "text=mixture; echo mixture >src/main.rt; echo later >src/main.rt"
     trial.check("an edit that is taken back while the gate runs", scratch.make("test", meanwhile)[0] == 0)
-    trial.runs("the call after that gate", scratch.run("check"), "later", 1)
+    trial.runs("the call after that gate", scratch.call(), "later", 1)
     scratch.source.write_text("mended")
     got = scratch.run("--gate")
-    trial.check("--gate", got == ("", "rt: progress on mended\n", 0, 0), got)
+    is_told = sorted(got[1].splitlines()) == ["rt: progress on mended", "rt: progress on other"]
+    trial.check("--gate", is_told and (got[0], *got[2:]) == ("", 0, 0), got)
+    trial.runs("the call after --gate", scratch.call(), "mended", 0)
+    other = TRANSFERS if scratch.launcher == AUDIT else AUDIT
+    got = scratch.run(*other.words, script=scratch.top / other.name)
+    trial.runs("the other launcher after --gate", got, "other", 0, words=said_of(other.words))
 
 
 def links(trial: ScriptTrial, scratch: Scratch) -> None:
     folder = scratch.top.parent / "a folder of links"
     folder.mkdir()
-    (folder / "whole").symlink_to(scratch.top / "tftp-audit")
-    (folder / "part").symlink_to("../the top/tftp-audit")
+    name, words = scratch.launcher.name, scratch.launcher.words
+    (folder / "whole").symlink_to(scratch.top / name)
+    (folder / "part").symlink_to(f"../the top/{name}")
     (folder / "link of a link").symlink_to("part")
     (scratch.top.parent / "link of the top").symlink_to("the top")
-    (folder / "below").symlink_to("../link of the top/tftp-audit")
-    for name in ("whole", "part", "link of a link", "below"):
-        trial.runs(f"the link {name}", scratch.run("check", script=folder / name), "mended", 0)
-        got = scratch.run("check", script=f"./{name}", folder=folder)
-        trial.runs(f"the link {name}, from its folder", got, "mended", 0)
-    got = scratch.run("../the top/tftp-audit", "check", script="sh", folder=folder)
-    trial.runs("sh and the script", got, "mended", 0)
-    (scratch.bin / "audit").symlink_to(scratch.top / "tftp-audit")
-    trial.runs("a link on PATH", scratch.run("audit", "check", script="env", folder=folder), "mended", 0)
+    (folder / "below").symlink_to(f"../link of the top/{name}")
+    for link in ("whole", "part", "link of a link", "below"):
+        trial.runs(f"the link {link}", scratch.run(*words, script=folder / link), "mended", 0)
+        got = scratch.run(*words, script=f"./{link}", folder=folder)
+        trial.runs(f"the link {link}, from its folder", got, "mended", 0)
+    got = scratch.run(f"../the top/{name}", *words, script="sh", folder=folder)
+    trial.runs("sh and the launcher", got, "mended", 0)
+    (scratch.bin / "a link").symlink_to(scratch.top / name)
+    trial.runs("a link on PATH", scratch.run("a link", *words, script="env", folder=folder), "mended", 0)
 
 
 def files(trial: ScriptTrial, scratch: Scratch) -> None:
@@ -272,9 +345,45 @@ def files(trial: ScriptTrial, scratch: Scratch) -> None:
     got = scratch.run("check", folder / "the capture")
     trial.runs("a file after an edit", got, "seven", 1, given="its text")
     scratch.source.write_text("3")
-    trial.refuses("a trial run that ends with status 3", scratch.run("check"), NOT_BUILT, 1)
+    trial.refuses("a trial run that ends with status 3", scratch.call(), trial.not_built(), 1)
     scratch.source.write_text("seven")
     scratch.run("--build")
+
+
+def recordings(trial: ScriptTrial, scratch: Scratch) -> None:
+    """The words go to the program as they are, and standard input with them; where no file can be read that is told."""
+    folder = scratch.top.parent / "a folder of recordings"
+    folder.mkdir()
+    recording = folder / "the recording"
+    recording.write_text("its bytes")
+    passed: tuple[list[Word], ...] = (
+        ["check", recording], ["check", "missing", recording], ["check", recording, "missing"],
+        ["check", "--json", "-"], ["check"], ["check", "--help"], ["check", "missing", "--json"],
+    )
+    for words in passed:
+        got = scratch.run(*words, given="other")
+        trial.runs(f"{words}", got, "mended", 0, words=said_of(words), given="other")
+    more: tuple[list[Word], ...] = (
+        ["list", recording], ["text", "2", "client", recording], [recording, "--service", "6969"], ["--version"], [],
+        ["-", "--service", "69"], ["help"], [""], ["--build", "x", "-"],
+    )
+    for words in more:
+        got = scratch.run(*words, given="other")
+        trial.runs(f"{words}", got, "mended", 0, words=said_of(words), given="other", status=2)
+    scratch.source.write_text("seven")
+    unread: tuple[list[Word], ...] = (
+        ["missing"], ["check", "missing"], ["check", "gone", "missing"], ["text", "1", "client", "missing"],
+        ["--service", "69", "missing"],
+    )
+    for words in unread:
+        got = scratch.run(*words, given="other")
+        trial.refuses(f"{words} before a build", got, "tftp-transfers: cannot read the file 'missing'\n")
+    trial.refuses("a folder", scratch.run("check", folder), f"tftp-transfers: cannot read the file '{folder}'\n")
+    got = scratch.run("check", recording, given="other")
+    words = ["check", recording]
+    trial.runs("a file after an edit", got, "seven", 1, words=said_of(words), given="other")
+    scratch.source.write_text("3")
+    trial.refuses("a trial run that ends with status 3", scratch.call(), trial.not_built(), 1)
 
 
 def on_terminal(scratch: Scratch, *words: Word) -> Ran:
@@ -303,7 +412,7 @@ def has_terminals() -> bool:
 def wrong_words(trial: ScriptTrial, scratch: Scratch) -> None:
     is_tried = has_terminals()
     for words in WRONG_WORDS:
-        said = f"{len(words)} words {' '.join(words)}"
+        said = said_of(words)
         # the stand-in's program looks at its first word alone
         status = 0 if words[:1] == ["check"] else 2
         trial.runs(f"wrong words {words}", scratch.run(*words), "seven", 0, words=said, status=status)
@@ -319,11 +428,14 @@ def wrong_words(trial: ScriptTrial, scratch: Scratch) -> None:
 
 
 def main() -> int:
-    trial = ScriptTrial()
-    with tempfile.TemporaryDirectory() as folder:
-        scratch = Scratch(pathlib.Path(folder).resolve())
-        for part in (building, edits_meanwhile, failing, gates, links, files, wrong_words):
-            part(trial, scratch)
+    trial = Trial()
+    for launcher, further in ((AUDIT, (files, wrong_words)), (TRANSFERS, (recordings,))):
+        of_one = ScriptTrial(launcher)
+        with tempfile.TemporaryDirectory() as folder:
+            scratch = Scratch(pathlib.Path(folder).resolve(), launcher)
+            for part in (building, edits_meanwhile, failing, gates, links, *further):
+                part(of_one, scratch)
+        trial.add(of_one)
     return trial.end()
 
 

@@ -3,7 +3,7 @@ from one port, each of which is lawful where its own server's and strays' datagr
 import random
 from typing import NamedTuple
 
-from tftp_tools.attribution import Datagram, Endpoint, Transfer
+from fuzzing.attribution import Datagram, Endpoint, Transfer
 
 CLIENT, SERVER, STRANGER = Endpoint("192.0.2.7", 40_000), "192.0.2.1", "192.0.2.9"
 OACK = b"\0\6blksize\x00512\0"

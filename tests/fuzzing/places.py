@@ -1,5 +1,5 @@
 """Compares the places, doubts and views that tftp_places prints of recordings with those of the definition, as
-tftp_tools has it."""
+attribution.py has it."""
 from __future__ import annotations
 
 import itertools
@@ -7,7 +7,7 @@ import random
 import subprocess
 from ipaddress import ip_address
 
-from tftp_tools.attribution import Attribution, Datagram, Endpoint, attributed
+from fuzzing.attribution import Attribution, Datagram, Endpoint, attributed
 
 
 def row(it: Datagram) -> str:

@@ -7,7 +7,7 @@ import random
 from dataclasses import dataclass, field
 from typing import Callable, Literal, Optional
 
-from tftp_tools.attribution import Datagram, Endpoint
+from fuzzing.attribution import Datagram, Endpoint
 from fuzzing.dense import data, error
 
 SERVER, STRANGER, SERVICE = "10.2.0.1", "10.1.0.9", Endpoint("10.2.0.1", 69)

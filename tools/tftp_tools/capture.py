@@ -9,7 +9,7 @@ from dataclasses import dataclass, field
 from typing import Optional
 
 FRAME = re.compile(rb"# frame ([0-9]+)(?: time ([0-9]+\.[0-9]+))?")
-DATAGRAM = re.compile(rb"(in|out) ([1-9][0-9]{0,4})(?: ([!-~]{1,45}))? ([1-9][0-9]{0,4}) ((?:[0-9A-Fa-f]{2})+|-)")
+DATAGRAM = re.compile(rb"(in|out) ([1-9][0-9]{0,4})(?: ([!-~]{1,45}))? ([1-9][0-9]{0,4}) ([0-9A-Fa-f]+|-)")
 
 
 @dataclass(frozen=True)
@@ -69,7 +69,10 @@ def read_datagram(capture: Capture, line: bytes, number: int, frame: Optional[re
     found = DATAGRAM.fullmatch(line)
     if not found or (found[3] is None) != (capture.version == 1):
         return False
-    payload = b"" if found[5] == b"-" else bytes.fromhex(found[5].decode())
+    try:
+        payload = b"" if found[5] == b"-" else bytes.fromhex(found[5].decode())
+    except ValueError:
+        return False
     seen = (int(frame[1]), frame[2].decode() if frame[2] else None) if frame else (None, None)
     host = found[3].decode() if found[3] else "-"
     ports = int(found[2]), int(found[4])

@@ -2,8 +2,8 @@
 runs, and that time in those of `show`, `check`, `wc -l` and `cat`, which are run on the same bytes in turn with it; and
 the most memory that it takes, beside the size of the file that the capture carries.
 
-    rows.py                           prints the table's head
-    rows.py PROGRAM NAME CAPTURE      prints the rows of a capture
+    table.py                           prints the table's head
+    table.py PROGRAM NAME CAPTURE      prints the rows of a capture
 """
 from __future__ import annotations
 
