@@ -46,10 +46,21 @@ fn main(rt: HostRuntime) -> ExitCode {
 /// Does what the words ask for, and answers the status.
 fn answer(rt: HostRuntime, words: &[String]) -> Result<u8> {
     match request_of(rt.alloc(), words) {
-        Ok(Request::List(asked)) => list(rt, &asked),
-        Ok(Request::Text(asked)) => write_text(rt, &asked),
+        Ok(Request::List(asked)) => told(rt, asked.file, list(rt, &asked)),
+        Ok(Request::Text(asked)) => told(rt, asked.file, write_text(rt, &asked)),
         Ok(Request::Check(asked)) => check(rt, &asked),
         Err(fault) => tell_fault(rt, &fault),
+    }
+}
+
+/// The status; a fault is told with the file that has it.
+fn told(rt: HostRuntime, file: &str, status: Result<u8>) -> Result<u8> {
+    match status {
+        Ok(status) => Ok(status),
+        Err(error) => {
+            eprintln!(rt; "tftp-transfers: {file}: {error}")?;
+            Ok(2)
+        }
     }
 }
 
