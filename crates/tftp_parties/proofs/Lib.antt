@@ -1,2 +1,2 @@
 mod Names
-mod Addresses
+pub mod Addresses

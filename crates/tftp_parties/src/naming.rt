@@ -35,6 +35,7 @@ pub fn host_of(address: &Address) -> Host
 /// An end of a datagram, with the name of its host, which is what `write_address` writes of the address.
 pub fn party_of(address: IpAddr, port: u16) -> Party
     ensures end { result.end ≡ record { address = address_of address; port = port } }
+    ensures address { IsAddress result.end.address }
     ensures host { result.host ≡ host_name result.end.address }
     ensures text { result.host ≡ ip_text address }
 {

@@ -1,2 +1,3 @@
 mod Clock
 mod Taking
+mod Writing

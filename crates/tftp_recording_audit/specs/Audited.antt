@@ -1,10 +1,12 @@
 -- What the audit of a recording keeps, and for which frames it stands. Lists have the newest first.
 use Rattle.std.specs.Prelude.{◌≡◌, ◌∷◌, ℕ, Bool, List, max, Result, Ok, Err}
 use Rattle.std.specs.BTreeMap.{BTreeMap}
+use Rattle.std.specs.List.{AllByRecursion}
 use Rattle.tftp_parties.specs.Naming.{host_name}
 use Rattle.tftp_recording.specs.History.{EventState, Step}
 use Rattle.tftp_recording_judge.specs.Kept.{StandsAfter, Watched}
 use Rattle.tftp_recording_audit.specs.Passed.{HasPassed, last_time}
+use Rattle.tftp_recording_audit.specs.Sound.{IsSoundDatagram}
 use Rattle.tftp_recording_audit.specs.declared.next.AuditFault.{AuditFault}
 use Rattle.tftp_recording_audit.specs.declared.next.AuditFault.TheVariants.{Recording, Judges}
 use Rattle.tftp_recording_audit.specs.declared.next.NextFrame.{NextFrame}
@@ -21,6 +23,7 @@ pub record AuditsAfter (a : Attribution) (watched : BTreeMap ℕ Watched) (faile
   pub frames : HasPassed history passed
   pub judges : StandsAfter a watched failed named host_name out passed
   pub time : last ≡ last_time passed
+  pub sound : AllByRecursion IsSoundDatagram passed
 
 -- the frame is that of the event
 pub record IsOf (step : Step) (event : EventState) : Type 0 where

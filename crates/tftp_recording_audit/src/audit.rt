@@ -11,6 +11,8 @@ ghost use Rattle.tftp_recording.specs.declared.fate.Fate.{Fate};
 ghost use Rattle.tftp_recording_audit.specs.Audited.{AuditsAfter, GoesOn, IsAttributed, IsNoted, IsOf};
 ghost use Rattle.tftp_recording_audit.specs.declared.next.AuditFault.{AuditFault};
 ghost use Rattle.tftp_recording_audit.specs.declared.next.NextFrame.{NextFrame};
+ghost use Rattle.tftp_recording_audit.specs.Sound.{IsSoundDatagram};
+ghost use Rattle.tftp_frames.specs.Udp.{IsSound};
 ghost use Rattle.tftp_recording_audit.specs.Passed.{IsTaken, last_time, time_by};
 ghost use Rattle.tftp_recording_judge.specs.Kept.{AreCrowded, IsWatching, StandsAfter, is_among, opened};
 ghost use Rattle.tftp_parties.specs.Naming.{host_name};
@@ -126,13 +128,13 @@ impl<D: Delivered + Drop> RecordingAudit<D> {
         time: Option<u64>,
         datagram: &Datagram<'_>,
     ) -> Result<Attributed, AttributionFault>
-        requires short { length datagram.now.payload.now ≤ 65527 }
+        requires sound { IsSound (record { source_port = datagram.now.source_port; target_port = datagram.now.target_port; payload = datagram.now.payload.now }) }
         ensures stands { (named : List ℕ) (out : List ℕ) (passed : List Recorded)
             → StandsAfter self.old.judge.attribution self.old.judge.watched self.old.judge.failed named host_name out passed
             → self.old.last_time ≡ last_time passed
             → IfOk result (λ a. (d : Recorded) × IsTaken datagram.now (time_by time passed) d × IsAttributed named passed d a
             × StandsAfter self.new.judge.attribution self.new.judge.watched self.new.judge.failed named host_name out (d ∷ passed)
-            × (self.new.last_time ≡ d.time)) }
+            × (self.new.last_time ≡ d.time) × IsSoundDatagram d) }
         ensures full { result ≡ Err AttributionFault.TooMany → (self.old.judge.attribution.count + 1 ≡ 2 ^ 64) ⊎ AreCrowded self.old.judge.watched }
         ensures fails { OnErr result (self.new.judge.failed ≡ true) }
         ensures for_good { self.old.judge.failed ≡ true → IsErr result }

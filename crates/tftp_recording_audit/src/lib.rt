@@ -2,6 +2,7 @@
 #![tactic(auto)]
 
 mod audit;
+pub mod laws;
 mod next;
 
 pub use audit::RecordingAudit;

@@ -1,5 +1,7 @@
-use Rattle.std.proofs.Common.{◌≡◌, ℕ, max, refl, ap, ◌∙◌}
+use Rattle.std.proofs.Common.{◌≡◌, ℕ, max, refl, sym, subst, ap, ◌∙◌}
 use Rattle.std.specs.Option.{unwrap_or}
+use Rattle.tftp_capture.specs.CaptureText.{IsPort}
+use Rattle.tftp_transfers.specs.declared.endpoint.Endpoint.{Endpoint}
 use Rattle.tftp_parties.specs.Naming.{host_name}
 use Rattle.tftp_transfers.specs.Doubts.{doubts_of}
 use Rattle.tftp_transfers.specs.Kept.{IsRecorded}
@@ -39,4 +41,13 @@ returns-clause-stands g c named out passed stands time =
       ),
       c.in_ok-found.ensures.stands named host_name out passed d stands of c.party_of-source.ensures.host c.party_of-target.ensures.host,
       refl,
+      record {
+        source = (c.party_of-source.ensures.address, subst (λ (e : Endpoint). IsPort e.port) (sym c.party_of-source.ensures.end) c.requires.sound.source_port);
+        target = (c.party_of-target.ensures.address, subst (λ (e : Endpoint). IsPort e.port) (sym c.party_of-target.ensures.end) c.requires.sound.target_port);
+        bytes = c.requires.sound.bytes;
+        fits = c.requires.sound.fits;
+      },
     )
+
+pub feed-requires : goal.feed-requires
+feed-requires g c = record { short = c.requires.sound.fits }

@@ -10,7 +10,7 @@ returns-clause-watched g c named out history passed after = c.pop_first.ensures.
 
 pub returns-clause-stands : goal.returns-clause-stands
 returns-clause-stands g c named out history passed after =
-    if_some _ _ c.pop_first.result (λ w judges. record { frames = after.frames; judges = judges; time = after.time })
+    if_some _ _ c.pop_first.result (λ w judges. record { frames = after.frames; judges = judges; time = after.time; sound = after.sound })
     (c.pop_first.ensures.stands named host_name out passed after.judges)
 
 pub returns-clause-first : goal.returns-clause-first

@@ -15,5 +15,6 @@ returns-in_ok-found-in-Datagram-clause-stands g c named out history passed step 
         frames = (passed, Datagram c.in-Datagram.datagram, after.frames, fate_here step c.args.event.now (Datagram c.in-Datagram.datagram) of c.in-Datagram.ensures.is, (fed.0, taken, refl));
         judges = fed.3;
         time = fed.4;
+        sound = (fed.5, after.sound);
       },
     )

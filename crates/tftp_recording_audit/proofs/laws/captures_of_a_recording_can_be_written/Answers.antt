@@ -1,0 +1,19 @@
+use Rattle.tftp_recording_audit.proofs.Writing.{all_lawful, asked_port, placed_sound}
+use Rattle.tftp_transfers.specs.Places.{placed}
+use Rattle.tftp_transfers.specs.Views.{is_at_server, is_of}
+use Rattle.tftp_views.specs.Captured.{way_at_client, way_at_server}
+use Rattle.tftp_recording_audit.proofs.laws.captures_of_a_recording_can_be_written.Goals as goal
+
+pub returns-clause-client : goal.returns-clause-client
+returns-clause-client c named passed n x sound opened short = record {
+  service = asked_port named passed n x sound opened;
+  lawful = all_lawful (is_of x.number) (way_at_client x) (placed named passed) (placed_sound named passed sound);
+  short = short;
+}
+
+pub returns-clause-server : goal.returns-clause-server
+returns-clause-server c named passed n x sound opened short = record {
+  service = asked_port named passed n x sound opened;
+  lawful = all_lawful (is_at_server x.number (placed named passed)) (way_at_server x (placed named passed)) (placed named passed) (placed_sound named passed sound);
+  short = short;
+}

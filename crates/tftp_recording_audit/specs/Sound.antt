@@ -1,0 +1,17 @@
+-- What a capture wants of the datagrams that have passed.
+use Rattle.std.specs.Prelude.{◌<◌, ◌≤◌, ℕ, length, slice_index}
+use Rattle.tftp_capture.specs.CaptureText.{IsPort}
+use Rattle.tftp_parties.specs.Naming.{IsAddress}
+use Rattle.tftp_transfers.specs.Recording.{Recorded}
+use Rattle.tftp_transfers.specs.declared.endpoint.Endpoint.{Endpoint}
+
+-- its address is one of IPv4 or IPv6, and its port none of 0
+abbrev pub IsSoundEnd : Endpoint → Type 0
+IsSoundEnd e = IsAddress e.address × IsPort e.port
+
+-- both ends are sound, and the payload is of bytes and fits a datagram of UDP (RFC 768)
+pub record IsSoundDatagram (d : Recorded) : Type 0 where
+  pub source : IsSoundEnd d.source
+  pub target : IsSoundEnd d.target
+  pub bytes : (k : ℕ) → slice_index d.payload k < 256
+  pub fits : length d.payload ≤ 65527
