@@ -71,7 +71,10 @@ impl<'a> Teller<'a> {
         if let What::Text = self.what {
             return Ok(());
         }
-        while let Some(ended) = session.pop_over() {
+        for _ in 0..session.count() {
+            let Some(ended) = session.pop_over() else {
+                return Ok(());
+            };
             self.tell(rt, ended, session.notes.lost_from())?;
         }
         Ok(())
@@ -79,7 +82,10 @@ impl<'a> Teller<'a> {
 
     /// Tells all transfers that were not told, where the recording has ended.
     pub fn tell_all(&mut self, rt: HostRuntime, session: &mut Session) -> Result<()> {
-        while let Some(ended) = session.pop() {
+        for _ in 0..session.count() {
+            let Some(ended) = session.pop() else {
+                return Ok(());
+            };
             self.tell(rt, ended, session.notes.lost_from())?;
         }
         Ok(())
