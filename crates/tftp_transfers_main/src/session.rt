@@ -11,6 +11,7 @@ use std::io::Read;
 use tftp_capture::Tallied;
 use tftp_ends::RingDelivered;
 use tftp_parties::address_of;
+use tftp_pcap::{FaultKind, PcapFault};
 use tftp_recording::{Datagram, Event, Fate, RecordingReader};
 use tftp_recording_audit::{AuditFault, NextFrame, RecordingAudit};
 use tftp_recording_judge::Watched;
@@ -57,12 +58,18 @@ impl Session {
             Ok(NextFrame::End) => Ok(false),
             Ok(NextFrame::Nothing) => self.take(alloc, event, None),
             Ok(NextFrame::Datagram(found)) => self.take(alloc, event, Some(found)),
-            Err(AuditFault::Recording(fault)) => {
-                self.notes.fault = Some(fault);
-                Ok(false)
-            }
+            Err(AuditFault::Recording(fault)) => self.stop(fault),
             Err(AuditFault::Judges(fault)) => refuse(fault),
         }
+    }
+
+    /// The recording is read no further. What was read before is told, unless memory was wanting.
+    fn stop(&mut self, fault: PcapFault) -> Result<bool> {
+        if let FaultKind::Memory = fault.kind {
+            bail!("no memory");
+        }
+        self.notes.fault = Some(fault);
+        Ok(false)
     }
 
     /// Takes what became of a frame, and where its datagram belongs.
