@@ -31,8 +31,8 @@ fn read_of_hi(alloc: Global) -> Result<String, Fail> {
 
 /// Adds what `show` writes of the read of `hi` where a fault on the line `number`, counted from 1, ends it.
 fn add_shown_before(shown: &mut String, number: usize, fault: &str) -> Result<(), AllocError> {
-    for datagram in SHOWN.iter().take(number.saturating_sub(4)) {
-        shown.push_str(datagram)?;
+    for datagram in SHOWN.get(..number.saturating_sub(4)).unwrap_or(SHOWN) {
+        shown.push_str(*datagram)?;
     }
     shown.push_str(fault)
 }

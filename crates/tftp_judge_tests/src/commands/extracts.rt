@@ -1,4 +1,4 @@
-use super::{ROOM, START, ran_on, read_of_hi, says, says_at};
+use super::{Outcome, ROOM, START, ran_on, read_of_hi, says, says_at};
 use crate::scripts::{CLIENT, Script, capture};
 use crate::verdicts::is_file;
 use std::alloc::{AllocError, Global};
@@ -120,6 +120,11 @@ type Cut = (u64, u64, &'static [u8]);
 /// A write takes seven bytes.
 const CUTS: &[Cut] = &[(0, 1, b""), (0, 3, b"11111111222222"), (2, 0, b"")];
 
+/// Whether this was written, and the status is 2.
+fn has_cut(ran: &Outcome, written: &[u8]) -> bool {
+    ran.written.taken() == written && ran.status == 2
+}
+
 /// Fails unless `extract` writes this of a text, and ends with status 2.
 fn is_cut(
     rt: &HostRuntime,
@@ -134,10 +139,11 @@ fn is_cut(
         (usize::MAX, read_fails),
         (7, write_fails, false),
     )?;
-    if it.written.taken() != written || it.status != 2 {
-        return Err(Fail::from((read_fails, write_fails, it.status)));
+    if has_cut(&it, written) {
+        Ok(())
+    } else {
+        Err(Fail::from((read_fails, write_fails, it.status)))
     }
-    Ok(())
 }
 
 /// Fails unless a text is cut so.
