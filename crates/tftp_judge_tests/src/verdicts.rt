@@ -193,6 +193,9 @@ fn fault_line(alloc: Global, fault: CaptureFault) -> Result<String, AllocError> 
     }
 }
 
+/// Lets an answer go in one place, since that is dear to prove at each of a function's exits.
+fn let_go(_found: Result<Meaning, Refusal>) {}
+
 /// The line of what a judge answers.
 fn line_of(alloc: Global, found: &Result<Meaning, Refusal>) -> Result<String, AllocError> {
     match found {
@@ -238,7 +241,9 @@ fn is_line(found: String, wanted: &str) -> Result<(), Fail> {
 /// The line of what a judge on this store says of a capture text's datagrams.
 fn judged_line<D: Delivered + Drop>(rt: &HostRuntime, text: &[u8]) -> Result<String, Fail> {
     let found = judged::<D>(rt, text)?;
-    Ok(line_of(rt.alloc(), &found)?)
+    let line = line_of(rt.alloc(), &found);
+    let_go(found);
+    Ok(line?)
 }
 
 /// Fails unless a judge on this store says this of a capture text's datagrams.
@@ -265,7 +270,10 @@ pub fn is_file<D: Delivered + Drop>(
     text: &[u8],
     file: &[u8],
 ) -> Result<(), Fail> {
-    if has_file(&judged::<D>(rt, text)?, file) {
+    let found = judged::<D>(rt, text)?;
+    let has_it = has_file(&found, file);
+    let_go(found);
+    if has_it {
         Ok(())
     } else {
         Err(Fail::new("another file, or none"))
