@@ -118,50 +118,39 @@ fn digits_of(window: &Window, number: u16) -> &'static str {
     }
 }
 
-/// Adds the beginning of the line of a block.
-fn add_number(alloc: Global, text: &mut String, number: u16) -> Result<(), AllocError> {
-    let line = format!(in alloc; "in 40000 41000 0003{number:04x}")?;
-    text.push_str(line.as_str())
-}
-
 /// Adds the line of a block.
 fn add_block(
     alloc: Global,
     text: &mut String,
-    window: &Window,
     number: u16,
+    digits: &str,
 ) -> Result<(), AllocError> {
-    add_number(alloc, text, number)?;
-    text.push_str(digits_of(window, number))?;
-    text.push_str("\n")
+    let line = format!(in alloc; "in 40000 41000 0003{number:04x}{digits}\n")?;
+    text.push_str(line.as_str())
 }
 
-/// The acknowledgement of the last block, and the total.
-fn end_of(alloc: Global, count: u16) -> Result<String, AllocError> {
-    let total = u32::from(count) + 4;
-    format!(in alloc; "out 40000 41000 0004{count:04x}\ntotal {total}\n")
+/// Adds the lines of all blocks.
+fn add_blocks(alloc: Global, text: &mut String, window: &Window) -> Result<(), AllocError> {
+    for step in 0..window.count {
+        let number = number_at(window, step);
+        add_block(alloc, text, number, digits_of(window, number))?;
+    }
+    Ok(())
 }
 
 /// Adds the acknowledgement of the last block, and the total.
 fn add_end(alloc: Global, text: &mut String, count: u16) -> Result<(), AllocError> {
-    let end = end_of(alloc, count)?;
+    let total = u32::from(count) + 4;
+    let end = format!(in alloc; "out 40000 41000 0004{count:04x}\ntotal {total}\n")?;
     text.push_str(end.as_str())
 }
 
-/// Adds the lines of such a read, with an acknowledgement of the last block at its end.
-fn add_window(alloc: Global, text: &mut String, window: &Window) -> Result<(), AllocError> {
-    text.push_str(window.mode)?;
-    text.push_str(AFTER_MODE)?;
-    for step in 0..window.count {
-        add_block(alloc, text, window, number_at(window, step))?;
-    }
-    add_end(alloc, text, window.count)
-}
-
-/// The text of such a read.
+/// The text of such a read, with an acknowledgement of the last block at its end.
 fn window_text(alloc: Global, window: &Window) -> Result<String, AllocError> {
-    let mut text = String::from_str(alloc, BEFORE_MODE)?;
-    add_window(alloc, &mut text, window)?;
+    let mode = window.mode;
+    let mut text = format!(in alloc; "{BEFORE_MODE}{mode}{AFTER_MODE}")?;
+    add_blocks(alloc, &mut text, window)?;
+    add_end(alloc, &mut text, window.count)?;
     Ok(text)
 }
 
