@@ -47,8 +47,8 @@ def try_verdicts(trial: Trial) -> None:
         begins = f"| {rule.number} | {rule.name} | "
         is_there = any(line.startswith(begins) for line in specified)
         trial.check(f"rule {rule.number} in SPECIFICATION.md", is_there, begins)
-    for name, meaning in PACKET_FAULTS.items():
-        trial.check(f"{name} in VERDICTS.md", f"| {name} | {meaning} |" in lines)
+    for name, fault in PACKET_FAULTS.items():
+        trial.check(f"{name} in VERDICTS.md", f"| {name} | {fault.says} | {fault.usually} |" in lines)
     for name in MEANINGS:
         row = f"| {name} | " if name != "Read" else "| `fault line 4 Read` | "
         trial.check(f"{name} in VERDICTS.md", any(line.startswith(row) for line in lines))

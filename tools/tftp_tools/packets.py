@@ -40,6 +40,10 @@ class Request:
     def short(self) -> str:
         return f"{'RRQ' if self.kind == 'get' else 'WRQ'} {self.name}"
 
+    def asked(self) -> str:
+        """The same with the mode and the options."""
+        return " ".join([self.short(), self.mode, *(f"{name}={value}" for name, value in self.options)])
+
 
 @dataclass(frozen=True)
 class Data:
