@@ -20,7 +20,7 @@ from tftp_tools.rules import LISTED, PACKET_FAULTS
 from tftp_tools.textfaults import MEANINGS
 from trial import Trial
 
-SCRIPTS, EXAMPLES = ("tftp-explain", "tftp-ladder"), TOP / "examples"
+SCRIPTS, EXAMPLES = ("tftp-explain", "tftp-ladder", "tftp-report"), TOP / "examples"
 # The pages that show commands with what they print.
 SHOWING = ("README.md", "docs/VERDICTS.md", "docs/RECORDING.md")
 NAMED = re.compile(r"`((?:docs|tools|tests|examples)/[A-Za-z0-9_./-]+)`")

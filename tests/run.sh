@@ -3,7 +3,7 @@
 # launchers with a stand-in for rt; that each wrong body can still be made; each growth refused, each read and each write
 # failing, in turn, and each growth in the tests of the libraries' calls; larger captures; simulated transfers and changes
 # of them, for some seconds; the recorded transfers of examples/; the datagrams that are read of recordings, and which
-# transfer they are of; the rows, lists and texts of recordings; the scripts that explain and draw; and what stands in the
+# transfer they are of; the rows, lists and texts of recordings; the scripts that explain, draw and report; and what stands in the
 # pages for readers.
 set -eu
 here=$(dirname "$0")
@@ -38,6 +38,8 @@ echo "tftp-explain:"
 python3 "$here/explaining.py" "$1" "$transfers"
 echo "tftp-ladder:"
 python3 "$here/ladder.py" "$1" "$transfers"
+echo "tftp-report:"
+python3 "$here/report.py" "$1" "$transfers"
 echo "loopback:"
 python3 "$here/loopback.py" "$transfers"
 echo "pages:"

@@ -10,6 +10,13 @@ from typing import Optional
 
 FRAME = re.compile(rb"# frame ([0-9]+)(?: time ([0-9]+\.[0-9]+))?")
 DATAGRAM = re.compile(rb"(in|out) ([1-9][0-9]{0,4})(?: ([!-~]{1,45}))? ([1-9][0-9]{0,4}) ([0-9A-Fa-f]+|-)")
+NANOSECONDS = 1_000_000_000
+
+
+def nanoseconds(time: str) -> int:
+    """Those since 1970 of a time in seconds, which is written with some decimals."""
+    whole, _, part = time.partition(".")
+    return int(whole) * NANOSECONDS + int(part[:9].ljust(9, "0"))
 
 
 @dataclass(frozen=True)
@@ -30,6 +37,12 @@ class Datagram:
 
     def peer(self) -> tuple[str, int]:
         return self.host, self.remote
+
+    def seconds_since(self, first: Datagram) -> Optional[float]:
+        """How long after another one it passed, where both have times."""
+        if self.time is None or first.time is None:
+            return None
+        return (nanoseconds(self.time) - nanoseconds(first.time)) / NANOSECONDS
 
     def place(self) -> str:
         """How a person finds it."""

@@ -103,7 +103,7 @@ class Drawing:
         self.middle = (self.columns.client() + self.columns.server()) / 2
         self.parts: list[str] = []
         self.y = float(TOP)
-        self.last_time: Optional[float] = None
+        self.last: Optional[Datagram] = None
         # where the blocks of a window stand, and whether some of it are in a fold
         self.window: list[float] = []
         self.is_part = False
@@ -129,15 +129,14 @@ class Drawing:
 
     def step(self, rung: Rung) -> None:
         """Goes down to where the next rung stands."""
-        time, distance = rung.passed.datagram.time, float(STEP)
-        now = float(time) if time is not None else None
-        if self.by_time and now is not None and self.last_time is not None:
-            distance = min(max((now - self.last_time) * PER_SECOND, LEAST), MOST)
+        distance, last = float(STEP), self.last
+        since = rung.passed.datagram.seconds_since(last) if last else None
+        if self.by_time and since is not None:
+            distance = min(max(since * PER_SECOND, LEAST), MOST)
             if distance == MOST:
-                pause = f"{now - self.last_time:.3f} s"
-                self.text(self.middle, self.y + MOST / 2, pause, 11, "muted", "middle")
+                self.text(self.middle, self.y + MOST / 2, f"{since:.3f} s", 11, "muted", "middle")
         self.y += distance
-        self.last_time = now
+        self.last = rung.passed.datagram
 
     def rung(self, rung: Rung) -> None:
         self.step(rung)
@@ -191,13 +190,8 @@ class Drawing:
         self.text(58, self.y + 4, f"{datagram.number:,}", 10, fill, "end")
         if datagram.frame is not None:
             self.text(68, self.y + 4, f"frame {datagram.frame:,}", 10, fill)
-        if (since := self.since_first(datagram)) is not None:
+        if (since := datagram.seconds_since(self.capture.datagrams[0])) is not None:
             self.text(214, self.y + 4, f"{since:.4f} s", 10, fill, "end")
-
-    def since_first(self, datagram: Datagram) -> Optional[float]:
-        """The seconds since the first datagram."""
-        first = self.capture.datagrams[0].time
-        return float(datagram.time) - float(first) if datagram.time is not None and first is not None else None
 
     def data_sender(self) -> str:
         return "server" if self.history.kind() == "get" else "client"
@@ -232,7 +226,7 @@ class Drawing:
         for words, y in zip(told_fold(row), (self.y - 16, self.y - 2)):
             self.text(self.middle, y, clipped(words, 78), 10, "muted", "middle")
         self.y += STEP / 4
-        self.last_time = None
+        self.last = None
 
     def row(self, row: Row) -> None:
         if isinstance(row, Fold):

@@ -34,8 +34,9 @@ def where(capture: Capture, datagram: Datagram) -> str:
         moment = datetime.datetime.fromtimestamp(int(datagram.time.split(".")[0]), datetime.timezone.utc)
         told.append(f"{moment:%Y-%m-%d %H:%M:%S}.{datagram.time.split('.')[1][:6]} UTC")
         first = capture.datagrams[0]
-        if first.time is not None and datagram != first:
-            told.append(f"{float(datagram.time) - float(first.time):.6f} s after datagram {first.number}")
+        since = datagram.seconds_since(first)
+        if since is not None and datagram != first:
+            told.append(f"{since:.6f} s after datagram {first.number}")
     return ", ".join(told)
 
 
@@ -73,9 +74,9 @@ def unanswered(history: History) -> Told:
     """A request to which nothing but perhaps an ERROR came back."""
     requests = [passed for passed in history.passed if isinstance(passed.packet, Request)]
     times = f"passed {count(len(requests), 'time')}"
-    first, last = requests[0].datagram.time, requests[-1].datagram.time
-    if len(requests) > 1 and first is not None and last is not None:
-        times += f" in {float(last) - float(first):.3f} s"
+    since = requests[-1].datagram.seconds_since(requests[0].datagram)
+    if len(requests) > 1 and since is not None:
+        times += f" in {since:.3f} s"
     if history.errors:
         return [("Has", f"the request, which {times}; the ERROR is the answer to it, and nothing came over.")]
     return [("Missing", f"an answer to the request, which {times}.")]

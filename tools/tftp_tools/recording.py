@@ -108,11 +108,13 @@ class Recording:
     def ask(self, *words: str) -> tuple[bytes, list[str], int]:
         return ask(self.transfers, [*words, *named(self.services), "--", self.path], self.given)
 
-    def rows(self, script: str, end: Optional[str]) -> list[Row]:
-        """The verdicts, at an end if one is named; what is told beside them is told."""
+    def rows(self, script: str, end: Optional[str], notes: Optional[list[str]] = None) -> list[Row]:
+        """The verdicts, at an end if one is named; what is told beside them is told, and added to the notes."""
         written, beside, status = self.ask("check", "--json", *(["--end", end] if end else []))
         for line in beside[: None if written else -1]:
             tell(script, line)
+            if notes is not None:
+                notes.append(line)
         rows = objects(written, row_of)
         if rows:
             return rows

@@ -26,10 +26,10 @@ class Spelling:
 
     def margin(self, rung: Rung) -> str:
         """Number, frame and time."""
-        datagram, first = rung.passed.datagram, self.capture.datagrams[0].time
+        datagram = rung.passed.datagram
         frame = f"{datagram.frame:,}" if datagram.frame is not None else ""
-        is_timed = datagram.time is not None and first is not None
-        time = f"{float(datagram.time or 0) - float(first or 0):.4f} s" if is_timed else ""
+        since = datagram.seconds_since(self.capture.datagrams[0])
+        time = f"{since:.4f} s" if since is not None else ""
         return f"{'>>' if rung.is_refused else '':2}{datagram.number:9,}{frame:>8}{time:>13} ".ljust(INDENT)
 
     def arrow(self, rung: Rung) -> str:
