@@ -1,4 +1,4 @@
-"""What tftp-explain says, as an object of JSON (docs/JSON.md)."""
+"""What tftp-explain says, as an object of JSON (docs/RECORDING.md)."""
 from __future__ import annotations
 
 import json
