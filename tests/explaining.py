@@ -443,8 +443,8 @@ def try_streams(trial: Trial, programs: Words) -> None:
     """What comes on standard input: a recording, or what is none, by its first bytes."""
     session = (EXAMPLES / "loopback-session.pcap").read_bytes()
     output, errors, status = run([*programs, "-", 3, "server"], session)
-    wanted = "refused datagram 3 rule 26 AckAhead", "", 1
-    trial.check("tftp-explain, a recording that comes in", (output.partition("\n")[0], errors, status) == wanted, output)
+    got, wanted = (output.partition("\n")[0], errors, status), ("refused datagram 3 rule 26 AckAhead", "", 1)
+    trial.check("tftp-explain, a recording that comes in", got == wanted, output)
     for name, given, told in (
         ("gzip", gzip.compress(session), "it is compressed by gzip: decompress it first"),
         ("nothing", b"", "it is empty; a capture text or a recording is wanted."),
@@ -459,8 +459,8 @@ def try_all(trial: Trial, programs: Words) -> None:
     """Each refused datagram is left out in turn; the file of what is left is that which was sent."""
     content = b"0123456789abcdef" * 40
     text = capture(
-        C, (C, READ), (S, data(1, content[:512])), (C, ack(1)), (C, ack(7)), (S, data(1, WHOLE)), (S, data(2, content[512:])),
-        (C, ack(9)), (C, ack(2)),
+        C, (C, READ), (S, data(1, content[:512])), (C, ack(1)), (C, ack(7)), (S, data(1, WHOLE)),
+        (S, data(2, content[512:])), (C, ack(9)), (C, ack(2)),
     )
     output, errors, status = run([*programs, "--all"], text)
     said, digest = plain(output), hashlib.sha256(content).hexdigest()

@@ -1,10 +1,10 @@
-"""What the programs write in JSON, by the schemas of docs/schemas: of each recording and text of examples/ each line is as its
-schema says, and changed ones are not; and the recipes of docs/RECORDING.md for jq, where that is installed.
+"""What the programs write in JSON, by the schemas of docs/schemas: of each recording and text of examples/ each line is
+as its schema says, and changed ones are not; and the recipes of docs/RECORDING.md for jq, where that is installed.
 
     schemas.py PROGRAM TRANSFERS
 
-The schemas are read by a validator of their own words, and by python3-jsonschema too where that is installed. Prints each
-case that is not as it should be, then a last line 'N passed, M failed'; status 1 if any failed.
+The schemas are read by a validator of their own words, and by python3-jsonschema too where that is installed. Prints
+each case that is not as it should be, then a last line 'N passed, M failed'; status 1 if any failed.
 """
 from __future__ import annotations
 
@@ -25,8 +25,8 @@ EXAMPLES, PAGE = TOP / "examples", TOP / "docs" / "RECORDING.md"
 TYPES: dict[str, type] = {"object": dict, "array": list, "string": str, "integer": int, "null": type(None)}
 # The words of schemas that are known here; any other would be passed over.
 WORDS = {
-    "$schema", "$defs", "$ref", "title", "description", "type", "properties", "required", "additionalProperties", "enum",
-    "pattern", "minimum", "maximum", "items", "maxItems", "anyOf",
+    "$schema", "$defs", "$ref", "title", "description", "type", "properties", "required", "additionalProperties",
+    "enum", "pattern", "minimum", "maximum", "items", "maxItems", "anyOf",
 }
 Schema = dict[str, Any]
 

@@ -1,5 +1,5 @@
-"""The plugin of share/wireshark in tshark, where that is installed: the item at the refused frame, and the fields of each
-frame of a transfer. Its rules are those of the scripts, with tshark or without.
+"""The plugin of share/wireshark in tshark, where that is installed: the item at the refused frame, and the fields of
+each frame of a transfer. Its rules are those of the scripts, with tshark or without.
 
     wireshark.py TRANSFERS
 
@@ -60,7 +60,8 @@ def try_session(trial: Trial, tshark: Tshark) -> None:
     rows = tshark.rows(session)
     trial.check("each frame's transfer", {row[0]: row[1] for row in rows} == {**of_frame, "18": ""}, rows)
     refused = "refused datagram 3 rule 26 AckAhead"
-    trial.check("a filter by rule", tshark.rows(session, "-Y", "tftp_audit.rule") == [("17", "3", "both", refused, "26")])
+    found = tshark.rows(session, "-Y", "tftp_audit.rule")
+    trial.check("a filter by rule", found == [("17", "3", "both", refused, "26")], found)
     found = tshark.rows(session, "-Y", 'tftp_audit.verdict matches "^accepted put"')
     trial.check("a filter by verdict", [row[0] for row in found] == [str(frame) for frame in frames[5]], found)
     words = "rule 26 AckAhead: an ACK says that its block and all before it came (RFC 1350, section 2, and RFC 7440"
@@ -81,7 +82,8 @@ def try_made(trial: Trial, tshark: Tshark, folder: pathlib.Path) -> None:
     found = tshark.rows(path, "-Y", "tftp_audit.rule && tftp_audit.doubt")
     trial.check("a doubt, and a file with a quote", found == wanted, found)
     shown = tshark.run(path, "-V", "-Y", "tftp_audit.rule")
-    trial.check("a doubt is a warning", "[Expert Info (Warning/Protocol): doubtful: rule 24 GoneBack" in shown, shown[-900:])
+    is_warning = "[Expert Info (Warning/Protocol): doubtful: rule 24 GoneBack" in shown
+    trial.check("a doubt is a warning", is_warning, shown[-900:])
     one, other = made.read("a", 40_000, 41_000), made.read("b", 40_000, 42_000)
     mixed = [one[0], one[1], other[0], other[1], one[2], other[2]]
     path.write_bytes(made.file_of(mixed))
@@ -98,8 +100,9 @@ def frames_by_text(transfers: str, path: pathlib.Path) -> dict[str, str]:
     """Of each frame of two transfers, which one's text has it, the first where both have."""
     found: dict[str, str] = {}
     for number in ("2", "1"):
-        done = subprocess.run([transfers, "text", number, "client", str(path)], capture_output=True, text=True, timeout=60)
-        found |= {frame: number for frame in re.findall(r"(?m)^# frame (\d+)", done.stdout)}
+        words = [transfers, "text", number, "client", str(path)]
+        text = subprocess.run(words, capture_output=True, text=True, timeout=60).stdout
+        found |= {frame: number for frame in re.findall(r"(?m)^# frame (\d+)", text)}
     return found
 
 

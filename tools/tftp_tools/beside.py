@@ -46,6 +46,14 @@ def first_difference(one: bytes, other: bytes) -> int:
     return next((at for at, pair in enumerate(zip(one, other)) if pair[0] != pair[1]), min(len(one), len(other)))
 
 
+def differing(content: bytes, other: Optional[bytes], place: int) -> frozenset[int]:
+    """Where the other payload, from this place on, has not the same byte."""
+    if other is None:
+        return frozenset()
+    beside = other[place : place + len(content)]
+    return frozenset(at for at, byte in enumerate(content) if at >= len(beside) or beside[at] != byte)
+
+
 def part_of(datagram: Datagram, other: Optional[bytes], begin: int) -> Bytes:
     """Some lines from a place on; where another payload is given, what differs from it is marked."""
     payload = datagram.payload
@@ -53,14 +61,13 @@ def part_of(datagram: Datagram, other: Optional[bytes], begin: int) -> Bytes:
     lines = []
     for place in range(begin, end, ROW):
         content = payload[place : min(place + ROW, end)]
-        marked = (at for at, byte in enumerate(content) if other is not None and other[place + at : place + at + 1] != bytes([byte]))
-        lines.append(Line(place, content, frozenset(marked)))
+        lines.append(Line(place, content, differing(content, other, place)))
     return Bytes(datagram, tuple(lines), begin, len(payload) - end)
 
 
 def bytes_beside(capture: Capture, verdict: Verdict) -> list[Bytes]:
-    """The refused datagram's bytes and those that it is compared with. Two packets of one kind and block are shown from a
-    little before where they differ, with what differs marked."""
+    """The refused datagram's bytes and those that it is compared with. Two packets of one kind and block are shown from
+    a little before where they differ, with what differs marked."""
     refused = verdict.refused()
     if refused is None:
         return []

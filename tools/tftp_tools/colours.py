@@ -1,5 +1,5 @@
-"""The colours of the pictures, by what they mean, on a light and on a dark ground. On its ground each text has a contrast
-of at least 4.5 to 1, and each line one of at least 3 to 1."""
+"""The colours of the pictures, by what they mean, on a light and on a dark ground. On its ground each text has a
+contrast of at least 4.5 to 1, and each line one of at least 3 to 1."""
 from __future__ import annotations
 
 LIGHT = {

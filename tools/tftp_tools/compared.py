@@ -80,7 +80,8 @@ def answered_from(history: History) -> Lines:
     first = next(ours, None)
     if first is None:
         return ["The server had not answered before it."]
-    return [f"The server had answered from port {first.datagram.local} in {at(first)}: the client goes on with that one."]
+    answered = f"The server had answered from port {first.datagram.local} in {at(first)}"
+    return [f"{answered}: the client goes on with that one."]
 
 
 def first_in(history: History) -> Optional[Passed]:

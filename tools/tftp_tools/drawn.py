@@ -291,7 +291,9 @@ class Drawing:
         return "\n".join([head, title, desc, *style, ground, ends, *self.parts, "</svg>\n"])
 
 
-def draw(capture: Capture, verdict: Verdict, rows: int, by_time: bool, name: str = "ladder", is_alone: bool = True) -> str:
+def draw(
+    capture: Capture, verdict: Verdict, rows: int, by_time: bool, name: str = "ladder", is_alone: bool = True
+) -> str:
     """The picture of a capture and its verdict; within a page, which has the style, it is not alone."""
     drawing = Drawing(capture, verdict, by_time, name)
     drawing.head()

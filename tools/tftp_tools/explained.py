@@ -151,11 +151,11 @@ def stopped_by(history: History) -> str:
                 " a word, or a client that took a block for the last one")
     port = history.capture.service
     if history.at_client():
-        return (f"a server that is down, or does not listen at port {port} of that address; a firewall or translation of"
-                " addresses between the two, which drops the request or the answer, since that comes from another port;"
-                " or a recording that has the requests alone, as with a filter for port 69")
-    return (f"a server that is down, or does not listen at port {port}: the requests came as far as its host; a firewall"
-            " of that host; or a recording that has the requests alone, as with a filter for port 69")
+        return (f"a server that is down, or does not listen at port {port} of that address; a firewall or translation"
+                " of addresses between the two, which drops the request or the answer, since that comes from another"
+                " port; or a recording that has the requests alone, as with a filter for port 69")
+    return (f"a server that is down, or does not listen at port {port}: the requests came as far as its host; a"
+            " firewall of that host; or a recording that has the requests alone, as with a filter for port 69")
 
 
 def explain_incomplete(capture: Capture) -> Told:

@@ -1,4 +1,5 @@
-"""What is counted of a transfer: how long it took, how fast its file came over, what was repeated, where it stood still."""
+"""What is counted of a transfer: how long it took, how fast its file came over, what was repeated, where it stood
+still."""
 from __future__ import annotations
 
 import statistics

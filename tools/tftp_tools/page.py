@@ -1,5 +1,5 @@
-"""A report on a recording as a page of HTML, which loads nothing and runs nothing: the transfers in a table, and of each
-what is to be said of it."""
+"""A report on a recording as a page of HTML, which loads nothing and runs nothing: the transfers in a table, and of
+each what is to be said of it."""
 from __future__ import annotations
 
 from collections.abc import Iterable
@@ -75,7 +75,8 @@ def page_style() -> str:
             ("body", f"background:{colours['ground']};color:{colours['words']}"), ("a", f"color:{colours['data']}"),
             ("pre", f"background:{colours['fold']};color:{colours['ink']}"), (".sound", f"color:{colours['sound']}"),
             (".refused", f"color:{colours['refused']}"), (".odd", f"color:{colours['error']}"),
-            ("mark", f"background:{colours['refused']};color:{colours['ground']}"), (".muted", f"color:{colours['muted']}"),
+            ("mark", f"background:{colours['refused']};color:{colours['ground']}"),
+            (".muted", f"color:{colours['muted']}"),
             ("th,td,section", f"border-color:{colours['edge']}"),
         )
         return "".join(f"{name}{{{rule}}}" for name, rule in rules)
@@ -113,8 +114,9 @@ def table(entries: list[Entry]) -> str:
     rows = "\n".join(table_row(it) for it in entries)
     told = "Size in bytes, in brackets what passed of a file that is not accepted. Repeated: blocks, ACKs."
     return (
-        f'<div class="wide" role="region" aria-label="The transfers" tabindex="0"><table>\n<caption>The transfers</caption>\n'
-        f"<thead><tr>{heads}</tr></thead>\n<tbody>\n{rows}\n</tbody></table></div>\n<p class=\"muted\">{told}</p>\n"
+        '<div class="wide" role="region" aria-label="The transfers" tabindex="0">\n'
+        f"<table>\n<caption>The transfers</caption>\n<thead><tr>{heads}</tr></thead>\n"
+        f'<tbody>\n{rows}\n</tbody></table></div>\n<p class="muted">{told}</p>\n'
     )
 
 
@@ -127,7 +129,8 @@ def reasons(told: Told) -> str:
 
 
 def hex_line(line: Line) -> str:
-    pairs = [f"<mark>{byte:02x}</mark>" if at in line.differs else f"{byte:02x}" for at, byte in enumerate(line.content)]
+    bytes_in_hex = [(at in line.differs, f"{byte:02x}") for at, byte in enumerate(line.content)]
+    pairs = [f"<mark>{digits}</mark>" if is_other else digits for is_other, digits in bytes_in_hex]
     room = "   " * (16 - len(pairs))
     plain = "".join(chr(byte) if 32 <= byte < 127 else "." for byte in line.content)
     return f"{line.place:05x}  {' '.join(pairs)}{room}  {escape(plain)}"
@@ -153,7 +156,8 @@ def pictures(it: Entry) -> str:
         return ""
     over_time = plot(it.capture, verdict, f"{name}-plot", is_alone=False)
     ladder = draw(it.capture, verdict, ROWS, False, f"{name}-ladder", is_alone=False)
-    return f"<h3>Blocks over time</h3>\n<figure>{over_time}</figure>\n<h3>The exchange</h3>\n<figure>{ladder}</figure>\n"
+    shown = (("Blocks over time", over_time), ("The exchange", ladder))
+    return "".join(f"<h3>{heading}</h3>\n<figure>{picture}</figure>\n" for heading, picture in shown)
 
 
 def section(it: Entry, is_drawn: bool) -> str:
@@ -163,12 +167,14 @@ def section(it: Entry, is_drawn: bool) -> str:
     if it.file:
         told.append(("File", f"{it.file.told()}."))
     name = f"t{it.number()}"
+    asked, listed = f"{it.listed.kind} {it.listed.file}", it.listed
     where = PLACES.get(it.judged.row.place if it.judged.row else "", f"recorded at the {it.judged.end}")
-    frames = f"frames {it.listed.first_frame:,} to {it.listed.last_frame:,}"
+    frames = f"frames {listed.first_frame:,} to {listed.last_frame:,}"
+    seen = f"{listed.client} and {listed.server}, {frames}; {where}, judged as the {it.judged.end} saw it"
     return (
-        f'<section aria-labelledby="{name}">\n<h2 id="{name}">{it.number()}. {escape(f"{it.listed.kind} {it.listed.file}")}'
-        f'</h2>\n<p class="{it.state()}"><strong>{escape(it.says())}</strong></p>\n'
-        f'<p class="muted">{escape(f"{it.listed.client} and {it.listed.server}, {frames}; {where}, judged as the {it.judged.end} saw it")}</p>\n'
+        f'<section aria-labelledby="{name}">\n<h2 id="{name}">{it.number()}. {escape(asked)}</h2>'
+        f'\n<p class="{it.state()}"><strong>{escape(it.says())}</strong></p>\n'
+        f'<p class="muted">{escape(seen)}</p>\n'
         f"{reasons(told)}{bytes_of(it)}{pictures(it) if is_drawn else ''}</section>\n"
     )
 
@@ -191,7 +197,8 @@ def page(path: str, entries: list[Entry], told: Iterable[str], most: int) -> str
     drawn = drawn_ones(entries, most)
     beside = [*told]
     if len(drawn) < len(entries):
-        beside.append(f"{count(len(drawn), 'transfer')} of {len(entries):,} have pictures: those not accepted come first.")
+        some = f"{count(len(drawn), 'transfer')} of {len(entries):,}"
+        beside.append(f"{some} have pictures: those not accepted come first.")
     listed = "".join(f"<li>{escape(words)}</li>" for words in beside)
     notes = f"<ul>{listed}</ul>\n" if listed else ""
     sections = "".join(section(it, it.number() in drawn) for it in entries)

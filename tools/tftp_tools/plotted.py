@@ -15,7 +15,10 @@ from .program import Verdict
 
 WIDTH, HEIGHT, LEFT, RIGHT, TOP, BOTTOM = 960, 360, 70, 20, 44, 44
 MOST_TOLD, TICKS = 5, 6
-LEGEND = (("block", "data"), ("ACK", "ack"), ("repeated", "error"), ("refused", "refused"), ("missing", "request"))
+LEGEND = (
+    ("block", "data"), ("ACK", "ack"), ("repeated block", "data again"), ("repeated ACK", "ack again"),
+    ("refused", "refused"), ("missing", "missing"),
+)
 
 
 @dataclass(frozen=True)
@@ -96,8 +99,8 @@ class Plot:
 
     def legend(self) -> None:
         x = float(LEFT + 40)
-        for words, name in LEGEND:
-            self.mark(Point(0, 0, {"block": "data", "ACK": "ack", "repeated": "data again"}.get(words, words)), x, TOP - 14)
+        for words, kind in LEGEND:
+            self.mark(Point(0, 0, kind), x, TOP - 14)
             self.text(x + 10, TOP - 10, words, "start")
             x += 40 + 7 * len(words)
 
@@ -105,10 +108,11 @@ class Plot:
         """Where nothing passed, a band that tells how long."""
         for pause in self.facts.pauses if self.is_timed else ():
             x, width = self.x(pause.begin), self.x(pause.end) - self.x(pause.begin)
-            box = f'x="{x:.1f}" y="{TOP}" width="{width:.1f}" height="{HEIGHT - TOP - BOTTOM}"'
-            self.parts.append(f'<rect {box} class="f-fold"><title>a pause of {pause.end - pause.begin:.3f} s</title></rect>')
+            box, told = f'x="{x:.1f}" y="{TOP}" width="{width:.1f}"', f"{pause.end - pause.begin:.3f} s"
+            title = f"<title>a pause of {told}</title>"
+            self.parts.append(f'<rect {box} height="{HEIGHT - TOP - BOTTOM}" class="f-fold">{title}</rect>')
             if width > 50:
-                self.text(x + width / 2, TOP + 12, f"{pause.end - pause.begin:.3f} s")
+                self.text(x + width / 2, TOP + 12, told)
 
     def mark(self, point: Point, x: float, y: float) -> None:
         """A block is a square, an ACK a dash, a repeat hollow, what is refused a cross, what is missing a ring."""
@@ -146,14 +150,16 @@ class Plot:
         told.append(f"{count(facts.repeated_blocks, 'block')} and {count(facts.repeated_acks, 'ACK')} are repeats.")
         if facts.missing:
             first = ", ".join(f"{block:,}" for block in facts.missing[:MOST_TOLD])
-            told.append(f"{count(len(facts.missing), 'block')} missing: {first}{', ..' * (len(facts.missing) > MOST_TOLD)}.")
+            more = ", .." if len(facts.missing) > MOST_TOLD else ""
+            told.append(f"{count(len(facts.missing), 'block')} missing: {first}{more}.")
         for pause in facts.pauses[:MOST_TOLD]:
             told.append(f"A pause of {pause.end - pause.begin:.3f} s after {pause.begin:.3f} s.")
         return " ".join(told)
 
     def picture(self, is_alone: bool) -> str:
-        head = f'<svg xmlns="http://www.w3.org/2000/svg" width="{WIDTH}" height="{HEIGHT}" viewBox="0 0 {WIDTH} {HEIGHT}"'
-        head += f' role="img" aria-labelledby="{self.name}-title {self.name}-desc">'
+        size = f'width="{WIDTH}" height="{HEIGHT}" viewBox="0 0 {WIDTH} {HEIGHT}"'
+        head = f'<svg xmlns="http://www.w3.org/2000/svg" {size} role="img"'
+        head += f' aria-labelledby="{self.name}-title {self.name}-desc">'
         title = f'<title id="{self.name}-title">Block numbers over time: {escape(self.verdict.line)}</title>'
         desc = f'<desc id="{self.name}-desc">{escape(self.described())}</desc>'
         style = [f"<style>{picture_style()}</style>"] if is_alone else []

@@ -14,6 +14,9 @@ ENDS: tuple[EndName, ...] = ("client", "server")
 # The first bytes of pcap, in both orders of bytes, in microseconds and nanoseconds, and of pcapng.
 MAGICS = tuple(bytes.fromhex(it) for it in ("a1b2c3d4", "d4c3b2a1", "a1b23c4d", "4d3cb2a1", "0a0d0d0a"))
 T = TypeVar("T")
+# The fields of a listed transfer.
+WORDS = ("client", "server", "kind", "mode", "file", "options")
+NUMBERS = ("number", "datagrams", "first_frame", "last_frame")
 
 
 @dataclass(frozen=True)
@@ -57,8 +60,8 @@ class Listed:
 
 @dataclass(frozen=True)
 class Judged:
-    """A capture text, the verdict on it, and why a refusal is no accusation; of a recording the transfer's row and the end
-    too."""
+    """A capture text, the verdict on it, and why a refusal is no accusation; of a recording the transfer's row and the
+    end too."""
 
     text: bytes
     verdict: Verdict
@@ -79,8 +82,9 @@ def row_of(it: dict[str, Any]) -> Row:
 
 
 def listed_of(it: dict[str, Any]) -> Listed:
-    words = (str(it[name]) for name in ("client", "server", "kind", "mode", "file", "options"))
-    return Listed(int(it["number"]), *words, *(int(it[name]) for name in ("datagrams", "first_frame", "last_frame")))
+    client, server, kind, mode, file, options = (str(it[name]) for name in WORDS)
+    number, datagrams, first, last = (int(it[name]) for name in NUMBERS)
+    return Listed(number, client, server, kind, mode, file, options, datagrams, first, last)
 
 
 def objects(written: bytes, read: Callable[[dict[str, Any]], T]) -> list[T]:

@@ -5,6 +5,7 @@ from __future__ import annotations
 import dataclasses
 import hashlib
 import re
+from collections.abc import Sequence
 from dataclasses import dataclass
 from typing import Optional
 
@@ -50,11 +51,13 @@ class Remarks:
     told: Told
     file: Optional[CameOver]
 
-    def left_out(self) -> str:
-        numbers = [f"{remark.datagram.number}" for remark in self.refused]
-        if len(numbers) < 2:
-            return f"datagram {numbers[0]}" if numbers else "none"
-        return f"datagrams {', '.join(numbers[:-1])} and {numbers[-1]}"
+
+def named(refused: Sequence[Remark]) -> str:
+    """The datagrams of these remarks, by their numbers."""
+    numbers = [f"{remark.datagram.number}" for remark in refused]
+    if len(numbers) == 1:
+        return f"datagram {numbers[0]}"
+    return f"datagrams {', '.join(numbers[:-1])} and {numbers[-1]}"
 
 
 def without(text: bytes, datagram: Datagram) -> bytes:

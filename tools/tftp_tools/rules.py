@@ -25,9 +25,9 @@ LISTED = (
     Rule(
         2, "WrongPort", "requests go to the service port of one host, and everything else to where something came"
         " from", "RFC 1350, section 4",
-        "a client that goes on with the service port, though the server answered from another one; a client that goes on"
-        " with the host that it asked, though another address of the server answered (tftp-hpa 5.2, GNU inetutils); or a"
-        " datagram of something else in the capture",
+        "a client that goes on with the service port, though the server answered from another one; a client that goes"
+        " on with the host that it asked, though another address of the server answered (tftp-hpa 5.2, GNU inetutils);"
+        " or a datagram of something else in the capture",
     ),
     Rule(
         3, "StrayAnswer", "what goes to an endpoint other than the two of the transfer is ERROR 5", "RFC 1350,"
@@ -133,8 +133,8 @@ LISTED = (
     Rule(
         23, "BlockSkipped", "a sender sends its blocks one after another",
         "RFC 1350, section 5, and RFC 7440, section 4",
-        "datagrams are missing in the capture: it was filtered, or recorded elsewhere than at the sender, where what had"
-        " been lost on the way did not come by",
+        "datagrams are missing in the capture: it was filtered, or recorded elsewhere than at the sender, where what"
+        " had been lost on the way did not come by",
     ),
     Rule(
         24, "GoneBack", "in lock step a sender does not send an earlier block again", "RFC 1350, section 2, as RFC"

@@ -1,5 +1,5 @@
-"""The rungs of a ladder: a datagram each, and where a capture has too many, runs of lawful ones without anything of note,
-folded into one."""
+"""The rungs of a ladder: a datagram each, and where a capture has too many, runs of lawful ones without anything of
+note, folded into one."""
 from __future__ import annotations
 
 from collections.abc import Iterator

@@ -1,5 +1,5 @@
-"""The capture texts that are asked for, and their verdicts: that of a file, or of transfers of a recording, each at one of
-its ends."""
+"""The capture texts that are asked for, and their verdicts: that of a file, or of transfers of a recording, each at one
+of its ends."""
 from __future__ import annotations
 
 import argparse
@@ -82,8 +82,8 @@ def chosen(script: str, asked: argparse.Namespace) -> Judged:
 
 
 class Several:
-    """The texts that a script is asked for: of a recording the transfer that is named, or the only one, or else each that
-    is not accepted."""
+    """The texts that a script is asked for: of a recording the transfer that is named, or the only one, or else each
+    that is not accepted."""
 
     def __init__(self, script: str, asked: argparse.Namespace) -> None:
         self.asked = asked
