@@ -181,8 +181,9 @@ def section(it: Entry, is_drawn: bool) -> str:
 
 def summed(entries: list[Entry]) -> str:
     odd = sum(it.judged.verdict.status != 0 for it in entries)
-    transfers = count(len(entries), "transfer")
-    return f"{transfers}, each accepted" if not odd else f"{transfers}, {odd:,} of them not accepted"
+    if len(entries) == 1:
+        return f"1 transfer, {'not ' if odd else ''}accepted"
+    return f"{len(entries):,} transfers, {f'{odd:,} of them not' if odd else 'each'} accepted"
 
 
 def drawn_ones(entries: list[Entry], most: int) -> set[int]:

@@ -46,13 +46,10 @@ def points_of(capture: Capture, verdict: Verdict) -> list[Point]:
     return points
 
 
-def steps(most: float) -> Iterator[float]:
-    """Round numbers from 0 to the most, some few."""
-    if most <= 0:
-        yield 0
-        return
+def steps(most: float, least: float) -> Iterator[float]:
+    """Round numbers from 0 to the most, some few, and no nearer to one another than the least."""
     power = 10.0 ** math.floor(math.log10(most / TICKS))
-    step = next(power * times for times in (1, 2, 5, 10) if most / (power * times) <= TICKS)
+    step = max(least, next(power * times for times in (1, 2, 5, 10) if most / (power * times) <= TICKS))
     for place in range(int(most / step) + 1):
         yield place * step
 
@@ -88,11 +85,11 @@ class Plot:
         bottom, right = HEIGHT - BOTTOM, WIDTH - RIGHT
         self.line((LEFT, bottom, right, bottom), "words")
         self.line((LEFT, TOP, LEFT, bottom), "words")
-        for across in steps(self.most):
+        for across in steps(self.most, 0 if self.is_timed else 1):
             self.line((self.x(across), bottom, self.x(across), bottom + 4), "words")
             self.text(self.x(across), bottom + 16, f"{across:.6g}")
         self.text((LEFT + right) / 2, bottom + 32, "seconds" if self.is_timed else "datagrams (the text has no times)")
-        for block in steps(self.highest):
+        for block in steps(self.highest, 1):
             self.line((LEFT - 4, self.y(block), LEFT, self.y(block)), "words")
             self.text(LEFT - 8, self.y(block) + 3, f"{block:,.6g}", "end")
         self.text(14, TOP - 10, "block", "start")
@@ -134,7 +131,7 @@ class Plot:
     def marks(self) -> None:
         """Each mark once at a place, and above the others what is of note."""
         placed = {(round(self.x(it.across)), round(self.y(it.block)), it.kind): it for it in self.points}
-        order = ("ack", "data", "ack again", "data again", "refused")
+        order = ("data", "ack", "ack again", "data again", "refused")
         for (x, y, _), point in sorted(placed.items(), key=lambda pair: order.index(pair[1].kind)):
             self.mark(point, x, y)
         rings = {round(self.y(block)) for block in self.facts.missing}
