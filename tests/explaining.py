@@ -121,7 +121,7 @@ RULES = (
     ),
     refused(
         1, "5 Malformed UnknownMode", capture(C, (C, (b"\0\1a\0octte\0", "RRQ"))), 'Its mode is "octte", at byte 5.',
-        "Usually: a client with a mode of its own",
+        "Usually: not seen of real software: a client with a mode of its own would do so.",
     ),
     refused(1, "5 Malformed MailMode", capture(C, (C, (b"\0\1a\0mail\0", "RRQ"))), 'Its mode is "mail", at byte 5.'),
     refused(

@@ -178,36 +178,38 @@ PACKET_FAULTS = {
     ),
     "Opcode": PacketFault(
         "its opcode, the first two bytes, is not 1 to 6",
-        "something else than TFTP at the transfer's port, as a probe of a scanner, or an end that sends garbage",
+        "not seen of real software: something else than TFTP at the transfer's port would be so, as a scanner's probe",
     ),
     "AckLength": PacketFault(
         "an ACK has 4 bytes, and this one has not",
-        "an end that sends more of its buffer than the ACK, or fills it up",
+        "not seen of real software: an end that sends more of its buffer than the ACK would do so",
     ),
     "NoTerminator": PacketFault(
         "the zero byte that ends its last text is missing, or is not its last byte",
-        "an ERROR without its last zero byte (curl, Apache Commons Net) or with two (Go pin); a request that its client"
-        " cut off or filled up",
+        "an ERROR without its last zero byte (curl, Apache Commons Net) or with two (Go pin)",
     ),
     "OddOptions": PacketFault(
         "an option's name has no value behind it",
-        "an end that sends an option's name alone, or whose value has a zero byte in it",
+        "not seen of real software: an end that sends an option's name alone would do so",
     ),
     "EmptyOptionName": PacketFault(
         "an option has no name",
-        "an end that writes two zero bytes behind a text, or fills its packet up with zero bytes",
+        "not seen of real software: an end that fills its packet up with zero bytes would do so",
     ),
     "DuplicateOption": PacketFault(
         "an option stands twice in it",
-        "an option that is set by hand and sent by the client of itself too",
+        "not seen of real software: a client would do so whose user names an option that it sends of itself",
     ),
     "UnknownMode": PacketFault(
         "its mode is not octet or netascii",
-        "a client with a mode of its own (binary, image), or a misspelt one",
+        "not seen of real software: a client with a mode of its own would do so",
     ),
-    "MailMode": PacketFault("its mode is mail, which is obsolete", "a very old client, or a probe of a scanner"),
+    "MailMode": PacketFault(
+        "its mode is mail, which is obsolete",
+        "not seen of real software: a very old client would do so",
+    ),
     "RequestTooLong": PacketFault(
         "a request with options has at most 512 bytes",
-        "a long path, with the options that the client always sends",
+        "not seen of real software: a long path with many options would do so",
     ),
 }
