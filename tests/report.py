@@ -117,6 +117,8 @@ def try_table(trial: Trial, programs: Words) -> None:
         "It follows the ERROR in datagram 2 (line 8, frame 16), which is not acknowledged; this does no harm.",
         "Refused: datagram 3 (line 10, frame 17)", "00000 00 04 00 01",
         "Compared with: datagram 2 (line 8, frame 16)",
+        "What if No verdict: what follows is what the program says once the datagrams that it refused are left out.",
+        "Without datagram 3: aborted by peer code 1.",
     ):
         trial.check(f"a session, {told}", told in words, words[:3000])
     heads = [it for it in page.named("th") if it.get("scope") == "col"]

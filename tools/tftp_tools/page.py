@@ -17,7 +17,7 @@ from .facts import Facts
 from .packets import count, words_of
 from .plotted import plot
 from .recording import Judged, Listed
-from .remarks import CameOver
+from .remarks import NO_VERDICT, CameOver, Remarks, named
 
 ROWS = 60
 HEADINGS = ("No.", "Client", "Server", "File", "Size", "Options agreed", "Seconds", "Throughput", "Repeated", "Verdict")
@@ -43,13 +43,14 @@ svg{max-width:100%;height:auto}
 
 @dataclass(frozen=True)
 class Entry:
-    """A transfer, as the page has it; the file where it is accepted."""
+    """A transfer, as the page has it; the file where it is accepted, and what would be said further where it is refused."""
 
     listed: Listed
     judged: Judged
     capture: Capture
     facts: Facts
     file: Optional[CameOver]
+    remarks: Optional[Remarks] = None
 
     def number(self) -> int:
         return self.listed.number
@@ -150,6 +151,22 @@ def bytes_of(it: Entry) -> str:
     return f'<h3>The bytes</h3>\n<div class="beside">\n{shown}\n</div>\n' if parts else ""
 
 
+def what_if(it: Entry) -> str:
+    """What would be said further, which is no verdict."""
+    if it.remarks is None or not it.remarks.refused:
+        return ""
+    items = "".join(
+        f"<li>{escape(f'{remark.datagram.place()}: rule {remark.rule()}: {remark.says()}')}</li>"
+        for remark in it.remarks.refused
+    )
+    ended = f"Without {named(it.remarks.refused)}: {it.remarks.left.line}"
+    ended += f"; the file has {it.remarks.file.told()}" if it.remarks.file else ""
+    return (
+        f"<h3>What if</h3>\n<p>{escape(NO_VERDICT.capitalize())}</p>\n<ol>{items}</ol>\n"
+        f'<p class="muted">{escape(ended)}.</p>\n'
+    )
+
+
 def pictures(it: Entry) -> str:
     name, verdict = f"t{it.number()}", it.judged.verdict
     if not it.capture.datagrams:
@@ -175,7 +192,7 @@ def section(it: Entry, is_drawn: bool) -> str:
         f'<section aria-labelledby="{name}">\n<h2 id="{name}">{it.number()}. {escape(asked)}</h2>'
         f'\n<p class="{it.state()}"><strong>{escape(it.says())}</strong></p>\n'
         f'<p class="muted">{escape(seen)}</p>\n'
-        f"{reasons(told)}{bytes_of(it)}{pictures(it) if is_drawn else ''}</section>\n"
+        f"{reasons(told)}{bytes_of(it)}{what_if(it)}{pictures(it) if is_drawn else ''}</section>\n"
     )
 
 

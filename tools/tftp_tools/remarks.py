@@ -13,8 +13,10 @@ from .capture import Capture, Datagram, read_capture
 from .explained import Told, explain, explain_refused
 from .packets import count
 from .program import Verdict, check, file_of
+from .rules import RULES
 
 MOST = 20
+NO_VERDICT = "no verdict: what follows is what the program says once the datagrams that it refused are left out."
 TOTAL = re.compile(rb"total ([0-9]+)")
 
 
@@ -25,6 +27,11 @@ class Remark:
     datagram: Datagram
     verdict: Verdict
     told: Told
+
+    def says(self) -> str:
+        """What the rule asks for."""
+        found = self.verdict.refused()
+        return RULES[found[1]].says if found else ""
 
     def rule(self) -> str:
         """The rule that it breaks, as the program writes it."""
