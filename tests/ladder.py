@@ -114,17 +114,15 @@ def try_colours(trial: Trial, program: str) -> None:
     """Each text's contrast is 4.5 or more and each line's 3, by the colours of the style, in light and in dark."""
     picture = Picture(run(["--program", program], window_read().text())[0])
     light, _, dark = picture.style.partition("@media (prefers-color-scheme:dark)")
-    texts = {each.get("class", "")[2:] for each in picture.root.iter(f"{SVG}text")}
+    texts = {each.get("class", "")[2:] for each in picture.root.iter(f"{SVG}text")} | {"sound", "refused"}
     for name, style in (("light", light), ("dark", dark)):
         colours = dict(re.findall(r"[.]f-(\w+)\{fill:(#\w{6})\}", style))
         strokes = dict(re.findall(r"[.]s-(\w+)\{stroke:(#\w{6})\}", style))
         trial.check(f"{name}: lines have the colours of their heads", strokes == colours and len(colours) > 10, style)
-        for text in texts | {"sound", "refused"}:
-            least = min(contrast(colours[text], colours[ground]) for ground in ("ground", "fold"))
-            trial.check(f"{name}: the text {text}", least >= 4.5, least)
-        for line in colours.keys() - {"ground", "fold"}:
-            least = contrast(colours[line], colours["ground"])
-            trial.check(f"{name}: the line {line}", least >= 3, least)
+        least = {text: min(contrast(colours[text], colours[it]) for it in ("ground", "fold")) for text in texts}
+        trial.check(f"{name}: each text", min(least.values()) >= 4.5, least)
+        lines = {line: contrast(colours[line], colours["ground"]) for line in colours.keys() - {"ground", "fold"}}
+        trial.check(f"{name}: each line", min(lines.values()) >= 3, lines)
 
 
 def try_words(trial: Trial, program: str) -> None:
@@ -203,7 +201,9 @@ def try_recordings(trial: Trial, program: str, transfers: str) -> None:
         output, errors, status = run(["--program", program, "--transfers", transfers, recording, *words], b"")
         picture = Picture(output)
         is_red = picture.heads.count(RED) == 1 and picture.has("ACK 1, rule 26 AckAhead")
-        trial.check(f"of a recording, {words}", (errors, status) == ("", 0) and is_red, (picture.words, errors))
+        are_named = picture.has("192.0.2.1 port 34056") and picture.has("192.0.2.1 port 42245")
+        holds = (errors, status) == ("", 0) and is_red and are_named
+        trial.check(f"of a recording, {words}", holds, (picture.words, errors))
     output, errors, status = run(["--program", program, "--transfers", transfers, recording, 1, "server"], b"")
     picture = Picture(output)
     is_whole = len(picture.heads) == 7 and picture.has("server (recorded here)")

@@ -239,12 +239,21 @@ class Drawing:
         self.text(14, 50, clipped(transfer(self.history), 130), 12)
         self.text(14, 70, count(len(self.capture.datagrams), "datagram"), 12, "muted")
         self.legend()
-        peer, here = self.history.peer, self.capture.end
         for end in ("client", "server"):
-            x, is_here = self.columns.at(end), end == here
+            x, is_here = self.columns.at(end), end == self.capture.end
             self.text(x, TOP - 34, f"{end} (recorded here)" if is_here else end, 13, "ink", "middle")
-            where = f"port {self.history.local}" if is_here else side(*peer) if peer else ""
-            self.text(x, TOP - 19, where, 10, "muted", "middle")
+            self.text(x, TOP - 19, self.here() if is_here else self.there(), 10, "muted", "middle")
+
+    def here(self) -> str:
+        """Where the named end is."""
+        return self.capture.here or f"port {self.history.local}"
+
+    def there(self) -> str:
+        """Where the other end is."""
+        return side(*self.history.peer) if self.history.peer else ""
+
+    def asides(self) -> None:
+        """The names of the lines beside the named end."""
         for name in self.columns.asides:
             x = self.columns.named(name)
             self.text(x, TOP - 19, clipped(name, ASIDE_NAME), 10, "muted", "middle")
@@ -268,9 +277,9 @@ class Drawing:
             (sum(rung.is_after for rung in self.rungs), "not judged"),
         ):
             told += [f"{number:,} {'is' if number == 1 else 'are'} {what}."] if number else []
-        for rung in self.rungs:
-            if rung.is_refused and (refused := self.verdict.refused()):
-                told.append(f"Refused is {self.hover(rung)}. The rule: {RULES[refused[1]].says}.")
+        refused, rung = self.verdict.refused(), next((rung for rung in self.rungs if rung.is_refused), None)
+        if refused and rung:
+            told.append(f"Refused is {self.hover(rung)}. The rule: {RULES[refused[1]].says}.")
         return " ".join(told)
 
     def picture(self, is_alone: bool) -> str:
@@ -297,6 +306,7 @@ def draw(
     """The picture of a capture and its verdict; within a page, which has the style, it is not alone."""
     drawing = Drawing(capture, verdict, by_time, name)
     drawing.head()
+    drawing.asides()
     for row in folded(drawing.rungs, rows):
         drawing.row(row)
     drawing.end_window(drawing.data_sender())

@@ -81,14 +81,18 @@ class Plot:
         x1, y1, x2, y2 = ends
         self.parts.append(f'<line x1="{x1:.1f}" y1="{y1:.1f}" x2="{x2:.1f}" y2="{y2:.1f}" class="s-{name}" {more}/>')
 
-    def axes(self) -> None:
+    def across(self) -> None:
+        """The axis of time."""
         bottom, right = HEIGHT - BOTTOM, WIDTH - RIGHT
         self.line((LEFT, bottom, right, bottom), "words")
-        self.line((LEFT, TOP, LEFT, bottom), "words")
         for across in steps(self.most, 0 if self.is_timed else 1):
             self.line((self.x(across), bottom, self.x(across), bottom + 4), "words")
             self.text(self.x(across), bottom + 16, f"{across:.6g}")
         self.text((LEFT + right) / 2, bottom + 32, "seconds" if self.is_timed else "datagrams (the text has no times)")
+
+    def upward(self) -> None:
+        """The axis of blocks."""
+        self.line((LEFT, TOP, LEFT, HEIGHT - BOTTOM), "words")
         for block in steps(self.highest, 1):
             self.line((LEFT - 4, self.y(block), LEFT, self.y(block)), "words")
             self.text(LEFT - 8, self.y(block) + 3, f"{block:,.6g}", "end")
@@ -129,11 +133,14 @@ class Plot:
             self.parts.append(f'<path d="{path}" class="hollow s-refused" stroke-width="3"/>')
 
     def marks(self) -> None:
-        """Each mark once at a place, and above the others what is of note."""
+        """Each mark of a datagram once at a place, and above the others what is of note."""
         placed = {(round(self.x(it.across)), round(self.y(it.block)), it.kind): it for it in self.points}
         order = ("data", "ack", "ack again", "data again", "refused")
         for (x, y, _), point in sorted(placed.items(), key=lambda pair: order.index(pair[1].kind)):
             self.mark(point, x, y)
+
+    def rings(self) -> None:
+        """A ring for each block that is missing."""
         rings = {round(self.y(block)) for block in self.facts.missing}
         for y in sorted(rings):
             self.mark(Point(0, 0, "missing"), LEFT, y)
@@ -167,6 +174,6 @@ class Plot:
 def plot(capture: Capture, verdict: Verdict, name: str = "plot", is_alone: bool = True) -> str:
     """The picture of a capture; within a page, which has the style, it is not alone."""
     drawn = Plot(capture, verdict, name)
-    for part in (drawn.pauses, drawn.axes, drawn.legend, drawn.marks):
+    for part in (drawn.pauses, drawn.across, drawn.upward, drawn.legend, drawn.marks, drawn.rings):
         part()
     return drawn.picture(is_alone)
