@@ -123,6 +123,10 @@ RULES = (
         1, "5 Malformed UnknownMode", capture(C, (C, (b"\0\1a\0octte\0", "RRQ"))), 'Its mode is "octte", at byte 5.',
         "Usually: not seen of real software: a client with a mode of its own would do so.",
     ),
+    refused(
+        1, "5 Malformed UnknownMode", capture(C, (C, (b"\0\1a\0oc\x1b\xfft\0", "RRQ"))),
+        'asks to read "a" in mode "oc\\x1b\\xfft", no options.', 'Its mode is "oc\\x1b\\xfft", at byte 5.',
+    ),
     refused(1, "5 Malformed MailMode", capture(C, (C, (b"\0\1a\0mail\0", "RRQ"))), 'Its mode is "mail", at byte 5.'),
     refused(
         1, "5 Malformed RequestTooLong", capture(C, (C, read_request("a" * 500, "octet", tsize=0))),

@@ -1,5 +1,5 @@
-"""The pages of tools/tftp-report: what stands in them of each transfer, that they load nothing, and that a browser shows
-them where one is installed.
+"""The pages of tools/tftp-report: what stands in them of each transfer, that they load nothing, and that a browser
+shows them where one is installed.
 
     report.py PROGRAM TRANSFERS
 

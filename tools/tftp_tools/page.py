@@ -43,7 +43,8 @@ svg{max-width:100%;height:auto}
 
 @dataclass(frozen=True)
 class Entry:
-    """A transfer, as the page has it; the file where it is accepted, and what would be said further where it is refused."""
+    """A transfer, as the page has it; the file where it is accepted, and what would be said further where it is
+    refused."""
 
     listed: Listed
     judged: Judged
