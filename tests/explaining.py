@@ -8,6 +8,8 @@ Prints each case that is not as it should be, then a last line 'N passed, M fail
 from __future__ import annotations
 
 import dataclasses
+import gzip
+import hashlib
 import pathlib
 import subprocess
 import sys
@@ -86,7 +88,60 @@ RULES = (
     refused(
         2, "5 Malformed NoTerminator", capture(C, (C, READ), (S, NO_ZERO)),
         "The fault is NoTerminator: the zero byte that ends its last text is missing, or is not its last byte.",
-        "It has 11 bytes, the last is 0x65.",
+        "The ERROR has 11 bytes, the last is 0x65.",
+    ),
+    refused(
+        2, "5 Malformed NoTerminator", capture(C, (C, READ), (S, (b"\0\5\0\1no file\0\0", "ERROR with two zeros"))),
+        "The ERROR's text ends with the zero byte at byte 12 of 13 bytes; behind it stands 00.",
+    ),
+    refused(
+        2, "5 Malformed Short", capture(C, (C, READ), (S, (b"\0\3\0", "DATA that is cut"))),
+        "It begins as DATA and has 3 bytes; opcode and block number are 4.", "Usually: DATA that is cut short (atftpd",
+    ),
+    refused(
+        2, "5 Malformed Opcode", capture(C, (C, READ), (S, (b"\0\7\0\1", "opcode 7"))),
+        "Its first two bytes are 00 07, opcode 7.",
+    ),
+    refused(
+        3, "5 Malformed AckLength", capture(C, (C, READ), (S, data(1, b"hi")), (C, (b"\0\4\0\1\xaa", "ACK of 5"))),
+        "It begins as an ACK and has 5 bytes.", "Behind its fourth byte stands aa.",
+    ),
+    refused(
+        2, "5 Malformed OddOptions", capture(C, (C, READ_IN_WINDOWS), (S, (b"\0\6tsize\0" + b"9\0blksize\0", "OACK"))),
+        'The last option, "blksize" at byte 11, has no value.',
+    ),
+    refused(
+        2, "5 Malformed EmptyOptionName", capture(C, (C, READ_IN_WINDOWS), (S, (b"\0\6\0" + b"8\0", "OACK"))),
+        'At byte 3 stands an empty name; its value is "8".',
+    ),
+    refused(
+        2, "5 Malformed DuplicateOption",
+        capture(C, (C, READ_IN_WINDOWS), (S, (b"\0\6blksize\0" + b"8\0BlkSize\0" + b"9\0", "OACK"))),
+        'Its option "blksize" at byte 3 with the value "8", and again "BlkSize" at byte 13 with the value "9".',
+    ),
+    refused(
+        1, "5 Malformed UnknownMode", capture(C, (C, (b"\0\1a\0octte\0", "RRQ"))), 'Its mode is "octte", at byte 5.',
+        "Usually: not seen of real software: a client with a mode of its own would do so.",
+    ),
+    refused(
+        1, "5 Malformed UnknownMode", capture(C, (C, (b"\0\1a\0oc\x1b\xfft\0", "RRQ"))),
+        'asks to read "a" in mode "oc\\x1b\\xfft", no options.', 'Its mode is "oc\\x1b\\xfft", at byte 5.',
+    ),
+    refused(1, "5 Malformed MailMode", capture(C, (C, (b"\0\1a\0mail\0", "RRQ"))), 'Its mode is "mail", at byte 5.'),
+    refused(
+        1, "5 Malformed RequestTooLong", capture(C, (C, read_request("a" * 500, "octet", tsize=0))),
+        "The RRQ has 517 bytes, which is 5 more.",
+    ),
+    refused(
+        3, "2 WrongPort", capture(C, (C, READ), (S, data(1, WHOLE)), At(C, ack(1), server=69)),
+        "Port 69 is the service port: requests go there, and nothing else.",
+        "The other end is at port 41000, fixed by datagram 2 (line 5).",
+        "Usually: a client that goes on with the service port, though the server answered from another one",
+    ),
+    refused(
+        3, "2 WrongPort", capture(S, (C, READ), (S, data(1, WHOLE)), At(C, ack(1), server=69)),
+        "It comes to the service port 69, where requests of the client alone may come.",
+        "The server had answered from port 41000 in datagram 2 (line 5): the client goes on with that one.",
     ),
     refused(
         3, "6 WrongKind", capture(C, (C, READ), (S, data(1, WHOLE)), (C, data(1, b"hi"))),
@@ -105,6 +160,7 @@ RULES = (
     refused(
         4, "9 RequestAfterStart", capture(C, (C, READ), (S, data(1, WHOLE)), (C, ack(1)), (C, READ)),
         "The client had gone on: datagram 3 (line 6) is ACK 1.",
+        "That holds if the recording was made at the client: elsewhere its datagrams may be missing or come by late.",
     ),
     refused(
         3, "10 ReplyChanged", capture(C, (C, READ_IN_WINDOWS), (S, data(1, WHOLE)), (S, oack(**WINDOWED))),
@@ -167,11 +223,13 @@ RULES = (
         5, "23 BlockSkipped",
         capture(S, (C, READ_IN_WINDOWS), (S, oack(**WINDOWED)), (C, ack(0)), (S, data(1, EIGHT)), (S, data(3, EIGHT))),
         "The highest block sent before it is 1 in datagram 4 (line 7).", "The next one is 2, and this is block 3.",
+        "That holds if the recording was made at the server:",
     ),
     refused(
         6, "24 GoneBack",
         capture(C, (C, WRITE), (S, ack(0)), (C, data(1, WHOLE)), (S, ack(1)), (C, data(2, WHOLE)), (C, data(1, WHOLE))),
         "The highest block sent before it is 2 in datagram 5 (line 8).", "This is lock step: no window was agreed.",
+        "That holds if the recording was made at the client:",
     ),
     refused(
         4, "25 BlockChanged",
@@ -208,6 +266,15 @@ in 40000 192.0.2.1 41000 000300016869
 out 40000 192.0.2.1 41000 00040002
 total 3
 """
+ASKED_TWICE = """tftp-capture 2
+end client
+service 69
+# frame 1 time 1795414191.000000000
+out 40000 192.0.2.1 69 000161006f6374657400
+# frame 2 time 1795414196.000000000
+out 40000 192.0.2.1 69 000161006f6374657400
+total 2
+"""
 SOUND = capture(C, (C, READ), (S, data(1, b"hi")), (C, ack(1)))
 OTHERS = (
     Case(
@@ -221,14 +288,44 @@ OTHERS = (
     Case("accepted get octet blocks 1 bytes 2", SOUND, ('a read of "a" in mode octet, at the client', "3 datagrams.")),
     Case(
         "aborted by peer code 1", capture(C, (C, READ), (S, error(1, "File not found"))),
-        ('ERROR, code 1 (file not found), message "File not found".', "the server. No rule was broken."),
+        (
+            'ERROR, code 1 (file not found), message "File not found".', "the server. No rule was broken.",
+            "the request, which passed 1 time; the ERROR is the answer to it, and nothing came over.",
+        ),
     ),
     Case(
         "aborted by local code 3", capture(S, (C, WRITE), (S, ack(0)), (C, data(1, WHOLE)), (S, error(3, "full"))),
         ("the server. No rule was broken.", "block 1 came in; the highest ACK sent is 0 in datagram 2 (line 5)."),
     ),
     Case("incomplete after 0", capture(C), ("the request, and all that follows it.",)),
-    Case("incomplete after 2", capture(C, (C, READ), (C, READ)), ("an answer to the request, which passed 2 times.",)),
+    Case(
+        "incomplete after 2", capture(C, (C, READ), (C, READ)),
+        (
+            "an answer to the request, which passed 2 times.",
+            "Usually: a server that is down, or does not listen at port 69 of that address; a firewall",
+        ),
+    ),
+    Case(
+        "incomplete after 2", capture(S, (C, READ), (C, READ)),
+        ("a server that is down, or does not listen at port 69: the requests came as far as its host;",),
+    ),
+    Case("incomplete after 2", ASKED_TWICE.encode(), ("an answer to the request, which passed 2 times in 5.000 s.",)),
+    Case(
+        "incomplete after 2", capture(C, (C, READ_IN_WINDOWS), (S, oack(**WINDOWED))),
+        (
+            "ACK 0, by which the client answers the OACK in datagram 2 (line 5), and all that follows it.",
+            "an OACK that the client did not get or does not know",
+        ),
+    ),
+    Case(
+        "incomplete after 2", capture(S, (C, READ_IN_WINDOWS), (S, oack(**WINDOWED))),
+        ("ACK 0, by which the client answers the OACK in datagram 2 (line 5)",),
+    ),
+    Case(
+        "incomplete after 4",
+        capture(C, (C, read_request("a", "octet", tsize=0)), (S, oack(tsize=1300)), (C, ack(0)), (S, data(1, WHOLE))),
+        ("block 2 and what follows: the last one is block 3, by the size agreed (1,300 bytes in blocks of 512).",),
+    ),
     Case(
         "incomplete after 3", capture(C, (C, READ), (S, data(1, WHOLE)), (C, ack(1))),
         ("block 2 and what follows: none was shorter than a block (512 bytes).",),
@@ -281,15 +378,20 @@ def try_cases(trial: Trial, program: str) -> None:
 
 def try_examples(trial: Trial, programs: Words) -> None:
     """The transfer and end that are named, or the one that is refused."""
-    refused, sound = "refused datagram 3 rule 26 AckAhead", "accepted get octet blocks 3 bytes 1300"
+    sound = "accepted get octet blocks 3 bytes 1300"
+    third = 'transfer 3: get "missing.cfg", client 192.0.2.1:34056, server 192.0.2.1:42245, at the client'
+    first = 'transfer 1: put "report.bin", client 192.0.2.2:47102, server 192.0.2.2:35665, at the client'
     session, oack_again = (EXAMPLES / f"loopback-{name}.pcap" for name in ("session", "repeated-oack"))
-    several = f"the recording has 2 transfers: name one and its end, as in tftp-explain {oack_again} 1 client"
     changed = "refused datagram 4 rule 25 BlockChanged"
     cases: tuple[tuple[str, list[object], tuple[str, int], str], ...] = (
-        ("the refused one", [session], (refused, 1), "frame 17 of the recording"),
+        ("the refused one", [session], (third, 1), "at the client refused datagram 3 rule 26 AckAhead Where: line 10"),
+        ("how many are not accepted", [session], (third, 1), "1 of 5 transfers is not accepted"),
+        ("each is accepted", [EXAMPLES / "loopback-dnsmasq.pcap"], ("each of the 3 transfers is accepted", 0), ""),
         ("the one that is named", [session, 1, "server"], (sound, 0), "accepted"),
         ("the one whose number is named", [oack_again, 2], (changed, 1), "frame 9 of the recording"),
-        ("none of several", [oack_again], ("", 2), several),
+        ("each of several, the first", [oack_again], (first, 1), "refused datagram 5 rule 25 BlockChanged Where:"),
+        ("each of several, the second", [oack_again], (first, 1), f"at the client {changed} Where: line 12"),
+        ("each of several, how many", [oack_again], (first, 1), "2 of 2 transfers are not accepted"),
         ("no such one", [session, 9, "client"], ("", 2), "there is no transfer 9 to judge: the recording has 1 to 5"),
         ("a text has no number", [EXAMPLES / "one-block.capture", 1, "client"], ("", 2), "is no recording"),
     )
@@ -341,6 +443,51 @@ def try_recordings(trial: Trial, programs: Words, folder: pathlib.Path) -> None:
             trial.check(f"tftp-explain, {name_of_case}, {it}", it in plain(output + errors), (output, errors))
 
 
+def try_streams(trial: Trial, programs: Words) -> None:
+    """What comes on standard input: a recording, or what is none, by its first bytes."""
+    session = (EXAMPLES / "loopback-session.pcap").read_bytes()
+    output, errors, status = run([*programs, "-", 3, "server"], session)
+    got, wanted = (output.partition("\n")[0], errors, status), ("refused datagram 3 rule 26 AckAhead", "", 1)
+    trial.check("tftp-explain, a recording that comes in", got == wanted, output)
+    for name, given, told in (
+        ("gzip", gzip.compress(session), "it is compressed by gzip: decompress it first"),
+        ("nothing", b"", "it is empty; a capture text or a recording is wanted."),
+        ("a program", b"\x7fELF" + bytes(60), "it is a program (ELF)"),
+    ):
+        output, errors, status = run(programs, given)
+        is_fault = output.startswith("fault line 1 ") and told in plain(output) and (errors, status) == ("", 2)
+        trial.check(f"tftp-explain, {name} comes in", is_fault, (output, errors, status))
+
+
+def try_all(trial: Trial, programs: Words) -> None:
+    """Each refused datagram is left out in turn; the file of what is left is that which was sent."""
+    content = b"0123456789abcdef" * 40
+    text = capture(
+        C, (C, READ), (S, data(1, content[:512])), (C, ack(1)), (C, ack(7)), (S, data(1, WHOLE)),
+        (S, data(2, content[512:])), (C, ack(9)), (C, ack(2)),
+    )
+    output, errors, status = run([*programs, "--all"], text)
+    said, digest = plain(output), hashlib.sha256(content).hexdigest()
+    first = "refused datagram 4 rule 26 AckAhead"
+    trial.check("--all, the verdict", output.startswith(f"{first}\n\n") and (errors, status) == ("", 1), output)
+    for words in (
+        "no verdict: what follows is what the program says once the datagrams that it refused are left out.",
+        "what if, without datagram 4: datagram 5 rule 25 BlockChanged Where: line 8 of the text.",
+        "what if, without datagrams 4 and 5: datagram 7 rule 26 AckAhead Where: line 10 of the text.",
+        "what if, without datagrams 4, 5 and 7: accepted get octet blocks 2 bytes 640",
+        f"File: 640 bytes, SHA-256 {digest}.",
+    ):
+        trial.check(f"--all, {words}", words in said, output)
+    trial.check("--all, a rule's words stand once", output.count("26 AckAhead: an ACK says") == 1, output)
+    many = capture(C, (C, READ), (S, data(1, b"hi")), *((C, ack(9)) for _ in range(30)), (C, ack(1)))
+    output, _, status = run([*programs, "--all"], many)
+    is_ended = output.count("\nwhat if, ") == 20 and "so many datagrams are left out at most" in output
+    trial.check("--all, twenty at most", is_ended and status == 1, output)
+    output, _, status = run([*programs, "--all"], SOUND)
+    told = f"File: 2 bytes, SHA-256 {hashlib.sha256(b'hi').hexdigest()}."
+    trial.check("--all, accepted", told in plain(output) and "what if" not in output and status == 0, output)
+
+
 def try_no_recordings(trial: Trial, programs: Words, folder: pathlib.Path) -> None:
     """A file that is no recording, a recording that is not whole, and a program that says nothing of one."""
     path = folder / "a file"
@@ -368,6 +515,8 @@ def main(program: str, transfers: str) -> int:
     with tempfile.TemporaryDirectory() as folder:
         try_recordings(trial, programs, pathlib.Path(folder))
         try_no_recordings(trial, programs, pathlib.Path(folder))
+    try_streams(trial, programs)
+    try_all(trial, programs)
     tried = {int(case.line.split()[4]) for case in RULES}
     trial.check("each rule is tried", tried == set(range(1, 28)), tried)
     try_cases(trial, program)

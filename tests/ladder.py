@@ -7,6 +7,7 @@ Prints each case that is not as it should be, then a last line 'N passed, M fail
 from __future__ import annotations
 
 import pathlib
+import re
 import subprocess
 import sys
 import tempfile
@@ -19,7 +20,8 @@ from trial import Trial
 TOP = pathlib.Path(__file__).resolve().parent.parent
 SCRIPT = TOP / "tools" / "tftp-ladder"
 SVG = "{http://www.w3.org/2000/svg}"
-RED, GREY, BROWN, PALE = "#d40000", "#a5a5a5", "#8a6d3b", "#c9c9c9"
+RED, GREY, BROWN = "f-refused", "f-repeat", "f-stray"
+TIMES_END = 214.0
 WINDOWED = {"blksize": 8, "windowsize": 4}
 
 
@@ -35,7 +37,8 @@ class Picture:
     def __init__(self, text: str) -> None:
         self.root = ElementTree.fromstring(text)
         self.words = [each.text or "" for each in self.root.iter(f"{SVG}text")]
-        self.heads = [each.get("fill") for each in self.root.iter(f"{SVG}polygon")]
+        self.heads = [each.get("class") for each in self.root.iter(f"{SVG}polygon")]
+        self.style = "".join(each.text or "" for each in self.root.iter(f"{SVG}style"))
         self.height = int(self.root.get("height", "0"))
 
     def has(self, words: str) -> bool:
@@ -94,6 +97,67 @@ def try_small(trial: Trial, program: str) -> None:
     trial.check("at the server", picture.has("server (recorded here)") and picture.heads.count(RED) == 1, picture.words)
 
 
+def luminance(colour: str) -> float:
+    """WCAG 2.2, "relative luminance"."""
+    parts = [int(colour[place : place + 2], 16) / 255 for place in (1, 3, 5)]
+    linear: list[float] = [part / 12.92 if part <= 0.04045 else ((part + 0.055) / 1.055) ** 2.4 for part in parts]
+    return 0.2126 * linear[0] + 0.7152 * linear[1] + 0.0722 * linear[2]
+
+
+def contrast(one: str, other: str) -> float:
+    """WCAG 2.2, "contrast ratio"."""
+    high, low = sorted((luminance(one), luminance(other)), reverse=True)
+    return (high + 0.05) / (low + 0.05)
+
+
+def try_colours(trial: Trial, program: str) -> None:
+    """Each text's contrast is 4.5 or more and each line's 3, by the colours of the style, in light and in dark."""
+    picture = Picture(run(["--program", program], window_read().text())[0])
+    light, _, dark = picture.style.partition("@media (prefers-color-scheme:dark)")
+    texts = {each.get("class", "")[2:] for each in picture.root.iter(f"{SVG}text")} | {"sound", "refused"}
+    for name, style in (("light", light), ("dark", dark)):
+        colours = dict(re.findall(r"[.]f-(\w+)\{fill:(#\w{6})\}", style))
+        strokes = dict(re.findall(r"[.]s-(\w+)\{stroke:(#\w{6})\}", style))
+        trial.check(f"{name}: lines have the colours of their heads", strokes == colours and len(colours) > 10, style)
+        least = {text: min(contrast(colours[text], colours[it]) for it in ("ground", "fold")) for text in texts}
+        trial.check(f"{name}: each text", min(least.values()) >= 4.5, least)
+        lines = {line: contrast(colours[line], colours["ground"]) for line in colours.keys() - {"ground", "fold"}}
+        trial.check(f"{name}: each line", min(lines.values()) >= 3, lines)
+
+
+def try_words(trial: Trial, program: str) -> None:
+    """What a reader of the screen is told, and where nothing is crossed: the request with its options, and the rule."""
+    text = window_read().text().replace(b"00040006\n", b"00040007\n")
+    picture = Picture(run(["--program", program], text)[0])
+    root = picture.root
+    named = [root.find(f".//*[@id='{name}']") for name in (root.get("aria-labelledby") or "").split()]
+    told = [each.text or "" for each in named if each is not None]
+    is_told = told[:1] == ["refused datagram 14 rule 26 AckAhead"] and "14 datagrams passed. 1 is a repeat" in told[1]
+    trial.check("title and description", root.get("role") == "img" and is_told, told)
+    trial.check("the request has its options", picture.has('RRQ "boot.img" octet blksize=8 windowsize=4'))
+    trial.check("the rule's reason", picture.has("an ACK says that its block and all before it came"), picture.words)
+    trial.check("a stray's host has a line", "2001:db8::9" in picture.words, picture.words)
+    lines = [float(each.get(end) or 0) for each in root.iter(f"{SVG}line") for end in ("x1", "x2")]
+    trial.check("no line crosses the times", min(lines) > TIMES_END, min(lines))
+
+
+def try_text(trial: Trial, program: str) -> None:
+    """The ladder in lines of text."""
+    text = window_read().text().replace(b"00040006\n", b"00040007\n")
+    output, errors, status = run(["--text", "--program", program], text)
+    lines = output.splitlines()
+    begun = lines[0] == "refused datagram 14 rule 26 AckAhead" and len(lines) == 19 and output.isascii()
+    trial.check("--text", begun and (errors, status) == ("", 0), output)
+    for words in (
+        '|--- RRQ "boot.img" octet blksize=8 windowsize=4 ---', "--- DATA 3 (8 bytes), again ---|",
+        "~ from 2001:db8::9 port 41000: DATA 9 (5 bytes) ~~~|", "--- ACK 7, rule 26 AckAhead ---",
+        "|   an ACK says that its block and all before it came",
+    ):
+        trial.check(f"--text, {words}", words in output, output)
+    arrows = [line.rstrip() for line in lines if ">|" in line or "|<" in line]
+    trial.check("--text, the lines stand below one another", len({len(line) for line in arrows}) == 1, output)
+
+
 def try_large(trial: Trial, folder: pathlib.Path) -> None:
     """100,001 datagrams, with a stand-in for the program, which takes minutes for so many."""
     stand_in = folder / "program"
@@ -137,7 +201,9 @@ def try_recordings(trial: Trial, program: str, transfers: str) -> None:
         output, errors, status = run(["--program", program, "--transfers", transfers, recording, *words], b"")
         picture = Picture(output)
         is_red = picture.heads.count(RED) == 1 and picture.has("ACK 1, rule 26 AckAhead")
-        trial.check(f"of a recording, {words}", (errors, status) == ("", 0) and is_red, (picture.words, errors))
+        are_named = picture.has("192.0.2.1 port 34056") and picture.has("192.0.2.1 port 42245")
+        holds = (errors, status) == ("", 0) and is_red and are_named
+        trial.check(f"of a recording, {words}", holds, (picture.words, errors))
     output, errors, status = run(["--program", program, "--transfers", transfers, recording, 1, "server"], b"")
     picture = Picture(output)
     is_whole = len(picture.heads) == 7 and picture.has("server (recorded here)")
@@ -147,6 +213,8 @@ def try_recordings(trial: Trial, program: str, transfers: str) -> None:
 def main(program: str, transfers: str) -> int:
     trial = Trial()
     try_small(trial, program)
+    for part in (try_colours, try_words, try_text):
+        part(trial, program)
     try_recordings(trial, program, transfers)
     with tempfile.TemporaryDirectory() as folder:
         try_large(trial, pathlib.Path(folder))

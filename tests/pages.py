@@ -20,7 +20,7 @@ from tftp_tools.rules import LISTED, PACKET_FAULTS
 from tftp_tools.textfaults import MEANINGS
 from trial import Trial
 
-SCRIPTS, EXAMPLES = ("tftp-explain", "tftp-ladder"), TOP / "examples"
+SCRIPTS, EXAMPLES = ("tftp-explain", "tftp-ladder", "tftp-report"), TOP / "examples"
 # The pages that show commands with what they print.
 SHOWING = ("README.md", "docs/VERDICTS.md", "docs/RECORDING.md")
 NAMED = re.compile(r"`((?:docs|tools|tests|examples)/[A-Za-z0-9_./-]+)`")
@@ -47,8 +47,8 @@ def try_verdicts(trial: Trial) -> None:
         begins = f"| {rule.number} | {rule.name} | "
         is_there = any(line.startswith(begins) for line in specified)
         trial.check(f"rule {rule.number} in SPECIFICATION.md", is_there, begins)
-    for name, meaning in PACKET_FAULTS.items():
-        trial.check(f"{name} in VERDICTS.md", f"| {name} | {meaning} |" in lines)
+    for name, fault in PACKET_FAULTS.items():
+        trial.check(f"{name} in VERDICTS.md", f"| {name} | {fault.says} | {fault.usually} |" in lines)
     for name in MEANINGS:
         row = f"| {name} | " if name != "Read" else "| `fault line 4 Read` | "
         trial.check(f"{name} in VERDICTS.md", any(line.startswith(row) for line in lines))

@@ -3,8 +3,8 @@
 # launchers with a stand-in for rt; that each wrong body can still be made; each growth refused, each read and each write
 # failing, in turn, and each growth in the tests of the libraries' calls; larger captures; simulated transfers and changes
 # of them, for some seconds; the recorded transfers of examples/; the datagrams that are read of recordings, and which
-# transfer they are of; the rows, lists and texts of recordings; the scripts that explain and draw; and what stands in the
-# pages for readers.
+# transfer they are of; the rows, lists and texts of recordings; the scripts that explain, draw and report, on changed
+# captures too; the plugin of Wireshark; the schemas of JSON; and what stands in the pages for readers.
 set -eu
 here=$(dirname "$0")
 transfers=$here/../crates/tftp_transfers_main/out/tftp_transfers_main
@@ -38,6 +38,14 @@ echo "tftp-explain:"
 python3 "$here/explaining.py" "$1" "$transfers"
 echo "tftp-ladder:"
 python3 "$here/ladder.py" "$1" "$transfers"
+echo "changed captures, explained and drawn:"
+python3 "$here/changed.py" "$1"
+echo "tftp-report:"
+python3 "$here/report.py" "$1" "$transfers"
+echo "the plugin of Wireshark:"
+python3 "$here/wireshark.py" "$transfers"
+echo "JSON:"
+python3 "$here/schemas.py" "$1" "$transfers"
 echo "loopback:"
 python3 "$here/loopback.py" "$transfers"
 echo "pages:"

@@ -25,6 +25,7 @@ from repository import TOP
 from trial import Trial
 
 Word = Union[str, pathlib.Path]
+SCRIPTS = ("tftp-explain", "tftp-ladder", "tftp-report")
 # What the script writes, what it writes as errors, its status, and how often rt was called.
 Ran = tuple[str, str, int, int]
 # A build reads the source at its start; $MEANWHILE is done while the crate $TRIED is built, and a source that says
@@ -104,7 +105,7 @@ class Scratch:
             (crates / part / "first.rt").write_text("first")
         for name in (AUDIT.name, TRANSFERS.name, "Makefile"):
             shutil.copy(TOP / name, self.top)
-        for name in ("tools", "docs/man"):
+        for name in ("tools", "docs/man", "docs/schemas", "share"):
             shutil.copytree(TOP / name, self.top / name)
         (self.top / "crates.txt").write_text("tftp_audit: tftp_low\n")
         for file, text, mode in (
@@ -264,12 +265,14 @@ def failing(trial: ScriptTrial, scratch: Scratch) -> None:
 def installed_scripts(trial: ScriptTrial, scratch: Scratch) -> None:
     """The scripts run from where they are installed, with the programs beside them, and all have their pages."""
     folder = scratch.installed().parent
-    for name in ("tftp-explain", "tftp-ladder"):
+    for name in SCRIPTS:
         done = subprocess.run([folder / name, "--help"], capture_output=True, text=True)
         trial.check(f"{name}, installed", done.returncode == 0 and done.stdout.startswith(f"usage: {name}"), done)
-    for name in (AUDIT.name, TRANSFERS.name, "tftp-explain", "tftp-ladder"):
+    for name in (AUDIT.name, TRANSFERS.name, *SCRIPTS):
         page = folder.parent / "share" / "man" / "man1" / f"{name}.1"
         trial.check(f"{name}, its page installed", page.is_file())
+    for name in ("wireshark/tftp-audit.lua", "schemas/check.schema.json"):
+        trial.check(f"{name}, installed", (folder.parent / "share" / "tftp-audit" / name).is_file())
     done = subprocess.run([folder / "tftp-explain"], input="", capture_output=True, text=True)
     holds = done.returncode == 2 and f"'{folder / AUDIT.name}' gave no verdict" in done.stderr
     trial.check("tftp-explain, installed, runs the program beside it", holds, done)

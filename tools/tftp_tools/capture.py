@@ -8,8 +8,16 @@ import re
 from dataclasses import dataclass, field
 from typing import Optional
 
+ENDPOINTS = re.compile(rb"# transfer [0-9]+ .*, at the (?:client|server); client ([!-~]+), server ([!-~]+)")
 FRAME = re.compile(rb"# frame ([0-9]+)(?: time ([0-9]+\.[0-9]+))?")
 DATAGRAM = re.compile(rb"(in|out) ([1-9][0-9]{0,4})(?: ([!-~]{1,45}))? ([1-9][0-9]{0,4}) ([0-9A-Fa-f]+|-)")
+NANOSECONDS = 1_000_000_000
+
+
+def nanoseconds(time: str) -> int:
+    """Those since 1970 of a time in seconds, which is written with some decimals."""
+    whole, _, part = time.partition(".")
+    return int(whole) * NANOSECONDS + int(part[:9].ljust(9, "0"))
 
 
 @dataclass(frozen=True)
@@ -31,6 +39,12 @@ class Datagram:
     def peer(self) -> tuple[str, int]:
         return self.host, self.remote
 
+    def seconds_since(self, first: Datagram) -> Optional[float]:
+        """How long after another one it passed, where both have times."""
+        if self.time is None or first.time is None:
+            return None
+        return (nanoseconds(self.time) - nanoseconds(first.time)) / NANOSECONDS
+
     def place(self) -> str:
         """How a person finds it."""
         frame = f", frame {self.frame}" if self.frame is not None else ""
@@ -42,6 +56,8 @@ class Capture:
     version: int = 1
     end: str = "client"
     service: int = 69
+    # where the named end is, if the comment before the header says so
+    here: Optional[str] = None
     datagrams: list[Datagram] = field(default_factory=list)
 
     def other_end(self) -> str:
@@ -81,11 +97,18 @@ def read_datagram(capture: Capture, line: bytes, number: int, frame: Optional[re
     return True
 
 
+def told_endpoint(endpoint: str) -> str:
+    """An address and a port in words."""
+    host, _, port = endpoint.rpartition(":")
+    return f"{host.strip('[]')} port {port}"
+
+
 def read_capture(text: bytes) -> Capture:
     """The datagrams of a text up to its total line, or up to what cannot be read."""
-    capture, heads, frame = Capture(), 0, None
+    capture, heads, frame, ends = Capture(), 0, None, None
     for number, line in enumerate(text.split(b"\n"), 1):
         if number > 1 and (not line or line.startswith(b"#")):
+            ends = ENDPOINTS.fullmatch(line) or ends
             frame = FRAME.fullmatch(line) or frame
             continue
         if heads < 3:
@@ -96,4 +119,6 @@ def read_capture(text: bytes) -> Capture:
             break
         else:
             frame = None
+    if ends:
+        capture.here = told_endpoint(ends[1 if capture.end == "client" else 2].decode())
     return capture

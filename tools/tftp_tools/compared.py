@@ -6,8 +6,8 @@ from typing import Optional
 
 from .capture import Datagram
 from .history import History, Passed, block_of, content_of
+from .malformed import explain_malformed
 from .packets import Ack, Data, Oack, Options, Request, count, number_of, read_packet, words_of
-from .rules import PACKET_FAULTS
 
 FOUR = ("blksize", "timeout", "tsize", "windowsize")
 MOST_BLOCKS = 65_535
@@ -63,12 +63,25 @@ def wrong_port(history: History, it: Datagram, fault: str) -> Lines:
         asked = f" of {history.asked}" if history.asked not in (None, "-") else ""
         return [f"It goes to {side(it.host, it.remote)}; requests go to the service port {service}{asked}."]
     if not it.goes_out():
-        return [f"It comes to the service port {service}, where requests of the client alone may come."]
+        lines = [f"It comes to the service port {service}, where requests of the client alone may come."]
+        return [*lines, *answered_from(history)]
     lines = [f"It goes to {side(it.host, it.remote)}, from where nothing had come."]
+    if history.at_client() and it.remote == service:
+        lines.append(f"Port {service} is the service port: requests go there, and nothing else.")
     if history.peer:
         fixed = first_in(history)
         lines.append(f"The other end is at {side(*history.peer)}{f', fixed by {at(fixed)}' if fixed else ''}.")
     return lines
+
+
+def answered_from(history: History) -> Lines:
+    """At the server, the port from which it had answered, to which the client has to go on."""
+    ours = (passed for passed in history.passed if passed.place == "main" and passed.datagram.goes_out())
+    first = next(ours, None)
+    if first is None:
+        return ["The server had not answered before it."]
+    answered = f"The server had answered from port {first.datagram.local} in {at(first)}"
+    return [f"{answered}: the client goes on with that one."]
 
 
 def first_in(history: History) -> Optional[Passed]:
@@ -91,10 +104,7 @@ def no_request(history: History, it: Datagram, fault: str) -> Lines:
 
 
 def malformed(history: History, it: Datagram, fault: str) -> Lines:
-    lines = [f"The fault is {fault}: {PACKET_FAULTS.get(fault, 'see docs/SPECIFICATION.md')}."]
-    if it.payload:
-        lines.append(f"It has {count(len(it.payload), 'byte')}, the last is 0x{it.payload[-1]:02x}.")
-    return lines
+    return explain_malformed(it.payload, fault)
 
 
 def wrong_kind(history: History, it: Datagram, fault: str) -> Lines:
@@ -129,7 +139,14 @@ def request_changed(history: History, it: Datagram, fault: str) -> Lines:
 def request_after_start(history: History, it: Datagram, fault: str) -> Lines:
     gone_on = (p for p in history.passed if p.place == "main" and isinstance(p.packet, (Ack, Data)))
     first = next((p for p in gone_on if p.datagram.goes_out()), None)
-    return [f"The client had gone on: {at(first)} is {first.packet.short()}."] if first else []
+    if first is None:
+        return []
+    return [f"The client had gone on: {at(first)} is {first.packet.short()}.", elsewhere("client")]
+
+
+def elsewhere(end: str) -> str:
+    """What a rule about what an end sends takes for given."""
+    return f"That holds if the recording was made at the {end}: elsewhere its datagrams may be missing or come by late."
 
 
 def reply_changed(history: History, it: Datagram, fault: str) -> Lines:
@@ -287,7 +304,8 @@ def after_the_error(history: History) -> Lines:
 def block_skipped(history: History, it: Datagram, fault: str) -> Lines:
     top, block = history.highest("DATA", "out"), block_of(Passed(it, read_packet(it.payload), "main"))
     sent = f"The highest block sent before it is {block_of(top)} in {at(top)}" if top else "No block was sent before it"
-    return [f"{sent}.", f"The next one is {(block_of(top) if top else 0) + 1}, and this is block {block}."]
+    next_one = f"The next one is {(block_of(top) if top else 0) + 1}, and this is block {block}."
+    return [f"{sent}.", next_one, elsewhere(history.capture.end)]
 
 
 def gone_back(history: History, it: Datagram, fault: str) -> Lines:
@@ -295,7 +313,8 @@ def gone_back(history: History, it: Datagram, fault: str) -> Lines:
     if top is None:
         return []
     agreed = "no window was agreed" if not history.number("windowsize") else "the agreed window is 1"
-    return [f"The highest block sent before it is {block_of(top)} in {at(top)}.", f"This is lock step: {agreed}."]
+    highest = f"The highest block sent before it is {block_of(top)} in {at(top)}."
+    return [highest, f"This is lock step: {agreed}.", elsewhere(history.capture.end)]
 
 
 def block_changed(history: History, it: Datagram, fault: str) -> Lines:

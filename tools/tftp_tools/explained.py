@@ -2,10 +2,12 @@
 from __future__ import annotations
 
 import datetime
+from typing import Optional
 
 from .capture import Capture, Datagram
 from .compared import COMPARED, at, blocks_to, side
 from .history import History, block_of, content_of, history_before
+from .malformed import usual_cause
 from .packets import ERROR_CODES, Data, Error, Request, count, read_packet
 from .program import Verdict
 from .rules import RULES
@@ -31,9 +33,10 @@ def where(capture: Capture, datagram: Datagram) -> str:
     if datagram.time is not None:
         moment = datetime.datetime.fromtimestamp(int(datagram.time.split(".")[0]), datetime.timezone.utc)
         told.append(f"{moment:%Y-%m-%d %H:%M:%S}.{datagram.time.split('.')[1][:6]} UTC")
-        first = capture.datagrams[0].time
-        if first is not None and datagram.number > 1:
-            told.append(f"{float(datagram.time) - float(first):.6f} s after datagram 1")
+        first = capture.datagrams[0]
+        since = datagram.seconds_since(first)
+        if since is not None and datagram != first:
+            told.append(f"{since:.6f} s after datagram {first.number}")
     return ", ".join(told)
 
 
@@ -53,7 +56,8 @@ def explain_refused(capture: Capture, verdict: Verdict) -> Told:
     told = [("Where", f"{where(capture, datagram)}."), ("What", what(capture, datagram))]
     told.append(("Rule", f"{rule.number} {rule.name}: {rule.says}."))
     told += [("Why", line) for line in COMPARED[rule_number](history, datagram, fault)]
-    return told + [("Whose", f"{rule.whose}."), ("Usually", f"{rule.usually}.")]
+    usually = usual_cause(fault) if fault else rule.usually
+    return told + [("Whose", f"{rule.whose}."), ("Usually", f"{usually}.")]
 
 
 def transfer(history: History) -> str:
@@ -66,17 +70,51 @@ def transfer(history: History) -> str:
     return f"{verb} {request.name} in mode {request.mode}, at the {history.capture.end}{options}."
 
 
+def unanswered(history: History) -> Told:
+    """A request to which nothing but perhaps an ERROR came back."""
+    requests = [passed for passed in history.passed if isinstance(passed.packet, Request)]
+    times = f"passed {count(len(requests), 'time')}"
+    since = requests[-1].datagram.seconds_since(requests[0].datagram)
+    if len(requests) > 1 and since is not None:
+        times += f" in {since:.3f} s"
+    if history.errors:
+        return [("Has", f"the request, which {times}; the ERROR is the answer to it, and nothing came over.")]
+    return [("Missing", f"an answer to the request, which {times}.")]
+
+
 def progress(history: History) -> Told:
     """How far it has come, and what is missing."""
     if history.request is None:
         return [("Missing", "the request, and all that follows it.")]
     if history.reply is None:
-        times = sum(isinstance(passed.packet, Request) for passed in history.passed)
-        return [("Missing", f"an answer to the request, which passed {count(times, 'time')}.")]
+        return unanswered(history)
     return received(history) if history.is_receiver() else sent(history)
 
 
+def lacks_ack_zero(history: History, way: str) -> bool:
+    """Whether a read stands where its client has to answer the OACK by ACK 0, before any block."""
+    is_agreed = history.kind() == "get" and history.oack is not None and not history.blocks
+    return is_agreed and history.highest("ACK", way) is None
+
+
+def missing_ack_zero(history: History) -> Told:
+    oack = f" in {at(history.oack)}" if history.oack else ""
+    return [("Missing", f"ACK 0, by which the client answers the OACK{oack}, and all that follows it.")]
+
+
+def end_of(history: History, last: Optional[int]) -> str:
+    """Where the last block is known, how it is."""
+    size, block = history.size(), history.block_size()
+    if last is None:
+        return f"none was shorter than a block ({count(block, 'byte')})"
+    if size is None:
+        return f"the last one is block {last}, which is shorter than {count(block, 'byte')}"
+    return f"the last one is block {last}, by the size agreed ({count(size, 'byte')} in blocks of {block:,})"
+
+
 def received(history: History) -> Told:
+    if lacks_ack_zero(history, "out"):
+        return missing_ack_zero(history)
     last, front, highest = history.last_block(), history.front, max(history.blocks, default=0)
     came = f"{blocks_to(front)} came in" if front else "no block 1 came in"
     acked = history.highest("ACK", "out")
@@ -86,11 +124,12 @@ def received(history: History) -> Told:
     if highest > front:
         told.append(("Missing", f"block {front + 1}, though block {highest} came in {at(history.blocks[highest])}."))
         return told
-    end = f"the last one is block {last}, by the size agreed" if last is not None else "none was shorter than a block"
-    return [*told, ("Missing", f"block {front + 1} and what follows: {end} ({count(history.block_size(), 'byte')}).")]
+    return [*told, ("Missing", f"block {front + 1} and what follows: {end_of(history, last)}.")]
 
 
 def sent(history: History) -> Told:
+    if lacks_ack_zero(history, "in"):
+        return missing_ack_zero(history)
     last, top, answered = history.last_block(), history.highest("DATA", "out"), history.highest("ACK", "in")
     went = f"block {block_of(top)} in {at(top)}" if top else "none"
     ack = f"{block_of(answered)} in {at(answered)}" if answered else "none"
@@ -102,17 +141,30 @@ def sent(history: History) -> Told:
     return [*told, ("Missing", f"the ACK of block {block_of(top)}, and what follows it." if top else "the blocks.")]
 
 
+def stopped_by(history: History) -> str:
+    """What usually stops a transfer there."""
+    if history.request is None or history.reply is not None:
+        if lacks_ack_zero(history, "out" if history.at_client() else "in"):
+            return ("an OACK that the client did not get or does not know: a firewall or translation of addresses that"
+                    " lets through port 69 alone, or a client that gave up; else a recording that ended too early")
+        return ("a recording that ended too early or a filter that left something out; else an end that gave up without"
+                " a word, or a client that took a block for the last one")
+    port = history.capture.service
+    if history.at_client():
+        return (f"a server that is down, or does not listen at port {port} of that address; a firewall or translation"
+                " of addresses between the two, which drops the request or the answer, since that comes from another"
+                " port; or a recording that has the requests alone, as with a filter for port 69")
+    return (f"a server that is down, or does not listen at port {port}: the requests came as far as its host; a"
+            " firewall of that host; or a recording that has the requests alone, as with a filter for port 69")
+
+
 def explain_incomplete(capture: Capture) -> Told:
     history = history_before(capture, len(capture.datagrams) + 1)
     told = [("Transfer", transfer(history)), *progress(history)]
     if capture.datagrams:
         told.append(("Last", f"{what(capture, capture.datagrams[-1])}"))
         told.append(("Where", f"{where(capture, capture.datagrams[-1])}."))
-    told.append((
-        "Usually", "a recording that ended too early or a filter that left something out; else an end that gave up"
-        " without a word, or a client that took a block for the last one.",
-    ))
-    return told
+    return [*told, ("Usually", f"{stopped_by(history)}.")]
 
 
 def explain_aborted(capture: Capture) -> Told:
@@ -123,7 +175,8 @@ def explain_aborted(capture: Capture) -> Told:
     first = history.errors[0]
     told += [("Where", f"{where(capture, first.datagram)}."), ("What", what(capture, first.datagram))]
     told.append(("By", f"the {capture.sender(first.datagram)}. No rule was broken."))
-    told += progress(history_before(capture, first.datagram.number))
+    before = history_before(capture, capture.datagrams.index(first.datagram) + 1)
+    told += unanswered(history) if history.reply is None else progress(before)
     code = first.packet.code if isinstance(first.packet, Error) else 0
     return told + [("Usually", f"{ABORTS.get(code, ERROR_CODES.get(code, 'see the message'))}.")]
 

@@ -40,6 +40,10 @@ class Request:
     def short(self) -> str:
         return f"{'RRQ' if self.kind == 'get' else 'WRQ'} {self.name}"
 
+    def asked(self) -> str:
+        """The same with the mode and the options."""
+        return " ".join([self.short(), self.mode, *(f"{name}={value}" for name, value in self.options)])
+
 
 @dataclass(frozen=True)
 class Data:
@@ -123,9 +127,14 @@ def number_of(value: str) -> Optional[int]:
     return int(value) if re.fullmatch("[0-9]{1,40}", value) else None
 
 
+def plain(text: bytes) -> str:
+    """The text, or where it has other signs than those of ASCII that are seen, the text between quotes."""
+    return text.decode() if re.fullmatch(rb"[!-~]+", text) else words_of(text)
+
+
 def options_of(strings: list[bytes]) -> Options:
     """Names in lower case with their values; a value that is not plain text stands between quotes."""
-    texts = [text.decode() if re.fullmatch(rb"[!-~]+", text) else words_of(text) for text in strings]
+    texts = [plain(text) for text in strings]
     return tuple((name.lower(), value) for name, value in zip(texts[::2], texts[1::2]))
 
 
@@ -135,8 +144,7 @@ def read_packet(payload: bytes) -> Packet:
         strings = rest[:-1].split(b"\0")
         if len(strings) >= 2 and len(strings) % 2 == 0:
             kind = "get" if opcode == b"\0\1" else "put"
-            mode = strings[1].decode("ascii", "backslashreplace").lower()
-            return Request(kind, words_of(strings[0]), mode, options_of(strings[2:]))
+            return Request(kind, words_of(strings[0]), plain(strings[1]).lower(), options_of(strings[2:]))
     if opcode == b"\0\3" and len(rest) >= 2:
         return Data(int.from_bytes(rest[:2], "big"), rest[2:])
     if opcode == b"\0\4" and len(rest) == 2:

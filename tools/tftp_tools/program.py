@@ -1,8 +1,6 @@
-"""The two programs: where they stand, what tftp-audit says of a capture text, and what tftp-transfers says of a
-recording."""
+"""The two programs: where they stand, what tftp-audit says of a capture text, and how tftp-transfers is asked."""
 from __future__ import annotations
 
-import json
 import re
 import shutil
 import subprocess
@@ -40,22 +38,6 @@ class Verdict:
         return (int(found[1]), found[2]) if found else None
 
 
-@dataclass(frozen=True)
-class Row:
-    """What tftp-transfers says of a transfer at the place where it was recorded."""
-
-    number: int
-    place: str
-    verdict: str
-    doubts: tuple[str, ...]
-
-    def is_refused(self) -> bool:
-        return self.verdict.startswith("refused ")
-
-    def is_accused(self) -> bool:
-        return self.is_refused() and not self.doubts
-
-
 def find_program(name: str, wanted: Optional[str]) -> str:
     """The one that is named, that of the repository or of the installation of this script, or that on PATH."""
     if wanted:
@@ -79,45 +61,19 @@ def check(program: str, text: bytes) -> Verdict:
     return Verdict(line, done.returncode)
 
 
-def ask(program: str, words: Sequence[str]) -> tuple[bytes, list[str], int]:
-    """What tftp-transfers writes, what it tells beside, without its name, and its status."""
+def file_of(program: str, text: bytes) -> bytes:
+    """The file of a capture text that the program accepts."""
     with told(f"cannot run {program!r}"):
-        done = subprocess.run([program, *words], stdin=subprocess.DEVNULL, capture_output=True, check=False)
+        done = subprocess.run([program, "extract"], input=text, stdout=subprocess.PIPE, check=False)
+    if done.returncode != 0:
+        raise Refused(f"{program!r} wrote no file, and ended with status {done.returncode}")
+    return done.stdout
+
+
+def ask(program: str, words: Sequence[str], given: Optional[bytes] = None) -> tuple[bytes, list[str], int]:
+    """What tftp-transfers writes of what it is given on standard input, what it tells beside, without its name, and its
+    status."""
+    with told(f"cannot run {program!r}"):
+        done = subprocess.run([program, *words], input=given or b"", capture_output=True, check=False)
     lines = done.stderr.decode("utf-8", "backslashreplace").splitlines()
     return done.stdout, [line.removeprefix(f"{TRANSFERS}: ") for line in lines], done.returncode
-
-
-def row_of(line: bytes) -> Row:
-    """A row of verdicts, which is an object of JSON."""
-    it = json.loads(line)
-    return Row(int(it["number"]), str(it["place"]), str(it["verdict"]), tuple(map(str, it["doubts"])))
-
-
-def named(services: Sequence[str]) -> list[str]:
-    return [word for port in services for word in ("--service", port)]
-
-
-def rows_of(script: str, program: str, path: str, end: Optional[str], services: Sequence[str]) -> list[Row]:
-    """The verdicts on the transfers of a recording, at an end if one is named; what is told beside them is told."""
-    at = ["--end", end] if end else []
-    written, beside, status = ask(program, ["check", "--json", *at, *named(services), "--", path])
-    for line in beside[: None if written else -1]:
-        tell(script, line)
-    try:
-        rows = [row_of(line) for line in written.splitlines()]
-    except (ValueError, KeyError, TypeError):
-        rows = []
-    if rows:
-        return rows
-    if written or status != 0 and not beside:
-        raise Refused(f"{program!r} gave no rows for {path!r}, and ended with status {status}")
-    raise Refused(beside[-1] if beside else f"{path}: there is no transfer in the recording")
-
-
-def text_of(program: str, path: str, number: int, end: str, services: Sequence[str]) -> bytes:
-    """The capture text of a transfer at an end."""
-    written, beside, status = ask(program, ["text", str(number), end, *named(services), "--", path])
-    if status != 0 or not written:
-        why = beside[-1] if beside else f"{program!r} gave no text, and ended with status {status}"
-        raise Refused(why)
-    return written

@@ -25,8 +25,9 @@ LISTED = (
     Rule(
         2, "WrongPort", "requests go to the service port of one host, and everything else to where something came"
         " from", "RFC 1350, section 4",
-        "a client that goes on with the host that it asked, though another address of the server answered (tftp-hpa"
-        " 5.2, GNU inetutils); or a datagram of something else in the capture",
+        "a client that goes on with the service port, though the server answered from another one; a client that goes"
+        " on with the host that it asked, though another address of the server answered (tftp-hpa 5.2, GNU inetutils);"
+        " or a datagram of something else in the capture",
     ),
     Rule(
         3, "StrayAnswer", "what goes to an endpoint other than the two of the transfer is ERROR 5", "RFC 1350,"
@@ -42,8 +43,7 @@ LISTED = (
     Rule(
         5, "Malformed", "each payload of the transfer spells a packet", "RFC 1350, section 5, and RFC 2347; that option"
         " names are not empty and differ, and that mode mail is refused, is this project's profile",
-        "an ERROR without its last zero byte (curl, Apache Commons Net) or with two (Go pin); DATA that is cut short"
-        " (atftpd repeats DATA 1 as three bytes)",
+        "by the fault, below: the most frequent is an ERROR without its last zero byte (curl, Apache Commons Net)",
     ),
     Rule(
         6, "WrongKind", "the client of a read sends ACKs, of a write DATA, and the server the other, and never a"
@@ -64,7 +64,8 @@ LISTED = (
     Rule(
         9, "RequestAfterStart", "a client that has gone on does not ask again", "this project's premise that a capture"
         " has one transfer",
-        "a client that asks for the same file again from the same port",
+        "a client that asks for the same file again from the same port; or a recording that was made elsewhere than at"
+        " the client, where a repeated request came by late",
     ),
     Rule(
         10, "ReplyChanged", "the first answer tells whether options were agreed, for good", "RFC 2347, Negotiation"
@@ -132,12 +133,14 @@ LISTED = (
     Rule(
         23, "BlockSkipped", "a sender sends its blocks one after another",
         "RFC 1350, section 5, and RFC 7440, section 4",
-        "datagrams are missing in the capture",
+        "datagrams are missing in the capture: it was filtered, or recorded elsewhere than at the sender, where what"
+        " had been lost on the way did not come by",
     ),
     Rule(
         24, "GoneBack", "in lock step a sender does not send an earlier block again", "RFC 1350, section 2, as RFC"
         " 1123, section 4.2.3.1, has it",
-        "a sender that answers an old ACK (atftp's write): one late datagram doubles the rest of the transfer",
+        "a sender that answers an old ACK (atftp's write): one late datagram doubles the rest of the transfer; or a"
+        " recording that was made elsewhere than at the sender, where a repeated block came by late",
     ),
     Rule(
         25, "BlockChanged", "a block that is repeated has the same bytes", "RFC 1350, section 2",
@@ -157,16 +160,56 @@ LISTED = (
     ),
 )
 RULES = {rule.number: rule for rule in LISTED}
+
+
+@dataclass(frozen=True)
+class PacketFault:
+    """A fault of a packet, which rule 5 names: what it says, and what usually sends such a payload."""
+
+    says: str
+    usually: str
+
+
 # Rule 5's faults (docs/SPECIFICATION.md, "Packets").
 PACKET_FAULTS = {
-    "Short": "it has fewer bytes than any packet of its kind",
-    "Opcode": "its opcode, the first two bytes, is not 1 to 6",
-    "AckLength": "an ACK has 4 bytes, and this one has not",
-    "NoTerminator": "the zero byte that ends its last text is missing, or is not its last byte",
-    "OddOptions": "an option's name has no value behind it",
-    "EmptyOptionName": "an option has no name",
-    "DuplicateOption": "an option stands twice in it",
-    "UnknownMode": "its mode is not octet or netascii",
-    "MailMode": "its mode is mail, which is obsolete",
-    "RequestTooLong": "a request with options has at most 512 bytes",
+    "Short": PacketFault(
+        "it has fewer bytes than any packet of its kind",
+        "DATA that is cut short (atftpd repeats DATA 1 as three bytes)",
+    ),
+    "Opcode": PacketFault(
+        "its opcode, the first two bytes, is not 1 to 6",
+        "not seen of real software: something else than TFTP at the transfer's port would be so, as a scanner's probe",
+    ),
+    "AckLength": PacketFault(
+        "an ACK has 4 bytes, and this one has not",
+        "not seen of real software: an end that sends more of its buffer than the ACK would do so",
+    ),
+    "NoTerminator": PacketFault(
+        "the zero byte that ends its last text is missing, or is not its last byte",
+        "an ERROR without its last zero byte (curl, Apache Commons Net) or with two (Go pin)",
+    ),
+    "OddOptions": PacketFault(
+        "an option's name has no value behind it",
+        "not seen of real software: an end that sends an option's name alone would do so",
+    ),
+    "EmptyOptionName": PacketFault(
+        "an option has no name",
+        "not seen of real software: an end that fills its packet up with zero bytes would do so",
+    ),
+    "DuplicateOption": PacketFault(
+        "an option stands twice in it",
+        "not seen of real software: a client would do so whose user names an option that it sends of itself",
+    ),
+    "UnknownMode": PacketFault(
+        "its mode is not octet or netascii",
+        "not seen of real software: a client with a mode of its own would do so",
+    ),
+    "MailMode": PacketFault(
+        "its mode is mail, which is obsolete",
+        "not seen of real software: a very old client would do so",
+    ),
+    "RequestTooLong": PacketFault(
+        "a request with options has at most 512 bytes",
+        "not seen of real software: a long path with many options would do so",
+    ),
 }

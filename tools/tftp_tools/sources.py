@@ -1,88 +1,121 @@
-"""The capture text that is asked for, and its verdict: that of a file, or of a transfer of a recording at one of its
-ends."""
+"""The capture texts that are asked for, and their verdicts: that of a file, or of transfers of a recording, each at one
+of its ends."""
 from __future__ import annotations
 
 import argparse
-from collections.abc import Sequence
-from dataclasses import dataclass
-from typing import Literal, Optional
+from collections.abc import Iterator
+from typing import Optional, Union
 
 from .errors import Refused, read_file, told
 from .packets import count
-from .program import AUDIT, OPTIONS, TRANSFERS, Row, Verdict, check, find_program, rows_of, text_of
+from .program import AUDIT, OPTIONS, TRANSFERS, check, find_program
+from .recording import ENDS, Judged, Listed, Recording, Row, best, is_recording, one_each
 
-EndName = Literal["client", "server"]
-ENDS: tuple[EndName, ...] = ("client", "server")
 TEXT_BEGINS = b"tftp-capture "
 
 
-def add_words(parser: argparse.ArgumentParser) -> None:
-    """The words by which a script is told what it is to take."""
-    parser.add_argument("capture", nargs="?", default="-", metavar="FILE", help="a capture text or a recording; without"
-                        " it, or with -, a capture text on standard input")
-    parser.add_argument("number", nargs="?", help="a transfer's number in the recording; without it the one that is"
-                        " refused, or the only one")
-    parser.add_argument("end", nargs="?", choices=ENDS, help="the end at which it was recorded; without it the one that"
-                        " is refused")
+def add_file(parser: argparse.ArgumentParser, what: str) -> None:
+    """The word for a file, and those by which a script is told where the programs are."""
+    parser.add_argument("capture", nargs="?", default="-", metavar="FILE", help=what)
     parser.add_argument("--service", action="append", default=[], metavar="PORT", help="a port to which requests go in"
                         " the recording, beside 69; may be given several times")
     for name, option in OPTIONS.items():
-        told = f"the program {name}, where it is not found by itself"
-        parser.add_argument(option, metavar="PATH", help=told)
+        where = f"the program {name}, where it is not found by itself"
+        parser.add_argument(option, metavar="PATH", help=where)
 
 
-@dataclass(frozen=True)
-class Judged:
-    """A capture text, the verdict on it, and why a refusal is no accusation."""
+def add_words(parser: argparse.ArgumentParser, without: str) -> None:
+    """The words by which a script is told what it is to take, and what it takes where no transfer is named."""
+    add_file(parser, "a capture text or a recording; without it, or with -, standard input")
+    parser.add_argument("number", nargs="?", help=f"a transfer's number in the recording; without it {without}")
+    parser.add_argument("end", nargs="?", choices=ENDS, help="the end at which it was recorded; without it the one that"
+                        " is refused")
 
-    text: bytes
-    verdict: Verdict
-    doubts: tuple[str, ...] = ()
 
-
-def is_text(path: str) -> bool:
-    """Whether a file is a capture text; what comes from standard input is."""
+def opened(asked: argparse.Namespace) -> Union[bytes, Recording]:
+    """The text that stands in the file that is named or comes on standard input, or the recording."""
+    path = str(asked.capture)
+    given: Optional[bytes] = None
     if path == "-":
-        return True
-    with told(f"cannot read the file {path!r}"), open(path, "rb") as file:
-        return file.read(len(TEXT_BEGINS)) == TEXT_BEGINS
+        given = read_file(path)
+        is_text = not is_recording(given)
+    else:
+        with told(f"cannot read the file {path!r}"), open(path, "rb") as file:
+            is_text = file.read(len(TEXT_BEGINS)) == TEXT_BEGINS
+    if is_text:
+        return read_file(path) if given is None else given
+    services = tuple(map(str, asked.service))
+    programs = find_program(TRANSFERS, asked.transfers), find_program(AUDIT, asked.program)
+    return Recording(path, given, services, *programs)
 
 
-def row_asked(script: str, path: str, rows: list[Row], number: Optional[str]) -> Row:
-    """The row of the transfer that is named, or else of the one that is refused, or of the only one; of its rows the
-    one that accuses, or else refuses."""
-    numbers = {row.number for row in rows}
+def rows_asked(rows: list[Row], number: Optional[str]) -> list[Row]:
+    """Those of the transfer that is named, or all."""
     wanted = [row for row in rows if number in (None, str(row.number))]
     if not wanted:
-        raise Refused(f"there is no transfer {number} to judge: the recording has 1 to {max(numbers)}")
-    if number is None and len(numbers) > 1:
-        accused = {row.number for row in rows if row.is_accused()}
-        if len(accused) != 1:
-            some = count(len(numbers), "transfer")
-            raise Refused(f"the recording has {some}: name one and its end, as in {script} {path} 1 client")
-        wanted = [row for row in rows if row.number in accused]
-    return min(wanted, key=lambda row: (not row.is_accused(), not row.is_refused()))
+        numbers = max(row.number for row in rows)
+        raise Refused(f"there is no transfer {number} to judge: the recording has 1 to {numbers}")
+    return wanted
 
 
-def judged_at(audit: str, transfers: str, path: str, row: Row, services: Sequence[str]) -> Judged:
-    """What the row says, at the end at which it says so: where the place is not known, the one whose verdict it has."""
-    ends = [end for end in ENDS if end == row.place] or ENDS
-    for end in ends:
-        text = text_of(transfers, path, row.number, end, services)
-        verdict = check(audit, text)
-        if verdict.line == row.verdict:
-            return Judged(text, verdict, row.doubts)
-    raise Refused(f"{audit!r} says at no end of transfer {row.number} what {transfers!r} says: {row.verdict}")
+def of_text(text: bytes, asked: argparse.Namespace) -> Judged:
+    if asked.number is not None:
+        raise Refused(f"{str(asked.capture)!r} is no recording, so it has no transfer {asked.number}")
+    return Judged(text, check(find_program(AUDIT, asked.program), text))
 
 
 def chosen(script: str, asked: argparse.Namespace) -> Judged:
-    """What a script is asked for by these words."""
-    audit, path, number = find_program(AUDIT, asked.program), str(asked.capture), asked.number
-    if is_text(path):
-        if number is not None:
-            raise Refused(f"{path!r} is no recording, so it has no transfer {number}")
-        text = read_file(path)
-        return Judged(text, check(audit, text))
-    transfers = find_program(TRANSFERS, asked.transfers)
-    rows = rows_of(script, transfers, path, asked.end, asked.service)
-    return judged_at(audit, transfers, path, row_asked(script, path, rows, number), asked.service)
+    """The one text that a script is asked for: of a recording the transfer that is named, or else the one that is
+    refused, or the only one."""
+    found = opened(asked)
+    if isinstance(found, bytes):
+        return of_text(found, asked)
+    rows = rows_asked(found.rows(script, asked.end), asked.number)
+    numbers = {row.number for row in rows}
+    if len(numbers) > 1:
+        accused = {row.number for row in rows if row.is_accused()}
+        if len(accused) != 1:
+            some = count(len(numbers), "transfer")
+            raise Refused(f"the recording has {some}: name one and its end, as in {script} {found.path} 1 client")
+        rows = [row for row in rows if row.number in accused]
+    return found.judged(best(rows))
+
+
+class Several:
+    """The texts that a script is asked for: of a recording the transfer that is named, or the only one, or else each
+    that is not accepted."""
+
+    def __init__(self, script: str, asked: argparse.Namespace) -> None:
+        self.asked = asked
+        self.found = opened(asked)
+        self.rows: list[Row] = []
+        if isinstance(self.found, Recording):
+            self.rows = one_each(rows_asked(self.found.rows(script, asked.end), asked.number))
+        self.names: dict[int, Listed] = {}
+        if isinstance(self.found, Recording) and len(self.rows) > 1:
+            self.names = {it.number: it for it in self.found.listed()}
+
+    def __iter__(self) -> Iterator[Judged]:
+        if isinstance(self.found, bytes):
+            yield of_text(self.found, self.asked)
+            return
+        for row in self.rows:
+            if len(self.rows) == 1 or not row.is_accepted():
+                yield self.found.judged(row)
+
+    def name(self, it: Judged) -> str:
+        """Which transfer it is, where there are several."""
+        if it.row is None or len(self.rows) == 1:
+            return ""
+        number = it.row.number
+        named = f": {self.names[number].told()}" if number in self.names else ""
+        return f"transfer {number}{named}, at the {it.end}"
+
+    def summed(self) -> str:
+        """How many of several transfers are not accepted."""
+        if len(self.rows) < 2:
+            return ""
+        odd = sum(not row.is_accepted() for row in self.rows)
+        if not odd:
+            return f"each of the {count(len(self.rows), 'transfer')} is accepted"
+        return f"{odd:,} of {count(len(self.rows), 'transfer')} {'is' if odd == 1 else 'are'} not accepted"

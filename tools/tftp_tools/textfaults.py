@@ -24,6 +24,23 @@ MEANINGS = {
     "TotalWrong": "the total is the number of the datagrams",
     "Read": "reading failed, so nothing is known of what follows",
 }
+# What a file is by its first bytes, where it is no capture text.
+MAGICS = {
+    b"\x1f\x8b": "compressed by gzip: decompress it first, as in gzip -dc FILE | tftp-explain",
+    b"\x28\xb5\x2f\xfd": "compressed by zstd: decompress it first, as in zstd -dc FILE | tftp-explain",
+    b"\xfd7zXZ\0": "compressed by xz: decompress it first, as in xz -dc FILE | tftp-explain",
+    b"BZh": "compressed by bzip2: decompress it first, as in bzip2 -dc FILE | tftp-explain",
+    b"PK\3\4": "a zip archive: take the recording out of it first",
+    b"\x7fELF": "a program (ELF)",
+    b"snoop\0": "a recording in the format of snoop: editcap -F pcapng brings it into one that is read",
+}
+
+
+def kind_of(text: bytes) -> str:
+    """What it is by its first bytes, or nothing where they do not tell."""
+    if not text:
+        return "empty"
+    return next((kind for magic, kind in MAGICS.items() if text.startswith(magic)), "")
 
 
 def line_of(text: bytes, number: int) -> Optional[bytes]:
@@ -105,6 +122,8 @@ def explain_fault(text: bytes, number: int, name: str) -> list[tuple[str, str]]:
     """What is wrong with a text, as pairs of a heading and words."""
     line = line_of(text, number)
     told = [("Where", f"line {number} of the text; nothing is said of the transfer.")]
+    if kind := kind_of(text):
+        return [*told, ("File", f"it is {kind}; a capture text or a recording is wanted.")]
     if line is not None and (line or name != "Truncated"):
         told.append(("Line", told_line(line)))
     told.append(("Fault", f"{name}: {MEANINGS.get(name, 'see docs/SPECIFICATION.md')}."))

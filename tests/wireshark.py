@@ -1,0 +1,142 @@
+"""The plugin of share/wireshark in tshark, where that is installed: the item at the refused frame, and the fields of
+each frame of a transfer. Its rules are those of the scripts, with tshark or without.
+
+    wireshark.py TRANSFERS
+
+Prints each case that is not as it should be, then a last line 'N passed, M failed'; status 1 if any failed.
+"""
+from __future__ import annotations
+
+import pathlib
+import re
+import shutil
+import subprocess
+import sys
+import tempfile
+from collections.abc import Sequence
+
+import made
+from captures import ack
+from recorded import Datagram
+from repository import TOP
+from tftp_tools.rules import LISTED
+from trial import Trial
+
+PLUGIN, EXAMPLES = TOP / "share" / "wireshark" / "tftp-audit.lua", TOP / "examples"
+RULE = re.compile(r'\[([0-9]+)\] = \{ name = "(\w+)", says = "([^"]*)",\s+whose = "([^"]*)" \},')
+FIELDS = ("frame.number", "tftp_audit.transfer", "tftp_audit.place", "tftp_audit.verdict", "tftp_audit.rule")
+Rows = list[tuple[str, ...]]
+
+
+def try_rules(trial: Trial) -> None:
+    found = RULE.findall(PLUGIN.read_text())
+    wanted = [(str(rule.number), rule.name, rule.says, rule.whose) for rule in LISTED]
+    trial.check("the plugin's rules", found == wanted, [pair for pair in zip(found, wanted) if pair[0] != pair[1]])
+
+
+class Tshark:
+    """tshark with the plugin."""
+
+    def __init__(self, transfers: str) -> None:
+        self.transfers = transfers
+
+    def run(self, file: pathlib.Path, *words: str, program: str = "", of_script: Sequence[str] = ()) -> str:
+        options = ["-o", f"tftp_audit.program:{program or self.transfers}"]
+        command = ["tshark", "-X", f"lua_script:{PLUGIN}", *of_script, *options, "-r", str(file), *words]
+        return subprocess.run(command, capture_output=True, text=True, timeout=120).stdout
+
+    def rows(self, file: pathlib.Path, *words: str, fields: Sequence[str] = FIELDS, program: str = "") -> Rows:
+        """The fields of each frame that a filter leaves."""
+        asked = [word for field in fields for word in ("-e", field)]
+        output = self.run(file, "-T", "fields", *asked, *words, program=program)
+        return [tuple(line.split("\t")) for line in output.splitlines()]
+
+
+def try_session(trial: Trial, tshark: Tshark) -> None:
+    """The frames of each transfer, by what docs/RECORDING.md lists of this recording."""
+    session = EXAMPLES / "loopback-session.pcap"
+    frames = {1: range(1, 8), 2: range(8, 15), 3: range(15, 18), 4: range(19, 26), 5: range(26, 36)}
+    of_frame = {str(frame): str(number) for number, its in frames.items() for frame in its}
+    rows = tshark.rows(session)
+    trial.check("each frame's transfer", {row[0]: row[1] for row in rows} == {**of_frame, "18": ""}, rows)
+    refused = "refused datagram 3 rule 26 AckAhead"
+    found = tshark.rows(session, "-Y", "tftp_audit.rule")
+    trial.check("a filter by rule", found == [("17", "3", "both", refused, "26")], found)
+    found = tshark.rows(session, "-Y", 'tftp_audit.verdict matches "^accepted put"')
+    trial.check("a filter by verdict", [row[0] for row in found] == [str(frame) for frame in frames[5]], found)
+    words = "rule 26 AckAhead: an ACK says that its block and all before it came (RFC 1350, section 2, and RFC 7440"
+    shown = tshark.run(session, "-V", "-Y", "frame.number == 17")
+    is_error = f"[Expert Info (Error/Protocol): {words}" in shown and "TFTP audit, transfer 3" in shown
+    trial.check("the item of the refused frame", is_error, shown[-900:])
+    counted = tshark.run(session, "-q", "-z", "expert")
+    trial.check("one error", re.search(r"Errors \(1\)", counted) is not None, counted)
+    six = tshark.rows(EXAMPLES / "loopback-curl-hpa-6.pcap")
+    trial.check("IPv6", {row[1] for row in six} == {"1", "2"}, six)
+
+
+def try_made(trial: Trial, tshark: Tshark, folder: pathlib.Path) -> None:
+    """A doubt is no error; two reads from one port at once are told apart; a file's name is no word of the shell."""
+    path = folder / "it's a $(recording).pcap"
+    path.write_bytes(made.file_of(made.late_block()[:5]))
+    wanted = [("5", "1", "unknown", "refused datagram 5 rule 24 GoneBack", "24")]
+    found = tshark.rows(path, "-Y", "tftp_audit.rule && tftp_audit.doubt")
+    trial.check("a doubt, and a file with a quote", found == wanted, found)
+    shown = tshark.run(path, "-V", "-Y", "tftp_audit.rule")
+    is_warning = "[Expert Info (Warning/Protocol): doubtful: rule 24 GoneBack" in shown
+    trial.check("a doubt is a warning", is_warning, shown[-900:])
+    one, other = made.read("a", 40_000, 41_000), made.read("b", 40_000, 42_000)
+    mixed = [one[0], one[1], other[0], other[1], one[2], other[2]]
+    path.write_bytes(made.file_of(mixed))
+    by_text = {row[0]: row[1] for row in tshark.rows(path)}
+    trial.check("two from one port", by_text == frames_by_text(tshark.transfers, path), by_text)
+    late = [*made.read("a", 40_000, 41_000, service=6969)[:2], Datagram(made.C, 40_000, made.S, 41_000, ack(2)[0])]
+    path.write_bytes(made.file_of(late))
+    found = tshark.rows(path, "-o", "tftp_audit.service:6969", "-o", "tftp_audit.place:client", "-Y", "tftp_audit.rule")
+    wanted = [("3", "1", "client", "refused datagram 3 rule 26 AckAhead", "26")]
+    trial.check("a place and a port", found == wanted, found)
+
+
+def frames_by_text(transfers: str, path: pathlib.Path) -> dict[str, str]:
+    """Of each frame of two transfers, which one's text has it, the first where both have."""
+    found: dict[str, str] = {}
+    for number in ("2", "1"):
+        words = [transfers, "text", number, "client", str(path)]
+        text = subprocess.run(words, capture_output=True, text=True, timeout=60).stdout
+        found |= {frame: number for frame in re.findall(r"(?m)^# frame (\d+)", text)}
+    return found
+
+
+def try_failures(trial: Trial, tshark: Tshark) -> None:
+    """Where the program or the file is not found, that is told once."""
+    session, fields = EXAMPLES / "loopback-session.pcap", ("_ws.expert.message",)
+    for name, program, told in (
+        ("no program", "/no/such/program", "the program /no/such/program is not found"),
+        ("a program that says nothing", "/bin/false", "tftp-transfers finds no transfer in"),
+    ):
+        rows = tshark.rows(session, "-Y", "tftp_audit.failed", fields=fields, program=program)
+        trial.check(name, len(rows) == 1 and rows[0][0].startswith(told), rows)
+    other = ("-X", f"lua_script1:{EXAMPLES / 'loopback-dnsmasq.pcap'}")
+    shown = tshark.run(session, "-T", "fields", "-e", "tftp_audit.rule", of_script=other)
+    trial.check("another file as the script's argument", "26" not in shown.split(), shown)
+
+
+def main(transfers: str) -> int:
+    trial = Trial()
+    try_rules(trial)
+    if not shutil.which("tshark"):
+        print("tshark is not installed, so the plugin is not run")
+        return trial.end()
+    tshark = Tshark(str(pathlib.Path(transfers).resolve()))
+    if "tftp_audit" not in tshark.run(EXAMPLES / "loopback-session.pcap", "-G", "protocols"):
+        listed = subprocess.run(["tshark", "-v"], capture_output=True, text=True).stdout
+        if "without Lua" in listed:
+            print("tshark is built without Lua, so the plugin is not run")
+            return trial.end()
+    try_session(trial, tshark)
+    with tempfile.TemporaryDirectory() as folder:
+        try_made(trial, tshark, pathlib.Path(folder))
+    try_failures(trial, tshark)
+    return trial.end()
+
+
+sys.exit(main(*sys.argv[1:]))

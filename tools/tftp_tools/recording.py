@@ -1,0 +1,161 @@
+"""A recording: its transfers, the verdicts on them and their capture texts, as tftp-transfers says them."""
+from __future__ import annotations
+
+import json
+from collections.abc import Callable, Sequence
+from dataclasses import dataclass
+from typing import Any, Literal, Optional, TypeVar
+
+from .errors import Refused, tell
+from .program import Verdict, ask, check
+
+EndName = Literal["client", "server"]
+ENDS: tuple[EndName, ...] = ("client", "server")
+# The first bytes of pcap, in both orders of bytes, in microseconds and nanoseconds, and of pcapng.
+MAGICS = tuple(bytes.fromhex(it) for it in ("a1b2c3d4", "d4c3b2a1", "a1b23c4d", "4d3cb2a1", "0a0d0d0a"))
+T = TypeVar("T")
+# The fields of a listed transfer.
+WORDS = ("client", "server", "kind", "mode", "file", "options")
+NUMBERS = ("number", "datagrams", "first_frame", "last_frame")
+
+
+@dataclass(frozen=True)
+class Row:
+    """What tftp-transfers says of a transfer at the place where it was recorded."""
+
+    number: int
+    place: str
+    verdict: str
+    doubts: tuple[str, ...]
+    frame: Optional[int] = None
+
+    def is_refused(self) -> bool:
+        return self.verdict.startswith("refused ")
+
+    def is_accepted(self) -> bool:
+        return self.verdict.startswith("accepted ")
+
+    def is_accused(self) -> bool:
+        return self.is_refused() and not self.doubts
+
+
+@dataclass(frozen=True)
+class Listed:
+    """A transfer, as the recording lists it."""
+
+    number: int
+    client: str
+    server: str
+    kind: str
+    mode: str
+    file: str
+    options: str
+    datagrams: int
+    first_frame: int
+    last_frame: int
+
+    def told(self) -> str:
+        return f"{self.kind} {self.file}, client {self.client}, server {self.server}"
+
+
+@dataclass(frozen=True)
+class Judged:
+    """A capture text, the verdict on it, and why a refusal is no accusation; of a recording the transfer's row and the
+    end too."""
+
+    text: bytes
+    verdict: Verdict
+    doubts: tuple[str, ...] = ()
+    row: Optional[Row] = None
+    end: Optional[EndName] = None
+
+
+def is_recording(begins: bytes) -> bool:
+    """Whether what begins so is a recording by its first bytes."""
+    return begins.startswith(MAGICS)
+
+
+def row_of(it: dict[str, Any]) -> Row:
+    """A row of verdicts, which is an object of JSON."""
+    frame = int(it["frame"]) if it["frame"] is not None else None
+    return Row(int(it["number"]), str(it["place"]), str(it["verdict"]), tuple(map(str, it["doubts"])), frame)
+
+
+def listed_of(it: dict[str, Any]) -> Listed:
+    client, server, kind, mode, file, options = (str(it[name]) for name in WORDS)
+    number, datagrams, first, last = (int(it[name]) for name in NUMBERS)
+    return Listed(number, client, server, kind, mode, file, options, datagrams, first, last)
+
+
+def objects(written: bytes, read: Callable[[dict[str, Any]], T]) -> list[T]:
+    """The objects of JSON in the lines of what a program wrote, or none where they are none."""
+    try:
+        return [read(json.loads(line)) for line in written.splitlines()]
+    except (ValueError, KeyError, TypeError):
+        return []
+
+
+def named(services: Sequence[str]) -> list[str]:
+    return [word for port in services for word in ("--service", port)]
+
+
+@dataclass(frozen=True)
+class Recording:
+    """A recording in a file, or what was given on standard input, and the programs that read it and judge."""
+
+    path: str
+    given: Optional[bytes]
+    services: tuple[str, ...]
+    transfers: str
+    audit: str
+
+    def ask(self, *words: str) -> tuple[bytes, list[str], int]:
+        return ask(self.transfers, [*words, *named(self.services), "--", self.path], self.given)
+
+    def rows(self, script: str, end: Optional[str], notes: Optional[list[str]] = None) -> list[Row]:
+        """The verdicts, at an end if one is named; what is told beside them is told, and added to the notes."""
+        written, beside, status = self.ask("check", "--json", *(["--end", end] if end else []))
+        for line in beside[: None if written else -1]:
+            tell(script, line)
+            if notes is not None:
+                notes.append(line)
+        rows = objects(written, row_of)
+        if rows:
+            return rows
+        if written or status != 0 and not beside:
+            raise Refused(f"{self.transfers!r} gave no rows for {self.path!r}, and ended with status {status}")
+        raise Refused(beside[-1] if beside else f"{self.path}: there is no transfer in the recording")
+
+    def listed(self) -> list[Listed]:
+        """The transfers."""
+        return objects(self.ask("list", "--json")[0], listed_of)
+
+    def text(self, number: int, end: str) -> bytes:
+        """The capture text of a transfer at an end."""
+        written, beside, status = self.ask("text", str(number), end)
+        if status != 0 or not written:
+            raise Refused(beside[-1] if beside else f"{self.transfers!r} gave no text, and ended with status {status}")
+        return written
+
+    def judged(self, row: Row) -> Judged:
+        """What the row says, at the end at which it says so: where the place is not known, the one whose verdict it
+        has."""
+        ends = [end for end in ENDS if end == row.place] or ENDS
+        for end in ends:
+            text = self.text(row.number, end)
+            verdict = check(self.audit, text)
+            if verdict.line == row.verdict:
+                return Judged(text, verdict, row.doubts, row, end)
+        said = f"{self.audit!r} says at no end of transfer {row.number} what {self.transfers!r} says"
+        raise Refused(f"{said}: {row.verdict}")
+
+
+def best(rows: Sequence[Row]) -> Row:
+    """Of the rows of a transfer the one that accuses, or else refuses."""
+    return min(rows, key=lambda row: (not row.is_accused(), not row.is_refused()))
+
+
+def one_each(rows: Sequence[Row]) -> list[Row]:
+    """A row for each transfer, in their order."""
+    numbers = dict.fromkeys(row.number for row in rows)
+    return [best([row for row in rows if row.number == number]) for number in numbers]

@@ -1,0 +1,100 @@
+"""What the verdict would be without the datagram that is refused, and so on: all that is to be said of a transfer which
+works all the same. Each of these words is the program's about a text without some datagrams, so none is a verdict."""
+from __future__ import annotations
+
+import dataclasses
+import hashlib
+import re
+from collections.abc import Sequence
+from dataclasses import dataclass
+from typing import Optional
+
+from .capture import Capture, Datagram, read_capture
+from .explained import Told, explain, explain_refused
+from .packets import count
+from .program import Verdict, check, file_of
+from .rules import RULES
+
+MOST = 20
+NO_VERDICT = "no verdict: what follows is what the program says once the datagrams that it refused are left out."
+TOTAL = re.compile(rb"total ([0-9]+)")
+
+
+@dataclass(frozen=True)
+class Remark:
+    """A datagram that is refused once those before it are left out."""
+
+    datagram: Datagram
+    verdict: Verdict
+    told: Told
+
+    def says(self) -> str:
+        """What the rule asks for."""
+        found = self.verdict.refused()
+        return RULES[found[1]].says if found else ""
+
+    def rule(self) -> str:
+        """The rule that it breaks, as the program writes it."""
+        return " ".join(self.verdict.line.split()[4:])
+
+
+@dataclass(frozen=True)
+class CameOver:
+    """The file that a transfer brought."""
+
+    size: int
+    sha256: str
+
+    def told(self) -> str:
+        return f"{count(self.size, 'byte')}, SHA-256 {self.sha256}"
+
+
+@dataclass(frozen=True)
+class Remarks:
+    """Each refused datagram in turn, and what the program says of the text without them."""
+
+    refused: tuple[Remark, ...]
+    left: Verdict
+    told: Told
+    file: Optional[CameOver]
+
+
+def named(refused: Sequence[Remark]) -> str:
+    """The datagrams of these remarks, by their numbers."""
+    numbers = [f"{remark.datagram.number}" for remark in refused]
+    if len(numbers) == 1:
+        return f"datagram {numbers[0]}"
+    return f"datagrams {', '.join(numbers[:-1])} and {numbers[-1]}"
+
+
+def without(text: bytes, datagram: Datagram) -> bytes:
+    """The text with a comment in the place of a datagram's line, and one less as its total."""
+    lines = text.split(b"\n")
+    lines[datagram.line - 1] = b"# left out"
+    place = next((at for at, line in enumerate(lines) if at >= datagram.line and TOTAL.fullmatch(line)), None)
+    if place is not None:
+        lines[place] = b"total %d" % (int(lines[place].split()[1]) - 1)
+    return b"\n".join(lines)
+
+
+def came_over(audit: str, text: bytes) -> CameOver:
+    """The file of a text that is accepted."""
+    file = file_of(audit, text)
+    return CameOver(len(file), hashlib.sha256(file).hexdigest())
+
+
+def left(capture: Capture, gone: Datagram) -> Capture:
+    """The capture without a datagram; the others keep their numbers."""
+    return dataclasses.replace(capture, datagrams=[it for it in capture.datagrams if it.line != gone.line])
+
+
+def remarks_of(audit: str, text: bytes, verdict: Verdict) -> Remarks:
+    """Leaves out each datagram that is refused, so many at most."""
+    capture, refused = read_capture(text), list[Remark]()
+    while (found := verdict.refused()) and len(refused) < MOST:
+        datagram = capture.datagrams[found[0] - 1]
+        refused.append(Remark(datagram, verdict, explain_refused(capture, verdict)))
+        text, capture = without(text, datagram), left(capture, datagram)
+        verdict = check(audit, text)
+    file = came_over(audit, text) if verdict.status == 0 else None
+    return Remarks(tuple(refused), verdict, explain(verdict, text, capture), file)

@@ -1,0 +1,65 @@
+"""What tftp-explain says, as an object of JSON (docs/RECORDING.md)."""
+from __future__ import annotations
+
+import json
+from typing import Any, Optional
+
+from .capture import Datagram, read_capture
+from .explained import Told, explain
+from .packets import read_packet
+from .program import Verdict
+from .recording import Judged
+from .remarks import Remark, Remarks
+from .rules import RULES
+
+Object = dict[str, Any]
+
+
+def datagram_object(it: Datagram) -> Object:
+    return {
+        "datagram": it.number, "line": it.line, "frame": it.frame, "time": it.time, "way": it.way,
+        "packet": read_packet(it.payload).told(), "payload": it.payload.hex(),
+    }
+
+
+def refused_object(it: Datagram, verdict: Verdict) -> Object:
+    """A refused datagram and the rule that it breaks."""
+    found = verdict.refused()
+    assert found is not None
+    rule = RULES[found[1]]
+    broken = {"rule": rule.number, "name": rule.name, "fault": found[3] or None, "says": rule.says, "whose": rule.whose}
+    return {**datagram_object(it), **broken}
+
+
+def told_objects(told: Told) -> list[Object]:
+    return [{"heading": heading, "words": words} for heading, words in told]
+
+
+def remark_object(it: Remark) -> Object:
+    return {**refused_object(it.datagram, it.verdict), "told": told_objects(it.told)}
+
+
+def what_if_object(it: Remarks) -> Object:
+    """What --all adds."""
+    file = {"bytes": it.file.size, "sha256": it.file.sha256} if it.file else None
+    return {
+        "left_out": [remark_object(remark) for remark in it.refused], "without_them": it.left.line,
+        "told": told_objects(it.told), "file": file,
+    }
+
+
+def explained_object(path: str, judged: Judged, remarks: Optional[Remarks]) -> Object:
+    capture, verdict, row = read_capture(judged.text), judged.verdict, judged.row
+    found = verdict.refused()
+    return {
+        "file": path, "number": row.number if row else None, "end": judged.end, "verdict": verdict.line,
+        "status": verdict.status, "doubts": list(judged.doubts),
+        "refused": refused_object(capture.datagrams[found[0] - 1], verdict) if found else None,
+        "told": told_objects(explain(verdict, judged.text, capture)),
+        "what_if": what_if_object(remarks) if remarks else None,
+    }
+
+
+def explained_line(path: str, judged: Judged, remarks: Optional[Remarks]) -> str:
+    """The object in a line."""
+    return json.dumps(explained_object(path, judged, remarks), separators=(",", ":")) + "\n"
