@@ -1,12 +1,8 @@
 # What ./tftp-audit and ./tftp-transfers share: a program is proved and built where its sources are not those that it
-# was built of. Before it reads this, a launcher sets `top`, where the repository is; `name` and `crate`, those of its
-# program; `takes`, how long a build takes; and trial_run, which builds the program and tries it.
+# was built of. Before it reads this and commands.sh, a launcher sets `top`, where the repository is; `name` and `crate`,
+# those of its program; `takes`, how long a build takes; and trial_run, which builds the program and tries it.
 #   NAME --build   only builds the program
 #   NAME --gate    proves all from nothing with rt ci, which builds both programs too; its status is rt's
-
-say() {
-    printf '%s: %s\n' "$name" "$1" >&2
-}
 
 # Where the program of a crate is built.
 program_of() {
@@ -59,17 +55,7 @@ gate() {
 build() {
     say "proving and building the program: $takes from nothing, less after an edit"
     build_by "$crate" trial_run && return
-    say "the program was not built, so nothing is run"
-    exit 2
-}
-
-is_readable() {
-    [ -r "$1" ] && [ ! -d "$1" ]
-}
-
-refuse_file() {
-    say "cannot read the file '$1'"
-    exit 2
+    refuse "the program was not built, so nothing is run"
 }
 
 program=$(program_of "$crate")
