@@ -3,13 +3,8 @@ PROGRAM = crates/tftp_audit/out/tftp_audit
 TRANSFERS = crates/tftp_transfers_main/out/tftp_transfers_main
 BENCH = crates/tftp_bench/out/tftp_bench
 DATAGRAMS = crates/tftp_datagrams/out/tftp_datagrams
-SCRIPTS = tftp-explain tftp-ladder tftp-report
-BIN = $(DESTDIR)$(PREFIX)/bin
-LIB = $(DESTDIR)$(PREFIX)/lib/tftp-audit
-MAN = $(DESTDIR)$(PREFIX)/share/man/man1
-SHARE = $(DESTDIR)$(PREFIX)/share/tftp-audit
 
-.PHONY: build test plants bench fuzz install
+.PHONY: build test plants bench fuzz install uninstall dist deb
 
 # Proves the two programs and builds them, each where its sources are not those that it was built of.
 build:
@@ -44,18 +39,20 @@ fuzz: build
 	@cd crates/tftp_datagrams && rt run -- </dev/null >/dev/null || test $$? -eq 2
 	python3 tests/datagrams.py --cases 0 --changes $$(($(N) / 10 + 1)) $(if $(SEED),--seed $(SEED)) $(DATAGRAMS)
 
-# The programs alone in bin; the scripts beside their modules in lib, with links in bin; the manual pages; in share the
-# plugin of Wireshark and the schemas of JSON.
+# The programs in bin; the scripts beside their modules in lib, with links in bin; the manual pages, the pages for
+# readers, the examples and what shells complete; in share the plugin of Wireshark and the schemas of JSON.
 install: build
-	install -D -m 755 $(PROGRAM) "$(BIN)/tftp-audit"
-	install -D -m 755 $(TRANSFERS) "$(BIN)/tftp-transfers"
-	install -d "$(LIB)/tftp_tools" "$(MAN)"
-	install -m 644 tools/tftp_tools/*.py "$(LIB)/tftp_tools"
-	install -m 644 docs/man/*.1 "$(MAN)"
-	install -D -m 644 share/wireshark/tftp-audit.lua "$(SHARE)/wireshark/tftp-audit.lua"
-	install -d "$(SHARE)/schemas"
-	install -m 644 docs/schemas/*.json "$(SHARE)/schemas"
-	for script in $(SCRIPTS); do \
-		install -m 755 "tools/$$script" "$(LIB)/$$script" && \
-		ln -sf "../lib/tftp-audit/$$script" "$(BIN)/$$script" || exit 1; \
-	done
+	@sh tools/install.sh install "$(DESTDIR)$(PREFIX)"
+
+# Takes away what install put there, by the list that it left, and nothing else.
+uninstall:
+	@sh tools/install.sh uninstall "$(DESTDIR)$(PREFIX)"
+
+# dist/tftp-audit-VERSION.tar.gz, with all that install puts, the sum of each file, and a file PROVED; the same bytes from
+# the same commit and the same programs.
+dist: build
+	@python3 tools/package tar
+
+# A package of Debian of the same.
+deb: build
+	@python3 tools/package deb

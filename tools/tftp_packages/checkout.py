@@ -1,0 +1,102 @@
+"""What a package says of where it comes from: the commit, the kit, and what the programs need of a machine."""
+from __future__ import annotations
+
+import dataclasses
+import datetime
+import re
+import shutil
+import struct
+import subprocess
+from pathlib import Path
+
+TOP = Path(__file__).resolve().parent.parent.parent
+# Where a launcher keeps what rt said of the last build.
+LOGS = TOP / "out"
+# By e_machine of ELF, Debian's names.
+ARCHITECTURES = {62: "amd64", 183: "arm64"}
+NEEDED = re.compile(r"\bName: GLIBC_(\d+(?:\.\d+)+)")
+
+
+class Refused(Exception):
+    """Why no package is made."""
+
+
+def answer(*words: str) -> str:
+    """What a command writes, without the last line's end."""
+    try:
+        done = subprocess.run(words, cwd=TOP, capture_output=True, text=True, check=False)
+    except FileNotFoundError:
+        raise Refused(f"'{words[0]}' is not installed") from None
+    if done.returncode != 0:
+        raise Refused(f"'{' '.join(words)}' failed: {done.stderr.strip()}")
+    return done.stdout.strip("\n")
+
+
+@dataclasses.dataclass(frozen=True)
+class Commit:
+    """The commit of which a package is made: all that it holds but the programs is in it."""
+
+    name: str
+    time: datetime.datetime
+    by: str
+
+    @classmethod
+    def current(cls) -> Commit:
+        """The commit that is checked out; a changed checkout is refused, since no commit names what it has."""
+        changed = answer("git", "status", "--porcelain")
+        if changed:
+            raise Refused(f"the checkout has what is not committed:\n{changed}")
+        name, time, by = answer("git", "log", "-1", "--format=%H%n%ct%n%an <%ae>").split("\n")
+        return cls(name, datetime.datetime.fromtimestamp(int(time), datetime.timezone.utc), by)
+
+    def seconds(self) -> int:
+        return int(self.time.timestamp())
+
+
+@dataclasses.dataclass(frozen=True)
+class Program:
+    """A program that was built, in the crate of this name, and its name once it is installed."""
+
+    crate: str
+    name: str
+
+    def path(self) -> Path:
+        return TOP / "crates" / self.crate / "out" / self.crate
+
+    def log(self) -> Path:
+        return LOGS / f"{self.name}.log"
+
+    def architecture(self) -> str:
+        """Debian's name of the machine that it runs on."""
+        head = self.path().read_bytes()[:20]
+        if head[:4] != b"\x7fELF" or len(head) < 20:
+            raise Refused(f"'{self.path()}' is no program of ELF")
+        (machine,) = struct.unpack_from("<H" if head[5] == 1 else ">H", head, 18)
+        if machine not in ARCHITECTURES:
+            raise Refused(f"'{self.path()}' is of the machine {machine} of ELF, of which no name is known")
+        return ARCHITECTURES[machine]
+
+    def libc(self) -> tuple[int, ...]:
+        """The lowest version of glibc that has every symbol which it names."""
+        if not shutil.which("readelf"):
+            raise Refused("'readelf' (binutils) is not installed, which tells what a program needs of the C library")
+        told = NEEDED.findall(answer("readelf", "--version-info", str(self.path())))
+        if not told:
+            raise Refused(f"'{self.path()}' names no version of glibc")
+        return max(tuple(map(int, version.split("."))) for version in told)
+
+
+PROGRAMS = (Program("tftp_audit", "tftp-audit"), Program("tftp_transfers_main", "tftp-transfers"))
+
+
+def libc_needed() -> str:
+    """The lowest version of glibc that both programs run with."""
+    return ".".join(map(str, max(program.libc() for program in PROGRAMS)))
+
+
+def version_of(commit: Commit) -> str:
+    """The version that the programs tell, with the commit's day, time and name: a later commit's sorts after it."""
+    found = re.search(r"(?m)^version=(\S+)$", (TOP / "tools" / "commands.sh").read_text())
+    if not found:
+        raise Refused("tools/commands.sh has no version")
+    return f"{found[1]}+{commit.time:%Y%m%d.%H%M%S}.{commit.name[:8]}"

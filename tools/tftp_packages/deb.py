@@ -1,0 +1,96 @@
+"""The package of Debian."""
+from __future__ import annotations
+
+import gzip
+import hashlib
+import os
+import subprocess
+from email.utils import format_datetime
+from pathlib import Path
+
+from tftp_packages.checkout import PROGRAMS, TOP, Commit, Refused, libc_needed, version_of
+from tftp_packages.staged import add_papers, even_out, staged
+
+NAME = "tftp-audit"
+ABOUT = """\
+Description: auditor of recorded TFTP transfers
+ tftp-transfers reads a recording of the network and says of each TFTP transfer
+ in it whether it was lawful, and if not, which frame broke which rule.
+ tftp-audit says it of a text capture of one transfer. Scripts explain a
+ verdict, draw the exchange, and write a report.
+"""
+
+
+def compress(path: Path) -> None:
+    """NAME becomes NAME.gz, without a name or a time in it."""
+    path.with_name(f"{path.name}.gz").write_bytes(gzip.compress(path.read_bytes(), 9, mtime=0))
+    path.unlink()
+
+
+def changes(commit: Commit) -> str:
+    """Debian's own list of changes, with the one entry of this commit."""
+    entry = f"{NAME} ({version_of(commit)}) unstable; urgency=medium\n\n  * Built of commit {commit.name}.\n"
+    news = "    What changed for users is in /usr/share/doc/tftp-audit/CHANGELOG.md.\n"
+    return f"{entry}{news}\n -- {commit.by}  {format_datetime(commit.time)}\n"
+
+
+def control(commit: Commit, root: Path) -> str:
+    """The fields that dpkg reads."""
+    sizes = (path.stat().st_size for path in root.rglob("*") if path.is_file() and not path.is_symlink())
+    fields = {
+        "Package": NAME,
+        "Version": version_of(commit),
+        "Architecture": PROGRAMS[0].architecture(),
+        "Maintainer": commit.by,
+        "Installed-Size": str(sum((size + 1023) // 1024 for size in sizes)),
+        "Depends": f"libc6 (>= {libc_needed()})",
+        "Recommends": "python3 (>= 3.9)",
+        "Suggests": "wireshark | tshark",
+        "Section": "net",
+        "Priority": "optional",
+    }
+    return "".join(f"{name}: {value}\n" for name, value in fields.items()) + ABOUT
+
+
+def sums(root: Path) -> str:
+    """The sums by which dpkg --verify tells a changed file."""
+    files = sorted(path for path in root.rglob("*") if path.is_file() and not path.is_symlink())
+    return "".join(
+        f"{hashlib.md5(path.read_bytes()).hexdigest()}  {path.relative_to(root).as_posix()}\n" for path in files
+    )
+
+
+def fill(folder: Path, commit: Commit) -> None:
+    """Debian's places and papers, in a folder that has what is installed."""
+    share = folder / "share"
+    pages = share / "doc" / NAME
+    (share / "zsh" / "site-functions").rename(share / "zsh" / "vendor-completions")
+    (pages / "changelog").write_text(changes(commit))
+    for path in (*(share / "man" / "man1").glob("*.1"), pages / "changelog"):
+        compress(path)
+    licences = sorted((*TOP.glob("LICEN[CS]E*"), *TOP.glob("COPYING*")))
+    if licences:
+        (pages / "copyright").write_text("\n".join(path.read_text() for path in licences))
+    add_papers(folder, pages, commit)
+
+
+def make_deb(commit: Commit, into: Path) -> Path:
+    """dist/tftp-audit_VERSION_ARCHITECTURE.deb; the same bytes whenever the same dpkg-deb makes it."""
+    made = into / f"{NAME}_{version_of(commit)}_{PROGRAMS[0].architecture()}.deb"
+    with staged("usr") as (root, folder):
+        fill(folder, commit)
+        told = control(commit, root), sums(root)
+        papers = root / "DEBIAN"
+        papers.mkdir()
+        for name, text in zip(("control", "md5sums"), told):
+            (papers / name).write_text(text)
+        even_out(root, commit)
+        words = ["dpkg-deb", "--root-owner-group", "-Zxz", "--build", str(root), str(made)]
+        environment = {**os.environ, "SOURCE_DATE_EPOCH": str(commit.seconds())}
+        try:
+            done = subprocess.run(words, env=environment, capture_output=True, text=True, check=False)
+        except FileNotFoundError:
+            raise Refused("'dpkg-deb' is not installed, so no package of Debian is made") from None
+        if done.returncode != 0:
+            raise Refused(f"dpkg-deb failed: {done.stderr.strip()}")
+    return made

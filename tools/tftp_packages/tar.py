@@ -1,0 +1,31 @@
+"""The tar of all that is installed."""
+from __future__ import annotations
+
+import gzip
+import tarfile
+from pathlib import Path
+
+from tftp_packages.checkout import Commit, version_of
+from tftp_packages.staged import add_papers, even_out, staged
+
+
+def owned_by_root(entry: tarfile.TarInfo) -> tarfile.TarInfo:
+    entry.uid = entry.gid = 0
+    entry.uname = entry.gname = "root"
+    return entry
+
+
+def make_tar(commit: Commit, into: Path) -> Path:
+    """dist/tftp-audit-VERSION.tar.gz, which has one folder of that name; the same bytes whenever it is made."""
+    name = f"tftp-audit-{version_of(commit)}"
+    made = into / f"{name}.tar.gz"
+    with staged(name) as (root, folder):
+        add_papers(folder, folder, commit)
+        with made.open("wb") as file:
+            # no name in the head of gzip, and the commit's time
+            with gzip.GzipFile("", "wb", 9, file, commit.seconds()) as packed:
+                with tarfile.open(fileobj=packed, mode="w", format=tarfile.GNU_FORMAT) as tar:
+                    for path in even_out(root, commit):
+                        within = path.relative_to(root).as_posix()
+                        tar.add(path, within, recursive=False, filter=owned_by_root)
+    return made
