@@ -1,6 +1,6 @@
 #!/bin/sh
 # Tries the two built programs, tests/run.sh PROGRAM, of which the one that reads recordings stands in its crate: the
-# launchers with a stand-in for rt; that each wrong body can still be made; each growth refused, each read and each write
+# launchers and packages with a stand-in for rt; that each wrong body can still be made; each growth refused, each read and each write
 # failing, in turn, and each growth in the tests of the libraries' calls; larger captures; simulated transfers and changes
 # of them, for some seconds; the recorded transfers of examples/; the datagrams that are read of recordings, and which
 # transfer they are of; the rows, lists and texts of recordings; the scripts that explain, draw and report, on changed
@@ -14,6 +14,8 @@ export PYTHONDONTWRITEBYTECODE=1
 cc -O1 -shared -fPIC -o "$shim/refuse.so" "$here/refuse.c" -ldl
 echo "launchers:"
 python3 "$here/script.py"
+echo "packages:"
+python3 "$here/packages.py"
 echo "wrong bodies:"
 python3 "$here/edits.py"
 echo "failures:"

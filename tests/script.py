@@ -9,151 +9,26 @@ case that is not as it should be, then a last line 'N passed, M failed'; status 
 from __future__ import annotations
 
 import contextlib
-import dataclasses
 import os
 import pathlib
 import pty
+import re
 import shutil
 import subprocess
 import sys
 import tempfile
-from collections.abc import Sequence
-from typing import Union
 
 from commands import COMMANDS
 from repository import TOP
+from scratch import AUDIT, SCRIPTS, TRANSFERS, Launcher, Ran, Scratch, Word, said_of
 from trial import Trial
 
-Word = Union[str, pathlib.Path]
-SCRIPTS = ("tftp-explain", "tftp-ladder", "tftp-report")
-# What the script writes, what it writes as errors, its status, and how often rt was called.
-Ran = tuple[str, str, int, int]
-# A build reads the source at its start; $MEANWHILE is done while the crate $TRIED is built, and a source that says
-# 'broken' fails.
-# As rt's, its ci first sets aside what stands in out/, and runs nothing.
-STAND_IN = r"""#!/bin/sh
-build() {
-    mkdir -p out
-    text=$(cat src/main.rt)
-    echo "rt: progress on $text" >&2
-    [ "$1" = "$TRIED" ] && eval "${MEANWHILE:-}"
-    case $text in *broken*) echo "error: $text" >&2 && return 1 ;; esac
-    cat >out/$1 <<'END'
-#!/bin/sh
-echo "BUILT_OF: $# words $*: $(cat)"
-case $1 in check) exit STATUS ;; *) exit 2 ;; esac
-END
-    status=$(echo "$text" | tr -cd 0-9)
-    sed -i "s/BUILT_OF/$text/; s/STATUS/${status:-0}/" out/$1
-    chmod +x out/$1
-}
-echo "rt: $*" >>"$CALLS"
-if [ "$1" = ci ]; then
-    for crate in tftp_audit tftp_transfers_main; do
-        (cd crates/$crate && rm -rf out && build $crate) || exit 1
-    done
-    exit 0
-fi
-crate=$(basename "$PWD")
-build "$crate" || exit 1
-shift 2
-exec "out/$crate" "$@"
-"""
-TESTED = "echo tests were run >>\"$CALLS\"\n"
 WRONG_WORDS: tuple[list[str], ...] = (
-    [], [""], ["help"], ["--help"], ["Check"], ["extrac", "x"], ["check", "x", "y"], ["--build", "x"],
+    [], [""], ["help"], ["-x"], ["Check"], ["extrac", "x"], ["--help", "check"], ["--version", "x"], ["--build", "x"],
 )
-HINT = f"tftp-audit: call it as ./tftp-audit {'|'.join(COMMANDS)} [FILE]"
-
-
-@dataclasses.dataclass(frozen=True)
-class Launcher:
-    """A launcher, the crate of its program, how long it says that a build takes, words that read standard input, and
-    others, right and wrong ones."""
-
-    name: str
-    crate: str
-    takes: str
-    words: tuple[str, ...]
-    others: tuple[tuple[str, ...], ...]
-
-    def said(self, message: str) -> str:
-        return f"{self.name}: {message}"
-
-    def says_time(self) -> str:
-        return self.said(f"proving and building the program: {self.takes} from nothing")
-
-
-AUDIT = Launcher("tftp-audit", "tftp_audit", "about a quarter of an hour", ("check",), (("show",), ("extrac",)))
-TRANSFERS = Launcher(
-    "tftp-transfers", "tftp_transfers_main", "half an hour or so", ("check", "-"), (("-",), ("chec", "-"), ("--help",)),
-)
-
-
-class Scratch:
-    """A copy of the launchers and the Makefile, with small sources, in a folder whose name has spaces; one launcher of
-    the two is tried."""
-
-    def __init__(self, folder: pathlib.Path, launcher: Launcher) -> None:
-        self.top, self.launcher = folder / "the top", launcher
-        crates = self.top / "crates"
-        self.source, self.program = crates / launcher.crate / "src" / "main.rt", self.program_of(launcher)
-        self.calls, self.bin = folder / "calls", folder / "bin"
-        of_low = ("src", "specs", "proofs/deep", "must-fail")
-        for part in (f"{AUDIT.crate}/src", f"{TRANSFERS.crate}/src", *(f"tftp_low/{it}" for it in of_low)):
-            (crates / part).mkdir(parents=True)
-            (crates / part / "first.rt").write_text("first")
-        for name in (AUDIT.name, TRANSFERS.name, "Makefile"):
-            shutil.copy(TOP / name, self.top)
-        for name in ("tools", "docs/man", "docs/schemas", "share"):
-            shutil.copytree(TOP / name, self.top / name)
-        (self.top / "crates.txt").write_text("tftp_audit: tftp_low\n")
-        for file, text, mode in (
-            (self.top / "examples" / "one-block.capture", "an example", 0o644),
-            (self.top / "tests" / "run.sh", TESTED, 0o644),
-            (self.bin / "rt", STAND_IN, 0o755),
-        ):
-            file.parent.mkdir()
-            file.write_text(text)
-            file.chmod(mode)
-        for it in (AUDIT, TRANSFERS):
-            (crates / it.crate / "src" / "main.rt").write_text("one" if it == launcher else "other")
-
-    def run(
-        self, *words: Word, script: Word | None = None, folder: pathlib.Path | None = None, given: str = "",
-        meanwhile: str = "", errors: int = subprocess.PIPE,
-    ) -> Ran:
-        """What the launcher writes, what it writes as errors, its status, and how often rt was called."""
-        self.calls.write_text("")
-        environment = {"PATH": f"{self.bin}:{os.environ['PATH']}", "CALLS": str(self.calls)}
-        environment |= {"MEANWHILE": meanwhile, "TRIED": self.launcher.crate}
-        done = subprocess.run(
-            [script or self.top / self.launcher.name, *words],
-            input=given, cwd=folder or self.top, env=environment, text=True, stdout=subprocess.PIPE, stderr=errors,
-            timeout=60,
-        )
-        return done.stdout, done.stderr, done.returncode, self.calls.read_text().count("rt: run -- check")
-
-    def call(self, given: str = "", meanwhile: str = "") -> Ran:
-        """The same of the words that read standard input."""
-        return self.run(*self.launcher.words, given=given, meanwhile=meanwhile)
-
-    def make(self, target: str, meanwhile: str = "") -> tuple[int, str, bool]:
-        """The status of a target of the Makefile, what it writes as errors, and whether the tests were run."""
-        words = target, f"DESTDIR={self.top.parent}", "PREFIX=/a prefix"
-        _, errors, status, _ = self.run(*words, script="make", meanwhile=meanwhile)
-        return status, errors, "tests were run" in self.calls.read_text()
-
-    def program_of(self, launcher: Launcher) -> pathlib.Path:
-        return self.top / "crates" / launcher.crate / "out" / launcher.crate
-
-    def installed(self) -> pathlib.Path:
-        return self.top.parent / "a prefix" / "bin" / self.launcher.name
-
-
-def said_of(words: Sequence[Word]) -> str:
-    """What the stand-in's program says of its words."""
-    return f"{len(words)} words {' '.join(map(str, words))}"
+# As the program tftp-transfers tells its own.
+VERSION = re.findall(r'VERSION: &str = "(.*)"', (TOP / "crates" / "tftp_words" / "src" / "help.rt").read_text())[0]
+HINT = f"tftp-audit: call it as tftp-audit {'|'.join(COMMANDS)} [FILE]; tftp-audit --help says more"
 
 
 class ScriptTrial(Trial):
@@ -255,11 +130,12 @@ def failing(trial: ScriptTrial, scratch: Scratch) -> None:
     trial.check("make build, where the other program is to be built", scratch.make("build")[0] == 0)
     for target in ("build", "install"):
         trial.check(f"make {target}", scratch.make(target) == (0, "", False))
-    for it in (AUDIT, TRANSFERS):
-        program, installed = scratch.program_of(it), scratch.installed().with_name(it.name)
+    for it, place in ((AUDIT, "lib/tftp-audit/tftp-audit"), (TRANSFERS, "bin/tftp-transfers")):
+        program, installed = scratch.program_of(it), scratch.prefix() / place
         same = installed.exists() and installed.read_bytes() == program.read_bytes()
         trial.check(f"make install, {it.name}", same and not installed.is_symlink())
-    installed_scripts(trial, scratch)
+    for part in (installed_scripts, installed_launcher, uninstalled):
+        part(trial, scratch)
 
 
 def installed_scripts(trial: ScriptTrial, scratch: Scratch) -> None:
@@ -282,6 +158,65 @@ def installed_scripts(trial: ScriptTrial, scratch: Scratch) -> None:
     trial.check("tftp-explain, installed, asks the program beside it for a recording's rows", holds, done)
 
 
+def installed_launcher(trial: ScriptTrial, scratch: Scratch) -> None:
+    """The installed tftp-audit opens a file, also by a link and from another folder, and answers two options."""
+    launcher, folder = scratch.prefix() / "bin" / AUDIT.name, scratch.top.parent
+    text = "mended" if scratch.launcher == AUDIT else "other"
+    capture, link = folder / "an installed capture", folder / "a link to the installed one"
+    capture.write_text("its text")
+    link.symlink_to(launcher)
+    places: tuple[tuple[pathlib.Path, Word], ...] = (
+        (launcher, capture), (launcher, capture.name), (link, capture), (link, f"./{capture.name}"),
+    )
+    for script, word in places:
+        got = scratch.run("check", word, script=script, folder=folder, given="other")
+        trial.check(f"installed, {script.name} check {word}", got == (f"{text}: 1 words check: its text\n", "", 0, 0), got)
+    given = (("check",), "1 words check"), (("check", "-"), "1 words check"), (("x", "y"), "2 words x y")
+    for its, said in given:
+        got = scratch.run(*its, script=launcher, given="given")
+        status = 0 if its[0] == "check" else 2
+        trial.check(f"installed, {its}", got == (f"{text}: {said}: given\n", "", status, 0), got)
+    got = scratch.run("check", capture, script=AUDIT.name, folder=folder, on_path=launcher.parent)
+    trial.check("installed, found on PATH", got == (f"{text}: 1 words check: its text\n", "", 0, 0), got)
+    refusals(trial, scratch, launcher)
+
+
+def refusals(trial: ScriptTrial, scratch: Scratch, script: pathlib.Path) -> None:
+    """What tftp-audit refuses by itself, and its two options, in a checkout and installed."""
+    folder, example = scratch.top.parent, scratch.top / "examples" / "one-block.capture"
+    for word in ("missing", "", str(folder), "--json"):
+        got = scratch.run("check", word, script=script, given="other")
+        trial.refuses(f"{script.name} check '{word}'", got, f"tftp-audit: cannot read the file '{word}'\n")
+    for count in (2, 3):
+        got = scratch.run("show", *[example] * count, script=script, given="other")
+        trial.refuses(f"{count} files", got, f"tftp-audit: 'show' takes one file, not {count}\n")
+    usage = "\nUsage: tftp-audit <COMMAND> [FILE]\n"
+    for words in (["--help"], ["-h"], ["check", "--help"], ["show", "-h"]):
+        output, *others = scratch.run(*words, script=script)
+        is_whole = usage in output and all(f"\n  {command} " in output for command in COMMANDS)
+        trial.check(f"{script.name} {words}", is_whole and others == ["", 0, 0], (output, *others))
+    for option in ("--version", "-V"):
+        got = scratch.run(option, script=script)
+        trial.check(f"{script.name} {option}", got == (f"tftp-audit {VERSION}\n", "", 0, 0), got)
+
+
+def uninstalled(trial: ScriptTrial, scratch: Scratch) -> None:
+    """make uninstall leaves what is another's, and nothing of ours; where nothing is installed it does nothing."""
+    prefix = scratch.prefix()
+    others = {prefix / "bin" / "another", prefix / "share" / "tftp-audit" / "a file of the user"}
+    for path in others:
+        path.write_text("")
+    trial.check("make install again", scratch.make("install") == (0, "", False))
+    for name in ("first", "second"):
+        trial.check(f"the {name} make uninstall", scratch.make("uninstall") == (0, "", False))
+        left = {path for path in prefix.rglob("*") if not path.is_dir()}
+        trial.check(f"what the {name} make uninstall leaves", left == others, left ^ others)
+        empty = [path for path in prefix.rglob("*") if path.is_dir() and not any(path.iterdir())]
+        trial.check(f"no empty folder after the {name} make uninstall", not empty, empty)
+    trial.check("make install after make uninstall", scratch.make("install") == (0, "", False))
+    trial.check("installed once more", scratch.installed().is_file())
+
+
 def gates(trial: ScriptTrial, scratch: Scratch) -> None:
     """The gate proves and builds once, and what it built is run by the calls after it."""
     for text in ("mended", "gated"):
@@ -299,7 +234,8 @@ def gates(trial: ScriptTrial, scratch: Scratch) -> None:
     trial.runs("the call after that gate", scratch.call(), "later", 1)
     scratch.source.write_text("mended")
     got = scratch.run("--gate")
-    is_told = sorted(got[1].splitlines()) == ["rt: progress on mended", "rt: progress on other"]
+    told = sorted(line for line in got[1].splitlines() if line.startswith("rt: "))
+    is_told = told == ["rt: progress on mended", "rt: progress on other"]
     trial.check("--gate", is_told and (got[0], *got[2:]) == ("", 0, 0), got)
     trial.runs("the call after --gate", scratch.call(), "mended", 0)
     other = TRANSFERS if scratch.launcher == AUDIT else AUDIT
@@ -339,11 +275,9 @@ def files(trial: ScriptTrial, scratch: Scratch) -> None:
     for command in COMMANDS[1:]:
         got = scratch.run(command, folder / "the capture")
         trial.runs(f"{command} and a file", got, "mended", 0, words=f"1 words {command}", given="its text", status=2)
-    unread: tuple[Word, ...] = ("missing", folder, "")
-    for name in unread:
-        got = scratch.run("check", name, given="other")
-        trial.refuses(f"check {name}", got, f"tftp-audit: cannot read the file '{name}'\n")
+    trial.runs("check -", scratch.run("check", "-", given="given"), "mended", 0, given="given")
     scratch.source.write_text("seven")
+    refusals(trial, scratch, scratch.top / AUDIT.name)
     trial.refuses("a missing file before a build", scratch.run("check", "missing"), "cannot read the file 'missing'\n")
     got = scratch.run("check", folder / "the capture")
     trial.runs("a file after an edit", got, "seven", 1, given="its text")
@@ -389,10 +323,10 @@ def recordings(trial: ScriptTrial, scratch: Scratch) -> None:
     trial.refuses("a trial run that ends with status 3", scratch.call(), trial.not_built(), 1)
 
 
-def on_terminal(scratch: Scratch, *words: Word) -> Ran:
+def on_terminal(scratch: Scratch, *words: Word, meanwhile: str = "") -> Ran:
     """As `run`, with standard error a terminal."""
     ours, theirs = pty.openpty()
-    output, _, status, builds = scratch.run(*words, errors=theirs)
+    output, _, status, builds = scratch.run(*words, errors=theirs, meanwhile=meanwhile)
     os.close(theirs)
     told = b""
     with contextlib.suppress(OSError):
@@ -430,13 +364,60 @@ def wrong_words(trial: ScriptTrial, scratch: Scratch) -> None:
         trial.check(f"{its} on a terminal", got[1] == "", got)
 
 
+def progress(trial: ScriptTrial, scratch: Scratch) -> None:
+    """On a terminal a build is one line, written again and again; what rt says goes to a file that is named."""
+    if not has_terminals():
+        return
+    rest = ""
+    log = scratch.top / "out" / f"{scratch.launcher.name}.log"
+    name = scratch.launcher.name
+    (scratch.top / "crates.txt").write_text(f"a: b\n{scratch.launcher.crate}: tftp_low memchr\ntftp_low: memchr\n")
+    for text, status in (("shown", 0), ("broken", 2)):
+        scratch.source.write_text(text)
+        output, told, ended, builds = on_terminal(scratch, *scratch.launcher.words, meanwhile="sleep 1.1")
+        first, rest = told.split("\r\n", 1)
+        holds = first.startswith(scratch.launcher.says_time()) and first.endswith(f"what rt says is in {log}")
+        trial.check(f"{text}, the first line on a terminal", holds and (ended, builds) == (status, 1), (output, told))
+        steps = [step for step in rest.split("\r") if step.startswith(f"{name}: crate ")]
+        holds = len(steps) > 0 and all(" of at most 2, 0 min 0" in step for step in steps)
+        trial.check(f"{text}, progress on a terminal", holds, told)
+        trial.check(f"{text}, what rt said is told", ("rt: progress" in rest) == (text == "broken"), told)
+        said = log.read_text()
+        trial.check(f"{text}, what rt said is kept", f"rt: progress on {text}\n" in said, said)
+    trial.check("a failed build on a terminal", "error: broken" in rest and "was not built" in rest, told)
+    scratch.source.write_text("seven")
+    scratch.run("--build")
+
+
+def states(trial: ScriptTrial, scratch: Scratch) -> None:
+    """A call reads no source where none was touched; one that was touched and is as it was costs no build."""
+    stamp = scratch.program.with_name(f"{scratch.program.name}.states")
+    scratch.source.write_text("seven")
+    scratch.run("--build")
+    scratch.call()
+    before = stamp.read_text()
+    spy = scratch.bin / "cksum"
+    spy.write_text(f'#!/bin/sh\necho "read: $*" >>"$CALLS"\nexec {shutil.which("cksum")} "$@"\n')
+    spy.chmod(0o755)
+    for name, reads in (("a call that reads no source", False), ("a source that was only touched", True)):
+        trial.runs(name, scratch.call(), "seven", 0)
+        trial.check(f"{name}, read", ("main.rt" in scratch.calls.read_text()) == reads, scratch.calls.read_text())
+        os.utime(scratch.source, (0, 0))
+    spy.unlink()
+    trial.check("its state is known after that", stamp.read_text() != before)
+    stamp.unlink()
+    stamp.mkdir()
+    trial.runs("a stamp that cannot be written", scratch.call(), "seven", 0)
+    stamp.rmdir()
+
+
 def main() -> int:
     trial = Trial()
-    for launcher, further in ((AUDIT, (files, wrong_words)), (TRANSFERS, (recordings,))):
+    for launcher, further in ((AUDIT, (files, wrong_words, progress)), (TRANSFERS, (recordings,))):
         of_one = ScriptTrial(launcher)
         with tempfile.TemporaryDirectory() as folder:
             scratch = Scratch(pathlib.Path(folder).resolve(), launcher)
-            for part in (building, edits_meanwhile, failing, gates, links, *further):
+            for part in (building, edits_meanwhile, failing, gates, links, *further, states):
                 part(of_one, scratch)
         trial.add(of_one)
     return trial.end()

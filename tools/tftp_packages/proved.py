@@ -7,9 +7,10 @@ from pathlib import Path
 
 from tftp_packages.checkout import PROGRAMS, Commit, Program, answer, libc_needed
 
-# What rt says of a crate: the verdict on its proofs, then by name that it is proved.
-VERDICT = re.compile(r"^logic=proved .*$")
+# What rt says of a build: the sum of the logic that its proofs are checked in; then of each crate its name, and the verdict.
 LOGIC = re.compile(r"^logic \S+: (.*)$")
+CRATE = re.compile(r"^crate (\w+): ")
+VERDICT = re.compile(r"^logic=proved .*$")
 
 
 def digest(path: Path) -> str:
@@ -19,10 +20,17 @@ def digest(path: Path) -> str:
 def verdicts(program: Program) -> list[str]:
     """What rt said of the proofs when the program was built; what an earlier run had proved it does not tell again."""
     if not program.log().is_file():
-        return ["not kept: the program was built by the gate, whose own output has it"]
-    lines = program.log().read_text(errors="replace").splitlines()
-    sums = {found[1] for line in lines if (found := LOGIC.match(line))}
-    return [*sorted(sums), *(line for line in lines if VERDICT.match(line))] or ["none in the last build"]
+        return ["what the kit said of the proofs was not kept; the gate prints it"]
+    told: list[str] = []
+    crate = program.crate
+    for line in program.log().read_text(errors="replace").splitlines():
+        if found := CRATE.match(line):
+            crate = found[1]
+        elif VERDICT.match(line):
+            told.append(f"{crate}: {line}")
+        elif (found := LOGIC.match(line)) and (said := f"logic: {found[1]}") not in told:
+            told.append(said)
+    return told or ["the last build proved nothing again"]
 
 
 def told_of(commit: Commit) -> str:
@@ -31,8 +39,9 @@ def told_of(commit: Commit) -> str:
         f"commit {commit.name} of {commit.time:%Y-%m-%d %H:%M:%S} UTC",
         f"proved and built by {answer('rt', 'version')}",
         f"needs glibc {libc_needed()} or later, on {PROGRAMS[0].architecture()}",
-        "To prove it again: that commit, `make test`. README.md says what is proved, what is only tested, and what is",
-        "trusted. What the kit says of the proofs does not depend on the machine; this file is its word, and no proof.",
+        "This file is the word of who built them, and no proof. To prove it again: that commit, `make test`. README.md",
+        "says what is proved, what is only tested, and what is trusted. Below, what the kit said of each crate that was",
+        "proved when the program was last built.",
     ]
     for program in PROGRAMS:
         lines += ["", f"{program.name}: sha256 {digest(program.path())}"]

@@ -33,9 +33,8 @@ def add_papers(folder: Path, place: Path, commit: Commit) -> None:
 def even_out(root: Path, commit: Commit) -> list[Path]:
     """Gives all below a folder the modes and the time that it has in any checkout of the commit; all, by name."""
     paths = sorted(root.rglob("*"), key=lambda path: path.relative_to(root).as_posix())
-    for path in paths:
+    for path in (*paths, root):
         if not path.is_symlink():
             path.chmod(0o755 if path.is_dir() or path.stat().st_mode & 0o100 else 0o644)
-    for path in (*paths, root):
         os.utime(path, (commit.seconds(), commit.seconds()), follow_symlinks=False)
     return paths

@@ -21,11 +21,9 @@ def make_tar(commit: Commit, into: Path) -> Path:
     made = into / f"{name}.tar.gz"
     with staged(name) as (root, folder):
         add_papers(folder, folder, commit)
-        with made.open("wb") as file:
-            # no name in the head of gzip, and the commit's time
-            with gzip.GzipFile("", "wb", 9, file, commit.seconds()) as packed:
-                with tarfile.open(fileobj=packed, mode="w", format=tarfile.GNU_FORMAT) as tar:
-                    for path in even_out(root, commit):
-                        within = path.relative_to(root).as_posix()
-                        tar.add(path, within, recursive=False, filter=owned_by_root)
+        unpacked = root.with_suffix(".tar")
+        with tarfile.open(unpacked, "w", format=tarfile.GNU_FORMAT) as tar:
+            for path in even_out(root, commit):
+                tar.add(path, path.relative_to(root).as_posix(), recursive=False, filter=owned_by_root)
+        made.write_bytes(gzip.compress(unpacked.read_bytes(), 9, mtime=commit.seconds()))
     return made

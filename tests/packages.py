@@ -1,0 +1,204 @@
+"""make dist and make deb, each on a scratch copy that is a repository of git, with a stand-in for rt whose programs are
+true(1): a tar and a package of Debian, the same bytes from the same commit, that hold what they say.
+
+    packages.py
+
+Prints each case that is not as it should be, then a last line 'N passed, M failed'; status 1 if any failed.
+"""
+from __future__ import annotations
+
+import contextlib
+import gzip
+import hashlib
+import os
+import pathlib
+import re
+import shutil
+import subprocess
+import sys
+import tarfile
+import tempfile
+from typing import Optional
+
+from scratch import AUDIT, SCRIPTS, Scratch
+from trial import Trial
+
+# The programs are another's, of which is known what they need; what rt says of a build is short.
+STAND_IN = r"""#!/bin/sh
+[ "$1" = version ] && echo 'rattle-kit-0 logic 5a' && exit
+crate=$(basename "$PWD")
+mkdir -p out
+echo "logic /somewhere/project.json: libraries=1 sum=5a" >&2
+echo "crate $crate: modules loaded=0 checked=1" >&2
+echo "logic=proved functions=7 sum=5a" >&2
+cp TRUE "out/$crate"
+"""
+TIME = 1_700_000_000
+GIT = {f"GIT_{who}_{what}": said for who in ("AUTHOR", "COMMITTER") for what, said in (
+    ("NAME", "A Maintainer"), ("EMAIL", "one@example.org"), ("DATE", f"{TIME} +0200"),
+)}
+TOOLS = ("git", "readelf")
+
+
+class Checkout(Scratch):
+    """A scratch copy that is committed."""
+
+    def __init__(self, folder: pathlib.Path, program: str) -> None:
+        super().__init__(folder, AUDIT)
+        (self.bin / "rt").write_text(STAND_IN.replace("TRUE", program))
+        for words in (["init", "-q"], ["add", "-A"], ["commit", "-q", "-m", "all"]):
+            self.does("git", *words)
+
+    def does(self, *words: str, mask: int = 0o022, path: Optional[str] = None) -> subprocess.CompletedProcess[str]:
+        """What a command does at the top, under a mask of modes."""
+        environment = {**os.environ, **GIT, "PATH": path or f"{self.bin}:{os.environ['PATH']}"}
+        return subprocess.run(
+            ["sh", "-c", f'umask {mask:o}; exec "$@"', "sh", *words],
+            cwd=self.top, env=environment, capture_output=True, text=True,
+        )
+
+    def made(self, target: str, mask: int = 0o022) -> pathlib.Path:
+        """What a target of the Makefile makes."""
+        done = self.does("make", target, mask=mask)
+        lines = done.stdout.splitlines()
+        if done.returncode != 0 or not lines:
+            raise RuntimeError(f"make {target}: {done.stdout}{done.stderr}")
+        return pathlib.Path(lines[-1])
+
+    def commit(self) -> str:
+        return self.does("git", "rev-parse", "HEAD").stdout.strip()
+
+
+def needs(program: str) -> str:
+    """The highest version of glibc that the bytes of a program name."""
+    told = re.findall(rb"\0GLIBC_([0-9]+)\.([0-9]+)", pathlib.Path(program).read_bytes())
+    major, minor = max((int(major), int(minor)) for major, minor in told)
+    return f"{major}.{minor}"
+
+
+def sums_hold(folder: pathlib.Path, listed: pathlib.Path, unlisted: set[str]) -> bool:
+    """Whether the list has the sum of each file below the folder but for some."""
+    lines: dict[str, str] = {}
+    for line in listed.read_text().splitlines():
+        digest, name = line.split("  ", 1)
+        lines[name] = digest
+    files = {it.relative_to(folder).as_posix() for it in folder.rglob("*") if it.is_file() and not it.is_symlink()}
+    right = all(hashlib.sha256((folder / name).read_bytes()).hexdigest() == digest for name, digest in lines.items())
+    return right and set(lines) == files - unlisted
+
+
+def try_tar(trial: Trial, checkout: Checkout, made: pathlib.Path, program: str) -> None:
+    """What the tar holds, and that it runs from where it is unpacked."""
+    with tarfile.open(made) as tar:
+        entries = tar.getmembers()
+        tar.extractall(checkout.top.parent / "unpacked")
+    names = [entry.name for entry in entries]
+    trial.check("the tar's names are in order", names == sorted(names) and len(set(names)) == len(names), names)
+    trial.check("the tar's owners", {(it.uid, it.gid, it.uname, it.gname) for it in entries} == {(0, 0, "root", "root")})
+    trial.check("the tar's times", {it.mtime for it in entries} == {TIME})
+    trial.check("the tar's modes", {it.mode for it in entries if not it.issym()} == {0o755, 0o644})
+    folder = checkout.top.parent / "unpacked" / names[0]
+    trial.check("the tar's name", made.name == f"{folder.name}.tar.gz" and checkout.commit()[:8] in made.name, made)
+    trial.check("the tar's sums", sums_hold(folder, folder / "SHA256SUMS", {"SHA256SUMS"}))
+    wanted = (
+        "PROVED", "bin/tftp-audit", "bin/tftp-transfers", "share/man/man1/tftp-audit.1", "share/doc/tftp-audit/README.md",
+        "share/tftp-audit/wireshark/tftp-audit.lua", "share/doc/tftp-audit/docs/VERDICTS.md",
+        "share/bash-completion/completions/tftp-transfers", "share/zsh/site-functions/_tftp-audit",
+        "share/fish/vendor_completions.d/tftp-audit.fish", *(f"bin/{name}" for name in SCRIPTS),
+    )
+    trial.check("the tar's files", all((folder / name).is_file() for name in wanted), names)
+    proved = (folder / "PROVED").read_text()
+    digest = hashlib.sha256(pathlib.Path(program).read_bytes()).hexdigest()
+    for said in (
+        f"commit {checkout.commit()} of 2023-11-14 22:13:20 UTC\n", "proved and built by rattle-kit-0 logic 5a\n",
+        f"needs glibc {needs(program)} or later", f"tftp-audit: sha256 {digest}\n", f"tftp-transfers: sha256 {digest}\n",
+        "    logic: libraries=1 sum=5a\n    tftp_audit: logic=proved functions=7 sum=5a\n",
+        "    tftp_transfers_main: logic=proved functions=7 sum=5a\n",
+    ):
+        trial.check(f"PROVED says {said!r}", said in proved, proved)
+    for words in (["bin/tftp-audit", "--help"], ["bin/tftp-audit", "check", "PROVED"], ["bin/tftp-explain", "--help"]):
+        done = subprocess.run(words, cwd=folder, capture_output=True, text=True)
+        trial.check(f"{words} of the tar", done.returncode == 0, done)
+
+
+def try_deb(trial: Trial, checkout: Checkout, made: pathlib.Path, program: str) -> None:
+    """What the package of Debian says and holds."""
+    root = checkout.top.parent / "of the package"
+    checkout.does("dpkg-deb", "--raw-extract", str(made), str(root))
+    control = (root / "DEBIAN" / "control").read_text()
+    for field in (
+        "Package: tftp-audit\n", f"Depends: libc6 (>= {needs(program)})\n", "Recommends: python3 (>= 3.9)\n",
+        "Maintainer: A Maintainer <one@example.org>\n",
+    ):
+        trial.check(f"the package says {field!r}", field in control, control)
+    sums = [line.split("  ", 1) for line in (root / "DEBIAN" / "md5sums").read_text().splitlines()]
+    right = all(hashlib.md5((root / name).read_bytes()).hexdigest() == digest for digest, name in sums)
+    trial.check("the package's sums", right and len(sums) > 50, sums)
+    usr = root / "usr"
+    pages = usr / "share" / "doc" / "tftp-audit"
+    own = pages / "SHA256SUMS"
+    trial.check("the package's own sums", sums_hold(usr, own, {own.relative_to(usr).as_posix()}))
+    for name in (AUDIT.name, "tftp-transfers", *SCRIPTS):
+        page = gzip.decompress((usr / "share" / "man" / "man1" / f"{name}.1.gz").read_bytes())
+        trial.check(f"{name}.1.gz", page == (checkout.top / "docs" / "man" / f"{name}.1").read_bytes())
+    changes = gzip.decompress((pages / "changelog.gz").read_bytes()).decode()
+    trial.check("the package's changes", changes.endswith("one@example.org>  Tue, 14 Nov 2023 22:13:20 +0000\n"), changes)
+    trial.check("no licence is invented", not (pages / "copyright").exists())
+    done = subprocess.run([usr / "bin" / "tftp-audit", "--version"], capture_output=True, text=True)
+    trial.check("the launcher of the package", done.returncode == 0 and done.stdout.startswith("tftp-audit "), done)
+    told = checkout.does("dpkg-deb", "--contents", str(made)).stdout
+    trial.check("the package's owners", {line.split()[1] for line in told.splitlines()} == {"root/root"}, told)
+
+
+def try_again(trial: Trial, checkout: Checkout, target: str, made: pathlib.Path, program: str) -> None:
+    """The same bytes once more, and from another folder under another mask; none of what is not committed."""
+    first = made.read_bytes()
+    made.unlink()
+    trial.check(f"make {target} again", checkout.made(target).read_bytes() == first)
+    with tempfile.TemporaryDirectory() as name:
+        other = Checkout(pathlib.Path(name) / "deeper", program).made(target, mask=0o077)
+        trial.check(f"make {target} elsewhere", (other.name, other.read_bytes()) == (made.name, first), other)
+    page = checkout.top / "README.md"
+    text = page.read_text()
+    page.write_text("changed")
+    done = checkout.does("make", target)
+    holds = done.returncode == 2 and "the checkout has what is not committed" in done.stderr
+    trial.check(f"make {target} of a changed checkout", holds, done)
+    page.write_text(text)
+
+
+def try_missing(trial: Trial, checkout: Checkout) -> None:
+    """Without dpkg-deb no package is made, and that is told."""
+    folder = checkout.top.parent / "few tools"
+    folder.mkdir()
+    for name in ("python3", "git", "readelf", "sh", "install", "ln", "rm", "cat", "sed", "sort", "rmdir", "env"):
+        (folder / name).symlink_to(str(shutil.which(name)))
+    (folder / "rt").symlink_to(checkout.bin / "rt")
+    done = checkout.does(sys.executable, "tools/package", "deb", path=str(folder))
+    holds = done.returncode == 2 and done.stderr.startswith("package: 'dpkg-deb' is not installed")
+    trial.check("without dpkg-deb", holds, done)
+
+
+def main() -> int:
+    trial = Trial()
+    program = shutil.which("true")
+    missing = [name for name in TOOLS if not shutil.which(name)]
+    if missing or not program:
+        print(f"{', '.join(missing) or 'true'} is not installed, so no packages are tried")
+        return trial.end()
+    with contextlib.ExitStack() as stack:
+        folder = pathlib.Path(stack.enter_context(tempfile.TemporaryDirectory())).resolve()
+        checkout = Checkout(folder, program)
+        parts = {"dist": try_tar, "deb": try_deb}
+        if not shutil.which("dpkg-deb"):
+            print("dpkg-deb is not installed, so the package of Debian is not tried")
+            del parts["deb"]
+        for target, part in parts.items():
+            made = checkout.made(target)
+            part(trial, checkout, made, program)
+            try_again(trial, checkout, target, made, program)
+        try_missing(trial, checkout)
+    return trial.end()
+
+
+sys.exit(main())

@@ -1,0 +1,145 @@
+"""A scratch copy of what the launchers and the Makefile need, with small sources and a stand-in for rt."""
+from __future__ import annotations
+
+import dataclasses
+import os
+import pathlib
+import shutil
+import subprocess
+from collections.abc import Sequence
+from typing import Union
+
+from repository import TOP
+
+Word = Union[str, pathlib.Path]
+SCRIPTS = ("tftp-explain", "tftp-ladder", "tftp-report")
+# What the script writes, what it writes as errors, its status, and how often rt was called.
+Ran = tuple[str, str, int, int]
+# A build reads the source at its start; $MEANWHILE is done while the crate $TRIED is built, and a source that says
+# 'broken' fails.
+# As rt's, its ci first sets aside what stands in out/, and runs nothing.
+STAND_IN = r"""#!/bin/sh
+build() {
+    mkdir -p out
+    text=$(cat src/main.rt)
+    echo "rt: progress on $text" >&2
+    echo "crate $1: modules loaded=0 checked=1" >&2
+    echo "logic=proved functions=1 sum=5a" >&2
+    [ "$1" = "$TRIED" ] && eval "${MEANWHILE:-}"
+    case $text in *broken*) echo "error: $text" >&2 && return 1 ;; esac
+    cat >out/$1 <<'END'
+#!/bin/sh
+echo "BUILT_OF: $# words $*: $(cat)"
+case $1 in check) exit STATUS ;; *) exit 2 ;; esac
+END
+    status=$(echo "$text" | tr -cd 0-9)
+    sed -i "s/BUILT_OF/$text/; s/STATUS/${status:-0}/" out/$1
+    chmod +x out/$1
+}
+echo "rt: $*" >>"$CALLS"
+if [ "$1" = ci ]; then
+    for crate in tftp_audit tftp_transfers_main; do
+        (cd crates/$crate && rm -rf out && build $crate) || exit 1
+    done
+    exit 0
+fi
+crate=$(basename "$PWD")
+build "$crate" || exit 1
+shift 2
+exec "out/$crate" "$@"
+"""
+TESTED = "echo tests were run >>\"$CALLS\"\n"
+
+
+@dataclasses.dataclass(frozen=True)
+class Launcher:
+    """A launcher, the crate of its program, how long it says that a build takes, words that read standard input, and
+    others, right and wrong ones."""
+
+    name: str
+    crate: str
+    takes: str
+    words: tuple[str, ...]
+    others: tuple[tuple[str, ...], ...]
+
+    def said(self, message: str) -> str:
+        return f"{self.name}: {message}"
+
+    def says_time(self) -> str:
+        return self.said(f"proving and building the program: {self.takes} from nothing")
+
+
+AUDIT = Launcher("tftp-audit", "tftp_audit", "about a quarter of an hour", ("check",), (("show",), ("extrac",)))
+TRANSFERS = Launcher(
+    "tftp-transfers", "tftp_transfers_main", "half an hour or so", ("check", "-"), (("-",), ("chec", "-"), ("--help",)),
+)
+
+
+class Scratch:
+    """A copy of the launchers and the Makefile, with small sources, in a folder whose name has spaces; one launcher of
+    the two is tried."""
+
+    def __init__(self, folder: pathlib.Path, launcher: Launcher) -> None:
+        self.top, self.launcher = folder / "the top", launcher
+        crates = self.top / "crates"
+        self.source, self.program = crates / launcher.crate / "src" / "main.rt", self.program_of(launcher)
+        self.calls, self.bin = folder / "calls", folder / "bin"
+        of_low = ("src", "specs", "proofs/deep", "must-fail")
+        for part in (f"{AUDIT.crate}/src", f"{TRANSFERS.crate}/src", *(f"tftp_low/{it}" for it in of_low)):
+            (crates / part).mkdir(parents=True)
+            (crates / part / "first.rt").write_text("first")
+        for name in (AUDIT.name, TRANSFERS.name, "Makefile", "README.md", "CHANGELOG.md", ".gitignore"):
+            shutil.copy(TOP / name, self.top)
+        for name in ("tools", "docs", "share"):
+            shutil.copytree(TOP / name, self.top / name, ignore=shutil.ignore_patterns("__pycache__"))
+        (self.top / "crates.txt").write_text("tftp_audit: tftp_low\n")
+        for file, text, mode in (
+            (self.top / "examples" / "one-block.capture", "an example", 0o644),
+            (self.top / "tests" / "run.sh", TESTED, 0o644),
+            (self.bin / "rt", STAND_IN, 0o755),
+        ):
+            file.parent.mkdir()
+            file.write_text(text)
+            file.chmod(mode)
+        for it in (AUDIT, TRANSFERS):
+            (crates / it.crate / "src" / "main.rt").write_text("one" if it == launcher else "other")
+
+    def run(
+        self, *words: Word, script: Word | None = None, folder: pathlib.Path | None = None, given: str = "",
+        meanwhile: str = "", errors: int = subprocess.PIPE, on_path: pathlib.Path | None = None,
+    ) -> Ran:
+        """What the launcher writes, what it writes as errors, its status, and how often rt was called."""
+        self.calls.write_text("")
+        path = f"{on_path or self.bin}:{self.bin}:{os.environ['PATH']}"
+        environment = {"PATH": path, "CALLS": str(self.calls)}
+        environment |= {"MEANWHILE": meanwhile, "TRIED": self.launcher.crate}
+        done = subprocess.run(
+            [script or self.top / self.launcher.name, *words],
+            input=given, cwd=folder or self.top, env=environment, text=True, stdout=subprocess.PIPE, stderr=errors,
+            timeout=60,
+        )
+        return done.stdout, done.stderr, done.returncode, self.calls.read_text().count("rt: run -- check")
+
+    def call(self, given: str = "", meanwhile: str = "") -> Ran:
+        """The same of the words that read standard input."""
+        return self.run(*self.launcher.words, given=given, meanwhile=meanwhile)
+
+    def make(self, target: str, meanwhile: str = "") -> tuple[int, str, bool]:
+        """The status of a target of the Makefile, what it writes as errors, and whether the tests were run."""
+        words = target, f"DESTDIR={self.top.parent}", "PREFIX=/a prefix"
+        _, errors, status, _ = self.run(*words, script="make", meanwhile=meanwhile)
+        return status, errors, "tests were run" in self.calls.read_text()
+
+    def program_of(self, launcher: Launcher) -> pathlib.Path:
+        return self.top / "crates" / launcher.crate / "out" / launcher.crate
+
+    def installed(self) -> pathlib.Path:
+        return self.prefix() / "bin" / self.launcher.name
+
+    def prefix(self) -> pathlib.Path:
+        return self.top.parent / "a prefix"
+
+
+def said_of(words: Sequence[Word]) -> str:
+    """What the stand-in's program says of its words."""
+    return f"{len(words)} words {' '.join(map(str, words))}"
