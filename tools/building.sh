@@ -9,19 +9,36 @@ program_of() {
     printf '%s/crates/%s/out/%s' "$top" "$1" "$1"
 }
 
-# What `find` tells of the files that a build reads.
+# What `find` tells of the files that a build reads, and of others.
 sources() {
-    (cd "$top" && find crates.txt crates/*/src crates/*/specs crates/*/proofs -type f "$@")
+    (cd "$top" && find crates.txt crates/*/src crates/*/specs crates/*/proofs "$@")
 }
 
 checksums() {
-    sources -exec cksum {} + | LC_ALL=C sort
+    sources -type f -exec cksum {} + | LC_ALL=C sort
+}
+
+# Names, sizes and times of the files, without reading them. %C@ is when a file was last changed in any way: it cannot be
+# set back, as the time of its bytes can.
+states() {
+    sources "$@" -type f -printf '%p %i %s %C@\n' | cksum
+}
+
+# A program's state beside that of the sources.
+states_with() {
+    states "crates/$1/out/$1"
 }
 
 # Beside a program stand the checksums of the sources that it was built of, and its own; nothing does while it is built.
+# They are taken only where the states are not those for which that was last found: a checkout that was copied, or a
+# source that was changed back.
 is_built() {
-    [ -x "$program" ] && [ -f "$program.sources" ] &&
-        [ "$(checksums && cksum <"$program")" = "$(cat "$program.sources")" ]
+    [ -x "$program" ] && [ -f "$program.sources" ] || return
+    now=$(states_with "$crate")
+    [ "$now" != "$(cat "$program.states" 2>/dev/null)" ] || return 0
+    [ "$(checksums && cksum <"$program")" = "$(cat "$program.sources")" ] || return
+    # in a checkout that cannot be written they are taken again at each call
+    printf '%s\n' "$now" 2>/dev/null >"$program.states" || :
 }
 
 # Does what builds the programs of these crates, and records what they were built of. An edit meanwhile, even one that
@@ -29,32 +46,89 @@ is_built() {
 build_by() {
     crates=$1
     shift
+    state=$(states)
     before=$(checksums)
-    begun=$(mktemp) || exit 2
-    late=$(sources -newer "$begun")
     for it in $crates; do
-        rm -f "$(program_of "$it").sources"
+        rm -f "$(program_of "$it").sources" "$(program_of "$it").states"
     done
-    "$@"
-    status=$?
-    meanwhile=$(sources -newer "$begun")
-    rm -f "$begun"
-    [ "$status" -eq 0 ] || return "$status"
-    [ "$meanwhile" = "$late" ] || return 0
+    "$@" || return
+    [ "$(states)" = "$state" ] || return 0
     for it in $crates; do
         printf '%s\n' "$before" "$(cksum <"$(program_of "$it")")" >"$(program_of "$it").sources"
     done
 }
 
-# Proves all from nothing, and builds the programs.
+# How many crates of the repository a program is made of, its own among them.
+count_crates() {
+    awk -F: -v of="$crate" '
+        { uses[$1] = $2 }
+        END {
+            todo[1] = of
+            seen[of]
+            for (all = at = 1; at <= all; at++) {
+                count = split(uses[todo[at]], names, " ")
+                for (it = 1; it <= count; it++)
+                    if (names[it] in uses && !(names[it] in seen)) { seen[names[it]]; todo[++all] = names[it] }
+            }
+            print all
+        }' "$top/crates.txt"
+}
+
+# How far a build is that began then, by what rt has said: it ends each crate with its verdict.
+progress() {
+    at=$(($(grep -c '^logic=proved' "$log") + 1))
+    [ "$at" -le "$2" ] || at=$2
+    seconds=$(($(date +%s) - $1))
+    # at most: what was proved before is not proved again
+    printf 'crate %d of at most %d, %d min %02d s' "$at" "$2" "$((seconds / 60))" "$((seconds % 60))"
+}
+
+# Writes that again each second into one line, while the launcher lives.
+show_progress() {
+    begun=$(date +%s)
+    all=$(count_crates)
+    while kill -0 "$$" 2>/dev/null; do
+        printf '\r%s: %s\033[K' "$name" "$(progress "$begun" "$all")" >&2
+        sleep 1
+    done
+}
+
+# Does what builds the program while its progress is shown.
+watched() {
+    show_progress &
+    shown=$!
+    "$@" >>"$log" 2>&1
+    status=$?
+    kill "$shown"
+    wait "$shown" 2>/dev/null
+    printf '\r\033[K' >&2
+    [ "$status" -eq 0 ] || tail -n 12 "$log" >&2
+    return "$status"
+}
+
+# Does it while all that rt says is passed on.
+passed_on() {
+    return "$({ { "$@" 2>&1 3>&-; echo "$?" >&3; } | tee -a "$log" >&2; } 3>&1)"
+}
+
+# What rt says goes to the file, and, where nobody looks on, to standard error too.
+logged() {
+    if [ -t 2 ]; then watched "$@"; else passed_on "$@"; fi
+}
+
+# Proves all from nothing, and builds the programs. What rt says is not kept, and what an earlier build said is not of
+# these programs.
 gate() {
+    rm -f "$top"/out/*.log
     (cd "$top" && rt ci)
 }
 
 # A trial run ends with status 0, so another status is that of a build that failed.
 build() {
-    say "proving and building the program: $takes from nothing, less after an edit"
-    build_by "$crate" trial_run && return
+    log=$top/out/$name.log
+    mkdir -p "$top/out" && : >"$log" || refuse "cannot write the file '$log'"
+    say "proving and building the program: $takes from nothing, less after an edit; what rt says is in $log"
+    build_by "$crate" logged trial_run && return
     refuse "the program was not built, so nothing is run"
 }
 
