@@ -48,8 +48,8 @@ install: build
 uninstall:
 	@sh tools/install.sh uninstall "$(DESTDIR)$(PREFIX)"
 
-# dist/tftp-audit-VERSION.tar.gz, with all that install puts, the sum of each file, and a file PROVED; the same bytes from
-# the same commit and the same programs.
+# dist/tftp-audit-VERSION.tar.gz, with all that install puts, the sum of each file, and a file PROVED; the same bytes
+# from the same commit and the same programs.
 dist: build
 	@python3 tools/package tar
 

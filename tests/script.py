@@ -170,7 +170,8 @@ def installed_launcher(trial: ScriptTrial, scratch: Scratch) -> None:
     )
     for script, word in places:
         got = scratch.run("check", word, script=script, folder=folder, given="other")
-        trial.check(f"installed, {script.name} check {word}", got == (f"{text}: 1 words check: its text\n", "", 0, 0), got)
+        holds = got == (f"{text}: 1 words check: its text\n", "", 0, 0)
+        trial.check(f"installed, {script.name} check {word}", holds, got)
     given = (("check",), "1 words check"), (("check", "-"), "1 words check"), (("x", "y"), "2 words x y")
     for its, said in given:
         got = scratch.run(*its, script=launcher, given="given")

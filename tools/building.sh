@@ -1,6 +1,6 @@
 # What ./tftp-audit and ./tftp-transfers share: a program is proved and built where its sources are not those that it
-# was built of. Before it reads this and commands.sh, a launcher sets `top`, where the repository is; `name` and `crate`,
-# those of its program; `takes`, how long a build takes; and trial_run, which builds the program and tries it.
+# was built of. Before it reads this a launcher reads commands.sh, and sets `top`, where the repository is; `name` and
+# `crate`, those of its program; `takes`, how long a build takes; and trial_run, which builds the program and tries it.
 #   NAME --build   only builds the program
 #   NAME --gate    proves all from nothing with rt ci, which builds both programs too; its status is rt's
 
@@ -18,8 +18,8 @@ checksums() {
     sources -type f -exec cksum {} + | LC_ALL=C sort
 }
 
-# Names, sizes and times of the files, without reading them. %C@ is when a file was last changed in any way: it cannot be
-# set back, as the time of its bytes can.
+# Names, sizes and times of the files, without reading them. %C@ is when a file was last changed in any way: it cannot
+# be set back, as the time of its bytes can.
 states() {
     sources "$@" -type f -printf '%p %i %s %C@\n' | cksum
 }

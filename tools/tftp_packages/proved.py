@@ -7,7 +7,7 @@ from pathlib import Path
 
 from tftp_packages.checkout import PROGRAMS, Commit, Program, answer, libc_needed
 
-# What rt says of a build: the sum of the logic that its proofs are checked in; then of each crate its name, and the verdict.
+# What rt says of a build: the sum of the logic that its proofs are checked in; of each crate its name, and the verdict.
 LOGIC = re.compile(r"^logic \S+: (.*)$")
 CRATE = re.compile(r"^crate (\w+): ")
 VERDICT = re.compile(r"^logic=proved .*$")
@@ -39,9 +39,9 @@ def told_of(commit: Commit) -> str:
         f"commit {commit.name} of {commit.time:%Y-%m-%d %H:%M:%S} UTC",
         f"proved and built by {answer('rt', 'version')}",
         f"needs glibc {libc_needed()} or later, on {PROGRAMS[0].architecture()}",
-        "This file is the word of who built them, and no proof. To prove it again: that commit, `make test`. README.md",
-        "says what is proved, what is only tested, and what is trusted. Below, what the kit said of each crate that was",
-        "proved when the program was last built.",
+        "This file is the word of who built them, and no proof. To prove it again: that commit, `make test`.",
+        "README.md says what is proved, what is only tested, and what is trusted. Below, what the kit said of each",
+        "crate that was proved when the program was last built.",
     ]
     for program in PROGRAMS:
         lines += ["", f"{program.name}: sha256 {digest(program.path())}"]
