@@ -1,6 +1,6 @@
 use super::{START, read_of_hi, says, shown_before};
 use crate::cases::ACCEPTED;
-use crate::scripts::add_line;
+use crate::scripts::{add_line, add_repeated};
 use std::alloc::{AllocError, Global};
 use std::test::Fail;
 
@@ -27,7 +27,7 @@ total 3";
 /// Adds these lines with the line `number`, counted from 1, changed; signs between braces come as often as the number after
 /// the star says.
 fn add_changed(text: &mut String, lines: &str, number: usize, line: &str) -> Result<(), Fail> {
-    for (index, old) in lines.split('\n').enumerate() {
+    for (index, old) in lines.lines().enumerate() {
         add_line(text, if index + 1 == number { line } else { old })?;
     }
     Ok(())
@@ -57,7 +57,7 @@ fn is_fault(rt: &HostRuntime, text: &[u8], number: usize, fault: &str) -> Result
 /// Fails unless each changed line of these has its fault: the number of a line, the fault, and the changed line, with bars
 /// between.
 fn all_are_faults(rt: &HostRuntime, lines: &str, cases: &str) -> Result<(), Fail> {
-    for case in cases.split('\n') {
+    for case in cases.split("\n") {
         has_fault(rt, lines, case)?;
     }
     Ok(())
@@ -283,7 +283,8 @@ fn texts_that_go_on(rt: HostRuntime) -> Result<(), Fail> {
     for more in &["#\n", "\n", "x", "total 3\n"] {
         is_trailing(&rt, *more)?;
     }
-    let long = "a".repeat(rt.alloc(), 131_071)?;
+    let mut long = String::new(rt.alloc());
+    add_repeated(&mut long, "a*131071")?;
     is_trailing(&rt, long.as_str())
 }
 

@@ -1,34 +1,33 @@
 use super::{ROOM, ran_on, read_of_hi, says};
 use crate::scripts::{CLIENT, Script, capture};
+use crate::verdicts::verdict_of;
 use std::alloc::AllocError;
 use std::test::Fail;
 use tftp_capture::{DripReader, DripWriter, Tallied};
-use tftp_judge::{Meaning, judge_text};
+use tftp_judge::Meaning;
 use tftp_normal::{NormalFault, normal_capture, normal_count, normalise};
 
-/// What `normalise` writes for a text; nothing where it answers a fault.
-fn normalised(rt: &HostRuntime, text: &[u8]) -> Result<DripWriter, AllocError> {
+/// What `normalise` answers to a text, and what it has written then. It promises nothing, as `written_of`.
+fn normalised_on(
+    rt: &HostRuntime,
+    text: &[u8],
+    drip: DripWriter,
+) -> (Result<(), NormalFault>, DripWriter) {
     let mut reader = Tallied::new(DripReader::new(text, usize::MAX, 0, None));
-    let mut writer = Tallied::new(DripWriter::new(rt.alloc(), ROOM, ROOM, 0, false)?);
-    match normalise(rt.alloc(), &mut reader, &mut writer) {
-        Ok(()) => Ok(writer.into_inner()),
-        Err(_) => DripWriter::new(rt.alloc(), 0, 1, 0, false),
-    }
+    let mut writer = Tallied::new(drip);
+    let answer = normalise(rt.alloc(), &mut reader, &mut writer);
+    (answer, writer.into_inner())
 }
 
-/// What a text means, where it is accepted.
-fn meaning_of(rt: &HostRuntime, text: &[u8]) -> Option<Meaning> {
-    let mut reader = Tallied::new(DripReader::new(text, usize::MAX, 0, None));
-    judge_text(rt.alloc(), &mut reader).ok()
-}
-
-/// What `normal_capture` writes for a meaning; nothing where it answers a fault.
-fn written_of(rt: &HostRuntime, meaning: &Meaning) -> Result<DripWriter, AllocError> {
-    let mut writer = Tallied::new(DripWriter::new(rt.alloc(), ROOM, ROOM, 0, false)?);
-    match normal_capture(rt.alloc(), meaning, &mut writer) {
-        Ok(()) => Ok(writer.into_inner()),
-        Err(_) => DripWriter::new(rt.alloc(), 0, 1, 0, false),
-    }
+/// What `normal_capture` answers to a meaning, and what it has written then.
+fn written_of(
+    rt: &HostRuntime,
+    meaning: &Meaning,
+    drip: DripWriter,
+) -> (Result<(), NormalFault>, DripWriter) {
+    let mut writer = Tallied::new(drip);
+    let answer = normal_capture(rt.alloc(), meaning, &mut writer);
+    (answer, writer.into_inner())
 }
 
 /// Whether this was written.
@@ -48,8 +47,9 @@ fn is_written(
     normal: &str,
     count: u64,
 ) -> Result<bool, AllocError> {
-    let written = written_of(rt, meaning)?;
-    Ok(is_taken(&written, normal) && is_counted(meaning, count))
+    let drip = DripWriter::new(rt.alloc(), ROOM, ROOM, 0, false)?;
+    let (answer, written) = written_of(rt, meaning, drip);
+    Ok(answer.is_ok() && is_taken(&written, normal) && is_counted(meaning, count))
 }
 
 /// Whether `normal_capture` writes this for the meaning of a text, and `normal_count` counts so many.
@@ -59,15 +59,17 @@ fn is_captured(
     normal: &str,
     count: u64,
 ) -> Result<bool, AllocError> {
-    match meaning_of(rt, text) {
-        Some(meaning) => is_written(rt, &meaning, normal, count),
-        None => Ok(false),
+    match verdict_of(rt, text, usize::MAX, 0) {
+        Ok(meaning) => is_written(rt, &meaning, normal, count),
+        Err(_) => Ok(false),
     }
 }
 
 /// Whether `normalise` writes this for a text.
 fn is_normalised(rt: &HostRuntime, text: &[u8], normal: &str) -> Result<bool, AllocError> {
-    Ok(is_taken(&normalised(rt, text)?, normal))
+    let drip = DripWriter::new(rt.alloc(), ROOM, ROOM, 0, false)?;
+    let (answer, written) = normalised_on(rt, text, drip);
+    Ok(answer.is_ok() && is_taken(&written, normal))
 }
 
 /// The number of the datagrams of a text of version 1 without comments.
@@ -193,9 +195,9 @@ fn fault_of(
     text: &[u8],
     write_fails: u64,
 ) -> Result<Result<(), NormalFault>, AllocError> {
-    let mut reader = Tallied::new(DripReader::new(text, usize::MAX, 0, None));
-    let mut writer = Tallied::new(DripWriter::new(rt.alloc(), ROOM, 7, write_fails, false)?);
-    Ok(normalise(rt.alloc(), &mut reader, &mut writer))
+    let drip = DripWriter::new(rt.alloc(), ROOM, 7, write_fails, false)?;
+    let (answer, _) = normalised_on(rt, text, drip);
+    Ok(answer)
 }
 
 /// A fault of the text, and a write that fails, are told apart by `normalise`.

@@ -1,132 +1,38 @@
 //! Verdicts on lists of datagrams and on capture texts.
 
-ghost use Rattle.std.specs.Prelude.{◌≡◌, false, true, IfOk};
-ghost use Rattle.tftp_capture.specs.History.{IsReadStanding};
-
-use crate::judges::fed;
+use crate::captures::Reading;
+use crate::judges::{End, Judging};
+use crate::views::is_so;
 use std::alloc::{AllocError, Global};
 use std::test::Fail;
-use tftp_capture::{CaptureFault, CaptureReader, Datagram, DripReader, Header, Tallied};
+use tftp_capture::{CaptureFault, DripReader, Tallied};
 use tftp_ends::Delivered;
-use tftp_judge::{By, Judge, Meaning, Refusal, Rule, Verdict, judge_text};
+use tftp_judge::{By, Meaning, Refusal, Rule, Verdict, judge_text};
 use tftp_packet::{Mode, Side};
 
-/// Begins to read, and promises no more than a further call wants.
-fn opened(
-    rt: &HostRuntime,
-    reader: &mut Tallied<DripReader<'_>>,
-) -> Result<CaptureReader, CaptureFault>
-    requires { reader.old.1 ≡ false }
-    ensures told { IfOk result (λ capture. IsReadStanding capture.standing → reader.new.1 ≡ true) }
-{
-    CaptureReader::begin(rt.alloc(), reader)
-}
-
-/// The next datagram, where there is one, likewise.
-fn next(
-    rt: &HostRuntime,
-    capture: &mut CaptureReader,
-    reader: &mut Tallied<DripReader<'_>>,
-) -> Result<Option<Datagram>, CaptureFault>
-    requires told { IsReadStanding capture.old.standing → reader.old.1 ≡ true }
-    ensures told { IsReadStanding capture.new.standing → reader.new.1 ≡ true }
-{
-    capture.next(rt.alloc(), reader)
-}
-
-/// Adds the next datagram; whether there was one.
-fn is_added(
-    rt: &HostRuntime,
-    capture: &mut CaptureReader,
-    reader: &mut Tallied<DripReader<'_>>,
-    datagrams: &mut Vec<Datagram>,
-) -> Result<bool, AllocError>
-    requires told { IsReadStanding capture.old.standing → reader.old.1 ≡ true }
-    ensures told { IsReadStanding capture.new.standing → reader.new.1 ≡ true }
-{
-    match next(rt, capture, reader) {
-        Ok(Some(datagram)) => {
-            datagrams.push(datagram)?;
-            Ok(true)
-        }
-        _ => Ok(false),
-    }
-}
-
-/// Adds the datagrams that are left, up to the end or the first fault.
-fn add_datagrams(
-    rt: &HostRuntime,
-    capture: &mut CaptureReader,
-    reader: &mut Tallied<DripReader<'_>>,
-    datagrams: &mut Vec<Datagram>,
-    most: usize,
-) -> Result<(), AllocError>
-    requires told { IsReadStanding capture.old.standing → reader.old.1 ≡ true }
-{
-    for _ in 0..most {
-        if !is_added(rt, capture, reader, datagrams)? {
-            break;
-        }
-    }
-    Ok(())
-}
-
-/// The header and the datagrams of a capture text, up to its end or its first fault.
-fn capture_of(rt: &HostRuntime, text: &[u8]) -> Result<(Header, Vec<Datagram>), Fail> {
-    let mut reader = Tallied::new(DripReader::new(text, usize::MAX, 0, None));
-    let Ok(mut capture) = opened(rt, &mut reader) else {
-        return Err(Fail::new("no header"));
-    };
-    let mut datagrams = Vec::new(rt.alloc());
-    add_datagrams(rt, &mut capture, &mut reader, &mut datagrams, text.len())?;
-    Ok((*capture.header(), datagrams))
-}
-
-/// A judge on this store. It promises nothing, as all here, so that what the libraries promise is not read again in each
-/// function.
-fn begun<D: Delivered + Drop>(alloc: Global, header: &Header) -> Judge<D> {
-    Judge::new(alloc, header)
-}
-
-/// Feeds a judge the datagrams, up to one that it refuses.
+/// Feeds a judge the datagrams that are left of a text, up to the first fault or one that it refuses.
 fn feed_all<D: Delivered + Drop>(
-    alloc: Global,
-    judge: &mut Judge<D>,
-    datagrams: &[Datagram],
+    rt: &HostRuntime,
+    reading: &mut Reading<'_>,
+    judging: &mut Judging<D>,
 ) -> Result<(), Refusal> {
-    for datagram in datagrams {
-        fed(alloc, judge, datagram)?;
+    for _ in 0..u64::MAX {
+        match reading.next(rt) {
+            Ok(Some(datagram)) => judging.feed(rt.alloc(), &datagram)?,
+            _ => break,
+        }
     }
     Ok(())
-}
-
-/// What a judge says at the end.
-pub fn finished<D: Delivered + Drop>(alloc: Global, judge: Judge<D>) -> Result<Meaning, Refusal> {
-    judge.finish(alloc)
-}
-
-/// What a judge on this store says of the datagrams. It is let go in one place, since that is dear to prove.
-fn judged_of<D: Delivered + Drop>(
-    alloc: Global,
-    header: &Header,
-    datagrams: &[Datagram],
-) -> Result<Meaning, Refusal> {
-    let mut judge = begun::<D>(alloc, header);
-    let fed = feed_all(alloc, &mut judge, datagrams);
-    let end = finished(alloc, judge);
-    match fed {
-        Ok(()) => end,
-        Err(refusal) => Err(refusal),
-    }
 }
 
 /// What a judge on this store says of the datagrams of a capture text.
-fn judged<D: Delivered + Drop>(
-    rt: &HostRuntime,
-    text: &[u8],
-) -> Result<Result<Meaning, Refusal>, Fail> {
-    let (header, datagrams) = capture_of(rt, text)?;
-    Ok(judged_of::<D>(rt.alloc(), &header, datagrams.as_slice()))
+fn judged<D: Delivered + Drop>(rt: &HostRuntime, text: &[u8]) -> Result<End, Fail> {
+    let Ok(mut reading) = Reading::begin(rt, DripReader::new(text, usize::MAX, 0, None)) else {
+        return Err(Fail::new("no header"));
+    };
+    let mut judging = Judging::<D>::new(rt.alloc(), &reading.header());
+    let fed = feed_all(rt, &mut reading, &mut judging);
+    Ok(judging.finish(rt.alloc()).after(fed))
 }
 
 /// The name of a side.
@@ -157,7 +63,7 @@ fn sizes(meaning: &Meaning) -> (u64, usize) {
 }
 
 /// The line of what is accepted.
-fn accepted_line(alloc: Global, meaning: &Meaning) -> Result<String, AllocError> {
+pub fn accepted_line(alloc: Global, meaning: &Meaning) -> Result<String, AllocError> {
     let (side, mode) = request_names(meaning);
     let (blocks, bytes) = sizes(meaning);
     format!(in alloc; "accepted {side} {mode} blocks {blocks} bytes {bytes}\n")
@@ -173,7 +79,7 @@ fn unlawful_line(alloc: Global, index: u64, rule: Rule) -> Result<String, AllocE
 }
 
 /// The line of what is not.
-fn refused_line(alloc: Global, refusal: Refusal) -> Result<String, AllocError> {
+pub fn refused_line(alloc: Global, refusal: Refusal) -> Result<String, AllocError> {
     match refusal {
         Refusal::Unlawful(index, rule) => unlawful_line(alloc, index, rule),
         Refusal::Aborted(By::Local, code) => format!(in alloc; "aborted by local code {code}\n"),
@@ -193,19 +99,8 @@ fn fault_line(alloc: Global, fault: CaptureFault) -> Result<String, AllocError> 
     }
 }
 
-/// Lets an answer go in one place, since that is dear to prove at each of a function's exits.
-fn let_go(_found: Result<Meaning, Refusal>) {}
-
-/// The line of what a judge answers.
-fn line_of(alloc: Global, found: &Result<Meaning, Refusal>) -> Result<String, AllocError> {
-    match found {
-        Ok(meaning) => accepted_line(alloc, meaning),
-        Err(refusal) => refused_line(alloc, *refusal),
-    }
-}
-
 /// What `judge_text` answers to a text of which each read gives so many bytes, and one fails.
-fn verdict_of(
+pub fn verdict_of(
     rt: &HostRuntime,
     text: &[u8],
     piece: usize,
@@ -238,30 +133,14 @@ fn is_line(found: String, wanted: &str) -> Result<(), Fail> {
     }
 }
 
-/// The line of what a judge on this store says of a capture text's datagrams.
-fn judged_line<D: Delivered + Drop>(rt: &HostRuntime, text: &[u8]) -> Result<String, Fail> {
-    let found = judged::<D>(rt, text)?;
-    let line = line_of(rt.alloc(), &found);
-    let_go(found);
-    Ok(line?)
-}
-
 /// Fails unless a judge on this store says this of a capture text's datagrams.
 pub fn is_judged<D: Delivered + Drop>(
     rt: &HostRuntime,
     text: &[u8],
     line: &str,
 ) -> Result<(), Fail> {
-    let found = judged_line::<D>(rt, text)?;
+    let found = judged::<D>(rt, text)?.line(rt.alloc())?;
     is_line(found, line)
-}
-
-/// Whether a judge has accepted this file.
-pub fn has_file(found: &Result<Meaning, Refusal>, file: &[u8]) -> bool {
-    match found {
-        Ok(meaning) => meaning.file() == file,
-        Err(_) => false,
-    }
 }
 
 /// Fails unless the capture text is accepted with this file, by a judge on this store.
@@ -270,14 +149,8 @@ pub fn is_file<D: Delivered + Drop>(
     text: &[u8],
     file: &[u8],
 ) -> Result<(), Fail> {
-    let found = judged::<D>(rt, text)?;
-    let has_it = has_file(&found, file);
-    let_go(found);
-    if has_it {
-        Ok(())
-    } else {
-        Err(Fail::new("another file, or none"))
-    }
+    let has_it = judged::<D>(rt, text)?.has_file(file);
+    is_so(has_it, "another file, or none")
 }
 
 /// Fails unless `judge_text` says this of a text of which each read gives so many bytes, and one fails.

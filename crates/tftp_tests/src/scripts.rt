@@ -65,9 +65,9 @@ enum Line<'a> {
 
 impl<'a> Line<'a> {
     fn of(line: &'a str) -> Self {
-        if line.is_empty() || line.starts_with("#") || line.contains(" = ") {
+        if line.is_empty() || begins(line, "#") || line.split_once(" = ").is_some() {
             Line::Beside
-        } else if line.starts_with("tftp-capture ") {
+        } else if begins(line, "tftp-capture ") {
             Line::Header(line)
         } else {
             match line.split_once("=> ") {
@@ -75,6 +75,14 @@ impl<'a> Line<'a> {
                 None => Line::First(line),
             }
         }
+    }
+}
+
+/// Whether a line begins so. Other calls of the same are dear to prove beside `split_once`.
+fn begins(line: &str, start: &str) -> bool {
+    match line.split_once(start) {
+        Some((before, _)) => before.is_empty(),
+        None => false,
     }
 }
 
@@ -108,7 +116,7 @@ struct Datagrams<'a> {
 impl<'a> Datagrams<'a> {
     /// Adds those that these words mean, with commas between.
     fn add(&mut self, words: &'a str) -> Result<(), AllocError> {
-        for word in words.split(',') {
+        for word in words.split(",") {
             let word = word.trim();
             if !word.is_empty() {
                 self.all.push(datagram_of(self.script, word))?;
@@ -136,11 +144,11 @@ pub fn add_line(text: &mut String, line: &str) -> Result<(), Fail> {
 }
 
 /// Writes digits as often as the number after the star says.
-fn add_repeated(text: &mut String, repeated: &str) -> Result<(), Fail> {
+pub fn add_repeated(text: &mut String, repeated: &str) -> Result<(), Fail> {
     let Some((digits, count)) = repeated.split_once("*") else {
         return Err(Fail::new("no star"));
     };
-    let Ok(count) = count.parse::<u32>() else {
+    let Ok(count) = count.parse::<usize>() else {
         return Err(Fail::new("no number"));
     };
     for _ in 0..count {
@@ -267,8 +275,11 @@ pub fn capture(alloc: Global, header: &str, words: &str) -> Result<String, Fail>
 
 /// The status of `check`, and its line.
 fn status_of(said: &str) -> Option<(u8, &str)> {
-    let (status, line) = said.split_once(" ")?;
-    Some((status.parse::<u8>().ok()?, line))
+    match said.split_once(" ")? {
+        ("0", line) => Some((0, line)),
+        ("1", line) => Some((1, line)),
+        _ => None,
+    }
 }
 
 /// Fails unless all say this of a capture text: the status of `check`, and its line.
