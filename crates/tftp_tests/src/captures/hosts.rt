@@ -3,7 +3,7 @@
 use super::reading::Reading;
 use super::reads::gives;
 use super::writes::{DATAGRAMS, HEADER, has_written};
-use super::writing::write_with_host;
+use super::writing::{write_with_comment, write_with_host};
 use super::{NAMED, READ, changed};
 use std::test::Fail;
 use tftp_capture::{CaptureFault, DripReader, DripWriter, TextFault};
@@ -12,6 +12,10 @@ use tftp_packet::Host;
 /// The hosts on the lines 4, 5 and 6 of a text.
 pub const HOSTS: &str =
     "tftp-capture 2\nend client\nservice 69\nout 40000 a.example 69 000161006f6374657400\nin 40000 # 41000 000300016869\nout 40000 - 41000 00040001\ntotal 3\n";
+
+/// The text `NAMED` with a comment before its datagrams.
+const COMMENTED: &str =
+    "tftp-capture 2\nend client\nservice 69\n# frame 7\nout 40000 10.0.0.1 69 000161006f6374657400\nin 40000 10.0.0.1 41000 000300016869\nout 40000 10.0.0.1 41000 00040001\ntotal 3\n";
 
 /// Whether the next datagram has this host.
 fn is_next(rt: &HostRuntime, reading: &mut Reading<'_>, host: &[u8]) -> bool {
@@ -38,6 +42,7 @@ fn names(rt: &HostRuntime, text: &str, hosts: &[&[u8]]) -> Result<(), Fail> {
 fn hosts_are_those_of_their_lines(rt: HostRuntime) -> Result<(), Fail> {
     names(&rt, NAMED, &[b"10.0.0.1", b"10.0.0.1", b"10.0.0.1"])?;
     names(&rt, HOSTS, &[b"a.example", b"#", b"-"])?;
+    names(&rt, COMMENTED, &[b"10.0.0.1", b"10.0.0.1", b"10.0.0.1"])?;
     names(&rt, READ, &[b"-", b"-", b"-"])
 }
 
@@ -69,6 +74,24 @@ fn a_read_with_its_hosts_is_written(rt: HostRuntime) -> Result<(), Fail> {
     };
     for piece in &[usize::MAX, 1, 5] {
         is_written_in(&rt, *piece, &host)?;
+    }
+    Ok(())
+}
+
+/// Fails unless the text of `COMMENTED` is written where each write takes so many bytes.
+fn is_commented_in(rt: &HostRuntime, piece: usize, host: &Host) -> Result<(), Fail> {
+    let drip = DripWriter::new(rt.alloc(), COMMENTED.len(), piece, 0, false)?;
+    let found = write_with_comment(rt.alloc(), drip, &HEADER, b"frame 7", host, DATAGRAMS);
+    has_written(&found, Ok(()), COMMENTED.as_bytes())
+}
+
+#[test]
+fn a_comment_is_written(rt: HostRuntime) -> Result<(), Fail> {
+    let Some(host) = Host::new(b"10.0.0.1") else {
+        return Err(Fail::new("host"));
+    };
+    for piece in &[usize::MAX, 1, 5] {
+        is_commented_in(&rt, *piece, &host)?;
     }
     Ok(())
 }

@@ -156,6 +156,17 @@ impl HostWriting {
         Ok(())
     }
 
+    /// Writes a comment, and then the datagrams.
+    fn comment_all(
+        &mut self,
+        words: &[u8],
+        host: &Host,
+        rows: &[Row<'_>],
+    ) -> Result<(), WriteFault> {
+        self.capture.comment(&mut self.writer, words)?;
+        self.put_all(host, rows)
+    }
+
     fn close(self) -> Written {
         let HostWriting {
             mut writer,
@@ -183,6 +194,24 @@ pub fn write_with_host(
 ) -> Written {
     match HostWriting::begin(alloc, drip, header) {
         Ok(mut writing) => match writing.put_all(host, rows) {
+            Ok(()) => writing.close(),
+            Err(fault) => writing.leave(fault),
+        },
+        Err(written) => written,
+    }
+}
+
+/// Writes the same text with a comment before its datagrams.
+pub fn write_with_comment(
+    alloc: Global,
+    drip: DripWriter,
+    header: &Header,
+    words: &[u8],
+    host: &Host,
+    rows: &[Row<'_>],
+) -> Written {
+    match HostWriting::begin(alloc, drip, header) {
+        Ok(mut writing) => match writing.comment_all(words, host, rows) {
             Ok(()) => writing.close(),
             Err(fault) => writing.leave(fault),
         },
