@@ -153,7 +153,7 @@ module _ (d : Datagram) (lawful : IsLawful d) where
   abbrev after_local : List ℕ
   after_local = d.host ++ 32 ∷ (decimal d.remote ++ 32 ∷ payload_text d.payload)
 
-  host_says : SaysDatagram Two (line_with_host d) d
+  pub host_says : SaysDatagram Two (line_with_host d) d
   host_says = record {
     local = decimal d.local;
     remote = decimal d.remote;
@@ -174,14 +174,14 @@ module _ (d : Datagram) (lawful : IsLawful d) where
     fits = lawful.fits;
   }
 
-  host_no_end : HasNoEnd (line_with_host d)
+  pub host_no_end : HasNoEnd (line_with_host d)
   host_no_end =
       All-append (λ b. b ≢ 10) (dir_word d.dir) _ (no_lf _ (plain_dir d.dir))
       (space _ (All-append (λ b. b ≢ 10) (decimal d.local) _ (no_lf _ local_plain)
       (space _ (All-append (λ b. b ≢ 10) d.host _ (no_lf _ host_plain)
       (space _ (All-append (λ b. b ≢ 10) (decimal d.remote) _ (no_lf _ remote_plain) (space _ (no_lf _ (plain_payload d.payload lawful.bytes)))))))))
 
-  host_narrow : length (line_with_host d) ≤ 131116
+  pub host_narrow : length (line_with_host d) ≤ 131116
   host_narrow =
       let p = short_payload d.payload lawful.fits in
       let l = length-decimal-le 5 d.local (omega arith) (omega (arith, lawful.local.1)) (omega (arith, lawful.local.1)) in
@@ -199,7 +199,7 @@ module _ (d : Datagram) (lawful : IsLawful d) where
         length-append (decimal d.remote) (32 ∷ payload_text d.payload),
       )
 
-  host_said : says_nothing (line_with_host d) ≡ false
+  pub host_said : says_nothing (line_with_host d) ≡ false
   host_said = first_byte d.dir (32 ∷ (decimal d.local ++ 32 ∷ after_local))
 
 -- ---- whole lines
@@ -227,7 +227,7 @@ stands-whole_lines lines due datagrams all short says = record {
   last = λ o. refl;
 }
 
-lines_le : (lines : List (List ℕ)) → length lines ≤ length (whole_lines lines)
+pub lines_le : (lines : List (List ℕ)) → length lines ≤ length (whole_lines lines)
 lines_le [] = lit≤ tt
 lines_le (l ∷ ls) = omega (arith, length-append (l ++ 10 ∷ []) (whole_lines ls), length-append l (10 ∷ []), lines_le ls)
 
@@ -257,22 +257,22 @@ lines_in_two (d ∷ ds) h =
     (record { says = host_says d lawful; whole = record { no_end = host_no_end d lawful; narrow = host_narrow d lawful }; said = host_said d lawful })
     (lines_in_two ds (All-tail IsLawful d ds h))
 
-wider : (version : Version) (line : List ℕ) → IsWholeLine 131070 line → IsWholeLine (longest_line version) line
+pub wider : (version : Version) (line : List ℕ) → IsWholeLine 131070 line → IsWholeLine (longest_line version) line
 wider One line w = w
 wider Two line w = record { no_end = w.no_end; narrow = omega (arith, w.narrow) }
 
-end_whole : (named : End) → IsWholeLine 131070 (end_line named)
+pub end_whole : (named : End) → IsWholeLine 131070 (end_line named)
 end_whole Client = record { no_end = no_lf_text (codes "end client") refl; narrow = lit≤ tt }
 end_whole Server = record { no_end = no_lf_text (codes "end server") refl; narrow = lit≤ tt }
 
 -- a word, a space and a number
-number_whole : (word : List ℕ) (n : ℕ) → length word ≤ 100 → HasNoEnd word → n < 2 ^ 64 → IsWholeLine 131070 (word ++ decimal n)
+pub number_whole : (word : List ℕ) (n : ℕ) → length word ≤ 100 → HasNoEnd word → n < 2 ^ 64 → IsWholeLine 131070 (word ++ decimal n)
 number_whole word n short no_end small = record {
   no_end = All-append (λ b. b ≢ 10) word (decimal n) no_end (no_lf _ (plain_decimal n small));
   narrow = omega (arith, length-append word (decimal n), length-decimal-le 20 n (omega arith) (omega arith) small);
 }
 
-head_whole : (version : Version) → IsWholeLine 131070 (head_line version)
+pub head_whole : (version : Version) → IsWholeLine 131070 (head_line version)
 head_whole One = record { no_end = no_lf_text (head_line One) refl; narrow = lit≤ tt }
 head_whole Two = record { no_end = no_lf_text (head_line Two) refl; narrow = lit≤ tt }
 

@@ -1,6 +1,7 @@
 pub mod Beginnings
 pub mod Bytes
 pub mod Canonical
+pub mod Commented
 pub mod Cuts
 pub mod Faults
 pub mod Gathering

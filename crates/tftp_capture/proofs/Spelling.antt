@@ -8,7 +8,9 @@ use Rattle.std.proofs.lemmas.List.Concat.{flat_map-append}
 use Rattle.hex.specs.Hex.{encode_lower, encode_with, lower_digits}
 use Rattle.tftp_capture.specs.declared.version.Version.{Version}
 use Rattle.tftp_capture.specs.declared.version.Version.TheVariants.{One, Two}
-use Rattle.tftp_capture.specs.CaptureText.{Datagram, Header, datagram_line, dir_word, end_line, end_word, head_line, line_with_host, payload_text, service_line, text_of, text_with_hosts, total_line, whole_lines}
+use Rattle.tftp_capture.specs.CaptureText.{Datagram, Header, datagram_line, dir_word, end_line, end_word, head_line, line_with_host, payload_text, service_line, text_of, total_line, whole_lines}
+use Rattle.tftp_capture.specs.Commented.{Entry, comment_line, commented_text, entry_line, said_in}
+use Rattle.tftp_capture.specs.Commented.Entry.{Comment, Passed}
 use Rattle.tftp_capture.specs.Tally.{Gathers}
 use Rattle.tftp_capture.specs.Written.{HasWritten, HasWrittenHosts, WriterState, header_text_in}
 use Rattle.tftp_capture.proofs.Gathering.{gathers_more}
@@ -38,8 +40,8 @@ encode-append (x ∷ xs) ys = ap (λ l. slice_index lower_digits (x / 16) ∷ sl
 
 -- ---- one more datagram, and the whole text, whatever the lines of datagrams are
 
-module _ (line : Datagram → List ℕ) where
-  line_written : (start before now : Option (List ℕ)) (old new front : List ℕ) (datagrams : List Datagram) (d : Datagram)
+module _ {A : Type 0} (line : A → List ℕ) where
+  line_written : (start before now : Option (List ℕ)) (old new front : List ℕ) (datagrams : List A) (d : A)
       → Gathers start before [] old (front ++ whole_lines (map line datagrams)) → Gathers before now old new (line d ++ 10 ∷ []) → Gathers start now [] new (front ++ whole_lines (map line (datagrams ++ d ∷ [])))
   line_written start before now old new front datagrams d h g =
       let lines : whole_lines (map line (datagrams ++ d ∷ [])) ≡ whole_lines (map line datagrams) ++ (line d ++ 10 ∷ []) =
@@ -48,17 +50,17 @@ module _ (line : Datagram → List ℕ) where
       ap (λ l. front ++ l) lines ∙ sym (append_assoc front (whole_lines (map line datagrams)) (line d ++ 10 ∷ [])) in
       rw all (gathers_more _ _ _ _ _ _ _ _ h g)
 
-  whole_written : (start before now : Option (List ℕ)) (writer : WriterState) (version : Version) (header : Header) (datagrams : List Datagram)
-      → Gathers start before [] writer.held (header_text_in version header ++ whole_lines (map line datagrams)) → writer.count ≡ length datagrams
+  whole_written : (start before now : Option (List ℕ)) (writer : WriterState) (version : Version) (header : Header) (datagrams : List A) (number : ℕ)
+      → Gathers start before [] writer.held (header_text_in version header ++ whole_lines (map line datagrams)) → writer.count ≡ number
       → Appends before now (writer.held ++ (total_line writer.count ++ 10 ∷ []))
-      → Appends start now (whole_lines (head_line version ∷ end_line header.named ∷ service_line header.service ∷ (map line datagrams ++ total_line (length datagrams) ∷ [])))
-  whole_written start before now writer version header datagrams h counted a =
+      → Appends start now (whole_lines (head_line version ∷ end_line header.named ∷ service_line header.service ∷ (map line datagrams ++ total_line number ∷ [])))
+  whole_written start before now writer version header datagrams number h counted a =
       let lines = map line datagrams in
       let head = header_text_in version header in
-      let total : whole_lines (lines ++ total_line (length datagrams) ∷ []) ≡ whole_lines lines ++ (total_line (length datagrams) ++ 10 ∷ []) = whole_lines-push lines (total_line (length datagrams)) in
-      let all : whole_lines (head_line version ∷ end_line header.named ∷ service_line header.service ∷ (lines ++ total_line (length datagrams) ∷ [])) ≡ head ++ whole_lines (lines ++ total_line (length datagrams) ∷ []) =
-      flat_map-append (λ (l : List ℕ). l ++ 10 ∷ []) (head_line version ∷ end_line header.named ∷ service_line header.service ∷ []) (lines ++ total_line (length datagrams) ∷ []) in
-      let joined : whole_lines (head_line version ∷ end_line header.named ∷ service_line header.service ∷ (lines ++ total_line (length datagrams) ∷ [])) ≡ h.written ++ (writer.held ++ (total_line writer.count ++ 10 ∷ [])) =
+      let total : whole_lines (lines ++ total_line number ∷ []) ≡ whole_lines lines ++ (total_line number ++ 10 ∷ []) = whole_lines-push lines (total_line number) in
+      let all : whole_lines (head_line version ∷ end_line header.named ∷ service_line header.service ∷ (lines ++ total_line number ∷ [])) ≡ head ++ whole_lines (lines ++ total_line number ∷ []) =
+      flat_map-append (λ (l : List ℕ). l ++ 10 ∷ []) (head_line version ∷ end_line header.named ∷ service_line header.service ∷ []) (lines ++ total_line number ∷ []) in
+      let joined : whole_lines (head_line version ∷ end_line header.named ∷ service_line header.service ∷ (lines ++ total_line number ∷ [])) ≡ h.written ++ (writer.held ++ (total_line writer.count ++ 10 ∷ [])) =
       all ∙ ap (λ l. head ++ l) (total ∙ ap (λ n. whole_lines lines ++ (total_line n ++ 10 ∷ [])) (sym counted))
       ∙ sym (append_assoc head (whole_lines lines) (total_line writer.count ++ 10 ∷ []))
       ∙ ap (λ l. l ++ (total_line writer.count ++ 10 ∷ [])) h.are ∙ append_assoc h.written writer.held (total_line writer.count ++ 10 ∷ []) in
@@ -74,20 +76,39 @@ datagram_written start before now old new header datagrams d h g e = record {
   count = one_more old new datagrams d e h.count;
 }
 
-pub host_written : (start before now : Option (List ℕ)) (old new : WriterState) (header : Header) (datagrams : List Datagram) (d : Datagram)
-    → HasWrittenHosts start before old header datagrams → Gathers before now old.held new.held (line_with_host d ++ 10 ∷ []) → new.count ≡ old.count + 1 → HasWrittenHosts start now new header (datagrams ++ d ∷ [])
-host_written start before now old new header datagrams d h g e = record {
-  text = line_written line_with_host start before now old.held new.held (header_text_in Two header) datagrams d h.text g;
-  count = one_more old new datagrams d e h.count;
+-- ---- the same of datagrams with their hosts, and of comments
+
+said-push : (entries : List Entry) (d : Datagram) → length (said_in (entries ++ Passed d ∷ [])) ≡ length (said_in entries) + 1
+said-push [] d = refl
+said-push (Comment words ∷ entries) d = said-push entries d
+said-push (Passed e ∷ entries) d = omega (arith, said-push entries d)
+
+said-comment : (entries : List Entry) (words : List ℕ) → said_in (entries ++ Comment words ∷ []) ≡ said_in entries
+said-comment [] words = refl
+said-comment (Comment others ∷ entries) words = said-comment entries words
+said-comment (Passed e ∷ entries) words = ap (λ ds. e ∷ ds) (said-comment entries words)
+
+pub host_written : (start before now : Option (List ℕ)) (old new : WriterState) (header : Header) (entries : List Entry) (d : Datagram)
+    → HasWrittenHosts start before old header entries → Gathers before now old.held new.held (line_with_host d ++ 10 ∷ []) → new.count ≡ old.count + 1 → HasWrittenHosts start now new header (entries ++ Passed d ∷ [])
+host_written start before now old new header entries d h g e = record {
+  text = line_written entry_line start before now old.held new.held (header_text_in Two header) entries (Passed d) h.text g;
+  count = e ∙ ap (λ n. n + 1) h.count ∙ sym (said-push entries d);
+}
+
+pub comment_written : (start before now : Option (List ℕ)) (old new : WriterState) (header : Header) (entries : List Entry) (words : List ℕ)
+    → HasWrittenHosts start before old header entries → Gathers before now old.held new.held (comment_line words ++ 10 ∷ []) → new.count ≡ old.count → HasWrittenHosts start now new header (entries ++ Comment words ∷ [])
+comment_written start before now old new header entries words h g e = record {
+  text = line_written entry_line start before now old.held new.held (header_text_in Two header) entries (Comment words) h.text g;
+  count = e ∙ h.count ∙ sym (ap length (said-comment entries words));
 }
 
 pub text_written : (start before now : Option (List ℕ)) (writer : WriterState) (header : Header) (datagrams : List Datagram)
     → HasWritten start before writer header datagrams → Appends before now (writer.held ++ (total_line writer.count ++ 10 ∷ [])) → Appends start now (text_of header datagrams)
-text_written start before now writer header datagrams h a = whole_written datagram_line start before now writer One header datagrams h.text h.count a
+text_written start before now writer header datagrams h a = whole_written datagram_line start before now writer One header datagrams (length datagrams) h.text h.count a
 
-pub hosts_written : (start before now : Option (List ℕ)) (writer : WriterState) (header : Header) (datagrams : List Datagram)
-    → HasWrittenHosts start before writer header datagrams → Appends before now (writer.held ++ (total_line writer.count ++ 10 ∷ [])) → Appends start now (text_with_hosts header datagrams)
-hosts_written start before now writer header datagrams h a = whole_written line_with_host start before now writer Two header datagrams h.text h.count a
+pub hosts_written : (start before now : Option (List ℕ)) (writer : WriterState) (header : Header) (entries : List Entry)
+    → HasWrittenHosts start before writer header entries → Appends before now (writer.held ++ (total_line writer.count ++ 10 ∷ [])) → Appends start now (commented_text header entries)
+hosts_written start before now writer header entries h a = whole_written entry_line start before now writer Two header entries (length (said_in entries)) h.text h.count a
 
 -- the digits of one more piece, and of the bytes after it
 pub encode_more : (bytes : List ℕ) (done size : ℕ) → encode_lower (take (done + size) bytes) ≡ encode_lower (take done bytes) ++ encode_lower (take (done + size - done) (drop done bytes))

@@ -1,4 +1,5 @@
 pub mod CaptureText
+pub mod Commented
 pub mod Digits
 pub mod Drips
 pub mod Fields

@@ -3,7 +3,8 @@ use Rattle.std.specs.Prelude.{◌≡◌, ℕ, Bool, List, [], ◌∷◌, ◌++�
 use Rattle.tftp_capture.specs.declared.version.Version.{Version}
 use Rattle.tftp_capture.specs.declared.version.Version.TheVariants.{One, Two}
 use Rattle.tftp_capture.specs.Tally.{Gathers}
-use Rattle.tftp_capture.specs.CaptureText.{Header, Datagram, head_line, end_line, service_line, datagram_line, line_with_host, whole_lines}
+use Rattle.tftp_capture.specs.CaptureText.{Header, Datagram, head_line, end_line, service_line, datagram_line, whole_lines}
+use Rattle.tftp_capture.specs.Commented.{Entry, entry_line, said_in}
 
 -- what contracts see of a writer: bytes that wait to be written, the number of datagrams, and whether a write has failed
 pub record WriterState : Type 0 where
@@ -25,7 +26,7 @@ pub record HasWritten (start now : Option (List ℕ)) (writer : WriterState) (he
   pub text : Gathers start now [] writer.held (header_text header ++ whole_lines (map datagram_line datagrams))
   pub count : writer.count ≡ length datagrams
 
--- the same of a writer in version 2, whose datagrams have their hosts
-pub record HasWrittenHosts (start now : Option (List ℕ)) (writer : WriterState) (header : Header) (datagrams : List Datagram) : Type 0 where
-  pub text : Gathers start now [] writer.held (header_text_in Two header ++ whole_lines (map line_with_host datagrams))
-  pub count : writer.count ≡ length datagrams
+-- the same of a writer in version 2, whose datagrams have their hosts and may have comments between them
+pub record HasWrittenHosts (start now : Option (List ℕ)) (writer : WriterState) (header : Header) (entries : List Entry) : Type 0 where
+  pub text : Gathers start now [] writer.held (header_text_in Two header ++ whole_lines (map entry_line entries))
+  pub count : writer.count ≡ length (said_in entries)

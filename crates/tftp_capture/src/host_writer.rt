@@ -1,7 +1,9 @@
 ghost use Rattle.std.specs.Prelude.{◌≡◌, ◌+◌, ◌^◌, ◌<◌, ◌≤◌, ◌++◌, ◌∷◌, [], ℕ, List, Option, length, true, false, IfOk, is_err, IsErr, OnOk, OnErr};
 ghost use Rattle.std.specs.Io.KnownBytes.{Appends};
 ghost use Rattle.tftp_capture.specs.Tally.{Adds, AppendsPrefix, Writes};
-ghost use Rattle.tftp_capture.specs.CaptureText.{line_with_host, text_with_hosts, total_line, Datagram, Header as HeaderParts, IsPort};
+ghost use Rattle.tftp_capture.specs.CaptureText.{line_with_host, total_line, Header as HeaderParts, IsPort};
+ghost use Rattle.tftp_capture.specs.Commented.{comment_line, commented_text, Entry};
+ghost use Rattle.tftp_capture.specs.Commented.Entry.{Comment, Passed};
 ghost use Rattle.tftp_capture.specs.Fields.{header_of};
 ghost use Rattle.tftp_capture.specs.Written.{header_text_in, HasWrittenHosts};
 
@@ -76,9 +78,9 @@ impl HostCaptureWriter {
         ensures adds { Adds W.contents writer.old writer.new result self.old.held self.new.held
             (line_with_host (record { dir = dir; local = local; host = host.now; remote = remote; payload = payload.now }) ++ 10 ∷ []) }
         ensures counted { OnOk result (self.new.count ≡ self.old.count + 1) }
-        ensures written { (start : Option (List ℕ)) (header : HeaderParts) (datagrams : List Datagram)
-            → HasWrittenHosts start (W.contents writer.old.0) self.old header datagrams
-            → OnOk result (HasWrittenHosts start (W.contents writer.new.0) self.new header (datagrams ++ record { dir = dir; local = local; host = host.now; remote = remote; payload = payload.now } ∷ [])) }
+        ensures written { (start : Option (List ℕ)) (header : HeaderParts) (entries : List Entry)
+            → HasWrittenHosts start (W.contents writer.old.0) self.old header entries
+            → OnOk result (HasWrittenHosts start (W.contents writer.new.0) self.new header (entries ++ Passed (record { dir = dir; local = local; host = host.now; remote = remote; payload = payload.now }) ∷ [])) }
         ensures failed { self.new.failed ≡ is_err result }
         ensures told { self.new.failed ≡ true → writer.new.1 ≡ true }
         ensures for_good { writer.old.1 ≡ true → IsErr result × (writer.new ≡ writer.old) }
@@ -105,13 +107,40 @@ impl HostCaptureWriter {
         Ok(())
     }
 
+    /// Adds a line that says nothing: `# ` and these words; some of it may wait. A fault is answered for good.
+    pub fn comment<W: Write>(
+        &mut self,
+        writer: &mut Tallied<W>,
+        words: &[u8],
+    ) -> Result<(), WriteFault>
+        requires told { self.old.failed ≡ true → writer.old.1 ≡ true }
+        ensures adds { Adds W.contents writer.old writer.new result self.old.held self.new.held (comment_line words.now ++ 10 ∷ []) }
+        ensures counted { self.new.count ≡ self.old.count }
+        ensures written { (start : Option (List ℕ)) (header : HeaderParts) (entries : List Entry)
+            → HasWrittenHosts start (W.contents writer.old.0) self.old header entries
+            → OnOk result (HasWrittenHosts start (W.contents writer.new.0) self.new header (entries ++ Comment words.now ∷ [])) }
+        ensures failed { self.new.failed ≡ is_err result }
+        ensures told { self.new.failed ≡ true → writer.new.1 ≡ true }
+        ensures for_good { writer.old.1 ≡ true → IsErr result × (writer.new ≡ writer.old) }
+    {
+        if writer.failed() {
+            self.failed = true;
+            return Err(WriteFault);
+        }
+        if put_comment(&mut self.gathered, writer, words).is_err() {
+            self.failed = true;
+            return Err(WriteFault);
+        }
+        Ok(())
+    }
+
     /// Ends with the total, and writes what waits.
     pub fn close<W: Write>(self, writer: &mut Tallied<W>) -> Result<(), WriteFault>
         requires told { self.failed ≡ true → writer.old.1 ≡ true }
         ensures writes { Writes W.contents writer.old writer.new result (self.held ++ (total_line self.count ++ 10 ∷ [])) }
-        ensures written { (start : Option (List ℕ)) (header : HeaderParts) (datagrams : List Datagram)
-            → HasWrittenHosts start (W.contents writer.old.0) self header datagrams
-            → OnOk result (Appends start (W.contents writer.new.0) (text_with_hosts header datagrams)) }
+        ensures written { (start : Option (List ℕ)) (header : HeaderParts) (entries : List Entry)
+            → HasWrittenHosts start (W.contents writer.old.0) self header entries
+            → OnOk result (Appends start (W.contents writer.new.0) (commented_text header entries)) }
         ensures for_good { writer.old.1 ≡ true → IsErr result × (writer.new ≡ writer.old) }
     {
         if writer.failed() {
@@ -125,6 +154,18 @@ impl HostCaptureWriter {
         put_total(&mut gathered, writer, count)?;
         gathered.write(writer)
     }
+}
+
+/// A line that says nothing.
+fn put_comment<W: Write>(
+    gathered: &mut Gathered,
+    writer: &mut Tallied<W>,
+    words: &[u8],
+) -> Result<(), WriteFault>
+    requires clean { writer.old.1 ≡ false }
+    ensures adds { Adds W.contents writer.old writer.new result gathered.old gathered.new (comment_line words.now ++ 10 ∷ []) }
+{
+    gathered.add_all(writer, &[b"# ", words, b"\n"])
 }
 
 /// The line of a datagram with its host.

@@ -1,4 +1,6 @@
-ghost use Rattle.std.specs.Prelude.{◌≡◌, ◌≢◌, ◌^◌, ◌≤◌, ◌⊎◌, ◌++◌, ℕ, List, All, length};
+ghost use Rattle.std.specs.Prelude.{◌≡◌, ◌≢◌, ◌^◌, ◌≤◌, ◌⊎◌, ◌++◌, ℕ, List, All, length, map};
+ghost use Rattle.tftp_capture.specs.Commented.{Entry, IsEntry, commented_text, numbered_in, said_in};
+ghost use Rattle.tftp_capture.specs.Commented.Entry.{Passed};
 ghost use Rattle.tftp_capture.specs.CaptureText.{text_of, text_with_hosts, Begins, BeginsWith, Datagram, Due, HasFault, Header, IsCapture, IsLawful, IsPort, Numbered, NamesNoHost, Reading, Reads, Unfinished, numbered};
 ghost use Rattle.tftp_capture.specs.InTwo.{in_version_two};
 ghost use Rattle.tftp_capture.specs.Worked.{host_datagrams, host_text, named_datagrams, named_text, worked_datagrams, worked_header, worked_text, worked_text_in_two};
@@ -22,6 +24,15 @@ pub fn canonical_text_is_read()
         → IsCapture (text_of header datagrams) header (numbered 4 datagrams) }
     ensures two { (header : Header) (datagrams : List Datagram) → IsPort header.service → All IsLawful datagrams → length (text_with_hosts header datagrams) ≤ 2 ^ 40
         → IsCapture (text_with_hosts header datagrams) header (numbered 4 datagrams) }
+{}
+
+/// A text with comments has no fault, and says its header and its datagrams on the lines where they stand; without
+/// comments it is the canonical text of version 2.
+pub fn commented_text_is_read()
+    ensures read { (header : Header) (entries : List Entry) → IsPort header.service → All IsEntry entries → length (commented_text header entries) ≤ 2 ^ 40
+        → IsCapture (commented_text header entries) header (numbered_in 4 entries) }
+    ensures datagrams { (entries : List Entry) (n : ℕ) → map (λ (d : Numbered). d.1) (numbered_in n entries) ≡ said_in entries }
+    ensures plain { (header : Header) (datagrams : List Datagram) → commented_text header (map Passed datagrams) ≡ text_with_hosts header datagrams }
 {}
 
 /// A text with a fault, but Truncated, has it whatever follows.

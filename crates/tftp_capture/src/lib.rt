@@ -27,7 +27,7 @@ pub use fault::{CaptureFault, TextFault, WriteFault};
 pub use gathered::Gathered;
 pub use host_writer::HostCaptureWriter;
 pub use laws::{
-    beginnings_agree, canonical_text_is_read, capture_has_its_beginnings,
+    beginnings_agree, canonical_text_is_read, capture_has_its_beginnings, commented_text_is_read,
     fault_comes_after_beginnings, fault_stays, text_has_one_reading, version_two_says_the_same,
     worked_text_is_canonical, worked_text_is_in_version_two, worked_text_names_hosts,
     worked_text_with_hosts_is_canonical,

@@ -10,10 +10,10 @@ use Rattle.tftp_transfers.specs.declared.place.Place.TheVariants.{Opens, Repeats
 use Rattle.tftp_transfers.specs.declared.place.Transfer.{Transfer}
 use Rattle.tftp_transfers.specs.declared.line.Talk.{Talk}
 use Rattle.tftp_transfers.specs.declared.attribution.Served.{Served}
-use Rattle.tftp_transfers.specs.Recording.{Recorded, same_endpoint, goes, is_again}
+use Rattle.tftp_transfers.specs.Recording.{Recorded, same_endpoint, other_of, goes, is_again}
 use Rattle.tftp_transfers.specs.Places.{Placed, opens, is_apart, is_at, newest_of, live, line, silence, transfer_of, latest_in, answered_in, may_answer, talked_of, talk_in, place_talked, place_at, at_client, beside, beside_by, serves, newer, last_served, served_within, served_by, served_at, is_service, is_nowhere, asks, place_of, opened_by, asked_after, is_known_host, last_was_ack_0, clock, placed}
 use Rattle.tftp_transfers.specs.Views.{is_about}
-use Rattle.tftp_transfers.specs.Doubts.{other_of, is_another, is_it, is_next_data, answer_of, may_be_answer_of, is_answered_apart}
+use Rattle.tftp_transfers.specs.Doubts.{is_another, is_it, is_next_data, answer_of, may_be_answer_of, is_answered_apart}
 use Rattle.tftp_transfers.proofs.Lines.{by_test}
 use Rattle.tftp_transfers.proofs.AllLines.{line_here, line_elsewhere}
 use Rattle.tftp_transfers.proofs.Ends.{opened, again, asked_as, either_is, spoken, asked_place, beside_end, client_end}

@@ -6,7 +6,7 @@ use Rattle.tftp_ends.specs.Ports.{first_of, or_this}
 use Rattle.tftp_transfers.specs.declared.endpoint.Endpoint.{Endpoint}
 use Rattle.tftp_transfers.specs.declared.place.Place.{Place}
 use Rattle.tftp_transfers.specs.declared.place.Place.TheVariants.{Opens, Repeats, Talks, Apart, Beside, Nowhere}
-use Rattle.tftp_transfers.specs.Recording.{Recorded, begins_error, same_endpoint}
+use Rattle.tftp_transfers.specs.Recording.{Recorded, begins_error, other_of, same_endpoint}
 use Rattle.tftp_transfers.specs.Places.{Placed}
 use Rattle.tftp_transfers.specs.Settled.{is_settled}
 use Rattle.tftp_transfers.specs.Views.{answered_by, asked_of, client_view, comes, goes_on, has_host, has_port, is_about, is_at_server, is_end, is_of, is_server, opened_it, server_of, server_view, went_on_with}
@@ -34,9 +34,7 @@ module _ (n : ℕ) (one other : List Placed) (asked : asked_of n one ≡ asked_o
   at_place : (d : Recorded) (now : ℕ) (place : Place) → is_at_server n one (record { datagram = d; moment = now; place = place }) ≡ is_at_server n other (record { datagram = d; moment = now; place = place })
   at_place d now (Opens x) = refl
   at_place d now (Repeats x) = refl
-  at_place d now (Talks x) =
-      ap (λ b. (x.number == n) && (b || is_server n one d.target)) (is_server_same d.source)
-      ∙ ap (λ b. (x.number == n) && (is_server n other d.source || b)) (is_server_same d.target)
+  at_place d now (Talks x) = ap (λ b. (x.number == n) && b) (is_server_same (other_of x.client d))
   at_place d now (Apart c) = refl
   at_place d now (Beside x) = ap (λ s. (x.number == n) && (is_end d.source s || is_end d.target s)) server_same
   at_place d now Nowhere = refl
@@ -106,7 +104,7 @@ module _ (n : ℕ) (d : Recorded) (now : ℕ) where
   not_seen : (placed : List Placed) (place : Place) → is_about n (record { datagram = d; moment = now; place = place }) ≡ false → is_at_server n placed (record { datagram = d; moment = now; place = place }) ≡ false
   not_seen placed (Opens x) off = off
   not_seen placed (Repeats x) off = off
-  not_seen placed (Talks x) off = ap (λ b. b && (is_server n placed d.source || is_server n placed d.target)) off
+  not_seen placed (Talks x) off = ap (λ b. b && is_server n placed (other_of x.client d)) off
   not_seen placed (Apart c) off = refl
   not_seen placed (Beside x) off = ap (λ b. b && (is_end d.source (server_of n placed) || is_end d.target (server_of n placed))) off
   not_seen placed Nowhere off = refl

@@ -4,7 +4,7 @@ use Rattle.std.specs.Prelude.{◌==◌, ◌&&◌, ◌||◌}
 use Rattle.std.proofs.lemmas.Bool.{and_parts, eqb-true}
 use Rattle.tftp_transfers.specs.declared.place.Place.{Place}
 use Rattle.tftp_transfers.specs.declared.place.Place.TheVariants.{Opens, Repeats, Talks, Apart, Beside, Nowhere}
-use Rattle.tftp_transfers.specs.Recording.{Recorded}
+use Rattle.tftp_transfers.specs.Recording.{Recorded, other_of}
 use Rattle.tftp_transfers.specs.Places.{Placed}
 use Rattle.tftp_transfers.specs.Views.{is_of, is_at_server, is_server, is_end, server_of}
 use Rattle.tftp_transfers.specs.Doubts.{is_beside}
@@ -32,8 +32,8 @@ at_server : (n m : ℕ) (one other : List Placed) (d : Recorded) (now : ℕ) (pl
 at_server n m one other d now (Opens x) is also = one_number n m x.number is also
 at_server n m one other d now (Repeats x) is also = one_number n m x.number is also
 at_server n m one other d now (Talks x) is also =
-    one_number n m x.number (first_part (x.number == n) (is_server n one d.source || is_server n one d.target) is)
-    (first_part (x.number == m) (is_server m other d.source || is_server m other d.target) also)
+    one_number n m x.number (first_part (x.number == n) (is_server n one (other_of x.client d)) is)
+    (first_part (x.number == m) (is_server m other (other_of x.client d)) also)
 at_server n m one other d now (Apart c) is also = absurd (cc)
 at_server n m one other d now (Beside x) is also =
     one_number n m x.number (first_part (x.number == n) (is_end d.source (server_of n one) || is_end d.target (server_of n one)) is)
@@ -47,7 +47,7 @@ of_client : (n : ℕ) (placed : List Placed) (d : Recorded) (now : ℕ) (place :
     → (is_of n (record { datagram = d; moment = now; place = place }) ≡ true) ⊎ (is_beside (record { datagram = d; moment = now; place = place }) ≡ true)
 of_client n placed d now (Opens x) is = inl is
 of_client n placed d now (Repeats x) is = inl is
-of_client n placed d now (Talks x) is = inl (first_part (x.number == n) (is_server n placed d.source || is_server n placed d.target) is)
+of_client n placed d now (Talks x) is = inl (first_part (x.number == n) (is_server n placed (other_of x.client d)) is)
 of_client n placed d now (Apart c) is = absurd (cc)
 of_client n placed d now (Beside x) is = inr refl
 of_client n placed d now Nowhere is = absurd (cc)

@@ -7,17 +7,13 @@ use Rattle.tftp_transfers.specs.declared.place.Place.{Place}
 use Rattle.tftp_transfers.specs.declared.place.Place.TheVariants.{Opens, Talks, Beside}
 use Rattle.tftp_transfers.specs.declared.place.Transfer.{Transfer}
 use Rattle.tftp_transfers.specs.declared.doubts.Doubts.{Doubts}
-use Rattle.tftp_transfers.specs.Recording.{Recorded, same_endpoint, begins_error, is_data_1, is_again}
+use Rattle.tftp_transfers.specs.Recording.{Recorded, same_endpoint, other_of, begins_error, is_data_1, is_again}
 use Rattle.tftp_transfers.specs.Places.{Placed, is_request, newest_of, live, line, transfer_of, latest_in, reach, talk_in, answered_in, may_answer}
 use Rattle.tftp_transfers.specs.Views.{is_of}
 
 -- the client's line as the datagram came
 abbrev pub line_before : Endpoint → Placed → List Placed → List Placed
 line_before c p older = live p.moment (line c older)
-
--- the end of the datagram that is not this client's
-abbrev pub other_of : Endpoint → Recorded → Endpoint
-other_of c d = if same_endpoint d.source c then d.target else d.source
 
 -- another transfer than this, if any
 abbrev pub is_another : Transfer → Option Transfer → Bool

@@ -1,5 +1,5 @@
 -- A recording: whole UDP datagrams, the newest first, and what is asked of one.
-use Rattle.std.specs.Prelude.{ℕ, ◌==◌, ◌&&◌, ◌||◌, Bool, List, [], ◌∷◌, nat_eq}
+use Rattle.std.specs.Prelude.{ℕ, ◌==◌, ◌&&◌, ◌||◌, Bool, List, [], ◌∷◌, nat_eq, if◌then◌else◌}
 use Rattle.std.specs.List.{starts_with}
 use Rattle.std.specs.Str.{bytes_eq}
 use Rattle.std.specs.declared.cmp.Ordering.{Ordering}
@@ -64,6 +64,10 @@ goes from to d = same_endpoint d.source from && same_endpoint d.target to
 
 abbrev pub is_between : Endpoint → Endpoint → Recorded → Bool
 is_between one other d = goes one other d || goes other one d
+
+-- the end of the datagram that is not this client's
+abbrev pub other_of : Endpoint → Recorded → Endpoint
+other_of c d = if same_endpoint d.source c then d.target else d.source
 
 -- the same payload, from and to the same endpoints
 abbrev pub is_again : Recorded → Recorded → Bool

@@ -4,7 +4,7 @@ use Rattle.tftp_ends.specs.Ports.{first_of}
 use Rattle.tftp_transfers.specs.declared.endpoint.Endpoint.{Endpoint}
 use Rattle.tftp_transfers.specs.declared.place.Place.{Place}
 use Rattle.tftp_transfers.specs.declared.place.Place.TheVariants.{Opens, Repeats, Talks, Apart, Beside, Nowhere}
-use Rattle.tftp_transfers.specs.Recording.{same_address, same_endpoint, begins_error}
+use Rattle.tftp_transfers.specs.Recording.{same_address, same_endpoint, other_of, begins_error}
 use Rattle.tftp_transfers.specs.Places.{Placed}
 
 -- it passed at the transfer's client
@@ -81,7 +81,7 @@ is_at_server n placed p = by p.place where
   by : Place → Bool
   by (Opens x) = x.number == n
   by (Repeats x) = x.number == n
-  by (Talks x) = (x.number == n) && (is_server n placed p.datagram.source || is_server n placed p.datagram.target)
+  by (Talks x) = (x.number == n) && is_server n placed (other_of x.client p.datagram)
   by (Beside x) = (x.number == n) && (is_end p.datagram.source (server_of n placed) || is_end p.datagram.target (server_of n placed))
   by (Apart c) = false
   by Nowhere = false

@@ -2,6 +2,7 @@
 
 ghost use Rattle.std.specs.Prelude.{◌≡◌};
 ghost use Rattle.tftp_transfers.specs.Places.{transfer_of};
+ghost use Rattle.tftp_transfers.specs.Recording.{Recorded, other_of};
 
 use crate::endpoint::Endpoint;
 
@@ -14,6 +15,19 @@ pub struct Transfer {
     pub client: Endpoint,
     /// The endpoint that was asked.
     pub asked: Endpoint,
+}
+
+impl Transfer {
+    /// The end of a datagram that is not the client's.
+    pub fn peer(&self, source: Endpoint, target: Endpoint) -> Endpoint
+        ensures { (d : Recorded) → d.source ≡ source → d.target ≡ target → result ≡ other_of self.now.client d }
+    {
+        if source == self.client {
+            target
+        } else {
+            source
+        }
+    }
 }
 
 /// Where a datagram belongs: in one place.

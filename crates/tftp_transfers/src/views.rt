@@ -136,7 +136,7 @@ impl TransferEnds {
             Place::Opens(transfer) => transfer.number == self.number,
             Place::Repeats(transfer) => transfer.number == self.number,
             Place::Talks(transfer) => {
-                transfer.number == self.number && (self.is_server(source) || self.is_server(target))
+                transfer.number == self.number && self.is_server(transfer.peer(source, target))
             }
             Place::Beside(transfer) => {
                 let server = self.server();

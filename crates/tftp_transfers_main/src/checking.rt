@@ -34,7 +34,7 @@ fn check_file<'a>(
     services: &[u16],
     teller: &mut Teller<'a>,
 ) -> Result<()> {
-    let mut session = Session::new(rt.alloc(), services, Kept::none(rt.alloc()))?;
+    let mut session = Session::new(rt.alloc(), services, Kept::new(0))?;
     teller.begin(file);
     let told = tell_session(rt, file, &mut session, teller);
     session.let_go();

@@ -31,7 +31,7 @@ pub struct ListRow {
 /// Lists the transfers of a recording.
 pub fn list(rt: HostRuntime, asked: &ListRequest<'_>) -> Result<u8> {
     let services = asked.services.as_slice();
-    let mut session = Session::new(rt.alloc(), services, Kept::none(rt.alloc()))?;
+    let mut session = Session::new(rt.alloc(), services, Kept::new(0))?;
     let mut teller = Teller::new(What::List, asked.json, 0);
     let told = tell_session(rt, asked.file, &mut session, &mut teller);
     session.let_go();

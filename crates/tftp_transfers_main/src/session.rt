@@ -1,5 +1,7 @@
 //! A recording, as far as it was read.
 
+ghost use Rattle.tftp_frames.specs.Udp.{IsSound};
+
 use crate::notes::Notes;
 use crate::passing::{Passing, about};
 use crate::texts::Kept;
@@ -10,12 +12,12 @@ use std::collections::BTreeMap;
 use std::io::Read;
 use tftp_capture::Tallied;
 use tftp_ends::RingDelivered;
-use tftp_parties::address_of;
+use tftp_parties::party_of;
 use tftp_pcap::{FaultKind, PcapFault};
 use tftp_recording::{Datagram, Event, Fate, RecordingReader};
 use tftp_recording_audit::{AuditFault, NextFrame, RecordingAudit};
 use tftp_recording_judge::Watched;
-use tftp_transfers::{Attributed, AttributionFault, Endpoint, Place, Transfer};
+use tftp_transfers::{Attributed, AttributionFault, Place, Transfer};
 
 /// What a recording has: its transfers by how many datagrams came before each, and what is to be told of it.
 #[derive(Drop)]
@@ -96,17 +98,29 @@ impl Session {
         event: &Event,
         datagram: &Datagram<'_>,
         found: Option<Attributed>,
-    ) -> Result<()> {
+    ) -> Result<()>
+        requires sound { IsSound (record { source_port = datagram.now.source_port; target_port = datagram.now.target_port; payload = datagram.now.payload.now }) }
+    {
         let Some(found) = found else {
             return Ok(());
         };
         self.notes.find(event.sharers());
-        let passing = passing_of(event, datagram);
+        let source = party_of(datagram.source, datagram.source_port);
+        let target = party_of(datagram.target, datagram.target_port);
+        let passing = Passing {
+            frame: event.number(),
+            time: event.time(),
+            is_doubtful: event.is_doubtful(),
+            source: source.end,
+            target: target.end,
+            payload: datagram.payload,
+        };
         self.notes.pass(passing.frame, passing.time)?;
         if let Place::Opens(transfer) = found.place {
             self.open(alloc, transfer, &passing)?;
         }
-        self.kept.note(alloc, &found.place, &passing)?;
+        self.kept
+            .note(alloc, &found.place, &source, &target, &passing)?;
         Ok(self.follow(&found, &passing)?)
     }
 
@@ -183,23 +197,5 @@ fn joined(trail: Trail, watched: Option<Watched<RingDelivered>>) -> Option<Ended
     match watched {
         Some(watched) => Some(Ended { trail, watched }),
         None => None,
-    }
-}
-
-/// A datagram, as it passed.
-fn passing_of<'a>(event: &Event, datagram: &Datagram<'a>) -> Passing<'a> {
-    Passing {
-        frame: event.number(),
-        time: event.time(),
-        is_doubtful: event.is_doubtful(),
-        source: Endpoint {
-            address: address_of(datagram.source),
-            port: datagram.source_port,
-        },
-        target: Endpoint {
-            address: address_of(datagram.target),
-            port: datagram.target_port,
-        },
-        payload: datagram.payload,
     }
 }

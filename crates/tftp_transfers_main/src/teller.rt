@@ -8,6 +8,7 @@ use anyhow::Result;
 use serde::Serialize;
 use std::alloc::AllocError;
 use tftp_packet::End;
+use tftp_verdict_rows::Rows;
 
 /// What is told of each transfer.
 #[derive(Clone, Copy)]
@@ -141,18 +142,13 @@ impl<'a> Teller<'a> {
         put_list_row(line, row)
     }
 
-    /// Tells the verdict on a transfer: at the end that is named; where none is, at both ends if they are at one host, and
-    /// else so that what either end's view clears is not blamed.
+    /// Tells the verdicts on a transfer.
     fn tell_judged(&mut self, rt: HostRuntime, judged: &Judged, end: Option<End>) -> Result<()> {
-        let (client, server) = (&judged.client, &judged.server);
-        match end {
-            Some(End::Client) => self.tell_one(rt, judged, &Told::of("client", client)),
-            Some(End::Server) => self.tell_one(rt, judged, &Told::of("server", server)),
-            None if !judged.is_at_one_host => self.tell_one(rt, judged, &judged.anywhere()),
-            None if judged.are_same() => self.tell_one(rt, judged, &Told::of("both", client)),
-            None => {
-                self.tell_one(rt, judged, &Told::of("client", client))?;
-                self.tell_one(rt, judged, &Told::of("server", server))
+        match judged.rows(end) {
+            Rows::One(row) => self.tell_one(rt, judged, &judged.told(&row)),
+            Rows::Two(first, second) => {
+                self.tell_one(rt, judged, &judged.told(&first))?;
+                self.tell_one(rt, judged, &judged.told(&second))
             }
         }
     }

@@ -1,5 +1,8 @@
 //! The capture text of one transfer at an end.
 
+ghost use Rattle.std.specs.Prelude.{◌≤◌, length};
+ghost use Rattle.tftp_capture.specs.CaptureText.{IsPort};
+
 use crate::cells::{put_number, put_plain};
 use crate::passing::{Passing, about};
 use crate::reading::read_file;
@@ -9,48 +12,30 @@ use crate::teller::{Teller, What};
 use crate::trail::Trail;
 use anyhow::{Result, bail};
 use std::alloc::{AllocError, Global};
+use std::io;
+use tftp_capture::Tallied;
 use tftp_packet::End;
-use tftp_parties::host_of;
+use tftp_texts::{Comment, TransferText};
 use tftp_transfers::{Endpoint, Place};
+use tftp_views::Party;
 use tftp_words::TextRequest;
 
-/// The datagrams of the transfer whose text is wanted, as they passed.
+/// The transfer whose text is wanted.
 #[derive(Drop)]
 pub struct Kept {
     /// Which transfer of the recording it is, from 1; 0 where none is wanted.
     wanted: u64,
     opened: u64,
-    number: Option<u64>,
-    datagrams: Vec<Written>,
+    text: Option<TransferText>,
 }
-
-/// A datagram that may be written.
-#[derive(Drop)]
-struct Written {
-    frame: u64,
-    time: Option<u64>,
-    place: Place,
-    source: Endpoint,
-    target: Endpoint,
-    payload: Vec<u8>,
-}
-
-/// When so many bytes are gathered, they are written.
-const PIECE: usize = 1 << 16;
 
 impl Kept {
-    /// No text is wanted.
-    pub fn none(alloc: Global) -> Self {
-        Kept::new(alloc, 0)
-    }
-
-    /// The text of this transfer of the recording is wanted, from 1.
-    pub fn new(alloc: Global, wanted: u64) -> Self {
+    /// The text of this transfer of the recording is wanted, from 1; of none where it is 0.
+    pub fn new(wanted: u64) -> Self {
         Kept {
             wanted,
             opened: 0,
-            number: None,
-            datagrams: Vec::new(alloc),
+            text: None,
         }
     }
 
@@ -59,34 +44,49 @@ impl Kept {
         &mut self,
         alloc: Global,
         place: &Place,
+        source: &Party,
+        target: &Party,
         passing: &Passing<'_>,
-    ) -> Result<(), AllocError> {
+    ) -> Result<(), AllocError>
+        requires source { IsPort source.now.end.port }
+        requires target { IsPort target.now.end.port }
+        requires short { length passing.now.payload.now ≤ 65527 }
+    {
         if let Place::Opens(transfer) = place {
             self.opened = self.opened.saturating_add(1);
             if self.opened == self.wanted {
-                self.number = Some(transfer.number);
+                self.text = TransferText::new(alloc, *transfer);
             }
         }
-        let about = about(place);
-        if about.is_none() || about != self.number {
+        let Some(text) = &mut self.text else {
+            return Ok(());
+        };
+        if about(place) != Some(text.transfer().number) {
             return Ok(());
         }
-        let payload = Vec::from_slice(alloc, passing.payload)?;
-        self.datagrams.push(Written {
-            frame: passing.frame,
-            time: passing.time,
-            place: *place,
-            source: passing.source,
-            target: passing.target,
-            payload,
-        })?;
-        Ok(())
+        let Some(comment) = Comment::new(words_of(alloc, passing)?) else {
+            return Ok(());
+        };
+        text.note(alloc, place, source, target, passing.payload, comment)
     }
+}
+
+/// What is said of a datagram: its frame, and its time in seconds since 1970.
+fn words_of(alloc: Global, passing: &Passing<'_>) -> Result<Vec<u8>, AllocError> {
+    let mut words = String::from_str(alloc, "frame ")?;
+    let put = put_frame(&mut words, passing);
+    put?;
+    Ok(words.into_bytes())
+}
+
+fn put_frame(words: &mut String, passing: &Passing<'_>) -> Result<(), AllocError> {
+    put_number(words, passing.frame)?;
+    put_time(words, passing.time)
 }
 
 /// Writes the capture text of a transfer at an end, unless the recording is not whole.
 pub fn write_text(rt: HostRuntime, asked: &TextRequest<'_>) -> Result<u8> {
-    let kept = Kept::new(rt.alloc(), asked.number);
+    let kept = Kept::new(asked.number);
     let mut session = Session::new(rt.alloc(), asked.services.as_slice(), kept)?;
     let written = write_session(rt, asked, &mut session);
     session.let_go();
@@ -98,102 +98,73 @@ fn write_session(rt: HostRuntime, asked: &TextRequest<'_>, session: &mut Session
     let mut teller = Teller::new(What::Text, false, 0);
     read_file(rt, asked.file, session, &mut teller)?;
     let is_whole = session.notes.tell(rt, asked.file)?;
-    let found = session.kept.number.and_then(|number| session.trail(number));
-    let Some(trail) = found else {
+    let Some(text) = &session.kept.text else {
         let (wanted, count) = (asked.number, session.count());
         bail!("there is no transfer {wanted}: the recording has 1 to {count}");
     };
     if !is_whole {
         bail!("nothing is written, since the recording is not whole");
     }
-    let mut page = String::new(rt.alloc());
-    let put = put_text(rt, &mut page, asked, trail, &session.kept);
-    put?;
-    print_page(rt, page)
+    match session.trail(text.transfer().number) {
+        Some(trail) => print_text(rt, asked, trail, text),
+        None => Ok(()),
+    }
 }
 
-fn print_page(rt: HostRuntime, page: String) -> Result<()> {
-    print!(rt; "{page}")?;
-    Ok(())
-}
-
-fn put_text(
+fn print_text(
     rt: HostRuntime,
-    page: &mut String,
     asked: &TextRequest<'_>,
     trail: &Trail,
-    kept: &Kept,
+    text: &TransferText,
 ) -> Result<()> {
-    put_head(rt.alloc(), page, asked, trail)?;
-    let mut total = 0u64;
-    for datagram in kept.datagrams.iter() {
-        if is_in_view(asked.end, trail, datagram) {
-            total = total.saturating_add(1);
-            put_datagram(rt.alloc(), page, asked.end, trail, datagram)?;
-            print_piece(rt, page)?;
-        }
+    let Some(heading) = Comment::new(heading_of(rt.alloc(), asked, trail)?) else {
+        bail!("the file's name is too long for a text");
+    };
+    let mut writer = Tallied::new(io::writer(&rt));
+    let written = text.write(rt.alloc(), &mut writer, asked.end, &heading);
+    if written.is_err() {
+        bail!("the text can't be written");
     }
-    put_total(page, total)?;
     Ok(())
 }
 
-fn put_total(page: &mut String, total: u64) -> Result<(), AllocError> {
-    page.push_str("total ")?;
-    put_number(page, total)?;
-    page.push('\n')
-}
-
-/// Prints what is gathered, once it is long.
-fn print_piece(rt: HostRuntime, page: &mut String) -> Result<()> {
-    if page.len() < PIECE {
-        return Ok(());
-    }
-    print!(rt; "{page}")?;
-    page.clear();
-    Ok(())
-}
-
-fn put_head(
+/// Which transfer of which file it is, at which end, and who its ends are.
+fn heading_of(
     alloc: Global,
-    page: &mut String,
+    asked: &TextRequest<'_>,
+    trail: &Trail,
+) -> Result<Vec<u8>, AllocError> {
+    let mut words = String::from_str(alloc, "transfer ")?;
+    let put = put_heading(alloc, &mut words, asked, trail);
+    put?;
+    Ok(words.into_bytes())
+}
+
+fn put_heading(
+    alloc: Global,
+    words: &mut String,
     asked: &TextRequest<'_>,
     trail: &Trail,
 ) -> Result<(), AllocError> {
-    page.push_str("tftp-capture 2\n# transfer ")?;
-    put_source(page, asked)?;
-    put_party(alloc, page, "; client ", trail.transfer.client)?;
-    put_party(alloc, page, ", server ", trail.server())?;
-    put_header(page, asked.end, trail.transfer.asked.port)
-}
-
-/// Puts which transfer of which file it is, at which end.
-fn put_source(page: &mut String, asked: &TextRequest<'_>) -> Result<(), AllocError> {
-    put_number(page, asked.number)?;
-    page.push_str(" of '")?;
-    put_plain(page, asked.file.as_bytes())?;
-    page.push_str("', at the ")?;
-    page.push_str(word_of(asked.end))
+    put_number(words, asked.number)?;
+    words.push_str(" of '")?;
+    put_plain(words, asked.file.as_bytes())?;
+    words.push_str("', at the ")?;
+    words.push_str(word_of(asked.end))?;
+    put_party(alloc, words, "; client ", trail.transfer.client)?;
+    put_party(alloc, words, ", server ", trail.server())
 }
 
 /// Puts an endpoint after some words.
 fn put_party(
     alloc: Global,
-    page: &mut String,
-    words: &str,
+    words: &mut String,
+    before: &str,
     party: Endpoint,
 ) -> Result<(), AllocError> {
-    page.push_str(words)?;
+    words.push_str(before)?;
     let shown = shown(alloc, party)?;
-    page.push_str(shown.as_str())
-}
-
-/// Puts the lines that name the end and the service port.
-fn put_header(page: &mut String, end: End, service: u16) -> Result<(), AllocError> {
-    page.push_str("\nend ")?;
-    page.push_str(word_of(end))?;
-    page.push_str("\nservice ")?;
-    put_number(page, u64::from(service))?;
-    page.push('\n')
+    words.push_str(shown.as_str())
 }
 
 fn word_of(end: End) -> &'static str {
@@ -203,92 +174,23 @@ fn word_of(end: End) -> &'static str {
     }
 }
 
-fn is_in_view(end: End, trail: &Trail, datagram: &Written) -> bool {
-    match end {
-        End::Client => datagram.place.transfer().is_some(),
-        End::Server => { trail.is_at_server(&datagram.place, datagram.source, datagram.target) }
-    }
-}
-
-/// Whether the end sent it.
-fn goes_out(end: End, trail: &Trail, datagram: &Written) -> bool {
-    let source = datagram.source;
-    match (end, &datagram.place) {
-        (End::Client, _) => source == trail.transfer.client,
-        (End::Server, Place::Talks(_)) => source != trail.transfer.client,
-        (End::Server, Place::Beside(_)) => source == trail.server(),
-        _ => false,
-    }
-}
-
-fn put_datagram(
-    alloc: Global,
-    page: &mut String,
-    end: End,
-    trail: &Trail,
-    datagram: &Written,
-) -> Result<()> {
-    page.push_str("# frame ")?;
-    put_number(page, datagram.frame)?;
-    put_time(page, datagram.time)?;
-    if goes_out(end, trail, datagram) {
-        put_ends(page, "\nout ", &datagram.source, &datagram.target)?;
-    } else {
-        put_ends(page, "\nin ", &datagram.target, &datagram.source)?;
-    }
-    put_payload(alloc, page, datagram.payload.as_slice())
-}
-
-/// Puts a payload in hex, and ends the line.
-fn put_payload(alloc: Global, page: &mut String, payload: &[u8]) -> Result<()> {
-    if payload.is_empty() {
-        page.push_str("-\n")?;
-        return Ok(());
-    }
-    let digits = hex::encode(alloc, payload)?;
-    let put = put_line(page, digits.as_str());
-    put?;
-    Ok(())
-}
-
-fn put_line(page: &mut String, digits: &str) -> Result<(), AllocError> {
-    page.push_str(digits)?;
-    page.push('\n')
-}
-
 /// Puts a time in seconds since 1970.
-fn put_time(page: &mut String, time: Option<u64>) -> Result<(), AllocError> {
+fn put_time(words: &mut String, time: Option<u64>) -> Result<(), AllocError> {
     let Some(time) = time else {
         return Ok(());
     };
-    page.push_str(" time ")?;
-    put_number(page, time / 1_000_000_000)?;
-    page.push('.')?;
-    put_rest(page, time % 1_000_000_000)
+    words.push_str(" time ")?;
+    put_number(words, time / 1_000_000_000)?;
+    words.push('.')?;
+    put_rest(words, time % 1_000_000_000)
 }
 
 /// Puts nanoseconds, in nine digits.
-fn put_rest(page: &mut String, nanoseconds: u64) -> Result<(), AllocError> {
+fn put_rest(words: &mut String, nanoseconds: u64) -> Result<(), AllocError> {
     let mut buffer = itoa::Buffer::new();
     let digits = buffer.format(nanoseconds);
     for _ in digits.len()..9 {
-        page.push('0')?;
+        words.push('0')?;
     }
-    page.push_str(digits)
-}
-
-/// Puts which way it went, the port at the end, and the other host and its port.
-fn put_ends(
-    page: &mut String,
-    way: &str,
-    ours: &Endpoint,
-    theirs: &Endpoint,
-) -> Result<(), AllocError> {
-    page.push_str(way)?;
-    put_number(page, u64::from(ours.port))?;
-    page.push(' ')?;
-    put_plain(page, host_of(&theirs.address).bytes())?;
-    page.push(' ')?;
-    put_number(page, u64::from(theirs.port))?;
-    page.push(' ')
+    words.push_str(digits)
 }

@@ -96,11 +96,6 @@ impl Trail {
         self.ends.server().unwrap_or(self.transfer.asked)
     }
 
-    /// Whether a datagram that belongs there is of the server's view.
-    pub fn is_at_server(&self, place: &Place, source: Endpoint, target: Endpoint) -> bool {
-        self.ends.is_at_server(place, source, target)
-    }
-
     /// Whether both ends are at one host, so that what was recorded passed at both.
     pub fn is_at_one_host(&self) -> bool {
         match self.ends.server() {

@@ -7,18 +7,10 @@ use crate::trail::Trail;
 use std::alloc::{AllocError, Global};
 use tftp_capture::Tallied;
 use tftp_commands::{say_accepted, say_verdict};
-use tftp_judge::{Meaning, Refusal, Rule, Verdict};
+use tftp_judge::{Meaning, Refusal, Verdict};
+use tftp_packet::End;
+use tftp_verdict_rows::{Place, Row, Rows, Said, rows_told};
 use tftp_views::Verdicts;
-
-/// What a verdict says.
-#[derive(Clone, Copy, PartialEq, Eq)]
-enum Said {
-    Accepted,
-    Refused(Rule),
-    /// Incomplete, aborted, or too long when normal.
-    NotWhole,
-    Memory,
-}
 
 /// The verdict on an end's view.
 #[derive(Drop)]
@@ -39,7 +31,7 @@ pub struct Judged {
     pub doubted: Doubted,
 }
 
-/// What is said of a transfer in one row: of a view, and the other one where that is not refused there.
+/// What is said of a transfer in one row: of a view, and the other one where it is not refused there so.
 #[derive(Clone, Copy)]
 pub struct Told<'a> {
     /// Where it was recorded: client, server, both or unknown.
@@ -77,26 +69,31 @@ impl Judged {
         })
     }
 
-    /// What is said where it is not known which end was recorded: what either end's view clears is not blamed.
-    pub fn anywhere(&self) -> Told<'_> {
-        let (client, server) = (&self.client, &self.server);
-        if client.is_accepted() || are_both_refused(client, server) {
-            return Told::of("unknown", client);
+    /// Which verdicts are told, where this end is named, or none.
+    pub fn rows(&self, named: Option<End>) -> Rows {
+        let (client, server) = (&self.client.said, &self.server.said);
+        rows_told(named, self.is_at_one_host, self.are_alike(), client, server)
+    }
+
+    /// What is said in a row.
+    pub fn told(&self, row: &Row) -> Told<'_> {
+        let (view, elsewhere) = match row.end {
+            End::Client => (&self.client, ("server", self.server.line())),
+            End::Server => (&self.server, ("client", self.client.line())),
+        };
+        Told {
+            place: word_of(row.place),
+            view,
+            elsewhere: if row.is_disputed {
+                Some(elsewhere)
+            } else {
+                None
+            },
         }
-        if server.is_accepted() {
-            return Told::of("unknown", server);
-        }
-        if client.is_refused() {
-            return Told::of_one(client, "server", server);
-        }
-        if server.is_refused() {
-            return Told::of_one(server, "client", client);
-        }
-        Told::of("unknown", client)
     }
 
     /// Whether the two views are told alike, of the same frame.
-    pub fn are_same(&self) -> bool {
+    fn are_alike(&self) -> bool {
         let (client, server) = (&self.client, &self.server);
         client.frame() == server.frame() && client.line() == server.line()
     }
@@ -104,30 +101,16 @@ impl Judged {
 
 fn let_go(_trail: Trail, _verdicts: Verdicts) {}
 
-/// Whether both are refused by one rule at one datagram.
-fn are_both_refused(one: &Viewed, other: &Viewed) -> bool {
-    one.is_refused() && one.said == other.said && one.frame() == other.frame()
+fn word_of(place: Place) -> &'static str {
+    match place {
+        Place::Client => "client",
+        Place::Server => "server",
+        Place::Both => "both",
+        Place::Unknown => "unknown",
+    }
 }
 
 impl<'a> Told<'a> {
-    /// What is said of a view there.
-    pub fn of(place: &'static str, view: &'a Viewed) -> Self {
-        Told {
-            place,
-            view,
-            elsewhere: None,
-        }
-    }
-
-    /// What is said of a view that is refused at one end alone.
-    fn of_one(view: &'a Viewed, elsewhere: &'static str, other: &'a Viewed) -> Self {
-        Told {
-            place: "unknown",
-            view,
-            elsewhere: Some((elsewhere, other.line())),
-        }
-    }
-
     /// Adds why the refusal is no accusation.
     pub fn put_reasons(
         &self,
@@ -154,7 +137,7 @@ impl Viewed {
         blamed: Option<Blamed>,
     ) -> Result<Self, AllocError> {
         Ok(Viewed {
-            said: said_of(found),
+            said: Said::of(found, frame_of(&blamed)),
             blamed,
             line: line_of(alloc, found)?,
         })
@@ -167,8 +150,8 @@ impl Viewed {
 
     /// The frame of the datagram that was refused.
     pub fn frame(&self) -> Option<u64> {
-        match (self.said, &self.blamed) {
-            (Said::Refused(_), Some(blamed)) => Some(blamed.frame),
+        match self.said {
+            Said::Refused(_, frame) => frame,
             _ => None,
         }
     }
@@ -182,21 +165,15 @@ impl Viewed {
         }
     }
 
-    fn is_accepted(&self) -> bool {
-        self.said == Said::Accepted
-    }
-
     fn is_refused(&self) -> bool {
-        matches!(self.said, Said::Refused(_))
+        self.said.is_refused()
     }
 }
 
-fn said_of(found: &Result<Meaning, Refusal>) -> Said {
-    match found {
-        Ok(_) => Said::Accepted,
-        Err(Refusal::Unlawful(_, rule)) => Said::Refused(*rule),
-        Err(Refusal::Memory(_)) => Said::Memory,
-        Err(_) => Said::NotWhole,
+fn frame_of(blamed: &Option<Blamed>) -> Option<u64> {
+    match blamed {
+        Some(blamed) => Some(blamed.frame),
+        None => None,
     }
 }
 

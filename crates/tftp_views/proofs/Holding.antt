@@ -83,7 +83,7 @@ own_alone s name whole after =
 -- ---- one that is not of the transfer
 
 module _ (n : ℕ) (p : Placed) (older : List Placed) (off : is_about n p ≡ false) where
-  same_own : filter (is_about n) (p ∷ older) ≡ filter (is_about n) older
+  pub same_own : filter (is_about n) (p ∷ older) ≡ filter (is_about n) older
   same_own = ap (λ b. cond b (p ∷ filter (is_about n) older) (filter (is_about n) older)) off
 
   asked_too : asked_of n older ≡ asked_of n (p ∷ older)
@@ -98,7 +98,7 @@ module _ (n : ℕ) (p : Placed) (older : List Placed) (off : is_about n p ≡ fa
   settled_too : is_settled n older ≡ is_settled n (p ∷ older)
   settled_too = sym (settled_kept n (is_about n) (about_none n) older) ∙ ap (is_settled n) (sym same_own) ∙ settled_kept n (is_about n) (about_none n) (p ∷ older)
 
-  ends_too : (t : TransferEnds) → t.number ≡ n → AreEndsAfter t older → AreEndsAfter t (p ∷ older)
+  pub ends_too : (t : TransferEnds) → t.number ≡ n → AreEndsAfter t older → AreEndsAfter t (p ∷ older)
   ends_too t is after = record {
     asked = after.asked ∙ ap (λ k. asked_of k older) is ∙ asked_too ∙ ap (λ k. asked_of k (p ∷ older)) (sym is);
     answered = after.answered ∙ ap (λ k. answered_by k older) is ∙ answered_too ∙ ap (λ k. answered_by k (p ∷ older)) (sym is);

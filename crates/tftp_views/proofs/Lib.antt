@@ -1,5 +1,5 @@
 mod Judging
 mod Settling
-mod Feeding
+pub mod Feeding
 pub mod Holding
 pub mod Passing

@@ -7,7 +7,7 @@ use Rattle.tftp_ends.specs.Ports.{first_of, or_this}
 use Rattle.tftp_transfers.specs.declared.endpoint.Endpoint.{Endpoint}
 use Rattle.tftp_transfers.specs.declared.place.Place.{Place}
 use Rattle.tftp_transfers.specs.declared.place.Place.TheVariants.{Opens, Repeats, Talks, Apart, Beside, Nowhere}
-use Rattle.tftp_transfers.specs.Recording.{Recorded}
+use Rattle.tftp_transfers.specs.Recording.{Recorded, other_of}
 use Rattle.tftp_transfers.specs.Places.{Placed}
 use Rattle.tftp_transfers.specs.Views.{answered_by, asked_of, comes, goes_on, has_host, has_port, is_at_server, is_end, is_server, opened_it, server_of, server_view, went_on_with}
 use Rattle.tftp_transfers.specs.Settled.{is_settled}
@@ -67,9 +67,7 @@ module _ (n : ℕ) (more placed : List Placed) (settled : is_settled n placed �
   at_place : (d : Recorded) (now : ℕ) (place : Place) → is_at_server n (more ++ placed) (record { datagram = d; moment = now; place = place }) ≡ is_at_server n placed (record { datagram = d; moment = now; place = place })
   at_place d now (Opens x) = refl
   at_place d now (Repeats x) = refl
-  at_place d now (Talks x) =
-      ap (λ b. (x.number == n) && (b || is_server n (more ++ placed) d.target)) (is_server_stays d.source)
-      ∙ ap (λ b. (x.number == n) && (is_server n placed d.source || b)) (is_server_stays d.target)
+  at_place d now (Talks x) = ap (λ b. (x.number == n) && b) (is_server_stays (other_of x.client d))
   at_place d now (Apart c) = refl
   at_place d now (Beside x) = ap (λ s. (x.number == n) && (is_end d.source s || is_end d.target s)) server
   at_place d now Nowhere = refl

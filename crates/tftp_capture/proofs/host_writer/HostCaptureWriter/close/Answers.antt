@@ -9,7 +9,7 @@ pub returns-then-failed-clause-writes : goal.returns-then-failed-clause-writes
 returns-then-failed-clause-writes g c = (search rules, prefix_nothing _ c.args.self.held (total_line c.args.self.count))
 
 pub returns-clause-written : goal.returns-clause-written
-returns-clause-written g c = λ start header datagrams h.
+returns-clause-written g c = λ start header entries h.
     let held : c.self.inside.gathered ≡ c.args.self.held = ap (λ (s : WriterState). s.held) c.self.view_is in
     let counted : c.self.inside.count ≡ c.args.self.count = ap (λ (s : WriterState). s.count) c.self.view_is in
     let total = rw (held, counted) at c.in_ok-put_total.ensures.adds.1 in

@@ -6,7 +6,7 @@ use Rattle.tftp_capture.proofs.Spelling.{host_written}
 use Rattle.tftp_capture.proofs.host_writer.HostCaptureWriter.put.Goals as goal
 
 pub returns-clause-written : goal.returns-clause-written
-returns-clause-written g c = λ start header datagrams h.
+returns-clause-written g c = λ start header entries h.
     let held : c.self.inside.gathered ≡ c.args.self.now.held = ap (λ (s : WriterState). s.held) c.self.view_is in
     let counted : c.self.inside.count ≡ c.args.self.now.count = ap (λ (s : WriterState). s.count) c.self.view_is in
     let moved = added g.W.Write.contents c.args.writer.now c.put_datagram.new.writer c.put_datagram.result _ _ _ (sym c.is_err.ensures.value ∙ c.if-is_err.false) c.put_datagram.ensures.adds in

@@ -1,0 +1,4 @@
+pub mod Captures
+pub mod Entries
+pub mod Notes
+pub mod Writing

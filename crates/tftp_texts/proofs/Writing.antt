@@ -1,0 +1,71 @@
+-- What one datagram, and then the whole, adds to a text.
+use Rattle.std.proofs.Common.{◌≡◌, ℕ, Bool, true, false, cond, List, [], ◌∷◌, ◌++◌, All, Option, Result, Ok, Err, map, reverse, take, append_assoc, append-nil, sym, ap, ◌∙◌, subst}
+use Rattle.std.specs.Prelude.{OnOk, filter}
+use Rattle.std.proofs.lemmas.List.Elements.{All-cons, All-nil}
+use Rattle.tftp_capture.specs.CaptureText.{Datagram, Header}
+use Rattle.tftp_capture.specs.Commented.{Entry, said_in}
+use Rattle.tftp_capture.specs.Commented.Entry.{Comment, Passed}
+use Rattle.tftp_capture.specs.Written.{HasWrittenHosts, WriterState}
+use Rattle.tftp_capture.specs.declared.fault.WriteFault.{WriteFault}
+use Rattle.tftp_packet.specs.declared.kinds.Dir.{Dir}
+use Rattle.tftp_packet.specs.declared.kinds.Dir.TheVariants.{In, Out}
+use Rattle.tftp_packet.specs.declared.kinds.End.{End}
+use Rattle.tftp_transfers.specs.declared.place.Place.{Place}
+use Rattle.tftp_transfers.specs.declared.place.Transfer.{Transfer}
+use Rattle.tftp_transfers.specs.Kept.{AreEndsAfter}
+use Rattle.tftp_transfers.specs.Places.{Placed}
+use Rattle.tftp_transfers.specs.Views.{is_about}
+use Rattle.tftp_views.specs.Captured.{Naming, captured}
+use Rattle.tftp_views.specs.Kept.{IsFed}
+use Rattle.tftp_views.specs.declared.party.Party.{Party}
+use Rattle.tftp_views.proofs.Feeding.{came_in, went_out}
+use Rattle.tftp_texts.specs.Kept.{AreNotesAfter, Notes}
+use Rattle.tftp_texts.specs.declared.noted.Noted.{Noted}
+use Rattle.tftp_texts.specs.Views.{HasComment, IsComment, capture_at, captured_at, is_seen, way_at}
+
+pub on_written : {A B : Type 0} (r : Result (Unit {0}) WriteFault) → (A → B) → OnOk r A → OnOk r B
+on_written (Ok u) f a = f a
+on_written (Err e) f a = tt
+
+-- entries were added, of which this is said
+abbrev pub HasAdded : Option (List ℕ) → Option (List ℕ) → WriterState → Header → List Entry → (List Datagram → Type 0) → Type 0
+HasAdded start now w header entries P = (more : List Entry) × HasWrittenHosts start now w header (entries ++ more) × All HasComment more × P (said_in more)
+
+pub added_none : (start now : Option (List ℕ)) (w : WriterState) (header : Header) (entries : List Entry) (P : List Datagram → Type 0)
+    → HasWrittenHosts start now w header entries → P [] → HasAdded start now w header entries P
+added_none start now w header entries P h none = ([], subst (HasWrittenHosts start now w header) (sym (append-nil entries)) h, All-nil HasComment, none)
+
+pub added_one : (start now : Option (List ℕ)) (w : WriterState) (header : Header) (entries : List Entry) (words : List ℕ) (d : Datagram) (P : List Datagram → Type 0)
+    → IsComment words → P (d ∷ []) → HasWrittenHosts start now w header ((entries ++ Comment words ∷ []) ++ Passed d ∷ []) → HasAdded start now w header entries P
+added_one start now w header entries words d P comment says h = (
+  Comment words ∷ Passed d ∷ [],
+  subst (HasWrittenHosts start now w header) (append_assoc entries (Comment words ∷ []) (Passed d ∷ [])) h,
+  All-cons HasComment (Comment words) (Passed d ∷ []) comment (All-cons HasComment (Passed d) [] tt (All-nil HasComment)),
+  says,
+)
+
+module _ (end : End) (name : Naming) (x : Transfer) (whole : List Placed) (p : Placed) where
+  pub unseen : is_seen end x.number whole p ≡ false → [] ≡ capture_at end name x whole (p ∷ [])
+  unseen off = sym (ap (λ (b : Bool). map (captured_at end name x whole) (cond b (p ∷ []) [])) off)
+
+  seen : is_seen end x.number whole p ≡ true → capture_at end name x whole (p ∷ []) ≡ captured_at end name x whole p ∷ []
+  seen is = ap (λ (b : Bool). map (captured_at end name x whole) (cond b (p ∷ []) [])) is
+
+  module _ (place : Place) (source target : Party) (payload : List ℕ) (fed : IsFed name p place source target payload) (is : is_seen end x.number whole p ≡ true) where
+    pub sent : way_at end x whole p ≡ Out
+        → record { dir = Out; local = source.end.port; host = target.host; remote = target.end.port; payload = payload } ∷ [] ≡ capture_at end name x whole (p ∷ [])
+    sent way = sym (seen is ∙ ap (λ (w : Dir). captured name w p.datagram ∷ []) way ∙ ap (λ (d : Datagram). d ∷ []) (went_out name p place source target payload fed))
+
+    pub got : way_at end x whole p ≡ In
+        → record { dir = In; local = target.end.port; host = source.host; remote = source.end.port; payload = payload } ∷ [] ≡ capture_at end name x whole (p ∷ [])
+    got way = sym (seen is ∙ ap (λ (w : Dir). captured name w p.datagram ∷ []) way ∙ ap (λ (d : Datagram). d ∷ []) (came_in name p place source target payload fed))
+
+-- these are what a datagram that was fed as this note has in the end's capture
+abbrev pub ShowsNote : End → Notes → Noted → List Datagram → Type 0
+ShowsNote end t n ds = (name : Naming) (p : Placed) (placed : List Placed) → AreEndsAfter t.ends placed → t.ends.number ≡ t.transfer.number
+    → IsFed name p n.held.place n.held.source n.held.target n.held.payload → ds ≡ capture_at end name t.transfer placed (p ∷ [])
+
+-- these are what the first of the notes have in the end's capture
+abbrev pub ShowsNotes : End → Notes → ℕ → List Datagram → Type 0
+ShowsNotes end t count ds = (name : Naming) (placed : List Placed) → AreNotesAfter t name placed
+    → ds ≡ capture_at end name t.transfer placed (take count (reverse (filter (is_about t.transfer.number) placed)))

@@ -1,0 +1,22 @@
+use Rattle.std.proofs.Common.{◌≡◌, ◌≤◌, ◌++◌, ℕ, List, All, Option, false, take, reverse}
+use Rattle.std.specs.Prelude.{filter}
+use Rattle.tftp_capture.specs.CaptureText.{Header}
+use Rattle.tftp_capture.specs.Commented.{Entry, said_in}
+use Rattle.tftp_capture.specs.Written.{HasWrittenHosts}
+use Rattle.tftp_transfers.specs.Places.{Placed}
+use Rattle.tftp_transfers.specs.Views.{is_about}
+use Rattle.tftp_views.specs.Captured.{Naming}
+use Rattle.tftp_texts.specs.Kept.{AreNotesAfter}
+use Rattle.tftp_texts.specs.Views.{HasComment, capture_at}
+use Rattle.tftp_texts.proofs.transfer_text.TransferText.write.Given as goal
+
+abbrev pub invariant-loop-noted : goal.invariant-loop-noted
+invariant-loop-noted g l = record {
+  clean : l.writer.1 ≡ false;
+  fresh : l.capture.failed ≡ false;
+  counted : l.capture.count ≤ l.noted-index;
+  written : (start : Option (List ℕ)) (header : Header) (entries : List Entry) → HasWrittenHosts start (g.W.Write.contents l.initial.writer.0) l.initial.capture header entries
+      → (more : List Entry) × HasWrittenHosts start (g.W.Write.contents l.writer.0) l.capture header (entries ++ more) × All HasComment more
+      × ((name : Naming) (placed : List Placed) → AreNotesAfter l.self name placed
+      → said_in more ≡ capture_at l.end name l.self.transfer placed (take l.noted-index (reverse (filter (is_about l.self.transfer.number) placed))));
+}

@@ -1,0 +1,29 @@
+//! Laws of the definitions in `specs/`. Each is the contract of a function that does nothing.
+
+ghost use Rattle.std.specs.Prelude.{◌≡◌, ◌^◌, ◌≤◌, ℕ, List, Result, All, length, reverse};
+ghost use Rattle.tftp_capture.specs.CaptureText.{IsCapture, IsLawful, IsPort, Numbered};
+ghost use Rattle.tftp_ends.specs.CaptureText.{Datagram, Header};
+ghost use Rattle.tftp_ends.specs.Meaning.{Meaning};
+ghost use Rattle.tftp_judge.specs.TextVerdict.{IsTextVerdict, unnumbered};
+ghost use Rattle.tftp_judge.specs.Verdict.{IsSaid, IsVerdict};
+ghost use Rattle.tftp_judge.specs.declared.refusal.Refusal.{Refusal};
+ghost use Rattle.tftp_packet.specs.declared.kinds.End.TheVariants.{Client, Server};
+ghost use Rattle.tftp_transfers.specs.Places.{Placed};
+ghost use Rattle.tftp_transfers.specs.declared.place.Transfer.{Transfer};
+ghost use Rattle.tftp_views.specs.Captured.{Naming, client_capture, server_capture};
+ghost use Rattle.tftp_views.specs.Judged.{of_text};
+ghost use Rattle.tftp_texts.specs.Views.{IsTextOf, capture_at};
+
+/// A text of datagrams that can stand in one is a capture of just these; and what there is to say of them is its verdict.
+pub fn a_text_of_datagrams_is_their_capture()
+    ensures read { (text : List ℕ) (h : Header) (given : List Datagram) → IsTextOf text h given → IsPort h.service → All IsLawful (reverse given) → length text ≤ 2 ^ 40
+        → (datagrams : List Numbered) × IsCapture text h datagrams × (unnumbered datagrams ≡ reverse given) }
+    ensures verdict { (text : List ℕ) (h : Header) (given : List Datagram) → IsTextOf text h given → IsPort h.service → All IsLawful (reverse given) → length text ≤ 2 ^ 40
+        → (said : Result Meaning Refusal) → IsSaid said → IsVerdict h (reverse given) said → IsTextVerdict text (of_text said) }
+{}
+
+/// What stands in the text of an end is what the judge of that end was given.
+pub fn a_text_has_what_its_judge_was_given()
+    ensures client { (name : Naming) (x : Transfer) (whole part : List Placed) → capture_at Client name x whole part ≡ client_capture name x part }
+    ensures server { (name : Naming) (x : Transfer) (whole part : List Placed) → capture_at Server name x whole part ≡ server_capture name x whole part }
+{}

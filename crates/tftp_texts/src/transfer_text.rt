@@ -1,0 +1,250 @@
+//! The datagrams of one transfer, kept for its capture text.
+
+ghost use Rattle.std.specs.Prelude.{◌≡◌, ◌+◌, ◌^◌, ◌<◌, ◌≤◌, ◌∷◌, ◌++◌, ℕ, List, [], All, Option, filter, length, IfSome, OnErr, OnOk, None, Ok, true, false};
+ghost use Rattle.std.specs.Io.KnownBytes.{Appends};
+ghost use Rattle.tftp_capture.specs.CaptureText.{Header as HeaderParts, IsPort};
+ghost use Rattle.tftp_capture.specs.Commented.{Entry, said_in};
+ghost use Rattle.tftp_capture.specs.Written.{HasWrittenHosts};
+ghost use Rattle.tftp_packet.specs.declared.kinds.Dir.TheVariants.{In, Out};
+ghost use Rattle.tftp_transfers.specs.Kept.{AreEndsAfter};
+ghost use Rattle.tftp_transfers.specs.Places.{Placed};
+ghost use Rattle.tftp_transfers.specs.Views.{is_about, is_end, server_of};
+ghost use Rattle.tftp_views.specs.Captured.{Naming};
+ghost use Rattle.tftp_views.specs.Kept.{IsFed};
+ghost use Rattle.tftp_texts.specs.Kept.{AreNotesAfter, CanBeWritten};
+ghost use Rattle.tftp_texts.specs.Views.{HasComment, IsTextOf, capture_at, captured_at, header_at, is_seen, way_at};
+
+use crate::comment::Comment;
+use crate::noted::Noted;
+use std::alloc::{AllocError, Global};
+use std::io::Write;
+use std::marker::Model;
+use tftp_capture::{Header, HostCaptureWriter, Tallied, WriteFault};
+use tftp_packet::{Bytes, Dir, End};
+use tftp_transfers::{Endpoint, Place, Transfer, TransferEnds};
+use tftp_views::{Held, Party};
+
+/// The most datagrams that are kept.
+const MOST: usize = 1 << 40;
+
+/// The datagrams of one transfer (RFC 1350, section 2), fed with a recording from its first datagram to its last, for the
+/// capture text of either end.
+#[derive(Drop)]
+pub struct TransferText {
+    transfer: Transfer,
+    ends: TransferEnds,
+    noted: Vec<Noted>,
+}
+
+impl Model for TransferText {
+    ghost use Rattle.std.specs.Prelude.{◌≡◌, ◌^◌, ◌≤◌, All, vec_len};
+    ghost use Rattle.tftp_capture.specs.CaptureText.{IsPort};
+    ghost use Rattle.tftp_texts.specs.Kept.{CanBeWritten, Notes};
+
+    ghost Value = { Notes };
+
+    ghost view = { λ t. record { transfer = t.transfer; ends = t.ends; noted = t.noted.items } };
+
+    ghost invariant = { λ t. (t.ends.number ≡ t.transfer.number) × IsPort t.transfer.asked.port × (vec_len t.noted ≤ 2 ^ 40) × All CanBeWritten t.noted.items };
+}
+
+impl TransferText {
+    /// Of this transfer, before any datagram; of none whose request went to port 0, as no datagram does (RFC 768).
+    pub fn new(alloc: Global, transfer: Transfer) -> Option<Self>
+        ensures after { (name : Naming) → IfSome result (λ t. AreNotesAfter t name []) }
+        ensures transfer { IfSome result (λ t. t.transfer ≡ transfer) }
+        ensures none { result ≡ None → transfer.asked.port ≡ 0 }
+    {
+        if transfer.asked.port == 0 {
+            return None;
+        }
+        Some(TransferText {
+            transfer,
+            ends: TransferEnds::new(transfer.number),
+            noted: Vec::new(alloc),
+        })
+    }
+
+    /// The transfer whose text it is.
+    pub fn transfer(&self) -> Transfer
+        ensures { result ≡ self.now.transfer }
+    {
+        self.transfer
+    }
+
+    /// Takes the next datagram of the recording, of this transfer or of another, which belongs there, with its comment.
+    /// Where there is no memory for it, it was not taken.
+    pub fn note(
+        &mut self,
+        alloc: Global,
+        place: &Place,
+        source: &Party,
+        target: &Party,
+        payload: &[u8],
+        comment: Comment,
+    ) -> Result<(), AllocError>
+        requires source { IsPort source.now.end.port }
+        requires target { IsPort target.now.end.port }
+        requires short { length payload.now ≤ 65527 }
+        ensures after { (name : Naming) (p : Placed) (older : List Placed) → AreNotesAfter self.old name older
+            → IsFed name p place.now source.now target.now payload.now → OnOk result (AreNotesAfter self.new name (p ∷ older)) }
+        ensures others { (p : Placed) → place.now ≡ p.place → is_about self.old.transfer.number p ≡ false → (result ≡ Ok tt) × (self.new ≡ self.old) }
+        ensures same { OnErr result (self.new ≡ self.old) }
+        ensures transfer { self.new.transfer ≡ self.old.transfer }
+    {
+        if !self.ends.is_about(place) {
+            return Ok(());
+        }
+        self.keep(alloc, place, source, target, payload, comment)
+    }
+
+    /// Keeps one of the transfer's datagrams.
+    fn keep(
+        &mut self,
+        alloc: Global,
+        place: &Place,
+        source: &Party,
+        target: &Party,
+        payload: &[u8],
+        comment: Comment,
+    ) -> Result<(), AllocError>
+        requires source { IsPort source.now.end.port }
+        requires target { IsPort target.now.end.port }
+        requires short { length payload.now ≤ 65527 }
+        ensures after { (name : Naming) (p : Placed) (older : List Placed) → AreNotesAfter self.old name older
+            → IsFed name p place.now source.now target.now payload.now → is_about self.old.transfer.number p ≡ true
+            → OnOk result (AreNotesAfter self.new name (p ∷ older)) }
+        ensures same { OnErr result (self.new ≡ self.old) }
+        ensures transfer { self.new.transfer ≡ self.old.transfer }
+    {
+        if self.noted.len() >= MOST {
+            return Err(AllocError);
+        }
+        let bytes = Bytes::of(Vec::from_slice(alloc, payload)?);
+        self.noted.push(Noted {
+            held: Held {
+                place: *place,
+                source: *source,
+                target: *target,
+                payload: bytes,
+            },
+            comment,
+        })?;
+        self.ends.note(place, source.end, target.end, payload);
+        Ok(())
+    }
+
+    /// Writes the text of an end, with a comment after its header and one before each datagram.
+    pub fn write<W: Write>(
+        &self,
+        alloc: Global,
+        writer: &mut Tallied<W>,
+        end: End,
+        heading: &Comment,
+    ) -> Result<(), WriteFault>
+        requires clean { writer.old.1 ≡ false }
+        ensures written { (name : Naming) (placed : List Placed) → AreNotesAfter self.now name placed
+            → OnOk result ((text : List ℕ) × Appends (W.contents writer.old.0) (W.contents writer.new.0) text
+            × IsTextOf text (header_at end self.now.transfer) (capture_at end name self.now.transfer placed placed)) }
+        ensures failed { OnErr result (writer.new.1 ≡ true) }
+    {
+        let header = Header {
+            named: end,
+            service: self.transfer.asked.port,
+        };
+        let mut capture = HostCaptureWriter::begin(alloc, writer, &header)?;
+        capture.comment(writer, heading.words())?;
+        for noted in self.noted.iter() {
+            self.put(writer, &mut capture, end, noted)?;
+        }
+        capture.close(writer)
+    }
+
+    /// Writes a datagram with its comment, if it is in the end's view.
+    fn put<W: Write>(
+        &self,
+        writer: &mut Tallied<W>,
+        capture: &mut HostCaptureWriter,
+        end: End,
+        noted: &Noted,
+    ) -> Result<(), WriteFault>
+        requires clean { writer.old.1 ≡ false }
+        requires fresh { capture.old.failed ≡ false }
+        requires few { capture.old.count < 2 ^ 40 }
+        requires whole { CanBeWritten noted.now }
+        ensures clean { OnOk result (writer.new.1 ≡ false) }
+        ensures fresh { OnOk result (capture.new.failed ≡ false) }
+        ensures counted { OnOk result (capture.new.count ≤ capture.old.count + 1) }
+        ensures failed { OnErr result (writer.new.1 ≡ true) }
+        ensures written { (start : Option (List ℕ)) (header : HeaderParts) (entries : List Entry)
+            → HasWrittenHosts start (W.contents writer.old.0) capture.old header entries
+            → OnOk result ((more : List Entry) × HasWrittenHosts start (W.contents writer.new.0) capture.new header (entries ++ more) × All HasComment more
+            × ((name : Naming) (p : Placed) (placed : List Placed) → AreEndsAfter self.now.ends placed → self.now.ends.number ≡ self.now.transfer.number
+            → IsFed name p noted.now.held.place noted.now.held.source noted.now.held.target noted.now.held.payload
+            → said_in more ≡ capture_at end name self.now.transfer placed (p ∷ []))) }
+    {
+        let (place, source, target) = (&noted.held.place, &noted.held.source, &noted.held.target);
+        if !self.is_seen(end, place, source.end, target.end) {
+            return Ok(());
+        }
+        capture.comment(writer, noted.comment.words())?;
+        let payload = noted.held.payload.as_slice();
+        if self.goes_out(end, place, source.end) {
+            let (local, remote) = (source.end.port, target.end.port);
+            capture.put(writer, Dir::Out, local, &target.host, remote, payload)
+        } else {
+            let (local, remote) = (target.end.port, source.end.port);
+            capture.put(writer, Dir::In, local, &source.host, remote, payload)
+        }
+    }
+
+    /// Whether a datagram that belongs there is in the end's view.
+    fn is_seen(&self, end: End, place: &Place, source: Endpoint, target: Endpoint) -> bool
+        ensures { (placed : List Placed) (p : Placed) → AreEndsAfter self.now.ends placed → place.now ≡ p.place
+            → p.datagram.source ≡ source → p.datagram.target ≡ target → result ≡ is_seen end self.now.ends.number placed p }
+    {
+        match end {
+            End::Client => self.ends.is_at_client(place),
+            End::Server => self.ends.is_at_server(place, source, target),
+        }
+    }
+
+    /// Whether the end sent it.
+    fn goes_out(&self, end: End, place: &Place, source: Endpoint) -> bool
+        ensures yes { (placed : List Placed) (p : Placed) → AreEndsAfter self.now.ends placed → self.now.ends.number ≡ self.now.transfer.number
+            → place.now ≡ p.place → p.datagram.source ≡ source → result ≡ true → way_at end self.now.transfer placed p ≡ Out }
+        ensures no { (placed : List Placed) (p : Placed) → AreEndsAfter self.now.ends placed → self.now.ends.number ≡ self.now.transfer.number
+            → place.now ≡ p.place → p.datagram.source ≡ source → result ≡ false → way_at end self.now.transfer placed p ≡ In }
+    {
+        match end {
+            End::Client => source == self.transfer.client,
+            End::Server => self.server_sent(place, source),
+        }
+    }
+
+    /// Whether the server sent it: of a talk what the client did not, of what passed beside what came from there.
+    fn server_sent(&self, place: &Place, source: Endpoint) -> bool
+        ensures yes { (placed : List Placed) (p : Placed) → AreEndsAfter self.now.ends placed → self.now.ends.number ≡ self.now.transfer.number
+            → place.now ≡ p.place → p.datagram.source ≡ source → result ≡ true → way_at End.Server self.now.transfer placed p ≡ Out }
+        ensures no { (placed : List Placed) (p : Placed) → AreEndsAfter self.now.ends placed → self.now.ends.number ≡ self.now.transfer.number
+            → place.now ≡ p.place → p.datagram.source ≡ source → result ≡ false → way_at End.Server self.now.transfer placed p ≡ In }
+    {
+        match place {
+            Place::Talks(_) => source != self.transfer.client,
+            Place::Beside(_) => self.is_server(source),
+            Place::Opens(_) => false,
+            Place::Repeats(_) => false,
+            Place::Apart(_) => false,
+            Place::Nowhere => false,
+        }
+    }
+
+    fn is_server(&self, end: Endpoint) -> bool
+        ensures { (placed : List Placed) → AreEndsAfter self.now.ends placed → result ≡ is_end end (server_of self.now.ends.number placed) }
+    {
+        match self.ends.server() {
+            None => false,
+            Some(server) => end == server,
+        }
+    }
+}
