@@ -18,9 +18,9 @@ TESTS = {
     "tftp_tests": (
         *("packets::", "netascii::", "agreements::", "stores::", "states::", "ports::", "recordings::", "copies::"),
         *("captures::texts_", "captures::faults::tr", "captures::a_read_is_written", "captures::bytes_are_gathered"),
-        *("captures::hosts::a_read_with_its_hosts_is_written",),
+        *("captures::hosts::a_read_with_its_hosts_is_written", "captures::hosts::a_comment_is_written"),
+        "judges::a_read_is_accepted",
     ),
-    "tftp_judge_tests": ("judges::a_read_is_accepted",),
 }
 # A test that takes more growths than these is tried with as many, spread over all of them.
 MOST = 200

@@ -71,7 +71,8 @@ def try_examples(trial: Trial, program: str) -> None:
     trial.check("the frame of a refused datagram", rows[2] == wanted_row and status == 1, rows)
     output, _, status = said(program, ["text", "3", "client", str(session)], b"")
     lines = output.splitlines()
-    trial.check("a text's head", lines[0] == "tftp-capture 2" and lines[2:4] == ["end client", "service 69"], lines[:4])
+    trial.check("a text's header", lines[:3] == ["tftp-capture 2", "end client", "service 69"], lines[:4])
+    trial.check("which transfer a text is of", lines[3].startswith("# transfer 3 of '"), lines[:4])
     named = [line.split()[2] for line in lines if line.startswith("# frame ")]
     trial.check("a text's frames", named == ["15", "16", "17"] and status == 0, named)
 

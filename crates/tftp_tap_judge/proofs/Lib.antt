@@ -4,3 +4,7 @@ mod OwnFound
 mod Lateness
 mod StopsNoted
 mod NotesAfter
+mod Receivings
+mod TransferFound
+mod KeptLawful
+mod KeeperFound

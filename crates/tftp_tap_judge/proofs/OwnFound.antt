@@ -37,7 +37,7 @@ pub asked_there : (s : TapSides) (passed : List TapDatagram) (asked : RequestPar
 asked_there s passed asked (d, is, t) = let there = first_holds (tap_tests s).asks passed d is in any_of (tap_tests s).asks passed d there.1 there.0
 
 module _ (s : TapSides) (apart : AreApart s) (passed : List TapDatagram) (asked : RequestParts) (first : FirstTapAsked s passed asked) (route : TapRoute) (d : TapDatagram) (e : End) (source : d.source ≡ side_of s e) (m : Message) (says : Spells d.payload m) where
-  other_error : (n : Message) → Spells d.payload n → IsOtherError s passed e n → OtherError s passed d
+  pub other_error : (n : Message) → Spells d.payload n → IsOtherError s passed e n → OtherError s passed d
   other_error (Message.Error code text) t (other, words, before, differs) = record {
     end = e;
     source = source;

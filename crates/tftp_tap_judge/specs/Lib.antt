@@ -1,2 +1,4 @@
 pub mod TapSeen
 pub mod TapFinds
+pub mod TapKept
+pub mod TapStops

@@ -1,9 +1,18 @@
-//! Towards the judge of captures that were taken between the two ends: what a datagram breaks by itself, apart from what the end
-//! that gets the file would find.
+//! The judge of captures that were taken between the two ends: which datagrams are lawful there one by one, and what they mean.
 #![tactic(auto)]
 
+mod datagram;
 mod errors;
+mod judging;
+mod keeping;
 mod notes;
+mod receiving;
+mod refusal;
 mod seen;
+mod stop;
+mod transfer;
 
+pub use datagram::TapDatagram;
+pub use judging::TapJudge;
 pub use notes::TapNotes;
+pub use refusal::TapRefusal;

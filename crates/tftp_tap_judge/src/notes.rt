@@ -5,8 +5,6 @@ ghost use Rattle.tftp_packet.specs.Message.{Message};
 ghost use Rattle.tftp_packet.specs.Meaning.{meaning};
 ghost use Rattle.tftp_packet.specs.Spelling.{Spells};
 ghost use Rattle.tftp_packet.specs.declared.kinds.End.{End as Who};
-ghost use Rattle.tftp_packet.specs.declared.kinds.Side.{Side as Way};
-ghost use Rattle.tftp_ends.specs.Roles.{receiver_of};
 ghost use Rattle.tftp_tap.specs.TapCapture.{TapDatagram, TapSides, side_of, AreApart};
 ghost use Rattle.tftp_tap.specs.TapOrder.{before_error};
 ghost use Rattle.tftp_tap.specs.TapRoutes.{tap_tests};
@@ -17,6 +15,7 @@ ghost use Rattle.tftp_tap_judge.specs.TapFinds.{FindsRule, IsOtherError, IsReadO
 
 use crate::errors::StoppedEnd;
 use crate::seen::{Marks, Seen};
+use crate::transfer::receiver_of_file;
 use std::alloc::{AllocError, Global};
 use std::marker::Model;
 use tftp_judge::is_wrong_kind;
@@ -220,14 +219,4 @@ fn keep_first(
         *stopped = Some(StoppedEnd::by(alloc, code, message, before)?);
     }
     Ok(())
-}
-
-/// The end that gets the file (RFC 1350, section 1).
-fn receiver_of_file(side: Side) -> End
-    ensures { result ≡ receiver_of side }
-{
-    match side {
-        Side::Get => End::Client,
-        Side::Put => End::Server,
-    }
 }

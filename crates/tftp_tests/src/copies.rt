@@ -1,5 +1,6 @@
 //! Which packets are told to be copies.
 
+use std::alloc::AllocError;
 use std::test::Fail;
 use tftp_copies::Recent;
 
@@ -19,6 +20,16 @@ const TAKEN: &[Taken] = &[
     (Some(4_001_000), b"", false),
 ];
 
+/// Takes a packet. It promises nothing.
+fn take_once(
+    rt: &HostRuntime,
+    recent: &mut Recent,
+    time: Option<u64>,
+    bytes: &[u8],
+) -> Result<bool, AllocError> {
+    recent.take(rt.alloc(), time, bytes)
+}
+
 /// Takes a packet. Where a growth is refused nothing may have changed, and it is taken again.
 fn take(
     rt: &HostRuntime,
@@ -26,9 +37,9 @@ fn take(
     time: Option<u64>,
     bytes: &[u8],
 ) -> Result<bool, Fail> {
-    match recent.take(rt.alloc(), time, bytes) {
+    match take_once(rt, recent, time, bytes) {
         Ok(copy) => Ok(copy),
-        Err(_) => Ok(recent.take(rt.alloc(), time, bytes)?),
+        Err(_) => Ok(take_once(rt, recent, time, bytes)?),
     }
 }
 

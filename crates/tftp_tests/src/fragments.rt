@@ -324,9 +324,14 @@ fn waiting_of(rt: &HostRuntime, fragments: &mut Fragments) -> Result<u32, Fail> 
     Ok(waiting)
 }
 
+/// The packet that has waited for the longest, and its frames. It promises nothing.
+pub fn let_go_any(fragments: &mut Fragments) -> Option<(Key, Vec<u64>)> {
+    fragments.let_go_any()
+}
+
 /// Whether the packet that has waited for the longest has this number, and one frame of the same.
 fn goes_next(fragments: &mut Fragments, id: u64) -> bool {
-    match fragments.let_go_any() {
+    match let_go_any(fragments) {
         Some((key, frames)) => u64::from(key.id) == id && frames.as_slice() == [id].as_slice(),
         None => false,
     }
@@ -342,7 +347,7 @@ fn no_more_than_64_mb_wait(rt: HostRuntime) -> Result<(), Fail> {
             return Err(Fail::from(id));
         }
     }
-    if waiting == 510 && fragments.let_go_any().is_none() {
+    if waiting == 510 && let_go_any(&mut fragments).is_none() {
         Ok(())
     } else {
         Err(Fail::from(waiting))

@@ -1,5 +1,5 @@
-//! Tests of the public calls of the libraries below the judge, in a module for each library, and nothing else. They
-//! stand here so that no library is proved a second time for its tests.
+//! Tests of the public calls of the libraries, of the judge, of the verdicts on texts and of the commands, and nothing
+//! else. They stand here so that no library is proved a second time for its tests.
 #![tactic(auto)]
 
 #[cfg(test)]
@@ -7,9 +7,15 @@ mod agreements;
 #[cfg(test)]
 mod captures;
 #[cfg(test)]
+mod cases;
+#[cfg(test)]
+mod commands;
+#[cfg(test)]
 mod copies;
 #[cfg(test)]
 mod fragments;
+#[cfg(test)]
+mod judges;
 #[cfg(test)]
 mod netascii;
 #[cfg(test)]
@@ -19,8 +25,12 @@ mod ports;
 #[cfg(test)]
 mod recordings;
 #[cfg(test)]
+mod scripts;
+#[cfg(test)]
 mod states;
 #[cfg(test)]
 mod stores;
+#[cfg(test)]
+mod verdicts;
 #[cfg(test)]
 mod views;

@@ -2,12 +2,12 @@
 
 ghost use Rattle.tftp_packet.specs.Meaning.{HasStringMessage};
 
-use crate::views::{is_same, is_so, oack_of, owned_request_of, request_of};
+use crate::views::{is_same, is_so, oack_of, owned_request_of, packet_of, request_of};
 use std::alloc::AllocError;
 use std::test::Fail;
 use tftp_packet::{
     Bytes, Host, Mode, Options, OptionsView, Packet, PacketFault, Request, RequestView, Side,
-    Value, opcode, own_options, read_packet, same_options, same_request, write_oack, write_packet,
+    Value, opcode, own_options, same_options, same_request, write_oack, write_packet,
     write_request,
 };
 
@@ -24,53 +24,41 @@ const CAPITALS: &[u8] = b"\x00\x06WINDOWSIZE\x004\x00BLKSIZE\x0008\x00";
 
 /// The fault of a payload, where it has one.
 fn fault_of(payload: &[u8]) -> Option<PacketFault> {
-    match read_packet(payload) {
-        Ok(_) => None,
-        Err(fault) => Some(fault),
+    packet_of(payload).err()
+}
+
+/// A packet without options: its opcode, its block or code, and its bytes or message.
+type Parts<'a> = (u16, u16, &'a [u8]);
+
+/// The parts that a payload spells; none of another packet.
+fn parts_of(payload: &[u8]) -> Option<Parts<'_>> {
+    match packet_of(payload) {
+        Ok(Packet::Data { block, bytes }) => Some((3, block, bytes)),
+        Ok(Packet::Ack { block }) => Some((4, block, b"")),
+        Ok(Packet::Error { code, message }) => Some((5, code, message)),
+        _ => None,
     }
 }
 
-/// Whether a payload is a DATA of this block with these bytes.
-fn is_data(payload: &[u8], number: u16, content: &[u8]) -> bool {
-    match read_packet(payload) {
-        Ok(Packet::Data { block, bytes }) => block == number && bytes == content,
-        _ => false,
-    }
-}
-
-/// Whether a payload is an ERROR of this code with this message.
-fn is_error(payload: &[u8], number: u16, text: &[u8]) -> bool {
-    match read_packet(payload) {
-        Ok(Packet::Error { code, message }) => code == number && message == text,
-        _ => false,
-    }
-}
-
-/// Whether a payload is an ACK of this block.
-fn is_ack(payload: &[u8], number: u16) -> bool {
-    match read_packet(payload) {
-        Ok(Packet::Ack { block }) => block == number,
-        _ => false,
-    }
-}
+/// Payloads, and their parts.
+const PARTS: &[(&[u8], Parts<'static>)] = &[
+    (b"\x00\x03\x00\x01", (3, 1, b"")),
+    (b"\x00\x05\x00\x05\x00", (5, 5, b"")),
+    (b"\x00\x04\x01\x02", (4, 258, b"")),
+];
 
 /// How many options an OACK has.
 fn count_of(payload: &[u8]) -> Result<usize, Fail> {
     Ok(oack_of(payload)?.len())
 }
 
-/// Whether a payload has this opcode.
-fn has_opcode(payload: &[u8], number: u16) -> bool {
-    opcode(payload) == number
-}
-
 #[test]
 fn reads_each_kind(_rt: HostRuntime) -> Result<(), Fail> {
-    is_so(is_data(b"\x00\x03\x00\x01", 1, b""), "DATA")?;
-    is_so(is_error(b"\x00\x05\x00\x05\x00", 5, b""), "ERROR")?;
-    is_so(is_ack(b"\x00\x04\x01\x02", 258), "ACK")?;
+    for (payload, parts) in PARTS {
+        is_so(parts_of(*payload) == Some(*parts), "other parts")?;
+    }
     is_so(count_of(b"\x00\x06")? == 0, "OACK")?;
-    is_so(has_opcode(b"\x00\x06", 6), "opcode")
+    is_so(opcode(b"\x00\x06") == 6, "opcode")
 }
 
 /// Whether this reads a file without a name, in octet mode and without options.

@@ -8,13 +8,18 @@ use tftp_packet::{Dir, End, Host};
 /// opcode; and what is answered.
 type Row = (Dir, u16, &'static [u8], u16, u16, Result<Route, PortFault>);
 
-/// Asks where a datagram belongs, and again where a growth was refused: nothing may have changed.
-fn class(
+/// Asks where a datagram belongs. It promises nothing.
+fn class_once(
     ports: &mut Ports,
-    (dir, local, host, remote, opcode): (Dir, u16, Host, u16, u16),
+    (dir, local, host, remote, opcode): &(Dir, u16, Host, u16, u16),
 ) -> Result<Route, PortFault> {
-    match ports.class(dir, local, host, remote, opcode) {
-        Err(PortFault::Memory) => ports.class(dir, local, host, remote, opcode),
+    ports.class(*dir, *local, *host, *remote, *opcode)
+}
+
+/// Asks so, and again where a growth was refused: nothing may have changed.
+fn class(ports: &mut Ports, datagram: (Dir, u16, Host, u16, u16)) -> Result<Route, PortFault> {
+    match class_once(ports, &datagram) {
+        Err(PortFault::Memory) => class_once(ports, &datagram),
         answer => answer,
     }
 }

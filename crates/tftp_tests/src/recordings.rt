@@ -1,5 +1,6 @@
 //! A recording of twelve frames of raw IP: what became of each, and what was told with it.
 
+use crate::fragments::let_go_any;
 use crate::views::is_so;
 use std::test::Fail;
 use tftp_capture::{DripReader, Tallied};
@@ -156,7 +157,7 @@ fn waiting_of(rt: &HostRuntime, reading: Reading<'_>) -> Result<Vec<u64>, Fail> 
     let mut waiting = frames.into_waiting();
     let mut missing = Vec::new(rt.alloc());
     for _ in 0..3 {
-        if let Some((_, gone)) = waiting.let_go_any() {
+        if let Some((_, gone)) = let_go_any(&mut waiting) {
             missing.extend_from_slice(gone.as_slice())?;
         }
     }

@@ -1,7 +1,7 @@
 //! The states of the two ends, on each of the two stores by the same steps.
 
-ghost use Rattle.std.specs.Prelude.{OnOk};
-ghost use Rattle.tftp_ends.specs.States.{Fits, MaySend};
+ghost use Rattle.std.specs.Prelude.{◌≤◌, OnOk};
+ghost use Rattle.tftp_ends.specs.States.{Fits, MayAcknowledge, MaySend};
 
 use std::alloc::AllocError;
 use std::test::Fail;
@@ -106,9 +106,16 @@ fn take<D: Delivered>(
     Err(Fail::from(AllocError))
 }
 
+/// Whether an ACK may come in. It promises no more than `got_ack` wants.
+fn may_hear<D: Delivered>(sender: &SenderState<D>, number: u16) -> Result<(), EndFault>
+    ensures { OnOk result (number ≤ sender.now.usable_top) }
+{
+    sender.may_ack(number)
+}
+
 /// Notes an ACK that may come in.
 fn hear<D: Delivered>(sender: &mut SenderState<D>, number: u16) -> Result<(), Fail> {
-    match sender.may_ack(number) {
+    match may_hear(sender, number) {
         Ok(()) => {
             sender.got_ack(number);
             Ok(())
@@ -117,9 +124,16 @@ fn hear<D: Delivered>(sender: &mut SenderState<D>, number: u16) -> Result<(), Fa
     }
 }
 
+/// Whether an ACK may go out. It promises no more than `sent_ack` wants.
+fn may_acknowledge<D: Delivered>(receiver: &ReceiverState<D>, number: u16) -> Result<(), EndFault>
+    ensures { OnOk result (MayAcknowledge receiver.now number) }
+{
+    receiver.may_ack(number)
+}
+
 /// Notes an ACK that may go out.
 fn acknowledge<D: Delivered>(receiver: &mut ReceiverState<D>, number: u16) -> Result<(), Fail> {
-    match receiver.may_ack(number) {
+    match may_acknowledge(receiver, number) {
         Ok(()) => {
             receiver.sent_ack(number);
             Ok(())
@@ -136,11 +150,6 @@ fn has_block<D: Delivered>(store: &D, number: u16, bytes: &[u8]) -> bool {
 /// Whether a store has this front, and so many blocks wait above it.
 fn has_front<D: Delivered>(store: &D, front: u16, pending: usize) -> bool {
     store.front() == front && store.pending() == pending
-}
-
-/// Whether an ACK may come in.
-fn may_hear<D: Delivered>(sender: &SenderState<D>, number: u16) -> Result<(), EndFault> {
-    sender.may_ack(number)
 }
 
 /// Whether a sender answers what is wanted to a step that changes nothing.
@@ -168,11 +177,6 @@ fn sender_holds<D: Delivered>(
         _ => return Ok(sender_answers(sender, step)),
     }
     Ok(true)
-}
-
-/// Whether an ACK may go out.
-fn may_acknowledge<D: Delivered>(receiver: &ReceiverState<D>, number: u16) -> Result<(), EndFault> {
-    receiver.may_ack(number)
 }
 
 /// Whether a receiver answers what is wanted to a step that changes nothing.

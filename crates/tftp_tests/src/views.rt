@@ -2,11 +2,18 @@
 //! `read_packet` and others promise is not read again in each test.
 
 use std::test::Fail;
-use tftp_packet::{OptionsView, Packet, Request, RequestView, own_request, read_packet};
+use tftp_packet::{
+    OptionsView, Packet, PacketFault, Request, RequestView, own_request, read_packet,
+};
+
+/// What a payload spells, or its fault.
+pub fn packet_of(payload: &[u8]) -> Result<Packet<'_>, PacketFault> {
+    read_packet(payload)
+}
 
 /// The request that a payload spells.
 pub fn request_of(payload: &[u8]) -> Result<RequestView<'_>, Fail> {
-    match read_packet(payload) {
+    match packet_of(payload) {
         Ok(Packet::Request(request)) => Ok(request),
         _ => Err(Fail::new("no request")),
     }
@@ -20,7 +27,7 @@ pub fn owned_request_of(rt: &HostRuntime, payload: &[u8]) -> Result<Request, Fai
 
 /// The options of an OACK.
 pub fn oack_of(payload: &[u8]) -> Result<OptionsView<'_>, Fail> {
-    match read_packet(payload) {
+    match packet_of(payload) {
         Ok(Packet::Oack(options)) => Ok(options),
         _ => Err(Fail::new("no OACK")),
     }

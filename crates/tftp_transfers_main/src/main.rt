@@ -9,6 +9,7 @@ mod listing;
 mod notes;
 mod passing;
 mod reading;
+mod reasoned;
 mod reasons;
 mod session;
 mod shown;

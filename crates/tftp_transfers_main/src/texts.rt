@@ -6,6 +6,7 @@ ghost use Rattle.tftp_capture.specs.CaptureText.{IsPort};
 use crate::cells::{put_number, put_plain};
 use crate::passing::{Passing, about};
 use crate::reading::read_file;
+use crate::reasoned::Reasoned;
 use crate::session::Session;
 use crate::shown::shown;
 use crate::teller::{Teller, What};
@@ -120,12 +121,11 @@ fn print_text(
     let Some(heading) = Comment::new(heading_of(rt.alloc(), asked, trail)?) else {
         bail!("the file's name is too long for a text");
     };
-    let mut writer = Tallied::new(io::writer(&rt));
-    let written = text.write(rt.alloc(), &mut writer, asked.end, &heading);
-    if written.is_err() {
-        bail!("the text can't be written");
+    let mut writer = Tallied::new(Reasoned::new(io::writer(&rt)));
+    match text.write(rt.alloc(), &mut writer, asked.end, &heading) {
+        Ok(()) => Ok(()),
+        Err(_) => writer.into_inner().into_error(),
     }
-    Ok(())
 }
 
 /// Which transfer of which file it is, at which end, and who its ends are.

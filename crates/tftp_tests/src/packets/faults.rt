@@ -15,30 +15,18 @@ fn all_have(fault: PacketFault, payloads: &[&[u8]]) -> Result<(), Fail> {
     Ok(())
 }
 
-#[test]
-fn short(_rt: HostRuntime) -> Result<(), Fail> {
-    all_have(
+/// Each fault but that of a request that is too long, with payloads that have it.
+const FAULTS: &[(PacketFault, &[&[u8]])] = &[
+    (
         PacketFault::Short,
         &[b"", b"\x00", b"\x00\x03", b"\x00\x05\x00"],
-    )
-}
-
-#[test]
-fn opcode(_rt: HostRuntime) -> Result<(), Fail> {
-    all_have(PacketFault::Opcode, &[b"\x00\x00", b"\x00\x07"])
-}
-
-#[test]
-fn ack_length(_rt: HostRuntime) -> Result<(), Fail> {
-    all_have(
+    ),
+    (PacketFault::Opcode, &[b"\x00\x00", b"\x00\x07"]),
+    (
         PacketFault::AckLength,
         &[b"\x00\x04", b"\x00\x04\x00\x01\x00"],
-    )
-}
-
-#[test]
-fn no_terminator(_rt: HostRuntime) -> Result<(), Fail> {
-    all_have(
+    ),
+    (
         PacketFault::NoTerminator,
         &[
             b"\x00\x01",
@@ -47,44 +35,32 @@ fn no_terminator(_rt: HostRuntime) -> Result<(), Fail> {
             b"\x00\x05\x00\x05no",
             b"\x00\x05\x00\x05n\x00\x00",
         ],
-    )
-}
-
-#[test]
-fn odd_options(_rt: HostRuntime) -> Result<(), Fail> {
-    all_have(
+    ),
+    (
         PacketFault::OddOptions,
         &[
             b"\x00\x01a\x00octet\x00blksize\x00",
             b"\x00\x01a\x00mail\x00b\x00",
         ],
-    )
-}
-
-#[test]
-fn empty_option_name(_rt: HostRuntime) -> Result<(), Fail> {
-    all_have(
+    ),
+    (
         PacketFault::EmptyOptionName,
         &[b"\x00\x01a\x00octet\x00\x008\x00"],
-    )
-}
-
-#[test]
-fn duplicate_option(_rt: HostRuntime) -> Result<(), Fail> {
-    all_have(
+    ),
+    (
         PacketFault::DuplicateOption,
         &[b"\x00\x01a\x00octet\x00blksize\x008\x00blksize\x008\x00"],
-    )
-}
+    ),
+    (PacketFault::UnknownMode, &[b"\x00\x01a\x00oct\x00"]),
+    (PacketFault::MailMode, &[b"\x00\x01a\x00mail\x00"]),
+];
 
 #[test]
-fn unknown_mode(_rt: HostRuntime) -> Result<(), Fail> {
-    all_have(PacketFault::UnknownMode, &[b"\x00\x01a\x00oct\x00"])
-}
-
-#[test]
-fn mail_mode(_rt: HostRuntime) -> Result<(), Fail> {
-    all_have(PacketFault::MailMode, &[b"\x00\x01a\x00mail\x00"])
+fn payloads_with_a_fault(_rt: HostRuntime) -> Result<(), Fail> {
+    for (fault, payloads) in FAULTS {
+        all_have(*fault, *payloads)?;
+    }
+    Ok(())
 }
 
 #[test]

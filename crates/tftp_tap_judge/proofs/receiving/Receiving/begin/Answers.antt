@@ -1,0 +1,15 @@
+use Rattle.std.proofs.Common.{[], ◌∷◌, false, sym, subst}
+use Rattle.tftp_packet.specs.declared.kinds.End.{End}
+use Rattle.tftp_ends.specs.CaptureText.{Datagram, Header}
+use Rattle.tftp_judge.specs.Kept.{IsJudgeAfter}
+use Rattle.tftp_tap.specs.TapRules.{header_at}
+use Rattle.tftp_tap_judge.specs.TapKept.{IsReceiving}
+use Rattle.tftp_tap_judge.specs.TapStops.{IsRecorded}
+use Rattle.tftp_tap_judge.proofs.Receivings.{header_is, kept_first}
+use Rattle.tftp_tap_judge.proofs.receiving.Receiving.begin.Goals as goal
+
+pub returns-clause-ok : goal.returns-clause-ok
+returns-clause-ok g c = λ s side d apart end service source asks recorded passes.
+    let told = c.in_default.ensures.accepts (header_at s side) [] (subst (λ (h : Header). IsJudgeAfter c.new-judge.result h []) (header_is s side c.args.end c.args.service end service) c.new-judge.ensures) in
+    let after = subst (λ (x : Datagram). IsJudgeAfter c.feed.new.self (header_at s side) (x ∷ [])) (subst (λ (e : End). IsRecorded s e d c.args.request.now) end recorded) told.1 in
+    subst (λ (e : End). IsReceiving (record { judge = c.feed.new.self; end = e; answered = false }) s side (d ∷ [])) (sym end) (kept_first s side d c.feed.new.self apart source asks after)

@@ -1,0 +1,55 @@
+use Rattle.std.proofs.Common.{◌≡◌, ◌∷◌, true, Err, sym, subst, ap, ◌∙◌}
+use Rattle.tftp_packet.specs.Faults.{opcode_of}
+use Rattle.tftp_packet.specs.declared.kinds.End.TheVariants.{Server}
+use Rattle.tftp_ends.specs.CaptureText.{Datagram}
+use Rattle.tftp_ends.specs.Roles.{receiver_of}
+use Rattle.tftp_judge.specs.Finds.{Refuses}
+use Rattle.tftp_judge.specs.Kept.{IsJudgeAfter}
+use Rattle.tftp_law.specs.OneEnded.{Passes}
+use Rattle.tftp_tap.specs.TapOrder.{same_end}
+use Rattle.tftp_tap.specs.TapRules.{header_at, kept_between}
+use Rattle.tftp_tap_judge.specs.TapKept.{IsReceiving, Receiving}
+use Rattle.tftp_tap_judge.specs.TapStops.{FindsTo, ReceiverBreaks}
+use Rattle.tftp_tap_judge.specs.declared.stop.Stop.{Stop}
+use Rattle.tftp_tap_judge.specs.declared.stop.Stop.TheVariants as stop
+use Rattle.tftp_tap_judge.proofs.Receivings.{kept_more, refused_found, refused_takes, recorded_same, said_client, said_server}
+use Rattle.tftp_tap_judge.proofs.receiving.Receiving.pass.Goals as goal
+
+pub returns-in-Err-clause-finds : goal.returns-in-Err-clause-finds
+returns-in-Err-clause-finds g c = λ s side passed d apart is source recorded.
+    let was = subst (λ (r : Receiving). IsReceiving r s side passed) (sym c.self.view_is) is in
+    let opcode = ap opcode_of (recorded_same s (receiver_of side) d _ recorded ∙ sym c.as_slice.ensures) ∙ sym c.opcode.ensures in
+    let stays = c.leaves_out.ensures s side passed d apart is source opcode ∙ c.if-leaves_out.false in
+    let refuses = subst (λ (x : Datagram). Refuses (header_at s side) (kept_between s side passed) x c.in-Err.refusal) recorded (c.in-Err.ensures.refuses (header_at s side) (kept_between s side passed) was.judge) in
+    subst (λ (x : Stop). FindsTo (ReceiverBreaks s side passed d) (Unit {0}) (Err x)) (sym c.stop_of.ensures) (refused_found s side passed d stays c.in-Err.refusal refuses (Unit {0}))
+
+pub returns-in-Err-clause-memory : goal.returns-in-Err-clause-memory
+returns-in-Err-clause-memory g c = λ s side passed d is recorded memory.
+    let was = subst (λ (r : Receiving). IsReceiving r s side passed) (sym c.self.view_is) is in
+    let refuses = subst (λ (x : Datagram). Refuses (header_at s side) (kept_between s side passed) x c.in-Err.refusal) recorded (c.in-Err.ensures.refuses (header_at s side) (kept_between s side passed) was.judge) in
+    let same : c.stop_of.result ≡ stop.Memory = cc in
+    refused_takes s side passed d c.in-Err.refusal refuses (sym c.stop_of.ensures ∙ same)
+
+pub returns-then-is_server-clause-finds : goal.returns-then-is_server-clause-finds
+returns-then-is_server-clause-finds g c = λ s side passed d apart is source recorded.
+    let was = subst (λ (r : Receiving). IsReceiving r s side passed) (sym c.self.view_is) is in
+    let opcode = ap opcode_of (recorded_same s (receiver_of side) d _ recorded ∙ sym c.as_slice.ensures) ∙ sym c.opcode.ensures in
+    let stays = c.leaves_out.ensures s side passed d apart is source opcode ∙ c.if-leaves_out.false in
+    let told = subst (λ (x : Datagram). Passes (header_at s side) (kept_between s side passed) x × IsJudgeAfter c.feed.new.self (header_at s side) (x ∷ kept_between s side passed)) recorded
+    (c.in_default.ensures.accepts (header_at s side) (kept_between s side passed) was.judge) in (
+      λ rule b. told.0.lawful rule b.1,
+      kept_more s side passed d stays apart c.args.from source (record { judge = c.self.inside.judge; end = c.self.inside.end; answered = c.self.inside.answered }) c.feed.new.self true was told.1
+          (said_server (same_end Server c.args.from) c.self.inside.answered (sym c.is_server.ensures ∙ c.if-is_server.true)),
+    )
+
+pub returns-else-is_server-clause-finds : goal.returns-else-is_server-clause-finds
+returns-else-is_server-clause-finds g c = λ s side passed d apart is source recorded.
+    let was = subst (λ (r : Receiving). IsReceiving r s side passed) (sym c.self.view_is) is in
+    let opcode = ap opcode_of (recorded_same s (receiver_of side) d _ recorded ∙ sym c.as_slice.ensures) ∙ sym c.opcode.ensures in
+    let stays = c.leaves_out.ensures s side passed d apart is source opcode ∙ c.if-leaves_out.false in
+    let told = subst (λ (x : Datagram). Passes (header_at s side) (kept_between s side passed) x × IsJudgeAfter c.feed.new.self (header_at s side) (x ∷ kept_between s side passed)) recorded
+    (c.in_default.ensures.accepts (header_at s side) (kept_between s side passed) was.judge) in (
+      λ rule b. told.0.lawful rule b.1,
+      kept_more s side passed d stays apart c.args.from source (record { judge = c.self.inside.judge; end = c.self.inside.end; answered = c.self.inside.answered }) c.feed.new.self c.self.inside.answered was told.1
+          (said_client (same_end Server c.args.from) c.self.inside.answered (sym c.is_server.ensures ∙ c.if-is_server.false)),
+    )

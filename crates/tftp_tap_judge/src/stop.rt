@@ -1,0 +1,50 @@
+ghost use Rattle.std.specs.Prelude.{◌≡◌};
+ghost use Rattle.tftp_tap_judge.specs.TapStops.{smaller_of, stop_by_refusal};
+
+use std::alloc::AllocError;
+use std::convert::From;
+use tftp_judge::Refusal;
+use tftp_law::Rule;
+
+/// Why a datagram does not pass.
+#[derive(Clone, Copy, Debug, PartialEq, Eq)]
+pub enum Stop {
+    /// The first rule that it breaks.
+    Breaks(Rule),
+    /// A growth was refused.
+    Memory,
+}
+
+impl From<AllocError> for Stop {
+    ghost use Rattle.std.specs.Prelude.{◌≡◌};
+    ghost use Rattle.tftp_tap_judge.specs.declared.stop.Stop.{Stop};
+
+    ghost from_gives = { λ _ stop. stop ≡ Stop.Memory };
+
+    fn from(_error: AllocError) -> Self {
+        Stop::Memory
+    }
+}
+
+/// Why the judge at an end does not go on.
+pub fn stop_of(refusal: Refusal) -> Stop
+    ensures { result ≡ stop_by_refusal refusal }
+{
+    match refusal {
+        Refusal::Unlawful(_, rule) => Stop::Breaks(rule),
+        _ => Stop::Memory,
+    }
+}
+
+/// The smaller of two rules that are the first of their kinds; where there is one of one kind alone, that one.
+pub fn first_of(own: Option<Rule>, found: Result<(), Stop>) -> Result<(), Stop>
+    ensures { result ≡ smaller_of own found }
+{
+    let Some(own) = own else {
+        return found;
+    };
+    match found {
+        Err(Stop::Breaks(other)) if other.number() < own.number() => Err(Stop::Breaks(other)),
+        _ => Err(Stop::Breaks(own)),
+    }
+}

@@ -1,0 +1,137 @@
+ghost use Rattle.std.specs.Prelude.{◌≡◌, ◌+◌, ◌^◌, ◌<◌, ◌≤◌, List, [], ◌∷◌, length, IfErr, IfOk, OnOk, Err};
+ghost use Rattle.tftp_packet.specs.Message.{Message};
+ghost use Rattle.tftp_packet.specs.Meaning.{meaning};
+ghost use Rattle.tftp_packet.specs.Spelling.{Spells};
+ghost use Rattle.tftp_ends.specs.Roles.{receiver_of};
+ghost use Rattle.tftp_law.specs.OneEnded.{Passes};
+ghost use Rattle.tftp_tap.specs.TapCapture.{TapDatagram, TapSides, side_of, AreApart};
+ghost use Rattle.tftp_tap.specs.TapRules.{header_at, recorded_at};
+ghost use Rattle.tftp_tap.specs.declared.route.TapRoute.{TapRoute};
+ghost use Rattle.tftp_tap_judge.specs.TapKept.{IsFirstError, IsTapTransfer};
+ghost use Rattle.tftp_tap_judge.specs.TapSeen.{AreNotes};
+ghost use Rattle.tftp_tap_judge.specs.TapStops.{FindsTo, IsReadUnless, IsRecorded, TakesInTransfer, TransferBreaks};
+ghost use Rattle.tftp_tap_judge.specs.declared.stop.Stop.{Stop as StopKind};
+
+use crate::notes::TapNotes;
+use crate::receiving::Receiving;
+use crate::stop::{Stop, first_of};
+use std::alloc::Global;
+use std::marker::Model;
+use tftp_capture::Datagram;
+use tftp_ends::Delivered;
+use tftp_law::Rule;
+use tftp_packet::{End, Packet, Request, Side, read_packet};
+
+/// A transfer between its ends from its first request on: what was asked for, what the end that gets the file would make of it,
+/// what had passed, and whose ERROR came first.
+#[derive(Drop)]
+pub struct TapTransfer<D: Delivered + Drop> {
+    asked: Request,
+    receiving: Receiving<D>,
+    notes: TapNotes,
+    first_error: Option<(End, u16)>,
+}
+
+impl<D: Delivered + Drop> Model for TapTransfer<D> {
+    ghost use Rattle.std.specs.Coded.{codes};
+    ghost use Rattle.tftp_ends.specs.StatesKept.{sender_code, receiver_code};
+    ghost use Rattle.tftp_packet.specs.Owned.{options_code, parts_code};
+    ghost use Rattle.tftp_tap_judge.specs.TapKept.{TapTransfer};
+
+    ghost Value = { TapTransfer };
+
+    ghost coded = { Prim.hlevel (codes, sender_code, receiver_code, options_code, parts_code) };
+
+    ghost view = { λ t. record {
+      asked = t.asked;
+      receiving = t.receiving;
+      notes = t.notes;
+      first_error = t.first_error;
+    } };
+}
+
+impl<D: Delivered + Drop> TapTransfer<D> {
+    /// The transfer that the client's first request begins, which asks for this, and of which this is noted.
+    pub fn begin(
+        alloc: Global,
+        asked: Request,
+        notes: TapNotes,
+        service: u16,
+        request: &Datagram,
+    ) -> Result<Self, Stop>
+        requires short { length request.now.payload ≤ 65527 }
+        ensures ok { (s : TapSides) (d : TapDatagram) → AreApart s → service ≡ s.asked.port → d.source ≡ s.client
+            → Spells d.payload (Message.Request asked) → AreNotes notes s (d ∷ []) → IsRecorded s (receiver_of asked.side) d request.now
+            → Passes (header_at s asked.side) [] (recorded_at s (receiver_of asked.side) d) → IfOk result (λ transfer. IsTapTransfer transfer s (d ∷ [])) }
+        ensures err { (s : TapSides) (d : TapDatagram) → service ≡ s.asked.port → IsRecorded s (receiver_of asked.side) d request.now
+            → Passes (header_at s asked.side) [] (recorded_at s (receiver_of asked.side) d) → IfErr result (λ stop. stop ≡ StopKind.Memory) }
+        ensures fed { IfOk result (λ transfer. transfer.receiving.judge.fed ≡ 1) }
+    {
+        let receiving = Receiving::begin(alloc, receiver_of_file(asked.side()), service, request)?;
+        Ok(TapTransfer {
+            asked,
+            receiving,
+            notes,
+            first_error: None,
+        })
+    }
+
+    /// The end that gets the file.
+    #[inline]
+    pub fn receiver(&self) -> End
+        ensures { (s : TapSides) (passed : List TapDatagram) → IsTapTransfer self.now s passed → result ≡ receiver_of self.now.asked.side }
+    {
+        self.receiving.end()
+    }
+
+    /// What the next datagram breaks, which comes from this end of the transfer; where it breaks no rule it is kept. The datagram is
+    /// as the end that gets the file would have recorded it.
+    pub fn pass(&mut self, alloc: Global, from: End, datagram: &Datagram) -> Result<(), Stop>
+        requires few { self.old.receiving.judge.fed < 2 ^ 40 }
+        requires short { length datagram.now.payload ≤ 65527 }
+        ensures finds { (s : TapSides) (passed : List TapDatagram) (route : TapRoute) (d : TapDatagram) → AreApart s → IsTapTransfer self.old s passed
+            → d.source ≡ side_of s from → IsRecorded s (receiver_of self.old.asked.side) d datagram.now
+            → FindsTo (TransferBreaks s passed route d) (IsTapTransfer self.new s (d ∷ passed)) result }
+        ensures memory { (s : TapSides) (passed : List TapDatagram) (d : TapDatagram) → IsTapTransfer self.old s passed
+            → d.source ≡ side_of s from → IsRecorded s (receiver_of self.old.asked.side) d datagram.now → result ≡ Err StopKind.Memory
+            → TakesInTransfer s passed d }
+        ensures read { (s : TapSides) (passed : List TapDatagram) (d : TapDatagram) → AreApart s → IsTapTransfer self.old s passed
+            → d.source ≡ side_of s from → IsRecorded s (receiver_of self.old.asked.side) d datagram.now → IsReadUnless result d.payload }
+        ensures fed { OnOk result (self.new.receiving.judge.fed ≤ self.old.receiving.judge.fed + 1) }
+    {
+        let read = read_packet(datagram.payload.as_slice());
+        let own = self.notes.breaks(&self.asked, from, &read);
+        first_of(own, self.receiving.pass(alloc, from, datagram))?;
+        match &read {
+            Ok(packet) => {
+                self.notes.note(alloc, from, packet)?;
+                keep_first_error(&mut self.first_error, from, packet);
+                Ok(())
+            }
+            Err(fault) => Err(Stop::Breaks(Rule::Malformed(*fault))),
+        }
+    }
+}
+
+/// The end that gets the file (RFC 1350, section 1).
+pub fn receiver_of_file(side: Side) -> End
+    ensures { result ≡ receiver_of side }
+{
+    match side {
+        Side::Get => End::Client,
+        Side::Put => End::Server,
+    }
+}
+
+/// Keeps whose ERROR this is and its code, where it is the first one.
+fn keep_first_error(first: &mut Option<(End, u16)>, from: End, packet: &Packet<'_>)
+    ensures { (s : TapSides) (passed : List TapDatagram) (d : TapDatagram) → AreApart s → IsFirstError s passed first.old
+        → d.source ≡ side_of s from → Spells d.payload (meaning packet.now) → IsFirstError s (d ∷ passed) first.new }
+{
+    if first.is_some() {
+        return;
+    }
+    if let Packet::Error { code, .. } = packet {
+        *first = Some((from, *code));
+    }
+}

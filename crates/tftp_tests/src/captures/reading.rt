@@ -1,0 +1,64 @@
+//! A text that is read, and how far.
+
+ghost use Rattle.std.specs.Prelude.{◌≡◌, true};
+ghost use Rattle.tftp_capture.specs.History.{IsReadStanding};
+
+use std::marker::Model;
+use tftp_capture::{CaptureFault, CaptureReader, Datagram, DripReader, Header, Tallied};
+
+/// A text whose header was read. Contracts see nothing of it, so that what the library promises of its readers is read
+/// only here, where it is called.
+#[derive(Drop)]
+pub struct Reading<'a> {
+    reader: Tallied<DripReader<'a>>,
+    capture: CaptureReader,
+}
+
+impl<'a> Model for Reading<'a> {
+    ghost Value = { Unit {0} };
+
+    ghost view = { λ _. tt };
+
+    ghost invariant = { λ a. IsReadStanding a.capture.standing → a.reader.1 ≡ true };
+}
+
+impl<'a> Reading<'a> {
+    /// The fault of a header, and whether a read failed.
+    pub fn begin(rt: &HostRuntime, drip: DripReader<'a>) -> Result<Self, (CaptureFault, bool)> {
+        let mut reader = Tallied::new(drip);
+        match CaptureReader::begin(rt.alloc(), &mut reader) {
+            Ok(capture) => Ok(Reading { reader, capture }),
+            Err(fault) => Err((fault, reader.failed())),
+        }
+    }
+
+    pub fn next(&mut self, rt: &HostRuntime) -> Result<Option<Datagram>, CaptureFault> {
+        self.capture.next(rt.alloc(), &mut self.reader)
+    }
+
+    /// Reads the next datagram into one that is held.
+    pub fn fill(&mut self, held: &mut Datagram) -> Result<bool, CaptureFault> {
+        self.capture.next_into(&mut self.reader, held)
+    }
+
+    pub fn line(&self) -> u64 {
+        self.capture.line()
+    }
+
+    pub fn header(&self) -> Header {
+        *self.capture.header()
+    }
+
+    /// Whether a read failed.
+    pub fn has_failed(&self) -> bool {
+        self.reader.failed()
+    }
+
+    /// The line of the next datagram.
+    pub fn next_line(&mut self, rt: &HostRuntime) -> Result<Option<u64>, CaptureFault> {
+        match self.next(rt)? {
+            Some(_) => Ok(Some(self.line())),
+            None => Ok(None),
+        }
+    }
+}

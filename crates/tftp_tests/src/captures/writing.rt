@@ -1,0 +1,220 @@
+//! A text that is written, of either version.
+
+ghost use Rattle.std.specs.Prelude.{◌≡◌, true, false};
+
+use std::alloc::Global;
+use std::marker::Model;
+use tftp_capture::{CaptureWriter, DripWriter, Header, HostCaptureWriter, Tallied, WriteFault};
+use tftp_packet::{Dir, Host};
+
+/// A datagram by its direction, its port at the named end, the port at the other and its payload.
+pub type Row<'a> = (Dir, u16, u16, &'a [u8]);
+
+/// What was written, the answer, and whether a write failed.
+pub type Written = (DripWriter, Result<(), WriteFault>, bool);
+
+/// What was written when that was answered.
+pub fn written(writer: Tallied<DripWriter>, answer: Result<(), WriteFault>) -> Written {
+    let failed = writer.failed();
+    (writer.into_inner(), answer, failed)
+}
+
+/// A text of version 1 whose header was written. Contracts see nothing of it, so that what the library promises of its
+/// writers is read only here, where it is called.
+#[derive(Drop)]
+pub struct Writing {
+    writer: Tallied<DripWriter>,
+    capture: CaptureWriter,
+    puts: u8,
+}
+
+impl Model for Writing {
+    ghost Value = { Unit {0} };
+
+    ghost view = { λ _. tt };
+
+    ghost invariant = { λ a. (a.capture.failed ≡ true → a.writer.1 ≡ true) × (a.writer.1 ≡ false → a.capture.count ≡ a.puts) };
+}
+
+impl Writing {
+    /// Writes a header of a whole port; what was written where that fails.
+    fn begin(alloc: Global, drip: DripWriter, header: &Header) -> Result<Self, Written> {
+        let mut writer = Tallied::new(drip);
+        if header.service == 0 {
+            return Err(written(writer, Err(WriteFault)));
+        }
+        match CaptureWriter::begin(alloc, &mut writer, header) {
+            Ok(capture) => Ok(Writing {
+                writer,
+                capture,
+                puts: 0,
+            }),
+            Err(fault) => Err(written(writer, Err(fault))),
+        }
+    }
+
+    /// Writes a datagram of whole ports and at most 65,527 bytes, where nothing failed yet.
+    fn put(&mut self, (dir, local, remote, payload): &Row<'_>) -> Result<(), WriteFault> {
+        let is_datagram = *local != 0 && *remote != 0 && payload.len() <= 65_527;
+        if !is_datagram || self.writer.failed() || self.puts == 255 {
+            return Err(WriteFault);
+        }
+        self.capture
+            .put(&mut self.writer, *dir, *local, *remote, *payload)?;
+        self.puts += 1;
+        Ok(())
+    }
+
+    fn put_all(&mut self, rows: &[Row<'_>]) -> Result<(), WriteFault> {
+        for row in rows {
+            self.put(row)?;
+        }
+        Ok(())
+    }
+
+    fn close(self) -> Written {
+        let Writing {
+            mut writer,
+            capture,
+            ..
+        } = self;
+        let answer = capture.close(&mut writer);
+        written(writer, answer)
+    }
+
+    /// Lets the text go as it is.
+    fn leave(self, fault: WriteFault) -> Written {
+        let Writing { writer, .. } = self;
+        written(writer, Err(fault))
+    }
+}
+
+/// Writes a text of version 1 there, as far as nothing fails.
+pub fn write(alloc: Global, drip: DripWriter, header: &Header, rows: &[Row<'_>]) -> Written {
+    match Writing::begin(alloc, drip, header) {
+        Ok(mut writing) => match writing.put_all(rows) {
+            Ok(()) => writing.close(),
+            Err(fault) => writing.leave(fault),
+        },
+        Err(written) => written,
+    }
+}
+
+/// The same of version 2.
+#[derive(Drop)]
+pub struct HostWriting {
+    writer: Tallied<DripWriter>,
+    capture: HostCaptureWriter,
+    puts: u8,
+}
+
+impl Model for HostWriting {
+    ghost Value = { Unit {0} };
+
+    ghost view = { λ _. tt };
+
+    ghost invariant = { λ a. (a.capture.failed ≡ true → a.writer.1 ≡ true) × (a.writer.1 ≡ false → a.capture.count ≡ a.puts) };
+}
+
+impl HostWriting {
+    /// Writes a header of a whole port; what was written where that fails.
+    fn begin(alloc: Global, drip: DripWriter, header: &Header) -> Result<Self, Written> {
+        let mut writer = Tallied::new(drip);
+        if header.service == 0 {
+            return Err(written(writer, Err(WriteFault)));
+        }
+        match HostCaptureWriter::begin(alloc, &mut writer, header) {
+            Ok(capture) => Ok(HostWriting {
+                writer,
+                capture,
+                puts: 0,
+            }),
+            Err(fault) => Err(written(writer, Err(fault))),
+        }
+    }
+
+    /// Writes a datagram of whole ports and at most 65,527 bytes, where nothing failed yet.
+    fn put(
+        &mut self,
+        host: &Host,
+        (dir, local, remote, payload): &Row<'_>,
+    ) -> Result<(), WriteFault> {
+        let is_datagram = *local != 0 && *remote != 0 && payload.len() <= 65_527;
+        if !is_datagram || self.writer.failed() || self.puts == 255 {
+            return Err(WriteFault);
+        }
+        self.capture
+            .put(&mut self.writer, *dir, *local, host, *remote, *payload)?;
+        self.puts += 1;
+        Ok(())
+    }
+
+    fn put_all(&mut self, host: &Host, rows: &[Row<'_>]) -> Result<(), WriteFault> {
+        for row in rows {
+            self.put(host, row)?;
+        }
+        Ok(())
+    }
+
+    /// Writes a comment, and then the datagrams.
+    fn comment_all(
+        &mut self,
+        words: &[u8],
+        host: &Host,
+        rows: &[Row<'_>],
+    ) -> Result<(), WriteFault> {
+        self.capture.comment(&mut self.writer, words)?;
+        self.put_all(host, rows)
+    }
+
+    fn close(self) -> Written {
+        let HostWriting {
+            mut writer,
+            capture,
+            ..
+        } = self;
+        let answer = capture.close(&mut writer);
+        written(writer, answer)
+    }
+
+    /// Lets the text go as it is.
+    fn leave(self, fault: WriteFault) -> Written {
+        let HostWriting { writer, .. } = self;
+        written(writer, Err(fault))
+    }
+}
+
+/// Writes a text of version 2 there, whose datagrams all have this host.
+pub fn write_with_host(
+    alloc: Global,
+    drip: DripWriter,
+    header: &Header,
+    host: &Host,
+    rows: &[Row<'_>],
+) -> Written {
+    match HostWriting::begin(alloc, drip, header) {
+        Ok(mut writing) => match writing.put_all(host, rows) {
+            Ok(()) => writing.close(),
+            Err(fault) => writing.leave(fault),
+        },
+        Err(written) => written,
+    }
+}
+
+/// Writes the same text with a comment before its datagrams.
+pub fn write_with_comment(
+    alloc: Global,
+    drip: DripWriter,
+    header: &Header,
+    words: &[u8],
+    host: &Host,
+    rows: &[Row<'_>],
+) -> Written {
+    match HostWriting::begin(alloc, drip, header) {
+        Ok(mut writing) => match writing.comment_all(words, host, rows) {
+            Ok(()) => writing.close(),
+            Err(fault) => writing.leave(fault),
+        },
+        Err(written) => written,
+    }
+}
