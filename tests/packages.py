@@ -115,7 +115,7 @@ def try_tar(trial: Trial, checkout: Checkout, made: pathlib.Path, program: str) 
         f"commit {checkout.commit()} of 2023-11-14 22:13:20 UTC\n", "proved and built by rattle-kit-0 logic 5a\n",
         f"needs glibc {needs(program)} or later", f"tftp-audit: sha256 {digest}\n",
         f"tftp-transfers: sha256 {digest}\n",
-        "    logic: libraries=1 sum=5a\n    tftp_audit: logic=proved functions=7 sum=5a\n",
+        "tftp-audit:\n    logic: libraries=1 sum=5a\n    tftp_audit: logic=proved functions=7 sum=5a\n",
         "    tftp_transfers_main: logic=proved functions=7 sum=5a\n",
     ):
         trial.check(f"PROVED says {said!r}", said in proved, proved)

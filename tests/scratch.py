@@ -41,6 +41,7 @@ if [ "$1" = ci ]; then
     for crate in tftp_audit tftp_transfers_main; do
         (cd crates/$crate && rm -rf out && build $crate) || exit 1
     done
+    echo "2 passed, 0 failed"
     exit 0
 fi
 crate=$(basename "$PWD")

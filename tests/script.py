@@ -237,7 +237,9 @@ def gates(trial: ScriptTrial, scratch: Scratch) -> None:
     got = scratch.run("--gate")
     told = sorted(line for line in got[1].splitlines() if line.startswith("rt: "))
     is_told = told == ["rt: progress on mended", "rt: progress on other"]
-    trial.check("--gate", is_told and (got[0], *got[2:]) == ("", 0, 0), got)
+    trial.check("--gate", is_told and (got[0], *got[2:]) == ("2 passed, 0 failed\n", 0, 0), got)
+    kept = {path.name: path.read_text() for path in (scratch.top / "out").iterdir()}
+    trial.check("--gate, what rt wrote is kept alone", kept == {"gate.log": "2 passed, 0 failed\n"}, kept)
     trial.runs("the call after --gate", scratch.call(), "mended", 0)
     other = TRANSFERS if scratch.launcher == AUDIT else AUDIT
     got = scratch.run(*other.words, script=scratch.top / other.name)

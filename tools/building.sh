@@ -97,8 +97,10 @@ show_progress() {
 watched() {
     show_progress &
     shown=$!
+    trap 'kill "$shown"; exit 130' HUP INT TERM
     "$@" >>"$log" 2>&1
     status=$?
+    trap - HUP INT TERM
     kill "$shown"
     wait "$shown" 2>/dev/null
     printf '\r\033[K' >&2
@@ -116,11 +118,13 @@ logged() {
     if [ -t 2 ]; then watched "$@"; else passed_on "$@"; fi
 }
 
-# Proves all from nothing, and builds the programs. What rt says is not kept, and what an earlier build said is not of
+# Proves all from nothing, and builds the programs. What rt writes is kept too; what it said of earlier builds is not of
 # these programs.
 gate() {
     rm -f "$top"/out/*.log
-    (cd "$top" && rt ci)
+    mkdir -p "$top/out" || return
+    exec 4>&1
+    return "$({ { (cd "$top" && rt ci) 3>&- 4>&-; echo "$?" >&3; } | tee "$top/out/gate.log" >&4; } 3>&1)"
 }
 
 # A trial run ends with status 0, so another status is that of a build that failed.

@@ -10,7 +10,7 @@ import subprocess
 from pathlib import Path
 
 TOP = Path(__file__).resolve().parent.parent.parent
-# Where a launcher keeps what rt said of the last build.
+# Where the launchers keep what rt said of the last gate and of the builds after it, each in NAME.log.
 LOGS = TOP / "out"
 # By e_machine of ELF, Debian's names.
 ARCHITECTURES = {62: "amd64", 183: "arm64"}
@@ -62,9 +62,6 @@ class Program:
 
     def path(self) -> Path:
         return TOP / "crates" / self.crate / "out" / self.crate
-
-    def log(self) -> Path:
-        return LOGS / f"{self.name}.log"
 
     def architecture(self) -> str:
         """Debian's name of the machine that it runs on."""

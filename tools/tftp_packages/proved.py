@@ -5,32 +5,34 @@ import hashlib
 import re
 from pathlib import Path
 
-from tftp_packages.checkout import PROGRAMS, Commit, Program, answer, libc_needed
+from tftp_packages.checkout import LOGS, PROGRAMS, Commit, answer, libc_needed
 
 # What rt says of a build: the sum of the logic that its proofs are checked in; of each crate its name, and the verdict.
 LOGIC = re.compile(r"^logic \S+: (.*)$")
-CRATE = re.compile(r"^crate (\w+): ")
+CRATE = re.compile(r"^(?:crate (\w+): |== (\w+)$)")
 VERDICT = re.compile(r"^logic=proved .*$")
+# How the gate ends: whether each proof was done anew.
+ENDED = re.compile(r"^rt: ok; .*$")
 
 
 def digest(path: Path) -> str:
     return hashlib.sha256(path.read_bytes()).hexdigest()
 
 
-def verdicts(program: Program) -> list[str]:
-    """What rt said of the proofs when the program was built; what an earlier run had proved it does not tell again."""
-    if not program.log().is_file():
-        return ["what the kit said of the proofs was not kept; the gate prints it"]
+def verdicts(log: Path) -> list[str]:
+    """What rt said of the proofs, by crate; of one that an earlier run had proved a build says nothing."""
     told: list[str] = []
-    crate = program.crate
-    for line in program.log().read_text(errors="replace").splitlines():
+    crate = ""
+    for line in log.read_text(errors="replace").splitlines():
         if found := CRATE.match(line):
-            crate = found[1]
+            crate = found[1] or found[2]
         elif VERDICT.match(line):
             told.append(f"{crate}: {line}")
+        elif ENDED.match(line):
+            told.append(line)
         elif (found := LOGIC.match(line)) and (said := f"logic: {found[1]}") not in told:
             told.append(said)
-    return told or ["the last build proved nothing again"]
+    return told
 
 
 def told_of(commit: Commit) -> str:
@@ -39,13 +41,14 @@ def told_of(commit: Commit) -> str:
         f"commit {commit.name} of {commit.time:%Y-%m-%d %H:%M:%S} UTC",
         f"proved and built by {answer('rt', 'version')}",
         f"needs glibc {libc_needed()} or later, on {PROGRAMS[0].architecture()}",
+        *(f"{program.name}: sha256 {digest(program.path())}" for program in PROGRAMS),
+        "",
         "This file is the word of who built them, and no proof. To prove it again: that commit, `make test`.",
         "README.md says what is proved, what is only tested, and what is trusted. Below, what the kit said of each",
-        "crate that was proved when the program was last built.",
+        "crate that it proved in its last gate, and in the builds after it.",
     ]
-    for program in PROGRAMS:
-        lines += ["", f"{program.name}: sha256 {digest(program.path())}"]
-        lines += [f"    {line}" for line in verdicts(program)]
+    for log in sorted(LOGS.glob("*.log")):
+        lines += ["", f"{log.stem}:", *(f"    {line}" for line in verdicts(log))]
     return "\n".join(lines) + "\n"
 
 
