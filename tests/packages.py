@@ -33,6 +33,35 @@ echo "crate $crate: modules loaded=0 checked=1" >&2
 echo "logic=proved functions=7 sum=5a" >&2
 cp TRUE "out/$crate"
 """
+# What rt ci writes, shortened: a crate, the tests of one below it, and the end.
+GATE = """\
+== tftp_low
+fn tftp_low::one: proved
+logic /somewhere/project.json: libraries=1 sum=5a
+logic=proved functions=1 sum=5a
+rt: tftp_low proved
+== tftp_tests: its tests
+logic=proved tests=2 functions=3 sum=5a
+== tftp_open
+logic=not-proved functions=1 sum=5a
+rt: ok; must-fail edits: 10 refused
+1 passed, 0 failed
+"""
+PROVED = """
+gate:
+    logic: libraries=1 sum=5a
+    tftp_low: logic=proved functions=1 sum=5a
+    tftp_tests: its tests: logic=proved tests=2 functions=3 sum=5a
+    rt: ok; must-fail edits: 10 refused
+
+tftp-audit:
+    logic: libraries=1 sum=5a
+    tftp_audit: logic=proved functions=7 sum=5a
+
+tftp-transfers:
+    logic: libraries=1 sum=5a
+    tftp_transfers_main: logic=proved functions=7 sum=5a
+"""
 TIME = 1_700_000_000
 GIT = {f"GIT_{who}_{what}": said for who in ("AUTHOR", "COMMITTER") for what, said in (
     ("NAME", "A Maintainer"), ("EMAIL", "one@example.org"), ("DATE", f"{TIME} +0200"),
@@ -46,6 +75,8 @@ class Checkout(Scratch):
     def __init__(self, folder: pathlib.Path, program: str) -> None:
         super().__init__(folder, AUDIT)
         (self.bin / "rt").write_text(STAND_IN.replace("TRUE", program))
+        (self.top / "out").mkdir()
+        (self.top / "out" / "gate.log").write_text(GATE)
         for words in (["init", "-q"], ["add", "-A"], ["commit", "-q", "-m", "all"]):
             self.does("git", *words)
 
@@ -114,9 +145,7 @@ def try_tar(trial: Trial, checkout: Checkout, made: pathlib.Path, program: str) 
     for said in (
         f"commit {checkout.commit()} of 2023-11-14 22:13:20 UTC\n", "proved and built by rattle-kit-0 logic 5a\n",
         f"needs glibc {needs(program)} or later", f"tftp-audit: sha256 {digest}\n",
-        f"tftp-transfers: sha256 {digest}\n",
-        "tftp-audit:\n    logic: libraries=1 sum=5a\n    tftp_audit: logic=proved functions=7 sum=5a\n",
-        "    tftp_transfers_main: logic=proved functions=7 sum=5a\n",
+        f"tftp-transfers: sha256 {digest}\n", PROVED,
     ):
         trial.check(f"PROVED says {said!r}", said in proved, proved)
     for words in (["bin/tftp-audit", "--help"], ["bin/tftp-audit", "check", "PROVED"], ["bin/tftp-explain", "--help"]):

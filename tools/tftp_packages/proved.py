@@ -9,7 +9,7 @@ from tftp_packages.checkout import LOGS, PROGRAMS, Commit, answer, libc_needed
 
 # What rt says of a build: the sum of the logic that its proofs are checked in; of each crate its name, and the verdict.
 LOGIC = re.compile(r"^logic \S+: (.*)$")
-CRATE = re.compile(r"^(?:crate (\w+): |== (\w+)$)")
+CRATE = re.compile(r"^(?:crate (\w+): |== (\w+(?:: its tests)?)$)")
 VERDICT = re.compile(r"^logic=proved .*$")
 # How the gate ends: whether each proof was done anew.
 ENDED = re.compile(r"^rt: ok; .*$")
