@@ -44,8 +44,9 @@ def told_of(commit: Commit) -> str:
         *(f"{program.name}: sha256 {digest(program.path())}" for program in PROGRAMS),
         "",
         "This file is the word of who built them, and no proof. To prove it again: that commit, `make test`.",
-        "README.md says what is proved, what is only tested, and what is trusted. Below, what the kit said of each",
-        "crate that it proved in its last gate, and in the builds after it.",
+        "README.md says what is proved, what is only tested, and what is trusted. SHA256SUMS has the sum of each file:",
+        "`sha256sum -c` in the folder that has bin. Below, what the kit said of each crate that it proved in its last",
+        "gate, and in the builds after it.",
     ]
     for log in sorted(LOGS.glob("*.log")):
         lines += ["", f"{log.stem}:", *(f"    {line}" for line in verdicts(log))]
