@@ -166,6 +166,8 @@ def try_deb(trial: Trial, checkout: Checkout, made: pathlib.Path, program: str) 
     sums = [line.split("  ", 1) for line in (root / "DEBIAN" / "md5sums").read_text().splitlines()]
     right = all(hashlib.md5((root / name).read_bytes()).hexdigest() == digest for digest, name in sums)
     trial.check("the package's sums", right and len(sums) > 50, sums)
+    script = root / "DEBIAN" / "prerm"
+    trial.check("what the package does before it is removed", script.stat().st_mode & 0o777 == 0o755, script)
     usr = root / "usr"
     pages = usr / "share" / "doc" / "tftp-audit"
     own = pages / "SHA256SUMS"

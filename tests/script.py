@@ -205,9 +205,11 @@ def uninstalled(trial: ScriptTrial, scratch: Scratch) -> None:
     """make uninstall leaves what is another's, and nothing of ours; where nothing is installed it does nothing."""
     prefix = scratch.prefix()
     others = {prefix / "bin" / "another", prefix / "share" / "tftp-audit" / "a file of the user"}
-    for path in others:
-        path.write_text("")
     trial.check("make install again", scratch.make("install") == (0, "", False))
+    compiled = prefix / "lib" / "tftp-audit" / "tftp_tools" / "__pycache__" / "rules.cpython-39.pyc"
+    compiled.parent.mkdir(exist_ok=True)
+    for path in (*others, compiled):
+        path.write_text("")
     for name in ("first", "second"):
         trial.check(f"the {name} make uninstall", scratch.make("uninstall") == (0, "", False))
         left = {path for path in prefix.rglob("*") if not path.is_dir()}

@@ -49,11 +49,12 @@ link_scripts() {
     done
 }
 
-# Names in the list hold no spaces, and so each line is two words.
+# What Python made of the modules goes with them.
 uninstall() {
     [ -f "$prefix/$list" ] || return 0
     listed=$(cat "$prefix/$list")
     rm -f "$prefix/$list"
+    rm -rf "$prefix/lib/tftp-audit/tftp_tools/__pycache__"
     printf '%s\n' "$listed" | sed -n 's/^file //p' | while read -r name; do
         rm -f "$prefix/$name"
     done

@@ -19,6 +19,12 @@ Description: auditor of recorded TFTP transfers
  tftp-audit says it of a text capture of one transfer. Scripts explain a
  verdict, draw the exchange, and write a report.
 """
+# What Python made of the modules is of no package, and would stay.
+BEFORE_REMOVAL = """\
+#!/bin/sh
+set -e
+rm -rf /usr/lib/tftp-audit/tftp_tools/__pycache__
+"""
 
 
 def compress(path: Path) -> None:
@@ -79,11 +85,12 @@ def make_deb(commit: Commit, into: Path) -> Path:
     made = into / f"{NAME}_{version_of(commit)}_{PROGRAMS[0].architecture()}.deb"
     with staged("usr") as (root, folder):
         fill(folder, commit)
-        told = control(commit, root), sums(root)
-        papers = root / "DEBIAN"
-        papers.mkdir()
-        for name, text in zip(("control", "md5sums"), told):
-            (papers / name).write_text(text)
+        papers = {"control": control(commit, root), "md5sums": sums(root), "prerm": BEFORE_REMOVAL}
+        place = root / "DEBIAN"
+        place.mkdir()
+        for name, text in papers.items():
+            (place / name).write_text(text)
+        (place / "prerm").chmod(0o755)
         even_out(root, commit)
         words = ["dpkg-deb", "--root-owner-group", "-Zxz", "--build", str(root), str(made)]
         environment = {**os.environ, "SOURCE_DATE_EPOCH": str(commit.seconds())}
