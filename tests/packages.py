@@ -10,6 +10,7 @@ from __future__ import annotations
 import contextlib
 import gzip
 import hashlib
+import itertools
 import os
 import pathlib
 import re
@@ -20,7 +21,8 @@ import tarfile
 import tempfile
 from typing import Optional
 
-from scratch import AUDIT, SCRIPTS, Scratch
+from repository import TOP
+from scratch import AUDIT, SCRIPTS, TRANSFERS, Scratch
 from trial import Trial
 
 # The programs are another's, of which is known what they need; what rt says of a build is short.
@@ -214,8 +216,29 @@ def try_missing(trial: Trial, checkout: Checkout) -> None:
     trial.check("without dpkg-deb", holds, done)
 
 
+def try_completions(trial: Trial) -> None:
+    """What each shell completes has each option of the manual page, and reads well where the shell is installed."""
+    shells = {
+        "bash": ("bash/{}", "--{}", ("bash", "-n")),
+        "zsh": ("zsh/_{}", "--{}", ("zsh", "-n")),
+        "fish": ("fish/{}.fish", "-l {}", ("fish", "--no-execute")),
+    }
+    for name, shell in itertools.product((AUDIT.name, TRANSFERS.name, *SCRIPTS), shells):
+        place, spelt, parser = shells[shell]
+        path = TOP / "share" / "completions" / place.format(name)
+        page = (TOP / "docs" / "man" / f"{name}.1").read_text().replace("\\-", "-")
+        # those that stand at the head of a paragraph
+        options = set(re.findall(r"--([a-z]+)", "".join(re.findall(r"(?m)^\.TP\n\.B\w* .*-.*$", page))))
+        lacking = {option for option in options if spelt.format(option) not in path.read_text()}
+        trial.check(f"{path.name} of {shell} has each option", bool(options) and not lacking, lacking)
+        if shutil.which(shell):
+            done = subprocess.run([*parser, path], capture_output=True, text=True)
+            trial.check(f"{path.name}, read by {shell}", (done.returncode, done.stderr) == (0, ""), done)
+
+
 def main() -> int:
     trial = Trial()
+    try_completions(trial)
     program = shutil.which("true")
     missing = [name for name in TOOLS if not shutil.which(name)]
     if missing or not program:
