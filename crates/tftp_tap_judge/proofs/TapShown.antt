@@ -1,5 +1,5 @@
 -- What a capture between the ends shows is what the end that gets the file would show of what it would keep.
-use Rattle.std.proofs.Common.{◌≡◌, ◌≤◌, ℕ, true, List, [], ◌∷◌, Contains, inr, refl, sym, subst, ap, ◌∙◌}
+use Rattle.std.proofs.Common.{◌≡◌, ℕ, true, List, [], ◌∷◌, Contains, inr, refl, sym, subst, ap, ◌∙◌}
 use Rattle.std.specs.Prelude.{map, reverse}
 use Rattle.std.proofs.lemmas.List.{reverse-reverse}
 use Rattle.std.specs.List.{list_any}
@@ -10,13 +10,13 @@ use Rattle.tftp_packet.specs.declared.kinds.Side.TheVariants.{Get, Put}
 use Rattle.tftp_ends.specs.CaptureText.{Datagram, Header}
 use Rattle.tftp_ends.specs.Meaning.{Meaning, blksize_of, request_of}
 use Rattle.tftp_ends.specs.Blocks.{block_count}
-use Rattle.tftp_ends.specs.Machines.{MachinePacket, Ack, Data, History, HasSent, HasTaken, other_end, receiver_of, sender_of}
-use Rattle.tftp_ends.specs.Runs.{IsComplete, IsView}
+use Rattle.tftp_ends.specs.Machines.{Ack, Data, HasSent, HasTaken, other_end, receiver_of, sender_of}
+use Rattle.tftp_ends.specs.Runs.{IsView}
 use Rattle.tftp_ends.specs.OneSide.{IsOneSided}
 use Rattle.tftp_ends.proofs.Members.{contains_none}
 use Rattle.tftp_ends.proofs.OneSided.{view_one_sided}
 use Rattle.tftp_ends.proofs.MadeRuns.{one_sided_view}
-use Rattle.tftp_law.specs.Law.{IsSeen, ShowsBy}
+use Rattle.tftp_law.specs.Law.{ShowsBy}
 use Rattle.tftp_law.specs.Dress.{datagrams_of, view_in, says_of}
 use Rattle.tftp_law.specs.Accord.{AreRouted}
 use Rattle.tftp_law.specs.Divides.{says_some}
@@ -25,7 +25,7 @@ use Rattle.tftp_law.proofs.OneDivision.{run_divides, division_one}
 use Rattle.tftp_law.proofs.Routed.{routed_by, told_of}
 use Rattle.tftp_tap.specs.Tap.{Pass, as_at, MayPassEach, IsWholeAtTap}
 use Rattle.tftp_tap.specs.TapCapture.{TapDatagram, TapSides, AreApart}
-use Rattle.tftp_tap.specs.TapDress.{HaveTapParts, IsSeenBetween, ShowsBetween, passed_of, tapped_of}
+use Rattle.tftp_tap.specs.TapDress.{ShowsBetween, passed_of}
 use Rattle.tftp_tap.specs.TapOrder.{kept_of, pass_tests, kept_at}
 use Rattle.tftp_tap.specs.TapRoutes.{tap_tests, transfer_between}
 use Rattle.tftp_tap.specs.TapRules.{BreaksNoTapRule, FirstTapAsked, header_at, kept_between, recorded_at}
@@ -33,13 +33,13 @@ use Rattle.tftp_tap.proofs.Replays.{tap_view_is}
 use Rattle.tftp_tap.proofs.Passed.{sent_passed, at_sent, at_took}
 use Rattle.tftp_tap.proofs.OneTapDivision.{parts_some}
 use Rattle.tftp_tap.proofs.KeptOf.{kept_there}
-use Rattle.tftp_tap.proofs.TapKept.{has_kept, kept_may, kept_one_sided}
+use Rattle.tftp_tap.proofs.TapKept.{has_kept, kept_one_sided}
 use Rattle.tftp_tap.proofs.TapBack.{kept_tells}
-use Rattle.tftp_tap.proofs.TapBefore.{first_asked_is, some_each}
+use Rattle.tftp_tap.proofs.TapBefore.{first_asked_is}
 use Rattle.tftp_tap.proofs.TapLaw.{said_parts}
-use Rattle.tftp_tap.proofs.TapLawful.{AreLawful, Right, asks_is, mains_lawful, parted, rights}
+use Rattle.tftp_tap.proofs.TapLawful.{asks_is, mains_lawful, parted, rights}
 use Rattle.tftp_tap.proofs.TapMade.{known_kept, told_some}
-use Rattle.tftp_tap.proofs.TapRecorded.{Each, IsCarried, datagram_in, datagrams_each, header_of_end, kept_each, kept_map, mains_carried, pair_tests, pass_in, passed_is, passes_each, placed, placed_datagrams, placed_routes, placed_starts, placed_view}
+use Rattle.tftp_tap.proofs.TapRecorded.{Each, IsCarried, datagram_in, datagrams_each, kept_each, kept_map, mains_carried, pair_tests, pass_in, passed_is, passes_each, placed, placed_datagrams, placed_routes, placed_starts, placed_view}
 use Rattle.tftp_tap.proofs.TapRouted.{Carried, mains, transfer_is}
 use Rattle.tftp_tap.proofs.TapRun.{in_times, request_one, says_all, says_each}
 use Rattle.tftp_tap.proofs.TapRunsBreak.{kept_known}

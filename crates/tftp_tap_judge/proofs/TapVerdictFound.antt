@@ -1,5 +1,5 @@
 -- The verdict between the ends by the one at the end that gets the file.
-use Rattle.std.proofs.Common.{◌≡◌, ℕ, List, [], ◌∷◌, ◌++◌, Option, Some, None, Result, Ok, Err, refl, sym, subst, ap, ◌∙◌, append_assoc}
+use Rattle.std.proofs.Common.{◌≡◌, ℕ, List, [], ◌∷◌, ◌++◌, Option, Some, None, Result, Ok, Err, sym, subst, ◌∙◌, append_assoc}
 use Rattle.std.specs.Prelude.{length, reverse}
 use Rattle.std.proofs.lemmas.List.{reverse-reverse}
 use Rattle.tftp_packet.specs.Message.{RequestParts}
@@ -20,7 +20,7 @@ use Rattle.tftp_tap.specs.TapRoutes.{transfer_between}
 use Rattle.tftp_tap.specs.TapRules.{BreaksNoTapRule, FirstTapAsked, header_at, kept_between}
 use Rattle.tftp_tap.proofs.TapLaw.{rules_run}
 use Rattle.tftp_tap_judge.specs.TapKept.{IsFirstError}
-use Rattle.tftp_tap_judge.specs.TapVerdict.{IsShown, IsTapVerdict, NoneShown, said_at_tap, unfinished_by}
+use Rattle.tftp_tap_judge.specs.TapVerdict.{IsTapVerdict, NoneShown, said_at_tap, unfinished_by}
 use Rattle.tftp_tap_judge.proofs.KeptLawful.{kept_lawful}
 use Rattle.tftp_tap_judge.proofs.TapShown.{never_shown, shown_at_end, shown_between}
 

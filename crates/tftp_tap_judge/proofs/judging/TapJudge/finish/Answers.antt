@@ -1,4 +1,4 @@
-use Rattle.std.proofs.Common.{◌≡◌, Option, Some, None, sym, subst, ap, ◌∙◌}
+use Rattle.std.proofs.Common.{sym, subst, ap, ◌∙◌}
 use Rattle.tftp_tap.specs.TapRoutes.{transfer_between}
 use Rattle.tftp_tap_judge.specs.TapKept.{IsKeptAtTap, TapJudge}
 use Rattle.tftp_tap_judge.proofs.TapVerdictFound.{nothing_said}

@@ -1,5 +1,4 @@
-use Rattle.std.proofs.Common.{Result, sym, subst}
-use Rattle.tftp_judge.specs.declared.refusal.Refusal.{Refusal}
+use Rattle.std.proofs.Common.{sym, subst}
 use Rattle.tftp_tap_judge.specs.TapKept.{IsTapTransfer, TapTransfer}
 use Rattle.tftp_tap.specs.TapRoutes.{transfer_between}
 use Rattle.tftp_tap_judge.specs.TapVerdict.{IsTapVerdict}
