@@ -27,7 +27,7 @@ use Rattle.tftp_tap.proofs.TapRunsBreak.{runs_break_none}
 
 module _ (s : TapSides) (m : Meaning) (wire : List ℕ) where
   -- a division whose main datagrams say what the meaning says is one of it
-  said_parts : (division : TapDivision) → HaveTapParts s says_some division → Each (λ c. says_of m wire c.pass.packet c.datagram.payload) (mains division) → HaveTapParts s (says_of m wire) division
+  pub said_parts : (division : TapDivision) → HaveTapParts s says_some division → Each (λ c. says_of m wire c.pass.packet c.datagram.payload) (mains division) → HaveTapParts s (says_of m wire) division
   said_parts [] parts says = tt
   said_parts (p ∷ division) parts says = by p.part parts.0 says (said_parts division parts.1) where
     by : (part : TapPart) → HasTapPart s says_some division p.datagram part → Each (λ c. says_of m wire c.pass.packet c.datagram.payload) (add_main p.datagram part (mains division))

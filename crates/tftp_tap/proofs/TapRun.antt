@@ -415,7 +415,7 @@ module _ (s : TapSides) (apart : AreApart s) (asked : RequestParts) where
       let stays = never_out r c.pass.from c.pass.packet c.datagram (kept_of pair_tests r cs) (ap is_request packet ∙ plain) (ap is_error packet ∙ quiet) in
       subst (λ q. IsOneSided m wire r (deed_at r c.pass.from q ∷ as_at r (map pass_in (kept_of pair_tests r cs)))) packet (subst (λ l. IsOneSided m wire r (as_at r (map pass_in l))) (kept_in pair_tests r c cs stays) own)
 
-  in_times : (m : Meaning) (wire : List ℕ) → asked.side ≡ m.side → (cs : List Carried) → Each (IsCarried s says_some) cs → AreLawful s cs → Each (Right s apart asked) cs → (cs ≡ []) ⊎ FirstTapAsked s (map datagram_in cs) asked
+  pub in_times : (m : Meaning) (wire : List ℕ) → asked.side ≡ m.side → (cs : List Carried) → Each (IsCarried s says_some) cs → AreLawful s cs → Each (Right s apart asked) cs → (cs ≡ []) ⊎ FirstTapAsked s (map datagram_in cs) asked
       → IsOneSided m wire (receiver_of m.side) (as_at (receiver_of m.side) (map pass_in (kept_of pair_tests (receiver_of m.side) cs))) → AreInTime m wire (map pass_in cs)
   in_times m wire side [] each lawful right begins own = tt
   in_times m wire side (c ∷ cs) each lawful right (inl none) own = absurd (cc)
@@ -435,7 +435,7 @@ module _ (s : TapSides) (apart : AreApart s) (asked : RequestParts) where
     pub may : MayPassEach m wire (map pass_in cs)
     pub says : Each (λ c. says_of m wire c.pass.packet c.datagram.payload) cs
 
-  says_each : (m : Meaning) (wire : List ℕ) (r : End) (ks : List Carried) → AreRouted (header_of_end s r) m wire (placed s r ks) → Each (λ c. says_of m wire c.pass.packet c.datagram.payload) ks
+  pub says_each : (m : Meaning) (wire : List ℕ) (r : End) (ks : List Carried) → AreRouted (header_of_end s r) m wire (placed s r ks) → Each (λ c. says_of m wire c.pass.packet c.datagram.payload) ks
   says_each m wire r [] routed = tt
   says_each m wire r (k ∷ ks) routed = (
     subst (λ l. says_of m wire k.pass.packet l) (recorded_payload s r k.datagram) (subst (λ p. says_of m wire p (recorded_at s r k.datagram).payload) (deed_is r k.pass.from k.pass.packet) routed.1.1),
@@ -453,7 +453,7 @@ module _ (s : TapSides) (apart : AreApart s) (asked : RequestParts) where
   each_of P (x ∷ xs) all = (all x (contains_first x xs), each_of P xs (λ y at. all y (contains_later x xs y at)))
 
   -- what a meaning says that says what is kept
-  says_all : (m : Meaning) (wire : List ℕ) (r : End) (cs : List Carried) → asked ≡ request_of m → Each (IsCarried s says_some) cs → Each (Right s apart asked) cs
+  pub says_all : (m : Meaning) (wire : List ℕ) (r : End) (cs : List Carried) → asked ≡ request_of m → Each (IsCarried s says_some) cs → Each (Right s apart asked) cs
       → Each (λ c. says_of m wire c.pass.packet c.datagram.payload) (kept_of pair_tests r cs) → Each (λ c. says_of m wire c.pass.packet c.datagram.payload) cs
   says_all m wire r cs same each right kept = each_of (λ c. says_of m wire c.pass.packet c.datagram.payload) cs (λ c at. by c at c.pass.packet refl) where
     none : (b : Bool) → (b && false) ≡ false
@@ -480,7 +480,7 @@ module _ (s : TapSides) (apart : AreApart s) (asked : RequestParts) where
     by c at (Ack j) packet = in_kept c at (ap is_request packet) (ap is_error packet)
 
   -- the meaning's request is the one that was asked
-  request_one : (m : Meaning) (wire : List ℕ) (r : End) (cs : List Carried) → Each (Right s apart asked) cs → list_any pair_tests.asks cs ≡ true
+  pub request_one : (m : Meaning) (wire : List ℕ) (r : End) (cs : List Carried) → Each (Right s apart asked) cs → list_any pair_tests.asks cs ≡ true
       → Each (λ c. says_of m wire c.pass.packet c.datagram.payload) (kept_of pair_tests r cs) → asked ≡ request_of m
   request_one m wire r cs right some kept =
       let found = some_of pair_tests.asks (kept_of pair_tests r cs) (kept_asks pair_tests r cs quiet some) in

@@ -144,7 +144,7 @@ module _ (s : TapSides) (apart : AreApart s) (m : Meaning) (wire : List ℕ) (fi
   kept_passes : (r : End) (cs : List Carried) → kept_at r (map pass_in cs) ≡ map pass_in (kept_of pair_tests r cs)
   kept_passes r cs = kept_map pass_in pair_tests pass_tests r cs (passes_each cs)
 
-  kept_known : (r : End) (cs : List Carried) → MayPassEach m wire (map pass_in cs) → AreKnown (kept_of pair_tests r cs)
+  pub kept_known : (r : End) (cs : List Carried) → MayPassEach m wire (map pass_in cs) → AreKnown (kept_of pair_tests r cs)
   kept_known r [] may = tt
   kept_known r (c ∷ cs) may = elim (is_or_not (is_left_out pair_tests r c (kept_of pair_tests r cs))) [
     | inl out ↦ subst AreKnown (sym (kept_out pair_tests r c cs out)) (kept_known r cs may.1)

@@ -8,3 +8,5 @@ mod Receivings
 mod TransferFound
 mod KeptLawful
 mod KeeperFound
+mod TapShown
+mod TapVerdictFound

@@ -3,6 +3,7 @@ ghost use Rattle.tftp_tap.specs.TapCapture.{TapDatagram as Passing, TapSides, Ar
 ghost use Rattle.tftp_tap.specs.TapRules.{TapPasses};
 ghost use Rattle.tftp_tap_judge.specs.TapKept.{IsTapJudge};
 ghost use Rattle.tftp_tap_judge.specs.TapStops.{RefusesAtTap, passing_of};
+ghost use Rattle.tftp_tap_judge.specs.TapVerdict.{IsTapVerdict};
 ghost use Rattle.tftp_tap_judge.specs.declared.refusal.TapRefusal.{TapRefusal as RefusalKind};
 
 use crate::datagram::TapDatagram;
@@ -12,6 +13,7 @@ use crate::stop::Stop;
 use std::alloc::Global;
 use std::marker::Model;
 use tftp_ends::Delivered;
+use tftp_judge::Meaning;
 use tftp_tap::Sides;
 
 /// The judge of a capture that was taken at a point between the ends, datagram by datagram (RFC 1350; RFC 2347; RFC 7440). It is
@@ -104,5 +106,24 @@ impl<D: Delivered + Drop> TapJudge<D> {
         ensures { result ≡ self.now.fed }
     {
         self.fed
+    }
+
+    /// What the datagrams mean, or why they are not accepted. Memory is taken only of a whole transfer.
+    pub fn finish(self, alloc: Global) -> Result<Meaning, TapRefusal>
+        ensures verdict { (s : TapSides) (earlier : List Passing) → IsTapJudge self s earlier → IsTapVerdict s earlier result }
+        ensures for_good { (refusal : RefusalKind) → self.refused ≡ Some refusal → result ≡ Err refusal }
+    {
+        let TapJudge {
+            keeper,
+            fed,
+            refused,
+        } = self;
+        if let Some(refusal) = refused {
+            return Err(refusal);
+        }
+        match keeper.into_transfer() {
+            Some(transfer) => transfer.finish(alloc, fed),
+            None => Err(TapRefusal::Incomplete(fed)),
+        }
     }
 }

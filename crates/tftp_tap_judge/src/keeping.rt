@@ -130,6 +130,13 @@ impl<D: Delivered + Drop> TapKeeper<D> {
             }
         }
     }
+
+    /// The transfer, if its first request has passed.
+    pub fn into_transfer(self) -> Option<TapTransfer<D>>
+        ensures { result ≡ self.transfer }
+    {
+        self.transfer
+    }
 }
 
 /// The transfer that a datagram begins, which comes from this end where nothing of the transfer has passed (RFC 1350, section 4).

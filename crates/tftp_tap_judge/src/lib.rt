@@ -5,6 +5,7 @@ mod datagram;
 mod errors;
 mod judging;
 mod keeping;
+pub mod laws;
 mod notes;
 mod receiving;
 mod refusal;

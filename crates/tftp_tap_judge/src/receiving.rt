@@ -1,9 +1,10 @@
-ghost use Rattle.std.specs.Prelude.{◌≡◌, ◌+◌, ◌^◌, ◌<◌, ◌≤◌, List, [], ◌∷◌, length, true, IfErr, IfOk, OnOk, Err};
+ghost use Rattle.std.specs.Prelude.{◌≡◌, ◌+◌, ◌^◌, ◌<◌, ◌≤◌, List, [], ◌∷◌, length, reverse, true, IfErr, IfOk, OnOk, Err};
 ghost use Rattle.tftp_packet.specs.Faults.{opcode_of};
 ghost use Rattle.tftp_packet.specs.declared.kinds.End.TheVariants.{Server};
 ghost use Rattle.tftp_packet.specs.declared.kinds.Side.{Side as Way};
 ghost use Rattle.tftp_ends.specs.Roles.{receiver_of};
 ghost use Rattle.tftp_judge.specs.Memory.{TakesMemory};
+ghost use Rattle.tftp_judge.specs.Verdict.{IsVerdict};
 ghost use Rattle.tftp_law.specs.OneEnded.{Passes};
 ghost use Rattle.tftp_tap.specs.TapCapture.{TapDatagram, TapSides, side_of, AreApart};
 ghost use Rattle.tftp_tap.specs.TapOrder.{is_left_out, same_end};
@@ -18,7 +19,7 @@ use std::alloc::Global;
 use std::marker::Model;
 use tftp_capture::{Datagram, Header};
 use tftp_ends::Delivered;
-use tftp_judge::Judge;
+use tftp_judge::{Judge, Meaning, Refusal};
 use tftp_packet::{End, opcode};
 
 /// What the end that gets the file would make of a transfer, had it sent what passed from it and taken what passed towards it.
@@ -103,6 +104,14 @@ impl<D: Delivered + Drop> Receiving<D> {
             self.answered = true;
         }
         Ok(())
+    }
+
+    /// What that end would say of all that it would have kept.
+    pub fn finish(self, alloc: Global) -> Result<Meaning, Refusal>
+        ensures { (s : TapSides) (side : Way) (passed : List TapDatagram) → IsReceiving self s side passed
+            → IsVerdict (header_at s side) (reverse (kept_between s side passed)) result }
+    {
+        self.judge.finish(alloc)
     }
 
     /// Whether a datagram is left out that this end of the transfer sends, after the first request.

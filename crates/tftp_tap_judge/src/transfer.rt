@@ -5,20 +5,24 @@ ghost use Rattle.tftp_packet.specs.Spelling.{Spells};
 ghost use Rattle.tftp_ends.specs.Roles.{receiver_of};
 ghost use Rattle.tftp_law.specs.OneEnded.{Passes};
 ghost use Rattle.tftp_tap.specs.TapCapture.{TapDatagram, TapSides, side_of, AreApart};
-ghost use Rattle.tftp_tap.specs.TapRules.{header_at, recorded_at};
+ghost use Rattle.tftp_tap.specs.TapRoutes.{transfer_between};
+ghost use Rattle.tftp_tap.specs.TapRules.{BreaksNoTapRule, header_at, recorded_at};
 ghost use Rattle.tftp_tap.specs.declared.route.TapRoute.{TapRoute};
 ghost use Rattle.tftp_tap_judge.specs.TapKept.{IsFirstError, IsTapTransfer};
 ghost use Rattle.tftp_tap_judge.specs.TapSeen.{AreNotes};
 ghost use Rattle.tftp_tap_judge.specs.TapStops.{FindsTo, IsReadUnless, IsRecorded, TakesInTransfer, TransferBreaks};
+ghost use Rattle.tftp_tap_judge.specs.TapVerdict.{IsTapVerdict, said_at_tap, unfinished_by};
 ghost use Rattle.tftp_tap_judge.specs.declared.stop.Stop.{Stop as StopKind};
 
 use crate::notes::TapNotes;
 use crate::receiving::Receiving;
+use crate::refusal::TapRefusal;
 use crate::stop::{Stop, first_of};
 use std::alloc::Global;
 use std::marker::Model;
 use tftp_capture::Datagram;
 use tftp_ends::Delivered;
+use tftp_judge::{Meaning, Refusal};
 use tftp_law::Rule;
 use tftp_packet::{End, Packet, Request, Side, read_packet};
 
@@ -111,6 +115,19 @@ impl<D: Delivered + Drop> TapTransfer<D> {
             Err(fault) => Err(Stop::Breaks(Rule::Malformed(*fault))),
         }
     }
+
+    /// What the transfer means, or why it is none that is whole, after so many datagrams.
+    pub fn finish(self, alloc: Global, count: u64) -> Result<Meaning, TapRefusal>
+        ensures { (s : TapSides) (earlier : List TapDatagram) → AreApart s → BreaksNoTapRule s earlier
+            → IsTapTransfer self s (transfer_between s earlier) → count ≡ length earlier → IsTapVerdict s earlier result }
+    {
+        let TapTransfer {
+            receiving,
+            first_error,
+            ..
+        } = self;
+        said_of(receiving.finish(alloc), first_error, count)
+    }
 }
 
 /// The end that gets the file (RFC 1350, section 1).
@@ -133,5 +150,32 @@ fn keep_first_error(first: &mut Option<(End, u16)>, from: End, packet: &Packet<'
     }
     if let Packet::Error { code, .. } = packet {
         *first = Some((from, *code));
+    }
+}
+
+/// What is said between the ends, by what is said at the end that gets the file.
+fn said_of(
+    found: Result<Meaning, Refusal>,
+    first_error: Option<(End, u16)>,
+    count: u64,
+) -> Result<Meaning, TapRefusal>
+    ensures { result ≡ said_at_tap found first_error count }
+{
+    match found {
+        Ok(meaning) => Ok(meaning),
+        Err(Refusal::NormalTooLong) => Err(TapRefusal::NormalTooLong),
+        Err(Refusal::Memory(_)) => Err(TapRefusal::Memory(count)),
+        Err(_) => Err(unfinished(first_error, count)),
+    }
+}
+
+/// What there is to say of a transfer that is not whole, after so many datagrams: who ended it, or how many there are (RFC 1350,
+/// section 7).
+pub fn unfinished(first_error: Option<(End, u16)>, count: u64) -> TapRefusal
+    ensures { result ≡ unfinished_by first_error count }
+{
+    match first_error {
+        Some((end, code)) => TapRefusal::Aborted(end, code),
+        None => TapRefusal::Incomplete(count),
     }
 }

@@ -1,0 +1,64 @@
+-- The verdict between the ends by the one at the end that gets the file.
+use Rattle.std.proofs.Common.{◌≡◌, ℕ, List, [], ◌∷◌, ◌++◌, Option, Some, None, Result, Ok, Err, sym, subst, ◌∙◌, append_assoc}
+use Rattle.std.specs.Prelude.{length, reverse}
+use Rattle.std.proofs.lemmas.List.{reverse-reverse}
+use Rattle.tftp_packet.specs.Message.{RequestParts}
+use Rattle.tftp_packet.specs.declared.kinds.End.{End}
+use Rattle.tftp_ends.specs.CaptureText.{Datagram, Header}
+use Rattle.tftp_ends.specs.Meaning.{Meaning}
+use Rattle.tftp_judge.specs.Verdict.{IsUnlawfulAt, IsVerdict}
+use Rattle.tftp_judge.specs.declared.refusal.Refusal.{Refusal}
+use Rattle.tftp_judge.specs.declared.refusal.Refusal.TheVariants as of_end
+use Rattle.tftp_law.specs.Law.{IsLawful}
+use Rattle.tftp_law.specs.OneEnded.{IsEnded, OneEnded}
+use Rattle.tftp_law.specs.declared.rule.Rule.{Rule}
+use Rattle.tftp_law.proofs.Beginnings.{beginning_is_lawful}
+use Rattle.tftp_law.proofs.TwoEnds.{lawful}
+use Rattle.tftp_tap.specs.TapCapture.{TapDatagram, TapSides, AreApart}
+use Rattle.tftp_tap.specs.TapDress.{IsLawfulBetween}
+use Rattle.tftp_tap.specs.TapRoutes.{transfer_between}
+use Rattle.tftp_tap.specs.TapRules.{BreaksNoTapRule, FirstTapAsked, header_at, kept_between}
+use Rattle.tftp_tap.proofs.TapLaw.{rules_run}
+use Rattle.tftp_tap_judge.specs.TapKept.{IsFirstError}
+use Rattle.tftp_tap_judge.specs.TapVerdict.{IsTapVerdict, NoneShown, said_at_tap, unfinished_by}
+use Rattle.tftp_tap_judge.proofs.KeptLawful.{kept_lawful}
+use Rattle.tftp_tap_judge.proofs.TapShown.{never_shown, shown_at_end, shown_between}
+
+-- what is lawful has no first unlawful datagram
+never_unlawful : (h : Header) (datagrams : List Datagram) (index : ℕ) (rule : Rule) → IsLawful h datagrams → IsUnlawfulAt (IsLawful h) h datagrams index rule → ⊥
+never_unlawful h datagrams index rule is at =
+    at.unlawful (beginning_is_lawful h (at.before ++ at.datagram ∷ []) at.rest (subst (IsLawful h) (at.split ∙ sym (append_assoc at.before (at.datagram ∷ []) at.rest)) is))
+
+module _ (s : TapSides) (apart : AreApart s) (tapped : List TapDatagram) (passes : BreaksNoTapRule s tapped) (asked : RequestParts) (first : FirstTapAsked s (transfer_between s tapped) asked)
+    (error : Option (End × ℕ)) (is_first : IsFirstError s (transfer_between s tapped) error) (count : ℕ) (counts : count ≡ length tapped) where
+  between : IsLawfulBetween s tapped
+  between = rules_run s apart tapped passes
+
+  lawful_there : IsLawful (header_at s asked.side) (reverse (kept_between s asked.side (transfer_between s tapped)))
+  lawful_there = (lawful (header_at s asked.side) (reverse (kept_between s asked.side (transfer_between s tapped)))).1
+      (subst (OneEnded (header_at s asked.side)) (sym (reverse-reverse (kept_between s asked.side (transfer_between s tapped)))) (kept_lawful s apart tapped passes asked first))
+
+  unfinished : NoneShown s tapped → (o : Option (End × ℕ)) → IsFirstError s (transfer_between s tapped) o → IsTapVerdict s tapped (Err (unfinished_by o count))
+  unfinished none None is = (between, none, is, counts)
+  unfinished none (Some x) is = (between, none, is)
+
+  pub said_found : (found : Result Meaning Refusal) → IsVerdict (header_at s asked.side) (reverse (kept_between s asked.side (transfer_between s tapped))) found → IsTapVerdict s tapped (said_at_tap found error count)
+  said_found (Ok m) (legal, (wire, shown), writable) = (between, (wire, shown_between s apart tapped asked first passes m wire shown), writable)
+  said_found (Err (of_end.Unlawful index rule)) at = absurd (never_unlawful (header_at s asked.side) (reverse (kept_between s asked.side (transfer_between s tapped))) index rule lawful_there at)
+  said_found (Err (of_end.Aborted by code)) (legal, none, is) = unfinished (λ m shown. none m (shown.0, shown_at_end s apart tapped asked first m shown.0 shown.1)) error is_first
+  said_found (Err (of_end.Incomplete n)) (legal, none, going, is) = unfinished (λ m shown. none m (shown.0, shown_at_end s apart tapped asked first m shown.0 shown.1)) error is_first
+  said_found (Err of_end.NormalTooLong) (legal, (m, (wire, shown)), long) = (
+    between,
+    (m, (wire, shown_between s apart tapped asked first passes m wire shown)),
+    λ n is writable. long n (is.0, shown_at_end s apart tapped asked first n is.0 is.1) writable,
+  )
+  said_found (Err (of_end.Memory n)) (legal, ended, is) = (between, (asked, first, subst (IsEnded (header_at s asked.side)) (reverse-reverse (kept_between s asked.side (transfer_between s tapped))) ended), counts)
+
+-- nothing of the transfer has passed
+pub nothing_said : (s : TapSides) → AreApart s → (tapped : List TapDatagram) → BreaksNoTapRule s tapped → transfer_between s tapped ≡ [] → (count : ℕ) → count ≡ length tapped → IsTapVerdict s tapped (Err (unfinished_by None count))
+nothing_said s apart tapped passes none count counts = (
+  rules_run s apart tapped passes,
+  λ m shown. never_shown s apart tapped none m shown.0 shown.1,
+  subst (λ (l : List TapDatagram). IsFirstError s l None) (sym none) tt,
+  counts,
+)

@@ -1,0 +1,12 @@
+use Rattle.std.proofs.Common.{sym, subst}
+use Rattle.tftp_tap_judge.specs.TapKept.{IsTapTransfer, TapTransfer}
+use Rattle.tftp_tap.specs.TapRoutes.{transfer_between}
+use Rattle.tftp_tap_judge.specs.TapVerdict.{IsTapVerdict}
+use Rattle.tftp_tap_judge.proofs.TapVerdictFound.{said_found}
+use Rattle.tftp_tap_judge.proofs.transfer.TapTransfer.finish.Goals as goal
+
+pub returns : goal.returns
+returns g c = λ s earlier apart passes is counts.
+    let was = subst (λ (t : TapTransfer). IsTapTransfer t s (transfer_between s earlier)) (sym c.self.view_is) is in
+    subst (IsTapVerdict s earlier) (sym c.said_of.ensures)
+    (said_found s apart earlier passes c.self.inside.asked was.asked c.self.inside.first_error was.first_error c.args.count counts c.finish.result (c.finish.ensures s c.self.inside.asked.side (transfer_between s earlier) was.receiving))

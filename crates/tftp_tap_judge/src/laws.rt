@@ -1,0 +1,26 @@
+//! Laws of the definitions in `specs/`. Each is the contract of a function that does nothing.
+
+ghost use Rattle.std.specs.Prelude.{◌↔◌, ℕ, List, reverse};
+ghost use Rattle.tftp_packet.specs.Message.{RequestParts};
+ghost use Rattle.tftp_ends.specs.Meaning.{Meaning};
+ghost use Rattle.tftp_law.specs.Law.{ShowsBy};
+ghost use Rattle.tftp_law.specs.OneEnded.{OneEnded};
+ghost use Rattle.tftp_tap.specs.TapCapture.{TapDatagram, TapSides, AreApart};
+ghost use Rattle.tftp_tap.specs.TapDress.{ShowsBetween};
+ghost use Rattle.tftp_tap.specs.TapRoutes.{transfer_between};
+ghost use Rattle.tftp_tap.specs.TapRules.{BreaksNoTapRule, FirstTapAsked, header_at, kept_between};
+
+/// What the end that gets the file would keep of a lawful capture between the ends breaks no rule there. So what it would keep
+/// and does refuse, no point between the ends could have seen.
+pub fn what_would_be_kept_is_lawful_there()
+    ensures { (s : TapSides) (tapped : List TapDatagram) (asked : RequestParts) → AreApart s → BreaksNoTapRule s tapped
+        → FirstTapAsked s (transfer_between s tapped) asked
+        → OneEnded (header_at s asked.side) (kept_between s asked.side (transfer_between s tapped)) }
+{}
+
+/// And the capture shows a whole transfer, of a meaning over a wire, exactly if that end would be shown it by what it would keep.
+pub fn what_is_shown_is_shown_there()
+    ensures { (s : TapSides) (tapped : List TapDatagram) (asked : RequestParts) → AreApart s → BreaksNoTapRule s tapped
+        → FirstTapAsked s (transfer_between s tapped) asked → (m : Meaning) (wire : List ℕ)
+        → ShowsBetween s m wire tapped ↔ ShowsBy (header_at s asked.side) m wire (reverse (kept_between s asked.side (transfer_between s tapped))) }
+{}
