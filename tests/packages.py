@@ -1,5 +1,6 @@
-"""make dist and make deb, each on a scratch copy that is a repository of git, with a stand-in for rt whose programs are
-true(1): a tar and a package of Debian, the same bytes from the same commit, that hold what they say.
+"""What shells complete; and make dist and make deb, each on a scratch copy that is a repository of git, with a stand-in
+for rt whose programs are true(1): a tar and a package of Debian, the same bytes from the same commit, that hold what
+they say.
 
     packages.py
 
