@@ -85,7 +85,9 @@ class Checkout(Scratch):
 
     def does(self, *words: str, mask: int = 0o022, path: Optional[str] = None) -> subprocess.CompletedProcess[str]:
         """What a command does at the top, under a mask of modes."""
-        environment = {**os.environ, **GIT, "PATH": path or f"{self.bin}:{os.environ['PATH']}"}
+        # what a make around this test says to those within it says nothing to ours
+        outer = {name: value for name, value in os.environ.items() if not name.startswith(("MAKE", "MFLAGS"))}
+        environment = {**outer, **GIT, "PATH": path or f"{self.bin}:{os.environ['PATH']}"}
         return subprocess.run(
             ["sh", "-c", f'umask {mask:o}; exec "$@"', "sh", *words],
             cwd=self.top, env=environment, capture_output=True, text=True,
