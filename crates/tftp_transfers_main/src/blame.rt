@@ -1,11 +1,12 @@
-//! At which frames the views of a transfer were refused.
+//! At which frames a transfer was refused, at each point where it is judged.
 
 use crate::passing::Passing;
 use std::alloc::{AllocError, Global};
-use tftp_judge::Refusal;
+use tftp_judge::{Meaning, Refusal};
+use tftp_tap_judge::TapRefusal;
 use tftp_transfers::{Endpoint, Place, TransferEnds};
 
-/// Where a view was refused.
+/// Where a transfer was refused.
 #[derive(Clone, Copy)]
 pub struct Blamed {
     /// The frame.
@@ -14,6 +15,17 @@ pub struct Blamed {
     pub is_late: bool,
     /// Whether it passed with another than the client.
     pub is_beside: bool,
+}
+
+/// What has been refused by now: the numbers of the datagrams, where judges have held some back till now.
+#[derive(Clone, Copy)]
+pub struct Refused {
+    /// At the client a datagram was.
+    pub at_client: bool,
+    /// At the server.
+    pub at_server: Option<Refusal>,
+    /// Between them.
+    pub between: Option<TapRefusal>,
 }
 
 /// A datagram that passed before it is known who the server is.
@@ -25,11 +37,12 @@ struct Passed {
     target: Endpoint,
 }
 
-/// Where the views were refused, as far as the transfer was read.
+/// Where a transfer was refused, as far as it was read.
 #[derive(Drop)]
 pub struct Blame {
     at_client: Option<Blamed>,
     at_server: Option<Blamed>,
+    between: Option<Blamed>,
     /// What passed while it was not known who the server is.
     passed: Vec<Passed>,
 }
@@ -40,6 +53,7 @@ impl Blame {
         Blame {
             at_client: None,
             at_server: None,
+            between: None,
             passed: Vec::new(alloc),
         }
     }
@@ -50,10 +64,8 @@ impl Blame {
     }
 
     /// Notes whether the client's view is refused at this datagram.
-    pub fn note_client(&mut self, blamed: Blamed, is_refused: bool) {
-        if is_refused && self.at_client.is_none() {
-            self.at_client = Some(blamed);
-        }
+    pub fn note_client(&mut self, blamed: Blamed, refused: &Refused) {
+        note(&mut self.at_client, blamed, refused.at_client);
     }
 
     /// Keeps a datagram that may turn out to be of the server's view.
@@ -72,31 +84,46 @@ impl Blame {
         Ok(())
     }
 
-    /// Notes that it is now known who the server is, and whether its view is refused by what was kept.
-    pub fn settle(&mut self, ends: &TransferEnds, refused: Option<Refusal>) {
-        if let Some(Refusal::Unlawful(number, _)) = refused {
-            self.at_server = self.find(ends, number);
-        }
+    /// Notes that it is now known who the server is, and what was refused of what was kept.
+    pub fn settle(&mut self, ends: &TransferEnds, refused: &Refused) {
+        self.at_server = self.find_at_server(ends, refused.at_server);
+        self.between = self.find_between(refused.between);
         self.passed.clear();
     }
 
-    /// Notes whether the server's view is refused at this datagram.
-    pub fn note_server(&mut self, blamed: Blamed, is_refused: bool) {
-        if is_refused && self.at_server.is_none() {
-            self.at_server = Some(blamed);
-        }
+    /// Notes what is refused at this datagram where it is known who the server is.
+    pub fn note_settled(&mut self, blamed: Blamed, refused: &Refused) {
+        note(&mut self.at_server, blamed, refused.at_server.is_some());
+        note(&mut self.between, blamed, refused.between.is_some());
     }
 
     /// Where the server's view was refused, once all has passed.
-    pub fn at_server(&self, ends: &TransferEnds, refusal: Option<Refusal>) -> Option<Blamed> {
-        match (self.at_server, refusal) {
-            (None, Some(Refusal::Unlawful(number, _))) => self.find(ends, number),
-            (at_server, _) => at_server,
+    pub fn at_server(
+        &self,
+        ends: &TransferEnds,
+        verdict: &Result<Meaning, Refusal>,
+    ) -> Option<Blamed> {
+        match verdict {
+            Ok(_) => None,
+            Err(refusal) => self
+                .at_server
+                .or(self.find_at_server(ends, Some(*refusal))),
         }
     }
 
-    /// The datagram of that number in the server's view.
-    fn find(&self, ends: &TransferEnds, number: u64) -> Option<Blamed> {
+    /// Where what passed between the ends was refused, once all has passed.
+    pub fn between(&self, verdict: &Result<Meaning, TapRefusal>) -> Option<Blamed> {
+        match verdict {
+            Ok(_) => None,
+            Err(refusal) => self.between.or(self.find_between(Some(*refusal))),
+        }
+    }
+
+    /// The datagram that was refused in the server's view, among those that were kept.
+    fn find_at_server(&self, ends: &TransferEnds, refusal: Option<Refusal>) -> Option<Blamed> {
+        let Some(Refusal::Unlawful(number, _)) = refusal else {
+            return None;
+        };
         let mut left = number;
         for one in self.passed.iter() {
             if ends.is_at_server(&one.place, one.source, one.target) {
@@ -107,5 +134,29 @@ impl Blame {
             }
         }
         None
+    }
+
+    /// The datagram that was refused between the ends, among those that were kept.
+    fn find_between(&self, refusal: Option<TapRefusal>) -> Option<Blamed> {
+        let Some(TapRefusal::Unlawful(number, _)) = refusal else {
+            return None;
+        };
+        let mut left = number;
+        for one in self.passed.iter() {
+            if one.place.transfer().is_some() {
+                if left <= 1 {
+                    return Some(one.blamed);
+                }
+                left -= 1;
+            }
+        }
+        None
+    }
+}
+
+/// Notes the first datagram at which it is refused.
+fn note(first: &mut Option<Blamed>, blamed: Blamed, is_refused: bool) {
+    if is_refused && first.is_none() {
+        *first = Some(blamed);
     }
 }

@@ -5,19 +5,30 @@ use crate::session::Session;
 use crate::teller::{Teller, What};
 use crate::texts::Kept;
 use anyhow::Result;
-use tftp_words::CheckRequest;
+use tftp_recording_judge::Judging;
+use tftp_words::{CheckRequest, Point};
 
 /// Judges the transfers of recordings. A recording that can't be read does not end it.
 pub fn check(rt: HostRuntime, asked: &CheckRequest<'_>) -> Result<u8> {
     let width = widest(asked.files.as_slice());
-    let mut teller = Teller::new(What::Check(asked.end), asked.json, width);
+    let mut teller = Teller::new(What::Check, asked.json, width);
     for file in asked.files.iter() {
-        if let Err(error) = check_file(rt, *file, asked.services.as_slice(), &mut teller) {
+        if let Err(error) = check_file(rt, *file, asked, &mut teller) {
             eprintln!(rt; "tftp-transfers: {}: {error}", *file)?;
             teller.status = 2;
         }
     }
     Ok(teller.status)
+}
+
+/// Where transfers are judged, where the recordings were made there, if that is said.
+fn judging_at(point: Option<Point>) -> Judging {
+    match point {
+        Some(Point::Client) => Judging::Client,
+        Some(Point::Server) => Judging::Server,
+        Some(Point::Between) => Judging::Between,
+        None => Judging::WhereRecorded,
+    }
 }
 
 fn widest(files: &[&str]) -> usize {
@@ -31,10 +42,11 @@ fn widest(files: &[&str]) -> usize {
 fn check_file<'a>(
     rt: HostRuntime,
     file: &'a str,
-    services: &[u16],
+    asked: &CheckRequest<'_>,
     teller: &mut Teller<'a>,
 ) -> Result<()> {
-    let mut session = Session::new(rt.alloc(), services, Kept::new(0))?;
+    let (services, judging) = (asked.services.as_slice(), judging_at(asked.end));
+    let mut session = Session::new(rt.alloc(), services, judging, Kept::new(0))?;
     teller.begin(file);
     let told = tell_session(rt, file, &mut session, teller);
     session.let_go();

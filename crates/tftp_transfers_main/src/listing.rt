@@ -11,6 +11,7 @@ use anyhow::Result;
 use serde::Serialize;
 use std::alloc::{AllocError, Global};
 use tftp_packet::{Mode, OptionsView, Packet, RequestView, Side, read_packet};
+use tftp_recording_judge::Judging;
 use tftp_words::ListRequest;
 
 /// A row of the list.
@@ -31,7 +32,7 @@ pub struct ListRow {
 /// Lists the transfers of a recording.
 pub fn list(rt: HostRuntime, asked: &ListRequest<'_>) -> Result<u8> {
     let services = asked.services.as_slice();
-    let mut session = Session::new(rt.alloc(), services, Kept::new(0))?;
+    let mut session = Session::new(rt.alloc(), services, Judging::Nowhere, Kept::new(0))?;
     let mut teller = Teller::new(What::List, asked.json, 0);
     let told = tell_session(rt, asked.file, &mut session, &mut teller);
     session.let_go();

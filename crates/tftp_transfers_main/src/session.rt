@@ -16,7 +16,7 @@ use tftp_parties::party_of;
 use tftp_pcap::{FaultKind, PcapFault};
 use tftp_recording::{Datagram, Event, Fate, RecordingReader};
 use tftp_recording_audit::{AuditFault, NextFrame, RecordingAudit};
-use tftp_recording_judge::Watched;
+use tftp_recording_judge::{Judging, Watched};
 use tftp_transfers::{Attributed, AttributionFault, Place, Transfer};
 
 /// What a recording has: its transfers by how many datagrams came before each, and what is to be told of it.
@@ -39,9 +39,14 @@ pub struct Ended {
 
 impl Session {
     /// Nothing was read. Requests go to port 69 and to the ports that are named.
-    pub fn new(alloc: Global, services: &[u16], kept: Kept) -> Result<Self, AllocError> {
+    pub fn new(
+        alloc: Global,
+        services: &[u16],
+        judging: Judging,
+        kept: Kept,
+    ) -> Result<Self, AllocError> {
         Ok(Session {
-            audit: RecordingAudit::new(alloc, services)?,
+            audit: RecordingAudit::new(alloc, services, judging)?,
             trails: BTreeMap::new(alloc),
             notes: Notes::new(alloc),
             kept,

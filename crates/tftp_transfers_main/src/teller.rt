@@ -7,16 +7,15 @@ use crate::verdicts::{Judged, Told};
 use anyhow::Result;
 use serde::Serialize;
 use std::alloc::AllocError;
-use tftp_packet::End;
-use tftp_verdict_rows::Rows;
+use tftp_verdict_rows::Row;
 
 /// What is told of each transfer.
 #[derive(Clone, Copy)]
 pub enum What {
     /// What its request asks for.
     List,
-    /// The verdict on it, at the end that was recorded, if that is known.
-    Check(Option<End>),
+    /// The verdict on it.
+    Check,
     /// Nothing: the text of one of them is wanted.
     Text,
 }
@@ -97,7 +96,7 @@ impl<'a> Teller<'a> {
         self.told = self.told.saturating_add(1);
         match self.what {
             What::List => self.tell_request(rt, ended),
-            What::Check(end) => self.tell_verdict(rt, ended, lost_from, end),
+            What::Check => self.tell_verdict(rt, ended, lost_from),
             What::Text => {
                 let_go(ended);
                 Ok(())
@@ -116,10 +115,9 @@ impl<'a> Teller<'a> {
         rt: HostRuntime,
         ended: Ended,
         lost_from: Option<u64>,
-        end: Option<End>,
     ) -> Result<()> {
         let judged = Judged::new(rt.alloc(), ended, lost_from)?;
-        self.tell_judged(rt, &judged, end)
+        self.tell_judged(rt, &judged)
     }
 
     /// Tells what a transfer's request asks for.
@@ -143,13 +141,20 @@ impl<'a> Teller<'a> {
     }
 
     /// Tells the verdicts on a transfer.
-    fn tell_judged(&mut self, rt: HostRuntime, judged: &Judged, end: Option<End>) -> Result<()> {
-        match judged.rows(end) {
-            Rows::One(row) => self.tell_one(rt, judged, &judged.told(&row)),
-            Rows::Two(first, second) => {
-                self.tell_one(rt, judged, &judged.told(&first))?;
-                self.tell_one(rt, judged, &judged.told(&second))
-            }
+    fn tell_judged(&mut self, rt: HostRuntime, judged: &Judged) -> Result<()> {
+        let rows = judged.rows();
+        self.tell_at(rt, judged, rows.client)?;
+        self.tell_at(rt, judged, rows.server)?;
+        self.tell_at(rt, judged, rows.between)
+    }
+
+    fn tell_at(&mut self, rt: HostRuntime, judged: &Judged, row: Option<Row>) -> Result<()> {
+        let Some(row) = row else {
+            return Ok(());
+        };
+        match judged.told(&row) {
+            Some(told) => self.tell_one(rt, judged, &told),
+            None => Ok(()),
         }
     }
 

@@ -16,6 +16,7 @@ use std::alloc::{AllocError, Global};
 use std::io;
 use tftp_capture::Tallied;
 use tftp_packet::End;
+use tftp_recording_judge::Judging;
 use tftp_texts::{Comment, TransferText};
 use tftp_transfers::{Endpoint, Place};
 use tftp_views::Party;
@@ -88,7 +89,7 @@ fn put_frame(words: &mut String, passing: &Passing<'_>) -> Result<(), AllocError
 /// Writes the capture text of a transfer at an end, unless the recording is not whole.
 pub fn write_text(rt: HostRuntime, asked: &TextRequest<'_>) -> Result<u8> {
     let kept = Kept::new(asked.number);
-    let mut session = Session::new(rt.alloc(), asked.services.as_slice(), kept)?;
+    let mut session = Session::new(rt.alloc(), asked.services.as_slice(), Judging::Nowhere, kept)?;
     let written = write_session(rt, asked, &mut session);
     session.let_go();
     written?;

@@ -1,6 +1,6 @@
 //! What is kept of a transfer beside its judges.
 
-use crate::blame::{Blame, Blamed};
+use crate::blame::{Blame, Blamed, Refused};
 use crate::passing::Passing;
 use crate::reasons::Doubted;
 use crate::twice::Twice;
@@ -8,6 +8,7 @@ use std::alloc::{AllocError, Global};
 use tftp_ends::RingDelivered;
 use tftp_judge::{Meaning, Refusal};
 use tftp_recording_judge::Watched;
+use tftp_tap_judge::TapRefusal;
 use tftp_transfers::{Attributed, Endpoint, Place, Transfer, TransferDoubts, TransferEnds};
 
 /// A transfer, as far as it was read.
@@ -63,7 +64,7 @@ impl Trail {
         self.note_blame(found.place, passing, watched)
     }
 
-    /// Notes at which frame an end's view was refused.
+    /// Notes at which frame it was refused.
     fn note_blame(
         &mut self,
         place: Place,
@@ -75,18 +76,17 @@ impl Trail {
             is_late: watched.doubts().is_late(),
             is_beside: matches!(place, Place::Beside(_)),
         };
-        let at_client = watched.judge().client().refused();
-        let at_server = watched.judge().server().refused();
-        self.blame.note_client(blamed, at_client.is_some());
+        let refused = refused_by(watched);
+        self.blame.note_client(blamed, &refused);
         if self.ends.is_settled() {
-            self.blame.note_server(blamed, at_server.is_some());
+            self.blame.note_settled(blamed, &refused);
             return Ok(());
         }
         self.blame.keep(blamed, place, passing)?;
         self.ends
             .note(&place, passing.source, passing.target, passing.payload);
         if self.ends.is_settled() {
-            self.blame.settle(&self.ends, at_server);
+            self.blame.settle(&self.ends, &refused);
         }
         Ok(())
     }
@@ -94,14 +94,6 @@ impl Trail {
     /// The server: with whom the client went on, or who answered it first, or else whom it asked.
     pub fn server(&self) -> Endpoint {
         self.ends.server().unwrap_or(self.transfer.asked)
-    }
-
-    /// Whether both ends are at one host, so that what was recorded passed at both.
-    pub fn is_at_one_host(&self) -> bool {
-        match self.ends.server() {
-            Some(server) => server.address == self.transfer.client.address,
-            None => false,
-        }
     }
 
     /// What makes a refusal doubtful, beside its own doubts; from the frame `lost_from` on datagrams may be missing.
@@ -121,10 +113,30 @@ impl Trail {
 
     /// Where the server's view was refused.
     pub fn at_server(&self, verdict: &Result<Meaning, Refusal>) -> Option<Blamed> {
-        let refusal = match verdict {
-            Ok(_) => None,
-            Err(refusal) => Some(*refusal),
-        };
-        self.blame.at_server(&self.ends, refusal)
+        self.blame.at_server(&self.ends, verdict)
+    }
+
+    /// Where what passed between the ends was refused.
+    pub fn between(&self, verdict: &Result<Meaning, TapRefusal>) -> Option<Blamed> {
+        self.blame.between(verdict)
+    }
+}
+
+/// What the judges of a transfer have refused by now.
+fn refused_by(watched: &Watched<RingDelivered>) -> Refused {
+    let at_client = match watched.client() {
+        Some(client) => client.refused(),
+        None => None,
+    };
+    Refused {
+        at_client: at_client.is_some(),
+        at_server: match watched.server() {
+            Some(server) => server.refused(),
+            None => None,
+        },
+        between: match watched.between() {
+            Some(between) => between.refused(),
+            None => None,
+        },
     }
 }

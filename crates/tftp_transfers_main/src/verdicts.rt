@@ -1,4 +1,4 @@
-//! The verdict on a transfer: of each end's view, and what can be said where it is not known which end was recorded.
+//! The verdict on a transfer at each point where it was judged.
 
 use crate::blame::Blamed;
 use crate::reasons::Doubted;
@@ -9,10 +9,11 @@ use tftp_capture::Tallied;
 use tftp_commands::{say_accepted, say_verdict};
 use tftp_judge::{Meaning, Refusal, Verdict};
 use tftp_packet::End;
-use tftp_verdict_rows::{Place, Row, Rows, Said, rows_told};
-use tftp_views::Verdicts;
+use tftp_recording_judge::Verdicts;
+use tftp_tap_judge::TapRefusal;
+use tftp_verdict_rows::{Place, Point, Row, Rows, Said, rows_told};
 
-/// The verdict on an end's view.
+/// The verdict at a point.
 #[derive(Drop)]
 pub struct Viewed {
     said: Said,
@@ -23,22 +24,19 @@ pub struct Viewed {
 /// What there is to say of a transfer.
 #[derive(Drop)]
 pub struct Judged {
-    pub client: Viewed,
-    pub server: Viewed,
-    /// Whether both ends are at one host, so that what was recorded passed at both.
-    pub is_at_one_host: bool,
+    client: Option<Viewed>,
+    server: Option<Viewed>,
+    between: Option<Viewed>,
     /// What makes a refusal doubtful.
     pub doubted: Doubted,
 }
 
-/// What is said of a transfer in one row: of a view, and the other one where it is not refused there so.
-#[derive(Clone, Copy)]
+/// What is said of a transfer in one row.
+#[derive(Clone, Copy, Debug)]
 pub struct Told<'a> {
-    /// Where it was recorded: client, server, both or unknown.
+    /// Where it was recorded: client, server, both or between.
     pub place: &'static str,
     pub view: &'a Viewed,
-    /// The other end, and what is said of its view.
-    pub elsewhere: Option<(&'static str, &'a str)>,
 }
 
 impl Judged {
@@ -58,55 +56,95 @@ impl Judged {
         verdicts: &Verdicts,
         doubted: Doubted,
     ) -> Result<Self, AllocError> {
-        let at_server = trail.at_server(&verdicts.server);
-        let client = Viewed::new(alloc, &verdicts.client, trail.at_client())?;
-        let server = Viewed::new(alloc, &verdicts.server, at_server)?;
         Ok(Judged {
-            client,
-            server,
-            is_at_one_host: trail.is_at_one_host(),
+            client: at_client(alloc, trail, &verdicts.client)?,
+            server: at_server(alloc, trail, &verdicts.server)?,
+            between: between(alloc, trail, &verdicts.between)?,
             doubted,
         })
     }
 
-    /// Which verdicts are told, where this end is named, or none.
-    pub fn rows(&self, named: Option<End>) -> Rows {
-        let (client, server) = (&self.client.said, &self.server.said);
-        rows_told(named, self.is_at_one_host, self.are_alike(), client, server)
+    /// Which verdicts are told.
+    pub fn rows(&self) -> Rows {
+        let (client, server) = (said_of(&self.client), said_of(&self.server));
+        rows_told(client, server, said_of(&self.between), self.are_alike())
     }
 
     /// What is said in a row.
-    pub fn told(&self, row: &Row) -> Told<'_> {
-        let (view, elsewhere) = match row.end {
-            End::Client => (&self.client, ("server", self.server.line())),
-            End::Server => (&self.server, ("client", self.client.line())),
+    pub fn told(&self, row: &Row) -> Option<Told<'_>> {
+        let view = match row.point {
+            Point::Client => &self.client,
+            Point::Server => &self.server,
+            Point::Between => &self.between,
         };
-        Told {
-            place: word_of(row.place),
-            view,
-            elsewhere: if row.is_disputed {
-                Some(elsewhere)
-            } else {
-                None
-            },
+        match view {
+            Some(view) => Some(Told {
+                place: word_of(row.place),
+                view,
+            }),
+            None => None,
         }
     }
 
-    /// Whether the two views are told alike, of the same frame.
+    /// Whether the ends are told alike, of the same frame.
     fn are_alike(&self) -> bool {
-        let (client, server) = (&self.client, &self.server);
-        client.frame() == server.frame() && client.line() == server.line()
+        match (&self.client, &self.server) {
+            (Some(client), Some(server)) => {
+                client.frame() == server.frame() && client.line() == server.line()
+            }
+            _ => false,
+        }
     }
 }
 
 fn let_go(_trail: Trail, _verdicts: Verdicts) {}
+
+fn at_client(
+    alloc: Global,
+    trail: &Trail,
+    found: &Option<Result<Meaning, Refusal>>,
+) -> Result<Option<Viewed>, AllocError> {
+    match found {
+        Some(found) => Ok(Some(Viewed::at_end(alloc, found, trail.at_client())?)),
+        None => Ok(None),
+    }
+}
+
+fn at_server(
+    alloc: Global,
+    trail: &Trail,
+    found: &Option<Result<Meaning, Refusal>>,
+) -> Result<Option<Viewed>, AllocError> {
+    match found {
+        Some(found) => Ok(Some(Viewed::at_end(alloc, found, trail.at_server(found))?)),
+        None => Ok(None),
+    }
+}
+
+fn between(
+    alloc: Global,
+    trail: &Trail,
+    found: &Option<Result<Meaning, TapRefusal>>,
+) -> Result<Option<Viewed>, AllocError> {
+    match found {
+        Some(found) => Ok(Some(Viewed::between(alloc, found, trail.between(found))?)),
+        None => Ok(None),
+    }
+}
+
+fn said_of(viewed: &Option<Viewed>) -> Option<&Said> {
+    match viewed {
+        Some(viewed) => Some(&viewed.said),
+        None => None,
+    }
+}
 
 fn word_of(place: Place) -> &'static str {
     match place {
         Place::Client => "client",
         Place::Server => "server",
         Place::Both => "both",
-        Place::Unknown => "unknown",
+        Place::Between => "between",
     }
 }
 
@@ -118,28 +156,43 @@ impl<'a> Told<'a> {
         reasons: &mut Vec<String>,
         doubted: &Doubted,
     ) -> Result<(), AllocError> {
-        if let (true, Some(blamed)) = (self.view.is_refused(), &self.view.blamed) {
-            doubted.put_reasons(alloc, reasons, blamed)?;
+        match (self.view.said.is_refused(), &self.view.blamed) {
+            (true, Some(blamed)) => doubted.put_reasons(alloc, reasons, blamed),
+            _ => Ok(()),
         }
-        if let Some((place, line)) = self.elsewhere {
-            reasons.push(format!(in alloc;
-                "where it was recorded is not known, and at the {place} it is {line}"
-            )?)?;
-        }
-        Ok(())
     }
 }
 
 impl Viewed {
-    fn new(
+    fn at_end(
         alloc: Global,
         found: &Result<Meaning, Refusal>,
         blamed: Option<Blamed>,
     ) -> Result<Self, AllocError> {
+        let line = match found {
+            Ok(meaning) => accepted_line(alloc, meaning),
+            Err(refusal) => refused_line(alloc, *refusal),
+        };
         Ok(Viewed {
             said: Said::of(found, frame_of(&blamed)),
             blamed,
-            line: line_of(alloc, found)?,
+            line: line?,
+        })
+    }
+
+    fn between(
+        alloc: Global,
+        found: &Result<Meaning, TapRefusal>,
+        blamed: Option<Blamed>,
+    ) -> Result<Self, AllocError> {
+        let line = match found {
+            Ok(meaning) => accepted_line(alloc, meaning),
+            Err(refusal) => line_between(alloc, *refusal),
+        };
+        Ok(Viewed {
+            said: Said::between(found, frame_of(&blamed)),
+            blamed,
+            line: line?,
         })
     }
 
@@ -158,15 +211,7 @@ impl Viewed {
 
     /// 0 where it is accepted, 2 where memory was wanting, else 1.
     pub fn status(&self) -> u8 {
-        match self.said {
-            Said::Accepted => 0,
-            Said::Memory => 2,
-            _ => 1,
-        }
-    }
-
-    fn is_refused(&self) -> bool {
-        self.said.is_refused()
+        self.said.status()
     }
 }
 
@@ -177,13 +222,40 @@ fn frame_of(blamed: &Option<Blamed>) -> Option<u64> {
     }
 }
 
-/// The line of a verdict, without its end.
-fn line_of(alloc: Global, found: &Result<Meaning, Refusal>) -> Result<String, AllocError> {
+/// The line of an accepted transfer, without its end.
+fn accepted_line(alloc: Global, meaning: &Meaning) -> Result<String, AllocError> {
     let mut written = Tallied::new(Vec::new(alloc));
-    match found {
-        Ok(meaning) => say_accepted(alloc, &mut written, meaning),
-        Err(refusal) => say_verdict(alloc, &mut written, Verdict::Refused(*refusal)),
-    };
+    say_accepted(alloc, &mut written, meaning);
+    line_of(alloc, written)
+}
+
+/// The line of one that is not accepted at an end.
+fn refused_line(alloc: Global, refusal: Refusal) -> Result<String, AllocError> {
+    let mut written = Tallied::new(Vec::new(alloc));
+    say_verdict(alloc, &mut written, Verdict::Refused(refusal));
+    line_of(alloc, written)
+}
+
+/// The line of one that is not accepted between the ends: in the words of an end's, but that an ERROR is told by its sender.
+fn line_between(alloc: Global, refusal: TapRefusal) -> Result<String, AllocError> {
+    match refusal {
+        TapRefusal::Unlawful(number, rule) => {
+            refused_line(alloc, Refusal::Unlawful(number, rule))
+        }
+        TapRefusal::Incomplete(count) => refused_line(alloc, Refusal::Incomplete(count)),
+        TapRefusal::NormalTooLong => refused_line(alloc, Refusal::NormalTooLong),
+        TapRefusal::Memory(count) => refused_line(alloc, Refusal::Memory(count)),
+        TapRefusal::Aborted(End::Client, code) => {
+            format!(in alloc; "aborted by client code {code}")
+        }
+        TapRefusal::Aborted(End::Server, code) => {
+            format!(in alloc; "aborted by server code {code}")
+        }
+    }
+}
+
+/// What was written, without its line's end.
+fn line_of(alloc: Global, written: Tallied<Vec<u8>>) -> Result<String, AllocError> {
     let has_failed = written.failed();
     let line = written.into_inner();
     if has_failed {

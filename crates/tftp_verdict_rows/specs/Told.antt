@@ -1,77 +1,82 @@
--- Which verdicts are told of a transfer, where each of its two ends has one.
-use Rattle.std.specs.Prelude.{◌≡◌, ◌==◌, ◌&&◌, ℕ, Bool, true, false, List, [], ◌∷◌, Option, Some, Result, Ok, Err}
-use Rattle.tftp_packet.specs.declared.kinds.End.{End}
-use Rattle.tftp_packet.specs.declared.kinds.End.TheVariants.{Client, Server}
+-- Which verdicts are told of a transfer, by the points at which it was judged.
+use Rattle.std.specs.Prelude.{◌≡◌, ◌≢◌, ◌⊎◌, ◌&&◌, ℕ, Bool, true, false, List, [], ◌∷◌, ◌++◌, Option, Some, None, IsSome, is_some, option_to_list, Result, Ok, Err, if◌then◌else◌}
 use Rattle.tftp_ends.specs.Meaning.{Meaning}
 use Rattle.tftp_judge.specs.declared.refusal.Refusal.{Refusal}
 use Rattle.tftp_judge.specs.declared.refusal.Refusal.TheVariants as refusal
-use Rattle.tftp_law.specs.Rules.{number_of}
+use Rattle.tftp_tap_judge.specs.declared.refusal.TapRefusal.{TapRefusal}
+use Rattle.tftp_tap_judge.specs.declared.refusal.TapRefusal.TheVariants as tap
 use Rattle.tftp_verdict_rows.specs.declared.said.Said.{Said}
 use Rattle.tftp_verdict_rows.specs.declared.said.Said.TheVariants.{Accepted, Refused, NotWhole, Memory}
 use Rattle.tftp_verdict_rows.specs.declared.row.Row.{Row}
 use Rattle.tftp_verdict_rows.specs.declared.row.Rows.{Rows}
 use Rattle.tftp_verdict_rows.specs.declared.row.Place.TheVariants as places
-use Rattle.tftp_verdict_rows.specs.declared.row.Rows.TheVariants as rows
+use Rattle.tftp_verdict_rows.specs.declared.row.Point.{Point}
+use Rattle.tftp_verdict_rows.specs.declared.row.Point.TheVariants.{Client, Server, Between}
 
--- what a judge found, whose refused datagram is in this frame
+-- ---- what is said at a point
+
+-- what the judge of an end found, whose refused datagram is in this frame
 abbrev pub said_of : Result Meaning Refusal → Option ℕ → Said
 said_of (Ok m) frame = Accepted
 said_of (Err (refusal.Unlawful index rule)) frame = Refused rule frame
 said_of (Err (refusal.Memory count)) frame = Memory
 said_of (Err _) frame = NotWhole
 
-abbrev pub is_accepted : Said → Bool
-is_accepted Accepted = true
-is_accepted _ = false
+-- what the judge between the ends found
+abbrev pub said_between : Result Meaning TapRefusal → Option ℕ → Said
+said_between (Ok m) frame = Accepted
+said_between (Err (tap.Unlawful index rule)) frame = Refused rule frame
+said_between (Err (tap.Memory count)) frame = Memory
+said_between (Err _) frame = NotWhole
 
 abbrev pub is_refused : Said → Bool
 is_refused (Refused rule frame) = true
 is_refused _ = false
 
--- ---- the ends
+-- 0 where all is well, 2 where there was no memory to judge it, and else 1
+abbrev pub status_of : Said → ℕ
+status_of Accepted = 0
+status_of (Refused rule frame) = 1
+status_of NotWhole = 1
+status_of Memory = 2
 
--- what is said at an end
-abbrev pub at_end : End → Said → Said → Said
-at_end Client client server = client
-at_end Server client server = server
-
-abbrev pub other_end : End → End
-other_end Client = Server
-other_end Server = Client
+-- ---- the rows
 
 -- the rows, in their order
 abbrev pub rows_of : Rows → List Row
-rows_of (rows.One r) = r ∷ []
-rows_of (rows.Two r s) = r ∷ s ∷ []
+rows_of rows = option_to_list rows.client ++ (option_to_list rows.server ++ option_to_list rows.between)
 
--- a rule of this number is broken, by the datagram in this frame
-abbrev pub is_refused_by : ℕ → ℕ → Said → Bool
-is_refused_by number frame (Refused rule (Some at)) = (number_of rule == number) && (at == frame)
-is_refused_by number frame _ = false
+-- what is told of the transfer at one point alone
+abbrev pub plain_row : Point → Row
+plain_row Client = record { place = places.Client; point = Client }
+plain_row Server = record { place = places.Server; point = Server }
+plain_row Between = record { place = places.Between; point = Between }
 
--- Both ends refuse the transfer, for one rule, at the datagram in one frame.
-pub record AreOneRefusal (client server : Said) : Type 0 where
-  pub number : ℕ
-  pub frame : ℕ
-  pub at_client : is_refused_by number frame client ≡ true
-  pub at_server : is_refused_by number frame server ≡ true
+abbrev pub row_of : Point → Option Said → List Row
+row_of point None = []
+row_of point (Some said) = plain_row point ∷ []
 
--- the verdict of the end that was recorded
-abbrev pub plain_row : End → Row
-plain_row Client = record { place = places.Client; end = Client; is_disputed = false }
-plain_row Server = record { place = places.Server; end = Server; is_disputed = false }
+-- what is told of both ends at once
+abbrev pub both_row : Row
+both_row = record { place = places.Both; point = Client }
 
--- What is told where it is not known which end was recorded: one row, and
-pub record IsToldAnywhere (client server : Said) (row : Row) : Type 0 where
-  pub place : row.place ≡ places.Unknown
-  -- what either end's view accepts is accepted;
-  pub cleared : (end : End) → at_end end client server ≡ Accepted → at_end row.end client server ≡ Accepted
-  -- a refusal that is not disputed is that of both views, for one rule at one datagram,
-  pub accused : is_refused (at_end row.end client server) ≡ true → row.is_disputed ≡ false → AreOneRefusal client server
-  -- and such a one is told, and not disputed;
-  pub guilty : AreOneRefusal client server → (at_end row.end client server ≡ client) × (row.is_disputed ≡ false)
-  -- nothing but a refusal is disputed;
-  pub disputed : row.is_disputed ≡ true → is_refused (at_end row.end client server) ≡ true
-  -- and no end's refusal is hidden but by what the other end's view accepts.
-  pub refused : (end : End) → is_refused (at_end end client server) ≡ true → is_accepted client ≡ false → is_accepted server ≡ false
-      → is_refused (at_end row.end client server) ≡ true
+-- Each end that was judged has its row, the client's first; both have one, if both were judged and are told alike.
+abbrev pub ends_told : Option Said → Option Said → Bool → List Row
+ends_told client server alike =
+    if is_some client && (is_some server && alike) then both_row ∷ [] else row_of Client client ++ row_of Server server
+
+-- And what was judged between them has one.
+abbrev pub rows_told : Option Said → Option Said → Option Said → Bool → List Row
+rows_told client server between alike = ends_told client server alike ++ row_of Between between
+
+-- ---- that all is told
+
+abbrev pub said_at : Point → Option Said → Option Said → Option Said → Option Said
+said_at Client client server between = client
+said_at Server client server between = server
+said_at Between client server between = between
+
+-- the row tells what is said at this point
+abbrev pub Tells : Option Said → Option Said → Bool → Point → Row → Type 0
+Tells client server alike point row =
+    (row ≡ plain_row point) ⊎ ((row ≡ both_row) × (point ≢ Between) × (alike ≡ true) × IsSome client × IsSome server)

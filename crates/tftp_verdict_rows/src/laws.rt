@@ -1,24 +1,23 @@
-//! Worked examples of the definitions in `specs/`. Each is the contract of a function that does nothing.
+//! Laws of the definitions in `specs/`. Each is the contract of a function that does nothing.
 
-ghost use Rattle.std.specs.Prelude.{Some, true, false};
+ghost use Rattle.std.specs.Prelude.{◌≡◌, ◌∷◌, [], Any, Bool, IsSome, None, Option, Some, true, false};
 ghost use Rattle.tftp_law.specs.declared.rule.Rule.TheVariants.{BlockSkipped, GoneBack};
-ghost use Rattle.tftp_packet.specs.declared.kinds.End.TheVariants.{Client, Server};
-ghost use Rattle.tftp_verdict_rows.specs.Told.{AreOneRefusal, IsToldAnywhere};
-ghost use Rattle.tftp_verdict_rows.specs.declared.row.Place.TheVariants.{Unknown};
+ghost use Rattle.tftp_verdict_rows.specs.Told.{Tells, both_row, plain_row, rows_told, said_at};
+ghost use Rattle.tftp_verdict_rows.specs.declared.row.Point.{Point as PointKind};
+ghost use Rattle.tftp_verdict_rows.specs.declared.row.Point.TheVariants.{Client, Server, Between};
+ghost use Rattle.tftp_verdict_rows.specs.declared.said.Said.{Said as SaidKind};
 ghost use Rattle.tftp_verdict_rows.specs.declared.said.Said.TheVariants.{Accepted, Refused};
 
-/// Two ends that refuse frame 5 for one rule are one refusal; in two frames, by two rules, or where one accepts they are
-/// none.
-pub fn worked_refusals()
-    ensures one { AreOneRefusal (Refused BlockSkipped (Some 5)) (Refused BlockSkipped (Some 5)) }
-    ensures frames { AreOneRefusal (Refused BlockSkipped (Some 5)) (Refused BlockSkipped (Some 6)) → ⊥ }
-    ensures rules { AreOneRefusal (Refused BlockSkipped (Some 5)) (Refused GoneBack (Some 5)) → ⊥ }
-    ensures cleared { AreOneRefusal (Refused BlockSkipped (Some 5)) Accepted → ⊥ }
+/// Nothing that was judged is hidden: what is said at a point is told in a row.
+pub fn what_is_judged_is_told()
+    ensures { (client server between : Option SaidKind) (alike : Bool) (point : PointKind) → IsSome (said_at point client server between)
+        → Any (Tells client server alike point) (rows_told client server between alike) }
 {}
 
-/// Of a transfer that the client's view refuses and the server's accepts the acceptance is told, and nothing else.
-pub fn worked_row()
-    ensures told { IsToldAnywhere (Refused BlockSkipped (Some 5)) Accepted (record { place = Unknown; end = Server; is_disputed = false }) }
-    ensures blamed { IsToldAnywhere (Refused BlockSkipped (Some 5)) Accepted (record { place = Unknown; end = Client; is_disputed = false }) → ⊥ }
-    ensures disputed { IsToldAnywhere (Refused BlockSkipped (Some 5)) Accepted (record { place = Unknown; end = Client; is_disputed = true }) → ⊥ }
+/// A client that accepts and a server that refuses are told in two rows; a transfer that was judged between its ends in one.
+pub fn worked_rows()
+    ensures both { rows_told (Some Accepted) (Some (Refused GoneBack (Some 5))) None false ≡ plain_row Client ∷ plain_row Server ∷ [] }
+    ensures alike { rows_told (Some (Refused BlockSkipped (Some 5))) (Some (Refused BlockSkipped (Some 5))) None true ≡ both_row ∷ [] }
+    ensures between { rows_told None None (Some Accepted) true ≡ plain_row Between ∷ [] }
+    ensures nowhere { rows_told None None None true ≡ [] }
 {}

@@ -1,9 +1,9 @@
-//! Which verdicts of the two ends are told of a transfer, and which of them as doubtful.
+//! Which verdicts are told of a transfer, by the points at which it was judged.
 #![tactic(auto)]
 
 pub mod laws;
 mod row;
 mod said;
 
-pub use row::{Place, Row, Rows, rows_told};
+pub use row::{Place, Point, Row, Rows, rows_told};
 pub use said::Said;

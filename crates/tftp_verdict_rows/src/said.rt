@@ -1,10 +1,10 @@
 ghost use Rattle.std.specs.Prelude.{◌≡◌, Option, Result};
-ghost use Rattle.tftp_judge.specs.declared.refusal.Refusal.{Refusal as RefusalKind};
-ghost use Rattle.tftp_verdict_rows.specs.Told.{is_accepted, is_refused, said_of};
+ghost use Rattle.tftp_verdict_rows.specs.Told.{is_refused, said_between, said_of, status_of};
 
 use tftp_judge::{Meaning, Refusal, Rule};
+use tftp_tap_judge::TapRefusal;
 
-/// What is said of a transfer at one of its ends.
+/// What is said of a transfer at one of the points where it was judged.
 #[derive(Clone, Copy, Debug)]
 pub enum Said {
     /// It is a complete transfer.
@@ -19,7 +19,7 @@ pub enum Said {
 }
 
 impl Said {
-    /// What a judge found; a datagram that it refused is in that frame.
+    /// What the judge of an end found; a datagram that it refused is in that frame.
     pub fn of(found: &Result<Meaning, Refusal>, frame: Option<u64>) -> Self
         ensures { result ≡ said_of found.now frame }
     {
@@ -33,11 +33,18 @@ impl Said {
         }
     }
 
-    /// Whether it is a complete transfer.
-    pub fn is_accepted(&self) -> bool
-        ensures { result ≡ is_accepted self.now }
+    /// What the judge between the ends found; a datagram that it refused is in that frame.
+    pub fn between(found: &Result<Meaning, TapRefusal>, frame: Option<u64>) -> Self
+        ensures { result ≡ said_between found.now frame }
     {
-        matches!(self, Said::Accepted)
+        match found {
+            Ok(_) => Said::Accepted,
+            Err(TapRefusal::Unlawful(_, rule)) => Said::Refused(*rule, frame),
+            Err(TapRefusal::Memory(_)) => Said::Memory,
+            Err(TapRefusal::Aborted(_, _)) => Said::NotWhole,
+            Err(TapRefusal::Incomplete(_)) => Said::NotWhole,
+            Err(TapRefusal::NormalTooLong) => Said::NotWhole,
+        }
     }
 
     /// Whether a datagram is refused.
@@ -45,5 +52,17 @@ impl Said {
         ensures { result ≡ is_refused self.now }
     {
         matches!(self, Said::Refused(_, _))
+    }
+
+    /// The exit status that a program has which says it: 0 where it is accepted, 2 where memory was wanting, and else 1.
+    pub fn status(&self) -> u8
+        ensures { result ≡ status_of self.now }
+    {
+        match self {
+            Said::Accepted => 0,
+            Said::Refused(_, _) => 1,
+            Said::NotWhole => 1,
+            Said::Memory => 2,
+        }
     }
 }

@@ -1,7 +1,7 @@
 -- What the words ask for, by the command.
 use Rattle.std.proofs.Common.{◌≡◌, ◌≢◌, inl, inr, ℕ, List, [], ◌∷◌, drop, Option, Some, None, codes, slice_get, get_or, refl, sym, ap, ◌∙◌, subst, arith, ◌≤◌, length, map, Bool, true, false, if◌then◌else◌, option_to_list, Bor}
 use Rattle.std.proofs.lemmas.Option.{slice_get_within}
-use Rattle.tftp_packet.specs.declared.kinds.End.{End}
+use Rattle.tftp_words.specs.declared.point.Point.{Point}
 use Rattle.tftp_words.specs.declared.request.Command.{Command}
 use Rattle.tftp_words.specs.declared.request.Command.TheVariants as command
 use Rattle.tftp_words.specs.Parts.{Word, Part, Say, Have, IsOnce, IsTransfer, end_word, plains}
@@ -114,12 +114,12 @@ at_most_one : (json : Bool) → (if json then 1 else 0) ≤ 1
 at_most_one true = omega arith
 at_most_one false = omega arith
 
-one_end : (at : Option End) → length (option_to_list at) ≤ 1
-one_end None = omega arith
-one_end (Some x) = omega arith
+one_point : (at : Option Point) → length (option_to_list at) ≤ 1
+one_point None = omega arith
+one_point (Some x) = omega arith
 
-once : (ps : List Part) (ports : List ℕ) (json : Bool) (at : Option End) (words : List Word) → Have ps ports json at words → IsOnce ps
-once ps ports json at words h = (subst (λ n. n ≤ 1) (sym h.1) (at_most_one json), subst (λ l. length l ≤ 1) (sym h.2) (one_end at))
+once : (ps : List Part) (ports : List ℕ) (json : Bool) (at : Option Point) (words : List Word) → Have ps ports json at words → IsOnce ps
+once ps ports json at words h = (subst (λ n. n ≤ 1) (sym h.1) (at_most_one json), subst (λ l. length l ≤ 1) (sym h.2) (one_point at))
 
 argues_once : (a : Asked) (ps : List Part) → Argues a ps → IsOnce ps
 argues_once (Listed services json file) ps argues = once ps services json None (file ∷ []) argues

@@ -1,8 +1,8 @@
 -- How the words begin.
 use Rattle.std.proofs.Common.{◌≡◌, ◌≢◌, inl, inr, ℕ, [], ◌∷◌, ◌++◌, length, true, false, Option, Some, codes, ◌==◌, refl, sym, ap, ◌∙◌, append-nil, get_or, subst, arith}
-use Rattle.tftp_packet.specs.declared.kinds.End.{End}
+use Rattle.tftp_words.specs.declared.point.Point.{Point}
 use Rattle.std.proofs.lemmas.List.{append_cancel_left}
-use Rattle.tftp_words.specs.Parts.{Word, Part, Service, Json, At, Plain, IsOption, IsPlain, IsPort, Gives, Begins, end_word}
+use Rattle.tftp_words.specs.Parts.{Word, Part, Service, Json, At, Plain, IsOption, IsPlain, IsPort, Gives, Begins, point_word}
 
 pub no_name : (name word : Word) (next : Option Word) → ((rest : Word) → word ≡ name ++ rest → ⊥) → (value : Word) (count : ℕ) → Gives name word next value count → ⊥
 no_name name word next not value count (inl (one, is)) = not _ is
@@ -37,9 +37,9 @@ pub service_given : (word : Word) (next : Option Word) (port count : ℕ) → Be
 service_given word next port count (inl (one, (text, is, option))) = (text, is, given_by_one (codes "--service") text word next count one option)
 service_given word next port count (inr (two, second, at, (text, is, option))) = (text, is, given_by_two (codes "--service") text word second next count two at option)
 
-pub end_given : (word : Word) (next : Option Word) (end : End) (count : ℕ) → Begins word next (At end) count → Gives (codes "--end") word next (end_word end) count
-end_given word next end count (inl (one, option)) = given_by_one (codes "--end") (end_word end) word next count one option
-end_given word next end count (inr (two, second, at, option)) = given_by_two (codes "--end") (end_word end) word second next count two at option
+pub point_given : (word : Word) (next : Option Word) (point : Point) (count : ℕ) → Begins word next (At point) count → Gives (codes "--end") word next (point_word point) count
+point_given word next point count (inl (one, option)) = given_by_one (codes "--end") (point_word point) word next count one option
+point_given word next point count (inr (two, second, at, option)) = given_by_two (codes "--end") (point_word point) word second next count two at option
 
 pub third_of : (name word : Word) (next : Option Word) (v : Word) (k x : ℕ) → ((rest : Word) → get_or (name ++ rest) 2 0 ≡ x) → Gives name word next v k → get_or word 2 0 ≡ x
 third_of name word next v k x at (inl (one, is)) = ap (λ w. get_or w 2 0) is ∙ at (61 ∷ v)
@@ -66,19 +66,19 @@ no_port word next text k plain json option none (Service port) count begins =
     let given = service_given word next port count begins in
     none port (subst (λ t. IsPort t port) (one_value (codes "--service") word next given.0 text count k given.2 option) given.1)
 no_port word next text k plain json option none Json count begins = not_json word next count json begins
-no_port word next text k plain json option none (At end) count begins = two_names word next text (end_word end) k count option (end_given word next end count begins)
+no_port word next text k plain json option none (At point) count begins = two_names word next text (point_word point) k count option (point_given word next point count begins)
 no_port word next text k plain json option none (Plain w) count begins = not_plain word w next count plain begins
 
-pub no_end : (word : Word) (next : Option Word) (text : Word) (k : ℕ) → (IsPlain word → ⊥) → word ≢ codes "--json" → Gives (codes "--end") word next text k → ((end : End) → text ≢ end_word end)
+pub no_point : (word : Word) (next : Option Word) (text : Word) (k : ℕ) → (IsPlain word → ⊥) → word ≢ codes "--json" → Gives (codes "--end") word next text k → ((point : Point) → text ≢ point_word point)
     → (p : Part) (count : ℕ) → Begins word next p count → ⊥
-no_end word next text k plain json option none (Service port) count begins = let given = service_given word next port count begins in two_names word next given.0 text count k given.2 option
-no_end word next text k plain json option none Json count begins = not_json word next count json begins
-no_end word next text k plain json option none (At end) count begins = none end (one_value (codes "--end") word next text (end_word end) k count option (end_given word next end count begins))
-no_end word next text k plain json option none (Plain w) count begins = not_plain word w next count plain begins
+no_point word next text k plain json option none (Service port) count begins = let given = service_given word next port count begins in two_names word next given.0 text count k given.2 option
+no_point word next text k plain json option none Json count begins = not_json word next count json begins
+no_point word next text k plain json option none (At point) count begins = none point (one_value (codes "--end") word next text (point_word point) k count option (point_given word next point count begins))
+no_point word next text k plain json option none (Plain w) count begins = not_plain word w next count plain begins
 
 pub no_part : (word : Word) (next : Option Word) → (IsPlain word → ⊥) → word ≢ codes "--json" → ((v : Word) (k : ℕ) → Gives (codes "--service") word next v k → ⊥) → ((v : Word) (k : ℕ) → Gives (codes "--end") word next v k → ⊥)
     → (p : Part) (count : ℕ) → Begins word next p count → ⊥
 no_part word next plain json service end (Service port) count begins = let given = service_given word next port count begins in service given.0 count given.2
 no_part word next plain json service end Json count begins = not_json word next count json begins
-no_part word next plain json service end (At at) count begins = end (end_word at) count (end_given word next at count begins)
+no_part word next plain json service end (At at) count begins = end (point_word at) count (point_given word next at count begins)
 no_part word next plain json service end (Plain w) count begins = not_plain word w next count plain begins

@@ -2,7 +2,7 @@
 use Rattle.std.proofs.Common.{◌≡◌, ◌≢◌, ℕ, ◌+◌, ◌<◌, List, [], ◌∷◌, ◌++◌, length, drop, take, map, Bool, Option, Some, None, codes, slice_get, get_or, Bor, refl, sym, ap, ◌∙◌, subst, append-nil, append_assoc, add-one}
 use Rattle.std.proofs.lemmas.List.{map-append}
 use Rattle.std.proofs.Math.Seq.{take-suc}
-use Rattle.tftp_packet.specs.declared.kinds.End.{End}
+use Rattle.tftp_words.specs.declared.point.Point.{Point}
 use Rattle.tftp_words.specs.declared.given.Given.{Given}
 use Rattle.tftp_words.specs.declared.given.ReadFault.{ReadFault}
 use Rattle.tftp_words.specs.declared.given.ReadFault.TheVariants as fault
@@ -67,7 +67,7 @@ memory_else fault.Unknown not = absurd (not refl)
 memory_else fault.Memory not = refl
 
 -- one more plain word
-pub more_word : {A : Type 0} (f : A → Word) (xs : List A) (i : ℕ) (x : A) (ps : List Part) (ports : List ℕ) (json : Bool) (at : Option End) (items : List (Bor Word)) (word : Bor Word) → i < length xs → x ≡ get_or xs i x → word.now ≡ f x
+pub more_word : {A : Type 0} (f : A → Word) (xs : List A) (i : ℕ) (x : A) (ps : List Part) (ports : List ℕ) (json : Bool) (at : Option Point) (items : List (Bor Word)) (word : Bor Word) → i < length xs → x ≡ get_or xs i x → word.now ≡ f x
     → Have (ps ++ map Plain (map f (take i xs))) ports json at (map (λ w. w.now) items) → Have (ps ++ map Plain (map f (take (i + 1) xs))) ports json at (map (λ w. w.now) (items ++ word ∷ []))
 more_word f xs i x ps ports json at items word within is same h =
     let more : ps ++ map Plain (map f (take (i + 1) xs)) ≡ (ps ++ map Plain (map f (take i xs))) ++ Plain word.now ∷ [] =

@@ -1,10 +1,10 @@
 -- Words say one list of parts.
 use Rattle.std.proofs.Common.{◌≡◌, ◌≢◌, ◌⊎◌, inl, inr, ℕ, ◌≤◌, List, [], ◌∷◌, ◌++◌, length, drop, map, Option, Some, None, codes, slice_get, refl, sym, ap, ◌∙◌, get_or, subst, arith, append-nil}
 use Rattle.std.proofs.lemmas.List.{append_cancel_left}
-use Rattle.tftp_packet.specs.declared.kinds.End.{End}
-use Rattle.tftp_packet.specs.declared.kinds.End.TheVariants as end
-use Rattle.tftp_words.specs.Parts.{Word, Part, Service, Json, At, Plain, IsOption, IsPlain, IsPort, IsNumber, Gives, Begins, Says, Say, Done, First, Rest, end_word}
-use Rattle.tftp_words.proofs.PartLemmas.{service_given, end_given, one_value, third_of}
+use Rattle.tftp_words.specs.declared.point.Point.{Point}
+use Rattle.tftp_words.specs.declared.point.Point.TheVariants as point
+use Rattle.tftp_words.specs.Parts.{Word, Part, Service, Json, At, Plain, IsOption, IsPlain, IsPort, IsNumber, Gives, Begins, Says, Say, Done, First, Rest, point_word}
+use Rattle.tftp_words.proofs.PartLemmas.{service_given, point_given, one_value, third_of}
 
 -- ---- the words begin with one part
 
@@ -24,7 +24,7 @@ dashes_not_plain rest (inr is) = cc
 abbrev third : Part → ℕ
 third (Service port) = 115
 third Json = 106
-third (At end) = 101
+third (At point) = 101
 third (Plain word) = 0
 
 given_dashes : (name rest word : Word) (next : Option Word) (v : Word) (k : ℕ) → name ≡ 45 ∷ 45 ∷ rest → Gives name word next v k → IsPlain word → ⊥
@@ -48,10 +48,10 @@ service_word word next port k begins =
     let given = service_given word next port k begins in
     (third_of (codes "--service") word next given.0 k 115 (λ rest. refl) given.2, given_dashes (codes "--service") (codes "service") word next given.0 k refl given.2)
 
-end_option : (word : Word) (next : Option Word) (at : End) (k : ℕ) → Begins word next (At at) k → IsOptionWord (At at) word
-end_option word next at k begins =
-    let given = end_given word next at k begins in
-    (third_of (codes "--end") word next (end_word at) k 101 (λ rest. refl) given, given_dashes (codes "--end") (codes "end") word next (end_word at) k refl given)
+point_option : (word : Word) (next : Option Word) (at : Point) (k : ℕ) → Begins word next (At at) k → IsOptionWord (At at) word
+point_option word next at k begins =
+    let given = point_given word next at k begins in
+    (third_of (codes "--end") word next (point_word at) k 101 (λ rest. refl) given, given_dashes (codes "--end") (codes "end") word next (point_word at) k refl given)
 
 json_word : (word : Word) (next : Option Word) (k : ℕ) → Begins word next Json k → IsOptionWord Json word
 json_word word next k begins =
@@ -64,11 +64,16 @@ differ p q word x y px qy not one other = not (sym px ∙ sym one.0 ∙ other.0 
 not_both : (p : Part) (word w : Word) (next : Option Word) (k : ℕ) → IsOptionWord p word → Begins word next (Plain w) k → ⊥
 not_both p word w next k option begins = let plain = plain_is word w next k begins in option.1 (subst IsPlain plain.1 plain.2)
 
-same_end : (a b : End) → end_word a ≡ end_word b → a ≡ b
-same_end end.Client end.Client e = refl
-same_end end.Server end.Server e = refl
-same_end end.Client end.Server e = (let bad : 99 ≡ 115 = ap (λ w. get_or w 0 0) e in absurd (omega (arith, bad)))
-same_end end.Server end.Client e = (let bad : 115 ≡ 99 = ap (λ w. get_or w 0 0) e in absurd (omega (arith, bad)))
+same_point : (a b : Point) → point_word a ≡ point_word b → a ≡ b
+same_point point.Client point.Client e = refl
+same_point point.Server point.Server e = refl
+same_point point.Between point.Between e = refl
+same_point point.Client point.Server e = (let bad : 99 ≡ 115 = ap (λ w. get_or w 0 0) e in absurd (omega (arith, bad)))
+same_point point.Server point.Client e = (let bad : 115 ≡ 99 = ap (λ w. get_or w 0 0) e in absurd (omega (arith, bad)))
+same_point point.Client point.Between e = (let bad : 99 ≡ 98 = ap (λ w. get_or w 0 0) e in absurd (omega (arith, bad)))
+same_point point.Between point.Client e = (let bad : 98 ≡ 99 = ap (λ w. get_or w 0 0) e in absurd (omega (arith, bad)))
+same_point point.Server point.Between e = (let bad : 115 ≡ 98 = ap (λ w. get_or w 0 0) e in absurd (omega (arith, bad)))
+same_point point.Between point.Server e = (let bad : 98 ≡ 115 = ap (λ w. get_or w 0 0) e in absurd (omega (arith, bad)))
 
 same_port : (s t : Word) (p q : ℕ) → s ≡ t → IsPort s p → IsPort t q → p ≡ q
 same_port s t p q e one other = one.0.1 ∙ sym (subst (λ w. IsNumber w q) (sym e) other.0).1
@@ -82,22 +87,22 @@ one_begin word next (Service a) (Service b) k l one other =
     let y = service_given word next b l other in
     (ap Service (same_port x.0 y.0 a b (one_value (codes "--service") word next x.0 y.0 k l x.2 y.2) x.1 y.1), one_count (codes "--service") word next x.0 y.0 k l x.2 y.2)
 one_begin word next (Service a) Json k l one other = absurd (differ (Service a) Json word 115 106 refl refl (λ e. omega (arith, e)) (service_word word next a k one) (json_word word next l other))
-one_begin word next (Service a) (At b) k l one other = absurd (differ (Service a) (At b) word 115 101 refl refl (λ e. omega (arith, e)) (service_word word next a k one) (end_option word next b l other))
+one_begin word next (Service a) (At b) k l one other = absurd (differ (Service a) (At b) word 115 101 refl refl (λ e. omega (arith, e)) (service_word word next a k one) (point_option word next b l other))
 one_begin word next (Service a) (Plain b) k l one other = absurd (not_both (Service a) word b next l (service_word word next a k one) other)
 one_begin word next Json (Service b) k l one other = absurd (differ Json (Service b) word 106 115 refl refl (λ e. omega (arith, e)) (json_word word next k one) (service_word word next b l other))
 one_begin word next Json Json k l one other = (refl, (json_is word next k one).0 ∙ sym (json_is word next l other).0)
-one_begin word next Json (At b) k l one other = absurd (differ Json (At b) word 106 101 refl refl (λ e. omega (arith, e)) (json_word word next k one) (end_option word next b l other))
+one_begin word next Json (At b) k l one other = absurd (differ Json (At b) word 106 101 refl refl (λ e. omega (arith, e)) (json_word word next k one) (point_option word next b l other))
 one_begin word next Json (Plain b) k l one other = absurd (not_both Json word b next l (json_word word next k one) other)
-one_begin word next (At a) (Service b) k l one other = absurd (differ (At a) (Service b) word 101 115 refl refl (λ e. omega (arith, e)) (end_option word next a k one) (service_word word next b l other))
-one_begin word next (At a) Json k l one other = absurd (differ (At a) Json word 101 106 refl refl (λ e. omega (arith, e)) (end_option word next a k one) (json_word word next l other))
+one_begin word next (At a) (Service b) k l one other = absurd (differ (At a) (Service b) word 101 115 refl refl (λ e. omega (arith, e)) (point_option word next a k one) (service_word word next b l other))
+one_begin word next (At a) Json k l one other = absurd (differ (At a) Json word 101 106 refl refl (λ e. omega (arith, e)) (point_option word next a k one) (json_word word next l other))
 one_begin word next (At a) (At b) k l one other =
-    let x = end_given word next a k one in
-    let y = end_given word next b l other in
-    (ap At (same_end a b (one_value (codes "--end") word next (end_word a) (end_word b) k l x y)), one_count (codes "--end") word next (end_word a) (end_word b) k l x y)
-one_begin word next (At a) (Plain b) k l one other = absurd (not_both (At a) word b next l (end_option word next a k one) other)
+    let x = point_given word next a k one in
+    let y = point_given word next b l other in
+    (ap At (same_point a b (one_value (codes "--end") word next (point_word a) (point_word b) k l x y)), one_count (codes "--end") word next (point_word a) (point_word b) k l x y)
+one_begin word next (At a) (Plain b) k l one other = absurd (not_both (At a) word b next l (point_option word next a k one) other)
 one_begin word next (Plain a) (Service b) k l one other = absurd (not_both (Service b) word a next k (service_word word next b l other) one)
 one_begin word next (Plain a) Json k l one other = absurd (not_both Json word a next k (json_word word next l other) one)
-one_begin word next (Plain a) (At b) k l one other = absurd (not_both (At b) word a next k (end_option word next b l other) one)
+one_begin word next (Plain a) (At b) k l one other = absurd (not_both (At b) word a next k (point_option word next b l other) one)
 one_begin word next (Plain a) (Plain b) k l one other =
     let x = plain_is word a next k one in
     let y = plain_is word b next l other in
@@ -112,7 +117,7 @@ option_size name value mine (inr one) = inl (name ++ (61 ∷ value), one)
 part_size : (p : Part) (mine : List Word) → Says mine p → ((a : Word) × (mine ≡ a ∷ [])) ⊎ ((a b : Word) × (mine ≡ a ∷ b ∷ []))
 part_size (Service port) mine says = option_size (codes "--service") says.0 mine says.2
 part_size Json mine says = inl (codes "--json", says)
-part_size (At end) mine says = option_size (codes "--end") (end_word end) mine says
+part_size (At point) mine says = option_size (codes "--end") (point_word point) mine says
 part_size (Plain word) mine says = inl (word, says.1)
 
 says_begins : (ws mine rest : List Word) (w : Word) (next : Option Word) (p : Part) → ws ≡ mine ++ rest → Says mine p → slice_get ws 0 ≡ Some w → slice_get ws 1 ≡ next
@@ -212,7 +217,7 @@ say_plain ws w e is = subst (λ l. Say l (map Plain (drop 1 ws))) (sym (dash_wor
 dashes_begin_nothing : (p : Part) (k : ℕ) (next : Option Word) → Begins (codes "--") next p k → ⊥
 dashes_begin_nothing (Service port) k next begins = let bad : 0 ≡ 115 = (service_word (codes "--") next port k begins).0 in omega (arith, bad)
 dashes_begin_nothing Json k next begins = let bad : 0 ≡ 106 = (json_word (codes "--") next k begins).0 in omega (arith, bad)
-dashes_begin_nothing (At end) k next begins = let bad : 0 ≡ 101 = (end_option (codes "--") next end k begins).0 in omega (arith, bad)
+dashes_begin_nothing (At point) k next begins = let bad : 0 ≡ 101 = (point_option (codes "--") next point k begins).0 in omega (arith, bad)
 dashes_begin_nothing (Plain w) k next begins = let plain = plain_is (codes "--") w next k begins in dashes_not_plain [] (subst IsPlain plain.1 plain.2)
 
 dashes_say_nothing : (p : Part) (mine rest words : List Word) → codes "--" ∷ words ≡ mine ++ rest → Says mine p → ⊥

@@ -1,6 +1,6 @@
 -- Worked command lines.
 use Rattle.std.proofs.Common.{rules, ◌≡◌, inl, inr, [], ◌∷◌, codes, false, true, Some, refl, get_or, ap, arith}
-use Rattle.tftp_packet.specs.declared.kinds.End.TheVariants as end
+use Rattle.tftp_words.specs.declared.point.Point.TheVariants as point
 use Rattle.tftp_words.specs.Parts.{Service, Json, At, Plain, IsPort, IsPlain, Done, First, Rest}
 use Rattle.tftp_words.specs.Asked.{Listed, Judged, IsRequest}
 
@@ -24,14 +24,14 @@ listed = (
   (refl, refl, refl, refl),
 )
 
--- tftp-transfers check --end client --json boot -- -x
-pub judged : IsRequest (Judged (Some end.Client) [] true (codes "boot" ∷ codes "-x" ∷ []))
-    (codes "tftp-transfers" ∷ codes "check" ∷ codes "--end" ∷ codes "client" ∷ codes "--json" ∷ codes "boot" ∷ codes "--" ∷ codes "-x" ∷ [])
+-- tftp-transfers check --end between --json boot -- -x
+pub judged : IsRequest (Judged (Some point.Between) [] true (codes "boot" ∷ codes "-x" ∷ []))
+    (codes "tftp-transfers" ∷ codes "check" ∷ codes "--end" ∷ codes "between" ∷ codes "--json" ∷ codes "boot" ∷ codes "--" ∷ codes "-x" ∷ [])
 judged = (
-  codes "--end" ∷ codes "client" ∷ codes "--json" ∷ codes "boot" ∷ codes "--" ∷ codes "-x" ∷ [],
+  codes "--end" ∷ codes "between" ∷ codes "--json" ∷ codes "boot" ∷ codes "--" ∷ codes "-x" ∷ [],
   (codes "tftp-transfers", inl refl),
-  At end.Client ∷ Json ∷ Plain (codes "boot") ∷ Plain (codes "-x") ∷ [],
-  First (codes "--end" ∷ codes "client" ∷ []) (codes "--json" ∷ codes "boot" ∷ codes "--" ∷ codes "-x" ∷ []) (At end.Client) (Json ∷ Plain (codes "boot") ∷ Plain (codes "-x") ∷ []) (inl refl)
+  At point.Between ∷ Json ∷ Plain (codes "boot") ∷ Plain (codes "-x") ∷ [],
+  First (codes "--end" ∷ codes "between" ∷ []) (codes "--json" ∷ codes "boot" ∷ codes "--" ∷ codes "-x" ∷ []) (At point.Between) (Json ∷ Plain (codes "boot") ∷ Plain (codes "-x") ∷ []) (inl refl)
       (First (codes "--json" ∷ []) (codes "boot" ∷ codes "--" ∷ codes "-x" ∷ []) Json (Plain (codes "boot") ∷ Plain (codes "-x") ∷ []) refl
       (First (codes "boot" ∷ []) (codes "--" ∷ codes "-x" ∷ []) (Plain (codes "boot")) (Plain (codes "-x") ∷ []) (boot_plain, refl)
       (Rest (codes "-x" ∷ [])))),

@@ -1,6 +1,7 @@
 -- What the words of `tftp-transfers` ask for.
 use Rattle.std.specs.Prelude.{◌≡◌, ◌≢◌, ◌⊎◌, ⊤, ◌≤◌, ℕ, List, [], ◌∷◌, length, map, Bool, false, Option, None, codes}
 use Rattle.tftp_packet.specs.declared.kinds.End.{End}
+use Rattle.tftp_words.specs.declared.point.Point.{Point}
 use Rattle.tftp_words.specs.declared.request.Request.{Request}
 use Rattle.tftp_words.specs.declared.request.Request.TheVariants as code
 use Rattle.tftp_words.specs.declared.request.Command.{Command}
@@ -11,7 +12,7 @@ use Rattle.tftp_words.specs.Parts.{Word, Part, Say, Have, IsTransfer, end_word}
 pub data Asked : Type 0 where
   Listed : (services : List ℕ) (json : Bool) (file : Word) → Asked
   Written : (number : ℕ) (end : End) (services : List ℕ) (file : Word) → Asked
-  Judged : (at : Option End) (services : List ℕ) (json : Bool) (files : List Word) → Asked
+  Judged : (at : Option Point) (services : List ℕ) (json : Bool) (files : List Word) → Asked
 
 -- the parts are the arguments of what is asked
 abbrev pub Argues : Asked → List Part → Type 0

@@ -4,17 +4,19 @@ use Rattle.tftp_words.specs.declared.given.Given.{Given}
 use Rattle.std.specs.Str.Parse.{IsNumeral, digits_value, without_leading_plus}
 use Rattle.tftp_packet.specs.declared.kinds.End.{End}
 use Rattle.tftp_packet.specs.declared.kinds.End.TheVariants as end
+use Rattle.tftp_words.specs.declared.point.Point.{Point}
+use Rattle.tftp_words.specs.declared.point.Point.TheVariants as point
 use Rattle.tftp_words.specs.declared.part.Part.TheVariants as code
 use Rattle.tftp_words.specs.declared.part.Part as code_part
 
 abbrev pub Word : Type 0
 Word = List ℕ
 
--- a port to which requests go, JSON, the end at which the recording was made, a word that is no option
+-- a port to which requests go, JSON, where the recording was made, a word that is no option
 pub data Part : Type 0 where
   Service : (port : ℕ) → Part
   Json : Part
-  At : (end : End) → Part
+  At : (point : Point) → Part
   Plain : (word : Word) → Part
 
 -- decimal digits, before which a plus may stand, write this number
@@ -32,6 +34,11 @@ abbrev pub end_word : End → Word
 end_word end.Client = codes "client"
 end_word end.Server = codes "server"
 
+abbrev pub point_word : Point → Word
+point_word point.Client = codes "client"
+point_word point.Server = codes "server"
+point_word point.Between = codes "between"
+
 -- an option's name and its value, in two words or with = in one
 abbrev pub IsOption : Word → Word → List Word → Type 0
 IsOption name value words = (words ≡ name ∷ value ∷ []) ⊎ (words ≡ (name ++ (codes "=" ++ value)) ∷ [])
@@ -44,7 +51,7 @@ IsPlain word = ((rest : Word) → word ≢ codes "-" ++ rest) ⊎ (word ≡ code
 abbrev pub Says : List Word → Part → Type 0
 Says words (Service port) = (text : Word) × IsPort text port × IsOption (codes "--service") text words
 Says words Json = words ≡ codes "--json" ∷ []
-Says words (At end) = IsOption (codes "--end") (end_word end) words
+Says words (At point) = IsOption (codes "--end") (point_word point) words
 Says words (Plain word) = IsPlain word × (words ≡ word ∷ [])
 
 -- the words begin with this option, which takes one of them or two
@@ -72,10 +79,10 @@ services [] = []
 services (Service port ∷ ps) = port ∷ services ps
 services (_ ∷ ps) = services ps
 
-abbrev pub ends : List Part → List End
-ends [] = []
-ends (At end ∷ ps) = end ∷ ends ps
-ends (_ ∷ ps) = ends ps
+abbrev pub points : List Part → List Point
+points [] = []
+points (At point ∷ ps) = point ∷ points ps
+points (_ ∷ ps) = points ps
 
 abbrev pub plains : List Part → List Word
 plains [] = []
@@ -88,20 +95,20 @@ jsons [] = 0
 jsons (Json ∷ ps) = 1 + jsons ps
 jsons (_ ∷ ps) = jsons ps
 
--- JSON and an end are said once at most
+-- JSON and a point are said once at most
 abbrev pub IsOnce : List Part → Type 0
-IsOnce ps = (jsons ps ≤ 1) × (length (ends ps) ≤ 1)
+IsOnce ps = (jsons ps ≤ 1) × (length (points ps) ≤ 1)
 
--- the parts have these ports, JSON or not, this end if any, and these words
-abbrev pub Have : List Part → List ℕ → Bool → Option End → List Word → Type 0
+-- the parts have these ports, JSON or not, this point if any, and these words
+abbrev pub Have : List Part → List ℕ → Bool → Option Point → List Word → Type 0
 Have ps ports json at words =
-    (services ps ≡ ports) × (jsons ps ≡ (if json then 1 else 0)) × (ends ps ≡ option_to_list at) × (plains ps ≡ words)
+    (services ps ≡ ports) × (jsons ps ≡ (if json then 1 else 0)) × (points ps ≡ option_to_list at) × (plains ps ≡ words)
 
 -- what the code holds of a part
 abbrev pub part : code_part.Part → Part
 part (code.Service port) = Service port
 part code.Json = Json
-part (code.End end) = At end
+part (code.End point) = At point
 part (code.Plain word) = Plain word.now
 
 abbrev pub Holds : Given → List Part → Type 0

@@ -4,9 +4,9 @@ ghost use Rattle.tftp_words.specs.Parts.{part as part_said};
 ghost use Rattle.tftp_words.specs.declared.given.ReadFault.TheVariants.{Memory};
 
 use crate::part::{Part, first_part};
+use crate::point::Point;
 use std::alloc::{AllocError, AllocFailed, Global};
 use std::convert::AsStr;
-use tftp_packet::End;
 
 /// What the parts of the words give.
 #[derive(Debug, Drop)]
@@ -16,7 +16,7 @@ pub struct Given<'a> {
     /// Whether the answer is wanted in JSON.
     pub json: bool,
     /// Where the recording was made, if that is said.
-    pub end: Option<End>,
+    pub end: Option<Point>,
     /// The words that are no options, in their order.
     pub plain: Vec<&'a str>,
 }
@@ -58,7 +58,7 @@ impl<'a> Given<'a> {
         }
     }
 
-    /// Adds a part; JSON and an end are said once at most.
+    /// Adds a part; JSON and a point are said once at most.
     fn add(&mut self, part: Part<'a>) -> Result<(), ReadFault>
         ensures ok { (ps : _) → Holds self.old ps → OnOk result (Holds self.new (ps ++ part_said part.entry ∷ [])) }
         ensures once { (ps qs : _) → Holds self.old ps → result ≡ Err ReadFault.Unknown → IsOnce (ps ++ part_said part.entry ∷ qs) → ⊥ }
@@ -68,7 +68,7 @@ impl<'a> Given<'a> {
             Part::Json if self.json => return Err(ReadFault::Unknown),
             Part::Json => self.json = true,
             Part::End(_) if self.end.is_some() => return Err(ReadFault::Unknown),
-            Part::End(end) => self.end = Some(end),
+            Part::End(point) => self.end = Some(point),
             Part::Plain(word) => self.plain.push(word)?,
         }
         Ok(())

@@ -5,6 +5,8 @@ use std::alloc::{AllocError, Global};
 
 static ENDS: [&str; 2] = ["client", "server"];
 
+static POINTS: [&str; 3] = ["client", "server", "between"];
+
 /// The version that is told.
 const VERSION: &str = "0.1.0";
 
@@ -68,8 +70,8 @@ fn check<'a>(alloc: Global) -> Result<Command<'a>, AllocError> {
     let end = Arg::new(alloc, "end")
         .long("end")
         .value_name("END")
-        .value_parser(ENDS.as_slice())
-        .help("The end at which the recordings were made");
+        .value_parser(POINTS.as_slice())
+        .help("Where the recordings were made: at an end, or between the two");
     let files = Arg::new(alloc, "file")
         .value_name("FILE")
         .required(true)

@@ -4,8 +4,10 @@
 mod given;
 mod help;
 mod part;
+mod point;
 mod request;
 mod words;
 
+pub use point::Point;
 pub use request::{CheckRequest, ListRequest, Request, TextRequest};
 pub use words::{WordsFault, request_of};

@@ -1,6 +1,8 @@
 ghost use Rattle.std.specs.Prelude.{◌≡◌, ◌≢◌, ℕ, List, ◌↔◌, IsTrue, MatchOption, option_map};
-ghost use Rattle.tftp_words.specs.Parts.{Begins, Gives, IsPlain, IsPort, IsTransfer, end_word, part};
+ghost use Rattle.tftp_words.specs.Parts.{Begins, Gives, IsPlain, IsPort, IsTransfer, end_word, part, point_word};
+ghost use Rattle.tftp_words.specs.declared.point.Point.{Point as PointKind};
 
+use crate::point::Point;
 use std::str::FromStr;
 use tftp_packet::End;
 
@@ -12,7 +14,7 @@ pub enum Part<'a> {
     /// The answer is wanted in JSON.
     Json,
     /// Where the recording was made.
-    End(End),
+    End(Point),
     /// A word that is no option.
     Plain(&'a str),
 }
@@ -57,6 +59,18 @@ pub fn end_of(word: &str) -> Option<End>
     }
 }
 
+/// The point that a word names.
+fn point_of(word: &str) -> Option<Point>
+    ensures { MatchOption result ((point : PointKind) → word.now ≢ point_word point) (λ point. word.now ≡ point_word point) }
+{
+    match word {
+        "client" => Some(Point::Client),
+        "server" => Some(Point::Server),
+        "between" => Some(Point::Between),
+        _ => None,
+    }
+}
+
 /// The value of the option with this name where these words begin with it, and how many of them say it.
 fn value_of<'a>(name: &str, word: &'a str, next: Option<&'a str>) -> Option<(&'a str, usize)>
     ensures { MatchOption result
@@ -86,5 +100,5 @@ pub fn first_part<'a>(word: &'a str, next: Option<&'a str>) -> Option<(Part<'a>,
         return Some((Part::Service(port_of(text)?), count));
     }
     let (text, count) = value_of("--end", word, next)?;
-    Some((Part::End(end_of(text)?), count))
+    Some((Part::End(point_of(text)?), count))
 }

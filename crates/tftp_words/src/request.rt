@@ -5,6 +5,7 @@ ghost use Rattle.tftp_words.specs.declared.given.ReadFault.TheVariants.{Memory};
 
 use crate::given::{Given, ReadFault, given_of, word_at};
 use crate::part::{end_of, transfer_of};
+use crate::point::Point;
 use std::alloc::Global;
 use std::convert::AsStr;
 use tftp_packet::End;
@@ -47,8 +48,8 @@ pub struct TextRequest<'a> {
 /// Which transfers are to be judged.
 #[derive(Debug, Drop)]
 pub struct CheckRequest<'a> {
-    /// The end at which the recordings were made, if that is said.
-    pub end: Option<End>,
+    /// Where the recordings were made, if that is said.
+    pub end: Option<Point>,
     /// The ports that were named, to which requests go as they do to 69.
     pub services: Vec<u16>,
     /// Whether each line is a JSON object.
