@@ -5,6 +5,7 @@ use Rattle.std.specs.List.{AllByRecursion}
 use Rattle.tftp_parties.specs.Naming.{host_name}
 use Rattle.tftp_recording.specs.History.{EventState, Step}
 use Rattle.tftp_recording_judge.specs.Kept.{StandsAfter, Watched}
+use Rattle.tftp_recording_judge.specs.declared.judging.Judging.{Judging}
 use Rattle.tftp_recording_audit.specs.Passed.{HasPassed, last_time}
 use Rattle.tftp_recording_audit.specs.Sound.{IsSoundDatagram}
 use Rattle.tftp_recording_audit.specs.declared.next.AuditFault.{AuditFault}
@@ -17,11 +18,12 @@ use Rattle.tftp_transfers.specs.Doubts.{doubts_of}
 use Rattle.tftp_transfers.specs.Places.{Placed, clock, place_of, placed}
 use Rattle.tftp_transfers.specs.Recording.{Recorded}
 
--- The judges were given what these frames of a recording have given, and nothing else; each host is named by its address.
+-- The judges, where transfers are to be judged, were given what these frames of a recording have given, and nothing else; each
+-- host is named by its address.
 -- `named` are the service ports that were named, `out` the numbers of the transfers that were handed out.
-pub record AuditsAfter (a : Attribution) (watched : BTreeMap ℕ Watched) (failed : Bool) (last : ℕ) (named out : List ℕ) (history : List Step) (passed : List Recorded) : Type 0 where
+pub record AuditsAfter (a : Attribution) (watched : BTreeMap ℕ Watched) (failed : Bool) (judging : Judging) (last : ℕ) (named out : List ℕ) (history : List Step) (passed : List Recorded) : Type 0 where
   pub frames : HasPassed history passed
-  pub judges : StandsAfter a watched failed named host_name out passed
+  pub judges : StandsAfter a watched failed judging named host_name out passed
   pub time : last ≡ last_time passed
   pub sound : AllByRecursion IsSoundDatagram passed
 

@@ -1,5 +1,6 @@
 -- What is kept of a transfer stands for each datagram that tells nothing of it.
-use Rattle.std.proofs.Common.{◌≡◌, false, List, [], ◌∷◌, ap, ◌∙◌}
+use Rattle.std.proofs.Common.{◌≡◌, false, List, [], ◌∷◌, Option, Some, None, Result, Ok, Err, ap, ◌∙◌}
+use Rattle.std.specs.Prelude.{IfSome, OnOk}
 use Rattle.std.proofs.lemmas.Bool.{or_parts}
 use Rattle.std.proofs.lemmas.List.Elements.{All-head, All-tail}
 use Rattle.tftp_transfers.specs.declared.place.Transfer.{Transfer}
@@ -7,33 +8,58 @@ use Rattle.tftp_transfers.specs.Places.{Placed}
 use Rattle.tftp_transfers.specs.Views.{is_about}
 use Rattle.tftp_transfers.specs.Doubts.{is_answered_apart, is_it, may_be_answer_of}
 use Rattle.tftp_views.specs.Captured.{Naming}
-use Rattle.tftp_views.specs.Kept.{AreBothAfter, Both}
+use Rattle.tftp_views.specs.Kept.{Client, View}
 use Rattle.tftp_views.proofs.Holding.{passes_by}
 use Rattle.tftp_views.proofs.Passing.{client_passes_by, doubts_pass_by}
-use Rattle.tftp_recording_judge.specs.Kept.{IsUnheard, IsWatching, Watched}
+use Rattle.tftp_recording_judge.specs.declared.judging.Judging.{Judging}
+use Rattle.tftp_recording_judge.specs.Kept.{AreJudgesAfter, ClientStands, IsUnheard, IsWatching, Judges, ServerStands, Watched}
 
-pub both_on : (b : Both) (x : Transfer) (name : Naming) (p : Placed) (older : List Placed) → b.client.transfer ≡ x → b.server.transfer ≡ x → is_about x.number p ≡ false
-    → AreBothAfter b name older → AreBothAfter b name (p ∷ older)
-both_on b x name p older client server off both = record {
-  works = both.works;
-  client = client_passes_by b.client name p older (ap (λ (y : Transfer). is_about y.number p) client ∙ off) both.client;
-  server = passes_by b.server name p older (ap (λ (y : Transfer). is_about y.number p) server ∙ off) both.server;
+-- ---- at each point
+
+pub on_ok_map : {X E P Q : Type 0} (r : Result X E) → (P → Q) → OnOk r P → OnOk r Q
+on_ok_map (Ok x) f is = f is
+on_ok_map (Err e) f is = tt
+
+-- the judge of a transfer is of none that the datagram is about
+pub away_of : {X : Type 0} (transfer_of : X → Transfer) (judge : Option X) (x : Transfer) (p : Placed) → is_about x.number p ≡ false
+    → IfSome judge (λ j. transfer_of j ≡ x) → IfSome judge (λ j. is_about (transfer_of j).number p ≡ false)
+away_of transfer_of None x p off of = of
+away_of transfer_of (Some j) x p off of = ap (λ (y : Transfer). is_about y.number p) of ∙ off
+
+client_on : (client : Option Client) (x : Transfer) (name : Naming) (p : Placed) (older : List Placed) → is_about x.number p ≡ false
+    → ClientStands client x name older → ClientStands client x name (p ∷ older)
+client_on None x name p older off stands = stands
+client_on (Some c) x name p older off stands = (stands.0, client_passes_by c name p older (ap (λ (y : Transfer). is_about y.number p) stands.0 ∙ off) stands.1)
+
+server_on : (server : Option View) (x : Transfer) (name : Naming) (p : Placed) (older : List Placed) → is_about x.number p ≡ false
+    → ServerStands server x name older → ServerStands server x name (p ∷ older)
+server_on None x name p older off stands = stands
+server_on (Some v) x name p older off stands = (stands.0, passes_by v name p older (ap (λ (y : Transfer). is_about y.number p) stands.0 ∙ off) stands.1)
+
+pub judges_on : (j : Judges) (x : Transfer) (name : Naming) (p : Placed) (older : List Placed) → is_about x.number p ≡ false
+    → AreJudgesAfter j x name older → AreJudgesAfter j x name (p ∷ older)
+judges_on j x name p older off after = record {
+  works = after.works;
+  client = client_on j.client x name p older off after.client;
+  server = server_on j.server x name p older off after.server;
 }
 
-pub watching_on : (w : Watched) (x : Transfer) (name : Naming) (p : Placed) (older : List Placed) → is_about x.number p ≡ false → is_it x.number (may_be_answer_of p older) ≡ false
-    → IsWatching w x name older → IsWatching w x name (p ∷ older)
-watching_on w x name p older off apart is = record {
-  client = is.client;
-  server = is.server;
-  both = both_on w.judge x name p older is.client is.server off is.both;
+-- ---- the whole
+
+pub watching_on : (w : Watched) (judging : Judging) (x : Transfer) (name : Naming) (p : Placed) (older : List Placed) → is_about x.number p ≡ false → is_it x.number (may_be_answer_of p older) ≡ false
+    → IsWatching w judging x name older → IsWatching w judging x name (p ∷ older)
+watching_on w judging x name p older off apart is = record {
+  transfer = is.transfer;
+  points = is.points;
+  judges = judges_on w.judges x name p older off is.judges;
   number = is.number;
   doubts = doubts_pass_by w.doubts p older (ap (λ n. is_about n p) is.number ∙ off) (ap (λ n. is_it n (may_be_answer_of p older)) is.number ∙ apart) is.doubts;
 }
 
 -- so the judges of a transfer that nothing was heard of stand for all that passed
-pub watching_unheard : (w : Watched) (x : Transfer) (name : Naming) (older : List Placed) → IsUnheard x.number older → IsWatching w x name [] → IsWatching w x name older
-watching_unheard w x name [] unheard is = is
-watching_unheard w x name (p ∷ older) unheard is =
+pub watching_unheard : (w : Watched) (judging : Judging) (x : Transfer) (name : Naming) (older : List Placed) → IsUnheard x.number older → IsWatching w judging x name [] → IsWatching w judging x name older
+watching_unheard w judging x name [] unheard is = is
+watching_unheard w judging x name (p ∷ older) unheard is =
     let parts = or_parts (is_it x.number (may_be_answer_of p older)) (is_answered_apart x.number older) unheard.1 in
-    watching_on w x name p older (All-head (λ (q : Placed). is_about x.number q ≡ false) p older unheard.0) parts.0
-    (watching_unheard w x name older (All-tail (λ (q : Placed). is_about x.number q ≡ false) p older unheard.0, parts.1) is)
+    watching_on w judging x name p older (All-head (λ (q : Placed). is_about x.number q ≡ false) p older unheard.0) parts.0
+    (watching_unheard w judging x name older (All-tail (λ (q : Placed). is_about x.number q ≡ false) p older unheard.0, parts.1) is)

@@ -1,5 +1,5 @@
 -- What the judge of a recording keeps, and for which recordings it stands. Lists have the newest first.
-use Rattle.std.specs.Prelude.{◌≡◌, ◌≤◌, ◌^◌, ◌⊎◌, ◌==◌, ◌∷◌, ℕ, Bool, true, false, List, All, Option, Some, None, if◌then◌else◌}
+use Rattle.std.specs.Prelude.{◌≡◌, ◌≤◌, ◌<◌, ◌^◌, ◌⊎◌, ◌==◌, ◌∷◌, ℕ, Bool, true, false, List, All, Option, Some, None, Err, is_some, IfSome, if◌then◌else◌}
 use Rattle.std.specs.BTreeMap.{BTreeMap, get}
 use Rattle.std.specs.List.{list_any}
 use Rattle.std.specs.Ordering.{nat_cmp}
@@ -13,26 +13,86 @@ use Rattle.tftp_transfers.specs.Doubts.{is_answered_apart}
 use Rattle.tftp_transfers.specs.Kept.{IsAfter, IsDoubtedAfter}
 use Rattle.tftp_views.specs.declared.party.Party.{Party}
 use Rattle.tftp_views.specs.Captured.{Naming}
-use Rattle.tftp_views.specs.Kept.{AreBothAfter, Both, fed_to}
+use Rattle.tftp_views.specs.Kept.{Client, IsClientAfter, IsViewAfter, View, fed_to}
+use Rattle.tftp_judge.specs.declared.refusal.Refusal.TheVariants.{Memory}
+use Rattle.tftp_recording_judge.specs.declared.judging.Judging.{Judging}
+use Rattle.tftp_recording_judge.specs.declared.judging.Points.{Points}
+use Rattle.tftp_recording_judge.specs.declared.verdicts.Verdicts.{Verdicts}
+use Rattle.tftp_recording_judge.specs.Points.{points_of}
 
 -- ---- one transfer
 
--- The judges of its two ends, and what is doubtful of it.
+-- The judges of a transfer, each where it is judged; or memory was wanting for a datagram.
+pub record Judges : Type 0 where
+  pub client : Option Client
+  pub server : Option View
+  pub failed : Bool
+
+-- The judge at a point, if there is one, is this transfer's and was fed these datagrams of a recording, and nothing else.
+abbrev pub ClientStands : Option Client → Transfer → Naming → List Placed → Type 0
+ClientStands client x name placed = IfSome client (λ c. (c.transfer ≡ x) × IsClientAfter c name placed)
+
+abbrev pub ServerStands : Option View → Transfer → Naming → List Placed → Type 0
+ServerStands server x name placed = IfSome server (λ v. (v.transfer ≡ x) × IsViewAfter v name placed)
+
+-- each of them
+pub record AreJudgesAfter (j : Judges) (x : Transfer) (name : Naming) (placed : List Placed) : Type 0 where
+  pub works : j.failed ≡ false
+  pub client : ClientStands j.client x name placed
+  pub server : ServerStands j.server x name placed
+
+-- each is this transfer's
+pub record AreOf (j : Judges) (x : Transfer) : Type 0 where
+  pub client : IfSome j.client (λ c. c.transfer ≡ x)
+  pub server : IfSome j.server (λ v. v.transfer ≡ x)
+
+-- they stand at these points, and at no others
+pub record AreAt (j : Judges) (points : Points) : Type 0 where
+  pub client : is_some j.client ≡ points.client
+  pub server : is_some j.server ≡ points.server
+
+-- how many datagrams the judge at a point has accepted, or holds
+abbrev pub fed_at_client : Option Client → ℕ
+fed_at_client None = 0
+fed_at_client (Some c) = c.end.judge.fed
+
+abbrev pub fed_at_server : Option View → ℕ
+fed_at_server None = 0
+fed_at_server (Some v) = fed_to v
+
+-- one of them has as many as can be counted
+abbrev pub IsCrowded : Judges → Type 0
+IsCrowded j = (2 ^ 40 ≤ fed_at_client j.client) ⊎ (2 ^ 40 ≤ fed_at_server j.server)
+
+-- none of them has
+pub record AreFew (j : Judges) : Type 0 where
+  pub client : fed_at_client j.client < 2 ^ 40
+  pub server : fed_at_server j.server < 2 ^ 40
+
+-- something is said at these points, and at no others
+pub record AreTold (v : Verdicts) (points : Points) : Type 0 where
+  pub client : is_some v.client ≡ points.client
+  pub server : is_some v.server ≡ points.server
+
+-- at each point it is that memory was wanting
+pub record AreWants (j : Judges) (v : Verdicts) : Type 0 where
+  pub client : IfSome v.client (λ said. said ≡ Err (Memory (fed_at_client j.client)))
+  pub server : IfSome v.server (λ said. said ≡ Err (Memory (fed_at_server j.server)))
+
+-- A transfer, its judges, and what is doubtful of it.
 pub record Watched : Type 0 where
-  pub judge : Both
+  pub transfer : Transfer
+  pub judges : Judges
   pub doubts : TransferDoubts
 
--- It is this transfer's: each end's judge was fed these datagrams of a recording, and the doubts are those of all of them.
-pub record IsWatching (w : Watched) (x : Transfer) (name : Naming) (placed : List Placed) : Type 0 where
-  pub client : w.judge.client.transfer ≡ x
-  pub server : w.judge.server.transfer ≡ x
-  pub both : AreBothAfter w.judge name placed
+-- It is this transfer, judged at the points where it is to be: its judges were fed these datagrams of a recording, and the
+-- doubts are those of all of them.
+pub record IsWatching (w : Watched) (judging : Judging) (x : Transfer) (name : Naming) (placed : List Placed) : Type 0 where
+  pub transfer : w.transfer ≡ x
+  pub points : AreAt w.judges (points_of judging x)
+  pub judges : AreJudgesAfter w.judges x name placed
   pub number : w.doubts.number ≡ x.number
   pub doubts : IsDoubtedAfter w.doubts placed
-
--- one of its judges has accepted, or holds, as many datagrams as can be counted
-abbrev pub IsCrowded : Watched → Type 0
-IsCrowded w = (2 ^ 40 ≤ w.judge.client.end.judge.fed) ⊎ (2 ^ 40 ≤ fed_to w.judge.server)
 
 -- ---- all transfers
 
@@ -41,7 +101,7 @@ pub record AreCrowded (watched : BTreeMap ℕ Watched) : Type 0 where
   pub number : ℕ
   pub one : Watched
   pub kept : get nat_cmp watched number ≡ Some one
-  pub crowded : IsCrowded one
+  pub crowded : IsCrowded one.judges
 
 -- the transfer with this number, if a request opened it
 abbrev pub opened : ℕ → List Placed → Option Transfer
@@ -55,20 +115,21 @@ is_among n numbers = list_any (λ k. k == n) numbers
 
 -- What is kept of the transfer with this number: its judges, fed with `fed`; or nothing, where no request opened it or it
 -- was handed out.
-abbrev pub IsKept : Naming → List ℕ → List Placed → List Placed → ℕ → Option Watched → Type 0
-IsKept name out all fed n None = (opened n all ≡ None) ⊎ (is_among n out ≡ true)
-IsKept name out all fed n (Some w) = (opened n all ≡ Some w.judge.client.transfer) × IsWatching w w.judge.client.transfer name fed
+abbrev pub IsKept : Judging → Naming → List ℕ → List Placed → List Placed → ℕ → Option Watched → Type 0
+IsKept judging name out all fed n None = (opened n all ≡ None) ⊎ (is_among n out ≡ true)
+IsKept judging name out all fed n (Some w) = (opened n all ≡ Some w.transfer) × IsWatching w judging w.transfer name fed
 
 -- of each transfer that was opened in `all`
-abbrev pub AreKept : BTreeMap ℕ Watched → Naming → List ℕ → List Placed → List Placed → Type 0
-AreKept watched name out all fed = (n : ℕ) → IsKept name out all fed n (get nat_cmp watched n)
+abbrev pub AreKept : BTreeMap ℕ Watched → Judging → Naming → List ℕ → List Placed → List Placed → Type 0
+AreKept watched judging name out all fed = (n : ℕ) → IsKept judging name out all fed n (get nat_cmp watched n)
 
 -- What places the datagrams and the judges of the transfers were fed this recording, and nothing else: each transfer of it
--- has its judges, but for those that were handed out. `named` are the service ports that were named, `name` names each host.
-pub record StandsAfter (a : Attribution) (watched : BTreeMap ℕ Watched) (failed : Bool) (named : List ℕ) (name : Naming) (out : List ℕ) (recorded : List Recorded) : Type 0 where
+-- has its judges where it is to be judged, but for those that were handed out. `named` are the service ports that were named,
+-- `name` names each host.
+pub record StandsAfter (a : Attribution) (watched : BTreeMap ℕ Watched) (failed : Bool) (judging : Judging) (named : List ℕ) (name : Naming) (out : List ℕ) (recorded : List Recorded) : Type 0 where
   pub works : failed ≡ false
   pub attribution : IsAfter a named (placed named recorded)
-  pub transfers : AreKept watched name out (placed named recorded) (placed named recorded)
+  pub transfers : AreKept watched judging name out (placed named recorded) (placed named recorded)
 
 -- the host of an end is called by its name
 abbrev pub IsCalled : Naming → Party → Type 0
@@ -81,6 +142,6 @@ abbrev pub IsUnheard : ℕ → List Placed → Type 0
 IsUnheard n placed = All (λ (p : Placed). is_about n p ≡ false) placed × (is_answered_apart n placed ≡ false)
 
 -- The newest datagram was handed to the transfers with these numbers, and not yet to the others.
-abbrev pub AreHanded : (ℕ → Bool) → BTreeMap ℕ Watched → Naming → List ℕ → Placed → List Placed → Type 0
-AreHanded got watched name out p older =
-    (n : ℕ) → IsKept name out (p ∷ older) (if got n then p ∷ older else older) n (get nat_cmp watched n)
+abbrev pub AreHanded : (ℕ → Bool) → BTreeMap ℕ Watched → Judging → Naming → List ℕ → Placed → List Placed → Type 0
+AreHanded got watched judging name out p older =
+    (n : ℕ) → IsKept judging name out (p ∷ older) (if got n then p ∷ older else older) n (get nat_cmp watched n)

@@ -2,6 +2,7 @@
 
 ghost use Rattle.std.specs.Prelude.{◌≡◌, ◌≢◌, ◌≤◌, ◌∷◌, ◌&&◌, ◌||◌, not, ℕ, Bool, List, length, IsOk, OnOk, Err, None, true, false};
 ghost use Rattle.tftp_recording_judge.specs.Kept.{AreCrowded, AreHanded, AreKept, IsUnheard};
+ghost use Rattle.tftp_recording_judge.specs.declared.judging.Judging.{Judging as JudgingKind};
 ghost use Rattle.tftp_transfers.specs.Doubts.{doubts_of, is_it};
 ghost use Rattle.tftp_transfers.specs.Places.{Placed};
 ghost use Rattle.tftp_transfers.specs.Views.{is_about};
@@ -11,6 +12,7 @@ ghost use Rattle.tftp_transfers.specs.declared.attribution.AttributionFault.{Att
 ghost use Rattle.tftp_views.specs.Captured.{Naming};
 ghost use Rattle.tftp_views.specs.Kept.{IsFed};
 
+use crate::judging::Judging;
 use crate::watched::Watched;
 use std::alloc::{AllocError, Global};
 use std::collections::BTreeMap;
@@ -22,16 +24,17 @@ use tftp_views::Party;
 pub(crate) fn open<D: Delivered + Drop>(
     watched: &mut BTreeMap<u64, Watched<D>>,
     alloc: Global,
+    judging: Judging,
     place: &Place,
 ) -> Result<(), AllocError>
     ensures kept { (name : Naming) (out : List ℕ) (p : Placed) (older : List Placed) → place.now ≡ p.place
         → ((x : Transfer) → p.place ≡ Place.Opens x → IsUnheard x.number older)
-        → AreKept watched.old name out older older → OnOk result (AreKept watched.new name out (p ∷ older) older) }
+        → AreKept watched.old judging name out older older → OnOk result (AreKept watched.new judging name out (p ∷ older) older) }
     ensures spare { ((x : Transfer) → place.now ≢ Place.Opens x) → IsOk result }
     ensures crowded { AreCrowded watched.new → AreCrowded watched.old }
 {
     match place {
-        Place::Opens(transfer) => begin(watched, alloc, *transfer),
+        Place::Opens(transfer) => begin(watched, alloc, judging, *transfer),
         Place::Repeats(_) => Ok(()),
         Place::Talks(_) => Ok(()),
         Place::Apart(_) => Ok(()),
@@ -44,14 +47,15 @@ pub(crate) fn open<D: Delivered + Drop>(
 fn begin<D: Delivered + Drop>(
     watched: &mut BTreeMap<u64, Watched<D>>,
     alloc: Global,
+    judging: Judging,
     transfer: Transfer,
 ) -> Result<(), AllocError>
     ensures kept { (name : Naming) (out : List ℕ) (p : Placed) (older : List Placed) → p.place ≡ Place.Opens transfer
         → IsUnheard transfer.number older
-        → AreKept watched.old name out older older → OnOk result (AreKept watched.new name out (p ∷ older) older) }
+        → AreKept watched.old judging name out older older → OnOk result (AreKept watched.new judging name out (p ∷ older) older) }
     ensures crowded { AreCrowded watched.new → AreCrowded watched.old }
 {
-    let before = watched.insert(transfer.number, Watched::new(alloc, transfer))?;
+    let before = watched.insert(transfer.number, Watched::new(alloc, transfer, judging))?;
     let_go(before);
     Ok(())
 }
@@ -92,10 +96,10 @@ pub(crate) fn hand<D: Delivered + Drop>(
     payload: &[u8],
 ) -> Result<(), AttributionFault>
     requires short { length payload.now ≤ 65527 }
-    ensures handed { (name : Naming) (out : List ℕ) (p : Placed) (older : List Placed)
+    ensures handed { (judging : JudgingKind) (name : Naming) (out : List ℕ) (p : Placed) (older : List Placed)
         → IsFed name p found.now.place source.now target.now payload.now → found.now.doubts ≡ doubts_of p older
-        → AreKept watched.old name out (p ∷ older) older
-        → OnOk result (AreHanded (λ n. is_it n number) watched.new name out p older) }
+        → AreKept watched.old judging name out (p ∷ older) older
+        → OnOk result (AreHanded (λ n. is_it n number) watched.new judging name out p older) }
     ensures spare { number ≡ None → IsOk result }
     ensures full { result ≡ Err AttributionFault.TooMany → AreCrowded watched.old }
 {
@@ -114,11 +118,11 @@ pub(crate) fn doubt<D: Delivered + Drop>(
     number: Option<u64>,
     found: &Attributed,
 )
-    ensures { (got : ℕ → Bool) (name : Naming) (out : List ℕ) (p : Placed) (older : List Placed)
+    ensures { (got : ℕ → Bool) (judging : JudgingKind) (name : Naming) (out : List ℕ) (p : Placed) (older : List Placed)
         → found.now.place ≡ p.place → found.now.doubts ≡ doubts_of p older
         → ((n : ℕ) → is_it n number ≡ true → (got n ≡ false) × (is_about n p ≡ false))
-        → AreHanded got watched.old name out p older
-        → AreHanded (λ n. is_it n number || got n) watched.new name out p older }
+        → AreHanded got watched.old judging name out p older
+        → AreHanded (λ n. is_it n number || got n) watched.new judging name out p older }
 {
     if let Some(number) = number {
         if let Some(one) = watched.get_mut(&number) {
@@ -137,10 +141,10 @@ pub(crate) fn hand_on<D: Delivered + Drop>(
     payload: &[u8],
 ) -> Result<(), AttributionFault>
     requires short { length payload.now ≤ 65527 }
-    ensures kept { (name : Naming) (out : List ℕ) (p : Placed) (older : List Placed)
+    ensures kept { (judging : JudgingKind) (name : Naming) (out : List ℕ) (p : Placed) (older : List Placed)
         → IsFed name p found.now.place source.now target.now payload.now → found.now.doubts ≡ doubts_of p older
-        → AreKept watched.old name out (p ∷ older) older
-        → OnOk result (AreKept watched.new name out (p ∷ older) (p ∷ older)) }
+        → AreKept watched.old judging name out (p ∷ older) older
+        → OnOk result (AreKept watched.new judging name out (p ∷ older) (p ∷ older)) }
     ensures spare { found.now.place ≡ Place.Nowhere → IsOk result }
     ensures full { result ≡ Err AttributionFault.TooMany → AreCrowded watched.old }
 {

@@ -1,10 +1,17 @@
-//! The judge of a whole recording: it divides what passed into transfers, and judges the two ends of each.
+//! The judge of a whole recording: it divides what passed into transfers, and judges each where that is wanted.
 #![tactic(auto)]
 
+mod client;
 mod hands;
+mod judges;
+mod judging;
 pub mod laws;
 mod recording_judge;
+mod server;
+mod verdicts;
 mod watched;
 
+pub use judging::{Judging, Points};
 pub use recording_judge::RecordingJudge;
+pub use verdicts::Verdicts;
 pub use watched::Watched;

@@ -11,6 +11,7 @@ ghost use Rattle.tftp_transfers.specs.declared.place.Place.TheVariants.{Nowhere}
 ghost use Rattle.tftp_views.specs.Captured.{Naming};
 
 use crate::hands::{hand_on, open};
+use crate::judging::Judging;
 use crate::watched::Watched;
 use std::alloc::{AllocError, Global};
 use std::collections::BTreeMap;
@@ -19,23 +20,26 @@ use tftp_transfers::{Attributed, Attribution, AttributionFault, Endpoint};
 use tftp_views::Party;
 
 /// The judge of a whole recording, fed from its first datagram to its last: it divides what passed into transfers, and
-/// judges each at both its ends.
+/// judges each where that is wanted.
 #[derive(Drop)]
 pub struct RecordingJudge<D: Delivered + Drop> {
     attribution: Attribution,
     watched: BTreeMap<u64, Watched<D>>,
     failed: bool,
+    judging: Judging,
 }
 
 impl<D: Delivered + Drop> RecordingJudge<D> {
     /// Nothing has passed. Requests go to port 69 (RFC 1350, section 4) and to the ports that are named.
-    pub fn new(alloc: Global, named: &[u16]) -> Result<Self, AllocError>
-        ensures { (name : Naming) → IfOk result (λ r. StandsAfter r.attribution r.watched r.failed named.now name [] []) }
+    pub fn new(alloc: Global, named: &[u16], judging: Judging) -> Result<Self, AllocError>
+        ensures stands { (name : Naming) → IfOk result (λ r. StandsAfter r.attribution r.watched r.failed r.judging named.now name [] []) }
+        ensures judging { IfOk result (λ r. r.judging ≡ judging) }
     {
         Ok(RecordingJudge {
             attribution: Attribution::new(alloc, named)?,
             watched: BTreeMap::new(alloc),
             failed: false,
+            judging,
         })
     }
 
@@ -53,26 +57,27 @@ impl<D: Delivered + Drop> RecordingJudge<D> {
     ) -> Result<Attributed, AttributionFault>
         requires short { length payload.now ≤ 65527 }
         ensures place { (named : List ℕ) (name : Naming) (out : List ℕ) (recorded : List Recorded) (d : Recorded)
-            → StandsAfter self.old.attribution self.old.watched self.old.failed named name out recorded
+            → StandsAfter self.old.attribution self.old.watched self.old.failed self.old.judging named name out recorded
             → IsRecorded d time source.now.end target.now.end payload.now is_spelled
             → IfOk result (λ found. found.place ≡ place_of named (placed named recorded) (max time (clock (placed named recorded))) d) }
         ensures doubts { (named : List ℕ) (name : Naming) (out : List ℕ) (recorded : List Recorded) (d : Recorded)
-            → StandsAfter self.old.attribution self.old.watched self.old.failed named name out recorded
+            → StandsAfter self.old.attribution self.old.watched self.old.failed self.old.judging named name out recorded
             → IsRecorded d time source.now.end target.now.end payload.now is_spelled
             → IfOk result (λ found. found.doubts ≡ doubts_of (record { datagram = d; moment = max time (clock (placed named recorded)); place = found.place }) (placed named recorded)) }
         ensures stands { (named : List ℕ) (name : Naming) (out : List ℕ) (recorded : List Recorded) (d : Recorded)
-            → StandsAfter self.old.attribution self.old.watched self.old.failed named name out recorded
+            → StandsAfter self.old.attribution self.old.watched self.old.failed self.old.judging named name out recorded
             → IsRecorded d time source.now.end target.now.end payload.now is_spelled
             → IsCalled name source.now → IsCalled name target.now
-            → OnOk result (StandsAfter self.new.attribution self.new.watched self.new.failed named name out (d ∷ recorded)) }
+            → OnOk result (StandsAfter self.new.attribution self.new.watched self.new.failed self.new.judging named name out (d ∷ recorded)) }
         ensures spare { (named : List ℕ) (name : Naming) (out : List ℕ) (recorded : List Recorded) (d : Recorded)
-            → StandsAfter self.old.attribution self.old.watched self.old.failed named name out recorded
+            → StandsAfter self.old.attribution self.old.watched self.old.failed self.old.judging named name out recorded
             → IsRecorded d time source.now.end target.now.end payload.now is_spelled
             → place_of named (placed named recorded) (max time (clock (placed named recorded))) d ≡ Nowhere
             → result ≢ Err AttributionFault.Memory }
         ensures full { result ≡ Err AttributionFault.TooMany → (self.old.attribution.count + 1 ≡ 2 ^ 64) ⊎ AreCrowded self.old.watched }
         ensures fails { OnErr result (self.new.failed ≡ true) }
         ensures for_good { self.old.failed ≡ true → IsErr result }
+        ensures judging { self.new.judging ≡ self.old.judging }
     {
         if self.failed {
             return Err(AttributionFault::Memory);
@@ -81,7 +86,7 @@ impl<D: Delivered + Drop> RecordingJudge<D> {
         let found = self
             .attribution
             .feed(alloc, time, source.end, target.end, payload, is_spelled)?;
-        open(&mut self.watched, alloc, &found.place)?;
+        open(&mut self.watched, alloc, self.judging, &found.place)?;
         hand_on(&mut self.watched, alloc, &found, source, target, payload)?;
         self.failed = false;
         Ok(found)
@@ -90,10 +95,10 @@ impl<D: Delivered + Drop> RecordingJudge<D> {
     /// The transfer with this number, if it was opened and not handed out.
     pub fn watched(&self, number: u64) -> Option<&Watched<D>>
         ensures { (named : List ℕ) (name : Naming) (out : List ℕ) (recorded : List Recorded)
-            → StandsAfter self.now.attribution self.now.watched self.now.failed named name out recorded
+            → StandsAfter self.now.attribution self.now.watched self.now.failed self.now.judging named name out recorded
             → MatchOption result ((opened number (placed named recorded) ≡ None) ⊎ (is_among number out ≡ true))
-            (λ w. (opened number (placed named recorded) ≡ Some w.now.judge.client.transfer)
-            × IsWatching w.now w.now.judge.client.transfer name (placed named recorded)) }
+            (λ w. (opened number (placed named recorded) ≡ Some w.now.transfer)
+            × IsWatching w.now self.now.judging w.now.transfer name (placed named recorded)) }
     {
         self.watched.get(&number)
     }
@@ -101,18 +106,19 @@ impl<D: Delivered + Drop> RecordingJudge<D> {
     /// Hands out the transfer that was opened first of those that were not handed out.
     pub fn pop_first(&mut self) -> Option<Watched<D>>
         ensures all { (named : List ℕ) (name : Naming) (out : List ℕ) (recorded : List Recorded)
-            → StandsAfter self.old.attribution self.old.watched self.old.failed named name out recorded → result ≡ None
+            → StandsAfter self.old.attribution self.old.watched self.old.failed self.old.judging named name out recorded → result ≡ None
             → (n : ℕ) → (opened n (placed named recorded) ≡ None) ⊎ (is_among n out ≡ true) }
         ensures watched { (named : List ℕ) (name : Naming) (out : List ℕ) (recorded : List Recorded)
-            → StandsAfter self.old.attribution self.old.watched self.old.failed named name out recorded
-            → IfSome result (λ w. (opened w.judge.client.transfer.number (placed named recorded) ≡ Some w.judge.client.transfer)
-            × IsWatching w w.judge.client.transfer name (placed named recorded)) }
+            → StandsAfter self.old.attribution self.old.watched self.old.failed self.old.judging named name out recorded
+            → IfSome result (λ w. (opened w.transfer.number (placed named recorded) ≡ Some w.transfer)
+            × IsWatching w self.old.judging w.transfer name (placed named recorded)) }
         ensures stands { (named : List ℕ) (name : Naming) (out : List ℕ) (recorded : List Recorded)
-            → StandsAfter self.old.attribution self.old.watched self.old.failed named name out recorded
-            → IfSome result (λ w. StandsAfter self.new.attribution self.new.watched self.new.failed named name (w.judge.client.transfer.number ∷ out) recorded) }
+            → StandsAfter self.old.attribution self.old.watched self.old.failed self.old.judging named name out recorded
+            → IfSome result (λ w. StandsAfter self.new.attribution self.new.watched self.new.failed self.new.judging named name (w.transfer.number ∷ out) recorded) }
         ensures first { (named : List ℕ) (name : Naming) (out : List ℕ) (recorded : List Recorded) (n : ℕ)
-            → StandsAfter self.old.attribution self.old.watched self.old.failed named name out recorded → IsSome (opened n (placed named recorded)) → is_among n out ≡ false
-            → IfSome result (λ w. w.judge.client.transfer.number ≤ n) }
+            → StandsAfter self.old.attribution self.old.watched self.old.failed self.old.judging named name out recorded → IsSome (opened n (placed named recorded)) → is_among n out ≡ false
+            → IfSome result (λ w. w.transfer.number ≤ n) }
+        ensures judging { self.new.judging ≡ self.old.judging }
     {
         let (_, first) = self.watched.pop_first()?;
         Some(first)
@@ -122,7 +128,7 @@ impl<D: Delivered + Drop> RecordingJudge<D> {
     /// Then no datagram joins its transfers any more.
     pub fn is_over(&self, client: &Endpoint, time: u64) -> bool
         ensures { (named : List ℕ) (name : Naming) (out : List ℕ) (recorded : List Recorded)
-            → StandsAfter self.now.attribution self.now.watched self.now.failed named name out recorded
+            → StandsAfter self.now.attribution self.now.watched self.now.failed self.now.judging named name out recorded
             → MatchBool result
             (live (max time (clock (placed named recorded))) (line client.now (placed named recorded)) ≡ [])
             (live (max time (clock (placed named recorded))) (line client.now (placed named recorded)) ≢ []) }

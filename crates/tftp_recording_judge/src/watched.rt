@@ -1,7 +1,9 @@
 //! One transfer of a recording.
 
-ghost use Rattle.std.specs.Prelude.{◌≡◌, ◌≤◌, ◌∷◌, ℕ, List, [], length, OnOk, Err, false};
-ghost use Rattle.tftp_recording_judge.specs.Kept.{IsCrowded, IsWatching};
+ghost use Rattle.std.specs.Prelude.{◌≡◌, ◌≤◌, ◌∷◌, ℕ, List, [], length, option_copied, IfSome, OnOk, Err, false, true};
+ghost use Rattle.tftp_recording_judge.specs.Kept.{AreTold, AreWants, IsCrowded, IsWatching};
+ghost use Rattle.tftp_recording_judge.specs.Points.{points_of};
+ghost use Rattle.tftp_recording_judge.specs.declared.judging.Judging.{Judging as JudgingKind};
 ghost use Rattle.tftp_transfers.specs.Doubts.{doubts_of};
 ghost use Rattle.tftp_transfers.specs.Places.{Placed};
 ghost use Rattle.tftp_transfers.specs.Views.{is_about};
@@ -9,21 +11,22 @@ ghost use Rattle.tftp_transfers.specs.declared.attribution.AttributionFault.{Att
 ghost use Rattle.tftp_transfers.specs.declared.place.Transfer.{Transfer};
 ghost use Rattle.tftp_views.specs.Captured.{Naming, client_capture, client_header, server_capture, server_header};
 ghost use Rattle.tftp_views.specs.Judged.{IsJudgedWith};
-ghost use Rattle.tftp_views.specs.Kept.{IsFed, fed_to};
+ghost use Rattle.tftp_views.specs.Kept.{IsFed};
 
+use crate::judges::Judges;
+use crate::judging::Judging;
+use crate::verdicts::Verdicts;
 use std::alloc::Global;
 use std::marker::Model;
 use tftp_ends::Delivered;
 use tftp_transfers::{Attributed, AttributionFault, Transfer, TransferDoubts};
-use tftp_views::{Party, TransferJudge, Verdicts};
+use tftp_views::{ClientJudge, Party, ServerView};
 
-/// How many datagrams a judge can count.
-const MOST: u64 = 1 << 40;
-
-/// A transfer of a recording: the judges of its two ends, and what makes a refusal of it no accusation.
+/// A transfer of a recording: its judges, each at a point where it is judged, and what makes a refusal of it no accusation.
 #[derive(Drop)]
 pub struct Watched<D: Delivered + Drop> {
-    judge: TransferJudge<D>,
+    transfer: Transfer,
+    judges: Judges<D>,
     doubts: TransferDoubts,
 }
 
@@ -37,17 +40,18 @@ impl<D: Delivered + Drop> Model for Watched<D> {
 
     ghost coded = { Prim.hlevel (codes, sender_code, receiver_code, options_code, parts_code) };
 
-    ghost view = { λ w. record { judge = w.judge; doubts = w.doubts } };
+    ghost view = { λ w. record { transfer = w.transfer; judges = w.judges; doubts = w.doubts } };
 }
 
 impl<D: Delivered + Drop> Watched<D> {
     /// A transfer before any datagram. Takes no memory.
-    pub(crate) fn new(alloc: Global, transfer: Transfer) -> Self
-        ensures stands { (name : Naming) → IsWatching result transfer name [] }
-        ensures none { (result.judge.client.end.judge.fed ≡ 0) × (fed_to result.judge.server ≡ 0) }
+    pub(crate) fn new(alloc: Global, transfer: Transfer, judging: Judging) -> Self
+        ensures stands { (name : Naming) → IsWatching result judging transfer name [] }
+        ensures none { IsCrowded result.judges → ⊥ }
     {
         Watched {
-            judge: TransferJudge::new(alloc, transfer),
+            transfer,
+            judges: Judges::new(alloc, transfer, judging.points(&transfer)),
             doubts: TransferDoubts::new(transfer.number),
         }
     }
@@ -62,36 +66,50 @@ impl<D: Delivered + Drop> Watched<D> {
         payload: &[u8],
     ) -> Result<(), AttributionFault>
         requires short { length payload.now ≤ 65527 }
-        ensures stands { (x : Transfer) (name : Naming) (p : Placed) (older : List Placed) → IsWatching self.old x name older
+        ensures stands { (judging : JudgingKind) (x : Transfer) (name : Naming) (p : Placed) (older : List Placed) → IsWatching self.old judging x name older
             → IsFed name p found.now.place source.now target.now payload.now → found.now.doubts ≡ doubts_of p older
-            → OnOk result (IsWatching self.new x name (p ∷ older)) }
-        ensures full { result ≡ Err AttributionFault.TooMany → IsCrowded self.old }
-        ensures transfer { self.new.judge.client.transfer ≡ self.old.judge.client.transfer }
+            → OnOk result (IsWatching self.new judging x name (p ∷ older)) }
+        ensures full { result ≡ Err AttributionFault.TooMany → IsCrowded self.old.judges }
+        ensures transfer { self.new.transfer ≡ self.old.transfer }
     {
-        if self.judge.client().fed() >= MOST || self.judge.server().fed() >= MOST {
+        if self.judges.is_crowded() {
             return Err(AttributionFault::TooMany);
         }
         self.doubts.note(found);
-        self.judge
+        self.judges
             .feed(alloc, &found.place, source, target, payload)?;
         Ok(())
     }
 
     /// Takes the next datagram of the recording, which is another transfer's, but may be this one's first answer.
     pub(crate) fn doubt(&mut self, found: &Attributed)
-        ensures stands { (x : Transfer) (name : Naming) (p : Placed) (older : List Placed) → IsWatching self.old x name older
+        ensures stands { (judging : JudgingKind) (x : Transfer) (name : Naming) (p : Placed) (older : List Placed) → IsWatching self.old judging x name older
             → found.now.place ≡ p.place → found.now.doubts ≡ doubts_of p older → is_about x.number p ≡ false
-            → IsWatching self.new x name (p ∷ older) }
-        ensures transfer { self.new.judge.client.transfer ≡ self.old.judge.client.transfer }
+            → IsWatching self.new judging x name (p ∷ older) }
+        ensures transfer { self.new.transfer ≡ self.old.transfer }
     {
         self.doubts.note(found);
     }
 
-    /// The judges of its two ends.
-    pub fn judge(&self) -> &TransferJudge<D>
-        ensures { result.now ≡ self.now.judge }
+    /// The transfer.
+    pub fn transfer(&self) -> Transfer
+        ensures { result ≡ self.now.transfer }
     {
-        &self.judge
+        self.transfer
+    }
+
+    /// The judge at its client, if it is judged there.
+    pub fn client(&self) -> Option<&ClientJudge<D>>
+        ensures { option_copied result ≡ self.now.judges.client }
+    {
+        self.judges.client()
+    }
+
+    /// The judge at its server, if it is judged there.
+    pub fn server(&self) -> Option<&ServerView<D>>
+        ensures { option_copied result ≡ self.now.judges.server }
+    {
+        self.judges.server()
     }
 
     /// What is doubtful of it.
@@ -101,22 +119,22 @@ impl<D: Delivered + Drop> Watched<D> {
         self.doubts
     }
 
-    /// The transfer.
-    pub fn transfer(&self) -> Transfer
-        ensures { result ≡ self.now.judge.client.transfer }
-    {
-        self.judge.transfer()
-    }
-
-    /// What there is to say of both ends' views of all that was fed: the verdicts of the texts that have just them, or want
-    /// of memory.
+    /// What there is to say of all that was fed, at each point where it is judged: of each end's view the verdict of the text
+    /// that has just it, or want of memory.
     pub fn finish(self, alloc: Global) -> Verdicts
-        ensures client { (x : Transfer) (name : Naming) (whole : List Placed) → IsWatching self x name whole
-            → IsJudgedWith (client_header x) (client_capture name x whole) result.client }
-        ensures server { (x : Transfer) (name : Naming) (whole : List Placed) → IsWatching self x name whole
-            → IsJudgedWith (server_header x) (server_capture name x whole whole) result.server }
+        ensures client { (judging : JudgingKind) (x : Transfer) (name : Naming) (whole : List Placed) → IsWatching self judging x name whole
+            → IfSome result.client (IsJudgedWith (client_header x) (client_capture name x whole)) }
+        ensures server { (judging : JudgingKind) (x : Transfer) (name : Naming) (whole : List Placed) → IsWatching self judging x name whole
+            → IfSome result.server (IsJudgedWith (server_header x) (server_capture name x whole whole)) }
+        ensures points { (judging : JudgingKind) (x : Transfer) (name : Naming) (whole : List Placed) → IsWatching self judging x name whole
+            → AreTold result (points_of judging x) }
+        ensures failed { self.judges.failed ≡ true → AreWants self.judges result }
     {
-        let Watched { judge, doubts: _ } = self;
-        judge.finish(alloc)
+        let Watched {
+            transfer: _,
+            judges,
+            doubts: _,
+        } = self;
+        judges.finish(alloc)
     }
 }

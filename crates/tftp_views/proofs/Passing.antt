@@ -1,5 +1,5 @@
 -- What is not about a transfer changes nothing of it.
-use Rattle.std.proofs.Common.{◌≡◌, ℕ, Bool, true, false, cond, List, ◌∷◌, refl, sym, ap, ◌∙◌, subst, map}
+use Rattle.std.proofs.Common.{◌≡◌, ℕ, Bool, false, cond, List, ◌∷◌, sym, ap, ◌∙◌, subst, map}
 use Rattle.std.specs.Prelude.{◌&&◌, ◌||◌, filter}
 use Rattle.tftp_transfers.specs.declared.doubted.TransferDoubts.{TransferDoubts}
 use Rattle.tftp_transfers.specs.Doubts.{goes_over, is_answered_apart, is_asked_again, is_disordered, is_it, is_late, may_be_answer_of, some_of}
@@ -7,7 +7,7 @@ use Rattle.tftp_transfers.specs.Kept.{IsDoubtedAfter}
 use Rattle.tftp_transfers.specs.Places.{Placed}
 use Rattle.tftp_transfers.specs.Views.{is_about, is_of}
 use Rattle.tftp_transfers.proofs.OwnDatagrams.{about_none}
-use Rattle.tftp_views.specs.Captured.{Naming, captured_at_client, client_capture, client_header}
+use Rattle.tftp_views.specs.Captured.{Naming, captured_at_client, client_header}
 use Rattle.tftp_views.specs.Judged.{HasJudged}
 use Rattle.tftp_views.specs.Kept.{Client, IsClientAfter}
 

@@ -1,5 +1,5 @@
 -- What the judges of the two ends keep, and for which datagrams of a recording they stand.
-use Rattle.std.specs.Prelude.{◌≡◌, ℕ, true, false, List, [], filter, length, reverse, Option, Some, None, Bool}
+use Rattle.std.specs.Prelude.{◌≡◌, ℕ, true, false, List, [], filter, length, reverse, Option, Some, None}
 use Rattle.std.specs.List.{AllZip}
 use Rattle.tftp_judge.specs.Kept.{Judge}
 use Rattle.tftp_judge.specs.declared.refusal.Refusal.{Refusal}
@@ -98,17 +98,3 @@ has_refused v = by v.judge where
   by : Option Server → Option Refusal
   by None = None
   by (Some s) = s.end.judge.refused
-
--- ---- both ends
-
--- The judges of the two ends; or memory was wanting for a datagram.
-pub record Both : Type 0 where
-  pub client : Client
-  pub server : View
-  pub failed : Bool
-
--- Each was fed these datagrams of a recording, and nothing else.
-pub record AreBothAfter (b : Both) (name : Naming) (placed : List Placed) : Type 0 where
-  pub works : b.failed ≡ false
-  pub client : IsClientAfter b.client name placed
-  pub server : IsViewAfter b.server name placed

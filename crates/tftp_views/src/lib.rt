@@ -8,7 +8,6 @@ pub mod laws;
 mod party;
 mod server;
 mod server_view;
-mod transfer_judge;
 
 pub use client::ClientJudge;
 pub use end_judge::EndJudge;
@@ -16,4 +15,3 @@ pub use held::Held;
 pub use party::Party;
 pub use server::ServerJudge;
 pub use server_view::ServerView;
-pub use transfer_judge::{TransferJudge, Verdicts};

@@ -24,6 +24,6 @@ returns-clause-stands g c named name out recorded d stands of from to =
     record {
       works = refl;
       attribution = c.in_ok-found.ensures.stands named older d stands.attribution of;
-      transfers = c.in_ok-hand_on.ensures.kept name out p older fed doubts
+      transfers = c.in_ok-hand_on.ensures.kept c.args.self.now.judging name out p older fed doubts
           (c.in_ok-open.ensures.kept name out p older belongs (unheard_before named recorded (max d.time (clock older)) d) stands.transfers);
     }

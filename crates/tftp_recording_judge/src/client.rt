@@ -1,0 +1,85 @@
+//! A transfer's judge at its client, where it is judged there.
+
+ghost use Rattle.std.specs.Prelude.{◌≡◌, ◌^◌, ◌<◌, ◌≤◌, ◌∷◌, ℕ, List, [], length, is_some, IfSome, OnOk, Ok, Err, true, false};
+ghost use Rattle.tftp_judge.specs.declared.refusal.Refusal.{Refusal as RefusalKind};
+ghost use Rattle.tftp_recording_judge.specs.Kept.{ClientStands, fed_at_client};
+ghost use Rattle.tftp_transfers.specs.Places.{Placed};
+ghost use Rattle.tftp_transfers.specs.Views.{is_about};
+ghost use Rattle.tftp_transfers.specs.declared.place.Transfer.{Transfer};
+ghost use Rattle.tftp_views.specs.Captured.{Naming, client_capture, client_header};
+ghost use Rattle.tftp_views.specs.Judged.{IsJudgedWith};
+ghost use Rattle.tftp_views.specs.Kept.{IsFed};
+
+use std::alloc::{AllocError, Global};
+use tftp_ends::Delivered;
+use tftp_judge::{Meaning, Refusal};
+use tftp_transfers::{Place, Transfer};
+use tftp_views::{ClientJudge, Party};
+
+/// The judge, before any datagram, if this is a point where it is judged. Takes no memory.
+pub(crate) fn open<D: Delivered + Drop>(
+    alloc: Global,
+    transfer: Transfer,
+    is_judged: bool,
+) -> Option<ClientJudge<D>>
+    ensures stands { (name : Naming) → ClientStands result transfer name [] }
+    ensures there { is_some result ≡ is_judged }
+    ensures none { fed_at_client result ≡ 0 }
+{
+    if is_judged {
+        Some(ClientJudge::new(alloc, transfer))
+    } else {
+        None
+    }
+}
+
+/// Gives the next datagram of the recording to the judge, if there is one.
+pub(crate) fn feed<D: Delivered + Drop>(
+    judge: &mut Option<ClientJudge<D>>,
+    alloc: Global,
+    place: &Place,
+    source: &Party,
+    target: &Party,
+    payload: &[u8],
+) -> Result<(), AllocError>
+    requires few { fed_at_client judge.old < 2 ^ 40 }
+    requires short { length payload.now ≤ 65527 }
+    ensures stands { (x : Transfer) (name : Naming) (p : Placed) (older : List Placed) → ClientStands judge.old x name older
+        → IsFed name p place.now source.now target.now payload.now → OnOk result (ClientStands judge.new x name (p ∷ older)) }
+    ensures others { (p : Placed) → place.now ≡ p.place → IfSome judge.old (λ c. is_about c.transfer.number p ≡ false)
+        → (result ≡ Ok tt) × (judge.new ≡ judge.old) }
+    ensures there { is_some judge.new ≡ is_some judge.old }
+{
+    match judge {
+        Some(judge) => judge.feed(alloc, place, source, target, payload),
+        None => Ok(()),
+    }
+}
+
+/// How many datagrams the judge has accepted; none where there is no judge.
+pub(crate) fn fed<D: Delivered + Drop>(judge: &Option<ClientJudge<D>>) -> u64
+    ensures { result ≡ fed_at_client judge.now }
+{
+    match judge {
+        Some(judge) => judge.fed(),
+        None => 0,
+    }
+}
+
+/// What there is to say at the client, where it is judged there. After a datagram for which memory was wanting it is that.
+pub(crate) fn finish<D: Delivered + Drop>(
+    judge: Option<ClientJudge<D>>,
+    has_failed: bool,
+    alloc: Global,
+) -> Option<Result<Meaning, Refusal>>
+    ensures judged { (x : Transfer) (name : Naming) (whole : List Placed) → has_failed ≡ false → ClientStands judge x name whole
+        → IfSome result (IsJudgedWith (client_header x) (client_capture name x whole)) }
+    ensures failed { has_failed ≡ true → IfSome result (λ said. said ≡ Err (RefusalKind.Memory (fed_at_client judge))) }
+    ensures there { is_some result ≡ is_some judge }
+{
+    let judge = judge?;
+    if has_failed {
+        return Some(Err(Refusal::Memory(judge.fed())));
+    }
+    Some(judge.finish(alloc))
+}

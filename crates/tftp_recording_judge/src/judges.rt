@@ -1,0 +1,129 @@
+//! The judges of one transfer, beside each other.
+
+ghost use Rattle.std.specs.Prelude.{◌≡◌, ◌≤◌, ◌∷◌, ℕ, List, [], length, option_copied, IfSome, IsErr, OnErr, OnOk, Ok, MatchBool, true, false};
+ghost use Rattle.tftp_recording_judge.specs.Kept.{AreAt, AreFew, AreJudgesAfter, AreOf, AreTold, AreWants, IsCrowded};
+ghost use Rattle.tftp_transfers.specs.Places.{Placed};
+ghost use Rattle.tftp_transfers.specs.Views.{is_about};
+ghost use Rattle.tftp_transfers.specs.declared.place.Transfer.{Transfer};
+ghost use Rattle.tftp_views.specs.Captured.{Naming, client_capture, client_header, server_capture, server_header};
+ghost use Rattle.tftp_views.specs.Judged.{IsJudgedWith};
+ghost use Rattle.tftp_views.specs.Kept.{IsFed};
+
+use crate::judging::Points;
+use crate::verdicts::Verdicts;
+use crate::{client, server};
+use std::alloc::{AllocError, Global};
+use std::marker::Model;
+use tftp_ends::Delivered;
+use tftp_transfers::{Place, Transfer};
+use tftp_views::{ClientJudge, Party, ServerView};
+
+/// How many datagrams a judge can count.
+const MOST: u64 = 1 << 40;
+
+/// The judges of a transfer, each where it is judged.
+#[derive(Drop)]
+pub(crate) struct Judges<D: Delivered + Drop> {
+    client: Option<ClientJudge<D>>,
+    server: Option<ServerView<D>>,
+    failed: bool,
+}
+
+impl<D: Delivered + Drop> Model for Judges<D> {
+    ghost use Rattle.std.specs.Coded.{codes};
+    ghost use Rattle.tftp_ends.specs.StatesKept.{sender_code, receiver_code};
+    ghost use Rattle.tftp_packet.specs.Owned.{options_code, parts_code};
+    ghost use Rattle.tftp_recording_judge.specs.Kept.{Judges};
+
+    ghost Value = { Judges };
+
+    ghost coded = { Prim.hlevel (codes, sender_code, receiver_code, options_code, parts_code) };
+
+    ghost view = { λ j. record { client = j.client; server = j.server; failed = j.failed } };
+}
+
+impl<D: Delivered + Drop> Judges<D> {
+    /// Of this transfer at these points, before any datagram. Takes no memory.
+    pub(crate) fn new(alloc: Global, transfer: Transfer, points: Points) -> Self
+        ensures after { (name : Naming) → AreJudgesAfter result transfer name [] }
+        ensures points { AreAt result points }
+        ensures none { IsCrowded result → ⊥ }
+    {
+        Judges {
+            client: client::open(alloc, transfer, points.client),
+            server: server::open(alloc, transfer, points.server),
+            failed: false,
+        }
+    }
+
+    /// Gives the next datagram of the recording to each, of this transfer or of another, which belongs there. Where there is
+    /// no memory for it at one of the points, they have failed for good.
+    pub(crate) fn feed(
+        &mut self,
+        alloc: Global,
+        place: &Place,
+        source: &Party,
+        target: &Party,
+        payload: &[u8],
+    ) -> Result<(), AllocError>
+        requires few { AreFew self.old }
+        requires short { length payload.now ≤ 65527 }
+        ensures after { (x : Transfer) (name : Naming) (p : Placed) (older : List Placed) → AreJudgesAfter self.old x name older
+            → IsFed name p place.now source.now target.now payload.now → OnOk result (AreJudgesAfter self.new x name (p ∷ older)) }
+        ensures others { (x : Transfer) (p : Placed) → place.now ≡ p.place → AreOf self.old x → is_about x.number p ≡ false
+            → self.old.failed ≡ false → (result ≡ Ok tt) × (self.new ≡ self.old) }
+        ensures points { (points : Points) → AreAt self.old points → AreAt self.new points }
+        ensures fails { OnErr result (self.new.failed ≡ true) }
+        ensures for_good { self.old.failed ≡ true → IsErr result }
+    {
+        if self.failed {
+            return Err(AllocError);
+        }
+        self.failed = true;
+        client::feed(&mut self.client, alloc, place, source, target, payload)?;
+        server::feed(&mut self.server, alloc, place, source, target, payload)?;
+        self.failed = false;
+        Ok(())
+    }
+
+    /// Whether one of them has accepted, or holds, as many datagrams as can be counted.
+    pub(crate) fn is_crowded(&self) -> bool
+        ensures { MatchBool result (IsCrowded self.now) (AreFew self.now) }
+    {
+        client::fed(&self.client) >= MOST || server::fed(&self.server) >= MOST
+    }
+
+    /// The judge at the client, where it is judged there.
+    pub(crate) fn client(&self) -> Option<&ClientJudge<D>>
+        ensures { option_copied result ≡ self.now.client }
+    {
+        self.client.as_ref()
+    }
+
+    /// The judge at the server, where it is judged there.
+    pub(crate) fn server(&self) -> Option<&ServerView<D>>
+        ensures { option_copied result ≡ self.now.server }
+    {
+        self.server.as_ref()
+    }
+
+    /// What there is to say of the whole that was fed, at each point.
+    pub(crate) fn finish(self, alloc: Global) -> Verdicts
+        ensures client { (x : Transfer) (name : Naming) (whole : List Placed) → AreJudgesAfter self x name whole
+            → IfSome result.client (IsJudgedWith (client_header x) (client_capture name x whole)) }
+        ensures server { (x : Transfer) (name : Naming) (whole : List Placed) → AreJudgesAfter self x name whole
+            → IfSome result.server (IsJudgedWith (server_header x) (server_capture name x whole whole)) }
+        ensures points { (points : Points) → AreAt self points → AreTold result points }
+        ensures failed { self.failed ≡ true → AreWants self result }
+    {
+        let Judges {
+            client,
+            server,
+            failed,
+        } = self;
+        Verdicts {
+            client: client::finish(client, failed, alloc),
+            server: server::finish(server, failed, alloc),
+        }
+    }
+}

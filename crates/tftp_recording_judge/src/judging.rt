@@ -1,0 +1,70 @@
+//! Where a recording's transfers are judged.
+
+ghost use Rattle.std.specs.Prelude.{◌≡◌};
+ghost use Rattle.tftp_recording_judge.specs.Points.{points_of};
+
+use tftp_transfers::Transfer;
+
+/// Where the transfers of a recording are judged.
+#[derive(Clone, Copy, Debug, PartialEq, Eq)]
+pub enum Judging {
+    /// At no point: they are told apart, and that is all.
+    Nowhere,
+    /// At the client.
+    Client,
+    /// At the server.
+    Server,
+    /// Between the two ends.
+    Between,
+    /// At both ends where the client asks at its own host, since both were recorded then; else between the ends.
+    WhereRecorded,
+}
+
+/// The points at which a transfer is judged.
+#[derive(Clone, Copy, Debug, PartialEq, Eq)]
+pub struct Points {
+    /// At its client.
+    pub client: bool,
+    /// At its server.
+    pub server: bool,
+    /// Between the two.
+    pub between: bool,
+}
+
+/// No point.
+const NOWHERE: Points = Points {
+    client: false,
+    server: false,
+    between: false,
+};
+
+impl Judging {
+    /// The points at which a transfer is judged.
+    pub fn points(self, transfer: &Transfer) -> Points
+        ensures { result ≡ points_of self transfer.now }
+    {
+        match self {
+            Judging::Nowhere => NOWHERE,
+            Judging::Client => Points {
+                client: true,
+                ..NOWHERE
+            },
+            Judging::Server => Points {
+                server: true,
+                ..NOWHERE
+            },
+            Judging::Between => Points {
+                between: true,
+                ..NOWHERE
+            },
+            Judging::WhereRecorded => {
+                let is_own_host = transfer.client.address == transfer.asked.address;
+                Points {
+                    client: is_own_host,
+                    server: is_own_host,
+                    between: !is_own_host,
+                }
+            }
+        }
+    }
+}
