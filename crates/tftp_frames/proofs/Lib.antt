@@ -5,3 +5,4 @@ pub mod Uppers
 pub mod FaultOrder
 pub mod Datagrams
 pub mod Addresses
+pub mod Hosts

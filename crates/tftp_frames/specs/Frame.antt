@@ -1,7 +1,8 @@
 -- Which frames are an IP packet that may carry UDP.
 use Rattle.std.specs.Prelude.{◌≡◌, ℕ, List, Some}
 use Rattle.tftp_frames.specs.Link.{link_named, Linked, SpellsLink}
-use Rattle.tftp_frames.specs.Ip.{Packet, SpellsIp}
+use Rattle.std.specs.declared.net.ip_addr.IpAddr.{IpAddr}
+use Rattle.tftp_frames.specs.Ip.{Packet, HasHeader, SpellsIp, source_of, target_of}
 use Rattle.tftp_frames.specs.declared.link.LinkType.{LinkType}
 use Rattle.tftp_frames.specs.declared.link.Network.{Network}
 
@@ -13,3 +14,13 @@ IsLinked number frame c = (link : LinkType) × (link_named number ≡ Some link)
 abbrev pub SpellsFrame : ℕ → List ℕ → Packet → Type 0
 SpellsFrame number frame p =
     (c : Linked) × (network : Network) × IsLinked number frame c × (c.network ≡ Some network) × SpellsIp c.direction network c.content p
+
+-- the frame has a whole header of IP, which names these hosts, however much is there of what follows it
+pub record IsBetween (number : ℕ) (frame : List ℕ) (source target : IpAddr) : Type 0 where
+  pub linked : Linked
+  pub network : Network
+  pub carries : IsLinked number frame linked
+  pub of_ip : linked.network ≡ Some network
+  pub header : HasHeader network linked.content
+  pub from : source ≡ source_of network linked.content
+  pub to : target ≡ target_of network linked.content

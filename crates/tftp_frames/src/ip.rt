@@ -110,6 +110,18 @@ fn target(network: Network, bytes: &[u8]) -> IpAddr
     }
 }
 
+/// The hosts that the header with which bytes begin names, if it is whole.
+pub fn hosts_of(network: Network, bytes: &[u8]) -> Option<(IpAddr, IpAddr)>
+    ensures { MatchOption result
+        (HasHeader network bytes.now → ⊥)
+        (λ hosts. HasHeader network bytes.now × (hosts ≡ (source_of network bytes.now, target_of network bytes.now))) }
+{
+    if !has_header(network, bytes) {
+        return None;
+    }
+    Some((source(network, bytes), target(network, bytes)))
+}
+
 /// The identification in a packet's header.
 #[inline]
 fn identification(network: Network, bytes: &[u8]) -> Option<u16>

@@ -15,7 +15,7 @@ mod udp;
 
 pub use address::write_address;
 pub use fault::{FrameFault, UdpFault};
-pub use frame::read_frame;
+pub use frame::{read_frame, read_hosts};
 pub use laws::{
     addresses_are_one_if_written_the_same, content_is_one_datagram, first_fault_is_one,
     frame_spells_one_packet, spelled_frame_has_no_fault, worked_addresses, worked_datagrams,

@@ -1,5 +1,7 @@
-ghost use Rattle.std.specs.Prelude.{◌≡◌, [], None, option_map};
+ghost use Rattle.std.specs.Prelude.{◌≡◌, [], None, option_map, MatchOption};
+ghost use Rattle.std.specs.declared.net.ip_addr.IpAddr.{IpAddr as Host};
 ghost use Rattle.tftp_fragments.specs.Held.{content_of as put_together};
+ghost use Rattle.tftp_frames.specs.Frame.{IsBetween};
 ghost use Rattle.tftp_frames.specs.Parts.{shown};
 ghost use Rattle.tftp_pcap.specs.Frames.{no_frame};
 ghost use Rattle.tftp_recording.specs.Brought.{nothing_brought};
@@ -13,9 +15,10 @@ use crate::likeness::Likeness;
 use std::alloc::Global;
 use std::marker::Model;
 use std::mem;
+use std::net::IpAddr;
 use tftp_fragments::{Content, Fragments, Outcome};
 use tftp_frames::{
-    Direction as LinkDirection, FrameFault, IpPacket, UdpFault, read_frame, read_udp,
+    Direction as LinkDirection, FrameFault, IpPacket, UdpFault, read_frame, read_hosts, read_udp,
 };
 use tftp_pcap::{Direction, Frame};
 
@@ -88,6 +91,17 @@ impl Event {
             Likeness::New | Likeness::Doubtful => fate_of(&self.frame, self.brought.outcome()),
             Likeness::Copy => Fate::Left(LeftOut::Copy),
         }
+    }
+
+    /// The hosts between which the frame's IP packet went, its sender first, also where the frame is left out or is a fragment
+    /// alone; none where it has no whole IP header (RFC 791, section 3.1; RFC 8200, section 3).
+    #[inline]
+    pub fn hosts(&self) -> Option<(IpAddr, IpAddr)>
+        ensures { MatchOption result
+            ((source target : Host) → IsBetween self.now.frame.parts.link self.now.frame.parts.bytes source target → ⊥)
+            (λ hosts. IsBetween self.now.frame.parts.link self.now.frame.parts.bytes hosts.0 hosts.1) }
+    {
+        read_hosts(self.frame.link(), self.frame.bytes())
     }
 
     /// Whether the frame is a copy of a frame before it, or what its sender repeated: its packet has no identification,

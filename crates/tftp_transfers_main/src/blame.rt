@@ -105,9 +105,7 @@ impl Blame {
     ) -> Option<Blamed> {
         match verdict {
             Ok(_) => None,
-            Err(refusal) => self
-                .at_server
-                .or(self.find_at_server(ends, Some(*refusal))),
+            Err(refusal) => self.at_server.or(self.find_at_server(ends, Some(*refusal))),
         }
     }
 

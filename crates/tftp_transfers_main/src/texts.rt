@@ -89,7 +89,12 @@ fn put_frame(words: &mut String, passing: &Passing<'_>) -> Result<(), AllocError
 /// Writes the capture text of a transfer at an end, unless the recording is not whole.
 pub fn write_text(rt: HostRuntime, asked: &TextRequest<'_>) -> Result<u8> {
     let kept = Kept::new(asked.number);
-    let mut session = Session::new(rt.alloc(), asked.services.as_slice(), Judging::Nowhere, kept)?;
+    let mut session = Session::new(
+        rt.alloc(),
+        asked.services.as_slice(),
+        Judging::Nowhere,
+        kept,
+    )?;
     let written = write_session(rt, asked, &mut session);
     session.let_go();
     written?;
