@@ -1,6 +1,6 @@
 -- What a tap's judge stands for that was given each datagram of a capture, also after it refused one. Lists have the newest
 -- first.
-use Rattle.std.specs.Prelude.{◌≡◌, ◌⊎◌, List, ◌∷◌, ◌++◌, Option, Some, None, Result, Ok, Err}
+use Rattle.std.specs.Prelude.{◌≡◌, ◌⊎◌, List, ◌∷◌, ◌++◌, Option, Some, None, Result, Err}
 use Rattle.tftp_ends.specs.Meaning.{Meaning}
 use Rattle.tftp_tap.specs.TapCapture.{TapDatagram, TapSides}
 use Rattle.tftp_tap.specs.TapRules.{BreaksNoTapRule}

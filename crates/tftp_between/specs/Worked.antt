@@ -1,5 +1,5 @@
 -- What passes between the ends of the worked recordings.
-use Rattle.std.specs.Prelude.{ℕ, List, [], ◌∷◌, codes}
+use Rattle.std.specs.Prelude.{List, [], ◌∷◌, codes}
 use Rattle.tftp_tap.specs.TapCapture.{PeerId, TapDatagram, TapSides}
 use Rattle.tftp_transfers.specs.declared.place.Transfer.{Transfer}
 use Rattle.tftp_transfers.specs.Worked.{client, service, ack_of, data_of, read_of}

@@ -56,7 +56,8 @@ pub fn passed(
     target: &Party,
     payload: &[u8],
 ) -> Result<TapDatagram, AllocError>
-    ensures { IfOk result (λ d. passing_of d ≡ passed_as source.now target.now payload.now) }
+    ensures passed { IfOk result (λ d. passing_of d ≡ passed_as source.now target.now payload.now) }
+    ensures short { IfOk result (λ d. length d.payload ≡ length payload.now) }
 {
     Ok(TapDatagram {
         source: side_of(source),

@@ -81,11 +81,10 @@ impl<D: Delivered + Drop> SidesJudge<D> {
     {
         match &mut self.judge {
             None => self.counted += 1,
-            Some(judge) => {
-                if judge.refused().is_none() {
-                    give(judge, alloc, passed(alloc, source, target, payload)?);
-                }
-            }
+            Some(judge) => match judge.refused() {
+                None => give(judge, alloc, passed(alloc, source, target, payload)?),
+                Some(_) => {}
+            },
         }
         Ok(())
     }
@@ -128,6 +127,7 @@ impl<D: Delivered + Drop> SidesJudge<D> {
     pub fn finish(self, alloc: Global) -> Result<Meaning, TapRefusal>
         ensures judged { (given : List Passing) → HasPassed self given → AreApart self.sides → IsBetweenVerdict self.sides given result }
         ensures to_itself { are_apart self.sides ≡ false → result ≡ Err (RefusalKind.Incomplete (counted_by self)) }
+        ensures all { (given : List Passing) → HasPassed self given → are_apart self.sides ≡ false → counted_by self ≡ length given }
         ensures for_good { (refusal : RefusalKind) → refused_by self ≡ Some refusal → result ≡ Err refusal }
     {
         let SidesJudge {
