@@ -1,12 +1,15 @@
 -- When the client is none of the other two sides.
 use Rattle.std.proofs.Common.{◌≡◌, ◌⊎◌, Bool, true, false, true≢false, List, refl, sym, ap, ◌∙◌, subst, inl, inr}
-use Rattle.std.specs.Prelude.{◌||◌, not}
+use Rattle.std.specs.Prelude.{◌||◌, ◌==◌, not}
+use Rattle.std.proofs.lemmas.Bool.{and_from, eq-eqb}
 use Rattle.tftp_ends.specs.Ports.{same_peer}
 use Rattle.tftp_ends.proofs.NotedPeers.{is_same, same_itself}
+use Rattle.tftp_parties.specs.Naming.{IsAddress}
+use Rattle.tftp_parties.proofs.Addresses.{called_one}
 use Rattle.tftp_tap.specs.TapCapture.{AreApart, PeerId, TapSides}
 use Rattle.tftp_transfers.specs.declared.endpoint.Endpoint.{Endpoint}
 use Rattle.tftp_transfers.specs.declared.place.Transfer.{Transfer}
-use Rattle.tftp_transfers.specs.Recording.{same_endpoint}
+use Rattle.tftp_transfers.specs.Recording.{same_address, same_endpoint}
 use Rattle.tftp_transfers.specs.Places.{Placed}
 use Rattle.tftp_transfers.specs.Views.{server_of}
 use Rattle.tftp_transfers.proofs.Endpoints.{is_same as is_same_endpoint}
@@ -65,3 +68,36 @@ to_itself x whole is = by (either (same_endpoint x.client server) (same_endpoint
   by : (same_endpoint x.client server ≡ true) ⊎ (same_endpoint x.client x.asked ≡ true) → are_apart (sides_of x whole) ≡ false
   by (inl same) = first_is (same_peer (peer_of x.client) (peer_of server)) (same_peer (peer_of x.client) (peer_of x.asked)) (named_same x.client server same)
   by (inr same) = second_is (same_peer (peer_of x.client) (peer_of server)) (same_peer (peer_of x.client) (peer_of x.asked)) (named_same x.client x.asked same)
+
+-- ---- of addresses
+
+-- hosts that are called the same are one
+same_named : (one other : Endpoint) → IsAddress one.address → IsAddress other.address → peer_of one ≡ peer_of other → same_endpoint one other ≡ true
+same_named one other here there same =
+    and_from (same_address one.address other.address) (one.port == other.port)
+    ((called_one one.address other.address here there).1 (ap (λ (p : PeerId). p.host) same))
+    (eq-eqb one.port other.port (ap (λ (p : PeerId). p.port) same))
+
+none_of : (a b : Bool) → (a || b) ≡ false → (a ≡ false) × (b ≡ false)
+none_of false false e = (refl, refl)
+none_of false true e = absurd (true≢false e)
+none_of true b e = absurd (true≢false e)
+
+pub apart_from_both : (x : Transfer) (whole : List Placed) → IsAddress x.client.address → IsAddress x.asked.address → IsAddress (server_or_asked x (server_of x.number whole)).address
+    → is_to_itself x whole ≡ false → AreApart (sides_of x whole)
+apart_from_both x whole client asked serves off = record {
+  server = λ same. true≢false (sym (same_named x.client server client serves same) ∙ differ.0);
+  asked = λ same. true≢false (sym (same_named x.client x.asked client asked same) ∙ differ.1);
+}
+  where
+    server : Endpoint
+    server = server_or_asked x (server_of x.number whole)
+
+    differ : (same_endpoint x.client server ≡ false) × (same_endpoint x.client x.asked ≡ false)
+    differ = none_of (same_endpoint x.client server) (same_endpoint x.client x.asked) off
+
+pub apart_only : (x : Transfer) (whole : List Placed) → AreApart (sides_of x whole) → is_to_itself x whole ≡ false
+apart_only x whole apart = by (is_to_itself x whole) refl where
+  by : (b : Bool) → is_to_itself x whole ≡ b → is_to_itself x whole ≡ false
+  by false is = is
+  by true is = absurd (not_apart (sides_of x whole) (to_itself x whole is) apart)
