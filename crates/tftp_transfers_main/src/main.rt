@@ -6,6 +6,7 @@ mod cells;
 mod checking;
 mod headed;
 mod listing;
+mod losses;
 mod notes;
 mod passing;
 mod reading;

@@ -1,14 +1,15 @@
 //! What is to be told of a recording as a whole.
 
 use crate::cells::put_number;
+use crate::losses::Losses;
 use crate::passing::Passing;
 use anyhow::Result;
 use std::alloc::{AllocError, Global};
-use std::collections::BTreeSet;
+use std::net::IpAddr;
 use tftp_fragments::Fragments;
 use tftp_frames::{FrameFault, UdpFault};
 use tftp_pcap::PcapFault;
-use tftp_recording::LeftOut;
+use tftp_recording::{Event, LeftOut};
 
 /// How many frames or ports are named.
 const NAMED: usize = 5;
@@ -72,10 +73,8 @@ fn put_numbers(named: &mut String, numbers: &[u64]) -> Result<(), AllocError> {
 pub struct Notes {
     /// Frames that may have been datagrams of UDP, or parts of such, and can't be read.
     lost: Frames,
-    /// The first of them: from there on a refusal is doubtful.
-    lost_from: Option<u64>,
-    /// Frames that wait for others of their packets.
-    waiting: BTreeSet<u64>,
+    /// The same by their hosts.
+    pub losses: Losses,
     /// Frames whose link type is not known.
     other_links: Frames,
     /// Datagrams that were left out as copies.
@@ -96,8 +95,7 @@ impl Notes {
     pub fn new(alloc: Global) -> Self {
         Notes {
             lost: Frames::new(alloc),
-            lost_from: None,
-            waiting: BTreeSet::new(alloc),
+            losses: Losses::new(alloc),
             other_links: Frames::new(alloc),
             copies: Frames::new(alloc),
             of_none: Frames::new(alloc),
@@ -121,27 +119,26 @@ impl Notes {
         Ok(())
     }
 
-    /// Notes a frame that waits for others of its packet.
-    pub fn wait(&mut self, frame: u64) -> Result<(), AllocError> {
-        self.waiting.insert(frame)?;
-        Ok(())
-    }
-
     /// Notes frames for which no others are missing any more.
     pub fn find(&mut self, frames: &[u64]) {
         for frame in frames {
-            self.waiting.remove(frame);
+            let _ = self.losses.find(*frame);
         }
     }
 
-    /// Notes frames that can't be read.
+    /// Notes frames that waited for others in vain.
     pub fn lose(&mut self, frames: &[u64]) -> Result<(), AllocError> {
         for frame in frames {
-            self.lost.add(*frame)?;
-            self.lost_from = Some(self.lost_from.unwrap_or(*frame).min(*frame));
+            let hosts = self.losses.find(*frame);
+            self.lose_one(*frame, hosts)?;
         }
-        self.find(frames);
         Ok(())
+    }
+
+    /// Notes a frame that can't be read, which went between these hosts.
+    fn lose_one(&mut self, frame: u64, hosts: Option<(IpAddr, IpAddr)>) -> Result<(), AllocError> {
+        self.lost.add(frame)?;
+        self.losses.lose(frame, hosts)
     }
 
     /// Notes fragments that were let go.
@@ -156,7 +153,8 @@ impl Notes {
     }
 
     /// Notes a frame that is left out, and those that share its fate.
-    pub fn leave(&mut self, why: LeftOut, frame: u64, sharers: &[u64]) -> Result<(), AllocError> {
+    pub fn leave(&mut self, why: LeftOut, event: &Event) -> Result<(), AllocError> {
+        let (frame, sharers) = (event.number(), event.sharers());
         match why {
             LeftOut::Copy => self.copies.add(frame),
             LeftOut::Frame(FrameFault::Link) => self.other_links.add(frame),
@@ -170,7 +168,7 @@ impl Notes {
             }
             _ => {
                 self.lose(sharers)?;
-                self.lose(&[frame])
+                self.lose_one(frame, event.hosts())
             }
         }
     }
@@ -183,15 +181,6 @@ impl Notes {
             self.asked.push(port)?;
         }
         self.of_none.add(passing.frame)
-    }
-
-    /// The first frame that is not there whole, or waits for others still: from there on datagrams may be missing.
-    pub fn lost_from(&self) -> Option<u64> {
-        match (self.lost_from, self.waiting.first()) {
-            (Some(lost), Some(waiting)) => Some(lost.min(*waiting)),
-            (None, Some(waiting)) => Some(*waiting),
-            (lost, None) => lost,
-        }
     }
 
     /// Tells what there is to tell; whether the recording was read to its end and nothing is missing.

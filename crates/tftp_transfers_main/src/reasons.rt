@@ -1,6 +1,7 @@
 //! Why a refusal is no accusation.
 
 use crate::blame::Blamed;
+use crate::losses::Span;
 use std::alloc::{AllocError, Global};
 use tftp_transfers::TransferDoubts;
 
@@ -12,8 +13,10 @@ pub struct Doubted {
     pub is_twice: bool,
     /// The frame of a datagram that may be a copy of the one before.
     pub copied_from: Option<u64>,
-    /// From this frame on datagrams may be missing.
-    pub lost_from: Option<u64>,
+    /// The frame of its request.
+    pub begins: u64,
+    /// Frames that may have been its client's, and are not there whole.
+    pub lost: Option<Span>,
 }
 
 const DISORDERED: &str = "its datagrams are not in the order of their times";
@@ -59,6 +62,23 @@ impl Doubted {
         self.put_frames(alloc, reasons, blamed)
     }
 
+    /// Adds why it may be whole all the same: a frame is lost that came after its request.
+    pub fn put_lacks(&self, alloc: Global, reasons: &mut Vec<String>) -> Result<(), AllocError> {
+        match self.lost {
+            Some(lost) if lost.first >= self.begins => put_lost(alloc, reasons, lost.first),
+            Some(lost) if lost.last >= self.begins => put_lost(alloc, reasons, lost.last),
+            _ => Ok(()),
+        }
+    }
+
+    /// The first of the frames that are lost.
+    fn lost_from(&self) -> Option<u64> {
+        match self.lost {
+            Some(lost) => Some(lost.first),
+            None => None,
+        }
+    }
+
     /// Adds those that come with an earlier frame.
     fn put_frames(
         &self,
@@ -66,14 +86,19 @@ impl Doubted {
         reasons: &mut Vec<String>,
         blamed: &Blamed,
     ) -> Result<(), AllocError> {
-        if let Some(frame) = known_by(self.lost_from, blamed.frame) {
-            reasons.push(format!(in alloc; "frame {frame} is not there whole")?)?;
+        if let Some(frame) = known_by(self.lost_from(), blamed.frame) {
+            put_lost(alloc, reasons, frame)?;
         }
         if let Some(frame) = known_by(self.copied_from, blamed.frame) {
             reasons.push(format!(in alloc; "frame {frame} may be a copy of the one before")?)?;
         }
         Ok(())
     }
+}
+
+/// Adds that a frame is lost.
+fn put_lost(alloc: Global, reasons: &mut Vec<String>, frame: u64) -> Result<(), AllocError> {
+    reasons.push(format!(in alloc; "frame {frame} is not there whole")?)
 }
 
 /// A frame, unless it comes after that one.

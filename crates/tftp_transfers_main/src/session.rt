@@ -2,6 +2,7 @@
 
 ghost use Rattle.tftp_frames.specs.Udp.{IsSound};
 
+use crate::losses::Span;
 use crate::notes::Notes;
 use crate::passing::{Passing, about};
 use crate::texts::Kept;
@@ -90,8 +91,8 @@ impl Session {
         self.notes.lose_all(event.take_ousted(alloc))?;
         match event.fate() {
             Fate::Datagram(datagram) => self.pass(alloc, event, &datagram, found)?,
-            Fate::Left(why) => self.notes.leave(why, event.number(), event.sharers())?,
-            Fate::Waits => self.notes.wait(event.number())?,
+            Fate::Left(why) => self.notes.leave(why, event)?,
+            Fate::Waits => self.notes.losses.wait(event.number(), event.hosts())?,
         }
         Ok(true)
     }
@@ -173,6 +174,11 @@ impl Session {
     pub fn pop(&mut self) -> Option<Ended> {
         let (_, trail) = self.trails.pop_first()?;
         joined(trail, self.audit.pop_first())
+    }
+
+    /// The frames that may have been of the client of this transfer, and are not there whole.
+    pub fn lost_of(&self, ended: &Ended) -> Option<Span> {
+        self.notes.losses.of(ended.trail.transfer.client.address)
     }
 
     /// The transfer with this number.

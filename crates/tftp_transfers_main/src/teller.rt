@@ -2,6 +2,7 @@
 
 use crate::cells::{pad, put_cell, put_number_cell, put_plain};
 use crate::listing::{ListRow, put_list_head, put_list_row};
+use crate::losses::Span;
 use crate::session::{Ended, Session};
 use crate::verdicts::{Judged, Told};
 use anyhow::Result;
@@ -75,7 +76,8 @@ impl<'a> Teller<'a> {
             let Some(ended) = session.pop_over() else {
                 return Ok(());
             };
-            self.tell(rt, ended, session.notes.lost_from())?;
+            let lost = session.lost_of(&ended);
+            self.tell(rt, ended, lost)?;
         }
         Ok(())
     }
@@ -86,17 +88,18 @@ impl<'a> Teller<'a> {
             let Some(ended) = session.pop() else {
                 return Ok(());
             };
-            self.tell(rt, ended, session.notes.lost_from())?;
+            let lost = session.lost_of(&ended);
+            self.tell(rt, ended, lost)?;
         }
         Ok(())
     }
 
-    /// Tells a transfer. From the frame `lost_from` on datagrams may be missing.
-    fn tell(&mut self, rt: HostRuntime, ended: Ended, lost_from: Option<u64>) -> Result<()> {
+    /// Tells a transfer, of whose client's datagrams these may be missing.
+    fn tell(&mut self, rt: HostRuntime, ended: Ended, lost: Option<Span>) -> Result<()> {
         self.told = self.told.saturating_add(1);
         match self.what {
             What::List => self.tell_request(rt, ended),
-            What::Check => self.tell_verdict(rt, ended, lost_from),
+            What::Check => self.tell_verdict(rt, ended, lost),
             What::Text => {
                 let_go(ended);
                 Ok(())
@@ -110,13 +113,8 @@ impl<'a> Teller<'a> {
         self.tell_listed(rt, &row?)
     }
 
-    fn tell_verdict(
-        &mut self,
-        rt: HostRuntime,
-        ended: Ended,
-        lost_from: Option<u64>,
-    ) -> Result<()> {
-        let judged = Judged::new(rt.alloc(), ended, lost_from)?;
+    fn tell_verdict(&mut self, rt: HostRuntime, ended: Ended, lost: Option<Span>) -> Result<()> {
+        let judged = Judged::new(rt.alloc(), ended, lost)?;
         self.tell_judged(rt, &judged)
     }
 

@@ -104,12 +104,13 @@ pub fn write_text(rt: HostRuntime, asked: &TextRequest<'_>) -> Result<u8> {
 fn write_session(rt: HostRuntime, asked: &TextRequest<'_>, session: &mut Session) -> Result<()> {
     let mut teller = Teller::new(What::Text, false, 0);
     read_file(rt, asked.file, session, &mut teller)?;
-    let is_whole = session.notes.tell(rt, asked.file)?;
+    session.notes.tell(rt, asked.file)?;
     let Some(text) = &session.kept.text else {
         let (wanted, count) = (asked.number, session.count());
         bail!("there is no transfer {wanted}: the recording has 1 to {count}");
     };
-    if !is_whole {
+    let client = text.transfer().client.address;
+    if session.notes.fault.is_some() || session.notes.losses.of(client).is_some() {
         bail!("nothing is written, since the recording is not whole");
     }
     match session.trail(text.transfer().number) {

@@ -1,6 +1,7 @@
 //! What is kept of a transfer beside its judges.
 
 use crate::blame::{Blame, Blamed, Refused};
+use crate::losses::Span;
 use crate::passing::Passing;
 use crate::reasons::Doubted;
 use crate::twice::Twice;
@@ -96,13 +97,14 @@ impl Trail {
         self.ends.server().unwrap_or(self.transfer.asked)
     }
 
-    /// What makes a refusal doubtful, beside its own doubts; from the frame `lost_from` on datagrams may be missing.
-    pub fn doubted(&self, doubts: TransferDoubts, lost_from: Option<u64>) -> Doubted {
+    /// What makes a verdict doubtful, beside its own doubts; of its client's datagrams these may be missing.
+    pub fn doubted(&self, doubts: TransferDoubts, lost: Option<Span>) -> Doubted {
         Doubted {
             doubts,
             is_twice: self.twice.are_all_twice(),
             copied_from: self.copied_from,
-            lost_from,
+            begins: self.first,
+            lost,
         }
     }
 

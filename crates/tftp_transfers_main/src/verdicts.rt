@@ -1,6 +1,7 @@
 //! The verdict on a transfer at each point where it was judged.
 
 use crate::blame::Blamed;
+use crate::losses::Span;
 use crate::reasons::Doubted;
 use crate::session::Ended;
 use crate::trail::Trail;
@@ -18,6 +19,8 @@ use tftp_verdict_rows::{Place, Point, Row, Rows, Said, rows_told};
 pub struct Viewed {
     said: Said,
     blamed: Option<Blamed>,
+    /// Whether it stops early, or an ERROR ended it.
+    lacks: bool,
     line: String,
 }
 
@@ -40,10 +43,10 @@ pub struct Told<'a> {
 }
 
 impl Judged {
-    /// What there is to say of a transfer that has ended. From the frame `lost_from` on datagrams may be missing.
-    pub fn new(alloc: Global, ended: Ended, lost_from: Option<u64>) -> Result<Self, AllocError> {
+    /// What there is to say of a transfer that has ended, of whose client's datagrams these may be missing.
+    pub fn new(alloc: Global, ended: Ended, lost: Option<Span>) -> Result<Self, AllocError> {
         let Ended { trail, watched } = ended;
-        let doubted = trail.doubted(watched.doubts(), lost_from);
+        let doubted = trail.doubted(watched.doubts(), lost);
         let verdicts = watched.finish(alloc);
         let judged = Judged::of(alloc, &trail, &verdicts, doubted);
         let_go(trail, verdicts);
@@ -149,15 +152,16 @@ fn word_of(place: Place) -> &'static str {
 }
 
 impl<'a> Told<'a> {
-    /// Adds why the refusal is no accusation.
+    /// Adds why a refusal is no accusation, and why what is not whole here may be whole.
     pub fn put_reasons(
         &self,
         alloc: Global,
         reasons: &mut Vec<String>,
         doubted: &Doubted,
     ) -> Result<(), AllocError> {
-        match (self.view.said.is_refused(), &self.view.blamed) {
-            (true, Some(blamed)) => doubted.put_reasons(alloc, reasons, blamed),
+        match (&self.view.said, &self.view.blamed) {
+            (Said::Refused(_, _), Some(blamed)) => doubted.put_reasons(alloc, reasons, blamed),
+            (Said::NotWhole, _) if self.view.lacks => doubted.put_lacks(alloc, reasons),
             _ => Ok(()),
         }
     }
@@ -176,6 +180,7 @@ impl Viewed {
         Ok(Viewed {
             said: Said::of(found, frame_of(&blamed)),
             blamed,
+            lacks: matches!(found, Err(Refusal::Incomplete(_) | Refusal::Aborted(_, _))),
             line: line?,
         })
     }
@@ -192,6 +197,10 @@ impl Viewed {
         Ok(Viewed {
             said: Said::between(found, frame_of(&blamed)),
             blamed,
+            lacks: matches!(
+                found,
+                Err(TapRefusal::Incomplete(_) | TapRefusal::Aborted(_, _))
+            ),
             line: line?,
         })
     }
