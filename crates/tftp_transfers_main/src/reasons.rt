@@ -98,7 +98,8 @@ impl Doubted {
 
 /// Adds that a frame is lost.
 fn put_lost(alloc: Global, reasons: &mut Vec<String>, frame: u64) -> Result<(), AllocError> {
-    reasons.push(format!(in alloc; "frame {frame} is not there whole")?)
+    reasons.push(format!(in alloc; "frame {frame} is not there whole")?)?;
+    Ok(())
 }
 
 /// A frame, unless it comes after that one.

@@ -35,7 +35,7 @@ pub struct Judged {
 }
 
 /// What is said of a transfer in one row.
-#[derive(Clone, Copy, Debug)]
+#[derive(Clone, Copy)]
 pub struct Told<'a> {
     /// Where it was recorded: client, server, both or between.
     pub place: &'static str,
