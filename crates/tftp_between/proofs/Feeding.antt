@@ -1,0 +1,25 @@
+-- What is fed has passed as it was recorded.
+use Rattle.std.proofs.Common.{◌≡◌, ℕ, true, cond, List, ◌∷◌, sym, ap, ◌∙◌, map}
+use Rattle.std.specs.Prelude.{filter}
+use Rattle.tftp_parties.specs.Naming.{host_name}
+use Rattle.tftp_transfers.specs.declared.endpoint.Endpoint.{Endpoint}
+use Rattle.tftp_transfers.specs.declared.place.Place.{Place}
+use Rattle.tftp_transfers.specs.declared.place.Transfer.{Transfer}
+use Rattle.tftp_transfers.specs.Places.{Placed}
+use Rattle.tftp_transfers.specs.Views.{is_of}
+use Rattle.tftp_views.specs.declared.party.Party.{Party}
+use Rattle.tftp_views.specs.Kept.{IsFed}
+use Rattle.tftp_between.specs.Captured.{between_capture, passed_of, peer_of}
+use Rattle.tftp_between.specs.Kept.{passed_as, side_of}
+
+party_is : (end : Endpoint) (party : Party) → end ≡ party.end → party.host ≡ host_name party.end.address → peer_of end ≡ side_of party
+party_is end party same named = ap peer_of same ∙ ap (λ (h : List ℕ). record { host = h; port = party.end.port }) (sym named)
+
+pub passed_fed : (p : Placed) (place : Place) (source target : Party) (payload : List ℕ) → IsFed host_name p place source target payload → passed_of p.datagram ≡ passed_as source target payload
+passed_fed p place source target payload fed =
+    let from : peer_of p.datagram.source ≡ side_of source = party_is p.datagram.source source fed.from fed.from_host in
+    let to : peer_of p.datagram.target ≡ side_of target = party_is p.datagram.target target fed.to fed.to_host in
+    λ i. record { source = from i; destination = to i; payload = fed.carries i }
+
+pub captured_too : (x : Transfer) (p : Placed) (older : List Placed) → is_of x.number p ≡ true → between_capture x (p ∷ older) ≡ passed_of p.datagram ∷ between_capture x older
+captured_too x p older is = ap (λ b. map (λ (p : Placed). passed_of p.datagram) (cond b (p ∷ filter (is_of x.number) older) (filter (is_of x.number) older))) is

@@ -1,0 +1,5 @@
+mod Tapping
+mod Sides
+mod Settling
+mod Feeding
+pub mod Holding

@@ -1,0 +1,19 @@
+use Rattle.std.proofs.Common.{◌≡◌, ◌+◌, ◌≤◌, List, All, length}
+use Rattle.std.specs.VecDeque.{deque_len}
+use Rattle.tftp_tap.specs.TapCapture.{TapDatagram}
+use Rattle.tftp_tap_judge.specs.declared.datagram.TapDatagram.{TapDatagram as Owned}
+use Rattle.tftp_between.specs.Kept.{AreHeld, counted_by}
+use Rattle.tftp_between.proofs.Holding.{IsGivenSoFar}
+use Rattle.tftp_between.proofs.between_view.judge_of.Given as goal
+
+-- the oldest were given, and the rest is held
+abbrev pub invariant-loop-next : goal.invariant-loop-next
+invariant-loop-next g l = record {
+  given : (given : List TapDatagram) → AreHeld l.fn.held.items given → IsGivenSoFar l.judge given l.held.items;
+  counted : counted_by l.judge + deque_len l.held ≤ deque_len l.fn.held;
+  short : All (λ (d : Owned). length d.payload ≤ 65527) l.held.items;
+  sides : l.judge.sides ≡ l.fn.sides;
+}
+
+abbrev pub decreases-loop-next : goal.decreases-loop-next
+decreases-loop-next g l = deque_len l.held

@@ -1,0 +1,44 @@
+-- What passed of a transfer at its client, as a tap between the two ends captures it, by a recording of unknown place. Lists
+-- have the newest first.
+use Rattle.std.specs.Prelude.{◌||◌, not, Bool, List, map, Option, Some, None}
+use Rattle.tftp_ends.specs.Ports.{same_peer}
+use Rattle.tftp_parties.specs.Naming.{host_name}
+use Rattle.tftp_tap.specs.TapCapture.{PeerId, TapDatagram, TapSides}
+use Rattle.tftp_transfers.specs.declared.endpoint.Endpoint.{Endpoint}
+use Rattle.tftp_transfers.specs.declared.place.Transfer.{Transfer}
+use Rattle.tftp_transfers.specs.Recording.{Recorded, same_endpoint}
+use Rattle.tftp_transfers.specs.Places.{Placed}
+use Rattle.tftp_transfers.specs.Views.{client_view, server_of}
+
+-- a host by its name, and a port there
+abbrev pub peer_of : Endpoint → PeerId
+peer_of e = record { host = host_name e.address; port = e.port }
+
+abbrev pub passed_of : Recorded → TapDatagram
+passed_of d = record { source = peer_of d.source; destination = peer_of d.target; payload = d.payload }
+
+-- the transfer's datagrams at its client; what passed beside its server is left out
+abbrev pub between_capture : Transfer → List Placed → List TapDatagram
+between_capture x placed = map (λ p. passed_of p.datagram) (client_view x.number placed)
+
+-- ---- the sides that the tap is told
+
+-- where no server is known, whom the client asked
+abbrev pub server_or_asked : Transfer → Option Endpoint → Endpoint
+server_or_asked x None = x.asked
+server_or_asked x (Some s) = s
+
+abbrev pub sides_with : Transfer → Option Endpoint → TapSides
+sides_with x server = record { client = peer_of x.client; asked = peer_of x.asked; server = peer_of (server_or_asked x server) }
+
+-- by the whole recording
+abbrev pub sides_of : Transfer → List Placed → TapSides
+sides_of x whole = sides_with x (server_of x.number whole)
+
+-- the client asked itself, or is the server: nothing passes between them that a tap could judge
+abbrev pub is_to_itself : Transfer → List Placed → Bool
+is_to_itself x whole = same_endpoint x.client (server_or_asked x (server_of x.number whole)) || same_endpoint x.client x.asked
+
+-- the same of sides, by the names of their hosts
+abbrev pub are_apart : TapSides → Bool
+are_apart s = not (same_peer s.client s.server || same_peer s.client s.asked)

@@ -1,0 +1,35 @@
+-- What a tap's judge stands for that was given each datagram of a capture, also after it refused one. Lists have the newest
+-- first.
+use Rattle.std.specs.Prelude.{◌≡◌, ◌⊎◌, List, ◌∷◌, ◌++◌, Option, Some, None, Result, Err}
+use Rattle.tftp_ends.specs.Meaning.{Meaning}
+use Rattle.tftp_tap.specs.TapCapture.{TapDatagram, TapSides}
+use Rattle.tftp_tap.specs.TapRules.{BreaksNoTapRule}
+use Rattle.tftp_tap_judge.specs.TapKept.{IsTapJudge, TapJudge}
+use Rattle.tftp_tap_judge.specs.TapStops.{RefusesAtTap}
+use Rattle.tftp_tap_judge.specs.TapVerdict.{IsTapVerdict}
+use Rattle.tftp_tap_judge.specs.declared.refusal.TapRefusal.{TapRefusal}
+use Rattle.tftp_tap_judge.specs.declared.refusal.TapRefusal.TheVariants.{Unlawful, Memory}
+
+-- Those before this one break no rule, and this one was refused.
+pub record IsTapRefusedIn (s : TapSides) (given : List TapDatagram) (refusal : TapRefusal) : Type 0 where
+  pub later : List TapDatagram
+  pub datagram : TapDatagram
+  pub earlier : List TapDatagram
+  pub are : given ≡ later ++ datagram ∷ earlier
+  pub lawful : BreaksNoTapRule s earlier
+  pub refused : RefusesAtTap s earlier datagram refusal
+
+-- It stands for all that it was given, or has refused one of them for good.
+abbrev pub TappedBy : Option TapRefusal → TapJudge → TapSides → List TapDatagram → Type 0
+TappedBy None j s given = IsTapJudge j s given
+TappedBy (Some refusal) j s given = IsTapRefusedIn s given refusal
+
+abbrev pub HasTapped : TapJudge → TapSides → List TapDatagram → Type 0
+HasTapped j s given = TappedBy j.refused j s given
+
+-- What there is to say of all that passed: the first datagram that breaks a rule, and else the verdict of the whole. Memory
+-- was wanting for one of them, or in the end.
+abbrev pub IsBetweenVerdict : TapSides → List TapDatagram → Result Meaning TapRefusal → Type 0
+IsBetweenVerdict s given (Err (Unlawful index rule)) = IsTapRefusedIn s given (Unlawful index rule)
+IsBetweenVerdict s given (Err (Memory count)) = IsTapRefusedIn s given (Memory count) ⊎ IsTapVerdict s given (Err (Memory count))
+IsBetweenVerdict s given said = IsTapVerdict s given said

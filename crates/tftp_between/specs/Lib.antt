@@ -1,0 +1,4 @@
+pub mod Captured
+pub mod Judged
+pub mod Kept
+pub mod Worked

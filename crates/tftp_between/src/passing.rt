@@ -1,0 +1,67 @@
+//! What is recorded, as a tap is given it.
+
+ghost use Rattle.std.specs.Prelude.{◌≡◌, ℕ, List, length, IfOk};
+ghost use Rattle.tftp_between.specs.Captured.{peer_of, sides_of};
+ghost use Rattle.tftp_between.specs.Kept.{passed_as, side_of};
+ghost use Rattle.tftp_tap_judge.specs.TapStops.{passing_of};
+ghost use Rattle.tftp_transfers.specs.Kept.{AreEndsAfter};
+ghost use Rattle.tftp_transfers.specs.Places.{Placed};
+
+use std::alloc::{AllocError, Global};
+use tftp_packet::Bytes;
+use tftp_parties::host_of;
+use tftp_tap::{Endpoint as Side, Sides};
+use tftp_tap_judge::TapDatagram;
+use tftp_transfers::{Endpoint, Transfer, TransferEnds};
+use tftp_views::Party;
+
+/// The sides of a transfer whose ends are known: where no server is, it is whom the client asked.
+pub fn sides_of(transfer: &Transfer, ends: &TransferEnds) -> Sides
+    requires number { ends.now.number ≡ transfer.now.number }
+    ensures { (placed : List Placed) → AreEndsAfter ends.now placed → result ≡ sides_of transfer.now placed }
+{
+    let server = match ends.server() {
+        Some(server) => server,
+        None => transfer.asked,
+    };
+    Sides {
+        client: peer_of(transfer.client),
+        asked: peer_of(transfer.asked),
+        server: peer_of(server),
+    }
+}
+
+fn peer_of(end: Endpoint) -> Side
+    ensures { result ≡ peer_of end }
+{
+    Side {
+        host: host_of(&end.address),
+        port: end.port,
+    }
+}
+
+fn side_of(party: &Party) -> Side
+    ensures { result ≡ side_of party.now }
+{
+    Side {
+        host: party.host,
+        port: party.end.port,
+    }
+}
+
+/// A copy of a datagram, as it passed.
+pub fn passed(
+    alloc: Global,
+    source: &Party,
+    target: &Party,
+    payload: &[u8],
+) -> Result<TapDatagram, AllocError>
+    ensures passed { IfOk result (λ d. passing_of d ≡ passed_as source.now target.now payload.now) }
+    ensures short { IfOk result (λ d. length d.payload ≡ length payload.now) }
+{
+    Ok(TapDatagram {
+        source: side_of(source),
+        destination: side_of(target),
+        payload: Bytes::of(Vec::from_slice(alloc, payload)?),
+    })
+}
