@@ -2,4 +2,4 @@ mod Tapping
 mod Sides
 mod Settling
 mod Feeding
-mod Holding
+pub mod Holding

@@ -9,16 +9,23 @@ use Rattle.tftp_transfers.specs.Views.{is_about}
 use Rattle.tftp_transfers.specs.Doubts.{is_answered_apart, is_it, may_be_answer_of}
 use Rattle.tftp_views.specs.Captured.{Naming}
 use Rattle.tftp_views.specs.Kept.{Client, View}
+use Rattle.tftp_between.specs.Kept.{View as Between}
+use Rattle.tftp_between.proofs.Holding.{passes_by as between_passes_by}
+use Rattle.tftp_transfers.proofs.OwnDatagrams.{about_none}
 use Rattle.tftp_views.proofs.Holding.{passes_by}
 use Rattle.tftp_views.proofs.Passing.{client_passes_by, doubts_pass_by}
 use Rattle.tftp_recording_judge.specs.declared.judging.Judging.{Judging}
-use Rattle.tftp_recording_judge.specs.Kept.{AreJudgesAfter, ClientStands, IsUnheard, IsWatching, Judges, ServerStands, Watched}
+use Rattle.tftp_recording_judge.specs.Kept.{AreJudgesAfter, BetweenStands, ClientStands, IsUnheard, IsWatching, Judges, ServerStands, Watched}
 
 -- ---- at each point
 
 pub on_ok_map : {X E P Q : Type 0} (r : Result X E) → (P → Q) → OnOk r P → OnOk r Q
 on_ok_map (Ok x) f is = f is
 on_ok_map (Err e) f is = tt
+
+pub on_ok_when : {X E A B : Type 0} (C : Type 0) (r : Result X E) → B → (A → OnOk r C) → OnOk r (B × (A → C))
+on_ok_when C (Ok x) here then = (here, then)
+on_ok_when C (Err e) here then = tt
 
 -- the judge of a transfer is of none that the datagram is about
 pub away_of : {X : Type 0} (transfer_of : X → Transfer) (judge : Option X) (x : Transfer) (p : Placed) → is_about x.number p ≡ false
@@ -36,12 +43,19 @@ server_on : (server : Option View) (x : Transfer) (name : Naming) (p : Placed) (
 server_on None x name p older off stands = stands
 server_on (Some v) x name p older off stands = (stands.0, passes_by v name p older (ap (λ (y : Transfer). is_about y.number p) stands.0 ∙ off) stands.1)
 
+between_on : (between : Option Between) (x : Transfer) (name : Naming) (p : Placed) (older : List Placed) → is_about x.number p ≡ false
+    → BetweenStands between x name older → BetweenStands between x name (p ∷ older)
+between_on None x name p older off stands = stands
+between_on (Some v) x name p older off stands =
+    (stands.0, λ is. between_passes_by v p older (about_none v.transfer.number p (ap (λ (y : Transfer). is_about y.number p) stands.0 ∙ off)) (stands.1 is))
+
 pub judges_on : (j : Judges) (x : Transfer) (name : Naming) (p : Placed) (older : List Placed) → is_about x.number p ≡ false
     → AreJudgesAfter j x name older → AreJudgesAfter j x name (p ∷ older)
 judges_on j x name p older off after = record {
   works = after.works;
   client = client_on j.client x name p older off after.client;
   server = server_on j.server x name p older off after.server;
+  between = between_on j.between x name p older off after.between;
 }
 
 -- ---- the whole

@@ -14,7 +14,10 @@ use Rattle.tftp_transfers.specs.Kept.{IsAfter, IsDoubtedAfter}
 use Rattle.tftp_views.specs.declared.party.Party.{Party}
 use Rattle.tftp_views.specs.Captured.{Naming}
 use Rattle.tftp_views.specs.Kept.{Client, IsClientAfter, IsViewAfter, View, fed_to}
+use Rattle.tftp_parties.specs.Naming.{host_name}
+use Rattle.tftp_between.specs.Kept.{IsBetweenAfter, View as Between, given_to}
 use Rattle.tftp_judge.specs.declared.refusal.Refusal.TheVariants.{Memory}
+use Rattle.tftp_tap_judge.specs.declared.refusal.TapRefusal.TheVariants.{Memory as TapMemory}
 use Rattle.tftp_recording_judge.specs.declared.judging.Judging.{Judging}
 use Rattle.tftp_recording_judge.specs.declared.judging.Points.{Points}
 use Rattle.tftp_recording_judge.specs.declared.verdicts.Verdicts.{Verdicts}
@@ -26,6 +29,7 @@ use Rattle.tftp_recording_judge.specs.Points.{points_of}
 pub record Judges : Type 0 where
   pub client : Option Client
   pub server : Option View
+  pub between : Option Between
   pub failed : Bool
 
 -- The judge at a point, if there is one, is this transfer's and was fed these datagrams of a recording, and nothing else.
@@ -35,21 +39,28 @@ ClientStands client x name placed = IfSome client (λ c. (c.transfer ≡ x) × I
 abbrev pub ServerStands : Option View → Transfer → Naming → List Placed → Type 0
 ServerStands server x name placed = IfSome server (λ v. (v.transfer ≡ x) × IsViewAfter v name placed)
 
+-- the judge between the ends wants the hosts called by their addresses
+abbrev pub BetweenStands : Option Between → Transfer → Naming → List Placed → Type 0
+BetweenStands between x name placed = IfSome between (λ v. (v.transfer ≡ x) × (name ≡ host_name → IsBetweenAfter v placed))
+
 -- each of them
 pub record AreJudgesAfter (j : Judges) (x : Transfer) (name : Naming) (placed : List Placed) : Type 0 where
   pub works : j.failed ≡ false
   pub client : ClientStands j.client x name placed
   pub server : ServerStands j.server x name placed
+  pub between : BetweenStands j.between x name placed
 
 -- each is this transfer's
 pub record AreOf (j : Judges) (x : Transfer) : Type 0 where
   pub client : IfSome j.client (λ c. c.transfer ≡ x)
   pub server : IfSome j.server (λ v. v.transfer ≡ x)
+  pub between : IfSome j.between (λ v. v.transfer ≡ x)
 
 -- they stand at these points, and at no others
 pub record AreAt (j : Judges) (points : Points) : Type 0 where
   pub client : is_some j.client ≡ points.client
   pub server : is_some j.server ≡ points.server
+  pub between : is_some j.between ≡ points.between
 
 -- how many datagrams the judge at a point has accepted, or holds
 abbrev pub fed_at_client : Option Client → ℕ
@@ -60,24 +71,31 @@ abbrev pub fed_at_server : Option View → ℕ
 fed_at_server None = 0
 fed_at_server (Some v) = fed_to v
 
+abbrev pub fed_between : Option Between → ℕ
+fed_between None = 0
+fed_between (Some v) = given_to v
+
 -- one of them has as many as can be counted
 abbrev pub IsCrowded : Judges → Type 0
-IsCrowded j = (2 ^ 40 ≤ fed_at_client j.client) ⊎ (2 ^ 40 ≤ fed_at_server j.server)
+IsCrowded j = (2 ^ 40 ≤ fed_at_client j.client) ⊎ (2 ^ 40 ≤ fed_at_server j.server) ⊎ (2 ^ 40 ≤ fed_between j.between)
 
 -- none of them has
 pub record AreFew (j : Judges) : Type 0 where
   pub client : fed_at_client j.client < 2 ^ 40
   pub server : fed_at_server j.server < 2 ^ 40
+  pub between : fed_between j.between < 2 ^ 40
 
 -- something is said at these points, and at no others
 pub record AreTold (v : Verdicts) (points : Points) : Type 0 where
   pub client : is_some v.client ≡ points.client
   pub server : is_some v.server ≡ points.server
+  pub between : is_some v.between ≡ points.between
 
 -- at each point it is that memory was wanting
 pub record AreWants (j : Judges) (v : Verdicts) : Type 0 where
   pub client : IfSome v.client (λ said. said ≡ Err (Memory (fed_at_client j.client)))
   pub server : IfSome v.server (λ said. said ≡ Err (Memory (fed_at_server j.server)))
+  pub between : IfSome v.between (λ said. said ≡ Err (TapMemory (fed_between j.between)))
 
 -- A transfer, its judges, and what is doubtful of it.
 pub record Watched : Type 0 where

@@ -1,7 +1,12 @@
 //! The judges of one transfer, beside each other.
 
-ghost use Rattle.std.specs.Prelude.{◌≡◌, ◌≤◌, ◌∷◌, ℕ, List, [], length, option_copied, IfSome, IsErr, OnErr, OnOk, Ok, MatchBool, true, false};
+ghost use Rattle.std.specs.Prelude.{◌≡◌, ◌≤◌, ◌∷◌, ℕ, List, [], length, option_copied, IfSome, IsErr, OnErr, OnOk, Ok, Err, MatchBool, true, false};
+ghost use Rattle.tftp_between.specs.Captured.{between_capture, is_to_itself, sides_of};
+ghost use Rattle.tftp_between.specs.Judged.{IsBetweenVerdict};
+ghost use Rattle.tftp_parties.specs.Naming.{host_name};
 ghost use Rattle.tftp_recording_judge.specs.Kept.{AreAt, AreFew, AreJudgesAfter, AreOf, AreTold, AreWants, IsCrowded};
+ghost use Rattle.tftp_tap.specs.TapCapture.{AreApart};
+ghost use Rattle.tftp_tap_judge.specs.declared.refusal.TapRefusal.{TapRefusal};
 ghost use Rattle.tftp_transfers.specs.Places.{Placed};
 ghost use Rattle.tftp_transfers.specs.Views.{is_about};
 ghost use Rattle.tftp_transfers.specs.declared.place.Transfer.{Transfer};
@@ -11,9 +16,10 @@ ghost use Rattle.tftp_views.specs.Kept.{IsFed};
 
 use crate::judging::Points;
 use crate::verdicts::Verdicts;
-use crate::{client, server};
+use crate::{between, client, server};
 use std::alloc::{AllocError, Global};
 use std::marker::Model;
+use tftp_between::BetweenView;
 use tftp_ends::Delivered;
 use tftp_transfers::{Place, Transfer};
 use tftp_views::{ClientJudge, Party, ServerView};
@@ -26,6 +32,7 @@ const MOST: u64 = 1 << 40;
 pub(crate) struct Judges<D: Delivered + Drop> {
     client: Option<ClientJudge<D>>,
     server: Option<ServerView<D>>,
+    between: Option<BetweenView<D>>,
     failed: bool,
 }
 
@@ -39,7 +46,7 @@ impl<D: Delivered + Drop> Model for Judges<D> {
 
     ghost coded = { Prim.hlevel (codes, sender_code, receiver_code, options_code, parts_code) };
 
-    ghost view = { λ j. record { client = j.client; server = j.server; failed = j.failed } };
+    ghost view = { λ j. record { client = j.client; server = j.server; between = j.between; failed = j.failed } };
 }
 
 impl<D: Delivered + Drop> Judges<D> {
@@ -52,6 +59,7 @@ impl<D: Delivered + Drop> Judges<D> {
         Judges {
             client: client::open(alloc, transfer, points.client),
             server: server::open(alloc, transfer, points.server),
+            between: between::open(alloc, transfer, points.between),
             failed: false,
         }
     }
@@ -82,6 +90,7 @@ impl<D: Delivered + Drop> Judges<D> {
         self.failed = true;
         client::feed(&mut self.client, alloc, place, source, target, payload)?;
         server::feed(&mut self.server, alloc, place, source, target, payload)?;
+        between::feed(&mut self.between, alloc, place, source, target, payload)?;
         self.failed = false;
         Ok(())
     }
@@ -90,7 +99,9 @@ impl<D: Delivered + Drop> Judges<D> {
     pub(crate) fn is_crowded(&self) -> bool
         ensures { MatchBool result (IsCrowded self.now) (AreFew self.now) }
     {
-        client::fed(&self.client) >= MOST || server::fed(&self.server) >= MOST
+        client::fed(&self.client) >= MOST
+            || server::fed(&self.server) >= MOST
+            || between::fed(&self.between) >= MOST
     }
 
     /// The judge at the client, where it is judged there.
@@ -107,23 +118,36 @@ impl<D: Delivered + Drop> Judges<D> {
         self.server.as_ref()
     }
 
+    /// The judge between the ends, where it is judged there.
+    pub(crate) fn between(&self) -> Option<&BetweenView<D>>
+        ensures { option_copied result ≡ self.now.between }
+    {
+        self.between.as_ref()
+    }
+
     /// What there is to say of the whole that was fed, at each point.
     pub(crate) fn finish(self, alloc: Global) -> Verdicts
         ensures client { (x : Transfer) (name : Naming) (whole : List Placed) → AreJudgesAfter self x name whole
             → IfSome result.client (IsJudgedWith (client_header x) (client_capture name x whole)) }
         ensures server { (x : Transfer) (name : Naming) (whole : List Placed) → AreJudgesAfter self x name whole
             → IfSome result.server (IsJudgedWith (server_header x) (server_capture name x whole whole)) }
+        ensures between { (x : Transfer) (whole : List Placed) → AreJudgesAfter self x host_name whole → AreApart (sides_of x whole)
+            → IfSome result.between (λ said. IsBetweenVerdict (sides_of x whole) (between_capture x whole) said) }
+        ensures to_itself { (x : Transfer) (whole : List Placed) → AreJudgesAfter self x host_name whole → is_to_itself x whole ≡ true
+            → IfSome result.between (λ said. said ≡ Err (TapRefusal.Incomplete (length (between_capture x whole)))) }
         ensures points { (points : Points) → AreAt self points → AreTold result points }
         ensures failed { self.failed ≡ true → AreWants self result }
     {
         let Judges {
             client,
             server,
+            between,
             failed,
         } = self;
         Verdicts {
             client: client::finish(client, failed, alloc),
             server: server::finish(server, failed, alloc),
+            between: between::finish(between, failed, alloc),
         }
     }
 }

@@ -1,6 +1,7 @@
 //! The judge of a whole recording: it divides what passed into transfers, and judges each where that is wanted.
 #![tactic(auto)]
 
+mod between;
 mod client;
 mod hands;
 mod judges;

@@ -1,4 +1,5 @@
 use tftp_judge::{Meaning, Refusal};
+use tftp_tap_judge::TapRefusal;
 
 /// What there is to say of a transfer at each point where it was judged.
 #[derive(Drop)]
@@ -7,4 +8,6 @@ pub struct Verdicts {
     pub client: Option<Result<Meaning, Refusal>>,
     /// Of the server's view.
     pub server: Option<Result<Meaning, Refusal>>,
+    /// Of what passed between the two.
+    pub between: Option<Result<Meaning, TapRefusal>>,
 }

@@ -1,9 +1,14 @@
 //! One transfer of a recording.
 
 ghost use Rattle.std.specs.Prelude.{◌≡◌, ◌≤◌, ◌∷◌, ℕ, List, [], length, option_copied, IfSome, OnOk, Err, false, true};
+ghost use Rattle.tftp_between.specs.Captured.{between_capture, is_to_itself, sides_of};
+ghost use Rattle.tftp_between.specs.Judged.{IsBetweenVerdict};
+ghost use Rattle.tftp_parties.specs.Naming.{host_name};
 ghost use Rattle.tftp_recording_judge.specs.Kept.{AreTold, AreWants, IsCrowded, IsWatching};
 ghost use Rattle.tftp_recording_judge.specs.Points.{points_of};
 ghost use Rattle.tftp_recording_judge.specs.declared.judging.Judging.{Judging as JudgingKind};
+ghost use Rattle.tftp_tap.specs.TapCapture.{AreApart};
+ghost use Rattle.tftp_tap_judge.specs.declared.refusal.TapRefusal.{TapRefusal};
 ghost use Rattle.tftp_transfers.specs.Doubts.{doubts_of};
 ghost use Rattle.tftp_transfers.specs.Places.{Placed};
 ghost use Rattle.tftp_transfers.specs.Views.{is_about};
@@ -18,6 +23,7 @@ use crate::judging::Judging;
 use crate::verdicts::Verdicts;
 use std::alloc::Global;
 use std::marker::Model;
+use tftp_between::BetweenView;
 use tftp_ends::Delivered;
 use tftp_transfers::{Attributed, AttributionFault, Transfer, TransferDoubts};
 use tftp_views::{ClientJudge, Party, ServerView};
@@ -112,6 +118,13 @@ impl<D: Delivered + Drop> Watched<D> {
         self.judges.server()
     }
 
+    /// The judge between its ends, if it is judged there.
+    pub fn between(&self) -> Option<&BetweenView<D>>
+        ensures { option_copied result ≡ self.now.judges.between }
+    {
+        self.judges.between()
+    }
+
     /// What is doubtful of it.
     pub fn doubts(&self) -> TransferDoubts
         ensures { result ≡ self.now.doubts }
@@ -120,12 +133,19 @@ impl<D: Delivered + Drop> Watched<D> {
     }
 
     /// What there is to say of all that was fed, at each point where it is judged: of each end's view the verdict of the text
-    /// that has just it, or want of memory.
+    /// that has just it, and of what passed between two ends that of all of it; or want of memory. Of a client that asked
+    /// itself nothing is said between the ends but how many datagrams there are.
     pub fn finish(self, alloc: Global) -> Verdicts
         ensures client { (judging : JudgingKind) (x : Transfer) (name : Naming) (whole : List Placed) → IsWatching self judging x name whole
             → IfSome result.client (IsJudgedWith (client_header x) (client_capture name x whole)) }
         ensures server { (judging : JudgingKind) (x : Transfer) (name : Naming) (whole : List Placed) → IsWatching self judging x name whole
             → IfSome result.server (IsJudgedWith (server_header x) (server_capture name x whole whole)) }
+        ensures between { (judging : JudgingKind) (x : Transfer) (whole : List Placed) → IsWatching self judging x host_name whole
+            → AreApart (sides_of x whole)
+            → IfSome result.between (λ said. IsBetweenVerdict (sides_of x whole) (between_capture x whole) said) }
+        ensures to_itself { (judging : JudgingKind) (x : Transfer) (whole : List Placed) → IsWatching self judging x host_name whole
+            → is_to_itself x whole ≡ true
+            → IfSome result.between (λ said. said ≡ Err (TapRefusal.Incomplete (length (between_capture x whole)))) }
         ensures points { (judging : JudgingKind) (x : Transfer) (name : Naming) (whole : List Placed) → IsWatching self judging x name whole
             → AreTold result (points_of judging x) }
         ensures failed { self.judges.failed ≡ true → AreWants self.judges result }
