@@ -1,5 +1,5 @@
 mod Tapping
-mod Sides
+pub mod Sides
 mod Settling
 mod Feeding
 pub mod Holding

@@ -1,3 +1,4 @@
+mod Apart
 mod Clock
 mod Taking
 mod Writing

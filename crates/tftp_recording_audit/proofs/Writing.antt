@@ -9,13 +9,12 @@ use Rattle.tftp_packet.specs.declared.kinds.Dir.{Dir}
 use Rattle.tftp_packet.specs.declared.kinds.Dir.TheVariants.{In, Out}
 use Rattle.tftp_parties.specs.Naming.{host_name}
 use Rattle.tftp_parties.proofs.Addresses.{is_host}
-use Rattle.tftp_recording_audit.specs.Sound.{IsSoundDatagram}
+use Rattle.tftp_recording_audit.specs.Sound.{IsSoundDatagram, IsSoundEnd}
 use Rattle.tftp_recording_judge.specs.Kept.{opened}
 use Rattle.tftp_transfers.proofs.Ends.{placed_where}
 use Rattle.tftp_transfers.specs.Places.{Placed, clock, place_of, placed, transfer_of}
 use Rattle.tftp_transfers.specs.Recording.{Recorded}
 use Rattle.tftp_transfers.specs.Views.{opened_it}
-use Rattle.tftp_transfers.specs.declared.endpoint.Endpoint.{Endpoint}
 use Rattle.tftp_transfers.specs.declared.place.Place.{Place}
 use Rattle.tftp_transfers.specs.declared.place.Place.TheVariants.{Opens, Repeats, Talks, Apart, Beside, Nowhere}
 use Rattle.tftp_transfers.specs.declared.place.Transfer.{Transfer}
@@ -69,21 +68,26 @@ opens_as n d moment (Apart c) x opens is = absurd (cc)
 opens_as n d moment (Beside y) x opens is = absurd (cc)
 opens_as n d moment Nowhere x opens is = absurd (cc)
 
--- the port that was asked is one
-pub asked_port : (named : List ℕ) (passed : List Recorded) (n : ℕ) (x : Transfer) → AllByRecursion IsSoundDatagram passed → opened n (placed named passed) ≡ Some x → IsPort x.asked.port
-asked_port named [] n x each is = absurd (cc)
-asked_port named (d ∷ older) n x each is = by (asked_port named older n x each.1) (opened_it n p) refl where
+-- both its endpoints are sound
+pub opened_ends : (named : List ℕ) (passed : List Recorded) (n : ℕ) (x : Transfer) → AllByRecursion IsSoundDatagram passed → opened n (placed named passed) ≡ Some x → IsSoundEnd x.client × IsSoundEnd x.asked
+opened_ends named [] n x each is = absurd (cc)
+opened_ends named (d ∷ older) n x each is = by (opened_ends named older n x each.1) (opened_it n p) refl where
   moment : ℕ
   moment = max d.time (clock (placed named older))
 
   p : Placed
   p = record { datagram = d; moment = moment; place = place_of named (placed named older) moment d }
 
-  by : (opened n (placed named older) ≡ Some x → IsPort x.asked.port) → (b : Bool) → opened_it n p ≡ b → IsPort x.asked.port
+  by : (opened n (placed named older) ≡ Some x → IsSoundEnd x.client × IsSoundEnd x.asked) → (b : Bool) → opened_it n p ≡ b → IsSoundEnd x.client × IsSoundEnd x.asked
   by before true opens =
       let here : opened n (placed named (d ∷ older)) ≡ transfer_of p.place = rw opens refl in
       let it : p.place ≡ Opens x = opens_as n d moment p.place x opens (sym here ∙ is) in
-      subst (λ (e : Endpoint). IsPort e.port) (sym ((placed_where named (placed named older) moment d).opens x it).1) each.0.target.1
+      let ends = (placed_where named (placed named older) moment d).opens x it in
+      (subst IsSoundEnd (sym ends.0) each.0.source, subst IsSoundEnd (sym ends.1) each.0.target)
   by before false other =
       let there : opened n (placed named (d ∷ older)) ≡ opened n (placed named older) = rw other refl in
       before (sym there ∙ is)
+
+-- the port that was asked is one
+pub asked_port : (named : List ℕ) (passed : List Recorded) (n : ℕ) (x : Transfer) → AllByRecursion IsSoundDatagram passed → opened n (placed named passed) ≡ Some x → IsPort x.asked.port
+asked_port named passed n x each is = (opened_ends named passed n x each is).1.1

@@ -1,11 +1,13 @@
 //! Laws of the definitions in `specs/`. Each is the contract of a function that does nothing.
 
-ghost use Rattle.std.specs.Prelude.{◌≡◌, ◌≤◌, ◌^◌, ℕ, List, Some, length, reverse};
+ghost use Rattle.std.specs.Prelude.{◌≡◌, ◌≤◌, ◌^◌, ℕ, List, Some, length, reverse, false};
 ghost use Rattle.std.specs.List.{AllByRecursion};
+ghost use Rattle.tftp_between.specs.Captured.{is_to_itself, sides_of};
 ghost use Rattle.tftp_capture.specs.CaptureText.{text_with_hosts};
 ghost use Rattle.tftp_parties.specs.Naming.{host_name};
 ghost use Rattle.tftp_recording_audit.specs.Sound.{IsSoundDatagram};
 ghost use Rattle.tftp_recording_judge.specs.Kept.{opened};
+ghost use Rattle.tftp_tap.specs.TapCapture.{AreApart};
 ghost use Rattle.tftp_transfers.specs.Places.{placed};
 ghost use Rattle.tftp_transfers.specs.Recording.{Recorded};
 ghost use Rattle.tftp_transfers.specs.declared.place.Transfer.{Transfer};
@@ -21,4 +23,11 @@ pub fn captures_of_a_recording_can_be_written()
     ensures server { (named : List ℕ) (passed : List Recorded) (n : ℕ) (x : Transfer) → AllByRecursion IsSoundDatagram passed → opened n (placed named passed) ≡ Some x
         → length (text_with_hosts (server_header x) (reverse (server_capture host_name x (placed named passed) (placed named passed)))) ≤ 2 ^ 40
         → AreWritten (server_header x) (server_capture host_name x (placed named passed) (placed named passed)) }
+{}
+
+/// Of a recording the sides of a transfer are hosts with addresses: unless its client asked itself, or is the server, it is
+/// apart from both, so that what there is to say between the ends is their verdict.
+pub fn sides_of_a_recording_are_apart()
+    ensures { (named : List ℕ) (passed : List Recorded) (n : ℕ) (x : Transfer) → AllByRecursion IsSoundDatagram passed → opened n (placed named passed) ≡ Some x
+        → is_to_itself x (placed named passed) ≡ false → AreApart (sides_of x (placed named passed)) }
 {}

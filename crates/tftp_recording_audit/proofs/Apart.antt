@@ -1,0 +1,58 @@
+-- The sides of a recording's transfers are addresses of hosts.
+use Rattle.std.proofs.Common.{◌≡◌, ℕ, Bool, true, false, List, [], ◌∷◌, Option, Some, None, refl, sym, ◌∙◌, subst}
+use Rattle.std.specs.List.{AllByRecursion}
+use Rattle.std.specs.Prelude.{IfSome, option_map}
+use Rattle.tftp_ends.specs.Ports.{first_of, or_this}
+use Rattle.tftp_between.specs.Captured.{is_to_itself, server_or_asked, sides_of}
+use Rattle.tftp_between.proofs.Sides.{apart_from_both}
+use Rattle.tftp_tap.specs.TapCapture.{AreApart}
+use Rattle.tftp_recording_audit.specs.Sound.{IsSoundDatagram, IsSoundEnd}
+use Rattle.tftp_recording_audit.proofs.Writing.{opened_ends, placed_sound}
+use Rattle.tftp_recording_judge.specs.Kept.{opened}
+use Rattle.tftp_transfers.specs.Places.{Placed, placed}
+use Rattle.tftp_transfers.specs.Recording.{Recorded}
+use Rattle.tftp_transfers.specs.Views.{answered_by, comes, goes_on, server_of, went_on_with}
+use Rattle.tftp_transfers.specs.declared.endpoint.Endpoint.{Endpoint}
+use Rattle.tftp_transfers.specs.declared.place.Transfer.{Transfer}
+
+-- ---- what was found among sound datagrams
+
+found_sound : (test : Placed → Bool) (all : List Placed) → AllByRecursion (λ (p : Placed). IsSoundDatagram p.datagram) all
+    → IfSome (first_of test all) (λ (p : Placed). IsSoundDatagram p.datagram)
+found_sound test [] each = tt
+found_sound test (p ∷ older) each = by (first_of test older) (found_sound test older each.1) (test p) where
+  by : (o : Option Placed) → IfSome o (λ (q : Placed). IsSoundDatagram q.datagram) → (b : Bool) → IfSome (or_this o b p) (λ (q : Placed). IsSoundDatagram q.datagram)
+  by (Some q) sound b = sound
+  by None sound true = each.0
+  by None sound false = tt
+
+source_sound : (o : Option Placed) → IfSome o (λ (p : Placed). IsSoundDatagram p.datagram) → IfSome (option_map (λ (p : Placed). p.datagram.source) o) IsSoundEnd
+source_sound None sound = tt
+source_sound (Some p) sound = sound.source
+
+target_sound : (o : Option Placed) → IfSome o (λ (p : Placed). IsSoundDatagram p.datagram) → IfSome (option_map (λ (p : Placed). p.datagram.target) o) IsSoundEnd
+target_sound None sound = tt
+target_sound (Some p) sound = sound.target
+
+server_sound : (n : ℕ) (all : List Placed) → AllByRecursion (λ (p : Placed). IsSoundDatagram p.datagram) all → IfSome (server_of n all) IsSoundEnd
+server_sound n all each = by (went_on_with n all) refl where
+  by : (o : Option Endpoint) → went_on_with n all ≡ o → IfSome (server_of n all) IsSoundEnd
+  by None is =
+      let same : server_of n all ≡ answered_by n all = rw is refl in
+      subst (λ (o : Option Endpoint). IfSome o IsSoundEnd) (sym same) (source_sound (first_of (comes n) all) (found_sound (comes n) all each))
+  by (Some s) is =
+      let same : server_of n all ≡ Some s = rw is refl in
+      subst (λ (o : Option Endpoint). IfSome o IsSoundEnd) (is ∙ sym same) (target_sound (first_of (goes_on n) all) (found_sound (goes_on n) all each))
+
+or_asked : (x : Transfer) (server : Option Endpoint) → IsSoundEnd x.asked → IfSome server IsSoundEnd → IsSoundEnd (server_or_asked x server)
+or_asked x None asked sound = asked
+or_asked x (Some s) asked sound = sound
+
+-- ---- the sides
+
+pub sides_apart : (named : List ℕ) (passed : List Recorded) (n : ℕ) (x : Transfer) → AllByRecursion IsSoundDatagram passed → opened n (placed named passed) ≡ Some x
+    → is_to_itself x (placed named passed) ≡ false → AreApart (sides_of x (placed named passed))
+sides_apart named passed n x sound opens off =
+    let ends = opened_ends named passed n x sound opens in
+    let server = or_asked x (server_of x.number (placed named passed)) ends.1 (server_sound x.number (placed named passed) (placed_sound named passed sound)) in
+    apart_from_both x (placed named passed) ends.0.0 ends.1.0 server.0 off
