@@ -24,6 +24,12 @@ SCRIPTS, EXAMPLES = ("tftp-explain", "tftp-ladder", "tftp-report"), TOP / "examp
 # The pages that show commands with what they print.
 SHOWING = ("README.md", "docs/VERDICTS.md", "docs/RECORDING.md")
 NAMED = re.compile(r"`((?:docs|tools|tests|examples)/[A-Za-z0-9_./-]+)`")
+# The programs of which docs/LIBRARIES.md shows code, and a section of that page: its program, and what stands below.
+CALLERS = ("example_judge", "example_recording", "example_normalise")
+OF_CALLER = re.compile(r"(?ms)^## [^\n]*`(example_\w+)`\n(.*?)(?=^## |\Z)")
+FENCED = re.compile(r"(?ms)^```(\w*)\n(.*?)^```$")
+# "(`clause`, `other`)"
+IN_BRACKETS = re.compile(r"\((?:`\w+`(?:, )?)+\)")
 # The crates of which docs/PROOF.md names each file.
 MAPPED = ("tftp_ends", "tftp_law", "tftp_judge", "tftp_normal", "tftp_commands")
 QUOTED = re.compile(r"`([^`]+)`")
@@ -98,7 +104,7 @@ class Sources:
             self.laws |= set(re.findall(r"(?m)^pub fn (\w+)\(\)\n *ensures ", text))
             for function in re.split(r"(?m)^(?=\s*(?:pub )?fn )", text)[1:]:
                 name = re.match(r"\s*(?:pub )?fn (\w+)", function)
-                clauses = re.findall(r"(?m)^\s*ensures (\w+) \{", function)
+                clauses = re.findall(r"(?m)^\s*(?:ensures|requires) (\w+) \{", function)
                 if name and function.lstrip().startswith("pub "):
                     self.functions.setdefault(name[1], set()).update(clauses)
         for spec in sorted((TOP / "crates").glob("*/specs/**/*.antt")):
@@ -156,6 +162,31 @@ def try_proof(trial: Trial, sources: Sources) -> None:
             trial.check(f"{crate}/{part} in PROOF.md, each file once", named == there, differ)
 
 
+def try_libraries(trial: Trial, sources: Sources) -> None:
+    """docs/LIBRARIES.md shows code that stands so in the programs, what they print, their lines of crates.txt, and
+    clauses of the functions that it names; and README's code is that of the program, without its contract."""
+    page = (TOP / "docs" / "LIBRARIES.md").read_text()
+    listed = (TOP / "crates.txt").read_text().splitlines()
+    for kind, text in FENCED.findall(page):
+        for line in text.splitlines() if kind == "text" else ():
+            trial.check(f"the line {line} of crates.txt in LIBRARIES.md", line in listed)
+    parts = OF_CALLER.findall(page)
+    trial.check("the programs of LIBRARIES.md", tuple(name for name, _ in parts) == CALLERS)
+    for name, part in parts:
+        source, printed = ((TOP / "crates" / name / file).read_text() for file in ("src/main.rt", "stdout"))
+        (rust, code), shown = FENCED.findall(part)
+        trial.check(f"{name} in LIBRARIES.md", rust == "rust" and f"\n{code}" in source)
+        trial.check(f"what {name} prints in LIBRARIES.md", shown == ("", printed))
+        words = re.findall(r"\w+", " ".join(QUOTED.findall(FENCED.sub("", part))))
+        clauses = set().union(*(sources.functions.get(word, set()) for word in words))
+        for clause in QUOTED.findall(" ".join(IN_BRACKETS.findall(FENCED.sub("", part)))):
+            trial.check(f"the clause {clause} of {name} in LIBRARIES.md", clause in clauses)
+    [code] = (text for kind, text in FENCED.findall((TOP / "README.md").read_text()) if kind == "rust")
+    source = (TOP / "crates" / CALLERS[0] / "src" / "main.rt").read_text()
+    plain = re.sub(r"(?m)\n(?:    (?:requires|ensures) .*\n)+\{$", " {", source)
+    trial.check("the code of README", code[code.index("\n/// ") :] in plain)
+
+
 def try_picture(trial: Trial, program: str, transfers: str) -> None:
     """The picture of examples/ is that of the recording beside it."""
     recording = EXAMPLES / "loopback-repeated-oack.pcap"
@@ -197,7 +228,7 @@ def main(program: str, transfers: str) -> int:
     try_manual(trial, transfers)
     try_names(trial)
     sources = Sources()
-    for of_sources in (try_laws, try_proof):
+    for of_sources in (try_laws, try_proof, try_libraries):
         of_sources(trial, sources)
     for of_programs in (try_picture, try_shown):
         of_programs(trial, program, transfers)

@@ -1,0 +1,21 @@
+//! Writes the normal text of the capture on standard input, and nothing of one that is not accepted.
+#![tactic(auto)]
+
+use std::io;
+use std::process::ExitCode;
+use tftp_capture::Tallied;
+use tftp_normal::normalise;
+
+/// Ends with status 2, and tells why on standard error, where no normal text was written, or only a part of one.
+fn main(rt: HostRuntime) -> ExitCode {
+    let mut reader = Tallied::new(rt.reader());
+    let mut writer = Tallied::new(io::writer(&rt));
+    match normalise(rt.alloc(), &mut reader, &mut writer) {
+        Ok(()) => ExitCode::SUCCESS,
+        Err(fault) => {
+            // where standard error fails too, the status alone tells it
+            let _ = eprintln!(rt; "{fault:?}");
+            ExitCode::from(2)
+        }
+    }
+}
