@@ -19,7 +19,7 @@ from typing import NamedTuple
 
 import repository  # noqa: F401
 from fuzzing.attribution import Datagram, attributed
-from fuzzing.between import sides_of, verdict
+from fuzzing.between import doubts_of, sides_of, verdict
 from fuzzing.segments import Drawn, Sent, changed, numbered
 from fuzzing.tapped import try_list
 from judged import Row, checked, recording
@@ -84,12 +84,10 @@ def wanted_rows(datagrams: list[Datagram]) -> list[Wanted]:
     """What is to be said of each transfer that a recording has."""
     rows = []
     for number, one in enumerate(attributed(datagrams).transfers, 1):
-        sides, frame, doubts = sides_of(one), None, list[str]()
+        sides = sides_of(one)
         line = verdict(sides, one.seen)
-        if line.startswith("refused"):
-            at = one.seen[int(line.split()[2]) - 1]
-            frame, doubts = at.number + 1, one.doubts_at("client", at.number)
-        row = Row(number, "between", frame, line, ("doubtful",) if doubts else ())
+        frame = one.seen[int(line.split()[2]) - 1].number + 1 if line.startswith("refused") else None
+        row = Row(number, "between", frame, line, ("doubtful",) if doubts_of(one, line) else ())
         rows.append(Wanted(row, sides.client.host != sides.server.host, sides.client.host.endswith(LAWFUL)))
     return rows
 

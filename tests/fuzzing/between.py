@@ -16,6 +16,8 @@ from normal import KNOWN, USUAL_SIZE, Meaning, Options, Side, decoded
 
 MOST_BLOCKS = 65_535
 UNKNOWN_ID = 5
+# What a client may have done that sends something else than ERROR 5 to where a stray came from.
+UNSEEN = "its client may have asked again, by a request that did not pass here"
 Route = Literal["transfer", "stray", "answer", "1", "2", "3"]
 
 
@@ -347,6 +349,15 @@ class Between:
             if isinstance(it.message, Error):
                 return f"aborted by {it.end} code {it.message.code}"
         return f"incomplete after {len(self.earlier)}"
+
+
+def doubts_of(one: Transfer, line: str) -> list[str]:
+    """Why a refusal between the ends is no accusation."""
+    words = line.split()
+    if words[0] != "refused":
+        return []
+    unseen = [UNSEEN] if words[5] == RULES[2] else []
+    return unseen + one.doubts_at("client", one.seen[int(words[2]) - 1].number)
 
 
 def verdict(sides: Sides, datagrams: Sequence[Datagram]) -> str:

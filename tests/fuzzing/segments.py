@@ -62,8 +62,14 @@ class Drawn:
             self.passing = self.passing[: chance.randrange(len(self.passing) + 1)]
         self.sides = sides_by_chance(chance, subnet)
         self.sent = [self.dressed(end, packet) for end, packet in self.passing]
-        if chance.random() < 0.2:
+        if chance.random() < 0.3 and not self.asks_late():
             self.sent = with_strays(chance, self.sides, self.sent, Endpoint(f"{subnet}.9", port_of(chance)))
+
+    def asks_late(self) -> bool:
+        """Whether a request passes after something else; in a recording it begins another transfer, of which a stray would
+        be."""
+        kinds = [packet.kind for _, packet in self.passing]
+        return "request" in kinds[kinds.count("request") :]
 
     def dressed(self, end: EndName, packet: Packet) -> Sent:
         """A packet from its end; a request goes to where the client asks."""
