@@ -361,7 +361,9 @@ def doubts_of(one: Transfer, line: str) -> list[str]:
 
 
 def verdict(sides: Sides, datagrams: Sequence[Datagram]) -> str:
-    """The line that is printed of these datagrams between the ends."""
+    """The line that is printed of these datagrams between the ends; of a client that asked itself nothing is judged."""
+    if sides.client in (sides.asked, sides.server):
+        return f"incomplete after {len(datagrams)}"
     between = Between(sides)
     for number, it in enumerate(datagrams, 1):
         broken = between.broken(it)
