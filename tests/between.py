@@ -1,12 +1,13 @@
-"""Tries the verdict between the two ends of a transfer. Lawful transfers are drawn over two networks with a point between,
-and written as recordings that were made there; so are changes of them. Of each the program must say what a slow reference
-says, by the rules (tests/fuzzing/between.py), and a lawful one must never be refused. The reference is tried too: on the
-lawful transfers, of which it is known how they ended, and on lists of packets by what may pass there.
+"""Tries the verdict between the two ends of a transfer. Lawful transfers are drawn over two networks with a point
+between, and written as recordings that were made there; so are changes of them. Of each the program must say what a
+slow reference says, by the rules (tests/fuzzing/between.py), and nobody may be accused in a lawful one. The reference
+is tried too: on the lawful transfers, of which it is known how they ended, and on lists of packets by what may pass
+there.
 
     between.py [--cases N] [--seed SEED] [TRANSFERS]
 
-Without TRANSFERS, the program that reads recordings, the reference alone is tried. The last line is 'N passed, M failed';
-status 1 if any failed.
+Without TRANSFERS, the program that reads recordings, the reference alone is tried. The last line is 'N passed, M
+failed'; status 1 if any failed.
 """
 from __future__ import annotations
 

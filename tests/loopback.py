@@ -214,7 +214,8 @@ def at_each_end(transfers: str, recording: pathlib.Path) -> list[tuple[list[Row]
 
 
 def not_between(transfers: str, recording: pathlib.Path) -> list[tuple[Row, Row]]:
-    """Of the transfers that are accepted at an end, each that is not so between the ends: what is said there and here."""
+    """Of the transfers that are accepted at an end, each that is not so between the ends: what is said there, and
+    here."""
     there = [row for rows, _, _ in at_each_end(transfers, recording) for row in rows]
     here = {row.number: row for row in checked(transfers, recording.read_bytes(), "--end", "between")[0]}
     accepted = [(row, here[row.number]) for row in there if row.verdict.startswith("accepted")]

@@ -376,12 +376,13 @@ def of_sending() -> Iterator[Passing]:
     first, last, begun = data(1, b"." * 512), data(2, b"!"), asking(read_request("a", "octet"))
     two = "accepted get octet blocks 2 bytes 513"
     sized = asking(read_request("a", "octet", blksize=512)) + from_server(oack(blksize=512)) + from_client(ack(0))
-    again = sized + from_server(first, oack(blksize=512)) + from_client(ack(1)) + from_server(last) + from_client(ack(2))
+    again = sized + from_server(first, oack(blksize=512)) + from_client(ack(1)) + from_server(last)
+    again += from_client(ack(2))
     yield Passing("an OACK after a block", again, two, at_server="refused datagram 5 rule 17 OackAfterStart")
     wide = asking(read_request("a", "octet", windowsize=4)) + from_server(oack(windowsize=4)) + from_client(ack(0))
     three = wide + from_server(data(2, b"." * 512), first, data(3, b"!")) + from_client(ack(3))
-    skipped = "refused datagram 4 rule 23 BlockSkipped"
-    yield Passing("a block before the one before it", three, "accepted get octet blocks 3 bytes 1025", at_server=skipped)
+    accepted, skipped = "accepted get octet blocks 3 bytes 1025", "refused datagram 4 rule 23 BlockSkipped"
+    yield Passing("a block before the one before it", three, accepted, at_server=skipped)
     back = "refused datagram 5 rule 24 GoneBack"
     yield Passing("a block again, late", late_block(), two, at_server=back)
     yield Passing("a block again, and no more", late_block()[:5], "incomplete after 5", at_server=back)
@@ -434,8 +435,8 @@ def of_strays() -> Iterator[Passing]:
 
 
 def try_between(trial: Trial, program: str) -> None:
-    """The verdict between the ends, where that is named and where no place is, beside those of the ends; and the datagram
-    that is refused is the one with this number in the client's text."""
+    """The verdict between the ends, where that is named and where no place is, beside those of the ends; and the
+    datagram that is refused is the one with this number in the client's text."""
     for it in (*of_sending(), *of_errors(), *of_strays()):
         given = file_of(it.datagrams)
         cases = (BETWEEN, it.between), ((), it.between), (AT_CLIENT, it.at_client), (AT_SERVER, it.at_server)

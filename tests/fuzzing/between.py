@@ -1,5 +1,5 @@
-"""The verdict between the two ends of a transfer, slowly: the rules of docs/SPECIFICATION.md ("Between the two ends"), each
-read over the whole list of what passed before. What the program says is compared with it.
+"""The verdict between the two ends of a transfer, slowly: the rules of docs/SPECIFICATION.md ("Between the two ends"),
+each read over the whole list of what passed before. What the program says is compared with it.
 
 Lists have the oldest first."""
 from __future__ import annotations
@@ -100,8 +100,8 @@ def kept_of(passed: Sequence[Passed], receiver: EndName) -> list[Passed]:
 
 
 def usable(kept: Sequence[Passed], receiver: EndName) -> list[Passed]:
-    """What the sender can have used, and all that it sent itself: what the receiver sent after the sender's ERROR had come
-    is left out."""
+    """What the sender can have used, and all that it sent itself: what the receiver sent after the sender's ERROR had
+    come is left out."""
     sender: EndName = "server" if receiver == "client" else "client"
     before = len(before_error(sender, kept))
     return [it for at, it in enumerate(kept) if at < before or it.end == sender]

@@ -1,5 +1,5 @@
-"""Transfers with a point between the two ends, on either side of which a network loses, repeats and reorders: what passes
-the point, as it is recorded there; and changes of that."""
+"""Transfers with a point between the two ends, on either side of which a network loses, repeats and reorders: what
+passes the point, as it is recorded there; and changes of that."""
 from __future__ import annotations
 
 from collections.abc import Sequence
@@ -12,6 +12,7 @@ from fuzzing.between import Sides
 from fuzzing.changes import changed_bytes, changed_number, changed_opcode
 from fuzzing.ends import Packet
 from fuzzing.meanings import Spelling, chosen, meaning_of
+from fuzzing.spelled import Request, opcode_of, read
 from fuzzing.transfers import Transfer, network_of
 from fuzzing.views import STRAYS, port_of
 from normal import Meaning
@@ -24,7 +25,8 @@ OTHER: dict[EndName, EndName] = {"client": "server", "server": "client"}
 
 
 class Segments(Transfer):
-    """Two ends and a point between; what an end sends crosses its own side's network, passes, and crosses the other's."""
+    """Two ends and a point between; what an end sends crosses its own side's network, passes, and crosses the
+    other's."""
 
     def __init__(self, chance: Random, meaning: Meaning, wire: bytes) -> None:
         super().__init__(chance, meaning, wire)
@@ -66,8 +68,8 @@ class Drawn:
             self.sent = with_strays(chance, self.sides, self.sent, Endpoint(f"{subnet}.9", port_of(chance)))
 
     def asks_late(self) -> bool:
-        """Whether a request passes after something else; in a recording it begins another transfer, of which a stray would
-        be."""
+        """Whether a request passes after something else; in a recording it begins another transfer, of which a stray
+        would be."""
         kinds = [packet.kind for _, packet in self.passing]
         return "request" in kinds[kinds.count("request") :]
 
@@ -127,6 +129,15 @@ def changed_one(chance: Random, sent: Sequence[Sent], at: int) -> Sent:
     )
 
 
+def agreed_more(chance: Random, sent: Sequence[Sent]) -> list[Sent]:
+    """What passed, with one option more in each OACK: multicast, one that was asked for, or any other."""
+    request = read(sent[0][2])
+    asked = list(request.options) if isinstance(request, Request) else []
+    name = chance.choice((b"multicast", b"foo", *asked, *asked))
+    option = name + b"\0" + chance.choice((b"8", b"", b"70000")) + b"\0"
+    return [(*it[:2], it[2] + option) if opcode_of(it[2]) == 6 else it for it in sent]
+
+
 def error_of(chance: Random, sent: Sequence[Sent]) -> Sent:
     """An ERROR between two that talk."""
     source, target, _ = chance.choice(sent)
@@ -140,9 +151,12 @@ def changed(chance: Random, drawn: Sequence[Sent]) -> list[Sent]:
         if not sent:
             break
         at, to = (chance.randrange(len(sent)) for _ in range(2))
-        way = chosen(chance, ("change", 8), ("drop", 4), ("repeat", 3), ("move", 4), ("error", 2), ("cut", 1))
+        ways = ("change", 8), ("drop", 4), ("repeat", 3), ("move", 4), ("error", 2), ("agree", 1), ("cut", 1)
+        way = chosen(chance, *ways)
         if way == "change":
             sent[at] = changed_one(chance, sent, at)
+        elif way == "agree":
+            sent = agreed_more(chance, sent)
         elif way == "drop":
             del sent[at]
         elif way == "repeat":

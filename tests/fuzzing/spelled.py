@@ -1,4 +1,5 @@
-"""What a payload spells, or the fault for which it spells nothing, by the tables of docs/SPECIFICATION.md ("Packets")."""
+"""What a payload spells, or the fault for which it spells nothing, by the tables of docs/SPECIFICATION.md
+("Packets")."""
 from __future__ import annotations
 
 import dataclasses

@@ -325,8 +325,8 @@ def cap(text: str) -> str:
 
 
 def not_counted(history: History, it: Datagram) -> Lines:
-    """What went out after the other end's ERROR counts for nothing in the rules that read what went out; between the ends,
-    what passed after the ERROR of the end that sent this."""
+    """What went out after the other end's ERROR counts for nothing in the rules that read what went out; between the
+    ends, what passed after the ERROR of the end that sent this."""
     if not history.is_between():
         error = history.error("in")
         return [f"The other end's ERROR came in {at(error)}: what went out after it is not counted."] if error else []

@@ -28,7 +28,8 @@ ABORTS = {
 
 
 def where(capture: Capture, datagram: Datagram) -> str:
-    told = [f"line {datagram.line} of the {capture.end}'s text" if capture.is_between else f"line {datagram.line} of the text"]
+    text = "the client's text" if capture.is_between else "the text"
+    told = [f"line {datagram.line} of {text}"]
     if datagram.frame is not None:
         told.append(f"frame {datagram.frame} of the recording")
     if datagram.time is not None:
@@ -138,11 +139,13 @@ def passed_on(history: History) -> Told:
     last, front, highest = history.last_block(), history.front, max(history.blocks, default=0)
     acked = history.highest("ACK", history.receiver_way())
     told = f"{blocks_to(front) if front else 'no block 1'} passed"
-    has = [("Has", f"{told}; the highest ACK that passed is {f'{block_of(acked)} in {at(acked)}' if acked else 'none'}.")]
+    ack = f"{block_of(acked)} in {at(acked)}" if acked else "none"
+    has = [("Has", f"{told}; the highest ACK that passed is {ack}.")]
     if last is not None and front >= last:
         return [*has, ("Missing", f"the ACK of the last block, {last}.")]
     if highest > front:
-        return [*has, ("Missing", f"block {front + 1}, though block {highest} passed in {at(history.blocks[highest])}.")]
+        later = f"block {highest} passed in {at(history.blocks[highest])}"
+        return [*has, ("Missing", f"block {front + 1}, though {later}.")]
     return [*has, ("Missing", f"block {front + 1} and what follows: {end_of(history, last)}.")]
 
 
@@ -170,9 +173,9 @@ def stopped_by(history: History) -> str:
                 " a word, or a client that took a block for the last one")
     port = history.capture.service
     if history.is_between():
-        return (f"a server that is down, or does not listen at port {port} of that address; a firewall or translation of"
-                " addresses, which drops the request or the answer, since that comes from another port; a loss on the"
-                " way; or a recording that has the requests alone, as with a filter for port 69")
+        return (f"a server that is down, or does not listen at port {port} of that address; a firewall or translation"
+                " of addresses, which drops the request or the answer, since that comes from another port; a loss on"
+                " the way; or a recording that has the requests alone, as with a filter for port 69")
     if history.at_client():
         return (f"a server that is down, or does not listen at port {port} of that address; a firewall or translation"
                 " of addresses between the two, which drops the request or the answer, since that comes from another"

@@ -182,7 +182,8 @@ def content_of(passed: Passed) -> bytes:
 
 
 def server_of(capture: Capture) -> Optional[Peer]:
-    """Between the ends, the server: the one with which the client went on, or else the first from which something came."""
+    """Between the ends, the server: the one with which the client went on, or else the first from which something
+    came."""
     went_on = (it for it in capture.datagrams if it.goes_out() and not is_request(it.payload))
     came = (it for it in capture.datagrams if not it.goes_out())
     found = next((it for it in went_on if it.payload[:2] != b"\0\5"), None) or next(came, None)

@@ -4,7 +4,7 @@ from __future__ import annotations
 import json
 from typing import Any, Optional
 
-from .capture import Capture, Datagram
+from .capture import Datagram
 from .explained import Told, explain
 from .packets import read_packet
 from .program import Verdict
