@@ -519,7 +519,7 @@ def refused_late() -> tuple[Passing, ...]:
         ),
         (
             "5 rule 22 WindowOverrun", two + back(error(3, "full")) + out(ack(1)) + back(data(2, b"!")),
-            ("No block was acknowledged before it.", "block 1 is the last that may pass.", f"{served} what passed from"),
+            ("No block was acknowledged before it.", "block 1 is the last that may pass.", f"{served} what passed"),
         ),
         (
             "6 rule 26 AckAhead", two + out(ack(1), error(0, "x")) + back(data(2, b"!")) + out(ack(2)),
@@ -541,10 +541,14 @@ def try_between(trial: Trial, programs: Words, folder: pathlib.Path) -> None:
     output, _, _ = run([*programs, "--all", path])
     is_told = "What if: told at an end alone" in plain(output) and "what if, without" not in output
     trial.check("between, what if", is_told, output)
-    path.write_bytes(made.file_of(made.late_block()))
-    output, _, _ = run([*programs, "--all", path])
-    digest = hashlib.sha256(b"." * 512 + b"!").hexdigest()
-    trial.check("between, the file", f"File: 513 bytes, SHA-256 {digest}." in plain(output), output)
+    digest = hashlib.sha256(WHOLE + b"!").hexdigest()
+    first, last = data(1, WHOLE), data(2, b"!")
+    read = asking(READ) + back(first) + out(ack(1)) + back(last, first) + out(ack(2))
+    write = asking(WRITE) + back(ack(0)) + out(first) + back(ack(1)) + out(last, first) + back(ack(2))
+    for name, passed in (("a read", read), ("a write, which the client's text has not", write)):
+        path.write_bytes(made.file_of(passed))
+        output, _, _ = run([*programs, "--all", path])
+        trial.check(f"between, the file of {name}", f"File: 513 bytes, SHA-256 {digest}." in plain(output), output)
 
 
 def try_streams(trial: Trial, programs: Words) -> None:

@@ -161,7 +161,8 @@ def request_after_start(history: History, it: Datagram, fault: str) -> Lines:
 
 def elsewhere(end: str) -> str:
     """What a rule about what an end sends takes for given."""
-    return f"That holds if the recording was made at the {end}: elsewhere its datagrams may be missing or come by late."
+    told = f"That holds if the recording was made at the {end}: elsewhere its datagrams may be missing or come by late."
+    return f"{told} Between the ends this rule is never broken."
 
 
 def reply_changed(history: History, it: Datagram, fault: str) -> Lines:

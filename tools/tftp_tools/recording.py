@@ -164,8 +164,10 @@ class Recording:
         """The text of an accepted transfer that has its file: between the ends that of an end which is accepted too."""
         if judged.row is None or not judged.is_between():
             return judged.text
-        texts = (self.text(judged.row.number, end) for end in ENDS)
-        return next((text for text in texts if check(self.audit, text) == judged.verdict), None)
+        if check(self.audit, judged.text) == judged.verdict:
+            return judged.text
+        text = self.text(judged.row.number, "server")
+        return text if check(self.audit, text) == judged.verdict else None
 
 
 def best(rows: Sequence[Row]) -> Row:
