@@ -4,7 +4,6 @@ from __future__ import annotations
 
 from collections.abc import Sequence
 from random import Random
-from typing import Optional
 
 from captures import EndName
 from fuzzing.attribution import Datagram, Endpoint
@@ -170,7 +169,6 @@ def changed(chance: Random, drawn: Sequence[Sent]) -> list[Sent]:
     return sent
 
 
-def numbered(sent: Sequence[Sent], first: int = 0, begun: Optional[float] = None) -> list[Datagram]:
-    """The datagrams of a recording, from this number on."""
-    since = first * BETWEEN if begun is None else begun
-    return [Datagram(first + at, since + at * BETWEEN, *it) for at, it in enumerate(sent)]
+def numbered(sent: Sequence[Sent]) -> list[Datagram]:
+    """The datagrams of a recording."""
+    return [Datagram(at, at * BETWEEN, *it) for at, it in enumerate(sent)]

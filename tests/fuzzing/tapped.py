@@ -79,9 +79,11 @@ def packets_of(law: Law) -> list[Passed]:
     """All that either end may send in some run, and what it never may but is of this transfer."""
     blocks = [Packet("data", number) for number in range(1, law.blocks + 1)]
     acks = [Packet("ack", number) for number in range(law.blocks + 2)]
-    of_client = [REQUEST, *ERRORS, *(acks if law.side == "get" else blocks)]
-    of_server = [*ERRORS, *(blocks if law.side == "get" else acks), *([OACK] * law.is_agreed)]
-    return [*(("client", it) for it in of_client), *(("server", it) for it in of_server)]
+    of_client: list[Passed] = [("client", it) for it in (REQUEST, *ERRORS, *(acks if law.side == "get" else blocks))]
+    of_server: list[Passed] = [("server", it) for it in (*ERRORS, *(blocks if law.side == "get" else acks))]
+    if law.is_agreed:
+        of_server.append(("server", OACK))
+    return of_client + of_server
 
 
 def drawn_list(chance: Random, law: Law) -> list[Passed]:

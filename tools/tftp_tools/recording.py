@@ -13,7 +13,7 @@ from .program import Verdict, ask, check
 EndName = Literal["client", "server"]
 PlaceName = Literal["client", "server", "between"]
 ENDS: tuple[EndName, ...] = ("client", "server")
-PLACES: tuple[PlaceName, ...] = (*ENDS, "between")
+PLACES: tuple[PlaceName, ...] = ("client", "server", "between")
 # The first bytes of pcap, in both orders of bytes, in microseconds and nanoseconds, and of pcapng.
 MAGICS = tuple(bytes.fromhex(it) for it in ("a1b2c3d4", "d4c3b2a1", "a1b23c4d", "4d3cb2a1", "0a0d0d0a"))
 T = TypeVar("T")
