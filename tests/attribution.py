@@ -1,6 +1,6 @@
 """Tries the definition of which datagrams of a recording are one transfer: recordings of lawful ends are drawn, divided
-by the definition as a slow script has it, and each transfer's capture is judged by the built program.
-Nobody may be accused: each refusal must have a doubt.
+by the definition as a slow script has it, and each transfer's capture is judged by the built program, and between the
+ends by the slow reference of that. Nobody may be accused: each refusal must have a doubt.
 
     attribution.py [--cases N] [--seed SEED] [--places PLACES] [--transfers TRANSFERS] PROGRAM
 
@@ -21,6 +21,7 @@ from typing import Literal, Union
 
 import repository  # noqa: F401
 from captures import EndName
+from fuzzing.between import doubts_of, sides_of, verdict
 from fuzzing.dense import alone, drawn_reads, whole
 from fuzzing.places import differences, spoiled
 from fuzzing.program import Program
@@ -58,34 +59,33 @@ class Trier:
             raise RuntimeError(f"it wrote errors: {errors!r}")
         return printed.decode().strip()
 
-    def verdict(self, one: Transfer, end: EndName) -> tuple[str, str]:
-        """The verdict of an end's view, and the datagram and rule of a refusal; one with a doubt is `doubtful`."""
+    def verdict(self, one: Transfer, tap: Tap) -> tuple[str, str]:
+        """The verdict there, between by the reference, and the datagram and rule of a refusal; one with a doubt is
+        `doubtful`."""
+        end: EndName = "client" if tap == "between" else tap
         view = one.view(end)
-        said = self.check(one, end, view)
+        said = verdict(sides_of(one), view) if tap == "between" else self.check(one, end, view)
         words = said.split()
         if words[0] != "refused":
             return words[0], ""
         at = view[int(words[2]) - 1]
-        return "doubtful" if one.doubts_at(end, at.number) else "refused", f"{at.number} {said.split('rule ')[1]}"
+        doubts = doubts_of(one, said) if tap == "between" else one.doubts_at(end, at.number)
+        return "doubtful" if doubts else "refused", f"{at.number} {said.split('rule ')[1]}"
 
     def refusals(self, kind: str, tap: Tap, found: Attribution) -> Iterator[str]:
-        """The transfers that are accused: between, where both views are refused by one rule at one datagram."""
+        """The transfers that are accused."""
         for one in found.transfers:
-            if tap == "between":
-                (client, why), (server, other) = self.verdict(one, "client"), self.verdict(one, "server")
-                word = "refused" if client == server == "refused" and why == other else "spared"
-            else:
-                word, why = self.verdict(one, tap)
+            word, why = self.verdict(one, tap)
             self.told[f"{kind}, {tap}", word] += 1
             if word == "refused":
                 yield f"{kind}, {tap}: transfer {one.number}, datagram {why}"
 
     def accused_in_file(self, kind: str, tap: Tap, drawn: list[Datagram]) -> Iterator[str]:
-        """The transfers that the program accuses which reads recordings, at this end and where none is named."""
+        """The transfers that the program accuses which reads recordings, at this place and where none is named."""
         if not self.transfers or not drawn:
             return
-        ends: tuple[tuple[str, ...], ...] = ((),) if tap == "between" else ((), ("--end", tap))
-        for words in ends:
+        places: tuple[tuple[str, ...], ...] = (), ("--end", tap)
+        for words in places:
             for row in checked(self.transfers, recording(drawn), *words)[0]:
                 word = "accused" if row.is_accused() else "doubtful" if row.doubts else row.verdict.split()[0]
                 self.told[f"{kind}, {tap}, as a file, {' '.join(words) or 'no end'}", word] += 1

@@ -390,7 +390,7 @@ def try_examples(trial: Trial, programs: Words) -> None:
         ("the one that is named", [session, 1, "server"], (sound, 0), "accepted"),
         ("the one whose number is named", [oack_again, 2], (changed, 1), "frame 9 of the recording"),
         ("each of several, the first", [oack_again], (first, 1), "refused datagram 5 rule 25 BlockChanged Where:"),
-        ("each of several, the second", [oack_again], (first, 1), f"at the client {changed} Where: line 12"),
+        ("each of several, the second", [oack_again], (first, 1), f"between the ends {changed} Where: line 12"),
         ("each of several, how many", [oack_again], (first, 1), "2 of 2 transfers are not accepted"),
         ("no such one", [session, 9, "client"], ("", 2), "there is no transfer 9 to judge: the recording has 1 to 5"),
         ("a text has no number", [EXAMPLES / "one-block.capture", 1, "client"], ("", 2), "is no recording"),
@@ -401,21 +401,28 @@ def try_examples(trial: Trial, programs: Words) -> None:
         trial.check(f"tftp-explain, {name}", got == wanted and said in plain(output + errors), (output, errors))
 
 
+def at_another_port() -> list[recorded.Datagram]:
+    """A read whose request has not the form of one, by which one at another port is found: its last zero byte is
+    missing."""
+    request, *rest = made.read("a", 40_000, 41_000, service=6969)
+    return [dataclasses.replace(request, payload=request.payload[:-1]), *rest]
+
+
 def try_recordings(trial: Trial, programs: Words, folder: pathlib.Path) -> None:
     """Recordings that are made here: at which end a refusal is explained, its doubts, and what the program tells."""
     late, path = made.late_block(), folder / "a recording"
     begun, gone_back = late[:5], "refused datagram 5 rule 24 GoneBack"
-    elsewhere = "Doubtful: where it was recorded is not known, and at the client it is incomplete after 5"
     again = "Doubtful: its client had asked the same and sent nothing else since: the transfer before goes on"
     at_server, at_client = "out, from port 41000 of the server to", "in, from 192.0.2.1 port 42000 to port 40000 of the"
-    other_port = made.read("a", 40_000, 41_000, service=6969)
-    # without the zero byte at its end it has not the form of a request, by which one at another port is found
-    other_port[0] = dataclasses.replace(other_port[0], payload=other_port[0].payload[:-1])
+    between = "Place: judged between the ends, by what passed there; the datagrams have the numbers that they have"
+    has = "Has: blocks 1 to 2 passed; the highest ACK that passed is 1 in datagram 3 (line 10, frame 3)."
+    other_port = at_another_port()
     name = recorded.Datagram(made.C, 40_001, "192.0.2.53", 53, b"a question")
     sound = "accepted get octet blocks 2 bytes 513"
     cases: tuple[tuple[str, bytes, Words, str, tuple[str, ...]], ...] = (
-        ("what either end clears", made.file_of(late), (), sound, ("at the client",)),
-        ("refused at the server alone", made.file_of(begun), (), gone_back, (at_server, elsewhere)),
+        ("between the ends", made.file_of(late), (), sound, ("in mode octet, between the ends;", between)),
+        ("incomplete between", made.file_of(begun), (), "incomplete after 5", (has, "the ACK of the last block, 2.")),
+        ("between, named", made.file_of(made.at_one_host(late)), (1, "between"), sound, (between,)),
         ("refused at the end that is named", made.file_of(late), (1, "server"), gone_back, (at_server,)),
         ("both ends at one host", made.file_of(made.at_one_host(late)), (), gone_back, (at_server,)),
         (
@@ -429,7 +436,7 @@ def try_recordings(trial: Trial, programs: Words, folder: pathlib.Path) -> None:
         ("no transfer", made.file_of(other_port), (), "", ("went to port 6969: name the port by --service",)),
         (
             "another service port", made.file_of(other_port), ("--service", 6969),
-            "refused datagram 1 rule 5 Malformed NoTerminator", ("out, from port 40000 of the client to 192.0.2.1",),
+            "refused datagram 1 rule 5 Malformed NoTerminator", ("What: from port 40000 of the client to 192.0.2.1",),
         ),
     )
     for name_of_case, given, words, line, said in cases:
@@ -441,6 +448,107 @@ def try_recordings(trial: Trial, programs: Words, folder: pathlib.Path) -> None:
         trial.check(f"tftp-explain, {name_of_case}", holds, (output, errors, status))
         for it in said:
             trial.check(f"tftp-explain, {name_of_case}, {it}", it in plain(output + errors), (output, errors))
+
+
+def out(*packets: Packet) -> list[recorded.Datagram]:
+    """Packets of the client to the server's port."""
+    return [recorded.Datagram(made.C, 40_000, made.S, 41_000, payload) for payload, _ in packets]
+
+
+def back(*packets: Packet) -> list[recorded.Datagram]:
+    return [recorded.Datagram(made.S, 41_000, made.C, 40_000, payload) for payload, _ in packets]
+
+
+def asking(packet: Packet) -> list[recorded.Datagram]:
+    return [recorded.Datagram(made.C, 40_000, made.S, 69, packet[0])]
+
+
+# What is refused, what passed, and what is told of it.
+Passing = tuple[str, list[recorded.Datagram], tuple[str, ...]]
+
+
+def refused_between() -> tuple[Passing, ...]:
+    """Between the ends, by what had passed."""
+    begun, two = asking(READ), asking(READ) + back(data(1, WHOLE))
+    stray = recorded.Datagram(made.THIRD, 41_000, made.C, 40_000, data(1, b"x")[0])
+    answered = recorded.Datagram(made.C, 40_000, made.THIRD, 41_000, ack(1)[0])
+    return (
+        (
+            "2 rule 2 WrongPort", asking(WRITE) + out(data(1, b"hi")),
+            ("It goes to 192.0.2.1 port 41000, from where nothing had passed.",),
+        ),
+        (
+            "5 rule 3 StrayAnswer", two + out(ack(1)) + [stray, answered],
+            (
+                "From there came datagram 4 (line 12, frame 4): DATA, block 1, 1 byte.",
+                "The server is at 192.0.2.1 port 41000, with which the client went on in datagram 3 (line 10,",
+            ),
+        ),
+        (
+            "3 rule 7 AfterError", begun + back(error(1, "no"), error(3, "full")),
+            ("An ERROR of the server had passed in datagram 2 (line 8, frame 2): ERROR, code 1", "and no other of the"),
+        ),
+        (
+            "3 rule 22 WindowOverrun", two + back(data(2, b"!")),
+            ("No block was acknowledged before it.", "from 192.0.2.1 port 41000 to port 40000 of the client: DATA"),
+        ),
+        (
+            "3 rule 26 AckAhead", begun + back(error(1, "no")) + out(ack(1)),
+            ("Block 1 had not passed. Block 1 is acknowledged. It follows the ERROR in datagram 2 (line 8, frame 2)",),
+        ),
+        (
+            "4 rule 25 BlockChanged", two + out(ack(1)) + back(data(1, WHOLE[:511] + b"x")),
+            ("Block 1 had passed in datagram 2 (line 8, frame 2), with 512 bytes", "line 12 of the client's text,"),
+        ),
+        (
+            "3 rule 27 AckZero", two + out(ack(0)),
+            ("The transfer is a read, and no OACK had passed, so there was nothing that ACK 0 could answer.",),
+        ),
+    )
+
+
+def refused_late() -> tuple[Passing, ...]:
+    """The same by what had passed before an ERROR of the end that is judged."""
+    two = asking(READ) + back(data(1, WHOLE))
+    late = "The client's ERROR had passed in datagram 4 (line 12, frame 4): the client sends nothing after it, so"
+    served = "The server's ERROR had passed in datagram 3 (line 10, frame 3): the server sends nothing after it, so"
+    return (
+        (
+            "4 rule 18 NotStarted", asking(WRITE) + back(error(1, "no")) + out(error(0, "so"), data(1, b"hi")),
+            ("and neither had passed before the client's ERROR in datagram 3 (line 10, frame 3).",),
+        ),
+        (
+            "5 rule 22 WindowOverrun", two + back(error(3, "full")) + out(ack(1)) + back(data(2, b"!")),
+            ("No block was acknowledged before it.", "block 1 is the last that may pass.", f"{served} what passed"),
+        ),
+        (
+            "6 rule 26 AckAhead", two + out(ack(1), error(0, "x")) + back(data(2, b"!")) + out(ack(2)),
+            ("Block 1 had passed, block 2 had not. Block 2 is acknowledged.", f"{late} what passed from the"),
+        ),
+    )
+
+
+def try_between(trial: Trial, programs: Words, folder: pathlib.Path) -> None:
+    """Refusals between the ends: what had passed, and what counts of it after an ERROR."""
+    path = folder / "between.pcap"
+    for rule, passed, said in (*refused_between(), *refused_late()):
+        path.write_bytes(made.file_of(passed))
+        output, errors, status = run([*programs, path, 1, "between"])
+        line = output.partition("\n")[0]
+        trial.check(f"between, {rule}", (line, status) == (f"refused datagram {rule}", 1), (output, errors))
+        for it in said:
+            trial.check(f"between, {rule}, {it}", it in plain(output), output)
+    output, _, _ = run([*programs, "--all", path])
+    is_told = "What if: told at an end alone" in plain(output) and "what if, without" not in output
+    trial.check("between, what if", is_told, output)
+    digest = hashlib.sha256(WHOLE + b"!").hexdigest()
+    first, last = data(1, WHOLE), data(2, b"!")
+    read = asking(READ) + back(first) + out(ack(1)) + back(last, first) + out(ack(2))
+    write = asking(WRITE) + back(ack(0)) + out(first) + back(ack(1)) + out(last, first) + back(ack(2))
+    for name, passed in (("a read", read), ("a write, which the client's text has not", write)):
+        path.write_bytes(made.file_of(passed))
+        output, _, _ = run([*programs, "--all", path])
+        trial.check(f"between, the file of {name}", f"File: 513 bytes, SHA-256 {digest}." in plain(output), output)
 
 
 def try_streams(trial: Trial, programs: Words) -> None:
@@ -514,6 +622,7 @@ def main(program: str, transfers: str) -> int:
     try_examples(trial, programs)
     with tempfile.TemporaryDirectory() as folder:
         try_recordings(trial, programs, pathlib.Path(folder))
+        try_between(trial, programs, pathlib.Path(folder))
         try_no_recordings(trial, programs, pathlib.Path(folder))
     try_streams(trial, programs)
     try_all(trial, programs)

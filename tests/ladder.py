@@ -208,6 +208,12 @@ def try_recordings(trial: Trial, program: str, transfers: str) -> None:
     picture = Picture(output)
     is_whole = len(picture.heads) == 7 and picture.has("server (recorded here)")
     trial.check("of a recording, at the server", (errors, status) == ("", 0) and is_whole, (picture.words, errors))
+    output, errors, status = run(["--program", program, "--transfers", transfers, recording, 3, "between"], b"")
+    picture = Picture(output)
+    is_red = picture.heads.count(RED) == 1 and picture.has("ACK 1, rule 26 AckAhead")
+    is_named = {"client", "server"} <= set(picture.words) and picture.has("between the ends")
+    holds = (errors, status) == ("", 0) and is_red and is_named and not picture.has("(recorded here)")
+    trial.check("of a recording, between", holds, (picture.words, errors))
 
 
 def main(program: str, transfers: str) -> int:

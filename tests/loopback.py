@@ -213,6 +213,15 @@ def at_each_end(transfers: str, recording: pathlib.Path) -> list[tuple[list[Row]
     return [checked(transfers, given, "--end", end) for end in ("client", "server")]
 
 
+def not_between(transfers: str, recording: pathlib.Path) -> list[tuple[Row, Row]]:
+    """Of the transfers that are accepted at an end, each that is not so between the ends: what is said there, and
+    here."""
+    there = [row for rows, _, _ in at_each_end(transfers, recording) for row in rows]
+    here = {row.number: row for row in checked(transfers, recording.read_bytes(), "--end", "between")[0]}
+    accepted = [(row, here[row.number]) for row in there if row.verdict.startswith("accepted")]
+    return [(row, it) for row, it in accepted if (it.place, it.verdict) != ("between", row.verdict)]
+
+
 def are_wanted(case: Case, at_ends: Sequence[tuple[list[Row], str, int]]) -> bool:
     """Whether the rows have the verdicts of the case, without a doubt, and nothing is told beside."""
     for (rows, told, status), wanted in zip(at_ends, zip(*case.verdicts)):
@@ -234,6 +243,8 @@ def try_case(trial: Trial, transfers: str, case: Case, keep: pathlib.Path) -> No
         record(case, recording, folder)
         got = at_each_end(transfers, recording)
         trial.check(f"{case.name}, the verdicts", are_wanted(case, got), got)
+        other = not_between(transfers, recording)
+        trial.check(f"{case.name}, accepted between the ends", not other, other)
         for place, sizes in (("client", SIZES), ("root", UPLOADS)):
             other = folder / ("root" if place == "client" else "client")
             for name in sizes:

@@ -170,12 +170,19 @@ def try_others(trial: Trial, programs: Words, folder: pathlib.Path) -> None:
     words = try_whole(trial, "signs of HTML", output).text()
     holds = "TFTP in " in words and "<script>alert(" in words and "<img src=x>" in words and "<script" not in output
     trial.check("signs of HTML, as words", holds and (errors, status) == ("", 1), (words, errors))
-    path.write_bytes(made.file_of(made.late_block()[:5]))
+    path.write_bytes(made.file_of(made.asked_again()))
     output, _, status = run([*programs, path])
     words = Page(output).text()
-    is_told = "doubtful: refused datagram 5 rule 24 GoneBack" in words
-    is_told = is_told and "Doubtful where it was recorded is not known" in words
+    is_told = "doubtful: refused datagram 2 rule 22 WindowOverrun" in words
+    is_told = is_told and "Doubtful its client had asked the same and sent nothing else since" in words
     trial.check("a doubt", is_told and status == 1, words)
+    for place in ((), ("--end", "between")):
+        path.write_bytes(made.file_of(made.late_block()))
+        output, errors, status = run([*programs, *place, path])
+        words = try_whole(trial, f"between the ends, {place}", output).text()
+        digest = hashlib.sha256(b"." * 512 + b"!").hexdigest()
+        is_told = f"513 bytes, SHA-256 {digest}." in words and "frames 1 to 6; judged between the ends" in words
+        trial.check(f"between the ends, {place}", is_told and (errors, status) == ("", 0), words)
     path.write_bytes(made.file_of(made.late_block())[:-2])
     output, errors, status = run([*programs, path])
     trial.check("a recording that is cut", output == "" and "not whole" in errors and status == 2, errors)

@@ -18,12 +18,13 @@ import shlex
 import subprocess
 import sys
 import tempfile
-from collections.abc import Sequence
+from collections.abc import Iterator, Sequence
+from typing import NamedTuple
 
 import recorded
-from captures import ack, data, error, read_request
+from captures import Packet, ack, data, error, oack, read_request, write_request
 from judged import CAN_TAKE, Row, checked, row_of, said
-from loopback import CASES, are_wanted, at_each_end
+from loopback import CASES, are_wanted, at_each_end, not_between
 from made import (
     C_6, S_6, THIRD, C, S, asked_again, at, at_one_host, file_of, file_of_packets, framed, late_block, packets_of, read,
 )
@@ -39,8 +40,8 @@ LISTED = """number client server kind mode file options datagrams frames
 5 192.0.2.1:34056 192.0.2.1:60212 put octet "upload.log" - 10 26-35
 """
 SOUND = "accepted get octet blocks 1 bytes 2"
-WHOLE = Row(1, "unknown", None, SOUND)
-AT_CLIENT = ("--end", "client")
+WHOLE = Row(1, "between", None, SOUND)
+AT_CLIENT, AT_SERVER, BETWEEN = ("--end", "client"), ("--end", "server"), ("--end", "between")
 
 
 def try_examples(trial: Trial, program: str) -> None:
@@ -54,6 +55,9 @@ def try_examples(trial: Trial, program: str) -> None:
         is_bad = any(not row.verdict.startswith("accepted") for row in rows)
         holds = len(rows) == len(case.verdicts) and status == is_bad and not told
         trial.check(f"{case.name}, where no end is named", holds, (rows, told, status))
+    for recording in sorted(EXAMPLES.glob("*.pcap")):
+        other = not_between(program, recording)
+        trial.check(f"{recording.name}, accepted between the ends", not other, other)
     session = EXAMPLES / "loopback-session.pcap"
     output, _, status = said(program, [str(session)], b"")
     listed = "".join(" ".join(line.split()) + "\n" for line in output.splitlines())
@@ -232,8 +236,8 @@ def try_sessions(trial: Trial, program: str) -> None:
         ("boots hours apart", read("a", 40_000, 41_000) * 3, hours, sound),
         (
             "a reset in mid-boot, and the same request", reset + again, (),
-            [Row(1, "unknown", None, "incomplete after 4"),
-             Row(2, "unknown", None, "accepted get octet blocks 2 bytes 513")],
+            [Row(1, "between", None, "incomplete after 4"),
+             Row(2, "between", None, "accepted get octet blocks 2 bytes 513")],
         ),
     )
     for name, passed, times, rows in cases:
@@ -312,37 +316,149 @@ def try_splitting(trial: Trial, program: str) -> None:
 
 def try_doubts(trial: Trial, program: str) -> None:
     """A refusal that the recording does not carry is doubtful, with the reason, and its status is 1."""
-    late, ahead = late_block(), Datagram(C, 40_000, S, 41_000, ack(3)[0])
+    late = late_block()
     sound, unsound = "accepted get octet blocks 2 bytes 513", "refused datagram 5 rule 24 GoneBack"
     again = "its client had asked the same and sent nothing else since: the transfer before goes on"
     overrun, incomplete = "refused datagram 2 rule 22 WindowOverrun", "incomplete after 3"
-    elsewhere = "where it was recorded is not known, and at the client it is incomplete after 5"
     cases: tuple[tuple[str, list[Datagram], tuple[str, ...], list[Row], int], ...] = (
-        ("what one end clears is not blamed", late, (), [Row(1, "unknown", None, sound)], 0),
-        ("refused at the end that is named", late, ("--end", "server"), [Row(1, "server", 5, unsound)], 1),
+        ("refused at the end that is named", late, AT_SERVER, [Row(1, "server", 5, unsound)], 1),
         ("accepted at the end that is named", late, AT_CLIENT, [Row(1, "client", None, sound)], 0),
-        ("refused at one end alone", late[:5], (), [Row(1, "unknown", 5, unsound, (elsewhere,))], 1),
         (
             "both ends at one host", at_one_host(late), (),
             [Row(1, "client", None, sound), Row(1, "server", 5, unsound)], 1,
         ),
-        (
-            "refused at both ends by one rule", [*late[:2], ahead], (),
-            [Row(1, "unknown", 3, "refused datagram 3 rule 26 AckAhead")], 1,
-        ),
+        ("one host, between", at_one_host(late), BETWEEN, [Row(1, "between", None, sound)], 0),
         (
             "the same request again", asked_again(), AT_CLIENT,
             [Row(1, "client", None, incomplete), Row(2, "client", 4, overrun, (again,))], 1,
+        ),
+        (
+            "the same request again, between", asked_again(), (),
+            [Row(1, "between", None, incomplete), Row(2, "between", 4, overrun, (again,))], 1,
         ),
     )
     for name, passed, words, rows, status in cases:
         got = checked(program, file_of(passed), *words)
         trial.check(name, (got[0], got[2]) == (rows, status), got)
-    rows = checked(program, file_of(late[:5]), "--end", "server")[0]
+    rows = checked(program, file_of(late[:5]), *AT_SERVER)[0]
     trial.check("the frame of a refusal at the server", rows == [Row(1, "server", 5, unsound)], rows)
-    rows = checked(program, file_of([*late[:2], late[3]]), "--end", "server")[0]
+    rows = checked(program, file_of([*late[:2], late[3]]), *AT_SERVER)[0]
     holds = [(row.frame, row.verdict) for row in rows] == [(3, "refused datagram 3 rule 22 WindowOverrun")]
     trial.check("the frame of a refusal before the client goes on", holds, rows)
+
+
+class Passing(NamedTuple):
+    """What passed between the ends, the verdict there, and those at the ends where they are others."""
+
+    name: str
+    datagrams: list[Datagram]
+    between: str
+    at_client: str = ""
+    at_server: str = ""
+
+
+def from_client(*packets: Packet) -> list[Datagram]:
+    """Packets to the server's port."""
+    return [Datagram(C, 40_000, S, 41_000, payload) for payload, _ in packets]
+
+
+def from_server(*packets: Packet) -> list[Datagram]:
+    return [Datagram(S, 41_000, C, 40_000, payload) for payload, _ in packets]
+
+
+def asking(packet: Packet) -> list[Datagram]:
+    """A request to the service port."""
+    return [Datagram(C, 40_000, S, 69, packet[0])]
+
+
+def of_sending() -> Iterator[Passing]:
+    """Against the order in which an end sends, which is seen at that end alone."""
+    first, last, begun = data(1, b"." * 512), data(2, b"!"), asking(read_request("a", "octet"))
+    two = "accepted get octet blocks 2 bytes 513"
+    sized = asking(read_request("a", "octet", blksize=512)) + from_server(oack(blksize=512)) + from_client(ack(0))
+    again = sized + from_server(first, oack(blksize=512)) + from_client(ack(1)) + from_server(last)
+    again += from_client(ack(2))
+    yield Passing("an OACK after a block", again, two, at_server="refused datagram 5 rule 17 OackAfterStart")
+    wide = asking(read_request("a", "octet", windowsize=4)) + from_server(oack(windowsize=4)) + from_client(ack(0))
+    three = wide + from_server(data(2, b"." * 512), first, data(3, b"!")) + from_client(ack(3))
+    accepted, skipped = "accepted get octet blocks 3 bytes 1025", "refused datagram 4 rule 23 BlockSkipped"
+    yield Passing("a block before the one before it", three, accepted, at_server=skipped)
+    back = "refused datagram 5 rule 24 GoneBack"
+    yield Passing("a block again, late", late_block(), two, at_server=back)
+    yield Passing("a block again, and no more", late_block()[:5], "incomplete after 5", at_server=back)
+    written = asking(write_request("a", "octet")) + from_server(ack(0)) + from_client(first) + from_server(ack(1))
+    written += from_client(last, first) + from_server(ack(2))
+    back = "refused datagram 6 rule 24 GoneBack"
+    yield Passing("a block of a write again, late", written, "accepted put octet blocks 2 bytes 513", at_client=back)
+    yield Passing("two blocks to one ACK", begun + from_server(first, last), "refused datagram 3 rule 22 WindowOverrun")
+    changed = begun + from_server(first) + from_client(ack(1)) + from_server(data(1, b":" * 512))
+    yield Passing("a changed block", changed, "refused datagram 4 rule 25 BlockChanged")
+    ahead = begun + from_server(first) + from_client(ack(3))
+    yield Passing("an ACK of blocks that did not pass", ahead, "refused datagram 3 rule 26 AckAhead")
+    unanswered = asking(write_request("a", "octet")) + from_server(error(1, "no")) + from_client(first)
+    yield Passing("a block of a write to no answer", unanswered, "refused datagram 3 rule 18 NotStarted")
+
+
+def of_errors() -> Iterator[Passing]:
+    """What an ERROR may overtake, and what answers nothing that had passed before it."""
+    first, last, begun = data(1, b"." * 512), data(2, b"!"), asking(read_request("a", "octet"))
+    no, full, gone = error(1, "no"), error(3, "full"), "refused datagram 3 rule 7 AfterError"
+    yield Passing("a missing file", begun + from_server(no, no), "aborted by server code 1", "aborted by peer code 1",
+                  "aborted by local code 1")
+    yield Passing("a second, other ERROR", begun + from_server(no, full), gone)
+    stopped = begun + from_server(first) + from_client(full)
+    yield Passing("a client that gives up", stopped, "aborted by client code 3", "aborted by local code 3",
+                  "aborted by peer code 3")
+    before = begun + from_server(no, data(1, b"hi")) + from_client(ack(1))
+    yield Passing("a block from before the ERROR", before, SOUND, at_server=gone)
+    ahead = begun + from_server(first) + from_client(ack(1), full) + from_server(last) + from_client(ack(2))
+    after = "refused datagram 6 rule 7 AfterError"
+    yield Passing("an ACK of what passed after the ERROR", ahead, "refused datagram 6 rule 26 AckAhead", after,
+                  "refused datagram 6 rule 26 AckAhead")
+    acked = begun + from_server(no) + from_client(ack(1))
+    yield Passing("an ACK of an ERROR", acked, "refused datagram 3 rule 26 AckAhead")
+    over = begun + from_server(first, full) + from_client(ack(1)) + from_server(last)
+    yield Passing("a block to an ACK from after the ERROR", over, "refused datagram 5 rule 22 WindowOverrun",
+                  at_server="refused datagram 5 rule 7 AfterError")
+
+
+def of_strays() -> Iterator[Passing]:
+    """What passes with another than the server."""
+    request, block, answer = read("a", 40_000, 41_000)
+    stray = Datagram(THIRD, 41_000, C, 40_000, data(1, b"x")[0])
+    refused = Datagram(C, 40_000, THIRD, 41_000, error(5, "stray")[0])
+    passed = [request, block, stray, refused, answer]
+    yield Passing("a stray and an answer", passed, SOUND)
+    asked = Datagram(S, 43_000, C, 40_000, data(1, b"ho")[0])
+    yield Passing("the answer with which the client went on", [request, asked, block, answer], SOUND,
+                  at_client="refused datagram 4 rule 3 StrayAnswer")
+
+
+def try_between(trial: Trial, program: str) -> None:
+    """The verdict between the ends, where that is named and where no place is, beside those of the ends; and the
+    datagram that is refused is the one with this number in the client's text."""
+    for it in (*of_sending(), *of_errors(), *of_strays()):
+        given = file_of(it.datagrams)
+        cases = (BETWEEN, it.between), ((), it.between), (AT_CLIENT, it.at_client), (AT_SERVER, it.at_server)
+        for words, wanted in cases:
+            verdict = wanted or it.between
+            place = words[1] if words else "between"
+            frame = int(verdict.split()[2]) if verdict.startswith("refused") else None
+            got = checked(program, given, *words)
+            rows, status = [Row(1, place, frame, verdict)], int(not verdict.startswith("accepted"))
+            trial.check(f"{it.name}, {' '.join(words) or 'no end'}", got == (rows, "", status), got)
+    passed = [Datagram("192.0.2.53", 1234, "192.0.2.54", 53, b"?"), *late_block()[:2]]
+    passed += [dataclasses.replace(passed[0], payload=b"!"), *from_client(ack(3))]
+    rows = checked(program, file_of(passed), *BETWEEN)[0]
+    text = said(program, ["text", "1", "client", "-"], file_of(passed))[0]
+    frames = [int(line.split()[2]) for line in text.splitlines() if line.startswith("# frame ")]
+    holds = rows == [Row(1, "between", frames[2], "refused datagram 3 rule 26 AckAhead")] and frames == [2, 3, 5]
+    trial.check("the number in the client's text", holds, (rows, frames))
+    late = late_block()
+    rows = checked(program, file_of([*late[:3], late[0], late[3], late[5]]))[0]
+    verdicts = [(row.place, row.verdict) for row in rows]
+    wanted = [("between", "accepted get octet blocks 2 bytes 513"), ("between", "incomplete after 1")]
+    trial.check("a request again, late, begins another transfer", verdicts == wanted, rows)
 
 
 def try_words(trial: Trial, program: str) -> None:
@@ -362,6 +478,7 @@ def try_words(trial: Trial, program: str) -> None:
         ("a number and an end behind the file", ["-", "1", "client"], given, "Usage"),
         ("an end that a list has not", ["--end", "client", "-"], given, "Usage"),
         ("a text of no end", ["text", "1", "peer", "-"], given, "peer"),
+        ("a text between the ends", ["text", "1", "between", "-"], given, "between"),
         ("a text of no number", ["text", "0", "client", "-"], given, "N"),
         ("a port 0", ["--service", "0", "-"], given, "--service"),
         ("an end that is none", ["check", "--end", "peer", "-"], given, "peer"),
@@ -441,7 +558,7 @@ def main(program: str, *refuse: str) -> int:
         try_growths(trial, program, one)
     for part in (
         try_examples, try_links, try_fragments, try_losses, try_layers, try_sessions, try_live, try_splitting,
-        try_doubts, try_words, try_streams,
+        try_doubts, try_between, try_words, try_streams,
     ):
         part(trial, program)
     return trial.end()

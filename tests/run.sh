@@ -1,10 +1,11 @@
 #!/bin/sh
 # Tries the two built programs, tests/run.sh PROGRAM, of which the one that reads recordings stands in its crate: the
-# launchers and packages with a stand-in for rt; that each wrong body can still be made; each growth refused, each read and each write
-# failing, in turn, and each growth in the tests of the libraries' calls; larger captures; simulated transfers and changes
-# of them, for some seconds; the recorded transfers of examples/; the datagrams that are read of recordings, and which
-# transfer they are of; the rows, lists and texts of recordings; the scripts that explain, draw and report, on changed
-# captures too; the plugin of Wireshark; the schemas of JSON; and what stands in the pages for readers.
+# launchers and packages with a stand-in for rt; that each wrong body can still be made; each growth refused, each read and
+# each write failing, in turn, and each growth in the tests of the libraries' calls; larger captures; simulated transfers
+# and changes of them, for some seconds; the recorded transfers of examples/; the datagrams that are read of recordings,
+# and which transfer they are of; what is said between the ends; the rows, lists and texts of recordings; the scripts that
+# explain, draw and report, on changed captures too; the plugin of Wireshark; the schemas of JSON; and what stands in the
+# pages for readers.
 set -eu
 here=$(dirname "$0")
 transfers=$here/../crates/tftp_transfers_main/out/tftp_transfers_main
@@ -34,6 +35,8 @@ echo "datagrams of recordings:"
 python3 "$here/datagrams.py" "$here/../crates/tftp_datagrams/out/tftp_datagrams"
 echo "transfers of drawn recordings:"
 python3 "$here/attribution.py" --cases 8 --places "$here/../crates/tftp_places/out/tftp_places" --transfers "$transfers" "$1"
+echo "between the ends:"
+python3 "$here/between.py" --cases 200 "$transfers"
 echo "transfers, texts and verdicts of recordings:"
 python3 "$here/rows.py" "$transfers" "$shim/refuse.so"
 echo "tftp-explain:"

@@ -153,6 +153,15 @@ def try_values(trial: Trial, explained: list[Any]) -> None:
         trial.check(f"explain, {place} is {wrong!r}", bool(validator.faults(bad)))
 
 
+def try_places(trial: Trial, rows: list[Any]) -> None:
+    """The places that there are, and how an ERROR is told between the ends."""
+    schema = json.loads((TOP / "docs" / "schemas" / "check.schema.json").read_text())
+    validator, aborted = Validator(schema), "aborted by client code 3"
+    for place, is_one in (("client", True), ("server", True), ("both", True), ("between", True), ("unknown", False)):
+        faults = validator.faults({**rows[0], "place": place, "verdict": aborted})
+        trial.check(f"check, the place {place}", is_one == (not faults), faults)
+
+
 def try_fields(trial: Trial) -> None:
     """docs/RECORDING.md has a row for each field of each schema."""
     rows = re.findall(r"(?m)^\| ((?:`\w+`(?:, )?)+) \|", PAGE.read_text())
@@ -187,6 +196,7 @@ def main(program: str, transfers: str) -> int:
     for name, values in found.items():
         try_schema(trial, name, values)
     try_values(trial, found["explain"])
+    try_places(trial, found["check"])
     try_fields(trial)
     try_recipes(trial, program, transfers)
     return trial.end()

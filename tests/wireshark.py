@@ -77,13 +77,18 @@ def try_session(trial: Trial, tshark: Tshark) -> None:
 def try_made(trial: Trial, tshark: Tshark, folder: pathlib.Path) -> None:
     """A doubt is no error; two reads from one port at once are told apart; a file's name is no word of the shell."""
     path = folder / "it's a $(recording).pcap"
-    path.write_bytes(made.file_of(made.late_block()[:5]))
-    wanted = [("5", "1", "unknown", "refused datagram 5 rule 24 GoneBack", "24")]
+    path.write_bytes(made.file_of(made.asked_again()))
+    wanted = [("4", "2", "between", "refused datagram 2 rule 22 WindowOverrun", "22")]
     found = tshark.rows(path, "-Y", "tftp_audit.rule && tftp_audit.doubt")
     trial.check("a doubt, and a file with a quote", found == wanted, found)
     shown = tshark.run(path, "-V", "-Y", "tftp_audit.rule")
-    is_warning = "[Expert Info (Warning/Protocol): doubtful: rule 24 GoneBack" in shown
+    is_warning = "[Expert Info (Warning/Protocol): doubtful: rule 22 WindowOverrun" in shown
     trial.check("a doubt is a warning", is_warning, shown[-900:])
+    path.write_bytes(made.file_of(made.at_one_host(made.late_block())))
+    accepted, refused = "accepted get octet blocks 2 bytes 513", "refused datagram 5 rule 24 GoneBack"
+    for place, verdict in (("between", accepted), ("server", refused)):
+        rows = tshark.rows(path, "-o", f"tftp_audit.place:{place}", "-Y", "frame.number == 5")
+        trial.check(f"the place {place}", [row[2:4] for row in rows] == [(place, verdict)], rows)
     one, other = made.read("a", 40_000, 41_000), made.read("b", 40_000, 42_000)
     mixed = [one[0], one[1], other[0], other[1], one[2], other[2]]
     path.write_bytes(made.file_of(mixed))

@@ -65,12 +65,12 @@ local RULES = {
     [27] = { name = "AckZero", says = "ACK 0 answers an OACK, or the request of a write",
         whose = "RFC 1350, section 4, and RFC 2347, Negotiation Protocol" },
 }
-local PLACES = { { 1, "unknown", 0 }, { 2, "client", 1 }, { 3, "server", 2 } }
+local PLACES = { { 1, "not named", 0 }, { 2, "client", 1 }, { 3, "server", 2 }, { 4, "between", 3 } }
 local IS_WINDOWS = package.config:sub(1, 1) == "\\"
 
 audit.prefs.program = Pref.string("Program", "tftp-transfers", "The program tftp-transfers, where it is not on the path")
 audit.prefs.service = Pref.string("Service ports", "", "Ports to which requests go, beside 69, with spaces between")
-audit.prefs.place = Pref.enum("Recorded at", 0, "At which end recordings were made", PLACES, false)
+audit.prefs.place = Pref.enum("Recorded at", 0, "At which end recordings were made, or between the ends", PLACES, false)
 audit.prefs.file = Pref.string("File", "", "The recording's file, where it is not found by itself")
 
 local fields = {
@@ -221,7 +221,7 @@ end
 -- The program is run, and what it says is kept by the transfer's number, and the transfers by the client's address.
 local function asked(path)
     local it = { rows = {}, clients = {}, path = path }
-    local place = ({ [1] = " --end client", [2] = " --end server" })[audit.prefs.place] or ""
+    local place = ({ [1] = " --end client", [2] = " --end server", [3] = " --end between" })[audit.prefs.place] or ""
     local lines, code = lines_of(call("check --json" .. place, path))
     for _, line in ipairs(lines) do
         local row = row_of(line)

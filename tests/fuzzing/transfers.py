@@ -140,16 +140,28 @@ class Transfer:
                 self.passed[name].append((True, packet))
                 self.under_way.append((other, packet))
 
+    def is_due(self) -> bool:
+        """Whether something is under way."""
+        return bool(self.under_way)
+
     def deliver(self) -> None:
         """A packet that is under way comes, or is lost, and perhaps will come again."""
-        chance, network = self.chance, self.network
-        at = chance.randrange(len(self.under_way)) if chance.random() < network.reorders else 0
-        name, packet = self.under_way[at]
+        carried = self.carried(self.under_way, self.network)
+        if carried:
+            self.come(*carried)
+
+    def carried(self, under_way: list[tuple[EndName, Packet]], network: Network) -> tuple[EndName, Packet] | None:
+        """A packet that a network has carried, if it is not lost; it may stay under way, to come again."""
+        chance = self.chance
+        at = chance.randrange(len(under_way)) if chance.random() < network.reorders else 0
+        found = under_way[at]
         if chance.random() >= network.repeats:
-            del self.under_way[at]
-        if chance.random() < network.loses:
-            return
-        end, habit = self.ends[name], self.habits[name]
+            del under_way[at]
+        return None if chance.random() < network.loses else found
+
+    def come(self, name: EndName, packet: Packet) -> None:
+        """A packet comes to an end, which perhaps answers."""
+        chance, end, habit = self.chance, self.ends[name], self.habits[name]
         is_new = not (packet.kind == "data" and packet.number in end.held)
         is_new = is_new and not (packet.kind == "ack" and packet.number in end.acknowledged and "ack 0" in end.taken)
         is_new = is_new and (packet.kind in ("ack", "data") or packet.kind not in end.taken)
@@ -171,7 +183,7 @@ class Transfer:
                 self.propose(name, [told])
             if chance.random() < self.habits[name].wild:
                 self.propose(name, anything(end, chance))
-        if self.under_way and chance.random() < 0.97:
+        if self.is_due() and chance.random() < 0.97:
             self.deliver()
             return
         name = chance.choice(ENDS)

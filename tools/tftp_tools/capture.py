@@ -56,6 +56,8 @@ class Capture:
     version: int = 1
     end: str = "client"
     service: int = 69
+    # whether it is judged between the ends, as what passed there, though the text is the client's
+    is_between: bool = False
     # where the named end is, if the comment before the header says so
     here: Optional[str] = None
     datagrams: list[Datagram] = field(default_factory=list)
@@ -65,6 +67,20 @@ class Capture:
 
     def sender(self, datagram: Datagram) -> str:
         return self.end if datagram.goes_out() else self.other_end()
+
+    def place(self) -> str:
+        """Where it is judged."""
+        return "between the ends" if self.is_between else f"at the {self.end}"
+
+    def name(self, end: str) -> str:
+        """What an end is called above its line."""
+        return f"{end} (recorded here)" if end == self.end and not self.is_between else end
+
+    def way(self, datagram: Datagram) -> str:
+        """Which way a datagram went."""
+        if not self.is_between:
+            return datagram.way
+        return "from the client" if datagram.goes_out() else "to the client"
 
 
 def read_head(capture: Capture, line: bytes, at: int) -> bool:
@@ -103,9 +119,9 @@ def told_endpoint(endpoint: str) -> str:
     return f"{host.strip('[]')} port {port}"
 
 
-def read_capture(text: bytes) -> Capture:
+def read_capture(text: bytes, is_between: bool = False) -> Capture:
     """The datagrams of a text up to its total line, or up to what cannot be read."""
-    capture, heads, frame, ends = Capture(), 0, None, None
+    capture, heads, frame, ends = Capture(is_between=is_between), 0, None, None
     for number, line in enumerate(text.split(b"\n"), 1):
         if number > 1 and (not line or line.startswith(b"#")):
             ends = ENDPOINTS.fullmatch(line) or ends

@@ -5,9 +5,9 @@ from collections.abc import Callable
 from typing import Optional
 
 from .capture import Datagram
-from .history import History, Passed, block_of, content_of
+from .history import History, Passed, before_error, block_of, content_of
 from .malformed import explain_malformed
-from .packets import Ack, Data, Oack, Options, Request, count, number_of, read_packet, words_of
+from .packets import Ack, Data, Error, Oack, Options, Request, count, number_of, read_packet, words_of
 
 FOUR = ("blksize", "timeout", "tsize", "windowsize")
 MOST_BLOCKS = 65_535
@@ -65,13 +65,28 @@ def wrong_port(history: History, it: Datagram, fault: str) -> Lines:
     if not it.goes_out():
         lines = [f"It comes to the service port {service}, where requests of the client alone may come."]
         return [*lines, *answered_from(history)]
-    lines = [f"It goes to {side(it.host, it.remote)}, from where nothing had come."]
+    had = "passed" if history.is_between() else "come"
+    lines = [f"It goes to {side(it.host, it.remote)}, from where nothing had {had}."]
     if history.at_client() and it.remote == service:
         lines.append(f"Port {service} is the service port: requests go there, and nothing else.")
-    if history.peer:
-        fixed = first_in(history)
-        lines.append(f"The other end is at {side(*history.peer)}{f', fixed by {at(fixed)}' if fixed else ''}.")
-    return lines
+    return [*lines, *other_end(history)]
+
+
+def other_end(history: History) -> Lines:
+    """Where the other end is, and by what that is known."""
+    if not history.peer:
+        return []
+    if history.is_between():
+        return [f"The server is at {side(*history.peer)}{gone_on_with(history)}."]
+    fixed = first_in(history)
+    return [f"The other end is at {side(*history.peer)}{f', fixed by {at(fixed)}' if fixed else ''}."]
+
+
+def gone_on_with(history: History) -> str:
+    """Between the ends, whether the client had gone on with the server."""
+    ours = (passed for passed in history.passed if passed.place == "main" and passed.datagram.goes_out())
+    first = next((passed for passed in ours if not isinstance(passed.packet, (Request, Error))), None)
+    return f", with which the client went on in {at(first)}" if first else ""
 
 
 def answered_from(history: History) -> Lines:
@@ -93,10 +108,7 @@ def stray_answer(history: History, it: Datagram, fault: str) -> Lines:
     lines = [f"It goes to {side(*it.peer())}, which is not the other end: only ERROR 5 may go there."]
     if stray:
         lines.append(f"From there came {at(stray)}: {stray.packet.told()}.")
-    if history.peer:
-        fixed = first_in(history)
-        lines.append(f"The other end is at {side(*history.peer)}{f', fixed by {at(fixed)}' if fixed else ''}.")
-    return lines
+    return [*lines, *other_end(history)]
 
 
 def no_request(history: History, it: Datagram, fault: str) -> Lines:
@@ -118,6 +130,9 @@ def after_error(history: History, it: Datagram, fault: str) -> Lines:
     error = history.error(it.way)
     if error is None:
         return []
+    if history.is_between():
+        passed = f"An ERROR of the {history.capture.sender(it)} had passed in {at(error)}: {error.packet.told()}."
+        return [passed, "That one may pass again, and no other of the same end."]
     sent = f"Its sender had sent {at(error)}: {error.packet.told()}."
     return [sent, "After that it may send the same ERROR again alone."]
 
@@ -146,7 +161,8 @@ def request_after_start(history: History, it: Datagram, fault: str) -> Lines:
 
 def elsewhere(end: str) -> str:
     """What a rule about what an end sends takes for given."""
-    return f"That holds if the recording was made at the {end}: elsewhere its datagrams may be missing or come by late."
+    told = f"That holds if the recording was made at the {end}: elsewhere its datagrams may be missing or come by late."
+    return f"{told} Between the ends this rule is never broken."
 
 
 def reply_changed(history: History, it: Datagram, fault: str) -> Lines:
@@ -215,11 +231,24 @@ def oack_after_start(history: History, it: Datagram, fault: str) -> Lines:
 
 
 def not_started(history: History, it: Datagram, fault: str) -> Lines:
+    if history.is_between():
+        return not_started_between(history, it)
     if history.kind() == "get":
         oack = f" ({inside(history.oack)})" if history.oack else ""
         told = f"The server's OACK{oack} is answered by ACK 0 before the first block"
         return [f"{told}, and no ACK 0 stands before this."]
     return ["The server answers the request of a write by ACK 0 or an OACK, and neither stands before this block."]
+
+
+def not_started_between(history: History, it: Datagram) -> Lines:
+    if history.kind() == "get":
+        oack = f" ({inside(history.oack)})" if history.oack else ""
+        wanted, missing = f"The server's OACK{oack} is answered by ACK 0 before the first block", "no ACK 0"
+    else:
+        wanted, missing = "The server answers the request of a write by ACK 0 or an OACK", "neither"
+    error = history.error(it.way)
+    before = f" before the {history.capture.sender(it)}'s ERROR in {at(error)}" if error else " before this block"
+    return [f"{wanted}, and {missing} had passed{before}."]
 
 
 def block_zero(history: History, it: Datagram, fault: str) -> Lines:
@@ -279,26 +308,33 @@ def last_from(history: History, last: int) -> str:
 
 
 def window_overrun(history: History, it: Datagram, fault: str) -> Lines:
-    way = "out" if history.is_receiver() else "in"
-    acked, window = history.highest("ACK", way), history.window()
+    used = before_error(history, it.way) if history.is_between() else history
+    acked, window = used.highest("ACK", history.receiver_way()), history.window()
     block = block_of(Passed(it, read_packet(it.payload), "main"))
     base = block_of(acked) if acked else 0
     start = f"{cap(at(acked))} acknowledged block {base}" if acked else "No block was acknowledged before it"
+    may = "pass" if history.is_between() else "come"
     agreed = f" ({inside(history.oack)})" if history.oack and history.number("windowsize") else ", as none was agreed"
     over = block - base - window
     far = "one too far" if over == 1 else f"{over} too far"
-    most = f"The window is {count(window, 'block')}{agreed}, so block {base + window} is the last that may come."
-    return [f"{start}.", most, f"Block {block} is {far}.", *after_the_error(history)]
+    most = f"The window is {count(window, 'block')}{agreed}, so block {base + window} is the last that may {may}."
+    return [f"{start}.", most, f"Block {block} is {far}.", *not_counted(history, it)]
 
 
 def cap(text: str) -> str:
     return text[:1].upper() + text[1:]
 
 
-def after_the_error(history: History) -> Lines:
-    """What went out after the other end's ERROR counts for nothing in the rules that read what went out."""
-    error = history.error("in")
-    return [f"The other end's ERROR came in {at(error)}: what went out after it is not counted."] if error else []
+def not_counted(history: History, it: Datagram) -> Lines:
+    """What went out after the other end's ERROR counts for nothing in the rules that read what went out; between the
+    ends, what passed after the ERROR of the end that sent this."""
+    if not history.is_between():
+        error = history.error("in")
+        return [f"The other end's ERROR came in {at(error)}: what went out after it is not counted."] if error else []
+    error, sender = history.error(it.way), history.capture.sender(it)
+    other = "server" if sender == "client" else "client"
+    told = f"the {sender} sends nothing after it, so what passed from the {other} after it is not counted"
+    return [f"The {sender}'s ERROR had passed in {at(error)}: {told}."] if error else []
 
 
 def block_skipped(history: History, it: Datagram, fault: str) -> Lines:
@@ -330,20 +366,28 @@ def block_changed(history: History, it: Datagram, fault: str) -> Lines:
     return [*lines, f"They differ from byte {place + 1} of the block on: {then} then, {there} now."]
 
 
+def front_told(history: History, block: int, came: str) -> Lines:
+    """Which blocks had passed where this one is acknowledged."""
+    missing, highest = history.front + 1, max(history.blocks, default=0)
+    later = f", though block {highest} had" if highest > history.front else ""
+    lines = [f"{cap(blocks_to(history.front))} had {came}, block {missing} had not{later}."]
+    lines = lines if history.front else [f"Block 1 had not {came}{later}."]
+    return [*lines, f"Block {block} is acknowledged."]
+
+
 def ack_ahead(history: History, it: Datagram, fault: str) -> Lines:
     block = block_of(Passed(it, read_packet(it.payload), "main"))
-    error = history.error("in")
+    if history.is_between():
+        used = before_error(history, it.way)
+        error = history.error("in" if it.goes_out() else "out")
+        lines = [*front_told(used, block, "passed"), *not_counted(history, it)]
+        return [*lines, *answers_error(error, block == used.front + 1)]
     if history.is_receiver():
-        missing, highest = history.front + 1, max(history.blocks, default=0)
-        later = f", though block {highest} had" if highest > history.front else ""
-        lines = [f"{cap(blocks_to(history.front))} had come in, block {missing} had not{later}."]
-        lines = lines if history.front else [f"Block 1 had not come in{later}."]
-        lines.append(f"Block {block} is acknowledged.")
-        return [*lines, *answers_error(error, block == missing)]
+        return [*front_told(history, block, "come in"), *answers_error(history.error("in"), block == history.front + 1)]
     top = history.highest("DATA", "out")
     sent = f"The highest block sent before it is {block_of(top)} in {at(top)}" if top else "No block was sent before it"
     is_next = block == (block_of(top) if top else 0) + 1
-    return [f"{sent}.", *after_the_error(history), *answers_error(history.error("out"), is_next)]
+    return [f"{sent}.", *not_counted(history, it), *answers_error(history.error("out"), is_next)]
 
 
 def answers_error(error: Optional[Passed], is_next: bool) -> Lines:
@@ -354,10 +398,13 @@ def answers_error(error: Optional[Passed], is_next: bool) -> Lines:
 
 
 def ack_zero(history: History, it: Datagram, fault: str) -> Lines:
+    late = not_counted(history, it) if history.is_between() else []
     if history.kind() == "get":
-        return ["The transfer is a read, and no OACK had passed, so there was nothing that ACK 0 could answer."]
-    oack = f" ({inside(history.oack)})" if history.oack else ""
-    return [f"The server answered by an OACK{oack}, so ACK 0 may come only once a block has, and none had."]
+        told = "The transfer is a read, and no OACK had passed, so there was nothing that ACK 0 could answer."
+        return [told, *late]
+    oack, may = f" ({inside(history.oack)})" if history.oack else "", "pass" if history.is_between() else "come"
+    told = f"The server answered by an OACK{oack}, so ACK 0 may {may} only once a block has, and none had."
+    return [told, *late]
 
 
 COMPARED: dict[int, Callable[[History, Datagram, str], Lines]] = {

@@ -179,10 +179,9 @@ class Drawing:
             self.y += LINE
             self.text(self.middle, self.y + 4, words, 11, "refused", "middle")
 
-    @staticmethod
-    def hover(rung: Rung) -> str:
+    def hover(self, rung: Rung) -> str:
         datagram = rung.passed.datagram
-        return f"{datagram.place()}, {datagram.way}: {rung.passed.packet.told()}"
+        return f"{datagram.place()}, {self.capture.way(datagram)}: {rung.passed.packet.told()}"
 
     def margin(self, rung: Rung) -> None:
         """Number, frame and time at the left."""
@@ -240,9 +239,10 @@ class Drawing:
         self.text(14, 70, count(len(self.capture.datagrams), "datagram"), 12, "muted")
         self.legend()
         for end in ("client", "server"):
-            x, is_here = self.columns.at(end), end == self.capture.end
-            self.text(x, TOP - 34, f"{end} (recorded here)" if is_here else end, 13, "ink", "middle")
-            self.text(x, TOP - 19, self.here() if is_here else self.there(), 10, "muted", "middle")
+            x, name = self.columns.at(end), self.capture.name(end)
+            self.text(x, TOP - 34, name, 13, "ink", "middle")
+            where = self.here() if end == self.capture.end else self.there()
+            self.text(x, TOP - 19, where, 10, "muted", "middle")
 
     def here(self) -> str:
         """Where the named end is."""

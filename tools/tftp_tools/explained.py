@@ -14,6 +14,7 @@ from .rules import RULES
 from .textfaults import explain_fault
 
 Told = list[tuple[str, str]]
+BETWEEN = "judged between the ends, by what passed there; the datagrams have the numbers that they have at the client."
 ABORTS = {
     0: "the message tells more; atftp gives up so on a repeated OACK, busybox tftpd answers a late datagram so",
     1: "a wrong file name or folder, or the right one in other letter case; boot loaders ask for many missing files",
@@ -27,7 +28,8 @@ ABORTS = {
 
 
 def where(capture: Capture, datagram: Datagram) -> str:
-    told = [f"line {datagram.line} of the text"]
+    text = "the client's text" if capture.is_between else "the text"
+    told = [f"line {datagram.line} of {text}"]
     if datagram.frame is not None:
         told.append(f"frame {datagram.frame} of the recording")
     if datagram.time is not None:
@@ -43,8 +45,9 @@ def where(capture: Capture, datagram: Datagram) -> str:
 def what(capture: Capture, datagram: Datagram) -> str:
     here = f"port {datagram.local} of the {capture.end}"
     there = side(datagram.host, datagram.remote)
-    way = f"out, from {here} to {there}" if datagram.goes_out() else f"in, from {there} to {here}"
-    return f"{way}: {read_packet(datagram.payload).told()}."
+    way = f"from {here} to {there}" if datagram.goes_out() else f"from {there} to {here}"
+    told = way if capture.is_between else f"{datagram.way}, {way}"
+    return f"{told}: {read_packet(datagram.payload).told()}."
 
 
 def explain_refused(capture: Capture, verdict: Verdict) -> Told:
@@ -67,7 +70,7 @@ def transfer(history: History) -> str:
     agreed = ", ".join(f"{name} {value}" for name, value in history.agreed())
     options = f"; agreed: {agreed}" if agreed else "; no options agreed"
     verb = "a read of" if request.kind == "get" else "a write of"
-    return f"{verb} {request.name} in mode {request.mode}, at the {history.capture.end}{options}."
+    return f"{verb} {request.name} in mode {request.mode}, {history.capture.place()}{options}."
 
 
 def unanswered(history: History) -> Told:
@@ -88,6 +91,8 @@ def progress(history: History) -> Told:
         return [("Missing", "the request, and all that follows it.")]
     if history.reply is None:
         return unanswered(history)
+    if history.is_between():
+        return passed_on(history)
     return received(history) if history.is_receiver() else sent(history)
 
 
@@ -127,6 +132,23 @@ def received(history: History) -> Told:
     return [*told, ("Missing", f"block {front + 1} and what follows: {end_of(history, last)}.")]
 
 
+def passed_on(history: History) -> Told:
+    """Between the ends, which blocks and ACKs passed."""
+    if lacks_ack_zero(history, "out"):
+        return missing_ack_zero(history)
+    last, front, highest = history.last_block(), history.front, max(history.blocks, default=0)
+    acked = history.highest("ACK", history.receiver_way())
+    told = f"{blocks_to(front) if front else 'no block 1'} passed"
+    ack = f"{block_of(acked)} in {at(acked)}" if acked else "none"
+    has = [("Has", f"{told}; the highest ACK that passed is {ack}.")]
+    if last is not None and front >= last:
+        return [*has, ("Missing", f"the ACK of the last block, {last}.")]
+    if highest > front:
+        later = f"block {highest} passed in {at(history.blocks[highest])}"
+        return [*has, ("Missing", f"block {front + 1}, though {later}.")]
+    return [*has, ("Missing", f"block {front + 1} and what follows: {end_of(history, last)}.")]
+
+
 def sent(history: History) -> Told:
     if lacks_ack_zero(history, "in"):
         return missing_ack_zero(history)
@@ -150,6 +172,10 @@ def stopped_by(history: History) -> str:
         return ("a recording that ended too early or a filter that left something out; else an end that gave up without"
                 " a word, or a client that took a block for the last one")
     port = history.capture.service
+    if history.is_between():
+        return (f"a server that is down, or does not listen at port {port} of that address; a firewall or translation"
+                " of addresses, which drops the request or the answer, since that comes from another port; a loss on"
+                " the way; or a recording that has the requests alone, as with a filter for port 69")
     if history.at_client():
         return (f"a server that is down, or does not listen at port {port} of that address; a firewall or translation"
                 " of addresses between the two, which drops the request or the answer, since that comes from another"
@@ -208,6 +234,11 @@ def explain_too_long(capture: Capture) -> Told:
 
 def explain(verdict: Verdict, text: bytes, capture: Capture) -> Told:
     """A verdict's explanation, as pairs of a heading and words."""
+    place = [("Place", BETWEEN)] if capture.is_between else []
+    return [*explain_line(verdict, text, capture), *place]
+
+
+def explain_line(verdict: Verdict, text: bytes, capture: Capture) -> Told:
     fault = verdict.fault()
     if verdict.refused():
         return explain_refused(capture, verdict)

@@ -43,6 +43,9 @@ class History:
     def at_client(self) -> bool:
         return self.capture.end == "client"
 
+    def is_between(self) -> bool:
+        return self.capture.is_between
+
     def kind(self) -> str:
         """Whether it reads or writes: get, put, or nothing before a request."""
         packet = self.request.packet if self.request else None
@@ -50,6 +53,10 @@ class History:
 
     def is_receiver(self) -> bool:
         return (self.kind() == "get") == self.at_client()
+
+    def receiver_way(self) -> str:
+        """Which way the ACKs go."""
+        return "out" if self.is_receiver() else "in"
 
     def options(self) -> Options:
         """What was asked for."""
@@ -133,6 +140,8 @@ class History:
             self.local = datagram.local
             self.asked = datagram.host if self.at_client() else None
             self.peer = None if self.at_client() else datagram.peer()
+        if self.is_between():
+            self.peer = server_of(self.capture)
 
     def take_main(self, passed: Passed) -> None:
         datagram, packet = passed.datagram, passed.packet
@@ -156,7 +165,7 @@ class History:
 
     def raise_to(self, what: str, passed: Passed, block: int) -> None:
         way = passed.datagram.way
-        if way == "out" and self.error("in"):
+        if way == "out" and self.error("in") and not self.is_between():
             way = "out after the ERROR"
         highest = self.high.get((what, way))
         if highest is None or block_of(highest) < block:
@@ -172,12 +181,27 @@ def content_of(passed: Passed) -> bytes:
     return passed.packet.content if isinstance(passed.packet, Data) else b""
 
 
+def server_of(capture: Capture) -> Optional[Peer]:
+    """Between the ends, the server: the one with which the client went on, or else the first from which something
+    came."""
+    went_on = (it for it in capture.datagrams if it.goes_out() and not is_request(it.payload))
+    came = (it for it in capture.datagrams if not it.goes_out())
+    found = next((it for it in went_on if it.payload[:2] != b"\0\5"), None) or next(came, None)
+    return found.peer() if found else None
+
+
 def history_before(capture: Capture, number: int) -> History:
     """What the datagrams before this one tell, or all of them for a number past the last."""
     history = History(capture)
     for datagram in capture.datagrams[: number - 1]:
         history.take(datagram)
     return history
+
+
+def before_error(history: History, way: str) -> History:
+    """What had passed before the first ERROR that went this way, or all that has passed."""
+    error = history.error(way)
+    return history_before(history.capture, error.datagram.number) if error else history
 
 
 def repeats(capture: Capture) -> Iterator[bool]:

@@ -21,7 +21,6 @@ from .remarks import NO_VERDICT, CameOver, Remarks, named
 
 ROWS = 60
 HEADINGS = ("No.", "Client", "Server", "File", "Size", "Options agreed", "Seconds", "Throughput", "Repeated", "Verdict")
-PLACES = {"both": "both ends are at one host", "unknown": "where it was recorded is not known"}
 STYLE = """
 :root{color-scheme:light dark}
 body{font:16px/1.5 'DejaVu Sans',Verdana,Arial,sans-serif;margin:1.5rem auto;max-width:75rem;padding:0 1rem}
@@ -65,6 +64,14 @@ class Entry:
         if self.judged.verdict.status == 0:
             return "sound"
         return "refused" if self.judged.verdict.refused() and not self.judged.doubts else "odd"
+
+    def place(self) -> str:
+        """Where it was recorded, and as who saw it it is judged."""
+        if self.judged.is_between():
+            return "judged between the ends"
+        is_both = self.judged.row is not None and self.judged.row.place == "both"
+        where = "both ends are at one host" if is_both else f"recorded at the {self.judged.place}"
+        return f"{where}, judged as the {self.judged.place} saw it"
 
     def size(self) -> str:
         return f"{self.file.size:,}" if self.file else f"({self.facts.bytes:,})"
@@ -186,9 +193,8 @@ def section(it: Entry, is_drawn: bool) -> str:
         told.append(("File", f"{it.file.told()}."))
     name = f"t{it.number()}"
     asked, listed = f"{it.listed.kind} {it.listed.file}", it.listed
-    where = PLACES.get(it.judged.row.place if it.judged.row else "", f"recorded at the {it.judged.end}")
     frames = f"frames {listed.first_frame:,} to {listed.last_frame:,}"
-    seen = f"{listed.client} and {listed.server}, {frames}; {where}, judged as the {it.judged.end} saw it"
+    seen = f"{listed.client} and {listed.server}, {frames}; {it.place()}"
     return (
         f'<section aria-labelledby="{name}">\n<h2 id="{name}">{it.number()}. {escape(asked)}</h2>'
         f'\n<p class="{it.state()}"><strong>{escape(it.says())}</strong></p>\n'

@@ -6,11 +6,14 @@ from collections.abc import Callable, Sequence
 from dataclasses import dataclass
 from typing import Any, Literal, Optional, TypeVar
 
+from .capture import Capture, read_capture
 from .errors import Refused, tell
 from .program import Verdict, ask, check
 
 EndName = Literal["client", "server"]
+PlaceName = Literal["client", "server", "between"]
 ENDS: tuple[EndName, ...] = ("client", "server")
+PLACES: tuple[PlaceName, ...] = ("client", "server", "between")
 # The first bytes of pcap, in both orders of bytes, in microseconds and nanoseconds, and of pcapng.
 MAGICS = tuple(bytes.fromhex(it) for it in ("a1b2c3d4", "d4c3b2a1", "a1b23c4d", "4d3cb2a1", "0a0d0d0a"))
 T = TypeVar("T")
@@ -61,13 +64,19 @@ class Listed:
 @dataclass(frozen=True)
 class Judged:
     """A capture text, the verdict on it, and why a refusal is no accusation; of a recording the transfer's row and the
-    end too."""
+    place too. Between the ends the text is the client's."""
 
     text: bytes
     verdict: Verdict
     doubts: tuple[str, ...] = ()
     row: Optional[Row] = None
-    end: Optional[EndName] = None
+    place: Optional[PlaceName] = None
+
+    def is_between(self) -> bool:
+        return self.place == "between"
+
+    def capture(self) -> Capture:
+        return read_capture(self.text, self.is_between())
 
 
 def is_recording(begins: bytes) -> bool:
@@ -112,9 +121,9 @@ class Recording:
     def ask(self, *words: str) -> tuple[bytes, list[str], int]:
         return ask(self.transfers, [*words, *named(self.services), "--", self.path], self.given)
 
-    def rows(self, script: str, end: Optional[str], notes: Optional[list[str]] = None) -> list[Row]:
-        """The verdicts, at an end if one is named; what is told beside them is told, and added to the notes."""
-        written, beside, status = self.ask("check", "--json", *(["--end", end] if end else []))
+    def rows(self, script: str, place: Optional[str], notes: Optional[list[str]] = None) -> list[Row]:
+        """The verdicts, at a place if one is named; what is told beside them is told, and added to the notes."""
+        written, beside, status = self.ask("check", "--json", *(["--end", place] if place else []))
         for line in beside[: None if written else -1]:
             tell(script, line)
             if notes is not None:
@@ -138,8 +147,10 @@ class Recording:
         return written
 
     def judged(self, row: Row) -> Judged:
-        """What the row says, at the end at which it says so: where the place is not known, the one whose verdict it
-        has."""
+        """What the row says, at the place of which it says so: of both ends the one whose verdict it has."""
+        if row.place == "between":
+            verdict = Verdict(row.verdict, int(not row.is_accepted()))
+            return Judged(self.text(row.number, "client"), verdict, row.doubts, row, "between")
         ends = [end for end in ENDS if end == row.place] or ENDS
         for end in ends:
             text = self.text(row.number, end)
@@ -148,6 +159,15 @@ class Recording:
                 return Judged(text, verdict, row.doubts, row, end)
         said = f"{self.audit!r} says at no end of transfer {row.number} what {self.transfers!r} says"
         raise Refused(f"{said}: {row.verdict}")
+
+    def accepted(self, judged: Judged) -> Optional[bytes]:
+        """The text of an accepted transfer that has its file: between the ends that of an end which is accepted too."""
+        if judged.row is None or not judged.is_between():
+            return judged.text
+        if check(self.audit, judged.text) == judged.verdict:
+            return judged.text
+        text = self.text(judged.row.number, "server")
+        return text if check(self.audit, text) == judged.verdict else None
 
 
 def best(rows: Sequence[Row]) -> Row:

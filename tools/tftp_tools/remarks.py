@@ -13,9 +13,11 @@ from .capture import Capture, Datagram, read_capture
 from .explained import Told, explain, explain_refused
 from .packets import count
 from .program import Verdict, check, file_of
+from .recording import Judged, Recording
 from .rules import RULES
 
 MOST = 20
+NOT_BETWEEN = "told at an end alone, since it is asked of the texts of ends: name client or server."
 NO_VERDICT = "no verdict: what follows is what the program says once the datagrams that it refused are left out."
 TOTAL = re.compile(rb"total ([0-9]+)")
 
@@ -98,3 +100,19 @@ def remarks_of(audit: str, text: bytes, verdict: Verdict) -> Remarks:
         verdict = check(audit, text)
     file = came_over(audit, text) if verdict.status == 0 else None
     return Remarks(tuple(refused), verdict, explain(verdict, text, capture), file)
+
+
+def file_on(recording: Recording, judged: Judged) -> Optional[CameOver]:
+    """The file of a transfer of a recording, if it is accepted and the text of an end has it."""
+    text = recording.accepted(judged) if judged.verdict.status == 0 else None
+    return came_over(recording.audit, text) if text is not None else None
+
+
+def remarks_on(audit: str, recording: Optional[Recording], judged: Judged) -> Optional[Remarks]:
+    """What is to be said further of a text, or of a transfer; nothing of one that is refused between the ends."""
+    if recording is None or not judged.is_between():
+        return remarks_of(audit, judged.text, judged.verdict)
+    if judged.verdict.refused():
+        return None
+    told = explain(judged.verdict, judged.text, judged.capture())
+    return Remarks((), judged.verdict, told, file_on(recording, judged))

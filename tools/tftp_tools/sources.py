@@ -9,7 +9,7 @@ from typing import Optional, Union
 from .errors import Refused, read_file, told
 from .packets import count
 from .program import AUDIT, OPTIONS, TRANSFERS, check, find_program
-from .recording import ENDS, Judged, Listed, Recording, Row, best, is_recording, one_each
+from .recording import PLACES, Judged, Listed, Recording, Row, best, is_recording, one_each
 
 TEXT_BEGINS = b"tftp-capture "
 
@@ -28,8 +28,8 @@ def add_words(parser: argparse.ArgumentParser, without: str) -> None:
     """The words by which a script is told what it is to take, and what it takes where no transfer is named."""
     add_file(parser, "a capture text or a recording; without it, or with -, standard input")
     parser.add_argument("number", nargs="?", help=f"a transfer's number in the recording; without it {without}")
-    parser.add_argument("end", nargs="?", choices=ENDS, help="the end at which it was recorded; without it the one that"
-                        " is refused")
+    parser.add_argument("end", nargs="?", choices=PLACES, help="the end at which it was recorded, or between the ends;"
+                        " without it that of its row, or of two rows the one that is refused")
 
 
 def opened(asked: argparse.Namespace) -> Union[bytes, Recording]:
@@ -95,6 +95,9 @@ class Several:
         if isinstance(self.found, Recording) and len(self.rows) > 1:
             self.names = {it.number: it for it in self.found.listed()}
 
+    def recording(self) -> Optional[Recording]:
+        return self.found if isinstance(self.found, Recording) else None
+
     def __iter__(self) -> Iterator[Judged]:
         if isinstance(self.found, bytes):
             yield of_text(self.found, self.asked)
@@ -109,7 +112,7 @@ class Several:
             return ""
         number = it.row.number
         named = f": {self.names[number].told()}" if number in self.names else ""
-        return f"transfer {number}{named}, at the {it.end}"
+        return f"transfer {number}{named}, {it.capture().place()}"
 
     def summed(self) -> str:
         """How many of several transfers are not accepted."""

@@ -53,7 +53,7 @@ class Spelling:
         return lines
 
     def head(self) -> list[str]:
-        names = [f"{end} (recorded here)" if end == self.capture.end else end for end in ("client", "server")]
+        names = [self.capture.name(end) for end in ("client", "server")]
         ends = f"{names[0]}{names[1]:>{BETWEEN + 2 - len(names[0])}}"
         return [self.verdict.line, transfer(self.history), "", f"{HEAD:{INDENT}}{ends}"]
 

@@ -4,7 +4,7 @@ from __future__ import annotations
 import json
 from typing import Any, Optional
 
-from .capture import Datagram, read_capture
+from .capture import Datagram
 from .explained import Told, explain
 from .packets import read_packet
 from .program import Verdict
@@ -49,10 +49,10 @@ def what_if_object(it: Remarks) -> Object:
 
 
 def explained_object(path: str, judged: Judged, remarks: Optional[Remarks]) -> Object:
-    capture, verdict, row = read_capture(judged.text), judged.verdict, judged.row
+    capture, verdict, row = judged.capture(), judged.verdict, judged.row
     found = verdict.refused()
     return {
-        "file": path, "number": row.number if row else None, "end": judged.end, "verdict": verdict.line,
+        "file": path, "number": row.number if row else None, "end": judged.place, "verdict": verdict.line,
         "status": verdict.status, "doubts": list(judged.doubts),
         "refused": refused_object(capture.datagrams[found[0] - 1], verdict) if found else None,
         "told": told_objects(explain(verdict, judged.text, capture)),

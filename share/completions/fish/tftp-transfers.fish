@@ -4,7 +4,7 @@ complete -c tftp-transfers -n __fish_use_subcommand -a text -d 'The capture text
 complete -c tftp-transfers -n __fish_use_subcommand -a check -d 'The verdict on each transfer'
 complete -c tftp-transfers -n __fish_use_subcommand -a help -d 'How it is called'
 complete -c tftp-transfers -n '__fish_seen_subcommand_from text' -a 'client server' -d 'The end'
-complete -c tftp-transfers -n '__fish_seen_subcommand_from check' -l end -x -a 'client server' -d 'The end of the recordings'
+complete -c tftp-transfers -n '__fish_seen_subcommand_from check' -l end -x -a 'client server between' -d 'The end of the recordings, or between'
 complete -c tftp-transfers -l service -x -d 'A port to which requests go, beside 69'
 complete -c tftp-transfers -n 'not __fish_seen_subcommand_from text' -l json -d 'An object of JSON a line'
 complete -c tftp-transfers -s h -l help -d 'How it is called'
