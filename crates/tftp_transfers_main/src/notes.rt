@@ -10,6 +10,7 @@ use tftp_fragments::Fragments;
 use tftp_frames::{FrameFault, UdpFault};
 use tftp_pcap::PcapFault;
 use tftp_recording::{Event, LeftOut};
+use tftp_transfers::Address;
 
 /// How many frames or ports are named.
 const NAMED: usize = 5;
@@ -181,6 +182,11 @@ impl Notes {
             self.asked.push(port)?;
         }
         self.of_none.add(passing.frame)
+    }
+
+    /// Whether datagrams of this host may be missing.
+    pub fn may_lack(&self, host: Address) -> bool {
+        self.fault.is_some() || self.losses.of(host).is_some()
     }
 
     /// Tells what there is to tell; whether the recording was read to its end and nothing is missing.

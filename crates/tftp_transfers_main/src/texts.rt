@@ -105,18 +105,21 @@ fn write_session(rt: HostRuntime, asked: &TextRequest<'_>, session: &mut Session
     let mut teller = Teller::new(What::Text, false, 0);
     read_file(rt, asked.file, session, &mut teller)?;
     session.notes.tell(rt, asked.file)?;
+    write_kept(rt, asked, session)
+}
+
+fn write_kept(rt: HostRuntime, asked: &TextRequest<'_>, session: &Session) -> Result<()> {
     let Some(text) = &session.kept.text else {
         let (wanted, count) = (asked.number, session.count());
         bail!("there is no transfer {wanted}: the recording has 1 to {count}");
     };
-    let client = text.transfer().client.address;
-    if session.notes.fault.is_some() || session.notes.losses.of(client).is_some() {
+    let Some(trail) = session.trail(text.transfer().number) else {
+        return Ok(());
+    };
+    if session.notes.may_lack(trail.transfer.client.address) {
         bail!("nothing is written, since the recording is not whole");
     }
-    match session.trail(text.transfer().number) {
-        Some(trail) => print_text(rt, asked, trail, text),
-        None => Ok(()),
-    }
+    print_text(rt, asked, trail, text)
 }
 
 fn print_text(
