@@ -33,7 +33,18 @@ const LATE: &str = "its client's endpoint had asked again";
 const BESIDE: &str =
     "it passed with another than the client, whose request may not have been recorded";
 
+const UNSEEN: &str = "its client may have asked again, by a request that did not pass here";
+
 const TWICE: &str = "each of its datagrams stands beside its equal: recorded twice";
+
+/// Adds that between the ends a request of the client may have been lost before it passed, whose answer was no stray.
+pub fn put_unseen(
+    alloc: Global,
+    reasons: &mut Vec<String>,
+    may_be_asked: bool,
+) -> Result<(), AllocError> {
+    put(alloc, reasons, may_be_asked, UNSEEN)
+}
 
 /// Adds a reason, if it holds.
 fn put(alloc: Global, reasons: &mut Vec<String>, holds: bool, why: &str) -> Result<(), AllocError> {

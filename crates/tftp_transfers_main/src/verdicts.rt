@@ -2,13 +2,13 @@
 
 use crate::blame::Blamed;
 use crate::losses::Span;
-use crate::reasons::Doubted;
+use crate::reasons::{Doubted, put_unseen};
 use crate::session::Ended;
 use crate::trail::Trail;
 use std::alloc::{AllocError, Global};
 use tftp_capture::Tallied;
 use tftp_commands::{say_accepted, say_verdict};
-use tftp_judge::{Meaning, Refusal, Verdict};
+use tftp_judge::{Meaning, Refusal, Rule, Verdict};
 use tftp_packet::End;
 use tftp_recording_judge::Verdicts;
 use tftp_tap_judge::TapRefusal;
@@ -21,6 +21,8 @@ pub struct Viewed {
     blamed: Option<Blamed>,
     /// Whether it stops early, or an ERROR ended it.
     lacks: bool,
+    /// Whether a request that did not pass there would explain it.
+    may_be_asked: bool,
     line: String,
 }
 
@@ -160,7 +162,10 @@ impl<'a> Told<'a> {
         doubted: &Doubted,
     ) -> Result<(), AllocError> {
         match (&self.view.said, &self.view.blamed) {
-            (Said::Refused(_, _), Some(blamed)) => doubted.put_reasons(alloc, reasons, blamed),
+            (Said::Refused(_, _), Some(blamed)) => {
+                put_unseen(alloc, reasons, self.view.may_be_asked)?;
+                doubted.put_reasons(alloc, reasons, blamed)
+            }
             (Said::NotWhole, _) if self.view.lacks => doubted.put_lacks(alloc, reasons),
             _ => Ok(()),
         }
@@ -181,6 +186,7 @@ impl Viewed {
             said: Said::of(found, frame_of(&blamed)),
             blamed,
             lacks: matches!(found, Err(Refusal::Incomplete(_) | Refusal::Aborted(_, _))),
+            may_be_asked: false,
             line: line?,
         })
     }
@@ -201,6 +207,7 @@ impl Viewed {
                 found,
                 Err(TapRefusal::Incomplete(_) | TapRefusal::Aborted(_, _))
             ),
+            may_be_asked: matches!(found, Err(TapRefusal::Unlawful(_, Rule::StrayAnswer))),
             line: line?,
         })
     }
