@@ -25,7 +25,7 @@ use Rattle.tftp_law.proofs.Divided.{any_first, any_later}
 use Rattle.tftp_tap.specs.Tap.{as_at, tapped_at, IsTapView}
 use Rattle.tftp_tap.specs.TapCapture.{PeerId, side_of, AreApart}
 use Rattle.tftp_tap.specs.TapDress.{Main, Stray, StrayAnswer, TapPlaced, TapDivision, IsMainFrom, HaveTapParts, IsSeenBetween, ShowsBetween}
-use Rattle.tftp_tap.specs.WorkedTap.{client_side, other_side, worked_sides, request_passes, hi_passes, stray_passes, answer_passes, ack_passes, read_between, block_passes_late, block_passes_early, ack_of_nothing}
+use Rattle.tftp_tap.specs.WorkedTap.{client_side, other_side, worked_sides, request_passes, hi_passes, stray_passes, answer_passes, ack_passes, read_between, block_passes_late, both_pass_late, block_passes_early, ack_of_nothing}
 use Rattle.tftp_tap.proofs.Beside.{view_is_tapped}
 use Rattle.tftp_tap.proofs.TapRunsBreak.{runs_break_none}
 use Rattle.tftp_tap.specs.TapRules.{BreaksNoTapRule}
@@ -67,6 +67,20 @@ pub late_server : IsView ten_bytes ten_bytes.file Server (as_at Server block_pas
 late_server view =
     let own = view_one_sided ten_bytes ten_bytes.file Server (as_at Server block_passes_late) view in
     let high : 2 ≤ 1 = own.0.in_step one_window 2 (contains_first (Sent (Data 2)) (Took (Ack 1) ∷ Sent (Data 1) ∷ Took (Ack 0) ∷ Sent Oack ∷ Took Req ∷ [])) in
+    absurd (omega (arith, high))
+
+pub both_tap : IsTapView ten_bytes ten_bytes.file both_pass_late
+both_tap = passes_again ten_bytes ten_bytes.file (record { from = Client; packet = Req }) block_passes_late (6, omega arith, refl) late_tap
+
+pub both_client : IsView ten_bytes ten_bytes.file Client (as_at Client both_pass_late) → ⊥
+both_client view =
+    let own = view_one_sided ten_bytes ten_bytes.file Client (as_at Client both_pass_late) view in
+    own.0.no_ack 1 (2, omega arith, refl)
+
+pub both_server : IsView ten_bytes ten_bytes.file Server (as_at Server both_pass_late) → ⊥
+both_server view =
+    let own = view_one_sided ten_bytes ten_bytes.file Server (as_at Server both_pass_late) view in
+    let high : 2 ≤ 1 = own.1.0.in_step one_window 2 (contains_first (Sent (Data 2)) (Took (Ack 1) ∷ Sent (Data 1) ∷ Took (Ack 0) ∷ Sent Oack ∷ Took Req ∷ [])) in
     absurd (omega (arith, high))
 
 window_is_plan : IsPlan window_repeated window_repeated.file (record { agreed = true; windowsize = 4; blocks = 2 })

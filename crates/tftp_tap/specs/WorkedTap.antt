@@ -58,6 +58,10 @@ block_passes_late =
     ∷ record { from = Client; packet = Req }
     ∷ []
 
+-- and after that the request passes again: so no client sends
+abbrev pub both_pass_late : List Pass
+both_pass_late = record { from = Client; packet = Req } ∷ block_passes_late
+
 -- a write in a window of four, in which DATA 2 passes before DATA 1: so no client sends
 abbrev pub block_passes_early : List Pass
 block_passes_early =

@@ -12,6 +12,7 @@ ghost use Rattle.tftp_tap.specs.WorkedTap.{
   worked_sides,
   read_between,
   block_passes_late,
+  both_pass_late,
   block_passes_early,
   ack_of_nothing,
 };
@@ -28,6 +29,14 @@ pub fn read_between_is_shown()
 pub fn late_block_is_lawful_at_a_tap()
     ensures tap { IsTapView ten_bytes ten_bytes.file block_passes_late }
     ensures server { IsView ten_bytes ten_bytes.file Server (as_at Server block_passes_late) → ⊥ }
+{}
+
+/// In that read the request passes again too, after the client has acknowledged a block. Both ends refuse that, the client for
+/// a request after the start and the server for going back, and neither of them has done it: a network kept both.
+pub fn exchange_that_both_ends_refuse_is_lawful_at_a_tap()
+    ensures tap { IsTapView ten_bytes ten_bytes.file both_pass_late }
+    ensures client { IsView ten_bytes ten_bytes.file Client (as_at Client both_pass_late) → ⊥ }
+    ensures server { IsView ten_bytes ten_bytes.file Server (as_at Server both_pass_late) → ⊥ }
 {}
 
 /// In a write in a window a block passes before the one before it. The client left none out, as it would have if this had
