@@ -78,6 +78,8 @@ impl<D: Delivered + Drop> PairJudge<D> {
         ensures goes_on { (side_at end self.old).judge.refused ≡ None → OnOk result ((side_at end self.new).judge.refused ≡ None) }
         ensures for_good { (refusal : RefusalKind) → (side_at end self.old).judge.refused ≡ Some refusal → (result ≡ Err refusal) × (self.new ≡ self.old) }
 
+        ensures counts { OnOk result ((side_at end self.new).judge.fed ≡ (side_at end self.old).judge.fed + 1) }
+
         // Of the other end no more than what waits goes on.
         ensures other { HasSame (side_at (other_end end) self.old) (side_at (other_end end) self.new) }
     {

@@ -1,4 +1,4 @@
-ghost use Rattle.std.specs.Prelude.{◌≡◌, ◌^◌, ◌<◌, ◌≤◌, ℕ, List, [], ◌∷◌, length, reverse, true, Option, None, Some, Err, OnOk, IfErr};
+ghost use Rattle.std.specs.Prelude.{◌≡◌, ◌+◌, ◌^◌, ◌<◌, ◌≤◌, ℕ, List, [], ◌∷◌, length, reverse, true, Option, None, Some, Err, OnOk, IfErr};
 ghost use Rattle.tftp_capture.specs.Fields.{datagram_of};
 ghost use Rattle.tftp_packet.specs.declared.kinds.End.TheVariants.{Client, Server};
 ghost use Rattle.tftp_ends.specs.CaptureText.{Datagram as DatagramParts, Header as HeaderParts};
@@ -56,6 +56,7 @@ impl<D: Delivered + Drop> Left<D> {
         ensures keeps { IfErr result (λ refusal. self.new.judge.refused ≡ Some refusal) }
         ensures goes_on { self.old.judge.refused ≡ None → OnOk result (self.new.judge.refused ≡ None) }
         ensures waited { self.new.waited ≡ self.old.waited }
+        ensures counts { OnOk result (self.new.judge.fed ≡ self.old.judge.fed + 1) }
     {
         self.judge.feed(alloc, datagram)
     }
@@ -126,6 +127,7 @@ impl<D: Delivered + Drop> PairRest<D> {
         ensures keeps { IfErr result (λ refusal. (left_at end self.new).judge.refused ≡ Some refusal) }
         ensures goes_on { (left_at end self.old).judge.refused ≡ None → OnOk result ((left_at end self.new).judge.refused ≡ None) }
         ensures waited { (left_at end self.new).waited ≡ (left_at end self.old).waited }
+        ensures counts { OnOk result ((left_at end self.new).judge.fed ≡ (left_at end self.old).judge.fed + 1) }
         ensures other { left_at (other_end end) self.new ≡ left_at (other_end end) self.old }
     {
         match end {
