@@ -1,5 +1,5 @@
 -- Two texts that are read side by side, of which one goes on.
-use Rattle.std.proofs.Common.{◌≡◌, ◌+◌, ◌-◌, ◌^◌, ◌<◌, ◌≤◌, ℕ, Bool, List, Option, Some, None, refl, sym, ap, ◌∙◌, subst, arith}
+use Rattle.std.proofs.Common.{◌≡◌, ◌^◌, ◌<◌, ◌≤◌, ℕ, Option, Some, None, refl, sym, ap, subst, arith}
 use Rattle.tftp_packet.specs.declared.kinds.End.TheVariants.{Client, Server}
 use Rattle.tftp_judge.specs.Kept.{Judge}
 use Rattle.tftp_pair_judge.specs.Kept.{HasSame, Pair}

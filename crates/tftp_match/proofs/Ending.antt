@@ -1,7 +1,6 @@
 -- What there is to say of two texts of which no more is read.
-use Rattle.std.proofs.Common.{◌≡◌, ◌⊎◌, inl, inr, ℕ, Bool, List, [], Option, Some, None, Result, Ok, Err, refl, sym, ap, ◌∙◌, subst}
+use Rattle.std.proofs.Common.{◌≡◌, inl, inr, ℕ, Bool, List, Option, Some, None, Result, Ok, Err, refl, sym, ap, ◌∙◌, subst}
 use Rattle.std.specs.Prelude.{length, reverse, IfOk, IfErr}
-use Rattle.tftp_packet.specs.declared.kinds.End.{End}
 use Rattle.tftp_packet.specs.declared.kinds.End.TheVariants.{Client, Server}
 use Rattle.tftp_capture.specs.History.{ReaderState}
 use Rattle.tftp_ends.specs.CaptureText.{Datagram, Header}
@@ -9,13 +8,11 @@ use Rattle.tftp_ends.specs.Meaning.{Meaning}
 use Rattle.tftp_judge.specs.Verdict.{IsVerdict}
 use Rattle.tftp_judge.specs.declared.refusal.Refusal.{Refusal}
 use Rattle.tftp_judge.specs.declared.refusal.Refusal.TheVariants.{Memory}
-use Rattle.tftp_judge.specs.declared.verdict.Verdict.{Verdict}
 use Rattle.tftp_pair.specs.Captures.{Capture}
 use Rattle.tftp_pair.specs.PairVerdict.{IsLawfulTo, IsPairVerdict}
 use Rattle.tftp_pair_judge.specs.Rest.{IsRestAfter, Rest}
 use Rattle.tftp_pair_judge.specs.Verdicts.{IsReadOf}
 use Rattle.tftp_match.specs.Datagrams.{capture_of}
-use Rattle.tftp_match.specs.Judged.{IsJudged}
 use Rattle.tftp_match.specs.Merging.{HasBegun}
 use Rattle.tftp_match.specs.Reading.{IsFinished, IsHalted, said_by}
 use Rattle.tftp_match.specs.Said.{AreNumbersOf, AreTogether, IsApart, IsPairSaid, IsWhy}
@@ -49,8 +46,7 @@ module _ (before after other_before other_after : Option (List ℕ)) (failed oth
   told : (n : Matched) → AreTold n → AreNumbersOf before other_before n
   told n (named, other_named, of, other_of, same) = subst (AreNumbersOf before other_before) (sym same) (λ text other_text is other_is h k ds es has other_has.
       let part = halted.counts client said of text is h ds has in
-      let other_part = other_halted.counts server other_said other_of other_text other_is k es other_has in
-      (
+      let other_part = other_halted.counts server other_said other_of other_text other_is k es other_has in (
         ap (λ (x : Header). x.named) part.0 ∙ named,
         ap (λ (x : Header). x.named) other_part.0 ∙ other_named,
         numbers (capture_of h ds) (capture_of k es) read other

@@ -1,5 +1,5 @@
 -- What is known of a text once a step of its reader is done.
-use Rattle.std.proofs.Common.{◌≡◌, ◌≢◌, ◌≤◌, ◌+◌, ◌⊎◌, inl, inr, ℕ, Bool, true, false, true≢false, List, [], ◌∷◌, ◌++◌, length, reverse, Option, Some, None, Result, Ok, Err, refl, sym, ap, ◌∙◌, subst, append_assoc, append-nil}
+use Rattle.std.proofs.Common.{◌≡◌, ◌≤◌, ◌⊎◌, inl, inr, ℕ, Bool, true, false, true≢false, List, [], ◌∷◌, ◌++◌, length, reverse, Option, Some, None, Result, Ok, Err, refl, sym, ap, ◌∙◌, subst}
 use Rattle.std.specs.Io.KnownBytes.{Consumes, IsAtEnd, prepend_known}
 use Rattle.std.proofs.KnownBytes.{Consumes-trans}
 use Rattle.std.proofs.lemmas.List.{map-append, reverse-append, reverse-reverse}
@@ -16,16 +16,15 @@ use Rattle.tftp_capture.proofs.Staying.{stays}
 use Rattle.tftp_ends.specs.CaptureText.{Datagram, Header}
 use Rattle.tftp_ends.specs.Meaning.{Meaning}
 use Rattle.tftp_law.specs.OneEnded.{OneEnded}
-use Rattle.tftp_law.specs.Rules.{FirstBroken}
 use Rattle.tftp_judge.specs.Finds.{Refuses}
 use Rattle.tftp_judge.specs.Kept.{IsJudgeAfter, Judge}
-use Rattle.tftp_judge.specs.TextVerdict.{EndsText, IsOfText, IsReadVerdict, IsTextVerdict, SaysReadFailed, unnumbered}
+use Rattle.tftp_judge.specs.TextVerdict.{IsOfText, IsReadVerdict, IsTextVerdict, SaysReadFailed, unnumbered}
 use Rattle.tftp_judge.specs.Verdict.{IsVerdict}
 use Rattle.tftp_judge.specs.declared.refusal.Refusal.{Refusal}
 use Rattle.tftp_judge.specs.declared.refusal.Refusal.TheVariants.{Unlawful, Aborted, Incomplete, NormalTooLong, Memory}
 use Rattle.tftp_judge.specs.declared.verdict.Verdict.{Verdict}
 use Rattle.tftp_judge.specs.declared.verdict.Verdict.TheVariants.{Capture, Refused as RefusedFor}
-use Rattle.tftp_judge.proofs.FirstFaults.{FaultStays, begins_longer, fault_kinds}
+use Rattle.tftp_judge.proofs.FirstFaults.{begins_longer, fault_kinds}
 use Rattle.tftp_judge.proofs.Follows.{Follows, found_fault, found_refused}
 use Rattle.tftp_judge.proofs.TextFound.{Closed, Found, closed, found_ended, found_exact, found_judged, found_tally, found_whole}
 use Rattle.tftp_capture.specs.CaptureText.{Stands}
@@ -34,7 +33,7 @@ use Rattle.tftp_pair.specs.PairVerdict.{IsLawfulTo}
 use Rattle.tftp_pair_judge.specs.Verdicts.{IsReadOf}
 use Rattle.tftp_match.specs.Datagrams.{HasDatagrams, capture_of}
 use Rattle.tftp_match.specs.Judged.{IsJudged}
-use Rattle.tftp_match.specs.Reading.{GoesOnAt, HasRead, IsFinished, IsGiven, IsHalted, said_by}
+use Rattle.tftp_match.specs.Reading.{HasRead, IsFinished, IsGiven, IsHalted, said_by}
 use Rattle.tftp_match.specs.declared.reading.Halt.TheVariants.{Ended, Refused, Fault}
 use Rattle.tftp_match.proofs.Fronts.{all_of, front_in, has_before_fault, has_captured, lawful_front, lawful_whole, rest_of}
 

@@ -1,7 +1,5 @@
 -- Two captures are said to be matched exactly if one run has both.
-use Rattle.std.proofs.Common.{◌≡◌, ◌⊎◌, ◌↔◌, inl, inr, ℕ, Bool, false, true, true≢false, List, Option, Some, Result, Ok, Err, refl, sym, ap, ◌∙◌, subst}
-use Rattle.std.proofs.lemmas.List.{reverse-reverse}
-use Rattle.std.specs.Prelude.{reverse}
+use Rattle.std.proofs.Common.{◌≡◌, ◌⊎◌, ◌↔◌, inl, inr, ℕ, Bool, false, true≢false, List, Option, Some, Result, Ok, Err, sym, ◌∙◌, subst}
 use Rattle.tftp_packet.specs.declared.kinds.End.TheVariants.{Client, Server}
 use Rattle.tftp_capture.specs.CaptureText.{IsCapture, Numbered}
 use Rattle.tftp_capture.specs.CaptureText.Reading.{Capture as Says}
@@ -21,11 +19,10 @@ use Rattle.tftp_judge.proofs.OneTextVerdict.{captured_or_faulty, longer_unlawful
 use Rattle.tftp_judge.proofs.OneVerdict.{not_lawful}
 use Rattle.tftp_judge.proofs.TextFound.{answers}
 use Rattle.tftp_pair.specs.Captures.{AreConsistent}
-use Rattle.tftp_pair.specs.PairVerdict.{IsPairVerdict}
 use Rattle.tftp_pair.proofs.PairVerdict.{kept_all, lawful_whole, pair_decides}
 use Rattle.tftp_match.specs.Datagrams.{HasDatagrams, capture_of}
 use Rattle.tftp_match.specs.Judged.{IsJudged}
-use Rattle.tftp_match.specs.Said.{IsAllLawful, IsPairSaid, IsStopped, IsTextFault, SaysMatched}
+use Rattle.tftp_match.specs.Said.{IsAllLawful, IsPairSaid, IsTextFault, SaysMatched}
 use Rattle.tftp_match.specs.declared.said.Apart.{Apart}
 use Rattle.tftp_match.specs.declared.said.Apart.TheVariants.{WrongEnd, Stopped}
 use Rattle.tftp_match.specs.declared.said.Matched.{Matched}
@@ -78,8 +75,7 @@ module _ (before after other_before other_after : Option (List ℕ)) (failed oth
       let (named, other_named, verdict) = pair.numbers text other is other_is h k ds es (has_all text h ds capture) (has_all other k es other_capture) in
       let mine = all_lawful text h ds c capture of (pair.at_client.whole text is clean) in
       let theirs = all_lawful other k es s other_capture other_of (pair.at_server.whole other other_is other_clean) in
-      let decides = pair_decides (capture_of h ds) (capture_of k es) m.client_lawful m.server_lawful m.client_matched m.server_matched named other_named verdict in
-      (
+      let decides = pair_decides (capture_of h ds) (capture_of k es) m.client_lawful m.server_lawful m.client_matched m.server_matched named other_named verdict in (
         λ matched. decides.1 (record {
           client_lawful = lawful_whole (capture_of h ds) m.client_lawful verdict.client_part ((lawful h (unnumbered ds)).0 (mine.0 matched.0));
           server_lawful = lawful_whole (capture_of k es) m.server_lawful verdict.server_part ((lawful k (unnumbered es)).0 (theirs.0 matched.1));
@@ -87,8 +83,7 @@ module _ (before after other_before other_after : Option (List ℕ)) (failed oth
           server_matched = matched.2.1;
         }),
         λ consistent.
-            let whole = decides.0 consistent in
-            (
+            let whole = decides.0 consistent in (
               mine.1 ((lawful h (unnumbered ds)).1 (kept_all (capture_of h ds) m.client_lawful whole.client_lawful verdict.client_part.keeps)),
               theirs.1 ((lawful k (unnumbered es)).1 (kept_all (capture_of k es) m.server_lawful whole.server_lawful verdict.server_part.keeps)),
               (whole.client_matched, whole.server_matched),

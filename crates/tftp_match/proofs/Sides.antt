@@ -1,5 +1,5 @@
 -- The judge of a pair, with one of its ends first.
-use Rattle.std.proofs.Common.{◌≡◌, ◌∷◌, List, true, false, true≢false, Option, Some, None, refl, sym, ◌∙◌}
+use Rattle.std.proofs.Common.{◌≡◌, ◌∷◌, List, false, true≢false, Option, Some, None, refl, sym, ◌∙◌}
 use Rattle.std.specs.Prelude.{is_some}
 use Rattle.tftp_packet.specs.declared.kinds.End.{End}
 use Rattle.tftp_packet.specs.declared.kinds.End.TheVariants.{Client, Server}

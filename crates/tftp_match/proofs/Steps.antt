@@ -1,5 +1,5 @@
 -- One step of a text that is read: what judges stood for all that was read, it stands for all that is read then.
-use Rattle.std.proofs.Common.{◌≡◌, ℕ, Bool, true, false, List, [], ◌∷◌, Option, Some, None, refl, sym, ap, ◌∙◌, subst}
+use Rattle.std.proofs.Common.{◌≡◌, ℕ, Bool, List, ◌∷◌, Option, Some, None, sym, subst}
 use Rattle.tftp_capture.specs.History.{ReaderState}
 use Rattle.tftp_ends.specs.CaptureText.{Datagram, Header}
 use Rattle.tftp_judge.specs.Finds.{Refuses}

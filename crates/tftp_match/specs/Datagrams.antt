@@ -1,5 +1,5 @@
 -- The datagrams of a capture text, also of one that has a fault behind them.
-use Rattle.std.specs.Prelude.{◌≡◌, ℕ, List}
+use Rattle.std.specs.Prelude.{ℕ, List}
 use Rattle.tftp_capture.specs.CaptureText.{Begins, BeginsWith, Numbered}
 use Rattle.tftp_ends.specs.CaptureText.{Header}
 use Rattle.tftp_judge.specs.TextVerdict.{unnumbered}

@@ -1,4 +1,4 @@
-use Rattle.std.proofs.Common.{◌≡◌, ◌⊎◌, ℕ, Bool, false, List, Option, None, Some, Ok, Err, inl, inr, refl, sym, ◌∙◌, subst}
+use Rattle.std.proofs.Common.{◌≡◌, ◌⊎◌, Bool, false, None, inl, inr, refl, sym, ◌∙◌, subst}
 use Rattle.tftp_capture.specs.Fields.{datagram_of}
 use Rattle.tftp_capture.specs.History.{IsReadFault}
 use Rattle.tftp_judge.specs.Kept.{IsJudgeAfter}

@@ -1,4 +1,4 @@
-use Rattle.std.proofs.Common.{◌≡◌, ◌∷◌, arith, refl, sym, ◌∙◌}
+use Rattle.std.proofs.Common.{arith, refl, ◌∙◌}
 use Rattle.tftp_capture.specs.Fields.{datagram_of}
 use Rattle.tftp_match.specs.Merging.{IsAloneAt, itself}
 use Rattle.tftp_match.proofs.Sides.{alone_stays}

@@ -1,9 +1,8 @@
-use Rattle.std.proofs.Common.{◌≡◌, ◌≤◌, List, arith, refl, sym, ◌∙◌, subst}
+use Rattle.std.proofs.Common.{arith, refl, sym, ◌∙◌}
 use Rattle.tftp_capture.specs.Fields.{datagram_of}
 use Rattle.tftp_judge.specs.Finds.{Refuses}
-use Rattle.tftp_ends.specs.CaptureText.{Datagram, Header}
 use Rattle.tftp_law.specs.OneEnded.{Passes}
-use Rattle.tftp_pair_judge.specs.Kept.{HasSame, side_at}
+use Rattle.tftp_pair_judge.specs.Kept.{side_at}
 use Rattle.tftp_ends.specs.Roles.{other_end}
 use Rattle.tftp_match.specs.Merging.{IsPairAt, judge_at}
 use Rattle.tftp_match.proofs.Sides.{none_held, own_of_pair, pair_grows, pair_says, pair_stays, same_twice}
