@@ -3,7 +3,7 @@
 # launchers and packages with a stand-in for rt; that each wrong body can still be made; each growth refused, each read and
 # each write failing, in turn, and each growth in the tests of the libraries' calls; larger captures; simulated transfers
 # and changes of them, for some seconds; the recorded transfers of examples/; the datagrams that are read of recordings,
-# and which transfer they are of; what is said between the ends; the rows, lists and texts of recordings; the scripts that
+# and which transfer they are of; what is said between the ends; the rows, lists and texts of recordings; both ends together; the scripts that
 # explain, draw and report, on changed captures too; the plugin of Wireshark; the schemas of JSON; and what stands in the
 # pages for readers.
 set -eu
@@ -39,6 +39,8 @@ echo "between the ends:"
 python3 "$here/between.py" --cases 200 "$transfers"
 echo "transfers, texts and verdicts of recordings:"
 python3 "$here/rows.py" "$transfers" "$shim/refuse.so"
+echo "both ends together:"
+python3 "$here/match.py" "$here/../crates/tftp_match_main/out/tftp_match_main"
 echo "tftp-explain:"
 python3 "$here/explaining.py" "$1" "$transfers"
 echo "tftp-ladder:"

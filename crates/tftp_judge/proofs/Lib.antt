@@ -1,10 +1,10 @@
 pub mod Flags
 pub mod FirstAnswers
-mod FirstFaults
-mod Follows
+pub mod FirstFaults
+pub mod Follows
 pub mod PassFound
 pub mod Accepting
-mod TextFound
+pub mod TextFound
 pub mod WantOfMemory
 pub mod ReadVerdicts
 pub mod Ended
@@ -14,7 +14,7 @@ pub mod ErrorsNoted
 pub mod WhoAcknowledges
 pub mod EndedTransfer
 pub mod OneVerdict
-mod OneTextVerdict
+pub mod OneTextVerdict
 mod FirstLines
 mod SameVerdicts
 pub mod EndedJudge

@@ -65,7 +65,7 @@ pub record Found (before after : Option (List ℕ)) (failed : Bool) (r : Result 
   pub tallied : failed ≡ true → SaysReadFailed r
 
 -- an answer is of the text, or that a read failed, or want of memory
-answers : (r : Result Meaning Verdict) → IsOfText r ⊎ (SaysReadFailed r ⊎ WantsMemory r)
+pub answers : (r : Result Meaning Verdict) → IsOfText r ⊎ (SaysReadFailed r ⊎ WantsMemory r)
 answers (Ok m) = inl tt
 answers (Err (Refused (refusal.Unlawful index rule))) = inl tt
 answers (Err (Refused (refusal.Aborted by code))) = inl tt

@@ -56,10 +56,10 @@ all_of c = ap (λ ds. record { header = c.header; datagrams = ds }) (take-length
 all_kept : (c : Capture) → OneEnded c.header (reverse c.datagrams) → Keeps c (length c.datagrams)
 all_kept c lawful = subst (λ ds. OneEnded c.header (reverse ds)) (sym (take-length c.datagrams)) lawful
 
-kept_all : (c : Capture) (n : ℕ) → n ≡ length c.datagrams → Keeps c n → OneEnded c.header (reverse c.datagrams)
+pub kept_all : (c : Capture) (n : ℕ) → n ≡ length c.datagrams → Keeps c n → OneEnded c.header (reverse c.datagrams)
 kept_all c n is keeps = subst (λ ds. OneEnded c.header (reverse ds)) (take-length c.datagrams) (subst (Keeps c) is keeps)
 
-lawful_whole : (c : Capture) (n : ℕ) → IsLawfulTo c n → OneEnded c.header (reverse c.datagrams) → n ≡ length c.datagrams
+pub lawful_whole : (c : Capture) (n : ℕ) → IsLawfulTo c n → OneEnded c.header (reverse c.datagrams) → n ≡ length c.datagrams
 lawful_whole c n part lawful = lawful_one c n (length c.datagrams) part (record { within = omega arith; keeps = all_kept c lawful; ends = inl refl })
 
 matched_whole : (client server : Capture) (n k i j : ℕ) → n ≡ length client.datagrams → k ≡ length server.datagrams → AreMatchedTo (begun n client) (begun k server) i j → AreMatchedTo client server i j

@@ -2,10 +2,11 @@ ghost use Rattle.std.specs.Prelude.{◌≡◌, ◌+◌, ◌^◌, ◌<◌, ◌≤
 ghost use Rattle.tftp_capture.specs.Fields.{datagram_of, header_of};
 ghost use Rattle.tftp_packet.specs.declared.kinds.End.TheVariants.{Client, Server};
 ghost use Rattle.tftp_ends.specs.CaptureText.{Datagram as DatagramParts, Header as HeaderParts};
+ghost use Rattle.tftp_ends.specs.Roles.{other_end};
 ghost use Rattle.tftp_law.specs.OneEnded.{Passes};
 ghost use Rattle.tftp_judge.specs.Finds.{Refuses};
 ghost use Rattle.tftp_judge.specs.declared.refusal.Refusal.{Refusal as RefusalKind};
-ghost use Rattle.tftp_pair_judge.specs.Kept.{IsPairAfter, side_at};
+ghost use Rattle.tftp_pair_judge.specs.Kept.{HasSame, IsPairAfter, side_at};
 ghost use Rattle.tftp_pair_judge.specs.Rest.{IsRestAfter};
 
 use crate::rest::PairRest;
@@ -76,6 +77,11 @@ impl<D: Delivered + Drop> PairJudge<D> {
         ensures keeps { IfErr result (λ refusal. (side_at end self.new).judge.refused ≡ Some refusal) }
         ensures goes_on { (side_at end self.old).judge.refused ≡ None → OnOk result ((side_at end self.new).judge.refused ≡ None) }
         ensures for_good { (refusal : RefusalKind) → (side_at end self.old).judge.refused ≡ Some refusal → (result ≡ Err refusal) × (self.new ≡ self.old) }
+
+        ensures counts { OnOk result ((side_at end self.new).judge.fed ≡ (side_at end self.old).judge.fed + 1) }
+
+        // Of the other end no more than what waits goes on.
+        ensures other { HasSame (side_at (other_end end) self.old) (side_at (other_end end) self.new) }
     {
         match end {
             End::Client => self.client.take(alloc, &mut self.server, datagram),

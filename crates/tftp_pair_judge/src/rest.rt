@@ -1,8 +1,11 @@
-ghost use Rattle.std.specs.Prelude.{◌≡◌, ◌^◌, ◌<◌, ◌≤◌, List, [], ◌∷◌, length, reverse, true, Option, None, Some, Err, OnOk, IfErr};
+ghost use Rattle.std.specs.Prelude.{◌≡◌, ◌+◌, ◌^◌, ◌<◌, ◌≤◌, ℕ, List, [], ◌∷◌, length, reverse, true, Option, None, Some, Err, OnOk, IfErr};
 ghost use Rattle.tftp_capture.specs.Fields.{datagram_of};
 ghost use Rattle.tftp_packet.specs.declared.kinds.End.TheVariants.{Client, Server};
 ghost use Rattle.tftp_ends.specs.CaptureText.{Datagram as DatagramParts, Header as HeaderParts};
+ghost use Rattle.tftp_ends.specs.Ports.{transfer_of};
+ghost use Rattle.tftp_ends.specs.Roles.{other_end};
 ghost use Rattle.tftp_judge.specs.Finds.{Refuses};
+ghost use Rattle.tftp_judge.specs.Memory.{TakesForJoin};
 ghost use Rattle.tftp_judge.specs.Verdict.{IsVerdict};
 ghost use Rattle.tftp_judge.specs.declared.refusal.Refusal.{Refusal as RefusalKind};
 ghost use Rattle.tftp_pair.specs.Captures.{Capture};
@@ -52,6 +55,8 @@ impl<D: Delivered + Drop> Left<D> {
             → IsLeftAfter self.old held part early h read → IfErr result (λ refusal. IsLeftAfter self.new held part early h read) }
         ensures keeps { IfErr result (λ refusal. self.new.judge.refused ≡ Some refusal) }
         ensures goes_on { self.old.judge.refused ≡ None → OnOk result (self.new.judge.refused ≡ None) }
+        ensures waited { self.new.waited ≡ self.old.waited }
+        ensures counts { OnOk result (self.new.judge.fed ≡ self.old.judge.fed + 1) }
     {
         self.judge.feed(alloc, datagram)
     }
@@ -121,6 +126,9 @@ impl<D: Delivered + Drop> PairRest<D> {
             → IfErr result (λ refusal. IsRestAfter self.new h client k server) }
         ensures keeps { IfErr result (λ refusal. (left_at end self.new).judge.refused ≡ Some refusal) }
         ensures goes_on { (left_at end self.old).judge.refused ≡ None → OnOk result ((left_at end self.new).judge.refused ≡ None) }
+        ensures waited { (left_at end self.new).waited ≡ (left_at end self.old).waited }
+        ensures counts { OnOk result ((left_at end self.new).judge.fed ≡ (left_at end self.old).judge.fed + 1) }
+        ensures other { left_at (other_end end) self.new ≡ left_at (other_end end) self.old }
     {
         match end {
             End::Client => self.client.feed(alloc, datagram),
@@ -161,6 +169,12 @@ impl<D: Delivered + Drop> PairRest<D> {
             → IsVerdict h (reverse client) result.client }
         ensures server { (h k : HeaderParts) (client server : List DatagramParts) → IsRestAfter self h client k server → self.server.judge.refused ≡ None
             → IsVerdict k (reverse server) result.server }
+
+        // Memory is wanting only where the store takes it to join the blocks.
+        ensures client_joins { (h k : HeaderParts) (client server : List DatagramParts) (count : ℕ) → IsRestAfter self h client k server
+            → self.client.judge.refused ≡ None → result.client ≡ Err (RefusalKind.Memory count) → TakesForJoin D.join_takes (transfer_of h client) }
+        ensures server_joins { (h k : HeaderParts) (client server : List DatagramParts) (count : ℕ) → IsRestAfter self h client k server
+            → self.server.judge.refused ≡ None → result.server ≡ Err (RefusalKind.Memory count) → TakesForJoin D.join_takes (transfer_of k server) }
         ensures client_refused { (refusal : RefusalKind) → self.client.judge.refused ≡ Some refusal → result.client ≡ Err refusal }
         ensures server_refused { (refusal : RefusalKind) → self.server.judge.refused ≡ Some refusal → result.server ≡ Err refusal }
     {

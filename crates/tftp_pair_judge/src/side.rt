@@ -1,4 +1,4 @@
-ghost use Rattle.std.specs.Prelude.{◌≡◌, ◌↔◌, ◌^◌, ◌<◌, ◌≤◌, List, [], ◌∷◌, length, IsTrue, true, None, Some, is_some, Err, OnOk, IfOk, IfErr};
+ghost use Rattle.std.specs.Prelude.{◌≡◌, ◌↔◌, ◌+◌, ◌^◌, ◌<◌, ◌≤◌, List, [], ◌∷◌, length, IsTrue, true, None, Some, is_some, Err, OnOk, IfOk, IfErr};
 ghost use Rattle.tftp_capture.specs.Fields.{datagram_of, header_of};
 ghost use Rattle.tftp_packet.specs.declared.kinds.Dir.TheVariants.{Out};
 ghost use Rattle.tftp_ends.specs.CaptureText.{Datagram as DatagramParts, Header as HeaderParts};
@@ -143,6 +143,7 @@ impl<D: Delivered + Drop> Side<D> {
         ensures goes_on { self.old.judge.refused ≡ None → OnOk result (self.new.judge.refused ≡ None) }
         ensures for_good { (refusal : RefusalKind) → self.old.judge.refused ≡ Some refusal → (result ≡ Err refusal) × (self.new ≡ self.old) }
         ensures held { self.new.held ≡ self.old.held }
+        ensures counts { OnOk result (self.new.judge.fed ≡ self.old.judge.fed + 1) }
     {
         self.judge.feed(alloc, datagram)?;
         let main = self.judge.last_was_of_transfer();
@@ -214,6 +215,7 @@ impl<D: Delivered + Drop> Side<D> {
             → (result ≡ Err refusal) × (self.new ≡ self.old) × (other.new ≡ other.old) }
         ensures held { IfErr result (λ refusal. self.new.held ≡ None) }
         ensures other { HasSame other.old other.new }
+        ensures counts { OnOk result (self.new.judge.fed ≡ self.old.judge.fed + 1) }
     {
         if self.feed(alloc, datagram)? {
             self.merge(other, datagram);

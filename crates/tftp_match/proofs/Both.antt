@@ -1,0 +1,40 @@
+-- Two texts that are read side by side, of which one goes on.
+use Rattle.std.proofs.Common.{◌≡◌, ◌^◌, ◌<◌, ◌≤◌, ℕ, Option, Some, None, refl, sym, ap, subst, arith}
+use Rattle.tftp_packet.specs.declared.kinds.End.TheVariants.{Client, Server}
+use Rattle.tftp_judge.specs.Kept.{Judge}
+use Rattle.tftp_pair_judge.specs.Kept.{HasSame, Pair}
+use Rattle.tftp_match.specs.Reading.{IsSeenAt, Seen}
+use Rattle.tftp_match.specs.Merging.{BothRun, Runs, lines_left}
+use Rattle.tftp_match.specs.declared.reading.Halt.{Halt}
+
+module _ (client server : Seen) (start : Pair) (mine theirs : Seen) (p p' : Pair) (runs : BothRun client server start mine theirs p) where
+  pub client_goes : (mine' : Seen) → Runs Client mine p mine' p' → HasSame p.server p'.server → BothRun client server start mine' theirs p'
+  client_goes mine' goes same = λ before other_before h k read other at.
+      let (more, other_more, now) = runs before other_before h k read other at in
+      let (on, seen_on, pair_on) = goes before h k more other_more now.at_client now.pair in (
+        on,
+        other_more,
+        record {
+          at_client = seen_on;
+          at_server = subst (λ r. IsSeenAt other_before theirs r k other_more) (ap (λ (j : Judge). j.refused) (sym same.0)) now.at_server;
+          pair = pair_on;
+        },
+      )
+
+  pub server_goes : (theirs' : Seen) → Runs Server theirs p theirs' p' → HasSame p.client p'.client → BothRun client server start mine theirs' p'
+  server_goes theirs' goes same = λ before other_before h k read other at.
+      let (more, other_more, now) = runs before other_before h k read other at in
+      let (on, seen_on, pair_on) = goes other_before k h other_more more now.at_server now.pair in (
+        more,
+        on,
+        record {
+          at_client = subst (λ r. IsSeenAt before mine r h more) (ap (λ (j : Judge). j.refused) (sym same.0)) now.at_client;
+          at_server = seen_on;
+          pair = pair_on;
+        },
+      )
+
+pub less_left : (halt halt' : Option Halt) (n n' : ℕ) → halt ≡ None → (halt' ≡ None → n < n') → (halt' ≡ None → n' ≤ 2 ^ 40) → lines_left halt' n' < lines_left halt n
+less_left None None n n' none rises line = let more = rises refl in let top = line refl in omega (arith, more, top)
+less_left None (Some why) n n' none rises line = omega arith
+less_left (Some was) halt' n n' none rises line = absurd (cc)

@@ -1,0 +1,49 @@
+use Rattle.std.proofs.Common.{◌≡◌, ◌⊎◌, Bool, false, None, inl, inr, refl, sym, ◌∙◌, subst}
+use Rattle.tftp_capture.specs.Fields.{datagram_of}
+use Rattle.tftp_capture.specs.History.{IsReadFault}
+use Rattle.tftp_judge.specs.Kept.{IsJudgeAfter}
+use Rattle.tftp_match.specs.Reading.{IsGiven, IsHalted}
+use Rattle.tftp_match.specs.declared.reading.Halt.TheVariants.{Ended, Fault}
+use Rattle.tftp_match.proofs.Halting.{given, halted_end, halted_fault}
+use Rattle.tftp_match.proofs.reading.Reading.next.Goals as goal
+
+still_clean : (new old : Bool) → ⊥ ⊎ (new ≡ old) → old ≡ false → new ≡ false
+still_clean new old (inl x) e = absurd x
+still_clean new old (inr same) e = same ∙ e
+
+clean_or : (Reads : Type 0) (new old : Bool) → Reads ⊎ (new ≡ old) → old ≡ false → Reads ⊎ (new ≡ false)
+clean_or Reads new old (inl reads) e = inl reads
+clean_or Reads new old (inr same) e = inr (same ∙ e)
+
+pub returns-in-Ok-true-clause-given : goal.returns-in-Ok-true-clause-given
+returns-in-Ok-true-clause-given g c = λ _ before h read judge on accepted.
+    let e = c.in-Ok-true.ensures in
+    let test = c.in-Ok-true.field-0-test in
+    subst (λ x. IsGiven before (g.R.Read.remaining c.next_into.new.reader.0) c.next_into.new.reader.1 c.next_into.new.self x read (datagram_of c.next_into.new.datagram)) on.header
+    (given before _ (g.R.Read.remaining c.next_into.new.reader.0) c.args.self.now.capture c.next_into.new.self judge read on.ready on.has (subst (λ x. IsJudgeAfter judge x read) (sym on.header) accepted)
+    c.next_into.new.datagram c.next_into.new.reader.1 (rw test at e.continues) (rw test at e.standing) e.header
+    (still_clean c.next_into.new.reader.1 c.args.reader.now.1 (rw test at e.tally) on.clean) (e.near on.ready))
+
+pub returns-in-Ok-false-clause-halted : goal.returns-in-Ok-false-clause-halted
+returns-in-Ok-false-clause-halted g c = λ _ before h read judge on accepted.
+    let e = c.in-Ok-false.ensures in
+    let test = c.in-Ok-false.field-0-test in (
+      Ended,
+      refl,
+      subst (λ x. IsHalted before (g.R.Read.remaining c.next_into.new.reader.0) c.next_into.new.reader.1 Ended None x read) on.header
+          (halted_end before _ (g.R.Read.remaining c.next_into.new.reader.0) c.args.self.now.capture c.next_into.new.self judge read on.ready on.has (subst (λ x. IsJudgeAfter judge x read) (sym on.header) accepted)
+          (rw test at e.continues) (rw test at e.standing) e.header ((rw test at e.end) on.ready refl) c.next_into.new.reader.1
+          (still_clean c.next_into.new.reader.1 c.args.reader.now.1 (rw test at e.tally) on.clean)),
+    )
+
+pub returns-in-Err-clause-halted : goal.returns-in-Err-clause-halted
+returns-in-Err-clause-halted g c = λ _ before h read judge on accepted.
+    let e = c.in-Err.ensures in
+    let fault = c.in-Err.fault in (
+      Fault fault,
+      refl,
+      subst (λ x. IsHalted before (g.R.Read.remaining c.next_into.new.reader.0) c.next_into.new.reader.1 (Fault fault) None x read) on.header
+          (halted_fault before _ (g.R.Read.remaining c.next_into.new.reader.0) c.args.self.now.capture c.next_into.new.self judge read on.ready on.has (subst (λ x. IsJudgeAfter judge x read) (sym on.header) accepted)
+          fault c.next_into.new.reader.1 e.continues e.standing (e.near on.ready) (e.cut on.ready) (e.drained on.ready) e.read
+          (clean_or (IsReadFault fault) c.next_into.new.reader.1 c.args.reader.now.1 e.tally on.clean)),
+    )

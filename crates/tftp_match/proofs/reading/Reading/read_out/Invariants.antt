@@ -1,0 +1,21 @@
+use Rattle.std.proofs.Common.{◌≡◌, ◌<◌, ◌-◌, ◌^◌, true, None}
+use Rattle.tftp_capture.specs.declared.standing.Standing.{Standing}
+use Rattle.tftp_ends.specs.Roles.{other_end}
+use Rattle.tftp_pair_judge.specs.Rest.{left_at}
+use Rattle.tftp_match.specs.Merging.{RestRuns, left_judge_at}
+use Rattle.tftp_match.specs.Reading.{seen}
+use Rattle.tftp_match.proofs.reading.Reading.read_out.Given as goal
+
+-- more is to be read
+abbrev pub invariant-loop-alloc : goal.invariant-loop-alloc
+invariant-loop-alloc g l = record {
+  goes : l.self.halt ≡ None;
+  ready : l.self.capture.standing ≡ Standing.Open;
+  lines : (left_judge_at l.end l.rest).fed < l.self.capture.handed;
+  waited : (left_at l.end l.rest).waited ≡ true;
+  runs : RestRuns l.end (seen (g.R.Read.remaining l.fn.reader.0) l.fn.reader.1 l.fn.self.halt l.fn.self.capture) l.fn.rest (seen (g.R.Read.remaining l.reader.0) l.reader.1 l.self.halt l.self.capture) l.rest;
+  other : left_at (other_end l.end) l.rest ≡ left_at (other_end l.end) l.fn.rest;
+}
+
+abbrev pub decreases-loop-alloc : goal.decreases-loop-alloc
+decreases-loop-alloc g l = 2 ^ 40 - l.self.capture.handed

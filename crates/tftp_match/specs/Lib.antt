@@ -1,0 +1,5 @@
+pub mod Judged
+pub mod Datagrams
+pub mod Reading
+pub mod Merging
+pub mod Said

@@ -1,0 +1,95 @@
+ghost use Rattle.std.specs.Prelude.{◌≡◌, ◌<◌, ◌≤◌, true, None, Some};
+ghost use Rattle.tftp_capture.specs.declared.standing.Standing.{Standing};
+ghost use Rattle.tftp_ends.specs.Roles.{other_end};
+ghost use Rattle.tftp_pair_judge.specs.Rest.{left_at};
+ghost use Rattle.tftp_match.specs.Merging.{AloneRuns, RestRuns, left_judge_at};
+ghost use Rattle.tftp_match.specs.Reading.{seen};
+ghost use Rattle.tftp_match.specs.declared.reading.Halt.{Halt as HaltKind};
+
+use crate::reading::{Halt, Reading};
+use std::alloc::Global;
+use std::io::Read;
+use tftp_capture::{Datagram, Tallied};
+use tftp_ends::RingDelivered;
+use tftp_judge::Judge;
+use tftp_packet::End;
+use tftp_pair_judge::PairRest;
+
+impl Reading {
+    /// Reads what is left of the text of an end whose last datagram waited.
+    fn read_out<R: Read>(
+        &mut self,
+        alloc: Global,
+        rest: &mut PairRest<RingDelivered>,
+        end: End,
+        reader: &mut Tallied<R>,
+        datagram: &mut Datagram,
+    )
+        requires goes { self.old.halt ≡ None }
+        requires open { self.old.capture.standing ≡ Standing.Open }
+        requires lines { (left_judge_at end rest.old).fed < self.old.capture.handed }
+        requires waited { (left_at end rest.old).waited ≡ true }
+        ensures runs { RestRuns end (seen (R.remaining reader.old.0) reader.old.1 self.old.halt self.old.capture) rest.old
+            (seen (R.remaining reader.new.0) reader.new.1 self.new.halt self.new.capture) rest.new }
+        ensures halts { (halt : HaltKind) × (self.new.halt ≡ Some halt) }
+        ensures other { left_at (other_end end) rest.new ≡ left_at (other_end end) rest.old }
+    {
+        while self.next(reader, datagram) {
+            match rest.feed(alloc, end, datagram) {
+                Ok(()) => {}
+                Err(_) => {
+                    self.halt = Some(Halt::Refused);
+                    return;
+                }
+            }
+        }
+    }
+
+    /// Reads what is left of the text of an end, where its last datagram waited.
+    pub fn read_rest<R: Read>(
+        &mut self,
+        alloc: Global,
+        rest: &mut PairRest<RingDelivered>,
+        end: End,
+        reader: &mut Tallied<R>,
+        datagram: &mut Datagram,
+    )
+        requires open { self.old.halt ≡ None → self.old.capture.standing ≡ Standing.Open }
+        requires lines { self.old.halt ≡ None → (left_judge_at end rest.old).fed < self.old.capture.handed }
+        requires waited { self.old.halt ≡ None → (left_at end rest.old).waited ≡ true }
+        ensures runs { RestRuns end (seen (R.remaining reader.old.0) reader.old.1 self.old.halt self.old.capture) rest.old
+            (seen (R.remaining reader.new.0) reader.new.1 self.new.halt self.new.capture) rest.new }
+        ensures halts { (halt : HaltKind) × (self.new.halt ≡ Some halt) }
+        ensures other { left_at (other_end end) rest.new ≡ left_at (other_end end) rest.old }
+    {
+        if self.halt.is_none() {
+            self.read_out(alloc, rest, end, reader, datagram);
+        }
+    }
+
+    /// Reads a text that is judged alone.
+    pub fn read_alone<R: Read>(
+        &mut self,
+        alloc: Global,
+        judge: &mut Judge<RingDelivered>,
+        reader: &mut Tallied<R>,
+        datagram: &mut Datagram,
+    )
+        requires goes { self.old.halt ≡ None }
+        requires open { self.old.capture.standing ≡ Standing.Open }
+        requires lines { judge.old.fed < self.old.capture.handed }
+        ensures runs { AloneRuns (seen (R.remaining reader.old.0) reader.old.1 self.old.halt self.old.capture) judge.old
+            (seen (R.remaining reader.new.0) reader.new.1 self.new.halt self.new.capture) judge.new }
+        ensures halts { (halt : HaltKind) × (self.new.halt ≡ Some halt) }
+    {
+        while self.next(reader, datagram) {
+            match judge.feed(alloc, datagram) {
+                Ok(()) => {}
+                Err(_) => {
+                    self.halt = Some(Halt::Refused);
+                    return;
+                }
+            }
+        }
+    }
+}
