@@ -1,5 +1,6 @@
-"""Captures of both ends of one transfer, matched: made by hand, and of simulated transfers, whole, cut and changed, over
-a network that loses, repeats and delays; and with each growth refused and each read of standard input failing in turn.
+"""Captures of both ends of one transfer, matched: made by hand, and of simulated transfers, whole, cut and changed,
+over a network that loses, repeats and delays; and with each growth refused and each read of standard input failing in
+turn.
 
     match.py [--cases N] [--seed N] [--refuse SHIM] MATCH
 
@@ -177,14 +178,16 @@ def faults(trial: MatchTrial) -> None:
     cut = server.removesuffix(b"total 3\n")
     trial.row("no total", (client, cut), [READ, "fault line 7 Truncated", unmatched("-", "-")], 2)
     shorter = b"".join(server.splitlines(keepends=True)[:-2])
-    trial.row("cut before its last datagram", (client, shorter), [READ, "fault line 6 Truncated", unmatched("-", "-")], 2)
+    lines = [READ, "fault line 6 Truncated", unmatched("-", "-")]
+    trial.row("cut before its last datagram", (client, shorter), lines, 2)
     bad = "fault line 1 BadHeader"
     trial.row("no header at the client", (b"x\n", server), [bad, READ], 2)
     trial.row("no header at the server", (client, b"x\n"), [READ, bad], 2)
     trial.row("no header", (b"x\n", b"x\n"), [bad, bad], 2)
     refused = "refused datagram 3 rule"
     got = texts_of(trial, ahead())
-    trial.check("a refused side", got[0][0].startswith(refused) and got[0][1:] == [READ, unmatched(3, 3)] and got[2] == 1, got)
+    holds = got[0][0].startswith(refused) and got[0][1:] == [READ, unmatched(3, 3)] and got[2] == 1
+    trial.check("a refused side", holds, got)
     got = texts_of(trial, written(early=True))
     trial.check("a refused write", got[0][0].startswith("refused datagram 2") and got[0][2] == unmatched(2, 3), got)
 
@@ -205,8 +208,8 @@ def words(trial: MatchTrial) -> None:
 
 
 def failing(trial: MatchTrial, shim: str) -> None:
-    """Each growth refused, and each read failing, in turn: all is said, or the status is 2 and each line that there is tells
-    of it or is its own."""
+    """Each growth refused, and each read failing, in turn: all is said, or the status is 2 and each line that there is
+    tells of it or is its own."""
     texts = read_of_two_bytes().texts()
     server, met = trial.folder / "server", trial.folder / "met"
     server.write_bytes(texts[1])
@@ -250,7 +253,7 @@ def third(steps: tuple[list[Step | None], list[Step | None]]) -> str:
 
 
 def changed(chance: Random, view: View) -> bytes:
-    """The text of a view where the last byte of a block that came is another one; or none, where there is no such block."""
+    """The text of a view where the last byte of a block that came is another one; none where there is no such block."""
     datagrams = list(view.capture.datagrams)
     came = [
         at
