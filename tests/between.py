@@ -89,7 +89,7 @@ def wanted_rows(datagrams: list[Datagram]) -> list[Wanted]:
         line = verdict(sides, one.seen)
         frame = one.seen[int(line.split()[2]) - 1].number + 1 if line.startswith("refused") else None
         row = Row(number, "between", frame, line, ("doubtful",) if doubts_of(one, line) else ())
-        rows.append(Wanted(row, sides.client.host != sides.server.host, sides.client.host.endswith(LAWFUL)))
+        rows.append(Wanted(row, sides.client.host != sides.asked.host, sides.client.host.endswith(LAWFUL)))
     return rows
 
 

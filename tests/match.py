@@ -1,19 +1,29 @@
-"""Captures of both ends of one transfer, matched.
+"""Captures of both ends of one transfer, matched: made by hand, and of simulated transfers, whole, cut and changed,
+over a network that loses, repeats and delays; and with each growth refused and each read of standard input failing in
+turn.
 
-    match.py MATCH
+    match.py [--cases N] [--seed N] [--refuse SHIM] MATCH
 
 Prints each case that is not as it should be, then a last line 'N passed, M failed'; status 1 if any failed.
 """
 from __future__ import annotations
 
+import argparse
+import dataclasses
+import os
 import pathlib
+import re
 import subprocess
 import sys
 import tempfile
+from random import Random
 
 sys.dont_write_bytecode = True
 
 from captures import Capture, EndName, Packet, ack, blocks, data, error, oack, read_request, write_request  # noqa: E402
+from fuzzing.meanings import Spelling, meaning_of  # noqa: E402
+from fuzzing.transfers import ENDS, Step, Transfer  # noqa: E402
+from fuzzing.views import View  # noqa: E402
 from trial import Trial  # noqa: E402
 
 READ = "accepted get octet blocks 1 bytes 2"
@@ -126,7 +136,7 @@ class MatchTrial(Trial):
 
     def row(self, name: str, texts: tuple[bytes, bytes], lines: list[str], status: int) -> None:
         """The texts have these lines and this status, from files and with either of them on standard input."""
-        paths = [str(self.folder / end) for end in ("client", "server")]
+        paths = [str(self.folder / end) for end in ENDS]
         for path, text in zip(paths, texts):
             pathlib.Path(path).write_bytes(text)
         runs = [(paths, b""), (["-", paths[1]], texts[0]), ([paths[0], "-"], texts[1])]
@@ -168,20 +178,22 @@ def faults(trial: MatchTrial) -> None:
     cut = server.removesuffix(b"total 3\n")
     trial.row("no total", (client, cut), [READ, "fault line 7 Truncated", unmatched("-", "-")], 2)
     shorter = b"".join(server.splitlines(keepends=True)[:-2])
-    trial.row("cut before its last datagram", (client, shorter), [READ, "fault line 6 Truncated", unmatched("-", "-")], 2)
+    lines = [READ, "fault line 6 Truncated", unmatched("-", "-")]
+    trial.row("cut before its last datagram", (client, shorter), lines, 2)
     bad = "fault line 1 BadHeader"
     trial.row("no header at the client", (b"x\n", server), [bad, READ], 2)
     trial.row("no header at the server", (client, b"x\n"), [READ, bad], 2)
     trial.row("no header", (b"x\n", b"x\n"), [bad, bad], 2)
     refused = "refused datagram 3 rule"
     got = texts_of(trial, ahead())
-    trial.check("a refused side", got[0][0].startswith(refused) and got[0][1:] == [READ, unmatched(3, 3)] and got[2] == 1, got)
+    holds = got[0][0].startswith(refused) and got[0][1:] == [READ, unmatched(3, 3)] and got[2] == 1
+    trial.check("a refused side", holds, got)
     got = texts_of(trial, written(early=True))
     trial.check("a refused write", got[0][0].startswith("refused datagram 2") and got[0][2] == unmatched(2, 3), got)
 
 
 def texts_of(trial: MatchTrial, both: Both) -> tuple[list[str], str, int]:
-    paths = [trial.folder / end for end in ("client", "server")]
+    paths = [trial.folder / end for end in ENDS]
     for path, text in zip(paths, both.texts()):
         path.write_bytes(text)
     return trial.run([str(path) for path in paths])
@@ -195,12 +207,112 @@ def words(trial: MatchTrial) -> None:
     trial.tells("no file", [str(trial.folder / "none"), "-"], "none: ", 2)
 
 
+def failing(trial: MatchTrial, shim: str) -> None:
+    """Each growth refused, and each read failing, in turn: all is said, or the status is 2 and each line that there is
+    tells of it or is its own."""
+    texts = read_of_two_bytes().texts()
+    server, met = trial.folder / "server", trial.folder / "met"
+    server.write_bytes(texts[1])
+    for turn, told in (("REFUSE", "fault memory"), ("FAIL_READ", "fault line [1-9][0-9]* Read")):
+        line = re.compile(f"{READ}|{told}")
+        for number in range(1, 1000):
+            met.unlink(missing_ok=True)
+            setting = {**os.environ, "LD_PRELOAD": shim, "MET": str(met), turn: str(number)}
+            command = [trial.program, "-", str(server)]
+            done = subprocess.run(command, input=texts[0], capture_output=True, env=setting, timeout=60, check=False)
+            lines = done.stdout.decode().splitlines()
+            is_whole = done.returncode == 0 and lines == [READ, READ, MATCHED]
+            if not met.exists():
+                trial.check(f"{turn} {number}", is_whole and number > 1, done)
+                break
+            holds = done.returncode == 2 and all(line.fullmatch(it) for it in lines) and len(lines) in (0, 2)
+            trial.check(f"{turn} {number}", is_whole or holds, done)
+
+
+def merged(ends: tuple[list[Step | None], list[Step | None]]) -> tuple[int, int]:
+    """How many of each end's steps go together: what came waits till the other end has sent it."""
+    at = [0, 0]
+    while True:
+        for own in (0, 1):
+            sent = [step[1] for step in ends[1 - own][: at[1 - own]] if step and step[0]]
+            if at[own] < len(ends[own]):
+                step = ends[own][at[own]]
+                if step is None or step[0] or step[1] in sent:
+                    at[own] += 1
+                    break
+        else:
+            return at[0], at[1]
+
+
+def third(steps: tuple[list[Step | None], list[Step | None]]) -> str:
+    """The line of two lawful captures with these steps."""
+    at = merged(steps)
+    if all(count == len(own) for count, own in zip(at, steps)):
+        return MATCHED
+    return unmatched(*(count + 1 if count < len(own) else "-" for count, own in zip(at, steps)))
+
+
+def changed(chance: Random, view: View) -> bytes:
+    """The text of a view where the last byte of a block that came is another one; none where there is no such block."""
+    datagrams = list(view.capture.datagrams)
+    came = [
+        at
+        for at, (step, it) in enumerate(zip(view.steps, datagrams))
+        if step and not step[0] and step[1].kind == "data" and len(it.payload) > 4
+    ]
+    if not came:
+        return b""
+    at = chance.choice(came)
+    payload = datagrams[at].payload
+    datagrams[at] = dataclasses.replace(datagrams[at], payload=payload[:-1] + bytes([payload[-1] ^ 1]))
+    return dataclasses.replace(view.capture, datagrams=tuple(datagrams)).text()
+
+
+def simulated(trial: MatchTrial, seed: int) -> None:
+    """Both ends of a simulated transfer: whole, each cut somewhere, and one with another byte."""
+    chance = Random(seed)
+    meaning, wire = meaning_of(chance)
+    transfer, spelling = Transfer(chance, meaning, wire), Spelling(chance, meaning, wire)
+    transfer.run()
+    client, server = (View(chance, meaning, wire, end, transfer.passed[end], spelling) for end in ENDS)
+    paths = [trial.folder / end for end in ENDS]
+
+    def said(texts: tuple[bytes, bytes]) -> tuple[str, int]:
+        for path, text in zip(paths, texts):
+            path.write_bytes(text)
+        output, errors, status = trial.run([str(path) for path in paths])
+        return "\n".join((*output[2:], errors)), status
+
+    got = said((client.capture.spelled(chance), server.capture.spelled(chance)))
+    trial.check(f"both ends of {seed}", got == (f"{MATCHED}\n", 0), got)
+    counts = [chance.randrange(len(view.steps) + 1) for view in (client, server)]
+    wanted = third((client.steps[: counts[0]], server.steps[: counts[1]]))
+    got = said((client.capture.text(counts[0]), server.capture.text(counts[1])))
+    trial.check(f"{seed} cut to {counts}", got == (f"{wanted}\n", 0 if wanted == MATCHED else 1), (got, wanted))
+    texts = [client.capture.text(), server.capture.text()]
+    which = chance.randrange(2)
+    texts[which] = changed(chance, (client, server)[which])
+    if texts[which]:
+        got = said((texts[0], texts[1]))
+        trial.check(f"{seed} changed", got[0].startswith("unmatched ") and got[1] == 1, got)
+
+
 def main() -> int:
+    parser = argparse.ArgumentParser()
+    parser.add_argument("--cases", type=int, default=200)
+    parser.add_argument("--seed", type=int, default=1)
+    parser.add_argument("--refuse", metavar="SHIM")
+    parser.add_argument("program")
+    asked = parser.parse_args()
     with tempfile.TemporaryDirectory() as folder:
-        trial = MatchTrial(sys.argv[1], pathlib.Path(folder))
+        trial = MatchTrial(asked.program, pathlib.Path(folder))
         rows(trial)
         faults(trial)
         words(trial)
+        if asked.refuse:
+            failing(trial, asked.refuse)
+        for seed in range(asked.seed, asked.seed + asked.cases):
+            simulated(trial, seed)
         return trial.end()
 
 

@@ -5,7 +5,7 @@ use Rattle.std.proofs.Math.Seq.{take-append_seam}
 use Rattle.std.proofs.lemmas.List.{length-append, length-reverse, map-append, reverse-append}
 use Rattle.tftp_capture.specs.CaptureText.{Begins, BeginsWith, HasFault, IsCapture, Numbered}
 use Rattle.tftp_capture.specs.declared.fault.TextFault.{TextFault}
-use Rattle.tftp_capture.proofs.Beginnings.{agree, capture_has, fault_after}
+use Rattle.tftp_capture.proofs.Beginnings.{agree, capture_begins, capture_has, fault_after}
 use Rattle.tftp_ends.specs.CaptureText.{Datagram, Header}
 use Rattle.tftp_law.specs.OneEnded.{OneEnded}
 use Rattle.tftp_judge.specs.TextVerdict.{unnumbered}
@@ -86,6 +86,17 @@ pub has_before_fault : (text : List ℕ) (h k : Header) (ds es : List Numbered) 
 has_before_fault text h k ds es line fault broken begins has =
     let front = front_in text h k ds es begins has in
     (front.0, same_fronts es ds front.1 (fault_after text k ds es line fault broken has.begins))
+
+-- ---- a text has its datagrams
+
+pub has_all : (text : List ℕ) (h : Header) (ds : List Numbered) → IsCapture text h ds → HasDatagrams text h ds
+has_all text h ds capture = record { begins = capture_begins text h ds capture; all = λ other more begins. (capture_has text h other ds more capture begins).1 }
+
+pub has_all_before : (text : List ℕ) (h : Header) (ds : List Numbered) (line : ℕ) (fault : TextFault) → HasFault text ds line fault → Begins text h ds → HasDatagrams text h ds
+has_all_before text h ds line fault broken begins = record { begins = begins; all = λ other more also. fault_after text other ds more line fault broken also }
+
+pub has_one : (text : List ℕ) (h k : Header) (ds es : List Numbered) → HasDatagrams text h ds → HasDatagrams text k es → (h ≡ k) × (ds ≡ es)
+has_one text h k ds es has also = ((agree text h k ds es has.begins also.begins).0, same_fronts ds es (has.all k es also.begins) (also.all h ds has.begins))
 
 -- ---- all of a text was taken
 

@@ -20,7 +20,8 @@ use Rattle.tftp_judge.proofs.OneVerdict.{not_lawful}
 use Rattle.tftp_judge.proofs.TextFound.{answers}
 use Rattle.tftp_pair.specs.Captures.{AreConsistent}
 use Rattle.tftp_pair.proofs.PairVerdict.{kept_all, lawful_whole, pair_decides}
-use Rattle.tftp_match.specs.Datagrams.{HasDatagrams, capture_of}
+use Rattle.tftp_match.specs.Datagrams.{capture_of}
+use Rattle.tftp_match.proofs.Fronts.{has_all}
 use Rattle.tftp_match.specs.Judged.{IsJudged}
 use Rattle.tftp_match.specs.Said.{IsAllLawful, IsPairSaid, IsTextFault, SaysMatched}
 use Rattle.tftp_match.specs.declared.said.Apart.{Apart}
@@ -28,9 +29,6 @@ use Rattle.tftp_match.specs.declared.said.Apart.TheVariants.{WrongEnd, Stopped}
 use Rattle.tftp_match.specs.declared.said.Matched.{Matched}
 
 -- ---- one capture
-
-has_all : (text : List ℕ) (h : Header) (ds : List Numbered) → IsCapture text h ds → HasDatagrams text h ds
-has_all text h ds capture = record { begins = capture_begins text h ds capture; all = λ other more begins. (capture_has text h other ds more capture begins).1 }
 
 lawful_capture : (text : List ℕ) (h k : Header) (ds es : List Numbered) → IsCapture text h ds → IsCapture text k es → IsLawful k (unnumbered es) → IsLawful h (unnumbered ds)
 lawful_capture text h k ds es one other is = let same = reads_same text (Says k es) (Says h ds) other one in moved same where

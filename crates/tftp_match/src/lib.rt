@@ -2,6 +2,7 @@
 //! run of the two ends has both.
 #![tactic(auto)]
 
+pub mod laws;
 mod merging;
 mod pair;
 mod reading;
