@@ -1,21 +1,11 @@
 #!/bin/sh
-<<<<<<< HEAD
-# Tries the two built programs, tests/run.sh PROGRAM, of which the one that reads recordings stands in its crate: the
-# launchers and packages with a stand-in for rt; that each wrong body can still be made; each growth refused, each read and
-# each write failing, in turn, and each growth in the tests of the libraries' calls; larger captures; simulated transfers
-# and changes of them, for some seconds; the recorded transfers of examples/; the datagrams that are read of recordings,
-# and which transfer they are of; what is said between the ends; the rows, lists and texts of recordings; both ends together; the scripts that
-# explain, draw and report, on changed captures too; the plugin of Wireshark; the schemas of JSON; and what stands in the
-# pages for readers.
-=======
 # Tries the built programs, tests/run.sh PROGRAM, of which those that read recordings and that match two captures stand in
 # their crates: the launchers and packages with a stand-in for rt; that each wrong body can still be made; each growth
 # refused, each read and each write failing, in turn, and each growth in the tests of the libraries' calls; larger captures;
 # simulated transfers and changes of them, for some seconds; the recorded transfers of examples/; the datagrams that are
-# read of recordings, and which transfer they are of; the rows, lists and texts of recordings; captures of both ends,
-# matched; the scripts that explain, draw and report, on changed captures too; the plugin of Wireshark; the schemas of JSON;
-# and what stands in the pages for readers.
->>>>>>> 4ff5e5d5c52e84b513257590bb5dff2ec9ea0b41
+# read of recordings, and which transfer they are of; what is said between the ends; the rows, lists and texts of
+# recordings; captures of both ends, matched; the scripts that explain, draw and report, on changed captures too; the
+# plugin of Wireshark; the schemas of JSON; and what stands in the pages for readers.
 set -eu
 here=$(dirname "$0")
 transfers=$here/../crates/tftp_transfers_main/out/tftp_transfers_main
