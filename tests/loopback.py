@@ -243,8 +243,8 @@ def try_case(trial: Trial, transfers: str, case: Case, keep: pathlib.Path) -> No
         record(case, recording, folder)
         got = at_each_end(transfers, recording)
         trial.check(f"{case.name}, the verdicts", are_wanted(case, got), got)
-        other = not_between(transfers, recording)
-        trial.check(f"{case.name}, accepted between the ends", not other, other)
+        differing = not_between(transfers, recording)
+        trial.check(f"{case.name}, accepted between the ends", not differing, differing)
         for place, sizes in (("client", SIZES), ("root", UPLOADS)):
             other = folder / ("root" if place == "client" else "client")
             for name in sizes:

@@ -249,7 +249,8 @@ def third(steps: tuple[list[Step | None], list[Step | None]]) -> str:
     at = merged(steps)
     if all(count == len(own) for count, own in zip(at, steps)):
         return MATCHED
-    return unmatched(*(count + 1 if count < len(own) else "-" for count, own in zip(at, steps)))
+    client, server = (str(count + 1) if count < len(own) else "-" for count, own in zip(at, steps))
+    return unmatched(client, server)
 
 
 def changed(chance: Random, view: View) -> bytes:

@@ -457,8 +457,8 @@ def try_between(trial: Trial, program: str) -> None:
     late = late_block()
     rows = checked(program, file_of([*late[:3], late[0], late[3], late[5]]))[0]
     verdicts = [(row.place, row.verdict) for row in rows]
-    wanted = [("between", "accepted get octet blocks 2 bytes 513"), ("between", "incomplete after 1")]
-    trial.check("a request again, late, begins another transfer", verdicts == wanted, rows)
+    two = [("between", "accepted get octet blocks 2 bytes 513"), ("between", "incomplete after 1")]
+    trial.check("a request again, late, begins another transfer", verdicts == two, rows)
 
 
 def try_words(trial: Trial, program: str) -> None:
