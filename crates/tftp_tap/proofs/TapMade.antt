@@ -13,7 +13,7 @@ use Rattle.tftp_packet.specs.declared.kinds.End.TheVariants.{Client, Server}
 use Rattle.tftp_ends.specs.CaptureText.{Datagram, Header}
 use Rattle.tftp_ends.specs.Machines.{MachinePacket, Req, Oack, Data, Ack, Error, receiver_of}
 use Rattle.tftp_ends.specs.OneSide.{is_error}
-use Rattle.tftp_ends.specs.Ports.{Route, same_peer, route_of, asks}
+use Rattle.tftp_ends.specs.Ports.{Route, same_peer, route_of, is_of_transfer, asks}
 use Rattle.tftp_ends.proofs.Members.{contains_first, contains_later}
 use Rattle.tftp_law.specs.Dress.{packet_of}
 use Rattle.tftp_law.specs.Accord.{packet_route}
@@ -30,13 +30,20 @@ use Rattle.tftp_tap.specs.Tap.{deed_at}
 use Rattle.tftp_tap.specs.TapCapture.{TapDatagram, TapSides, side_of, AreApart}
 use Rattle.tftp_tap.specs.TapOrder.{is_left_out, kept_of, before_error, same_end, is_request}
 use Rattle.tftp_tap.specs.TapRoutes.{tap_tests}
-use Rattle.tftp_tap.specs.TapRules.{recorded_at, header_at, FirstTapAsked, Says, HasKind, IsReply, IsLateBlock}
+use Rattle.tftp_tap.specs.TapRules.{recorded_at, header_at, FirstTapAsked, Says, HasKind, IsReply, IsLateBlock, is_of_ports}
 use Rattle.tftp_tap.proofs.KeptOf.{is_or_not, any_here, any_skip, any_of, some_of, before_there, kept_out, kept_in, kept_more, kept_plain, kept_asks}
 use Rattle.tftp_tap.proofs.TapTests.{asks_some}
 use Rattle.tftp_tap.proofs.TapRouted.{Carried}
 use Rattle.tftp_tap.proofs.TapRecorded.{Agrees, Each, kept_each, out_same, kept_map, IsCarried, pair_tests, datagram_in, datagrams_each, Known, AreKnown, placed_datagrams, placed_routes}
 use Rattle.tftp_tap.proofs.TapBefore.{before_map, before_each}
 use Rattle.tftp_tap.proofs.TapLawful.{Lawful, AreLawful, server_after, is_req_or, Sends, begins_before, Right, rights}
+
+-- what breaks a rule of ports at an end is none of the transfer there
+pub ports_off : (h : Header) (earlier : List Datagram) (d : Datagram) (broken : Rule) → is_of_ports broken ≡ true → Broken h earlier d broken → is_of_transfer (route_of h earlier d) ≡ false
+ports_off h earlier d rule.ForeignPort ports b = ap is_of_transfer b
+ports_off h earlier d rule.WrongPort ports b = ap is_of_transfer b
+ports_off h earlier d rule.StrayAnswer ports b = elim b [ inl none ↦ ap is_of_transfer none | inr bad ↦ ap is_of_transfer bad.0 ]
+ports_off h earlier d broken ports b = absurd (true≢false (sym ports))
 
 -- ---- messages of a kind
 
@@ -288,6 +295,13 @@ module _ (s : TapSides) (apart : AreApart s) (asked : RequestParts) where
   read_on (Ack j) d n t = (n, t)
   read_on (Error code text) d n t = (n, t)
 
+  of_packet : (p : MachinePacket) → is_of_transfer (packet_route p) ≡ true
+  of_packet Req = refl
+  of_packet Oack = refl
+  of_packet (Data k) = refl
+  of_packet (Ack j) = refl
+  of_packet (Error code text) = refl
+
   ended_next : (c : Carried) (cs : List Carried) → IsCarried s says_some c → Lawful s c cs → Right s apart asked c → (cs ≡ []) ⊎ FirstTapAsked s (map datagram_in cs) asked
       → Each (IsCarried s says_some) cs → Each (IsCarried s says_some) (kept_of pair_tests (receiver_of asked.side) cs) → AreKnown (c ∷ kept_of pair_tests (receiver_of asked.side) cs)
       → is_left_out pair_tests (receiver_of asked.side) c (kept_of pair_tests (receiver_of asked.side) cs) ≡ false
@@ -316,12 +330,16 @@ module _ (s : TapSides) (apart : AreApart s) (asked : RequestParts) where
           let same : kept_of (tap_tests s) r (map datagram_in cs) ≡ map datagram_in ks = kept_map datagram_in pair_tests (tap_tests s) r cs agree in
           let out : is_left_out (tap_tests s) r c.datagram (map datagram_in ks) ≡ is_left_out pair_tests r c ks
           = out_same datagram_in pair_tests (tap_tests s) r c ks (datagrams_each s apart (c ∷ []) (is, tt)).0 (kept_each (Agrees datagram_in pair_tests (tap_tests s)) pair_tests r cs agree) in
-          lawful.kept broken (record {
-            asked = asked;
-            first = first;
-            stays = subst (λ l. is_left_out (tap_tests s) r c.datagram l ≡ false) (sym same) (out ∙ stays);
-            breaks = subst (λ l. Broken (header_at s asked.side) (map (recorded_at s r) l) (recorded_at s r c.datagram) broken) (sym same) b;
-          })
+          elim (is_or_not (is_of_ports broken)) [
+            | inl ports ↦ true≢false (sym (ap is_of_transfer route ∙ of_packet c.pass.packet) ∙ ports_off (header_at s asked.side) (map (recorded_at s r) (map datagram_in ks)) (recorded_at s r c.datagram) broken ports b)
+            | inr content ↦ lawful.kept broken (record {
+              of_content = content;
+              asked = asked;
+              first = first;
+              stays = subst (λ l. is_left_out (tap_tests s) r c.datagram l ≡ false) (sym same) (out ∙ stays);
+              breaks = subst (λ l. Broken (header_at s asked.side) (map (recorded_at s r) l) (recorded_at s r c.datagram) broken) (sym same) b;
+            })
+          ]
 
       request : cs ≡ [] → c.pass.packet ≡ Req
       request none = elim (is_req_or s apart c.pass.packet) [ inl req ↦ req | inr other ↦ absurd (not_first c.pass.from refl other) ] where

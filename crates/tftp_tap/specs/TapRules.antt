@@ -112,8 +112,16 @@ PassingBreaks s passed route d rule.AfterError = OtherError s passed d
 PassingBreaks s passed route d rule.RequestChanged = (first now : RequestParts) × FirstTapAsked s passed first × (d.source ≡ s.client) × Spells d.payload (Message.Request now) × (now ≢ first)
 PassingBreaks s passed route d _ = ⊥
 
--- What is kept breaks what it would break at the receiver, who recorded just what is kept.
+-- the rules of ports and hosts, which between the ends are told by the two sides alone
+abbrev pub is_of_ports : Rule → Bool
+is_of_ports rule.ForeignPort = true
+is_of_ports rule.WrongPort = true
+is_of_ports rule.StrayAnswer = true
+is_of_ports _ = false
+
+-- What is kept breaks what it would break at the receiver, who recorded just what is kept, but for the rules of ports.
 pub record KeptBreaks (s : TapSides) (passed : List TapDatagram) (d : TapDatagram) (broken : Rule) : Type 0 where
+  pub of_content : is_of_ports broken ≡ false
   pub asked : RequestParts
   pub first : FirstTapAsked s passed asked
   pub stays : is_left_out (tap_tests s) (receiver_of asked.side) d (kept_of (tap_tests s) (receiver_of asked.side) passed) ≡ false

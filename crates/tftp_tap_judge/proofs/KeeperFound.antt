@@ -10,6 +10,7 @@ use Rattle.tftp_packet.proofs.NoFault.{no_fault}
 use Rattle.tftp_packet.specs.declared.fault.PacketFault.{PacketFault}
 use Rattle.tftp_packet.specs.declared.kinds.End.TheVariants.{Client, Server}
 use Rattle.tftp_ends.specs.Ports.{first_of, same_peer}
+use Rattle.tftp_judge.specs.Finds.{NoneBreaks}
 use Rattle.tftp_law.specs.OneEnded.{OneEnded, Passes}
 use Rattle.tftp_law.specs.Rules.{number_of}
 use Rattle.tftp_law.specs.declared.rule.Rule.{Rule}
@@ -18,19 +19,20 @@ use Rattle.tftp_law.proofs.RouteTests.{is_same, same_is}
 use Rattle.tftp_law.proofs.Divided.{any_none}
 use Rattle.tftp_ends.specs.Roles.{receiver_of}
 use Rattle.tftp_tap.specs.TapCapture.{TapDatagram, TapSides, AreApart}
+use Rattle.tftp_tap.specs.TapOrder.{kept_of}
 use Rattle.tftp_tap.specs.TapRoutes.{asks_in, ends_in, has_gone, is_passing, tap_route, tap_tests, transfer_between}
 use Rattle.tftp_tap.specs.TapRules.{BreaksNoTapRule, FirstTapAsked, FirstTapBroken, IsTapRead, KeptBreaks, LateBroken, PassingBreaks, SidesBreak, TapBroken, TapPasses, header_at, kept_between, recorded_at}
 use Rattle.tftp_tap.specs.declared.route.TapRoute.{TapRoute}
 use Rattle.tftp_tap.specs.declared.route.TapRoute.TheVariants as route
-use Rattle.tftp_tap.proofs.KeptOf.{and_true, any_skip, is_or_not}
+use Rattle.tftp_tap.proofs.KeptOf.{and_true, any_skip, is_or_not, kept_in}
 use Rattle.tftp_tap.proofs.TapTests.{source_is}
 use Rattle.tftp_tap_judge.specs.TapKept.{IsKeptAtTap, IsTapTransfer, TapTransfer}
-use Rattle.tftp_tap_judge.specs.TapStops.{BeginsAtTap, FindsAtTap, FindsTo, IsNoRequest, IsReadUnless, TransferBreaks}
+use Rattle.tftp_tap_judge.specs.TapStops.{BeginsAtTap, FindsAtTap, FindsTo, IsNoRequest, IsReadUnless, ReceiverBreaks, TransferBreaks}
 use Rattle.tftp_tap_judge.specs.declared.stop.Stop.{Stop}
 use Rattle.tftp_tap_judge.specs.declared.stop.Stop.TheVariants.{Breaks, Memory}
 use Rattle.tftp_tap_judge.proofs.KeptLawful.{kept_lawful}
 use Rattle.tftp_tap_judge.proofs.Receivings.{kept_alone}
-use Rattle.tftp_tap_judge.proofs.TransferFound.{asked_first}
+use Rattle.tftp_tap_judge.proofs.TransferFound.{asked_first, asked_stays}
 
 -- ---- a datagram of the transfer
 
@@ -128,6 +130,17 @@ transfer_on s earlier d on = rw (on) refl
 
 pub transfer_off : (s : TapSides) (earlier : List TapDatagram) (d : TapDatagram) → is_passing (tap_route s earlier d) ≡ false → transfer_between s (d ∷ earlier) ≡ transfer_between s earlier
 transfer_off s earlier d off = rw (off) refl
+
+-- where it breaks no rule here, it breaks none at the end that gets the file
+pub none_there : (s : TapSides) (earlier : List TapDatagram) (d : TapDatagram) → is_passing (tap_route s earlier d) ≡ true → AreApart s → BreaksNoTapRule s earlier → (asked : RequestParts) → FirstTapAsked s (transfer_between s earlier) asked
+    → (m : Message) × Spells d.payload m → NoneBreaks (TransferBreaks s (transfer_between s earlier) (tap_route s earlier d) d) → (r : Rule) → ReceiverBreaks s asked.side (transfer_between s earlier) d r → ⊥
+none_there s earlier d passing apart lawful asked first read none r b =
+    let passes : TapPasses s earlier d = record { read = read_passing d (tap_route s earlier d) passing read.0 read.1; lawful = λ x t. none x (of_tap s earlier d passing x t) } in
+    let transfer = transfer_on s earlier d passing in
+    let stays : FirstTapAsked s (d ∷ transfer_between s earlier) asked = asked_stays s (transfer_between s earlier) asked first (tap_route s earlier d) d in
+    let ended = kept_lawful s apart (d ∷ earlier) (passes, lawful) asked (subst (λ (l : List TapDatagram). FirstTapAsked s l asked) (sym transfer) stays) in
+    let kept = ap (kept_of (tap_tests s) (receiver_of asked.side)) transfer ∙ kept_in (tap_tests s) (receiver_of asked.side) d (transfer_between s earlier) b.0 in
+    (subst (λ (l : List TapDatagram). OneEnded (header_at s asked.side) (map (recorded_at s (receiver_of asked.side)) l)) kept ended).0.lawful r b.1
 
 -- where nothing of the transfer has passed, nothing has gone from the server to the client
 nothing_gone : (s : TapSides) → AreApart s → (earlier : List TapDatagram) → transfer_between s earlier ≡ [] → has_gone s.server s.client earlier ≡ false

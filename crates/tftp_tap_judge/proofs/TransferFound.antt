@@ -1,6 +1,6 @@
 -- What is found of a datagram of a transfer between the ends, and what is kept of it.
-use Rattle.std.proofs.Common.{◌≡◌, ◌⊎◌, ℕ, true, false, List, [], ◌∷◌, Option, Some, None, Result, Ok, Err, inl, inr, refl, sym, subst, ap, arith}
-use Rattle.std.specs.Prelude.{◌↔◌, nat_lt, is_some, IfOk}
+use Rattle.std.proofs.Common.{◌≡◌, ◌⊎◌, ℕ, true, false, List, [], ◌∷◌, Option, Some, None, Result, Ok, Err, inl, inr, refl, sym, subst, ap, ◌∙◌, arith}
+use Rattle.std.specs.Prelude.{◌↔◌, ◌&&◌, not, nat_lt, is_some, IfOk}
 use Rattle.std.proofs.lemmas.Bool.{true≢false, ltb-true, ltb-false}
 use Rattle.tftp_packet.specs.Message.{Message, RequestParts}
 use Rattle.tftp_packet.specs.Spelling.{Spells}
@@ -10,17 +10,20 @@ use Rattle.tftp_packet.specs.declared.packet.Packet.{Packet}
 use Rattle.tftp_packet.specs.declared.fault.PacketFault.{PacketFault}
 use Rattle.tftp_packet.specs.declared.kinds.End.{End}
 use Rattle.tftp_judge.specs.Finds.{NoneBreaks}
-use Rattle.tftp_ends.specs.Ports.{or_this}
-use Rattle.tftp_law.specs.Rules.{number_of}
+use Rattle.tftp_ends.specs.CaptureText.{Datagram, Header}
+use Rattle.tftp_ends.specs.Ports.{is_of_transfer, or_this, route_of}
+use Rattle.tftp_ends.specs.Roles.{receiver_of}
+use Rattle.tftp_law.specs.Rules.{Broken, number_of}
 use Rattle.tftp_law.specs.declared.rule.Rule.{Rule}
 use Rattle.tftp_law.specs.declared.rule.Rule.TheVariants as rule
 use Rattle.tftp_law.proofs.RouteTests.{same_is}
 use Rattle.tftp_law.proofs.Spelled.{spelled_once}
 use Rattle.tftp_tap.specs.TapCapture.{TapDatagram, TapSides, side_of, AreApart}
 use Rattle.tftp_tap.specs.TapRoutes.{tap_tests}
-use Rattle.tftp_tap.specs.TapRules.{FirstTapAsked, KeptBreaks}
+use Rattle.tftp_tap.specs.TapRules.{FirstTapAsked, header_at, is_of_ports, kept_between, recorded_at}
 use Rattle.tftp_tap.specs.declared.route.TapRoute.{TapRoute}
 use Rattle.tftp_tap.proofs.KeptOf.{is_or_not}
+use Rattle.tftp_tap.proofs.TapMade.{ports_off}
 use Rattle.tftp_tap.proofs.TapTests.{asks_says}
 use Rattle.tftp_tap_judge.specs.TapFinds.{FindsRule, IsOtherError, IsReadOf, OwnBreaks}
 use Rattle.tftp_tap_judge.specs.TapKept.{IsErrorOf, IsFirstError, NoErrorAtTap}
@@ -29,46 +32,82 @@ use Rattle.tftp_tap_judge.specs.declared.stop.Stop.{Stop}
 use Rattle.tftp_tap_judge.specs.declared.stop.Stop.TheVariants.{Breaks, Memory}
 use Rattle.tftp_tap_judge.proofs.OwnFound.{asked_same, other_error}
 
+-- what breaks another rule than one of ports at an end is of the transfer there
+content_on : (h : Header) (earlier : List Datagram) (d : Datagram) (broken : Rule) → is_of_ports broken ≡ false → Broken h earlier d broken → is_of_transfer (route_of h earlier d) ≡ true
+content_on h earlier d rule.ForeignPort content b = absurd (true≢false content)
+content_on h earlier d rule.WrongPort content b = absurd (true≢false content)
+content_on h earlier d rule.StrayAnswer content b = absurd (true≢false content)
+content_on h earlier d rule.NoRequest content b = ap is_of_transfer b.1
+content_on h earlier d (rule.Malformed fault) content b = b.0
+content_on h earlier d rule.WrongKind content b = b.2.routed
+content_on h earlier d rule.AfterError content b = b.1.routed
+content_on h earlier d rule.RequestChanged content b = b.3.routed
+content_on h earlier d rule.RequestAfterStart content b = b.1.1.routed
+content_on h earlier d rule.ReplyChanged content b = b.4.routed
+content_on h earlier d rule.OackEmpty content b = b.says.routed
+content_on h earlier d rule.MulticastAgreed content b = b.says.routed
+content_on h earlier d rule.OptionNotRequested content b = b.says.routed
+content_on h earlier d rule.OptionOutsideProfile content b = b.says.routed
+content_on h earlier d rule.OptionValue content b = b.says.routed
+content_on h earlier d rule.OackChanged content b = b.5.routed
+content_on h earlier d rule.OackAfterStart content b = b.2.1.routed
+content_on h earlier d rule.NotStarted content b = b.says.routed
+content_on h earlier d rule.BlockZero content b = b.says.routed
+content_on h earlier d rule.BeyondBlock65535 content b = elim b [ inl block ↦ block.says.routed | inr oack ↦ oack.says.routed ]
+content_on h earlier d rule.BlockLength content b = b.says.routed
+content_on h earlier d rule.WindowOverrun content b = b.says.routed
+content_on h earlier d rule.BlockSkipped content b = b.says.routed
+content_on h earlier d rule.GoneBack content b = b.says.routed
+content_on h earlier d rule.BlockChanged content b = b.says.routed
+content_on h earlier d rule.AckAhead content b = b.says.routed
+content_on h earlier d rule.AckZero content b = b.says.routed
+
 -- ---- the first of the rules of two kinds
 
 both_none : (One Other : Rule → Type 0) → NoneBreaks One → NoneBreaks Other → NoneBreaks (λ r. One r ⊎ Other r)
 both_none One Other one other r b = elim b [ inl x ↦ one r x | inr y ↦ other r y ]
 
-pub found_both : (One Other : Rule → Type 0) (After : Type 0) (own : Option Rule) (found : Result (Unit {0}) Stop) → FindsRule One own → FindsTo Other After found → FindsTo (λ r. One r ⊎ Other r) After (smaller_of own found)
-found_both One Other After None (Ok u) none f = (both_none One Other none f.0, f.1)
-found_both One Other After None (Err (Breaks other)) none f = (inr f.0, λ r low b. elim b [ inl x ↦ none r x | inr y ↦ f.1 r low y ])
-found_both One Other After None (Err Memory) none f = both_none One Other none f
-found_both One Other After (Some own) (Ok u) o f = (inl o.0, λ r low b. elim b [ inl x ↦ o.1 r low x | inr y ↦ f.0 r y ])
-found_both One Other After (Some own) (Err Memory) o f = (inl o.0, λ r low b. elim b [ inl x ↦ o.1 r low x | inr y ↦ f r y ])
-found_both One Other After (Some own) (Err (Breaks other)) o f = elim (is_or_not (nat_lt (number_of other) (number_of own))) [
-  | inl lower ↦
-      let less = ltb-true (number_of other) (number_of own) lower in
-      rw (lower) (inr f.0, λ r low b. elim b [ inl x ↦ o.1 r (omega (arith, less, low)) x | inr y ↦ f.1 r low y ])
-  | inr upper ↦
-      let least = ltb-false (number_of other) (number_of own) upper in
-      rw (upper) (inl o.0, λ r low b. elim b [ inl x ↦ o.1 r low x | inr y ↦ f.1 r (omega (arith, least, low)) y ])
-]
+-- those of them that are none of ports
+abbrev pub Content : (Rule → Type 0) → Rule → Type 0
+Content There r = (is_of_ports r ≡ false) × There r
 
-pub none_smaller : (own : Option Rule) (found : Result (Unit {0}) Stop) (u : Unit {0}) → smaller_of own found ≡ Ok u → (own ≡ None) × (found ≡ Ok u)
-none_smaller None found u is = (refl, is)
-none_smaller (Some own) (Ok v) u is = cc
-none_smaller (Some own) (Err Memory) u is = cc
-none_smaller (Some own) (Err (Breaks other)) u is = elim (is_or_not (nat_lt (number_of other) (number_of own))) [ inl lower ↦ absurd (by_true lower) | inr upper ↦ absurd (by_false upper) ] where
-  by_true : nat_lt (number_of other) (number_of own) ≡ true → ⊥
-  by_true lower = let same = rw (lower) at is in cc
+-- Of all that is found at an end those of ports are not told. Where one of them is broken there, no other one is, and an own one
+-- is.
+module _ (One There : Rule → Type 0) (After : Type 0) (split : (p r : Rule) → is_of_ports p ≡ true → There p → is_of_ports r ≡ false → There r → ⊥) where
+  none_content : (p : Rule) → is_of_ports p ≡ true → There p → NoneBreaks (Content There)
+  none_content p ports there r c = split p r ports there c.0 c.1
 
-  by_false : nat_lt (number_of other) (number_of own) ≡ false → ⊥
-  by_false upper = let same = rw (upper) at is in cc
+  pub found_both : (own : Option Rule) (found : Result (Unit {0}) Stop) → (NoneBreaks (λ r. One r ⊎ Content There r) → (p : Rule) → is_of_ports p ≡ true → There p → ⊥) → FindsRule One own → FindsTo There After found
+      → FindsTo (λ r. One r ⊎ Content There r) After (smaller_of own found)
+  found_both None (Ok u) stand none f = (both_none One (Content There) none (λ r c. f.0 r c.1), f.1)
+  found_both None (Err Memory) stand none f = both_none One (Content There) none (λ r c. f r c.1)
+  found_both None (Err (Breaks other)) stand none f = elim (is_or_not (is_of_ports other)) [
+    | inl ports ↦ absurd (stand (both_none One (Content There) none (none_content other ports f.0)) other ports f.0)
+    | inr content ↦ (inr (content, f.0), λ r low b. elim b [ inl x ↦ none r x | inr y ↦ f.1 r low y.1 ])
+  ]
+  found_both (Some own) (Ok u) stand o f = (inl o.0, λ r low b. elim b [ inl x ↦ o.1 r low x | inr y ↦ f.0 r y.1 ])
+  found_both (Some own) (Err Memory) stand o f = (inl o.0, λ r low b. elim b [ inl x ↦ o.1 r low x | inr y ↦ f r y.1 ])
+  found_both (Some own) (Err (Breaks other)) stand o f = elim (is_or_not (is_of_ports other)) [
+    | inl ports ↦ rw (ports) (inl o.0, λ r low b. elim b [ inl x ↦ o.1 r low x | inr y ↦ none_content other ports f.0 r y ])
+    | inr content ↦ elim (is_or_not (nat_lt (number_of other) (number_of own))) [
+      | inl lower ↦
+          let less = ltb-true (number_of other) (number_of own) lower in
+          rw (content, lower) (inr (content, f.0), λ r low b. elim b [ inl x ↦ o.1 r (omega (arith, less, low)) x | inr y ↦ f.1 r low y.1 ])
+      | inr upper ↦
+          let least = ltb-false (number_of other) (number_of own) upper in
+          rw (content, upper) (inl o.0, λ r low b. elim b [ inl x ↦ o.1 r low x | inr y ↦ f.1 r (omega (arith, least, low)) y.1 ])
+    ]
+  ]
 
 pub memory_smaller : (own : Option Rule) (found : Result (Unit {0}) Stop) → smaller_of own found ≡ Err Memory → found ≡ Err Memory
 memory_smaller None found is = is
 memory_smaller (Some own) (Ok v) is = cc
 memory_smaller (Some own) (Err Memory) is = refl
-memory_smaller (Some own) (Err (Breaks other)) is = elim (is_or_not (nat_lt (number_of other) (number_of own))) [ inl lower ↦ absurd (by_true lower) | inr upper ↦ absurd (by_false upper) ] where
-  by_true : nat_lt (number_of other) (number_of own) ≡ true → ⊥
+memory_smaller (Some own) (Err (Breaks other)) is = elim (is_or_not (not (is_of_ports other) && nat_lt (number_of other) (number_of own))) [ inl lower ↦ absurd (by_true lower) | inr upper ↦ absurd (by_false upper) ] where
+  by_true : (not (is_of_ports other) && nat_lt (number_of other) (number_of own)) ≡ true → ⊥
   by_true lower = let same = rw (lower) at is in cc
 
-  by_false : nat_lt (number_of other) (number_of own) ≡ false → ⊥
+  by_false : (not (is_of_ports other) && nat_lt (number_of other) (number_of own)) ≡ false → ⊥
   by_false upper = let same = rw (upper) at is in cc
 
 -- the same of rules that are broken together
@@ -80,16 +119,26 @@ found_map One Other After to back (Err Memory) f = λ r b. f r (back r b)
 -- ---- after the first request
 
 module _ (s : TapSides) (passed : List TapDatagram) (asked : RequestParts) (first : FirstTapAsked s passed asked) (route : TapRoute) (d : TapDatagram) where
-  kept_of_receiver : (r : Rule) → ReceiverBreaks s asked.side passed d r → KeptBreaks s passed d r
-  kept_of_receiver r b = record { asked = asked; first = first; stays = b.0; breaks = b.1 }
+  to_transfer : (r : Rule) → OwnBreaks s passed route d r ⊎ Content (ReceiverBreaks s asked.side passed d) r → TransferBreaks s passed route d r
+  to_transfer r (inl b) = inl b
+  to_transfer r (inr b) = inr (record { of_content = b.0; asked = asked; first = first; stays = b.1.0; breaks = b.1.1 })
 
-  receiver_of_kept : (r : Rule) → KeptBreaks s passed d r → ReceiverBreaks s asked.side passed d r
-  receiver_of_kept r k = subst (λ (q : RequestParts). ReceiverBreaks s q.side passed d r) (asked_same s passed k.asked asked k.first first) (k.stays, k.breaks)
+  of_transfer : (r : Rule) → TransferBreaks s passed route d r → OwnBreaks s passed route d r ⊎ Content (ReceiverBreaks s asked.side passed d) r
+  of_transfer r (inl b) = inl b
+  of_transfer r (inr k) = inr (k.of_content, subst (λ (q : RequestParts). ReceiverBreaks s q.side passed d r) (asked_same s passed k.asked asked k.first first) (k.stays, k.breaks))
 
-  pub transfer_found : (After : Type 0) (own : Option Rule) (found : Result (Unit {0}) Stop) → FindsRule (OwnBreaks s passed route d) own → FindsTo (ReceiverBreaks s asked.side passed d) After found
-      → FindsTo (TransferBreaks s passed route d) After (smaller_of own found)
-  transfer_found After own found o f = found_both (OwnBreaks s passed route d) (KeptBreaks s passed d) After own found o
-      (found_map (ReceiverBreaks s asked.side passed d) (KeptBreaks s passed d) After kept_of_receiver receiver_of_kept found f)
+  -- a rule of ports and another one are not broken together at an end
+  split : (p r : Rule) → is_of_ports p ≡ true → ReceiverBreaks s asked.side passed d p → is_of_ports r ≡ false → ReceiverBreaks s asked.side passed d r → ⊥
+  split p r ports there content other =
+      let h = header_at s asked.side in
+      let kept = kept_between s asked.side passed in
+      let now = recorded_at s (receiver_of asked.side) d in
+      true≢false (sym (content_on h kept now r content other.1) ∙ ports_off h kept now p ports there.1)
+
+  pub transfer_found : (After : Type 0) (own : Option Rule) (found : Result (Unit {0}) Stop) → (NoneBreaks (TransferBreaks s passed route d) → (p : Rule) → ReceiverBreaks s asked.side passed d p → ⊥)
+      → FindsRule (OwnBreaks s passed route d) own → FindsTo (ReceiverBreaks s asked.side passed d) After found → FindsTo (TransferBreaks s passed route d) After (smaller_of own found)
+  transfer_found After own found stand o f = found_map (λ r. OwnBreaks s passed route d r ⊎ Content (ReceiverBreaks s asked.side passed d) r) (TransferBreaks s passed route d) After to_transfer of_transfer (smaller_of own found)
+      (found_both (OwnBreaks s passed route d) (ReceiverBreaks s asked.side passed d) After split own found (λ none p ports. stand (λ r b. none r (of_transfer r b)) p) o f)
 
   -- where none is broken, an ERROR is the first one again, and it can be read
   pub no_other_error : AreApart s → NoneBreaks (TransferBreaks s passed route d) → (e : End) → d.source ≡ side_of s e → (m : Message) → Spells d.payload m → IsOtherError s passed e m → ⊥
@@ -97,6 +146,11 @@ module _ (s : TapSides) (passed : List TapDatagram) (asked : RequestParts) (firs
 
   pub no_fault_in : NoneBreaks (TransferBreaks s passed route d) → (fault : PacketFault) → FirstFault d.payload fault → ⊥
   no_fault_in none fault is = none (rule.Malformed fault) (inl (inl is))
+
+  -- so it can be read
+  pub reads_in : NoneBreaks (TransferBreaks s passed route d) → (read : Result Packet PacketFault) → IsReadOf d.payload read → (m : Message) × Spells d.payload m
+  reads_in none (Ok p) is = (meaning p, is)
+  reads_in none (Err fault) is = absurd (no_fault_in none fault is)
 
   -- the first request stays the first
   pub asked_stays : FirstTapAsked s (d ∷ passed) asked
@@ -128,14 +182,18 @@ read_of payload (Ok p) found fault = found
 read_of payload (Err f) found fault = (fault f).0 refl
 
 -- the answer, and that what breaks no rule can be read
-pub answer_read : (Breaking : Rule → Type 0) (After : Type 0) (payload : List ℕ) (read : Result Packet PacketFault) (last : Result (Unit {0}) Stop)
-    → IsReadOf payload read → (NoneBreaks Breaking → (f : PacketFault) → FirstFault payload f → ⊥) → FindsTo Breaking After last → IsReadUnless last payload
-answer_read Breaking After payload (Ok p) (Ok u) is none f = (meaning p, is)
-answer_read Breaking After payload (Ok p) (Err Memory) is none f = (meaning p, is)
-answer_read Breaking After payload (Ok p) (Err (Breaks r)) is none f = tt
-answer_read Breaking After payload (Err fault) (Ok u) is none f = absurd (none f.0 fault is)
-answer_read Breaking After payload (Err fault) (Err Memory) is none f = absurd (none f fault is)
-answer_read Breaking After payload (Err fault) (Err (Breaks r)) is none f = tt
+reads_always : (payload : List ℕ) (found : Result (Unit {0}) Stop) → (m : Message) × Spells payload m → IsReadUnless found payload
+reads_always payload (Ok u) read = read
+reads_always payload (Err Memory) read = read
+reads_always payload (Err (Breaks r)) read = tt
+
+pub answer_read : (s : TapSides) (passed : List TapDatagram) (route : TapRoute) (d : TapDatagram) (own : Option Rule) (found : Result (Unit {0}) Stop) (read : Result Packet PacketFault)
+    → IsReadOf d.payload read → FindsRule (OwnBreaks s passed route d) own → IsReadUnless (smaller_of own found) d.payload
+answer_read s passed route d own found (Ok p) is o = reads_always d.payload (smaller_of own found) (meaning p, is)
+answer_read s passed route d None found (Err fault) is none = absurd (none (rule.Malformed fault) (inl is))
+answer_read s passed route d (Some own) (Ok u) (Err fault) is o = tt
+answer_read s passed route d (Some own) (Err Memory) (Err fault) is o = tt
+answer_read s passed route d (Some own) (Err (Breaks other)) (Err fault) is o = elim (is_or_not (not (is_of_ports other) && nat_lt (number_of other) (number_of own))) [ inl lower ↦ rw (lower) tt | inr upper ↦ rw (upper) tt ]
 
 pub found_err : (Breaking : Rule → Type 0) (One Other : Type 0) (e : Stop) → FindsTo Breaking One (Err e) → FindsTo Breaking Other (Err e)
 found_err Breaking One Other (Breaks r) f = f

@@ -1,6 +1,6 @@
 -- What is found of one datagram between the ends, by the rules that it may break. The lists `earlier` and `passed` have the
 -- datagrams that have passed and those of the transfer, the newest first.
-use Rattle.std.specs.Prelude.{◌≡◌, ◌⊎◌, ◌+◌, ℕ, false, List, [], ◌∷◌, length, nat_lt, Option, Some, None, Result, Ok, Err, if◌then◌else◌}
+use Rattle.std.specs.Prelude.{◌≡◌, ◌⊎◌, ◌+◌, ◌&&◌, not, ℕ, false, List, [], ◌∷◌, length, nat_lt, Option, Some, None, Result, Ok, Err, if◌then◌else◌}
 use Rattle.tftp_packet.specs.Message.{Message, RequestParts}
 use Rattle.tftp_packet.specs.Spelling.{Spells}
 use Rattle.tftp_packet.specs.Faults.{FirstFault}
@@ -19,7 +19,7 @@ use Rattle.tftp_law.specs.declared.rule.Rule.TheVariants as rule
 use Rattle.tftp_tap.specs.TapCapture.{TapDatagram, TapSides, side_of}
 use Rattle.tftp_tap.specs.TapOrder.{is_left_out}
 use Rattle.tftp_tap.specs.TapRoutes.{asks_in, has_gone, tap_tests, transfer_between}
-use Rattle.tftp_tap.specs.TapRules.{FirstTapAsked, FirstTapBroken, KeptBreaks, TapPasses, header_at, kept_between, recorded_at}
+use Rattle.tftp_tap.specs.TapRules.{FirstTapAsked, FirstTapBroken, KeptBreaks, TapPasses, header_at, is_of_ports, kept_between, recorded_at}
 use Rattle.tftp_tap.specs.declared.route.TapRoute.{TapRoute}
 use Rattle.tftp_tap_judge.specs.TapFinds.{OwnBreaks}
 use Rattle.tftp_tap_judge.specs.TapKept.{IsTapTransfer, TapTransfer, kept_there}
@@ -40,17 +40,18 @@ FindsTo Breaking After (Ok _) = NoneBreaks Breaking × After
 FindsTo Breaking After (Err (Breaks rule)) = IsFirstOf Breaking rule
 FindsTo Breaking After (Err Memory) = NoneBreaks Breaking
 
--- of the first rules of two kinds the one that is tried first, where either is broken
+-- Of the first rules of two kinds the one that is tried first, where either is broken. A rule of ports at the end that gets the
+-- file stands back: between the ends those are told by the two sides alone.
 abbrev pub smaller_of : Option Rule → Result (Unit {0}) Stop → Result (Unit {0}) Stop
 smaller_of None found = found
-smaller_of (Some own) (Err (Breaks other)) = if nat_lt (number_of other) (number_of own) then Err (Breaks other) else Err (Breaks own)
+smaller_of (Some own) (Err (Breaks other)) = if not (is_of_ports other) && nat_lt (number_of other) (number_of own) then Err (Breaks other) else Err (Breaks own)
 smaller_of (Some own) _ = Err (Breaks own)
 
 -- the value in memory is what the end that gets the file would have recorded of the datagram
 abbrev pub IsRecorded : TapSides → End → TapDatagram → OwnedDatagram → Type 0
 IsRecorded s receiver d owned = datagram_of owned ≡ recorded_at s receiver d
 
--- what the end that gets the file would find of a datagram, where it would keep it
+-- what the end that gets the file would find of a datagram, where it would keep it, the rules of ports among it
 abbrev pub ReceiverBreaks : TapSides → Side → List TapDatagram → TapDatagram → Rule → Type 0
 ReceiverBreaks s side passed d broken =
     (is_left_out (tap_tests s) (receiver_of side) d (kept_there s side passed) ≡ false)

@@ -1,4 +1,5 @@
 ghost use Rattle.std.specs.Prelude.{◌≡◌};
+ghost use Rattle.tftp_tap.specs.TapRules.{is_of_ports};
 ghost use Rattle.tftp_tap_judge.specs.TapStops.{smaller_of, stop_by_refusal};
 
 use std::alloc::AllocError;
@@ -36,7 +37,8 @@ pub fn stop_of(refusal: Refusal) -> Stop
     }
 }
 
-/// The smaller of two rules that are the first of their kinds; where there is one of one kind alone, that one.
+/// The smaller of two rules that are the first of their kinds; where there is one of one kind alone, that one. A rule of ports that
+/// the end that gets the file would find gives way: between the ends those are told by the two sides alone.
 pub fn first_of(own: Option<Rule>, found: Result<(), Stop>) -> Result<(), Stop>
     ensures { result ≡ smaller_of own found }
 {
@@ -44,7 +46,19 @@ pub fn first_of(own: Option<Rule>, found: Result<(), Stop>) -> Result<(), Stop>
         return found;
     };
     match found {
-        Err(Stop::Breaks(other)) if other.number() < own.number() => Err(Stop::Breaks(other)),
+        Err(Stop::Breaks(other)) if !tells_ports(other) && other.number() < own.number() => {
+            Err(Stop::Breaks(other))
+        }
         _ => Err(Stop::Breaks(own)),
     }
+}
+
+/// Whether this is one of the rules of ports and hosts (RFC 1350, section 4).
+fn tells_ports(rule: Rule) -> bool
+    ensures { result ≡ is_of_ports rule }
+{
+    matches!(
+        rule,
+        Rule::ForeignPort | Rule::WrongPort | Rule::StrayAnswer
+    )
 }

@@ -1,13 +1,12 @@
-ghost use Rattle.std.specs.Prelude.{◌≡◌, ◌+◌, ◌^◌, ◌<◌, ◌≤◌, List, [], ◌∷◌, length, IfErr, IfOk, OnOk, Err};
+ghost use Rattle.std.specs.Prelude.{◌≡◌, ◌+◌, ◌^◌, ◌<◌, ◌≤◌, List, [], ◌∷◌, length, true, IfErr, IfOk, OnOk, Err};
 ghost use Rattle.tftp_packet.specs.Message.{Message};
 ghost use Rattle.tftp_packet.specs.Meaning.{meaning};
 ghost use Rattle.tftp_packet.specs.Spelling.{Spells};
 ghost use Rattle.tftp_ends.specs.Roles.{receiver_of};
 ghost use Rattle.tftp_law.specs.OneEnded.{Passes};
 ghost use Rattle.tftp_tap.specs.TapCapture.{TapDatagram, TapSides, side_of, AreApart};
-ghost use Rattle.tftp_tap.specs.TapRoutes.{transfer_between};
+ghost use Rattle.tftp_tap.specs.TapRoutes.{is_passing, tap_route, transfer_between};
 ghost use Rattle.tftp_tap.specs.TapRules.{BreaksNoTapRule, header_at, recorded_at};
-ghost use Rattle.tftp_tap.specs.declared.route.TapRoute.{TapRoute};
 ghost use Rattle.tftp_tap_judge.specs.TapKept.{IsFirstError, IsTapTransfer};
 ghost use Rattle.tftp_tap_judge.specs.TapSeen.{AreNotes};
 ghost use Rattle.tftp_tap_judge.specs.TapStops.{FindsTo, IsReadUnless, IsRecorded, TakesInTransfer, TransferBreaks};
@@ -93,9 +92,10 @@ impl<D: Delivered + Drop> TapTransfer<D> {
     pub fn pass(&mut self, alloc: Global, from: End, datagram: &Datagram) -> Result<(), Stop>
         requires few { self.old.receiving.judge.fed < 2 ^ 40 }
         requires short { length datagram.now.payload ≤ 65527 }
-        ensures finds { (s : TapSides) (passed : List TapDatagram) (route : TapRoute) (d : TapDatagram) → AreApart s → IsTapTransfer self.old s passed
-            → d.source ≡ side_of s from → IsRecorded s (receiver_of self.old.asked.side) d datagram.now
-            → FindsTo (TransferBreaks s passed route d) (IsTapTransfer self.new s (d ∷ passed)) result }
+        ensures finds { (s : TapSides) (earlier : List TapDatagram) (d : TapDatagram) → AreApart s → BreaksNoTapRule s earlier
+            → IsTapTransfer self.old s (transfer_between s earlier) → d.source ≡ side_of s from → is_passing (tap_route s earlier d) ≡ true
+            → IsRecorded s (receiver_of self.old.asked.side) d datagram.now
+            → FindsTo (TransferBreaks s (transfer_between s earlier) (tap_route s earlier d) d) (IsTapTransfer self.new s (d ∷ transfer_between s earlier)) result }
         ensures memory { (s : TapSides) (passed : List TapDatagram) (d : TapDatagram) → IsTapTransfer self.old s passed
             → d.source ≡ side_of s from → IsRecorded s (receiver_of self.old.asked.side) d datagram.now → result ≡ Err StopKind.Memory
             → TakesInTransfer s passed d }

@@ -1,6 +1,6 @@
 use Rattle.std.proofs.Common.{◌≡◌, ◌∷◌, Some, inr, sym, subst, ap, ◌∙◌}
 use Rattle.tftp_packet.specs.declared.kinds.End.{End}
-use Rattle.tftp_tap.specs.TapRoutes.{tap_route, transfer_between}
+use Rattle.tftp_tap.specs.TapRoutes.{transfer_between}
 use Rattle.tftp_tap_judge.specs.TapKept.{IsKeptAtTap, IsTapTransfer, TapKeeper}
 use Rattle.tftp_tap_judge.specs.TapStops.{IsRecorded, passing_of}
 use Rattle.tftp_tap_judge.proofs.KeeperFound.{message_found}
@@ -13,7 +13,7 @@ returns-in-Some-clause-finds g c = λ s earlier apart lawful kept source passing
     let there : c.args.self.now.transfer ≡ Some c.in-Some.transfer = sym (ap (λ (k : TapKeeper). k.transfer) c.self.view_is) ∙ c.in-Some.is in
     let was : IsTapTransfer c.in-Some.transfer s passed = subst (IsKeptAtTap s passed) there kept in
     let recorded = subst (λ (e : End). IsRecorded s e d c.recorded-recorded.result) (c.receiver.ensures s passed was) (c.recorded-recorded.ensures.recorded s apart source) in
-    message_found s earlier d passing (IsTapTransfer c.pass.new.self s (d ∷ passed)) c.pass.result (c.pass.ensures.finds s passed (tap_route s earlier d) d apart was source recorded) (c.pass.ensures.read s passed d apart was source recorded)
+    message_found s earlier d passing (IsTapTransfer c.pass.new.self s (d ∷ passed)) c.pass.result (c.pass.ensures.finds s earlier d apart lawful was source passing recorded) (c.pass.ensures.read s passed d apart was source recorded)
 
 pub returns-in-Some-clause-memory : goal.returns-in-Some-clause-memory
 returns-in-Some-clause-memory g c = λ s earlier apart kept source memory.

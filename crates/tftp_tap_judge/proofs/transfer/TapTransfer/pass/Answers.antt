@@ -1,18 +1,20 @@
-use Rattle.std.proofs.Common.{◌≡◌, ◌∷◌, List, Result, Ok, Err, inl, inr, rules, sym, subst, ap, ◌∙◌}
+use Rattle.std.proofs.Common.{◌≡◌, ◌∷◌, List, Result, Ok, Err, true, inl, inr, rules, sym, subst, ap, ◌∙◌}
 use Rattle.std.proofs.lemmas.Result.{err_from_is_err_and}
 use Rattle.tftp_packet.specs.Message.{RequestParts}
 use Rattle.tftp_packet.specs.Meaning.{meaning}
 use Rattle.tftp_ends.specs.Roles.{receiver_of}
 use Rattle.tftp_tap.specs.TapCapture.{TapDatagram, TapSides, AreApart, side_of}
-use Rattle.tftp_tap.specs.declared.route.TapRoute.{TapRoute}
+use Rattle.tftp_tap.specs.TapRoutes.{is_passing, tap_route, transfer_between}
+use Rattle.tftp_tap.specs.TapRules.{BreaksNoTapRule}
 use Rattle.tftp_tap.specs.declared.route.TapRoute.TheVariants.{Request}
 use Rattle.tftp_tap_judge.specs.TapFinds.{IsReadOf}
 use Rattle.tftp_tap_judge.specs.TapKept.{IsReceiving, IsTapTransfer, TapTransfer}
 use Rattle.tftp_tap_judge.specs.TapStops.{FindsTo, IsReadUnless, IsRecorded, TransferBreaks}
 use Rattle.tftp_tap_judge.specs.declared.stop.Stop.{Stop}
 use Rattle.tftp_tap_judge.specs.declared.stop.Stop.TheVariants.{Memory}
+use Rattle.tftp_tap_judge.proofs.KeeperFound.{none_there}
 use Rattle.tftp_tap_judge.proofs.Receivings.{recorded_same}
-use Rattle.tftp_tap_judge.proofs.TransferFound.{answer_read, asked_stays, found_err, memory_smaller, no_fault_in, no_other_error, read_of, transfer_found}
+use Rattle.tftp_tap_judge.proofs.TransferFound.{answer_read, asked_stays, found_err, memory_smaller, no_fault_in, no_other_error, read_of, reads_in, transfer_found}
 use Rattle.tftp_tap_judge.proofs.transfer.TapTransfer.pass.Given.{Over}
 use Rattle.tftp_tap_judge.proofs.transfer.TapTransfer.pass.Goals as goal
 use Rattle.tftp_tap_judge.proofs.transfer.TapTransfer.pass.Goals.{After-first_of}
@@ -32,24 +34,31 @@ read_is : (g : Over) (c : After-first_of g) (s : TapSides) (d : TapDatagram) →
 read_is g c s d recorded = subst (λ (l : List _). IsReadOf l c.read_packet-read.result) (payload_is g c s d recorded) (read_of c.as_slice.result.now c.read_packet-read.result c.read_packet-read.ensures.found c.read_packet-read.ensures.fault)
 
 -- what is found of both
-found : (g : Over) (c : After-first_of g) (s : TapSides) (passed : List TapDatagram) (route : TapRoute) (d : TapDatagram) → AreApart s → IsTapTransfer c.args.self.now s passed → d.source ≡ side_of s c.args.from
-    → IsRecorded s (receiver_of c.args.self.now.asked.side) d c.args.datagram.now → FindsTo (TransferBreaks s passed route d) (IsReceiving c.pass.new.self s c.self.inside.asked.side (d ∷ passed)) c.first_of.result
-found g c s passed route d apart is source recorded =
+found : (g : Over) (c : After-first_of g) (s : TapSides) (earlier : List TapDatagram) (d : TapDatagram) → AreApart s → BreaksNoTapRule s earlier → IsTapTransfer c.args.self.now s (transfer_between s earlier) → d.source ≡ side_of s c.args.from
+    → is_passing (tap_route s earlier d) ≡ true → IsRecorded s (receiver_of c.args.self.now.asked.side) d c.args.datagram.now
+    → FindsTo (TransferBreaks s (transfer_between s earlier) (tap_route s earlier d) d) (IsReceiving c.pass.new.self s c.self.inside.asked.side (d ∷ transfer_between s earlier)) c.first_of.result
+found g c s earlier d apart lawful is source passing recorded =
+    let passed = transfer_between s earlier in
+    let route = tap_route s earlier d in
     let was = known g c s passed is in
+    let read = read_is g c s d recorded in
     subst (FindsTo (TransferBreaks s passed route d) (IsReceiving c.pass.new.self s c.self.inside.asked.side (d ∷ passed))) (sym c.first_of.ensures)
     (transfer_found s passed c.self.inside.asked was.asked route d (IsReceiving c.pass.new.self s c.self.inside.asked.side (d ∷ passed)) c.breaks-own.result c.pass.result
-    (c.breaks-own.ensures s passed route d was.notes apart was.asked source (read_is g c s d recorded))
+    (λ none. none_there s earlier d passing apart lawful c.self.inside.asked was.asked (reads_in s passed c.self.inside.asked was.asked route d none c.read_packet-read.result read) none)
+    (c.breaks-own.ensures s passed route d was.notes apart was.asked source read)
     (c.pass.ensures.finds s c.self.inside.asked.side passed d apart was.receiving source (recorded_in g c s d recorded)))
 
 pub returns-in_err-first_of-clause-finds : goal.returns-in_err-first_of-clause-finds
-returns-in_err-first_of-clause-finds g c = λ s passed route d apart is source recorded.
+returns-in_err-first_of-clause-finds g c = λ s earlier d apart lawful is source passing recorded.
+    let passed = transfer_between s earlier in
+    let route = tap_route s earlier d in
     let at = (goal.at.returns-in_err-first_of-clause-finds g c).After-first_of in
     let was : c.first_of.result ≡ Err c.in_err-first_of.field-0.0 = search rules in
     let same : Err c.in_err-first_of.field-0.0 ≡ c.from_residual.result = search rules in
     let after : Type 0 = IsTapTransfer (record { asked = c.self.inside.asked; receiving = c.pass.new.self; notes = c.self.inside.notes; first_error = c.self.inside.first_error }) s (d ∷ passed) in
     subst (FindsTo (TransferBreaks s passed route d) after) same
     (found_err (TransferBreaks s passed route d) (IsReceiving c.pass.new.self s c.self.inside.asked.side (d ∷ passed)) after c.in_err-first_of.field-0.0
-    (subst (FindsTo (TransferBreaks s passed route d) (IsReceiving c.pass.new.self s c.self.inside.asked.side (d ∷ passed))) was (found g at s passed route d apart is source recorded)))
+    (subst (FindsTo (TransferBreaks s passed route d) (IsReceiving c.pass.new.self s c.self.inside.asked.side (d ∷ passed))) was (found g at s earlier d apart lawful is source passing recorded)))
 
 pub returns-in_err-first_of-clause-memory : goal.returns-in_err-first_of-clause-memory
 returns-in_err-first_of-clause-memory g c = λ s passed d is source recorded memory.
@@ -69,17 +78,19 @@ returns-in_err-first_of-clause-read g c = λ s passed d apart is source recorded
     let kept = known g at s passed is in
     let was : c.first_of.result ≡ Err c.in_err-first_of.field-0.0 = search rules in
     let same : Err c.in_err-first_of.field-0.0 ≡ c.from_residual.result = search rules in
-    subst (λ (r : Result (Unit {0}) Stop). IsReadUnless r d.payload) (was ∙ same)
-    (answer_read (TransferBreaks s passed Request d) (IsReceiving c.pass.new.self s c.self.inside.asked.side (d ∷ passed)) d.payload c.read_packet-read.result c.first_of.result (read_is g at s d recorded)
-    (no_fault_in s passed c.self.inside.asked kept.asked Request d) (found g at s passed Request d apart is source recorded))
+    let read = read_is g at s d recorded in
+    subst (λ (r : Result (Unit {0}) Stop). IsReadUnless r d.payload) (sym c.first_of.ensures ∙ was ∙ same)
+    (answer_read s passed Request d c.breaks-own.result c.pass.result c.read_packet-read.result read (c.breaks-own.ensures s passed Request d kept.notes apart kept.asked source read))
 
 pub returns-in_err-note-in-Ok-clause-finds : goal.returns-in_err-note-in-Ok-clause-finds
-returns-in_err-note-in-Ok-clause-finds g c = λ s passed route d apart is source recorded.
+returns-in_err-note-in-Ok-clause-finds g c = λ s earlier d apart lawful is source passing recorded.
+    let passed = transfer_between s earlier in
+    let route = tap_route s earlier d in
     let at = (goal.at.returns-in_err-note-in-Ok-clause-finds g c).After-first_of in
     let was : c.first_of.result ≡ Ok c.in_ok-first_of.field-0 = search rules in
     let p = err_from_is_err_and c.from_residual-in_err-note-in-Ok.result c.from_residual-in_err-note-in-Ok.ensures.1 in
     let same : Err Memory ≡ c.from_residual-in_err-note-in-Ok.result = sym (p.1 ∙ ap Err p.2) in
-    subst (FindsTo (TransferBreaks s passed route d) _) same (subst (FindsTo (TransferBreaks s passed route d) (IsReceiving c.pass.new.self s c.self.inside.asked.side (d ∷ passed))) was (found g at s passed route d apart is source recorded)).0
+    subst (FindsTo (TransferBreaks s passed route d) _) same (subst (FindsTo (TransferBreaks s passed route d) (IsReceiving c.pass.new.self s c.self.inside.asked.side (d ∷ passed))) was (found g at s earlier d apart lawful is source passing recorded)).0
 
 pub returns-in_err-note-in-Ok-clause-memory : goal.returns-in_err-note-in-Ok-clause-memory
 returns-in_err-note-in-Ok-clause-memory g c = λ s passed d is source recorded memory.
@@ -94,11 +105,13 @@ returns-in_err-note-in-Ok-clause-read g c = λ s passed d apart is source record
     subst (λ (r : Result (Unit {0}) Stop). IsReadUnless r d.payload) (sym (p.1 ∙ ap Err p.2)) (meaning c.in-Ok.packet, subst (IsReadOf d.payload) c.in-Ok.is (read_is g at s d recorded))
 
 pub returns-in_ok-note-in-Ok-clause-finds : goal.returns-in_ok-note-in-Ok-clause-finds
-returns-in_ok-note-in-Ok-clause-finds g c = λ s passed route d apart is source recorded.
+returns-in_ok-note-in-Ok-clause-finds g c = λ s earlier d apart lawful is source passing recorded.
+    let passed = transfer_between s earlier in
+    let route = tap_route s earlier d in
     let at = (goal.at.returns-in_ok-note-in-Ok-clause-finds g c).After-first_of in
     let kept = known g at s passed is in
     let was : c.first_of.result ≡ Ok c.in_ok-first_of.field-0 = search rules in
-    let told = subst (FindsTo (TransferBreaks s passed route d) (IsReceiving c.pass.new.self s c.self.inside.asked.side (d ∷ passed))) was (found g at s passed route d apart is source recorded) in
+    let told = subst (FindsTo (TransferBreaks s passed route d) (IsReceiving c.pass.new.self s c.self.inside.asked.side (d ∷ passed))) was (found g at s earlier d apart lawful is source passing recorded) in
     let spelled = subst (IsReadOf d.payload) c.in-Ok.is (read_is g at s d recorded) in (
       told.0,
       record {
@@ -115,9 +128,11 @@ returns-in_ok-note-in-Ok-clause-read g c = λ s passed d apart is source recorde
     (meaning c.in-Ok.packet, subst (IsReadOf d.payload) c.in-Ok.is (read_is g at s d recorded))
 
 pub returns-in-Err-clause-finds : goal.returns-in-Err-clause-finds
-returns-in-Err-clause-finds g c = λ s passed route d apart is source recorded.
+returns-in-Err-clause-finds g c = λ s earlier d apart lawful is source passing recorded.
+    let passed = transfer_between s earlier in
+    let route = tap_route s earlier d in
     let at = (goal.at.returns-in-Err-clause-finds g c).After-first_of in
     let kept = known g at s passed is in
     let was : c.first_of.result ≡ Ok c.in_ok-first_of.field-0 = search rules in
-    let told = subst (FindsTo (TransferBreaks s passed route d) (IsReceiving c.pass.new.self s c.self.inside.asked.side (d ∷ passed))) was (found g at s passed route d apart is source recorded) in
+    let told = subst (FindsTo (TransferBreaks s passed route d) (IsReceiving c.pass.new.self s c.self.inside.asked.side (d ∷ passed))) was (found g at s earlier d apart lawful is source passing recorded) in
     absurd (no_fault_in s passed c.self.inside.asked kept.asked route d told.0 c.in-Err.fault (subst (IsReadOf d.payload) c.in-Err.is (read_is g at s d recorded)))
