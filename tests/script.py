@@ -324,6 +324,11 @@ def recordings(trial: ScriptTrial, scratch: Scratch) -> None:
     got = scratch.run("check", recording, given="other")
     words = ["check", recording]
     trial.runs("a file after an edit", got, "seven", 1, words=said_of(words), given="other")
+    scratch.source.write_text("eight")
+    _, errors, status, _ = scratch.run(recording, script=scratch.top / "tools" / "tftp-explain")
+    lines = errors.splitlines()
+    holds = status == 2 and "rt: progress on eight" in lines and "gave no rows" in lines[-1]
+    trial.check("a script builds the program before it asks it", holds and "progress" not in lines[-1], errors)
     scratch.source.write_text("3")
     trial.refuses("a trial run that ends with status 3", scratch.call(), trial.not_built(), 1)
 

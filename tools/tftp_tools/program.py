@@ -42,13 +42,24 @@ def find_program(name: str, wanted: Optional[str]) -> str:
     """The one that is named, that of the repository or of the installation of this script, or that on PATH."""
     if wanted:
         return wanted
-    for place in (HERE.parent / name, HERE.parent.parent / "bin" / name):
-        if place.is_file():
-            return str(place)
+    launcher, installed = HERE.parent / name, HERE.parent.parent / "bin" / name
+    if launcher.is_file():
+        return built(str(launcher))
+    if installed.is_file():
+        return str(installed)
     found = shutil.which(name)
     if not found:
         raise Refused(f"the program {name} is not found: install it, or name it with {OPTIONS[name]}")
     return found
+
+
+def built(launcher: str) -> str:
+    """The launcher, once its program is built: what a build says is none of what the program tells."""
+    with told(f"cannot run {launcher!r}"):
+        done = subprocess.run([launcher, "--build"], stdin=subprocess.DEVNULL, check=False)
+    if done.returncode:
+        raise Refused(f"{launcher!r} did not build the program")
+    return launcher
 
 
 def check(program: str, text: bytes) -> Verdict:
