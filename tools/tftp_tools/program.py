@@ -44,7 +44,8 @@ def find_program(name: str, wanted: Optional[str]) -> str:
         return wanted
     launcher, installed = HERE.parent / name, HERE.parent.parent / "bin" / name
     if launcher.is_file():
-        return built(str(launcher))
+        # in a checkout
+        return built(str(launcher)) if (HERE.parent / "crates").is_dir() else str(launcher)
     if installed.is_file():
         return str(installed)
     found = shutil.which(name)
