@@ -157,7 +157,7 @@ CASES = (
     Case(
         "repeated-oack", HPA,
         (f"{CURL} -T report.bin tftp://{RELAY}/report.bin",),
-        both("refused datagram 5 rule 25 BlockChanged", "refused datagram [45] rule 25 BlockChanged"),
+        both(*["refused datagram [0-9]+ rule 25 BlockChanged"] * 2),
         (("server", 1, "repeated"),),
         ("report.bin",),
     ),
