@@ -36,7 +36,7 @@ END
     sed -i "s/BUILT_OF/$text/; s/STATUS/${status:-0}/" out/$1
     chmod +x out/$1
 }
-echo "rt: $*" >>"$CALLS"
+echo "rt: $* in ${PWD##*/}" >>"$CALLS"
 if [ "$1" = ci ]; then
     for crate in tftp_audit tftp_transfers_main; do
         (cd crates/$crate && rm -rf out && build $crate) || exit 1
@@ -45,6 +45,11 @@ if [ "$1" = ci ]; then
     exit 0
 fi
 crate=$(basename "$PWD")
+if [ "$1" = lib ]; then
+    echo "logic=proved functions=1 sum=5a" >&2
+    case ${BROKEN:-} in "$crate") echo "error: $crate" >&2 && exit 1 ;; esac
+    exit 0
+fi
 build "$crate" || exit 1
 shift 2
 exec "out/$crate" "$@"
@@ -107,13 +112,13 @@ class Scratch:
 
     def run(
         self, *words: Word, script: Word | None = None, folder: pathlib.Path | None = None, given: str = "",
-        meanwhile: str = "", errors: int = subprocess.PIPE, on_path: pathlib.Path | None = None,
+        meanwhile: str = "", errors: int = subprocess.PIPE, on_path: pathlib.Path | None = None, broken: str = "",
     ) -> Ran:
         """What the launcher writes, what it writes as errors, its status, and how often rt was called."""
         self.calls.write_text("")
         path = f"{on_path or self.bin}:{self.bin}:{os.environ['PATH']}"
         environment = {"PATH": path, "CALLS": str(self.calls)}
-        environment |= {"MEANWHILE": meanwhile, "TRIED": self.launcher.crate}
+        environment |= {"MEANWHILE": meanwhile, "TRIED": self.launcher.crate, "BROKEN": broken}
         done = subprocess.run(
             [script or self.top / self.launcher.name, *words],
             input=given, cwd=folder or self.top, env=environment, text=True, stdout=subprocess.PIPE, stderr=errors,

@@ -226,7 +226,7 @@ def gates(trial: ScriptTrial, scratch: Scratch) -> None:
         scratch.source.write_text(text)
         status, errors, tested = scratch.make("test")
         calls = scratch.calls.read_text()
-        holds = status == 0 and tested and calls == "rt: ci\ntests were run\n"
+        holds = status == 0 and tested and calls == f"rt: ci in {scratch.top.name}\ntests were run\n"
         trial.check(f"make test of {text}", holds, (errors, calls))
         trial.runs(f"the call after make test of {text}", scratch.call(), text, 0)
     status, errors, tested = scratch.make("test", meanwhile="echo later >src/main.rt")
@@ -374,6 +374,25 @@ def wrong_words(trial: ScriptTrial, scratch: Scratch) -> None:
         trial.check(f"{its} on a terminal", got[1] == "", got)
 
 
+def libraries(trial: ScriptTrial, scratch: Scratch) -> None:
+    """The libraries are built before the program, each once those that it stands on are; where one fails, or where there
+    is no make, the program's own build comes to it."""
+    crates, crate = scratch.top / "crates.txt", scratch.launcher.crate
+    before = crates.read_text()
+    crates.write_text(f"{crate}: tftp_low tftp_high memchr\ntftp_high: tftp_low\ntftp_low: memchr\ntftp_other:\n")
+    folder = scratch.top / "crates" / "tftp_high"
+    folder.mkdir()
+    for broken, built in (("", ["tftp_low", "tftp_high"]), ("tftp_low", ["tftp_low"])):
+        scratch.source.write_text(f"libraries{broken}")
+        got = scratch.run("--build", broken=broken)
+        calls = [call.split() for call in scratch.calls.read_text().splitlines()]
+        libraries_built = [call[-1] for call in calls if call[:2] == ["rt:", "lib"]]
+        holds = libraries_built == built and calls[-1][:2] == ["rt:", "run"] and (got[2], got[3]) == (0, 1)
+        trial.check(f"libraries, {broken or 'none'} broken", holds, (calls, got))
+    folder.rmdir()
+    crates.write_text(before)
+
+
 def progress(trial: ScriptTrial, scratch: Scratch) -> None:
     """On a terminal a build is one line, written again and again; what rt says goes to a file that is named."""
     if not has_terminals():
@@ -427,7 +446,7 @@ def main() -> int:
         of_one = ScriptTrial(launcher)
         with tempfile.TemporaryDirectory() as folder:
             scratch = Scratch(pathlib.Path(folder).resolve(), launcher)
-            for part in (building, edits_meanwhile, failing, gates, links, *further, states):
+            for part in (building, libraries, edits_meanwhile, failing, gates, links, *further, states):
                 part(of_one, scratch)
         trial.add(of_one)
     return trial.end()

@@ -58,8 +58,8 @@ build_by() {
     done
 }
 
-# How many crates of the repository a program is made of, its own among them.
-count_crates() {
+# The crates of the repository that a program is made of, its own first, each with those of them that it stands on.
+crates_of() {
     awk -F: -v of="$crate" '
         { uses[$1] = $2 }
         END {
@@ -67,11 +67,32 @@ count_crates() {
             seen[of]
             for (all = at = 1; at <= all; at++) {
                 count = split(uses[todo[at]], names, " ")
-                for (it = 1; it <= count; it++)
-                    if (names[it] in uses && !(names[it] in seen)) { seen[names[it]]; todo[++all] = names[it] }
+                printf "%s:", todo[at]
+                for (it = 1; it <= count; it++) {
+                    if (!(names[it] in uses)) continue
+                    printf " %s", names[it]
+                    if (!(names[it] in seen)) { seen[names[it]]; todo[++all] = names[it] }
+                }
+                print ""
             }
-            print all
         }' "$top/crates.txt"
+}
+
+count_crates() {
+    crates_of | wc -l
+}
+
+# The same as rules for make: a crate is built once those that it stands on are.
+rules() {
+    crates_of | awk -F: -v of="$crate" '
+        $1 == of { print "all:" $2 }
+        $1 != of { print $1 ":" $2; print "\tcd \"$$TOP/crates/" $1 "\" && rt lib" }'
+}
+
+# Builds the libraries that the program stands on, two at a time, since some need not wait for each other. It only saves
+# time: what is not built so, for want of make or for an error, the program's own build comes to, and tells why.
+libraries() {
+    rules | MAKEFLAGS= TOP=$top make -s -j 2 -f - all || :
 }
 
 # How far a build is that began then, by what rt has said: it ends each crate with its verdict.
@@ -127,12 +148,17 @@ gate() {
     return "$({ { (cd "$top" && rt ci) 3>&- 4>&-; echo "$?" >&3; } | tee "$top/out/gate.log" >&4; } 3>&1)"
 }
 
+build_all() {
+    libraries
+    trial_run
+}
+
 # A trial run ends with status 0, so another status is that of a build that failed.
 build() {
     log=$top/out/$name.log
     mkdir -p "$top/out" && : >"$log" || refuse "cannot write the file '$log'"
     say "proving and building the program: $takes from nothing, less after an edit; what rt says is in $log"
-    build_by "$crate" logged trial_run && return
+    build_by "$crate" logged build_all && return
     refuse "the program was not built, so nothing is run"
 }
 
