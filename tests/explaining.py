@@ -16,14 +16,16 @@ import sys
 import tempfile
 from collections.abc import Sequence
 from dataclasses import dataclass
+from random import Random
 from typing import Final, NamedTuple, Union
 
 import made
 import recorded
 from captures import Capture, EndName, Packet, ack, data, error, oack, read_request, write_request
+from repository import TOP
+from tftp_tools.frames import without_frames
 from trial import Trial
 
-TOP = pathlib.Path(__file__).resolve().parent.parent
 SCRIPT, EXAMPLES = TOP / "tools" / "tftp-explain", TOP / "examples"
 Words = tuple[Union[str, int, pathlib.Path], ...]
 EIGHT, WHOLE = b"12345678", b"w" * 512
@@ -538,9 +540,6 @@ def try_between(trial: Trial, programs: Words, folder: pathlib.Path) -> None:
         trial.check(f"between, {rule}", (line, status) == (f"refused datagram {rule}", 1), (output, errors))
         for it in said:
             trial.check(f"between, {rule}, {it}", it in plain(output), output)
-    output, _, _ = run([*programs, "--all", path])
-    is_told = "What if: told at an end alone" in plain(output) and "what if, without" not in output
-    trial.check("between, what if", is_told, output)
     digest = hashlib.sha256(WHOLE + b"!").hexdigest()
     first, last = data(1, WHOLE), data(2, b"!")
     read = asking(READ) + back(first) + out(ack(1)) + back(last, first) + out(ack(2))
@@ -549,6 +548,56 @@ def try_between(trial: Trial, programs: Words, folder: pathlib.Path) -> None:
         path.write_bytes(made.file_of(passed))
         output, _, _ = run([*programs, "--all", path])
         trial.check(f"between, the file of {name}", f"File: 513 bytes, SHA-256 {digest}." in plain(output), output)
+
+
+def sections(frames: list[recorded.Frame]) -> bytes:
+    """The same frames in pcapng, a section for each in other byte orders, with blocks between that hold none."""
+    chance, file = Random(7), b""
+    for number, frame in enumerate(frames):
+        order = "<>"[number % 2]
+        passed: list[tuple[int, recorded.Block]] = [(0, recorded.other_block(order, chance)), (0, frame)]
+        file += recorded.section(order, [recorded.Interface(recorded.RAW)], passed, chance)
+    return file
+
+
+def try_all_between(trial: Trial, programs: Words, folder: pathlib.Path) -> None:
+    """Between the ends the frames of the refused datagrams are left out of the recording."""
+    path = folder / "between.pcap"
+    changed = asking(READ) + back(data(1, WHOLE)) + out(ack(1)) + back(data(1, WHOLE[:511] + b"x"))
+    passed = changed + back(data(2, b"!")) + out(ack(9), ack(2))
+    digest = hashlib.sha256(WHOLE + b"!").hexdigest()
+    frames = made.framed(made.packets_of(passed))
+    for name, recording in (("pcap", recorded.pcap(frames)), ("pcapng", sections(frames))):
+        path.write_bytes(recording)
+        output, errors, status = run([*programs, "--all", path, 1, "between"])
+        is_first = output.startswith("refused datagram 4 rule 25 BlockChanged\n") and (errors, status) == ("", 1)
+        trial.check(f"between, what if, {name}", is_first, (output, errors))
+        for words in (
+            "what if, without datagram 4: datagram 6 rule 26 AckAhead Where: line 16 of the client's text, frame 6",
+            "what if, without datagrams 4 and 6: accepted get octet blocks 2 bytes 513",
+            f"File: 513 bytes, SHA-256 {digest}.",
+        ):
+            trial.check(f"between, what if, {name}, {words}", words in plain(output), output)
+    path.write_bytes(made.file_of(asking(WRITE) + out(data(1, b"hi"))))
+    output, _, _ = run([*programs, "--all", path, 1, "between"])
+    is_told = "what if, without datagram 2: incomplete after 1" in plain(output)
+    trial.check("between, what if, a request alone", is_told, output)
+
+
+def try_frames(trial: Trial) -> None:
+    """A recording without some frames is the recording of the others; what is cut stays."""
+    passed = asking(READ) + back(data(1, b"hi")) + out(ack(1))
+    frames = made.framed(made.packets_of(passed))
+    for name, whole in (("pcap", recorded.pcap(frames)), ("pcapng", sections(frames))):
+        for gone, frame in enumerate(frames, 1):
+            rest = without_frames(whole, [gone])
+            lacks = frame.content not in rest and all(it.content in rest for it in frames if it != frame)
+            trial.check(f"{name}, without frame {gone}", lacks, rest)
+        for cut in range(24, len(whole) + 1):
+            trial.check(f"{name}, {cut} bytes of it", without_frames(whole[:cut], ()) == whole[:cut], cut)
+    for gone in range(len(frames)):
+        rest = recorded.pcap([frame for place, frame in enumerate(frames) if place != gone])
+        trial.check(f"pcap, all but frame {gone + 1}", without_frames(recorded.pcap(frames), [gone + 1]) == rest, rest)
 
 
 def try_streams(trial: Trial, programs: Words) -> None:
@@ -623,7 +672,9 @@ def main(program: str, transfers: str) -> int:
     with tempfile.TemporaryDirectory() as folder:
         try_recordings(trial, programs, pathlib.Path(folder))
         try_between(trial, programs, pathlib.Path(folder))
+        try_all_between(trial, programs, pathlib.Path(folder))
         try_no_recordings(trial, programs, pathlib.Path(folder))
+    try_frames(trial)
     try_streams(trial, programs)
     try_all(trial, programs)
     tried = {int(case.line.split()[4]) for case in RULES}

@@ -2,12 +2,13 @@
 from __future__ import annotations
 
 import json
-from collections.abc import Callable, Sequence
-from dataclasses import dataclass
+from collections.abc import Callable, Collection, Sequence
+from dataclasses import dataclass, replace
 from typing import Any, Literal, Optional, TypeVar
 
 from .capture import Capture, read_capture
-from .errors import Refused, tell
+from .errors import Refused, read_file, tell
+from .frames import without_frames
 from .program import Verdict, ask, check
 
 EndName = Literal["client", "server"]
@@ -134,6 +135,16 @@ class Recording:
         if written or status != 0 and not beside:
             raise Refused(f"{self.transfers!r} gave no rows for {self.path!r}, and ended with status {status}")
         raise Refused(beside[-1] if beside else f"{self.path}: there is no transfer in the recording")
+
+    def without(self, gone: Collection[int]) -> Recording:
+        """The same without these frames."""
+        recording = read_file(self.path) if self.given is None else self.given
+        return replace(self, path="-", given=without_frames(recording, gone))
+
+    def row_between(self, number: int) -> Optional[Row]:
+        """What is said between the ends of a transfer, without what is told beside."""
+        rows = objects(self.ask("check", "--json", "--end", "between")[0], row_of)
+        return next((row for row in rows if row.number == number), None)
 
     def listed(self) -> list[Listed]:
         """The transfers."""

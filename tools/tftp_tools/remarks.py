@@ -13,11 +13,11 @@ from .capture import Capture, Datagram, read_capture
 from .explained import Told, explain, explain_refused
 from .packets import count
 from .program import Verdict, check, file_of
-from .recording import Judged, Recording
+from .recording import Judged, Recording, Row
 from .rules import RULES
 
 MOST = 20
-NOT_BETWEEN = "told at an end alone, since it is asked of the texts of ends: name client or server."
+NOT_BETWEEN = "not told, since without the datagram that is refused no transfer is left."
 NO_VERDICT = "no verdict: what follows is what the program says once the datagrams that it refused are left out."
 TOTAL = re.compile(rb"total ([0-9]+)")
 
@@ -102,6 +102,23 @@ def remarks_of(audit: str, text: bytes, verdict: Verdict) -> Remarks:
     return Remarks(tuple(refused), verdict, explain(verdict, text, capture), file)
 
 
+def remarks_between(recording: Recording, judged: Judged, row: Row) -> Optional[Remarks]:
+    """The same between the ends, where the frames of the refused datagrams are left out of the recording; nothing where
+    the transfer is gone then."""
+    capture, verdict, refused = judged.capture(), judged.verdict, list[Remark]()
+    rest, last = recording, judged
+    while (found := verdict.refused()) and len(refused) < MOST:
+        datagram = capture.datagrams[found[0] - 1]
+        refused.append(Remark(datagram, verdict, explain_refused(capture, verdict)))
+        rest = recording.without([remark.datagram.frame or 0 for remark in refused])
+        now = rest.row_between(row.number)
+        if now is None:
+            return None
+        last, capture = rest.judged(now), left(capture, datagram)
+        verdict = last.verdict
+    return Remarks(tuple(refused), verdict, explain(verdict, last.text, capture), file_on(rest, last))
+
+
 def file_on(recording: Recording, judged: Judged) -> Optional[CameOver]:
     """The file of a transfer of a recording, if it is accepted and the text of an end has it."""
     text = recording.accepted(judged) if judged.verdict.status == 0 else None
@@ -109,10 +126,7 @@ def file_on(recording: Recording, judged: Judged) -> Optional[CameOver]:
 
 
 def remarks_on(audit: str, recording: Optional[Recording], judged: Judged) -> Optional[Remarks]:
-    """What is to be said further of a text, or of a transfer; nothing of one that is refused between the ends."""
-    if recording is None or not judged.is_between():
+    """What is to be said further of a text, or of a transfer."""
+    if recording is None or judged.row is None or not judged.is_between():
         return remarks_of(audit, judged.text, judged.verdict)
-    if judged.verdict.refused():
-        return None
-    told = explain(judged.verdict, judged.text, judged.capture())
-    return Remarks((), judged.verdict, told, file_on(recording, judged))
+    return remarks_between(recording, judged, judged.row)
