@@ -4,6 +4,7 @@
 use Rattle.std.specs.Prelude.{◌≡◌, ◌≢◌, ℕ, ◌+◌, ◌^◌, ◌<◌, ◌≤◌, Bool, true, false, ◌⊎◌, ◌==◌, if◌then◌else◌, List, [], ◌∷◌, ◌++◌, length, map, All, flat_map, Ok, codes, decimal}
 use Rattle.std.specs.List.{slice_split, join_with_byte, AllZip}
 use Rattle.hex.specs.Hex.{encode_lower, decode_of, IsBytes}
+pub use Rattle.tftp_packet.specs.Capture.{Datagram, Header}
 use Rattle.tftp_packet.specs.Host.{IsHost, no_host}
 use Rattle.tftp_packet.specs.declared.kinds.Dir.{Dir}
 use Rattle.tftp_packet.specs.declared.kinds.Dir.TheVariants.{In, Out}
@@ -13,19 +14,6 @@ use Rattle.tftp_capture.specs.declared.fault.TextFault.{TextFault}
 use Rattle.tftp_capture.specs.declared.fault.TextFault.TheVariants.{BadHeader, BadEnd, BadService, LineTooLong, BadLine, BadPort, BadHost, BadHex, PayloadTooLong, TotalWrong, Truncated, TrailingText, TextTooLong}
 use Rattle.tftp_capture.specs.declared.version.Version.{Version}
 use Rattle.tftp_capture.specs.declared.version.Version.TheVariants.{One, Two}
-
--- whose capture it is, and the port at which a server is asked
-pub record Header : Type 0 where
-  pub named : End
-  pub service : ℕ
-
--- which way, between which ports, to or from which host and with which payload a datagram passed
-pub record Datagram : Type 0 where
-  pub dir : Dir
-  pub local : ℕ
-  pub host : List ℕ
-  pub remote : ℕ
-  pub payload : List ℕ
 
 -- a datagram and the number of its line
 abbrev pub Numbered : Type 0

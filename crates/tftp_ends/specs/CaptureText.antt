@@ -1,6 +1,6 @@
 -- A capture: where it was taken, and what passed there.
 use Rattle.std.specs.Prelude.{ℕ, List}
-pub use Rattle.tftp_capture.specs.CaptureText.{Datagram, Header}
+pub use Rattle.tftp_packet.specs.Capture.{Datagram, Header}
 
 -- the other side of a datagram: a host, and a port there (RFC 1350, section 4)
 pub record PeerId : Type 0 where

@@ -14,3 +14,4 @@ pub mod Same
 pub mod Names
 pub mod NameTable
 pub mod Host
+pub mod Capture
