@@ -5,7 +5,7 @@ use Rattle.tftp_packet.specs.OptionMap.{OptionMap, no_options}
 use Rattle.tftp_packet.specs.Message.{RequestParts}
 use Rattle.tftp_packet.specs.declared.kinds.Side.{Side}
 use Rattle.tftp_packet.specs.declared.kinds.Mode.{Mode}
-pub use Rattle.tftp_nego.specs.Numbers.{number_or, option_or}
+pub use Rattle.tftp_packet.specs.Numbers.{number_or, option_or}
 
 pub record Meaning : Type 0 where
   pub side : Side

@@ -1,4 +1,5 @@
 pub mod OptionMap
+pub mod Numbers
 pub mod Message
 pub mod Written
 pub mod Spelling
