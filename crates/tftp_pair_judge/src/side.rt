@@ -7,10 +7,10 @@ ghost use Rattle.tftp_law.specs.OneEnded.{Passes};
 ghost use Rattle.tftp_judge.specs.Finds.{Refuses};
 ghost use Rattle.tftp_judge.specs.SentByKept.{AreFlags, flags_of};
 ghost use Rattle.tftp_judge.specs.declared.refusal.Refusal.{Refusal as RefusalKind};
-ghost use Rattle.tftp_pair_judge.specs.Merging.{AreMergedBut, IsAskedAgain, WasSent, with_held};
+ghost use Rattle.tftp_pair_judge.specs.Merging.{AreMergedBut, IsAskedAgain, IsWaitFor, WasSent, with_held};
 ghost use Rattle.tftp_pair_judge.specs.Kept.{AreSidesAfter, IsSideAfter, HasSame};
 
-use crate::rest::Left;
+use crate::waiting::Wait;
 use std::alloc::Global;
 use std::marker::Model;
 use std::mem;
@@ -88,18 +88,25 @@ impl<D: Delivered + Drop> Side<D> {
         self.judge.fed().saturating_sub(u64::from(self.waits))
     }
 
-    /// What is left of this end's capture once it goes no further.
-    pub fn into_left(self) -> Left<D>
-        ensures judge { result.judge ≡ self.judge }
-        ensures waited { result.waited ≡ is_some self.held }
-        ensures merged { (part : List DatagramParts) → self.judge.fed ≡ length (with_held self.held part) → result.merged ≡ length part }
+    /// The judge of this end.
+    pub fn into_judge(self) -> Judge<D>
+        ensures { result ≡ self.judge }
     {
-        let merged = self.merged();
-        let Side { judge, waits, .. } = self;
-        Left {
-            judge,
-            merged,
-            waited: waits,
+        self.judge
+    }
+
+    /// Why the datagram that waits here does, where the other end has read all that it is to.
+    pub fn why(&self, other: &Self) -> Option<Wait>
+        ensures { (h : HeaderParts) (read : List DatagramParts) → IsSideAfter other.now h read
+            → IsWaitFor self.now.held (transfer_of h read) result }
+    {
+        if !self.waits {
+            return None;
+        }
+        if other.has_sent(self.kept.payload.as_slice()) {
+            Some(Wait::SentLater)
+        } else {
+            Some(Wait::Unsent)
         }
     }
 
@@ -129,7 +136,7 @@ impl<D: Delivered + Drop> Side<D> {
     }
 
     /// Takes the next datagram of this end, by the rules at this end alone. Tells whether it is one of the transfer.
-    fn feed(&mut self, alloc: Global, datagram: &Datagram) -> Result<bool, Refusal>
+    pub fn feed(&mut self, alloc: Global, datagram: &Datagram) -> Result<bool, Refusal>
         requires few { self.old.judge.fed < 2 ^ 40 }
         requires short { length datagram.now.payload ≤ 65527 }
         ensures accepts { (h : HeaderParts) (read : List DatagramParts) → IsSideAfter self.old h read
