@@ -58,7 +58,7 @@ rest_says Client r Says client server h k read other at none = client refl h k r
 rest_says Server r Says client server h k read other at none = server refl k h other read at none
 
 pub same_twice : (a b c : Side) → HasSame a b → HasSame b c → HasSame a c
-same_twice a b c (judge, acks) (judge_then, acks_then) = (judge_then ∙ judge, acks_then ∙ acks)
+same_twice a b c (judge, acks, counts) (judge_then, acks_then, counts_then) = (judge_then ∙ judge, acks_then ∙ acks, counts_then ∙ counts)
 
 pub none_held : (held : Option Datagram) → is_some held ≡ false → held ≡ None
 none_held None is = refl

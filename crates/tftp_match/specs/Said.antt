@@ -12,7 +12,7 @@ use Rattle.tftp_judge.specs.declared.verdict.Verdict.{Verdict}
 use Rattle.tftp_judge.specs.declared.verdict.Verdict.TheVariants.{Capture, Refused}
 use Rattle.tftp_pair.specs.Captures.{Capture as Captured}
 use Rattle.tftp_pair.specs.PairVerdict.{IsPairVerdict}
-use Rattle.tftp_pair_judge.specs.Verdicts.{IsWhyWaiting}
+use Rattle.tftp_pair_judge.specs.Verdicts.{AreCarried, IsWhyWaiting}
 use Rattle.tftp_match.specs.Judged.{IsJudged}
 use Rattle.tftp_match.specs.Datagrams.{HasDatagrams, capture_of}
 use Rattle.tftp_match.specs.declared.said.Matched.{Matched}
@@ -49,6 +49,7 @@ abbrev pub AreNumbersOf : Option (List ℕ) → Option (List ℕ) → Matched �
 AreNumbersOf before other_before m =
     (text other_text : List ℕ) → before ≡ Some text → other_before ≡ Some other_text → (h k : Header) (ds es : List Numbered) → HasDatagrams text h ds → HasDatagrams other_text k es
     → (h.named ≡ Client) × (k.named ≡ Server) × IsPairVerdict (capture_of h ds) (capture_of k es) m.client_lawful m.server_lawful m.client_matched m.server_matched × AreWhys (capture_of h ds) (capture_of k es) m
+    × AreCarried (capture_of h ds) m.client_lawful (capture_of k es) m.server_lawful m.carried
 
 -- the text names this end
 abbrev pub NamesEnd : Option (List ℕ) → End → Type 0

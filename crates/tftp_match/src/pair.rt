@@ -179,6 +179,7 @@ fn numbers_of(verdict: &PairVerdict) -> Matched
     ensures client { (result.client_lawful ≡ verdict.now.client_lawful) × (result.client_matched ≡ verdict.now.client_matched) }
     ensures server { (result.server_lawful ≡ verdict.now.server_lawful) × (result.server_matched ≡ verdict.now.server_matched) }
     ensures why { (result.client_why ≡ verdict.now.client_why) × (result.server_why ≡ verdict.now.server_why) }
+    ensures carried { result.carried ≡ verdict.now.carried }
 {
     Matched {
         client_lawful: verdict.client_lawful,
@@ -187,5 +188,6 @@ fn numbers_of(verdict: &PairVerdict) -> Matched
         server_matched: verdict.server_matched,
         client_why: verdict.client_why,
         server_why: verdict.server_why,
+        carried: verdict.carried,
     }
 }

@@ -1,6 +1,6 @@
 -- What is merged when neither capture goes on is what there is to say of the two.
 use Rattle.std.proofs.Common.{◌≡◌, ℕ, zero, suc, ◌+◌, ◌<◌, ◌≤◌, true, List, [], ◌∷◌, ◌++◌, length, take, get_or, Option, Some, None, inl, inr, refl, sym, subst, ap, ◌∙◌, arith}
-use Rattle.std.specs.Prelude.{reverse}
+use Rattle.std.specs.Prelude.{reverse, IfSome}
 use Rattle.std.proofs.lemmas.Bool.{cases_lt}
 use Rattle.std.proofs.lemmas.List.{length-append, reverse-append}
 use Rattle.std.proofs.Math.Seq.{take-suc}
@@ -18,7 +18,9 @@ use Rattle.tftp_pair.specs.Waiting.{IsSentAmong, IsSentLater, IsUnsent}
 use Rattle.tftp_pair_judge.specs.Merging.{WasSent, with_held, Waits, AreMergedBut, IsWaitFor}
 use Rattle.tftp_pair_judge.specs.Kept.{IsSideAfter, Side}
 use Rattle.tftp_pair_judge.specs.Rest.{IsLeftAfter, IsRestAfter, Left, Rest}
-use Rattle.tftp_pair_judge.specs.Verdicts.{IsReadOf, GoesNoFurther, IsWhyWaiting}
+use Rattle.tftp_counts.specs.Counts.{AreLostBetween, AreRepeatedBetween}
+use Rattle.tftp_counts.specs.declared.counts.Carried.{Carried}
+use Rattle.tftp_pair_judge.specs.Verdicts.{AreCarried, IsReadOf, GoesNoFurther, IsWhyWaiting}
 use Rattle.tftp_pair_judge.specs.declared.waiting.Wait.{Wait}
 use Rattle.tftp_pair_judge.specs.declared.waiting.Wait.TheVariants.{Unsent, SentLater}
 
@@ -239,3 +241,26 @@ module _ (own other : Capture) (n i k : ℕ) where
   one_why (Some SentLater) None one two = absurd (none_left one.0 two one.1)
   one_why (Some SentLater) (Some Unsent) one two = absurd (apart two one)
   one_why (Some SentLater) (Some SentLater) one two = refl
+
+-- ---- what the network did
+
+module _ (client server : Capture) (a b : Side) (read other_read : List Datagram) (mine : IsSideAfter a client.header read) (theirs : IsSideAfter b server.header other_read) (is : IsReadOf client read) (other_is : IsReadOf server other_read) where
+  passed_is : (n : ℕ) → n ≡ a.judge.fed → transfer_of client.header read ≡ passed_in (begun n client)
+  passed_is n fed = ap (transfer_of client.header) (sym (subst (λ x. reverse (take x client.datagrams) ≡ read) (sym (fed ∙ mine.fed)) is.is))
+
+  other_passed_is : (k : ℕ) → k ≡ b.judge.fed → transfer_of server.header other_read ≡ passed_in (begun k server)
+  other_passed_is k fed = ap (transfer_of server.header) (sym (subst (λ x. reverse (take x server.datagrams) ≡ other_read) (sym (fed ∙ theirs.fed)) other_is.is))
+
+  pub carried_is : (n k : ℕ) → n ≡ a.judge.fed → k ≡ b.judge.fed → (o : Option Carried)
+      → IfSome o (λ (c : Carried). (h k : Header) (ds es : List Datagram) → IsSideAfter a h ds → IsSideAfter b k es → AreLostBetween (transfer_of h ds) (transfer_of k es) c.lost)
+      → IfSome o (λ (c : Carried). (h k : Header) (ds es : List Datagram) → IsSideAfter a h ds → IsSideAfter b k es → AreRepeatedBetween (transfer_of h ds) (transfer_of k es) c.repeated)
+      → AreCarried client n server k o
+  carried_is n k fed other_fed None lost repeated = tt
+  carried_is n k fed other_fed (Some c) lost repeated =
+      let x = passed_is n fed in
+      let y = other_passed_is k other_fed in (
+        subst (λ (ds : List Datagram). AreLostBetween ds (passed_in (begun k server)) c.lost) x
+            (subst (λ (es : List Datagram). AreLostBetween (transfer_of client.header read) es c.lost) y (lost client.header server.header read other_read mine theirs)),
+        subst (λ (ds : List Datagram). AreRepeatedBetween ds (passed_in (begun k server)) c.repeated) x
+            (subst (λ (es : List Datagram). AreRepeatedBetween (transfer_of client.header read) es c.repeated) y (repeated client.header server.header read other_read mine theirs)),
+      )

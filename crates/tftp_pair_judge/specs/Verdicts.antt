@@ -3,6 +3,10 @@ use Rattle.std.specs.Prelude.{◌≡◌, ◌≤◌, ℕ, List, length, take, rev
 use Rattle.tftp_ends.specs.CaptureText.{Datagram}
 use Rattle.tftp_pair.specs.Captures.{Capture}
 use Rattle.tftp_pair.specs.Waiting.{IsSentLater, IsUnsent}
+use Rattle.tftp_pair.specs.MatchedCaptures.{begun}
+use Rattle.tftp_pair.specs.Messages.{passed_in}
+use Rattle.tftp_counts.specs.Counts.{AreLostBetween, AreRepeatedBetween}
+use Rattle.tftp_counts.specs.declared.counts.Carried.{Carried}
 use Rattle.tftp_pair_judge.specs.declared.waiting.Wait.{Wait}
 use Rattle.tftp_pair_judge.specs.declared.waiting.Wait.TheVariants.{Unsent, SentLater}
 
@@ -21,3 +25,10 @@ abbrev pub IsWhyWaiting : Capture → ℕ → ℕ → Capture → ℕ → Option
 IsWhyWaiting own n i other k None = i ≡ n
 IsWhyWaiting own n i other k (Some Unsent) = IsUnsent own n i other k
 IsWhyWaiting own n i other k (Some SentLater) = IsSentLater own n i other k
+
+-- what the network lost and repeated between the first n datagrams of the one capture and the first k of the other, where that
+-- was counted
+abbrev pub AreCarried : Capture → ℕ → Capture → ℕ → Option Carried → Type 0
+AreCarried client n server k None = Unit {0}
+AreCarried client n server k (Some c) =
+    AreLostBetween (passed_in (begun n client)) (passed_in (begun k server)) c.lost × AreRepeatedBetween (passed_in (begun n client)) (passed_in (begun k server)) c.repeated

@@ -13,13 +13,14 @@ ghost use Rattle.tftp_pair.specs.PairVerdict.{IsLawfulTo, IsPairVerdict};
 ghost use Rattle.tftp_pair_judge.specs.Merging.{IsWaitFor, with_held};
 ghost use Rattle.tftp_pair_judge.specs.Kept.{IsSideAfter};
 ghost use Rattle.tftp_pair_judge.specs.Rest.{IsLeftAfter, IsRestAfter, left_at};
-ghost use Rattle.tftp_pair_judge.specs.Verdicts.{IsReadOf, IsWhyWaiting};
+ghost use Rattle.tftp_pair_judge.specs.Verdicts.{AreCarried, IsReadOf, IsWhyWaiting};
 
 use crate::side::Side;
 use crate::waiting::Wait;
 use std::alloc::Global;
 use std::marker::Model;
 use tftp_capture::Datagram;
+use tftp_counts::Carried;
 use tftp_ends::Delivered;
 use tftp_judge::{Meaning, Refusal};
 use tftp_packet::End;
@@ -123,6 +124,8 @@ pub struct PairVerdict {
     pub client_why: Option<Wait>,
     /// Why the server's next datagram is not matched, where one that is lawful is left.
     pub server_why: Option<Wait>,
+    /// What the network lost and repeated of what passed as far as both are lawful; None where memory was wanting to count it.
+    pub carried: Option<Carried>,
 }
 
 impl<D: Delivered + Drop> PairRest<D> {
@@ -201,6 +204,12 @@ impl<D: Delivered + Drop> PairRest<D> {
             → IsReadOf client client_read → IsReadOf server server_read
             → IsWhyWaiting server result.server_lawful result.server_matched client result.client_lawful result.server_why }
 
+        // What the network lost and repeated of what passed as far as both are lawful, where memory sufficed to count it.
+        ensures carried { (client server : Capture) (client_read server_read : List DatagramParts)
+            → IsRestAfter self client.header client_read server.header server_read
+            → IsReadOf client client_read → IsReadOf server server_read
+            → AreCarried client result.client_lawful server result.server_lawful result.carried }
+
         ensures client { (h k : HeaderParts) (client server : List DatagramParts) → IsRestAfter self h client k server → self.client.side.judge.refused ≡ None
             → IsVerdict h (reverse client) result.client }
         ensures server { (h k : HeaderParts) (client server : List DatagramParts) → IsRestAfter self h client k server → self.server.side.judge.refused ≡ None
@@ -217,6 +226,7 @@ impl<D: Delivered + Drop> PairRest<D> {
         let PairRest { client, server } = self;
         let client_why = client.why(&server);
         let server_why = server.why(&client);
+        let carried = client.side.carried(&server.side);
         PairVerdict {
             client_lawful: client.side.fed(),
             server_lawful: server.side.fed(),
@@ -224,6 +234,7 @@ impl<D: Delivered + Drop> PairRest<D> {
             server_matched: server.merged,
             client_why,
             server_why,
+            carried,
             client: client.side.into_judge().finish(alloc),
             server: server.side.into_judge().finish(alloc),
         }

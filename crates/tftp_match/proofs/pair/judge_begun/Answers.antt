@@ -32,8 +32,8 @@ returns g c = λ before other_before begun other_begun.
     let said = finished r.client.side.judge.refused h read c.finish-verdict.result.client (λ none. v.client h k read other rest none) (λ count none same. (v.client_joins h k read other count rest none same).2) v.client_refused in
     let other_said = finished r.server.side.judge.refused k other c.finish-verdict.result.server (λ none. v.server h k read other rest none) (λ count none same. (v.server_joins h k read other count rest none same).2) v.server_refused in
     let numbers : AreNumbersIn r c.numbers_of-numbers.result = λ cl se cr sr after a b p q.
-    rw (c.numbers_of-numbers.ensures.client.0, c.numbers_of-numbers.ensures.client.1, c.numbers_of-numbers.ensures.server.0, c.numbers_of-numbers.ensures.server.1, c.numbers_of-numbers.ensures.why.0, c.numbers_of-numbers.ensures.why.1)
-    (v.numbers cl se cr sr after a b p q, (v.client_why cl se cr sr after a b, v.server_why cl se cr sr after a b)) in
+    rw (c.numbers_of-numbers.ensures.client.0, c.numbers_of-numbers.ensures.client.1, c.numbers_of-numbers.ensures.server.0, c.numbers_of-numbers.ensures.server.1, c.numbers_of-numbers.ensures.why.0, c.numbers_of-numbers.ensures.why.1, c.numbers_of-numbers.ensures.carried)
+    (v.numbers cl se cr sr after a b p q, (v.client_why cl se cr sr after a b, v.server_why cl se cr sr after a b), v.carried cl se cr sr after a b) in
     let named = ap (λ (x : Header). x.named) c.header.ensures in
     let other_named = ap (λ (x : Header). x.named) c.header-2.ensures in
     let says = c.said_of-client_said.ensures why is in

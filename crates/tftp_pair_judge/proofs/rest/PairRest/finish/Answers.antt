@@ -1,7 +1,8 @@
-use Rattle.std.proofs.Common.{ap, sym, subst, ◌∙◌}
+use Rattle.std.proofs.Common.{◌≡◌, ap, sym, subst, ◌∙◌}
 use Rattle.tftp_judge.specs.Kept.{IsJudgeAfter, Judge}
+use Rattle.tftp_pair_judge.specs.Kept.{IsSideAfter, Side}
 use Rattle.tftp_pair_judge.specs.Rest.{Left, Rest}
-use Rattle.tftp_pair_judge.proofs.Verdicts.{IsAnswered, rest_is_verdict, same_numbers, why_left}
+use Rattle.tftp_pair_judge.proofs.Verdicts.{IsAnswered, carried_is, rest_is_verdict, same_numbers, why_left}
 use Rattle.tftp_pair_judge.proofs.rest.PairRest.finish.Goals as goal
 
 pub returns-clause-numbers : goal.returns-clause-numbers
@@ -39,3 +40,12 @@ returns-clause-server_why g c = λ client server client_read server_read after i
     (c.fed-2.ensures ∙ ap (λ (l : Left). l.side.judge.fed) c.server.view_is ∙ ap (λ (r : Rest). r.server.side.judge.fed) c.self.view_is)
     (ap (λ (l : Left). l.merged) c.server.view_is ∙ ap (λ (r : Rest). r.server.merged) c.self.view_is)
     (c.fed.ensures ∙ ap (λ (l : Left). l.side.judge.fed) c.client.view_is ∙ ap (λ (r : Rest). r.client.side.judge.fed) c.self.view_is)
+
+pub returns-clause-carried : goal.returns-clause-carried
+returns-clause-carried g c = λ client server client_read server_read after is other_is.
+    let mine : c.client.inside.side ≡ c.args.self.client.side = ap (λ (l : Left). l.side) c.client.view_is ∙ ap (λ (r : Rest). r.client.side) c.self.view_is in
+    let theirs : c.server.inside.side ≡ c.args.self.server.side = ap (λ (l : Left). l.side) c.server.view_is ∙ ap (λ (r : Rest). r.server.side) c.self.view_is in
+    carried_is client server c.client.inside.side c.server.inside.side client_read server_read
+    (subst (λ (s : Side). IsSideAfter s client.header client_read) (sym mine) after.client_left.side)
+    (subst (λ (s : Side). IsSideAfter s server.header server_read) (sym theirs) after.server_left.side) is other_is _ _ c.fed.ensures c.fed-2.ensures
+    c.carried-carried.result c.carried-carried.ensures.lost c.carried-carried.ensures.repeated
