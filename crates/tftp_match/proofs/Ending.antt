@@ -15,7 +15,8 @@ use Rattle.tftp_pair_judge.specs.Verdicts.{IsReadOf}
 use Rattle.tftp_match.specs.Datagrams.{capture_of}
 use Rattle.tftp_match.specs.Merging.{HasBegun}
 use Rattle.tftp_match.specs.Reading.{IsFinished, IsHalted, said_by}
-use Rattle.tftp_match.specs.Said.{AreNumbersOf, AreTogether, IsApart, IsPairSaid, IsWhy}
+use Rattle.tftp_pair_judge.specs.Verdicts.{AreCarried}
+use Rattle.tftp_match.specs.Said.{AreNumbersOf, AreTogether, AreWhys, IsApart, IsPairSaid, IsWhy}
 use Rattle.tftp_match.specs.declared.reading.Halt.{Halt}
 use Rattle.tftp_match.specs.declared.said.Apart.{Apart}
 use Rattle.tftp_match.specs.declared.said.Apart.TheVariants.{WrongEnd, Stopped}
@@ -31,11 +32,11 @@ finished (Some refusal) h read r verdict spare keeps = keeps refusal refl
 abbrev pub AreNumbersIn : Rest → Matched → Type 0
 AreNumbersIn r m =
     (client server : Capture) (client_read server_read : List Datagram) → IsRestAfter r client.header client_read server.header server_read → IsReadOf client client_read → IsReadOf server server_read
-    → IsLawfulTo client (length client_read) → IsLawfulTo server (length server_read) → IsPairVerdict client server m.client_lawful m.server_lawful m.client_matched m.server_matched
+    → IsLawfulTo client (length client_read) → IsLawfulTo server (length server_read) → IsPairVerdict client server m.client_lawful m.server_lawful m.client_matched m.server_matched × AreWhys client server m × AreCarried client m.client_lawful server m.server_lawful m.carried
 
 module _ (before after other_before other_after : Option (List ℕ)) (failed other_failed : Bool) (mine theirs : ReaderState) (start start' : Option (List ℕ)) (clean clean' : Bool) (begun : HasBegun before start clean mine) (other_begun : HasBegun other_before start' clean' theirs)
-    (read other : List Datagram) (r : Rest) (why other_why : Halt) (halted : IsHalted before after failed why r.client.judge.refused mine.header read) (other_halted : IsHalted other_before other_after other_failed other_why r.server.judge.refused theirs.header other)
-    (client server : Result Meaning Refusal) (said : IsFinished r.client.judge.refused mine.header read client) (other_said : IsFinished r.server.judge.refused theirs.header other server)
+    (read other : List Datagram) (r : Rest) (why other_why : Halt) (halted : IsHalted before after failed why r.client.side.judge.refused mine.header read) (other_halted : IsHalted other_before other_after other_failed other_why r.server.side.judge.refused theirs.header other)
+    (client server : Result Meaning Refusal) (said : IsFinished r.client.side.judge.refused mine.header read client) (other_said : IsFinished r.server.side.judge.refused theirs.header other server)
     (m : Matched) (numbers : AreNumbersIn r m) (rest : IsRestAfter r mine.header read theirs.header other) where
   abbrev pub AreTold : Matched → Type 0
   AreTold = AreTogether mine.header.named theirs.header.named (said_by why client) (said_by other_why server) m
@@ -46,11 +47,15 @@ module _ (before after other_before other_after : Option (List ℕ)) (failed oth
   told : (n : Matched) → AreTold n → AreNumbersOf before other_before n
   told n (named, other_named, of, other_of, same) = subst (AreNumbersOf before other_before) (sym same) (λ text other_text is other_is h k ds es has other_has.
       let part = halted.counts client said of text is h ds has in
-      let other_part = other_halted.counts server other_said other_of other_text other_is k es other_has in (
+      let other_part = other_halted.counts server other_said other_of other_text other_is k es other_has in
+      let both =
+      numbers (capture_of h ds) (capture_of k es) read other
+      (subst (λ x. IsRestAfter r x read k other) (sym part.0) (subst (λ x. IsRestAfter r mine.header read x other) (sym other_part.0) rest)) part.1 other_part.1 part.2 other_part.2 in (
         ap (λ (x : Header). x.named) part.0 ∙ named,
         ap (λ (x : Header). x.named) other_part.0 ∙ other_named,
-        numbers (capture_of h ds) (capture_of k es) read other
-            (subst (λ x. IsRestAfter r x read k other) (sym part.0) (subst (λ x. IsRestAfter r mine.header read x other) (sym other_part.0) rest)) part.1 other_part.1 part.2 other_part.2,
+        both.0,
+        both.1,
+        both.2,
       ))
 
   why_apart : (a : Apart) → IsTold a → IsWhy before other_before (said_by why client) (said_by other_why server) a

@@ -70,7 +70,7 @@ module _ (before after other_before other_after : Option (List ℕ)) (failed oth
 
   said : (t : Result Matched Apart) → IsPairSaid before after other_before other_after failed other_failed c s t → IsOfText c → IsOfText s → SaysMatched c s t ↔ Consistent
   said (Ok m) pair of other_of =
-      let (named, other_named, verdict) = pair.numbers text other is other_is h k ds es (has_all text h ds capture) (has_all other k es other_capture) in
+      let (named, other_named, verdict, whys, carried) = pair.numbers text other is other_is h k ds es (has_all text h ds capture) (has_all other k es other_capture) in
       let mine = all_lawful text h ds c capture of (pair.at_client.whole text is clean) in
       let theirs = all_lawful other k es s other_capture other_of (pair.at_server.whole other other_is other_clean) in
       let decides = pair_decides (capture_of h ds) (capture_of k es) m.client_lawful m.server_lawful m.client_matched m.server_matched named other_named verdict in (

@@ -15,8 +15,8 @@ own_of_pair Client p h k read other at none = at.own_side.goes_on none
 own_of_pair Server p h k read other at none = at.other_side.goes_on none
 
 pub own_of_rest : (e : End) (r : Rest) (h k : Header) (read other : List Datagram) → IsRestAt e r h read k other → (left_judge_at e r).refused ≡ None → IsJudgeAfter (left_judge_at e r) h read
-own_of_rest Client r h k read other at none = at.client_left.goes_on none
-own_of_rest Server r h k read other at none = at.server_left.goes_on none
+own_of_rest Client r h k read other at none = at.client_left.side.goes_on none
+own_of_rest Server r h k read other at none = at.server_left.side.goes_on none
 
 -- what is said of the client and of the server is said of either end
 pub pair_grows : (e : End) (old new : Pair) (d : Datagram) (Also : Header → List Datagram → Type 0)
@@ -51,14 +51,14 @@ rest_stays Client old new stays h k read other at = stays h k read other at
 rest_stays Server old new stays h k read other at = stays k h other read at
 
 pub rest_says : (e : End) (r : Rest) (Says : Header → List Datagram → Type 0)
-    → (e ≡ Client → (h k : Header) (client server : List Datagram) → IsRestAfter r h client k server → r.client.judge.refused ≡ None → Says h client)
-    → (e ≡ Server → (h k : Header) (client server : List Datagram) → IsRestAfter r h client k server → r.server.judge.refused ≡ None → Says k server)
+    → (e ≡ Client → (h k : Header) (client server : List Datagram) → IsRestAfter r h client k server → r.client.side.judge.refused ≡ None → Says h client)
+    → (e ≡ Server → (h k : Header) (client server : List Datagram) → IsRestAfter r h client k server → r.server.side.judge.refused ≡ None → Says k server)
     → (h k : Header) (read other : List Datagram) → IsRestAt e r h read k other → (left_judge_at e r).refused ≡ None → Says h read
 rest_says Client r Says client server h k read other at none = client refl h k read other at none
 rest_says Server r Says client server h k read other at none = server refl k h other read at none
 
 pub same_twice : (a b c : Side) → HasSame a b → HasSame b c → HasSame a c
-same_twice a b c (judge, acks) (judge_then, acks_then) = (judge_then ∙ judge, acks_then ∙ acks)
+same_twice a b c (judge, acks, counts) (judge_then, acks_then, counts_then) = (judge_then ∙ judge, acks_then ∙ acks, counts_then ∙ counts)
 
 pub none_held : (held : Option Datagram) → is_some held ≡ false → held ≡ None
 none_held None is = refl

@@ -34,7 +34,7 @@ IsRestAt Client r h read k other = IsRestAfter r h read k other
 IsRestAt Server r h read k other = IsRestAfter r k other h read
 
 abbrev pub left_judge_at : End → Rest → Judge
-left_judge_at end r = (left_at end r).judge
+left_judge_at end r = (left_at end r).side.judge
 
 abbrev pub RestRuns : End → Seen → Rest → Seen → Rest → Type 0
 RestRuns end = RunsBy (left_judge_at end) (IsRestAt end)

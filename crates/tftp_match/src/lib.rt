@@ -11,3 +11,4 @@ mod said;
 
 pub use pair::judge_pair;
 pub use said::{Apart, Matched, PairSaid};
+pub use tftp_pair_judge::Wait;

@@ -55,7 +55,8 @@ pub fn judge_pair<R: Read, S: Read>(
     ensures server_exact { (text : List ℕ) (said : Result MeaningParts VerdictKind) → S.remaining server.old.0 ≡ Some text → server.new.1 ≡ false
         → IsOfText said → IsTextVerdict text said → (result.server ≡ said) ⊎ WantsMemory result.server }
 
-    // How far the datagrams of the two texts, before the first fault of each, are lawful and go together; or why that is not told.
+    // How far the datagrams of the two texts, before the first fault of each, are lawful and go together, and why no more do; or
+    // why that is not told.
     ensures matched { IfOk result.together (AreNumbersOf (R.remaining client.old.0) (S.remaining server.old.0)) }
     ensures apart { IfErr result.together (IsWhy (R.remaining client.old.0) (S.remaining server.old.0) result.client result.server) }
 
@@ -173,15 +174,20 @@ fn judge_begun<R: Read, S: Read>(
     }
 }
 
-/// The four numbers of a verdict.
+/// The numbers of a verdict, and why what waits does.
 fn numbers_of(verdict: &PairVerdict) -> Matched
     ensures client { (result.client_lawful ≡ verdict.now.client_lawful) × (result.client_matched ≡ verdict.now.client_matched) }
     ensures server { (result.server_lawful ≡ verdict.now.server_lawful) × (result.server_matched ≡ verdict.now.server_matched) }
+    ensures why { (result.client_why ≡ verdict.now.client_why) × (result.server_why ≡ verdict.now.server_why) }
+    ensures carried { result.carried ≡ verdict.now.carried }
 {
     Matched {
         client_lawful: verdict.client_lawful,
         server_lawful: verdict.server_lawful,
         client_matched: verdict.client_matched,
         server_matched: verdict.server_matched,
+        client_why: verdict.client_why,
+        server_why: verdict.server_why,
+        carried: verdict.carried,
     }
 }

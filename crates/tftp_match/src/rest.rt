@@ -1,4 +1,4 @@
-ghost use Rattle.std.specs.Prelude.{◌≡◌, ◌<◌, ◌≤◌, true, None, Some};
+ghost use Rattle.std.specs.Prelude.{◌≡◌, ◌<◌, ◌≤◌, true, None, Some, is_some};
 ghost use Rattle.tftp_capture.specs.declared.standing.Standing.{Standing};
 ghost use Rattle.tftp_ends.specs.Roles.{other_end};
 ghost use Rattle.tftp_pair_judge.specs.Rest.{left_at};
@@ -28,7 +28,7 @@ impl Reading {
         requires goes { self.old.halt ≡ None }
         requires open { self.old.capture.standing ≡ Standing.Open }
         requires lines { (left_judge_at end rest.old).fed < self.old.capture.handed }
-        requires waited { (left_at end rest.old).waited ≡ true }
+        requires waited { is_some (left_at end rest.old).side.held ≡ true }
         ensures runs { RestRuns end (seen (R.remaining reader.old.0) reader.old.1 self.old.halt self.old.capture) rest.old
             (seen (R.remaining reader.new.0) reader.new.1 self.new.halt self.new.capture) rest.new }
         ensures halts { (halt : HaltKind) × (self.new.halt ≡ Some halt) }
@@ -56,7 +56,7 @@ impl Reading {
     )
         requires open { self.old.halt ≡ None → self.old.capture.standing ≡ Standing.Open }
         requires lines { self.old.halt ≡ None → (left_judge_at end rest.old).fed < self.old.capture.handed }
-        requires waited { self.old.halt ≡ None → (left_at end rest.old).waited ≡ true }
+        requires waited { self.old.halt ≡ None → is_some (left_at end rest.old).side.held ≡ true }
         ensures runs { RestRuns end (seen (R.remaining reader.old.0) reader.old.1 self.old.halt self.old.capture) rest.old
             (seen (R.remaining reader.new.0) reader.new.1 self.new.halt self.new.capture) rest.new }
         ensures halts { (halt : HaltKind) × (self.new.halt ≡ Some halt) }

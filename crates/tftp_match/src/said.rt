@@ -3,8 +3,10 @@ ghost use Rattle.tftp_judge.specs.TextVerdict.{IsOfText};
 ghost use Rattle.tftp_match.specs.Said.{AreTogether, IsAllLawful, IsApart, SaysMatched};
 
 use tftp_capture::CaptureFault;
+use tftp_counts::Carried;
 use tftp_judge::{Meaning, Refusal, Verdict};
 use tftp_packet::End;
+use tftp_pair_judge::Wait;
 
 /// How many datagrams of two captures are lawful, and how many of these some run of the two ends has together, each counted
 /// from the first of its capture.
@@ -18,6 +20,13 @@ pub struct Matched {
     pub client_matched: u64,
     /// How many of the server's it has.
     pub server_matched: u64,
+    /// Why the client's datagram behind the matched ones waits; None where no lawful one is left.
+    pub client_why: Option<Wait>,
+    /// Why the server's datagram behind the matched ones waits; None where no lawful one is left.
+    pub server_why: Option<Wait>,
+    /// What the network lost and repeated, at the least, of what passed as far as both are lawful (RFC 1350, section 2); None
+    /// where memory was wanting to count it.
+    pub carried: Option<Carried>,
 }
 
 /// Why it is not told how far two captures go together.

@@ -83,6 +83,7 @@ fn unmatched_in(said: &PairSaid) -> Unmatched {
         server_lawful,
         client_matched,
         server_matched,
+        ..
     } = matched;
     Unmatched {
         client: first_left(client_matched, client_lawful, &said.client),

@@ -4,4 +4,5 @@ pub mod Counts
 pub mod Messages
 pub mod MatchedCaptures
 pub mod PairVerdict
+pub mod Waiting
 pub mod Worked

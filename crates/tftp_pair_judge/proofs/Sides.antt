@@ -14,6 +14,7 @@ use Rattle.tftp_judge.specs.Kept.{IsJudgeAfter, IsKept, Judge, Transfer}
 use Rattle.tftp_judge.specs.SentByKept.{AreFlags, HasSentIn, flags_of}
 use Rattle.tftp_judge.specs.declared.refusal.Refusal.{Refusal}
 use Rattle.tftp_pair.proofs.SentByKept.{sent_by_kept}
+use Rattle.tftp_counts.specs.Counts.{AreCounted, Counted}
 use Rattle.tftp_pair_judge.specs.Merging.{AreMergedBut, IsAskedAgain, WasSent}
 use Rattle.tftp_pair_judge.specs.Kept.{AreSidesAfter, HasSame, IsSideAfter, Side}
 use Rattle.tftp_pair_judge.proofs.Merging.{but_turned, merges_held, merges_in, merges_out, merges_stray}
@@ -66,7 +67,7 @@ flags_stay flags passed d other are j = (
   λ p. elim p [ inl this ↦ absurd (other j this.0 this.1) | inr p ↦ (are j).1 p ],
 )
 
-in_is_not_out : (d : Datagram) → d.dir ≡ In → d.dir ≡ Out → ⊥
+pub in_is_not_out : (d : Datagram) → d.dir ≡ In → d.dir ≡ Out → ⊥
 in_is_not_out d came went = let e : In ≡ Out = sym came ∙ went in absurd (cc)
 
 pub flags_after_in : (flags : ℕ → Bool) (h : Header) (read : List Datagram) (d : Datagram) → d.dir ≡ In → AreFlags flags (transfer_of h read) → AreFlags flags (transfer_of h (d ∷ read))
@@ -83,8 +84,14 @@ flags_after_main flags h read d is are = subst (AreFlags flags) (sym (main_some 
 
 -- ---- the side
 
-pub side_of_judge : (s : Side) (h : Header) (read : List Datagram) → IsJudgeAfter s.judge h read → AreFlags (flags_of s.acks) (transfer_of h read) → IsSideAfter s h read
-side_of_judge s h read j acks = record { goes_on = λ _. j; lawful = j.lawful; short = j.short; kept = j.has_kept.kept; fed = j.fed; acks = acks }
+pub side_of_judge : (s : Side) (h : Header) (read : List Datagram) → IsJudgeAfter s.judge h read → AreFlags (flags_of s.acks) (transfer_of h read) → AreCounted s.counts (transfer_of h read) → IsSideAfter s h read
+side_of_judge s h read j acks counted = record { goes_on = λ _. j; lawful = j.lawful; short = j.short; kept = j.has_kept.kept; fed = j.fed; acks = acks; counted = counted }
+
+pub counted_after_main : (counts : Option Counted) (h : Header) (read : List Datagram) (d : Datagram) → is_of_transfer (route_of h read d) ≡ true → AreCounted counts (d ∷ transfer_of h read) → AreCounted counts (transfer_of h (d ∷ read))
+counted_after_main counts h read d is are = subst (AreCounted counts) (sym (main_some (is_of_transfer (route_of h read d)) d (transfer_of h read) is)) are
+
+pub counted_after_stray : (counts : Option Counted) (h : Header) (read : List Datagram) (d : Datagram) → is_of_transfer (route_of h read d) ≡ false → AreCounted counts (transfer_of h read) → AreCounted counts (transfer_of h (d ∷ read))
+counted_after_stray counts h read d is are = subst (AreCounted counts) (sym (main_none (is_of_transfer (route_of h read d)) d (transfer_of h read) is)) are
 
 pub same_side : (old new : Side) (h : Header) (read : List Datagram) → HasSame old new → IsSideAfter old h read → IsSideAfter new h read
 same_side old new h read same after = record {
@@ -94,17 +101,19 @@ same_side old new h read same after = record {
   kept = subst (λ (j : Judge). IsKept h read j.keeper.transfer) (sym same.0) after.kept;
   fed = ap (λ (j : Judge). j.fed) same.0 ∙ after.fed;
   acks = subst (λ (ws : List ℕ). AreFlags (flags_of ws) (transfer_of h read)) (sym same.1) after.acks;
+  counted = subst (λ (counts : Option Counted). AreCounted counts (transfer_of h read)) (sym same.2) after.counted;
 }
 
-pub refused_side : (old new : Side) (h : Header) (read : List Datagram) (r : Refusal) → new.judge.refused ≡ Some r → new.judge.keeper.transfer ≡ old.judge.keeper.transfer → new.judge.fed ≡ old.judge.fed → new.acks ≡ old.acks
+pub refused_side : (old new : Side) (h : Header) (read : List Datagram) (r : Refusal) → new.judge.refused ≡ Some r → new.judge.keeper.transfer ≡ old.judge.keeper.transfer → new.judge.fed ≡ old.judge.fed → new.acks ≡ old.acks → new.counts ≡ old.counts
     → IsSideAfter old h read → IsSideAfter new h read
-refused_side old new h read r refused transfer fed acks after = record {
+refused_side old new h read r refused transfer fed acks counts after = record {
   goes_on = λ none. let e : Some r ≡ None = sym refused ∙ none in absurd (cc);
   lawful = after.lawful;
   short = after.short;
   kept = subst (IsKept h read) (sym transfer) after.kept;
   fed = fed ∙ after.fed;
   acks = subst (λ (ws : List ℕ). AreFlags (flags_of ws) (transfer_of h read)) (sym acks) after.acks;
+  counted = subst (λ (o : Option Counted). AreCounted o (transfer_of h read)) (sym counts) after.counted;
 }
 
 pub not_refused : {A : Type 0} → (refused : Option Refusal) (result : Result A Refusal) (answer : A) → ((r : Refusal) → refused ≡ Some r → result ≡ Err r) → result ≡ Ok answer → refused ≡ None

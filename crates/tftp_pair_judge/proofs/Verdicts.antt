@@ -1,8 +1,8 @@
 -- What is merged when neither capture goes on is what there is to say of the two.
-use Rattle.std.proofs.Common.{◌≡◌, ℕ, zero, suc, ◌+◌, ◌≤◌, true, List, [], ◌∷◌, ◌++◌, length, take, get_or, Option, Some, None, inl, inr, refl, sym, subst, ap, ◌∙◌, arith}
-use Rattle.std.specs.Prelude.{is_some, reverse}
+use Rattle.std.proofs.Common.{◌≡◌, ℕ, zero, suc, ◌+◌, ◌<◌, ◌≤◌, true, List, [], ◌∷◌, ◌++◌, length, take, get_or, Option, Some, None, inl, inr, refl, sym, subst, ap, ◌∙◌, arith}
+use Rattle.std.specs.Prelude.{reverse, IfSome}
 use Rattle.std.proofs.lemmas.Bool.{cases_lt}
-use Rattle.std.proofs.lemmas.List.{reverse-append}
+use Rattle.std.proofs.lemmas.List.{length-append, reverse-append}
 use Rattle.std.proofs.Math.Seq.{take-suc}
 use Rattle.tftp_packet.specs.declared.kinds.Dir.TheVariants.{In}
 use Rattle.tftp_ends.specs.CaptureText.{Datagram, Header}
@@ -10,13 +10,19 @@ use Rattle.tftp_ends.specs.Ports.{route_of, is_of_transfer, transfer_of}
 use Rattle.tftp_law.specs.OneEnded.{OneEnded}
 use Rattle.tftp_pair.specs.Captures.{Capture}
 use Rattle.tftp_pair.specs.Messages.{AreMergedBy, passed_in}
-use Rattle.tftp_pair.specs.MatchedCaptures.{begun, IsShut}
+use Rattle.tftp_pair.specs.MatchedCaptures.{begun, IsNextIn, IsShut}
 use Rattle.tftp_pair.specs.PairVerdict.{IsLawfulTo, IsPairVerdict}
 use Rattle.tftp_pair.proofs.MatchedCaptures.{stuck_to}
 use Rattle.tftp_pair.proofs.PairVerdict.{kept_before}
-use Rattle.tftp_pair_judge.specs.Merging.{WasSent, with_held, Waits, AreMergedBut}
+use Rattle.tftp_pair.specs.Waiting.{IsSentAmong, IsSentLater, IsUnsent}
+use Rattle.tftp_pair_judge.specs.Merging.{WasSent, with_held, Waits, AreMergedBut, IsWaitFor}
+use Rattle.tftp_pair_judge.specs.Kept.{IsSideAfter, Side}
 use Rattle.tftp_pair_judge.specs.Rest.{IsLeftAfter, IsRestAfter, Left, Rest}
-use Rattle.tftp_pair_judge.specs.Verdicts.{IsReadOf, GoesNoFurther}
+use Rattle.tftp_counts.specs.Counts.{AreLostBetween, AreRepeatedBetween}
+use Rattle.tftp_counts.specs.declared.counts.Carried.{Carried}
+use Rattle.tftp_pair_judge.specs.Verdicts.{AreCarried, IsReadOf, GoesNoFurther, IsWhyWaiting}
+use Rattle.tftp_pair_judge.specs.declared.waiting.Wait.{Wait}
+use Rattle.tftp_pair_judge.specs.declared.waiting.Wait.TheVariants.{Unsent, SentLater}
 
 -- ---- lists
 
@@ -34,6 +40,17 @@ taken : (n : ℕ) (xs : List Datagram) → n ≤ length xs → length (take n xs
 taken zero xs low = ap length (take_none xs)
 taken (suc n) [] low = absurd (omega (arith, low))
 taken (suc n) (x ∷ xs) low = ap suc (taken n xs (omega (arith, low)))
+
+length_take : (n : ℕ) (xs : List Datagram) → length (take n xs) ≤ n
+length_take zero xs = let none = ap length (take_none xs) in omega (arith, none)
+length_take (suc n) [] = omega arith
+length_take (suc n) (x ∷ xs) = let low = length_take n xs in omega (arith, low)
+
+-- where there is one, it is there whatever is put for none
+get_or_same : (xs : List Datagram) (n : ℕ) (d e : Datagram) → n < length xs → get_or xs n d ≡ get_or xs n e
+get_or_same [] n d e low = absurd (omega (arith, low))
+get_or_same (x ∷ xs) zero d e low = refl
+get_or_same (x ∷ xs) (suc n) d e low = get_or_same xs n d e (omega (arith, low))
 
 -- ---- one capture
 
@@ -129,32 +146,121 @@ lawful_before h (e ∷ more) early is = lawful_before h more early is.1
 
 left_ends : (l : Left) (held : Option Datagram) (part early : List Datagram) (h : Header) (read : List Datagram) → IsLeftAfter l held part early h read → GoesNoFurther held early (length read)
 left_ends l held part early h read after none =
-    let no_more = after.ends (after.waited ∙ ap (λ (o : Option Datagram). is_some o) none) in
+    let no_more = after.ends none in
     sym (ap length (after.is ∙ ap (λ (m : List Datagram). m ++ early) no_more))
 
 pub rest_is_verdict : (client server : Capture) (r : Rest) (read other_read : List Datagram) → IsRestAfter r client.header read server.header other_read
     → IsReadOf client read → IsReadOf server other_read → IsLawfulTo client (length read) → IsLawfulTo server (length other_read)
-    → IsPairVerdict client server r.client.judge.fed r.server.judge.fed r.client.merged r.server.merged
+    → IsPairVerdict client server r.client.side.judge.fed r.server.side.judge.fed r.client.merged r.server.merged
 rest_is_verdict client server r read other_read rest is other_is part other_part =
     let a = rest.client_left in
     let b = rest.server_left in
-    subst (λ x. IsPairVerdict client server x r.server.judge.fed r.client.merged r.server.merged) (sym a.fed)
-    (subst (λ x. IsPairVerdict client server (length read) x r.client.merged r.server.merged) (sym b.fed)
+    subst (λ x. IsPairVerdict client server x r.server.side.judge.fed r.client.merged r.server.merged) (sym a.side.fed)
+    (subst (λ x. IsPairVerdict client server (length read) x r.client.merged r.server.merged) (sym b.side.fed)
     (subst (λ x. IsPairVerdict client server (length read) (length other_read) x r.server.merged) (sym a.merged)
     (subst (λ x. IsPairVerdict client server (length read) (length other_read) (length rest.but.part) x) (sym b.merged)
     (merged_is_verdict client server rest.early rest.other_early rest.held rest.other_held (length read) (length other_read) rest.but
     (read_before client a.more rest.early (subst (IsReadOf client) a.is is))
     (read_before server b.more rest.other_early (subst (IsReadOf server) b.is other_is))
-    (lawful_before client.header a.more rest.early (subst (OneEnded client.header) a.is a.lawful))
-    (lawful_before server.header b.more rest.other_early (subst (OneEnded server.header) b.is b.lawful))
+    (lawful_before client.header a.more rest.early (subst (OneEnded client.header) a.is a.side.lawful))
+    (lawful_before server.header b.more rest.other_early (subst (OneEnded server.header) b.is b.side.lawful))
     part other_part
     (left_ends r.client rest.held rest.but.part rest.early client.header read a)
     (left_ends r.server rest.other_held rest.but.other_part rest.other_early server.header other_read b)))))
 
-pub same_numbers : (client server : Capture) (r : Rest) (n k i j : ℕ) → IsPairVerdict client server r.client.judge.fed r.server.judge.fed r.client.merged r.server.merged
-    → n ≡ r.client.judge.fed → k ≡ r.server.judge.fed → i ≡ r.client.merged → j ≡ r.server.merged → IsPairVerdict client server n k i j
+pub same_numbers : (client server : Capture) (r : Rest) (n k i j : ℕ) → IsPairVerdict client server r.client.side.judge.fed r.server.side.judge.fed r.client.merged r.server.merged
+    → n ≡ r.client.side.judge.fed → k ≡ r.server.side.judge.fed → i ≡ r.client.merged → j ≡ r.server.merged → IsPairVerdict client server n k i j
 same_numbers client server r n k i j verdict a b x y =
     subst (λ z. IsPairVerdict client server z k i j) (sym a)
-    (subst (λ z. IsPairVerdict client server r.client.judge.fed z i j) (sym b)
-    (subst (λ z. IsPairVerdict client server r.client.judge.fed r.server.judge.fed z j) (sym x)
-    (subst (λ z. IsPairVerdict client server r.client.judge.fed r.server.judge.fed r.client.merged z) (sym y) verdict)))
+    (subst (λ z. IsPairVerdict client server r.client.side.judge.fed z i j) (sym b)
+    (subst (λ z. IsPairVerdict client server r.client.side.judge.fed r.server.side.judge.fed z j) (sym x)
+    (subst (λ z. IsPairVerdict client server r.client.side.judge.fed r.server.side.judge.fed r.client.merged z) (sym y) verdict)))
+
+-- ---- why what waits does
+
+module _ (own other : Capture) (part early more read other_read : List Datagram) (is : read ≡ more ++ early) (is_read : IsReadOf own read) (other_is : IsReadOf other other_read) where
+  waits_next : (d : Datagram) → early ≡ d ∷ part → IsNextIn (begun (length read) own) (length part) d
+  waits_next d parts =
+      let first : IsReadOf own (d ∷ part) = subst (IsReadOf own) parts (read_before own more early (subst (IsReadOf own) is is_read)) in
+      let all = ap length is ∙ length-append more early in
+      let some = ap length parts in
+      let low : length (d ∷ part) ≤ length read = omega (arith, all, some) in
+      let of = read_of_begun own (d ∷ part) (length read) low is_read.within first in
+      let within = of.within in
+      (omega (arith, within), next_is (begun (length read) own) d part of d)
+
+  sent_among : (d : Datagram) → IsSentAmong (length other_read) other d → WasSent d.payload (transfer_of other.header other_read)
+  sent_among d sent = subst (λ (ds : List Datagram). WasSent d.payload (transfer_of other.header ds)) other_is.is sent
+
+  among_sent : (d : Datagram) → WasSent d.payload (transfer_of other.header other_read) → IsSentAmong (length other_read) other d
+  among_sent d sent = subst (λ (ds : List Datagram). WasSent d.payload (transfer_of other.header ds)) (sym other_is.is) sent
+
+  why_waiting : (held : Option Datagram) (why : Option Wait) → early ≡ with_held held part → (held ≡ None → more ≡ []) → IsWaitFor held (transfer_of other.header other_read) why
+      → IsWhyWaiting own (length read) (length part) other (length other_read) why
+  why_waiting None why parts ends waits = subst (IsWhyWaiting own (length read) (length part) other (length other_read)) (sym waits) (sym (ap length (is ∙ ap (λ (ds : List Datagram). ds ++ early) (ends refl) ∙ parts)))
+  why_waiting (Some d) None parts ends waits = absurd waits
+  why_waiting (Some d) (Some Unsent) parts ends waits = (d, waits_next d parts, λ sent. waits (sent_among d sent))
+  why_waiting (Some d) (Some SentLater) parts ends waits = (d, waits_next d parts, among_sent d waits)
+
+-- why what waits at one end does, by all that the other end has read
+abbrev pub IsAnswered : Side → Side → Option Wait → Type 0
+IsAnswered own other why = (h : Header) (ds : List Datagram) → IsSideAfter other h ds → IsWaitFor own.held (transfer_of h ds) why
+
+-- of what is left of one capture and of the other
+pub why_left : (own other : Capture) (l o : Left) (held other_held : Option Datagram) (part early read other_part other_early other_read : List Datagram) (why : Option Wait) (n i k : ℕ)
+    → IsLeftAfter l held part early own.header read → IsLeftAfter o other_held other_part other_early other.header other_read → early ≡ with_held held part → IsReadOf own read → IsReadOf other other_read
+    → IsAnswered l.side o.side why
+    → n ≡ l.side.judge.fed → i ≡ l.merged → k ≡ o.side.judge.fed → IsWhyWaiting own n i other k why
+why_left own other l o held other_held part early read other_part other_early other_read why n i k left other_left parts is other_is waits fed merged other_fed =
+    subst (λ x. IsWhyWaiting own x i other k why) (sym (fed ∙ left.side.fed))
+    (subst (λ x. IsWhyWaiting own (length read) x other k why) (sym (merged ∙ left.merged))
+    (subst (λ x. IsWhyWaiting own (length read) (length part) other x why) (sym (other_fed ∙ other_left.side.fed))
+    (why_waiting own other part early left.more read other_read left.is is other_is held why parts left.ends
+    (subst (λ o. IsWaitFor o (transfer_of other.header other_read) why) left.waits (waits other.header other_read other_left.side)))))
+
+-- ---- one answer
+
+module _ (own other : Capture) (n i k : ℕ) where
+  -- none is left behind the last one
+  none_left : (d : Datagram) → i ≡ n → IsNextIn (begun n own) i d → ⊥
+  none_left d all next = let low = next.0 in let most = length_take n own.datagrams in omega (arith, all, low, most)
+
+  -- the next datagram is one
+  apart : IsUnsent own n i other k → IsSentLater own n i other k → ⊥
+  apart (d, next, unsent) (e, also, sent) = unsent (subst (IsSentAmong k other) (sym also.1 ∙ next_one e d next) sent) where
+    next_one : (e d : Datagram) → IsNextIn (begun n own) i d → get_or (begun n own).datagrams i e ≡ d
+    next_one e d next = get_or_same (begun n own).datagrams i e d next.0 ∙ next.1
+
+  pub one_why : (why also : Option Wait) → IsWhyWaiting own n i other k why → IsWhyWaiting own n i other k also → why ≡ also
+  one_why None None one two = refl
+  one_why None (Some Unsent) one two = absurd (none_left two.0 one two.1)
+  one_why None (Some SentLater) one two = absurd (none_left two.0 one two.1)
+  one_why (Some Unsent) None one two = absurd (none_left one.0 two one.1)
+  one_why (Some Unsent) (Some Unsent) one two = refl
+  one_why (Some Unsent) (Some SentLater) one two = absurd (apart one two)
+  one_why (Some SentLater) None one two = absurd (none_left one.0 two one.1)
+  one_why (Some SentLater) (Some Unsent) one two = absurd (apart two one)
+  one_why (Some SentLater) (Some SentLater) one two = refl
+
+-- ---- what the network did
+
+module _ (client server : Capture) (a b : Side) (read other_read : List Datagram) (mine : IsSideAfter a client.header read) (theirs : IsSideAfter b server.header other_read) (is : IsReadOf client read) (other_is : IsReadOf server other_read) where
+  passed_is : (n : ℕ) → n ≡ a.judge.fed → transfer_of client.header read ≡ passed_in (begun n client)
+  passed_is n fed = ap (transfer_of client.header) (sym (subst (λ x. reverse (take x client.datagrams) ≡ read) (sym (fed ∙ mine.fed)) is.is))
+
+  other_passed_is : (k : ℕ) → k ≡ b.judge.fed → transfer_of server.header other_read ≡ passed_in (begun k server)
+  other_passed_is k fed = ap (transfer_of server.header) (sym (subst (λ x. reverse (take x server.datagrams) ≡ other_read) (sym (fed ∙ theirs.fed)) other_is.is))
+
+  pub carried_is : (n k : ℕ) → n ≡ a.judge.fed → k ≡ b.judge.fed → (o : Option Carried)
+      → IfSome o (λ (c : Carried). (h k : Header) (ds es : List Datagram) → IsSideAfter a h ds → IsSideAfter b k es → AreLostBetween (transfer_of h ds) (transfer_of k es) c.lost)
+      → IfSome o (λ (c : Carried). (h k : Header) (ds es : List Datagram) → IsSideAfter a h ds → IsSideAfter b k es → AreRepeatedBetween (transfer_of h ds) (transfer_of k es) c.repeated)
+      → AreCarried client n server k o
+  carried_is n k fed other_fed None lost repeated = tt
+  carried_is n k fed other_fed (Some c) lost repeated =
+      let x = passed_is n fed in
+      let y = other_passed_is k other_fed in (
+        subst (λ (ds : List Datagram). AreLostBetween ds (passed_in (begun k server)) c.lost) x
+            (subst (λ (es : List Datagram). AreLostBetween (transfer_of client.header read) es c.lost) y (lost client.header server.header read other_read mine theirs)),
+        subst (λ (ds : List Datagram). AreRepeatedBetween ds (passed_in (begun k server)) c.repeated) x
+            (subst (λ (es : List Datagram). AreRepeatedBetween (transfer_of client.header read) es c.repeated) y (repeated client.header server.header read other_read mine theirs)),
+      )

@@ -7,6 +7,7 @@ use Rattle.tftp_ends.specs.Ports.{transfer_of}
 use Rattle.tftp_law.specs.OneEnded.{OneEnded}
 use Rattle.tftp_judge.specs.Kept.{IsJudgeAfter, IsKept, Judge}
 use Rattle.tftp_judge.specs.SentByKept.{AreFlags, flags_of}
+use Rattle.tftp_counts.specs.Counts.{AreCounted, Counted}
 use Rattle.tftp_pair_judge.specs.Merging.{AreMergedBut}
 
 -- what is kept of one end
@@ -14,6 +15,7 @@ pub record Side : Type 0 where
   pub judge : Judge
   pub acks : List ℕ  -- the words of the flags of the ACKs that it has sent
   pub held : Option Datagram  -- the last one that was read, where it came in and waits
+  pub counts : Option Counted  -- how often each packet passed, while there is memory for it
 
 pub record Pair : Type 0 where
   pub client : Side
@@ -27,6 +29,7 @@ pub record IsSideAfter (s : Side) (h : Header) (read : List Datagram) : Type 0 w
   pub kept : IsKept h read s.judge.keeper.transfer
   pub fed : s.judge.fed ≡ length read
   pub acks : AreFlags (flags_of s.acks) (transfer_of h read)
+  pub counted : AreCounted s.counts (transfer_of h read)
 
 -- Two sides stand for what was read at each, and all of it is merged but what waits.
 pub record AreSidesAfter (own other : Side) (h : Header) (read : List Datagram) (other_h : Header) (other_read : List Datagram) : Type 0 where
@@ -39,7 +42,7 @@ IsPairAfter p client_header client server_header server = AreSidesAfter p.client
 
 -- all but what waits
 abbrev pub HasSame : Side → Side → Type 0
-HasSame old new = (new.judge ≡ old.judge) × (new.acks ≡ old.acks)
+HasSame old new = (new.judge ≡ old.judge) × (new.acks ≡ old.acks) × (new.counts ≡ old.counts)
 
 -- the side of an end
 abbrev pub side_at : End → Pair → Side

@@ -7,6 +7,8 @@ use Rattle.tftp_ends.specs.CaptureText.{Datagram, Header}
 use Rattle.tftp_ends.specs.Ports.{route_of, is_of_transfer, transfer_of}
 use Rattle.tftp_ends.specs.Rules.{Passed}
 use Rattle.tftp_pair.specs.Messages.{AreMergedBy}
+use Rattle.tftp_pair_judge.specs.declared.waiting.Wait.{Wait}
+use Rattle.tftp_pair_judge.specs.declared.waiting.Wait.TheVariants.{Unsent, SentLater}
 
 -- the payload says what one that went out says
 abbrev pub WasSent : List ℕ → List Datagram → Type 0
@@ -37,3 +39,10 @@ abbrev pub IsAskedAgain : Option Datagram → Option Datagram → List Datagram 
 IsAskedAgain None held sent = held ≡ None
 IsAskedAgain (Some d) None sent = WasSent d.payload sent
 IsAskedAgain (Some d) (Some held) sent = (held ≡ d) × (WasSent d.payload sent → ⊥)
+
+-- why what waits does, where the other end has sent these
+abbrev pub IsWaitFor : Option Datagram → List Datagram → Option Wait → Type 0
+IsWaitFor None sent why = why ≡ None
+IsWaitFor (Some d) sent None = ⊥
+IsWaitFor (Some d) sent (Some Unsent) = WasSent d.payload sent → ⊥
+IsWaitFor (Some d) sent (Some SentLater) = WasSent d.payload sent

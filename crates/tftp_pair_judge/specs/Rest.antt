@@ -1,17 +1,15 @@
 -- What is left of two captures once neither goes further. Lists have the newest datagram first.
-use Rattle.std.specs.Prelude.{◌≡◌, ℕ, Bool, false, List, [], ◌++◌, length, Option, None, is_some}
+use Rattle.std.specs.Prelude.{◌≡◌, ℕ, List, [], ◌++◌, length, Option, None}
 use Rattle.tftp_packet.specs.declared.kinds.End.{End}
 use Rattle.tftp_packet.specs.declared.kinds.End.TheVariants.{Client, Server}
 use Rattle.tftp_ends.specs.CaptureText.{Datagram, Header}
-use Rattle.tftp_law.specs.OneEnded.{OneEnded}
-use Rattle.tftp_judge.specs.Kept.{IsJudgeAfter, Judge}
 use Rattle.tftp_pair_judge.specs.Merging.{AreMergedBut}
+use Rattle.tftp_pair_judge.specs.Kept.{IsSideAfter, Side}
 
--- of one capture: its judge, how many datagrams are merged, and whether there was one that waits
+-- of one capture: its end, with the last datagram that was merged or waited, and how many are merged
 pub record Left : Type 0 where
-  pub judge : Judge
+  pub side : Side
   pub merged : ℕ
-  pub waited : Bool
 
 pub record Rest : Type 0 where
   pub client : Left
@@ -21,16 +19,14 @@ abbrev pub left_at : End → Rest → Left
 left_at Client r = r.client
 left_at Server r = r.server
 
--- The judge has accepted these; and only where one waited are there more than those that were read till then.
+-- The end stands for these; and only where one waited are there more than those that were read till then.
 pub record IsLeftAfter (l : Left) (held : Option Datagram) (part early : List Datagram) (h : Header) (read : List Datagram) : Type 0 where
-  pub goes_on : l.judge.refused ≡ None → IsJudgeAfter l.judge h read
-  pub lawful : OneEnded h read
-  pub fed : l.judge.fed ≡ length read
+  pub side : IsSideAfter l.side h read
+  pub waits : l.side.held ≡ held
   pub merged : l.merged ≡ length part
-  pub waited : l.waited ≡ is_some held
   pub more : List Datagram
   pub is : read ≡ more ++ early
-  pub ends : l.waited ≡ false → more ≡ []
+  pub ends : held ≡ None → more ≡ []
 
 pub record IsRestAfter (r : Rest) (h : Header) (client : List Datagram) (k : Header) (server : List Datagram) : Type 0 where
   pub held : Option Datagram

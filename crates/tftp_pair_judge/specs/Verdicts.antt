@@ -1,7 +1,14 @@
 -- What was read of a capture, and when no more of it is to come.
-use Rattle.std.specs.Prelude.{◌≡◌, ◌≤◌, ℕ, List, length, take, reverse, Option, None}
+use Rattle.std.specs.Prelude.{◌≡◌, ◌≤◌, ℕ, List, length, take, reverse, Option, Some, None}
 use Rattle.tftp_ends.specs.CaptureText.{Datagram}
 use Rattle.tftp_pair.specs.Captures.{Capture}
+use Rattle.tftp_pair.specs.Waiting.{IsSentLater, IsUnsent}
+use Rattle.tftp_pair.specs.MatchedCaptures.{begun}
+use Rattle.tftp_pair.specs.Messages.{passed_in}
+use Rattle.tftp_counts.specs.Counts.{AreLostBetween, AreRepeatedBetween}
+use Rattle.tftp_counts.specs.declared.counts.Carried.{Carried}
+use Rattle.tftp_pair_judge.specs.declared.waiting.Wait.{Wait}
+use Rattle.tftp_pair_judge.specs.declared.waiting.Wait.TheVariants.{Unsent, SentLater}
 
 -- the datagrams that were read, the newest first, are the first of the capture
 pub record IsReadOf (c : Capture) (read : List Datagram) : Type 0 where
@@ -11,3 +18,17 @@ pub record IsReadOf (c : Capture) (read : List Datagram) : Type 0 where
 -- of the capture, lawful for n datagrams, no more is merged: one waits, or all that is lawful was read
 abbrev pub GoesNoFurther : Option Datagram → List Datagram → ℕ → Type 0
 GoesNoFurther held read n = held ≡ None → length read ≡ n
+
+-- Of a capture, lawful for n datagrams, i are matched with another, lawful for k: why the datagram behind them waits, if one
+-- is left.
+abbrev pub IsWhyWaiting : Capture → ℕ → ℕ → Capture → ℕ → Option Wait → Type 0
+IsWhyWaiting own n i other k None = i ≡ n
+IsWhyWaiting own n i other k (Some Unsent) = IsUnsent own n i other k
+IsWhyWaiting own n i other k (Some SentLater) = IsSentLater own n i other k
+
+-- what the network lost and repeated between the first n datagrams of the one capture and the first k of the other, where that
+-- was counted
+abbrev pub AreCarried : Capture → ℕ → Capture → ℕ → Option Carried → Type 0
+AreCarried client n server k None = Unit {0}
+AreCarried client n server k (Some c) =
+    AreLostBetween (passed_in (begun n client)) (passed_in (begun k server)) c.lost × AreRepeatedBetween (passed_in (begun n client)) (passed_in (begun k server)) c.repeated

@@ -1,12 +1,13 @@
 //! Laws of the definitions in `specs/`. Each is the contract of a function that does nothing.
 
-ghost use Rattle.std.specs.Prelude.{ℕ, List, Option, length};
+ghost use Rattle.std.specs.Prelude.{◌≡◌, ℕ, List, Option, length};
 ghost use Rattle.tftp_ends.specs.CaptureText.{Datagram};
 ghost use Rattle.tftp_law.specs.OneEnded.{OneEnded};
 ghost use Rattle.tftp_pair.specs.Captures.{Capture};
 ghost use Rattle.tftp_pair.specs.PairVerdict.{IsLawfulTo, IsPairVerdict};
 ghost use Rattle.tftp_pair_judge.specs.Merging.{AreMergedBut};
-ghost use Rattle.tftp_pair_judge.specs.Verdicts.{GoesNoFurther, IsReadOf};
+ghost use Rattle.tftp_pair_judge.specs.Verdicts.{GoesNoFurther, IsReadOf, IsWhyWaiting};
+ghost use Rattle.tftp_pair_judge.specs.declared.waiting.Wait.{Wait};
 
 /// Where neither capture goes further, for one of it waits or all of it that is lawful was read, what is merged of each is
 /// how far the two go together, however much of either is left.
@@ -16,4 +17,9 @@ pub fn what_is_merged_is_the_verdict()
         → IsReadOf client read → IsReadOf server other_read → OneEnded client.header read → OneEnded server.header other_read
         → IsLawfulTo client n → IsLawfulTo server k → GoesNoFurther held read n → GoesNoFurther other_held other_read k
         → IsPairVerdict client server n k (length but.part) (length but.other_part) }
+{}
+
+/// There is one answer why the datagram behind those that are matched waits, or that none is left.
+pub fn why_it_waits_is_one()
+    ensures { (own other : Capture) (n i k : ℕ) (why also : Option Wait) → IsWhyWaiting own n i other k why → IsWhyWaiting own n i other k also → why ≡ also }
 {}

@@ -6,6 +6,8 @@ pub mod laws;
 mod pair;
 mod rest;
 mod side;
+mod waiting;
 
 pub use pair::PairJudge;
 pub use rest::{PairRest, PairVerdict};
+pub use waiting::Wait;

@@ -9,7 +9,7 @@ ghost use Rattle.tftp_judge.specs.declared.refusal.Refusal.{Refusal as RefusalKi
 ghost use Rattle.tftp_pair_judge.specs.Kept.{HasSame, IsPairAfter, side_at};
 ghost use Rattle.tftp_pair_judge.specs.Rest.{IsRestAfter};
 
-use crate::rest::PairRest;
+use crate::rest::{Left, PairRest};
 use crate::side::Side;
 use std::alloc::Global;
 use std::marker::Model;
@@ -128,9 +128,9 @@ impl<D: Delivered + Drop> PairJudge<D> {
     /// What is left once neither goes further: of each one waits, or it was fed to its end or refused.
     pub fn rest(self) -> PairRest<D>
         ensures after { (h k : HeaderParts) (client server : List DatagramParts) → IsPairAfter self h client k server → IsRestAfter result h client k server }
-        ensures client { (result.client.judge ≡ self.client.judge) × (result.client.waited ≡ is_some self.client.held) }
-        ensures server { (result.server.judge ≡ self.server.judge) × (result.server.waited ≡ is_some self.server.held) }
+        ensures client { result.client.side ≡ self.client }
+        ensures server { result.server.side ≡ self.server }
     {
-        PairRest::of(self.client.into_left(), self.server.into_left())
+        PairRest::of(Left::begin(self.client), Left::begin(self.server))
     }
 }

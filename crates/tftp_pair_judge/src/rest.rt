@@ -1,4 +1,4 @@
-ghost use Rattle.std.specs.Prelude.{◌≡◌, ◌+◌, ◌^◌, ◌<◌, ◌≤◌, ℕ, List, [], ◌∷◌, length, reverse, true, Option, None, Some, Err, OnOk, IfErr};
+ghost use Rattle.std.specs.Prelude.{◌≡◌, ◌+◌, ◌^◌, ◌<◌, ◌≤◌, ℕ, List, [], ◌∷◌, length, reverse, true, Option, None, Some, is_some, Err, OnOk, IfErr};
 ghost use Rattle.tftp_capture.specs.Fields.{datagram_of};
 ghost use Rattle.tftp_packet.specs.declared.kinds.End.TheVariants.{Client, Server};
 ghost use Rattle.tftp_ends.specs.CaptureText.{Datagram as DatagramParts, Header as HeaderParts};
@@ -10,22 +10,26 @@ ghost use Rattle.tftp_judge.specs.Verdict.{IsVerdict};
 ghost use Rattle.tftp_judge.specs.declared.refusal.Refusal.{Refusal as RefusalKind};
 ghost use Rattle.tftp_pair.specs.Captures.{Capture};
 ghost use Rattle.tftp_pair.specs.PairVerdict.{IsLawfulTo, IsPairVerdict};
+ghost use Rattle.tftp_pair_judge.specs.Merging.{IsWaitFor, with_held};
+ghost use Rattle.tftp_pair_judge.specs.Kept.{IsSideAfter};
 ghost use Rattle.tftp_pair_judge.specs.Rest.{IsLeftAfter, IsRestAfter, left_at};
-ghost use Rattle.tftp_pair_judge.specs.Verdicts.{IsReadOf};
+ghost use Rattle.tftp_pair_judge.specs.Verdicts.{AreCarried, IsReadOf, IsWhyWaiting};
 
+use crate::side::Side;
+use crate::waiting::Wait;
 use std::alloc::Global;
 use std::marker::Model;
 use tftp_capture::Datagram;
+use tftp_counts::Carried;
 use tftp_ends::Delivered;
-use tftp_judge::{Judge, Meaning, Refusal};
+use tftp_judge::{Meaning, Refusal};
 use tftp_packet::End;
 
-/// What is left of one capture: its judge, how many of its datagrams are merged, and whether one waited.
+/// What is left of one capture: its end, and how many of its datagrams are merged.
 #[derive(Drop)]
 pub struct Left<D: Delivered + Drop> {
-    pub judge: Judge<D>,
-    pub merged: u64,
-    pub waited: bool,
+    side: Side<D>,
+    merged: u64,
 }
 
 impl<D: Delivered + Drop> Model for Left<D> {
@@ -38,27 +42,45 @@ impl<D: Delivered + Drop> Model for Left<D> {
 
     ghost coded = { Prim.hlevel (codes, sender_code, receiver_code, options_code, parts_code) };
 
-    ghost view = { λ l. record { judge = l.judge; merged = l.merged; waited = l.waited } };
+    ghost view = { λ l. record { side = l.side; merged = l.merged } };
 }
 
 impl<D: Delivered + Drop> Left<D> {
+    /// What is left of an end once it goes no further.
+    pub fn begin(side: Side<D>) -> Self
+        ensures side { result.side ≡ side }
+        ensures merged { (part : List DatagramParts) → side.judge.fed ≡ length (with_held side.held part) → result.merged ≡ length part }
+    {
+        let merged = side.merged();
+        Left { side, merged }
+    }
+
+    /// Why a datagram of this end waits, where the other end has read all that it is to.
+    fn why(&self, other: &Self) -> Option<Wait>
+        ensures { (h : HeaderParts) (read : List DatagramParts) → IsSideAfter other.now.side h read
+            → IsWaitFor self.now.side.held (transfer_of h read) result }
+    {
+        self.side.why(&other.side)
+    }
+
     /// Takes the next datagram of a capture in which one waited.
     fn feed(&mut self, alloc: Global, datagram: &Datagram) -> Result<(), Refusal>
-        requires few { self.old.judge.fed < 2 ^ 40 }
+        requires few { self.old.side.judge.fed < 2 ^ 40 }
         requires short { length datagram.now.payload ≤ 65527 }
-        requires waited { self.old.waited ≡ true }
+        requires waited { is_some self.old.side.held ≡ true }
         ensures accepts { (held : Option DatagramParts) (part early : List DatagramParts) (h : HeaderParts) (read : List DatagramParts)
             → IsLeftAfter self.old held part early h read → OnOk result (IsLeftAfter self.new held part early h (datagram_of datagram.now ∷ read)) }
         ensures refuses { (held : Option DatagramParts) (part early : List DatagramParts) (h : HeaderParts) (read : List DatagramParts)
-            → IsLeftAfter self.old held part early h read → self.old.judge.refused ≡ None → IfErr result (Refuses h read (datagram_of datagram.now)) }
+            → IsLeftAfter self.old held part early h read → self.old.side.judge.refused ≡ None → IfErr result (Refuses h read (datagram_of datagram.now)) }
         ensures stays { (held : Option DatagramParts) (part early : List DatagramParts) (h : HeaderParts) (read : List DatagramParts)
             → IsLeftAfter self.old held part early h read → IfErr result (λ refusal. IsLeftAfter self.new held part early h read) }
-        ensures keeps { IfErr result (λ refusal. self.new.judge.refused ≡ Some refusal) }
-        ensures goes_on { self.old.judge.refused ≡ None → OnOk result (self.new.judge.refused ≡ None) }
-        ensures waited { self.new.waited ≡ self.old.waited }
-        ensures counts { OnOk result (self.new.judge.fed ≡ self.old.judge.fed + 1) }
+        ensures keeps { IfErr result (λ refusal. self.new.side.judge.refused ≡ Some refusal) }
+        ensures goes_on { self.old.side.judge.refused ≡ None → OnOk result (self.new.side.judge.refused ≡ None) }
+        ensures waited { self.new.side.held ≡ self.old.side.held }
+        ensures counts { OnOk result (self.new.side.judge.fed ≡ self.old.side.judge.fed + 1) }
     {
-        self.judge.feed(alloc, datagram)
+        self.side.feed(alloc, datagram)?;
+        Ok(())
     }
 }
 
@@ -98,6 +120,12 @@ pub struct PairVerdict {
     pub client_matched: u64,
     /// How many of the server's it has.
     pub server_matched: u64,
+    /// Why the client's next datagram is not matched, where one that is lawful is left.
+    pub client_why: Option<Wait>,
+    /// Why the server's next datagram is not matched, where one that is lawful is left.
+    pub server_why: Option<Wait>,
+    /// What the network lost and repeated of what passed as far as both are lawful; None where memory was wanting to count it.
+    pub carried: Option<Carried>,
 }
 
 impl<D: Delivered + Drop> PairRest<D> {
@@ -111,23 +139,23 @@ impl<D: Delivered + Drop> PairRest<D> {
     /// Takes the next datagram of a capture in which one waited: Ok exactly if it breaks no rule at that end. It is not
     /// merged.
     pub fn feed(&mut self, alloc: Global, end: End, datagram: &Datagram) -> Result<(), Refusal>
-        requires few { (left_at end self.old).judge.fed < 2 ^ 40 }
+        requires few { (left_at end self.old).side.judge.fed < 2 ^ 40 }
         requires short { length datagram.now.payload ≤ 65527 }
-        requires waited { (left_at end self.old).waited ≡ true }
+        requires waited { is_some (left_at end self.old).side.held ≡ true }
         ensures client { end ≡ Client → (h k : HeaderParts) (client server : List DatagramParts) → IsRestAfter self.old h client k server
             → OnOk result (IsRestAfter self.new h (datagram_of datagram.now ∷ client) k server) }
         ensures server { end ≡ Server → (h k : HeaderParts) (client server : List DatagramParts) → IsRestAfter self.old h client k server
             → OnOk result (IsRestAfter self.new h client k (datagram_of datagram.now ∷ server)) }
         ensures refuses_client { end ≡ Client → (h k : HeaderParts) (client server : List DatagramParts) → IsRestAfter self.old h client k server
-            → self.old.client.judge.refused ≡ None → IfErr result (Refuses h client (datagram_of datagram.now)) }
+            → self.old.client.side.judge.refused ≡ None → IfErr result (Refuses h client (datagram_of datagram.now)) }
         ensures refuses_server { end ≡ Server → (h k : HeaderParts) (client server : List DatagramParts) → IsRestAfter self.old h client k server
-            → self.old.server.judge.refused ≡ None → IfErr result (Refuses k server (datagram_of datagram.now)) }
+            → self.old.server.side.judge.refused ≡ None → IfErr result (Refuses k server (datagram_of datagram.now)) }
         ensures stays { (h k : HeaderParts) (client server : List DatagramParts) → IsRestAfter self.old h client k server
             → IfErr result (λ refusal. IsRestAfter self.new h client k server) }
-        ensures keeps { IfErr result (λ refusal. (left_at end self.new).judge.refused ≡ Some refusal) }
-        ensures goes_on { (left_at end self.old).judge.refused ≡ None → OnOk result ((left_at end self.new).judge.refused ≡ None) }
-        ensures waited { (left_at end self.new).waited ≡ (left_at end self.old).waited }
-        ensures counts { OnOk result ((left_at end self.new).judge.fed ≡ (left_at end self.old).judge.fed + 1) }
+        ensures keeps { IfErr result (λ refusal. (left_at end self.new).side.judge.refused ≡ Some refusal) }
+        ensures goes_on { (left_at end self.old).side.judge.refused ≡ None → OnOk result ((left_at end self.new).side.judge.refused ≡ None) }
+        ensures waited { (left_at end self.new).side.held ≡ (left_at end self.old).side.held }
+        ensures counts { OnOk result ((left_at end self.new).side.judge.fed ≡ (left_at end self.old).side.judge.fed + 1) }
         ensures other { left_at (other_end end) self.new ≡ left_at (other_end end) self.old }
     {
         match end {
@@ -139,22 +167,22 @@ impl<D: Delivered + Drop> PairRest<D> {
     /// Whether a datagram of this end waited, and so more of its capture may be fed.
     #[inline]
     pub fn waited(&self, end: End) -> bool
-        ensures { result ≡ (left_at end self.now).waited }
+        ensures { result ≡ is_some (left_at end self.now).side.held }
     {
         match end {
-            End::Client => self.client.waited,
-            End::Server => self.server.waited,
+            End::Client => self.client.side.waits(),
+            End::Server => self.server.side.waits(),
         }
     }
 
     /// How many datagrams of this end were accepted.
     #[inline]
     pub fn fed(&self, end: End) -> u64
-        ensures { result ≡ (left_at end self.now).judge.fed }
+        ensures { result ≡ (left_at end self.now).side.judge.fed }
     {
         match end {
-            End::Client => self.client.judge.fed(),
-            End::Server => self.server.judge.fed(),
+            End::Client => self.client.side.fed(),
+            End::Server => self.server.side.fed(),
         }
     }
 
@@ -165,27 +193,50 @@ impl<D: Delivered + Drop> PairRest<D> {
             → IsReadOf client client_read → IsReadOf server server_read
             → IsLawfulTo client (length client_read) → IsLawfulTo server (length server_read)
             → IsPairVerdict client server result.client_lawful result.server_lawful result.client_matched result.server_matched }
-        ensures client { (h k : HeaderParts) (client server : List DatagramParts) → IsRestAfter self h client k server → self.client.judge.refused ≡ None
+
+        // Why the first datagram of each that is not matched waits for the other capture, as far as that is lawful.
+        ensures client_why { (client server : Capture) (client_read server_read : List DatagramParts)
+            → IsRestAfter self client.header client_read server.header server_read
+            → IsReadOf client client_read → IsReadOf server server_read
+            → IsWhyWaiting client result.client_lawful result.client_matched server result.server_lawful result.client_why }
+        ensures server_why { (client server : Capture) (client_read server_read : List DatagramParts)
+            → IsRestAfter self client.header client_read server.header server_read
+            → IsReadOf client client_read → IsReadOf server server_read
+            → IsWhyWaiting server result.server_lawful result.server_matched client result.client_lawful result.server_why }
+
+        // What the network lost and repeated of what passed as far as both are lawful, where memory sufficed to count it.
+        ensures carried { (client server : Capture) (client_read server_read : List DatagramParts)
+            → IsRestAfter self client.header client_read server.header server_read
+            → IsReadOf client client_read → IsReadOf server server_read
+            → AreCarried client result.client_lawful server result.server_lawful result.carried }
+
+        ensures client { (h k : HeaderParts) (client server : List DatagramParts) → IsRestAfter self h client k server → self.client.side.judge.refused ≡ None
             → IsVerdict h (reverse client) result.client }
-        ensures server { (h k : HeaderParts) (client server : List DatagramParts) → IsRestAfter self h client k server → self.server.judge.refused ≡ None
+        ensures server { (h k : HeaderParts) (client server : List DatagramParts) → IsRestAfter self h client k server → self.server.side.judge.refused ≡ None
             → IsVerdict k (reverse server) result.server }
 
         // Memory is wanting only where the store takes it to join the blocks.
         ensures client_joins { (h k : HeaderParts) (client server : List DatagramParts) (count : ℕ) → IsRestAfter self h client k server
-            → self.client.judge.refused ≡ None → result.client ≡ Err (RefusalKind.Memory count) → TakesForJoin D.join_takes (transfer_of h client) }
+            → self.client.side.judge.refused ≡ None → result.client ≡ Err (RefusalKind.Memory count) → TakesForJoin D.join_takes (transfer_of h client) }
         ensures server_joins { (h k : HeaderParts) (client server : List DatagramParts) (count : ℕ) → IsRestAfter self h client k server
-            → self.server.judge.refused ≡ None → result.server ≡ Err (RefusalKind.Memory count) → TakesForJoin D.join_takes (transfer_of k server) }
-        ensures client_refused { (refusal : RefusalKind) → self.client.judge.refused ≡ Some refusal → result.client ≡ Err refusal }
-        ensures server_refused { (refusal : RefusalKind) → self.server.judge.refused ≡ Some refusal → result.server ≡ Err refusal }
+            → self.server.side.judge.refused ≡ None → result.server ≡ Err (RefusalKind.Memory count) → TakesForJoin D.join_takes (transfer_of k server) }
+        ensures client_refused { (refusal : RefusalKind) → self.client.side.judge.refused ≡ Some refusal → result.client ≡ Err refusal }
+        ensures server_refused { (refusal : RefusalKind) → self.server.side.judge.refused ≡ Some refusal → result.server ≡ Err refusal }
     {
         let PairRest { client, server } = self;
+        let client_why = client.why(&server);
+        let server_why = server.why(&client);
+        let carried = client.side.carried(&server.side);
         PairVerdict {
-            client_lawful: client.judge.fed(),
-            server_lawful: server.judge.fed(),
+            client_lawful: client.side.fed(),
+            server_lawful: server.side.fed(),
             client_matched: client.merged,
             server_matched: server.merged,
-            client: client.judge.finish(alloc),
-            server: server.judge.finish(alloc),
+            client_why,
+            server_why,
+            carried,
+            client: client.side.into_judge().finish(alloc),
+            server: server.side.into_judge().finish(alloc),
         }
     }
 }

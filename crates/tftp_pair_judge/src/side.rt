@@ -1,4 +1,4 @@
-ghost use Rattle.std.specs.Prelude.{◌≡◌, ◌↔◌, ◌+◌, ◌^◌, ◌<◌, ◌≤◌, List, [], ◌∷◌, length, IsTrue, true, None, Some, is_some, Err, OnOk, IfOk, IfErr};
+ghost use Rattle.std.specs.Prelude.{◌≡◌, ◌↔◌, ◌+◌, ◌^◌, ◌<◌, ◌≤◌, List, [], ◌∷◌, length, IsTrue, true, None, Some, is_some, Err, OnOk, IfOk, IfErr, IfSome};
 ghost use Rattle.tftp_capture.specs.Fields.{datagram_of, header_of};
 ghost use Rattle.tftp_packet.specs.declared.kinds.Dir.TheVariants.{Out};
 ghost use Rattle.tftp_ends.specs.CaptureText.{Datagram as DatagramParts, Header as HeaderParts};
@@ -7,14 +7,16 @@ ghost use Rattle.tftp_law.specs.OneEnded.{Passes};
 ghost use Rattle.tftp_judge.specs.Finds.{Refuses};
 ghost use Rattle.tftp_judge.specs.SentByKept.{AreFlags, flags_of};
 ghost use Rattle.tftp_judge.specs.declared.refusal.Refusal.{Refusal as RefusalKind};
-ghost use Rattle.tftp_pair_judge.specs.Merging.{AreMergedBut, IsAskedAgain, WasSent, with_held};
+ghost use Rattle.tftp_counts.specs.Counts.{AreCounted, AreLostBetween, AreRepeatedBetween};
+ghost use Rattle.tftp_pair_judge.specs.Merging.{AreMergedBut, IsAskedAgain, IsWaitFor, WasSent, with_held};
 ghost use Rattle.tftp_pair_judge.specs.Kept.{AreSidesAfter, IsSideAfter, HasSame};
 
-use crate::rest::Left;
+use crate::waiting::Wait;
 use std::alloc::Global;
 use std::marker::Model;
 use std::mem;
 use tftp_capture::{Datagram, Header};
+use tftp_counts::{Carried, Counts};
 use tftp_ends::Delivered;
 use tftp_judge::{Judge, Refusal, SentAcks};
 use tftp_packet::{Dir, Packet, read_packet};
@@ -28,6 +30,8 @@ pub struct Side<D: Delivered + Drop> {
     waits: bool,
     /// The datagram that waits, or memory for one.
     kept: Datagram,
+    /// How often each packet passed; none once memory was wanting for it.
+    counts: Option<Counts>,
 }
 
 impl<D: Delivered + Drop> Model for Side<D> {
@@ -46,6 +50,7 @@ impl<D: Delivered + Drop> Model for Side<D> {
       judge = s.judge;
       acks = s.acks;
       held = if s.waits then Some (datagram_of s.kept) else None;
+      counts = s.counts;
     } };
 }
 
@@ -61,6 +66,7 @@ impl<D: Delivered + Drop> Side<D> {
             acks: SentAcks::none(),
             waits: false,
             kept: Datagram::empty(alloc),
+            counts: Some(Counts::new(alloc)),
         }
     }
 
@@ -88,18 +94,25 @@ impl<D: Delivered + Drop> Side<D> {
         self.judge.fed().saturating_sub(u64::from(self.waits))
     }
 
-    /// What is left of this end's capture once it goes no further.
-    pub fn into_left(self) -> Left<D>
-        ensures judge { result.judge ≡ self.judge }
-        ensures waited { result.waited ≡ is_some self.held }
-        ensures merged { (part : List DatagramParts) → self.judge.fed ≡ length (with_held self.held part) → result.merged ≡ length part }
+    /// The judge of this end.
+    pub fn into_judge(self) -> Judge<D>
+        ensures { result ≡ self.judge }
     {
-        let merged = self.merged();
-        let Side { judge, waits, .. } = self;
-        Left {
-            judge,
-            merged,
-            waited: waits,
+        self.judge
+    }
+
+    /// Why the datagram that waits here does, where the other end has read all that it is to.
+    pub fn why(&self, other: &Self) -> Option<Wait>
+        ensures { (h : HeaderParts) (read : List DatagramParts) → IsSideAfter other.now h read
+            → IsWaitFor self.now.held (transfer_of h read) result }
+    {
+        if !self.waits {
+            return None;
+        }
+        if other.has_sent(self.kept.payload.as_slice()) {
+            Some(Wait::SentLater)
+        } else {
+            Some(Wait::Unsent)
         }
     }
 
@@ -120,6 +133,7 @@ impl<D: Delivered + Drop> Side<D> {
             → AreFlags (flags_of self.old.acks) passed → AreFlags (flags_of self.new.acks) (d ∷ passed) }
         ensures judge { self.new.judge ≡ self.old.judge }
         ensures held { self.new.held ≡ self.old.held }
+        ensures counts { self.new.counts ≡ self.old.counts }
     {
         match read_packet(payload) {
             Ok(Packet::Ack { block }) => self.acks.note(block),
@@ -128,8 +142,63 @@ impl<D: Delivered + Drop> Side<D> {
         }
     }
 
+    /// Notes a datagram of the transfer: an ACK that went out, and how often its packet passed.
+    fn note(&mut self, datagram: &Datagram)
+        ensures acks { (passed : List DatagramParts) → AreFlags (flags_of self.old.acks) passed
+            → AreFlags (flags_of self.new.acks) (datagram_of datagram.now ∷ passed) }
+        ensures counted { (passed : List DatagramParts) → AreCounted self.old.counts passed
+            → AreCounted self.new.counts (datagram_of datagram.now ∷ passed) }
+        ensures judge { self.new.judge ≡ self.old.judge }
+        ensures held { self.new.held ≡ self.old.held }
+    {
+        self.note_ack(datagram);
+        self.count(datagram);
+    }
+
+    /// Notes an ACK that went out.
+    fn note_ack(&mut self, datagram: &Datagram)
+        ensures acks { (passed : List DatagramParts) → AreFlags (flags_of self.old.acks) passed
+            → AreFlags (flags_of self.new.acks) (datagram_of datagram.now ∷ passed) }
+        ensures judge { self.new.judge ≡ self.old.judge }
+        ensures held { self.new.held ≡ self.old.held }
+        ensures counts { self.new.counts ≡ self.old.counts }
+    {
+        match datagram.dir {
+            Dir::Out => self.note_sent(datagram.payload.as_slice()),
+            Dir::In => {}
+        }
+    }
+
+    /// Counts a datagram of the transfer, while there is memory for it.
+    fn count(&mut self, datagram: &Datagram)
+        ensures counted { (passed : List DatagramParts) → AreCounted self.old.counts passed → AreCounted self.new.counts (datagram_of datagram.now ∷ passed) }
+        ensures judge { self.new.judge ≡ self.old.judge }
+        ensures acks { self.new.acks ≡ self.old.acks }
+        ensures held { self.new.held ≡ self.old.held }
+    {
+        let counts = self.counts.take();
+        self.counts = Counts::note(counts, datagram.dir, datagram.payload.as_slice());
+    }
+
+    /// What the network lost and repeated of what this end and the other have sent each other; None once memory was wanting for
+    /// that.
+    pub fn carried(&self, other: &Self) -> Option<Carried>
+        ensures lost { IfSome result (λ carried. (h k : HeaderParts) (read other_read : List DatagramParts) → IsSideAfter self.now h read
+            → IsSideAfter other.now k other_read → AreLostBetween (transfer_of h read) (transfer_of k other_read) carried.lost) }
+        ensures repeated { IfSome result (λ carried. (h k : HeaderParts) (read other_read : List DatagramParts) → IsSideAfter self.now h read
+            → IsSideAfter other.now k other_read → AreRepeatedBetween (transfer_of h read) (transfer_of k other_read) carried.repeated) }
+    {
+        match &self.counts {
+            Some(counts) => match &other.counts {
+                Some(others) => Carried::between(counts, others),
+                None => None,
+            },
+            None => None,
+        }
+    }
+
     /// Takes the next datagram of this end, by the rules at this end alone. Tells whether it is one of the transfer.
-    fn feed(&mut self, alloc: Global, datagram: &Datagram) -> Result<bool, Refusal>
+    pub fn feed(&mut self, alloc: Global, datagram: &Datagram) -> Result<bool, Refusal>
         requires few { self.old.judge.fed < 2 ^ 40 }
         requires short { length datagram.now.payload ≤ 65527 }
         ensures accepts { (h : HeaderParts) (read : List DatagramParts) → IsSideAfter self.old h read
@@ -147,8 +216,8 @@ impl<D: Delivered + Drop> Side<D> {
     {
         self.judge.feed(alloc, datagram)?;
         let main = self.judge.last_was_of_transfer();
-        if main && datagram.dir == Dir::Out {
-            self.note_sent(datagram.payload.as_slice());
+        if main {
+            self.note(datagram);
         }
         Ok(main)
     }

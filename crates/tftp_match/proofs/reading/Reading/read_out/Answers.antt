@@ -1,5 +1,6 @@
-use Rattle.std.proofs.Common.{arith, refl, ◌∙◌}
+use Rattle.std.proofs.Common.{arith, refl, ap, is_some, Option, ◌∙◌}
 use Rattle.tftp_capture.specs.Fields.{datagram_of}
+use Rattle.tftp_ends.specs.CaptureText.{Datagram}
 use Rattle.tftp_judge.specs.Finds.{Refuses}
 use Rattle.tftp_match.specs.Merging.{IsRestAt, left_judge_at}
 use Rattle.tftp_match.proofs.Sides.{own_of_rest, rest_grows, rest_says, rest_stays}
@@ -23,7 +24,7 @@ loop-alloc-preserved g c =
       goes = c.next.ensures.goes_on c.loop-alloc-test.true ∙ i.goes;
       ready = c.next.ensures.open c.loop-alloc-test.true;
       lines = omega (arith, i.lines, rises, e.counts);
-      waited = c.feed.ensures.waited ∙ i.waited;
+      waited = ap (λ (o : Option Datagram). is_some o) c.feed.ensures.waited ∙ i.waited;
       runs = accepted_step (left_judge_at c.args.end) (IsRestAt c.args.end) (own_of_rest c.args.end) _ _ _ _ _ _ _ _ _ _ _ _ i.goes i.runs (datagram_of c.next.new.datagram) (c.next.ensures.given c.loop-alloc-test.true)
           (c.next.ensures.goes_on c.loop-alloc-test.true ∙ i.goes) (λ h k read other at _. rest_grows c.args.end c.loop-alloc.rest c.feed.new.self (datagram_of c.next.new.datagram) e.client e.server h k read other at) e.goes_on;
       other = c.feed.ensures.other ∙ i.other;

@@ -1,4 +1,4 @@
-use Rattle.std.proofs.Common.{◌≡◌, ◌<◌, ◌-◌, ◌^◌, true, None}
+use Rattle.std.proofs.Common.{◌≡◌, ◌<◌, ◌-◌, ◌^◌, true, is_some, None}
 use Rattle.tftp_capture.specs.declared.standing.Standing.{Standing}
 use Rattle.tftp_ends.specs.Roles.{other_end}
 use Rattle.tftp_pair_judge.specs.Rest.{left_at}
@@ -12,7 +12,7 @@ invariant-loop-alloc g l = record {
   goes : l.self.halt ≡ None;
   ready : l.self.capture.standing ≡ Standing.Open;
   lines : (left_judge_at l.end l.rest).fed < l.self.capture.handed;
-  waited : (left_at l.end l.rest).waited ≡ true;
+  waited : is_some (left_at l.end l.rest).side.held ≡ true;
   runs : RestRuns l.end (seen (g.R.Read.remaining l.fn.reader.0) l.fn.reader.1 l.fn.self.halt l.fn.self.capture) l.fn.rest (seen (g.R.Read.remaining l.reader.0) l.reader.1 l.self.halt l.self.capture) l.rest;
   other : left_at (other_end l.end) l.rest ≡ left_at (other_end l.end) l.fn.rest;
 }

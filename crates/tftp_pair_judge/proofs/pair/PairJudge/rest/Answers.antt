@@ -9,6 +9,6 @@ returns-clause-after g c = λ h k client server after.
     let pair = subst (λ (p : Pair). IsPairAfter p h client k server) (sym c.self.view_is) after in
     rest_begins _ c.of.result h k client server pair
     (λ part is. subst (λ (l : Left). IsLeftAfter l c.self.inside.client.held part client h client) (sym c.of.ensures.0)
-    (left_begins c.self.inside.client c.into_left.result h part client pair.own_side is c.into_left.ensures.judge c.into_left.ensures.waited c.into_left.ensures.merged))
+    (left_begins c.self.inside.client c.begin.result h part client pair.own_side is c.begin.ensures.side c.begin.ensures.merged))
     (λ part is. subst (λ (l : Left). IsLeftAfter l c.self.inside.server.held part server k server) (sym c.of.ensures.1)
-    (left_begins c.self.inside.server c.into_left-2.result k part server pair.other_side is c.into_left-2.ensures.judge c.into_left-2.ensures.waited c.into_left-2.ensures.merged))
+    (left_begins c.self.inside.server c.begin-2.result k part server pair.other_side is c.begin-2.ensures.side c.begin-2.ensures.merged))

@@ -32,9 +32,9 @@ returns-in-Server-clause-stays g c = λ h k client server after.
 pub returns-in-Client-clause-refuses_client : goal.returns-in-Client-clause-refuses_client
 returns-in-Client-clause-refuses_client g c = λ is h k client server after none.
     let rest = subst (λ (r : Rest). IsRestAfter r h client k server) (sym c.self.view_is) after in
-    c.feed.ensures.refuses rest.held rest.but.part rest.early h client rest.client_left (ap (λ (r : Rest). r.client.judge.refused) c.self.view_is ∙ none)
+    c.feed.ensures.refuses rest.held rest.but.part rest.early h client rest.client_left (ap (λ (r : Rest). r.client.side.judge.refused) c.self.view_is ∙ none)
 
 pub returns-in-Server-clause-refuses_server : goal.returns-in-Server-clause-refuses_server
 returns-in-Server-clause-refuses_server g c = λ is h k client server after none.
     let rest = subst (λ (r : Rest). IsRestAfter r h client k server) (sym c.self.view_is) after in
-    c.feed-in-Server.ensures.refuses rest.other_held rest.but.other_part rest.other_early k server rest.server_left (ap (λ (r : Rest). r.server.judge.refused) c.self.view_is ∙ none)
+    c.feed-in-Server.ensures.refuses rest.other_held rest.but.other_part rest.other_early k server rest.server_left (ap (λ (r : Rest). r.server.side.judge.refused) c.self.view_is ∙ none)

@@ -1,0 +1,10 @@
+use Rattle.std.proofs.Common.{◌≡◌, List}
+use Rattle.tftp_ends.specs.CaptureText.{Datagram}
+use Rattle.tftp_counts.specs.Counts.{IsCountOf, lost_below}
+use Rattle.tftp_counts.proofs.counts.lost.Given as goal
+
+-- what is counted of the packets with a lower number
+abbrev pub invariant-loop-packet : goal.invariant-loop-packet
+invariant-loop-packet l = record {
+  so_far : (sender receiver : List Datagram) → IsCountOf l.from sender → IsCountOf l.to receiver → l.count ≡ lost_below l.packet sender receiver;
+}

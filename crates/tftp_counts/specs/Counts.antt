@@ -1,0 +1,73 @@
+-- How often each packet of a transfer passed at an end, and how many copies the network lost and made between two ends
+-- (RFC 1350, section 2). Lists have the newest datagram first.
+use Rattle.std.specs.Prelude.{◌≡◌, ◌+◌, ◌*◌, ◌-◌, ◌==◌, ◌&&◌, ℕ, zero, suc, Bool, List, [], ◌∷◌, if◌then◌else◌, slice_index_or, Option, Some, None}
+use Rattle.tftp_ends.specs.CaptureText.{Datagram}
+use Rattle.tftp_ends.specs.Ports.{comes_in, goes_out}
+
+-- Which packet a payload is a copy of, as a number: a DATA and an ACK each by its block, an ERROR, or a request or an OACK.
+-- (Of the last three an end that breaks no rule sends one in a transfer.)
+abbrev pub packet_of : List ℕ → ℕ
+packet_of payload = by (slice_index_or payload 1 0) (slice_index_or payload 2 0 * 256 + slice_index_or payload 3 0) where
+  by : ℕ → ℕ → ℕ
+  by opcode block = if opcode == 3 then 4 * block + 1 else if opcode == 4 then 4 * block + 2 else if opcode == 5 then 3 else 0
+
+-- above all of these numbers
+abbrev pub packets : ℕ
+packets = 262144
+
+-- how many of the datagrams that go so are copies of the packet
+abbrev pub times : (Datagram → Bool) → ℕ → List Datagram → ℕ
+times goes packet [] = 0
+times goes packet (d ∷ passed) = (if goes d && packet_of d.payload == packet then 1 else 0) + times goes packet passed
+
+abbrev pub sent : ℕ → List Datagram → ℕ
+sent packet passed = times goes_out packet passed
+
+abbrev pub taken : ℕ → List Datagram → ℕ
+taken packet passed = times comes_in packet passed
+
+-- by how many copies more, of each packet with a lower number, the one list has sent than the other has taken
+abbrev pub lost_below : ℕ → List Datagram → List Datagram → ℕ
+lost_below zero from to = 0
+lost_below (suc packet) from to = lost_below packet from to + (sent packet from - taken packet to)
+
+-- by how many copies more the other has taken than the one has sent
+abbrev pub repeated_below : ℕ → List Datagram → List Datagram → ℕ
+repeated_below zero from to = 0
+repeated_below (suc packet) from to = repeated_below packet from to + (taken packet to - sent packet from)
+
+-- At least so many copies of what the one end sent did not come to the other.
+abbrev pub AreLost : List Datagram → List Datagram → ℕ → Type 0
+AreLost from to count = (above : ℕ) → above ≡ packets → count ≡ lost_below above from to
+
+-- At least so many copies of what the one end sent were made on the way to the other.
+abbrev pub AreRepeated : List Datagram → List Datagram → ℕ → Type 0
+AreRepeated from to count = (above : ℕ) → above ≡ packets → count ≡ repeated_below above from to
+
+-- Both ways: of what either end sent at least so many copies did not come to the other.
+pub record AreLostBetween (one other : List Datagram) (count : ℕ) : Type 0 where
+  pub there : ℕ
+  pub back : ℕ
+  pub lost_there : AreLost one other there
+  pub lost_back : AreLost other one back
+  pub sum : count ≡ there + back
+
+-- both ways: of what either end sent at least so many copies were made on the way
+pub record AreRepeatedBetween (one other : List Datagram) (count : ℕ) : Type 0 where
+  pub there : ℕ
+  pub back : ℕ
+  pub repeated_there : AreRepeated one other there
+  pub repeated_back : AreRepeated other one back
+  pub sum : count ≡ there + back
+
+-- What is counted at an end, by the packets' numbers: how often each went out, and how often it came in.
+abbrev pub Counted : Type 0
+Counted = List ℕ × List ℕ
+
+abbrev pub IsCountOf : Counted → List Datagram → Type 0
+IsCountOf c passed = (packet : ℕ) → (slice_index_or c.0 packet 0 ≡ sent packet passed) × (slice_index_or c.1 packet 0 ≡ taken packet passed)
+
+-- the same where it is still counted
+abbrev pub AreCounted : Option Counted → List Datagram → Type 0
+AreCounted None passed = Unit {0}
+AreCounted (Some c) passed = IsCountOf c passed

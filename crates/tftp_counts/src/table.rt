@@ -1,0 +1,63 @@
+ghost use Rattle.std.specs.Prelude.{◌≡◌, ◌+◌, ◌<◌, ◌==◌, ℕ, [], if◌then◌else◌, length, slice_index_or, OnOk, OnSome};
+
+use std::alloc::{AllocError, Global};
+use std::marker::Model;
+
+/// How often each packet passed, by its number.
+#[derive(Debug, Drop)]
+pub struct Table {
+    counts: Vec<u64>,
+}
+
+impl Model for Table {
+    ghost use Rattle.std.specs.Prelude.{List, ℕ};
+
+    ghost Value = { List ℕ };
+
+    ghost view = { λ t. t.counts.items };
+}
+
+impl Table {
+    /// Of no packet. Takes no memory.
+    pub fn new(alloc: Global) -> Self
+        ensures { result ≡ [] }
+    {
+        Table {
+            counts: Vec::new(alloc),
+        }
+    }
+
+    /// How often a packet passed.
+    #[inline]
+    pub fn at(&self, packet: usize) -> u64
+        ensures { result ≡ slice_index_or self.now packet 0 }
+    {
+        match self.counts.get(packet) {
+            Some(count) => *count,
+            None => 0,
+        }
+    }
+
+    /// Counts a packet once more. None where memory is wanting, or where it passed 2^64 times; then the table is of no use.
+    pub fn note(&mut self, packet: usize) -> Option<()>
+        requires { packet < 262144 }
+        ensures { OnSome result ((other : ℕ) → slice_index_or self.new other 0 ≡ slice_index_or self.old other 0 + (if packet == other then 1 else 0)) }
+    {
+        self.reach(packet).ok()?;
+        let count = self.at(packet).checked_add(1)?;
+        self.counts[packet] = count;
+        Some(())
+    }
+
+    /// Makes room for the count of a packet.
+    fn reach(&mut self, packet: usize) -> Result<(), AllocError>
+        requires { packet < 262144 }
+        ensures same { OnOk result ((other : ℕ) → slice_index_or self.new other 0 ≡ slice_index_or self.old other 0) }
+        ensures reached { OnOk result (packet < length self.new) }
+    {
+        if self.counts.len() <= packet {
+            self.counts.resize(packet + 1, 0)?;
+        }
+        Ok(())
+    }
+}

@@ -1,0 +1,22 @@
+-- Why the datagram behind those that are matched waits: of two captures, of which the first n and k datagrams are lawful.
+use Rattle.std.specs.Prelude.{◌≡◌, ℕ}
+use Rattle.tftp_packet.specs.Message.{Message}
+use Rattle.tftp_packet.specs.Spelling.{Spells}
+use Rattle.tftp_packet.specs.declared.kinds.Dir.TheVariants.{Out}
+use Rattle.tftp_ends.specs.Rules.{Passed}
+use Rattle.tftp_law.specs.CaptureText.{Datagram}
+use Rattle.tftp_pair.specs.Captures.{Capture}
+use Rattle.tftp_pair.specs.Messages.{passed_in}
+use Rattle.tftp_pair.specs.MatchedCaptures.{begun, IsNextIn}
+
+-- among the first k datagrams of the capture one went out that says what this one says
+abbrev pub IsSentAmong : ℕ → Capture → Datagram → Type 0
+IsSentAmong k other d = (m : Message) × Spells d.payload m × Passed Out m (passed_in (begun k other))
+
+-- The datagram after the first i is lawful, and the other end sent what it says: behind what itself waits.
+abbrev pub IsSentLater : Capture → ℕ → ℕ → Capture → ℕ → Type 0
+IsSentLater own n i other k = (d : Datagram) × IsNextIn (begun n own) i d × IsSentAmong k other d
+
+-- The datagram after the first i is lawful, and the other end never sent what it says.
+abbrev pub IsUnsent : Capture → ℕ → ℕ → Capture → ℕ → Type 0
+IsUnsent own n i other k = (d : Datagram) × IsNextIn (begun n own) i d × (IsSentAmong k other d → ⊥)
