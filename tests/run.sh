@@ -4,7 +4,7 @@
 # refused, each read and each write failing, in turn, and each growth in the tests of the libraries' calls; larger captures;
 # simulated transfers and changes of them, for some seconds; the recorded transfers of examples/; the datagrams that are
 # read of recordings, and which transfer they are of; what is said between the ends; the rows, lists and texts of
-# recordings; captures of both ends, matched; the scripts that explain, draw and report, on changed captures too; the
+# recordings; captures of both ends, matched, explained and drawn; the scripts that explain, draw and report, on changed captures too; the
 # plugin of Wireshark; the schemas of JSON; and what stands in the pages for readers.
 set -eu
 here=$(dirname "$0")
@@ -41,6 +41,8 @@ echo "transfers, texts and verdicts of recordings:"
 python3 "$here/rows.py" "$transfers" "$shim/refuse.so"
 echo "both ends together:"
 python3 "$here/match.py" --refuse "$shim/refuse.so" "$here/../crates/tftp_match_main/out/tftp_match_main"
+echo "both ends together, explained and drawn:"
+python3 "$here/pairs.py" "$here/../crates/tftp_match_main/out/tftp_match_main"
 echo "tftp-explain:"
 python3 "$here/explaining.py" "$1" "$transfers"
 echo "tftp-ladder:"
