@@ -1,11 +1,11 @@
-"""What tools/tftp-explain and tools/tftp-ladder say and draw of the captures of both ends of one transfer: matched, with a
-changed byte, with what was never sent, with what waits, refused, lost, repeated and delayed.
+"""What tools/tftp-explain and tools/tftp-ladder say and draw of the captures of both ends of one transfer: matched,
+with a changed byte, with what was never sent, with what waits, refused, lost, repeated and delayed.
 
     pairs.py MATCH
 
-Each pair is tried with the program, and with stand-ins that print the line on the two without further words and with the
-words that may stand in it. Prints each case that is not as it should be, then a last line 'N passed, M failed'; status 1
-if any failed.
+Each pair is tried with the program, and with stand-ins that print the line on the two without further words and with
+the words that may stand in it. Prints each case that is not as it should be, then a last line 'N passed, M failed';
+status 1 if any failed.
 """
 from __future__ import annotations
 
@@ -102,8 +102,8 @@ CASES = (
     )),
     Case("a changed byte", read_of_two_bytes(b"hj"), (READ, READ, on(2, 3)), on("2 unsent", "3 waits"), (
         "At: the client, its datagram 2. Where: line 5 of the client's text. What: in,",
-        "The server sent block 1 in its datagram 2 (line 5), with 2 bytes; here it has 2 bytes. They differ from byte 2",
-        'of the block on: "i" at the server, "j" here.', "byte 2 is 0x69 at the server and 0x6a here.",
+        "The server sent block 1 in its datagram 2 (line 5), with 2 bytes; here it has 2 bytes.",
+        'They differ from byte 2 of the block on: "i" at the server, "j" here.', "byte 2 is 0x69 at the server and 0x6a here.",
         "It waits: the client sent it in its datagram 3 (line 6), behind datagram 2 there, which is unmatched itself.",
     ), {"f-refused": 1, "f-after": 1}),
     Case("a changed block of a window", windowed(2), (
@@ -303,7 +303,7 @@ def try_faults(trial: Pairs) -> None:
     paths = trial.paths((client, server.removesuffix(b"total 3\n")))
     words = ["--match", trial.program, "--pair"]
     output, errors, status = trial.run(EXPLAIN, [*words, *paths])
-    holds = status == 2 and "Server: fault line 7 Truncated" in output and "Fault: Truncated" in plain(output)
+    holds = status == 2 and "Server: fault line 7 Truncated" in plain(output) and "Fault: Truncated" in plain(output)
     trial.check("a text with a fault", holds and not errors, (output, errors, status))
     got = trial.run(LADDER, [*words, *paths])
     trial.check("a text with a fault, drawn", got[2] == 2 and "before the fault alone" in got[1], got[1:])

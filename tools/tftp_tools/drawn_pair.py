@@ -1,5 +1,5 @@
-"""Two captures of one transfer as a ladder in SVG: a line for each end, and an arrow from where each datagram was sent to
-where it came."""
+"""Two captures of one transfer as a ladder in SVG: a line for each end, and an arrow from where each datagram was sent
+to where it came."""
 from __future__ import annotations
 
 from dataclasses import dataclass
@@ -129,7 +129,8 @@ class PairDrawing(Canvas):
         if self.merged.fate(place) in (REPEATED, UNSENT):
             self.arrow(MIDDLE, y - SLANT / 2, x, y, colour, width, False)
             self.parts.append(f'<circle cx="{MIDDLE}" cy="{y - SLANT / 2:.1f}" r="3" class="f-{colour}"/>')
-            self.words(MIDDLE + 10 * it.inward, y - 2, self.rungs.label(place), place, "end" if it.inward > 0 else "start")
+            anchor = "end" if it.inward > 0 else "start"
+            self.words(MIDDLE + 10 * it.inward, y - 2, self.rungs.label(place), place, anchor)
             return
         at = y + SLANT / 2
         self.line(x, y, MIDDLE, at, colour, f'stroke-width="{width}"')

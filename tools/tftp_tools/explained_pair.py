@@ -1,5 +1,5 @@
-"""What tftp-match says of two captures, in words: which datagram is unmatched, what it says and why; or what was lost and
-repeated on the way."""
+"""What tftp-match says of two captures, in words: which datagram is unmatched, what it says and why; or what was lost
+and repeated on the way."""
 from __future__ import annotations
 
 from collections import Counter
@@ -16,8 +16,8 @@ from .recording import ENDS, EndName
 
 SHOWN, MOST_BYTES = 6, 4
 BROUGHT = "each datagram of the transfer that came in at one end says what the other end had sent before."
-CHANGES = ("something between the ends that changes what passes, as a proxy or bad memory; captures of two transfers, of"
-           " which one carried another file; or a wrong pair of files")
+CHANGES = ("something between the ends that changes what passes, as a proxy or bad memory; captures of two transfers,"
+           " of which one carried another file; or a wrong pair of files")
 NOT_SENT = ("captures of two transfers; a capture of the sender that began late, ended early or lacks what its recorder"
             " dropped; or something between the ends that sends in the other end's name")
 WRONG_END = "the first text is to be the client's and the second the server's; the line `end` of each says whose it is."
@@ -50,7 +50,8 @@ def differing(sent: Event, now: Packet) -> Lines:
         told = f"The {sender} sent block {was.block} in its {place}, with {lengths}."
         return [told, *bytes_told(was.content, now.content, sender)]
     if isinstance(was, Request) and isinstance(now, Request):
-        return [f"{begins}.", *(f"Its {name} is {there} there, and {here} here." for name, there, here in changed(was, now))]
+        ways = (f"Its {name} is {there} there, and {here} here." for name, there, here in changed(was, now))
+        return [f"{begins}.", *ways]
     if isinstance(was, Oack) and isinstance(now, Oack):
         return [f"{begins}: it agrees to {shown(was.options)} there, and to {shown(now.options)} here."]
     return [f"{begins}: {was.told()} there, and {now.told()} here."]

@@ -1,5 +1,6 @@
-"""Two captures of one transfer in one order: which datagram that came in is which that was sent, what has no other half,
-and how far the two clocks are apart. The program says how far the two go together; this only puts them in a row."""
+"""Two captures of one transfer in one order: which datagram that came in is which that was sent, what has no other
+half, and how far the two clocks are apart. The program says how far the two go together; this only puts them in a
+row."""
 from __future__ import annotations
 
 from collections import Counter, deque
@@ -13,8 +14,8 @@ from .packets import Ack, Data, Error, Oack, Packet, Request
 from .pairs import OTHER, Pair
 from .recording import ENDS, EndName
 
-# How soon a datagram is put into the order: where its own copy was sent, where it goes out, where a copy of it was sent,
-# where nothing of the kind is ever sent, where it is sent later.
+# How soon a datagram is put into the order: where its own copy was sent, where it goes out, where a copy of it was
+# sent, where nothing of the kind is ever sent, where it is sent later.
 OWN, FREE, COPY, NEVER, LATER = range(5)
 # What became of a datagram.
 CAME, LOST, REPEATED, UNSENT, CHANGED, STRAY = "came", "lost", "repeated", "unsent", "changed", "stray"
@@ -128,8 +129,8 @@ class Merging:
     def __init__(self, events: dict[EndName, list[Event]], clock: Optional[Clock]) -> None:
         self.events, self.merged = events, Merged(clock=clock)
         self.at = dict.fromkeys(ENDS, 0)
-        # how often a message is sent and comes at each end in all, and was sent so far; the places of those that did not
-        # come yet, and of all that are alike
+        # how often a message is sent and comes at each end in all, and was sent so far; the places of those that did
+        # not come yet, and of all that are alike
         sent = {end: (it.message() for it in events[end] if it.is_main() and it.goes_out()) for end in ENDS}
         came = {end: (it.message() for it in events[end] if it.is_main() and not it.goes_out()) for end in ENDS}
         self.all = {end: Counter(sent[end]) for end in ENDS}

@@ -96,10 +96,9 @@ class PairRungs:
 
     def hover(self, place: int) -> str:
         """All of a datagram, and where it stands in both captures."""
-        event = self.merged.events[place]
-        where = [(self.merged.events[half].end, self.merged.events[half].passed.datagram) for half in self.halves(place)]
-        stands = ", ".join(f"{it.place()} of the {end}" for end, it in where)
-        return f"{stands}: {event.passed.packet.told()}"
+        events = [self.merged.events[half] for half in self.halves(place)]
+        stands = ", ".join(f"{it.passed.datagram.place()} of the {it.end}" for it in events)
+        return f"{stands}: {self.merged.events[place].passed.packet.told()}"
 
     def sender(self, place: int) -> str:
         event = self.merged.events[place]

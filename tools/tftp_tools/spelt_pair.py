@@ -1,4 +1,4 @@
-"""Two captures of one transfer as a ladder of arrows in text: what each end did in the order in which it can have been."""
+"""Two captures of one transfer as a ladder of arrows in text: what each end did, in an order that can have been."""
 from __future__ import annotations
 
 from .compared import side
