@@ -20,10 +20,14 @@ from typing import Optional
 from both import MATCHED, UNMATCHED
 from captures import EndName
 from judged import said
-from loopback import ATFTPD, CURL, DNSMASQ, HPA, INSIDE, RELAY, Case, enter_namespace, make_files, missing, record, set_up
+from loopback import (
+    ATFTPD, CURL, DNSMASQ, HPA, INSIDE, RELAY, SERVER, Case, enter_namespace, make_files, missing, record, set_up,
+)
 from relay import Disturbance, Relay
 from trial import Trial
 
+# At its own address alone, beside the relay.
+BOUND = f"{DNSMASQ} --bind-interfaces"
 ATFTP = "atftp -g -r kernel.img -l kernel.img --option 'blksize 512'"
 
 
@@ -46,20 +50,22 @@ CASES = (
          ("server", 3, "lost"), ("client", 4, "delayed")),
     case("hpa-hpa-put-changed", HPA, f"tftp -4 -m octet {RELAY} -c put report.bin",
          ("server", 2, "repeated"), ("client", 6, "changed")),
-    case("hpa-dnsmasq", DNSMASQ, f"tftp -4 -m octet {RELAY} -c get boot.cfg", ("server", 1, "lost")),
-    case("atftp-dnsmasq", DNSMASQ, f"{ATFTP} {RELAY}", ("server", 4, "repeated"), ("client", 7, "lost")),
-    case("atftp-dnsmasq-changed", DNSMASQ, f"{ATFTP} {RELAY}", ("server", 5, "changed")),
+    case("hpa-dnsmasq", BOUND, f"tftp -4 -m octet {RELAY} -c get boot.cfg", ("server", 1, "lost")),
+    case("atftp-dnsmasq", BOUND, f"{ATFTP} {RELAY}", ("server", 4, "repeated"), ("client", 7, "lost")),
+    case("atftp-dnsmasq-changed", BOUND, f"{ATFTP} {RELAY}", ("server", 5, "changed")),
     case("atftp-atftpd", ATFTPD, f"{ATFTP} --option 'windowsize 4' {RELAY}", ("server", 4, "repeated")),
     case("atftp-atftpd-lost", ATFTPD, f"{ATFTP} --option 'windowsize 4' {RELAY}", ("server", 5, "lost")),
+    case("atftp-atftpd-delayed", ATFTPD, f"{ATFTP} --option 'windowsize 4' {RELAY}", ("server", 6, "delayed")),
     case("atftp-atftpd-changed", ATFTPD, f"{ATFTP} --option 'windowsize 4' {RELAY}", ("server", 6, "changed")),
 )
 
 
 def legs_of(transfers: str, recording: bytes) -> dict[EndName, int]:
-    """The numbers of the client's leg and of the server's."""
+    """The numbers of the client's leg, in which the relay is the server, and of the server's; the first of each."""
     listed = [json.loads(line) for line in said(transfers, ["list", "--json", "-"], recording)[0].splitlines()]
-    other: dict[EndName, str] = {"client": "server", "server": "client"}
-    return {end: it["number"] for it in listed for end in other if it[other[end]].startswith(f"{RELAY}:")}
+    hosts: dict[EndName, str] = {"client": RELAY, "server": SERVER}
+    served = {end: [it["number"] for it in listed if it["server"].startswith(f"{host}:")] for end, host in hosts.items()}
+    return {end: numbers[0] for end, numbers in served.items() if numbers}
 
 
 def texts_of(transfers: str, recording: bytes) -> dict[EndName, bytes]:
@@ -77,14 +83,19 @@ def came_first(text: bytes, payload: bytes) -> Optional[int]:
 
 
 def is_right(lines: list[str], texts: dict[EndName, bytes], case: Case, relay: Relay) -> bool:
-    """Whether the two are matched where nothing was changed, with what was lost and repeated, and else unmatched at the
-    datagram that was changed."""
-    third = lines[2] if len(lines) == 3 else ""
-    if not relay.changed:
+    """Whether each end is accepted, and the two are matched where nothing was changed, with what was lost and repeated,
+    and else unmatched at the datagram that was changed."""
+    changes = [sender for sender, _, what in case.disturbed if what == "changed"]
+    if len(lines) != 3 or not all(line.startswith("accepted ") for line in lines[:2]):
+        return False
+    third = lines[2]
+    if len(relay.changed) != len(changes):
+        return False
+    if not changes:
         found = MATCHED.fullmatch(third)
         return found is not None and (not found[1] or (int(found[1]), int(found[2])) == relay.counts())
-    found, sender = UNMATCHED.fullmatch(third), next(it[0] for it in case.disturbed if it[2] == "changed")
-    other: EndName = "client" if sender == "server" else "server"
+    found = UNMATCHED.fullmatch(third)
+    other: EndName = "client" if changes[0] == "server" else "server"
     number = found[1 if other == "client" else 3] if found else "-"
     return number == str(came_first(texts[other], relay.changed[0]))
 

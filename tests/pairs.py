@@ -250,7 +250,7 @@ def try_times(trial: Pairs) -> None:
     texts = timed(both.client, [0, 0.040, 0.050], 7), timed(both.server, [5.010, 5.020, 5.080], 100)
     paths, program = trial.paths(texts), trial.standing_in([READ, READ, "matched"], 0)
     words = ["--match", program, "--pair", *paths]
-    clock = "the server's clock is 4.995000 s ahead of the client's, between 4.980000 s and 5.010000 s"
+    clock = "the server's time less the client's is from 4.980000 s to 5.010000 s, of which 4.995000 s is taken"
     got = trial.run(EXPLAIN, words)
     trial.check("clocks explained", f"Clocks: {clock}." in plain(got[0]), got)
     of_time: tuple[list[str], ...] = ([], ["--by", "time"])

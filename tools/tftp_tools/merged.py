@@ -65,6 +65,10 @@ def events_at(end: EndName, capture: Capture) -> list[Event]:
     return [Event(end, history.take(datagram)) for datagram in capture.datagrams]
 
 
+def seconds(time: int) -> str:
+    return f"{round(time / NANOSECONDS, 6) + 0.0:.6f} s"
+
+
 @dataclass(frozen=True)
 class Clock:
     """What the server's clock shows more than the client's, in nanoseconds: the least and the most that it may be, as
@@ -83,15 +87,15 @@ class Clock:
 
     def told(self) -> str:
         """The difference in words."""
-        shown = [f"{bound / NANOSECONDS:.6f} s" if bound is not None else "" for bound in (self.low, self.high)]
+        low, high = (seconds(bound) if bound is not None else "" for bound in (self.low, self.high))
         if not self.is_sound():
-            return (f"the clocks do not agree: the server's is to be at least {shown[0]} ahead by one datagram, and at"
-                    f" most {shown[1]} by another; one of them was set, or runs wrong")
-        middle = f"{self.difference() / NANOSECONDS:.6f} s"
-        if shown[0] and shown[1]:
-            return f"the server's clock is {middle} ahead of the client's, between {shown[0]} and {shown[1]}"
-        bound = f"at least {shown[0]}" if shown[0] else f"at most {shown[1]}"
-        return f"the server's clock is {bound} ahead of the client's; {middle} is taken"
+            return (f"the clocks do not agree: by one datagram the server's time less the client's is at least {low}, and"
+                    f" by another at most {high}; one of the clocks was set, or runs wrong")
+        if low and high:
+            bounds = f"from {low} to {high}, of which {seconds(self.difference())} is taken"
+        else:
+            bounds = f"at least {low}, which is taken" if low else f"at most {high}, which is taken"
+        return f"the server's time less the client's is {bounds}"
 
 
 @dataclass
