@@ -36,6 +36,8 @@ SIDES: dict[EndName, Side] = {
     "server": Side(MARGIN + BETWEEN, -1, WIDTH - 176, WIDTH - 166, WIDTH - 20),
 }
 MIDDLE = MARGIN + BETWEEN / 2
+# Words that stand in the way of a line are read all the same.
+HALO = '<g class="s-ground" paint-order="stroke" stroke-width="3" stroke-linejoin="round">'
 
 
 class PairDrawing(Canvas):
@@ -48,6 +50,8 @@ class PairDrawing(Canvas):
         self.pair, self.merged, self.by_time = pair, self.rungs.merged, by_time
         self.y, self.last = float(TOP), -1
         self.ys: dict[int, float] = {}
+        # the words of the arrows, which are drawn above all of these
+        self.labels = Canvas()
         self.head()
         for row in self.rungs.rows(rows):
             if isinstance(row, Fold):
@@ -63,7 +67,7 @@ class PairDrawing(Canvas):
         self.text(14, 70, self.rungs.counted(), 12, "muted")
         self.legend(LEGEND)
         if self.merged.clock:
-            self.text(14, 110, self.merged.clock.told(), 10, "muted")
+            self.text(14, 106, self.merged.clock.told(), 10, "muted")
         for end, it in SIDES.items():
             self.text(it.x, TOP - 34, end, 13, "ink", "middle")
             self.text(it.x, TOP - 19, self.rungs.captures[end].here or "", 10, "muted", "middle")
@@ -147,7 +151,7 @@ class PairDrawing(Canvas):
     def words(self, x: float, y: float, words: str, place: int, anchor: str) -> None:
         state = self.rungs.state(place)
         fill = "refused" if state == "refused" else "muted" if state in ("after", "repeat") else "words"
-        self.text(x, y, clipped(words, LABEL), 11, fill, anchor)
+        self.labels.text(x, y, clipped(words, LABEL), 11, fill, anchor)
 
     def margin(self, place: int) -> None:
         """Number, frame and time, beside the end."""
@@ -170,8 +174,8 @@ class PairDrawing(Canvas):
             f'<line x1="{it.x}" y1="{TOP - 10}" x2="{it.x}" y2="{self.y + 16:.1f}" class="s-words" stroke-width="2"/>'
             for it in SIDES.values()
         )
-        told = self.pair.line, self.described()
-        return framed((WIDTH, self.y + 34), "pair", told, [ends, *self.parts], True)
+        told, labels = (self.pair.line, self.described()), [HALO, *self.labels.parts, "</g>"]
+        return framed((WIDTH, self.y + 34), "pair", told, [ends, *self.parts, *labels], True)
 
 
 def draw_pair(pair: Pair, rows: int, by_time: bool) -> str:
