@@ -1,6 +1,6 @@
-"""Fuzzes tftp-match: both ends of simulated transfers, over a network that loses, repeats and reorders, must match, with
-exactly the losses and repetitions that there were, where the program tells them. Cut anywhere they go together as far as
-a slow merge of the steps says, and where the network changed a byte they do not match from there on.
+"""Fuzzes tftp-match: both ends of simulated transfers, over a network that loses, repeats and reorders, must match,
+with exactly the losses and repetitions that there were, where the program tells them. Cut anywhere they go together as
+far as a slow merge of the steps says, and where the network changed a byte they do not match from there on.
 
     both.py [--cases N] [--seed N] MATCH
 
@@ -138,7 +138,8 @@ class Matching(Trial):
         third = lines[2] if len(lines) == 3 else ""
         is_lawful = not any(line.startswith("refused") for line in lines[:2])
         holds = is_right(third, ends, is_lawful) and done.returncode == int(not third.startswith("matched"))
-        self.check(name, holds and not done.stderr, (lines, done.stderr, done.returncode, merged(ends), counts_of(ends)))
+        got = lines, done.stderr, done.returncode
+        self.check(name, holds and not done.stderr, (got, merged(ends), counts_of(ends)))
         self.met[third.partition(" ")[0]] += 1
 
     def try_case(self, seed: int) -> None:

@@ -1,6 +1,6 @@
-"""Makes recordings of real transfers at both ends at once, over the loopback and a relay that loses, repeats, delays and
-changes datagrams, and tries tftp-match on them: the client's leg is what its end captured, the server's leg what that
-did. Clients are tftp-hpa, atftp and curl, servers tftpd-hpa, atftpd and dnsmasq, as far as they are installed.
+"""Makes recordings of real transfers at both ends at once, over the loopback and a relay that loses, repeats, delays
+and changes datagrams, and tries tftp-match on them: the client's leg is its end's capture, and the server's leg that of
+the server. Clients are tftp-hpa, atftp and curl, servers tftpd-hpa, atftpd and dnsmasq, as far as they are installed.
 
     legs.py TRANSFERS MATCH [FOLDER]
 
@@ -64,14 +64,17 @@ def legs_of(transfers: str, recording: bytes) -> dict[EndName, int]:
     """The numbers of the client's leg, in which the relay is the server, and of the server's; the first of each."""
     listed = [json.loads(line) for line in said(transfers, ["list", "--json", "-"], recording)[0].splitlines()]
     hosts: dict[EndName, str] = {"client": RELAY, "server": SERVER}
-    served = {end: [it["number"] for it in listed if it["server"].startswith(f"{host}:")] for end, host in hosts.items()}
-    return {end: numbers[0] for end, numbers in served.items() if numbers}
+    legs: dict[EndName, int] = {}
+    for end, host in hosts.items():
+        numbers = [it["number"] for it in listed if it["server"].startswith(f"{host}:")]
+        legs.update({end: numbers[0]} if numbers else {})
+    return legs
 
 
 def texts_of(transfers: str, recording: bytes) -> dict[EndName, bytes]:
     """The capture text of each end."""
-    legs = legs_of(transfers, recording)
-    return {end: said(transfers, ["text", str(number), end, "-"], recording)[0].encode() for end, number in legs.items()}
+    words = {end: ["text", str(number), end, "-"] for end, number in legs_of(transfers, recording).items()}
+    return {end: said(transfers, asked, recording)[0].encode() for end, asked in words.items()}
 
 
 def came_first(text: bytes, payload: bytes) -> Optional[int]:

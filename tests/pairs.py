@@ -18,7 +18,7 @@ from dataclasses import dataclass, field
 
 sys.dont_write_bytecode = True
 
-from captures import Capture, EndName, ack, blocks, data, error, oack, read_request  # noqa: E402
+from captures import Capture, ack, blocks, data, error, oack, read_request  # noqa: E402
 from ladder import Picture, contrast_of  # noqa: E402
 from match import READ, Both, ahead, read_of_two_bytes, repeated, strayed, windowed  # noqa: E402
 from trial import Trial  # noqa: E402
@@ -103,7 +103,8 @@ CASES = (
     Case("a changed byte", read_of_two_bytes(b"hj"), (READ, READ, on(2, 3)), on("2 unsent", "3 waits"), (
         "At: the client, its datagram 2. Where: line 5 of the client's text. What: in,",
         "The server sent block 1 in its datagram 2 (line 5), with 2 bytes; here it has 2 bytes.",
-        'They differ from byte 2 of the block on: "i" at the server, "j" here.', "byte 2 is 0x69 at the server and 0x6a here.",
+        'They differ from byte 2 of the block on: "i" at the server, "j" here.',
+        "byte 2 is 0x69 at the server and 0x6a here.",
         "It waits: the client sent it in its datagram 3 (line 6), behind datagram 2 there, which is unmatched itself.",
     ), {"f-refused": 1, "f-after": 1}),
     Case("a changed block of a window", windowed(2), (

@@ -95,5 +95,6 @@ class Relay:
 
     def counts(self) -> tuple[int, int]:
         """How many datagrams were lost and repeated, by how often each payload came and went."""
-        pairs = [(self.came[end][it], self.went[end][it]) for end in self.came for it in self.came[end] | self.went[end]]
+        each = [(end, it) for end in self.came for it in self.came[end] | self.went[end]]
+        pairs = [(self.came[end][it], self.went[end][it]) for end, it in each]
         return sum(max(0, came - went) for came, went in pairs), sum(max(0, went - came) for came, went in pairs)

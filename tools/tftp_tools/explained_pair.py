@@ -10,7 +10,7 @@ from .compared import Lines, changed, differ_from, shown
 from .explained import Told, explain, explain_refused, what, where
 from .history import block_of
 from .merged import CHANGED, Event, Merged, events_at, likeness, merged_of
-from .packets import Ack, Data, Error, Oack, Packet, Request, count
+from .packets import Ack, Data, Oack, Packet, Request, count
 from .pairs import OTHER, Pair
 from .recording import ENDS, EndName
 

@@ -89,8 +89,8 @@ class Clock:
         """The difference in words."""
         low, high = (seconds(bound) if bound is not None else "" for bound in (self.low, self.high))
         if not self.is_sound():
-            return (f"the clocks do not agree: by one datagram the server's time less the client's is at least {low}, and"
-                    f" by another at most {high}; one of the clocks was set, or runs wrong")
+            return ("the clocks do not agree: by one datagram the server's time less the client's is at least"
+                    f" {low}, and by another at most {high}; one of the clocks was set, or runs wrong")
         if low and high:
             bounds = f"from {low} to {high}, of which {seconds(self.difference())} is taken"
         else:
