@@ -121,7 +121,7 @@ CASES = (
     ), {"f-refused": 1, "f-after": 1}),
     Case("an ACK that was never sent", unanswered(), (incomplete(2), READ, on("-", 3)), on("-", "3 unsent"), (
         "At: the server, its datagram 3.",
-        "The client never sent it: none of the 1 datagram of the transfer that it sent says this.",
+        "The client never sent it: it sent 1 datagram of the transfer, and none that says this.",
     ), {"f-refused": 1}),
     Case("another OACK", answered(oack(blksize=8), oack(blksize=9), blksize=16), (
         incomplete(2), incomplete(2), on(2, "-"),
@@ -140,7 +140,8 @@ CASES = (
         "refused datagram 3 rule 26 AckAhead", READ, on(3, 3),
     ), on(3, "3 unsent"), (
         "At: the client, its datagram 3.", "Rule: 26 AckAhead: an ACK says that its block and all before it came.",
-        "At: the server, its datagram 3.", "The client never sent it: none of the 2 datagrams of the transfer",
+        "At: the server, its datagram 3.",
+        "The client never sent it: it sent 2 datagrams of the transfer, and none that says this.",
         "The highest ACK that it sent is 2 in its datagram 3 (line 6).",
     ), {"f-refused": 1}, 1),
     Case("lost", repeated(3, 1), (READ, READ, "matched"), "matched lost 2 repeated 0", (), {}, 2),

@@ -60,7 +60,7 @@ def differing(sent: Event, now: Packet) -> Lines:
 def never_sent(it: Datagram, packet: Packet, sent: list[Event], sender: EndName) -> Lines:
     """That the other end sent nothing of the kind, and what it did send."""
     some = count(len(sent), "datagram")
-    lines = [f"The {sender} never sent it: none of the {some} of the transfer that it sent says this."]
+    lines = [f"The {sender} never sent it: it sent {some} of the transfer, and none that says this."]
     same = [event for event in sent if type(event.passed.packet) is type(packet)]
     if isinstance(packet, (Data, Ack)) and same:
         top = max(same, key=lambda event: block_of(event.passed))
