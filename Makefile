@@ -3,6 +3,7 @@ PROGRAM = crates/tftp_audit/out/tftp_audit
 TRANSFERS = crates/tftp_transfers_main/out/tftp_transfers_main
 BENCH = crates/tftp_bench/out/tftp_bench
 DATAGRAMS = crates/tftp_datagrams/out/tftp_datagrams
+MATCH = crates/tftp_match_main/out/tftp_match_main
 
 .PHONY: build test plants bench fuzz install uninstall dist deb
 
@@ -31,13 +32,16 @@ bench: build
 # Simulated ends and networks, and changes of what passed, tried on the built program; and recordings of lawful ends, divided
 # into transfers, of which none may be blamed: make fuzz N=1000000 SEED=1, and one recording for each hundred cases. For each
 # twenty a transfer is recorded between its ends, and changes of it, and what is said compared with a slow reference; for each
-# ten a recording is changed, and what is read of it compared with what a slow reader finds.
+# ten both ends of a transfer are matched, whole, cut and changed; and for each ten a recording is changed, and what is read
+# of it compared with what a slow reader finds.
 N = 10000
 JOBS = 2
 fuzz: build
 	python3 tests/fuzz.py --cases $(N) --jobs $(JOBS) $(if $(SEED),--seed $(SEED)) $(PROGRAM)
 	python3 tests/attribution.py --cases $$(($(N) / 100 + 1)) $(if $(SEED),--seed $(SEED)) --transfers $(TRANSFERS) $(PROGRAM)
 	python3 tests/between.py --cases $$(($(N) / 20 + 1)) $(if $(SEED),--seed $(SEED)) $(TRANSFERS)
+	@cd crates/tftp_match_main && rt run -- </dev/null >/dev/null 2>&1 || test $$? -eq 2
+	python3 tests/both.py --cases $$(($(N) / 10 + 1)) $(if $(SEED),--seed $(SEED)) $(MATCH)
 	@cd crates/tftp_datagrams && rt run -- </dev/null >/dev/null || test $$? -eq 2
 	python3 tests/datagrams.py --cases 0 --changes $$(($(N) / 10 + 1)) $(if $(SEED),--seed $(SEED)) $(DATAGRAMS)
 

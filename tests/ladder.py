@@ -44,6 +44,23 @@ class Picture:
     def has(self, words: str) -> bool:
         return any(words in text for text in self.words)
 
+    def lines(self) -> list[ElementTree.Element]:
+        return list(self.root.iter(f"{SVG}line"))
+
+    def told(self) -> list[str]:
+        """What a reader of the screen is told: the title and the description."""
+        named = [self.root.find(f".//*[@id='{name}']") for name in (self.root.get("aria-labelledby") or "").split()]
+        return [each.text or "" for each in named if each is not None]
+
+    def styles(self) -> list[tuple[str, str]]:
+        """The style in light and in dark."""
+        light, _, dark = self.style.partition("@media (prefers-color-scheme:dark)")
+        return [("light", light), ("dark", dark)]
+
+    def texts(self) -> set[str]:
+        """The names of the colours in which words are written."""
+        return {each.get("class", "")[2:] for each in self.root.iter(f"{SVG}text")}
+
 
 def window_read() -> Capture:
     """A read in windows, with a repeated block, a stray and its answer."""
@@ -110,16 +127,29 @@ def contrast(one: str, other: str) -> float:
     return (high + 0.05) / (low + 0.05)
 
 
+def colours_of(style: str) -> dict[str, str]:
+    return dict(re.findall(r"[.]f-(\w+)\{fill:(#\w{6})\}", style))
+
+
+def least_contrast(colours: dict[str, str], text: str) -> float:
+    """That of words on the two grounds."""
+    return min(contrast(colours[text], colours[it]) for it in ("ground", "fold"))
+
+
+def contrast_of(picture: Picture) -> dict[str, float]:
+    """The least contrast of each colour in which a picture has words, in light and in dark."""
+    styles = [(name, colours_of(style)) for name, style in picture.styles()]
+    return {f"{name}, {text}": least_contrast(colours, text) for name, colours in styles for text in picture.texts()}
+
+
 def try_colours(trial: Trial, program: str) -> None:
     """Each text's contrast is 4.5 or more and each line's 3, by the colours of the style, in light and in dark."""
     picture = Picture(run(["--program", program], window_read().text())[0])
-    light, _, dark = picture.style.partition("@media (prefers-color-scheme:dark)")
-    texts = {each.get("class", "")[2:] for each in picture.root.iter(f"{SVG}text")} | {"sound", "refused"}
-    for name, style in (("light", light), ("dark", dark)):
-        colours = dict(re.findall(r"[.]f-(\w+)\{fill:(#\w{6})\}", style))
+    for name, style in picture.styles():
+        colours = colours_of(style)
         strokes = dict(re.findall(r"[.]s-(\w+)\{stroke:(#\w{6})\}", style))
         trial.check(f"{name}: lines have the colours of their heads", strokes == colours and len(colours) > 10, style)
-        least = {text: min(contrast(colours[text], colours[it]) for it in ("ground", "fold")) for text in texts}
+        least = {text: least_contrast(colours, text) for text in picture.texts() | {"sound", "refused"}}
         trial.check(f"{name}: each text", min(least.values()) >= 4.5, least)
         lines = {line: contrast(colours[line], colours["ground"]) for line in colours.keys() - {"ground", "fold"}}
         trial.check(f"{name}: each line", min(lines.values()) >= 3, lines)
@@ -130,8 +160,7 @@ def try_words(trial: Trial, program: str) -> None:
     text = window_read().text().replace(b"00040006\n", b"00040007\n")
     picture = Picture(run(["--program", program], text)[0])
     root = picture.root
-    named = [root.find(f".//*[@id='{name}']") for name in (root.get("aria-labelledby") or "").split()]
-    told = [each.text or "" for each in named if each is not None]
+    told = picture.told()
     is_told = told[:1] == ["refused datagram 14 rule 26 AckAhead"] and "14 datagrams passed. 1 is a repeat" in told[1]
     trial.check("title and description", root.get("role") == "img" and is_told, told)
     trial.check("the request has its options", picture.has('RRQ "boot.img" octet blksize=8 windowsize=4'))
@@ -239,4 +268,5 @@ def main(program: str, transfers: str) -> int:
     return trial.end()
 
 
-sys.exit(main(*sys.argv[1:]))
+if __name__ == "__main__":
+    sys.exit(main(*sys.argv[1:]))

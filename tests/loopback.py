@@ -194,17 +194,20 @@ def running(command: str, folder: pathlib.Path, ready: str = "") -> Iterator[Non
                 process.kill()
 
 
-def record(case: Case, recording: pathlib.Path, folder: pathlib.Path) -> None:
+def record(case: Case, recording: pathlib.Path, folder: pathlib.Path) -> Optional[Relay]:
+    """The recording of a case, and the relay, where there is one."""
+    relay = Relay(RELAY, SERVER, case.disturbed) if case.disturbed else None
     recorder = f"tcpdump -i lo -s 0 -U -Z root -w {recording} udp or icmp or icmp6 or ip[6:2]&0x3fff!=0"
     with running(recorder, folder, "listening on"), running(case.server, folder), contextlib.ExitStack() as stack:
-        if case.disturbed:
-            stack.enter_context(Relay(RELAY, SERVER, case.disturbed))
+        if relay:
+            stack.enter_context(relay)
         for client in case.clients:
             subprocess.run(
                 ["timeout", CLIENT_SECONDS, "sh", "-c", client], cwd=folder / "client", stdin=subprocess.DEVNULL,
                 stdout=subprocess.DEVNULL, stderr=subprocess.DEVNULL,
             )
         time.sleep(1)
+    return relay
 
 
 def at_each_end(transfers: str, recording: pathlib.Path) -> list[tuple[list[Row], str, int]]:
@@ -259,8 +262,8 @@ def missing(case: Case) -> list[str]:
     return sorted(word for word in wanted if not named(word))
 
 
-def enter_namespace(words: list[str]) -> int:
-    """Runs this script again where the loopback is its own."""
+def enter_namespace(script: str, words: list[str]) -> int:
+    """Runs a script again where the loopback is its own."""
     lacking = [name for name in ALWAYS if not named(name)]
     if lacking:
         print(f"not installed, so nothing is recorded over the loopback: {', '.join(lacking)}")
@@ -268,14 +271,19 @@ def enter_namespace(words: list[str]) -> int:
     if subprocess.run(["unshare", "--net", "true"], stderr=subprocess.DEVNULL).returncode != 0:
         print("no network namespace can be had here, as root can, so nothing is recorded over the loopback")
         return 0
-    command = ["unshare", "--net", sys.executable, __file__, *words]
+    command = ["unshare", "--net", sys.executable, script, *words]
     return subprocess.run(command, env={**os.environ, INSIDE: "1"}).returncode
 
 
-def main(transfers: str, folder: Optional[str]) -> int:
+def set_up() -> None:
+    """The addresses of the loopback."""
     subprocess.run(["ip", "link", "set", "lo", "up"], check=True)
     for address in (f"{SERVER}/32", f"{CLIENT}/32", f"{RELAY}/32", f"{SERVER_6}/128", f"{CLIENT_6}/128"):
         subprocess.run(["ip", "addr", "add", address, "dev", "lo"], check=True)
+
+
+def main(transfers: str, folder: Optional[str]) -> int:
+    set_up()
     trial = Trial()
     with tempfile.TemporaryDirectory() as scratch:
         for case in CASES:
@@ -290,4 +298,4 @@ def main(transfers: str, folder: Optional[str]) -> int:
 if __name__ == "__main__":
     if INSIDE in os.environ:
         sys.exit(main(sys.argv[1], sys.argv[2] if len(sys.argv) > 2 else None))
-    sys.exit(enter_namespace(sys.argv[1:]))
+    sys.exit(enter_namespace(__file__, sys.argv[1:]))

@@ -22,7 +22,8 @@ from trial import Trial
 
 SCRIPTS, EXAMPLES = ("tftp-explain", "tftp-ladder", "tftp-report"), TOP / "examples"
 # The pages that show commands with what they print.
-SHOWING = ("README.md", "docs/VERDICTS.md", "docs/RECORDING.md")
+SHOWING = ("README.md", "docs/VERDICTS.md", "docs/RECORDING.md", "docs/PAIRS.md")
+MATCH = TOP / "crates" / "tftp_match_main" / "out" / "tftp_match_main"
 NAMED = re.compile(r"`((?:docs|tools|tests|examples)/[A-Za-z0-9_./-]+)`")
 # The programs of which docs/LIBRARIES.md shows code, and a section of that page: its program, and what stands below.
 CALLERS = ("example_judge", "example_recording", "example_normalise")
@@ -205,10 +206,11 @@ def shown(page: str) -> Iterator[tuple[str, str]]:
 
 
 def try_shown(trial: Trial, program: str, transfers: str) -> None:
-    """Each command that a page shows writes what stands below it, in a folder with the two programs in their places."""
+    """Each command that a page shows writes what stands below it, in a folder with the programs in their places."""
     with tempfile.TemporaryDirectory() as name:
         folder = pathlib.Path(name)
-        for place, stands in (("tftp-audit", program), ("tftp-transfers", transfers), ("examples", str(EXAMPLES))):
+        programs = ("tftp-audit", program), ("tftp-transfers", transfers), ("tftp-match", str(MATCH))
+        for place, stands in (*programs, ("examples", str(EXAMPLES))):
             (folder / place).symlink_to(stands)
         # the scripts look for the programs in the folder above their own
         shutil.copytree(TOP / "tools", folder / "tools")

@@ -6,6 +6,7 @@ from dataclasses import dataclass
 from typing import Optional
 
 from .capture import Capture, Datagram
+from .compared import first_difference
 from .explained import explain_refused
 from .facts import datagram_at
 from .program import Verdict
@@ -40,10 +41,6 @@ def compared_with(capture: Capture, verdict: Verdict) -> list[Datagram]:
     numbers = dict.fromkeys(int(number.replace(",", "")) for words in why for number in NAMED.findall(words))
     found = (datagram_at(capture, number) for number in numbers)
     return [it for it in found if it is not None][:MOST]
-
-
-def first_difference(one: bytes, other: bytes) -> int:
-    return next((at for at, pair in enumerate(zip(one, other)) if pair[0] != pair[1]), min(len(one), len(other)))
 
 
 def differing(content: bytes, other: Optional[bytes], place: int) -> frozenset[int]:

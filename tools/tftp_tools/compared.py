@@ -1,7 +1,7 @@
 """With what the rule that a datagram broke compared it, and where that stands in the capture."""
 from __future__ import annotations
 
-from collections.abc import Callable
+from collections.abc import Callable, Iterator
 from typing import Optional
 
 from .capture import Datagram
@@ -141,14 +141,18 @@ def request_changed(history: History, it: Datagram, fault: str) -> Lines:
     first, now = history.request, read_packet(it.payload)
     if first is None or not isinstance(first.packet, Request) or not isinstance(now, Request):
         return []
-    was, lines = first.packet, [f"The first request is {at(first)}."]
+    differing = [f"Its {what} was {before}, and is {after} now." for what, before, after in changed(first.packet, now)]
+    return [f"The first request is {at(first)}.", *differing]
+
+
+def changed(was: Request, now: Request) -> Iterator[tuple[str, str, str]]:
+    """In what two requests differ, and how each has it."""
     for what, before, after in (
         ("kind", was.kind, now.kind), ("name", was.name, now.name), ("mode", was.mode, now.mode),
         ("options", shown(tuple(sorted(was.options))), shown(tuple(sorted(now.options)))),
     ):
         if before != after:
-            lines.append(f"Its {what} was {before}, and is {after} now.")
-    return lines
+            yield what, before, after
 
 
 def request_after_start(history: History, it: Datagram, fault: str) -> Lines:
@@ -361,9 +365,18 @@ def block_changed(history: History, it: Datagram, fault: str) -> Lines:
     was, now = content_of(before), packet.content
     lengths = f"with {count(len(was), 'byte')}; now it has {count(len(now), 'byte')}"
     lines = [f"Block {packet.block} had passed in {at(before)}, {lengths}."]
-    place = next((n for n, pair in enumerate(zip(was, now)) if pair[0] != pair[1]), min(len(was), len(now)))
-    then, there = words_of(was[place : place + 12]), words_of(now[place : place + 12])
-    return [*lines, f"They differ from byte {place + 1} of the block on: {then} then, {there} now."]
+    return [*lines, differ_from(was, now, "then", "now")]
+
+
+def first_difference(one: bytes, other: bytes) -> int:
+    return next((at for at, pair in enumerate(zip(one, other)) if pair[0] != pair[1]), min(len(one), len(other)))
+
+
+def differ_from(one: bytes, other: bytes, there: str, here: str) -> str:
+    """From where on the bytes of two blocks differ, and what stands there in each."""
+    place = first_difference(one, other)
+    first, second = words_of(one[place : place + 12]), words_of(other[place : place + 12])
+    return f"They differ from byte {place + 1} of the block on: {first} {there}, {second} {here}."
 
 
 def front_told(history: History, block: int, came: str) -> Lines:

@@ -2,6 +2,7 @@
 from __future__ import annotations
 
 import textwrap
+from collections.abc import Sequence
 from dataclasses import dataclass
 from typing import Optional
 from xml.sax.saxutils import escape
@@ -11,7 +12,7 @@ from .colours import picture_style
 from .compared import side
 from .explained import transfer
 from .history import History
-from .packets import Ack, Data, Error, Oack, Request, count
+from .packets import Ack, Data, Error, Oack, Packet, Request, count
 from .program import Verdict
 from .rules import RULES
 from .rungs import Fold, Row, Rung, clipped, folded, rungs_of, told_fold
@@ -23,6 +24,10 @@ PER_SECOND, LEAST, MOST = 240.0, 20, 120
 # How many signs stand between the two ends, and above an aside.
 LABEL, ASIDE_NAME, MOST_ASIDES = 70, 24, 3
 OTHERS = "other hosts"
+KINDS = (("DATA", "data"), ("ACK", "ack"), ("request, OACK", "request"), ("ERROR", "error"))
+LEGEND = (
+    *KINDS, ("repeated", "repeat"), ("stray and answer", "stray"), ("refused", "refused"), ("not judged", "after"),
+)
 
 
 @dataclass(frozen=True)
@@ -81,8 +86,13 @@ def colour(rung: Rung) -> str:
         return "stray"
     if rung.is_repeat:
         return "repeat"
+    return colour_of(rung.passed.packet)
+
+
+def colour_of(packet: Packet) -> str:
+    """The colour of what is lawful and of the transfer."""
     kinds = ((Data, "data"), (Ack, "ack"), (Request, "request"), (Oack, "request"), (Error, "error"))
-    return next((name for kind, name in kinds if isinstance(rung.passed.packet, kind)), "none")
+    return next((name for kind, name in kinds if isinstance(packet, kind)), "none")
 
 
 def words_of_rung(rung: Rung) -> str:
@@ -92,21 +102,11 @@ def words_of_rung(rung: Rung) -> str:
     return "muted" if rung.is_after or rung.is_repeat else "words"
 
 
-class Drawing:
-    """The parts of a picture, from its top down."""
+class Canvas:
+    """What a picture is made of."""
 
-    def __init__(self, capture: Capture, verdict: Verdict, by_time: bool, name: str) -> None:
-        rungs, self.history = rungs_of(capture, verdict)
-        self.capture, self.verdict, self.by_time, self.name = capture, verdict, by_time, name
-        self.rungs = rungs
-        self.columns = columns_of(capture, self.history, rungs)
-        self.middle = (self.columns.client() + self.columns.server()) / 2
+    def __init__(self) -> None:
         self.parts: list[str] = []
-        self.y = float(TOP)
-        self.last: Optional[Datagram] = None
-        # where the blocks of a window stand, and whether some of it are in a fold
-        self.window: list[float] = []
-        self.is_part = False
 
     def text(
         self, x: float, y: float, words: str, size: int = 12, fill: str = "words", anchor: str = "start"
@@ -126,6 +126,31 @@ class Drawing:
         slope = (y2 - y1) / (x2 - x1) * back
         points = f"{x2:.1f},{y2:.1f} {x2 + back:.1f},{y2 + slope - 4:.1f} {x2 + back:.1f},{y2 + slope + 4:.1f}"
         self.parts.append(f'<polygon points="{points}" class="f-{stroke}"/>')
+
+    def legend(self, entries: Sequence[tuple[str, str]]) -> None:
+        """A short line in each colour, with what it means."""
+        x = 14.0
+        for words, name in entries:
+            self.parts.append(f'<rect x="{x:.1f}" y="84" width="16" height="4" class="f-{name}"/>')
+            self.text(x + 20, 90, words, 10, "muted")
+            x += 34 + 6.4 * len(words)
+
+
+class Drawing(Canvas):
+    """The parts of a picture, from its top down."""
+
+    def __init__(self, capture: Capture, verdict: Verdict, by_time: bool, name: str) -> None:
+        super().__init__()
+        rungs, self.history = rungs_of(capture, verdict)
+        self.capture, self.verdict, self.by_time, self.name = capture, verdict, by_time, name
+        self.rungs = rungs
+        self.columns = columns_of(capture, self.history, rungs)
+        self.middle = (self.columns.client() + self.columns.server()) / 2
+        self.y = float(TOP)
+        self.last: Optional[Datagram] = None
+        # where the blocks of a window stand, and whether some of it are in a fold
+        self.window: list[float] = []
+        self.is_part = False
 
     def step(self, rung: Rung) -> None:
         """Goes down to where the next rung stands."""
@@ -237,7 +262,7 @@ class Drawing:
         self.text(14, 28, self.verdict.line, 17, "sound" if self.verdict.status == 0 else "refused")
         self.text(14, 50, clipped(transfer(self.history), 130), 12)
         self.text(14, 70, count(len(self.capture.datagrams), "datagram"), 12, "muted")
-        self.legend()
+        self.legend(LEGEND)
         for end in ("client", "server"):
             x, name = self.columns.at(end), self.capture.name(end)
             self.text(x, TOP - 34, name, 13, "ink", "middle")
@@ -257,16 +282,6 @@ class Drawing:
         for name in self.columns.asides:
             x = self.columns.named(name)
             self.text(x, TOP - 19, clipped(name, ASIDE_NAME), 10, "muted", "middle")
-
-    def legend(self) -> None:
-        x = 14.0
-        for words, name in (
-            ("DATA", "data"), ("ACK", "ack"), ("request, OACK", "request"), ("ERROR", "error"),
-            ("repeated", "repeat"), ("stray and answer", "stray"), ("refused", "refused"), ("not judged", "after"),
-        ):
-            self.parts.append(f'<rect x="{x:.1f}" y="84" width="16" height="4" class="f-{name}"/>')
-            self.text(x + 20, 90, words, 10, "muted")
-            x += 34 + 6.4 * len(words)
 
     def described(self) -> str:
         """The picture in words."""
@@ -291,13 +306,20 @@ class Drawing:
             f' stroke-width="{2 if place < 2 else 1}"/>'
             for place, x in enumerate(lines)
         )
-        head = f'<svg xmlns="http://www.w3.org/2000/svg" width="{width}" height="{bottom:.0f}"'
-        head += f' viewBox="0 0 {width} {bottom:.0f}" role="img" aria-labelledby="{self.name}-title {self.name}-desc">'
-        title = f'<title id="{self.name}-title">{escape(self.verdict.line)}</title>'
-        desc = f'<desc id="{self.name}-desc">{escape(self.described())}</desc>'
-        style = [f"<style>{picture_style()}</style>"] if is_alone else []
-        ground = '<rect width="100%" height="100%" class="f-ground"/>'
-        return "\n".join([head, title, desc, *style, ground, ends, *self.parts, "</svg>\n"])
+        told = self.verdict.line, self.described()
+        return framed((width, bottom), self.name, told, [ends, *self.parts], is_alone)
+
+
+def framed(size: tuple[float, float], name: str, told: tuple[str, str], parts: list[str], is_alone: bool) -> str:
+    """A picture of this width and height with its title and description; the style is in it where it stands alone."""
+    width, height = f"{size[0]:.0f}", f"{size[1]:.0f}"
+    head = f'<svg xmlns="http://www.w3.org/2000/svg" width="{width}" height="{height}"'
+    head += f' viewBox="0 0 {width} {height}" role="img" aria-labelledby="{name}-title {name}-desc">'
+    title = f'<title id="{name}-title">{escape(told[0])}</title>'
+    desc = f'<desc id="{name}-desc">{escape(told[1])}</desc>'
+    style = [f"<style>{picture_style()}</style>"] if is_alone else []
+    ground = '<rect width="100%" height="100%" class="f-ground"/>'
+    return "\n".join([head, title, desc, *style, ground, *parts, "</svg>\n"])
 
 
 def draw(

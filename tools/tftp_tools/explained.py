@@ -63,14 +63,15 @@ def explain_refused(capture: Capture, verdict: Verdict) -> Told:
     return told + [("Whose", f"{rule.whose}."), ("Usually", f"{usually}.")]
 
 
-def transfer(history: History) -> str:
+def transfer(history: History, place: str = "") -> str:
+    """What the transfer is and what was agreed, and where it was captured, if no other words are given."""
     request = history.request.packet if history.request else None
     if not isinstance(request, Request):
         return "no request has passed."
     agreed = ", ".join(f"{name} {value}" for name, value in history.agreed())
     options = f"; agreed: {agreed}" if agreed else "; no options agreed"
     verb = "a read of" if request.kind == "get" else "a write of"
-    return f"{verb} {request.name} in mode {request.mode}, {history.capture.place()}{options}."
+    return f"{verb} {request.name} in mode {request.mode}, {place or history.capture.place()}{options}."
 
 
 def unanswered(history: History) -> Told:

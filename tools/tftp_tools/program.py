@@ -1,4 +1,4 @@
-"""The two programs: where they stand, what tftp-audit says of a capture text, and how tftp-transfers is asked."""
+"""The programs: where they stand, what tftp-audit says of a capture text, and how tftp-transfers is asked."""
 from __future__ import annotations
 
 import re
@@ -15,9 +15,9 @@ REFUSED = re.compile(r"refused datagram ([0-9]+) rule ([0-9]+) ([A-Za-z0-9]+)(?:
 FAULT = re.compile(r"fault line ([0-9]+) ([A-Za-z]+)")
 KNOWN = re.compile("(accepted|refused|aborted|incomplete|too long|fault) [ -~]+")
 HERE = Path(__file__).resolve().parent.parent
-AUDIT, TRANSFERS = "tftp-audit", "tftp-transfers"
+AUDIT, TRANSFERS, MATCH = "tftp-audit", "tftp-transfers", "tftp-match"
 # By which words the scripts are told where a program stands.
-OPTIONS = {AUDIT: "--program", TRANSFERS: "--transfers"}
+OPTIONS = {AUDIT: "--program", TRANSFERS: "--transfers", MATCH: "--match"}
 
 
 @dataclass(frozen=True)

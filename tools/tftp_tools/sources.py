@@ -19,9 +19,9 @@ def add_file(parser: argparse.ArgumentParser, what: str) -> None:
     parser.add_argument("capture", nargs="?", default="-", metavar="FILE", help=what)
     parser.add_argument("--service", action="append", default=[], metavar="PORT", help="a port to which requests go in"
                         " the recording, beside 69; may be given several times")
-    for name, option in OPTIONS.items():
+    for name in (AUDIT, TRANSFERS):
         where = f"the program {name}, where it is not found by itself"
-        parser.add_argument(option, metavar="PATH", help=where)
+        parser.add_argument(OPTIONS[name], metavar="PATH", help=where)
 
 
 def add_words(parser: argparse.ArgumentParser, without: str) -> None:

@@ -1,0 +1,143 @@
+"""Makes recordings of real transfers at both ends at once, over the loopback and a relay that loses, repeats, delays
+and changes datagrams, and tries tftp-match on them: the client's leg is its end's capture, and the server's leg that of
+the server. Clients are tftp-hpa, atftp and curl, servers tftpd-hpa, atftpd and dnsmasq, as far as they are installed.
+
+    legs.py TRANSFERS MATCH [FOLDER]
+
+The recordings stay in FOLDER, where one is named. What is not installed is told, and not tried. Prints each case that
+is not as it should be, then a last line 'N passed, M failed'; status 1 if any failed.
+"""
+from __future__ import annotations
+
+import json
+import os
+import pathlib
+import subprocess
+import sys
+import tempfile
+from typing import Optional
+
+from both import MATCHED, UNMATCHED
+from captures import EndName
+from judged import said
+from loopback import (
+    ATFTPD, CURL, DNSMASQ, HPA, INSIDE, RELAY, SERVER, Case, enter_namespace, make_files, missing, record, set_up,
+)
+from relay import Disturbance, Relay
+from trial import Trial
+
+# At its own address alone, beside the relay.
+BOUND = f"{DNSMASQ} --bind-interfaces"
+ATFTP = "atftp -g -r kernel.img -l kernel.img --option 'blksize 512'"
+
+
+def case(name: str, server: str, client: str, *disturbed: Disturbance) -> Case:
+    return Case(name, server, (client,), (), disturbed)
+
+
+CASES = (
+    case("curl-hpa", HPA, f"{CURL} -o kernel.img --tftp-blksize 1024 tftp://{RELAY}/kernel.img",
+         ("server", 3, "lost"), ("client", 6, "repeated"), ("server", 7, "repeated")),
+    case("curl-hpa-delayed", HPA, f"{CURL} -o boot.cfg --tftp-no-options tftp://{RELAY}/boot.cfg",
+         ("server", 2, "delayed")),
+    case("curl-hpa-changed", HPA, f"{CURL} -o kernel.img --tftp-blksize 1024 tftp://{RELAY}/kernel.img",
+         ("server", 2, "repeated"), ("server", 6, "changed")),
+    case("curl-hpa-put-changed", HPA, f"{CURL} -T report.bin tftp://{RELAY}/report.bin",
+         ("client", 5, "changed")),
+    case("hpa-hpa", HPA, f"tftp -4 -m octet {RELAY} -c get boot.cfg",
+         ("client", 2, "lost"), ("server", 3, "repeated")),
+    case("hpa-hpa-put", HPA, f"tftp -4 -m octet {RELAY} -c put report.bin",
+         ("server", 3, "lost"), ("client", 4, "delayed")),
+    case("hpa-hpa-put-changed", HPA, f"tftp -4 -m octet {RELAY} -c put report.bin",
+         ("server", 2, "repeated"), ("client", 6, "changed")),
+    case("hpa-dnsmasq", BOUND, f"tftp -4 -m octet {RELAY} -c get boot.cfg", ("server", 1, "lost")),
+    case("atftp-dnsmasq", BOUND, f"{ATFTP} {RELAY}", ("server", 4, "repeated"), ("client", 7, "lost")),
+    case("atftp-dnsmasq-changed", BOUND, f"{ATFTP} {RELAY}", ("server", 5, "changed")),
+    case("atftp-atftpd", ATFTPD, f"{ATFTP} --option 'windowsize 4' {RELAY}", ("server", 4, "repeated")),
+    case("atftp-atftpd-lost", ATFTPD, f"{ATFTP} --option 'windowsize 4' {RELAY}", ("server", 5, "lost")),
+    case("atftp-atftpd-delayed", ATFTPD, f"{ATFTP} --option 'windowsize 4' {RELAY}", ("server", 6, "delayed")),
+    case("atftp-atftpd-changed", ATFTPD, f"{ATFTP} --option 'windowsize 4' {RELAY}", ("server", 6, "changed")),
+)
+
+
+def legs_of(transfers: str, recording: bytes) -> dict[EndName, int]:
+    """The numbers of the client's leg, in which the relay is the server, and of the server's; the first of each."""
+    listed = [json.loads(line) for line in said(transfers, ["list", "--json", "-"], recording)[0].splitlines()]
+    hosts: dict[EndName, str] = {"client": RELAY, "server": SERVER}
+    legs: dict[EndName, int] = {}
+    for end, host in hosts.items():
+        numbers = [it["number"] for it in listed if it["server"].startswith(f"{host}:")]
+        legs.update({end: numbers[0]} if numbers else {})
+    return legs
+
+
+def texts_of(transfers: str, recording: bytes) -> dict[EndName, bytes]:
+    """The capture text of each end."""
+    words = {end: ["text", str(number), end, "-"] for end, number in legs_of(transfers, recording).items()}
+    return {end: said(transfers, asked, recording)[0].encode() for end, asked in words.items()}
+
+
+def came_first(text: bytes, payload: bytes) -> Optional[int]:
+    """The number of the first datagram that came in with this payload."""
+    lines = [line for line in text.splitlines() if line.startswith((b"in ", b"out "))]
+    wanted = payload.hex().encode()
+    numbered = enumerate(lines, 1)
+    return next((at for at, line in numbered if line.startswith(b"in ") and line.endswith(b" " + wanted)), None)
+
+
+def is_right(lines: list[str], texts: dict[EndName, bytes], case: Case, relay: Relay) -> bool:
+    """Whether each end is accepted, and the two are matched where nothing was changed, with what was lost and repeated,
+    and else unmatched at the datagram that was changed."""
+    changes = [sender for sender, _, what in case.disturbed if what == "changed"]
+    if len(lines) != 3 or not all(line.startswith("accepted ") for line in lines[:2]):
+        return False
+    third = lines[2]
+    if len(relay.changed) != len(changes):
+        return False
+    if not changes:
+        found = MATCHED.fullmatch(third)
+        return found is not None and (not found[1] or (int(found[1]), int(found[2])) == relay.counts())
+    found = UNMATCHED.fullmatch(third)
+    other: EndName = "client" if changes[0] == "server" else "server"
+    number = found[1 if other == "client" else 3] if found else "-"
+    return number == str(came_first(texts[other], relay.changed[0]))
+
+
+def try_case(trial: Trial, programs: tuple[str, str], case: Case, keep: pathlib.Path) -> None:
+    with tempfile.TemporaryDirectory() as name:
+        folder = pathlib.Path(name)
+        folder.chmod(0o755)
+        make_files(folder)
+        recording = keep / f"legs-{case.name}.pcap"
+        relay = record(case, recording, folder)
+        texts = texts_of(programs[0], recording.read_bytes())
+        trial.check(f"{case.name}, both legs", len(texts) == 2 and relay is not None, texts.keys())
+        if len(texts) < 2 or relay is None:
+            return
+        paths = [folder / f"{end}.capture" for end in texts]
+        for path, text in zip(paths, texts.values()):
+            path.write_bytes(text)
+        words = [str(folder / f"{end}.capture") for end in ("client", "server")]
+        done = subprocess.run([programs[1], *words], capture_output=True, text=True, timeout=60)
+        lines = done.stdout.splitlines()
+        holds = is_right(lines, texts, case, relay) and done.returncode == int(bool(relay.changed))
+        trial.check(case.name, holds, (lines, done.returncode, relay.counts()))
+
+
+def main(transfers: str, match: str, folder: Optional[str]) -> int:
+    set_up()
+    trial = Trial()
+    with tempfile.TemporaryDirectory() as scratch:
+        for case in CASES:
+            lacking = missing(case)
+            if lacking:
+                print(f"{case.name} is not tried, since it is not installed: {', '.join(lacking)}")
+            else:
+                try_case(trial, (transfers, match), case, pathlib.Path(folder or scratch).resolve())
+    return trial.end()
+
+
+if __name__ == "__main__":
+    if INSIDE in os.environ:
+        sys.exit(main(sys.argv[1], sys.argv[2], sys.argv[3] if len(sys.argv) > 3 else None))
+    sys.exit(enter_namespace(__file__, sys.argv[1:]))

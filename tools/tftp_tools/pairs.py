@@ -1,0 +1,105 @@
+"""Two capture texts of one transfer, one of each end, and what tftp-match says of them."""
+from __future__ import annotations
+
+import argparse
+import re
+import subprocess
+import tempfile
+from dataclasses import dataclass
+from typing import Optional
+
+from .capture import Capture, read_capture
+from .errors import Refused, read_file, told
+from .program import MATCH, OPTIONS, Verdict, find_program
+from .recording import ENDS, EndName, is_recording
+
+NUMBER, WHY = "([1-9][0-9]*|-)", "(?: ([a-z]+))?"
+UNMATCHED = re.compile(f"unmatched client datagram {NUMBER}{WHY} server datagram {NUMBER}{WHY}")
+MATCHED = re.compile("matched(?: lost ([0-9]+) repeated ([0-9]+))?")
+FAULT = re.compile("fault [ -~]+")
+OTHER: dict[EndName, EndName] = {"client": "server", "server": "client"}
+
+
+def add_pair(parser: argparse.ArgumentParser) -> None:
+    """The words by which a script is told the two captures, and where the program is that matches them."""
+    parser.add_argument("--pair", nargs=2, metavar=("CLIENT", "SERVER"), help="capture texts of one transfer, that of"
+                        " its client and that of its server, in place of FILE; one of them may be -")
+    parser.add_argument(OPTIONS[MATCH], metavar="PATH", help=f"the program {MATCH}, where it is not found by itself")
+
+
+@dataclass(frozen=True)
+class Pair:
+    """Both captures, the verdicts on each alone, and the line on the two, of which there is none where a text's fault
+    hides it."""
+
+    texts: dict[EndName, bytes]
+    verdicts: dict[EndName, Verdict]
+    line: str
+    status: int
+
+    def captures(self) -> dict[EndName, Capture]:
+        return {end: read_capture(text) for end, text in self.texts.items()}
+
+    def is_matched(self) -> bool:
+        return bool(MATCHED.fullmatch(self.line))
+
+    def counts(self) -> Optional[tuple[int, int]]:
+        """How many datagrams the network lost and repeated, at least, where the program tells it."""
+        found = MATCHED.fullmatch(self.line)
+        return (int(found[1]), int(found[2])) if found and found[1] else None
+
+    def unmatched(self) -> dict[EndName, Optional[int]]:
+        """The first datagram of each capture that does not go together with the other one; none where that has no
+        more."""
+        found = UNMATCHED.fullmatch(self.line)
+        numbers = (found[1], found[3]) if found else ("-", "-")
+        return {end: int(number) if number != "-" else None for end, number in zip(ENDS, numbers)}
+
+    def whys(self) -> dict[EndName, str]:
+        """The program's word of why a datagram is unmatched, or nothing where it tells none."""
+        found = UNMATCHED.fullmatch(self.line)
+        return dict(zip(ENDS, (found[2] or "", found[4] or "") if found else ("", "")))
+
+
+def status_of(line: str) -> int:
+    """That of tftp-audit for its line."""
+    return 0 if line.startswith("accepted ") else 2 if line.startswith("fault ") else 1
+
+
+def text_of(path: str, end: EndName) -> bytes:
+    text = read_file(path)
+    if is_recording(text[:4]):
+        how = f"tftp-transfers text N {end} {path}"
+        raise Refused(f"{path!r} is a recording, and a capture text is wanted, as {how} writes it")
+    return text
+
+
+def said(program: str, texts: dict[EndName, bytes]) -> tuple[list[str], int]:
+    """The lines that the program prints of the two texts, and its status."""
+    with tempfile.NamedTemporaryFile() as server, told(f"cannot run {program!r}"):
+        server.write(texts["server"])
+        server.flush()
+        command = [program, "-", server.name]
+        done = subprocess.run(command, input=texts["client"], stdout=subprocess.PIPE, check=False)
+    return done.stdout.decode("ascii", "backslashreplace").splitlines(), done.returncode
+
+
+def pair_of(program: str, texts: dict[EndName, bytes]) -> Pair:
+    lines, status = said(program, texts)
+    third = lines[2] if len(lines) == 3 else ""
+    is_known = any(form.fullmatch(third) for form in (MATCHED, UNMATCHED, FAULT)) or third == ""
+    if len(lines) not in (2, 3) or not is_known or status not in (0, 1, 2):
+        raise Refused(f"{program!r} did not match the two: it printed {lines!r} and ended with status {status}")
+    verdicts = {end: Verdict(line, status_of(line)) for end, line in zip(ENDS, lines)}
+    return Pair(texts, verdicts, third, status)
+
+
+def asked_pair(asked: argparse.Namespace) -> Pair:
+    """The two captures that a script is asked for."""
+    if asked.capture != "-" or asked.number is not None:
+        raise Refused("--pair takes the place of FILE: name the client's capture and the server's alone")
+    paths = dict(zip(ENDS, asked.pair))
+    if list(paths.values()) == ["-", "-"]:
+        raise Refused("one of the two captures may come on standard input, and not both")
+    program = find_program(MATCH, asked.match)
+    return pair_of(program, {end: text_of(path, end) for end, path in paths.items()})
