@@ -4,11 +4,12 @@
 # refused, each read and each write failing, in turn, and each growth in the tests of the libraries' calls; larger captures;
 # simulated transfers and changes of them, for some seconds; the recorded transfers of examples/; the datagrams that are
 # read of recordings, and which transfer they are of; what is said between the ends; the rows, lists and texts of
-# recordings; captures of both ends, matched; the scripts that explain, draw and report, on changed captures too; the
-# plugin of Wireshark; the schemas of JSON; and what stands in the pages for readers.
+# recordings; captures of both ends, texts and recordings, matched; the scripts that explain, draw and report, on changed
+# captures too; the plugin of Wireshark; the schemas of JSON; and what stands in the pages for readers.
 set -eu
 here=$(dirname "$0")
 transfers=$here/../crates/tftp_transfers_main/out/tftp_transfers_main
+match=$here/../crates/tftp_match_main/out/tftp_match_main
 shim=$(mktemp -d)
 trap 'rm -rf "$shim"' EXIT
 export PYTHONDONTWRITEBYTECODE=1
@@ -40,7 +41,7 @@ python3 "$here/between.py" --cases 200 "$transfers"
 echo "transfers, texts and verdicts of recordings:"
 python3 "$here/rows.py" "$transfers" "$shim/refuse.so"
 echo "both ends together:"
-python3 "$here/match.py" --refuse "$shim/refuse.so" "$here/../crates/tftp_match_main/out/tftp_match_main"
+python3 "$here/match.py" --refuse "$shim/refuse.so" "$match"
 echo "tftp-explain:"
 python3 "$here/explaining.py" "$1" "$transfers"
 echo "tftp-ladder:"
@@ -52,8 +53,8 @@ python3 "$here/report.py" "$1" "$transfers"
 echo "the plugin of Wireshark:"
 python3 "$here/wireshark.py" "$transfers"
 echo "JSON:"
-python3 "$here/schemas.py" "$1" "$transfers"
+python3 "$here/schemas.py" "$1" "$transfers" "$match"
 echo "loopback:"
 python3 "$here/loopback.py" "$transfers"
 echo "pages:"
-python3 "$here/pages.py" "$1" "$transfers"
+python3 "$here/pages.py" "$1" "$transfers" "$match"

@@ -1,0 +1,111 @@
+//! What there is to say of two captures.
+
+use anyhow::{Result, bail};
+use std::alloc::Global;
+use tftp_capture::Tallied;
+use tftp_commands::{Status, say_accepted, say_verdict};
+use tftp_judge::{Meaning, Refusal, Verdict};
+use tftp_match::{Apart, Matched, PairSaid};
+
+/// The first datagram of a capture that is not matched.
+#[derive(Clone, Copy, Debug, PartialEq, Eq)]
+pub struct First {
+    /// Counted from 1.
+    pub number: u64,
+}
+
+/// What there is to say of two captures, put into words.
+#[derive(Drop)]
+pub struct Facts {
+    /// The verdicts on each alone.
+    pub client: String,
+    pub server: String,
+    pub is_matched: bool,
+    pub together: Result<Matched, Apart>,
+    /// The first datagram of each that is not matched, if there is one.
+    pub client_first: Option<First>,
+    pub server_first: Option<First>,
+    pub status: u8,
+}
+
+/// A verdict in words.
+#[derive(Drop)]
+struct Line {
+    text: String,
+    status: Status,
+}
+
+impl Facts {
+    /// What there is to say.
+    pub fn new(alloc: Global, said: PairSaid) -> Result<Self> {
+        let is_matched = said.is_matched();
+        let (client_first, server_first) = firsts(&said);
+        let PairSaid {
+            client,
+            server,
+            together,
+        } = said;
+        let client = Line::of(alloc, client)?;
+        let server = Line::of(alloc, server)?;
+        let is_fault = client.status == Status::Fault || server.status == Status::Fault;
+        Ok(Facts {
+            client: client.text,
+            server: server.text,
+            is_matched,
+            together,
+            client_first,
+            server_first,
+            status: match together {
+                Ok(_) if is_fault => 2,
+                Ok(_) if is_matched => 0,
+                Ok(_) => 1,
+                Err(_) => 2,
+            },
+        })
+    }
+}
+
+impl Line {
+    /// The line of one capture alone.
+    fn of(alloc: Global, said: Result<Meaning, Verdict>) -> Result<Self> {
+        let mut written = Tallied::new(Vec::new(alloc));
+        let status = match said {
+            Ok(meaning) => say_accepted(alloc, &mut written, &meaning),
+            Err(verdict) => say_verdict(alloc, &mut written, verdict),
+        };
+        let text = text_of(alloc, written)?;
+        Ok(Line { text, status })
+    }
+}
+
+/// What was written, without its line's end.
+fn text_of(alloc: Global, written: Tallied<Vec<u8>>) -> Result<String> {
+    let line = written.into_inner();
+    match line.as_slice() {
+        [line @ .., b'\n'] => Ok(String::from_utf8_lossy(alloc, line)?),
+        _ => bail!("no memory"),
+    }
+}
+
+/// The first datagram of each that is not matched, if there is one.
+fn firsts(said: &PairSaid) -> (Option<First>, Option<First>) {
+    let Ok(matched) = said.together else {
+        return (None, None);
+    };
+    let client = first_left(matched.client_matched, matched.client_lawful, &said.client);
+    let server = first_left(matched.server_matched, matched.server_lawful, &said.server);
+    (client, server)
+}
+
+/// The first datagram behind those that are matched: a lawful one, or the one that is refused.
+fn first_left(matched: u64, lawful: u64, said: &Result<Meaning, Verdict>) -> Option<First> {
+    if matched < lawful {
+        return Some(First {
+            number: matched.saturating_add(1),
+        });
+    }
+    match said {
+        Err(Verdict::Refused(Refusal::Unlawful(number, _))) => Some(First { number: *number }),
+        _ => None,
+    }
+}

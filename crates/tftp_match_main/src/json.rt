@@ -1,0 +1,85 @@
+//! What there is to say of two captures, in JSON (RFC 8259).
+
+use crate::facts::{Facts, First};
+use crate::words::Request;
+use anyhow::Result;
+use serde::Serialize;
+use tftp_match::Apart;
+use tftp_packet::End;
+
+/// What there is to say of both.
+#[derive(Drop, Serialize)]
+struct Row<'a> {
+    client: Side<'a>,
+    server: Side<'a>,
+    fault: Option<&'static str>,
+    together: Option<Together>,
+}
+
+/// What there is to say of one.
+#[derive(Drop, Serialize)]
+struct Side<'a> {
+    file: &'a str,
+    number: Option<u64>,
+    verdict: &'a str,
+}
+
+/// How far they go together.
+#[derive(Drop, Serialize)]
+struct Together {
+    matched: bool,
+    client_datagram: Option<u64>,
+    server_datagram: Option<u64>,
+}
+
+/// Says what there is to say of the captures that were asked for, of transfers with these numbers.
+pub fn say_json(
+    rt: HostRuntime,
+    request: &Request<'_>,
+    numbers: (Option<u64>, Option<u64>),
+    facts: &Facts,
+) -> Result<()> {
+    let row = Row {
+        client: Side {
+            file: request.client,
+            number: numbers.0,
+            verdict: facts.client.as_str(),
+        },
+        server: Side {
+            file: request.server,
+            number: numbers.1,
+            verdict: facts.server.as_str(),
+        },
+        fault: fault_of(facts),
+        together: together_of(facts),
+    };
+    let line = serde_json::to_string(rt.alloc(), &row)?;
+    println!(rt; "{line}")?;
+    Ok(())
+}
+
+fn fault_of(facts: &Facts) -> Option<&'static str> {
+    match facts.together {
+        Err(Apart::WrongEnd(End::Client)) => Some("client WrongEnd"),
+        Err(Apart::WrongEnd(End::Server)) => Some("server WrongEnd"),
+        _ => None,
+    }
+}
+
+fn together_of(facts: &Facts) -> Option<Together> {
+    match facts.together {
+        Ok(_) => Some(Together {
+            matched: facts.is_matched,
+            client_datagram: number_of(facts.client_first),
+            server_datagram: number_of(facts.server_first),
+        }),
+        Err(_) => None,
+    }
+}
+
+fn number_of(first: Option<First>) -> Option<u64> {
+    match first {
+        Some(first) => Some(first.number),
+        None => None,
+    }
+}
