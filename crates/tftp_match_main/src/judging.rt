@@ -1,7 +1,7 @@
 //! The captures are opened, their transfers found, and both judged.
 
 use crate::held::{Held, said_of};
-use crate::recorded::{Recorded, Taken, both_taken, taken};
+use crate::recorded::{Recorded, Taken, take_beside, take_both};
 use crate::source::{Source, Whole};
 use crate::told::{Named, tell_session, told};
 use crate::words::Request;
@@ -26,7 +26,7 @@ pub struct Judged {
 }
 
 /// What there is to say of two captures; none where one can't be judged, which is told.
-pub fn judged(rt: HostRuntime, request: &Request<'_>) -> Result<Option<Judged>> {
+pub fn judge_captures(rt: HostRuntime, request: &Request<'_>) -> Result<Option<Judged>> {
     if request.client == "-" {
         let Some(server) = opened(rt, request.server)? else {
             return Ok(None);
@@ -139,12 +139,13 @@ fn recorded_client<S: Read + Drop>(
         bail!("a transfer at the server is named, and there is no recording of it");
     }
     let recorded = Recorded {
-        named: named(request.client, TRANSFER),
+        named: recording_named(request.client, TRANSFER),
         end: End::Client,
         number: request.transfer,
         session: client,
     };
-    let Some(Taken { number, text, held }) = taken(rt, &recorded, request.server, server)? else {
+    let Some(Taken { number, text, held }) = take_beside(rt, &recorded, request.server, server)?
+    else {
         return Ok(None);
     };
     let text = text.as_slice();
@@ -168,12 +169,13 @@ fn recorded_server<R: Read + Drop>(
         bail!("a transfer at the client is named, and there is no recording of it");
     }
     let recorded = Recorded {
-        named: named(request.server, TRANSFER),
+        named: recording_named(request.server, TRANSFER),
         end: End::Server,
         number: request.server_transfer.or(request.transfer),
         session: server,
     };
-    let Some(Taken { number, text, held }) = taken(rt, &recorded, request.client, client)? else {
+    let Some(Taken { number, text, held }) = take_beside(rt, &recorded, request.client, client)?
+    else {
         return Ok(None);
     };
     let text = text.as_slice();
@@ -194,18 +196,18 @@ fn recordings(
     server: &Session,
 ) -> Result<Option<Judged>> {
     let client = Recorded {
-        named: named(request.client, TRANSFER),
+        named: recording_named(request.client, TRANSFER),
         end: End::Client,
         number: request.transfer,
         session: client,
     };
     let server = Recorded {
-        named: named(request.server, SERVER_TRANSFER),
+        named: recording_named(request.server, SERVER_TRANSFER),
         end: End::Server,
         number: request.server_transfer,
         session: server,
     };
-    let Some(both) = both_taken(rt, &client, &server)? else {
+    let Some(both) = take_both(rt, &client, &server)? else {
         return Ok(None);
     };
     let (client, server) = (both.client.as_slice(), both.server.as_slice());
@@ -216,6 +218,6 @@ fn recordings(
     }))
 }
 
-fn named<'a>(file: &'a str, option: &'static str) -> Named<'a> {
+fn recording_named<'a>(file: &'a str, option: &'static str) -> Named<'a> {
     Named { file, option }
 }

@@ -15,7 +15,7 @@ mod words;
 
 use crate::facts::Facts;
 use crate::json::say_json;
-use crate::judging::{Judged, judged};
+use crate::judging::{Judged, judge_captures};
 use crate::lines::say;
 use crate::words::{Request, request_of};
 use anyhow::{Error, Result};
@@ -44,7 +44,7 @@ fn main(rt: HostRuntime) -> ExitCode {
 /// Does what the words ask for, and answers the status.
 fn answer(rt: HostRuntime, words: &[String]) -> Result<u8> {
     match request_of(rt.alloc(), words) {
-        Ok(request) => match judged(rt, &request)? {
+        Ok(request) => match judge_captures(rt, &request)? {
             Some(judged) => say_judged(rt, &request, judged),
             None => Ok(2),
         },

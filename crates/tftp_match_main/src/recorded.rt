@@ -40,7 +40,7 @@ pub struct BothTaken {
 }
 
 /// The transfer of a recording that has the request of a text; none where that is not one, which is told.
-pub fn taken<R: Read + Drop>(
+pub fn take_beside<R: Read + Drop>(
     rt: HostRuntime,
     recorded: &Recorded<'_>,
     file: &str,
@@ -92,7 +92,7 @@ fn first_payload(alloc: Global, text: &[u8]) -> Result<Vec<u8>> {
 }
 
 /// The transfers of two recordings that have the same request; none where they are not one of each, which is told.
-pub fn both_taken(
+pub fn take_both(
     rt: HostRuntime,
     client: &Recorded<'_>,
     server: &Recorded<'_>,
