@@ -1,4 +1,4 @@
-"""The two programs: where they stand, what tftp-audit says of a capture text, and how tftp-transfers is asked."""
+"""Two of the programs: where they stand, what tftp-audit says of a capture text, and how tftp-transfers is asked."""
 from __future__ import annotations
 
 import re
