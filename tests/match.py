@@ -180,21 +180,21 @@ class MatchTrial(Trial):
 def rows(trial: MatchTrial) -> None:
     worked = read_of_two_bytes().texts()
     trial.row("worked", worked, [READ, READ, MATCHED], 0)
-    trial.row("last byte changed", read_of_two_bytes(b"hj").texts(), [READ, READ, unmatched(2, 3)], 1)
+    trial.row("last byte changed", read_of_two_bytes(b"hj").texts(), [READ, READ, unmatched("2 unsent", "3 waits")], 1)
     trial.row("a block lost", repeated(2, 1).texts(), [READ, READ, MATCHED], 0)
     trial.row("a block repeated", repeated(1, 2).texts(), [READ, READ, MATCHED], 0)
     trial.row("strays", strayed().texts(), [READ, READ, MATCHED], 0)
     whole = "accepted get octet blocks 6 bytes 40"
     trial.row("windows", windowed().texts(), [whole, whole, MATCHED], 0)
-    trial.row("a block of a window changed", windowed(2).texts(), [whole, whole, unmatched(6, 8)], 1)
+    trial.row("a block of a window changed", windowed(2).texts(), [whole, whole, unmatched("6 unsent", "8 waits")], 1)
     put = "accepted put octet blocks 1 bytes 2"
     trial.row("a write", written().texts(), [put, put, MATCHED], 0)
     client, server = worked
     empty = Capture("client").text(), Capture("server").text()
     none = "incomplete after 0"
     trial.row("no datagrams", empty, [none, none, MATCHED], 0)
-    trial.row("nothing at the server", (client, empty[1]), [READ, none, unmatched(2, "-")], 1)
-    trial.row("nothing at the client", (empty[0], server), [none, READ, unmatched("-", 1)], 1)
+    trial.row("nothing at the server", (client, empty[1]), [READ, none, unmatched("2 unsent", "-")], 1)
+    trial.row("nothing at the client", (empty[0], server), [none, READ, unmatched("-", "1 unsent")], 1)
 
 
 def faults(trial: MatchTrial) -> None:
@@ -212,10 +212,10 @@ def faults(trial: MatchTrial) -> None:
     trial.row("no header", (b"x\n", b"x\n"), [bad, bad], 2)
     refused = "refused datagram 3 rule"
     got = texts_of(trial, ahead())
-    holds = got[0][0].startswith(refused) and got[0][1:] == [READ, unmatched(3, 3)] and got[2] == 1
+    holds = got[0][0].startswith(refused) and got[0][1:] == [READ, unmatched(3, "3 unsent")] and got[2] == 1
     trial.check("a refused side", holds, got)
     got = texts_of(trial, written(early=True))
-    trial.check("a refused write", got[0][0].startswith("refused datagram 2") and got[0][2] == unmatched(2, 3), got)
+    trial.check("a refused write", got[0][0].startswith("refused datagram 2") and got[0][2] == unmatched(2, "3 unsent"), got)
 
 
 def recorded(trial: MatchTrial) -> None:
@@ -312,7 +312,8 @@ def third_of(told: dict[str, Any]) -> str:
     together = told["together"]
     if together["matched"]:
         return MATCHED
-    return unmatched(*(together[f"{end}_datagram"] or "-" for end in ENDS))
+    numbers = [(together[f"{end}_datagram"] or "-", together[f"{end}_why"]) for end in ENDS]
+    return unmatched(*(f"{number} {why}" if why else number for number, why in numbers))
 
 
 def texts_of(trial: MatchTrial, both: Both) -> tuple[list[str], str, int]:
@@ -372,8 +373,17 @@ def third(steps: tuple[list[Step | None], list[Step | None]]) -> str:
     at = merged(steps)
     if all(count == len(own) for count, own in zip(at, steps)):
         return MATCHED
-    client, server = (str(count + 1) if count < len(own) else "-" for count, own in zip(at, steps))
+    client, server = (
+        f"{count + 1} {why(own[count], other)}" if count < len(own) else "-"
+        for count, own, other in zip(at, steps, steps[::-1])
+    )
     return unmatched(client, server)
+
+
+def why(step: Step | None, other: list[Step | None]) -> str:
+    """Whether the other end sends at all what waits."""
+    is_sent = step is not None and any(it and it[0] and it[1] == step[1] for it in other)
+    return "waits" if is_sent else "unsent"
 
 
 def changed(chance: Random, view: View) -> bytes:

@@ -5,13 +5,26 @@ use std::alloc::Global;
 use tftp_capture::Tallied;
 use tftp_commands::{Status, say_accepted, say_verdict};
 use tftp_judge::{Meaning, Refusal, Verdict};
-use tftp_match::{Apart, Matched, PairSaid};
+use tftp_match::{Apart, Matched, PairSaid, Wait};
 
 /// The first datagram of a capture that is not matched.
 #[derive(Clone, Copy, Debug, PartialEq, Eq)]
 pub struct First {
     /// Counted from 1.
     pub number: u64,
+    /// Why it waits; none where it is refused.
+    pub why: Option<Wait>,
+}
+
+impl First {
+    /// The word that tells why it waits.
+    pub fn word(&self) -> Option<&'static str> {
+        match self.why {
+            Some(Wait::Unsent) => Some("unsent"),
+            Some(Wait::SentLater) => Some("waits"),
+            None => None,
+        }
+    }
 }
 
 /// What there is to say of two captures, put into words.
@@ -92,20 +105,36 @@ fn firsts(said: &PairSaid) -> (Option<First>, Option<First>) {
     let Ok(matched) = said.together else {
         return (None, None);
     };
-    let client = first_left(matched.client_matched, matched.client_lawful, &said.client);
-    let server = first_left(matched.server_matched, matched.server_lawful, &said.server);
+    let client_left = matched.client_lawful > matched.client_matched;
+    let server_left = matched.server_lawful > matched.server_matched;
+    let client = if client_left {
+        waiting(matched.client_matched, matched.client_why)
+    } else {
+        refused(&said.client)
+    };
+    let server = if server_left {
+        waiting(matched.server_matched, matched.server_why)
+    } else {
+        refused(&said.server)
+    };
     (client, server)
 }
 
-/// The first datagram behind those that are matched: a lawful one, or the one that is refused.
-fn first_left(matched: u64, lawful: u64, said: &Result<Meaning, Verdict>) -> Option<First> {
-    if matched < lawful {
-        return Some(First {
-            number: matched.saturating_add(1),
-        });
-    }
+/// The lawful datagram behind those that are matched.
+fn waiting(matched: u64, why: Option<Wait>) -> Option<First> {
+    Some(First {
+        number: matched.saturating_add(1),
+        why,
+    })
+}
+
+/// The datagram that is refused, if there is one.
+fn refused(said: &Result<Meaning, Verdict>) -> Option<First> {
     match said {
-        Err(Verdict::Refused(Refusal::Unlawful(number, _))) => Some(First { number: *number }),
+        Err(Verdict::Refused(Refusal::Unlawful(number, _))) => Some(First {
+            number: *number,
+            why: None,
+        }),
         _ => None,
     }
 }

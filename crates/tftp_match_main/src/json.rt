@@ -30,6 +30,8 @@ struct Together {
     matched: bool,
     client_datagram: Option<u64>,
     server_datagram: Option<u64>,
+    client_why: Option<&'static str>,
+    server_why: Option<&'static str>,
 }
 
 /// Says what there is to say of the captures that were asked for, of transfers with these numbers.
@@ -72,8 +74,17 @@ fn together_of(facts: &Facts) -> Option<Together> {
             matched: facts.is_matched,
             client_datagram: number_of(facts.client_first),
             server_datagram: number_of(facts.server_first),
+            client_why: word_of(facts.client_first),
+            server_why: word_of(facts.server_first),
         }),
         Err(_) => None,
+    }
+}
+
+fn word_of(first: Option<First>) -> Option<&'static str> {
+    match first {
+        Some(first) => first.word(),
+        None => None,
     }
 }
 

@@ -33,9 +33,13 @@ fn say_together(rt: HostRuntime, facts: &Facts) -> Result<()> {
 }
 
 fn say_first(rt: HostRuntime, first: Option<First>) -> Result<()> {
-    match first {
-        Some(first) => print!(rt; "{}", first.number)?,
-        None => print!(rt; "-")?,
+    let Some(first) = first else {
+        print!(rt; "-")?;
+        return Ok(());
+    };
+    print!(rt; "{}", first.number)?;
+    if let Some(word) = first.word() {
+        print!(rt; " {word}")?;
     }
     Ok(())
 }
