@@ -7,10 +7,11 @@ MATCH = crates/tftp_match_main/out/tftp_match_main
 
 .PHONY: build test plants bench fuzz install uninstall dist deb
 
-# Proves the two programs and builds them, each where its sources are not those that it was built of.
+# Proves the three programs and builds them, each where its sources are not those that it was built of.
 build:
 	@./tftp-audit --build
 	@./tftp-transfers --build
+	@./tftp-match --build
 
 # The gate: rt ci, which is every proof from nothing, the must-fail edits, the tests and the programs' stored runs; then
 # the programs that it built, with failing reads, writes and growths, on larger captures and on recorded transfers.

@@ -1,6 +1,6 @@
 """Captures of both ends of one transfer, matched: made by hand, and of simulated transfers, whole, cut and changed,
-over a network that loses, repeats and delays; and with each growth refused and each read of standard input failing in
-turn.
+over a network that loses, repeats and delays, as texts and as recordings; recordings of several transfers; and with
+each growth refused and each read of standard input failing in turn.
 
     match.py [--cases N] [--seed N] [--refuse SHIM] MATCH
 
@@ -10,6 +10,8 @@ from __future__ import annotations
 
 import argparse
 import dataclasses
+import itertools
+import json
 import os
 import pathlib
 import re
@@ -17,6 +19,7 @@ import subprocess
 import sys
 import tempfile
 from random import Random
+from typing import Any
 
 sys.dont_write_bytecode = True
 
@@ -24,6 +27,8 @@ from captures import Capture, EndName, Packet, ack, blocks, data, error, oack, r
 from fuzzing.meanings import Spelling, meaning_of  # noqa: E402
 from fuzzing.transfers import ENDS, Step, Transfer  # noqa: E402
 from fuzzing.views import View  # noqa: E402
+from made import C, S, file_of, framed, packets_of, read  # noqa: E402
+from recorded import Datagram, pcap  # noqa: E402
 from trial import Trial  # noqa: E402
 
 READ = "accepted get octet blocks 1 bytes 2"
@@ -123,6 +128,17 @@ def ahead() -> Both:
     return both
 
 
+def passed_at(capture: Capture) -> list[Datagram]:
+    """The datagrams of a capture between two hosts."""
+    mine, theirs = (C, S) if capture.end == "client" else (S, C)
+    passed = []
+    for line in capture.lines:
+        way, local, remote, payload = line.split()
+        ends = mine, int(local), theirs, int(remote)
+        passed.append(Datagram(*(ends if way == "out" else ends[2:] + ends[:2]), bytes.fromhex(payload)))
+    return passed
+
+
 class MatchTrial(Trial):
     """The runs of the program."""
 
@@ -144,6 +160,16 @@ class MatchTrial(Trial):
             got = self.run(words, given)
             self.check(f"{name} {words}", got == (lines, "", status), got)
 
+    def said_of(self, words: str, *further: str) -> tuple[list[str], str, int]:
+        """What is said where the words are called in the folder."""
+        command = [self.program, *further, *words.split()]
+        done = subprocess.run(command, cwd=self.folder, capture_output=True, timeout=60, check=False)
+        return done.stdout.decode().splitlines(), done.stderr.decode(), done.returncode
+
+    def of_json(self, words: str) -> tuple[dict[str, Any], str, int]:
+        output, errors, status = self.said_of(words, "--json")
+        return json.loads(output[0]) if output else {}, errors, status
+
     def tells(self, name: str, words: list[str], text: str, status: int) -> None:
         """The words make no request, and this is told."""
         output, errors, ended = self.run(words)
@@ -154,21 +180,21 @@ class MatchTrial(Trial):
 def rows(trial: MatchTrial) -> None:
     worked = read_of_two_bytes().texts()
     trial.row("worked", worked, [READ, READ, MATCHED], 0)
-    trial.row("last byte changed", read_of_two_bytes(b"hj").texts(), [READ, READ, unmatched(2, 3)], 1)
+    trial.row("last byte changed", read_of_two_bytes(b"hj").texts(), [READ, READ, unmatched("2 unsent", "3 waits")], 1)
     trial.row("a block lost", repeated(2, 1).texts(), [READ, READ, MATCHED], 0)
     trial.row("a block repeated", repeated(1, 2).texts(), [READ, READ, MATCHED], 0)
     trial.row("strays", strayed().texts(), [READ, READ, MATCHED], 0)
     whole = "accepted get octet blocks 6 bytes 40"
     trial.row("windows", windowed().texts(), [whole, whole, MATCHED], 0)
-    trial.row("a block of a window changed", windowed(2).texts(), [whole, whole, unmatched(6, 8)], 1)
+    trial.row("a block of a window changed", windowed(2).texts(), [whole, whole, unmatched("6 unsent", "8 waits")], 1)
     put = "accepted put octet blocks 1 bytes 2"
     trial.row("a write", written().texts(), [put, put, MATCHED], 0)
     client, server = worked
     empty = Capture("client").text(), Capture("server").text()
     none = "incomplete after 0"
     trial.row("no datagrams", empty, [none, none, MATCHED], 0)
-    trial.row("nothing at the server", (client, empty[1]), [READ, none, unmatched(2, "-")], 1)
-    trial.row("nothing at the client", (empty[0], server), [none, READ, unmatched("-", 1)], 1)
+    trial.row("nothing at the server", (client, empty[1]), [READ, none, unmatched("2 unsent", "-")], 1)
+    trial.row("nothing at the client", (empty[0], server), [none, READ, unmatched("-", "1 unsent")], 1)
 
 
 def faults(trial: MatchTrial) -> None:
@@ -186,10 +212,108 @@ def faults(trial: MatchTrial) -> None:
     trial.row("no header", (b"x\n", b"x\n"), [bad, bad], 2)
     refused = "refused datagram 3 rule"
     got = texts_of(trial, ahead())
-    holds = got[0][0].startswith(refused) and got[0][1:] == [READ, unmatched(3, 3)] and got[2] == 1
+    holds = got[0][0].startswith(refused) and got[0][1:] == [READ, unmatched(3, "3 unsent")] and got[2] == 1
     trial.check("a refused side", holds, got)
     got = texts_of(trial, written(early=True))
-    trial.check("a refused write", got[0][0].startswith("refused datagram 2") and got[0][2] == unmatched(2, 3), got)
+    trial.check("a refused write", got[0][0].startswith("refused datagram 2") and got[0][2] == unmatched(2, "3 unsent"), got)
+
+
+def recorded(trial: MatchTrial) -> None:
+    """The same as texts and as recordings, from files and from standard input."""
+    cases = (
+        ("worked", read_of_two_bytes(), 0), ("last byte changed", read_of_two_bytes(b"hj"), 1),
+        ("lost", repeated(2, 1), 0), ("repeated", repeated(1, 2), 0), ("windows", windowed(), 0), ("a block of a window changed", windowed(2), 1),
+        ("a write", written(), 0), ("ahead", ahead(), 1),
+    )
+    for name, both, status in cases:
+        texts = both.texts()
+        files = tuple(file_of(passed_at(it)) for it in (both.client, both.server))
+        lines = texts_of(trial, both)[0]
+        for client, server in ((files[0], files[1]), (files[0], texts[1]), (texts[0], files[1])):
+            trial.row(f"{name}, recorded", (client, server), lines, status)
+    swapped = pcap(framed(packets_of(read("a", 40_000, 41_000))), ">")
+    trial.row("another order of bytes", (swapped, read_of_two_bytes().texts()[1]), [READ, READ, MATCHED], 0)
+
+
+def several(trial: MatchTrial) -> None:
+    """Recordings of several transfers: that is taken which is named, or alone has the request of the other side."""
+    one = {name: read(name, 40_000 + at, 41_000 + at) for at, name in enumerate("abc")}
+    again = read("a", 43_000, 44_000)
+    files = {
+        "ab": file_of([*one["a"], *one["b"]]), "b": file_of(one["b"]), "aba": file_of([*one["a"], *one["b"], *again]),
+        "c": file_of(one["c"]), "none": file_of([]), "cut": file_of([*one["a"], *one["b"]])[:-1],
+    }
+    for name, file in files.items():
+        (trial.folder / name).write_bytes(file)
+    for name in "abc":
+        both = Both()
+        both.put("client", read_request(name, "octet"))
+        both.put("server", data(1, b"hi"))
+        both.put("client", ack(1))
+        for end, text in zip(ENDS, both.texts()):
+            (trial.folder / f"{name}-{end}").write_bytes(text)
+    taken: tuple[tuple[str, tuple[int | None, int | None]], ...] = (
+        ("ab b", (2, 1)), ("ab b-server", (2, None)), ("a-client ab", (None, 1)), ("b-client aba", (None, 2)),
+        ("aba a-server --transfer 1", (1, None)), ("aba a-server --transfer 3", (3, None)),
+        ("a-client aba --transfer 3", (None, 3)), ("a-client aba --server-transfer 3", (None, 3)),
+        ("aba aba --transfer 3 --server-transfer 1", (3, 1)), ("aba aba --transfer 2", (2, 2)),
+        ("ab aba --server-transfer 3", (1, 3)), ("ab ab --transfer 1 --service 6969 --service 70", (1, 1)),
+    )
+    for words, numbers in taken:
+        got = trial.of_json(words)
+        there = got[0].get("client", {}).get("number"), got[0].get("server", {}).get("number")
+        trial.check(words, there == numbers and got[0]["together"]["matched"] and got[1:] == ("", 0), got)
+    unlike = "ab ab --transfer 1 --server-transfer 2", "b c", "b c-server", "c-client b", "ab b-server --transfer 1"
+    for words in unlike:
+        got = trial.of_json(words)
+        trial.check(words, got[0]["together"]["client_datagram"] is not None and got[1:] == ("", 1), got)
+    refused: tuple[tuple[str, tuple[str, ...]], ...] = (
+        ("aba a-server", ("aba: transfers 1, 3 have the request of a-server: name one by --transfer",)),
+        ("a-client aba", ("aba: transfers 1, 3 have the request of a-client: name one by --transfer",)),
+        ("ab ab", ("ab: transfers 1, 2 have the request of ab: name one by --transfer",)),
+        ("ab ab", ("ab: transfers 1, 2 have the request of ab: name one by --server-transfer",)),
+        ("aba aba --transfer 1", ("aba: transfers 1, 3 have the request of aba: name one by --server-transfer",)),
+        ("ab c", ("ab: no transfer has the request of c",)),
+        ("c-client ab", ("ab: no transfer has the request of c-client",)),
+        ("ab b-server --transfer 9", ("ab: there is no transfer 9: the recording has 1 to 2",)),
+        ("ab ab --server-transfer 3", ("ab: there is no transfer 3: the recording has 1 to 2",)),
+        ("none b-server", ("none: there is no transfer",)), ("b-client none", ("none: there is no transfer",)),
+        ("cut b-server", ("cut: frame 6: ", "cut: nothing is written, since the recording is not whole")),
+        ("a-client a-server --transfer 1", ("a transfer is named, and there is no recording",)),
+        ("b b-server --server-transfer 1", ("a transfer at the server is named, and there is no recording of it",)),
+        ("b-client b --transfer 1 --server-transfer 1", ("a transfer at the client is named",)),
+        ("b none --transfer 0", ("--transfer",)), ("b b --transfer x", ("--transfer",)),
+    )
+    for words, told in refused:
+        got = trial.said_of(words)
+        trial.check(words, not got[0] and all(it in got[1] for it in told) and got[2] == 2, got)
+
+
+def in_json(trial: MatchTrial) -> None:
+    """What is said in lines is said in JSON too."""
+    texts = {"worked": read_of_two_bytes(), "changed": read_of_two_bytes(b"hj"), "ahead": ahead()}
+    for name, both in texts.items():
+        lines, _, status = texts_of(trial, both)
+        got, errors, ended = trial.of_json("client server")
+        told = [got["client"]["verdict"], got["server"]["verdict"], third_of(got)]
+        trial.check(f"{name} in JSON", told == lines and (errors, ended) == ("", status), (got, lines))
+        named = [(got[end]["file"], got[end]["number"]) for end in ENDS]
+        trial.check(f"{name}, its files", named == [(end, None) for end in ENDS], got)
+    client, server = read_of_two_bytes().texts()
+    for text, wrong in ((client, "server"), (server, "client")):
+        for end in ENDS:
+            (trial.folder / end).write_bytes(text)
+        got, _, ended = trial.of_json("client server")
+        trial.check(f"{wrong} WrongEnd", (got["fault"], got["together"], ended) == (f"{wrong} WrongEnd", None, 2), got)
+
+
+def third_of(told: dict[str, Any]) -> str:
+    """The third line, of what is told in JSON."""
+    together = told["together"]
+    if together["matched"]:
+        return MATCHED
+    numbers = [(together[f"{end}_datagram"] or "-", together[f"{end}_why"]) for end in ENDS]
+    return unmatched(*(f"{number} {why}" if why else number for number, why in numbers))
 
 
 def texts_of(trial: MatchTrial, both: Both) -> tuple[list[str], str, int]:
@@ -249,8 +373,17 @@ def third(steps: tuple[list[Step | None], list[Step | None]]) -> str:
     at = merged(steps)
     if all(count == len(own) for count, own in zip(at, steps)):
         return MATCHED
-    client, server = (str(count + 1) if count < len(own) else "-" for count, own in zip(at, steps))
+    client, server = (
+        f"{count + 1} {why(own[count], other)}" if count < len(own) else "-"
+        for count, own, other in zip(at, steps, steps[::-1])
+    )
     return unmatched(client, server)
+
+
+def why(step: Step | None, other: list[Step | None]) -> str:
+    """Whether the other end sends at all what waits."""
+    is_sent = step is not None and any(it and it[0] and it[1] == step[1] for it in other)
+    return "waits" if is_sent else "unsent"
 
 
 def changed(chance: Random, view: View) -> bytes:
@@ -306,9 +439,12 @@ def main() -> int:
     parser.add_argument("program")
     asked = parser.parse_args()
     with tempfile.TemporaryDirectory() as folder:
-        trial = MatchTrial(asked.program, pathlib.Path(folder))
+        trial = MatchTrial(str(pathlib.Path(asked.program).resolve()), pathlib.Path(folder))
         rows(trial)
         faults(trial)
+        recorded(trial)
+        several(trial)
+        in_json(trial)
         words(trial)
         if asked.refuse:
             failing(trial, asked.refuse)

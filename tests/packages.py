@@ -23,7 +23,7 @@ import tempfile
 from typing import Optional
 
 from repository import TOP
-from scratch import AUDIT, SCRIPTS, TRANSFERS, Scratch
+from scratch import AUDIT, MATCH, SCRIPTS, TRANSFERS, Scratch
 from trial import Trial
 
 # The programs are another's, of which is known what they need; what rt says of a build is short.
@@ -60,6 +60,10 @@ gate:
 tftp-audit:
     logic: libraries=1 sum=5a
     tftp_audit: logic=proved functions=7 sum=5a
+
+tftp-match:
+    logic: libraries=1 sum=5a
+    tftp_match_main: logic=proved functions=7 sum=5a
 
 tftp-transfers:
     logic: libraries=1 sum=5a
@@ -138,10 +142,11 @@ def try_tar(trial: Trial, checkout: Checkout, made: pathlib.Path, program: str) 
     trial.check("the tar's name", made.name == f"{folder.name}.tar.gz" and checkout.commit()[:8] in made.name, made)
     trial.check("the tar's sums", sums_hold(folder, folder / "SHA256SUMS", {"SHA256SUMS"}))
     wanted = (
-        "PROVED", "bin/tftp-audit", "bin/tftp-transfers", "share/man/man1/tftp-audit.1",
+        "PROVED", "bin/tftp-audit", "bin/tftp-transfers", "bin/tftp-match", "share/man/man1/tftp-audit.1",
         "share/doc/tftp-audit/README.md", "share/doc/tftp-audit/docs/VERDICTS.md",
         "share/tftp-audit/wireshark/tftp-audit.lua",
-        "share/bash-completion/completions/tftp-transfers", "share/zsh/site-functions/_tftp-audit",
+        "share/bash-completion/completions/tftp-transfers", "share/bash-completion/completions/tftp-match",
+        "share/zsh/site-functions/_tftp-audit",
         "share/fish/vendor_completions.d/tftp-audit.fish", *(f"bin/{name}" for name in SCRIPTS),
     )
     trial.check("the tar's files", all((folder / name).is_file() for name in wanted), names)
@@ -150,7 +155,7 @@ def try_tar(trial: Trial, checkout: Checkout, made: pathlib.Path, program: str) 
     for said in (
         f"commit {checkout.commit()} of 2023-11-14 22:13:20 UTC\n", "proved and built by rattle-kit-0 logic 5a\n",
         f"needs glibc {needs(program)} or later", f"tftp-audit: sha256 {digest}\n",
-        f"tftp-transfers: sha256 {digest}\n", PROVED,
+        f"tftp-transfers: sha256 {digest}\n", f"tftp-match: sha256 {digest}\n", PROVED,
     ):
         trial.check(f"PROVED says {said!r}", said in proved, proved)
     for words in (["bin/tftp-audit", "--help"], ["bin/tftp-audit", "check", "PROVED"], ["bin/tftp-explain", "--help"]):
@@ -177,7 +182,7 @@ def try_deb(trial: Trial, checkout: Checkout, made: pathlib.Path, program: str) 
     pages = usr / "share" / "doc" / "tftp-audit"
     own = pages / "SHA256SUMS"
     trial.check("the package's own sums", sums_hold(usr, own, {own.relative_to(usr).as_posix()}))
-    for name in (AUDIT.name, "tftp-transfers", *SCRIPTS):
+    for name in (AUDIT.name, TRANSFERS.name, MATCH.name, *SCRIPTS):
         page = gzip.decompress((usr / "share" / "man" / "man1" / f"{name}.1.gz").read_bytes())
         trial.check(f"{name}.1.gz", page == (checkout.top / "docs" / "man" / f"{name}.1").read_bytes())
     changes = gzip.decompress((pages / "changelog.gz").read_bytes()).decode()
@@ -226,12 +231,12 @@ def try_completions(trial: Trial) -> None:
         "zsh": ("zsh/_{}", "--{}", ("zsh", "-n")),
         "fish": ("fish/{}.fish", "-l {}", ("fish", "--no-execute")),
     }
-    for name, shell in itertools.product((AUDIT.name, TRANSFERS.name, *SCRIPTS), shells):
+    for name, shell in itertools.product((AUDIT.name, TRANSFERS.name, MATCH.name, *SCRIPTS), shells):
         place, spelt, parser = shells[shell]
         path = TOP / "share" / "completions" / place.format(name)
         page = (TOP / "docs" / "man" / f"{name}.1").read_text().replace("\\-", "-")
         # those that stand at the head of a paragraph
-        options = set(re.findall(r"--([a-z]+)", "".join(re.findall(r"(?m)^\.TP\n\.B\w* .*-.*$", page))))
+        options = set(re.findall(r"--([a-z]+(?:-[a-z]+)*)", "".join(re.findall(r"(?m)^\.TP\n\.B\w* .*-.*$", page))))
         lacking = {option for option in options if spelt.format(option) not in path.read_text()}
         trial.check(f"{path.name} of {shell} has each option", bool(options) and not lacking, lacking)
         if shutil.which(shell):

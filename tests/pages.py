@@ -1,7 +1,7 @@
 """What the pages for readers say of the programs, the scripts, the rules and the proof, beside these and the sources;
 the commands that they show, each with what stands below it; and the picture in examples/.
 
-    pages.py PROGRAM TRANSFERS
+    pages.py PROGRAM TRANSFERS MATCH
 
 Prints each case that is not as it should be, then a last line 'N passed, M failed'; status 1 if any failed.
 """
@@ -65,13 +65,14 @@ def helped(command: list[str]) -> str:
     return subprocess.run([*command, "--help"], capture_output=True, text=True, check=True).stdout
 
 
-def try_manual(trial: Trial, transfers: str) -> None:
-    """The manual pages of tftp-transfers and of the scripts name each option, and read well where mandoc can say so."""
+def try_manual(trial: Trial, transfers: str, match: str) -> None:
+    """The manual pages of the programs and of the scripts name each option, and read well where mandoc can say so."""
     said = {name: helped([str(TOP / "tools" / name)]) for name in SCRIPTS}
     of_commands = [helped([transfers]), *(helped([transfers, command]) for command in ("list", "text", "check"))]
-    for name, words in {**said, "tftp-transfers": "".join(of_commands)}.items():
+    of_programs = {"tftp-transfers": "".join(of_commands), "tftp-match": helped([match])}
+    for name, words in {**said, **of_programs}.items():
         page = (TOP / "docs" / "man" / f"{name}.1").read_text().replace("\\-", "-")
-        for option in sorted(set(re.findall(r"--[a-z]+", words))):
+        for option in sorted(set(re.findall(r"--[a-z]+(?:-[a-z]+)*", words))):
             trial.check(f"{name}(1) has {option}", option in page)
     if not shutil.which("mandoc"):
         print("mandoc is not installed, so the manual pages are not tried with it")
@@ -224,10 +225,10 @@ def try_shown(trial: Trial, program: str, transfers: str) -> None:
                 trial.check(f"{page}, {command.splitlines()[0]}", got == wanted, got)
 
 
-def main(program: str, transfers: str) -> int:
+def main(program: str, transfers: str, match: str) -> int:
     trial = Trial()
     try_verdicts(trial)
-    try_manual(trial, transfers)
+    try_manual(trial, transfers, match)
     try_names(trial)
     sources = Sources()
     for of_sources in (try_laws, try_proof, try_libraries):

@@ -4,8 +4,8 @@
 # refused, each read and each write failing, in turn, and each growth in the tests of the libraries' calls; larger captures;
 # simulated transfers and changes of them, for some seconds; the recorded transfers of examples/; the datagrams that are
 # read of recordings, and which transfer they are of; what is said between the ends; the rows, lists and texts of
-# recordings; captures of both ends, matched, explained and drawn; the scripts that explain, draw and report, on changed
-# captures too; the plugin of Wireshark; the schemas of JSON; and what stands in the pages for readers.
+# recordings; captures of both ends, texts and recordings, matched, explained and drawn; the scripts that explain, draw and report,
+# on changed captures too; the plugin of Wireshark; the schemas of JSON; and what stands in the pages for readers.
 set -eu
 here=$(dirname "$0")
 transfers=$here/../crates/tftp_transfers_main/out/tftp_transfers_main
@@ -57,10 +57,10 @@ python3 "$here/report.py" "$1" "$transfers"
 echo "the plugin of Wireshark:"
 python3 "$here/wireshark.py" "$transfers"
 echo "JSON:"
-python3 "$here/schemas.py" "$1" "$transfers"
+python3 "$here/schemas.py" "$1" "$transfers" "$match"
 echo "loopback:"
 python3 "$here/loopback.py" "$transfers"
 echo "loopback, both ends:"
 python3 "$here/legs.py" "$transfers" "$match"
 echo "pages:"
-python3 "$here/pages.py" "$1" "$transfers"
+python3 "$here/pages.py" "$1" "$transfers" "$match"

@@ -1,7 +1,7 @@
 """What the programs write in JSON, by the schemas of docs/schemas: of each recording and text of examples/ each line is
 as its schema says, and changed ones are not; and the recipes of docs/RECORDING.md for jq, where that is installed.
 
-    schemas.py PROGRAM TRANSFERS
+    schemas.py PROGRAM TRANSFERS MATCH
 
 The schemas are read by a validator of their own words, and by python3-jsonschema too where that is installed. Prints
 each case that is not as it should be, then a last line 'N passed, M failed'; status 1 if any failed.
@@ -24,7 +24,9 @@ from repository import TOP
 from trial import Trial
 
 EXAMPLES, PAGE = TOP / "examples", TOP / "docs" / "RECORDING.md"
-TYPES: dict[str, type] = {"object": dict, "array": list, "string": str, "integer": int, "null": type(None)}
+TYPES: dict[str, type] = {
+    "object": dict, "array": list, "string": str, "integer": int, "null": type(None), "boolean": bool,
+}
 # The words of schemas that are known here; any other would be passed over.
 WORDS = {
     "$schema", "$defs", "$ref", "title", "description", "type", "properties", "required", "additionalProperties",
@@ -35,7 +37,7 @@ Schema = dict[str, Any]
 
 def has_type(value: object, wanted: str | list[str]) -> bool:
     names = [wanted] if isinstance(wanted, str) else wanted
-    return any(isinstance(value, TYPES[name]) and not isinstance(value, bool) for name in names)
+    return any(isinstance(value, TYPES[name]) and isinstance(value, bool) == (name == "boolean") for name in names)
 
 
 class Validator:
@@ -58,6 +60,8 @@ class Validator:
             yield f"{at}: {value!r} is none of {schema['enum']}"
         if "type" in schema and not has_type(value, schema["type"]):
             yield f"{at}: {value!r} is no {schema['type']}"
+            return
+        if isinstance(value, bool):
             return
         for kind, further in ((str, self.text), (int, self.number), (list, self.items), (dict, self.object)):
             if isinstance(value, kind):
@@ -104,16 +108,22 @@ def lines_of(*words: object, given: pathlib.Path | None = None) -> list[Any]:
     return [json.loads(line) for line in done.stdout.splitlines()]
 
 
-def written(program: str, transfers: str) -> dict[str, list[Any]]:
+def written(program: str, transfers: str, match: str) -> dict[str, list[Any]]:
     """What the programs write in JSON of each example, by the name of its schema."""
     explain = TOP / "tools" / "tftp-explain", "--json", "--program", program, "--transfers", transfers
     found: dict[str, list[Any]] = {"check": [], "list": [], "explain": []}
     recordings, texts = sorted(EXAMPLES.glob("*.pcap")), sorted(EXAMPLES.glob("*.capture"))
+    session = EXAMPLES / "loopback-session.pcap"
     for path in (*recordings, *texts):
         found["explain"] += lines_of(*explain, path) + lines_of(*explain, "--all", path)
     for command in ("check", "list"):
         found[command] = [it for path in recordings for it in lines_of(transfers, command, "--json", path)]
     found["explain"] += lines_of(*explain, "-", given=PAGE)
+    found["match"] = [it for path in recordings for it in lines_of(match, "--json", "--transfer", "1", path, path)]
+    for text in texts:
+        ends = (text, session) if b"\nend client\n" in text.read_bytes() else (session, text)
+        found["match"] += lines_of(match, "--json", "--transfer", "2", *ends)
+        found["match"] += lines_of(match, "--json", text, text)
     return found
 
 
@@ -190,9 +200,9 @@ def try_recipes(trial: Trial, program: str, transfers: str) -> None:
         trial.check(recipe, holds, (done.stdout, done.stderr, done.returncode))
 
 
-def main(program: str, transfers: str) -> int:
+def main(program: str, transfers: str, match: str) -> int:
     trial = Trial()
-    found = written(program, transfers)
+    found = written(program, transfers, match)
     for name, values in found.items():
         try_schema(trial, name, values)
     try_values(trial, found["explain"])

@@ -30,7 +30,7 @@ build() {
     cat >out/$1 <<'END'
 #!/bin/sh
 echo "BUILT_OF: $# words $*: $(cat)"
-case $1 in check) exit STATUS ;; *) exit 2 ;; esac
+case $1 in check | */client.capture) exit STATUS ;; *) exit 2 ;; esac
 END
     status=$(echo "$text" | tr -cd 0-9)
     sed -i "s/BUILT_OF/$text/; s/STATUS/${status:-0}/" out/$1
@@ -38,10 +38,10 @@ END
 }
 echo "rt: $* in ${PWD##*/}" >>"$CALLS"
 if [ "$1" = ci ]; then
-    for crate in tftp_audit tftp_transfers_main; do
+    for crate in tftp_audit tftp_transfers_main tftp_match_main; do
         (cd crates/$crate && rm -rf out && build $crate) || exit 1
     done
-    echo "2 passed, 0 failed"
+    echo "3 passed, 0 failed"
     exit 0
 fi
 crate=$(basename "$PWD")
@@ -79,11 +79,15 @@ AUDIT = Launcher("tftp-audit", "tftp_audit", "about a quarter of an hour", ("che
 TRANSFERS = Launcher(
     "tftp-transfers", "tftp_transfers_main", "half an hour or so", ("check", "-"), (("-",), ("chec", "-"), ("--help",)),
 )
+MATCH = Launcher(
+    "tftp-match", "tftp_match_main", "half an hour or so", ("./client.capture", "-"), (("-",), ("-", "x"), ("--help",)),
+)
+LAUNCHERS = (AUDIT, TRANSFERS, MATCH)
 
 
 class Scratch:
     """A copy of the launchers and the Makefile, with small sources, in a folder whose name has spaces; one launcher of
-    the two is tried."""
+    them is tried."""
 
     def __init__(self, folder: pathlib.Path, launcher: Launcher) -> None:
         self.top, self.launcher = folder / "the top", launcher
@@ -91,10 +95,10 @@ class Scratch:
         self.source, self.program = crates / launcher.crate / "src" / "main.rt", self.program_of(launcher)
         self.calls, self.bin = folder / "calls", folder / "bin"
         of_low = ("src", "specs", "proofs/deep", "must-fail")
-        for part in (f"{AUDIT.crate}/src", f"{TRANSFERS.crate}/src", *(f"tftp_low/{it}" for it in of_low)):
+        for part in (*(f"{it.crate}/src" for it in LAUNCHERS), *(f"tftp_low/{it}" for it in of_low)):
             (crates / part).mkdir(parents=True)
             (crates / part / "first.rt").write_text("first")
-        for name in (AUDIT.name, TRANSFERS.name, "Makefile", "README.md", "CHANGELOG.md", ".gitignore"):
+        for name in (*(it.name for it in LAUNCHERS), "Makefile", "README.md", "CHANGELOG.md", ".gitignore"):
             shutil.copy(TOP / name, self.top)
         for name in ("tools", "docs", "share"):
             shutil.copytree(TOP / name, self.top / name, ignore=shutil.ignore_patterns("__pycache__"))
@@ -107,7 +111,7 @@ class Scratch:
             file.parent.mkdir()
             file.write_text(text)
             file.chmod(mode)
-        for it in (AUDIT, TRANSFERS):
+        for it in LAUNCHERS:
             (crates / it.crate / "src" / "main.rt").write_text("one" if it == launcher else "other")
 
     def run(
@@ -124,7 +128,7 @@ class Scratch:
             input=given, cwd=folder or self.top, env=environment, text=True, stdout=subprocess.PIPE, stderr=errors,
             timeout=60,
         )
-        return done.stdout, done.stderr, done.returncode, self.calls.read_text().count("rt: run -- check")
+        return done.stdout, done.stderr, done.returncode, self.calls.read_text().count("rt: run -- ")
 
     def call(self, given: str = "", meanwhile: str = "") -> Ran:
         """The same of the words that read standard input."""

@@ -1,5 +1,5 @@
-"""The launchers tftp-audit and tftp-transfers and the Makefile's targets that build, each on a scratch copy with a
-stand-in for rt.
+"""The launchers tftp-audit, tftp-transfers and tftp-match and the Makefile's targets that build, each on a scratch copy
+with a stand-in for rt.
 
     script.py
 
@@ -20,7 +20,7 @@ import tempfile
 
 from commands import COMMANDS
 from repository import TOP
-from scratch import AUDIT, SCRIPTS, TRANSFERS, Launcher, Ran, Scratch, Word, said_of
+from scratch import AUDIT, LAUNCHERS, MATCH, SCRIPTS, TRANSFERS, Launcher, Ran, Scratch, Word, said_of
 from trial import Trial
 
 WRONG_WORDS: tuple[list[str], ...] = (
@@ -130,7 +130,8 @@ def failing(trial: ScriptTrial, scratch: Scratch) -> None:
     trial.check("make build, where the other program is to be built", scratch.make("build")[0] == 0)
     for target in ("build", "install"):
         trial.check(f"make {target}", scratch.make(target) == (0, "", False))
-    for it, place in ((AUDIT, "lib/tftp-audit/tftp-audit"), (TRANSFERS, "bin/tftp-transfers")):
+    places = (AUDIT, "lib/tftp-audit/tftp-audit"), (TRANSFERS, "bin/tftp-transfers"), (MATCH, "bin/tftp-match")
+    for it, place in places:
         program, installed = scratch.program_of(it), scratch.prefix() / place
         same = installed.exists() and installed.read_bytes() == program.read_bytes()
         trial.check(f"make install, {it.name}", same and not installed.is_symlink())
@@ -144,7 +145,7 @@ def installed_scripts(trial: ScriptTrial, scratch: Scratch) -> None:
     for name in SCRIPTS:
         done = subprocess.run([folder / name, "--help"], capture_output=True, text=True)
         trial.check(f"{name}, installed", done.returncode == 0 and done.stdout.startswith(f"usage: {name}"), done)
-    for name in (AUDIT.name, TRANSFERS.name, *SCRIPTS):
+    for name in (*(it.name for it in LAUNCHERS), *SCRIPTS):
         page = folder.parent / "share" / "man" / "man1" / f"{name}.1"
         trial.check(f"{name}, its page installed", page.is_file())
     for name in ("wireshark/tftp-audit.lua", "schemas/check.schema.json"):
@@ -238,14 +239,15 @@ def gates(trial: ScriptTrial, scratch: Scratch) -> None:
     scratch.source.write_text("mended")
     got = scratch.run("--gate")
     told = sorted(line for line in got[1].splitlines() if line.startswith("rt: "))
-    is_told = told == ["rt: progress on mended", "rt: progress on other"]
-    trial.check("--gate", is_told and (got[0], *got[2:]) == ("2 passed, 0 failed\n", 0, 0), got)
+    is_told = told == ["rt: progress on mended", *["rt: progress on other"] * 2]
+    trial.check("--gate", is_told and (got[0], *got[2:]) == ("3 passed, 0 failed\n", 0, 0), got)
     kept = {path.name: path.read_text() for path in (scratch.top / "out").iterdir()}
-    trial.check("--gate, what rt wrote is kept alone", kept == {"gate.log": "2 passed, 0 failed\n"}, kept)
+    trial.check("--gate, what rt wrote is kept alone", kept == {"gate.log": "3 passed, 0 failed\n"}, kept)
     trial.runs("the call after --gate", scratch.call(), "mended", 0)
-    other = TRANSFERS if scratch.launcher == AUDIT else AUDIT
-    got = scratch.run(*other.words, script=scratch.top / other.name)
-    trial.runs("the other launcher after --gate", got, "other", 0, words=said_of(other.words))
+    for other in LAUNCHERS:
+        if other != scratch.launcher:
+            got = scratch.run(*other.words, script=scratch.top / other.name)
+            trial.runs(f"the launcher {other.name} after --gate", got, "other", 0, words=said_of(other.words))
 
 
 def links(trial: ScriptTrial, scratch: Scratch) -> None:
@@ -329,6 +331,31 @@ def recordings(trial: ScriptTrial, scratch: Scratch) -> None:
     lines = errors.splitlines()
     holds = status == 2 and "rt: progress on eight" in lines and "gave no rows" in lines[-1]
     trial.check("a script builds the program before it asks it", holds and "progress" not in lines[-1], errors)
+    scratch.source.write_text("3")
+    trial.refuses("a trial run that ends with status 3", scratch.call(), trial.not_built(), 1)
+
+
+def matches(trial: ScriptTrial, scratch: Scratch) -> None:
+    """The words go to the program as they are, and standard input with them; where no file can be read that is told."""
+    folder = scratch.top.parent / "a folder of captures"
+    folder.mkdir()
+    capture = folder / "client.capture"
+    capture.write_text("its text")
+    passed: tuple[list[Word], ...] = ([capture, capture], [capture, "missing"], [capture, "-", "--transfer", "2"])
+    for words in passed:
+        got = scratch.run(*words, given="other")
+        trial.runs(f"{words}", got, "mended", 0, words=said_of(words), given="other")
+    more: tuple[list[Word], ...] = (["-", capture], ["missing", "--json"], ["--version"], [], [""], ["--build", "-"])
+    for words in more:
+        got = scratch.run(*words, given="other")
+        trial.runs(f"{words}", got, "mended", 0, words=said_of(words), given="other", status=2)
+    scratch.source.write_text("seven")
+    unread: tuple[list[Word], ...] = (["missing"], ["gone", "missing"], ["--transfer", "2", "missing"])
+    for words in unread:
+        got = scratch.run(*words, given="other")
+        trial.refuses(f"{words} before a build", got, "tftp-match: cannot read the file 'missing'\n")
+    got = scratch.run(capture, "-", given="other")
+    trial.runs("a file after an edit", got, "seven", 1, words=said_of([capture, "-"]), given="other")
     scratch.source.write_text("3")
     trial.refuses("a trial run that ends with status 3", scratch.call(), trial.not_built(), 1)
 
@@ -442,7 +469,7 @@ def states(trial: ScriptTrial, scratch: Scratch) -> None:
 
 def main() -> int:
     trial = Trial()
-    for launcher, further in ((AUDIT, (files, wrong_words, progress)), (TRANSFERS, (recordings,))):
+    for launcher, further in ((AUDIT, (files, wrong_words, progress)), (TRANSFERS, (recordings,)), (MATCH, (matches,))):
         of_one = ScriptTrial(launcher)
         with tempfile.TemporaryDirectory() as folder:
             scratch = Scratch(pathlib.Path(folder).resolve(), launcher)

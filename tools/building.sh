@@ -1,8 +1,8 @@
-# What ./tftp-audit and ./tftp-transfers share: a program is proved and built where its sources are not those that it
+# What ./tftp-audit, ./tftp-transfers and ./tftp-match share: a program is proved and built where its sources are not those that it
 # was built of. Before it reads this a launcher reads commands.sh, and sets `top`, where the repository is; `name` and
 # `crate`, those of its program; `takes`, how long a build takes; and trial_run, which builds the program and tries it.
 #   NAME --build   only builds the program
-#   NAME --gate    proves all from nothing with rt ci, which builds both programs too; its status is rt's
+#   NAME --gate    proves all from nothing with rt ci, which builds all of them too; its status is rt's
 
 # Where the program of a crate is built.
 program_of() {
@@ -162,6 +162,23 @@ build() {
     refuse "the program was not built, so nothing is run"
 }
 
+# Whether some word is a file that can be read, or standard input.
+has_file() {
+    for word; do
+        [ "$word" = - ] || is_readable "$word" || continue
+        return 0
+    done
+    return 1
+}
+
+# Builds the program where that is due, and becomes it. Its own help calls it by the name under which it was started.
+become_program() {
+    is_built || build
+    link=$(dirname "$program")/$name
+    [ -h "$link" ] || ln -s "$crate" "$link" 2>/dev/null || link=$program
+    exec "$link" "$@"
+}
+
 program=$(program_of "$crate")
 case $#${1-} in
     1--build)
@@ -169,7 +186,7 @@ case $#${1-} in
         exit 0
         ;;
     1--gate)
-        build_by 'tftp_audit tftp_transfers_main' gate
+        build_by 'tftp_audit tftp_transfers_main tftp_match_main' gate
         exit
         ;;
 esac

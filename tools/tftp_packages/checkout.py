@@ -83,11 +83,14 @@ class Program:
         return max(tuple(map(int, version.split("."))) for version in told)
 
 
-PROGRAMS = (Program("tftp_audit", "tftp-audit"), Program("tftp_transfers_main", "tftp-transfers"))
+PROGRAMS = (
+    Program("tftp_audit", "tftp-audit"), Program("tftp_transfers_main", "tftp-transfers"),
+    Program("tftp_match_main", "tftp-match"),
+)
 
 
 def libc_needed() -> str:
-    """The lowest version of glibc that both programs run with."""
+    """The lowest version of glibc that all programs run with."""
     return ".".join(map(str, max(program.libc() for program in PROGRAMS)))
 
 

@@ -1,14 +1,23 @@
 //! Two captures of one transfer, one of each end: what there is to say of each, and whether one run of the two ends has both.
 #![tactic(auto)]
 
-mod files;
+mod candidates;
+mod facts;
+mod held;
 mod help;
+mod json;
+mod judging;
 mod lines;
+mod recorded;
+mod source;
+mod told;
 mod words;
 
-use crate::files::judged;
+use crate::facts::Facts;
+use crate::json::say_json;
+use crate::judging::{Judged, judge_captures};
 use crate::lines::say;
-use crate::words::files_of;
+use crate::words::{Request, request_of};
 use anyhow::{Error, Result};
 use clap::Error as WordsError;
 use clap::error::ErrorKind;
@@ -34,13 +43,29 @@ fn main(rt: HostRuntime) -> ExitCode {
 
 /// Does what the words ask for, and answers the status.
 fn answer(rt: HostRuntime, words: &[String]) -> Result<u8> {
-    match files_of(rt.alloc(), words) {
-        Ok(files) => match judged(rt, &files)? {
-            Some(said) => say(rt, said),
+    match request_of(rt.alloc(), words) {
+        Ok(request) => match judge_captures(rt, &request)? {
+            Some(judged) => say_judged(rt, &request, judged),
             None => Ok(2),
         },
         Err(error) => tell_words(rt, &error),
     }
+}
+
+/// Says what there is to say, and answers the status.
+fn say_judged(rt: HostRuntime, request: &Request<'_>, judged: Judged) -> Result<u8> {
+    let Judged {
+        said,
+        client,
+        server,
+    } = judged;
+    let facts = Facts::new(rt.alloc(), said)?;
+    if request.json {
+        say_json(rt, request, (client, server), &facts)?;
+    } else {
+        say(rt, &facts)?;
+    }
+    Ok(facts.status)
 }
 
 /// Tells an error.

@@ -1,20 +1,29 @@
 //! The words of the command line.
 
 use crate::help::command_line;
-use clap::Error;
 use clap::error::ErrorKind;
-use std::alloc::Global;
+use clap::{ArgMatches, Error};
+use std::alloc::{AllocError, Global};
 use std::convert::AsStr;
 
-/// The two captures; `-` is standard input.
+/// What the program is asked for.
 #[derive(Debug, Drop)]
-pub struct Files<'a> {
+pub struct Request<'a> {
+    /// The capture at the client, and that at the server: texts or recordings; `-` is standard input.
     pub client: &'a str,
     pub server: &'a str,
+    /// The number of the transfer in the client's recording, or in the one that there is.
+    pub transfer: Option<u64>,
+    /// The number of the transfer in the server's recording.
+    pub server_transfer: Option<u64>,
+    /// The ports to which requests go, beside 69.
+    pub services: Vec<u16>,
+    /// Whether the answer is wanted in JSON.
+    pub json: bool,
 }
 
-/// The captures that the words name, the first of which is the program's name. At most one is standard input.
-pub fn files_of<'a, S: AsStr>(alloc: Global, words: &'a [S]) -> Result<Files<'a>, Error> {
+/// What the words ask for, the first of which is the program's name. At most one capture is standard input.
+pub fn request_of<'a, S: AsStr>(alloc: Global, words: &'a [S]) -> Result<Request<'a>, Error> {
     let mut command = command_line(alloc)?;
     let matches = command.try_get_matches_from_mut(words)?;
     let client = matches.get_str("client").unwrap_or("-");
@@ -25,5 +34,25 @@ pub fn files_of<'a, S: AsStr>(alloc: Global, words: &'a [S]) -> Result<Files<'a>
             "one capture at most is standard input",
         )?);
     }
-    Ok(Files { client, server })
+    Ok(Request {
+        client,
+        server,
+        transfer: matches.get_one::<u64>("transfer"),
+        server_transfer: matches.get_one::<u64>("server-transfer"),
+        services: services_of(alloc, &matches)?,
+        json: matches.get_flag("json"),
+    })
+}
+
+fn services_of(alloc: Global, matches: &ArgMatches<'_>) -> Result<Vec<u16>, AllocError> {
+    let mut services = Vec::new(alloc);
+    if let Some(ports) = matches.get_many::<u16>("service") {
+        for port in ports {
+            // that each is a port was seen before
+            if let Ok(port) = port {
+                services.push(port)?;
+            }
+        }
+    }
+    Ok(services)
 }

@@ -1,11 +1,10 @@
 //! The verdict on each transfer of recordings.
 
 use crate::reading::read_file;
-use crate::session::Session;
 use crate::teller::{Teller, What};
-use crate::texts::Kept;
 use anyhow::Result;
 use tftp_recording_judge::Judging;
+use tftp_session::{Kept, Notes, Session, Wanted};
 use tftp_words::{CheckRequest, Point};
 
 /// Judges the transfers of recordings. A recording that can't be read does not end it.
@@ -46,7 +45,8 @@ fn check_file<'a>(
     teller: &mut Teller<'a>,
 ) -> Result<()> {
     let (services, judging) = (asked.services.as_slice(), judging_at(asked.end));
-    let mut session = Session::new(rt.alloc(), services, judging, Kept::new(0))?;
+    let kept = Kept::new(rt.alloc(), Wanted::Nothing);
+    let mut session = Session::new(rt.alloc(), services, judging, kept)?;
     teller.begin(file);
     let told = tell_session(rt, file, &mut session, teller);
     session.let_go();
@@ -62,11 +62,31 @@ pub fn tell_session(
 ) -> Result<()> {
     read_file(rt, file, session, teller)?;
     teller.tell_all(rt, session)?;
-    if !session.notes.tell(rt, file)? {
+    tell_notes(rt, file, &session.notes)?;
+    if !session.notes.is_whole() {
         teller.status = 2;
     }
     if teller.told == 0 {
-        session.notes.tell_asked(rt, file)?;
+        tell_asked(rt, file, &session.notes)?;
+    }
+    Ok(())
+}
+
+/// Tells what there is to tell of a recording as a whole.
+pub fn tell_notes(rt: HostRuntime, file: &str, notes: &Notes) -> Result<()> {
+    let lines = notes.lines(rt.alloc())?;
+    for line in lines.iter() {
+        eprintln!(rt; "tftp-transfers: {file}: {line}")?;
+    }
+    Ok(())
+}
+
+/// Tells at which ports something looks like a request, where no transfer was found.
+fn tell_asked(rt: HostRuntime, file: &str, notes: &Notes) -> Result<()> {
+    if let Some(ports) = notes.asked_ports(rt.alloc())? {
+        eprintln!(rt;
+            "tftp-transfers: {file}: what looks like a request went to port{ports}: name the port by --service"
+        )?;
     }
     Ok(())
 }

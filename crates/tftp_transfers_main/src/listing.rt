@@ -1,17 +1,14 @@
 //! The transfers of a recording, a line each.
 
-use crate::cells::{put_cell, put_number, put_number_cell, put_plain};
+use crate::cells::{put_cell, put_number_cell};
 use crate::checking::tell_session;
-use crate::session::Session;
-use crate::shown::shown;
 use crate::teller::{Teller, What};
-use crate::texts::Kept;
-use crate::trail::Trail;
 use anyhow::Result;
 use serde::Serialize;
 use std::alloc::{AllocError, Global};
 use tftp_packet::{Mode, OptionsView, Packet, RequestView, Side, read_packet};
 use tftp_recording_judge::Judging;
+use tftp_session::{Kept, Session, Trail, Wanted, put_number, put_plain, shown};
 use tftp_words::ListRequest;
 
 /// A row of the list.
@@ -32,7 +29,8 @@ pub struct ListRow {
 /// Lists the transfers of a recording.
 pub fn list(rt: HostRuntime, asked: &ListRequest<'_>) -> Result<u8> {
     let services = asked.services.as_slice();
-    let mut session = Session::new(rt.alloc(), services, Judging::Nowhere, Kept::new(0))?;
+    let kept = Kept::new(rt.alloc(), Wanted::Nothing);
+    let mut session = Session::new(rt.alloc(), services, Judging::Nowhere, kept)?;
     let mut teller = Teller::new(What::List, asked.json, 0);
     let told = tell_session(rt, asked.file, &mut session, &mut teller);
     session.let_go();

@@ -1,23 +1,13 @@
 //! From a recording to its TFTP transfers, their capture texts and their verdicts.
 #![tactic(auto)]
 
-mod blame;
 mod cells;
 mod checking;
-mod headed;
 mod listing;
-mod losses;
-mod notes;
-mod passing;
 mod reading;
 mod reasoned;
-mod reasons;
-mod session;
-mod shown;
 mod teller;
 mod texts;
-mod trail;
-mod twice;
 mod verdicts;
 
 use crate::checking::check;

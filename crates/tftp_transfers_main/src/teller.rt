@@ -1,13 +1,12 @@
 //! Transfers are told, a row each.
 
-use crate::cells::{pad, put_cell, put_number_cell, put_plain};
+use crate::cells::{pad, put_cell, put_number_cell};
 use crate::listing::{ListRow, put_list_head, put_list_row};
-use crate::losses::Span;
-use crate::session::{Ended, Session};
 use crate::verdicts::{Judged, Told};
 use anyhow::Result;
 use serde::Serialize;
 use std::alloc::AllocError;
+use tftp_session::{Ended, Session, Span, put_plain};
 use tftp_verdict_rows::Row;
 
 /// What is told of each transfer.
@@ -17,8 +16,6 @@ pub enum What {
     List,
     /// The verdict on it.
     Check,
-    /// Nothing: the text of one of them is wanted.
-    Text,
 }
 
 /// A row of verdicts.
@@ -69,9 +66,6 @@ impl<'a> Teller<'a> {
 
     /// Tells the transfers of which all is known, from the oldest on.
     pub fn tell_over(&mut self, rt: HostRuntime, session: &mut Session) -> Result<()> {
-        if let What::Text = self.what {
-            return Ok(());
-        }
         for _ in 0..session.count() {
             let Some(ended) = session.pop_over() else {
                 return Ok(());
@@ -100,10 +94,6 @@ impl<'a> Teller<'a> {
         match self.what {
             What::List => self.tell_request(rt, ended),
             What::Check => self.tell_verdict(rt, ended, lost),
-            What::Text => {
-                let_go(ended);
-                Ok(())
-            }
         }
     }
 

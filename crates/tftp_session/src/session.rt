@@ -2,12 +2,12 @@
 
 ghost use Rattle.tftp_frames.specs.Udp.{IsSound};
 
+use crate::fault::{ReadFault, TextFault};
+use crate::kept::Kept;
 use crate::losses::Span;
 use crate::notes::Notes;
 use crate::passing::{Passing, about};
-use crate::texts::Kept;
 use crate::trail::Trail;
-use anyhow::{Result, bail};
 use std::alloc::{AllocError, Global};
 use std::collections::BTreeMap;
 use std::io::Read;
@@ -61,7 +61,7 @@ impl Session {
         reader: &mut Tallied<R>,
         recording: &mut RecordingReader,
         event: &mut Event,
-    ) -> Result<bool> {
+    ) -> Result<bool, ReadFault> {
         match self.audit.next_into(alloc, reader, recording, event) {
             Ok(NextFrame::End) => Ok(false),
             Ok(NextFrame::Nothing) => self.take(alloc, event, None),
@@ -72,9 +72,9 @@ impl Session {
     }
 
     /// The recording is read no further. What was read before is told, unless memory was wanting.
-    fn stop(&mut self, fault: PcapFault) -> Result<bool> {
+    fn stop(&mut self, fault: PcapFault) -> Result<bool, ReadFault> {
         if let FaultKind::Memory = fault.kind {
-            bail!("no memory");
+            return Err(ReadFault::Memory);
         }
         self.notes.fault = Some(fault);
         Ok(false)
@@ -86,7 +86,7 @@ impl Session {
         alloc: Global,
         event: &mut Event,
         found: Option<Attributed>,
-    ) -> Result<bool> {
+    ) -> Result<bool, ReadFault> {
         self.notes.lose(event.old())?;
         self.notes.lose_all(event.take_ousted(alloc))?;
         match event.fate() {
@@ -104,7 +104,7 @@ impl Session {
         event: &Event,
         datagram: &Datagram<'_>,
         found: Option<Attributed>,
-    ) -> Result<()>
+    ) -> Result<(), ReadFault>
         requires sound { IsSound (record { source_port = datagram.now.source_port; target_port = datagram.now.target_port; payload = datagram.now.payload.now }) }
     {
         let Some(found) = found else {
@@ -181,9 +181,33 @@ impl Session {
         self.notes.losses.of(ended.trail.transfer.client.address)
     }
 
-    /// The transfer with this number.
+    /// The transfer of which so many datagrams came before the first.
     pub fn trail(&self, number: u64) -> Option<&Trail> {
         self.trails.get(&number)
+    }
+
+    /// How many datagrams came before the first of each transfer that was not handed out, from the oldest on.
+    pub fn transfers(&self, alloc: Global) -> Result<Vec<u64>, AllocError> {
+        let mut numbers = Vec::new(alloc);
+        for number in self.trails.keys() {
+            numbers.push(*number)?;
+        }
+        Ok(numbers)
+    }
+
+    /// The key of the transfer with this number from the oldest on, from 1.
+    pub(crate) fn key_of(&self, alloc: Global, number: u64) -> Result<u64, TextFault> {
+        let keys = self.transfers(alloc)?;
+        let place = usize::try_from(number.saturating_sub(1)).unwrap_or(usize::MAX);
+        match keys.get(place) {
+            Some(key) => Ok(*key),
+            None => Err(TextFault::NoTransfer(number, keys.len())),
+        }
+    }
+
+    /// Whether datagrams of the client of this transfer may be missing.
+    pub(crate) fn may_lack(&self, trail: &Trail) -> bool {
+        self.notes.may_lack(trail.transfer.client.address)
     }
 
     /// Lets all that is kept go.
@@ -196,10 +220,10 @@ impl Session {
 }
 
 /// The judges take no datagram any more.
-fn refuse(fault: AttributionFault) -> Result<bool> {
+fn refuse(fault: AttributionFault) -> Result<bool, ReadFault> {
     match fault {
-        AttributionFault::Memory => bail!("no memory"),
-        AttributionFault::TooMany => bail!("too many datagrams"),
+        AttributionFault::Memory => Err(ReadFault::Memory),
+        AttributionFault::TooMany => Err(ReadFault::TooMany),
     }
 }
 

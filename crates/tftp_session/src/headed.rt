@@ -69,3 +69,13 @@ pub fn hint(head: &[u8]) -> &'static str {
         _ => "",
     }
 }
+
+/// Whether a file that begins so is a recording: pcap, in both orders of bytes, in microseconds or nanoseconds, or pcapng.
+pub fn is_recording(head: &[u8]) -> bool {
+    match head {
+        [0xa1, 0xb2, 0xc3, 0xd4, ..] | [0xd4, 0xc3, 0xb2, 0xa1, ..] => true,
+        [0xa1, 0xb2, 0x3c, 0x4d, ..] | [0x4d, 0x3c, 0xb2, 0xa1, ..] => true,
+        [0x0a, 0x0d, 0x0d, 0x0a, ..] => true,
+        _ => false,
+    }
+}

@@ -1,9 +1,8 @@
 //! What is to be told of a recording as a whole.
 
-use crate::cells::put_number;
 use crate::losses::Losses;
 use crate::passing::Passing;
-use anyhow::Result;
+use crate::plain::put_number;
 use std::alloc::{AllocError, Global};
 use std::net::IpAddr;
 use tftp_fragments::Fragments;
@@ -38,12 +37,12 @@ impl Frames {
         Ok(())
     }
 
-    /// Tells how many they are and which ones, if there are any.
-    fn tell(&self, rt: HostRuntime, file: &str, what: &str) -> Result<()> {
+    /// Adds a line that tells how many they are and which ones, if there are any.
+    fn put(&self, alloc: Global, lines: &mut Vec<String>, what: &str) -> Result<(), AllocError> {
         if self.count == 0 {
             return Ok(());
         }
-        let mut named = String::new(rt.alloc());
+        let mut named = String::new(alloc);
         let put = put_numbers(&mut named, self.first.as_slice());
         put?;
         let (count, named) = (self.count, named.as_str());
@@ -53,9 +52,7 @@ impl Frames {
             ("datagrams", "frames")
         };
         let more = if count > NAMED as u64 { " .." } else { "" };
-        eprintln!(rt;
-            "tftp-transfers: {file}: {count} {datagrams} {what} ({frames}{named}{more})"
-        )?;
+        lines.push(format!(in alloc; "{count} {datagrams} {what} ({frames}{named}{more})")?)?;
         Ok(())
     }
 }
@@ -75,7 +72,7 @@ pub struct Notes {
     /// Frames that may have been datagrams of UDP, or parts of such, and can't be read.
     lost: Frames,
     /// The same by their hosts.
-    pub losses: Losses,
+    pub(crate) losses: Losses,
     /// Frames whose link type is not known.
     other_links: Frames,
     /// Datagrams that were left out as copies.
@@ -87,13 +84,13 @@ pub struct Notes {
     /// Datagrams that are older than the one before.
     backwards: Frames,
     /// Why it was read no further.
-    pub fault: Option<PcapFault>,
+    pub(crate) fault: Option<PcapFault>,
     last_time: u64,
 }
 
 impl Notes {
     /// Nothing was read.
-    pub fn new(alloc: Global) -> Self {
+    pub(crate) fn new(alloc: Global) -> Self {
         Notes {
             lost: Frames::new(alloc),
             losses: Losses::new(alloc),
@@ -108,7 +105,7 @@ impl Notes {
     }
 
     /// Notes a datagram's time.
-    pub fn pass(&mut self, frame: u64, time: Option<u64>) -> Result<(), AllocError> {
+    pub(crate) fn pass(&mut self, frame: u64, time: Option<u64>) -> Result<(), AllocError> {
         let Some(time) = time else {
             return Ok(());
         };
@@ -121,14 +118,14 @@ impl Notes {
     }
 
     /// Notes frames for which no others are missing any more.
-    pub fn find(&mut self, frames: &[u64]) {
+    pub(crate) fn find(&mut self, frames: &[u64]) {
         for frame in frames {
             let _ = self.losses.find(*frame);
         }
     }
 
     /// Notes frames that waited for others in vain.
-    pub fn lose(&mut self, frames: &[u64]) -> Result<(), AllocError> {
+    pub(crate) fn lose(&mut self, frames: &[u64]) -> Result<(), AllocError> {
         for frame in frames {
             let hosts = self.losses.find(*frame);
             self.lose_one(*frame, hosts)?;
@@ -143,7 +140,7 @@ impl Notes {
     }
 
     /// Notes fragments that were let go.
-    pub fn lose_all(&mut self, mut fragments: Fragments) -> Result<(), AllocError> {
+    pub(crate) fn lose_all(&mut self, mut fragments: Fragments) -> Result<(), AllocError> {
         for _ in 0..u64::MAX {
             let Some((_, frames)) = fragments.let_go_any() else {
                 return Ok(());
@@ -154,7 +151,7 @@ impl Notes {
     }
 
     /// Notes a frame that is left out, and those that share its fate.
-    pub fn leave(&mut self, why: LeftOut, event: &Event) -> Result<(), AllocError> {
+    pub(crate) fn leave(&mut self, why: LeftOut, event: &Event) -> Result<(), AllocError> {
         let (frame, sharers) = (event.number(), event.sharers());
         match why {
             LeftOut::Copy => self.copies.add(frame),
@@ -175,7 +172,7 @@ impl Notes {
     }
 
     /// Notes a datagram of no transfer.
-    pub fn leave_out(&mut self, passing: &Passing<'_>) -> Result<(), AllocError> {
+    pub(crate) fn leave_out(&mut self, passing: &Passing<'_>) -> Result<(), AllocError> {
         let port = u64::from(passing.target.port);
         let is_request = matches!(passing.payload, [0, 1 | 2, _, ..]);
         if is_request && self.asked.len() < NAMED && !self.asked.contains(&port) {
@@ -185,45 +182,52 @@ impl Notes {
     }
 
     /// Whether datagrams of this host may be missing.
-    pub fn may_lack(&self, host: Address) -> bool {
+    pub(crate) fn may_lack(&self, host: Address) -> bool {
         self.fault.is_some() || self.losses.of(host).is_some()
     }
 
-    /// Tells what there is to tell; whether the recording was read to its end and nothing is missing.
-    pub fn tell(&self, rt: HostRuntime, file: &str) -> Result<bool> {
-        self.copies.tell(rt, file, "left out as copies")?;
-        self.other_links.tell(rt, file, "of another link type")?;
-        self.of_none.tell(rt, file, "of UDP of no transfer")?;
-        self.backwards.tell(
-            rt,
-            file,
+    /// Whether the recording was read to its end and nothing is missing.
+    pub fn is_whole(&self) -> bool {
+        self.fault.is_none() && self.lost.count == 0
+    }
+
+    /// What there is to tell, a line each.
+    pub fn lines(&self, alloc: Global) -> Result<Vec<String>, AllocError> {
+        let mut lines = Vec::new(alloc);
+        let put = self.put_lines(alloc, &mut lines);
+        put?;
+        Ok(lines)
+    }
+
+    fn put_lines(&self, alloc: Global, lines: &mut Vec<String>) -> Result<(), AllocError> {
+        self.copies.put(alloc, lines, "left out as copies")?;
+        self.other_links.put(alloc, lines, "of another link type")?;
+        self.of_none.put(alloc, lines, "of UDP of no transfer")?;
+        self.backwards.put(
+            alloc,
+            lines,
             "older than the one before; reordercap puts them in order",
         )?;
-        self.lost.tell(
-            rt,
-            file,
+        self.lost.put(
+            alloc,
+            lines,
             "not there whole, so that datagrams may be missing",
         )?;
         if let Some(fault) = &self.fault {
-            eprintln!(rt;
-                "tftp-transfers: {file}: frame {}: {}",
-                fault.frame, fault.kind
-            )?;
+            let (frame, kind) = (fault.frame, fault.kind);
+            lines.push(format!(in alloc; "frame {frame}: {kind}")?)?;
         }
-        Ok(self.fault.is_none() && self.lost.count == 0)
+        Ok(())
     }
 
-    /// Tells at which ports something looks like a request, where no transfer was found.
-    pub fn tell_asked(&self, rt: HostRuntime, file: &str) -> Result<()> {
+    /// The ports at which something looks like a request, with a space before each; none where nothing does.
+    pub fn asked_ports(&self, alloc: Global) -> Result<Option<String>, AllocError> {
         if self.asked.is_empty() {
-            return Ok(());
+            return Ok(None);
         }
-        let mut ports = String::new(rt.alloc());
+        let mut ports = String::new(alloc);
         let put = put_numbers(&mut ports, self.asked.as_slice());
         put?;
-        eprintln!(rt;
-            "tftp-transfers: {file}: what looks like a request went to port{ports}: name the port by --service"
-        )?;
-        Ok(())
+        Ok(Some(ports))
     }
 }

@@ -1,0 +1,21 @@
+//! Texts are judged, of files or in memory.
+
+use crate::source::Whole;
+use std::alloc::Global;
+use std::io::Read;
+use tftp_capture::Tallied;
+use tftp_match::{PairSaid, judge_pair};
+
+/// A capture text: one that is read while it is judged, or one in memory.
+#[derive(Drop)]
+pub enum Held<R: Read + Drop> {
+    Stream(Whole<R>),
+    Bytes(Vec<u8>),
+}
+
+/// What there is to say of a text of the client and one of the server.
+pub fn said_of<R: Read + Drop, S: Read + Drop>(alloc: Global, client: R, server: S) -> PairSaid {
+    let mut client = Tallied::new(client);
+    let mut server = Tallied::new(server);
+    judge_pair(alloc, &mut client, &mut server)
+}

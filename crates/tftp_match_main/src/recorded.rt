@@ -1,0 +1,190 @@
+//! The transfers of recordings that are to be judged.
+
+use crate::candidates::Candidates;
+use crate::held::Held;
+use crate::source::Whole;
+use crate::told::{Named, tell_apart, tell_several, told};
+use anyhow::{Result, bail};
+use std::alloc::Global;
+use std::io::Read;
+use tftp_capture::{CaptureReader, Tallied};
+use tftp_packet::End;
+use tftp_session::{Asked, Session, TextAt, TextFault, requests_of};
+
+/// A recording at an end.
+#[derive(Clone, Copy)]
+pub struct Recorded<'a> {
+    pub named: Named<'a>,
+    pub end: End,
+    /// The transfer that is named.
+    pub number: Option<u64>,
+    pub session: &'a Session,
+}
+
+/// The transfer of a recording, and the text that is beside it.
+#[derive(Drop)]
+pub struct Taken<R: Read + Drop> {
+    pub number: u64,
+    /// Its text.
+    pub text: Vec<u8>,
+    pub held: Held<R>,
+}
+
+/// The transfers of two recordings.
+#[derive(Drop)]
+pub struct BothTaken {
+    pub client_number: u64,
+    pub client: Vec<u8>,
+    pub server_number: u64,
+    pub server: Vec<u8>,
+}
+
+/// The transfer of a recording that has the request of a text; none where that is not one, which is told.
+pub fn take_beside<R: Read + Drop>(
+    rt: HostRuntime,
+    recorded: &Recorded<'_>,
+    file: &str,
+    text: Whole<R>,
+) -> Result<Option<Taken<R>>> {
+    let own = recorded.named.file;
+    let Some(asked) = told(rt, own, recorded.asked(rt.alloc()))? else {
+        return Ok(None);
+    };
+    if let [sole] = asked.as_slice() {
+        return recorded.taken(rt, sole.number, Held::Stream(text));
+    }
+    let Some(bytes) = told(rt, file, read_out(rt.alloc(), text))? else {
+        return Ok(None);
+    };
+    let Some(payload) = told(rt, file, first_payload(rt.alloc(), bytes.as_slice()))? else {
+        return Ok(None);
+    };
+    let other = Asked {
+        number: 1,
+        payload: payload.as_slice(),
+    };
+    let others: [Asked<'_>; 1] = [other];
+    let found = Candidates::of(rt.alloc(), asked.as_slice(), &others)?;
+    match found.clients.as_slice() {
+        [number] => recorded.taken(rt, *number, Held::Bytes(bytes)),
+        numbers => {
+            recorded.tell(rt, file, numbers)?;
+            Ok(None)
+        }
+    }
+}
+
+/// All that a reader gives.
+fn read_out<R: Read + Drop>(alloc: Global, mut reader: R) -> Result<Vec<u8>> {
+    let mut bytes = Vec::new(alloc);
+    reader.read_to_end(&mut bytes)?;
+    Ok(bytes)
+}
+
+/// The payload of the first datagram of a text; without one an empty one.
+fn first_payload(alloc: Global, text: &[u8]) -> Result<Vec<u8>> {
+    let mut reader = Tallied::new(text);
+    let mut capture = CaptureReader::begin(alloc, &mut reader)?;
+    match capture.next(alloc, &mut reader)? {
+        Some(datagram) => Ok(Vec::from_slice(alloc, datagram.payload.as_slice())?),
+        None => Ok(Vec::new(alloc)),
+    }
+}
+
+/// The transfers of two recordings that have the same request; none where they are not one of each, which is told.
+pub fn take_both(
+    rt: HostRuntime,
+    client: &Recorded<'_>,
+    server: &Recorded<'_>,
+) -> Result<Option<BothTaken>> {
+    let Some(clients) = told(rt, client.named.file, client.asked(rt.alloc()))? else {
+        return Ok(None);
+    };
+    let Some(servers) = told(rt, server.named.file, server.asked(rt.alloc()))? else {
+        return Ok(None);
+    };
+    let found = Candidates::of(rt.alloc(), clients.as_slice(), servers.as_slice())?;
+    match (found.clients.as_slice(), found.servers.as_slice()) {
+        ([one], [other]) => both_texts(rt, client, *one, server, *other),
+        (clients, servers) => {
+            client.tell(rt, server.named.file, clients)?;
+            if !clients.is_empty() {
+                server.tell(rt, client.named.file, servers)?;
+            }
+            Ok(None)
+        }
+    }
+}
+
+fn both_texts(
+    rt: HostRuntime,
+    client: &Recorded<'_>,
+    client_number: u64,
+    server: &Recorded<'_>,
+    server_number: u64,
+) -> Result<Option<BothTaken>> {
+    let text = client.text(rt.alloc(), client_number);
+    let Some(client) = told(rt, client.named.file, text)? else {
+        return Ok(None);
+    };
+    let text = server.text(rt.alloc(), server_number);
+    let Some(server) = told(rt, server.named.file, text)? else {
+        return Ok(None);
+    };
+    Ok(Some(BothTaken {
+        client_number,
+        client,
+        server_number,
+        server,
+    }))
+}
+
+impl<'a> Recorded<'a> {
+    /// The requests of its transfers; where one is named, of that.
+    fn asked(&self, alloc: Global) -> Result<Vec<Asked<'a>>> {
+        let asked = requests_of(alloc, self.session)?;
+        let Some(number) = self.number else {
+            return Ok(asked);
+        };
+        let place = usize::try_from(number.saturating_sub(1)).unwrap_or(usize::MAX);
+        match asked.get(place) {
+            Some(one) => Ok(vec![in alloc; *one]?),
+            None => bail!("{}", TextFault::NoTransfer(number, asked.len())),
+        }
+    }
+
+    /// A transfer, and the text beside it; none where it has no text, which is told.
+    fn taken<R: Read + Drop>(
+        &self,
+        rt: HostRuntime,
+        number: u64,
+        held: Held<R>,
+    ) -> Result<Option<Taken<R>>> {
+        match told(rt, self.named.file, self.text(rt.alloc(), number))? {
+            Some(text) => Ok(Some(Taken { number, text, held })),
+            None => Ok(None),
+        }
+    }
+
+    /// The text of a transfer at the recording's end.
+    fn text(&self, alloc: Global, number: u64) -> Result<Vec<u8>> {
+        let found = TextAt::find(alloc, self.session, number, self.end, self.named.file)?;
+        let mut written = Tallied::new(Vec::new(alloc));
+        match found
+            .text
+            .write(alloc, &mut written, self.end, &found.heading)
+        {
+            Ok(()) => Ok(written.into_inner()),
+            Err(_) => bail!("no memory"),
+        }
+    }
+
+    /// Tells that no transfer, or which ones, have the request of the other capture. That there is none at all was told.
+    fn tell(&self, rt: HostRuntime, other: &str, numbers: &[u64]) -> Result<()> {
+        match numbers {
+            [] if self.session.count() == 0 => Ok(()),
+            [] => tell_apart(rt, self.named.file, other),
+            numbers => tell_several(rt, self.named, other, numbers),
+        }
+    }
+}

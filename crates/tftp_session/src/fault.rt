@@ -1,0 +1,42 @@
+//! Why a recording is not read, or a text not written.
+
+use std::alloc::AllocError;
+use tftp_pcap::FaultKind;
+use thiserror::Error;
+
+/// Why a recording is not read.
+#[derive(Debug, Drop, Error)]
+pub enum ReadFault {
+    /// It is none; what it is instead, where its first bytes tell that.
+    #[error("no recording{0}")]
+    NoRecording(&'static str),
+    /// It does not begin as a recording that is read here.
+    #[error("{0}")]
+    Format(FaultKind),
+    /// Memory was refused.
+    #[error("no memory")]
+    Memory,
+    /// It has more datagrams than can be counted.
+    #[error("too many datagrams")]
+    TooMany,
+    /// Memory was refused for what is kept of it.
+    #[error(transparent)]
+    Alloc(#[from(alloc)] AllocError),
+}
+
+/// Why there is no text of a transfer.
+#[derive(Debug, Drop, Error)]
+pub enum TextFault {
+    /// There is no transfer with this number among so many.
+    #[error("there is no transfer {0}: the recording has 1 to {1}")]
+    NoTransfer(u64, usize),
+    /// Datagrams of its client may be missing.
+    #[error("nothing is written, since the recording is not whole")]
+    NotWhole,
+    /// No comment is as long as the file's name.
+    #[error("the file's name is too long for a text")]
+    LongName,
+    /// Memory was refused.
+    #[error(transparent)]
+    Alloc(#[from(alloc)] AllocError),
+}

@@ -1,0 +1,81 @@
+//! Recordings are read.
+
+use crate::fault::ReadFault;
+use crate::headed::{Headed, hint};
+use crate::session::Session;
+use std::alloc::{AllocError, Global};
+use std::io::Read;
+use tftp_capture::Tallied;
+use tftp_pcap::{FaultKind, PcapFault};
+use tftp_recording::{Event, RecordingReader};
+
+/// A recording that is being read.
+#[derive(Drop)]
+pub struct Opened<R: Read + Drop> {
+    reader: Tallied<Headed<R>>,
+    recording: RecordingReader,
+    event: Event,
+}
+
+impl<R: Read + Drop> Opened<R> {
+    /// Reads the file's beginning.
+    pub fn begin(alloc: Global, reader: R) -> Result<Self, ReadFault> {
+        let mut reader = Tallied::new(Headed::new(reader));
+        match RecordingReader::begin(alloc, &mut reader) {
+            Ok(recording) => Ok(Opened {
+                reader,
+                recording,
+                event: Event::empty(alloc),
+            }),
+            Err(fault) => Err(refused(&fault, reader.into_inner())),
+        }
+    }
+
+    /// Reads the next frame; whether the recording goes on.
+    pub fn next(&mut self, alloc: Global, session: &mut Session) -> Result<bool, ReadFault> {
+        session.next(
+            alloc,
+            &mut self.reader,
+            &mut self.recording,
+            &mut self.event,
+        )
+    }
+
+    /// Reads no further: the fragments that still wait belong to nothing.
+    pub fn close(self, session: &mut Session) -> Result<(), AllocError> {
+        session.notes.lose_all(self.recording.into_waiting())
+    }
+}
+
+/// Why a file is no recording.
+fn refused<R: Drop>(fault: &PcapFault, file: Headed<R>) -> ReadFault {
+    match fault.kind {
+        FaultKind::NotARecording => ReadFault::NoRecording(hint(file.head())),
+        kind => ReadFault::Format(kind),
+    }
+}
+
+/// Reads a recording to its end.
+pub fn read_whole<R: Read + Drop>(
+    alloc: Global,
+    reader: R,
+    session: &mut Session,
+) -> Result<(), ReadFault> {
+    let mut opened = Opened::begin(alloc, reader)?;
+    let read = read_frames(alloc, &mut opened, session);
+    opened.close(session)?;
+    read
+}
+
+fn read_frames<R: Read + Drop>(
+    alloc: Global,
+    opened: &mut Opened<R>,
+    session: &mut Session,
+) -> Result<(), ReadFault> {
+    for _ in 0..u64::MAX {
+        if !opened.next(alloc, session)? {
+            return Ok(());
+        }
+    }
+    Ok(())
+}
