@@ -23,6 +23,7 @@ from typing import Any
 
 sys.dont_write_bytecode = True
 
+from both import counts_of  # noqa: E402
 from captures import Capture, EndName, Packet, ack, blocks, data, error, oack, read_request, write_request  # noqa: E402
 from fuzzing.meanings import Spelling, meaning_of  # noqa: E402
 from fuzzing.transfers import ENDS, Step, Transfer  # noqa: E402
@@ -32,7 +33,13 @@ from recorded import Datagram, pcap  # noqa: E402
 from trial import Trial  # noqa: E402
 
 READ = "accepted get octet blocks 1 bytes 2"
-MATCHED = "matched"
+
+
+def matched(lost: int = 0, repeated: int = 0) -> str:
+    return f"matched lost {lost} repeated {repeated}"
+
+
+MATCHED = matched()
 
 
 def unmatched(client: int | str, server: int | str) -> str:
@@ -181,8 +188,8 @@ def rows(trial: MatchTrial) -> None:
     worked = read_of_two_bytes().texts()
     trial.row("worked", worked, [READ, READ, MATCHED], 0)
     trial.row("last byte changed", read_of_two_bytes(b"hj").texts(), [READ, READ, unmatched("2 unsent", "3 waits")], 1)
-    trial.row("a block lost", repeated(2, 1).texts(), [READ, READ, MATCHED], 0)
-    trial.row("a block repeated", repeated(1, 2).texts(), [READ, READ, MATCHED], 0)
+    trial.row("a block lost", repeated(2, 1).texts(), [READ, READ, matched(lost=1)], 0)
+    trial.row("a block repeated", repeated(1, 2).texts(), [READ, READ, matched(repeated=1)], 0)
     trial.row("strays", strayed().texts(), [READ, READ, MATCHED], 0)
     whole = "accepted get octet blocks 6 bytes 40"
     trial.row("windows", windowed().texts(), [whole, whole, MATCHED], 0)
@@ -285,8 +292,9 @@ def several(trial: MatchTrial) -> None:
         ("b none --transfer 0", ("--transfer",)), ("b b --transfer x", ("--transfer",)),
     )
     for words, told in refused:
-        got = trial.said_of(words)
-        trial.check(words, not got[0] and all(it in got[1] for it in told) and got[2] == 2, got)
+        lines, errors, status = trial.said_of(words)
+        holds = not lines and all(it in errors for it in told) and status == 2
+        trial.check(words, holds, (lines, errors, status))
 
 
 def in_json(trial: MatchTrial) -> None:
@@ -311,7 +319,7 @@ def third_of(told: dict[str, Any]) -> str:
     """The third line, of what is told in JSON."""
     together = told["together"]
     if together["matched"]:
-        return MATCHED
+        return matched(together["lost"], together["repeated"])
     numbers = [(together[f"{end}_datagram"] or "-", together[f"{end}_why"]) for end in ENDS]
     return unmatched(*(f"{number} {why}" if why else number for number, why in numbers))
 
@@ -346,11 +354,12 @@ def failing(trial: MatchTrial, shim: str) -> None:
             done = subprocess.run(command, input=texts[0], capture_output=True, env=setting, timeout=60, check=False)
             lines = done.stdout.decode().splitlines()
             is_whole = done.returncode == 0 and lines == [READ, READ, MATCHED]
+            is_uncounted = done.returncode == 0 and lines == [READ, READ, "matched"] and turn == "REFUSE"
             if not met.exists():
                 trial.check(f"{turn} {number}", is_whole and number > 1, done)
                 break
             holds = done.returncode == 2 and all(line.fullmatch(it) for it in lines) and len(lines) in (0, 2)
-            trial.check(f"{turn} {number}", is_whole or holds, done)
+            trial.check(f"{turn} {number}", is_whole or is_uncounted or holds, done)
 
 
 def merged(ends: tuple[list[Step | None], list[Step | None]]) -> tuple[int, int]:
@@ -372,7 +381,7 @@ def third(steps: tuple[list[Step | None], list[Step | None]]) -> str:
     """The line of two lawful captures with these steps."""
     at = merged(steps)
     if all(count == len(own) for count, own in zip(at, steps)):
-        return MATCHED
+        return matched(*counts_of(steps))
     client, server = (
         f"{count + 1} {why(own[count], other)}" if count < len(own) else "-"
         for count, own, other in zip(at, steps, steps[::-1])
@@ -418,11 +427,11 @@ def simulated(trial: MatchTrial, seed: int) -> None:
         return "\n".join((*output[2:], errors)), status
 
     got = said((client.capture.spelled(chance), server.capture.spelled(chance)))
-    trial.check(f"both ends of {seed}", got == (f"{MATCHED}\n", 0), got)
+    trial.check(f"both ends of {seed}", got == (f"{third((client.steps, server.steps))}\n", 0), got)
     counts = [chance.randrange(len(view.steps) + 1) for view in (client, server)]
     wanted = third((client.steps[: counts[0]], server.steps[: counts[1]]))
     got = said((client.capture.text(counts[0]), server.capture.text(counts[1])))
-    trial.check(f"{seed} cut to {counts}", got == (f"{wanted}\n", 0 if wanted == MATCHED else 1), (got, wanted))
+    trial.check(f"{seed} cut to {counts}", got == (f"{wanted}\n", int(not wanted.startswith("matched"))), (got, wanted))
     texts = [client.capture.text(), server.capture.text()]
     which = chance.randrange(2)
     texts[which] = changed(chance, (client, server)[which])
