@@ -23,7 +23,6 @@ from trial import Trial
 SCRIPTS, EXAMPLES = ("tftp-explain", "tftp-ladder", "tftp-report"), TOP / "examples"
 # The pages that show commands with what they print.
 SHOWING = ("README.md", "docs/VERDICTS.md", "docs/RECORDING.md", "docs/PAIRS.md")
-MATCH = TOP / "crates" / "tftp_match_main" / "out" / "tftp_match_main"
 NAMED = re.compile(r"`((?:docs|tools|tests|examples)/[A-Za-z0-9_./-]+)`")
 # The programs of which docs/LIBRARIES.md shows code, and a section of that page: its program, and what stands below.
 CALLERS = ("example_judge", "example_recording", "example_normalise")
@@ -206,11 +205,11 @@ def shown(page: str) -> Iterator[tuple[str, str]]:
             yield first + "".join(line[2:] for line in further), "".join(lines[len(further) :])
 
 
-def try_shown(trial: Trial, program: str, transfers: str) -> None:
+def try_shown(trial: Trial, program: str, transfers: str, match: str) -> None:
     """Each command that a page shows writes what stands below it, in a folder with the programs in their places."""
     with tempfile.TemporaryDirectory() as name:
         folder = pathlib.Path(name)
-        programs = ("tftp-audit", program), ("tftp-transfers", transfers), ("tftp-match", str(MATCH))
+        programs = ("tftp-audit", program), ("tftp-transfers", transfers), ("tftp-match", match)
         for place, stands in (*programs, ("examples", str(EXAMPLES))):
             (folder / place).symlink_to(stands)
         # the scripts look for the programs in the folder above their own
@@ -233,8 +232,8 @@ def main(program: str, transfers: str, match: str) -> int:
     sources = Sources()
     for of_sources in (try_laws, try_proof, try_libraries):
         of_sources(trial, sources)
-    for of_programs in (try_picture, try_shown):
-        of_programs(trial, program, transfers)
+    try_picture(trial, program, transfers)
+    try_shown(trial, program, transfers, match)
     return trial.end()
 
 
