@@ -1,8 +1,12 @@
 -- How often each packet of a transfer passed at an end, and how many copies the network lost and made between two ends
 -- (RFC 1350, section 2). Lists have the newest datagram first.
-use Rattle.std.specs.Prelude.{◌≡◌, ◌+◌, ◌*◌, ◌-◌, ◌==◌, ◌&&◌, ℕ, zero, suc, Bool, List, [], ◌∷◌, if◌then◌else◌, slice_index_or, Option, Some, None}
+use Rattle.std.specs.Prelude.{◌≡◌, ◌≢◌, ◌⊎◌, ◌≤◌, ◌+◌, ◌*◌, ◌^◌, ◌-◌, ◌==◌, ◌&&◌, ℕ, zero, suc, Bool, List, [], ◌∷◌, if◌then◌else◌, length, slice_index_or, Option, Some, None}
+use Rattle.tftp_packet.specs.declared.kinds.Dir.{Dir}
+use Rattle.tftp_packet.specs.declared.kinds.Dir.TheVariants.{In, Out}
 use Rattle.tftp_ends.specs.CaptureText.{Datagram}
 use Rattle.tftp_ends.specs.Ports.{comes_in, goes_out}
+use Rattle.tftp_counts.specs.declared.packets.CountedPacket.{CountedPacket}
+use Rattle.tftp_counts.specs.declared.packets.CountedPacket.TheVariants.{Opening, Error, Data, Ack}
 
 -- Which packet a payload is a copy of, as a number: a DATA and an ACK each by its block, an ERROR, or a request or an OACK.
 -- (Of the last three an end that breaks no rule sends one in a transfer.)
@@ -10,6 +14,13 @@ abbrev pub packet_of : List ℕ → ℕ
 packet_of payload = by (slice_index_or payload 1 0) (slice_index_or payload 2 0 * 256 + slice_index_or payload 3 0) where
   by : ℕ → ℕ → ℕ
   by opcode block = if opcode == 3 then 4 * block + 1 else if opcode == 4 then 4 * block + 2 else if opcode == 5 then 3 else 0
+
+-- the number of a packet that is named
+abbrev pub number_of : CountedPacket → ℕ
+number_of Opening = 0
+number_of Error = 3
+number_of (Data block) = 4 * block + 1
+number_of (Ack block) = 4 * block + 2
 
 -- above all of these numbers
 abbrev pub packets : ℕ
@@ -67,7 +78,16 @@ Counted = List ℕ × List ℕ
 abbrev pub IsCountOf : Counted → List Datagram → Type 0
 IsCountOf c passed = (packet : ℕ) → (slice_index_or c.0 packet 0 ≡ sent packet passed) × (slice_index_or c.1 packet 0 ≡ taken packet passed)
 
--- the same where it is still counted
+-- the same where it is still counted: only what has passed takes memory
 abbrev pub AreCounted : Option Counted → List Datagram → Type 0
-AreCounted None passed = Unit {0}
+AreCounted None passed = passed ≢ []
 AreCounted (Some c) passed = IsCountOf c passed
+
+-- what is counted of the datagrams that go so
+abbrev pub counts_of : Dir → Counted → List ℕ
+counts_of Out c = c.0
+counts_of In c = c.1
+
+-- The packet has no place yet, so that memory is taken for it; or it has passed 2^64 - 1 times.
+abbrev pub TakesRoom : List ℕ → ℕ → Type 0
+TakesRoom counts packet = (length counts ≤ packet) ⊎ (2 ^ 64 ≤ slice_index_or counts packet 0 + 1)

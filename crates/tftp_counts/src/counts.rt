@@ -1,14 +1,12 @@
-ghost use Rattle.std.specs.Prelude.{◌≡◌, ◌<◌, List, [], ◌∷◌, IfSome, slice_index_or};
+ghost use Rattle.std.specs.Prelude.{◌≡◌, ◌<◌, List, [], ◌∷◌, Some, IfNone, slice_index_or};
 ghost use Rattle.tftp_ends.specs.CaptureText.{Datagram};
-ghost use Rattle.tftp_counts.specs.Counts.{AreCounted, AreLost, AreLostBetween, AreRepeated, AreRepeatedBetween, IsCountOf, packet_of as packet_number};
+ghost use Rattle.tftp_counts.specs.Counts.{AreCounted, Counted, IsCountOf, TakesRoom, counts_of, number_of, packet_of as packet_number, sent, taken};
 
+use crate::packets::CountedPacket;
 use crate::table::Table;
 use std::alloc::Global;
 use std::marker::Model;
 use tftp_packet::Dir;
-
-/// How many numbers of packets there are: four for each block (RFC 1350, section 5).
-const PACKETS: usize = 262_144;
 
 /// How often each packet of a transfer went out at an end, and how often it came in.
 #[derive(Debug, Drop)]
@@ -36,11 +34,44 @@ impl Counts {
         }
     }
 
-    /// Counts a datagram of the transfer, the next one that passes. None where nothing was counted any more, or memory is
-    /// wanting.
+    /// How many copies of a packet went out.
+    #[inline]
+    pub fn sent(&self, packet: CountedPacket) -> u64
+        ensures { (passed : List Datagram) → IsCountOf self.now passed → result ≡ sent (number_of packet) passed }
+    {
+        self.sent.at(packet.number())
+    }
+
+    /// How many copies of a packet came in.
+    #[inline]
+    pub fn taken(&self, packet: CountedPacket) -> u64
+        ensures { (passed : List Datagram) → IsCountOf self.now passed → result ≡ taken (number_of packet) passed }
+    {
+        self.taken.at(packet.number())
+    }
+
+    /// How many copies of the packet with a number went out.
+    #[inline]
+    pub(crate) fn sent_of(&self, packet: usize) -> u64
+        ensures { result ≡ slice_index_or self.now.0 packet 0 }
+    {
+        self.sent.at(packet)
+    }
+
+    /// How many copies of it came in.
+    #[inline]
+    pub(crate) fn taken_of(&self, packet: usize) -> u64
+        ensures { result ≡ slice_index_or self.now.1 packet 0 }
+    {
+        self.taken.at(packet)
+    }
+
+    /// Counts a datagram of the transfer, the next one that passes. None where nothing was counted any more, memory is
+    /// wanting, or the packet passed 2^64 times.
     pub fn note(counts: Option<Self>, dir: Dir, payload: &[u8]) -> Option<Self>
-        ensures { (passed : List Datagram) (d : Datagram) → d.dir ≡ dir → d.payload ≡ payload.now → AreCounted counts passed
+        ensures counted { (passed : List Datagram) (d : Datagram) → d.dir ≡ dir → d.payload ≡ payload.now → AreCounted counts passed
             → AreCounted result (d ∷ passed) }
+        ensures wanting { (c : Counted) → counts ≡ Some c → IfNone result (TakesRoom (counts_of dir c) (packet_number payload.now)) }
     {
         let mut counts = counts?;
         let packet = packet_of(payload);
@@ -50,56 +81,6 @@ impl Counts {
         }
         Some(counts)
     }
-}
-
-/// What the network between two ends did, both ways, at the least.
-#[derive(Clone, Copy, Debug, PartialEq, Eq)]
-pub struct Carried {
-    /// How many copies of what one end sent did not come to the other.
-    pub lost: u64,
-    /// How many copies came that no end had sent.
-    pub repeated: u64,
-}
-
-impl Carried {
-    /// What the network did between two ends, of which this has passed. None where a number is 2^64 or more.
-    pub fn between(one: &Counts, other: &Counts) -> Option<Carried>
-        ensures lost { IfSome result (λ carried. (sent received : List Datagram) → IsCountOf one.now sent → IsCountOf other.now received
-            → AreLostBetween sent received carried.lost) }
-        ensures repeated { IfSome result (λ carried. (sent received : List Datagram) → IsCountOf one.now sent → IsCountOf other.now received
-            → AreRepeatedBetween sent received carried.repeated) }
-    {
-        Some(Carried {
-            lost: lost(one, other)?.checked_add(lost(other, one)?)?,
-            repeated: repeated(one, other)?.checked_add(repeated(other, one)?)?,
-        })
-    }
-}
-
-/// At least how many copies of what the one end sent did not come to the other. None where they are 2^64 or more.
-fn lost(from: &Counts, to: &Counts) -> Option<u64>
-    ensures { IfSome result (λ count. (sender receiver : List Datagram) → IsCountOf from.now sender → IsCountOf to.now receiver
-        → AreLost sender receiver count) }
-{
-    let mut count: u64 = 0;
-    for packet in 0..PACKETS {
-        let missing = from.sent.at(packet).saturating_sub(to.taken.at(packet));
-        count = count.checked_add(missing)?;
-    }
-    Some(count)
-}
-
-/// At least how many copies of what the one end sent were made on the way to the other. None where they are 2^64 or more.
-fn repeated(from: &Counts, to: &Counts) -> Option<u64>
-    ensures { IfSome result (λ count. (sender receiver : List Datagram) → IsCountOf from.now sender → IsCountOf to.now receiver
-        → AreRepeated sender receiver count) }
-{
-    let mut count: u64 = 0;
-    for packet in 0..PACKETS {
-        let surplus = to.taken.at(packet).saturating_sub(from.sent.at(packet));
-        count = count.checked_add(surplus)?;
-    }
-    Some(count)
 }
 
 /// The number of the packet that a payload is a copy of.

@@ -1,4 +1,5 @@
-ghost use Rattle.std.specs.Prelude.{◌≡◌, ◌+◌, ◌<◌, ◌==◌, ℕ, [], if◌then◌else◌, length, slice_index_or, OnOk, OnSome};
+ghost use Rattle.std.specs.Prelude.{◌≡◌, ◌+◌, ◌<◌, ◌≤◌, ◌==◌, ℕ, [], if◌then◌else◌, length, slice_index_or, IfErr, IfNone, OnOk, OnSome};
+ghost use Rattle.tftp_counts.specs.Counts.{TakesRoom};
 
 use std::alloc::{AllocError, Global};
 use std::marker::Model;
@@ -41,7 +42,8 @@ impl Table {
     /// Counts a packet once more. None where memory is wanting, or where it passed 2^64 times; then the table is of no use.
     pub fn note(&mut self, packet: usize) -> Option<()>
         requires { packet < 262144 }
-        ensures { OnSome result ((other : ℕ) → slice_index_or self.new other 0 ≡ slice_index_or self.old other 0 + (if packet == other then 1 else 0)) }
+        ensures counted { OnSome result ((other : ℕ) → slice_index_or self.new other 0 ≡ slice_index_or self.old other 0 + (if packet == other then 1 else 0)) }
+        ensures wanting { IfNone result (TakesRoom self.old packet) }
     {
         self.reach(packet).ok()?;
         let count = self.at(packet).checked_add(1)?;
@@ -54,6 +56,7 @@ impl Table {
         requires { packet < 262144 }
         ensures same { OnOk result ((other : ℕ) → slice_index_or self.new other 0 ≡ slice_index_or self.old other 0) }
         ensures reached { OnOk result (packet < length self.new) }
+        ensures wanting { IfErr result (λ _. length self.old ≤ packet) }
     {
         if self.counts.len() <= packet {
             self.counts.resize(packet + 1, 0)?;

@@ -1,7 +1,7 @@
 use Rattle.std.proofs.Common.{◌≡◌, List}
 use Rattle.tftp_ends.specs.CaptureText.{Datagram}
 use Rattle.tftp_counts.specs.Counts.{IsCountOf, lost_below}
-use Rattle.tftp_counts.proofs.counts.lost.Given as goal
+use Rattle.tftp_counts.proofs.carried.lost.Given as goal
 
 -- what is counted of the packets with a lower number
 abbrev pub invariant-loop-packet : goal.invariant-loop-packet

@@ -1,7 +1,7 @@
 use Rattle.std.proofs.Common.{◌≡◌, List}
 use Rattle.tftp_ends.specs.CaptureText.{Datagram}
 use Rattle.tftp_counts.specs.Counts.{IsCountOf, repeated_below}
-use Rattle.tftp_counts.proofs.counts.repeated.Given as goal
+use Rattle.tftp_counts.proofs.carried.repeated.Given as goal
 
 -- what is counted of the packets with a lower number
 abbrev pub invariant-loop-packet : goal.invariant-loop-packet
