@@ -71,6 +71,10 @@ pub record AreRepeatedBetween (one other : List Datagram) (count : ℕ) : Type 0
   pub repeated_back : AreRepeated other one back
   pub sum : count ≡ there + back
 
+-- More copies were lost, or made, than fit 64 bits.
+abbrev pub AreTooMany : List Datagram → List Datagram → Type 0
+AreTooMany one other = (lost repeated : ℕ) → AreLostBetween one other lost → AreRepeatedBetween one other repeated → (2 ^ 64 ≤ lost) ⊎ (2 ^ 64 ≤ repeated)
+
 -- What is counted at an end, by the packets' numbers: how often each went out, and how often it came in.
 abbrev pub Counted : Type 0
 Counted = List ℕ × List ℕ

@@ -1,6 +1,6 @@
 ghost use Rattle.std.specs.Prelude.{◌≡◌, ◌≤◌, ◌⊎◌, ◌^◌, ℕ, List, IfSome, IfNone};
 ghost use Rattle.tftp_ends.specs.CaptureText.{Datagram};
-ghost use Rattle.tftp_counts.specs.Counts.{AreLost, AreLostBetween, AreRepeated, AreRepeatedBetween, IsCountOf};
+ghost use Rattle.tftp_counts.specs.Counts.{AreLost, AreLostBetween, AreRepeated, AreRepeatedBetween, AreTooMany, IsCountOf};
 
 use crate::counts::Counts;
 
@@ -23,8 +23,7 @@ impl Carried {
             → AreLostBetween sent received carried.lost) }
         ensures repeated { IfSome result (λ carried. (sent received : List Datagram) → IsCountOf one.now sent → IsCountOf other.now received
             → AreRepeatedBetween sent received carried.repeated) }
-        ensures none { IfNone result ((sent received : List Datagram) (lost repeated : ℕ) → IsCountOf one.now sent → IsCountOf other.now received
-            → AreLostBetween sent received lost → AreRepeatedBetween sent received repeated → (2 ^ 64 ≤ lost) ⊎ (2 ^ 64 ≤ repeated)) }
+        ensures none { IfNone result ((sent received : List Datagram) → IsCountOf one.now sent → IsCountOf other.now received → AreTooMany sent received) }
     {
         Some(Carried {
             lost: lost(one, other)?.checked_add(lost(other, one)?)?,

@@ -1,5 +1,5 @@
 -- What is left of two captures.
-use Rattle.std.proofs.Common.{◌≡◌, ◌∷◌, true, List, [], length, Option, None, refl, sym, subst, ap, ◌∙◌}
+use Rattle.std.proofs.Common.{◌≡◌, ◌∷◌, true, List, [], length, Option, refl, sym, subst, ap, ◌∙◌}
 use Rattle.std.specs.Prelude.{is_some}
 use Rattle.std.proofs.lemmas.Bool.{false≢true}
 use Rattle.tftp_ends.specs.CaptureText.{Datagram, Header}

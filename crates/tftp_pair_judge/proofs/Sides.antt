@@ -1,5 +1,5 @@
 -- What is kept of one end stands for its datagrams.
-use Rattle.std.proofs.Common.{◌≡◌, ◌⊎◌, ◌↔◌, ◌||◌, ◌==◌, ℕ, Bool, true, false, IsTrue, List, ◌∷◌, Option, Some, None, Result, Ok, Err, inl, inr, refl, sym, subst, ap, ◌∙◌}
+use Rattle.std.proofs.Common.{◌≡◌, ◌⊎◌, ◌↔◌, ◌||◌, ◌==◌, ℕ, Bool, true, false, IsTrue, List, ◌∷◌, Option, Some, None, IfNone, IfSome, Result, Ok, Err, inl, inr, refl, sym, subst, ap, ◌∙◌}
 use Rattle.std.specs.Prelude.{IfErr, OnOk}
 use Rattle.std.proofs.lemmas.Bool.{eqb-true, eq-eqb}
 use Rattle.tftp_packet.specs.Message.{Message}
@@ -86,6 +86,14 @@ flags_after_main flags h read d is are = subst (AreFlags flags) (sym (main_some 
 
 pub side_of_judge : (s : Side) (h : Header) (read : List Datagram) → IsJudgeAfter s.judge h read → AreFlags (flags_of s.acks) (transfer_of h read) → AreCounted s.counts (transfer_of h read) → IsSideAfter s h read
 side_of_judge s h read j acks counted = record { goes_on = λ _. j; lawful = j.lawful; short = j.short; kept = j.has_kept.kept; fed = j.fed; acks = acks; counted = counted }
+
+pub none_map : {T : Type 0} {P Q : Type 0} (o : Option T) → (P → Q) → IfNone o P → IfNone o Q
+none_map None to is = to is
+none_map (Some x) to is = tt
+
+pub some_map : {T : Type 0} {P Q : T → Type 0} (o : Option T) → ((x : T) → P x → Q x) → IfSome o P → IfSome o Q
+some_map None to is = tt
+some_map (Some x) to is = to x is
 
 pub counted_after_main : (counts : Option Counted) (h : Header) (read : List Datagram) (d : Datagram) → is_of_transfer (route_of h read d) ≡ true → AreCounted counts (d ∷ transfer_of h read) → AreCounted counts (transfer_of h (d ∷ read))
 counted_after_main counts h read d is are = subst (AreCounted counts) (sym (main_some (is_of_transfer (route_of h read d)) d (transfer_of h read) is)) are

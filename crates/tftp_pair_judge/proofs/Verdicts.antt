@@ -1,5 +1,5 @@
 -- What is merged when neither capture goes on is what there is to say of the two.
-use Rattle.std.proofs.Common.{◌≡◌, ℕ, zero, suc, ◌+◌, ◌<◌, ◌≤◌, true, List, [], ◌∷◌, ◌++◌, length, take, get_or, Option, Some, None, inl, inr, refl, sym, subst, ap, ◌∙◌, arith}
+use Rattle.std.proofs.Common.{◌≡◌, ◌⊎◌, IfNone, ℕ, zero, suc, ◌+◌, ◌<◌, ◌≤◌, true, List, [], ◌∷◌, ◌++◌, length, take, get_or, Option, Some, None, inl, inr, refl, sym, subst, ap, ◌∙◌, arith}
 use Rattle.std.specs.Prelude.{reverse, IfSome}
 use Rattle.std.proofs.lemmas.Bool.{cases_lt}
 use Rattle.std.proofs.lemmas.List.{length-append, reverse-append}
@@ -18,9 +18,9 @@ use Rattle.tftp_pair.specs.Waiting.{IsSentAmong, IsSentLater, IsUnsent}
 use Rattle.tftp_pair_judge.specs.Merging.{WasSent, with_held, Waits, AreMergedBut, IsWaitFor}
 use Rattle.tftp_pair_judge.specs.Kept.{IsSideAfter, Side}
 use Rattle.tftp_pair_judge.specs.Rest.{IsLeftAfter, IsRestAfter, Left, Rest}
-use Rattle.tftp_counts.specs.Counts.{AreLostBetween, AreRepeatedBetween}
-use Rattle.tftp_counts.specs.declared.counts.Carried.{Carried}
-use Rattle.tftp_pair_judge.specs.Verdicts.{AreCarried, IsReadOf, GoesNoFurther, IsWhyWaiting}
+use Rattle.tftp_counts.specs.Counts.{AreCounted, AreLostBetween, AreRepeatedBetween, AreTooMany, Counted}
+use Rattle.tftp_counts.specs.declared.carried.Carried.{Carried}
+use Rattle.tftp_pair_judge.specs.Verdicts.{AreCarried, AreCountsOf, IsReadOf, GoesNoFurther, IsWhyWaiting}
 use Rattle.tftp_pair_judge.specs.declared.waiting.Wait.{Wait}
 use Rattle.tftp_pair_judge.specs.declared.waiting.Wait.TheVariants.{Unsent, SentLater}
 
@@ -244,19 +244,33 @@ module _ (own other : Capture) (n i k : ℕ) where
 
 -- ---- what the network did
 
+passed_by : (own : Capture) (s : Side) (read : List Datagram) → IsSideAfter s own.header read → IsReadOf own read → (n : ℕ) → n ≡ s.judge.fed
+    → transfer_of own.header read ≡ passed_in (begun n own)
+passed_by own s read after is n fed = ap (transfer_of own.header) (sym (subst (λ x. reverse (take x own.datagrams) ≡ read) (sym (fed ∙ after.fed)) is.is))
+
+pub counts_are : (own : Capture) (s : Side) (read : List Datagram) → IsSideAfter s own.header read → IsReadOf own read → (n : ℕ) → n ≡ s.judge.fed
+    → (counts : Option Counted) → counts ≡ s.counts → AreCountsOf own n counts
+counts_are own s read after of n fed counts is =
+    subst (AreCounted counts) (passed_by own s read after of n fed) (subst (λ (o : Option Counted). AreCounted o (transfer_of own.header read)) (sym is) after.counted)
+
 module _ (client server : Capture) (a b : Side) (read other_read : List Datagram) (mine : IsSideAfter a client.header read) (theirs : IsSideAfter b server.header other_read) (is : IsReadOf client read) (other_is : IsReadOf server other_read) where
   passed_is : (n : ℕ) → n ≡ a.judge.fed → transfer_of client.header read ≡ passed_in (begun n client)
-  passed_is n fed = ap (transfer_of client.header) (sym (subst (λ x. reverse (take x client.datagrams) ≡ read) (sym (fed ∙ mine.fed)) is.is))
+  passed_is = passed_by client a read mine is
 
   other_passed_is : (k : ℕ) → k ≡ b.judge.fed → transfer_of server.header other_read ≡ passed_in (begun k server)
-  other_passed_is k fed = ap (transfer_of server.header) (sym (subst (λ x. reverse (take x server.datagrams) ≡ other_read) (sym (fed ∙ theirs.fed)) other_is.is))
+  other_passed_is = passed_by server b other_read theirs other_is
 
-  pub carried_is : (n k : ℕ) → n ≡ a.judge.fed → k ≡ b.judge.fed → (o : Option Carried)
+  pub carried_is : (n k : ℕ) → n ≡ a.judge.fed → k ≡ b.judge.fed → (counts others : Option Counted) → counts ≡ a.counts → others ≡ b.counts → (o : Option Carried)
+      → IfNone o ((a.counts ≡ None) ⊎ (b.counts ≡ None) ⊎ ((h k : Header) (ds es : List Datagram) → IsSideAfter a h ds → IsSideAfter b k es → AreTooMany (transfer_of h ds) (transfer_of k es)))
       → IfSome o (λ (c : Carried). (h k : Header) (ds es : List Datagram) → IsSideAfter a h ds → IsSideAfter b k es → AreLostBetween (transfer_of h ds) (transfer_of k es) c.lost)
       → IfSome o (λ (c : Carried). (h k : Header) (ds es : List Datagram) → IsSideAfter a h ds → IsSideAfter b k es → AreRepeatedBetween (transfer_of h ds) (transfer_of k es) c.repeated)
-      → AreCarried client n server k o
-  carried_is n k fed other_fed None lost repeated = tt
-  carried_is n k fed other_fed (Some c) lost repeated =
+      → AreCarried client n counts server k others o
+  carried_is n k fed other_fed counts others same other_same None (inl none) lost repeated = inl (same ∙ none)
+  carried_is n k fed other_fed counts others same other_same None (inr (inl none)) lost repeated = inr (inl (other_same ∙ none))
+  carried_is n k fed other_fed counts others same other_same None (inr (inr many)) lost repeated =
+      inr (inr (subst (λ (ds : List Datagram). AreTooMany ds (passed_in (begun k server))) (passed_is n fed)
+      (subst (λ (es : List Datagram). AreTooMany (transfer_of client.header read) es) (other_passed_is k other_fed) (many client.header server.header read other_read mine theirs))))
+  carried_is n k fed other_fed counts others same other_same (Some c) none lost repeated =
       let x = passed_is n fed in
       let y = other_passed_is k other_fed in (
         subst (λ (ds : List Datagram). AreLostBetween ds (passed_in (begun k server)) c.lost) x

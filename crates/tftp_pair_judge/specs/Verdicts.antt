@@ -1,12 +1,12 @@
 -- What was read of a capture, and when no more of it is to come.
-use Rattle.std.specs.Prelude.{◌≡◌, ◌≤◌, ℕ, List, length, take, reverse, Option, Some, None}
+use Rattle.std.specs.Prelude.{◌≡◌, ◌≤◌, ◌⊎◌, ℕ, List, length, take, reverse, Option, Some, None}
 use Rattle.tftp_ends.specs.CaptureText.{Datagram}
 use Rattle.tftp_pair.specs.Captures.{Capture}
 use Rattle.tftp_pair.specs.Waiting.{IsSentLater, IsUnsent}
 use Rattle.tftp_pair.specs.MatchedCaptures.{begun}
 use Rattle.tftp_pair.specs.Messages.{passed_in}
-use Rattle.tftp_counts.specs.Counts.{AreLostBetween, AreRepeatedBetween}
-use Rattle.tftp_counts.specs.declared.counts.Carried.{Carried}
+use Rattle.tftp_counts.specs.Counts.{AreCounted, AreLostBetween, AreRepeatedBetween, AreTooMany, Counted}
+use Rattle.tftp_counts.specs.declared.carried.Carried.{Carried}
 use Rattle.tftp_pair_judge.specs.declared.waiting.Wait.{Wait}
 use Rattle.tftp_pair_judge.specs.declared.waiting.Wait.TheVariants.{Unsent, SentLater}
 
@@ -26,9 +26,13 @@ IsWhyWaiting own n i other k None = i ≡ n
 IsWhyWaiting own n i other k (Some Unsent) = IsUnsent own n i other k
 IsWhyWaiting own n i other k (Some SentLater) = IsSentLater own n i other k
 
--- what the network lost and repeated between the first n datagrams of the one capture and the first k of the other, where that
--- was counted
-abbrev pub AreCarried : Capture → ℕ → Capture → ℕ → Option Carried → Type 0
-AreCarried client n server k None = Unit {0}
-AreCarried client n server k (Some c) =
+-- how often each packet passed among the first n datagrams of a capture, while there was memory to count it
+abbrev pub AreCountsOf : Capture → ℕ → Option Counted → Type 0
+AreCountsOf c n counts = AreCounted counts (passed_in (begun n c))
+
+-- What the network lost and repeated between the first n datagrams of the one capture and the first k of the other. It is not
+-- told only where one of the two is not counted, or it is more than fits 64 bits.
+abbrev pub AreCarried : Capture → ℕ → Option Counted → Capture → ℕ → Option Counted → Option Carried → Type 0
+AreCarried client n counts server k others None = (counts ≡ None) ⊎ (others ≡ None) ⊎ AreTooMany (passed_in (begun n client)) (passed_in (begun k server))
+AreCarried client n counts server k others (Some c) =
     AreLostBetween (passed_in (begun n client)) (passed_in (begun k server)) c.lost × AreRepeatedBetween (passed_in (begun n client)) (passed_in (begun k server)) c.repeated

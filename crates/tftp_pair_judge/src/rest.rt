@@ -13,14 +13,14 @@ ghost use Rattle.tftp_pair.specs.PairVerdict.{IsLawfulTo, IsPairVerdict};
 ghost use Rattle.tftp_pair_judge.specs.Merging.{IsWaitFor, with_held};
 ghost use Rattle.tftp_pair_judge.specs.Kept.{IsSideAfter};
 ghost use Rattle.tftp_pair_judge.specs.Rest.{IsLeftAfter, IsRestAfter, left_at};
-ghost use Rattle.tftp_pair_judge.specs.Verdicts.{AreCarried, IsReadOf, IsWhyWaiting};
+ghost use Rattle.tftp_pair_judge.specs.Verdicts.{AreCarried, AreCountsOf, IsReadOf, IsWhyWaiting};
 
 use crate::side::Side;
 use crate::waiting::Wait;
 use std::alloc::Global;
 use std::marker::Model;
 use tftp_capture::Datagram;
-use tftp_counts::Carried;
+use tftp_counts::{Carried, Counts};
 use tftp_ends::Delivered;
 use tftp_judge::{Meaning, Refusal};
 use tftp_packet::End;
@@ -124,7 +124,11 @@ pub struct PairVerdict {
     pub client_why: Option<Wait>,
     /// Why the server's next datagram is not matched, where one that is lawful is left.
     pub server_why: Option<Wait>,
-    /// What the network lost and repeated of what passed as far as both are lawful; None where memory was wanting to count it.
+    /// How often each packet passed at the client, as far as its capture is lawful; None where memory was wanting to count it.
+    pub client_counts: Option<Counts>,
+    /// How often each passed at the server.
+    pub server_counts: Option<Counts>,
+    /// What the network lost and repeated of what passed as far as both are lawful; None where one of the two is not counted.
     pub carried: Option<Carried>,
 }
 
@@ -204,11 +208,18 @@ impl<D: Delivered + Drop> PairRest<D> {
             → IsReadOf client client_read → IsReadOf server server_read
             → IsWhyWaiting server result.server_lawful result.server_matched client result.client_lawful result.server_why }
 
-        // What the network lost and repeated of what passed as far as both are lawful, where memory sufficed to count it.
+        // How often each packet passed as far as both are lawful, where memory sufficed to count it, and what the network lost and
+        // repeated by that.
+        ensures client_counted { (client server : Capture) (client_read server_read : List DatagramParts)
+            → IsRestAfter self client.header client_read server.header server_read
+            → IsReadOf client client_read → AreCountsOf client result.client_lawful result.client_counts }
+        ensures server_counted { (client server : Capture) (client_read server_read : List DatagramParts)
+            → IsRestAfter self client.header client_read server.header server_read
+            → IsReadOf server server_read → AreCountsOf server result.server_lawful result.server_counts }
         ensures carried { (client server : Capture) (client_read server_read : List DatagramParts)
             → IsRestAfter self client.header client_read server.header server_read
             → IsReadOf client client_read → IsReadOf server server_read
-            → AreCarried client result.client_lawful server result.server_lawful result.carried }
+            → AreCarried client result.client_lawful result.client_counts server result.server_lawful result.server_counts result.carried }
 
         ensures client { (h k : HeaderParts) (client server : List DatagramParts) → IsRestAfter self h client k server → self.client.side.judge.refused ≡ None
             → IsVerdict h (reverse client) result.client }
@@ -227,16 +238,21 @@ impl<D: Delivered + Drop> PairRest<D> {
         let client_why = client.why(&server);
         let server_why = server.why(&client);
         let carried = client.side.carried(&server.side);
+        let (client_lawful, server_lawful) = (client.side.fed(), server.side.fed());
+        let (client_judge, client_counts) = client.side.into_parts();
+        let (server_judge, server_counts) = server.side.into_parts();
         PairVerdict {
-            client_lawful: client.side.fed(),
-            server_lawful: server.side.fed(),
+            client_lawful,
+            server_lawful,
             client_matched: client.merged,
             server_matched: server.merged,
             client_why,
             server_why,
+            client_counts,
+            server_counts,
             carried,
-            client: client.side.into_judge().finish(alloc),
-            server: server.side.into_judge().finish(alloc),
+            client: client_judge.finish(alloc),
+            server: server_judge.finish(alloc),
         }
     }
 }

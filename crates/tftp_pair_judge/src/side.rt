@@ -1,4 +1,4 @@
-ghost use Rattle.std.specs.Prelude.{◌≡◌, ◌↔◌, ◌+◌, ◌^◌, ◌<◌, ◌≤◌, List, [], ◌∷◌, length, IsTrue, true, None, Some, is_some, Err, OnOk, IfOk, IfErr, IfSome};
+ghost use Rattle.std.specs.Prelude.{◌≡◌, ◌↔◌, ◌+◌, ◌^◌, ◌<◌, ◌≤◌, List, [], ◌∷◌, length, IsTrue, true, None, Some, is_some, Err, OnOk, IfOk, IfErr, IfNone, IfSome, ◌⊎◌};
 ghost use Rattle.tftp_capture.specs.Fields.{datagram_of, header_of};
 ghost use Rattle.tftp_packet.specs.declared.kinds.Dir.TheVariants.{Out};
 ghost use Rattle.tftp_ends.specs.CaptureText.{Datagram as DatagramParts, Header as HeaderParts};
@@ -7,7 +7,7 @@ ghost use Rattle.tftp_law.specs.OneEnded.{Passes};
 ghost use Rattle.tftp_judge.specs.Finds.{Refuses};
 ghost use Rattle.tftp_judge.specs.SentByKept.{AreFlags, flags_of};
 ghost use Rattle.tftp_judge.specs.declared.refusal.Refusal.{Refusal as RefusalKind};
-ghost use Rattle.tftp_counts.specs.Counts.{AreCounted, AreLostBetween, AreRepeatedBetween};
+ghost use Rattle.tftp_counts.specs.Counts.{AreCounted, AreLostBetween, AreRepeatedBetween, AreTooMany, Counted, TakesRoom, counts_of, packet_of};
 ghost use Rattle.tftp_pair_judge.specs.Merging.{AreMergedBut, IsAskedAgain, IsWaitFor, WasSent, with_held};
 ghost use Rattle.tftp_pair_judge.specs.Kept.{AreSidesAfter, IsSideAfter, HasSame};
 
@@ -94,11 +94,12 @@ impl<D: Delivered + Drop> Side<D> {
         self.judge.fed().saturating_sub(u64::from(self.waits))
     }
 
-    /// The judge of this end.
-    pub fn into_judge(self) -> Judge<D>
-        ensures { result ≡ self.judge }
+    /// The judge of this end, and how often each packet passed; None once memory was wanting for that.
+    pub fn into_parts(self) -> (Judge<D>, Option<Counts>)
+        ensures judge { result.0 ≡ self.judge }
+        ensures counts { result.1 ≡ self.counts }
     {
-        self.judge
+        (self.judge, self.counts)
     }
 
     /// Why the datagram that waits here does, where the other end has read all that it is to.
@@ -172,6 +173,8 @@ impl<D: Delivered + Drop> Side<D> {
     /// Counts a datagram of the transfer, while there is memory for it.
     fn count(&mut self, datagram: &Datagram)
         ensures counted { (passed : List DatagramParts) → AreCounted self.old.counts passed → AreCounted self.new.counts (datagram_of datagram.now ∷ passed) }
+        ensures goes_on { (c : Counted) → self.old.counts ≡ Some c
+            → IfNone self.new.counts (TakesRoom (counts_of datagram.now.dir c) (packet_of (datagram_of datagram.now).payload)) }
         ensures judge { self.new.judge ≡ self.old.judge }
         ensures acks { self.new.acks ≡ self.old.acks }
         ensures held { self.new.held ≡ self.old.held }
@@ -183,6 +186,8 @@ impl<D: Delivered + Drop> Side<D> {
     /// What the network lost and repeated of what this end and the other have sent each other; None once memory was wanting for
     /// that.
     pub fn carried(&self, other: &Self) -> Option<Carried>
+        ensures none { IfNone result ((self.now.counts ≡ None) ⊎ (other.now.counts ≡ None) ⊎ ((h k : HeaderParts) (read other_read : List DatagramParts)
+            → IsSideAfter self.now h read → IsSideAfter other.now k other_read → AreTooMany (transfer_of h read) (transfer_of k other_read))) }
         ensures lost { IfSome result (λ carried. (h k : HeaderParts) (read other_read : List DatagramParts) → IsSideAfter self.now h read
             → IsSideAfter other.now k other_read → AreLostBetween (transfer_of h read) (transfer_of k other_read) carried.lost) }
         ensures repeated { IfSome result (λ carried. (h k : HeaderParts) (read other_read : List DatagramParts) → IsSideAfter self.now h read

@@ -1,4 +1,4 @@
-use Rattle.std.proofs.Common.{◌∷◌, Option, refl, sym, subst, ap, ◌∙◌}
+use Rattle.std.proofs.Common.{refl, sym, subst, ap, ◌∙◌}
 use Rattle.std.specs.Prelude.{is_some}
 use Rattle.tftp_capture.specs.Fields.{datagram_of}
 use Rattle.tftp_pair_judge.specs.Rest.{IsLeftAfter, Left}

@@ -1,4 +1,4 @@
-use Rattle.std.proofs.Common.{◌≡◌, ◌∷◌, sym, subst, ◌∙◌}
+use Rattle.std.proofs.Common.{◌∷◌, sym, subst, ◌∙◌}
 use Rattle.tftp_capture.specs.Fields.{datagram_of}
 use Rattle.tftp_ends.specs.Ports.{transfer_of}
 use Rattle.tftp_judge.specs.Kept.{IsJudgeAfter, Judge}
