@@ -15,8 +15,7 @@ use Rattle.tftp_pair_judge.specs.Verdicts.{IsReadOf}
 use Rattle.tftp_match.specs.Datagrams.{capture_of}
 use Rattle.tftp_match.specs.Merging.{HasBegun}
 use Rattle.tftp_match.specs.Reading.{IsFinished, IsHalted, said_by}
-use Rattle.tftp_pair_judge.specs.Verdicts.{AreCarried}
-use Rattle.tftp_match.specs.Said.{AreNumbersOf, AreTogether, AreWhys, IsApart, IsPairSaid, IsWhy}
+use Rattle.tftp_match.specs.Said.{AreCopies, AreNumbersOf, AreTogether, AreWhys, IsApart, IsPairSaid, IsWhy}
 use Rattle.tftp_match.specs.declared.reading.Halt.{Halt}
 use Rattle.tftp_match.specs.declared.said.Apart.{Apart}
 use Rattle.tftp_match.specs.declared.said.Apart.TheVariants.{WrongEnd, Stopped}
@@ -32,7 +31,7 @@ finished (Some refusal) h read r verdict spare keeps = keeps refusal refl
 abbrev pub AreNumbersIn : Rest → Matched → Type 0
 AreNumbersIn r m =
     (client server : Capture) (client_read server_read : List Datagram) → IsRestAfter r client.header client_read server.header server_read → IsReadOf client client_read → IsReadOf server server_read
-    → IsLawfulTo client (length client_read) → IsLawfulTo server (length server_read) → IsPairVerdict client server m.client_lawful m.server_lawful m.client_matched m.server_matched × AreWhys client server m × AreCarried client m.client_lawful server m.server_lawful m.carried
+    → IsLawfulTo client (length client_read) → IsLawfulTo server (length server_read) → IsPairVerdict client server m.client_lawful m.server_lawful m.client_matched m.server_matched × AreWhys client server m × AreCopies client server m
 
 module _ (before after other_before other_after : Option (List ℕ)) (failed other_failed : Bool) (mine theirs : ReaderState) (start start' : Option (List ℕ)) (clean clean' : Bool) (begun : HasBegun before start clean mine) (other_begun : HasBegun other_before start' clean' theirs)
     (read other : List Datagram) (r : Rest) (why other_why : Halt) (halted : IsHalted before after failed why r.client.side.judge.refused mine.header read) (other_halted : IsHalted other_before other_after other_failed other_why r.server.side.judge.refused theirs.header other)

@@ -12,7 +12,7 @@ use Rattle.tftp_judge.specs.declared.verdict.Verdict.{Verdict}
 use Rattle.tftp_judge.specs.declared.verdict.Verdict.TheVariants.{Capture, Refused}
 use Rattle.tftp_pair.specs.Captures.{Capture as Captured}
 use Rattle.tftp_pair.specs.PairVerdict.{IsPairVerdict}
-use Rattle.tftp_pair_judge.specs.Verdicts.{AreCarried, IsWhyWaiting}
+use Rattle.tftp_pair_judge.specs.Verdicts.{AreCarried, AreCountsOf, IsWhyWaiting}
 use Rattle.tftp_match.specs.Judged.{IsJudged}
 use Rattle.tftp_match.specs.Datagrams.{HasDatagrams, capture_of}
 use Rattle.tftp_match.specs.declared.said.Matched.{Matched}
@@ -43,13 +43,18 @@ abbrev pub AreWhys : Captured → Captured → Matched → Type 0
 AreWhys client server m =
     IsWhyWaiting client m.client_lawful m.client_matched server m.server_lawful m.client_why × IsWhyWaiting server m.server_lawful m.server_matched client m.client_lawful m.server_why
 
+-- how often each packet passed at the two ends, as far as both are lawful, and what the network lost and repeated by that
+abbrev pub AreCopies : Captured → Captured → Matched → Type 0
+AreCopies client server m =
+    AreCountsOf client m.client_lawful m.client_counts × AreCountsOf server m.server_lawful m.server_counts × AreCarried client m.client_lawful m.client_counts server m.server_lawful m.server_counts m.carried
+
 -- The numbers are how far the datagrams of the two texts are lawful and go together, and the first text is a client's, the
 -- second a server's.
 abbrev pub AreNumbersOf : Option (List ℕ) → Option (List ℕ) → Matched → Type 0
 AreNumbersOf before other_before m =
     (text other_text : List ℕ) → before ≡ Some text → other_before ≡ Some other_text → (h k : Header) (ds es : List Numbered) → HasDatagrams text h ds → HasDatagrams other_text k es
     → (h.named ≡ Client) × (k.named ≡ Server) × IsPairVerdict (capture_of h ds) (capture_of k es) m.client_lawful m.server_lawful m.client_matched m.server_matched × AreWhys (capture_of h ds) (capture_of k es) m
-    × AreCarried (capture_of h ds) m.client_lawful (capture_of k es) m.server_lawful m.carried
+    × AreCopies (capture_of h ds) (capture_of k es) m
 
 -- the text names this end
 abbrev pub NamesEnd : Option (List ℕ) → End → Type 0

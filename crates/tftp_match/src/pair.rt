@@ -19,7 +19,7 @@ use std::alloc::Global;
 use std::io::Read;
 use tftp_capture::{CaptureReader, Datagram, Tallied};
 use tftp_ends::RingDelivered;
-use tftp_judge::{Judge, Meaning, Verdict, judge_text};
+use tftp_judge::{Judge, Meaning, Refusal, Verdict, judge_text};
 use tftp_packet::End;
 use tftp_pair_judge::{PairJudge, PairVerdict};
 
@@ -162,10 +162,9 @@ fn judge_begun<R: Read, S: Read>(
     let mut rest = pair.rest();
     client.read_rest(alloc, &mut rest, End::Client, client_reader, &mut datagram);
     server.read_rest(alloc, &mut rest, End::Server, server_reader, &mut datagram);
-    let verdict = rest.finish(alloc);
-    let numbers = numbers_of(&verdict);
-    let client_said = said_of(client.halt, verdict.client);
-    let server_said = said_of(server.halt, verdict.server);
+    let (numbers, client_alone, server_alone) = parted(rest.finish(alloc));
+    let client_said = said_of(client.halt, client_alone);
+    let server_said = said_of(server.halt, server_alone);
     let together = together_of(named, other_named, &client_said, &server_said, numbers);
     PairSaid {
         client: client_said,
@@ -174,20 +173,25 @@ fn judge_begun<R: Read, S: Read>(
     }
 }
 
-/// The numbers of a verdict, and why what waits does.
-fn numbers_of(verdict: &PairVerdict) -> Matched
-    ensures client { (result.client_lawful ≡ verdict.now.client_lawful) × (result.client_matched ≡ verdict.now.client_matched) }
-    ensures server { (result.server_lawful ≡ verdict.now.server_lawful) × (result.server_matched ≡ verdict.now.server_matched) }
-    ensures why { (result.client_why ≡ verdict.now.client_why) × (result.server_why ≡ verdict.now.server_why) }
-    ensures carried { result.carried ≡ verdict.now.carried }
+/// The numbers of a verdict, and what there is of each capture alone.
+fn parted(verdict: PairVerdict) -> (Matched, Result<Meaning, Refusal>, Result<Meaning, Refusal>)
+    ensures client { (result.0.client_lawful ≡ verdict.client_lawful) × (result.0.client_matched ≡ verdict.client_matched) }
+    ensures server { (result.0.server_lawful ≡ verdict.server_lawful) × (result.0.server_matched ≡ verdict.server_matched) }
+    ensures why { (result.0.client_why ≡ verdict.client_why) × (result.0.server_why ≡ verdict.server_why) }
+    ensures counts { (result.0.client_counts ≡ verdict.client_counts) × (result.0.server_counts ≡ verdict.server_counts) }
+    ensures carried { result.0.carried ≡ verdict.carried }
+    ensures alone { (result.1 ≡ verdict.client) × (result.2 ≡ verdict.server) }
 {
-    Matched {
+    let numbers = Matched {
         client_lawful: verdict.client_lawful,
         server_lawful: verdict.server_lawful,
         client_matched: verdict.client_matched,
         server_matched: verdict.server_matched,
         client_why: verdict.client_why,
         server_why: verdict.server_why,
+        client_counts: verdict.client_counts,
+        server_counts: verdict.server_counts,
         carried: verdict.carried,
-    }
+    };
+    (numbers, verdict.client, verdict.server)
 }
