@@ -1,5 +1,6 @@
 //! What there is to say of two captures.
 
+use crate::copies::{Copies, copies_in};
 use anyhow::{Result, bail};
 use std::alloc::Global;
 use tftp_capture::Tallied;
@@ -38,6 +39,8 @@ pub struct Facts {
     /// What the network lost and repeated, where they are matched and it was counted.
     pub carried: Option<Carried>,
     pub together: Result<Matched, Apart>,
+    /// How often each packet was sent and taken, where that is wanted.
+    pub copies: Option<Vec<Copies>>,
     /// The first datagram of each that is not matched, if there is one.
     pub client_first: Option<First>,
     pub server_first: Option<First>,
@@ -52,8 +55,8 @@ struct Line {
 }
 
 impl Facts {
-    /// What there is to say.
-    pub fn new(alloc: Global, said: PairSaid) -> Result<Self> {
+    /// What there is to say, with how often each packet was sent and taken only where that is wanted.
+    pub fn new(alloc: Global, said: PairSaid, with_counts: bool) -> Result<Self> {
         let is_matched = said.is_matched();
         let (client_first, server_first) = firsts(&said);
         let carried = carried_of(&said);
@@ -65,20 +68,26 @@ impl Facts {
         let client = Line::of(alloc, client)?;
         let server = Line::of(alloc, server)?;
         let is_fault = client.status == Status::Fault || server.status == Status::Fault;
+        let status = match &together {
+            Ok(_) if is_fault => 2,
+            Ok(_) if is_matched => 0,
+            Ok(_) => 1,
+            Err(_) => 2,
+        };
+        let copies = match &together {
+            Ok(matched) if with_counts => Some(copies_in(alloc, matched)?),
+            _ => None,
+        };
         Ok(Facts {
             client: client.text,
             server: server.text,
             is_matched,
             carried,
             together,
+            copies,
             client_first,
             server_first,
-            status: match together {
-                Ok(_) if is_fault => 2,
-                Ok(_) if is_matched => 0,
-                Ok(_) => 1,
-                Err(_) => 2,
-            },
+            status,
         })
     }
 }
@@ -107,7 +116,7 @@ fn text_of(alloc: Global, written: Tallied<Vec<u8>>) -> Result<String> {
 
 /// The first datagram of each that is not matched, if there is one.
 fn firsts(said: &PairSaid) -> (Option<First>, Option<First>) {
-    let Ok(matched) = said.together else {
+    let Ok(matched) = &said.together else {
         return (None, None);
     };
     let client_left = matched.client_lawful > matched.client_matched;
@@ -130,7 +139,7 @@ fn carried_of(said: &PairSaid) -> Option<Carried> {
     if !said.is_matched() {
         return None;
     }
-    match said.together {
+    match &said.together {
         Ok(matched) => matched.carried,
         Err(_) => None,
     }

@@ -1,9 +1,11 @@
 //! What there is to say of two captures, in JSON (RFC 8259).
 
+use crate::copies::Copies;
 use crate::facts::{Facts, First};
 use crate::words::Request;
 use anyhow::Result;
 use serde::Serialize;
+use std::alloc::{AllocError, Global};
 use tftp_match::Apart;
 use tftp_packet::End;
 
@@ -14,6 +16,17 @@ struct Row<'a> {
     server: Side<'a>,
     fault: Option<&'static str>,
     together: Option<Together>,
+    counts: Option<Vec<Count>>,
+}
+
+/// How often a packet was sent and taken.
+#[derive(Drop, Serialize)]
+struct Count {
+    from: &'static str,
+    packet: &'static str,
+    block: Option<u16>,
+    sent: u64,
+    taken: u64,
 }
 
 /// What there is to say of one.
@@ -56,10 +69,32 @@ pub fn say_json(
         },
         fault: fault_of(facts),
         together: together_of(facts),
+        counts: counts_of(rt.alloc(), facts)?,
     };
     let line = serde_json::to_string(rt.alloc(), &row)?;
     println!(rt; "{line}")?;
     Ok(())
+}
+
+fn counts_of(alloc: Global, facts: &Facts) -> Result<Option<Vec<Count>>, AllocError> {
+    match &facts.copies {
+        Some(copies) => Ok(Some(counts_in(alloc, copies.as_slice())?)),
+        None => Ok(None),
+    }
+}
+
+fn counts_in(alloc: Global, all: &[Copies]) -> Result<Vec<Count>, AllocError> {
+    let mut counts = Vec::new(alloc);
+    for copies in all {
+        counts.push(Count {
+            from: copies.sender(),
+            packet: copies.kind(),
+            block: copies.block(),
+            sent: copies.sent,
+            taken: copies.taken,
+        })?;
+    }
+    Ok(counts)
 }
 
 fn fault_of(facts: &Facts) -> Option<&'static str> {

@@ -1,13 +1,24 @@
 //! What there is to say of two captures, in lines.
 
+use crate::copies::Copies;
 use crate::facts::{Facts, First};
 use anyhow::Result;
 use tftp_counts::Carried;
 use tftp_match::Apart;
 use tftp_packet::End;
 
-/// Says what there is to say in three lines, or in two where it is not told how far the captures go together.
+/// Says what there is to say in three lines, or in two where it is not told how far the captures go together; then how often
+/// each packet was sent and taken, where that is wanted.
 pub fn say(rt: HostRuntime, facts: &Facts) -> Result<()> {
+    say_verdicts(rt, facts)?;
+    match &facts.copies {
+        Some(copies) => say_copies(rt, copies.as_slice()),
+        None => Ok(()),
+    }
+}
+
+/// Says the verdicts on each and on both.
+fn say_verdicts(rt: HostRuntime, facts: &Facts) -> Result<()> {
     let (client, server) = (facts.client.as_str(), facts.server.as_str());
     println!(rt; "{client}")?;
     println!(rt; "{server}")?;
@@ -39,6 +50,18 @@ fn say_matched(rt: HostRuntime, carried: Option<Carried>) -> Result<()> {
             "matched lost {lost} repeated {repeated}"
         )?,
         None => println!(rt; "matched")?,
+    }
+    Ok(())
+}
+
+/// A line for each packet.
+fn say_copies(rt: HostRuntime, all: &[Copies]) -> Result<()> {
+    for copies in all {
+        print!(rt; "{} {}", copies.sender(), copies.kind())?;
+        if let Some(block) = copies.block() {
+            print!(rt; " {block}")?;
+        }
+        println!(rt; " sent {} taken {}", copies.sent, copies.taken)?;
     }
     Ok(())
 }

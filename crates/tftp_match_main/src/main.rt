@@ -2,6 +2,7 @@
 #![tactic(auto)]
 
 mod candidates;
+mod copies;
 mod facts;
 mod held;
 mod help;
@@ -59,7 +60,7 @@ fn say_judged(rt: HostRuntime, request: &Request<'_>, judged: Judged) -> Result<
         client,
         server,
     } = judged;
-    let facts = Facts::new(rt.alloc(), said)?;
+    let facts = Facts::new(rt.alloc(), said, request.counts)?;
     if request.json {
         say_json(rt, request, (client, server), &facts)?;
     } else {

@@ -18,6 +18,8 @@ pub struct Request<'a> {
     pub server_transfer: Option<u64>,
     /// The ports to which requests go, beside 69.
     pub services: Vec<u16>,
+    /// Whether it is wanted how often each packet was sent and taken.
+    pub counts: bool,
     /// Whether the answer is wanted in JSON.
     pub json: bool,
 }
@@ -40,6 +42,7 @@ pub fn request_of<'a, S: AsStr>(alloc: Global, words: &'a [S]) -> Result<Request
         transfer: matches.get_one::<u64>("transfer"),
         server_transfer: matches.get_one::<u64>("server-transfer"),
         services: services_of(alloc, &matches)?,
+        counts: matches.get_flag("counts"),
         json: matches.get_flag("json"),
     })
 }
