@@ -28,7 +28,7 @@ plants:
 # How fast the program and its libraries are, beside wc -l, a plain copy and the hex crate alone on the same bytes.
 bench: build
 	@cd crates/tftp_bench && rt run -- copy </dev/null >/dev/null
-	sh bench/run.sh $(PROGRAM) $(BENCH) $(TRANSFERS)
+	sh bench/run.sh $(PROGRAM) $(BENCH) $(TRANSFERS) $(MATCH)
 
 # Simulated ends and networks, and changes of what passed, tried on the built program; and recordings of lawful ends, divided
 # into transfers, of which none may be blamed: make fuzz N=1000000 SEED=1, and one recording for each hundred cases. For each

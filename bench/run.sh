@@ -1,13 +1,15 @@
 #!/bin/sh
 # How fast the program and the libraries are, and the most memory that they take, each beside `wc -l` and `cat` on the
-# same bytes: bench/run.sh PROGRAM BENCH TRANSFERS, where BENCH is the program of crates/tftp_bench, and TRANSFERS the
-# one that reads recordings. First a table of the program's commands (commands.sh), then a line for each call of the
-# libraries, and for the verdicts on recordings. The texts, of up to 1 GB, stand in a folder that is removed at the end.
+# same bytes: bench/run.sh PROGRAM BENCH TRANSFERS MATCH, where BENCH is the program of crates/tftp_bench, TRANSFERS the
+# one that reads recordings, and MATCH the one that reads both ends. First a table of the program's commands
+# (commands.sh), the texts that cost most, and both ends; then a line for each call of the libraries, and for the
+# verdicts on recordings. The texts, of up to 1 GB, stand in a folder that is removed at the end.
 set -eu
 here=$(dirname "$0")
 program=$1
 bench=$2
 transfers=$3
+match=$4
 folder=$(mktemp -d)
 trap 'rm -rf "$folder"' EXIT
 text=$folder/text
@@ -24,6 +26,7 @@ measure() {
 
 sh "$here/commands.sh" "$program"
 python3 "$here/worst.py" "$program" || echo "A text takes more than it may."
+python3 "$here/pairs.py" "$program" "$match" || echo "A pair takes more than it may."
 
 generate wire 100000000
 measure "netascii decode" "$bench" netascii-decode

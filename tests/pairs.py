@@ -1,7 +1,7 @@
 """What tools/tftp-explain and tools/tftp-ladder say and draw of the captures of both ends of one transfer: matched,
 with a changed byte, with what was never sent, with what waits, refused, lost, repeated and delayed.
 
-    pairs.py MATCH
+    pairs.py MATCH TRANSFERS
 
 Each pair is tried with the program, and with stand-ins that print the line on the two without further words and with
 the words that may stand in it. Prints each case that is not as it should be, then a last line 'N passed, M failed';
@@ -25,6 +25,9 @@ from trial import Trial  # noqa: E402
 
 TOOLS = pathlib.Path(__file__).resolve().parent.parent / "tools"
 EXPLAIN, LADDER = TOOLS / "tftp-explain", TOOLS / "tftp-ladder"
+EXAMPLES = TOOLS.parent / "examples"
+# The two legs of a relay, the first of which is the client's: it lost a datagram and repeated another.
+LEGS = EXAMPLES / "loopback-lost-and-repeated.pcap"
 STAND_IN = "#!/bin/sh\ncat >/dev/null\ncat <<'END'\n{lines}\nEND\nexit {status}\n"
 SECOND = 1_000_000_000
 Ran = tuple[str, str, int]
@@ -161,9 +164,9 @@ COUNTED = {
 class Pairs(Trial):
     """The runs of the scripts."""
 
-    def __init__(self, program: str, folder: pathlib.Path) -> None:
+    def __init__(self, program: str, transfers: str, folder: pathlib.Path) -> None:
         super().__init__()
-        self.program, self.folder = program, folder
+        self.program, self.transfers, self.folder = program, transfers, folder
 
     def run(self, script: pathlib.Path, words: Sequence[object], given: bytes = b"") -> Ran:
         done = subprocess.run([str(it) for it in (script, *words)], input=given, capture_output=True, timeout=120)
@@ -322,11 +325,12 @@ def try_words(trial: Pairs) -> None:
         named[place] = "-"
         output, errors, status = trial.run(EXPLAIN, [*match, "--pair", *named], given)
         trial.check(f"standard input {place}", output.startswith("matched") and (errors, status) == ("", 0), errors)
-    recording = TOOLS.parent / "examples" / "loopback-session.pcap"
+    recording = EXAMPLES / "loopback-session.pcap"
     refused: tuple[tuple[str, list[object], str], ...] = (
         ("both of standard input", ["--pair", "-", "-"], "one of the two captures may come on standard input"),
         ("a file too", ["--pair", *paths, recording], "--pair takes the place of FILE"),
-        ("a recording", ["--pair", recording, paths[1]], "is a recording, and a capture text is wanted"),
+        ("another recording", ["--pair", recording, paths[1]], f"{recording}: no transfer has the request of {paths[1]}"),
+        ("no recording", ["--transfer", "1", "--pair", *paths], "a transfer is named, and there is no recording"),
         ("no file", ["--pair", trial.folder / "none", paths[1]], "cannot read the file"),
     )
     for name, words, told in refused:
@@ -339,13 +343,37 @@ def try_words(trial: Pairs) -> None:
     trial.check("another program", got[0] == "" and "did not match the two" in got[1] and got[2] == 2, got)
 
 
-def main(program: str) -> int:
+def try_recordings(trial: Pairs) -> None:
+    """Of recordings the same is said and drawn as of the texts of their transfers."""
+    paths = [trial.folder / "of the client", trial.folder / "of the server"]
+    for path, words in zip(paths, (["text", "1", "client"], ["text", "2", "server"])):
+        path.write_bytes(subprocess.run([trial.transfers, *words, LEGS], capture_output=True, check=True).stdout)
+    programs = ["--match", trial.program, "--transfers", trial.transfers]
+    number, server_number = ["--transfer", "1"], ["--server-transfer", "2"]
+    cases: tuple[tuple[str, list[object], bytes], ...] = (
+        ("both", [*number, *server_number, "--pair", LEGS, LEGS], b""),
+        ("the client's on standard input", [*number, *server_number, "--pair", "-", LEGS], LEGS.read_bytes()),
+        ("the client's alone", [*number, "--pair", LEGS, paths[1]], b""),
+        ("the server's alone", [*server_number, "--pair", paths[0], LEGS], b""),
+        ("the one that there is", ["--transfer", "2", "--pair", paths[0], LEGS], b""),
+    )
+    for script in (EXPLAIN, LADDER):
+        wanted = trial.run(script, [*programs, "--pair", *paths])
+        trial.check(f"{script.name}, texts", "matched lost 1 repeated 1" in wanted[0] and wanted[1:] == ("", 0), wanted)
+        for name, more, given in cases:
+            got = trial.run(script, [*programs, *more], given)
+            trial.check(f"{script.name}, recordings, {name}", got == wanted, got)
+        got = trial.run(script, [*programs, "--pair", LEGS, LEGS])
+        trial.check(f"{script.name}, two like transfers", got[0] == "" and "name one by" in got[1] and got[2] == 2, got)
+
+
+def main(program: str, transfers: str) -> int:
     with tempfile.TemporaryDirectory() as folder:
-        trial = Pairs(program, pathlib.Path(folder))
+        trial = Pairs(program, transfers, pathlib.Path(folder))
         for case in CASES:
             try_explained(trial, case)
             try_drawn(trial, case)
-        for part in (try_times, try_text, try_large, try_faults, try_words):
+        for part in (try_times, try_text, try_large, try_faults, try_words, try_recordings):
             part(trial)
         return trial.end()
 

@@ -1,4 +1,4 @@
-"""Two capture texts of one transfer, one of each end, and what tftp-match says of them."""
+"""The captures of both ends of one transfer, texts or of recordings, and what tftp-match says of them."""
 from __future__ import annotations
 
 import argparse
@@ -6,12 +6,12 @@ import re
 import subprocess
 import tempfile
 from dataclasses import dataclass
-from typing import Optional
+from typing import Any, Optional
 
 from .capture import Capture, read_capture
 from .errors import Refused, read_file, told
-from .program import MATCH, OPTIONS, Verdict, find_program
-from .recording import ENDS, EndName, is_recording
+from .program import MATCH, OPTIONS, TRANSFERS, Verdict, ask, find_program
+from .recording import ENDS, EndName, Recording, is_recording, named, objects
 
 NUMBER, WHY = "([1-9][0-9]*|-)", "(?: ([a-z]+))?"
 UNMATCHED = re.compile(f"unmatched client datagram {NUMBER}{WHY} server datagram {NUMBER}{WHY}")
@@ -22,8 +22,12 @@ OTHER: dict[EndName, EndName] = {"client": "server", "server": "client"}
 
 def add_pair(parser: argparse.ArgumentParser) -> None:
     """The words by which a script is told the two captures, and where the program is that matches them."""
-    parser.add_argument("--pair", nargs=2, metavar=("CLIENT", "SERVER"), help="capture texts of one transfer, that of"
-                        " its client and that of its server, in place of FILE; one of them may be -")
+    parser.add_argument("--pair", nargs=2, metavar=("CLIENT", "SERVER"), help="the captures of one transfer, that of"
+                        " its client and that of its server, each a text or a recording, in place of FILE; one of them"
+                        " may be -")
+    parser.add_argument("--transfer", metavar="N", help="with --pair: the transfer's number in the client's recording,"
+                        " or in the one that there is; without it the one that has the request of the other side")
+    parser.add_argument("--server-transfer", metavar="N", help="with --pair: its number in the server's recording")
     parser.add_argument(OPTIONS[MATCH], metavar="PATH", help=f"the program {MATCH}, where it is not found by itself")
 
 
@@ -66,12 +70,52 @@ def status_of(line: str) -> int:
     return 0 if line.startswith("accepted ") else 2 if line.startswith("fault ") else 1
 
 
-def text_of(path: str, end: EndName) -> bytes:
-    text = read_file(path)
-    if is_recording(text[:4]):
-        how = f"tftp-transfers text N {end} {path}"
-        raise Refused(f"{path!r} is a recording, and a capture text is wanted, as {how} writes it")
-    return text
+def numbers_in(it: dict[str, Any]) -> dict[EndName, Optional[int]]:
+    """The numbers of the transfers that were matched, in the program's object of JSON; none of a text."""
+    return {end: it[end]["number"] for end in ENDS}
+
+
+class Sources:
+    """The files of a pair, and which transfers of those that are recordings are matched."""
+
+    def __init__(self, program: str, asked: argparse.Namespace) -> None:
+        self.program, self.asked = program, asked
+        self.paths: dict[EndName, str] = dict(zip(ENDS, asked.pair))
+        self.given = read_file("-") if "-" in asked.pair else None
+
+    def has_recordings(self) -> bool:
+        return any(is_recording(self.begins(path)) for path in self.paths.values())
+
+    def begins(self, path: str) -> bytes:
+        if path == "-" and self.given is not None:
+            return self.given[:4]
+        with told(f"cannot read the file {path!r}"), open(path, "rb") as file:
+            return file.read(4)
+
+    def numbers(self) -> dict[EndName, Optional[int]]:
+        """Which transfers the program takes: those that are named, or by what they say."""
+        named_here = (("--transfer", self.asked.transfer), ("--server-transfer", self.asked.server_transfer))
+        words = [f"{option}={number}" for option, number in named_here if number is not None]
+        if not words and not self.has_recordings():
+            return dict.fromkeys(ENDS)
+        words += [*named(self.asked.service), "--json", "--", *self.paths.values()]
+        written, beside, status = ask(self.program, words, self.given)
+        found = objects(written, numbers_in)
+        if len(found) != 1:
+            raise Refused(beside[-1] if beside else f"{self.program!r} did not match the two, and ended with {status}")
+        return found[0]
+
+    def texts(self) -> dict[EndName, bytes]:
+        """The capture texts of both ends."""
+        numbers = self.numbers()
+        return {end: self.text(end, path, numbers[end]) for end, path in self.paths.items()}
+
+    def text(self, end: EndName, path: str, number: Optional[int]) -> bytes:
+        given = self.given if path == "-" else None
+        if number is None:
+            return read_file(path) if given is None else given
+        transfers = find_program(TRANSFERS, self.asked.transfers)
+        return Recording(path, given, tuple(map(str, self.asked.service)), transfers, "").text(number, end)
 
 
 def said(program: str, texts: dict[EndName, bytes]) -> tuple[list[str], int]:
@@ -98,8 +142,7 @@ def asked_pair(asked: argparse.Namespace) -> Pair:
     """The two captures that a script is asked for."""
     if asked.capture != "-" or asked.number is not None:
         raise Refused("--pair takes the place of FILE: name the client's capture and the server's alone")
-    paths = dict(zip(ENDS, asked.pair))
-    if list(paths.values()) == ["-", "-"]:
+    if asked.pair == ["-", "-"]:
         raise Refused("one of the two captures may come on standard input, and not both")
     program = find_program(MATCH, asked.match)
-    return pair_of(program, {end: text_of(path, end) for end, path in paths.items()})
+    return pair_of(program, Sources(program, asked).texts())

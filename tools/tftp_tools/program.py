@@ -83,9 +83,11 @@ def file_of(program: str, text: bytes) -> bytes:
 
 
 def ask(program: str, words: Sequence[str], given: Optional[bytes] = None) -> tuple[bytes, list[str], int]:
-    """What tftp-transfers writes of what it is given on standard input, what it tells beside, without its name, and its
-    status."""
+    """What tftp-transfers or tftp-match writes of what it is given on standard input, what it tells beside, without its
+    name, and its status."""
     with told(f"cannot run {program!r}"):
         done = subprocess.run([program, *words], input=given or b"", capture_output=True, check=False)
     lines = done.stderr.decode("utf-8", "backslashreplace").splitlines()
-    return done.stdout, [line.removeprefix(f"{TRANSFERS}: ") for line in lines], done.returncode
+    for name in (TRANSFERS, MATCH):
+        lines = [line.removeprefix(f"{name}: ") for line in lines]
+    return done.stdout, lines, done.returncode

@@ -5,14 +5,13 @@ use Rattle.tftp_packet.specs.Message.{Message, RequestParts}
 use Rattle.tftp_packet.specs.Spelling.{Spells}
 use Rattle.tftp_packet.specs.declared.kinds.Side.{Side}
 use Rattle.tftp_packet.specs.declared.kinds.Side.TheVariants.{Get, Put}
-use Rattle.tftp_packet.specs.declared.kinds.End.{End}
 use Rattle.tftp_packet.specs.declared.kinds.End.TheVariants.{Client, Server}
 use Rattle.tftp_packet.specs.declared.kinds.Dir.{Dir}
 use Rattle.tftp_packet.specs.declared.kinds.Dir.TheVariants.{In, Out}
 use Rattle.tftp_ends.specs.CaptureText.{Datagram, Header}
 use Rattle.tftp_ends.specs.Meaning.{Meaning, request_of, NothingAgreed, blksize_of}
 use Rattle.tftp_ends.specs.Blocks.{block, block_count}
-use Rattle.tftp_ends.specs.Machines.{MachinePacket, Req, Oack, Data, Ack, Deed, Sent, Took, HasSent, HasTaken, message_of, sender_of, receiver_of, other_end, IsStartedOn, MayAckZeroOn, MaySend}
+use Rattle.tftp_ends.specs.Machines.{MachinePacket, Req, Oack, Data, Ack, Deed, Sent, Took, HasSent, HasTaken, message_of, sender_of, receiver_of, IsStartedOn, MayAckZeroOn, MaySend}
 use Rattle.tftp_ends.specs.OneSide.{IsOneSided}
 use Rattle.tftp_ends.specs.Ports.{asks, first_of, transfer_of}
 use Rattle.tftp_ends.specs.Rules.{Passed, HasPassed}
@@ -33,42 +32,26 @@ use Rattle.tftp_law.proofs.MadeMeaning.{answer_cases, oack_spelled}
 use Rattle.tftp_law.proofs.Moments.{sent_moment}
 use Rattle.tftp_law.proofs.Spelled.{spelled_once}
 use Rattle.tftp_pair.specs.Pair.{AreMerged, MaySendEach}
-use Rattle.tftp_pair.specs.Messages.{Event, seen_at, AreBrought, AreMergedBy}
+use Rattle.tftp_pair.specs.Messages.{IsBrought, AreMergedBy}
+use Rattle.tftp_pair.proofs.Merged.{turned, to_client_went}
 use Rattle.tftp_pair.proofs.TwoViews.{view_each}
-use Rattle.tftp_pair.proofs.Counted.{carried_sent}
+use Rattle.tftp_pair.proofs.Counted.{client_took, server_took}
 use Rattle.tftp_pair.proofs.Spelt.{packet_is, spelt, deeds_merged}
 use Rattle.tftp_pair.proofs.Starting.{no_zero_sent}
 
 -- ---- what came in has gone out at the other end
 
-seen_later : (e a : End) (d : Datagram) (events : List Event) (dir : Dir) (x : Message) → Passed dir x (seen_at e events) → Passed dir x (seen_at e (record { place = a; datagram = d } ∷ events))
-seen_later Client Client d events dir x p = inr p
-seen_later Client Server d events dir x p = p
-seen_later Server Client d events dir x p = p
-seen_later Server Server d events dir x p = inr p
-
-module _ (dir : Dir) (x : Message) where
-  seen_cases : (e a : End) (d : Datagram) (events : List Event) → Passed dir x (seen_at e (record { place = a; datagram = d } ∷ events)) → ((a ≡ e) × (d.dir ≡ dir) × Spells d.payload x) ⊎ Passed dir x (seen_at e events)
-  seen_cases Client Client d events p = elim p [ inl now ↦ inl (refl, now.0, now.1) | inr before ↦ inr before ]
-  seen_cases Client Server d events p = inr p
-  seen_cases Server Client d events p = inr p
-  seen_cases Server Server d events p = elim p [ inl now ↦ inl (refl, now.0, now.1) | inr before ↦ inr before ]
-
-brought_in : (events : List Event) → AreBrought events → (e : End) (x : Message) → Passed In x (seen_at e events) → Passed Out x (seen_at (other_end e) events)
-brought_in [] brought e x p = absurd p
-brought_in (s ∷ events) brought e x p = seen_later (other_end e) s.place s.datagram events Out x (elim (seen_cases In x e s.place s.datagram events p) [
-  | inl now ↦
-      let (y, spells, passed) = brought.0 now.1 in
-      subst (λ a. Passed Out x (seen_at (other_end a) events)) now.0
-      (subst (λ z. Passed Out z (seen_at (other_end s.place) events)) (spelled_once s.datagram.payload y x spells now.2) passed)
-  | inr before ↦ brought_in events brought.1 e x before
-])
-
-pub to_server : (client server : List Datagram) → AreMergedBy client server → (x : Message) → Passed In x server → Passed Out x client
-to_server client server merged x p = subst (Passed Out x) merged.client_list (brought_in merged.events merged.brought Server x (subst (Passed In x) (sym merged.server_list) p))
+came_was_sent : (x : Message) (d : Datagram) (own other : List Datagram) → IsBrought other d → Passed In x (d ∷ own) → Passed Out x other ⊎ Passed In x own
+came_was_sent x d own other now passed = elim passed [
+  | inl came ↦ let (y, spells, sent) = now came.0 in inl (subst (λ z. Passed Out z other) (spelled_once d.payload y x spells came.1) sent)
+  | inr before ↦ inr before
+]
 
 pub to_client : (client server : List Datagram) → AreMergedBy client server → (x : Message) → Passed In x client → Passed Out x server
-to_client client server merged x p = subst (Passed Out x) merged.server_list (brought_in merged.events merged.brought Client x (subst (Passed In x) (sym merged.client_list) p))
+to_client client server merged x = to_client_went IsBrought (Passed In x) (Passed Out x) (λ none. none) (λ d ds passed. inr passed) (came_was_sent x) client server merged
+
+pub to_server : (client server : List Datagram) → AreMergedBy client server → (x : Message) → Passed In x server → Passed Out x client
+to_server client server merged = to_client server client (turned IsBrought client server merged)
 
 -- ---- what an end did, by what has passed there
 
@@ -199,10 +182,10 @@ module _ (hc hs : Header) (dc ds : Division) (at_client : hc.named ≡ Client) (
   views_merged = deeds_merged mc ms wc ws (view_in dc) (view_in ds) pc ps (spelt hc mc wc dc routed_client) (spelt hs ms ws ds routed_server) merged
 
   carried_to_client : (p : MachinePacket) → HasTaken (view_in dc) p → HasSent (view_in ds) p
-  carried_to_client p at = subst (λ h. HasSent h p) views_merged.server_view (carried_sent views_merged.steps views_merged.carried Client p (subst (λ h. HasTaken h p) (sym views_merged.client_view) at))
+  carried_to_client = client_took (view_in dc) (view_in ds) views_merged
 
   carried_to_server : (p : MachinePacket) → HasTaken (view_in ds) p → HasSent (view_in dc) p
-  carried_to_server p at = subst (λ h. HasSent h p) views_merged.client_view (carried_sent views_merged.steps views_merged.carried Server p (subst (λ h. HasTaken h p) (sym views_merged.server_view) at))
+  carried_to_server = server_took (view_in dc) (view_in ds) views_merged
 
   not_server : hc.named ≡ Server → ⊥
   not_server e = let both : Client ≡ Server = sym at_client ∙ e in cc

@@ -1,3 +1,4 @@
+pub mod Merged
 pub mod TwoViews
 pub mod Together
 pub mod Counted

@@ -1,17 +1,14 @@
--- The worked pairs.
+-- What the worked pairs say.
 use Rattle.std.proofs.Common.{◌≡◌, ℕ, ◌<◌, nat_lt, nat_eq, true, List, [], ◌∷◌, inl, inr, refl, sym, ap}
 use Rattle.std.proofs.lemmas.Bool.{and_parts, ltb-true, false≢true}
 use Rattle.std.specs.List.{AllByRecursion, list_all}
 use Rattle.tftp_packet.specs.Message.{Message}
 use Rattle.tftp_packet.specs.Spelling.{IsPair, Spells}
 use Rattle.tftp_packet.proofs.Unique.{one_message}
-use Rattle.tftp_packet.specs.declared.kinds.End.TheVariants.{Client, Server}
-use Rattle.tftp_packet.specs.declared.kinds.Dir.TheVariants.{In, Out}
+use Rattle.tftp_packet.specs.declared.kinds.Dir.TheVariants.{Out}
 use Rattle.tftp_ends.specs.Rules.{Passed}
-use Rattle.tftp_ends.proofs.Passing.{in_not_out, out_not_in}
-use Rattle.tftp_pair.specs.Messages.{Event, AreBrought, AreMergedBy}
-use Rattle.tftp_pair.specs.Worked.{worked_datagram, block_of, acknowledged, at_the_client, at_the_server}
-use Rattle.tftp_pair.proofs.CommonMeaning.{to_client}
+use Rattle.tftp_ends.proofs.Passing.{in_not_out}
+use Rattle.tftp_pair.specs.Worked.{block_of, acknowledged, at_the_server}
 
 bytes_are : (xs : List ℕ) → list_all (λ b. nat_lt b 256) xs ≡ true → AllByRecursion (λ b. b < 256) xs
 bytes_are [] e = tt
@@ -20,33 +17,21 @@ bytes_are (x ∷ xs) e = let parts = and_parts (nat_lt x 256) (list_all (λ b. n
 one_is : IsPair 0 1 1
 one_is = (ltb-true 0 256 refl, ltb-true 1 256 refl, refl)
 
-sent_block : Spells (block_of 105) (Message.Data 1 (104 ∷ 105 ∷ []))
+pub sent_block : Spells (block_of 105) (Message.Data 1 (104 ∷ 105 ∷ []))
 sent_block = (bytes_are (block_of 105) refl, (0, 1, one_is, refl))
 
-other_block : Spells (block_of 106) (Message.Data 1 (104 ∷ 106 ∷ []))
+pub other_block : Spells (block_of 106) (Message.Data 1 (104 ∷ 106 ∷ []))
 other_block = (bytes_are (block_of 106) refl, (0, 1, one_is, refl))
 
-an_ack : Spells acknowledged (Message.Ack 1)
+pub an_ack : Spells acknowledged (Message.Ack 1)
 an_ack = (bytes_are acknowledged refl, (0, 1, one_is, refl))
-
-abbrev went : List Event
-went = record { place = Server; datagram = worked_datagram In acknowledged }
-    ∷ record { place = Client; datagram = worked_datagram Out acknowledged }
-    ∷ record { place = Client; datagram = worked_datagram In (block_of 105) }
-    ∷ record { place = Server; datagram = worked_datagram Out (block_of 105) } ∷ []
-
-brought : AreBrought went
-brought = ((λ _. (Message.Ack 1, an_ack, inl (refl, an_ack))), ((λ out. absurd (out_not_in out)), ((λ _. (Message.Data 1 (104 ∷ 105 ∷ []), sent_block, inl (refl, sent_block))), ((λ out. absurd (out_not_in out)), tt))))
-
-pub worked_merge : AreMergedBy (at_the_client 105) (at_the_server 105)
-worked_merge = record { events = went; brought = brought; client_list = refl; server_list = refl }
 
 -- What came in as DATA 1 with another last byte was not sent: a payload has the bytes of one block.
 last_byte : Message → ℕ
 last_byte (Message.Data k (x ∷ y ∷ bytes)) = y
 last_byte m = 0
 
-not_sent : Passed Out (Message.Data 1 (104 ∷ 106 ∷ [])) (at_the_server 105) → ⊥
+pub not_sent : Passed Out (Message.Data 1 (104 ∷ 106 ∷ [])) (at_the_server 105) → ⊥
 unfolding last_byte
 not_sent passed = elim passed [
   | inl ack_in ↦ in_not_out ack_in.0
@@ -55,6 +40,3 @@ not_sent passed = elim passed [
     | inr none ↦ none
   ]
 ]
-
-pub worked_change : AreMergedBy (at_the_client 106) (at_the_server 105) → ⊥
-worked_change merged = not_sent (to_client (at_the_client 106) (at_the_server 105) merged (Message.Data 1 (104 ∷ 106 ∷ [])) (inr (inl (refl, other_block))))

@@ -1,3 +1,4 @@
+pub mod Merged
 pub mod Pair
 pub mod Captures
 pub mod Counts

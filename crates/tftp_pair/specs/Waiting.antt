@@ -1,5 +1,5 @@
 -- Why the datagram behind those that are matched waits: of two captures, of which the first n and k datagrams are lawful.
-use Rattle.std.specs.Prelude.{◌≡◌, ℕ}
+use Rattle.std.specs.Prelude.{ℕ}
 use Rattle.tftp_packet.specs.Message.{Message}
 use Rattle.tftp_packet.specs.Spelling.{Spells}
 use Rattle.tftp_packet.specs.declared.kinds.Dir.TheVariants.{Out}

@@ -1,8 +1,12 @@
 -- A block of two bytes and its ACK, as they passed at the two ends of a read.
-use Rattle.std.specs.Prelude.{ℕ, List, [], ◌∷◌}
+use Rattle.std.specs.Prelude.{ℕ, List, [], ◌∷◌, reverse}
+use Rattle.tftp_packet.specs.declared.kinds.End.{End}
 use Rattle.tftp_packet.specs.declared.kinds.Dir.{Dir}
 use Rattle.tftp_packet.specs.declared.kinds.Dir.TheVariants.{In, Out}
+use Rattle.tftp_ends.specs.Machines.{Deed}
 use Rattle.tftp_law.specs.CaptureText.{Datagram}
+use Rattle.tftp_pair.specs.Merged.{Event}
+use Rattle.tftp_pair.specs.Captures.{Capture}
 
 abbrev pub worked_datagram : Dir → List ℕ → Datagram
 worked_datagram dir payload = record { dir = dir; local = 40000; host = 45 ∷ []; remote = 41000; payload = payload }
@@ -21,3 +25,10 @@ at_the_client last = worked_datagram Out acknowledged ∷ worked_datagram In (bl
 
 abbrev pub at_the_server : ℕ → List Datagram
 at_the_server last = worked_datagram In acknowledged ∷ worked_datagram Out (block_of last) ∷ []
+
+-- the same lists as captures, which begin with the oldest
+abbrev pub captured_at : End → List Datagram → Capture
+captured_at e passed = record { header = record { named = e; service = 69 }; datagrams = reverse passed }
+
+abbrev pub did : End → Deed → Event Deed
+did e deed = record { place = e; it = deed }

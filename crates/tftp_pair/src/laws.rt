@@ -1,6 +1,6 @@
 //! Laws of the definitions in `specs/`. Each is the contract of a function that does nothing.
 
-ghost use Rattle.std.specs.Prelude.{◌≡◌, ◌+◌, ◌≤◌, ◌↔◌, ℕ, Bool, List, length, reverse};
+ghost use Rattle.std.specs.Prelude.{◌≡◌, ◌+◌, ◌≤◌, ◌↔◌, ℕ, Bool, List, [], ◌∷◌, length, reverse};
 ghost use Rattle.tftp_packet.specs.Message.{Message};
 ghost use Rattle.tftp_packet.specs.declared.kinds.Dir.TheVariants.{In, Out};
 ghost use Rattle.tftp_ends.specs.CaptureText.{Header};
@@ -12,17 +12,18 @@ ghost use Rattle.tftp_judge.specs.SentByKept.{AreFlags, HasSentBy};
 ghost use Rattle.tftp_packet.specs.declared.kinds.End.{End};
 ghost use Rattle.tftp_packet.specs.declared.kinds.End.TheVariants.{Client, Server};
 ghost use Rattle.tftp_ends.specs.Meaning.{Meaning};
-ghost use Rattle.tftp_ends.specs.Machines.{Deed, MachinePacket, History};
+ghost use Rattle.tftp_ends.specs.Machines.{Deed, Sent, Took, MachinePacket, Data, Ack, History};
 ghost use Rattle.tftp_law.specs.Divides.{Divides};
 ghost use Rattle.tftp_law.specs.Law.{IsSeen};
 ghost use Rattle.tftp_pair.specs.Captures.{Capture, AreSeenTogether, AreConsistent, AreConsistentByRules};
-ghost use Rattle.tftp_pair.specs.Pair.{ArePair, AreMerged, MaySendEach};
+ghost use Rattle.tftp_pair.specs.Merged.{AreAllOpen};
+ghost use Rattle.tftp_pair.specs.Pair.{ArePair, IsOpen, AreMerged, MaySendEach};
 ghost use Rattle.tftp_law.specs.CaptureText.{Datagram};
 ghost use Rattle.tftp_law.specs.OneEnded.{OneEnded, Meant};
 ghost use Rattle.tftp_pair.specs.Counts.{PassedSoOften};
 ghost use Rattle.tftp_pair.specs.MatchedCaptures.{begun, IsNextIn, IsOpenIn, IsShut, AreMatchedTo};
 ghost use Rattle.tftp_pair.specs.Messages.{IsBrought, AreMergedBy, AreLawfulAndMerged, passed_in};
-ghost use Rattle.tftp_pair.specs.Worked.{at_the_client, at_the_server};
+ghost use Rattle.tftp_pair.specs.Worked.{worked_datagram, acknowledged, at_the_client, at_the_server, captured_at, did};
 
 /// Two histories are those of one run exactly if each end might send what it sent, by what it had done itself, and the
 /// two can be put into one order in which nothing was taken that had not been sent.
@@ -126,8 +127,26 @@ pub fn verdict_on_two_is_one()
         → IsPairVerdict client server n k i j → AreConsistent client server ↔ IsWholePair client server n k i j }
 {}
 
-/// A block of two bytes and its ACK, seen at both ends, are merged; with another last byte at the client they are not.
+/// In an order of both ends, what an end takes the other one has sent before. So the network may lose, repeat and reorder.
+pub fn worked_orders()
+    ensures brought { AreAllOpen IsOpen (did Server (Took (Data 1)) ∷ did Client (Sent (Data 1)) ∷ []) }
+    ensures too_early { AreAllOpen IsOpen (did Client (Sent (Data 1)) ∷ did Server (Took (Data 1)) ∷ []) → ⊥ }
+    ensures its_own { AreAllOpen IsOpen (did Client (Took (Data 1)) ∷ did Client (Sent (Data 1)) ∷ []) → ⊥ }
+    ensures lost { AreMerged [] (Sent (Data 1) ∷ []) }
+    ensures repeated { AreMerged (Took (Data 1) ∷ Took (Data 1) ∷ []) (Sent (Data 1) ∷ []) }
+    ensures reordered { AreMerged (Took (Data 1) ∷ Took (Data 2) ∷ []) (Sent (Data 2) ∷ Sent (Data 1) ∷ []) }
+    ensures unsent { AreMerged (Took (Data 1) ∷ []) [] → ⊥ }
+    ensures neither_first { AreMerged (Sent (Data 1) ∷ Took (Ack 0) ∷ []) (Sent (Ack 0) ∷ Took (Data 1) ∷ []) → ⊥ }
+{}
+
+/// A block of two bytes and its ACK, seen at both ends, are merged; with another last byte at the client they are not. What
+/// the other end took and did not send brings nothing. As captures they are matched to their ends and to no less; with the
+/// other byte the client's block waits, and behind it the server's ACK.
 pub fn worked_pairs()
     ensures merged { AreMergedBy (at_the_client 105) (at_the_server 105) }
     ensures changed { AreMergedBy (at_the_client 106) (at_the_server 105) → ⊥ }
+    ensures taken { IsBrought (worked_datagram In acknowledged ∷ []) (worked_datagram In acknowledged) → ⊥ }
+    ensures whole { AreMatchedTo (captured_at Client (at_the_client 105)) (captured_at Server (at_the_server 105)) 2 2 }
+    ensures less { AreMatchedTo (captured_at Client (at_the_client 105)) (captured_at Server (at_the_server 105)) 2 1 → ⊥ }
+    ensures waits { AreMatchedTo (captured_at Client (at_the_client 106)) (captured_at Server (at_the_server 105)) 0 1 }
 {}

@@ -1,49 +1,14 @@
 -- What is merged while two captures are read.
-use Rattle.std.proofs.Common.{◌≡◌, true, false, List, [], ◌∷◌, Option, Some, None, inl, inr, refl, sym, subst, ap, ◌∙◌}
-use Rattle.tftp_packet.specs.declared.kinds.End.{End}
-use Rattle.tftp_packet.specs.declared.kinds.End.TheVariants.{Client, Server}
+use Rattle.std.proofs.Common.{◌≡◌, true, false, List, ◌∷◌, Option, Some, None, inl, inr, sym, subst, ap, ◌∙◌}
 use Rattle.tftp_packet.specs.declared.kinds.Dir.TheVariants.{In, Out}
 use Rattle.tftp_ends.specs.CaptureText.{Datagram, Header}
-use Rattle.tftp_ends.specs.Roles.{other_end}
 use Rattle.tftp_ends.specs.Ports.{route_of, is_of_transfer, transfer_of}
 use Rattle.tftp_law.proofs.FirstAnswered.{main_none, main_some}
-use Rattle.tftp_pair.specs.Messages.{Event, seen_at, IsBrought, AreBrought, AreMergedBy}
+use Rattle.tftp_pair.specs.Messages.{IsBrought, AreMergedBy}
+use Rattle.tftp_pair.proofs.Merged.{at_client, at_server, turned}
 use Rattle.tftp_pair_judge.specs.Merging.{WasSent, with_held, Waits, AreMergedBut, IsAskedAgain}
 
 -- ---- the two ends the other way round
-
-abbrev turned_event : Event → Event
-turned_event s = record { place = other_end s.place; datagram = s.datagram }
-
-abbrev turned : List Event → List Event
-turned [] = []
-turned (s ∷ events) = turned_event s ∷ turned events
-
-seen_step : (e place : End) (d : Datagram) (events : List Event) → seen_at e (turned events) ≡ seen_at (other_end e) events
-    → seen_at e (turned (record { place = place; datagram = d } ∷ events)) ≡ seen_at (other_end e) (record { place = place; datagram = d } ∷ events)
-seen_step Client Client d events rest = rest
-seen_step Client Server d events rest = ap (λ (ds : List Datagram). d ∷ ds) rest
-seen_step Server Client d events rest = ap (λ (ds : List Datagram). d ∷ ds) rest
-seen_step Server Server d events rest = rest
-
-seen_turned : (e : End) (events : List Event) → seen_at e (turned events) ≡ seen_at (other_end e) events
-seen_turned e [] = refl
-seen_turned e (s ∷ events) = seen_step e s.place s.datagram events (seen_turned e events)
-
-brought_turned : (events : List Event) → AreBrought events → AreBrought (turned events)
-brought_turned [] all = tt
-brought_turned (s ∷ events) all = (by s.place all.0, brought_turned events all.1) where
-  by : (place : End) → IsBrought (seen_at (other_end place) events) s.datagram → IsBrought (seen_at (other_end (other_end place)) (turned events)) s.datagram
-  by Client is = subst (λ (ds : List Datagram). IsBrought ds s.datagram) (sym (seen_turned Client events)) is
-  by Server is = subst (λ (ds : List Datagram). IsBrought ds s.datagram) (sym (seen_turned Server events)) is
-
-merged_turned : (client server : List Datagram) → AreMergedBy client server → AreMergedBy server client
-merged_turned client server merged = record {
-  events = turned merged.events;
-  brought = brought_turned merged.events merged.brought;
-  client_list = seen_turned Client merged.events ∙ merged.server_list;
-  server_list = seen_turned Server merged.events ∙ merged.client_list;
-}
 
 pub but_turned : (held other_held : Option Datagram) (h k : Header) (read other_read : List Datagram) → AreMergedBut held other_held h read k other_read → AreMergedBut other_held held k other_read h read
 but_turned held other_held h k read other_read but = record {
@@ -53,18 +18,10 @@ but_turned held other_held h k read other_read but = record {
   other_is = but.is;
   waits = but.other_waits;
   other_waits = but.waits;
-  merged = merged_turned (transfer_of h but.part) (transfer_of k but.other_part) but.merged;
+  merged = turned IsBrought (transfer_of h but.part) (transfer_of k but.other_part) but.merged;
 }
 
 -- ---- one datagram more
-
-with_own : (own other : List Datagram) (d : Datagram) → IsBrought other d → AreMergedBy own other → AreMergedBy (d ∷ own) other
-with_own own other d brought merged = record {
-  events = record { place = Client; datagram = d } ∷ merged.events;
-  brought = (subst (λ (ds : List Datagram). IsBrought ds d) (sym merged.server_list) brought, merged.brought);
-  client_list = ap (λ (ds : List Datagram). d ∷ ds) merged.client_list;
-  server_list = merged.server_list;
-}
 
 with_main : (h : Header) (earlier : List Datagram) (d : Datagram) → is_of_transfer (route_of h earlier d) ≡ true → transfer_of h (d ∷ earlier) ≡ d ∷ transfer_of h earlier
 with_main h earlier d is = main_some (is_of_transfer (route_of h earlier d)) d (transfer_of h earlier) is
@@ -139,7 +96,7 @@ module _ (h k : Header) (read other_read : List Datagram) (d : Datagram) where
         other_is = but.other_is;
         waits = tt;
         other_waits = still other_held but.other_waits same;
-        merged = subst (λ (ds : List Datagram). AreMergedBy ds (transfer_of k but.other_part)) (sym same) (with_own (transfer_of h but.part) (transfer_of k but.other_part) d (λ _. brought) but.merged);
+        merged = subst (λ (ds : List Datagram). AreMergedBy ds (transfer_of k but.other_part)) (sym same) (at_client IsBrought d (transfer_of h but.part) (transfer_of k but.other_part) (λ _. brought) but.merged);
       }
     where
       still : (o : Option Datagram) → Waits k but.other_part o (transfer_of h but.part) → transfer_of h (d ∷ but.part) ≡ d ∷ transfer_of h but.part → Waits k but.other_part o (transfer_of h (d ∷ but.part))
@@ -159,7 +116,7 @@ module _ (h k : Header) (read other_read : List Datagram) (d : Datagram) where
       same = with_main h but.part d on
 
       more : (part : List Datagram) → AreMergedBy (transfer_of h but.part) (transfer_of k part) → AreMergedBy (transfer_of h (d ∷ but.part)) (transfer_of k part)
-      more part merged = subst (λ (ds : List Datagram). AreMergedBy ds (transfer_of k part)) (sym same) (with_own (transfer_of h but.part) (transfer_of k part) d (λ came. absurd (in_is_not_out d came went)) merged)
+      more part merged = subst (λ (ds : List Datagram). AreMergedBy ds (transfer_of k part)) (sym same) (at_client IsBrought d (transfer_of h but.part) (transfer_of k part) (λ came. absurd (in_is_not_out d came went)) merged)
 
       by : (o n : Option Datagram) (part : List Datagram) → other_read ≡ with_held o part → Waits k part o (transfer_of h but.part) → AreMergedBy (transfer_of h but.part) (transfer_of k part)
           → IsAskedAgain o n (transfer_of h (d ∷ but.part)) → AreMergedBut None n h (d ∷ read) k other_read
@@ -180,8 +137,7 @@ module _ (h k : Header) (read other_read : List Datagram) (d : Datagram) where
         waits = tt;
         other_waits = tt;
         merged = subst (λ (ds : List Datagram). AreMergedBy (transfer_of h (d ∷ but.part)) ds) (sym (with_main k part e waits.0))
-            (merged_turned (e ∷ transfer_of k part) (transfer_of h (d ∷ but.part))
-            (with_own (transfer_of k part) (transfer_of h (d ∷ but.part)) e (λ _. asked_now) (merged_turned (transfer_of h (d ∷ but.part)) (transfer_of k part) (more part merged))));
+            (at_server IsBrought e (transfer_of h (d ∷ but.part)) (transfer_of k part) (λ _. asked_now) (more part merged));
       }
       by (Some e) (Some f) part is_read waits merged asked_now = record {
         part = d ∷ but.part;
