@@ -61,6 +61,23 @@ def counts_of(ends: tuple[Steps, Steps]) -> tuple[int, int]:
     return lost, repeated
 
 
+def copies_in(ends: tuple[Steps, Steps]) -> list[str]:
+    """The lines of the packets of a simulated transfer, in any order."""
+    lines = []
+    for own, name in enumerate(ENDS):
+        sent = Counter(label_of(step[1]) for step in ends[own] if step and step[0])
+        taken = Counter(label_of(step[1]) for step in ends[1 - own] if step and not step[0])
+        lines += [f"{name} {it} sent {sent[it]} taken {taken[it]}" for it in sent | taken]
+    return lines
+
+
+def label_of(packet: Packet) -> str:
+    """The words by which a packet of a simulated transfer is counted."""
+    if packet.kind in ("data", "ack"):
+        return f"{packet.kind.upper()} {packet.number % 65_536}"
+    return {"request": "request", "oack": "OACK", "error": "ERROR"}[packet.kind]
+
+
 def why_of(ends: tuple[Steps, Steps], own: int, at: int) -> str:
     """Why the next step of an end waits: whether the other end sends it at all."""
     step = ends[own][at]

@@ -23,7 +23,7 @@ from typing import Any
 
 sys.dont_write_bytecode = True
 
-from both import counts_of  # noqa: E402
+from both import copies_in, counts_of  # noqa: E402
 from captures import Capture, EndName, Packet, ack, blocks, data, error, oack, read_request, write_request  # noqa: E402
 from fuzzing.meanings import Spelling, meaning_of  # noqa: E402
 from fuzzing.transfers import ENDS, Step, Transfer  # noqa: E402
@@ -315,6 +315,45 @@ def in_json(trial: MatchTrial) -> None:
         trial.check(f"{wrong} WrongEnd", (got["fault"], got["together"], ended) == (f"{wrong} WrongEnd", None, 2), got)
 
 
+def counted(trial: MatchTrial) -> None:
+    """With --counts a line for each packet, with how many copies were sent and taken, in JSON too."""
+    asked, acked, block = "client request sent 1 taken 1", "client ACK 1 sent 1 taken 1", "server DATA 1 sent 1 taken 1"
+    both = repeated(3, 1)
+    both.put("client", ack(1), sent=1, taken=2)
+    both.put("server", error(3, "full"), taken=0)
+    strange = strayed()
+    cases: tuple[tuple[str, Both, list[str]], ...] = (
+        ("worked", read_of_two_bytes(), [asked, acked, block]),
+        ("last byte changed", read_of_two_bytes(b"hj"), [asked, acked, block]),
+        ("lost and repeated", both, [
+            asked, "client ACK 1 sent 2 taken 3", "server ERROR sent 1 taken 0", "server DATA 1 sent 3 taken 1",
+        ]),
+        ("strays do not count", strange, [asked, acked, block]),
+        ("a write", written(), [
+            asked, "client DATA 1 sent 1 taken 1", "server OACK sent 1 taken 1", "server ACK 1 sent 1 taken 1",
+        ]),
+        ("windows", windowed(), [
+            asked, *(f"client ACK {number} sent 1 taken 1" for number in (0, 4, 6)), "server OACK sent 1 taken 1",
+            *(f"server DATA {number} sent 1 taken 1" for number in range(1, 7)),
+        ]),
+        ("a refused side", ahead(), [asked, "client ACK 1 sent 0 taken 1", block]),
+    )
+    for name, it, wanted in cases:
+        lines, _, status = texts_of(trial, it)
+        got = trial.said_of("client server", "--counts")
+        trial.check(f"{name}, counted", got == ([*lines, *wanted], "", status), (got, wanted))
+        told = trial.said_of("client server", "--counts", "--json")[0]
+        counts = [of_json_count(count) for count in json.loads(told[0])["counts"]]
+        trial.check(f"{name}, counted in JSON", counts == wanted, (counts, wanted))
+    plain = trial.of_json("client server")[0]
+    trial.check("not asked for", plain["counts"] is None, plain)
+
+
+def of_json_count(it: dict[str, Any]) -> str:
+    block = "" if it["block"] is None else f" {it['block']}"
+    return f"{it['from']} {it['packet']}{block} sent {it['sent']} taken {it['taken']}"
+
+
 def third_of(told: dict[str, Any]) -> str:
     """The third line, of what is told in JSON."""
     together = told["together"]
@@ -420,14 +459,17 @@ def simulated(trial: MatchTrial, seed: int) -> None:
     client, server = (View(chance, meaning, wire, end, transfer.passed[end], spelling) for end in ENDS)
     paths = [trial.folder / end for end in ENDS]
 
-    def said(texts: tuple[bytes, bytes]) -> tuple[str, int]:
+    def said(texts: tuple[bytes, bytes], *more: str) -> tuple[str, int]:
         for path, text in zip(paths, texts):
             path.write_bytes(text)
-        output, errors, status = trial.run([str(path) for path in paths])
+        output, errors, status = trial.run([*more, *(str(path) for path in paths)])
         return "\n".join((*output[2:], errors)), status
 
     got = said((client.capture.spelled(chance), server.capture.spelled(chance)))
     trial.check(f"both ends of {seed}", got == (f"{third((client.steps, server.steps))}\n", 0), got)
+    output = said((client.capture.text(), server.capture.text()), "--counts")[0].splitlines()[1:]
+    copies = copies_in((client.steps, server.steps))
+    trial.check(f"both ends of {seed}, counted", sorted(it for it in output if it) == sorted(copies), (output, copies))
     counts = [chance.randrange(len(view.steps) + 1) for view in (client, server)]
     wanted = third((client.steps[: counts[0]], server.steps[: counts[1]]))
     got = said((client.capture.text(counts[0]), server.capture.text(counts[1])))
@@ -454,6 +496,7 @@ def main() -> int:
         recorded(trial)
         several(trial)
         in_json(trial)
+        counted(trial)
         words(trial)
         if asked.refuse:
             failing(trial, asked.refuse)
