@@ -23,7 +23,7 @@ from captures import EndName
 from fuzzing.transfers import ENDS
 from judged import said
 from loopback import (
-    ATFTPD, CURL, DNSMASQ, HPA, INSIDE, RELAY, SERVER, Case, enter_namespace, make_files, missing, record, set_up,
+    ATFTPD, CURL, DNSMASQ, HPA, INSIDE, RELAY, SERVER, Case, enter_namespace, make_files, record, try_all,
 )
 from relay import Disturbance, Relay
 from trial import Trial
@@ -151,16 +151,7 @@ def try_case(trial: Trial, programs: tuple[str, str], case: Case, keep: pathlib.
 
 
 def main(transfers: str, match: str, folder: Optional[str]) -> int:
-    set_up()
-    trial = Trial()
-    with tempfile.TemporaryDirectory() as scratch:
-        for case in CASES:
-            lacking = missing(case)
-            if lacking:
-                print(f"{case.name} is not tried, since it is not installed: {', '.join(lacking)}")
-            else:
-                try_case(trial, (transfers, match), case, pathlib.Path(folder or scratch).resolve())
-    return trial.end()
+    return try_all(CASES, folder, lambda trial, case, keep: try_case(trial, (transfers, match), case, keep))
 
 
 if __name__ == "__main__":

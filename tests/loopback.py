@@ -19,7 +19,7 @@ import subprocess
 import sys
 import tempfile
 import time
-from collections.abc import Iterator, Sequence
+from collections.abc import Callable, Iterator, Sequence
 from typing import Optional
 
 from judged import Row, checked
@@ -282,17 +282,22 @@ def set_up() -> None:
         subprocess.run(["ip", "addr", "add", address, "dev", "lo"], check=True)
 
 
-def main(transfers: str, folder: Optional[str]) -> int:
+def try_all(cases: Sequence[Case], folder: Optional[str], try_one: Callable[[Trial, Case, pathlib.Path], None]) -> int:
+    """Tries each case whose programs are installed, with its recording in the folder, if one is named."""
     set_up()
     trial = Trial()
     with tempfile.TemporaryDirectory() as scratch:
-        for case in CASES:
+        for case in cases:
             lacking = missing(case)
             if lacking:
                 print(f"{case.name} is not tried, since it is not installed: {', '.join(lacking)}")
             else:
-                try_case(trial, transfers, case, pathlib.Path(folder or scratch).resolve())
+                try_one(trial, case, pathlib.Path(folder or scratch).resolve())
     return trial.end()
+
+
+def main(transfers: str, folder: Optional[str]) -> int:
+    return try_all(CASES, folder, lambda trial, case, keep: try_case(trial, transfers, case, keep))
 
 
 if __name__ == "__main__":
