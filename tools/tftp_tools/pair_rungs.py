@@ -11,7 +11,7 @@ from .merged import CAME, CHANGED, LOST, REPEATED, STRAY, UNSENT, Event, merged_
 from .packets import Ack, Data, Error, Request, count
 from .pairs import OTHER, Pair
 from .recording import ENDS
-from .rungs import EDGE, NEAR, SHORTEST_FOLD, span
+from .rungs import EDGE, NEAR, span, with_folds
 
 NOTES = {LOST: "lost", REPEATED: "repeated on the way", UNSENT: "never sent", CHANGED: "changed on the way"}
 HOW_MANY = ((LOST, "did not come"), (REPEATED, "came once more than sent"), (CHANGED, "came with other bytes"),
@@ -128,16 +128,8 @@ class PairRungs:
         return {half for at in places for half in self.halves(at)}
 
     def rows(self, most: int) -> Iterator[Row]:
-        """The places that are kept, and folds of the others; a run too short to be worth it is not folded."""
-        places, run = self.kept(most), []
-        for at in range(len(self.merged.events)):
-            if at not in places:
-                run.append(at)
-                continue
-            yield from folded(run)
-            run = []
-            yield at
-        yield from folded(run)
+        """The places that are kept, and folds of the others."""
+        return with_folds(range(len(self.merged.events)), self.kept(most), Fold)
 
     def told_fold(self, row: Fold) -> tuple[str, str]:
         """What a fold has: how many datagrams of each end, and which blocks."""
@@ -166,10 +158,3 @@ class PairRungs:
         """The unmatched datagrams, in words."""
         firsts = [at for at, event in enumerate(self.merged.events) if self.is_first(event)]
         return " ".join(f"Unmatched is {self.hover(at)}." for at in firsts)
-
-
-def folded(run: list[int]) -> Iterator[Row]:
-    if len(run) < SHORTEST_FOLD:
-        yield from run
-    else:
-        yield Fold(tuple(run))

@@ -7,7 +7,7 @@ from dataclasses import dataclass
 from xml.sax.saxutils import escape
 
 from .capture import Capture
-from .colours import picture_style
+from .drawn import framed
 from .facts import Facts, facts_of, times_of
 from .history import History, repeats
 from .packets import Ack, Data, count
@@ -161,14 +161,8 @@ class Plot:
         return " ".join(told)
 
     def picture(self, is_alone: bool) -> str:
-        size = f'width="{WIDTH}" height="{HEIGHT}" viewBox="0 0 {WIDTH} {HEIGHT}"'
-        head = f'<svg xmlns="http://www.w3.org/2000/svg" {size} role="img"'
-        head += f' aria-labelledby="{self.name}-title {self.name}-desc">'
-        title = f'<title id="{self.name}-title">Block numbers over time: {escape(self.verdict.line)}</title>'
-        desc = f'<desc id="{self.name}-desc">{escape(self.described())}</desc>'
-        style = [f"<style>{picture_style()}</style>"] if is_alone else []
-        ground = '<rect width="100%" height="100%" class="f-ground"/>'
-        return "\n".join([head, title, desc, *style, ground, *self.parts, "</svg>\n"])
+        told = f"Block numbers over time: {self.verdict.line}", self.described()
+        return framed((WIDTH, HEIGHT), self.name, told, self.parts, is_alone)
 
 
 def plot(capture: Capture, verdict: Verdict, name: str = "plot", is_alone: bool = True) -> str:

@@ -2,9 +2,9 @@
 note, folded into one."""
 from __future__ import annotations
 
-from collections.abc import Iterator
+from collections.abc import Callable, Iterable, Iterator
 from dataclasses import dataclass
-from typing import Union
+from typing import TypeVar, Union
 
 from .capture import Capture
 from .history import History, Passed, repeats
@@ -50,6 +50,8 @@ class Fold:
 
 
 Row = Union[Rung, Fold]
+T = TypeVar("T")
+F = TypeVar("F")
 
 
 def rungs_of(capture: Capture, verdict: Verdict) -> tuple[list[Rung], History]:
@@ -83,23 +85,28 @@ def kept(rungs: list[Rung], rows: int) -> set[int]:
 
 
 def folded(rungs: list[Rung], rows: int) -> Iterator[Row]:
-    """The rungs that are kept, and folds of the others; a run too short to be worth it is not folded."""
-    places, run = kept(rungs, rows), []
-    for at, rung in enumerate(rungs):
+    """The rungs that are kept, and folds of the others."""
+    return with_folds(rungs, kept(rungs, rows), Fold)
+
+
+def with_folds(each: Iterable[T], places: set[int], fold: Callable[[tuple[T, ...]], F]) -> Iterator[Union[T, F]]:
+    """Those at the places, and folds of the runs between; a run too short to be worth it is not folded."""
+    run: list[T] = []
+    for at, it in enumerate(each):
         if at not in places:
-            run.append(rung)
+            run.append(it)
             continue
-        yield from fold(run)
+        yield from folds_of(run, fold)
         run = []
-        yield rung
-    yield from fold(run)
+        yield it
+    yield from folds_of(run, fold)
 
 
-def fold(run: list[Rung]) -> Iterator[Row]:
+def folds_of(run: list[T], fold: Callable[[tuple[T, ...]], F]) -> Iterator[Union[T, F]]:
     if len(run) < SHORTEST_FOLD:
         yield from run
     else:
-        yield Fold(tuple(run))
+        yield fold(tuple(run))
 
 
 def span(blocks: list[int], thing: str) -> str:
