@@ -129,7 +129,7 @@ class PairRungs:
 
     def rows(self, most: int) -> Iterator[Row]:
         """The places that are kept, and folds of the others."""
-        return with_folds(range(len(self.merged.events)), self.kept(most), Fold)
+        yield from with_folds(range(len(self.merged.events)), self.kept(most), Fold)
 
     def told_fold(self, row: Fold) -> tuple[str, str]:
         """What a fold has: how many datagrams of each end, and which blocks."""

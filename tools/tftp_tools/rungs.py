@@ -86,7 +86,7 @@ def kept(rungs: list[Rung], rows: int) -> set[int]:
 
 def folded(rungs: list[Rung], rows: int) -> Iterator[Row]:
     """The rungs that are kept, and folds of the others."""
-    return with_folds(rungs, kept(rungs, rows), Fold)
+    yield from with_folds(rungs, kept(rungs, rows), Fold)
 
 
 def with_folds(each: Iterable[T], places: set[int], fold: Callable[[tuple[T, ...]], F]) -> Iterator[Union[T, F]]:
