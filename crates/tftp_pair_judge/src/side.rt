@@ -149,6 +149,8 @@ impl<D: Delivered + Drop> Side<D> {
             → AreFlags (flags_of self.new.acks) (datagram_of datagram.now ∷ passed) }
         ensures counted { (passed : List DatagramParts) → AreCounted self.old.counts passed
             → AreCounted self.new.counts (datagram_of datagram.now ∷ passed) }
+        ensures counting { (c : Counted) → self.old.counts ≡ Some c
+            → IfNone self.new.counts (TakesRoom (counts_of datagram.now.dir c) (packet_of (datagram_of datagram.now).payload)) }
         ensures judge { self.new.judge ≡ self.old.judge }
         ensures held { self.new.held ≡ self.old.held }
     {
@@ -173,7 +175,7 @@ impl<D: Delivered + Drop> Side<D> {
     /// Counts a datagram of the transfer, while there is memory for it.
     fn count(&mut self, datagram: &Datagram)
         ensures counted { (passed : List DatagramParts) → AreCounted self.old.counts passed → AreCounted self.new.counts (datagram_of datagram.now ∷ passed) }
-        ensures goes_on { (c : Counted) → self.old.counts ≡ Some c
+        ensures counting { (c : Counted) → self.old.counts ≡ Some c
             → IfNone self.new.counts (TakesRoom (counts_of datagram.now.dir c) (packet_of (datagram_of datagram.now).payload)) }
         ensures judge { self.new.judge ≡ self.old.judge }
         ensures acks { self.new.acks ≡ self.old.acks }
@@ -218,6 +220,8 @@ impl<D: Delivered + Drop> Side<D> {
         ensures for_good { (refusal : RefusalKind) → self.old.judge.refused ≡ Some refusal → (result ≡ Err refusal) × (self.new ≡ self.old) }
         ensures held { self.new.held ≡ self.old.held }
         ensures counts { OnOk result (self.new.judge.fed ≡ self.old.judge.fed + 1) }
+        ensures counting { (c : Counted) → self.old.counts ≡ Some c
+            → IfNone self.new.counts (TakesRoom (counts_of datagram.now.dir c) (packet_of (datagram_of datagram.now).payload)) }
     {
         self.judge.feed(alloc, datagram)?;
         let main = self.judge.last_was_of_transfer();
