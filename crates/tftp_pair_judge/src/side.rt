@@ -287,6 +287,8 @@ impl<D: Delivered + Drop> Side<D> {
             → self.old.judge.refused ≡ None → IfErr result (Refuses h read (datagram_of datagram.old)) }
         ensures stays { (h k : HeaderParts) (read other_read : List DatagramParts) → AreSidesAfter self.old other.old h read k other_read
             → IfErr result (λ refusal. AreSidesAfter self.new other.new h read k other_read) }
+        ensures counting { (c : Counted) → self.old.counts ≡ Some c
+            → IfNone self.new.counts (TakesRoom (counts_of datagram.old.dir c) (packet_of (datagram_of datagram.old).payload)) }
         ensures keeps { IfErr result (λ refusal. self.new.judge.refused ≡ Some refusal) }
         ensures goes_on { self.old.judge.refused ≡ None → OnOk result (self.new.judge.refused ≡ None) }
         ensures for_good { (refusal : RefusalKind) → self.old.judge.refused ≡ Some refusal
