@@ -31,6 +31,13 @@ def add_pair(parser: argparse.ArgumentParser) -> None:
     parser.add_argument(OPTIONS[MATCH], metavar="PATH", help=f"the program {MATCH}, where it is not found by itself")
 
 
+def is_of_pair(asked: argparse.Namespace) -> bool:
+    """Whether a script is asked for a pair; the words of a pair are refused elsewhere."""
+    if asked.pair is None and (asked.transfer, asked.server_transfer) != (None, None):
+        raise Refused("--transfer and --server-transfer go with --pair: a transfer's number stands behind its recording")
+    return asked.pair is not None
+
+
 @dataclass(frozen=True)
 class Pair:
     """Both captures, the verdicts on each alone, and the line on the two, of which there is none where a text's fault
