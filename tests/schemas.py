@@ -119,7 +119,8 @@ def written(program: str, transfers: str, match: str) -> dict[str, list[Any]]:
     for command in ("check", "list"):
         found[command] = [it for path in recordings for it in lines_of(transfers, command, "--json", path)]
     found["explain"] += lines_of(*explain, "-", given=PAGE)
-    found["match"] = [it for path in recordings for it in lines_of(match, "--json", "--transfer", "1", path, path)]
+    asked = ["--json", "--counts", "--transfer", "1"]
+    found["match"] = [it for path in recordings for it in lines_of(match, *asked, path, path)]
     for text in texts:
         ends = (text, session) if b"\nend client\n" in text.read_bytes() else (session, text)
         found["match"] += lines_of(match, "--json", "--transfer", "2", *ends)
