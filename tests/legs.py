@@ -111,15 +111,18 @@ def is_told(line: str, text: bytes) -> bool:
 
 def is_right(lines: list[str], texts: dict[EndName, bytes], case: Case, relay: Relay) -> bool:
     """Whether each end is accepted, and the two are matched where nothing was changed, with what was lost and repeated,
-    and else unmatched at the datagram that was changed. Of ends that are refused all that is lawful goes together."""
+    and else unmatched at the datagram that was changed. Of ends that are refused all that is lawful goes together, up to
+    what is refused."""
     changes = [sender for sender, _, what in case.disturbed if what == "changed"]
     if len(lines) != 3 or not all(is_told(line, texts[end]) for end, line in zip(ENDS, lines)):
         return False
     third = lines[2]
     if len(relay.changed) != len(changes):
         return False
-    if not changes and any(line.startswith("refused ") for line in lines[:2]):
-        return third == "unmatched client datagram - server datagram -"
+    behind = [BEHIND.fullmatch(line) for line in lines[:2]]
+    if not changes and any(behind):
+        client, server = (found[1] if found else "-" for found in behind)
+        return third == f"unmatched client datagram {client} server datagram {server}"
     if not changes:
         found = MATCHED.fullmatch(third)
         return found is not None and (not found[1] or (int(found[1]), int(found[2])) == relay.counts())
