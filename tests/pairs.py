@@ -28,6 +28,8 @@ EXPLAIN, LADDER = TOOLS / "tftp-explain", TOOLS / "tftp-ladder"
 EXAMPLES = TOOLS.parent / "examples"
 # The two legs of a relay, the first of which is the client's: it lost a datagram and repeated another.
 LEGS = EXAMPLES / "loopback-lost-and-repeated.pcap"
+# The same with a server that sent a block behind the last one, which both ends refuse.
+BEHIND = EXAMPLES / "loopback-behind-last.pcap"
 STAND_IN = "#!/bin/sh\ncat >/dev/null\ncat <<'END'\n{lines}\nEND\nexit {status}\n"
 SECOND = 1_000_000_000
 Ran = tuple[str, str, int]
@@ -364,6 +366,9 @@ def try_recordings(trial: Pairs) -> None:
         for name, more, given in cases:
             got = trial.run(script, [*programs, *more], given)
             trial.check(f"{script.name}, recordings, {name}", got == wanted, got)
+        got = trial.run(script, [*programs, *number, *server_number, "--pair", BEHIND, BEHIND])
+        holds = "unmatched client datagram 53 server datagram 52" in got[0] and got[0].count("BlockLength") >= 2
+        trial.check(f"{script.name}, a block behind the last one", holds and not got[1], got)
         got = trial.run(script, [*programs, "--pair", LEGS, LEGS])
         trial.check(f"{script.name}, two like transfers", got[0] == "" and "name one by" in got[1] and got[2] == 2, got)
 
