@@ -122,7 +122,8 @@ LISTED = (
         21, "BlockLength", "each block but the last is whole, and the last is shorter, as long as an agreed size"
         " leaves it", "RFC 1350, section 6, RFC 2348, and RFC 2349 for the size",
         "an end that does not use the block size that was agreed (Erlang tftp, Net::TFTPd); a file that changed while"
-        " it was sent; curl's write after a repeated OACK; atftp's write, which sends an empty block after the last",
+        " it was sent; curl's write after a repeated OACK; atftp's write and atftpd's read, which send an empty block"
+        " after the last",
     ),
     Rule(
         22, "WindowOverrun", "no block is more than a window above the last one acknowledged",
