@@ -381,24 +381,30 @@ def words(trial: MatchTrial) -> None:
 def failing(trial: MatchTrial, shim: str) -> None:
     """Each growth refused, and each read failing, in turn: all is said, or the status is 2 and each line that there is
     tells of it or is its own."""
-    texts = read_of_two_bytes().texts()
-    server, met = trial.folder / "server", trial.folder / "met"
-    server.write_bytes(texts[1])
+    text, counts = read_of_two_bytes().texts(), ["client request", "client ACK 1", "server DATA 1"]
+    (trial.folder / "server").write_bytes(text[1])
     for turn, told in (("REFUSE", "fault memory"), ("FAIL_READ", "fault line [1-9][0-9]* Read")):
-        line = re.compile(f"{READ}|{told}")
-        for number in range(1, 1000):
-            met.unlink(missing_ok=True)
-            setting = {**os.environ, "LD_PRELOAD": shim, "MET": str(met), turn: str(number)}
-            command = [trial.program, "-", str(server)]
-            done = subprocess.run(command, input=texts[0], capture_output=True, env=setting, timeout=60, check=False)
-            lines = done.stdout.decode().splitlines()
-            is_whole = done.returncode == 0 and lines == [READ, READ, MATCHED]
-            is_uncounted = done.returncode == 0 and lines == [READ, READ, "matched"] and turn == "REFUSE"
-            if not met.exists():
-                trial.check(f"{turn} {number}", is_whole and number > 1, done)
-                break
-            holds = done.returncode == 2 and all(line.fullmatch(it) for it in lines) and len(lines) in (0, 2)
-            trial.check(f"{turn} {number}", is_whole or is_uncounted or holds, done)
+        fail_each(trial, shim, (turn, told), (text[0], [], []))
+        fail_each(trial, shim, (turn, told), (text[0], ["--counts"], [f"{it} sent 1 taken 1" for it in counts]))
+
+
+def fail_each(trial: MatchTrial, shim: str, how: tuple[str, str], asked: tuple[bytes, list[str], list[str]]) -> None:
+    """The client's text on standard input, with further words, for which these lines come behind the third."""
+    (turn, told), (given, words, counts) = how, asked
+    line, met = re.compile(f"{READ}|{told}"), trial.folder / "met"
+    for number in range(1, 1000):
+        met.unlink(missing_ok=True)
+        setting = {**os.environ, "LD_PRELOAD": shim, "MET": str(met), turn: str(number)}
+        command = [trial.program, *words, "-", str(trial.folder / "server")]
+        done = subprocess.run(command, input=given, capture_output=True, env=setting, timeout=60, check=False)
+        lines = done.stdout.decode().splitlines()
+        is_whole = done.returncode == 0 and lines == [READ, READ, MATCHED, *counts]
+        is_uncounted = done.returncode == 0 and lines == [READ, READ, "matched"] and turn == "REFUSE" and not words
+        if not met.exists():
+            trial.check(f"{turn} {number} {words}", is_whole and number > 1, done)
+            break
+        holds = done.returncode == 2 and all(line.fullmatch(it) for it in lines) and len(lines) in (0, 2)
+        trial.check(f"{turn} {number} {words}", is_whole or is_uncounted or holds, done)
 
 
 def merged(ends: tuple[list[Step | None], list[Step | None]]) -> tuple[int, int]:
