@@ -1,1 +1,1 @@
-mod Growing
+pub mod Growing

@@ -1,12 +1,12 @@
--- Which packet a message is counted as (RFC 1350, section 5; RFC 2347).
-use Rattle.tftp_packet.specs.Message as message
-use Rattle.tftp_packet.specs.Message.{Message}
+-- Which packet a message is a copy of (RFC 1350, section 5; RFC 2347).
+use Rattle.tftp_packet.specs.Message.{Message, Request, Data, Ack, Error, Oack}
 use Rattle.tftp_counts.specs.declared.packets.CountedPacket.{CountedPacket}
-use Rattle.tftp_counts.specs.declared.packets.CountedPacket.TheVariants.{Opening, Error, Data, Ack}
+use Rattle.tftp_counts.specs.declared.packets.CountedPacket.TheVariants as packet
 
+-- the packet under which a message is counted: a request and an OACK open a transfer
 abbrev pub named : Message → CountedPacket
-named (message.Request parts) = Opening
-named (message.Data block bytes) = Data block
-named (message.Ack block) = Ack block
-named (message.Error code text) = Error
-named (message.Oack options) = Opening
+named (Request parts) = packet.Opening
+named (Data block bytes) = packet.Data block
+named (Ack block) = packet.Ack block
+named (Error code message) = packet.Error
+named (Oack options) = packet.Opening

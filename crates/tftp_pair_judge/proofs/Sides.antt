@@ -1,5 +1,5 @@
 -- What is kept of one end stands for its datagrams.
-use Rattle.std.proofs.Common.{◌≡◌, ◌⊎◌, ◌↔◌, ◌||◌, ◌==◌, ℕ, Bool, true, false, IsTrue, List, ◌∷◌, Option, Some, None, IfNone, IfSome, Result, Ok, Err, inl, inr, refl, sym, subst, ap, ◌∙◌}
+use Rattle.std.proofs.Common.{◌≡◌, ◌≤◌, ◌<◌, ◌+◌, ◌⊎◌, ◌↔◌, ◌||◌, ◌==◌, if◌then◌else◌, ℕ, suc, Bool, true, false, IsTrue, List, [], ◌∷◌, length, Option, Some, None, IfNone, IfSome, Result, Ok, Err, inl, inr, refl, sym, subst, ap, ◌∙◌, arith}
 use Rattle.std.specs.Prelude.{IfErr, OnOk}
 use Rattle.std.proofs.lemmas.Bool.{eqb-true, eq-eqb}
 use Rattle.tftp_packet.specs.Message.{Message}
@@ -14,7 +14,8 @@ use Rattle.tftp_judge.specs.Kept.{IsJudgeAfter, IsKept, Judge, Transfer}
 use Rattle.tftp_judge.specs.SentByKept.{AreFlags, HasSentIn, flags_of}
 use Rattle.tftp_judge.specs.declared.refusal.Refusal.{Refusal}
 use Rattle.tftp_pair.proofs.SentByKept.{sent_by_kept}
-use Rattle.tftp_counts.specs.Counts.{AreCounted, Counted}
+use Rattle.tftp_counts.specs.Counts.{AreCounted, AreTooMany, Counted}
+use Rattle.tftp_counts.proofs.Growing.{many_of_many}
 use Rattle.tftp_pair_judge.specs.Merging.{AreMergedBut, IsAskedAgain, WasSent}
 use Rattle.tftp_pair_judge.specs.Kept.{AreSidesAfter, HasSame, IsSideAfter, Side}
 use Rattle.tftp_pair_judge.proofs.Merging.{but_turned, merges_held, merges_in, merges_out, merges_stray}
@@ -84,8 +85,28 @@ flags_after_main flags h read d is are = subst (AreFlags flags) (sym (main_some 
 
 -- ---- the side
 
-pub side_of_judge : (s : Side) (h : Header) (read : List Datagram) → IsJudgeAfter s.judge h read → AreFlags (flags_of s.acks) (transfer_of h read) → AreCounted s.counts (transfer_of h read) → IsSideAfter s h read
-side_of_judge s h read j acks counted = record { goes_on = λ _. j; lawful = j.lawful; short = j.short; kept = j.has_kept.kept; fed = j.fed; acks = acks; counted = counted }
+pub side_of_judge : (s : Side) (h : Header) (read : List Datagram) → IsJudgeAfter s.judge h read → AreFlags (flags_of s.acks) (transfer_of h read) → AreCounted s.counts (transfer_of h read) → length read ≤ 1099511627776 → IsSideAfter s h read
+side_of_judge s h read j acks counted few = record { goes_on = λ _. j; lawful = j.lawful; short = j.short; kept = j.has_kept.kept; fed = j.fed; few = few; acks = acks; counted = counted }
+
+-- one more, where the judge has accepted fewer than 2^40
+pub one_more : (fed n : ℕ) → fed ≡ n → fed < 1099511627776 → suc n ≤ 1099511627776
+one_more fed n is low = omega (arith, is, low)
+
+transfer_within : (h : Header) (read : List Datagram) → length (transfer_of h read) ≤ length read
+transfer_within h [] = omega arith
+transfer_within h (d ∷ read) = by (is_of_transfer (route_of h read d)) (transfer_within h read) where
+  by : (main : Bool) → length (transfer_of h read) ≤ length read → length (if main then d ∷ transfer_of h read else transfer_of h read) ≤ suc (length read)
+  by true low = omega (arith, low)
+  by false low = omega (arith, low)
+
+-- No more is lost, or made, between two sides than fits 64 bits.
+pub not_too_many : (own other : Side) (h k : Header) (read other_read : List Datagram) → IsSideAfter own h read → IsSideAfter other k other_read → AreTooMany (transfer_of h read) (transfer_of k other_read) → ⊥
+not_too_many own other h k read other_read after other_after many =
+    few_between (length read) (length other_read) (length (transfer_of h read)) (length (transfer_of k other_read)) after.few other_after.few
+    (transfer_within h read) (transfer_within k other_read) (many_of_many (transfer_of h read) (transfer_of k other_read) many)
+  where
+    few_between : (n k i j : ℕ) → n ≤ 1099511627776 → k ≤ 1099511627776 → i ≤ n → j ≤ k → 70368744177664 ≤ i + j → ⊥
+    few_between n k i j few other_few in_n in_k many = omega (arith, few, other_few, in_n, in_k, many)
 
 pub none_map : {T : Type 0} {P Q : Type 0} (o : Option T) → (P → Q) → IfNone o P → IfNone o Q
 none_map None to is = to is
@@ -108,6 +129,7 @@ same_side old new h read same after = record {
   short = after.short;
   kept = subst (λ (j : Judge). IsKept h read j.keeper.transfer) (sym same.0) after.kept;
   fed = ap (λ (j : Judge). j.fed) same.0 ∙ after.fed;
+  few = after.few;
   acks = subst (λ (ws : List ℕ). AreFlags (flags_of ws) (transfer_of h read)) (sym same.1) after.acks;
   counted = subst (λ (counts : Option Counted). AreCounted counts (transfer_of h read)) (sym same.2) after.counted;
 }
@@ -120,6 +142,7 @@ refused_side old new h read r refused transfer fed acks counts after = record {
   short = after.short;
   kept = subst (IsKept h read) (sym transfer) after.kept;
   fed = fed ∙ after.fed;
+  few = after.few;
   acks = subst (λ (ws : List ℕ). AreFlags (flags_of ws) (transfer_of h read)) (sym acks) after.acks;
   counted = subst (λ (o : Option Counted). AreCounted o (transfer_of h read)) (sym counts) after.counted;
 }

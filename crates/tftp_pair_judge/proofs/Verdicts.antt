@@ -18,7 +18,7 @@ use Rattle.tftp_pair.specs.Waiting.{IsSentAmong, IsSentLater, IsUnsent}
 use Rattle.tftp_pair_judge.specs.Merging.{WasSent, with_held, Waits, AreMergedBut, IsWaitFor}
 use Rattle.tftp_pair_judge.specs.Kept.{IsSideAfter, Side}
 use Rattle.tftp_pair_judge.specs.Rest.{IsLeftAfter, IsRestAfter, Left, Rest}
-use Rattle.tftp_counts.specs.Counts.{AreCounted, AreLostBetween, AreRepeatedBetween, AreTooMany, Counted}
+use Rattle.tftp_counts.specs.Counts.{AreCounted, AreLostBetween, AreRepeatedBetween, Counted}
 use Rattle.tftp_counts.specs.declared.carried.Carried.{Carried}
 use Rattle.tftp_pair_judge.specs.Verdicts.{AreCarried, AreCountsOf, IsReadOf, GoesNoFurther, IsWhyWaiting}
 use Rattle.tftp_pair_judge.specs.declared.waiting.Wait.{Wait}
@@ -261,15 +261,14 @@ module _ (client server : Capture) (a b : Side) (read other_read : List Datagram
   other_passed_is = passed_by server b other_read theirs other_is
 
   pub carried_is : (n k : ℕ) → n ≡ a.judge.fed → k ≡ b.judge.fed → (counts others : Option Counted) → counts ≡ a.counts → others ≡ b.counts → (o : Option Carried)
-      → IfNone o ((a.counts ≡ None) ⊎ (b.counts ≡ None) ⊎ ((h k : Header) (ds es : List Datagram) → IsSideAfter a h ds → IsSideAfter b k es → AreTooMany (transfer_of h ds) (transfer_of k es)))
+      → ((h k : Header) (ds es : List Datagram) → IsSideAfter a h ds → IsSideAfter b k es → IfNone o ((a.counts ≡ None) ⊎ (b.counts ≡ None)))
       → IfSome o (λ (c : Carried). (h k : Header) (ds es : List Datagram) → IsSideAfter a h ds → IsSideAfter b k es → AreLostBetween (transfer_of h ds) (transfer_of k es) c.lost)
       → IfSome o (λ (c : Carried). (h k : Header) (ds es : List Datagram) → IsSideAfter a h ds → IsSideAfter b k es → AreRepeatedBetween (transfer_of h ds) (transfer_of k es) c.repeated)
       → AreCarried client n counts server k others o
-  carried_is n k fed other_fed counts others same other_same None (inl none) lost repeated = inl (same ∙ none)
-  carried_is n k fed other_fed counts others same other_same None (inr (inl none)) lost repeated = inr (inl (other_same ∙ none))
-  carried_is n k fed other_fed counts others same other_same None (inr (inr many)) lost repeated =
-      inr (inr (subst (λ (ds : List Datagram). AreTooMany ds (passed_in (begun k server))) (passed_is n fed)
-      (subst (λ (es : List Datagram). AreTooMany (transfer_of client.header read) es) (other_passed_is k other_fed) (many client.header server.header read other_read mine theirs))))
+  carried_is n k fed other_fed counts others same other_same None none lost repeated = elim (none client.header server.header read other_read mine theirs) [
+    | inl uncounted ↦ inl (same ∙ uncounted)
+    | inr uncounted ↦ inr (other_same ∙ uncounted)
+  ]
   carried_is n k fed other_fed counts others same other_same (Some c) none lost repeated =
       let x = passed_is n fed in
       let y = other_passed_is k other_fed in (

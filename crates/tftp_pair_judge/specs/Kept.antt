@@ -1,5 +1,5 @@
 -- What the judge of a pair keeps, and for which datagrams of the two captures that stands. Lists have the newest first.
-use Rattle.std.specs.Prelude.{◌≡◌, ◌≤◌, ℕ, List, All, length, Option, None}
+use Rattle.std.specs.Prelude.{◌≡◌, ◌≤◌, ◌^◌, ℕ, List, All, length, Option, Some, None, IfNone}
 use Rattle.tftp_packet.specs.declared.kinds.End.{End}
 use Rattle.tftp_packet.specs.declared.kinds.End.TheVariants.{Client, Server}
 use Rattle.tftp_ends.specs.CaptureText.{Datagram, Header}
@@ -7,7 +7,7 @@ use Rattle.tftp_ends.specs.Ports.{transfer_of}
 use Rattle.tftp_law.specs.OneEnded.{OneEnded}
 use Rattle.tftp_judge.specs.Kept.{IsJudgeAfter, IsKept, Judge}
 use Rattle.tftp_judge.specs.SentByKept.{AreFlags, flags_of}
-use Rattle.tftp_counts.specs.Counts.{AreCounted, Counted}
+use Rattle.tftp_counts.specs.Counts.{AreCounted, Counted, TakesRoom, counts_of, packet_of}
 use Rattle.tftp_pair_judge.specs.Merging.{AreMergedBut}
 
 -- what is kept of one end
@@ -28,6 +28,7 @@ pub record IsSideAfter (s : Side) (h : Header) (read : List Datagram) : Type 0 w
   pub short : All (λ (d : Datagram). length d.payload ≤ 65527) read
   pub kept : IsKept h read s.judge.keeper.transfer
   pub fed : s.judge.fed ≡ length read
+  pub few : length read ≤ 2 ^ 40
   pub acks : AreFlags (flags_of s.acks) (transfer_of h read)
   pub counted : AreCounted s.counts (transfer_of h read)
 
@@ -43,6 +44,10 @@ IsPairAfter p client_header client server_header server = AreSidesAfter p.client
 -- all but what waits
 abbrev pub HasSame : Side → Side → Type 0
 HasSame old new = (new.judge ≡ old.judge) × (new.acks ≡ old.acks) × (new.counts ≡ old.counts)
+
+-- Where packets were counted and are not any more, the datagram's packet took room.
+abbrev pub CountsOn : Option Counted → Option Counted → Datagram → Type 0
+CountsOn old new d = (c : Counted) → old ≡ Some c → IfNone new (TakesRoom (counts_of d.dir c) (packet_of d.payload))
 
 -- the side of an end
 abbrev pub side_at : End → Pair → Side

@@ -5,7 +5,7 @@ use Rattle.tftp_pair.specs.Captures.{Capture}
 use Rattle.tftp_pair.specs.Waiting.{IsSentLater, IsUnsent}
 use Rattle.tftp_pair.specs.MatchedCaptures.{begun}
 use Rattle.tftp_pair.specs.Messages.{passed_in}
-use Rattle.tftp_counts.specs.Counts.{AreCounted, AreLostBetween, AreRepeatedBetween, AreTooMany, Counted}
+use Rattle.tftp_counts.specs.Counts.{AreCounted, AreLostBetween, AreRepeatedBetween, Counted}
 use Rattle.tftp_counts.specs.declared.carried.Carried.{Carried}
 use Rattle.tftp_pair_judge.specs.declared.waiting.Wait.{Wait}
 use Rattle.tftp_pair_judge.specs.declared.waiting.Wait.TheVariants.{Unsent, SentLater}
@@ -31,8 +31,8 @@ abbrev pub AreCountsOf : Capture → ℕ → Option Counted → Type 0
 AreCountsOf c n counts = AreCounted counts (passed_in (begun n c))
 
 -- What the network lost and repeated between the first n datagrams of the one capture and the first k of the other. It is not
--- told only where one of the two is not counted, or it is more than fits 64 bits.
+-- told only where one of the two is not counted.
 abbrev pub AreCarried : Capture → ℕ → Option Counted → Capture → ℕ → Option Counted → Option Carried → Type 0
-AreCarried client n counts server k others None = (counts ≡ None) ⊎ (others ≡ None) ⊎ AreTooMany (passed_in (begun n client)) (passed_in (begun k server))
+AreCarried client n counts server k others None = (counts ≡ None) ⊎ (others ≡ None)
 AreCarried client n counts server k others (Some c) =
     AreLostBetween (passed_in (begun n client)) (passed_in (begun k server)) c.lost × AreRepeatedBetween (passed_in (begun n client)) (passed_in (begun k server)) c.repeated

@@ -1,4 +1,4 @@
-ghost use Rattle.std.specs.Prelude.{◌≡◌, ◌+◌, ◌^◌, ◌<◌, ◌≤◌, ℕ, List, [], ◌∷◌, length, None, Some, is_some, Err, OnOk, IfErr, IfNone};
+ghost use Rattle.std.specs.Prelude.{◌≡◌, ◌+◌, ◌^◌, ◌<◌, ◌≤◌, ℕ, List, [], ◌∷◌, length, None, Some, is_some, Err, OnOk, IfErr};
 ghost use Rattle.tftp_capture.specs.Fields.{datagram_of, header_of};
 ghost use Rattle.tftp_packet.specs.declared.kinds.End.TheVariants.{Client, Server};
 ghost use Rattle.tftp_ends.specs.CaptureText.{Datagram as DatagramParts, Header as HeaderParts};
@@ -6,8 +6,7 @@ ghost use Rattle.tftp_ends.specs.Roles.{other_end};
 ghost use Rattle.tftp_law.specs.OneEnded.{Passes};
 ghost use Rattle.tftp_judge.specs.Finds.{Refuses};
 ghost use Rattle.tftp_judge.specs.declared.refusal.Refusal.{Refusal as RefusalKind};
-ghost use Rattle.tftp_counts.specs.Counts.{Counted, TakesRoom, counts_of, packet_of};
-ghost use Rattle.tftp_pair_judge.specs.Kept.{HasSame, IsPairAfter, side_at};
+ghost use Rattle.tftp_pair_judge.specs.Kept.{CountsOn, HasSame, IsPairAfter, side_at};
 ghost use Rattle.tftp_pair_judge.specs.Rest.{IsRestAfter};
 
 use crate::rest::{Left, PairRest};
@@ -80,10 +79,9 @@ impl<D: Delivered + Drop> PairJudge<D> {
         ensures for_good { (refusal : RefusalKind) → (side_at end self.old).judge.refused ≡ Some refusal → (result ≡ Err refusal) × (self.new ≡ self.old) }
 
         ensures counts { OnOk result ((side_at end self.new).judge.fed ≡ (side_at end self.old).judge.fed + 1) }
+        ensures counting { CountsOn (side_at end self.old).counts (side_at end self.new).counts (datagram_of datagram.old) }
 
         // Of the other end no more than what waits goes on.
-        ensures counting { (c : Counted) → (side_at end self.old).counts ≡ Some c
-            → IfNone (side_at end self.new).counts (TakesRoom (counts_of datagram.old.dir c) (packet_of (datagram_of datagram.old).payload)) }
         ensures other { HasSame (side_at (other_end end) self.old) (side_at (other_end end) self.new) }
     {
         match end {

@@ -1,4 +1,4 @@
-ghost use Rattle.std.specs.Prelude.{◌≡◌, ◌+◌, ◌^◌, ◌<◌, ◌≤◌, ℕ, List, [], ◌∷◌, length, reverse, true, Option, None, Some, is_some, Err, OnOk, IfErr, IfNone};
+ghost use Rattle.std.specs.Prelude.{◌≡◌, ◌+◌, ◌^◌, ◌<◌, ◌≤◌, ℕ, List, [], ◌∷◌, length, reverse, true, Option, None, Some, is_some, Err, OnOk, IfErr};
 ghost use Rattle.tftp_capture.specs.Fields.{datagram_of};
 ghost use Rattle.tftp_packet.specs.declared.kinds.End.TheVariants.{Client, Server};
 ghost use Rattle.tftp_ends.specs.CaptureText.{Datagram as DatagramParts, Header as HeaderParts};
@@ -11,9 +11,8 @@ ghost use Rattle.tftp_judge.specs.declared.refusal.Refusal.{Refusal as RefusalKi
 ghost use Rattle.tftp_pair.specs.Captures.{Capture};
 ghost use Rattle.tftp_pair.specs.PairVerdict.{IsLawfulTo, IsPairVerdict};
 ghost use Rattle.tftp_pair_judge.specs.Merging.{IsWaitFor, with_held};
-ghost use Rattle.tftp_pair_judge.specs.Kept.{IsSideAfter};
+ghost use Rattle.tftp_pair_judge.specs.Kept.{CountsOn, IsSideAfter};
 ghost use Rattle.tftp_pair_judge.specs.Rest.{IsLeftAfter, IsRestAfter, left_at};
-ghost use Rattle.tftp_counts.specs.Counts.{Counted, TakesRoom, counts_of, packet_of};
 ghost use Rattle.tftp_pair_judge.specs.Verdicts.{AreCarried, AreCountsOf, IsReadOf, IsWhyWaiting};
 
 use crate::side::Side;
@@ -79,8 +78,7 @@ impl<D: Delivered + Drop> Left<D> {
         ensures goes_on { self.old.side.judge.refused ≡ None → OnOk result (self.new.side.judge.refused ≡ None) }
         ensures waited { self.new.side.held ≡ self.old.side.held }
         ensures counts { OnOk result (self.new.side.judge.fed ≡ self.old.side.judge.fed + 1) }
-        ensures counting { (c : Counted) → self.old.side.counts ≡ Some c
-            → IfNone self.new.side.counts (TakesRoom (counts_of datagram.now.dir c) (packet_of (datagram_of datagram.now).payload)) }
+        ensures counting { CountsOn self.old.side.counts self.new.side.counts (datagram_of datagram.now) }
     {
         self.side.feed(alloc, datagram)?;
         Ok(())
@@ -163,8 +161,7 @@ impl<D: Delivered + Drop> PairRest<D> {
         ensures goes_on { (left_at end self.old).side.judge.refused ≡ None → OnOk result ((left_at end self.new).side.judge.refused ≡ None) }
         ensures waited { (left_at end self.new).side.held ≡ (left_at end self.old).side.held }
         ensures counts { OnOk result ((left_at end self.new).side.judge.fed ≡ (left_at end self.old).side.judge.fed + 1) }
-        ensures counting { (c : Counted) → (left_at end self.old).side.counts ≡ Some c
-            → IfNone (left_at end self.new).side.counts (TakesRoom (counts_of datagram.now.dir c) (packet_of (datagram_of datagram.now).payload)) }
+        ensures counting { CountsOn (left_at end self.old).side.counts (left_at end self.new).side.counts (datagram_of datagram.now) }
         ensures other { left_at (other_end end) self.new ≡ left_at (other_end end) self.old }
     {
         match end {

@@ -7,9 +7,9 @@ ghost use Rattle.tftp_law.specs.OneEnded.{Passes};
 ghost use Rattle.tftp_judge.specs.Finds.{Refuses};
 ghost use Rattle.tftp_judge.specs.SentByKept.{AreFlags, flags_of};
 ghost use Rattle.tftp_judge.specs.declared.refusal.Refusal.{Refusal as RefusalKind};
-ghost use Rattle.tftp_counts.specs.Counts.{AreCounted, AreLostBetween, AreRepeatedBetween, AreTooMany, Counted, TakesRoom, counts_of, packet_of};
+ghost use Rattle.tftp_counts.specs.Counts.{AreCounted, AreLostBetween, AreRepeatedBetween};
 ghost use Rattle.tftp_pair_judge.specs.Merging.{AreMergedBut, IsAskedAgain, IsWaitFor, WasSent, with_held};
-ghost use Rattle.tftp_pair_judge.specs.Kept.{AreSidesAfter, IsSideAfter, HasSame};
+ghost use Rattle.tftp_pair_judge.specs.Kept.{AreSidesAfter, CountsOn, IsSideAfter, HasSame};
 
 use crate::waiting::Wait;
 use std::alloc::Global;
@@ -149,8 +149,7 @@ impl<D: Delivered + Drop> Side<D> {
             → AreFlags (flags_of self.new.acks) (datagram_of datagram.now ∷ passed) }
         ensures counted { (passed : List DatagramParts) → AreCounted self.old.counts passed
             → AreCounted self.new.counts (datagram_of datagram.now ∷ passed) }
-        ensures counting { (c : Counted) → self.old.counts ≡ Some c
-            → IfNone self.new.counts (TakesRoom (counts_of datagram.now.dir c) (packet_of (datagram_of datagram.now).payload)) }
+        ensures counting { CountsOn self.old.counts self.new.counts (datagram_of datagram.now) }
         ensures judge { self.new.judge ≡ self.old.judge }
         ensures held { self.new.held ≡ self.old.held }
     {
@@ -175,8 +174,7 @@ impl<D: Delivered + Drop> Side<D> {
     /// Counts a datagram of the transfer, while there is memory for it.
     fn count(&mut self, datagram: &Datagram)
         ensures counted { (passed : List DatagramParts) → AreCounted self.old.counts passed → AreCounted self.new.counts (datagram_of datagram.now ∷ passed) }
-        ensures counting { (c : Counted) → self.old.counts ≡ Some c
-            → IfNone self.new.counts (TakesRoom (counts_of datagram.now.dir c) (packet_of (datagram_of datagram.now).payload)) }
+        ensures counting { CountsOn self.old.counts self.new.counts (datagram_of datagram.now) }
         ensures judge { self.new.judge ≡ self.old.judge }
         ensures acks { self.new.acks ≡ self.old.acks }
         ensures held { self.new.held ≡ self.old.held }
@@ -188,8 +186,8 @@ impl<D: Delivered + Drop> Side<D> {
     /// What the network lost and repeated of what this end and the other have sent each other; None once memory was wanting for
     /// that.
     pub fn carried(&self, other: &Self) -> Option<Carried>
-        ensures none { IfNone result ((self.now.counts ≡ None) ⊎ (other.now.counts ≡ None) ⊎ ((h k : HeaderParts) (read other_read : List DatagramParts)
-            → IsSideAfter self.now h read → IsSideAfter other.now k other_read → AreTooMany (transfer_of h read) (transfer_of k other_read))) }
+        ensures none { (h k : HeaderParts) (read other_read : List DatagramParts) → IsSideAfter self.now h read → IsSideAfter other.now k other_read
+            → IfNone result ((self.now.counts ≡ None) ⊎ (other.now.counts ≡ None)) }
         ensures lost { IfSome result (λ carried. (h k : HeaderParts) (read other_read : List DatagramParts) → IsSideAfter self.now h read
             → IsSideAfter other.now k other_read → AreLostBetween (transfer_of h read) (transfer_of k other_read) carried.lost) }
         ensures repeated { IfSome result (λ carried. (h k : HeaderParts) (read other_read : List DatagramParts) → IsSideAfter self.now h read
@@ -220,8 +218,7 @@ impl<D: Delivered + Drop> Side<D> {
         ensures for_good { (refusal : RefusalKind) → self.old.judge.refused ≡ Some refusal → (result ≡ Err refusal) × (self.new ≡ self.old) }
         ensures held { self.new.held ≡ self.old.held }
         ensures counts { OnOk result (self.new.judge.fed ≡ self.old.judge.fed + 1) }
-        ensures counting { (c : Counted) → self.old.counts ≡ Some c
-            → IfNone self.new.counts (TakesRoom (counts_of datagram.now.dir c) (packet_of (datagram_of datagram.now).payload)) }
+        ensures counting { CountsOn self.old.counts self.new.counts (datagram_of datagram.now) }
     {
         self.judge.feed(alloc, datagram)?;
         let main = self.judge.last_was_of_transfer();
@@ -287,8 +284,6 @@ impl<D: Delivered + Drop> Side<D> {
             → self.old.judge.refused ≡ None → IfErr result (Refuses h read (datagram_of datagram.old)) }
         ensures stays { (h k : HeaderParts) (read other_read : List DatagramParts) → AreSidesAfter self.old other.old h read k other_read
             → IfErr result (λ refusal. AreSidesAfter self.new other.new h read k other_read) }
-        ensures counting { (c : Counted) → self.old.counts ≡ Some c
-            → IfNone self.new.counts (TakesRoom (counts_of datagram.old.dir c) (packet_of (datagram_of datagram.old).payload)) }
         ensures keeps { IfErr result (λ refusal. self.new.judge.refused ≡ Some refusal) }
         ensures goes_on { self.old.judge.refused ≡ None → OnOk result (self.new.judge.refused ≡ None) }
         ensures for_good { (refusal : RefusalKind) → self.old.judge.refused ≡ Some refusal
@@ -296,6 +291,7 @@ impl<D: Delivered + Drop> Side<D> {
         ensures held { IfErr result (λ refusal. self.new.held ≡ None) }
         ensures other { HasSame other.old other.new }
         ensures counts { OnOk result (self.new.judge.fed ≡ self.old.judge.fed + 1) }
+        ensures counting { CountsOn self.old.counts self.new.counts (datagram_of datagram.old) }
     {
         if self.feed(alloc, datagram)? {
             self.merge(other, datagram);

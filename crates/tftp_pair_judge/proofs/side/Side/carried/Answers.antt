@@ -1,9 +1,9 @@
-use Rattle.std.proofs.Common.{◌≡◌, ◌∙◌, Option, Some, List, inr, sym, ap, subst}
+use Rattle.std.proofs.Common.{◌≡◌, ◌∙◌, Option, Some, List, sym, ap, subst}
 use Rattle.tftp_ends.specs.CaptureText.{Datagram, Header}
 use Rattle.tftp_ends.specs.Ports.{transfer_of}
 use Rattle.tftp_counts.specs.Counts.{AreCounted, Counted, IsCountOf}
 use Rattle.tftp_pair_judge.specs.Kept.{IsSideAfter, Side}
-use Rattle.tftp_pair_judge.proofs.Sides.{none_map, some_map}
+use Rattle.tftp_pair_judge.proofs.Sides.{none_map, not_too_many, some_map}
 use Rattle.tftp_pair_judge.proofs.side.Side.carried.Goals as goal
 
 -- what a side that is counted stands for
@@ -14,8 +14,8 @@ pub returns-in-Some-counts-clause-none : goal.returns-in-Some-counts-clause-none
 returns-in-Some-counts-clause-none g c =
     let mine : c.args.self.now.counts ≡ Some c.in-Some.counts = sym (ap (λ (s : Side). s.counts) c.self.view_is) ∙ c.in-Some.is in
     let theirs : c.args.other.now.counts ≡ Some c.in-Some-counts.others = sym (ap (λ (s : Side). s.counts) c.other.view_is) ∙ c.in-Some-counts.is in
-    none_map c.between.result (λ are. inr (inr (λ h k read other_read after other_after.
-    are (transfer_of h read) (transfer_of k other_read) (is_count _ _ mine h read after) (is_count _ _ theirs k other_read other_after)))) c.between.ensures.none
+    λ h k read other_read after other_after. none_map c.between.result (λ are. absurd (not_too_many _ _ h k read other_read after other_after
+    (are (transfer_of h read) (transfer_of k other_read) (is_count _ _ mine h read after) (is_count _ _ theirs k other_read other_after)))) c.between.ensures.none
 
 pub returns-in-Some-counts-clause-lost : goal.returns-in-Some-counts-clause-lost
 returns-in-Some-counts-clause-lost g c =

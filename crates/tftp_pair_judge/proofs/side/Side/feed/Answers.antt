@@ -4,7 +4,7 @@ use Rattle.tftp_ends.specs.Ports.{transfer_of}
 use Rattle.tftp_judge.specs.Kept.{IsJudgeAfter, Judge}
 use Rattle.tftp_judge.specs.SentByKept.{flags_of}
 use Rattle.tftp_pair_judge.specs.Kept.{IsSideAfter, Side}
-use Rattle.tftp_pair_judge.proofs.Sides.{counted_after_main, counted_after_stray, flags_after_main, flags_after_stray, not_refused, side_of_judge}
+use Rattle.tftp_pair_judge.proofs.Sides.{counted_after_main, counted_after_stray, flags_after_main, flags_after_stray, not_refused, one_more, side_of_judge}
 use Rattle.tftp_pair_judge.proofs.side.Side.feed.Goals as goal
 
 pub returns-then-main-clause-accepts : goal.returns-then-main-clause-accepts
@@ -17,7 +17,8 @@ returns-then-main-clause-accepts g c = λ h read after.
       told.0,
       side_of_judge c.note.new.self h (d ∷ read) (subst (λ (j : Judge). IsJudgeAfter j h (d ∷ read)) (sym c.note.ensures.judge) told.1)
           (flags_after_main (flags_of c.note.new.self.acks) h read d (main ∙ c.if-main.true) (c.note.ensures.acks (transfer_of h read) was.acks))
-          (counted_after_main c.note.new.self.counts h read d (main ∙ c.if-main.true) (c.note.ensures.counted (transfer_of h read) was.counted)),
+          (counted_after_main c.note.new.self.counts h read d (main ∙ c.if-main.true) (c.note.ensures.counted (transfer_of h read) was.counted))
+          (one_more _ _ after.fed c.requires.few),
       main,
     )
 
@@ -31,6 +32,7 @@ returns-else-main-clause-accepts g c = λ h read after.
       told.0,
       side_of_judge _ h (d ∷ read) told.1
           (flags_after_stray (flags_of c.self.inside.acks) h read d (main ∙ c.if-main.false) was.acks)
-          (counted_after_stray c.self.inside.counts h read d (main ∙ c.if-main.false) was.counted),
+          (counted_after_stray c.self.inside.counts h read d (main ∙ c.if-main.false) was.counted)
+          (one_more _ _ after.fed c.requires.few),
       main,
     )
