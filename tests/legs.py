@@ -102,10 +102,10 @@ def is_behind_last(text: bytes, number: int) -> bool:
     return refused[:2] == DATA and len(refused) == 4 and 0 < blocks.get(last, 0) < max(blocks.values())
 
 
-def is_told(line: str, text: bytes) -> bool:
-    """Whether an end is accepted; or it is refused where it truly sent or took a block behind the last one, as atftpd sends
-    now and then when its window was disturbed."""
-    found = BEHIND.fullmatch(line)
+def is_told(line: str, text: bytes, server: str) -> bool:
+    """Whether an end is accepted; or it is refused where it truly sent or took a block behind the last one, as atftpd alone
+    sends now and then when its window was disturbed."""
+    found = BEHIND.fullmatch(line) if server == ATFTPD else None
     return line.startswith("accepted ") or (found is not None and is_behind_last(text, int(found[1])))
 
 
@@ -114,7 +114,7 @@ def is_right(lines: list[str], texts: dict[EndName, bytes], case: Case, relay: R
     and else unmatched at the datagram that was changed. Of ends that are refused all that is lawful goes together, up to
     what is refused."""
     changes = [sender for sender, _, what in case.disturbed if what == "changed"]
-    if len(lines) != 3 or not all(is_told(line, texts[end]) for end, line in zip(ENDS, lines)):
+    if len(lines) != 3 or not all(is_told(line, texts[end], case.server) for end, line in zip(ENDS, lines)):
         return False
     third = lines[2]
     if len(relay.changed) != len(changes):
