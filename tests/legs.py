@@ -103,16 +103,16 @@ def is_behind_last(text: bytes, number: int) -> bool:
 
 
 def is_told(line: str, text: bytes, server: str) -> bool:
-    """Whether an end is accepted; or it is refused where it truly sent or took a block behind the last one, as atftpd alone
-    sends now and then when its window was disturbed."""
+    """Whether an end is accepted; or it is refused where it truly sent or took a block behind the last one, as atftpd
+    alone sends now and then when its window was disturbed."""
     found = BEHIND.fullmatch(line) if server == ATFTPD else None
     return line.startswith("accepted ") or (found is not None and is_behind_last(text, int(found[1])))
 
 
 def is_right(lines: list[str], texts: dict[EndName, bytes], case: Case, relay: Relay) -> bool:
     """Whether each end is accepted, and the two are matched where nothing was changed, with what was lost and repeated,
-    and else unmatched at the datagram that was changed. Of ends that are refused all that is lawful goes together, up to
-    what is refused."""
+    and else unmatched at the datagram that was changed. Of ends that are refused all that is lawful goes together, up
+    to what is refused."""
     changes = [sender for sender, _, what in case.disturbed if what == "changed"]
     if len(lines) != 3 or not all(is_told(line, texts[end], case.server) for end, line in zip(ENDS, lines)):
         return False
