@@ -218,6 +218,7 @@ impl<D: Delivered + Drop> PairRest<D> {
         ensures server_counted { (client server : Capture) (client_read server_read : List DatagramParts)
             → IsRestAfter self client.header client_read server.header server_read
             → IsReadOf server server_read → AreCountsOf server result.server_lawful result.server_counts }
+        ensures counts { result.client_counts ≡ self.client.side.counts × result.server_counts ≡ self.server.side.counts }
         ensures carried { (client server : Capture) (client_read server_read : List DatagramParts)
             → IsRestAfter self client.header client_read server.header server_read
             → IsReadOf client client_read → IsReadOf server server_read
