@@ -372,7 +372,7 @@ def texts_of(trial: MatchTrial, both: Both) -> tuple[list[str], str, int]:
 
 def words(trial: MatchTrial) -> None:
     trial.tells("help", ["--help"], "<CLIENT> <SERVER>", 0)
-    trial.tells("version", ["--version"], "tftp-match 0.1.0", 0)
+    trial.tells("version", ["--version"], "tftp-match 0.2.0", 0)
     trial.tells("one word", ["x"], "Usage:", 2)
     trial.tells("both of standard input", ["-", "-"], "standard input", 2)
     trial.tells("no file", [str(trial.folder / "none"), "-"], "none: ", 2)

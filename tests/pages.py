@@ -67,7 +67,7 @@ def helped(command: list[str]) -> str:
 def try_manual(trial: Trial, transfers: str, match: str) -> None:
     """The manual pages of the programs and of the scripts name each option, and read well where mandoc can say so."""
     said = {name: helped([str(TOP / "tools" / name)]) for name in SCRIPTS}
-    of_commands = [helped([transfers]), *(helped([transfers, command]) for command in ("list", "text", "check"))]
+    of_commands = [helped([transfers]), *(helped([transfers, command]) for command in ("list", "text", "texts", "check"))]
     of_programs = {"tftp-transfers": "".join(of_commands), "tftp-match": helped([match])}
     for name, words in {**said, **of_programs}.items():
         page = (TOP / "docs" / "man" / f"{name}.1").read_text().replace("\\-", "-")

@@ -81,6 +81,28 @@ def try_examples(trial: Trial, program: str) -> None:
     trial.check("a text's frames", named == ["15", "16", "17"] and status == 0, named)
 
 
+def try_texts(trial: Trial, program: str) -> None:
+    """The texts of all transfers are those of each, one after the other."""
+    for recording in sorted(EXAMPLES.glob("*.pcap")):
+        count = said(program, [str(recording)], b"")[0].count("\n") - 1
+        for end in ("client", "server"):
+            each = [said(program, ["text", str(number), end, str(recording)], b"") for number in range(1, count + 1)]
+            wanted = "".join(output for output, _, _ in each), "", 0
+            got = said(program, ["texts", end, str(recording)], b"")
+            trial.check(f"{recording.name}, all texts at the {end}", got == wanted and count > 0, got)
+    got = said(program, ["texts", "client", "-"], file_of([]))
+    trial.check("no transfers, no texts", got == ("", "", 0), got)
+    request = Datagram(C, 40_000, S, 6969, read_request("a", "octet")[0][:-1])
+    other = file_of([request])
+    got = said(program, ["texts", "client", "-"], other)
+    trial.check("another service port, no texts", got[0] == "" and "to port 6969: name" in got[1] and got[2] == 0, got)
+    frames = framed(packets_of([*read("a", 40_000, 41_000), *read("b", 40_001, 41_001, (THIRD, S))]))
+    frames[-2].original, frames[-2].content = len(frames[-2].content), frames[-2].content[:44]
+    output, told, status = said(program, ["texts", "client", "-"], recorded.pcap(frames, is_nano=True, snaplen=96))
+    holds = "# transfer 1 of" in output and "# transfer 2 of" not in output and "transfer 2: nothing is written" in told
+    trial.check("texts beside a transfer that is cut", holds and status == 2, (output, told, status))
+
+
 def try_links(trial: Trial, program: str) -> None:
     """One transfer in frames of each link type, in each format: what carries it changes nothing."""
     chance, times = random.Random(1), [0.0, 0.1, 0.2]
@@ -473,6 +495,9 @@ def try_words(trial: Trial, program: str) -> None:
         ("zeros", ["-"], bytes(64), "no recording\n"),
         ("three bytes", ["-"], b"\xd4\xc3\xb2", "no recording\n"),
         ("a file of words", ["-"], b"no recording at all\n" * 9, "no recording\n"),
+        ("texts at no end", ["texts", "-"], given, "Usage"),
+        ("texts in JSON", ["texts", "--json", "client", "-"], given, "Usage"),
+        ("texts of a transfer", ["texts", "1", "client", "-"], given, "Usage"),
         ("no words", [], b"", "Usage"),
         ("a number behind the file", ["-", "1"], given, "Usage"),
         ("a number and an end behind the file", ["-", "1", "client"], given, "Usage"),
@@ -512,7 +537,7 @@ def broken_pipe() -> int:
 def try_streams(trial: Trial, program: str) -> None:
     """Standard input or output that is closed or broken is told in one line, and the status is 2."""
     example, call = shlex.quote(str(EXAMPLES / "loopback-session.pcap")), shlex.quote(program)
-    for words in ("check", "list", "text 1 client"):
+    for words in ("check", "list", "text 1 client", "texts client"):
         for name, redirected, why in (
             ("closed input", "- <&-", "a read failed"),
             ("closed output", f"{example} >&-", "Bad file descriptor"),
@@ -536,7 +561,7 @@ def try_growths(trial: Trial, program: str, refuse: str) -> None:
     """Each growth refused in turn: the right answer, or the rows before it and status 2; never a signal."""
     given, folder = (EXAMPLES / "loopback-session.pcap").read_bytes(), tempfile.TemporaryDirectory()
     met = pathlib.Path(folder.name) / "met"
-    for words in (["check", "--json", "-"], ["-"], ["text", "3", "client", "-"]):
+    for words in (["check", "--json", "-"], ["-"], ["text", "3", "client", "-"], ["texts", "server", "-"]):
         right, turn = said(program, words, given), 0
         while not turn or met.exists():
             met.unlink(missing_ok=True)
@@ -557,7 +582,7 @@ def main(program: str, *refuse: str) -> int:
     for one in refuse:
         try_growths(trial, program, one)
     for part in (
-        try_examples, try_links, try_fragments, try_losses, try_layers, try_sessions, try_live, try_splitting,
+        try_examples, try_texts, try_links, try_fragments, try_losses, try_layers, try_sessions, try_live, try_splitting,
         try_doubts, try_between, try_words, try_streams,
     ):
         part(trial, program)

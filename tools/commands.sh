@@ -1,7 +1,7 @@
 # How the launchers speak, and how the proved program tftp-audit is called, in a checkout as where it is installed. The
 # program reads a capture from standard input; a file is opened here. Before it reads this a launcher sets `name`, its
 # own, and before `run_command` `program`, the proved program's place.
-version=0.1.0
+version=0.2.0
 
 say() {
     printf '%s: %s\n' "$name" "$1" >&2

@@ -2,8 +2,9 @@
 from __future__ import annotations
 
 import json
-from collections.abc import Callable, Collection, Sequence
-from dataclasses import dataclass, replace
+import re
+from collections.abc import Callable, Collection, Iterable, Mapping, Sequence
+from dataclasses import dataclass, field, replace
 from typing import Any, Literal, Optional, TypeVar
 
 from .capture import Capture, read_capture
@@ -17,6 +18,9 @@ ENDS: tuple[EndName, ...] = ("client", "server")
 PLACES: tuple[PlaceName, ...] = ("client", "server", "between")
 # The first bytes of pcap, in both orders of bytes, in microseconds and nanoseconds, and of pcapng.
 MAGICS = tuple(bytes.fromhex(it) for it in ("a1b2c3d4", "d4c3b2a1", "a1b23c4d", "4d3cb2a1", "0a0d0d0a"))
+# How a capture text begins, and the comment in it that names its transfer.
+BEGINS = re.compile(rb"^tftp-capture ", re.MULTILINE)
+OF = re.compile(rb"^# transfer ([0-9]+) of ", re.MULTILINE)
 T = TypeVar("T")
 # The fields of a listed transfer.
 WORDS = ("client", "server", "kind", "mode", "file", "options")
@@ -105,6 +109,13 @@ def objects(written: bytes, read: Callable[[dict[str, Any]], T]) -> list[T]:
         return []
 
 
+def texts_in(written: bytes) -> dict[int, bytes]:
+    """The capture texts that stand one after the other, by their transfers' numbers."""
+    begins = [it.start() for it in BEGINS.finditer(written)]
+    texts = [written[begin:end] for begin, end in zip(begins, [*begins[1:], len(written)])]
+    return {int(of[1]): text for text in texts for of in [OF.search(text)] if of}
+
+
 def named(services: Sequence[str]) -> list[str]:
     return [word for port in services for word in ("--service", port)]
 
@@ -118,6 +129,7 @@ class Recording:
     services: tuple[str, ...]
     transfers: str
     audit: str
+    texts: Mapping[tuple[int, str], bytes] = field(default_factory=dict)
 
     def ask(self, *words: str) -> tuple[bytes, list[str], int]:
         return ask(self.transfers, [*words, *named(self.services), "--", self.path], self.given)
@@ -139,7 +151,13 @@ class Recording:
     def without(self, gone: Collection[int]) -> Recording:
         """The same without these frames."""
         recording = read_file(self.path) if self.given is None else self.given
-        return replace(self, path="-", given=without_frames(recording, gone))
+        return replace(self, path="-", given=without_frames(recording, gone), texts={})
+
+    def with_texts(self, rows: Iterable[Row]) -> Recording:
+        """The same with all texts at the ends that the rows speak of, so that it is read once for each end."""
+        ends = {end if end in ENDS else ENDS[0] for end in (row.place for row in rows)}
+        written = {end: texts_in(self.ask("texts", end)[0]) for end in sorted(ends)}
+        return replace(self, texts={(number, end): text for end in ends for number, text in written[end].items()})
 
     def row_between(self, number: int) -> Optional[Row]:
         """What is said between the ends of a transfer, without what is told beside."""
@@ -152,6 +170,8 @@ class Recording:
 
     def text(self, number: int, end: str) -> bytes:
         """The capture text of a transfer at an end."""
+        if (number, end) in self.texts:
+            return self.texts[number, end]
         written, beside, status = self.ask("text", str(number), end)
         if status != 0 or not written:
             raise Refused(beside[-1] if beside else f"{self.transfers!r} gave no text, and ended with status {status}")

@@ -36,17 +36,12 @@ pub enum UsageFault {
 fn parsed<'a, S: AsStr>(alloc: Global, words: &'a [S]) -> Result<ArgMatches<'a>, Error>
     ensures passes { IfErr result (λ e. takes audit_app (map S.text words.entry.now) ≡ true → kind_of e ≡ ErrorKind.OutOfMemory) }
 {
-    let check = Command::new(alloc, "check");
-    let extract = Command::new(alloc, "extract");
-    let normal = Command::new(alloc, "normal");
-    let show = Command::new(alloc, "show");
-    let count = Command::new(alloc, "count");
     let command = Command::new(alloc, "tftp-audit")
-        .subcommand(check)?
-        .subcommand(extract)?
-        .subcommand(normal)?
-        .subcommand(show)?
-        .subcommand(count)?;
+        .subcommand(Command::new(alloc, "check"))?
+        .subcommand(Command::new(alloc, "extract"))?
+        .subcommand(Command::new(alloc, "normal"))?
+        .subcommand(Command::new(alloc, "show"))?
+        .subcommand(Command::new(alloc, "count"))?;
     command.try_get_matches_from(words)
 }
 

@@ -4,7 +4,7 @@ use clap::{Arg, ArgAction, Command, value_parser};
 use std::alloc::{AllocError, Global};
 
 /// The version that is told.
-const VERSION: &str = "0.1.0";
+const VERSION: &str = "0.2.0";
 
 const ABOUT: &str = "Whether one run of a TFTP client and a server has both captures of a transfer";
 
@@ -50,16 +50,22 @@ fn counts<'a>(alloc: Global) -> Arg<'a> {
         .help("How often each packet was sent at one end and taken at the other")
 }
 
-/// The command line with its help.
-pub fn command_line<'a>(alloc: Global) -> Result<Command<'a>, AllocError> {
-    let client = Arg::new(alloc, "client")
+fn client<'a>(alloc: Global) -> Arg<'a> {
+    Arg::new(alloc, "client")
         .value_name("CLIENT")
         .required(true)
-        .help("The capture at the client");
-    let server = Arg::new(alloc, "server")
+        .help("The capture at the client")
+}
+
+fn server<'a>(alloc: Global) -> Arg<'a> {
+    Arg::new(alloc, "server")
         .value_name("SERVER")
         .required(true)
-        .help("The capture at the server");
+        .help("The capture at the server")
+}
+
+/// The command line with its help.
+pub fn command_line<'a>(alloc: Global) -> Result<Command<'a>, AllocError> {
     Command::new(alloc, "tftp-match")
         .version(VERSION)
         .about(ABOUT)
@@ -69,6 +75,6 @@ pub fn command_line<'a>(alloc: Global) -> Result<Command<'a>, AllocError> {
         .arg(service(alloc))?
         .arg(counts(alloc))?
         .arg(json(alloc))?
-        .arg(client)?
-        .arg(server)
+        .arg(client(alloc))?
+        .arg(server(alloc))
 }

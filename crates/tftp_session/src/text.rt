@@ -28,7 +28,22 @@ impl<'a> TextAt<'a> {
         end: End,
         file: &str,
     ) -> Result<Self, TextFault> {
-        let (trail, text) = found(alloc, session, number)?;
+        let key = session.key_of(alloc, number)?;
+        TextAt::of(alloc, session, key, number, end, file)
+    }
+
+    /// The same of the transfer with this key, which has this number.
+    pub fn of(
+        alloc: Global,
+        session: &'a Session,
+        key: u64,
+        number: u64,
+        end: End,
+        file: &str,
+    ) -> Result<Self, TextFault> {
+        let (Some(trail), Some(text)) = (session.trail(key), session.kept.text(key)) else {
+            return Err(TextFault::NoTransfer(number, session.count()));
+        };
         if session.may_lack(trail) {
             return Err(TextFault::NotWhole);
         }
@@ -37,19 +52,6 @@ impl<'a> TextAt<'a> {
             Some(heading) => Ok(TextAt { text, heading }),
             None => Err(TextFault::LongName),
         }
-    }
-}
-
-/// What is kept of the transfer with this number, from 1.
-fn found(
-    alloc: Global,
-    session: &Session,
-    number: u64,
-) -> Result<(&Trail, &TransferText), TextFault> {
-    let key = session.key_of(alloc, number)?;
-    match (session.trail(key), session.kept.text(key)) {
-        (Some(trail), Some(text)) => Ok((trail, text)),
-        _ => Err(TextFault::NoTransfer(number, session.count())),
     }
 }
 

@@ -82,7 +82,7 @@ pub fn tell_notes(rt: HostRuntime, file: &str, notes: &Notes) -> Result<()> {
 }
 
 /// Tells at which ports something looks like a request, where no transfer was found.
-fn tell_asked(rt: HostRuntime, file: &str, notes: &Notes) -> Result<()> {
+pub fn tell_asked(rt: HostRuntime, file: &str, notes: &Notes) -> Result<()> {
     if let Some(ports) = notes.asked_ports(rt.alloc())? {
         eprintln!(rt;
             "tftp-transfers: {file}: what looks like a request went to port{ports}: name the port by --service"

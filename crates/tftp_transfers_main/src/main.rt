@@ -12,7 +12,7 @@ mod verdicts;
 
 use crate::checking::check;
 use crate::listing::list;
-use crate::texts::write_text;
+use crate::texts::{write_text, write_texts};
 use anyhow::{Error, Result};
 use std::process::ExitCode;
 use std::{env, io};
@@ -40,6 +40,7 @@ fn answer(rt: HostRuntime, words: &[String]) -> Result<u8> {
     match request_of(rt.alloc(), words) {
         Ok(Request::List(asked)) => told(rt, asked.file, list(rt, &asked)),
         Ok(Request::Text(asked)) => told(rt, asked.file, write_text(rt, &asked)),
+        Ok(Request::Texts(asked)) => told(rt, asked.file, write_texts(rt, &asked)),
         Ok(Request::Check(asked)) => check(rt, &asked),
         Err(fault) => tell_fault(rt, &fault),
     }

@@ -5,7 +5,7 @@ use Rattle.tftp_words.specs.declared.point.Point.{Point}
 use Rattle.tftp_words.specs.declared.request.Command.{Command}
 use Rattle.tftp_words.specs.declared.request.Command.TheVariants as command
 use Rattle.tftp_words.specs.Parts.{Word, Part, Say, Have, IsOnce, IsTransfer, end_word, plains}
-use Rattle.tftp_words.specs.Asked.{Asked, Listed, Written, Judged, Argues, IsRequest, IsNoName, Names, Calls}
+use Rattle.tftp_words.specs.Asked.{Asked, Listed, Written, AllWritten, Judged, Argues, IsRequest, IsNoName, Names, Calls}
 
 -- the arguments of what is asked
 abbrev pub Arguments : Asked → List Word → Type 0
@@ -14,11 +14,13 @@ Arguments a words = (ps : List Part) × Say words ps × Argues a ps
 abbrev pub command_in : Asked → Command
 command_in (Listed services json file) = command.List
 command_in (Written number end services file) = command.Text
+command_in (AllWritten end services file) = command.Texts
 command_in (Judged at services json files) = command.Check
 
 pub calls_itself : (a : Asked) → Calls (command_in a) a
 calls_itself (Listed services json file) = tt
 calls_itself (Written number end services file) = tt
+calls_itself (AllWritten end services file) = tt
 calls_itself (Judged at services json files) = tt
 
 -- ---- from the words to the command
@@ -37,6 +39,8 @@ told (Listed services json file) w ws (arguments, (p, inr (x, rest, name, begins
     (1, inr (refl, subst IsNoName (sym (second_word p w x ws rest (are ∙ ap (λ l. p ∷ l) begins) at)) name), subst (Arguments (Listed services json file)) (sym (ap (drop 1) are)) (ps, say, argues))
 told (Written number end services file) w ws (arguments, (p, are), ps, say, argues) at =
     (2, (refl, second_word p w (codes "text") ws arguments are at), subst (Arguments (Written number end services file)) (sym (ap (drop 2) are)) (ps, say, argues))
+told (AllWritten end services file) w ws (arguments, (p, are), ps, say, argues) at =
+    (2, (refl, second_word p w (codes "texts") ws arguments are at), subst (Arguments (AllWritten end services file)) (sym (ap (drop 2) are)) (ps, say, argues))
 told (Judged end services json files) w ws (arguments, (p, inl are), ps, say, argues) at =
     (2, (refl, inl (second_word p w (codes "check") ws arguments are at)), subst (Arguments (Judged end services json files)) (sym (ap (drop 2) are)) (ps, say, argues))
 told (Judged end services json files) w ws (arguments, (p, inr are), ps, say, argues) at =
@@ -63,6 +67,10 @@ asks (Written number end services file) w ws command.Text count at (two, is) cal
     let found = two_words w ws at in
     let it = subst (λ n. Arguments (Written number end services file) (drop n ws)) two said in
     (drop 2 ws, (found.0, found.1 ∙ ap (λ x. found.0 ∷ x ∷ drop 2 ws) is), it.0, it.1, it.2)
+asks (AllWritten end services file) w ws command.Texts count at (two, is) calls said =
+    let found = two_words w ws at in
+    let it = subst (λ n. Arguments (AllWritten end services file) (drop n ws)) two said in
+    (drop 2 ws, (found.0, found.1 ∙ ap (λ x. found.0 ∷ x ∷ drop 2 ws) is), it.0, it.1, it.2)
 asks (Judged end services json files) w ws command.Check count at (two, inl is) calls said =
     let found = two_words w ws at in
     let it = subst (λ n. Arguments (Judged end services json files) (drop n ws)) two said in
@@ -72,40 +80,57 @@ asks (Judged end services json files) w ws command.Check count at (two, inr is) 
     let it = subst (λ n. Arguments (Judged end services json files) (drop n ws)) two said in
     (drop 2 ws, (found.0, inr (found.1 ∙ ap (λ x. found.0 ∷ x ∷ drop 2 ws) is)), it.0, it.1, it.2)
 asks (Listed services json file) w ws command.Text count at names calls said = absurd calls
+asks (Listed services json file) w ws command.Texts count at names calls said = absurd calls
 asks (Listed services json file) w ws command.Check count at names calls said = absurd calls
 asks (Written number end services file) w ws command.List count at names calls said = absurd calls
+asks (Written number end services file) w ws command.Texts count at names calls said = absurd calls
 asks (Written number end services file) w ws command.Check count at names calls said = absurd calls
+asks (AllWritten end services file) w ws command.List count at names calls said = absurd calls
+asks (AllWritten end services file) w ws command.Text count at names calls said = absurd calls
+asks (AllWritten end services file) w ws command.Check count at names calls said = absurd calls
 asks (Judged end services json files) w ws command.List count at names calls said = absurd calls
 asks (Judged end services json files) w ws command.Text count at names calls said = absurd calls
+asks (Judged end services json files) w ws command.Texts count at names calls said = absurd calls
 
 -- ---- a word tells one command
 
--- the first letters of the commands differ
-letters : (w a b : Word) (x y : ℕ) → w ≡ a → w ≡ b → get_or a 0 0 ≡ x → get_or b 0 0 ≡ y → x ≢ y → ⊥
-letters w a b x y one other ax by not = not (sym ax ∙ ap (λ v. get_or v 0 0) (sym one ∙ other) ∙ by)
+-- two words differ where one has another letter at some place
+letters : (w a b : Word) (at x y : ℕ) → w ≡ a → w ≡ b → get_or a at 0 ≡ x → get_or b at 0 ≡ y → x ≢ y → ⊥
+letters w a b at x y one other ax by not = not (sym ax ∙ ap (λ v. get_or v at 0) (sym one ∙ other) ∙ by)
 
 pub one_command : (w : Word) (c d : Command) (k l : ℕ) → Names w c k → Names w d l → (c ≡ d) × (k ≡ l)
 one_command w command.List command.List k l (inl one) (inl other) = (refl, one.0 ∙ sym other.0)
 one_command w command.List command.List k l (inl one) (inr other) = absurd (other.1.0 one.1)
 one_command w command.List command.List k l (inr one) (inl other) = absurd (one.1.0 other.1)
 one_command w command.List command.List k l (inr one) (inr other) = (refl, one.0 ∙ sym other.0)
-one_command w command.List command.Text k l (inl one) other = absurd (letters w (codes "list") (codes "text") 108 116 one.1 other.1 refl refl (λ e. omega (arith, e)))
+one_command w command.List command.Text k l (inl one) other = absurd (letters w (codes "list") (codes "text") 0 108 116 one.1 other.1 refl refl (λ e. omega (arith, e)))
 one_command w command.List command.Text k l (inr one) other = absurd (one.1.1 other.1)
-one_command w command.List command.Check k l (inl one) (two, inl is) = absurd (letters w (codes "list") (codes "check") 108 99 one.1 is refl refl (λ e. omega (arith, e)))
-one_command w command.List command.Check k l (inl one) (two, inr is) = absurd (letters w (codes "list") (codes "--check") 108 45 one.1 is refl refl (λ e. omega (arith, e)))
-one_command w command.List command.Check k l (inr one) (two, inl is) = absurd (one.1.2 is)
-one_command w command.List command.Check k l (inr one) (two, inr is) = absurd (one.1.3 is)
-one_command w command.Text command.List k l one (inl other) = absurd (letters w (codes "text") (codes "list") 116 108 one.1 other.1 refl refl (λ e. omega (arith, e)))
+one_command w command.List command.Texts k l (inl one) other = absurd (letters w (codes "list") (codes "texts") 0 108 116 one.1 other.1 refl refl (λ e. omega (arith, e)))
+one_command w command.List command.Texts k l (inr one) other = absurd (one.1.2 other.1)
+one_command w command.List command.Check k l (inl one) (other, inl other_is) = absurd (letters w (codes "list") (codes "check") 0 108 99 one.1 other_is refl refl (λ e. omega (arith, e)))
+one_command w command.List command.Check k l (inl one) (other, inr other_is) = absurd (letters w (codes "list") (codes "--check") 0 108 45 one.1 other_is refl refl (λ e. omega (arith, e)))
+one_command w command.List command.Check k l (inr one) (other, inl other_is) = absurd (one.1.3 other_is)
+one_command w command.List command.Check k l (inr one) (other, inr other_is) = absurd (one.1.4 other_is)
+one_command w command.Text command.List k l one (inl other) = absurd (letters w (codes "text") (codes "list") 0 116 108 one.1 other.1 refl refl (λ e. omega (arith, e)))
 one_command w command.Text command.List k l one (inr other) = absurd (other.1.1 one.1)
 one_command w command.Text command.Text k l one other = (refl, one.0 ∙ sym other.0)
-one_command w command.Text command.Check k l one (two, inl is) = absurd (letters w (codes "text") (codes "check") 116 99 one.1 is refl refl (λ e. omega (arith, e)))
-one_command w command.Text command.Check k l one (two, inr is) = absurd (letters w (codes "text") (codes "--check") 116 45 one.1 is refl refl (λ e. omega (arith, e)))
-one_command w command.Check command.List k l (two, inl is) (inl other) = absurd (letters w (codes "check") (codes "list") 99 108 is other.1 refl refl (λ e. omega (arith, e)))
-one_command w command.Check command.List k l (two, inr is) (inl other) = absurd (letters w (codes "--check") (codes "list") 45 108 is other.1 refl refl (λ e. omega (arith, e)))
-one_command w command.Check command.List k l (two, inl is) (inr other) = absurd (other.1.2 is)
-one_command w command.Check command.List k l (two, inr is) (inr other) = absurd (other.1.3 is)
-one_command w command.Check command.Text k l (two, inl is) other = absurd (letters w (codes "check") (codes "text") 99 116 is other.1 refl refl (λ e. omega (arith, e)))
-one_command w command.Check command.Text k l (two, inr is) other = absurd (letters w (codes "--check") (codes "text") 45 116 is other.1 refl refl (λ e. omega (arith, e)))
+one_command w command.Text command.Texts k l one other = absurd (letters w (codes "text") (codes "texts") 4 0 115 one.1 other.1 refl refl (λ e. omega (arith, e)))
+one_command w command.Text command.Check k l one (other, inl other_is) = absurd (letters w (codes "text") (codes "check") 0 116 99 one.1 other_is refl refl (λ e. omega (arith, e)))
+one_command w command.Text command.Check k l one (other, inr other_is) = absurd (letters w (codes "text") (codes "--check") 0 116 45 one.1 other_is refl refl (λ e. omega (arith, e)))
+one_command w command.Texts command.List k l one (inl other) = absurd (letters w (codes "texts") (codes "list") 0 116 108 one.1 other.1 refl refl (λ e. omega (arith, e)))
+one_command w command.Texts command.List k l one (inr other) = absurd (other.1.2 one.1)
+one_command w command.Texts command.Text k l one other = absurd (letters w (codes "texts") (codes "text") 4 115 0 one.1 other.1 refl refl (λ e. omega (arith, e)))
+one_command w command.Texts command.Texts k l one other = (refl, one.0 ∙ sym other.0)
+one_command w command.Texts command.Check k l one (other, inl other_is) = absurd (letters w (codes "texts") (codes "check") 0 116 99 one.1 other_is refl refl (λ e. omega (arith, e)))
+one_command w command.Texts command.Check k l one (other, inr other_is) = absurd (letters w (codes "texts") (codes "--check") 0 116 45 one.1 other_is refl refl (λ e. omega (arith, e)))
+one_command w command.Check command.List k l (one, inl one_is) (inl other) = absurd (letters w (codes "check") (codes "list") 0 99 108 one_is other.1 refl refl (λ e. omega (arith, e)))
+one_command w command.Check command.List k l (one, inl one_is) (inr other) = absurd (other.1.3 one_is)
+one_command w command.Check command.List k l (one, inr one_is) (inl other) = absurd (letters w (codes "--check") (codes "list") 0 45 108 one_is other.1 refl refl (λ e. omega (arith, e)))
+one_command w command.Check command.List k l (one, inr one_is) (inr other) = absurd (other.1.4 one_is)
+one_command w command.Check command.Text k l (one, inl one_is) other = absurd (letters w (codes "check") (codes "text") 0 99 116 one_is other.1 refl refl (λ e. omega (arith, e)))
+one_command w command.Check command.Text k l (one, inr one_is) other = absurd (letters w (codes "--check") (codes "text") 0 45 116 one_is other.1 refl refl (λ e. omega (arith, e)))
+one_command w command.Check command.Texts k l (one, inl one_is) other = absurd (letters w (codes "check") (codes "texts") 0 99 116 one_is other.1 refl refl (λ e. omega (arith, e)))
+one_command w command.Check command.Texts k l (one, inr one_is) other = absurd (letters w (codes "--check") (codes "texts") 0 45 116 one_is other.1 refl refl (λ e. omega (arith, e)))
 one_command w command.Check command.Check k l one other = (refl, one.0 ∙ sym other.0)
 
 -- ---- the arguments
@@ -124,6 +149,7 @@ once ps ports json at words h = (subst (λ n. n ≤ 1) (sym h.1) (at_most_one js
 argues_once : (a : Asked) (ps : List Part) → Argues a ps → IsOnce ps
 argues_once (Listed services json file) ps argues = once ps services json None (file ∷ []) argues
 argues_once (Written number end services file) ps argues = once ps services false None (argues.0 ∷ end_word end ∷ file ∷ []) argues.2
+argues_once (AllWritten end services file) ps argues = once ps services false None (end_word end ∷ file ∷ []) argues
 argues_once (Judged at services json files) ps argues = once ps services json at files argues.1
 
 pub the_arguments : (a : Asked) (w : Word) (ws : List Word) (c : Command) (k : ℕ) → IsRequest a ws → slice_get ws 1 ≡ Some w → Names w c k → Calls c a × (ps : List Part) × Say (drop k ws) ps × IsOnce ps × Argues a ps
@@ -136,11 +162,13 @@ pub count_fits : (w : Word) (ws : List Word) (c : Command) (k : ℕ) → slice_g
 count_fits w ws command.List k at (inl (two, is)) = omega (arith, two, slice_get_within ws 1 w at)
 count_fits w ws command.List k at (inr (one, name)) = omega (arith, one, slice_get_within ws 1 w at)
 count_fits w ws command.Text k at (two, is) = omega (arith, two, slice_get_within ws 1 w at)
+count_fits w ws command.Texts k at (two, is) = omega (arith, two, slice_get_within ws 1 w at)
 count_fits w ws command.Check k at (two, is) = omega (arith, two, slice_get_within ws 1 w at)
 
 -- no transfer has this number
 pub no_number : (items : List (Bor Word)) (d : Bor Word) (ps : List Part) (a : Asked) → plains ps ≡ map (λ (w : Bor Word). w.now) items → Calls command.Text a → Argues a ps → ((n : ℕ) → IsTransfer (get_or items 0 d).now n → ⊥) → ⊥
 no_number items d ps (Listed services json file) are calls argues none = calls
+no_number items d ps (AllWritten end services file) are calls argues none = calls
 no_number items d ps (Judged at services json files) are calls argues none = calls
 no_number [] d ps (Written number end services file) are calls argues none = (let bad : [] ≡ argues.0 ∷ end_word end ∷ file ∷ [] = sym are ∙ argues.2.3 in cc)
 no_number (x ∷ items) d ps (Written number end services file) are calls argues none =

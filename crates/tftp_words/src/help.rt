@@ -8,7 +8,7 @@ static ENDS: [&str; 2] = ["client", "server"];
 static POINTS: [&str; 3] = ["client", "server", "between"];
 
 /// The version that is told.
-const VERSION: &str = "0.1.0";
+const VERSION: &str = "0.2.0";
 
 const ABOUT: &str =
     "From a recording to its TFTP transfers, their capture texts and their verdicts";
@@ -47,48 +47,68 @@ fn list<'a>(alloc: Global) -> Result<Command<'a>, AllocError> {
         .arg(file(alloc))
 }
 
-fn text<'a>(alloc: Global) -> Result<Command<'a>, AllocError> {
-    let number = Arg::new(alloc, "number")
+fn number<'a>(alloc: Global) -> Arg<'a> {
+    Arg::new(alloc, "number")
         .value_name("N")
         .required(true)
         .value_parser(value_parser!(u64).range(1..))
-        .help("The number of the transfer, from 1");
-    let end = Arg::new(alloc, "end")
+        .help("The number of the transfer, from 1")
+}
+
+fn end<'a>(alloc: Global) -> Arg<'a> {
+    Arg::new(alloc, "end")
         .value_name("END")
         .required(true)
         .value_parser(ENDS.as_slice())
-        .help("The end of the transfer");
+        .help("The end of the transfer")
+}
+
+fn text<'a>(alloc: Global) -> Result<Command<'a>, AllocError> {
     Command::new(alloc, "text")
         .about("The capture text of transfer N at an end")
         .arg(service(alloc))?
-        .arg(number)?
-        .arg(end)?
+        .arg(number(alloc))?
+        .arg(end(alloc))?
         .arg(file(alloc))
 }
 
-fn check<'a>(alloc: Global) -> Result<Command<'a>, AllocError> {
-    let end = Arg::new(alloc, "end")
+fn texts<'a>(alloc: Global) -> Result<Command<'a>, AllocError> {
+    Command::new(alloc, "texts")
+        .about("The capture texts of all transfers at an end, one after the other")
+        .arg(service(alloc))?
+        .arg(end(alloc))?
+        .arg(file(alloc))
+}
+
+fn point<'a>(alloc: Global) -> Arg<'a> {
+    Arg::new(alloc, "end")
         .long("end")
         .value_name("END")
         .value_parser(POINTS.as_slice())
-        .help("Where the recordings were made: at an end, or between the two");
-    let files = Arg::new(alloc, "file")
+        .help("Where the recordings were made: at an end, or between the two")
+}
+
+fn files<'a>(alloc: Global) -> Arg<'a> {
+    Arg::new(alloc, "file")
         .value_name("FILE")
         .required(true)
         .action(ArgAction::Append)
         .num_args(1..)
-        .help("The recordings");
+        .help("The recordings")
+}
+
+fn check<'a>(alloc: Global) -> Result<Command<'a>, AllocError> {
     Command::new(alloc, "check")
         .about("The verdict on each transfer")
         .alias("--check")?
-        .arg(end)?
+        .arg(point(alloc))?
         .arg(service(alloc))?
         .arg(json(alloc))?
-        .arg(files)
+        .arg(files(alloc))
 }
 
-/// The command line with its help.
-pub fn command_line<'a>(alloc: Global) -> Result<Command<'a>, AllocError> {
+/// The words that stand before each subcommand's, and those of `list` where it is left out.
+fn plain<'a>(alloc: Global) -> Result<Command<'a>, AllocError> {
     Command::new(alloc, "tftp-transfers")
         .version(VERSION)
         .about(ABOUT)
@@ -96,8 +116,21 @@ pub fn command_line<'a>(alloc: Global) -> Result<Command<'a>, AllocError> {
         .args_conflicts_with_subcommands(true)
         .arg(service(alloc))?
         .arg(json(alloc))?
-        .arg(file(alloc))?
-        .subcommand(list(alloc)?)?
-        .subcommand(text(alloc)?)?
-        .subcommand(check(alloc)?)
+        .arg(file(alloc))
+}
+
+/// A command with a subcommand, where memory sufficed for both.
+fn with<'a>(
+    command: Result<Command<'a>, AllocError>,
+    subcommand: Result<Command<'a>, AllocError>,
+) -> Result<Command<'a>, AllocError> {
+    command?.subcommand(subcommand?)
+}
+
+/// The command line with its help.
+pub fn command_line<'a>(alloc: Global) -> Result<Command<'a>, AllocError> {
+    let command = with(plain(alloc), list(alloc));
+    let command = with(command, text(alloc));
+    let command = with(command, texts(alloc));
+    with(command, check(alloc))
 }

@@ -9,5 +9,5 @@ mod request;
 mod words;
 
 pub use point::Point;
-pub use request::{CheckRequest, ListRequest, Request, TextRequest};
+pub use request::{CheckRequest, ListRequest, Request, TextRequest, TextsRequest};
 pub use words::{WordsFault, request_of};

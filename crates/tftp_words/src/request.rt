@@ -17,6 +17,8 @@ pub enum Request<'a> {
     List(ListRequest<'a>),
     /// The capture text of a transfer.
     Text(TextRequest<'a>),
+    /// The capture texts of all transfers.
+    Texts(TextsRequest<'a>),
     /// The verdict on each transfer.
     Check(CheckRequest<'a>),
 }
@@ -45,6 +47,17 @@ pub struct TextRequest<'a> {
     pub file: &'a str,
 }
 
+/// At which end the texts of all transfers are wanted.
+#[derive(Debug, Drop)]
+pub struct TextsRequest<'a> {
+    /// The end at which each text is that of the capture.
+    pub end: End,
+    /// The ports that were named, to which requests go as they do to 69.
+    pub services: Vec<u16>,
+    /// The recording; `-` is standard input.
+    pub file: &'a str,
+}
+
 /// Which transfers are to be judged.
 #[derive(Debug, Drop)]
 pub struct CheckRequest<'a> {
@@ -63,6 +76,7 @@ pub struct CheckRequest<'a> {
 enum Command {
     List,
     Text,
+    Texts,
     Check,
 }
 
@@ -74,6 +88,7 @@ fn command_of(word: &str) -> Option<(Command, usize)>
     match word {
         "list" => Some((Command::List, 2)),
         "text" => Some((Command::Text, 2)),
+        "texts" => Some((Command::Texts, 2)),
         "check" => Some((Command::Check, 2)),
         "--check" => Some((Command::Check, 2)),
         "help" => None,
@@ -125,6 +140,26 @@ fn text_of<'a>(given: Given<'a>) -> Result<Request<'a>, ReadFault>
     }
 }
 
+fn texts_of<'a>(given: Given<'a>) -> Result<Request<'a>, ReadFault>
+    ensures ok { (ps : _) → Holds given.entry ps → IfOk result (λ r. Calls Command.Texts (asked r) × Argues (asked r) ps) }
+    ensures only { (ps a : _) → Holds given.entry ps → Calls Command.Texts a → Argues a ps → IsOkAnd result (λ r. asked r ≡ a) }
+{
+    let Given {
+        services,
+        json,
+        end,
+        plain,
+    } = given;
+    match (json, end, plain.as_slice()) {
+        (false, None, [at, file]) => Ok(Request::Texts(TextsRequest {
+            end: end_of(*at).ok_or(ReadFault::Unknown)?,
+            services,
+            file: *file,
+        })),
+        _ => Err(ReadFault::Unknown),
+    }
+}
+
 fn check_of<'a>(given: Given<'a>) -> Result<Request<'a>, ReadFault>
     ensures ok { (ps : _) → Holds given.entry ps → IfOk result (λ r. Calls Command.Check (asked r) × Argues (asked r) ps) }
     ensures only { (ps a : _) → Holds given.entry ps → Calls Command.Check a → Argues a ps → IsOkAnd result (λ r. asked r ≡ a) }
@@ -155,6 +190,7 @@ pub fn requested<'a, S: AsStr>(alloc: Global, words: &'a [S]) -> Result<Request<
     match command {
         Command::List => list_of(given),
         Command::Text => text_of(given),
+        Command::Texts => texts_of(given),
         Command::Check => check_of(given),
     }
 }

@@ -25,6 +25,16 @@ returns-in-List-clause-ok g c =
     (said.0, subst (λ l. Say l said.0) after said.1, made.1))
     (c.list_of.ensures.ok said.0 said.2)
 
+pub returns-in-Texts-clause-ok : goal.returns-in-Texts-clause-ok
+returns-in-Texts-clause-ok g c =
+    let after : map g.S.AsStr.text c.split_at.result.1.now ≡ drop c.in-Some-command_of.count (map g.S.AsStr.text c.args.words.now) = ap (map g.S.AsStr.text) c.split_at.ensures.back ∙ sym (drop-map g.S.AsStr.text c.in-Some-command_of.count c.args.words.now) in
+    let said = c.in_ok-given.ensures.ok in
+    IfOk-weaker c.texts_of.result _ _
+    (λ r made. asks (asked r) c.in-Some.word.now (map g.S.AsStr.text c.args.words.now) command.Texts c.in-Some-command_of.count (sym c.in-Some.ensures)
+    (subst (λ d. Names c.in-Some.word.now d c.in-Some-command_of.count) c.in-Texts.is c.in-Some-command_of.ensures) made.0
+    (said.0, subst (λ l. Say l said.0) after said.1, made.1))
+    (c.texts_of.ensures.ok said.0 said.2)
+
 pub returns-in-Check-clause-ok : goal.returns-in-Check-clause-ok
 returns-in-Check-clause-ok g c =
     let after : map g.S.AsStr.text c.split_at.result.1.now ≡ drop c.in-Some-command_of.count (map g.S.AsStr.text c.args.words.now) = ap (map g.S.AsStr.text) c.split_at.ensures.back ∙ sym (drop-map g.S.AsStr.text c.in-Some-command_of.count c.args.words.now) in
