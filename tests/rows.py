@@ -97,7 +97,7 @@ def try_texts(trial: Trial, program: str) -> None:
     got = said(program, ["texts", "client", "-"], other)
     trial.check("another service port, no texts", got[0] == "" and "to port 6969: name" in got[1] and got[2] == 0, got)
     frames = framed(packets_of([*read("a", 40_000, 41_000), *read("b", 40_001, 41_001, (THIRD, S))]))
-    frames[-2].original, frames[-2].content = len(frames[-2].content), frames[-2].content[:44]
+    frames[-2].original, frames[-2].content = len(frames[-2].content), frames[-2].content[:-1]
     output, told, status = said(program, ["texts", "client", "-"], recorded.pcap(frames, is_nano=True, snaplen=96))
     holds = "# transfer 1 of" in output and "# transfer 2 of" not in output and "transfer 2: nothing is written" in told
     trial.check("texts beside a transfer that is cut", holds and status == 2, (output, told, status))
@@ -495,9 +495,9 @@ def try_words(trial: Trial, program: str) -> None:
         ("zeros", ["-"], bytes(64), "no recording\n"),
         ("three bytes", ["-"], b"\xd4\xc3\xb2", "no recording\n"),
         ("a file of words", ["-"], b"no recording at all\n" * 9, "no recording\n"),
-        ("texts at no end", ["texts", "-"], given, "Usage"),
+        ("texts at no end", ["texts", "-"], given, "possible values: client, server"),
         ("texts in JSON", ["texts", "--json", "client", "-"], given, "Usage"),
-        ("texts of a transfer", ["texts", "1", "client", "-"], given, "Usage"),
+        ("texts of a transfer", ["texts", "1", "client", "-"], given, "possible values: client, server"),
         ("no words", [], b"", "Usage"),
         ("a number behind the file", ["-", "1"], given, "Usage"),
         ("a number and an end behind the file", ["-", "1", "client"], given, "Usage"),
