@@ -551,8 +551,8 @@ def try_streams(trial: Trial, program: str) -> None:
 
 
 def is_kept(line: str, right: str) -> bool:
-    """A line that stands where nothing is refused, or tells of memory, or says of one end what is right of both: the other
-    end's line then tells of memory."""
+    """A line that stands where nothing is refused, or tells of memory, or says of one end what is right of both: the
+    other end's line then tells of memory."""
     both = line.replace('"place":"client"', '"place":"both"').replace('"place":"server"', '"place":"both"')
     return line in right or both in right or "memory" in line
 
@@ -582,8 +582,8 @@ def main(program: str, *refuse: str) -> int:
     for one in refuse:
         try_growths(trial, program, one)
     for part in (
-        try_examples, try_texts, try_links, try_fragments, try_losses, try_layers, try_sessions, try_live, try_splitting,
-        try_doubts, try_between, try_words, try_streams,
+        try_examples, try_texts, try_links, try_fragments, try_losses, try_layers, try_sessions, try_live,
+        try_splitting, try_doubts, try_between, try_words, try_streams,
     ):
         part(trial, program)
     return trial.end()
