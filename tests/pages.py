@@ -16,7 +16,7 @@ import tempfile
 from collections.abc import Iterator
 
 from repository import TOP
-from tftp_tools.rules import LISTED, PACKET_FAULTS
+from tftp_tools.rules import PACKET_FAULTS, Rule
 from tftp_tools.textfaults import MEANINGS
 from trial import Trial
 
@@ -31,7 +31,7 @@ FENCED = re.compile(r"(?ms)^```(\w*)\n(.*?)^```$")
 # "(`clause`, `other`)"
 IN_BRACKETS = re.compile(r"\((?:`\w+`(?:, )?)+\)")
 # The crates of which docs/PROOF.md names each file.
-MAPPED = ("tftp_ends", "tftp_law", "tftp_judge", "tftp_normal", "tftp_commands")
+MAPPED = ("tftp_hosts", "tftp_model", "tftp_rules", "tftp_blocks", "tftp_ends", "tftp_law", "tftp_judge", "tftp_normal", "tftp_commands")
 QUOTED = re.compile(r"`([^`]+)`")
 # "law `name`", "laws `one` (`its_clause`), `two` and `three`"
 LAWS = re.compile(r"\blaws? ((?:`\w+`(?: \((?:`\w+`(?:, )?)+\))?(?:, and |, | and )?)+)")
@@ -46,11 +46,11 @@ def try_verdicts(trial: Trial) -> None:
     """docs/VERDICTS.md has the rules and faults of the scripts, and SPECIFICATION the same rules by number and name."""
     page, rules = (TOP / "docs" / name for name in ("VERDICTS.md", "SPECIFICATION.md"))
     lines, specified = page.read_text().splitlines(), rules.read_text().splitlines()
-    trial.check("27 rules", [rule.number for rule in LISTED] == list(range(1, 28)))
-    for rule in LISTED:
-        row = f"| {rule.number} | {rule.name} | {rule.says} | {rule.whose} | {rule.usually} |"
+    trial.check("27 rules", [rule.number for rule in Rule] == list(range(1, 28)))
+    for rule in Rule:
+        row = f"| {rule.number} | {rule.printed} | {rule.says} | {rule.whose} | {rule.usually} |"
         trial.check(f"rule {rule.number} in VERDICTS.md", row in lines, row)
-        begins = f"| {rule.number} | {rule.name} | "
+        begins = f"| {rule.number} | {rule.printed} | "
         is_there = any(line.startswith(begins) for line in specified)
         trial.check(f"rule {rule.number} in SPECIFICATION.md", is_there, begins)
     for name, fault in PACKET_FAULTS.items():
@@ -114,8 +114,10 @@ class Sources:
 
     @staticmethod
     def modules(crate: str, part: str) -> set[str]:
-        """The modules in a folder of a crate, but the one that lists them."""
-        return {file.stem for file in (TOP / "crates" / crate / part).glob("*.antt")} - {"Lib"}
+        """The modules in a folder of a crate, and in its folders by theorem, but those that list them."""
+        top = TOP / "crates" / crate / part
+        files = (file for file in top.rglob("*.antt") if file.relative_to(top).parts[0][0].isupper())
+        return {file.stem for file in files if not (file.parent / file.stem).is_dir()} - {"Lib"}
 
     def knows(self, name: str) -> bool:
         """Whether some crate has this name."""

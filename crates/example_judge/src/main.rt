@@ -2,16 +2,17 @@
 #![tactic(auto)]
 
 ghost use Rattle.std.specs.Prelude.{◌≡◌, ◌≤◌, ◌^◌, All, IfOk, length, map};
-ghost use Rattle.tftp_capture.specs.Fields.{datagram_of, header_of};
-ghost use Rattle.tftp_law.specs.Law.{Shows};
+ghost use Rattle.tftp_capture.specs.{datagram_of, header_of};
+ghost use Rattle.tftp_law.specs.{Shows};
 
 use std::alloc::{AllocError, Global};
 use std::io;
 use std::process::ExitCode;
+use tftp_blocks::RingDelivered;
 use tftp_capture::{Datagram, Header};
-use tftp_ends::RingDelivered;
+use tftp_hosts::{Dir, Host};
 use tftp_judge::{Judge, Meaning, Refusal};
-use tftp_packet::{Bytes, Dir, End, Host};
+use tftp_packet::{Bytes, End};
 
 /// Ends with status 2 where memory or a write failed.
 fn main(rt: HostRuntime) -> ExitCode {

@@ -10,10 +10,11 @@ use memchr::{memchr, memrchr};
 use std::alloc::Global;
 use std::io::{ErrorKind, Read, Write};
 use std::{env, io};
+use tftp_blocks::{MapDelivered, RingDelivered};
 use tftp_capture::{CaptureReader, CaptureWriter, Datagram, Header, Tallied};
-use tftp_ends::{MapDelivered, RingDelivered};
+use tftp_hosts::Dir;
 use tftp_netascii::{Decoder, encode};
-use tftp_packet::{Dir, End};
+use tftp_packet::End;
 use tftp_recording::{Event, Fate, RecordingReader};
 
 /// The most bytes that are read at once.

@@ -1,16 +1,9 @@
 -- What is fed has passed as it was recorded.
-use Rattle.std.proofs.Common.{◌≡◌, ℕ, true, cond, List, ◌∷◌, sym, ap, ◌∙◌, map}
-use Rattle.std.specs.Prelude.{filter}
-use Rattle.tftp_parties.specs.Naming.{host_name}
-use Rattle.tftp_transfers.specs.declared.endpoint.Endpoint.{Endpoint}
-use Rattle.tftp_transfers.specs.declared.place.Place.{Place}
-use Rattle.tftp_transfers.specs.declared.place.Transfer.{Transfer}
-use Rattle.tftp_transfers.specs.Places.{Placed}
-use Rattle.tftp_transfers.specs.Views.{is_of}
-use Rattle.tftp_views.specs.declared.party.Party.{Party}
-use Rattle.tftp_views.specs.Kept.{IsFed}
-use Rattle.tftp_between.specs.Captured.{between_capture, passed_of, peer_of}
-use Rattle.tftp_between.specs.Kept.{passed_as, side_of}
+use Rattle.std.proofs.Common.{◌≡◌, ℕ, true, cond, List, ◌∷◌, sym, ap, ◌∙◌, map, filter}
+use Rattle.tftp_parties.specs.{host_name}
+use Rattle.tftp_lines.specs.{Endpoint, Place, Transfer, Placed, is_of}
+use Rattle.tftp_views.specs.{Party, IsFed}
+use Rattle.tftp_between.specs.{between_capture, passed_of, peer_of, passed_as, side_of}
 
 party_is : (end : Endpoint) (party : Party) → end ≡ party.end → party.host ≡ host_name party.end.address → peer_of end ≡ side_of party
 party_is end party same named = ap peer_of same ∙ ap (λ (h : List ℕ). record { host = h; port = party.end.port }) (sym named)

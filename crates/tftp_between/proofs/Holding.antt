@@ -1,23 +1,16 @@
 -- What is held until it is known who the server is, and is then given to the judge of the sides.
-use Rattle.std.proofs.Common.{◌≡◌, ℕ, ◌≤◌, true, false, List, [], ◌∷◌, ◌++◌, length, Some, None, refl, sym, ap, ◌∙◌, subst, append_assoc, append-nil, arith, map, reverse}
-use Rattle.std.specs.Prelude.{Option, Result, Ok, Err, OnOk}
+use Rattle.std.proofs.Common.{◌≡◌, ℕ, ◌≤◌, true, false, List, [], ◌∷◌, ◌++◌, length, Some, None, refl, sym, ap, ◌∙◌, subst, append_assoc, append-nil, arith, map, reverse, Option, Result, Ok, Err, OnOk}
 use Rattle.std.specs.List.{All}
 use Rattle.std.specs.declared.alloc.AllocError.{AllocError}
 use Rattle.std.proofs.lemmas.List.{length-map, length-reverse, map-append, reverse-append, reverse-reverse}
 use Rattle.std.proofs.lemmas.List.Elements.{All-append, All-from_recursion}
-use Rattle.tftp_tap.specs.TapCapture.{TapDatagram}
-use Rattle.tftp_tap_judge.specs.TapStops.{passing_of}
-use Rattle.tftp_tap_judge.specs.declared.datagram.TapDatagram.{TapDatagram as Owned}
-use Rattle.tftp_parties.specs.Naming.{host_name}
-use Rattle.tftp_transfers.specs.declared.place.Place.{Place}
-use Rattle.tftp_transfers.specs.declared.place.Transfer.{Transfer}
-use Rattle.tftp_transfers.specs.Places.{Placed}
-use Rattle.tftp_transfers.specs.Settled.{is_settled}
-use Rattle.tftp_transfers.specs.Views.{client_view, is_of}
-use Rattle.tftp_views.specs.declared.party.Party.{Party}
-use Rattle.tftp_views.specs.Kept.{IsFed}
-use Rattle.tftp_between.specs.Captured.{are_apart, between_capture, is_to_itself, passed_of, sides_of, sides_with}
-use Rattle.tftp_between.specs.Kept.{AreHeld, Between, BetweenBy, HasPassed, IsBetweenAfter, IsGoingOn, IsWaiting, View, counted_by, given_to, passed_as}
+use Rattle.tftp_tap.specs.{TapDatagram}
+use Rattle.tftp_tap_judge.specs.{passing_of, TapDatagram as Owned}
+use Rattle.tftp_parties.specs.{host_name}
+use Rattle.tftp_lines.specs.{Place, Transfer, Placed, is_of}
+use Rattle.tftp_transfers.specs.{is_settled, client_view}
+use Rattle.tftp_views.specs.{Party, IsFed}
+use Rattle.tftp_between.specs.{are_apart, between_capture, is_to_itself, passed_of, sides_of, sides_with, AreHeld, Between, BetweenBy, HasPassed, IsBetweenAfter, IsGoingOn, IsWaiting, View, counted_by, given_to, passed_as}
 use Rattle.tftp_between.proofs.Feeding.{captured_too, passed_fed}
 use Rattle.tftp_between.proofs.Settling.{ends_too, same_own, server_too, settled_stays, settled_too, sides_stay}
 use Rattle.tftp_between.proofs.Sides.{to_itself}

@@ -1,17 +1,11 @@
 -- Who the ends are stays, once it is known; and what is not of the transfer at its client tells nothing of them.
-use Rattle.std.proofs.Common.{◌≡◌, ℕ, ◌&&◌, Bool, true, false, true≢false, cond, List, [], ◌∷◌, ◌++◌, Option, Some, None, refl, sym, ap, ◌∙◌}
-use Rattle.std.specs.Prelude.{filter, is_some, option_map}
+use Rattle.std.proofs.Common.{◌≡◌, ℕ, ◌&&◌, Bool, true, false, true≢false, cond, List, [], ◌∷◌, ◌++◌, Option, Some, None, refl, sym, ap, ◌∙◌, filter, is_some, option_map}
 use Rattle.std.proofs.lemmas.Bool.{and_parts}
-use Rattle.tftp_ends.specs.Ports.{first_of, or_this}
-use Rattle.tftp_transfers.specs.declared.endpoint.Endpoint.{Endpoint}
-use Rattle.tftp_transfers.specs.declared.place.Transfer.{Transfer}
-use Rattle.tftp_transfers.specs.declared.views.TransferEnds.{TransferEnds}
-use Rattle.tftp_transfers.specs.Kept.{AreEndsAfter}
-use Rattle.tftp_transfers.specs.Places.{Placed}
-use Rattle.tftp_transfers.specs.Settled.{is_settled}
-use Rattle.tftp_transfers.specs.Views.{answered_by, asked_of, comes, goes_on, is_of, opened_it, server_of, went_on_with}
+use Rattle.tftp_rules.specs.{first_of, or_this}
+use Rattle.tftp_lines.specs.{Endpoint, Transfer, Placed, is_of}
+use Rattle.tftp_transfers.specs.{TransferEnds, AreEndsAfter, is_settled, answered_by, asked_of, comes, goes_on, opened_it, server_of, went_on_with}
 use Rattle.tftp_transfers.proofs.OwnDatagrams.{answered_kept, asked_kept, server_kept, settled_kept, went_on_kept}
-use Rattle.tftp_between.specs.Captured.{sides_of, sides_with}
+use Rattle.tftp_between.specs.{sides_of, sides_with}
 
 first_stays : (test : Placed → Bool) (more placed : List Placed) (e : Placed) → first_of test placed ≡ Some e → first_of test (more ++ placed) ≡ Some e
 first_stays test [] placed e is = is

@@ -1,19 +1,15 @@
 -- When the client is none of the other two sides.
-use Rattle.std.proofs.Common.{◌≡◌, ◌⊎◌, Bool, true, false, true≢false, List, refl, sym, ap, ◌∙◌, subst, inl, inr}
-use Rattle.std.specs.Prelude.{◌||◌, ◌==◌, not}
+use Rattle.std.proofs.Common.{◌≡◌, ◌⊎◌, Bool, true, false, true≢false, List, refl, sym, ap, ◌∙◌, subst, inl, inr, ◌||◌, ◌==◌, not}
 use Rattle.std.proofs.lemmas.Bool.{and_from, eq-eqb}
-use Rattle.tftp_ends.specs.Ports.{same_peer}
+use Rattle.tftp_rules.specs.{same_peer}
 use Rattle.tftp_ends.proofs.NotedPeers.{is_same, same_itself}
-use Rattle.tftp_parties.specs.Naming.{IsAddress}
+use Rattle.tftp_parties.specs.{IsAddress}
 use Rattle.tftp_parties.proofs.Addresses.{called_one}
-use Rattle.tftp_tap.specs.TapCapture.{AreApart, PeerId, TapSides}
-use Rattle.tftp_transfers.specs.declared.endpoint.Endpoint.{Endpoint}
-use Rattle.tftp_transfers.specs.declared.place.Transfer.{Transfer}
-use Rattle.tftp_transfers.specs.Recording.{same_address, same_endpoint}
-use Rattle.tftp_transfers.specs.Places.{Placed}
-use Rattle.tftp_transfers.specs.Views.{server_of}
-use Rattle.tftp_transfers.proofs.Endpoints.{is_same as is_same_endpoint}
-use Rattle.tftp_between.specs.Captured.{are_apart, is_to_itself, peer_of, server_or_asked, sides_of}
+use Rattle.tftp_tap.specs.{AreApart, PeerId, TapSides}
+use Rattle.tftp_lines.specs.{Endpoint, Transfer, same_address, same_endpoint, Placed}
+use Rattle.tftp_transfers.specs.{server_of}
+use Rattle.tftp_lines.proofs.Endpoints.{is_same as is_same_endpoint}
+use Rattle.tftp_between.specs.{are_apart, is_to_itself, peer_of, server_or_asked, sides_of}
 
 neither : (a b : Bool) → not (a || b) ≡ true → (a ≡ false) × (b ≡ false)
 neither false false e = (refl, refl)

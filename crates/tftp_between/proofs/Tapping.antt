@@ -1,15 +1,10 @@
 -- What a tap's judge stands for after one datagram more, and the verdict on what it was given.
-use Rattle.std.proofs.Common.{◌≡◌, List, [], ◌∷◌, Option, Some, None, Result, Ok, Err, refl, sym, ap, ◌∙◌, subst, inl, inr}
-use Rattle.std.specs.Prelude.{OnOk, IfErr}
-use Rattle.tftp_ends.specs.Meaning.{Meaning}
-use Rattle.tftp_tap.specs.TapCapture.{TapDatagram, TapSides}
-use Rattle.tftp_tap.specs.TapRules.{BreaksNoTapRule, TapPasses}
-use Rattle.tftp_tap_judge.specs.TapKept.{IsTapJudge, TapJudge}
-use Rattle.tftp_tap_judge.specs.TapStops.{RefusesAtTap}
-use Rattle.tftp_tap_judge.specs.TapVerdict.{IsTapVerdict}
-use Rattle.tftp_tap_judge.specs.declared.refusal.TapRefusal.{TapRefusal}
-use Rattle.tftp_tap_judge.specs.declared.refusal.TapRefusal.TheVariants.{Unlawful, Aborted, Incomplete, NormalTooLong, Memory}
-use Rattle.tftp_between.specs.Judged.{HasTapped, IsBetweenVerdict, IsTapRefusedIn, TappedBy}
+use Rattle.std.proofs.Common.{◌≡◌, List, [], ◌∷◌, Option, Some, None, Result, Ok, Err, refl, sym, ap, ◌∙◌, subst, inl, inr, OnOk, IfErr}
+use Rattle.tftp_model.specs.{Meaning}
+use Rattle.tftp_tap.specs.{TapDatagram, TapSides, BreaksNoTapRule, TapPasses}
+use Rattle.tftp_tap_judge.specs.{IsTapJudge, TapJudge, RefusesAtTap, IsTapVerdict, TapRefusal, Unlawful, Aborted, Incomplete, NormalTooLong}
+use Rattle.tftp_tap_judge.specs.declared.refusal.TapRefusal.TheVariants.{Memory}
+use Rattle.tftp_between.specs.{HasTapped, IsBetweenVerdict, IsTapRefusedIn, TappedBy}
 
 -- ---- one datagram more
 

@@ -1,14 +1,11 @@
 -- What passed of a transfer at its client, as a tap between the two ends captures it, by a recording of unknown place. Lists
 -- have the newest first.
 use Rattle.std.specs.Prelude.{◌||◌, not, Bool, List, map, Option, Some, None}
-use Rattle.tftp_ends.specs.Ports.{same_peer}
-use Rattle.tftp_parties.specs.Naming.{host_name}
-use Rattle.tftp_tap.specs.TapCapture.{PeerId, TapDatagram, TapSides}
-use Rattle.tftp_transfers.specs.declared.endpoint.Endpoint.{Endpoint}
-use Rattle.tftp_transfers.specs.declared.place.Transfer.{Transfer}
-use Rattle.tftp_transfers.specs.Recording.{Recorded, same_endpoint}
-use Rattle.tftp_transfers.specs.Places.{Placed}
-use Rattle.tftp_transfers.specs.Views.{client_view, server_of}
+use Rattle.tftp_rules.specs.{same_peer}
+use Rattle.tftp_parties.specs.{host_name}
+use Rattle.tftp_tap.specs.{PeerId, TapDatagram, TapSides}
+use Rattle.tftp_lines.specs.{Endpoint, Transfer, Recorded, same_endpoint, Placed}
+use Rattle.tftp_transfers.specs.{client_view, server_of}
 
 -- a host by its name, and a port there
 abbrev pub peer_of : Endpoint → PeerId

@@ -1,14 +1,10 @@
 -- What a tap's judge stands for that was given each datagram of a capture, also after it refused one. Lists have the newest
 -- first.
 use Rattle.std.specs.Prelude.{◌≡◌, ◌⊎◌, List, ◌∷◌, ◌++◌, Option, Some, None, Result, Err}
-use Rattle.tftp_ends.specs.Meaning.{Meaning}
-use Rattle.tftp_tap.specs.TapCapture.{TapDatagram, TapSides}
-use Rattle.tftp_tap.specs.TapRules.{BreaksNoTapRule}
-use Rattle.tftp_tap_judge.specs.TapKept.{IsTapJudge, TapJudge}
-use Rattle.tftp_tap_judge.specs.TapStops.{RefusesAtTap}
-use Rattle.tftp_tap_judge.specs.TapVerdict.{IsTapVerdict}
-use Rattle.tftp_tap_judge.specs.declared.refusal.TapRefusal.{TapRefusal}
-use Rattle.tftp_tap_judge.specs.declared.refusal.TapRefusal.TheVariants.{Unlawful, Memory}
+use Rattle.tftp_model.specs.{Meaning}
+use Rattle.tftp_tap.specs.{TapDatagram, TapSides, BreaksNoTapRule}
+use Rattle.tftp_tap_judge.specs.{IsTapJudge, TapJudge, RefusesAtTap, IsTapVerdict, TapRefusal, Unlawful}
+use Rattle.tftp_tap_judge.specs.declared.refusal.TapRefusal.TheVariants.{Memory}
 
 -- Those before this one break no rule, and this one was refused.
 pub record IsTapRefusedIn (s : TapSides) (given : List TapDatagram) (refusal : TapRefusal) : Type 0 where

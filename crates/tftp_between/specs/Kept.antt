@@ -1,16 +1,10 @@
 -- What the judge between the ends keeps, and for which datagrams of a recording it stands.
 use Rattle.std.specs.Prelude.{◌≡◌, ℕ, true, false, List, [], length, map, reverse, Option, Some, None}
-use Rattle.tftp_tap.specs.TapCapture.{PeerId, TapDatagram, TapSides}
-use Rattle.tftp_tap_judge.specs.TapKept.{TapJudge}
-use Rattle.tftp_tap_judge.specs.TapStops.{passing_of}
-use Rattle.tftp_tap_judge.specs.declared.datagram.TapDatagram.{TapDatagram as Owned}
-use Rattle.tftp_tap_judge.specs.declared.refusal.TapRefusal.{TapRefusal}
-use Rattle.tftp_transfers.specs.declared.place.Transfer.{Transfer}
-use Rattle.tftp_transfers.specs.declared.views.TransferEnds.{TransferEnds}
-use Rattle.tftp_transfers.specs.Kept.{AreEndsAfter}
-use Rattle.tftp_transfers.specs.Places.{Placed}
-use Rattle.tftp_transfers.specs.Settled.{is_settled}
-use Rattle.tftp_views.specs.declared.party.Party.{Party}
+use Rattle.tftp_tap.specs.{PeerId, TapDatagram, TapSides}
+use Rattle.tftp_tap_judge.specs.{TapJudge, passing_of, TapDatagram as Owned, TapRefusal}
+use Rattle.tftp_lines.specs.{Transfer, Placed}
+use Rattle.tftp_transfers.specs.{TransferEnds, AreEndsAfter, is_settled}
+use Rattle.tftp_views.specs.{Party}
 use Rattle.tftp_between.specs.Captured.{between_capture, sides_of}
 use Rattle.tftp_between.specs.Judged.{HasTapped}
 

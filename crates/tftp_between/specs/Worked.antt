@@ -1,8 +1,8 @@
 -- What passes between the ends of the worked recordings.
 use Rattle.std.specs.Prelude.{List, [], ◌∷◌, codes}
-use Rattle.tftp_tap.specs.TapCapture.{PeerId, TapDatagram, TapSides}
-use Rattle.tftp_transfers.specs.declared.place.Transfer.{Transfer}
-use Rattle.tftp_transfers.specs.Worked.{client, service, ack_of, data_of, read_of}
+use Rattle.tftp_tap.specs.{PeerId, TapDatagram, TapSides}
+use Rattle.tftp_lines.specs.{Transfer}
+use Rattle.tftp_transfers.specs.{client, service, ack_of, data_of, read_of}
 
 -- the transfer that datagram 0 opened
 abbrev pub first_transfer : Transfer

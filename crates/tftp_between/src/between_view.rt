@@ -5,14 +5,12 @@ ghost use Rattle.std.specs.VecDeque.{deque_len};
 ghost use Rattle.tftp_between.specs.Captured.{between_capture, is_to_itself, sides_of};
 ghost use Rattle.tftp_between.specs.Judged.{IsBetweenVerdict};
 ghost use Rattle.tftp_between.specs.Kept.{AreHeld, HasPassed, IsBetweenAfter, counted_by, given_to, has_refused};
-ghost use Rattle.tftp_parties.specs.Naming.{host_name};
-ghost use Rattle.tftp_tap.specs.TapCapture.{AreApart, TapDatagram as Passing};
-ghost use Rattle.tftp_tap_judge.specs.declared.datagram.TapDatagram.{TapDatagram as Owned};
-ghost use Rattle.tftp_tap_judge.specs.declared.refusal.TapRefusal.{TapRefusal as RefusalKind};
-ghost use Rattle.tftp_transfers.specs.Places.{Placed};
-ghost use Rattle.tftp_transfers.specs.Settled.{is_settled};
-ghost use Rattle.tftp_transfers.specs.Views.{client_view, is_of};
-ghost use Rattle.tftp_views.specs.Kept.{IsFed};
+ghost use Rattle.tftp_parties.specs.{host_name};
+ghost use Rattle.tftp_tap.specs.{AreApart, TapDatagram as Passing};
+ghost use Rattle.tftp_tap_judge.specs.{TapDatagram as Owned, TapRefusal as RefusalKind};
+ghost use Rattle.tftp_lines.specs.{Placed, is_of};
+ghost use Rattle.tftp_transfers.specs.{is_settled, client_view};
+ghost use Rattle.tftp_views.specs.{IsFed};
 
 use crate::passing::{passed, sides_of};
 use crate::sides_judge::SidesJudge;
@@ -20,11 +18,12 @@ use std::alloc::{AllocError, Global};
 use std::collections::VecDeque;
 use std::marker::Model;
 use std::mem;
-use tftp_ends::Delivered;
+use tftp_blocks::Delivered;
 use tftp_judge::Meaning;
+use tftp_lines::{Place, Transfer};
 use tftp_tap::Sides;
 use tftp_tap_judge::{TapDatagram, TapRefusal};
-use tftp_transfers::{Place, Transfer, TransferEnds};
+use tftp_transfers::TransferEnds;
 use tftp_views::Party;
 
 /// The judge of a transfer between its two ends (RFC 1350, section 4), fed with a recording from its first datagram to its

@@ -4,13 +4,10 @@ ghost use Rattle.std.specs.Prelude.{◌≡◌, [], ◌++◌, ◌∷◌, List, fa
 ghost use Rattle.tftp_between.specs.Captured.{between_capture, is_to_itself, server_or_asked, sides_of};
 ghost use Rattle.tftp_between.specs.Kept.{IsBetweenAfter, View};
 ghost use Rattle.tftp_between.specs.Worked.{asked_twice_between, asked_twice_sides, first_transfer};
-ghost use Rattle.tftp_parties.specs.Naming.{IsAddress};
-ghost use Rattle.tftp_tap.specs.TapCapture.{AreApart};
-ghost use Rattle.tftp_transfers.specs.Places.{Placed, placed};
-ghost use Rattle.tftp_transfers.specs.Settled.{is_settled};
-ghost use Rattle.tftp_transfers.specs.Views.{is_of, server_of};
-ghost use Rattle.tftp_transfers.specs.Worked.{asked_twice};
-ghost use Rattle.tftp_transfers.specs.declared.place.Transfer.{Transfer};
+ghost use Rattle.tftp_parties.specs.{IsAddress};
+ghost use Rattle.tftp_tap.specs.{AreApart};
+ghost use Rattle.tftp_lines.specs.{Placed, is_of, Transfer};
+ghost use Rattle.tftp_transfers.specs.{placed, is_settled, server_of, asked_twice};
 
 /// The stray passes with its own source, and the sides are the client's, the service port's and the server's.
 pub fn worked_between()

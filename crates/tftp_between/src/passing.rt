@@ -3,16 +3,17 @@
 ghost use Rattle.std.specs.Prelude.{◌≡◌, ℕ, List, length, IfOk};
 ghost use Rattle.tftp_between.specs.Captured.{peer_of, sides_of};
 ghost use Rattle.tftp_between.specs.Kept.{passed_as, side_of};
-ghost use Rattle.tftp_tap_judge.specs.TapStops.{passing_of};
-ghost use Rattle.tftp_transfers.specs.Kept.{AreEndsAfter};
-ghost use Rattle.tftp_transfers.specs.Places.{Placed};
+ghost use Rattle.tftp_tap_judge.specs.{passing_of};
+ghost use Rattle.tftp_transfers.specs.{AreEndsAfter};
+ghost use Rattle.tftp_lines.specs.{Placed};
 
 use std::alloc::{AllocError, Global};
+use tftp_lines::{Endpoint, Transfer};
 use tftp_packet::Bytes;
 use tftp_parties::host_of;
 use tftp_tap::{Endpoint as Side, Sides};
 use tftp_tap_judge::TapDatagram;
-use tftp_transfers::{Endpoint, Transfer, TransferEnds};
+use tftp_transfers::TransferEnds;
 use tftp_views::Party;
 
 /// The sides of a transfer whose ends are known: where no server is, it is whom the client asked.

@@ -4,14 +4,13 @@ ghost use Rattle.std.specs.Prelude.{◌≡◌, ◌+◌, ◌^◌, ◌<◌, ◌≤
 ghost use Rattle.tftp_between.specs.Captured.{are_apart};
 ghost use Rattle.tftp_between.specs.Judged.{HasTapped, IsBetweenVerdict};
 ghost use Rattle.tftp_between.specs.Kept.{HasPassed, counted_by, passed_as, refused_by};
-ghost use Rattle.tftp_tap.specs.TapCapture.{AreApart, TapDatagram as Passing, TapSides};
-ghost use Rattle.tftp_tap_judge.specs.TapStops.{passing_of};
-ghost use Rattle.tftp_tap_judge.specs.declared.refusal.TapRefusal.{TapRefusal as RefusalKind};
+ghost use Rattle.tftp_tap.specs.{AreApart, TapDatagram as Passing, TapSides};
+ghost use Rattle.tftp_tap_judge.specs.{passing_of, TapRefusal as RefusalKind};
 
 use crate::passing::passed;
 use std::alloc::{AllocError, Global};
 use std::marker::Model;
-use tftp_ends::Delivered;
+use tftp_blocks::Delivered;
 use tftp_judge::Meaning;
 use tftp_tap::Sides;
 use tftp_tap_judge::{TapDatagram, TapJudge, TapRefusal};

@@ -3,11 +3,9 @@ use Rattle.std.proofs.Common.{◌≡◌, ◌≢◌, ℕ, ◌+◌, ◌^◌, ◌�
 use Rattle.std.specs.List.{join_with_byte, onto_first}
 use Rattle.std.proofs.lemmas.List.Elements.{All-cons, All-head, All-nil, All-tail}
 use Rattle.std.proofs.lemmas.List.Splits.{join_with_byte-slice_split}
-use Rattle.tftp_capture.specs.declared.fault.TextFault.{TextFault}
-use Rattle.tftp_capture.specs.CaptureText.{Begins, BeginsWith, Due, HasFault, Header, IsCapture, IsOver, Numbered, Says, Stands, Unfinished, longest_line, total_line, whole_lines}
-use Rattle.tftp_capture.specs.declared.version.Version.{Version}
+use Rattle.tftp_capture.specs.{TextFault, Begins, BeginsWith, Due, HasFault, IsCapture, IsOver, Numbered, Says, Stands, Unfinished, longest_line, total_line, whole_lines, Version, HasNoEnd}
+use Rattle.tftp_capture.specs.CaptureText.{Header}
 use Rattle.tftp_capture.specs.CaptureText.Due.{Head, Body, Nothing}
-use Rattle.tftp_capture.specs.Lines.{HasNoEnd}
 use Rattle.tftp_capture.proofs.Canonical.{IsWholeLine, stands-whole_lines}
 use Rattle.tftp_capture.proofs.Readings.{FaultIs, fault_is}
 use Rattle.tftp_capture.proofs.Readings.FaultIs.{cut, wrong}

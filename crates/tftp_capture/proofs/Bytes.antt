@@ -6,7 +6,7 @@ use Rattle.std.proofs.Math.Seq.{take-length}
 use Rattle.std.proofs.lemmas.List.{drop_all, take_more}
 use Rattle.std.proofs.lemmas.List.Elements.{All-append, All-take}
 use Rattle.std.proofs.lemmas.Bool.{cases_lt}
-use Rattle.tftp_capture.specs.Lines.{line_at, HasNoEnd, HasByteAt}
+use Rattle.tftp_capture.specs.{line_at, HasNoEnd, HasByteAt}
 
 pub consumed : (known : Option (List ℕ)) (held : List ℕ) (n : ℕ) → Consumes (prepend_known held known) (prepend_known (drop n held) known) (take n held)
 consumed None held n = tt

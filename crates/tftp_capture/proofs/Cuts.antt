@@ -3,7 +3,7 @@ use Rattle.std.proofs.Common.{◌≡◌, ◌≢◌, ℕ, suc, ◌+◌, ◌<◌, 
 use Rattle.std.proofs.lemmas.List.{take_all}
 use Rattle.std.proofs.lemmas.List.Elements.{All-weaker}
 use Rattle.std.proofs.lemmas.List.Splits.{slice_split_at, slice_split_none}
-use Rattle.tftp_capture.specs.CaptureText.{pieces}
+use Rattle.tftp_capture.specs.{pieces}
 
 no_space : (xs : List ℕ) → All (λ b. b ≢ 32) xs → All (λ b. (b == 32) ≡ false) xs
 no_space xs h = All-weaker (λ b. b ≢ 32) (λ b. (b == 32) ≡ false) (λ b n. ne_eqb b 32 n) xs h

@@ -1,14 +1,9 @@
 -- What is wrong with a text, by what was taken of it.
 use Rattle.std.proofs.Common.{◌≡◌, ℕ, ◌+◌, ◌-◌, ◌^◌, ◌<◌, ◌⊎◌, inl, inr, false, List, [], ◌∷◌, ◌++◌, length, Err, refl, sym, ap, ◌∙◌, arith, append_assoc, append-nil, length-append}
-use Rattle.tftp_capture.specs.declared.fault.TextFault.{TextFault}
-use Rattle.tftp_capture.specs.declared.fault.TextFault.TheVariants.{BadHeader, BadEnd, BadService, LineTooLong, BadLine, BadPort, BadHost, BadHex, PayloadTooLong, TotalWrong, Truncated, TrailingText, TextTooLong}
-use Rattle.tftp_capture.specs.declared.version.Version.{Version}
-use Rattle.tftp_capture.specs.declared.stop.Stop.{Stop}
+use Rattle.tftp_capture.specs.{TextFault, BadHeader, BadEnd, BadService, LineTooLong, BadLine, BadPort, BadHost, BadHex, PayloadTooLong, TotalWrong, Truncated, TrailingText, TextTooLong, Version, Stop, BodyFault, ByteFault, Due, FailsAt, HasFault, IsOver, Numbered, Stands, Unfinished, longest, longest_line, says_nothing, FaultTells, MemoryTells, IsPartOfLine, LeavesEnd, LineEnds, TextEnds, fault_at}
 use Rattle.tftp_capture.specs.declared.stop.Stop.TheVariants.{Text, Read, Memory}
-use Rattle.tftp_capture.specs.CaptureText.{BodyFault, ByteFault, Due, FailsAt, HasFault, Header, IsOver, Numbered, Stands, Unfinished, longest, longest_line, says_nothing}
+use Rattle.tftp_capture.specs.CaptureText.{Header}
 use Rattle.tftp_capture.specs.CaptureText.Due.{Body, Nothing}
-use Rattle.tftp_capture.specs.History.{FaultTells, MemoryTells}
-use Rattle.tftp_capture.specs.Lines.{IsPartOfLine, LeavesEnd, LineEnds, TextEnds, fault_at}
 use Rattle.tftp_capture.proofs.Texts.{stands-part}
 
 module _ (text : List ℕ) (lines : List (List ℕ)) (due : Due) (datagrams : List Numbered) (not_yet : IsOver due → ⊥) (stands : Stands text lines [] due datagrams) where

@@ -4,7 +4,7 @@ use Rattle.std.specs.Io.KnownBytes.{Appends, Keeps}
 use Rattle.std.proofs.KnownBytes.{Appends-nil, Appends-trans, Appends-kept}
 use Rattle.std.proofs.lemmas.List.{take_more}
 use Rattle.std.proofs.lemmas.List.Concat.{flat_map-append}
-use Rattle.tftp_capture.specs.Tally.{Adds, AppendsPrefix, Gathers, Writes}
+use Rattle.tftp_capture.specs.{Adds, AppendsPrefix, Gathers, Writes}
 
 pub gathers_none : (c : Option (List ℕ)) (held : List ℕ) → Gathers c c held held []
 gathers_none c held = record { written = []; are = append-nil held; appended = Appends-nil c }

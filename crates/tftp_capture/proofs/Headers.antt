@@ -3,18 +3,11 @@ use Rattle.std.proofs.Common.{◌≡◌, ◌≢◌, ℕ, ◌+◌, ◌-◌, ◌^�
 use Rattle.std.specs.Io.KnownBytes.{Consumes, IsAtEnd, prepend_known}
 use Rattle.std.proofs.lemmas.List.Elements.{All-nil}
 use Rattle.std.proofs.KnownBytes.{Consumes-trans}
-use Rattle.tftp_packet.specs.declared.kinds.End.{End}
-use Rattle.tftp_capture.specs.declared.fault.TextFault.TheVariants.{BadHeader, BadEnd, BadService, Truncated}
-use Rattle.tftp_capture.specs.declared.fault.CaptureFault.{CaptureFault}
+use Rattle.tftp_packet.specs.{End}
+use Rattle.tftp_capture.specs.{BadHeader, BadEnd, BadService, Truncated, CaptureFault, Version, One, Two, Stop, Due, IsPort, Says, Stands, end_line, head_line, longest, longest_line, service_line, whole_lines, FailsToBegin, FaultTells, HasService, IsAtTextEnd, IsReadFault, MemoryTells, LeavesEnd, LineEnds, LineState, ReachesLine, fault_at}
 use Rattle.tftp_capture.specs.declared.fault.CaptureFault.TheVariants as faults
-use Rattle.tftp_capture.specs.declared.version.Version.{Version}
-use Rattle.tftp_capture.specs.declared.version.Version.TheVariants.{One, Two}
-use Rattle.tftp_capture.specs.declared.stop.Stop.{Stop}
 use Rattle.tftp_capture.specs.declared.stop.Stop.TheVariants.{Text, Read, Memory}
-use Rattle.tftp_capture.specs.CaptureText.{Due, IsPort, Says, Stands, end_line, head_line, longest, longest_line, service_line, whole_lines}
 use Rattle.tftp_capture.specs.CaptureText.Due.{Head, EndLine, ServiceLine, Body}
-use Rattle.tftp_capture.specs.History.{FailsToBegin, FaultTells, HasService, IsAtTextEnd, IsReadFault, MemoryTells}
-use Rattle.tftp_capture.specs.Lines.{LeavesEnd, LineEnds, LineState, ReachesLine, fault_at}
 use Rattle.tftp_capture.proofs.Texts.{IsSkippable, said-push, says-head, says-end, says-service, stands-line, stands-nothing}
 use Rattle.tftp_capture.proofs.Faults.{fault_in_line, fault_at_end, memory_in_line}
 use Rattle.tftp_capture.proofs.Histories.{reached, stop_memory, stop_tells, number_is, part_is, within_is, taken_is, bytes_are}

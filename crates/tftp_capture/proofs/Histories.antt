@@ -2,14 +2,11 @@
 use Rattle.std.proofs.Common.{◌≡◌, ℕ, ◌+◌, ◌-◌, ◌^◌, ◌<◌, inr, List, [], ◌∷◌, ◌++◌, length, All, Option, None, Some, Result, Ok, Err, refl, sym, ap, ◌∙◌, subst, arith, append_assoc, append-nil, length-append}
 use Rattle.std.specs.Io.KnownBytes.{Consumes}
 use Rattle.std.proofs.KnownBytes.{Consumes-trans}
-use Rattle.tftp_capture.specs.declared.stop.Stop.{Stop}
+use Rattle.tftp_capture.specs.{Stop, Due, Numbered, SaysDatagram, Stands, longest, longest_line, total_line, whole_lines, BodyEnds, datagram_of, Answers, FaultTells, GoesOn, MemoryTells, IsPartOfLine, IsSkipped, LineState, ReachesLine, TextEnds, fault_at}
 use Rattle.tftp_capture.specs.declared.stop.Stop.TheVariants.{Text, Read, Memory}
 use Rattle.tftp_capture.specs.declared.datagram.Datagram.{Datagram as Owned}
-use Rattle.tftp_capture.specs.CaptureText.{Datagram, Due, Header, Numbered, SaysDatagram, Stands, longest, longest_line, total_line, whole_lines}
+use Rattle.tftp_capture.specs.CaptureText.{Datagram, Header}
 use Rattle.tftp_capture.specs.CaptureText.Due.{Body, Nothing}
-use Rattle.tftp_capture.specs.Fields.{BodyEnds, datagram_of}
-use Rattle.tftp_capture.specs.History.{Answers, FaultTells, GoesOn, MemoryTells}
-use Rattle.tftp_capture.specs.Lines.{IsPartOfLine, IsSkipped, LineState, ReachesLine, TextEnds, fault_at}
 use Rattle.tftp_capture.proofs.Texts.{IsSkippable, not_over, says-datagram, stands-line, stands-skips}
 use Rattle.tftp_capture.proofs.Faults.{body_fault, end_fault, fault_in_line, memory_in_line}
 

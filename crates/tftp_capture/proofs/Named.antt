@@ -7,11 +7,9 @@ use Rattle.std.proofs.lemmas.Bool.Decides.{nat_tests}
 use Rattle.std.proofs.lemmas.List.Elements.{All-cons, All-nil, All-weaker, recursion_from_All}
 use Rattle.std.proofs.lemmas.List.Sums.{AllPass-from_list_all}
 use Rattle.hex.specs.Hex.{decode_pairs}
-use Rattle.tftp_packet.specs.Host.{IsHost, IsSign}
-use Rattle.tftp_packet.specs.declared.kinds.Dir.TheVariants.{In, Out}
-use Rattle.tftp_capture.specs.declared.version.Version.TheVariants.{Two}
-use Rattle.tftp_capture.specs.CaptureText.{Datagram, IsCapture, SaysDatagram, SaysDatagrams}
-use Rattle.tftp_capture.specs.Worked.{named_datagrams, named_text, worked_header}
+use Rattle.tftp_hosts.specs.{IsHost, IsSign, In, Out}
+use Rattle.tftp_capture.specs.{Two, IsCapture, SaysDatagram, SaysDatagrams, named_datagrams, named_text, worked_header}
+use Rattle.tftp_capture.specs.CaptureText.{Datagram}
 
 sign_is : (b : ℕ) → is_ascii_graphic b ≡ true → IsSign b
 sign_is b h = (grind (arith, nat_tests), grind (arith, nat_tests))

@@ -1,9 +1,8 @@
 -- The arithmetic of one hex digit, by its 256 cases.
-use Rattle.std.specs.Prelude.{MatchOption}
-use Rattle.std.proofs.Common.{refl, ◌≡◌, ℕ, zero, suc, ◌+◌, ◌-◌, ◌%◌, ◌<◌, ◌≤◌, ◌==◌, nat_le, Bool, true, ◌&&◌, inl, inr, Option, Some, None, bit_and, arith}
+use Rattle.std.proofs.Common.{refl, ◌≡◌, ℕ, zero, suc, ◌+◌, ◌-◌, ◌%◌, ◌<◌, ◌≤◌, ◌==◌, nat_le, Bool, true, ◌&&◌, inl, inr, Option, Some, None, bit_and, arith, MatchOption}
 use Rattle.std.proofs.lemmas.Bool.{and_parts, cases_lt, eqb-true}
 use Rattle.hex.specs.Hex.{hex_digit_value}
-use Rattle.tftp_capture.specs.Digits.{IsNibble}
+use Rattle.tftp_capture.specs.{IsNibble}
 use Prim.Native.Nat.{min}
 use borrow.Author.Tests.{leb-true}
 

@@ -1,6 +1,5 @@
 -- Hex digits and the payload that they spell.
-use Rattle.std.proofs.Common.{◌≡◌, ◌≢◌, ℕ, ◌*◌, ◌%◌, ◌==◌, ◌⊎◌, inl, inr, true, false, true≢false, List, [], ◌∷◌, length, codes, sym, ap, ◌∙◌, refl, arith}
-use Rattle.std.specs.Prelude.{Result, Ok, Err, OnOk, is_err}
+use Rattle.std.proofs.Common.{◌≡◌, ◌≢◌, ℕ, ◌*◌, ◌%◌, ◌==◌, ◌⊎◌, inl, inr, true, false, true≢false, List, [], ◌∷◌, length, codes, sym, ap, ◌∙◌, refl, arith, Result, Ok, Err, OnOk, is_err}
 use Rattle.std.proofs.lemmas.Bool.Decides.{nat_tests}
 use Rattle.std.specs.List.{list_all, AllPass}
 use Rattle.std.specs.Char.{is_ascii_hexdigit}
@@ -9,9 +8,7 @@ use Rattle.std.proofs.lemmas.List.Splits.{slice_split_none}
 use Rattle.std.proofs.lemmas.List.Sums.{AllPass-from_list_all, list_all-from_AllPass}
 use Rattle.hex.specs.Hex.{is_hex_digit}
 use Rattle.hex.proofs.HexLemmas.{decode_of-digits, decode_of-ok}
-use Rattle.tftp_capture.specs.declared.stop.Stop.{Stop}
-use Rattle.tftp_capture.specs.CaptureText.{SpellsPayload, pieces}
-use Rattle.tftp_capture.specs.Fields.{PayloadEnds, filled}
+use Rattle.tftp_capture.specs.{Stop, SpellsPayload, pieces, PayloadEnds, filled}
 
 is_digit : (c : ℕ) → is_ascii_hexdigit c ≡ true → is_hex_digit c ≡ true
 is_digit c h = grind (arith, nat_tests)

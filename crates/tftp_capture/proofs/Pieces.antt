@@ -2,16 +2,9 @@
 use Rattle.std.proofs.Common.{◌≡◌, ◌≢◌, ℕ, ◌≤◌, ◌==◌, true, false, List, [], ◌∷◌, length, codes, decimal, Option, None, Some, Err, MatchOption, Result, Ok, is_some, true≢false, refl, sym, ap, ◌∙◌, subst, arith}
 use Rattle.std.specs.List.{join_with_byte}
 use Rattle.std.proofs.lemmas.List.Splits.{length-slice_split, join_with_byte-slice_split}
-use Rattle.tftp_packet.specs.Host.{IsHost}
-use Rattle.tftp_packet.specs.declared.kinds.Dir.{Dir}
-use Rattle.tftp_packet.specs.declared.kinds.Dir.TheVariants.{In, Out}
-use Rattle.tftp_capture.specs.declared.fault.TextFault.TheVariants.{BadHeader, BadEnd, BadService, LineTooLong, BadLine, BadPort, BadHost, BadHex, PayloadTooLong, TotalWrong, Truncated, TrailingText, TextTooLong}
-use Rattle.tftp_capture.specs.declared.stop.Stop.{Stop}
+use Rattle.tftp_hosts.specs.{IsHost, Dir, In, Out}
+use Rattle.tftp_capture.specs.{BadHeader, BadEnd, BadService, LineTooLong, BadLine, BadPort, BadHost, BadHex, PayloadTooLong, TotalWrong, Truncated, TrailingText, TextTooLong, Stop, BeginWithFields, BodyEnds, DatagramEnds, PayloadEnds, TotalEnds, filled, dir_word, pieces, total_line, AreFields, BodyFault, HasFields, HasPorts, SpellsPort, Version, One, Two}
 use Rattle.tftp_capture.specs.declared.stop.Stop.TheVariants.{Text, Read, Memory}
-use Rattle.tftp_capture.specs.Fields.{BeginWithFields, BodyEnds, DatagramEnds, PayloadEnds, TotalEnds, filled}
-use Rattle.tftp_capture.specs.CaptureText.{dir_word, pieces, total_line, AreFields, BodyFault, HasFields, HasPorts, SpellsPort}
-use Rattle.tftp_capture.specs.declared.version.Version.{Version}
-use Rattle.tftp_capture.specs.declared.version.Version.TheVariants.{One, Two}
 
 pub some_piece : (xs : List ℕ) → 1 ≤ length (pieces xs)
 some_piece xs = omega (arith, length-slice_split (λ b. b == 32) xs)

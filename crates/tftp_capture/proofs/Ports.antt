@@ -3,7 +3,7 @@ use Rattle.std.proofs.Common.{◌≡◌, ◌≢◌, ℕ, ◌<◌, ◌≤◌, Lis
 use Rattle.std.specs.Str.Parse.{AllDigits, IsNumeral, digits_value}
 use Rattle.std.proofs.lemmas.Fmt.{decimal_digit, decimal_is_IsNumeral, decimal-digits_value, first_decimal}
 use Rattle.std.proofs.lemmas.Str.Parse.{numerals_by_value, tells_digits}
-use Rattle.tftp_capture.specs.CaptureText.{SpellsPort}
+use Rattle.tftp_capture.specs.{SpellsPort}
 
 -- what spells a port is a numeral, of its number
 pub port_is_numeral : (text : List ℕ) (port : ℕ) → SpellsPort text port → IsNumeral 10 text × (digits_value 10 text ≡ port)

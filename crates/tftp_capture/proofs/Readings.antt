@@ -1,11 +1,9 @@
 -- A text has one reading.
 use Rattle.std.proofs.Common.{◌≡◌, ◌≢◌, ℕ, ◌+◌, ◌^◌, ◌<◌, inl, inr, List, [], ◌∷◌, ◌++◌, length, codes, refl, sym, ap, ◌∙◌, subst, arith, length-append}
 use Rattle.std.proofs.lemmas.Bool.{cases_lt}
-use Rattle.tftp_capture.specs.declared.fault.TextFault.{TextFault}
-use Rattle.tftp_capture.specs.declared.fault.TextFault.TheVariants.{BadHeader, BadEnd, BadService, LineTooLong, BadLine, BadPort, BadHost, BadHex, PayloadTooLong, TotalWrong, Truncated, TrailingText, TextTooLong}
-use Rattle.tftp_capture.specs.CaptureText.{BodyFault, ByteFault, Due, FailsAt, HasFault, HasFields, HasPorts, Header, IsCapture, IsOver, LineFault, Numbered, Reading, Reads, Says, SpellsPayload, SpellsPort, Stands, Unfinished, pieces}
-use Rattle.tftp_capture.specs.declared.version.Version.{Version}
-use Rattle.tftp_packet.specs.Host.{IsHost}
+use Rattle.tftp_capture.specs.{TextFault, BadHeader, BadEnd, BadService, LineTooLong, BadLine, BadPort, BadHost, BadHex, PayloadTooLong, TotalWrong, Truncated, TrailingText, TextTooLong, BodyFault, ByteFault, Due, FailsAt, HasFault, HasFields, HasPorts, IsCapture, IsOver, LineFault, Numbered, Reading, Reads, Says, SpellsPayload, SpellsPort, Stands, Unfinished, pieces, Version}
+use Rattle.tftp_capture.specs.CaptureText.{Header}
+use Rattle.tftp_hosts.specs.{IsHost}
 use Rattle.tftp_capture.specs.CaptureText.Due.{Head, EndLine, ServiceLine, Body, Nothing}
 use Rattle.tftp_capture.specs.CaptureText.Reading.{Capture, Fault}
 use Rattle.tftp_capture.proofs.Pieces.{fields_same, ports_same, total_no_fields}

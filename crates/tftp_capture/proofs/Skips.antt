@@ -4,8 +4,7 @@ use Rattle.std.specs.Io.KnownBytes.{Consumes}
 use Rattle.std.proofs.KnownBytes.{Consumes-trans}
 use Rattle.std.proofs.lemmas.List.Concat.{flat_map-append}
 use Rattle.std.proofs.lemmas.List.Elements.{All-push}
-use Rattle.tftp_capture.specs.CaptureText.{longest_line, says_nothing, whole_lines}
-use Rattle.tftp_capture.specs.Lines.{IsSkipped, LineEnds, LineState}
+use Rattle.tftp_capture.specs.{longest_line, says_nothing, whole_lines, IsSkipped, LineEnds, LineState}
 
 pub whole_lines-push : (lines : List (List ℕ)) (line : List ℕ) → whole_lines (lines ++ line ∷ []) ≡ whole_lines lines ++ (line ++ 10 ∷ [])
 whole_lines-push lines line = flat_map-append (λ (l : List ℕ). l ++ 10 ∷ []) lines (line ∷ []) ∙ ap (λ l. whole_lines lines ++ l) (append-nil (line ++ 10 ∷ []))

@@ -6,13 +6,9 @@ use Rattle.std.proofs.KnownBytes.{Appends-trans}
 use Rattle.std.proofs.lemmas.List.{map-append}
 use Rattle.std.proofs.lemmas.List.Concat.{flat_map-append}
 use Rattle.hex.specs.Hex.{encode_lower, encode_with, lower_digits}
-use Rattle.tftp_capture.specs.declared.version.Version.{Version}
-use Rattle.tftp_capture.specs.declared.version.Version.TheVariants.{One, Two}
-use Rattle.tftp_capture.specs.CaptureText.{Datagram, Header, datagram_line, dir_word, end_line, end_word, head_line, line_with_host, payload_text, service_line, text_of, total_line, whole_lines}
-use Rattle.tftp_capture.specs.Commented.{Entry, comment_line, commented_text, entry_line, said_in}
+use Rattle.tftp_capture.specs.{Version, One, Two, datagram_line, dir_word, end_line, end_word, head_line, line_with_host, payload_text, service_line, text_of, total_line, whole_lines, Entry, comment_line, commented_text, entry_line, said_in, Gathers, HasWritten, HasWrittenHosts, WriterState, header_text_in}
+use Rattle.tftp_capture.specs.CaptureText.{Datagram, Header}
 use Rattle.tftp_capture.specs.Commented.Entry.{Comment, Passed}
-use Rattle.tftp_capture.specs.Tally.{Gathers}
-use Rattle.tftp_capture.specs.Written.{HasWritten, HasWrittenHosts, WriterState, header_text_in}
 use Rattle.tftp_capture.proofs.Gathering.{gathers_more}
 use Rattle.tftp_capture.proofs.Skips.{whole_lines-push}
 

@@ -1,8 +1,6 @@
 -- A fault that stays, whatever follows.
 use Rattle.std.proofs.Common.{◌≡◌, ◌≢◌, ℕ, List, ◌∷◌, ◌++◌, refl, ap, ◌∙◌, append_assoc}
-use Rattle.tftp_capture.specs.declared.fault.TextFault.{TextFault}
-use Rattle.tftp_capture.specs.declared.fault.TextFault.TheVariants.{BadHeader, BadEnd, BadService, LineTooLong, BadLine, BadPort, BadHost, BadHex, PayloadTooLong, TotalWrong, Truncated, TrailingText, TextTooLong}
-use Rattle.tftp_capture.specs.CaptureText.{HasFault, Numbered}
+use Rattle.tftp_capture.specs.{TextFault, BadHeader, BadEnd, BadService, LineTooLong, BadLine, BadPort, BadHost, BadHex, PayloadTooLong, TotalWrong, Truncated, TrailingText, TextTooLong, HasFault, Numbered}
 
 more_after : (text more read rest : List ℕ) (byte : ℕ) → text ≡ read ++ byte ∷ rest → text ++ more ≡ read ++ byte ∷ (rest ++ more)
 more_after text more read rest byte e = ap (λ l. l ++ more) e ∙ append_assoc read (byte ∷ rest) more

@@ -4,11 +4,10 @@ use Rattle.std.specs.List.{slice_split, onto_first}
 use Rattle.std.proofs.lemmas.List.Elements.{All-weaker, All-push, All-head, All-tail}
 use Rattle.std.proofs.lemmas.List.Splits.{slice_split_at, slice_split_none}
 use Rattle.std.proofs.lemmas.Slice.Zip.{all_zipped_more}
-use Rattle.tftp_packet.specs.declared.kinds.End.{End}
-use Rattle.tftp_capture.specs.CaptureText.{Datagram, Due, Header, IsOver, IsPort, Numbered, SaysDatagram, Says, Stands, end_line, head_line, longest, said, says_nothing, service_line, whole_lines}
+use Rattle.tftp_packet.specs.{End}
+use Rattle.tftp_capture.specs.CaptureText.{Datagram, Header}
+use Rattle.tftp_capture.specs.{Due, IsOver, IsPort, Numbered, SaysDatagram, Says, Stands, end_line, head_line, longest, said, says_nothing, service_line, whole_lines, Version, HasNoEnd, IsPartOfLine, IsSkipped}
 use Rattle.tftp_capture.specs.CaptureText.Due.{Head, EndLine, ServiceLine, Body, Nothing}
-use Rattle.tftp_capture.specs.declared.version.Version.{Version}
-use Rattle.tftp_capture.specs.Lines.{HasNoEnd, IsPartOfLine, IsSkipped}
 
 -- ---- a text divided at LF
 

@@ -5,13 +5,10 @@ use Rattle.std.proofs.lemmas.Fmt.{decimal_injective}
 use Rattle.hex.specs.Hex.{decode_of}
 use Rattle.hex.specs.declared.error.FromHexError.TheVariants.{OddLength}
 use Rattle.hex.proofs.HexLemmas.{decode_of-odd, decode_of-same}
-use Rattle.tftp_packet.specs.declared.kinds.Dir.{Dir}
-use Rattle.tftp_packet.specs.declared.kinds.Dir.TheVariants.{In, Out}
-use Rattle.tftp_packet.specs.declared.kinds.End.{End}
-use Rattle.tftp_packet.specs.declared.kinds.End.TheVariants.{Client, Server}
-use Rattle.tftp_capture.specs.declared.version.Version.{Version}
-use Rattle.tftp_capture.specs.declared.version.Version.TheVariants.{One, Two}
-use Rattle.tftp_capture.specs.CaptureText.{Datagram, Due, Header, IsPort, Numbered, SaysDatagram, SaysDatagrams, Says, SpellsPayload, SpellsPort, dir_word, end_line, head_line, longest, pieces, said, says_nothing, service_line, total_line}
+use Rattle.tftp_hosts.specs.{Dir, In, Out}
+use Rattle.tftp_packet.specs.{End, Client, Server}
+use Rattle.tftp_capture.specs.{Version, One, Two, Due, IsPort, Numbered, SaysDatagram, SaysDatagrams, Says, SpellsPayload, SpellsPort, dir_word, end_line, head_line, longest, pieces, said, says_nothing, service_line, total_line}
+use Rattle.tftp_capture.specs.CaptureText.{Datagram, Header}
 use Rattle.tftp_capture.specs.CaptureText.Due.{Head, EndLine, ServiceLine, Body, Nothing}
 use Rattle.tftp_capture.proofs.Pieces.{dir_not_total, fields_same, fields_word}
 use Rattle.tftp_capture.proofs.Texts.{IsSkippable}

@@ -4,12 +4,9 @@
 use Rattle.std.specs.Prelude.{◌≡◌, ◌≢◌, ℕ, ◌+◌, ◌^◌, ◌<◌, ◌≤◌, Bool, true, false, ◌⊎◌, ◌==◌, if◌then◌else◌, List, [], ◌∷◌, ◌++◌, length, map, All, flat_map, Ok, codes, decimal}
 use Rattle.std.specs.List.{slice_split, join_with_byte, AllZip}
 use Rattle.hex.specs.Hex.{encode_lower, decode_of, IsBytes}
-pub use Rattle.tftp_packet.specs.Capture.{Datagram, Header}
-use Rattle.tftp_packet.specs.Host.{IsHost, no_host}
-use Rattle.tftp_packet.specs.declared.kinds.Dir.{Dir}
-use Rattle.tftp_packet.specs.declared.kinds.Dir.TheVariants.{In, Out}
-use Rattle.tftp_packet.specs.declared.kinds.End.{End}
-use Rattle.tftp_packet.specs.declared.kinds.End.TheVariants.{Client, Server}
+pub use Rattle.tftp_hosts.specs.Capture.{Datagram, Header}
+use Rattle.tftp_hosts.specs.{IsHost, no_host, Dir, In, Out}
+use Rattle.tftp_packet.specs.{End, Client, Server}
 use Rattle.tftp_capture.specs.declared.fault.TextFault.{TextFault}
 use Rattle.tftp_capture.specs.declared.fault.TextFault.TheVariants.{BadHeader, BadEnd, BadService, LineTooLong, BadLine, BadPort, BadHost, BadHex, PayloadTooLong, TotalWrong, Truncated, TrailingText, TextTooLong}
 use Rattle.tftp_capture.specs.declared.version.Version.{Version}

@@ -9,3 +9,22 @@ pub mod Lines
 pub mod Tally
 pub mod Worked
 pub mod Written
+pub use CaptureText.{AreFields, Begins, BeginsWith, BodyFault, ByteFault, Due, FailsAt, HasFault, HasFields, HasPorts, IsCapture, IsLawful, IsOver, IsPort, LineFault, NamesNoHost, Numbered, Reading, Reads, Says, SaysDatagram, SaysDatagrams, SpellsPayload, SpellsPort, Stands, Unfinished, datagram_line, dir_word, end_line, end_word, head_line, line_with_host, longest, longest_line, numbered, payload_text, pieces, said, says_nothing, service_line, text_of, text_with_hosts, total_line, whole_lines}
+pub use Commented.{Entry, IsEntry, comment_line, commented_text, entry_line, numbered_in, said_in}
+pub use Digits.{IsNibble}
+pub use Fields.{BeginWithFields, BodyEnds, DatagramEnds, PayloadEnds, TotalEnds, datagram_of, filled, filled_if, header_of}
+pub use History.{Answers, Continues, FailsToBegin, FaultTells, GoesOn, HasService, IsAtTextEnd, IsReadFault, IsReadStanding, MemoryTells, ReaderState, SaysOneMore, StandingTells, StandsFor, WantTells, standing_after, with_answer}
+pub use InTwo.{in_version_two, is_way, line_in_two, lines_in_two, pieces_in_two}
+pub use Lines.{HasByteAt, HasNoEnd, IsPartOfLine, IsSkipped, LeavesEnd, LineEnds, LineState, ReachesLine, TextEnds, fault_at, line_at}
+pub use Tally.{Adds, AppendsPrefix, Gathers, Writes}
+pub use Worked.{line, named_datagrams, named_text, worked_header, worked_text}
+pub use Written.{HasWritten, HasWrittenHosts, WriterState, header_text, header_text_in}
+pub use declared.fault.CaptureFault.{CaptureFault}
+pub use declared.fault.TextFault.{TextFault}
+pub use declared.fault.TextFault.TheVariants.{BadEnd, BadHeader, BadHex, BadHost, BadLine, BadPort, BadService, LineTooLong, PayloadTooLong, TextTooLong, TotalWrong, TrailingText, Truncated}
+pub use declared.fault.WriteFault.{WriteFault}
+pub use declared.standing.Standing.{Standing}
+pub use declared.standing.Standing.TheVariants.{Failed, Open, Over}
+pub use declared.stop.Stop.{Stop}
+pub use declared.version.Version.{Version}
+pub use declared.version.Version.TheVariants.{One, Two}

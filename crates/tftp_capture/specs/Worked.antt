@@ -1,9 +1,8 @@
 -- A read of the file `a`, which holds `hi`, as it was recorded at the client: in version 1, the same in version 2, and
 -- with the hosts named.
 use Rattle.std.specs.Prelude.{ℕ, List, [], ◌∷◌, ◌++◌, codes}
-use Rattle.tftp_packet.specs.Host.{no_host}
-use Rattle.tftp_packet.specs.declared.kinds.Dir.TheVariants.{In, Out}
-use Rattle.tftp_packet.specs.declared.kinds.End.TheVariants.{Client}
+use Rattle.tftp_hosts.specs.{no_host, In, Out}
+use Rattle.tftp_packet.specs.{Client}
 use Rattle.tftp_capture.specs.CaptureText.{Datagram, Header, Numbered}
 
 abbrev pub worked_header : Header

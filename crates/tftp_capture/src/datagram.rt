@@ -1,7 +1,8 @@
 ghost use Rattle.std.specs.Prelude.{◌≡◌, []};
 
 use std::alloc::Global;
-use tftp_packet::{Bytes, Dir, End, Host};
+use tftp_hosts::{Dir, Host};
+use tftp_packet::{Bytes, End};
 
 /// Whose capture it is.
 #[derive(Clone, Copy, Debug, PartialEq, Eq)]

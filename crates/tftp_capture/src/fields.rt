@@ -12,7 +12,8 @@ use crate::stop::Stop;
 use crate::version::Version;
 use hex::FromHexError;
 use itoa::Buffer;
-use tftp_packet::{Bytes, Dir, End, Host};
+use tftp_hosts::{Dir, Host};
+use tftp_packet::{Bytes, End};
 
 /// The most bytes of a payload: the 65,535 that a UDP length counts, less the header's 8 (RFC 768).
 const LONGEST_PAYLOAD: usize = 65_527;

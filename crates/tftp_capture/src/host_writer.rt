@@ -17,7 +17,7 @@ use itoa::Buffer;
 use std::alloc::Global;
 use std::io::Write;
 use std::marker::Model;
-use tftp_packet::{Dir, Host};
+use tftp_hosts::{Dir, Host};
 
 /// A writer of a capture text in its canonical form of version 2, in which each datagram names its host: at most 16,384
 /// bytes wait in it to be written.

@@ -1,7 +1,7 @@
 ghost use Rattle.std.specs.Prelude.{◌≡◌, ◌+◌, ◌^◌, ◌<◌, ◌≤◌, ◌++◌, ◌∷◌, [], ℕ, List, Option, length, true, false, IfOk, is_err, IsErr, OnOk, OnErr};
 ghost use Rattle.std.specs.Io.KnownBytes.{Appends};
 ghost use Rattle.hex.specs.Hex.{encode_lower};
-ghost use Rattle.tftp_packet.specs.Host.{no_host};
+ghost use Rattle.tftp_hosts.specs.{no_host};
 ghost use Rattle.tftp_capture.specs.Tally.{Adds, AppendsPrefix, Writes};
 ghost use Rattle.tftp_capture.specs.CaptureText.{datagram_line, payload_text, text_of, total_line, Datagram, Header as HeaderParts, IsPort};
 ghost use Rattle.tftp_capture.specs.Fields.{header_of};
@@ -16,7 +16,8 @@ use itoa::Buffer;
 use std::alloc::Global;
 use std::io::Write;
 use std::marker::Model;
-use tftp_packet::{Dir, End};
+use tftp_hosts::Dir;
+use tftp_packet::End;
 
 /// A writer of a capture text in its canonical form, which names no host: at most 16,384 bytes wait in it to be
 /// written.

@@ -1,9 +1,8 @@
 -- The line of a transfer that an ERROR ended.
 use Rattle.std.proofs.Common.{◌≡◌, ℕ, List, ◌++◌, codes, decimal, sym, ap, ◌∙◌, append_assoc}
-use Rattle.tftp_law.specs.declared.by.By.{By}
-use Rattle.tftp_judge.specs.declared.refusal.Refusal.TheVariants.{Aborted}
-use Rattle.tftp_commands.specs.Names.{by_name}
-use Rattle.tftp_commands.specs.Checked.{refusal_line}
+use Rattle.tftp_law.specs.{By}
+use Rattle.tftp_judge.specs.{Aborted}
+use Rattle.tftp_commands.specs.{by_name, refusal_line}
 
 joined : (p i q n e : List ℕ) → p ++ (i ++ (q ++ (n ++ e))) ≡ p ++ i ++ q ++ n ++ e
 joined p i q n e = sym (append_assoc (p ++ i ++ q) n e ∙ append_assoc (p ++ i) q (n ++ e) ∙ append_assoc p i (q ++ (n ++ e)))

@@ -1,14 +1,8 @@
 -- What is printed, by the words.
 use Rattle.std.proofs.Common.{◌≡◌, ◌≢◌, ◌⊎◌, inl, inr, ℕ, List, [], ◌∷◌, length, Bool, false, Result, Ok, Err, codes, nat_eq, if◌then◌else◌, refl, sym, ap, ◌∙◌, subst, arith}
 use Rattle.tftp_commands.specs.declared.status.Status.TheVariants as status
-use Rattle.tftp_commands.specs.declared.words.Action.{Action}
-use Rattle.tftp_commands.specs.declared.words.Action.TheVariants.{Check, Extract, Normal, Show, Count}
-use Rattle.tftp_commands.specs.declared.words.UsageFault.{UsageFault}
+use Rattle.tftp_commands.specs.{Action, Check, Extract, Normal, Show, Count, UsageFault, Output, memory_line, usage_line, IsOutput, IsOutputOf, Source, IsCommand, IsNoCommand, IsQuiet, memory_fault, name_of}
 use Rattle.tftp_commands.specs.declared.words.UsageFault.TheVariants as usage
-use Rattle.tftp_commands.specs.Output.{Output, memory_line, usage_line}
-use Rattle.tftp_commands.specs.Run.{IsOutput, IsOutputOf}
-use Rattle.tftp_commands.specs.Source.{Source}
-use Rattle.tftp_commands.specs.Words.{IsCommand, IsNoCommand, IsQuiet, memory_fault, name_of}
 use Rattle.tftp_commands.proofs.Memory.{memory_said, silent_said}
 
 -- ---- no words are two commands

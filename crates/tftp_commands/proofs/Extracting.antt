@@ -2,19 +2,12 @@
 use Rattle.std.proofs.Common.{◌≡◌, ℕ, List, Bool, true, false, true≢false, Option, Result, Ok, Err, refl, sym, ap, ◌∙◌, subst}
 use Rattle.std.specs.Io.KnownBytes.{Consumes, IsAtEnd}
 use Rattle.std.proofs.KnownBytes.{Appends-nil}
-use Rattle.tftp_ends.specs.Meaning.{Meaning}
-use Rattle.tftp_judge.specs.Extracted.{Extracts}
-use Rattle.tftp_judge.specs.TextVerdict.{EndsText, IsReadVerdict, IsTextVerdict, SaysReadFailed}
-use Rattle.tftp_judge.specs.declared.extraction.OutFault.{OutFault}
+use Rattle.tftp_model.specs.{Meaning}
+use Rattle.tftp_judge.specs.{Extracts, EndsText, IsReadVerdict, IsTextVerdict, SaysReadFailed, OutFault, Verdict}
 use Rattle.tftp_judge.specs.declared.extraction.OutFault.TheVariants as fault
-use Rattle.tftp_judge.specs.declared.verdict.Verdict.{Verdict}
 use Rattle.tftp_judge.proofs.ReadVerdicts.{read_is_text}
-use Rattle.tftp_commands.specs.declared.status.Status.{Status}
+use Rattle.tftp_commands.specs.{Status, verdict_status, IsExtracted, extracted, IsWritten, Output, given}
 use Rattle.tftp_commands.specs.declared.status.Status.TheVariants as status
-use Rattle.tftp_commands.specs.Checked.{verdict_status}
-use Rattle.tftp_commands.specs.Extracted.{IsExtracted, extracted}
-use Rattle.tftp_commands.specs.Output.{IsWritten, Output}
-use Rattle.tftp_commands.specs.Source.{given}
 
 abbrev pub status_after : Result (Unit {0}) OutFault → Status
 status_after (Ok done) = status.Success

@@ -1,9 +1,8 @@
 -- The lines of faults, in the pieces that are written.
 use Rattle.std.proofs.Common.{◌≡◌, ℕ, List, ◌++◌, codes, decimal, append_assoc}
-use Rattle.tftp_capture.specs.declared.fault.TextFault.{TextFault}
+use Rattle.tftp_capture.specs.{TextFault}
 use Rattle.tftp_capture.specs.declared.fault.CaptureFault.TheVariants.{Text, Read}
-use Rattle.tftp_commands.specs.Names.{text_fault_name}
-use Rattle.tftp_commands.specs.Output.{fault_line}
+use Rattle.tftp_commands.specs.{text_fault_name, fault_line}
 
 pub text_pieces : (line : ℕ) (fault : TextFault) (number name : List ℕ) → number ≡ decimal line → name ≡ text_fault_name fault
     → codes "fault line " ++ (number ++ (codes " " ++ (name ++ codes "\n"))) ≡ fault_line (Text line fault)

@@ -1,16 +1,10 @@
 -- The lines of datagrams.
 use Rattle.std.proofs.Common.{◌≡◌, ◌↔◌, inl, inr, ℕ, ◌+◌, Bool, List, [], ◌∷◌, ◌++◌, length, codes, decimal, Option, Result, Ok, Err, IfOk, refl, sym, ap, ◌∙◌, subst, append_assoc, append-nil, arith}
-use Rattle.tftp_capture.specs.Tally.{Adds, AppendsPrefix, Gathers}
+use Rattle.tftp_capture.specs.{Adds, AppendsPrefix, Gathers, Numbered, dir_word}
 use Rattle.tftp_capture.proofs.Gathering.{adds_more, adds_same, prefix_of}
-use Rattle.tftp_packet.specs.declared.kinds.Dir.{Dir}
-use Rattle.tftp_packet.specs.Spelling.{Spells}
-use Rattle.tftp_packet.specs.Faults.{FirstFault}
-use Rattle.tftp_packet.specs.Meaning.{meaning}
-use Rattle.tftp_packet.specs.declared.packet.Packet.{Packet}
-use Rattle.tftp_packet.specs.declared.fault.PacketFault.{PacketFault}
-use Rattle.tftp_capture.specs.CaptureText.{Numbered, dir_word}
-use Rattle.tftp_commands.specs.Names.{packet_fault_name}
-use Rattle.tftp_commands.specs.Shown.{message_text, AreLines, IsDatagramLine, IsPayloadText}
+use Rattle.tftp_hosts.specs.{Dir}
+use Rattle.tftp_packet.specs.{Spells, FirstFault, meaning, Packet, PacketFault}
+use Rattle.tftp_commands.specs.{packet_fault_name, message_text, AreLines, IsDatagramLine, IsPayloadText}
 
 -- the lines of some datagrams, and that of one more
 pub lines_more : (n : ℕ) (ds : List Numbered) (bytes : List ℕ) (d : Numbered) (line : List ℕ) → AreLines n ds bytes → IsDatagramLine (n + length ds) d.1 line

@@ -1,18 +1,11 @@
 -- Want of memory for its first line may be said of any text, where no read failed.
 use Rattle.std.proofs.Common.{◌≡◌, [], Bool, false, true≢false, Err, refl, sym, ◌∙◌, inl}
 use Rattle.tftp_capture.specs.declared.fault.CaptureFault.TheVariants.{Memory}
-use Rattle.tftp_judge.specs.declared.verdict.Verdict.TheVariants.{Capture}
+use Rattle.tftp_judge.specs.{Capture}
 use Rattle.tftp_judge.proofs.WantOfMemory.{wants_first_line}
 use Rattle.tftp_commands.specs.declared.status.Status.TheVariants as status
-use Rattle.tftp_commands.specs.declared.words.Action.{Action}
-use Rattle.tftp_commands.specs.declared.words.Action.TheVariants.{Check, Extract, Normal, Show, Count}
+use Rattle.tftp_commands.specs.{Action, Check, Extract, Normal, Show, Count, IsJudged, memory_line, IsOutputOf, Faulty, Source, memory_fault}
 use Rattle.tftp_commands.specs.declared.words.UsageFault.TheVariants as usage
-use Rattle.tftp_commands.specs.Judged.{IsJudged}
-use Rattle.tftp_commands.specs.Output.{memory_line}
-use Rattle.tftp_commands.specs.Run.{IsOutputOf}
-use Rattle.tftp_commands.specs.Shown.{Faulty}
-use Rattle.tftp_commands.specs.Source.{Source}
-use Rattle.tftp_commands.specs.Words.{memory_fault}
 
 pub memory_judged : (source : Source) → source.failed ≡ false → IsJudged source (Err (Capture (Memory 1)))
 memory_judged source clean = record {

@@ -2,9 +2,7 @@
 use Rattle.std.proofs.Common.{◌≡◌, ℕ, List, [], ◌∷◌, length, map, true, refl, ap, sym, get_or, arith}
 use Rattle.clap.specs.Takes.{takes}
 use Rattle.clap.proofs.OnLiterals.{clap_on_literals}
-use Rattle.tftp_commands.specs.Words.{name_of, audit_app}
-use Rattle.tftp_commands.specs.declared.words.Action.{Action}
-use Rattle.tftp_commands.specs.declared.words.Action.TheVariants.{Check, Extract, Normal, Show, Count}
+use Rattle.tftp_commands.specs.{name_of, audit_app, Action, Check, Extract, Normal, Show, Count}
 
 -- the program's name and a command's are taken
 pub takes_named : (a : Action) (program : List ℕ) → takes audit_app (program ∷ name_of a ∷ []) ≡ true

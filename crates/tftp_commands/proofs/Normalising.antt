@@ -3,21 +3,13 @@ use Rattle.std.proofs.Common.{◌≡◌, ℕ, List, Bool, true, false, true≢fa
 use Rattle.std.specs.Io.KnownBytes.{Consumes, IsAtEnd}
 use Rattle.std.proofs.KnownBytes.{Appends-nil}
 use Rattle.tftp_capture.specs.declared.fault.CaptureFault.TheVariants.{Memory}
-use Rattle.tftp_ends.specs.Meaning.{Meaning}
-use Rattle.tftp_judge.specs.TextVerdict.{EndsText, IsReadVerdict, IsTextVerdict, SaysReadFailed}
-use Rattle.tftp_judge.specs.declared.verdict.Verdict.{Verdict}
+use Rattle.tftp_model.specs.{Meaning}
+use Rattle.tftp_judge.specs.{EndsText, IsReadVerdict, IsTextVerdict, SaysReadFailed, Verdict, Capture}
 use Rattle.tftp_judge.proofs.ReadVerdicts.{read_is_text}
-use Rattle.tftp_judge.specs.declared.verdict.Verdict.TheVariants.{Capture}
-use Rattle.tftp_normal.specs.Normalised.{Normalises}
-use Rattle.tftp_normal.specs.declared.fault.NormalFault.{NormalFault}
+use Rattle.tftp_normal.specs.{Normalises, NormalFault}
 use Rattle.tftp_normal.specs.declared.fault.NormalFault.TheVariants as fault
-use Rattle.tftp_commands.specs.declared.status.Status.{Status}
+use Rattle.tftp_commands.specs.{Status, verdict_status, IsJudged, IsNormalised, normalised, IsWritten, Output, Source, given}
 use Rattle.tftp_commands.specs.declared.status.Status.TheVariants as status
-use Rattle.tftp_commands.specs.Checked.{verdict_status}
-use Rattle.tftp_commands.specs.Judged.{IsJudged}
-use Rattle.tftp_commands.specs.Normalised.{IsNormalised, normalised}
-use Rattle.tftp_commands.specs.Output.{IsWritten, Output}
-use Rattle.tftp_commands.specs.Source.{Source, given}
 use Rattle.tftp_commands.proofs.Memory.{memory_judged}
 
 abbrev pub status_after : Result (Unit {0}) NormalFault → Status

@@ -1,20 +1,11 @@
 -- Output is one, where memory was not wanting.
 use Rattle.std.proofs.Common.{◌≡◌, inl, inr, ℕ, ◌==◌, List, [], ◌∷◌, length, Result, Ok, Err, sym, ap, ◌∙◌, arith, length-append}
 use Rattle.std.specs.List.{slice_split}
-use Rattle.tftp_capture.specs.CaptureText.{Due, Numbered, Unfinished}
+use Rattle.tftp_capture.specs.{Due, Numbered, Unfinished}
 use Rattle.tftp_capture.specs.declared.fault.CaptureFault.TheVariants.{Text, Read}
-use Rattle.tftp_ends.specs.Meaning.{Meaning}
-use Rattle.tftp_judge.specs.TextVerdict.{IsOfText, IsTextVerdict, SaysReadFailed}
-use Rattle.tftp_judge.specs.declared.verdict.Verdict.{Verdict}
-use Rattle.tftp_judge.specs.declared.verdict.Verdict.TheVariants.{Capture, Refused}
-use Rattle.tftp_commands.specs.Checked.{IsChecked, checked}
-use Rattle.tftp_commands.specs.Counted.{IsCounted, counted}
-use Rattle.tftp_commands.specs.Extracted.{IsExtracted, extracted}
-use Rattle.tftp_commands.specs.Judged.{IsJudged}
-use Rattle.tftp_commands.specs.Normalised.{IsNormalised, normalised}
-use Rattle.tftp_commands.specs.One.{SaysNoMemory}
-use Rattle.tftp_commands.specs.Output.{Output}
-use Rattle.tftp_commands.specs.Source.{Source}
+use Rattle.tftp_model.specs.{Meaning}
+use Rattle.tftp_judge.specs.{IsOfText, IsTextVerdict, SaysReadFailed, Verdict, Capture, Refused}
+use Rattle.tftp_commands.specs.{IsChecked, checked, IsCounted, counted, IsExtracted, extracted, IsJudged, IsNormalised, normalised, SaysNoMemory, Output, Source}
 
 -- ---- what is said is one
 

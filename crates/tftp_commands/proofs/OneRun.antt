@@ -4,22 +4,10 @@ use Rattle.std.specs.List.{AllByRecursion}
 use Rattle.std.specs.Str.{bytes_eq}
 use Rattle.std.proofs.lemmas.Slice.Eq.{bytes_eq-Decides}
 use Rattle.tftp_capture.specs.declared.fault.CaptureFault.TheVariants.{Text, Read, Memory}
-use Rattle.tftp_ends.specs.Meaning.{Meaning}
+use Rattle.tftp_model.specs.{Meaning}
 use Rattle.tftp_judge.specs.declared.refusal.Refusal.TheVariants as refusal
-use Rattle.tftp_judge.specs.declared.verdict.Verdict.{Verdict}
-use Rattle.tftp_judge.specs.declared.verdict.Verdict.TheVariants.{Capture, Refused}
-use Rattle.tftp_commands.specs.declared.words.Action.{Action}
-use Rattle.tftp_commands.specs.declared.words.Action.TheVariants.{Check, Extract, Normal, Show, Count}
-use Rattle.tftp_commands.specs.Checked.{checked}
-use Rattle.tftp_commands.specs.Counted.{counted}
-use Rattle.tftp_commands.specs.Extracted.{extracted}
-use Rattle.tftp_commands.specs.Normalised.{normalised}
-use Rattle.tftp_commands.specs.One.{IsMemoryOutput, IsNoMemoryEnding, SaysNoMemory, TellsOfMemory}
-use Rattle.tftp_commands.specs.Output.{Output}
-use Rattle.tftp_commands.specs.Run.{IsOutput, IsOutputOf, IsRefused}
-use Rattle.tftp_commands.specs.Shown.{Cut, Ending, Faulty, Whole, last_line, status_of}
-use Rattle.tftp_commands.specs.Source.{Source}
-use Rattle.tftp_commands.specs.Words.{IsCommand, IsNoCommand, name_of}
+use Rattle.tftp_judge.specs.{Verdict, Capture, Refused}
+use Rattle.tftp_commands.specs.{Action, Check, Extract, Normal, Show, Count, checked, counted, extracted, normalised, IsMemoryOutput, IsNoMemoryEnding, SaysNoMemory, TellsOfMemory, Output, IsOutput, IsOutputOf, IsRefused, Cut, Ending, Faulty, Whole, last_line, status_of, Source, IsCommand, IsNoCommand, name_of}
 use Rattle.tftp_commands.proofs.OneOutput.{OneVerdict, one_checked, one_counted, one_extracted, one_normalised}
 use Rattle.tftp_commands.proofs.OneShown.{one_shown}
 

@@ -2,19 +2,14 @@
 use Rattle.std.proofs.Common.{◌≡◌, ◌⊎◌, inl, inr, ℕ, ◌+◌, List, [], ◌∷◌, ◌++◌, codes, decimal, true, false, true≢false, refl, sym, ap, ◌∙◌, subst}
 use Rattle.tftp_packet.proofs.FaultOrder.{first_fault_unique}
 use Rattle.tftp_packet.proofs.NoFault.{no_fault}
-use Rattle.tftp_capture.specs.CaptureText.{Datagram, Due, HasFault, Header, IsCapture, Numbered, Stands, Unfinished, dir_word}
+use Rattle.tftp_capture.specs.CaptureText.{Datagram, Header}
+use Rattle.tftp_capture.specs.{Due, HasFault, IsCapture, Numbered, Stands, Unfinished, dir_word, TextFault, Truncated}
 use Rattle.tftp_capture.specs.CaptureText.Due.{Head, EndLine, ServiceLine, Body, Nothing}
 use Rattle.tftp_capture.specs.CaptureText.Reading.{Capture, Fault}
 use Rattle.tftp_capture.specs.declared.fault.CaptureFault.TheVariants.{Text, Read, Memory}
-use Rattle.tftp_capture.specs.declared.fault.TextFault.{TextFault}
-use Rattle.tftp_capture.specs.declared.fault.TextFault.TheVariants.{Truncated}
 use Rattle.tftp_capture.proofs.Readings.{reads_same}
 use Rattle.tftp_law.proofs.Spelled.{spelled_once}
-use Rattle.tftp_commands.specs.Names.{packet_fault_name}
-use Rattle.tftp_commands.specs.One.{IsNoMemoryEnding}
-use Rattle.tftp_commands.specs.Output.{Output}
-use Rattle.tftp_commands.specs.Shown.{AreLines, Cut, Ending, EndsBy, Faulty, IsDatagramLine, IsPayloadText, IsShown, Whole, last_line, message_text, status_of}
-use Rattle.tftp_commands.specs.Source.{Source}
+use Rattle.tftp_commands.specs.{packet_fault_name, IsNoMemoryEnding, Output, AreLines, Cut, Ending, EndsBy, Faulty, IsDatagramLine, IsPayloadText, IsShown, Whole, last_line, message_text, status_of, Source}
 use Rattle.tftp_commands.proofs.OneOutput.{last_line_is}
 
 -- ---- the lines of datagrams

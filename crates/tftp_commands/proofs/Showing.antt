@@ -2,25 +2,15 @@
 use Rattle.std.proofs.Common.{◌≡◌, ◌≢◌, ◌⊎◌, inl, inr, ℕ, ◌+◌, List, [], ◌∷◌, ◌++◌, length, Bool, true, false, true≢false, Option, Some, None, Result, Ok, Err, refl, sym, ap, ◌∙◌, subst, append_assoc, append-nil, length-append, arith}
 use Rattle.std.specs.Io.KnownBytes.{prepend_known, Consumes, IsAtEnd}
 use Rattle.std.proofs.KnownBytes.{Consumes-trans}
-use Rattle.tftp_capture.specs.declared.fault.TextFault.{TextFault}
-use Rattle.tftp_capture.specs.declared.fault.TextFault.TheVariants.{BadHeader, BadEnd, BadService, LineTooLong, BadLine, BadPort, BadHost, BadHex, PayloadTooLong, TotalWrong, Truncated, TrailingText, TextTooLong}
-use Rattle.tftp_capture.specs.declared.fault.CaptureFault.{CaptureFault}
+use Rattle.tftp_capture.specs.{TextFault, BadHeader, BadEnd, BadService, LineTooLong, BadLine, BadPort, BadHost, BadHex, PayloadTooLong, TotalWrong, Truncated, TrailingText, TextTooLong, CaptureFault, Open, Over, Failed, Version, Numbered, Stands, IsCapture, HasFault, datagram_of, Continues, FailsToBegin, FaultTells, GoesOn, IsAtTextEnd, IsReadFault, ReaderState, StandsFor, AppendsPrefix, Gathers}
 use Rattle.tftp_capture.specs.declared.fault.CaptureFault.TheVariants.{Text, Read, Memory}
-use Rattle.tftp_capture.specs.declared.standing.Standing.TheVariants.{Open, Over, Failed}
 use Rattle.tftp_capture.specs.declared.datagram.Datagram.{Datagram as Owned}
-use Rattle.tftp_capture.specs.declared.version.Version.{Version}
-use Rattle.tftp_capture.specs.CaptureText.{Header, Numbered, Stands, IsCapture, HasFault}
+use Rattle.tftp_capture.specs.CaptureText.{Header}
 use Rattle.tftp_capture.specs.CaptureText.Due.{Body}
-use Rattle.tftp_capture.specs.Fields.{datagram_of}
-use Rattle.tftp_capture.specs.History.{Continues, FailsToBegin, FaultTells, GoesOn, IsAtTextEnd, IsReadFault, ReaderState, StandsFor}
-use Rattle.tftp_capture.specs.Tally.{AppendsPrefix, Gathers}
 use Rattle.tftp_capture.proofs.Staying.{stays}
 use Rattle.tftp_capture.proofs.Gathering.{gathers_more, gathers_none, prefix_after}
-use Rattle.tftp_commands.specs.declared.status.Status.{Status}
+use Rattle.tftp_commands.specs.{Status, IsWritten, Output, AreFirst, AreLines, Ending, Whole, Faulty, Cut, EndsBy, IsDatagramLine, IsShown, last_line, status_of, given}
 use Rattle.tftp_commands.specs.declared.status.Status.TheVariants as status
-use Rattle.tftp_commands.specs.Output.{IsWritten, Output}
-use Rattle.tftp_commands.specs.Shown.{AreFirst, AreLines, Ending, Whole, Faulty, Cut, EndsBy, IsDatagramLine, IsShown, last_line, status_of}
-use Rattle.tftp_commands.specs.Source.{given}
 use Rattle.tftp_commands.proofs.Lines.{lines_more}
 use Rattle.tftp_commands.proofs.Written.{written_after}
 

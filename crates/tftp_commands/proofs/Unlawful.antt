@@ -1,10 +1,8 @@
 -- The line of an unlawful datagram.
 use Rattle.std.proofs.Common.{◌≡◌, ℕ, List, ◌++◌, codes, decimal, sym, ap, ◌∙◌, append_assoc}
-use Rattle.tftp_law.specs.RuleNames.{rule_name}
-use Rattle.tftp_law.specs.Rules.{number_of}
-use Rattle.tftp_law.specs.declared.rule.Rule.{Rule}
-use Rattle.tftp_judge.specs.declared.refusal.Refusal.TheVariants.{Unlawful}
-use Rattle.tftp_commands.specs.Checked.{detail, refusal_line}
+use Rattle.tftp_law.specs.{rule_name, number_of, Rule}
+use Rattle.tftp_judge.specs.{Unlawful}
+use Rattle.tftp_commands.specs.{detail, refusal_line}
 
 -- seven pieces, and one that is two
 joined : (p i q n s name a b d e : List ℕ) → a ++ b ≡ d → p ++ (i ++ (q ++ (n ++ (s ++ (name ++ (a ++ (b ++ e))))))) ≡ p ++ i ++ q ++ n ++ s ++ name ++ d ++ e

@@ -2,10 +2,9 @@
 use Rattle.std.proofs.Common.{◌≡◌, ℕ, List, [], ◌++◌, Bool, true, false, Option, Some, None, sym, ap, ◌∙◌, subst, append_assoc, append-nil}
 use Rattle.std.specs.Io.KnownBytes.{Appends}
 use Rattle.std.proofs.KnownBytes.{Appends-trans}
-use Rattle.tftp_capture.specs.Tally.{Gathers}
+use Rattle.tftp_capture.specs.{Gathers}
 use Rattle.tftp_capture.proofs.Gathering.{prefix_after}
-use Rattle.tftp_commands.specs.Output.{IsWritten, Output}
-use Rattle.tftp_commands.specs.declared.status.Status.{Status}
+use Rattle.tftp_commands.specs.{IsWritten, Output, Status}
 
 appends_after : (c0 c1 c2 : Option (List ℕ)) (h0 h1 bytes last : List ℕ) → Gathers c0 c1 h0 h1 bytes → Appends c1 c2 (h1 ++ last) → Appends c0 c2 (h0 ++ (bytes ++ last))
 appends_after c0 c1 c2 h0 h1 bytes last p q =

@@ -1,22 +1,16 @@
 -- What `check` prints of a capture text: one line, with what its datagrams mean, or why it is not accepted.
 use Rattle.std.specs.Prelude.{◌≡◌, ℕ, ◌++◌, List, [], length, codes, decimal, Result, Ok, Err}
-use Rattle.tftp_packet.specs.Spelling.{mode_name}
-use Rattle.tftp_ends.specs.Meaning.{Meaning}
-use Rattle.tftp_law.specs.CanBeWritten.{blocks_of}
-use Rattle.tftp_law.specs.RuleNames.{rule_name}
-use Rattle.tftp_law.specs.Rules.{number_of}
-use Rattle.tftp_law.specs.declared.rule.Rule.{Rule}
-use Rattle.tftp_law.specs.declared.rule.Rule.TheVariants.{Malformed}
-use Rattle.tftp_judge.specs.declared.refusal.Refusal.{Refusal}
-use Rattle.tftp_judge.specs.declared.refusal.Refusal.TheVariants.{Unlawful, Aborted, Incomplete, NormalTooLong, Memory}
-use Rattle.tftp_judge.specs.declared.verdict.Verdict.{Verdict}
-use Rattle.tftp_judge.specs.declared.verdict.Verdict.TheVariants.{Capture, Refused}
+use Rattle.tftp_packet.specs.{mode_name}
+use Rattle.tftp_model.specs.{Meaning}
+use Rattle.tftp_law.specs.{blocks_of, rule_name, number_of, Rule, Malformed}
+use Rattle.tftp_judge.specs.{Refusal, Unlawful, Aborted, Incomplete, NormalTooLong, Verdict, Capture, Refused}
+use Rattle.tftp_judge.specs.declared.refusal.Refusal.TheVariants.{Memory}
 use Rattle.tftp_commands.specs.declared.status.Status.{Status}
 use Rattle.tftp_commands.specs.declared.status.Status.TheVariants as status
 use Rattle.tftp_commands.specs.Judged.{IsJudged}
 use Rattle.tftp_commands.specs.Names.{by_name, packet_fault_name, side_name}
-use Rattle.tftp_commands.specs.Output.{Output, fault_line, memory_line}
-use Rattle.tftp_commands.specs.Source.{Source}
+use Rattle.tftp_commands.specs.Outputs.{Output, fault_line, memory_line}
+use Rattle.tftp_commands.specs.Sources.{Source}
 
 -- the blocks are those of the canonical wire, the bytes those of the file
 abbrev pub accepted_line : Meaning → List ℕ

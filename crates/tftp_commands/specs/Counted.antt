@@ -1,14 +1,14 @@
 -- What `count` prints of a capture text: one line, with how many datagrams its normal capture has, or why it is not
 -- accepted.
 use Rattle.std.specs.Prelude.{◌≡◌, ℕ, ◌++◌, List, codes, decimal, Result, Ok, Err}
-use Rattle.tftp_ends.specs.Meaning.{Meaning}
-use Rattle.tftp_judge.specs.declared.verdict.Verdict.{Verdict}
-use Rattle.tftp_normal.specs.Normal.{normal_count}
+use Rattle.tftp_model.specs.{Meaning}
+use Rattle.tftp_judge.specs.{Verdict}
+use Rattle.tftp_normal.specs.{normal_count}
 use Rattle.tftp_commands.specs.declared.status.Status.TheVariants as status
 use Rattle.tftp_commands.specs.Checked.{checked}
 use Rattle.tftp_commands.specs.Judged.{IsJudged}
-use Rattle.tftp_commands.specs.Output.{Output}
-use Rattle.tftp_commands.specs.Source.{Source}
+use Rattle.tftp_commands.specs.Outputs.{Output}
+use Rattle.tftp_commands.specs.Sources.{Source}
 
 abbrev pub counted_line : Meaning → List ℕ
 counted_line m = codes "normal datagrams " ++ decimal (normal_count m) ++ codes "\n"

@@ -1,12 +1,12 @@
 -- What `extract` writes of a capture text: its file, and nothing where it is not accepted.
 use Rattle.std.specs.Prelude.{◌≡◌, [], Result, Ok, Err}
-use Rattle.tftp_ends.specs.Meaning.{Meaning}
-use Rattle.tftp_judge.specs.declared.verdict.Verdict.{Verdict}
+use Rattle.tftp_model.specs.{Meaning}
+use Rattle.tftp_judge.specs.{Verdict}
 use Rattle.tftp_commands.specs.declared.status.Status.TheVariants as status
 use Rattle.tftp_commands.specs.Checked.{verdict_status}
 use Rattle.tftp_commands.specs.Judged.{IsJudged}
-use Rattle.tftp_commands.specs.Output.{Output}
-use Rattle.tftp_commands.specs.Source.{Source}
+use Rattle.tftp_commands.specs.Outputs.{Output}
+use Rattle.tftp_commands.specs.Sources.{Source}
 
 -- the status is that of `check`
 abbrev pub extracted : Result Meaning Verdict → Output

@@ -1,10 +1,9 @@
 -- What there is to say of the text that a run reads.
 use Rattle.std.specs.Prelude.{◌≡◌, ◌↔◌, true, Result}
 use Rattle.std.specs.Io.KnownBytes.{IsAtEnd}
-use Rattle.tftp_ends.specs.Meaning.{Meaning}
-use Rattle.tftp_judge.specs.TextVerdict.{EndsText, IsTextVerdict, SaysReadFailed}
-use Rattle.tftp_judge.specs.declared.verdict.Verdict.{Verdict}
-use Rattle.tftp_commands.specs.Source.{Source}
+use Rattle.tftp_model.specs.{Meaning}
+use Rattle.tftp_judge.specs.{EndsText, IsTextVerdict, SaysReadFailed, Verdict}
+use Rattle.tftp_commands.specs.Sources.{Source}
 
 -- This is what there is to say of what was read. What is said of a whole text, and the fault Truncated, come at the
 -- source's end; and that a read failed is said exactly where one did.

@@ -1,7 +1,7 @@
 pub mod Words
 pub mod Names
-pub mod Output
-pub mod Source
+pub mod Outputs
+pub mod Sources
 pub mod Shown
 pub mod Judged
 pub mod Checked
@@ -10,3 +10,19 @@ pub mod Normalised
 pub mod Counted
 pub mod Run
 pub mod One
+pub use Words.{IsCommand, IsNoCommand, IsQuiet, audit_app, memory_fault, name_of, with_command}
+pub use Names.{by_name, packet_fault_name, text_fault_name}
+pub use Outputs.{IsWritten, Output, fault_line, memory_line, usage_line}
+pub use Sources.{Source, given}
+pub use Shown.{AreFirst, AreLines, Cut, Ending, EndsBy, Faulty, IsDatagramLine, IsPayloadText, IsShown, Whole, last_line, message_text, status_of}
+pub use Judged.{IsJudged}
+pub use Checked.{IsChecked, checked, detail, refusal_line, verdict_status}
+pub use Extracted.{IsExtracted, extracted}
+pub use Normalised.{IsNormalised, normalised}
+pub use Counted.{IsCounted, counted}
+pub use Run.{IsOutput, IsOutputOf, IsRefused}
+pub use One.{IsMemoryOutput, IsNoMemoryEnding, SaysNoMemory, TellsOfMemory}
+pub use declared.status.Status.{Status}
+pub use declared.words.Action.{Action}
+pub use declared.words.Action.TheVariants.{Check, Count, Extract, Normal, Show}
+pub use declared.words.UsageFault.{UsageFault}

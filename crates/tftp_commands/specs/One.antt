@@ -1,13 +1,12 @@
 -- When an output is the only one: where memory was not wanting.
 use Rattle.std.specs.Prelude.{◌≡◌, ◌⊎◌, ℕ, ◌++◌, List, [], Result}
 use Rattle.tftp_capture.specs.declared.fault.CaptureFault.TheVariants.{Memory}
-use Rattle.tftp_ends.specs.Meaning.{Meaning}
-use Rattle.tftp_judge.specs.TextVerdict.{IsOfText, SaysReadFailed}
-use Rattle.tftp_judge.specs.declared.verdict.Verdict.{Verdict}
+use Rattle.tftp_model.specs.{Meaning}
+use Rattle.tftp_judge.specs.{IsOfText, SaysReadFailed, Verdict}
 use Rattle.tftp_commands.specs.declared.status.Status.TheVariants as status
 use Rattle.tftp_commands.specs.declared.words.Action.{Action}
 use Rattle.tftp_commands.specs.declared.words.Action.TheVariants.{Check, Extract, Normal, Show, Count}
-use Rattle.tftp_commands.specs.Output.{Output, memory_line}
+use Rattle.tftp_commands.specs.Outputs.{Output, memory_line}
 use Rattle.tftp_commands.specs.Shown.{Ending, Faulty}
 use Rattle.tftp_commands.specs.Words.{IsCommand, IsNoCommand}
 

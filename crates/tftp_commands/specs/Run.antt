@@ -7,9 +7,9 @@ use Rattle.tftp_commands.specs.Checked.{IsChecked}
 use Rattle.tftp_commands.specs.Counted.{IsCounted}
 use Rattle.tftp_commands.specs.Extracted.{IsExtracted}
 use Rattle.tftp_commands.specs.Normalised.{IsNormalised}
-use Rattle.tftp_commands.specs.Output.{Output, memory_line, usage_line}
+use Rattle.tftp_commands.specs.Outputs.{Output, memory_line, usage_line}
 use Rattle.tftp_commands.specs.Shown.{IsShown}
-use Rattle.tftp_commands.specs.Source.{Source}
+use Rattle.tftp_commands.specs.Sources.{Source}
 use Rattle.tftp_commands.specs.Words.{IsCommand, IsNoCommand}
 
 -- the output that there may be of a command, where `cut` says whether a write failed

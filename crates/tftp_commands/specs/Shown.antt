@@ -1,19 +1,15 @@
 -- What `show` prints of a capture text: a line for each datagram, and the text's fault, if it has one.
 use Rattle.std.specs.Prelude.{◌≡◌, ◌⊎◌, ℕ, ◌+◌, List, [], ◌∷◌, ◌++◌, length, Bool, true, false, Option, Some, None, codes, decimal}
 use Rattle.std.specs.Io.KnownBytes.{IsAtEnd}
-use Rattle.tftp_packet.specs.Message.{Message, Request, Data, Ack, Error, Oack}
-use Rattle.tftp_packet.specs.Spelling.{Spells}
-use Rattle.tftp_packet.specs.Faults.{FirstFault}
-use Rattle.tftp_packet.specs.declared.fault.PacketFault.{PacketFault}
-use Rattle.tftp_capture.specs.CaptureText.{Header, Datagram, Numbered, Due, dir_word, IsCapture, HasFault, Unfinished, Begins}
-use Rattle.tftp_capture.specs.History.{IsAtTextEnd}
-use Rattle.tftp_capture.specs.declared.fault.CaptureFault.{CaptureFault}
+use Rattle.tftp_packet.specs.{Message, Request, Data, Ack, Error, Oack, Spells, FirstFault, PacketFault}
+use Rattle.tftp_capture.specs.CaptureText.{Header, Datagram}
+use Rattle.tftp_capture.specs.{Numbered, Due, dir_word, IsCapture, HasFault, Unfinished, Begins, IsAtTextEnd, CaptureFault}
 use Rattle.tftp_capture.specs.declared.fault.CaptureFault.TheVariants.{Text, Read, Memory}
 use Rattle.tftp_commands.specs.declared.status.Status.{Status}
 use Rattle.tftp_commands.specs.declared.status.Status.TheVariants as status
 use Rattle.tftp_commands.specs.Names.{request_name, packet_fault_name}
-use Rattle.tftp_commands.specs.Output.{Output, fault_line}
-use Rattle.tftp_commands.specs.Source.{Source}
+use Rattle.tftp_commands.specs.Outputs.{Output, fault_line}
+use Rattle.tftp_commands.specs.Sources.{Source}
 
 -- ---- the lines of datagrams
 

@@ -1,9 +1,9 @@
 ghost use Rattle.std.specs.Prelude.{◌≡◌, ℕ, List, Some, true, false, OnOk, OnErr};
 ghost use Rattle.std.specs.Io.KnownBytes.{Appends, Consumes};
-ghost use Rattle.tftp_capture.specs.Tally.{AppendsPrefix};
+ghost use Rattle.tftp_capture.specs.{AppendsPrefix};
 ghost use Rattle.tftp_commands.specs.Checked.{IsChecked, checked};
-ghost use Rattle.tftp_commands.specs.Output.{IsWritten, Output};
-ghost use Rattle.tftp_commands.specs.Source.{Source, given};
+ghost use Rattle.tftp_commands.specs.Outputs.{IsWritten, Output};
+ghost use Rattle.tftp_commands.specs.Sources.{Source, given};
 
 use crate::output::write_out;
 use crate::status::Status;

@@ -1,9 +1,9 @@
 ghost use Rattle.std.specs.Prelude.{◌≡◌, ℕ, List, Some, false, Ok};
 ghost use Rattle.std.specs.Io.KnownBytes.{Consumes};
-ghost use Rattle.tftp_capture.specs.Tally.{Adds};
+ghost use Rattle.tftp_capture.specs.{Adds};
 ghost use Rattle.tftp_commands.specs.Counted.{IsCounted, counted, counted_line};
-ghost use Rattle.tftp_commands.specs.Output.{IsWritten, Output};
-ghost use Rattle.tftp_commands.specs.Source.{Source, given};
+ghost use Rattle.tftp_commands.specs.Outputs.{IsWritten, Output};
+ghost use Rattle.tftp_commands.specs.Sources.{Source, given};
 
 use crate::check::say_verdict;
 use crate::output::write_out;

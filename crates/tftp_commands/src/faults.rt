@@ -1,6 +1,6 @@
 ghost use Rattle.std.specs.Prelude.{◌≡◌, ◌++◌, false};
-ghost use Rattle.tftp_capture.specs.Tally.{Adds};
-ghost use Rattle.tftp_commands.specs.Output.{fault_line};
+ghost use Rattle.tftp_capture.specs.{Adds};
+ghost use Rattle.tftp_commands.specs.Outputs.{fault_line};
 
 use crate::names::text_fault_name;
 use itoa::Buffer;

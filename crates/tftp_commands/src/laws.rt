@@ -7,10 +7,10 @@ ghost use Rattle.tftp_commands.specs.Counted.{IsCounted};
 ghost use Rattle.tftp_commands.specs.Extracted.{IsExtracted};
 ghost use Rattle.tftp_commands.specs.Normalised.{IsNormalised};
 ghost use Rattle.tftp_commands.specs.One.{IsNoMemoryEnding, SaysNoMemory, TellsOfMemory};
-ghost use Rattle.tftp_commands.specs.Output.{IsWritten, Output};
+ghost use Rattle.tftp_commands.specs.Outputs.{IsWritten, Output};
 ghost use Rattle.tftp_commands.specs.Run.{IsOutput};
 ghost use Rattle.tftp_commands.specs.Shown.{IsShown};
-ghost use Rattle.tftp_commands.specs.Source.{Source};
+ghost use Rattle.tftp_commands.specs.Sources.{Source};
 ghost use Rattle.tftp_commands.specs.declared.status.Status.{Status};
 
 use tftp_judge::laws::text_has_one_verdict;

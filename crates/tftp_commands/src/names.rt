@@ -1,11 +1,12 @@
 ghost use Rattle.std.specs.Prelude.{◌≡◌};
-ghost use Rattle.tftp_packet.specs.Spelling.{mode_name as mode_word};
-ghost use Rattle.tftp_capture.specs.CaptureText.{dir_word};
+ghost use Rattle.tftp_packet.specs.{mode_name as mode_word};
+ghost use Rattle.tftp_capture.specs.{dir_word};
 ghost use Rattle.tftp_commands.specs.Names.{by_name as by_word, packet_fault_name as packet_fault_word, request_name as request_word, side_name as side_word, text_fault_name as text_fault_word};
 
 use tftp_capture::TextFault;
+use tftp_hosts::Dir;
 use tftp_judge::By;
-use tftp_packet::{Dir, Mode, PacketFault, Side};
+use tftp_packet::{Mode, PacketFault, Side};
 
 /// The word that a verdict has for the side.
 pub fn side_name(side: Side) -> &'static [u8]

@@ -1,8 +1,8 @@
 ghost use Rattle.std.specs.Prelude.{◌≡◌, ℕ, List, Some, false};
 ghost use Rattle.std.specs.Io.KnownBytes.{Consumes};
 ghost use Rattle.tftp_commands.specs.Normalised.{IsNormalised};
-ghost use Rattle.tftp_commands.specs.Output.{IsWritten, Output};
-ghost use Rattle.tftp_commands.specs.Source.{Source, given};
+ghost use Rattle.tftp_commands.specs.Outputs.{IsWritten, Output};
+ghost use Rattle.tftp_commands.specs.Sources.{Source, given};
 
 use crate::status::Status;
 use crate::verdicts::status_of;

@@ -1,5 +1,5 @@
 ghost use Rattle.std.specs.Prelude.{◌≡◌, false};
-ghost use Rattle.tftp_commands.specs.Output.{IsWritten, Output};
+ghost use Rattle.tftp_commands.specs.Outputs.{IsWritten, Output};
 
 use crate::status::Status;
 use std::io::Write;

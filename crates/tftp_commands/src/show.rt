@@ -1,10 +1,9 @@
 ghost use Rattle.std.specs.Prelude.{◌≡◌, ◌++◌, ◌^◌, ◌<◌, ℕ, List, Some, true, false, codes, decimal, OnOk, OnErr};
 ghost use Rattle.std.specs.Io.KnownBytes.{Consumes};
-ghost use Rattle.tftp_packet.specs.Meaning.{meaning};
-ghost use Rattle.tftp_capture.specs.Fields.{datagram_of};
-ghost use Rattle.tftp_capture.specs.Tally.{Adds};
-ghost use Rattle.tftp_commands.specs.Output.{IsWritten, Output};
-ghost use Rattle.tftp_commands.specs.Source.{Source, given};
+ghost use Rattle.tftp_packet.specs.{meaning};
+ghost use Rattle.tftp_capture.specs.{datagram_of, Adds};
+ghost use Rattle.tftp_commands.specs.Outputs.{IsWritten, Output};
+ghost use Rattle.tftp_commands.specs.Sources.{Source, given};
 ghost use Rattle.tftp_commands.specs.Shown.{message_text, ending_of, last_line, status_of, IsDatagramLine, IsPayloadText, IsShown};
 
 use crate::faults::put_fault;

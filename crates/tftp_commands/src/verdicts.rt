@@ -1,6 +1,6 @@
 ghost use Rattle.std.specs.Prelude.{◌≡◌, ◌++◌, false};
-ghost use Rattle.tftp_capture.specs.Tally.{Adds};
-ghost use Rattle.tftp_judge.specs.declared.refusal.Refusal.{Refusal};
+ghost use Rattle.tftp_capture.specs.{Adds};
+ghost use Rattle.tftp_judge.specs.{Refusal};
 ghost use Rattle.tftp_commands.specs.Checked.{accepted_line, detail, refusal_line, verdict_line, verdict_status};
 
 use crate::faults::put_fault;

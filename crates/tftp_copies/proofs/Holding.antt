@@ -5,9 +5,7 @@ use Rattle.std.specs.Option.{option_map}
 use Rattle.std.proofs.lemmas.Bool.{false≢true}
 use Rattle.std.proofs.lemmas.List.{get_or-map, length-map, take-map, take-take}
 use Rattle.std.proofs.lemmas.Option.{slice_get-map}
-use Rattle.tftp_copies.specs.Copies.{Packet}
-use Rattle.tftp_copies.specs.Held.{StandsFor, shown}
-use Rattle.tftp_copies.specs.declared.recent.Held.{Held}
+use Rattle.tftp_copies.specs.{Packet, StandsFor, shown, Held}
 
 -- a list with an element at a place has some element
 some_held : (hs : List Held) (k : ℕ) → k < length hs → Held

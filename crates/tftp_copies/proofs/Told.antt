@@ -2,7 +2,7 @@
 use Rattle.std.proofs.Common.{◌<◌, List, ◌∷◌, ◌++◌, length, refl, sym, ◌∙◌, arith}
 use Rattle.std.specs.List.{Any}
 use Rattle.std.proofs.lemmas.List.{get_or-take, get_or_at, length-take, length-append}
-use Rattle.tftp_copies.specs.Copies.{Packet, AreOne, IsCopy}
+use Rattle.tftp_copies.specs.{Packet, AreOne, IsCopy}
 
 -- what is one of the first of a list is one of the list
 pub came_before : (before : List Packet) (p : Packet) → IsCopy before p → Any (AreOne p) before

@@ -1,3 +1,6 @@
 pub mod Copies
-pub mod Held
+pub mod Recently
 pub mod Worked
+pub use Copies.{AreOne, IsCopy, Packet}
+pub use Recently.{RecentState, StandsFor, shown}
+pub use declared.recent.Held.{Held}

@@ -2,7 +2,7 @@ ghost use Rattle.std.specs.Prelude.{◌≡◌, ◌<◌, ◌≤◌, ◌↔◌, �
 ghost use Rattle.std.specs.List.{Any, slice_get};
 ghost use Rattle.std.specs.VecDeque.{deque_len, deque_capacity};
 ghost use Rattle.tftp_copies.specs.Copies.{Packet, AreNear, AreOne, IsCopy};
-ghost use Rattle.tftp_copies.specs.Held.{StandsFor, shown};
+ghost use Rattle.tftp_copies.specs.Recently.{StandsFor, shown};
 ghost use Rattle.tftp_copies.specs.declared.recent.Held.{Held};
 
 use std::alloc::{AllocError, Global};
@@ -55,7 +55,7 @@ pub struct Recent {
 impl Model for Recent {
     ghost use Rattle.std.specs.Prelude.{◌≤◌, map, vec_capacity};
     ghost use Rattle.std.specs.VecDeque.{deque_len, deque_capacity};
-    ghost use Rattle.tftp_copies.specs.Held.{RecentState, shown};
+    ghost use Rattle.tftp_copies.specs.Recently.{RecentState, shown};
 
     ghost Value = { RecentState };
 

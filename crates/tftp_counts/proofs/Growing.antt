@@ -1,9 +1,9 @@
 -- Of more packets no less is lost, and no less repeated; and of few datagrams no more than fits.
 use Rattle.std.proofs.Common.{◌≡◌, ◌≤◌, ◌<◌, ◌⊎◌, ◌+◌, ◌-◌, ◌*◌, ◌==◌, ◌&&◌, if◌then◌else◌, ℕ, zero, suc, Bool, true, false, List, [], ◌∷◌, length, inl, inr, subst, sym, ap, refl, ◌∙◌, arith}
 use Rattle.std.proofs.Math.Nat.{le-suc_iff}
-use Rattle.tftp_ends.specs.CaptureText.{Datagram}
-use Rattle.tftp_ends.specs.Ports.{comes_in, goes_out}
-use Rattle.tftp_counts.specs.Counts.{AreLost, AreLostBetween, AreRepeated, AreRepeatedBetween, AreTooMany, lost_below, packet_of, packets, repeated_below, sent, taken, times}
+use Rattle.tftp_hosts.specs.{Datagram}
+use Rattle.tftp_rules.specs.{comes_in, goes_out}
+use Rattle.tftp_counts.specs.{AreLost, AreLostBetween, AreRepeated, AreRepeatedBetween, AreTooMany, lost_below, packet_of, packets, repeated_below, sent, taken, times}
 
 -- a function that no step makes less
 grows : (f : ℕ → ℕ) → ((k : ℕ) → f k ≤ f (suc k)) → (n k : ℕ) → n ≤ k → f n ≤ f k

@@ -1,5 +1,5 @@
 -- Which packet a message is a copy of (RFC 1350, section 5; RFC 2347).
-use Rattle.tftp_packet.specs.Message.{Message, Request, Data, Ack, Error, Oack}
+use Rattle.tftp_packet.specs.{Message, Request, Data, Ack, Error, Oack}
 use Rattle.tftp_counts.specs.declared.packets.CountedPacket.{CountedPacket}
 use Rattle.tftp_counts.specs.declared.packets.CountedPacket.TheVariants as packet
 

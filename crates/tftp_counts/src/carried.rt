@@ -1,5 +1,5 @@
 ghost use Rattle.std.specs.Prelude.{◌≡◌, ◌≤◌, ◌⊎◌, ◌^◌, ℕ, List, IfSome, IfNone};
-ghost use Rattle.tftp_ends.specs.CaptureText.{Datagram};
+ghost use Rattle.tftp_hosts.specs.{Datagram};
 ghost use Rattle.tftp_counts.specs.Counts.{AreLost, AreLostBetween, AreRepeated, AreRepeatedBetween, AreTooMany, IsCountOf};
 
 use crate::counts::Counts;

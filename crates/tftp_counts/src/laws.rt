@@ -1,10 +1,9 @@
 //! Laws of the definitions in `specs/`, and worked examples of them. Each is the contract of a function that does nothing.
 
 ghost use Rattle.std.specs.Prelude.{◌≡◌, ◌≤◌, ◌+◌, ◌^◌, ◌∷◌, ℕ, List, [], length};
-ghost use Rattle.tftp_packet.specs.Message.{Message};
-ghost use Rattle.tftp_packet.specs.Spelling.{Spells};
-ghost use Rattle.tftp_ends.specs.CaptureText.{Datagram};
-ghost use Rattle.tftp_ends.specs.Ports.{comes_in, goes_out};
+ghost use Rattle.tftp_packet.specs.{Message, Spells};
+ghost use Rattle.tftp_hosts.specs.{Datagram};
+ghost use Rattle.tftp_rules.specs.{comes_in, goes_out};
 ghost use Rattle.tftp_counts.specs.Counts.{AreTooMany, TakesRoom, number_of, packet_of, sent, taken, times, lost_below, repeated_below};
 ghost use Rattle.tftp_counts.specs.Spelled.{named};
 ghost use Rattle.tftp_counts.specs.declared.packets.CountedPacket.TheVariants.{Opening, Error, Data, Ack};

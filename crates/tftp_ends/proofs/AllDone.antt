@@ -1,18 +1,13 @@
 -- When all has come and is acknowledged, by the numbers that a state keeps.
 use Rattle.std.proofs.Common.{◌≡◌, ◌↔◌, ℕ, ◌≤◌, IsTrue, nat_eq, eq-eqb, List, inl, inr, sym, subst, ◌∙◌, arith}
 use Rattle.std.proofs.lemmas.Bool.{eqb-true}
-use Rattle.tftp_packet.specs.Message.{Ack}
-use Rattle.tftp_packet.specs.declared.kinds.Dir.TheVariants.{In, Out}
-use Rattle.tftp_ends.specs.CaptureText.{Datagram}
-use Rattle.tftp_ends.specs.Rules.{Passed, IsLast}
-use Rattle.tftp_ends.specs.Store.{Held, IsHeldFront, IsJoin}
-use Rattle.tftp_ends.specs.States.{AreBlocks, IsHeld, Sender, Receiver, IsSenderAfter, IsReceiverAfter, IsAllAnswered, IsAllTaken}
-use Rattle.tftp_ends.specs.StatesKept.{IsSound, IsSoundSender, IsSoundReceiver, IsEnd}
-use Rattle.tftp_ends.specs.declared.terms.Terms.{Terms}
-use Rattle.tftp_ends.specs.Joined.{IsJoined}
-use Rattle.tftp_ends.specs.NamedEnd.{Sends, Receives, HoldsWire}
+use Rattle.tftp_packet.specs.{Ack}
+use Rattle.tftp_hosts.specs.{In, Out, Datagram}
+use Rattle.tftp_rules.specs.{Passed, IsLast, Terms, IsJoined}
+use Rattle.tftp_blocks.specs.{Held, IsHeldFront, IsJoin}
+use Rattle.tftp_ends.specs.{AreBlocks, IsHeld, Sender, Receiver, IsSenderAfter, IsReceiverAfter, IsAllAnswered, IsAllTaken, IsSound, IsSoundSender, IsSoundReceiver, IsEnd, Sends, Receives, HoldsWire}
 use Rattle.tftp_ends.proofs.HeldWire.{joined_held, last_is_front}
-use Rattle.tftp_ends.proofs.Orderly.{front_unique}
+use Rattle.tftp_blocks.proofs.Orderly.{front_unique}
 use Rattle.tftp_ends.proofs.SoundStates.{held_from_one, front_reaches}
 use Rattle.tftp_ends.proofs.ReceiverRules.{front_is, front_one}
 

@@ -1,15 +1,9 @@
 -- The rules before a request is answered, and with a plain reply.
 use Rattle.std.proofs.Common.{◌≡◌, ◌↔◌, ℕ, List, length, inl, inr}
-use Rattle.tftp_packet.specs.Message.{Message, Request, Data, Ack, Error, Oack}
-use Rattle.tftp_packet.specs.declared.kinds.Side.TheVariants.{Get, Put}
-use Rattle.tftp_ends.specs.CaptureText.{Datagram}
-use Rattle.tftp_ends.specs.Rules.{HasWrongLength, BlockBreaks, AckBreaks, EndBroken, AckZeroWaits, usable}
-use Rattle.tftp_ends.specs.States.{replied}
-use Rattle.tftp_ends.specs.declared.rule.EndRule.{EndRule}
-use Rattle.tftp_ends.specs.declared.rule.EndRule.TheVariants.{NotStarted, BlockZero, BeyondBlock65535, BlockLength, WindowOverrun, BlockSkipped, GoneBack, BlockChanged, AckAhead, AckZero}
-use Rattle.tftp_ends.specs.declared.terms.Reply.{Reply}
-use Rattle.tftp_ends.specs.declared.terms.Reply.TheVariants.{NoReply, Plain}
-use Rattle.tftp_ends.specs.declared.terms.Terms.{Terms}
+use Rattle.tftp_packet.specs.{Message, Request, Data, Ack, Error, Oack, Get, Put}
+use Rattle.tftp_hosts.specs.{Datagram}
+use Rattle.tftp_rules.specs.{HasWrongLength, BlockBreaks, AckBreaks, EndBroken, AckZeroWaits, usable, EndRule, NotStarted, BlockZero, BeyondBlock65535, BlockLength, WindowOverrun, BlockSkipped, GoneBack, BlockChanged, AckAhead, AckZero, Reply, NoReply, Plain, Terms}
+use Rattle.tftp_ends.specs.{replied}
 
 same : {A : Type 0} → A ↔ A
 same = ((λ a. a), (λ a. a))

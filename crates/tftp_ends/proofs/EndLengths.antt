@@ -3,12 +3,10 @@ use Rattle.std.proofs.Common.{◌≡◌, ◌⊎◌, ℕ, ◌+◌, ◌/◌, ◌%�
 use Rattle.std.proofs.lemmas.Bool.{cases_lt, cases_eq}
 use Rattle.std.proofs.lemmas.Nat.{mod_below}
 use Rattle.std.specs.FinMap as map
-use Rattle.tftp_ends.specs.CaptureText.{Datagram}
-use Rattle.tftp_ends.specs.Rules.{IsLast, IsNotLengthOf, HasWrongLength}
-use Rattle.tftp_ends.specs.Store.{Held, IsHeldLast}
-use Rattle.tftp_ends.specs.States.{AreBlocks, IsHeld, HasLengthBySize}
-use Rattle.tftp_ends.specs.StatesKept.{IsShortTop, IsEnd, EndsThere, HasRightLength, IsSound}
-use Rattle.tftp_ends.specs.declared.terms.Terms.{Terms}
+use Rattle.tftp_hosts.specs.{Datagram}
+use Rattle.tftp_rules.specs.{IsLast, IsNotLengthOf, HasWrongLength, Terms}
+use Rattle.tftp_blocks.specs.{Held, IsHeldLast}
+use Rattle.tftp_ends.specs.{AreBlocks, IsHeld, HasLengthBySize, IsShortTop, IsEnd, EndsThere, HasRightLength, IsSound}
 
 less_than_size : (size b : ℕ) → 8 ≤ b → size % b < b
 less_than_size size b some = mod_below size b (omega arith)

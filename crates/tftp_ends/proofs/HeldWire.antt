@@ -5,14 +5,12 @@ use Rattle.std.proofs.lemmas.Nat.{div-mul-add}
 use Rattle.std.proofs.lemmas.List.{length-append}
 use Rattle.std.proofs.lemmas.Bool.{cases_lt}
 use Rattle.std.specs.FinMap as map
-use Rattle.tftp_ends.specs.CaptureText.{Datagram}
-use Rattle.tftp_ends.specs.Blocks.{block, block_count}
-use Rattle.tftp_ends.specs.Joined.{IsJoined}
-use Rattle.tftp_ends.specs.Store.{Held, IsHeldFront, IsJoin}
-use Rattle.tftp_ends.specs.States.{AreBlocks, IsHeld}
-use Rattle.tftp_ends.specs.StatesKept.{IsEnd, AreWholeBelow}
-use Rattle.tftp_ends.specs.declared.terms.Terms.{Terms}
-use Rattle.tftp_ends.proofs.Joined.{block_added, block_kept}
+use Rattle.tftp_hosts.specs.{Datagram}
+use Rattle.tftp_model.specs.{block, block_count}
+use Rattle.tftp_rules.specs.{IsJoined, Terms}
+use Rattle.tftp_blocks.specs.{Held, IsHeldFront, IsJoin}
+use Rattle.tftp_ends.specs.{AreBlocks, IsHeld, IsEnd, AreWholeBelow}
+use Rattle.tftp_rules.proofs.Joined.{block_added, block_kept}
 
 -- whole blocks joined have this size
 join_size : (b : ℕ) (held : Held) (n : ℕ) (wire : List ℕ) → AreWholeBelow b held (n + 1) → IsJoin held n wire → length wire ≡ n * b

@@ -1,12 +1,11 @@
 -- At the server, what is kept stands for one datagram more after its client's first request.
-use Rattle.std.proofs.Common.{◌≡◌, ℕ, Bool, true, false, List, ◌∷◌, Option, Some, None, refl, sym, ap, subst, ◌∙◌}
-use Rattle.std.specs.Prelude.{◌&&◌, ◌||◌, option_map}
+use Rattle.std.proofs.Common.{◌≡◌, ℕ, Bool, true, false, List, ◌∷◌, Option, Some, None, refl, sym, ap, subst, ◌∙◌, ◌&&◌, ◌||◌, option_map}
 use Rattle.std.proofs.lemmas.Bool.{false≢true}
-use Rattle.tftp_packet.specs.declared.kinds.End.TheVariants.{Server}
-use Rattle.tftp_ends.specs.CaptureText.{Datagram, Header, PeerId, peer_of}
-use Rattle.tftp_ends.specs.Ports.{Route, same_peer, goes_out, asks, first_of, or_this, route_of}
-use Rattle.tftp_ends.specs.KnownIds.{KnownIds, StandsFor, answers, is_noted, is_other, other_end, sides_of}
-use Rattle.tftp_ends.specs.Ports.Route.{Request, Peer, Stray, StrayAnswer}
+use Rattle.tftp_packet.specs.{Server}
+use Rattle.tftp_hosts.specs.{Datagram, Header, PeerId, peer_of}
+use Rattle.tftp_rules.specs.{Route, same_peer, goes_out, asks, first_of, or_this, route_of}
+use Rattle.tftp_ends.specs.{KnownIds, StandsFor, answers, is_noted, is_other, other_end, sides_of}
+use Rattle.tftp_rules.specs.Ports.Route.{Request, Peer, Stray, StrayAnswer}
 use Rattle.tftp_ends.proofs.NotedPeers.{noted_out}
 use Rattle.tftp_ends.proofs.RouteSides.{AtServer, at_server}
 use Rattle.tftp_ends.proofs.KeptIds.{first_stays, or_kept, map_none, asked_is, answered_is, stands_on, stays_out, stays_in, strays_in, ComesFirst}

@@ -1,10 +1,9 @@
 -- What is kept stands for one datagram more.
-use Rattle.std.proofs.Common.{◌≡◌, ◌⊎◌, inl, inr, Bool, true, false, List, ◌∷◌, Option, Some, None, refl, sym, ap, subst, ◌∙◌}
-use Rattle.std.specs.Prelude.{◌&&◌, ◌||◌, not, is_some, option_map}
-use Rattle.tftp_packet.specs.declared.kinds.End.{End}
-use Rattle.tftp_ends.specs.CaptureText.{Datagram, Header, PeerId, peer_of}
-use Rattle.tftp_ends.specs.Ports.{same_peer, goes_out, asks, first_of, or_this, is_from_client}
-use Rattle.tftp_ends.specs.KnownIds.{KnownIds, StandsFor, NotesStrays, answers, first_answer, is_noted, other_end, sides_of}
+use Rattle.std.proofs.Common.{◌≡◌, ◌⊎◌, inl, inr, Bool, true, false, List, ◌∷◌, Option, Some, None, refl, sym, ap, subst, ◌∙◌, ◌&&◌, ◌||◌, not, is_some, option_map}
+use Rattle.tftp_packet.specs.{End}
+use Rattle.tftp_hosts.specs.{Datagram, Header, PeerId, peer_of}
+use Rattle.tftp_rules.specs.{same_peer, goes_out, asks, first_of, or_this, is_from_client}
+use Rattle.tftp_ends.specs.{KnownIds, StandsFor, NotesStrays, answers, first_answer, is_noted, other_end, sides_of}
 use Rattle.tftp_ends.proofs.NotedPeers.{noted_out, noted_there, noted_stray}
 
 -- the first datagram from the server's side, after a first request

@@ -1,14 +1,13 @@
 -- What a set of peers has, by the test of peers.
-use Rattle.std.proofs.Common.{◌≡◌, Bool, true, false, List, [], ◌∷◌, Option, Some, None, rules, cond, refl, sym, ap, subst, ◌∙◌}
-use Rattle.std.specs.Prelude.{◌==◌, ◌&&◌, ◌||◌, not, bytes_eq}
+use Rattle.std.proofs.Common.{◌≡◌, Bool, true, false, List, [], ◌∷◌, Option, Some, None, rules, cond, refl, sym, ap, subst, ◌∙◌, ◌==◌, ◌&&◌, ◌||◌, not, bytes_eq}
 use Rattle.std.specs.Cmp.Rules.{comparing}
 use Rattle.std.specs.List.{list_any}
 use Rattle.std.specs.Ordering.{is_eq}
 use Rattle.std.proofs.lemmas.Bool.{false≢true, and_from, and_parts, eqb-true, eq-eqb}
 use Rattle.std.proofs.lemmas.Slice.Eq.{bytes_eq-Decides}
-use Rattle.tftp_ends.specs.CaptureText.{Datagram, PeerId, peer_of}
-use Rattle.tftp_ends.specs.Ports.{same_peer, goes_out, comes_in, first_of, or_this, has_come_from}
-use Rattle.tftp_ends.specs.KnownIds.{is_noted, peer_cmp, NotesStrays}
+use Rattle.tftp_hosts.specs.{Datagram, PeerId, peer_of}
+use Rattle.tftp_rules.specs.{same_peer, goes_out, comes_in, first_of, or_this, has_come_from}
+use Rattle.tftp_ends.specs.{is_noted, peer_cmp, NotesStrays}
 
 same_by_order : (one other : PeerId) → is_eq (peer_cmp one other) ≡ same_peer one other
 same_by_order one other = sym (search (comparing, rules))

@@ -2,19 +2,13 @@
 use Rattle.std.proofs.Common.{◌≡◌, ◌↔◌, ◌⊎◌, ℕ, ◌≤◌, max, Bool, true, false, ◌&&◌, ◌||◌, ◌==◌, List, [], ◌∷◌, Some, inl, inr, refl, sym, subst, ap, ◌∙◌, arith}
 use Rattle.std.proofs.lemmas.Bool.{cases_lt, cases_eq, true≢false}
 use Rattle.std.specs.FinMap as map
-use Rattle.tftp_packet.specs.Message.{Message, Request, Data, Ack, Error, Oack}
-use Rattle.tftp_packet.specs.Spelling.{Spells}
+use Rattle.tftp_packet.specs.{Message, Request, Data, Ack, Error, Oack, Spells, Side, Get, Put}
 use Rattle.tftp_packet.proofs.Unique.{message_opcode, layout_opcode, one_message}
-use Rattle.tftp_packet.specs.declared.kinds.Side.{Side}
-use Rattle.tftp_packet.specs.declared.kinds.Side.TheVariants.{Get, Put}
-use Rattle.tftp_packet.specs.declared.kinds.Dir.{Dir}
-use Rattle.tftp_packet.specs.declared.kinds.Dir.TheVariants.{In, Out}
-use Rattle.tftp_ends.specs.CaptureText.{Datagram}
-use Rattle.tftp_ends.specs.Ports.{goes_out, begins_error}
-use Rattle.tftp_ends.specs.Rules.{Passed, HasPassed, BlockPassed, IsGreatest, brings_error, usable}
-use Rattle.tftp_ends.specs.Store.{Held, Placing, Differs, Places}
-use Rattle.tftp_ends.specs.States.{has_stopped, AreBlocks, Says, IsAside}
-use Rattle.tftp_ends.proofs.Stores.{placed_is_held, others_are_kept}
+use Rattle.tftp_hosts.specs.{Dir, In, Out, Datagram}
+use Rattle.tftp_rules.specs.{goes_out, begins_error, Passed, HasPassed, BlockPassed, IsGreatest, brings_error, usable}
+use Rattle.tftp_blocks.specs.{Held, Placing, Differs, Places}
+use Rattle.tftp_ends.specs.{has_stopped, AreBlocks, Says, IsAside}
+use Rattle.tftp_blocks.proofs.Stores.{placed_is_held, others_are_kept}
 
 -- ---- one datagram
 

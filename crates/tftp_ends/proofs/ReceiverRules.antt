@@ -2,15 +2,11 @@
 use Rattle.std.proofs.Common.{◌≡◌, ◌≢◌, ◌↔◌, ℕ, ◌+◌, ◌<◌, ◌≤◌, List, Some, None, inl, inr, refl, sym, ◌∙◌, arith}
 use Rattle.std.proofs.lemmas.Bool.{cases_lt}
 use Rattle.std.specs.FinMap as map
-use Rattle.tftp_packet.specs.Message.{Data, Ack}
-use Rattle.tftp_packet.specs.declared.kinds.Dir.TheVariants.{In, Out}
-use Rattle.tftp_ends.specs.CaptureText.{Datagram}
-use Rattle.tftp_ends.specs.Rules.{Passed, HasPassed, IsFront, IsAckedAt, IsReachedAt, IsSender, EndBroken, FirstEndBroken, AckZeroWaits, usable}
-use Rattle.tftp_ends.specs.Store.{IsHighest, IsHeldFront}
-use Rattle.tftp_ends.specs.States.{Receiver, IsReceiverAfter, IsHeld}
-use Rattle.tftp_ends.specs.StatesKept.{IsSoundReceiver, IsKnown, NoneBelow}
-use Rattle.tftp_ends.specs.declared.rule.EndRule.{EndRule}
-use Rattle.tftp_ends.specs.declared.rule.EndRule.TheVariants.{BlockChanged, AckAhead, AckZero}
+use Rattle.tftp_packet.specs.{Data, Ack}
+use Rattle.tftp_hosts.specs.{In, Out, Datagram}
+use Rattle.tftp_rules.specs.{Passed, HasPassed, IsFront, IsAckedAt, IsReachedAt, IsSender, EndBroken, FirstEndBroken, AckZeroWaits, usable, EndRule, BlockChanged, AckAhead, AckZero}
+use Rattle.tftp_blocks.specs.{IsHighest, IsHeldFront}
+use Rattle.tftp_ends.specs.{Receiver, IsReceiverAfter, IsHeld, IsSoundReceiver, IsKnown, NoneBelow}
 use Rattle.tftp_ends.proofs.FirstRules.{first_is, before_24, before_25, before_26, before_27, no_block_rule, no_ack_rule}
 use Rattle.tftp_ends.proofs.Passing.{came_usable, usable_passed, greatest_one}
 use Rattle.tftp_ends.proofs.SenderRules.{one_part}

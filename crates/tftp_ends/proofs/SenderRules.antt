@@ -2,19 +2,12 @@
 use Rattle.std.proofs.Common.{◌≡◌, ◌≢◌, ◌↔◌, ◌⊎◌, ℕ, ◌+◌, ◌<◌, ◌≤◌, List, length, Some, inl, inr, refl, arith}
 use Rattle.std.proofs.lemmas.Bool.{cases_eq}
 use Rattle.std.specs.FinMap as map
-use Rattle.tftp_packet.specs.Message.{Data, Ack}
-use Rattle.tftp_packet.specs.declared.kinds.Side.{Side}
-use Rattle.tftp_packet.specs.declared.kinds.Side.TheVariants.{Get, Put}
-use Rattle.tftp_packet.specs.declared.kinds.End.{End}
-use Rattle.tftp_packet.specs.declared.kinds.Dir.TheVariants.{In, Out}
-use Rattle.tftp_ends.specs.CaptureText.{Datagram}
-use Rattle.tftp_ends.specs.Roles.{sender_of, receiver_of}
-use Rattle.tftp_ends.specs.Rules.{Passed, HasPassed, BlockPassed, IsTop, IsAckedAt, IsReachedAt, EndBroken, FirstEndBroken, AckZeroWaits, usable}
-use Rattle.tftp_ends.specs.Store.{IsHighest}
-use Rattle.tftp_ends.specs.States.{Sender, IsSenderAfter, IsHeld, MaySend}
-use Rattle.tftp_ends.specs.StatesKept.{IsSoundSender, IsKnown, IsOpen, NoneBelow}
-use Rattle.tftp_ends.specs.declared.rule.EndRule.{EndRule}
-use Rattle.tftp_ends.specs.declared.rule.EndRule.TheVariants.{BlockSkipped, GoneBack, BlockChanged, AckAhead, AckZero}
+use Rattle.tftp_packet.specs.{Data, Ack, Side, Get, Put, End}
+use Rattle.tftp_hosts.specs.{In, Out, Datagram}
+use Rattle.tftp_model.specs.Roles.{sender_of, receiver_of}
+use Rattle.tftp_rules.specs.{Passed, HasPassed, BlockPassed, IsTop, IsAckedAt, IsReachedAt, EndBroken, FirstEndBroken, AckZeroWaits, usable, EndRule, BlockSkipped, GoneBack, BlockChanged, AckAhead, AckZero}
+use Rattle.tftp_blocks.specs.{IsHighest}
+use Rattle.tftp_ends.specs.{Sender, IsSenderAfter, IsHeld, MaySend, IsSoundSender, IsKnown, IsOpen, NoneBelow}
 use Rattle.tftp_ends.proofs.FirstRules.{first_is, before_24, before_25, before_26, before_27, no_block_rule, no_ack_rule}
 use Rattle.tftp_ends.proofs.SoundStates.{fits_it, held_from_one}
 use Rattle.tftp_ends.proofs.Passing.{came_usable, usable_passed, greatest_kept, greatest_one}

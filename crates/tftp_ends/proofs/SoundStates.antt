@@ -2,12 +2,10 @@
 use Rattle.std.proofs.Common.{◌≡◌, ◌≢◌, ◌⊎◌, ℕ, ◌+◌, ◌≤◌, max, Bool, List, length, Some, None, Option, zero, suc, inl, inr, refl, sym, subst, ap, ◌∙◌, arith}
 use Rattle.std.proofs.lemmas.Bool.{cases_lt, cases_eq}
 use Rattle.std.specs.FinMap as map
-use Rattle.tftp_ends.specs.Rules.{IsSender, IsReceiver}
-use Rattle.tftp_ends.specs.Store.{Held, nothing_held, IsHeldFront, Takes, Placing, Differs, Places}
-use Rattle.tftp_ends.specs.States.{Sender, Receiver, IsHeld, HasLengthBySize, Fits, MaySend, MayAcknowledge}
-use Rattle.tftp_ends.specs.StatesKept.{IsSound, IsSoundSender, IsSoundReceiver, HasRightLength, IsOpen}
-use Rattle.tftp_ends.specs.declared.terms.Terms.{Terms}
-use Rattle.tftp_ends.proofs.Stores.{placed_is_held, others_are_kept}
+use Rattle.tftp_rules.specs.{IsSender, IsReceiver, Terms}
+use Rattle.tftp_blocks.specs.{Held, nothing_held, IsHeldFront, Takes, Placing, Differs, Places}
+use Rattle.tftp_ends.specs.{Sender, Receiver, IsHeld, HasLengthBySize, Fits, MaySend, MayAcknowledge, IsSound, IsSoundSender, IsSoundReceiver, HasRightLength, IsOpen}
+use Rattle.tftp_blocks.proofs.Stores.{placed_is_held, others_are_kept}
 
 -- ---- a block more
 

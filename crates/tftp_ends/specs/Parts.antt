@@ -2,7 +2,7 @@
 use mathlib.Core.Logic.{inl, inr}
 use Rattle.std.specs.Prelude.{◌≡◌, ◌⊎◌, refl}
 use Rattle.std.specs.Coded.{Coded, code_by, coded⊎}
-use Rattle.tftp_ends.specs.NamedEnd.{NamedEnd, Sends, Receives}
+use Rattle.tftp_ends.specs.NamedEnds.{NamedEnd, Sends, Receives}
 use Rattle.tftp_ends.specs.States.{Sender, Receiver}
 use Rattle.tftp_ends.specs.StatesKept.{sender_code, receiver_code}
 use Rattle.tftp_ends.specs.declared.named_end.Part.{Part}

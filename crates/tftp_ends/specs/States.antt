@@ -3,18 +3,11 @@
 use Rattle.std.specs.Prelude.{◌≡◌, ◌↔◌, ◌⊎◌, ℕ, ◌+◌, ◌/◌, ◌%◌, ◌<◌, ◌≤◌, Bool, true, List, length, Option, Some, cond}
 use Rattle.std.specs.List.{list_any}
 use Rattle.std.specs.FinMap as map
-use Rattle.tftp_packet.specs.Message.{Message, Request, Data, Ack, Error, Oack}
-use Rattle.tftp_packet.specs.Spelling.{Spells}
-use Rattle.tftp_packet.specs.declared.kinds.Side.{Side}
-use Rattle.tftp_packet.specs.declared.kinds.Dir.{Dir}
-use Rattle.tftp_packet.specs.declared.kinds.Dir.TheVariants.{In, Out}
-use Rattle.tftp_ends.specs.CaptureText.{Datagram}
-use Rattle.tftp_ends.specs.Roles.{sender_of, receiver_of}
-use Rattle.tftp_ends.specs.Rules.{Passed, HasPassed, brings_error, usable, IsTop, IsAnswered, IsAcked, IsFront, IsLast}
-use Rattle.tftp_ends.specs.Store.{Held, IsHeldFront, Takes}
-use Rattle.tftp_ends.specs.declared.terms.Reply.{Reply}
-use Rattle.tftp_ends.specs.declared.terms.Reply.TheVariants.{Plain, Oacked}
-use Rattle.tftp_ends.specs.declared.terms.Terms.{Terms}
+use Rattle.tftp_packet.specs.{Message, Request, Data, Ack, Error, Oack, Spells, Side}
+use Rattle.tftp_hosts.specs.{Dir, In, Out, Datagram}
+use Rattle.tftp_model.specs.Roles.{sender_of, receiver_of}
+use Rattle.tftp_rules.specs.{Passed, HasPassed, brings_error, usable, IsTop, IsAnswered, IsAcked, IsFront, IsLast, Reply, Plain, Oacked, Terms}
+use Rattle.tftp_blocks.specs.{Held, IsHeldFront, Takes}
 
 -- an ERROR of the other end has come in
 abbrev pub has_stopped : List Datagram → Bool

@@ -2,19 +2,11 @@
 use Rattle.std.specs.Prelude.{◌≡◌, ◌↔◌, ◌⊎◌, ℕ, ◌+◌, ◌/◌, ◌<◌, ◌≤◌, Bool, true, cond, nat_eq, List, length, Option, Some, None, refl}
 use Rattle.std.specs.Coded.{Coded, code_by, coded×, coded_ℕ, coded_bool, coded_list, coded_option}
 use Rattle.std.specs.FinMap as map
-use Rattle.tftp_packet.specs.Message.{Message, Ack}
-use Rattle.tftp_packet.specs.Owned.{side_code}
-use Rattle.tftp_packet.specs.declared.kinds.Side.{Side}
-use Rattle.tftp_packet.specs.declared.kinds.End.{End}
-use Rattle.tftp_packet.specs.declared.kinds.End.TheVariants.{Client, Server}
-use Rattle.tftp_ends.specs.CaptureText.{Datagram}
-use Rattle.tftp_ends.specs.Rules.{HasPassed, IsSender, IsReceiver, IsAckedAt, usable, end_number, EndBroken}
-use Rattle.tftp_ends.specs.declared.rule.EndRule.{EndRule}
-use Rattle.tftp_ends.specs.Store.{Held, IsHighest, IsHeldLast}
+use Rattle.tftp_packet.specs.{Message, Ack, side_code, Side, End, Client, Server}
+use Rattle.tftp_hosts.specs.{Datagram}
+use Rattle.tftp_rules.specs.{HasPassed, IsSender, IsReceiver, IsAckedAt, usable, end_number, EndBroken, EndRule, Reply, NoReply, Plain, Oacked, Terms}
+use Rattle.tftp_blocks.specs.{Held, IsHighest, IsHeldLast}
 use Rattle.tftp_ends.specs.States.{Sender, Receiver, AreBlocks, IsHeld, HasLengthBySize}
-use Rattle.tftp_ends.specs.declared.terms.Reply.{Reply}
-use Rattle.tftp_ends.specs.declared.terms.Reply.TheVariants.{NoReply, Plain, Oacked}
-use Rattle.tftp_ends.specs.declared.terms.Terms.{Terms}
 
 -- each block that is held has the length that an agreed size leaves it
 abbrev pub AreSized : Terms → Held → Type 0

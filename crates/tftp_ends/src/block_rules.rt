@@ -2,16 +2,15 @@
 
 ghost use Rattle.std.specs.Prelude.{◌≡◌, ◌≢◌, ◌↔◌, ℕ, ◌≤◌, List, length, Some, IsTrue, true, false, MatchOption, OnOk, IfErr};
 ghost use Rattle.std.specs.FinMap as map;
-ghost use Rattle.tftp_packet.specs.Message.{Data, Ack};
-ghost use Rattle.tftp_ends.specs.CaptureText.{Datagram};
-ghost use Rattle.tftp_ends.specs.Rules.{HasPassed, HasWrongLength, BlocksWait, AckZeroWaits, FirstEndBroken};
+ghost use Rattle.tftp_packet.specs.{Data, Ack};
+ghost use Rattle.tftp_hosts.specs.{Datagram};
+ghost use Rattle.tftp_rules.specs.{HasPassed, HasWrongLength, BlocksWait, AckZeroWaits, FirstEndBroken};
 ghost use Rattle.tftp_ends.specs.States.{AreBlocks, HasLengthBySize};
 ghost use Rattle.tftp_ends.specs.StatesKept.{IsSound, IsShortTop, AreWhole, IsEnd, HasNoEnd, EndsElsewhere, EndsThere, HasRightLength, IsKnown, NoneBelow, IsOpen};
 
-use crate::delivered::Delivered;
-use crate::rule::EndRule;
-use crate::terms::{Reply, Terms};
+use tftp_blocks::Delivered;
 use tftp_packet::Side;
+use tftp_rules::{EndRule, Reply, Terms};
 
 /// What is wrong with a block or an acknowledgement: one of the rules of these.
 pub type EndFault = EndRule;

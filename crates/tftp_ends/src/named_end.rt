@@ -1,13 +1,11 @@
 ghost use Rattle.std.specs.Prelude.{◌≡◌, ◌≢◌, ◌↔◌, ℕ, ◌≤◌, List, ◌∷◌, IsTrue, true, OnOk, OnErr, IfErr};
-ghost use Rattle.tftp_packet.specs.Message.{Data, Ack, Error};
-ghost use Rattle.tftp_packet.specs.Meaning.{meaning};
-ghost use Rattle.tftp_packet.specs.declared.kinds.Dir.TheVariants.{In};
-ghost use Rattle.tftp_ends.specs.CaptureText.{Datagram};
-ghost use Rattle.tftp_ends.specs.Roles.{sender_of as sends};
-ghost use Rattle.tftp_ends.specs.Rules.{IsSender, IsReceiver, EndBroken, FirstEndBroken};
-ghost use Rattle.tftp_ends.specs.Store.{nothing_held};
+ghost use Rattle.tftp_packet.specs.{Data, Ack, Error, meaning};
+ghost use Rattle.tftp_hosts.specs.{In, Datagram};
+ghost use Rattle.tftp_model.specs.Roles.{sender_of as sends};
+ghost use Rattle.tftp_rules.specs.{IsSender, IsReceiver, EndBroken, FirstEndBroken, EndRule as Rule, NoReply};
+ghost use Rattle.tftp_blocks.specs.{nothing_held};
 ghost use Rattle.tftp_ends.specs.States.{has_stopped, IsBeforeBlocks, Says};
-ghost use Rattle.tftp_ends.specs.NamedEnd.{
+ghost use Rattle.tftp_ends.specs.NamedEnds.{
   terms_of,
   held_of,
   IsEndAfter,
@@ -20,17 +18,16 @@ ghost use Rattle.tftp_ends.specs.NamedEnd.{
   HoldsWire,
   MayKeep,
 };
-ghost use Rattle.tftp_ends.specs.declared.rule.EndRule.{EndRule as Rule};
-ghost use Rattle.tftp_ends.specs.declared.terms.Reply.TheVariants.{NoReply};
 
 use crate::block_rules::EndFault;
-use crate::delivered::Delivered;
 use crate::receiver_state::ReceiverState;
 use crate::sender_state::SenderState;
-use crate::terms::{Reply, Terms};
 use std::alloc::{AllocError, Global};
 use std::marker::Model;
-use tftp_packet::{Dir, End, Packet, Side};
+use tftp_blocks::Delivered;
+use tftp_hosts::Dir;
+use tftp_packet::{End, Packet, Side};
+use tftp_rules::{Reply, Terms};
 
 /// Which part the named end has.
 #[derive(Drop)]
@@ -46,7 +43,7 @@ pub struct NamedEnd<D: Delivered> {
 }
 
 impl<D: Delivered> Model for NamedEnd<D> {
-    ghost use Rattle.tftp_ends.specs.NamedEnd.{NamedEnd};
+    ghost use Rattle.tftp_ends.specs.NamedEnds.{NamedEnd};
     ghost use Rattle.tftp_ends.specs.Parts.{end_of, named_end_code};
 
     ghost Value = { NamedEnd };

@@ -1,8 +1,8 @@
 ghost use Rattle.std.specs.Prelude.{◌≡◌, ◌≢◌, ◌&&◌, not, ℕ, false, List, [], ◌∷◌, Some, None, is_some, option_map, Ok, Err, OnOk, OnErr};
-ghost use Rattle.tftp_packet.specs.Faults.{opcode_of};
-ghost use Rattle.tftp_ends.specs.CaptureText.{Datagram, Header};
-ghost use Rattle.tftp_ends.specs.Ports as definitions;
-ghost use Rattle.tftp_ends.specs.KnownIds.{
+ghost use Rattle.tftp_packet.specs.{opcode_of};
+ghost use Rattle.tftp_hosts.specs.{Datagram, Header};
+ghost use Rattle.tftp_rules.specs.Ports as definitions;
+ghost use Rattle.tftp_ends.specs.Known.{
   StandsFor,
   NotesStrays,
   HasNumbers,
@@ -19,7 +19,8 @@ use crate::strays::{Peer, Strays};
 use std::alloc::{AllocError, Global};
 use std::convert::From;
 use std::marker::Model;
-use tftp_packet::{Dir, End, Host};
+use tftp_hosts::{Dir, Host};
+use tftp_packet::End;
 
 /// Why a datagram is none of the transfer, nor a stray.
 #[derive(Clone, Copy, Debug, PartialEq, Eq)]
@@ -107,7 +108,7 @@ pub struct Ports {
 }
 
 impl Model for Ports {
-    ghost use Rattle.tftp_ends.specs.KnownIds.{KnownIds};
+    ghost use Rattle.tftp_ends.specs.Known.{KnownIds};
 
     ghost Value = { KnownIds };
 

@@ -1,11 +1,10 @@
 ghost use Rattle.std.specs.Prelude.{◌≡◌, ◌↔◌, ℕ, ◌≤◌, List, ◌∷◌, None, IsTrue, false, true, OnOk, OnErr, IfErr};
 ghost use Rattle.std.specs.FinMap as map;
-ghost use Rattle.tftp_packet.specs.Message.{Data, Ack, Error};
-ghost use Rattle.tftp_packet.specs.declared.kinds.Dir.TheVariants.{In, Out};
-ghost use Rattle.tftp_ends.specs.CaptureText.{Datagram};
-ghost use Rattle.tftp_ends.specs.Store.{nothing_held};
-ghost use Rattle.tftp_ends.specs.Rules.{IsReceiver, EndBroken, FirstEndBroken};
-ghost use Rattle.tftp_ends.specs.NamedEnd.{Receives, HoldsWire};
+ghost use Rattle.tftp_packet.specs.{Data, Ack, Error};
+ghost use Rattle.tftp_hosts.specs.{In, Out, Datagram};
+ghost use Rattle.tftp_blocks.specs.{nothing_held};
+ghost use Rattle.tftp_rules.specs.{IsReceiver, EndBroken, FirstEndBroken, EndRule as Rule};
+ghost use Rattle.tftp_ends.specs.NamedEnds.{Receives, HoldsWire};
 ghost use Rattle.tftp_ends.specs.States.{
   has_stopped,
   receiver_terms,
@@ -17,14 +16,13 @@ ghost use Rattle.tftp_ends.specs.States.{
   Fits,
   Says,
 };
-ghost use Rattle.tftp_ends.specs.declared.rule.EndRule.{EndRule as Rule};
 
 use crate::block_rules::{EndFault, ack_zero_waits, is_other, last_block, may_open};
-use crate::delivered::Delivered;
-use crate::terms::{Reply, Terms};
 use std::alloc::{AllocError, Global};
 use std::marker::Model;
+use tftp_blocks::Delivered;
 use tftp_packet::{End, Side};
+use tftp_rules::{Reply, Terms};
 
 /// The end that gets the file, from when the request is answered. It keeps the blocks and a few numbers, and no list of
 /// what has passed.

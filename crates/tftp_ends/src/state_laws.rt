@@ -1,15 +1,10 @@
 //! Laws of the states of the two ends. Each is the contract of a function that does nothing.
 
 ghost use Rattle.std.specs.Prelude.{◌≡◌, ◌↔◌, ℕ, List, ◌∷◌};
-ghost use Rattle.tftp_packet.specs.Message.{Message};
-ghost use Rattle.tftp_packet.specs.Spelling.{Spells};
-ghost use Rattle.tftp_ends.specs.CaptureText.{Datagram};
-ghost use Rattle.tftp_packet.specs.declared.kinds.Side.TheVariants.{Get, Put};
-ghost use Rattle.tftp_ends.specs.Rules.{EndBroken};
+ghost use Rattle.tftp_packet.specs.{Message, Spells, Get, Put};
+ghost use Rattle.tftp_hosts.specs.{Datagram};
+ghost use Rattle.tftp_rules.specs.{EndBroken, EndRule, NoReply, Plain, Terms};
 ghost use Rattle.tftp_ends.specs.States.{Sender, Receiver, IsSenderAfter, IsReceiverAfter, IsAside, replied};
-ghost use Rattle.tftp_ends.specs.declared.rule.EndRule.{EndRule};
-ghost use Rattle.tftp_ends.specs.declared.terms.Reply.TheVariants.{NoReply, Plain};
-ghost use Rattle.tftp_ends.specs.declared.terms.Terms.{Terms};
 
 /// Requests, OACKs and an ERROR that goes out change nothing at a sender: it stands for what has passed with them.
 pub fn sender_leaves_others_aside()

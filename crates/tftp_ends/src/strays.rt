@@ -1,13 +1,13 @@
 ghost use Rattle.std.specs.Prelude.{◌≡◌, ◌||◌, [], false, OnOk, OnErr};
-ghost use Rattle.tftp_ends.specs.CaptureText.{PeerId};
-ghost use Rattle.tftp_ends.specs.Ports.{same_peer};
-ghost use Rattle.tftp_ends.specs.KnownIds.{is_noted};
+ghost use Rattle.tftp_hosts.specs.{PeerId};
+ghost use Rattle.tftp_rules.specs.{same_peer};
+ghost use Rattle.tftp_ends.specs.Known.{is_noted};
 
 use std::alloc::{AllocError, Global};
 use std::cmp::Ordering;
 use std::collections::BTreeSet;
 use std::marker::Model;
-use tftp_packet::Host;
+use tftp_hosts::Host;
 
 /// The other side of a datagram: a host, and a port there (RFC 1350, section 4).
 #[derive(Clone, Copy)]
@@ -19,7 +19,7 @@ pub struct Peer {
 }
 
 impl Model for Peer {
-    ghost use Rattle.tftp_ends.specs.CaptureText.{PeerId};
+    ghost use Rattle.tftp_hosts.specs.Capture.{PeerId};
 
     ghost Value = { PeerId };
 
@@ -31,7 +31,7 @@ impl Model for Peer {
 impl PartialEq for Peer {
     ghost use Rattle.std.proofs.Common.{rules};
     ghost use Rattle.std.specs.Cmp.Rules.{comparing};
-    ghost use Rattle.tftp_ends.specs.Ports.{same_peer};
+    ghost use Rattle.tftp_rules.specs.Ports.{same_peer};
 
     ghost eq = { same_peer };
 
@@ -54,7 +54,7 @@ impl PartialOrd for Peer {
     ghost use Rattle.std.proofs.Common.{rules};
     ghost use Rattle.std.specs.Cmp.Rules.{comparing};
     ghost use Rattle.std.specs.Ordering.{as_partial_cmp};
-    ghost use Rattle.tftp_ends.specs.KnownIds.{peer_cmp};
+    ghost use Rattle.tftp_ends.specs.Known.{peer_cmp};
 
     ghost partial_cmp = { as_partial_cmp peer_cmp };
 
@@ -69,7 +69,7 @@ impl PartialOrd for Peer {
 impl Ord for Peer {
     ghost use Rattle.std.proofs.Common.{rules};
     ghost use Rattle.std.specs.Cmp.Rules.{comparing};
-    ghost use Rattle.tftp_ends.specs.KnownIds.{peer_cmp};
+    ghost use Rattle.tftp_ends.specs.Known.{peer_cmp};
 
     ghost cmp = { peer_cmp };
 
@@ -95,7 +95,7 @@ pub struct Strays {
 
 impl Model for Strays {
     ghost use Rattle.std.specs.Prelude.{List};
-    ghost use Rattle.tftp_ends.specs.CaptureText.{PeerId};
+    ghost use Rattle.tftp_hosts.specs.Capture.{PeerId};
 
     ghost Value = { List PeerId };
 

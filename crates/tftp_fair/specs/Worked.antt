@@ -1,9 +1,7 @@
 -- A read of one byte at its client, and a stray that is told so, the oldest first.
 use Rattle.std.specs.Prelude.{ℕ, List, [], ◌∷◌, ◌++◌, codes}
-use Rattle.tftp_packet.specs.declared.kinds.Dir.{Dir}
-use Rattle.tftp_packet.specs.declared.kinds.Dir.TheVariants.{In, Out}
-use Rattle.tftp_packet.specs.declared.kinds.End.TheVariants.{Client}
-use Rattle.tftp_ends.specs.CaptureText.{Datagram, Header, PeerId}
+use Rattle.tftp_hosts.specs.{Dir, In, Out, Datagram, Header, PeerId}
+use Rattle.tftp_packet.specs.{Client}
 
 abbrev pub at_client : Header
 at_client = record { named = Client; service = 69 }

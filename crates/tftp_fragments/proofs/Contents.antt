@@ -3,7 +3,8 @@ use Rattle.std.proofs.Common.{◌≡◌, ◌≢◌, ℕ, ◌+◌, ◌<◌, ◌�
 use Rattle.std.specs.List.{AllByRecursion}
 use Rattle.std.proofs.lemmas.Bool.{cases_lt}
 use Rattle.std.proofs.lemmas.List.{ext_get_or, get_or-append-add, get_or_append_left}
-use Rattle.tftp_fragments.specs.Whole.{Among, AreSame, Content, Covers, EndsRightly, FirstNames, Give, HasPart, InRow, IsCutInto, Part, end_of}
+use Rattle.tftp_fragments.specs.Whole.{Content, Part}
+use Rattle.tftp_fragments.specs.{Among, AreSame, Covers, EndsRightly, FirstNames, Give, HasPart, InRow, IsCutInto, end_of}
 use Rattle.tftp_fragments.proofs.Members.{all_at, all_from, among_at, byte_of, first_part, last_ends, member}
 
 IsLast : Part → Type 0

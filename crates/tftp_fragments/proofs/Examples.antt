@@ -1,7 +1,7 @@
 -- The worked examples.
 use Rattle.std.proofs.Common.{◌≡◌, ◌≢◌, ℕ, inl, inr, List, [], ◌∷◌, refl}
-use Rattle.tftp_fragments.specs.Whole.{Among, Give, IsCutInto, Part}
-use Rattle.tftp_fragments.specs.Worked.{first_of_udp, last_of_icmp, worked_content}
+use Rattle.tftp_fragments.specs.Whole.{Part}
+use Rattle.tftp_fragments.specs.{Among, Give, IsCutInto, first_of_udp, last_of_icmp, worked_content}
 use Rattle.tftp_fragments.proofs.Contents.{in_any_order, row_gives}
 
 some_bytes : (x : ℕ) (xs : List ℕ) → (x ∷ xs) ≢ []

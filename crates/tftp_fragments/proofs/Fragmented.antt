@@ -1,12 +1,9 @@
 -- What becomes of the last fragment of a packet.
 use Rattle.std.proofs.Common.{◌≡◌, ◌≢◌, ℕ, ◌≤◌, List, [], ◌∷◌, Option, Vec, Global, length, refl, arith}
 use Rattle.tftp_fragments.specs.declared.content.Content.{Content as Given}
-use Rattle.tftp_fragments.specs.declared.outcome.Outcome.{Outcome}
-use Rattle.tftp_fragments.specs.declared.outcome.Outcome.TheVariants.{Waits, Whole, Apart, Empty, TooLong, Full}
-use Rattle.tftp_fragments.specs.Whole.{AreSame, Content, IsCutInto, Part}
-use Rattle.tftp_fragments.specs.Held.{content_of}
-use Rattle.tftp_fragments.specs.Set.{Arrival, SetState, parts_of}
-use Rattle.tftp_fragments.specs.Store.{IsKeptOf, PutEnds}
+use Rattle.tftp_fragments.specs.{Outcome, Waits, Apart, Empty, TooLong, Full, AreSame, IsCutInto, content_of, Arrival, SetState, parts_of, IsKeptOf, PutEnds}
+use Rattle.tftp_fragments.specs.declared.outcome.Outcome.TheVariants.{Whole}
+use Rattle.tftp_fragments.specs.Whole.{Content, Part}
 use Rattle.tftp_fragments.proofs.Contents.{in_any_order, one_content}
 
 pub last_gives : (old new : Option SetState) (all : ℕ) (arrivals : List Arrival) (a : Arrival) (parts : List Part) (whole : Content) (outcome : Outcome)

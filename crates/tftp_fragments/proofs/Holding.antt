@@ -3,8 +3,8 @@ use Rattle.std.proofs.Common.{◌≡◌, ◌≢◌, ℕ, zero, suc, ◌+◌, ◌
 use Rattle.std.specs.List.{AllByRecursion}
 use Rattle.std.proofs.lemmas.Bool.{cases_lt}
 use Rattle.std.proofs.lemmas.List.{get_or-map, length-map}
-use Rattle.tftp_fragments.specs.Whole.{Among, Content, Covers, EndsRightly, Give, HasPart, Part, end_of}
-use Rattle.tftp_fragments.specs.Held.{Agrees, AreLaid, Held, HoldsPart, IsComplete, IsHeld, StandsFor, cell}
+use Rattle.tftp_fragments.specs.Whole.{Content, Part}
+use Rattle.tftp_fragments.specs.{Among, Covers, EndsRightly, Give, HasPart, end_of, Agrees, AreLaid, Held, HoldsPart, IsComplete, IsHeld, StandsFor, cell}
 use Rattle.tftp_fragments.proofs.Members.{all_at, all_weaker, among_weaker, byte_of, ends_within, first_part, inner_ends, last_ends, member}
 
 some_is : (a b : ℕ) → Some a ≡ Some b → a ≡ b

@@ -3,7 +3,7 @@ use Rattle.std.proofs.Common.{◌≡◌, ℕ, ◌+◌, ◌-◌, ◌<◌, ◌≤�
 use Rattle.std.specs.Option.{is_some}
 use Rattle.std.proofs.lemmas.Bool.{cases_lt}
 use Rattle.std.proofs.lemmas.List.{map-append, take_more}
-use Rattle.tftp_fragments.specs.Held.{AreLaid, Held, IsComplete, IsKept}
+use Rattle.tftp_fragments.specs.{AreLaid, Held, IsComplete, IsKept}
 
 pub some_of : (o : Option ℕ) → is_some o ≡ true → (b : ℕ) × (o ≡ Some b)
 some_of None e = cc

@@ -2,7 +2,8 @@
 use Rattle.std.proofs.Common.{◌≡◌, ℕ, ◌+◌, ◌-◌, ◌<◌, ◌≤◌, Bool, true, false, inl, inr, List, [], ◌∷◌, length, slice_index, refl, arith, subst, sym}
 use Rattle.std.specs.List.{AllByRecursion}
 use Rattle.std.proofs.lemmas.Bool.{cases_lt}
-use Rattle.tftp_fragments.specs.Whole.{Among, Content, Covers, EndsRightly, Give, HasPart, Part, end_of}
+use Rattle.tftp_fragments.specs.Whole.{Content, Part}
+use Rattle.tftp_fragments.specs.{Among, Covers, EndsRightly, Give, HasPart, end_of}
 
 pub pick : (P Q : Part → Type 0) (ps : List Part) → Among P ps → AllByRecursion Q ps → (p : Part) × P p × Q p
 pick P Q [] a h = absurd a

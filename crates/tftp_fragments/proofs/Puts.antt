@@ -1,9 +1,7 @@
 -- A fragment that came, and what is known then.
 use Rattle.std.proofs.Common.{◌≡◌, ◌≢◌, ℕ, ◌+◌, ◌<◌, ◌≤◌, inl, inr, true, false, List, [], ◌∷◌, Option, Some, None, Vec, Global, length, refl, sym, ◌∙◌, subst, arith}
-use Rattle.tftp_fragments.specs.Whole.{Content, Give, HasPart, Part, end_of}
-use Rattle.tftp_fragments.specs.Held.{Agrees, IsComplete, IsHeld, StandsFor, nothing_held}
-use Rattle.tftp_fragments.specs.Set.{Arrival, IsSetOf, SetState, TakeEnds, parts_of}
-use Rattle.tftp_fragments.specs.Store.{Comes, IsKeptOf, began_of}
+use Rattle.tftp_fragments.specs.Whole.{Content, Part}
+use Rattle.tftp_fragments.specs.{Give, HasPart, end_of, Agrees, IsComplete, IsHeld, StandsFor, nothing_held, Arrival, IsSetOf, SetState, TakeEnds, parts_of, Comes, IsKeptOf, began_of}
 use Rattle.tftp_fragments.proofs.Holding.{complete, not_both, truth, whole_given}
 use Rattle.tftp_fragments.proofs.Members.{inner_ends, last_ends}
 

@@ -8,11 +8,8 @@ use Rattle.std.proofs.Common.{Vec, Global}
 use Rattle.std.proofs.lemmas.Map.Entries.{sum_by-insert_entry, sum_by-remove_entry, sum_by-set_value}
 use Rattle.std.proofs.lemmas.Map.Steps.{set_value_same}
 use Rattle.tftp_fragments.specs.declared.key.Key.{Key}
-use Rattle.tftp_fragments.specs.Whole.{Part, end_of}
-use Rattle.tftp_fragments.specs.Key.{key_cmp, same_key}
-use Rattle.tftp_fragments.specs.KeyOrder.{key_total}
-use Rattle.tftp_fragments.specs.Set.{SetState, TakeEnds, room_of}
-use Rattle.tftp_fragments.specs.Store.{CountsAt, Sets, IsCounted, most_room, room_of_all, room_under, set_at}
+use Rattle.tftp_fragments.specs.Whole.{Part}
+use Rattle.tftp_fragments.specs.{end_of, key_cmp, same_key, key_total, SetState, TakeEnds, room_of, CountsAt, Sets, IsCounted, most_room, room_of_all, room_under, set_at}
 
 pub removed_room : (key : Key) (sets : Sets) (s : SetState) → set_at key sets ≡ Some s → room_of_all (remove_entry (same_key key) sets) + room_of s ≡ room_of_all sets
 removed_room key sets s e =

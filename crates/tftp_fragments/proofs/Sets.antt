@@ -1,8 +1,7 @@
 -- A fragment that cannot be of one packet with those before.
 use Rattle.std.proofs.Common.{◌≡◌, ◌≤◌, true, false, List, [], ◌∷◌, length, ap, subst, arith}
-use Rattle.tftp_fragments.specs.Whole.{Part, HasPart}
-use Rattle.tftp_fragments.specs.Held.{Agrees, Held, nothing_held}
-use Rattle.tftp_fragments.specs.Set.{Arrival, AreApart, IsSetOf, SetState, parts_of, room_of}
+use Rattle.tftp_fragments.specs.Whole.{Part}
+use Rattle.tftp_fragments.specs.{HasPart, Agrees, Held, nothing_held, Arrival, AreApart, IsSetOf, SetState, parts_of, room_of}
 use Rattle.tftp_fragments.proofs.Holding.{agreed, not_both}
 
 pub still_apart : (s : SetState) (arrivals : List Arrival) (a : Arrival) → s.spoiled ≡ true → IsSetOf s arrivals → AreApart (parts_of (a ∷ arrivals)) × IsSetOf s (a ∷ arrivals)

@@ -1,7 +1,16 @@
-pub mod Held
+pub mod Pieces
 pub mod Key
 pub mod KeyOrder
 pub mod Set
 pub mod Whole
 pub mod Store
 pub mod Worked
+pub use Pieces.{Agrees, AreLaid, Held, HoldsPart, IsComplete, IsHeld, IsKept, StandsFor, cell, content_of, nothing_held, part_of}
+pub use Key.{key_cmp, same_key}
+pub use KeyOrder.{key_total}
+pub use Set.{AreApart, Arrival, IsSetOf, SetState, TakeEnds, parts_of, room_of}
+pub use Whole.{Among, AreSame, Covers, EndsRightly, FirstNames, Give, HasPart, InRow, IsCutInto, end_of}
+pub use Store.{Comes, CountsAt, HasRoom, IsCounted, IsFull, IsKeptOf, IsTried, JoinEnds, MayBePut, PutEnds, Sets, WantsMemory, began_of, frames_of, is_long, least_behind, most_room, room_of_all, room_under, set_at}
+pub use Worked.{first_of_udp, last_of_icmp, worked_content}
+pub use declared.outcome.Outcome.{Outcome}
+pub use declared.outcome.Outcome.TheVariants.{Apart, Empty, Full, TooLong, Waits}

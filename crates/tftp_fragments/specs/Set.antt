@@ -3,7 +3,7 @@ use Rattle.std.specs.Prelude.{◌≡◌, ℕ, ◌+◌, ◌*◌, ◌^◌, ◌≤�
 use Rattle.std.specs.List.{AllByRecursion}
 use Rattle.std.specs.Global.{Vec}
 use Rattle.tftp_fragments.specs.Whole.{Content, HasPart, Part, end_of}
-use Rattle.tftp_fragments.specs.Held.{Agrees, Held, StandsFor, nothing_held}
+use Rattle.tftp_fragments.specs.Pieces.{Agrees, Held, StandsFor, nothing_held}
 
 -- a fragment that came: its part, when it came in nanoseconds, where the recording says so, and the number of its frame
 pub record Arrival : Type 0 where

@@ -8,7 +8,7 @@ use Rattle.tftp_fragments.specs.declared.outcome.Outcome.TheVariants.{Waits, Who
 use Rattle.tftp_fragments.specs.declared.fragments.Joined.{Joined}
 use Rattle.tftp_fragments.specs.declared.fragments.Joined.TheVariants as joined
 use Rattle.tftp_fragments.specs.Whole.{Content, Give, HasPart, Part, end_of}
-use Rattle.tftp_fragments.specs.Held.{Agrees, IsComplete, content_of}
+use Rattle.tftp_fragments.specs.Pieces.{Agrees, IsComplete, content_of}
 use Rattle.tftp_fragments.specs.Key.{same_key}
 use Rattle.tftp_fragments.specs.Set.{Arrival, AreApart, IsSetOf, SetState, TakeEnds, parts_of, room_of}
 

@@ -1,6 +1,6 @@
 ghost use Rattle.std.specs.Prelude.{◌≡◌, ◌≢◌, ◌+◌, ◌*◌, ◌^◌, ◌<◌, ◌≤◌, ◌⊎◌, ◌∷◌, [], ℕ, List, Option, Some, None, length, true, false, Ok, IfOk, OnOk, OnErr, IsTrue, ◌↔◌, IsSomeAnd, MatchOption};
 ghost use Rattle.tftp_fragments.specs.Whole.{end_of};
-ghost use Rattle.tftp_fragments.specs.Held.{content_of, part_of, Agrees, IsComplete, IsHeld};
+ghost use Rattle.tftp_fragments.specs.Pieces.{content_of, part_of, Agrees, IsComplete, IsHeld};
 ghost use Rattle.tftp_fragments.specs.Key.{same_key};
 ghost use Rattle.tftp_fragments.specs.Set.{SetState};
 ghost use Rattle.tftp_fragments.specs.Store.{set_at, room_of_all, most_room, is_long, frames_of, Comes, CountsAt, HasRoom, PutEnds, MayBePut, IsTried, JoinEnds, WantsMemory};

@@ -1,7 +1,7 @@
 ghost use Rattle.std.specs.Prelude.{◌≡◌, ◌≢◌, ◌≤◌, ◌∷◌, [], List, Option, ℕ, length};
 ghost use Rattle.std.specs.Global.{Vec};
 ghost use Rattle.tftp_fragments.specs.declared.content.Content.{Content as Given};
-ghost use Rattle.tftp_fragments.specs.Held.{content_of};
+ghost use Rattle.tftp_fragments.specs.Pieces.{content_of};
 ghost use Rattle.tftp_fragments.specs.Whole.{Content, Part, Give, IsCutInto, AreSame};
 ghost use Rattle.tftp_fragments.specs.Set.{AreApart, Arrival, SetState, parts_of};
 ghost use Rattle.tftp_fragments.specs.Store.{IsKeptOf, PutEnds};

@@ -1,7 +1,7 @@
 ghost use Rattle.std.specs.Prelude.{◌≡◌, ◌≢◌, ◌+◌, ◌<◌, ◌≤◌, ◌∷◌, ℕ, List, Option, Some, None, length, map, true, false, IfOk, OnOk, OnErr, IsTrue, ◌↔◌, slice_index, slice_index_or, take};
 ghost use Rattle.std.specs.List.{AllByRecursion};
 ghost use Rattle.tftp_fragments.specs.Whole.{Part as Piece, end_of, HasPart, Give};
-ghost use Rattle.tftp_fragments.specs.Held.{part_of, content_of, nothing_held, StandsFor, Agrees, EndsAgree, NamesAgree, AreLaid, IsComplete, IsHeld};
+ghost use Rattle.tftp_fragments.specs.Pieces.{part_of, content_of, nothing_held, StandsFor, Agrees, EndsAgree, NamesAgree, AreLaid, IsComplete, IsHeld};
 
 use crate::content::Content;
 use crate::part::Part;
@@ -18,7 +18,7 @@ pub(crate) struct Parts {
 }
 
 impl Model for Parts {
-    ghost use Rattle.tftp_fragments.specs.Held.{Held, IsKept};
+    ghost use Rattle.tftp_fragments.specs.Pieces.{Held, IsKept};
 
     ghost Value = { Held };
 

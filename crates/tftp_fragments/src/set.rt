@@ -1,6 +1,6 @@
 ghost use Rattle.std.specs.Prelude.{◌≡◌, ◌+◌, ◌*◌, ◌^◌, ◌<◌, ◌≤◌, ◌∷◌, [], ℕ, List, Option, Some, None, length, false, IfOk, OnErr, IsTrue, ◌↔◌};
 ghost use Rattle.tftp_fragments.specs.Whole.{end_of};
-ghost use Rattle.tftp_fragments.specs.Held.{content_of, part_of, nothing_held, Agrees, IsComplete, IsHeld};
+ghost use Rattle.tftp_fragments.specs.Pieces.{content_of, part_of, nothing_held, Agrees, IsComplete, IsHeld};
 ghost use Rattle.tftp_fragments.specs.Set.{Arrival, IsSetOf, TakeEnds, room_of};
 
 use crate::content::Content;

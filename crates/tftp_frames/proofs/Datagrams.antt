@@ -1,12 +1,7 @@
 -- A content is one datagram or has one fault.
-use Rattle.std.proofs.Common.{◌≡◌, ◌≢◌, ◌↔◌, ◌⊎◌, inl, inr, ℕ, ◌-◌, ◌<◌, ◌≤◌, List, length, take, drop, refl, sym, ap, subst, ◌∙◌, arith}
-use Rattle.std.specs.Prelude.{None, Result, Ok, Err, IsOkAnd}
-use Rattle.tftp_frames.specs.Number.{pair}
-use Rattle.tftp_frames.specs.Extension.{Reached, ReachesOver}
-use Rattle.tftp_frames.specs.Udp.{Udp, HasUdp, IsSized, SpellsUdp, HoldsUdp, JudgesUdp, datagram}
-use Rattle.tftp_frames.specs.declared.packet.UdpDatagram.{UdpDatagram}
-use Rattle.tftp_frames.specs.declared.fault.UdpFault.{UdpFault}
-use Rattle.tftp_frames.specs.declared.fault.UdpFault.TheVariants.{Protocol, Header, Length, Port}
+use Rattle.std.proofs.Common.{◌≡◌, ◌≢◌, ◌↔◌, ◌⊎◌, inl, inr, ℕ, ◌-◌, ◌<◌, ◌≤◌, List, length, take, drop, refl, sym, ap, subst, ◌∙◌, arith, None, Result, Ok, Err, IsOkAnd}
+use Rattle.tftp_frames.specs.{pair, Reached, ReachesOver, Udp, HasUdp, IsSized, SpellsUdp, HoldsUdp, JudgesUdp, datagram, UdpDatagram, UdpFault, Port}
+use Rattle.tftp_frames.specs.declared.fault.UdpFault.TheVariants.{Protocol, Header, Length}
 use Rattle.tftp_frames.proofs.Extensions.{reaches_one}
 
 has_one : (protocol : ℕ) (content a b : List ℕ) → HasUdp protocol content a → HasUdp protocol content b → a ≡ b

@@ -1,10 +1,7 @@
 -- The headers of IPv6 that are skipped, one after another.
-use Rattle.std.proofs.Common.{◌≡◌, ◌≢◌, ◌↔◌, inl, inr, ℕ, zero, suc, ◌<◌, ◌≤◌, Bool, true, false, List, length, drop, refl, sym, ap, ◌∙◌, subst, arith}
-use Rattle.std.specs.Prelude.{Some}
+use Rattle.std.proofs.Common.{◌≡◌, ◌≢◌, ◌↔◌, inl, inr, ℕ, zero, suc, ◌<◌, ◌≤◌, Bool, true, false, List, length, drop, refl, sym, ap, ◌∙◌, subst, arith, Some}
 use Rattle.std.proofs.lemmas.Bool.{false≢true}
-use Rattle.tftp_frames.specs.Number.{at}
-use Rattle.tftp_frames.specs.declared.packet.Fragment.{Fragment}
-use Rattle.tftp_frames.specs.Extension.{Reached, is_extension, is_atomic, fragment_header, fragment_of, skipped_size, IsSkipped, Stops, StopsAfter, ReachesOver}
+use Rattle.tftp_frames.specs.{at, Fragment, Reached, is_extension, is_atomic, fragment_header, fragment_of, skipped_size, IsSkipped, Stops, StopsAfter, ReachesOver}
 
 -- the number of a fragment header is none of the others
 no_extension : (next : ℕ) → next ≡ fragment_header → is_extension next ≡ true → ⊥

@@ -1,21 +1,9 @@
 -- The faults stand in one order, and a packet has none.
-use Rattle.std.proofs.Common.{◌≡◌, ◌↔◌, inl, inr, ℕ, ◌<◌, ◌≤◌, true, false, List, refl, sym, ap, subst, ◌∙◌, arith}
-use Rattle.std.specs.Prelude.{None, Some, Result, Ok, Err, IsOkAnd}
+use Rattle.std.proofs.Common.{◌≡◌, ◌↔◌, inl, inr, ℕ, ◌<◌, ◌≤◌, true, false, List, refl, sym, ap, subst, ◌∙◌, arith, None, Some, Result, Ok, Err, IsOkAnd}
 use Rattle.std.proofs.lemmas.Bool.{cases_lt, false≢true}
-use Rattle.tftp_frames.specs.Number.{at}
-use Rattle.tftp_frames.specs.Link.{Linked, SpellsLink, link_named}
-use Rattle.tftp_frames.specs.Extension.{Reached}
-use Rattle.tftp_frames.specs.Ip.{Packet, HasHeader, size_of, total_of, Reaches, held_of, may_be_udp, packet_of, SpellsIp}
-use Rattle.tftp_frames.specs.Frame.{IsLinked, SpellsFrame}
-use Rattle.tftp_frames.specs.Faults.{Holds, HoldsIp, place, FirstFault, FirstIpFault, IsNotWhole, Judges, JudgesIp}
-use Rattle.tftp_frames.specs.Parts.{shown}
-use Rattle.tftp_frames.specs.declared.link.LinkType.{LinkType}
+use Rattle.tftp_frames.specs.{at, Linked, SpellsLink, link_named, Reached, Packet, HasHeader, size_of, total_of, Reaches, held_of, may_be_udp, packet_of, SpellsIp, IsLinked, SpellsFrame, Holds, HoldsIp, place, FirstFault, FirstIpFault, IsNotWhole, Judges, JudgesIp, shown, LinkType, Ipv4, Ipv6, Direction, IpPacket, FrameFault, Cut}
 use Rattle.tftp_frames.specs.declared.link.Network.{Network}
-use Rattle.tftp_frames.specs.declared.link.Network.TheVariants.{Ipv4, Ipv6}
-use Rattle.tftp_frames.specs.declared.packet.Direction.{Direction}
-use Rattle.tftp_frames.specs.declared.packet.IpPacket.{IpPacket}
-use Rattle.tftp_frames.specs.declared.fault.FrameFault.{FrameFault}
-use Rattle.tftp_frames.specs.declared.fault.FrameFault.TheVariants.{Link, Frame, Network as NotIp, Header, Protocol, Length, Cut, Extension}
+use Rattle.tftp_frames.specs.declared.fault.FrameFault.TheVariants.{Link, Frame, Network as NotIp, Header, Protocol, Length, Extension}
 use Rattle.tftp_frames.proofs.Links.{linked_one}
 use Rattle.tftp_frames.proofs.Extensions.{reaches_one}
 

@@ -1,10 +1,7 @@
 -- A frame with a whole header of IP names two hosts.
-use Rattle.std.proofs.Common.{◌≡◌, ℕ, List, ◌∙◌, ap, sym, subst, Option, Some, None}
-use Rattle.std.specs.Prelude.{MatchOption}
+use Rattle.std.proofs.Common.{◌≡◌, ℕ, List, ◌∙◌, ap, sym, subst, Option, Some, None, MatchOption}
 use Rattle.std.specs.declared.net.ip_addr.IpAddr.{IpAddr}
-use Rattle.tftp_frames.specs.Link.{Linked}
-use Rattle.tftp_frames.specs.Ip.{HasHeader, source_of, target_of}
-use Rattle.tftp_frames.specs.Frame.{IsBetween, IsLinked}
+use Rattle.tftp_frames.specs.{Linked, HasHeader, source_of, target_of, IsBetween, IsLinked}
 use Rattle.tftp_frames.specs.declared.link.Network.{Network}
 use Rattle.tftp_frames.proofs.Links.{linked_one}
 

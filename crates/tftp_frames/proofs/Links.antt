@@ -1,14 +1,6 @@
 -- A frame of a link carries one thing.
-use Rattle.std.proofs.Common.{◌≡◌, ℕ, ◌≤◌, List, length, drop, sym, ap, subst, ◌∙◌}
-use Rattle.std.specs.Prelude.{Option, Some, None, MatchOption}
-use Rattle.tftp_frames.specs.Number.{pair}
-use Rattle.tftp_frames.specs.Link.{least, Linked, CarriesTyped, Carries, SpellsLink, direction_said, type_network}
-use Rattle.tftp_frames.specs.Parts.{linked}
-use Rattle.tftp_frames.specs.Frame.{IsLinked}
-use Rattle.tftp_frames.specs.declared.link.LinkType.{LinkType}
-use Rattle.tftp_frames.specs.declared.link.LinkType.TheVariants.{Null, Ethernet, Raw, Loop, Cooked, RawIpv4, RawIpv6, CookedTwo}
-use Rattle.tftp_frames.specs.declared.link.LinkContent.{LinkContent}
-use Rattle.tftp_frames.specs.declared.packet.Direction.{Direction}
+use Rattle.std.proofs.Common.{◌≡◌, ℕ, ◌≤◌, List, length, drop, sym, ap, subst, ◌∙◌, Option, Some, None, MatchOption}
+use Rattle.tftp_frames.specs.{pair, least, Linked, CarriesTyped, Carries, SpellsLink, direction_said, type_network, linked, IsLinked, LinkType, Null, Ethernet, Raw, Loop, Cooked, RawIpv4, RawIpv6, CookedTwo, LinkContent, Direction}
 use Rattle.tftp_frames.proofs.Tags.{leads_one}
 
 -- an answer of one function, made that of another

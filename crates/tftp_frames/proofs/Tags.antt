@@ -1,8 +1,7 @@
 -- Tags, one after another.
 use Rattle.std.proofs.Common.{◌≡◌, ◌↔◌, ℕ, zero, suc, ◌<◌, ◌≤◌, true, false, List, length, drop, refl, sym, subst, ◌∙◌, arith}
 use Rattle.std.proofs.lemmas.Bool.{false≢true}
-use Rattle.tftp_frames.specs.Number.{pair}
-use Rattle.tftp_frames.specs.Tag.{is_tag_type, LeadsOver, LeadsTo}
+use Rattle.tftp_frames.specs.{pair, is_tag_type, LeadsOver, LeadsTo}
 
 forth : (tags type : ℕ) (bytes : List ℕ) (last : ℕ) (content : List ℕ) → is_tag_type type ≡ true → LeadsOver tags type bytes last content → LeadsTo (pair bytes 2) (drop 4 bytes) last content
 forth zero type bytes last content tag s = absurd (false≢true (sym s.0 ∙ tag))

@@ -1,13 +1,7 @@
 -- What a packet carries.
-use Rattle.std.proofs.Common.{◌≡◌, ℕ, List, sym, subst}
-use Rattle.std.specs.Prelude.{Option, MatchOption}
-use Rattle.tftp_frames.specs.Number.{at}
-use Rattle.tftp_frames.specs.Extension.{Reached, ReachesOver}
-use Rattle.tftp_frames.specs.Ip.{Reaches, held_of}
-use Rattle.tftp_frames.specs.Parts.{reached}
-use Rattle.tftp_frames.specs.declared.extension.Upper.{Upper}
+use Rattle.std.proofs.Common.{◌≡◌, ℕ, List, sym, subst, Option, MatchOption}
+use Rattle.tftp_frames.specs.{at, Reached, ReachesOver, Reaches, held_of, reached, Upper, Ipv6}
 use Rattle.tftp_frames.specs.declared.link.Network.{Network}
-use Rattle.tftp_frames.specs.declared.link.Network.TheVariants.{Ipv6}
 
 -- over the extension headers of IPv6
 pub over_extensions : (network : Network) (bytes content : List ℕ) (r : Option Upper) → network ≡ Ipv6 → content ≡ held_of network bytes

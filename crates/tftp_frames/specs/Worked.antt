@@ -4,7 +4,7 @@ use Rattle.std.specs.Prelude.{ℕ, List, [], ◌∷◌, ◌++◌, take, drop, So
 use Rattle.std.specs.declared.net.ip_addr.IpAddr.{IpAddr}
 use Rattle.std.specs.declared.net.ip_addr.IpAddr.TheVariants.{V4, V6}
 use Rattle.tftp_frames.specs.Ip.{Packet}
-use Rattle.tftp_frames.specs.Udp.{Udp}
+use Rattle.tftp_frames.specs.UdpDatagrams.{Udp}
 use Rattle.tftp_frames.specs.declared.packet.Direction.{Direction}
 use Rattle.tftp_frames.specs.declared.packet.Direction.TheVariants.{Unknown}
 

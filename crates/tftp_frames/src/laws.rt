@@ -6,7 +6,7 @@ ghost use Rattle.std.specs.declared.net.ip_addr.IpAddr.TheVariants.{V4, V6};
 ghost use Rattle.tftp_frames.specs.Ip.{Packet, is_identified};
 ghost use Rattle.tftp_frames.specs.Frame.{SpellsFrame};
 ghost use Rattle.tftp_frames.specs.Faults.{Holds, FirstFault};
-ghost use Rattle.tftp_frames.specs.Udp.{Udp, SpellsUdp, HoldsUdp};
+ghost use Rattle.tftp_frames.specs.UdpDatagrams.{Udp, SpellsUdp, HoldsUdp};
 ghost use Rattle.tftp_frames.specs.Worked.{udp_bytes, ipv4_bytes, ipv4_with_options, ipv4_fragment, ipv6_with_extensions, ipv6_fragment, ipv6_fragment_of_icmp, two_tags, cooked_head, cooked_two_head, null_head, ipv4_packet, ipv4_part, ipv6_packet, ipv6_part, acknowledgement, host, host_of_ipv6};
 ghost use Rattle.tftp_frames.specs.declared.fault.FrameFault.{FrameFault};
 ghost use Rattle.tftp_frames.specs.declared.fault.UdpFault.{UdpFault};

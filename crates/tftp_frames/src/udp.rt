@@ -1,5 +1,5 @@
 ghost use Rattle.std.specs.Prelude.{◌≡◌, ◌↔◌, ◌≤◌, IfOk, IsOkAnd, ℕ, List, MatchOption, length};
-ghost use Rattle.tftp_frames.specs.Udp.{Udp, IsSound, SpellsUdp, HasUdp, HoldsUdp, JudgesUdp, datagram};
+ghost use Rattle.tftp_frames.specs.UdpDatagrams.{Udp, IsSound, SpellsUdp, HasUdp, HoldsUdp, JudgesUdp, datagram};
 ghost use Rattle.tftp_frames.specs.declared.fault.UdpFault.{UdpFault};
 
 use crate::extension::skip_extensions;

@@ -1,26 +1,16 @@
 -- What one more datagram does to what the judge keeps.
-use Rattle.std.proofs.Common.{◌≡◌, ◌⊎◌, ◌<◌, Bool, true, false, List, [], ◌∷◌, Option, Some, None, Ok, Err, inl, inr, refl, sym, subst, ap, ◌∙◌, arith}
-use Rattle.std.specs.Prelude.{◌&&◌, ◌==◌, ◌≢◌, Result, OnOk, if◌then◌else◌}
+use Rattle.std.proofs.Common.{◌≡◌, ◌⊎◌, ◌<◌, Bool, true, false, List, [], ◌∷◌, Option, Some, None, Ok, Err, inl, inr, refl, sym, subst, ap, ◌∙◌, arith, ◌&&◌, ◌==◌, ◌≢◌, Result, OnOk, if◌then◌else◌}
 use Rattle.std.proofs.lemmas.Bool.{false≢true}
-use Rattle.tftp_packet.specs.Message.{Message, RequestParts}
-use Rattle.tftp_packet.specs.Spelling.{Spells}
-use Rattle.tftp_packet.specs.declared.kinds.Dir.{Dir}
-use Rattle.tftp_ends.specs.CaptureText.{Datagram, Header}
-use Rattle.tftp_ends.specs.KnownIds.{KnownIds, StandsFor, HasNoRequest, IsNewStray, among_all, answer_of}
-use Rattle.tftp_ends.specs.Ports.{Route, asks, first_of, or_this, begins_request, is_from_client, port_of_server, route_of, is_of_transfer, transfer_of, SaysUnknownId, PortRule, PortBroken}
-use Rattle.tftp_ends.specs.declared.route.Route.{Route as MayPass}
+use Rattle.tftp_packet.specs.{Message, RequestParts, Spells}
+use Rattle.tftp_hosts.specs.{Dir, Datagram, Header}
+use Rattle.tftp_ends.specs.{KnownIds, StandsFor, HasNoRequest, IsNewStray, among_all, answer_of, Route as MayPass, PortFault}
+use Rattle.tftp_rules.specs.{Route, asks, first_of, or_this, begins_request, is_from_client, port_of_server, route_of, is_of_transfer, transfer_of, SaysUnknownId, PortRule, PortBroken}
 use Rattle.tftp_ends.specs.declared.route.Route.TheVariants as may
-use Rattle.tftp_ends.specs.declared.ports.PortFault.{PortFault}
 use Rattle.tftp_ends.proofs.KeptSteps.{passing_is}
-use Rattle.tftp_law.specs.OneEnded.{OneEnded, Passes}
-use Rattle.tftp_law.specs.Rules.{number_of, Broken, FirstAsked, FirstBroken}
-use Rattle.tftp_law.specs.declared.rule.Rule.{Rule}
-use Rattle.tftp_law.proofs.FirstRequests.{before_is, asks_is, first_stays}
-use Rattle.tftp_law.specs.MessageRules.{MessageBreaks}
-use Rattle.tftp_law.proofs.OneMessage.{first_by, lawful_by}
-use Rattle.tftp_judge.specs.Finds.{Finds, FindsOf, stop_by_port}
-use Rattle.tftp_judge.specs.declared.stop.Stop.{Stop}
-use Rattle.tftp_judge.specs.Kept.{Keeper, Transfer, HasKept, IsKept, IsTransferAfter}
+use Rattle.tftp_law.specs.{OneEnded, Passes, number_of, Broken, FirstAsked, FirstBroken, Rule, MessageBreaks}
+use Rattle.tftp_law.proofs.FirstBroken.FirstRequests.{before_is, asks_is, first_stays}
+use Rattle.tftp_law.proofs.FirstBroken.OneMessage.{first_by, lawful_by}
+use Rattle.tftp_judge.specs.{Finds, FindsOf, stop_by_port, Stop, Keeper, Transfer, HasKept, IsKept, IsTransferAfter}
 use Rattle.tftp_judge.proofs.PassFound.{off_passes, main_passes, first_lawful}
 
 -- ---- routes

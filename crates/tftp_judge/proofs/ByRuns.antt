@@ -1,14 +1,11 @@
 -- The verdict by the runs of two ends is the verdict by the rules at one.
-use Rattle.std.proofs.Common.{ℕ, List, Result, Ok, Err}
-use Rattle.std.specs.Prelude.{reverse, ◌↔◌}
-use Rattle.tftp_ends.specs.CaptureText.{Datagram, Header}
-use Rattle.tftp_ends.specs.Meaning.{Meaning}
-use Rattle.tftp_law.specs.Law.{IsLawful, ShowsBy}
-use Rattle.tftp_law.specs.OneEnded.{OneEnded, Meant}
-use Rattle.tftp_judge.specs.declared.refusal.Refusal.{Refusal}
-use Rattle.tftp_judge.specs.declared.refusal.Refusal.TheVariants.{Unlawful, Aborted, Incomplete, NormalTooLong, Memory}
-use Rattle.tftp_judge.specs.Verdict.{IsVerdictBy, IsVerdict, IsVerdictByRules}
-use Rattle.tftp_law.proofs.TwoEnds.{lawful, whole}
+use Rattle.std.proofs.Common.{ℕ, List, Result, Ok, Err, reverse, ◌↔◌}
+use Rattle.tftp_hosts.specs.{Datagram, Header}
+use Rattle.tftp_model.specs.{Meaning}
+use Rattle.tftp_law.specs.{IsLawful, ShowsBy, OneEnded, Meant}
+use Rattle.tftp_judge.specs.{Refusal, Unlawful, Aborted, Incomplete, NormalTooLong, IsVerdictBy, IsVerdict, IsVerdictByRules}
+use Rattle.tftp_judge.specs.declared.refusal.Refusal.TheVariants.{Memory}
+use Rattle.tftp_law.proofs.Whole.TwoEnds.{lawful, whole}
 
 -- by two laws that are the same, the verdicts are
 

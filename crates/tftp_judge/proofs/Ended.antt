@@ -1,19 +1,12 @@
 -- What is said of datagrams that break no rule and mean nothing.
-use Rattle.std.proofs.Common.{◌≡◌, ◌⊎◌, ℕ, List, length, Err, inl, inr, refl, ◌∙◌}
-use Rattle.std.specs.Prelude.{reverse}
-use Rattle.tftp_packet.specs.declared.kinds.Side.{Side}
-use Rattle.tftp_packet.specs.declared.kinds.Side.TheVariants.{Get, Put}
-use Rattle.tftp_packet.specs.declared.kinds.End.{End}
-use Rattle.tftp_packet.specs.declared.kinds.End.TheVariants.{Client, Server}
-use Rattle.tftp_ends.specs.CaptureText.{Datagram, Header}
-use Rattle.tftp_ends.specs.Meaning.{Meaning}
-use Rattle.tftp_ends.specs.Ports.{transfer_of}
-use Rattle.tftp_ends.specs.Roles.{sender_of, receiver_of}
-use Rattle.tftp_law.specs.OneEnded.{OneEnded, Meant}
-use Rattle.tftp_judge.specs.Ending.{IsUnfinished}
-use Rattle.tftp_judge.specs.Verdict.{IsVerdictByRules}
-use Rattle.tftp_judge.specs.declared.refusal.Refusal.{Refusal}
-use Rattle.tftp_judge.specs.declared.refusal.Refusal.TheVariants.{Aborted, Incomplete}
+use Rattle.std.proofs.Common.{◌≡◌, ◌⊎◌, ℕ, List, length, Err, inl, inr, refl, ◌∙◌, reverse}
+use Rattle.tftp_packet.specs.{Side, Get, Put, End, Client, Server}
+use Rattle.tftp_hosts.specs.{Datagram, Header}
+use Rattle.tftp_model.specs.{Meaning}
+use Rattle.tftp_rules.specs.{transfer_of}
+use Rattle.tftp_model.specs.Roles.{sender_of, receiver_of}
+use Rattle.tftp_law.specs.{OneEnded, Meant}
+use Rattle.tftp_judge.specs.{IsUnfinished, IsVerdictByRules, Refusal, Aborted, Incomplete}
 
 pub end_is : (named : End) (side : Side) → (named ≡ receiver_of side) ⊎ (named ≡ sender_of side)
 end_is Client Get = inl refl

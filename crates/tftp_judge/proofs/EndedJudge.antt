@@ -1,17 +1,11 @@
 -- What is said at the end of the datagrams that a judge has accepted.
-use Rattle.std.proofs.Common.{◌≡◌, ℕ, List, [], Some, None, Result, Err, refl, sym, subst, ◌∙◌}
-use Rattle.std.specs.Prelude.{reverse}
-use Rattle.tftp_packet.specs.Message.{RequestParts}
-use Rattle.tftp_ends.specs.CaptureText.{Datagram, Header}
-use Rattle.tftp_ends.specs.Meaning.{Meaning, request_of}
-use Rattle.tftp_ends.specs.Ports.{transfer_of}
-use Rattle.tftp_law.specs.Aborted.{NoErrorPassed}
-use Rattle.tftp_law.specs.OneEnded.{OneEnded}
-use Rattle.tftp_law.specs.Rules.{FirstAsked}
-use Rattle.tftp_judge.specs.Kept.{IsJudgeAfter, IsKept, IsTransferAfter, Judge, Transfer}
-use Rattle.tftp_judge.specs.Verdict.{IsVerdict, IsVerdictByRules}
-use Rattle.tftp_judge.specs.declared.refusal.Refusal.{Refusal}
-use Rattle.tftp_judge.specs.declared.refusal.Refusal.TheVariants.{Incomplete}
+use Rattle.std.proofs.Common.{◌≡◌, ℕ, List, [], Some, None, Result, Err, refl, sym, subst, ◌∙◌, reverse}
+use Rattle.tftp_packet.specs.{RequestParts}
+use Rattle.tftp_hosts.specs.{Datagram, Header}
+use Rattle.tftp_model.specs.{Meaning, request_of}
+use Rattle.tftp_rules.specs.{transfer_of}
+use Rattle.tftp_law.specs.{NoErrorPassed, OneEnded, FirstAsked}
+use Rattle.tftp_judge.specs.{IsJudgeAfter, IsKept, IsTransferAfter, Judge, Transfer, IsVerdict, IsVerdictByRules, Refusal, Incomplete}
 use Rattle.tftp_judge.proofs.ByRuns.{verdict}
 use Rattle.tftp_judge.proofs.EndedTransfer.{unfinished_verdict}
 

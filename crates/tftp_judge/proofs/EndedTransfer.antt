@@ -1,42 +1,27 @@
 -- When a transfer is whole by what the named end keeps.
-use Rattle.std.proofs.Common.{◌≡◌, ◌↔◌, ◌⊎◌, ℕ, ◌+◌, ◌/◌, ◌<◌, ◌≤◌, zero, suc, List, [], ◌∷◌, length, All, Option, Some, None, Ok, Err, codes, inl, inr, refl, sym, subst, ap, ◌∙◌, arith}
-use Rattle.std.specs.Prelude.{reverse}
+use Rattle.std.proofs.Common.{◌≡◌, ◌↔◌, ◌⊎◌, ℕ, ◌+◌, ◌/◌, ◌<◌, ◌≤◌, zero, suc, List, [], ◌∷◌, length, All, Option, Some, None, Ok, Err, codes, inl, inr, refl, sym, subst, ap, ◌∙◌, arith, reverse}
 use Rattle.std.specs.FinMap as map
 use Rattle.std.proofs.lemmas.List.{reverse-reverse, length-reverse}
 use Rattle.std.proofs.lemmas.List.Elements.{All-from_recursion, recursion_from_All}
-use Rattle.tftp_packet.specs.OptionMap.{OptionMap, no_options}
-use Rattle.tftp_packet.specs.declared.kinds.Mode.{Mode}
+use Rattle.tftp_packet.specs.{OptionMap, no_options, Mode, Message, RequestParts}
 use Rattle.std.proofs.lemmas.Bool.{cases_eq}
-use Rattle.tftp_packet.specs.Message.{Message, RequestParts}
-use Rattle.tftp_packet.specs.declared.kinds.Dir.{Dir}
-use Rattle.tftp_packet.specs.declared.kinds.Dir.TheVariants.{In, Out}
-use Rattle.tftp_ends.specs.CaptureText.{Datagram, Header}
-use Rattle.tftp_ends.specs.Meaning.{Meaning, option_or}
-use Rattle.tftp_ends.specs.NamedEnd.{NamedEnd, Sends, Receives, terms_of, held_of, IsEndAfter, IsEndDone, HoldsWire}
-use Rattle.tftp_ends.specs.Ports.{transfer_of}
-use Rattle.tftp_ends.specs.Roles.{sender_of, receiver_of}
-use Rattle.tftp_ends.specs.Rules.{Passed}
-use Rattle.tftp_ends.specs.States.{AreBlocks, IsHeld, IsBeforeBlocks}
-use Rattle.tftp_ends.specs.Store.{Held, IsHeldFront, IsJoin}
-use Rattle.tftp_ends.specs.declared.terms.Terms.{Terms}
-use Rattle.tftp_ends.specs.declared.terms.Reply.TheVariants.{NoReply}
-use Rattle.tftp_law.specs.CanBeWritten.{CanBeWritten}
-use Rattle.tftp_law.specs.Fits.{ReadsAs, written_wire, IsWritable}
-use Rattle.tftp_law.specs.OneEnded.{OneEnded, IsAgreed, IsEnded, IsWhole, Meant}
-use Rattle.tftp_law.specs.Owned.{meaning_from}
-use Rattle.tftp_law.specs.Rules.{Answer, AreTerms, FirstAnswer, FirstAsked, NotAnswered, plain_terms, terms_after}
-use Rattle.tftp_law.proofs.EachOf.{all_reverse}
-use Rattle.tftp_law.proofs.FirstAnswered.{known_by, terms_one}
-use Rattle.tftp_law.proofs.OneMeaning.{one_meaning}
-use Rattle.tftp_law.proofs.Settled.{settled, last_one}
-use Rattle.tftp_law.proofs.TwoEnds.{whole}
-use Rattle.tftp_law.proofs.WhoSends.{two_parts}
-use Rattle.tftp_law.proofs.Written.{shown_can_be_written}
-use Rattle.tftp_judge.specs.Ending.{IsUnfinished}
-use Rattle.tftp_judge.specs.Kept.{Course, HasBegun, IsCourse, Transfer, IsTransferAfter}
-use Rattle.tftp_judge.specs.Verdict.{IsVerdictByRules}
-use Rattle.tftp_judge.specs.declared.refusal.Refusal.{Refusal}
-use Rattle.tftp_judge.specs.declared.refusal.Refusal.TheVariants.{NormalTooLong, Memory}
+use Rattle.tftp_hosts.specs.{Dir, In, Out, Datagram, Header}
+use Rattle.tftp_model.specs.{Meaning, option_or}
+use Rattle.tftp_ends.specs.{NamedEnd, Sends, Receives, terms_of, held_of, IsEndAfter, IsEndDone, HoldsWire, AreBlocks, IsHeld, IsBeforeBlocks}
+use Rattle.tftp_rules.specs.{transfer_of, Passed, Terms, NoReply}
+use Rattle.tftp_model.specs.Roles.{sender_of, receiver_of}
+use Rattle.tftp_blocks.specs.{Held, IsHeldFront, IsJoin}
+use Rattle.tftp_law.specs.{CanBeWritten, ReadsAs, written_wire, IsWritable, OneEnded, IsAgreed, IsEnded, IsWhole, Meant, meaning_from, Answer, AreTerms, FirstAnswer, FirstAsked, NotAnswered, plain_terms, terms_after}
+use Rattle.tftp_law.proofs.Written.EachOf.{all_reverse}
+use Rattle.tftp_law.proofs.FirstBroken.FirstAnswered.{known_by, terms_one}
+use Rattle.tftp_law.proofs.Whole.OneMeaning.{one_meaning}
+use Rattle.tftp_law.proofs.Soundness.Settled.{settled, last_one}
+use Rattle.tftp_law.proofs.Whole.TwoEnds.{whole}
+use Rattle.tftp_law.proofs.Accord.WhoSends.{two_parts}
+use Rattle.tftp_law.proofs.Written.Written.{shown_can_be_written}
+use Rattle.tftp_judge.specs.{IsUnfinished, HasBegun, IsCourse, Transfer, IsTransferAfter, IsVerdictByRules, Refusal, NormalTooLong}
+use Rattle.tftp_judge.specs.Kept.{Course}
+use Rattle.tftp_judge.specs.declared.refusal.Refusal.TheVariants.{Memory}
 use Rattle.tftp_judge.proofs.Ended.{end_is, unfinished_by}
 use Rattle.tftp_judge.proofs.FirstAnswers.{first_once, terms_once}
 use Rattle.tftp_judge.proofs.WhoAcknowledges.{ack_in_to_sender, ack_out_of_receiver}

@@ -1,19 +1,13 @@
 -- A datagram that is no ERROR leaves what is kept of ERRORs as it is.
 use Rattle.std.proofs.Common.{◌≡◌, ◌==◌, ◌||◌, ℕ, List, ◌∷◌, Option, Some, None, inl, inr, refl, ◌∙◌}
-use Rattle.tftp_packet.specs.Message.{Message}
-use Rattle.tftp_packet.specs.Spelling.{Spells, side_opcode}
-use Rattle.tftp_packet.specs.declared.kinds.Side.{Side}
-use Rattle.tftp_packet.specs.declared.kinds.Side.TheVariants.{Get, Put}
-use Rattle.tftp_packet.specs.declared.kinds.Dir.{Dir}
-use Rattle.tftp_packet.specs.declared.kinds.Dir.TheVariants.{In, Out}
-use Rattle.tftp_ends.specs.CaptureText.{Datagram}
-use Rattle.tftp_ends.specs.Rules.{Passed}
-use Rattle.tftp_ends.specs.States.{has_stopped}
+use Rattle.tftp_packet.specs.{Message, Spells, side_opcode, Side, Get, Put}
+use Rattle.tftp_hosts.specs.{Dir, In, Out, Datagram}
+use Rattle.tftp_rules.specs.{Passed}
+use Rattle.tftp_ends.specs.{has_stopped}
 use Rattle.tftp_ends.proofs.Passing.{another, stopped_out, stopped_with}
-use Rattle.tftp_law.specs.Aborted.{IsErrorBy}
-use Rattle.tftp_law.specs.declared.by.By.{By}
+use Rattle.tftp_law.specs.{IsErrorBy, By}
 use Rattle.tftp_law.proofs.Spelled.{spelled_once}
-use Rattle.tftp_judge.specs.Kept.{ErrorText, Errors, IsErrorOf, IsFirstError, AreErrors}
+use Rattle.tftp_judge.specs.{ErrorText, Errors, IsErrorOf, IsFirstError, AreErrors}
 
 module _ (d : Datagram) (passed : List Datagram) (m : Message) (spells : Spells d.payload m) (other : (code : ℕ) (text : List ℕ) → m ≡ Message.Error code text → ⊥) where
   back : (dir : Dir) (code : ℕ) (text : List ℕ) → Passed dir (Message.Error code text) (d ∷ passed) → Passed dir (Message.Error code text) passed

@@ -1,21 +1,15 @@
 -- What is kept of ERRORs after one more.
-use Rattle.std.proofs.Common.{◌≡◌, ◌⊎◌, ℕ, true, List, ◌∷◌, Option, Some, None, inl, inr, refl, sym, subst, ap, ◌∙◌}
-use Rattle.std.specs.Prelude.{is_some}
+use Rattle.std.proofs.Common.{◌≡◌, ◌⊎◌, ℕ, true, List, ◌∷◌, Option, Some, None, inl, inr, refl, sym, subst, ap, ◌∙◌, is_some}
 use Rattle.std.proofs.lemmas.Bool.{cases_eq}
-use Rattle.tftp_packet.specs.Message.{Message}
-use Rattle.tftp_packet.specs.declared.kinds.Dir.{Dir}
-use Rattle.tftp_packet.specs.declared.kinds.Dir.TheVariants.{In, Out}
-use Rattle.tftp_ends.specs.CaptureText.{Datagram}
-use Rattle.tftp_ends.specs.Rules.{Passed}
-use Rattle.tftp_ends.specs.States.{Says}
+use Rattle.tftp_packet.specs.{Message}
+use Rattle.tftp_hosts.specs.{Dir, In, Out, Datagram}
+use Rattle.tftp_rules.specs.{Passed}
+use Rattle.tftp_ends.specs.{Says}
 use Rattle.tftp_ends.proofs.Passing.{another_way, in_not_out, out_not_in, stopped_out, stopped_with}
-use Rattle.tftp_law.specs.Aborted.{by_of}
-use Rattle.tftp_law.specs.Rules.{GoesOn}
-use Rattle.tftp_law.specs.declared.by.By.{By}
-use Rattle.tftp_law.specs.declared.by.By.TheVariants.{Local, Peer}
-use Rattle.tftp_law.proofs.SameOrNot.{same_text}
+use Rattle.tftp_law.specs.{by_of, GoesOn, By, Local, Peer}
+use Rattle.tftp_law.proofs.Soundness.SameOrNot.{same_text}
 use Rattle.tftp_law.proofs.Spelled.{spelled_once}
-use Rattle.tftp_judge.specs.Kept.{ErrorText, Errors, IsErrorOf, IsFirstError, AreErrors}
+use Rattle.tftp_judge.specs.{ErrorText, Errors, IsErrorOf, IsFirstError, AreErrors}
 
 -- where nothing is kept this is, and else what was kept
 abbrev pub KeepsFirst : {X : Type 0} → Option X → Option X → X → Type 0

@@ -1,11 +1,8 @@
 -- What was written of a text that is accepted.
 use Rattle.std.proofs.Common.{◌≡◌, ◌⊎◌, ℕ, List, Bool, Option, Result, Ok, Err, inl, inr, refl, sym, subst}
-use Rattle.tftp_ends.specs.Meaning.{Meaning}
-use Rattle.tftp_judge.specs.Extracted.{Extracts, WritesFile}
-use Rattle.tftp_judge.specs.TextVerdict.{WantsMemory}
-use Rattle.tftp_judge.specs.declared.extraction.OutFault.{OutFault}
+use Rattle.tftp_model.specs.{Meaning}
+use Rattle.tftp_judge.specs.{Extracts, WritesFile, WantsMemory, OutFault, Verdict}
 use Rattle.tftp_judge.specs.declared.extraction.OutFault.TheVariants as fault
-use Rattle.tftp_judge.specs.declared.verdict.Verdict.{Verdict}
 
 abbrev Exact : Result Meaning Verdict → Meaning → Type 0
 Exact said m = (said ≡ Ok m) ⊎ WantsMemory said

@@ -1,14 +1,9 @@
 -- The first answer to a request is one, and so is what is known of the transfer.
 use Rattle.std.proofs.Common.{◌≡◌, ℕ, List, [], ◌∷◌, inl, inr, refl, sym, subst, ap, ◌∙◌}
-use Rattle.tftp_packet.specs.Message.{Message, RequestParts}
-use Rattle.tftp_packet.specs.declared.kinds.Side.{Side}
-use Rattle.tftp_packet.specs.declared.kinds.Side.TheVariants.{Get, Put}
-use Rattle.tftp_packet.specs.declared.kinds.Dir.{Dir}
-use Rattle.tftp_ends.specs.CaptureText.{Datagram, Header}
-use Rattle.tftp_ends.specs.Rules.{Passed}
-use Rattle.tftp_ends.specs.declared.terms.Terms.{Terms}
-use Rattle.tftp_law.specs.Rules.{Answer, Agrees, Begins, IsAnswer, Answers, NotAnswered, FirstAnswer, terms_after}
-use Rattle.tftp_law.specs.MessageRules.{AreTermsAfter}
+use Rattle.tftp_packet.specs.{Message, RequestParts, Side, Get, Put}
+use Rattle.tftp_hosts.specs.{Dir, Datagram, Header}
+use Rattle.tftp_rules.specs.{Passed, Terms}
+use Rattle.tftp_law.specs.{Answer, Agrees, Begins, IsAnswer, Answers, NotAnswered, FirstAnswer, terms_after, AreTermsAfter}
 use Rattle.tftp_law.proofs.Spelled.{spelled_once}
 
 answer_once : (side : Side) (m : Message) (a b : Answer) → IsAnswer side m a → IsAnswer side m b → a ≡ b

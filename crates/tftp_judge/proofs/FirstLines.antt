@@ -4,9 +4,9 @@ use Rattle.std.specs.List.{AllZip, join_with_byte, slice_split}
 use Rattle.std.proofs.lemmas.List.Concat.{flat_map-append}
 use Rattle.std.proofs.lemmas.List.Elements.{All-cons, All-head, All-nil, All-tail}
 use Rattle.std.proofs.lemmas.List.Splits.{join_with_byte-slice_split}
-use Rattle.tftp_capture.specs.CaptureText.{Begins, BeginsWith, Header, IsCapture, Numbered, SaysDatagram, SaysDatagrams, end_line, head_line, longest_line, said, says_nothing, service_line, whole_lines}
+use Rattle.tftp_capture.specs.CaptureText.{Header}
+use Rattle.tftp_capture.specs.{Begins, BeginsWith, IsCapture, Numbered, SaysDatagram, SaysDatagrams, end_line, head_line, longest_line, said, says_nothing, service_line, whole_lines, Version}
 use Rattle.tftp_capture.specs.CaptureText.Due.{Body}
-use Rattle.tftp_capture.specs.declared.version.Version.{Version}
 use Rattle.tftp_capture.proofs.Beginnings.{capture_begins}
 use Rattle.tftp_capture.proofs.Canonical.{IsWholeLine, stands-whole_lines}
 use Rattle.tftp_capture.proofs.InTwo.{Lacks, parts_lack}

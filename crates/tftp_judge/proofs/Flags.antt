@@ -1,12 +1,11 @@
 -- Flags in words of 64 bits.
-use Rattle.std.proofs.Common.{◌≡◌, ◌||◌, ◌==◌, ◌/◌, ◌%◌, ◌+◌, ◌*◌, ◌^◌, ◌<◌, ℕ, zero, suc, Bool, true, false, List, length, w64, bit_or, inl, inr, refl, sym, subst, ap, ◌∙◌}
-use Rattle.std.specs.Prelude.{replicate, slice_index_or, slice_set}
+use Rattle.std.proofs.Common.{◌≡◌, ◌||◌, ◌==◌, ◌/◌, ◌%◌, ◌+◌, ◌*◌, ◌^◌, ◌<◌, ℕ, zero, suc, Bool, true, false, List, length, w64, bit_or, inl, inr, refl, sym, subst, ap, ◌∙◌, replicate, slice_index_or, slice_set}
 use Rattle.std.specs.Int.{bit_at}
 use Rattle.std.proofs.lemmas.Bool.{cases_eq, eq-eqb, ne_eqb}
 use Rattle.std.proofs.lemmas.List.{get_or-set_same, get_or-set_other}
 use Rattle.std.proofs.lemmas.Nat.{div-add-mod'}
 use Rattle.std.proofs.lemmas.Nat.Bits.{bit_at-zero, bit_at_set_same, bit_at_set_other}
-use Rattle.tftp_judge.specs.SentByKept.{flags_of}
+use Rattle.tftp_judge.specs.{flags_of}
 
 or_true : (a : Bool) → (a || true) ≡ true
 or_true true = refl

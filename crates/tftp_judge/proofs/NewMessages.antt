@@ -1,18 +1,13 @@
 -- For which messages memory is taken: those that are new after the ones that have passed.
 use Rattle.std.proofs.Common.{◌≡◌, inl, inr, ℕ, List, [], ◌∷◌, None, Some, sym, ◌∙◌}
-use Rattle.tftp_packet.specs.OptionMap.{OptionMap}
-use Rattle.tftp_packet.specs.Message.{Message, RequestParts}
-use Rattle.tftp_packet.specs.declared.kinds.Side.{Side}
-use Rattle.tftp_packet.specs.declared.kinds.Dir.{Dir}
-use Rattle.tftp_ends.specs.CaptureText.{Datagram, Header}
-use Rattle.tftp_ends.specs.NamedEnd.{NamedEnd, Sends, Receives, IsEndAfter, IsNewBlock, held_of}
-use Rattle.tftp_ends.specs.Rules.{HasPassed, Passed}
-use Rattle.tftp_ends.specs.States.{AreBlocks, IsBeforeBlocks}
-use Rattle.tftp_law.specs.Rules.{Agrees, NotAnswered}
+use Rattle.tftp_packet.specs.{OptionMap, Message, RequestParts, Side}
+use Rattle.tftp_hosts.specs.{Dir, Datagram, Header}
+use Rattle.tftp_ends.specs.{NamedEnd, Sends, Receives, IsEndAfter, IsNewBlock, held_of, AreBlocks, IsBeforeBlocks}
+use Rattle.tftp_rules.specs.{HasPassed, Passed}
+use Rattle.tftp_law.specs.{Agrees, NotAnswered}
 use Rattle.std.specs.Prelude.{refl}
-use Rattle.tftp_judge.specs.Courses.{IsNewBlockOn}
-use Rattle.tftp_judge.specs.Kept.{Course, Unanswered, Begun, Agreed, IsCourse}
-use Rattle.tftp_judge.specs.Memory.{IsNew}
+use Rattle.tftp_judge.specs.{IsNewBlockOn, Unanswered, Begun, Agreed, IsCourse, IsNew}
+use Rattle.tftp_judge.specs.Kept.{Course}
 
 -- ---- blocks
 

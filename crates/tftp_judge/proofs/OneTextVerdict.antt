@@ -1,23 +1,17 @@
 -- A text has one verdict.
 use Rattle.std.proofs.Common.{◌≡◌, ℕ, inl, inr, List, ◌∷◌, ◌++◌, Result, Ok, Err, sym, ap, ◌∙◌, subst, append_assoc}
 use Rattle.std.proofs.lemmas.List.{map-append}
-use Rattle.tftp_capture.specs.CaptureText.{BeginsWith, HasFault, IsCapture, Numbered}
+use Rattle.tftp_capture.specs.{BeginsWith, HasFault, IsCapture, Numbered, TextFault}
 use Rattle.tftp_capture.specs.CaptureText.Reading.{Capture, Fault}
 use Rattle.tftp_capture.specs.declared.fault.CaptureFault.TheVariants.{Text, Read, Memory}
-use Rattle.tftp_capture.specs.declared.fault.TextFault.{TextFault}
 use Rattle.tftp_capture.proofs.Beginnings.{agree, capture_has}
 use Rattle.tftp_capture.proofs.Readings.{reads_same}
-use Rattle.tftp_ends.specs.CaptureText.{Header}
-use Rattle.tftp_ends.specs.Meaning.{Meaning}
-use Rattle.tftp_law.specs.Law.{IsLawful}
-use Rattle.tftp_law.specs.declared.rule.Rule.{Rule}
-use Rattle.tftp_law.proofs.Beginnings.{beginning_is_lawful}
-use Rattle.tftp_judge.specs.TextVerdict.{AllLawful, BeginsBy, IsOfText, IsTextVerdict, unnumbered}
-use Rattle.tftp_judge.specs.Verdict.{IsSaid, IsVerdict}
-use Rattle.tftp_judge.specs.declared.refusal.Refusal.{Refusal}
+use Rattle.tftp_hosts.specs.{Header}
+use Rattle.tftp_model.specs.{Meaning}
+use Rattle.tftp_law.specs.{IsLawful, Rule}
+use Rattle.tftp_law.proofs.Whole.Beginnings.{beginning_is_lawful}
+use Rattle.tftp_judge.specs.{AllLawful, BeginsBy, IsOfText, IsTextVerdict, unnumbered, IsSaid, IsVerdict, Refusal, Unlawful, Verdict}
 use Rattle.tftp_judge.specs.declared.refusal.Refusal.TheVariants as refusal
-use Rattle.tftp_judge.specs.declared.refusal.Refusal.TheVariants.{Unlawful}
-use Rattle.tftp_judge.specs.declared.verdict.Verdict.{Verdict}
 use Rattle.tftp_judge.specs.declared.verdict.Verdict.TheVariants as verdict
 use Rattle.tftp_judge.proofs.OneVerdict.{not_lawful, one_verdict}
 

@@ -1,23 +1,17 @@
 -- A capture has one verdict, by the runs of two ends.
-use Rattle.std.proofs.Common.{◌≡◌, ◌⊎◌, ℕ, ◌+◌, ◌-◌, List, [], ◌∷◌, ◌++◌, length, get_or, Result, Ok, Err, inl, inr, refl, sym, subst, ap, ◌∙◌, append_assoc}
-use Rattle.std.specs.Prelude.{reverse}
-use Rattle.tftp_packet.specs.declared.fault.PacketFault.{PacketFault}
-use Rattle.tftp_packet.specs.declared.fault.PacketFault.TheVariants.{Short}
+use Rattle.std.proofs.Common.{◌≡◌, ◌⊎◌, ℕ, ◌+◌, ◌-◌, List, [], ◌∷◌, ◌++◌, length, get_or, Result, Ok, Err, inl, inr, refl, sym, subst, ap, ◌∙◌, append_assoc, reverse}
+use Rattle.tftp_packet.specs.{PacketFault, Short}
 use Rattle.tftp_packet.proofs.FaultOrder.{first_fault_unique}
-use Rattle.tftp_ends.specs.CaptureText.{Datagram, Header}
-use Rattle.tftp_law.specs.Rules.{number_of, Broken, FirstBroken}
-use Rattle.tftp_law.specs.declared.by.By.{By}
-use Rattle.tftp_law.specs.declared.rule.Rule.{Rule}
-use Rattle.tftp_law.specs.Law.{IsLawful}
-use Rattle.tftp_ends.specs.Meaning.{Meaning}
-use Rattle.tftp_judge.specs.Verdict.{IsSaid, IsUnlawfulAt, IsVerdict}
-use Rattle.tftp_judge.specs.declared.refusal.Refusal.{Refusal}
-use Rattle.tftp_judge.specs.declared.refusal.Refusal.TheVariants.{Unlawful, Aborted, Incomplete, NormalTooLong, Memory}
-use Rattle.tftp_ends.specs.Ports.{transfer_of}
-use Rattle.tftp_law.proofs.FirstError.{one_first, none_first}
-use Rattle.tftp_law.proofs.Beginnings.{beginning_is_lawful}
-use Rattle.tftp_law.proofs.TwoEnds.{one_shown}
-use Rattle.tftp_law.proofs.FirstBroken.{one_first_broken}
+use Rattle.tftp_hosts.specs.{Datagram, Header}
+use Rattle.tftp_law.specs.{number_of, Broken, FirstBroken, By, Rule, IsLawful}
+use Rattle.tftp_model.specs.{Meaning}
+use Rattle.tftp_judge.specs.{IsSaid, IsUnlawfulAt, IsVerdict, Refusal, Unlawful, Aborted, Incomplete, NormalTooLong}
+use Rattle.tftp_judge.specs.declared.refusal.Refusal.TheVariants.{Memory}
+use Rattle.tftp_rules.specs.{transfer_of}
+use Rattle.tftp_law.proofs.FirstBroken.FirstError.{one_first, none_first}
+use Rattle.tftp_law.proofs.Whole.Beginnings.{beginning_is_lawful}
+use Rattle.tftp_law.proofs.Whole.TwoEnds.{one_shown}
+use Rattle.tftp_law.proofs.FirstBroken.FirstBroken.{one_first_broken}
 
 -- ---- the rule
 

@@ -4,18 +4,13 @@ use Rattle.std.specs.List.{AllByRecursion}
 use Rattle.std.specs.Str.{bytes_eq}
 use Rattle.std.proofs.lemmas.Bool.{cases_lt, false≢true}
 use Rattle.std.proofs.lemmas.Slice.Eq.{bytes_eq-Decides}
-use Rattle.tftp_packet.specs.Message.{Message, RequestParts}
-use Rattle.tftp_packet.specs.Written.{IsString, terminated}
-use Rattle.tftp_packet.specs.Spelling.{Spells, IsPair}
+use Rattle.tftp_packet.specs.{Message, RequestParts, IsString, terminated, Spells, IsPair}
 use Rattle.tftp_packet.proofs.NoFault.{no_fault}
-use Rattle.tftp_ends.specs.CaptureText.{Datagram, Header}
-use Rattle.tftp_ends.specs.Ports.{Route, asks, first_of, route_of, is_of_transfer, transfer_of, SaysUnknownId, PortRule, PortBroken}
-use Rattle.tftp_ends.specs.declared.rule.EndRule.{EndRule}
-use Rattle.tftp_nego.specs.declared.fault.NegoFault.{NegoFault}
-use Rattle.tftp_law.specs.Rules.{FirstAsked, Says, GoesOn, ClientWentOn, FirstOack, EndBreaks, Broken}
-use Rattle.tftp_law.specs.declared.rule.Rule.{Rule}
-use Rattle.tftp_law.specs.OneEnded.{IsRead, Passes, OneEnded}
-use Rattle.tftp_law.proofs.FirstRequests.{none_before, none_asked}
+use Rattle.tftp_hosts.specs.{Datagram, Header}
+use Rattle.tftp_rules.specs.{Route, asks, first_of, route_of, is_of_transfer, transfer_of, SaysUnknownId, PortRule, PortBroken, EndRule}
+use Rattle.tftp_nego.specs.{NegoFault}
+use Rattle.tftp_law.specs.{FirstAsked, Says, GoesOn, ClientWentOn, FirstOack, EndBreaks, Broken, Rule, IsRead, Passes, OneEnded}
+use Rattle.tftp_law.proofs.FirstBroken.FirstRequests.{none_before, none_asked}
 
 -- ---- a datagram is ERROR 5, or it is not
 

@@ -1,11 +1,9 @@
 -- What is said of what was read is said of it as a text.
 use Rattle.std.proofs.Common.{ℕ, List, [], Result, Ok, Err, sym, subst, append-nil}
 use Rattle.tftp_capture.specs.declared.fault.CaptureFault.TheVariants.{Text, Read, Memory}
-use Rattle.tftp_ends.specs.Meaning.{Meaning}
-use Rattle.tftp_judge.specs.TextVerdict.{IsLineOf, IsReadVerdict, IsTextVerdict, NoFaultBefore, WantsToRead}
+use Rattle.tftp_model.specs.{Meaning}
+use Rattle.tftp_judge.specs.{IsLineOf, IsReadVerdict, IsTextVerdict, NoFaultBefore, WantsToRead, Verdict, Capture, Refused}
 use Rattle.tftp_judge.specs.declared.refusal.Refusal.TheVariants as refusal
-use Rattle.tftp_judge.specs.declared.verdict.Verdict.{Verdict}
-use Rattle.tftp_judge.specs.declared.verdict.Verdict.TheVariants.{Capture, Refused}
 use Rattle.tftp_judge.proofs.WantOfMemory.{line_of, no_fault_before}
 
 line_read : (read : List ℕ) (line : ℕ) → WantsToRead read line → IsLineOf read line

@@ -1,29 +1,15 @@
 -- The block or the ACK that answers a request without an OACK, and what comes once a request is answered.
 use Rattle.std.proofs.Common.{◌≡◌, ◌↔◌, ℕ, ◌≤◌, List, ◌∷◌, inl, inr, refl, sym, subst, ap, ◌∙◌, arith}
 use Rattle.std.proofs.lemmas.Bool.{cases_lt}
-use Rattle.tftp_packet.specs.Message.{Message, RequestParts}
-use Rattle.tftp_packet.specs.declared.kinds.Side.{Side}
-use Rattle.tftp_packet.specs.declared.kinds.Side.TheVariants.{Get, Put}
-use Rattle.tftp_packet.specs.declared.kinds.End.{End}
-use Rattle.tftp_packet.specs.declared.kinds.End.TheVariants.{Client, Server}
-use Rattle.tftp_packet.specs.declared.kinds.Dir.{Dir}
-use Rattle.tftp_packet.specs.declared.kinds.Dir.TheVariants.{In, Out}
-use Rattle.tftp_ends.specs.CaptureText.{Datagram, Header}
-use Rattle.tftp_ends.specs.NamedEnd.{NamedEnd, terms_of, IsEndAfter, IsOfItsAuthor}
-use Rattle.tftp_ends.specs.Roles.{author_of, sender_of, receiver_of}
-use Rattle.tftp_ends.specs.Rules.{BlocksWait, AckZeroWaits, AckBreaks, BlockPassed, EndBroken, FirstEndBroken, IsFront, IsReachedAt, IsTop, end_number, usable}
-use Rattle.tftp_ends.specs.States.{IsBeforeBlocks, Says}
-use Rattle.tftp_ends.specs.declared.rule.EndRule.{EndRule}
-use Rattle.tftp_ends.specs.declared.terms.Reply.TheVariants.{NoReply, Plain}
-use Rattle.tftp_ends.specs.declared.terms.Terms.{Terms}
+use Rattle.tftp_packet.specs.{Message, RequestParts, Side, Get, Put, End, Client, Server}
+use Rattle.tftp_hosts.specs.{Dir, In, Out, Datagram, Header}
+use Rattle.tftp_ends.specs.{NamedEnd, terms_of, IsEndAfter, IsOfItsAuthor, IsBeforeBlocks, Says}
+use Rattle.tftp_model.specs.Roles.{sender_of, receiver_of}
+use Rattle.tftp_rules.specs.{author_of, BlocksWait, AckZeroWaits, AckBreaks, BlockPassed, EndBroken, FirstEndBroken, IsFront, IsReachedAt, IsTop, end_number, usable, EndRule, NoReply, Plain, Terms}
 use Rattle.tftp_ends.proofs.BeforeReply.{read_alike, ack_put_alike}
 use Rattle.tftp_ends.proofs.Passing.{none_greatest, usable_passed}
-use Rattle.tftp_law.specs.MessageRules.{AreTermsAfter, TermsBreak, rule_of_end}
-use Rattle.tftp_law.specs.Rules.{Answer, Agrees, Begins, IsAnswer, IsWrongKind, NotAnswered, plain_terms, terms_after}
-use Rattle.tftp_law.specs.declared.rule.Rule.{Rule}
-use Rattle.tftp_judge.specs.Courses.{WaitsForReply}
-use Rattle.tftp_judge.specs.Finds.{NoneBreaks, IsFirstOf, IsBlockOrAck}
-use Rattle.tftp_judge.specs.Kept.{HasBegun}
+use Rattle.tftp_law.specs.{AreTermsAfter, TermsBreak, rule_of_end, Answer, Agrees, Begins, IsAnswer, IsWrongKind, NotAnswered, plain_terms, terms_after, Rule}
+use Rattle.tftp_judge.specs.{WaitsForReply, NoneBreaks, IsFirstOf, IsBlockOrAck, HasBegun}
 use Rattle.tftp_judge.proofs.MessageFound.{no_end, first_end}
 
 -- ---- before blocks

@@ -3,27 +3,21 @@ use Rattle.std.proofs.Common.{◌≡◌, ℕ, ◌+◌, ◌^◌, ◌≤◌, ◌==
 use Rattle.std.specs.List.{join_with_byte, slice_split}
 use Rattle.std.proofs.lemmas.List.{length-map}
 use Rattle.std.proofs.lemmas.List.Elements.{All-cons, All-tail}
-use Rattle.tftp_capture.specs.declared.version.Version.TheVariants.{Two}
-use Rattle.tftp_capture.specs.CaptureText.{Begins, IsCapture, Numbered, head_line}
+use Rattle.tftp_capture.specs.{Two, Begins, IsCapture, Numbered, head_line, in_version_two, line_in_two, lines_in_two}
 use Rattle.tftp_capture.specs.CaptureText.Due.{Nothing}
 use Rattle.tftp_capture.specs.CaptureText.Reading.{Capture}
 use Rattle.tftp_capture.specs.declared.fault.CaptureFault.TheVariants.{Text, Read, Memory}
-use Rattle.tftp_capture.specs.InTwo.{in_version_two, line_in_two, lines_in_two}
 use Rattle.tftp_capture.proofs.Beginnings.{capture_begins, capture_has}
 use Rattle.tftp_capture.proofs.Canonical.{no_lf_text}
 use Rattle.tftp_capture.proofs.InTwo.{Lacks, cut_again, parts_lack}
 use Rattle.tftp_capture.proofs.TwoTexts.{map_whole, says_the_same}
 use Rattle.tftp_capture.proofs.Readings.{reads_same}
-use Rattle.tftp_ends.specs.CaptureText.{Header}
-use Rattle.tftp_ends.specs.Meaning.{Meaning}
-use Rattle.tftp_law.specs.Law.{IsLawful}
-use Rattle.tftp_judge.specs.TextVerdict.{AllLawful, IsCaptureBy, IsTextVerdict, LawfulBefore, WantsToJudge, unnumbered}
-use Rattle.tftp_judge.specs.Memory.{TakesMemory}
-use Rattle.tftp_judge.specs.Verdict.{IsVerdict}
-use Rattle.tftp_judge.specs.declared.verdict.Verdict.{Verdict}
+use Rattle.tftp_hosts.specs.{Header}
+use Rattle.tftp_model.specs.{Meaning}
+use Rattle.tftp_law.specs.{IsLawful}
+use Rattle.tftp_judge.specs.{AllLawful, IsCaptureBy, IsTextVerdict, LawfulBefore, WantsToJudge, unnumbered, TakesMemory, IsVerdict, Verdict, Refusal, Unlawful, Aborted, Incomplete, NormalTooLong}
 use Rattle.tftp_judge.specs.declared.verdict.Verdict.TheVariants as verdict
-use Rattle.tftp_judge.specs.declared.refusal.Refusal.{Refusal}
-use Rattle.tftp_judge.specs.declared.refusal.Refusal.TheVariants.{Unlawful, Aborted, Incomplete, NormalTooLong, Memory as NoMemory}
+use Rattle.tftp_judge.specs.declared.refusal.Refusal.TheVariants.{Memory as NoMemory}
 use Rattle.tftp_judge.proofs.FirstLines.{capture_begins_front}
 use Rattle.tftp_judge.proofs.OneTextVerdict.{captured_or_faulty, front_lawful, longer_unlawful}
 

@@ -1,28 +1,16 @@
 -- What stays as it was when a datagram is added, by what it says.
 use Rattle.std.proofs.Common.{◌≡◌, ◌↔◌, ℕ, Bool, true, List, ◌∷◌, inl, inr, refl, sym, subst, ◌∙◌}
-use Rattle.tftp_packet.specs.OptionMap.{OptionMap}
-use Rattle.tftp_packet.specs.Message.{Message, RequestParts}
-use Rattle.tftp_packet.specs.Spelling.{Spells}
-use Rattle.tftp_packet.specs.declared.kinds.Side.{Side}
-use Rattle.tftp_packet.specs.declared.kinds.Side.TheVariants.{Get, Put}
-use Rattle.tftp_packet.specs.declared.kinds.End.{End}
-use Rattle.tftp_packet.specs.declared.kinds.End.TheVariants.{Client, Server}
-use Rattle.tftp_packet.specs.declared.kinds.Dir.{Dir}
-use Rattle.tftp_packet.specs.declared.kinds.Dir.TheVariants.{In, Out}
-use Rattle.tftp_ends.specs.CaptureText.{Datagram, Header}
-use Rattle.tftp_ends.specs.NamedEnd.{NamedEnd, Sends, Receives, terms_of, IsEndAfter}
-use Rattle.tftp_ends.specs.States.{IsBeforeBlocks, IsAside, Says}
+use Rattle.tftp_packet.specs.{OptionMap, Message, RequestParts, Spells, Side, Get, Put, End, Client, Server}
+use Rattle.tftp_hosts.specs.{Dir, In, Out, Datagram, Header}
+use Rattle.tftp_ends.specs.{NamedEnd, Sends, Receives, terms_of, IsEndAfter, IsBeforeBlocks, IsAside, Says}
 use Rattle.tftp_ends.proofs.AfterReceiver.{receiver_aside}
 use Rattle.tftp_ends.proofs.AfterSender.{sender_aside}
 use Rattle.tftp_ends.proofs.Passing.{another, aside_no_block, aside_no_ack}
-use Rattle.tftp_law.specs.MessageRules.{AckSent, BlockSent}
-use Rattle.tftp_law.specs.Rules.{Answer, Agrees, Begins, FirstAnswer, IsAnswer, IsWrongKind, NotAnswered, terms_after}
+use Rattle.tftp_law.specs.{AckSent, BlockSent, Answer, Agrees, Begins, FirstAnswer, IsAnswer, IsWrongKind, NotAnswered, terms_after}
 use Rattle.tftp_law.proofs.Spelled.{spelled_once}
 use Rattle.tftp_judge.proofs.ErrorsAside.{errors_aside}
-use Rattle.tftp_judge.specs.Courses.{DiffersByCourse, DiffersBySent}
-use Rattle.tftp_judge.specs.Finds.{IsBlockOrAck}
-use Rattle.tftp_judge.specs.SentByKept.{HasAgreed}
-use Rattle.tftp_judge.specs.Kept.{Course, Unanswered, Begun, Agreed, HasBegun, IsCourse, Transfer, IsTransferAfter, Errors, AreErrors}
+use Rattle.tftp_judge.specs.{DiffersByCourse, DiffersBySent, IsBlockOrAck, HasAgreed, Unanswered, Begun, Agreed, HasBegun, IsCourse, Transfer, IsTransferAfter, Errors, AreErrors}
+use Rattle.tftp_judge.specs.Kept.{Course}
 
 -- a message of no such kind
 abbrev pub IsNoBlock : Message → Type 0

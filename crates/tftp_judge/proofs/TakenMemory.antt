@@ -1,14 +1,12 @@
 -- For which datagrams of the transfer no memory is taken.
 use Rattle.std.proofs.Common.{◌≡◌, ℕ, inl, inr, List, true, sym, subst, ap, ◌∙◌}
 use Rattle.std.proofs.lemmas.Bool.{false≢true}
-use Rattle.tftp_packet.specs.Message.{Message}
-use Rattle.tftp_packet.specs.Spelling.{Spells}
-use Rattle.tftp_ends.specs.CaptureText.{Datagram, Header}
-use Rattle.tftp_ends.specs.KnownIds.{IsNewStray}
-use Rattle.tftp_ends.specs.Ports.{is_of_transfer, route_of, transfer_of}
-use Rattle.tftp_ends.specs.Rules.{HasPassed, Passed}
+use Rattle.tftp_packet.specs.{Message, Spells}
+use Rattle.tftp_hosts.specs.{Datagram, Header}
+use Rattle.tftp_ends.specs.{IsNewStray}
+use Rattle.tftp_rules.specs.{is_of_transfer, route_of, transfer_of, HasPassed, Passed}
 use Rattle.tftp_law.proofs.Spelled.{spelled_once}
-use Rattle.tftp_judge.specs.Memory.{IsNew, TakesMemory}
+use Rattle.tftp_judge.specs.{IsNew, TakesMemory}
 
 module _ (h : Header) (earlier : List Datagram) (d : Datagram) (on : is_of_transfer (route_of h earlier d) ≡ true) where
   no_stray : IsNewStray h earlier d → ⊥

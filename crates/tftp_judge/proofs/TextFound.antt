@@ -1,15 +1,11 @@
 -- What was found in the bytes of a reader.
 use Rattle.std.proofs.Common.{◌≡◌, ◌≤◌, ◌⊎◌, ℕ, inl, inr, Bool, true, false, true≢false, List, [], ◌∷◌, ◌++◌, length, Option, Some, None, Result, Ok, Err, refl, sym, ap, ◌∙◌, subst, arith, append_assoc, append-nil}
 use Rattle.std.specs.Io.KnownBytes.{Consumes, IsAtEnd, prepend_known}
-use Rattle.tftp_capture.specs.CaptureText.{Numbered}
-use Rattle.tftp_capture.specs.History.{FailsToBegin, FaultTells, IsAtTextEnd, IsReadFault, MemoryTells}
-use Rattle.tftp_capture.specs.declared.fault.CaptureFault.{CaptureFault}
+use Rattle.tftp_capture.specs.{Numbered, FailsToBegin, FaultTells, IsAtTextEnd, IsReadFault, MemoryTells, CaptureFault}
 use Rattle.tftp_capture.specs.declared.fault.CaptureFault.TheVariants.{Text, Read, Memory}
-use Rattle.tftp_ends.specs.Meaning.{Meaning}
-use Rattle.tftp_judge.specs.TextVerdict.{EndsText, IsOfText, IsReadVerdict, IsTextVerdict, SaysReadFailed, WantsMemory}
+use Rattle.tftp_model.specs.{Meaning}
+use Rattle.tftp_judge.specs.{EndsText, IsOfText, IsReadVerdict, IsTextVerdict, SaysReadFailed, WantsMemory, Verdict, Capture, Refused}
 use Rattle.tftp_judge.specs.declared.refusal.Refusal.TheVariants as refusal
-use Rattle.tftp_judge.specs.declared.verdict.Verdict.{Verdict}
-use Rattle.tftp_judge.specs.declared.verdict.Verdict.TheVariants.{Capture, Refused}
 use Rattle.tftp_judge.proofs.FirstFaults.{LawfulIn, fault_alone, fault_here, fault_kinds, fault_longer, fault_read, none_in}
 use Rattle.tftp_judge.proofs.OneTextVerdict.{one_text_verdict}
 

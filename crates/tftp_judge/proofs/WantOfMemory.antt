@@ -1,14 +1,13 @@
 -- Which datagrams stand on the lines before the one for which memory was wanting: those that were given.
 use Rattle.std.proofs.Common.{◌≡◌, ℕ, ◌+◌, ◌<◌, ◌≤◌, ◌⊎◌, inl, inr, List, [], ◌∷◌, ◌++◌, ◌==◌, length, length-append, All, refl, sym, ap, ◌∙◌, subst, arith, append_assoc, append-nil}
 use Rattle.std.proofs.lemmas.List.Elements.{All-cons, All-head, All-nil, All-tail, All-weaker}
-use Rattle.tftp_capture.specs.CaptureText.{Begins, BeginsWith, Datagram, Due, Header, Numbered, Says, Stands, Unfinished}
+use Rattle.tftp_capture.specs.CaptureText.{Datagram, Header}
+use Rattle.tftp_capture.specs.{Begins, BeginsWith, Due, Numbered, Says, Stands, Unfinished, MemoryTells, SaysOneMore, TextFault}
 use Rattle.tftp_capture.specs.CaptureText.Due.{Head, EndLine, ServiceLine, Body, Nothing}
-use Rattle.tftp_capture.specs.History.{MemoryTells, SaysOneMore}
 use Rattle.tftp_capture.specs.declared.fault.CaptureFault.TheVariants.{Memory}
 use Rattle.std.specs.List.{slice_split}
-use Rattle.tftp_law.proofs.Beginnings.{empty_is_lawful}
-use Rattle.tftp_judge.specs.TextVerdict.{IsLineOf, LawfulBefore, NoFaultBefore}
-use Rattle.tftp_capture.specs.declared.fault.TextFault.{TextFault}
+use Rattle.tftp_law.proofs.Whole.Beginnings.{empty_is_lawful}
+use Rattle.tftp_judge.specs.{IsLineOf, LawfulBefore, NoFaultBefore}
 use Rattle.tftp_capture.proofs.Readings.{FaultIs, fault_is}
 use Rattle.tftp_capture.proofs.Readings.FaultIs.{cut, wrong}
 use Rattle.tftp_capture.proofs.Beginnings.{agree, before_or_past, begins_more, stands_more}

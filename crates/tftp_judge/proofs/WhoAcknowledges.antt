@@ -1,20 +1,14 @@
 -- Of lawful datagrams an ACK comes from the receiver.
 use Rattle.std.proofs.Common.{◌≡◌, ℕ, Bool, true, false, List, [], ◌∷◌, Option, Some, None, inl, inr, refl, sym, subst, ap, ◌∙◌}
-use Rattle.tftp_packet.specs.Message.{Message, RequestParts}
-use Rattle.tftp_packet.specs.Spelling.{Spells}
-use Rattle.tftp_packet.specs.declared.kinds.Dir.{Dir}
-use Rattle.tftp_packet.specs.declared.kinds.Dir.TheVariants.{In, Out}
-use Rattle.tftp_ends.specs.CaptureText.{Datagram, Header}
-use Rattle.tftp_ends.specs.Ports.{or_this, first_of, asks, route_of, is_of_transfer, transfer_of}
-use Rattle.tftp_ends.specs.Roles.{author_of, sender_of, receiver_of}
-use Rattle.tftp_ends.specs.Rules.{Passed}
-use Rattle.tftp_law.specs.OneEnded.{Passes, OneEnded}
-use Rattle.tftp_law.specs.Rules.{FirstAsked, IsWrongKind}
-use Rattle.tftp_law.specs.declared.rule.Rule.{Rule}
-use Rattle.tftp_law.proofs.FirstAnswered.{or_new, main_none, main_some}
-use Rattle.tftp_law.proofs.FirstRequests.{some_same, first_stays, none_before}
+use Rattle.tftp_packet.specs.{Message, RequestParts, Spells}
+use Rattle.tftp_hosts.specs.{Dir, In, Out, Datagram, Header}
+use Rattle.tftp_rules.specs.{or_this, first_of, asks, route_of, is_of_transfer, transfer_of, author_of, Passed}
+use Rattle.tftp_model.specs.Roles.{sender_of, receiver_of}
+use Rattle.tftp_law.specs.{Passes, OneEnded, FirstAsked, IsWrongKind, Rule}
+use Rattle.tftp_law.proofs.FirstBroken.FirstAnswered.{or_new, main_none, main_some}
+use Rattle.tftp_law.proofs.FirstBroken.FirstRequests.{some_same, first_stays, none_before}
 use Rattle.tftp_law.proofs.Spelled.{spelled_once}
-use Rattle.tftp_law.proofs.WhoSends.{ack_in_who, ack_out_who}
+use Rattle.tftp_law.proofs.Accord.WhoSends.{ack_in_who, ack_out_who}
 
 module _ (h : Header) (asked : RequestParts) (dir : Dir) (j : ℕ) where
   abbrev IsRightKind : List Datagram → Type 0

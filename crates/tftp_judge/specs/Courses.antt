@@ -1,9 +1,7 @@
 -- What may come by how the request was answered.
 use Rattle.std.specs.Prelude.{◌≡◌}
-use Rattle.tftp_packet.specs.Message.{Message, Data}
-use Rattle.tftp_packet.specs.declared.kinds.Side.{Side}
-use Rattle.tftp_packet.specs.declared.kinds.Side.TheVariants.{Put}
-use Rattle.tftp_ends.specs.NamedEnd.{IsNewBlock, MayKeep}
+use Rattle.tftp_packet.specs.{Message, Data, Side, Put}
+use Rattle.tftp_ends.specs.{IsNewBlock, MayKeep}
 use Rattle.tftp_judge.specs.Kept.{Course, Unanswered, Begun, Agreed, Transfer}
 
 -- the request is answered

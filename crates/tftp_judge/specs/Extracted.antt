@@ -1,8 +1,8 @@
 -- What is written of a capture text: the file of what it means, and nothing of any other.
 use Rattle.std.specs.Prelude.{◌≡◌, ◌⊎◌, ℕ, Bool, true, false, List, Option, Result, Ok, Err}
 use Rattle.std.specs.Io.KnownBytes.{Appends}
-use Rattle.tftp_capture.specs.Tally.{AppendsPrefix}
-use Rattle.tftp_ends.specs.Meaning.{Meaning}
+use Rattle.tftp_capture.specs.{AppendsPrefix}
+use Rattle.tftp_model.specs.{Meaning}
 use Rattle.tftp_judge.specs.TextVerdict.{WantsMemory}
 use Rattle.tftp_judge.specs.declared.extraction.OutFault.{OutFault}
 use Rattle.tftp_judge.specs.declared.extraction.OutFault.TheVariants as fault

@@ -1,23 +1,11 @@
 -- What the judge keeps of the datagrams that it has accepted, and for which datagrams that stands. The lists `earlier` and
 -- `passed` have the datagrams of the capture and those of the transfer, the newest first.
 use Rattle.std.specs.Prelude.{◌≡◌, ◌⊎◌, ◌↔◌, ◌≤◌, ℕ, Bool, true, List, [], All, length, Option, Some, None, is_some, ⊤}
-use Rattle.tftp_packet.specs.OptionMap.{OptionMap}
-use Rattle.tftp_packet.specs.Message.{Message, RequestParts}
-use Rattle.tftp_packet.specs.Spelling.{Spells}
-use Rattle.tftp_packet.specs.declared.kinds.Dir.{Dir}
-use Rattle.tftp_packet.specs.declared.kinds.Dir.TheVariants.{In, Out}
-use Rattle.tftp_packet.specs.declared.kinds.End.{End}
-use Rattle.tftp_ends.specs.CaptureText.{Datagram, Header}
-use Rattle.tftp_ends.specs.KnownIds.{KnownIds, StandsFor}
-use Rattle.tftp_ends.specs.NamedEnd.{NamedEnd, terms_of, IsEndAfter}
-use Rattle.tftp_ends.specs.Ports.{transfer_of}
-use Rattle.tftp_ends.specs.Rules.{Passed}
-use Rattle.tftp_ends.specs.States.{has_stopped, IsBeforeBlocks}
-use Rattle.tftp_law.specs.Aborted.{FirstError, NoErrorPassed}
-use Rattle.tftp_law.specs.MessageRules.{AckSent, BlockSent}
-use Rattle.tftp_law.specs.OneEnded.{OneEnded}
-use Rattle.tftp_law.specs.Rules.{Answer, Agrees, Begins, FirstAnswer, FirstAsked, NotAnswered, terms_after}
-use Rattle.tftp_law.specs.declared.by.By.{By}
+use Rattle.tftp_packet.specs.{OptionMap, Message, RequestParts, Spells, End}
+use Rattle.tftp_hosts.specs.{Dir, In, Out, Datagram, Header}
+use Rattle.tftp_ends.specs.{KnownIds, StandsFor, NamedEnd, terms_of, IsEndAfter, has_stopped, IsBeforeBlocks}
+use Rattle.tftp_rules.specs.{transfer_of, Passed}
+use Rattle.tftp_law.specs.{FirstError, NoErrorPassed, AckSent, BlockSent, OneEnded, Answer, Agrees, Begins, FirstAnswer, FirstAsked, NotAnswered, terms_after, By}
 use Rattle.tftp_judge.specs.declared.refusal.Refusal.{Refusal}
 
 -- ---- ERRORs

@@ -1,10 +1,26 @@
-pub mod Verdict
+pub mod Verdicts
 pub mod TextVerdict
 pub mod Ending
 pub mod Kept
 pub mod SentByKept
 pub mod Memory
 pub mod KeptCode
-pub mod Finds
+pub mod Found
 pub mod Extracted
 pub mod Courses
+pub use Verdicts.{IsSaid, IsUnlawfulAt, IsVerdict, IsVerdictBy, IsVerdictByRules}
+pub use TextVerdict.{AllLawful, BeginsBy, EndsText, IsCaptureBy, IsFaultOf, IsLineOf, IsOfText, IsReadVerdict, IsTextVerdict, LawfulBefore, NoFaultBefore, SaysReadFailed, WantsMemory, WantsToJudge, WantsToRead, unnumbered}
+pub use Ending.{IsUnfinished}
+pub use Kept.{Agreed, AreBytesOf, AreErrors, Begun, ErrorText, Errors, HasBegun, HasKept, IsCourse, IsErrorOf, IsFirstError, IsJudgeAfter, IsKept, IsTransferAfter, IsTransferOf, Judge, Keeper, Transfer, Unanswered}
+pub use SentByKept.{AreFlags, HasAgreed, HasBlock, HasSentBy, HasSentIn, IsAgreedBy, flags_of}
+pub use Memory.{IsNew, TakesForJoin, TakesMemory}
+pub use KeptCode.{course_of}
+pub use Found.{Finds, FindsOf, IsBlockOrAck, IsFirstOf, NoneBreaks, Refuses, stop_by_port, stop_of_fault}
+pub use Extracted.{Extracts, WritesFile}
+pub use Courses.{DiffersByCourse, DiffersBySent, HasAnswer, IsNewBlockOn, WaitsForReply}
+pub use declared.extraction.OutFault.{OutFault}
+pub use declared.refusal.Refusal.{Refusal}
+pub use declared.refusal.Refusal.TheVariants.{Aborted, Incomplete, NormalTooLong, Unlawful}
+pub use declared.stop.Stop.{Stop}
+pub use declared.verdict.Verdict.{Verdict}
+pub use declared.verdict.Verdict.TheVariants.{Capture, Refused}

@@ -1,16 +1,12 @@
 -- For which datagrams the judge takes memory. The lists `earlier` and `passed` have the datagrams of the capture and those
 -- of the transfer, the newest first.
 use Rattle.std.specs.Prelude.{◌≡◌, ◌⊎◌, ℕ, List, []}
-use Rattle.tftp_packet.specs.OptionMap.{OptionMap}
-use Rattle.tftp_packet.specs.Message.{Message}
-use Rattle.tftp_packet.specs.declared.kinds.Dir.{Dir}
-use Rattle.tftp_ends.specs.CaptureText.{Datagram, Header}
-use Rattle.tftp_ends.specs.KnownIds.{IsNewStray}
-use Rattle.tftp_ends.specs.Ports.{transfer_of}
-use Rattle.tftp_ends.specs.Rules.{HasPassed, Passed}
-use Rattle.tftp_ends.specs.States.{AreBlocks}
-use Rattle.tftp_ends.specs.Store.{Held}
-use Rattle.tftp_law.specs.Rules.{Says}
+use Rattle.tftp_packet.specs.{OptionMap, Message}
+use Rattle.tftp_hosts.specs.{Dir, Datagram, Header}
+use Rattle.tftp_ends.specs.{IsNewStray, AreBlocks}
+use Rattle.tftp_rules.specs.{transfer_of, HasPassed, Passed}
+use Rattle.tftp_blocks.specs.{Held}
+use Rattle.tftp_law.specs.{Says}
 
 -- the first request, the first OACK, a block of which none with its number has passed, or the first ERROR that goes this way
 abbrev pub IsNew : List Datagram → Dir → Message → Type 0

@@ -1,18 +1,14 @@
 -- What there is to say of a capture text, by the runs of two ends.
 use Rattle.std.specs.List.{slice_split}
 use Rattle.std.specs.Prelude.{◌≡◌, ◌==◌, List, [], ◌∷◌, ◌++◌, ℕ, ◌<◌, ◌≤◌, All, length, map, reverse, Result, Ok, Err}
-use Rattle.tftp_capture.specs.CaptureText.{Begins, Due, HasFault, IsCapture, Numbered, Stands, Unfinished}
+use Rattle.tftp_capture.specs.{Begins, Due, HasFault, IsCapture, Numbered, Stands, Unfinished, IsAtTextEnd, IsReadFault, MemoryTells, Version, TextFault, CaptureFault}
 use Rattle.tftp_capture.specs.CaptureText.Due.{Body}
-use Rattle.tftp_capture.specs.History.{IsAtTextEnd, IsReadFault, MemoryTells}
-use Rattle.tftp_capture.specs.declared.version.Version.{Version}
-use Rattle.tftp_capture.specs.declared.fault.TextFault.{TextFault}
-use Rattle.tftp_capture.specs.declared.fault.CaptureFault.{CaptureFault}
 use Rattle.tftp_capture.specs.declared.fault.CaptureFault.TheVariants.{Text, Read, Memory}
-use Rattle.tftp_ends.specs.CaptureText.{Datagram, Header}
-use Rattle.tftp_ends.specs.Meaning.{Meaning}
-use Rattle.tftp_law.specs.Law.{IsLawful}
+use Rattle.tftp_hosts.specs.{Datagram, Header}
+use Rattle.tftp_model.specs.{Meaning}
+use Rattle.tftp_law.specs.{IsLawful}
 use Rattle.tftp_judge.specs.Memory.{TakesMemory}
-use Rattle.tftp_judge.specs.Verdict.{IsVerdict}
+use Rattle.tftp_judge.specs.Verdicts.{IsVerdict}
 use Rattle.tftp_judge.specs.declared.refusal.Refusal.{Refusal}
 use Rattle.tftp_judge.specs.declared.refusal.Refusal.TheVariants as refusal
 use Rattle.tftp_judge.specs.declared.verdict.Verdict.{Verdict}

@@ -1,23 +1,21 @@
 ghost use Rattle.std.specs.Prelude.{◌≡◌, ◌⊎◌, ◌↔◌, IsTrue, List, ◌∷◌, OnOk, IfErr, OnErr};
-ghost use Rattle.tftp_packet.specs.Message.{Message, RequestParts};
-ghost use Rattle.tftp_packet.specs.Spelling.{Spells};
-ghost use Rattle.tftp_packet.specs.Meaning.{meaning};
-ghost use Rattle.tftp_packet.specs.Written.{map_of};
-ghost use Rattle.tftp_ends.specs.CaptureText.{Datagram, Header};
-ghost use Rattle.tftp_ends.specs.Roles.{author_of};
-ghost use Rattle.tftp_ends.specs.States.{Says};
-ghost use Rattle.tftp_law.specs.MessageRules.{TermsBreak, rule_of_end};
-ghost use Rattle.tftp_law.specs.Rules.{IsError, IsWrongKind};
+ghost use Rattle.tftp_packet.specs.{Message, RequestParts, Spells, meaning, map_of};
+ghost use Rattle.tftp_hosts.specs.{Datagram, Header};
+ghost use Rattle.tftp_rules.specs.{author_of};
+ghost use Rattle.tftp_ends.specs.{Says};
+ghost use Rattle.tftp_law.specs.{TermsBreak, rule_of_end, IsError, IsWrongKind};
 ghost use Rattle.tftp_judge.specs.Courses.{HasAnswer, IsNewBlockOn, MayKeepOn};
-ghost use Rattle.tftp_judge.specs.Finds.{NoneBreaks, IsFirstOf};
+ghost use Rattle.tftp_judge.specs.Found.{NoneBreaks, IsFirstOf};
 ghost use Rattle.tftp_judge.specs.Kept.{IsCourse};
 ghost use Rattle.tftp_judge.specs.KeptCode.{course_of};
 ghost use Rattle.tftp_judge.specs.SentByKept.{HasAgreed, HasBlock, IsAgreedBy};
 
 use crate::first_oack::FirstOack;
 use std::alloc::{AllocError, Global};
-use tftp_ends::{Delivered, EndFault, NamedEnd};
-use tftp_packet::{Dir, OptionsView, Packet, same_options};
+use tftp_blocks::Delivered;
+use tftp_ends::{EndFault, NamedEnd};
+use tftp_hosts::Dir;
+use tftp_packet::{OptionsView, Packet, same_options};
 
 /// How the request was answered, and the named end that began with the answer (RFC 1350, section 4; RFC 2347).
 #[derive(Drop)]

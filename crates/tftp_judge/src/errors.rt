@@ -1,14 +1,11 @@
 //! The ERRORs of a transfer (RFC 1350, section 7).
 
 ghost use Rattle.std.specs.Prelude.{◌≡◌, ◌↔◌, ℕ, List, [], ◌∷◌, IsTrue, None, Some, OnOk, OnErr};
-ghost use Rattle.tftp_packet.specs.Message.{Message};
-ghost use Rattle.tftp_packet.specs.Meaning.{meaning};
-ghost use Rattle.tftp_ends.specs.CaptureText.{Datagram};
-ghost use Rattle.tftp_packet.specs.declared.kinds.Dir.TheVariants.{Out};
-ghost use Rattle.tftp_ends.specs.Rules.{Passed};
-ghost use Rattle.tftp_ends.specs.States.{has_stopped, Says};
-ghost use Rattle.tftp_law.specs.Aborted.{by_of as by_way};
-ghost use Rattle.tftp_law.specs.Rules.{GoesOn, IsError};
+ghost use Rattle.tftp_packet.specs.{Message, meaning};
+ghost use Rattle.tftp_hosts.specs.{Datagram, Out};
+ghost use Rattle.tftp_rules.specs.{Passed};
+ghost use Rattle.tftp_ends.specs.{has_stopped, Says};
+ghost use Rattle.tftp_law.specs.{by_of as by_way, GoesOn, IsError};
 ghost use Rattle.tftp_judge.specs.Ending.{IsUnfinished};
 ghost use Rattle.tftp_judge.specs.Kept.{AreErrors, ErrorText as ErrorParts};
 ghost use Rattle.tftp_judge.specs.Memory.{IsNew};
@@ -16,8 +13,9 @@ ghost use Rattle.tftp_judge.specs.Memory.{IsNew};
 use crate::refusal::Refusal;
 use std::alloc::{AllocError, Global};
 use std::marker::Model;
+use tftp_hosts::Dir;
 use tftp_law::By;
-use tftp_packet::{Bytes, Dir, Packet};
+use tftp_packet::{Bytes, Packet};
 
 /// An ERROR that has passed (RFC 1350, section 5).
 #[derive(Drop)]

@@ -1,11 +1,11 @@
 //! The file of a whole transfer.
 
 ghost use Rattle.std.specs.Prelude.{◌≡◌, ◌/◌, ◌+◌, ◌≤◌, ℕ, List, length, MatchOption, IfOk, OnErr};
-ghost use Rattle.tftp_ends.specs.Store.{IsHeldFront, IsJoin};
-ghost use Rattle.tftp_law.specs.Fits.{ReadsAs, written_wire};
+ghost use Rattle.tftp_blocks.specs.{IsHeldFront, IsJoin};
+ghost use Rattle.tftp_law.specs.{ReadsAs, written_wire};
 
 use std::alloc::{AllocError, Global};
-use tftp_ends::Delivered;
+use tftp_blocks::Delivered;
 use tftp_netascii::{decode_in_place, encoded_len};
 use tftp_packet::Mode;
 

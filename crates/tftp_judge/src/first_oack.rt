@@ -1,6 +1,5 @@
 ghost use Rattle.std.specs.Prelude.{◌≡◌, IsTrue};
-ghost use Rattle.tftp_packet.specs.Message.{Message};
-ghost use Rattle.tftp_packet.specs.Spelling.{Spells};
+ghost use Rattle.tftp_packet.specs.{Message, Spells};
 
 use std::alloc::Global;
 use std::marker::Model;
@@ -16,7 +15,7 @@ pub struct FirstOack {
 }
 
 impl Model for FirstOack {
-    ghost use Rattle.tftp_packet.specs.OptionMap.{OptionMap};
+    ghost use Rattle.tftp_packet.specs.OptionMaps.{OptionMap};
     ghost use Rattle.tftp_packet.specs.Owned.{options_code};
     ghost use Rattle.tftp_judge.specs.Kept.{AreOackBytes};
 

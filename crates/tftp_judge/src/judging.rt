@@ -1,15 +1,14 @@
 ghost use Rattle.std.specs.Prelude.{◌≡◌, ◌↔◌, IsTrue, ◌+◌, ◌^◌, ◌<◌, ◌≤◌, ℕ, List, [], ◌∷◌, length, reverse, None, Some, OnOk, IfErr, Err};
-ghost use Rattle.tftp_capture.specs.Fields.{datagram_of, header_of};
-ghost use Rattle.tftp_packet.specs.Meaning.{meaning};
-ghost use Rattle.tftp_ends.specs.Ports.{is_of_transfer, route_of};
-ghost use Rattle.tftp_ends.specs.CaptureText.{Datagram as DatagramParts, Header as HeaderParts};
-ghost use Rattle.tftp_law.specs.OneEnded.{Passes, IsEnded};
-ghost use Rattle.tftp_judge.specs.Finds.{Refuses};
-ghost use Rattle.tftp_ends.specs.Ports.{transfer_of};
+ghost use Rattle.tftp_capture.specs.{datagram_of, header_of};
+ghost use Rattle.tftp_packet.specs.{meaning};
+ghost use Rattle.tftp_rules.specs.{is_of_transfer, route_of, transfer_of};
+ghost use Rattle.tftp_hosts.specs.{Datagram as DatagramParts, Header as HeaderParts};
+ghost use Rattle.tftp_law.specs.{Passes, IsEnded};
+ghost use Rattle.tftp_judge.specs.Found.{Refuses};
 ghost use Rattle.tftp_judge.specs.Kept.{IsJudgeAfter};
 ghost use Rattle.tftp_judge.specs.Memory.{TakesForJoin};
 ghost use Rattle.tftp_judge.specs.SentByKept.{HasSentIn, flags_of};
-ghost use Rattle.tftp_judge.specs.Verdict.{IsVerdict};
+ghost use Rattle.tftp_judge.specs.Verdicts.{IsVerdict};
 ghost use Rattle.tftp_judge.specs.declared.refusal.Refusal.{Refusal as RefusalKind};
 
 use crate::keeping::Keeper;
@@ -19,8 +18,8 @@ use crate::sent_acks::SentAcks;
 use crate::stop::Stop;
 use std::alloc::Global;
 use std::marker::Model;
+use tftp_blocks::Delivered;
 use tftp_capture::{Datagram, Header};
-use tftp_ends::Delivered;
 use tftp_packet::Packet;
 
 /// The judge of a capture, datagram by datagram (RFC 1350; RFC 2347; RFC 7440). It keeps no list of datagrams: what

@@ -1,12 +1,12 @@
-ghost use Rattle.std.specs.Prelude.{◌≡◌, ◌↔◌, List, [], ◌∷◌, true, IsTrue, Err, OnOk, OnErr};
-ghost use Rattle.tftp_packet.specs.Meaning.{meaning};
-ghost use Rattle.tftp_capture.specs.Fields.{datagram_of, header_of};
-ghost use Rattle.tftp_ends.specs.CaptureText.{Datagram as DatagramParts, Header as HeaderParts};
-ghost use Rattle.tftp_ends.specs.KnownIds.{among_all};
-ghost use Rattle.tftp_ends.specs.Ports.{route_of, is_of_transfer, SaysUnknownId};
-ghost use Rattle.tftp_law.specs.OneEnded.{OneEnded};
-ghost use Rattle.tftp_judge.specs.Finds.{FindsOf, stop_by_port};
-ghost use Rattle.tftp_judge.specs.Kept.{HasKept, IsKept};
+ghost use Rattle.std.specs.Prelude.{◌≡◌, ◌↔◌, List, [], ◌∷◌, Some, true, IfErr, IsTrue, Err, OnOk, OnErr};
+ghost use Rattle.tftp_packet.specs.{Message, Spells, meaning, parts};
+ghost use Rattle.tftp_capture.specs.{datagram_of, header_of};
+ghost use Rattle.tftp_hosts.specs.{Datagram as DatagramParts, Header as HeaderParts};
+ghost use Rattle.tftp_ends.specs.{among_all};
+ghost use Rattle.tftp_rules.specs.{route_of, is_of_transfer, SaysUnknownId};
+ghost use Rattle.tftp_law.specs.{OneEnded};
+ghost use Rattle.tftp_judge.specs.Found.{FindsOf, stop_by_port};
+ghost use Rattle.tftp_judge.specs.Kept.{HasKept, IsKept, IsTransferAfter, Transfer as TransferParts};
 ghost use Rattle.tftp_judge.specs.Memory.{TakesMemory};
 ghost use Rattle.tftp_judge.specs.SentByKept.{HasSentIn, flags_of};
 ghost use Rattle.tftp_judge.specs.declared.stop.Stop.{Stop as StopKind};
@@ -16,10 +16,12 @@ use crate::stop::Stop;
 use crate::transfer::Transfer;
 use std::alloc::Global;
 use std::marker::Model;
+use tftp_blocks::Delivered;
 use tftp_capture::{Datagram, Header};
-use tftp_ends::{Delivered, PortFault, Ports, Route};
+use tftp_ends::{PortFault, Ports, Route};
+use tftp_hosts::Dir;
 use tftp_law::Rule;
-use tftp_packet::{Bytes, Dir, Packet, opcode, own_request, read_packet};
+use tftp_packet::{Bytes, Packet, RequestView, opcode, own_request, read_packet};
 
 /// What is kept of the datagrams that have passed: the transfer ids, and the transfer from its first request on.
 #[derive(Drop)]
@@ -186,20 +188,34 @@ impl<D: Delivered + Drop> Keeper<D> {
             Ok(packet) => packet,
             Err(fault) => return Err(Stop::Broken(Rule::Malformed(fault))),
         };
-        match (&mut self.transfer, &packet) {
-            (Some(transfer), _) => {
-                transfer.pass(alloc, dir, &packet)?;
-                transfer.keep_oack(alloc, &packet, payload);
-                Ok(())
-            }
-            (None, Packet::Request(asked)) => {
-                let asked = own_request(alloc, asked)?;
-                self.asked = Bytes::of(Vec::from_slice(alloc, payload)?);
-                self.transfer = Some(Transfer::of(self.header.named, asked));
-                Ok(())
-            }
-            (None, _) => Err(Stop::Broken(Rule::NoRequest)),
+        if let Some(transfer) = &mut self.transfer {
+            transfer.pass(alloc, dir, &packet)?;
+            transfer.keep_oack(alloc, &packet, payload);
+            return Ok(());
         }
+        match &packet {
+            Packet::Request(asked) => self.begin(alloc, asked, payload),
+            _ => Err(Stop::Broken(Rule::NoRequest)),
+        }
+    }
+
+    /// The transfer begins, with its first request, whose bytes these are.
+    fn begin(&mut self, alloc: Global, asked: &RequestView<'_>, payload: &[u8]) -> Result<(), Stop>
+        requires { Spells payload.now (Message.Request (parts asked.now)) }
+        ensures begins { OnOk result ((transfer : TransferParts) × (self.new.transfer ≡ Some transfer) × (transfer.asked ≡ parts asked.now)
+            × ((h : HeaderParts) (d : DatagramParts) → h.named ≡ self.old.header.named → Spells d.payload (Message.Request transfer.asked)
+            → IsTransferAfter transfer h (d ∷ []))) }
+        ensures wanting { IfErr result (λ stop. stop ≡ StopKind.Memory) }
+        ensures err { OnErr result (self.new.transfer ≡ self.old.transfer) }
+        ensures header { self.new.header ≡ self.old.header }
+        ensures ports { self.new.ports ≡ self.old.ports }
+        ensures of_transfer { self.new.of_transfer ≡ self.old.of_transfer }
+    {
+        let asked = own_request(alloc, asked)?;
+        self.asked = Bytes::of(Vec::from_slice(alloc, payload)?);
+        // by `insert`, since an assignment has the proof of this function let go of each kind of transfer before
+        self.transfer.insert(Transfer::of(self.header.named, asked));
+        Ok(())
     }
 }
 

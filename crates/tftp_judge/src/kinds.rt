@@ -1,9 +1,10 @@
 ghost use Rattle.std.specs.Prelude.{◌≡◌, ◌↔◌, IsTrue};
-ghost use Rattle.tftp_packet.specs.Meaning.{meaning};
-ghost use Rattle.tftp_ends.specs.Roles.{author_of as author_by_way};
-ghost use Rattle.tftp_law.specs.Rules.{IsWrongKind};
+ghost use Rattle.tftp_packet.specs.{meaning};
+ghost use Rattle.tftp_rules.specs.{author_of as author_by_way};
+ghost use Rattle.tftp_law.specs.{IsWrongKind};
 
-use tftp_packet::{Dir, End, Packet, Side};
+use tftp_hosts::Dir;
+use tftp_packet::{End, Packet, Side};
 
 /// The end that sent what went this way at the named end (RFC 1350, section 1).
 pub fn author_of(named: End, dir: Dir) -> End

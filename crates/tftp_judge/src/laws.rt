@@ -1,17 +1,14 @@
 //! Laws of the definitions in `specs/`. Each is the contract of a function that does nothing.
 
 ghost use Rattle.std.specs.Prelude.{◌≡◌, ◌↔◌, ◌^◌, ◌≤◌, ℕ, List, Result, length, true};
-ghost use Rattle.tftp_capture.specs.CaptureText.{IsCapture, Numbered};
-ghost use Rattle.tftp_capture.specs.InTwo.{in_version_two};
-ghost use Rattle.tftp_ends.specs.CaptureText.{Datagram, Header};
-ghost use Rattle.tftp_packet.specs.Message.{Message};
-ghost use Rattle.tftp_packet.specs.Spelling.{Spells};
-ghost use Rattle.tftp_ends.specs.Meaning.{Meaning};
-ghost use Rattle.tftp_ends.specs.Ports.{is_of_transfer, route_of, transfer_of};
-ghost use Rattle.tftp_ends.specs.Rules.{HasPassed, Passed};
+ghost use Rattle.tftp_capture.specs.{IsCapture, Numbered, in_version_two};
+ghost use Rattle.tftp_hosts.specs.{Datagram, Header};
+ghost use Rattle.tftp_packet.specs.{Message, Spells};
+ghost use Rattle.tftp_model.specs.{Meaning};
+ghost use Rattle.tftp_rules.specs.{is_of_transfer, route_of, transfer_of, HasPassed, Passed};
 ghost use Rattle.tftp_judge.specs.Memory.{TakesMemory};
 ghost use Rattle.tftp_judge.specs.TextVerdict.{IsOfText, IsTextVerdict};
-ghost use Rattle.tftp_judge.specs.Verdict.{IsSaid, IsVerdict, IsVerdictByRules};
+ghost use Rattle.tftp_judge.specs.Verdicts.{IsSaid, IsVerdict, IsVerdictByRules};
 ghost use Rattle.tftp_judge.specs.declared.refusal.Refusal.{Refusal};
 ghost use Rattle.tftp_judge.specs.declared.verdict.Verdict.{Verdict};
 

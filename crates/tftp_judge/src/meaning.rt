@@ -12,8 +12,8 @@ pub struct Meaning {
 
 impl Model for Meaning {
     ghost use Rattle.std.specs.Prelude.{◌≡◌};
-    ghost use Rattle.tftp_ends.specs.Meaning.{Meaning as Parts};
-    ghost use Rattle.tftp_law.specs.CanBeWritten.{blocks_of, CanBeWritten};
+    ghost use Rattle.tftp_model.specs.Meanings.{Meaning as Parts};
+    ghost use Rattle.tftp_law.specs.Writable.{blocks_of, CanBeWritten};
     ghost use Rattle.tftp_law.specs.Owned.{meaning_code, meaning_from};
 
     ghost Value = { Parts };
@@ -27,8 +27,8 @@ impl Model for Meaning {
 
 impl Meaning {
     ghost use Rattle.std.specs.Prelude.{◌≡◌};
-    ghost use Rattle.tftp_ends.specs.Meaning.{request_of};
-    ghost use Rattle.tftp_law.specs.CanBeWritten.{blocks_of, CanBeWritten};
+    ghost use Rattle.tftp_model.specs.Meanings.{request_of};
+    ghost use Rattle.tftp_law.specs.Writable.{blocks_of, CanBeWritten};
     ghost use Rattle.tftp_law.specs.Owned.{meaning_from};
 
     /// Takes the parts over, and no memory. The number of the blocks is that of the canonical wire.

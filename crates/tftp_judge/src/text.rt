@@ -1,6 +1,6 @@
 ghost use Rattle.std.specs.Prelude.{◌≡◌, ◌⊎◌, ℕ, List, Some, true, false, Result};
 ghost use Rattle.std.specs.Io.KnownBytes.{Consumes, IsAtEnd};
-ghost use Rattle.tftp_ends.specs.Meaning.{Meaning as MeaningParts};
+ghost use Rattle.tftp_model.specs.{Meaning as MeaningParts};
 ghost use Rattle.tftp_judge.specs.TextVerdict.{EndsText, IsOfText, IsReadVerdict, IsTextVerdict, SaysReadFailed, WantsMemory};
 ghost use Rattle.tftp_judge.specs.declared.verdict.Verdict.{Verdict as VerdictKind};
 
@@ -9,8 +9,8 @@ use crate::meaning::Meaning;
 use crate::verdict::Verdict;
 use std::alloc::Global;
 use std::io::Read;
+use tftp_blocks::RingDelivered;
 use tftp_capture::{CaptureReader, Datagram, Tallied};
-use tftp_ends::RingDelivered;
 
 /// What a capture text means, or why it is not accepted, by the runs of two ends (RFC 1350; RFC 2347; RFC 7440): the first
 /// unlawful datagram on the lines before the text's first fault, else that fault, else what there is to say of its

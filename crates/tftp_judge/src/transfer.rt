@@ -1,26 +1,15 @@
 ghost use Rattle.std.specs.Prelude.{◌≡◌, ◌≢◌, ◌≤◌, ◌↔◌, IsTrue, true, ℕ, List, [], ◌∷◌, length, reverse, OnOk, OnErr, IfErr, Err};
-ghost use Rattle.tftp_packet.specs.OptionMap.{OptionMap};
-ghost use Rattle.tftp_packet.specs.Message.{Message};
-ghost use Rattle.tftp_packet.specs.declared.kinds.Dir.TheVariants.{Out};
-ghost use Rattle.tftp_packet.specs.declared.kinds.Side.TheVariants.{Get};
-ghost use Rattle.tftp_packet.specs.Spelling.{Spells};
-ghost use Rattle.tftp_packet.specs.Meaning.{meaning};
-ghost use Rattle.tftp_packet.specs.Written.{parts, map_of};
-ghost use Rattle.tftp_ends.specs.CaptureText.{Datagram, Header};
-ghost use Rattle.tftp_ends.specs.NamedEnd.{terms_of, IsEndAfter};
-ghost use Rattle.tftp_ends.specs.Ports.{transfer_of};
-ghost use Rattle.tftp_ends.specs.Roles.{author_of as author_by_way};
-ghost use Rattle.tftp_ends.specs.States.{IsBeforeBlocks, Says};
-ghost use Rattle.tftp_ends.specs.declared.terms.Reply.TheVariants.{NoReply, Plain};
-ghost use Rattle.tftp_law.specs.MessageRules.{MessageBreaks, FirstOackBreaks, LaterOackBreaks, OackBreaks, RequestBreaks, TermsBreak, BlockSent, AckSent, rule_of_end as rule_by_end};
-ghost use Rattle.tftp_law.specs.OneEnded.{OneEnded, IsEnded};
-ghost use Rattle.tftp_law.specs.Rules.{Agrees, ClientWentOn, FirstAsked, GoesOn, IsWrongKind, plain_terms as plain_terms_of, terms_after};
-ghost use Rattle.tftp_judge.specs.Finds.{Finds, stop_of_fault, IsBlockOrAck};
+ghost use Rattle.tftp_packet.specs.{OptionMap, Message, Get, Spells, meaning, parts, map_of};
+ghost use Rattle.tftp_hosts.specs.{Out, Datagram, Header};
+ghost use Rattle.tftp_ends.specs.{terms_of, IsEndAfter, IsBeforeBlocks, Says};
+ghost use Rattle.tftp_rules.specs.{transfer_of, author_of as author_by_way, NoReply, Plain};
+ghost use Rattle.tftp_law.specs.{MessageBreaks, FirstOackBreaks, LaterOackBreaks, OackBreaks, RequestBreaks, TermsBreak, BlockSent, AckSent, rule_of_end as rule_by_end, OneEnded, IsEnded, Agrees, ClientWentOn, FirstAsked, GoesOn, IsWrongKind, plain_terms as plain_terms_of, terms_after};
+ghost use Rattle.tftp_judge.specs.Found.{Finds, stop_of_fault, IsBlockOrAck};
 ghost use Rattle.tftp_judge.specs.Courses.{HasAnswer, WaitsForReply, DiffersByCourse, DiffersBySent};
 ghost use Rattle.tftp_judge.specs.Memory.{IsNew, TakesForJoin};
 ghost use Rattle.tftp_judge.specs.Kept.{AreErrors, Unanswered, IsCourse, IsTransferAfter, IsTransferOf};
 ghost use Rattle.tftp_judge.specs.SentByKept.{HasAgreed, HasSentBy, IsAgreedBy, flags_of};
-ghost use Rattle.tftp_judge.specs.Verdict.{IsVerdictByRules};
+ghost use Rattle.tftp_judge.specs.Verdicts.{IsVerdictByRules};
 ghost use Rattle.tftp_judge.specs.declared.refusal.Refusal.{Refusal as RefusalKind};
 ghost use Rattle.tftp_judge.specs.declared.stop.Stop.{Stop as StopKind};
 
@@ -35,12 +24,15 @@ use crate::sent_acks::SentAcks;
 use crate::stop::Stop;
 use std::alloc::Global;
 use std::marker::Model;
-use tftp_ends::{Delivered, EndRule, NamedEnd, Reply, Terms};
+use tftp_blocks::Delivered;
+use tftp_ends::NamedEnd;
+use tftp_hosts::Dir;
 use tftp_law::Rule;
 use tftp_nego::{Agreed, NegoFault, agree, nothing_agreed};
 use tftp_packet::{
-    Dir, End, Mode, OptionsView, Packet, Request, RequestView, Side, same_options, same_request,
+    End, Mode, OptionsView, Packet, Request, RequestView, Side, same_options, same_request,
 };
+use tftp_rules::{EndRule, Reply, Terms};
 
 /// The transfer from its first request on: what was asked for and answered, the named end, and what it has sent.
 #[derive(Drop)]

@@ -1,19 +1,14 @@
--- The first rule that a datagram breaks.
-use Rattle.std.proofs.Common.{◌≡◌, List, ◌∷◌, inl, inr, arith}
-use Rattle.std.proofs.lemmas.Bool.{cases_lt}
-use Rattle.tftp_ends.specs.CaptureText.{Datagram, Header}
-use Rattle.tftp_law.specs.Rules.{number_of, FirstBroken}
-use Rattle.tftp_law.specs.declared.rule.Rule.{Rule}
-use Rattle.tftp_law.specs.OneEnded.{OneEnded, IsRefused}
-
-pub refused_does_not_pass : (header : Header) (earlier : List Datagram) (d : Datagram) (rule : Rule) → IsRefused header earlier d rule → OneEnded header (d ∷ earlier) → ⊥
-refused_does_not_pass header earlier d rule refused passes = passes.0.lawful rule refused.broken.broken
-
-pub one_first_broken : (header : Header) (earlier : List Datagram) (d : Datagram) (r q : Rule) → FirstBroken header earlier d r → FirstBroken header earlier d q → number_of r ≡ number_of q
-one_first_broken header earlier d r q one other = elim (cases_lt (number_of r) (number_of q)) [
-  | inl before ↦ absurd (other.first r before one.broken)
-  | inr after ↦ elim (cases_lt (number_of q) (number_of r)) [
-    | inl before ↦ absurd (one.first q before other.broken)
-    | inr within ↦ omega arith
-  ]
-]
+-- The first rule that a datagram breaks is one, and so is the first ERROR of an aborted transfer (laws
+-- `first_broken_rule_is_one`, `the_first_error_is_one`).
+--
+-- FirstBroken: of rules in an order, the first that is broken is one. OneMessage: a payload says one message, so rules of
+-- messages speak of one. FirstRequests and FirstAnswered: the first request, and its first answer, are one (Answering:
+-- what answers it). Agreed: what an OACK agrees to has no fault, and what has none may be agreed to (laws
+-- `agreed_options_have_no_fault`, `options_without_fault_may_be_agreed`). FirstError: the first ERROR of the transfer.
+pub mod FirstBroken
+pub mod OneMessage
+pub mod FirstRequests
+pub mod Answering
+pub mod FirstAnswered
+pub mod Agreed
+pub mod FirstError

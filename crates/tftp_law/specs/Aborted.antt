@@ -1,11 +1,8 @@
 -- Which ERROR ended a transfer (RFC 1350, section 7).
 use Rattle.std.specs.Prelude.{◌≡◌, ◌⊎◌, ℕ, List, [], ◌∷◌}
-use Rattle.tftp_packet.specs.Message.{Message}
-use Rattle.tftp_packet.specs.Spelling.{Spells}
-use Rattle.tftp_packet.specs.declared.kinds.Dir.{Dir}
-use Rattle.tftp_packet.specs.declared.kinds.Dir.TheVariants.{In, Out}
-use Rattle.tftp_ends.specs.CaptureText.{Datagram, Header}
-use Rattle.tftp_ends.specs.Ports.{transfer_of}
+use Rattle.tftp_packet.specs.{Message, Spells}
+use Rattle.tftp_hosts.specs.{Dir, In, Out, Datagram, Header}
+use Rattle.tftp_rules.specs.{transfer_of}
 use Rattle.tftp_law.specs.declared.by.By.{By}
 use Rattle.tftp_law.specs.declared.by.By.TheVariants.{Local, Peer}
 

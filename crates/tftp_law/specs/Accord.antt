@@ -1,16 +1,10 @@
 -- When a meaning and a wire are in accord with what has passed, and how a division follows the routes.
 use Rattle.std.specs.Prelude.{◌≡◌, ℕ, ◌≤◌, List, [], ◌∷◌}
-use Rattle.tftp_packet.specs.OptionMap.{OptionMap, no_options}
-use Rattle.tftp_packet.specs.Message.{Message, RequestParts}
-use Rattle.tftp_packet.specs.declared.kinds.End.{End}
-use Rattle.tftp_packet.specs.declared.kinds.End.TheVariants.{Client, Server}
-use Rattle.tftp_ends.specs.CaptureText.{Datagram, Header}
-use Rattle.tftp_ends.specs.Meaning.{Meaning, request_of, blksize_of}
-use Rattle.tftp_ends.specs.Blocks.{block, block_count}
-use Rattle.tftp_ends.specs.Machines.{MachinePacket, Req, Oack, Data, Ack, Error, Deed, Sent, Took, History}
-use Rattle.tftp_ends.specs.Ports.{Route, route_of, transfer_of, SaysUnknownId}
-use Rattle.tftp_ends.specs.Rules.{HasPassed}
-use Rattle.tftp_law.specs.Fits.{Fits}
+use Rattle.tftp_packet.specs.{OptionMap, no_options, Message, RequestParts, End, Client, Server}
+use Rattle.tftp_hosts.specs.{Datagram, Header}
+use Rattle.tftp_model.specs.{Meaning, request_of, blksize_of, block, block_count, MachinePacket, Req, Oack, Data, Ack, Error, Deed, Sent, Took, History}
+use Rattle.tftp_rules.specs.{Route, route_of, transfer_of, SaysUnknownId, HasPassed}
+use Rattle.tftp_law.specs.Fitting.{Fits}
 use Rattle.tftp_law.specs.Dress.{Part, Main, Stray, StrayAnswer, Division, datagrams_of, dir_of, packet_of, Saying, says_of}
 use Rattle.tftp_law.specs.Rules.{FirstAsked, Agrees, Begins, FirstAnswer}
 

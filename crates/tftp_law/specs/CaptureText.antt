@@ -1,2 +1,2 @@
 -- A capture, as the crate below has it.
-pub use Rattle.tftp_ends.specs.CaptureText.{Datagram, Header}
+pub use Rattle.tftp_hosts.specs.Capture.{Datagram, Header}

@@ -1,15 +1,9 @@
 -- How the datagrams of a capture carry what an end sent and took (RFC 1350, sections 4 and 5).
 use Rattle.std.specs.Prelude.{◌≡◌, ◌≢◌, ℕ, ◌⊎◌, List, [], ◌∷◌, map, reverse, filter_map, Any, Option, Some, None}
-use Rattle.tftp_packet.specs.Message.{Message}
-use Rattle.tftp_packet.specs.declared.kinds.End.{End}
-use Rattle.tftp_packet.specs.declared.kinds.End.TheVariants.{Client, Server}
-use Rattle.tftp_packet.specs.declared.kinds.Dir.{Dir}
-use Rattle.tftp_packet.specs.declared.kinds.Dir.TheVariants.{In, Out}
-use Rattle.tftp_ends.specs.Meaning.{Meaning}
-use Rattle.tftp_ends.specs.Machines.{MachinePacket, Req, Deed, Sent, Took, History, message_of}
-use Rattle.tftp_ends.specs.CaptureText.{Datagram, Header, PeerId, peer_of}
+use Rattle.tftp_packet.specs.{Message, End, Client, Server, Spells}
+use Rattle.tftp_hosts.specs.{Dir, In, Out, Datagram, Header, PeerId, peer_of}
+use Rattle.tftp_model.specs.{Meaning, MachinePacket, Req, Deed, Sent, Took, History, message_of}
 use Rattle.tftp_law.specs.Sides.{server_port, from_server, BeginsAsRequest}
-use Rattle.tftp_packet.specs.Spelling.{Spells}
 
 -- What a datagram is to the transfer: what its end sent or took, a stray from elsewhere, or the answer to one.
 pub data Part : Type 0 where

@@ -1,10 +1,8 @@
 -- Which captures are lawful, and which show a whole transfer.
 use Rattle.std.specs.Prelude.{ℕ, ◌+◌, ◌<◌, List, length, take}
-use Rattle.tftp_ends.specs.Meaning.{Meaning}
-use Rattle.tftp_ends.specs.Machines.{History}
-use Rattle.tftp_ends.specs.Runs.{IsView, IsComplete}
+use Rattle.tftp_model.specs.{Meaning, History, IsView, IsComplete}
 use Rattle.tftp_law.specs.CaptureText.{Datagram, Header}
-use Rattle.tftp_law.specs.Fits.{Fits, IsWritable}
+use Rattle.tftp_law.specs.Fitting.{Fits, IsWritable}
 use Rattle.tftp_law.specs.Dress.{IsDressed}
 
 -- Some run of the meaning, over this wire, is seen so at the named end, as far as the capture goes.

@@ -1,16 +1,34 @@
 pub mod CaptureText
 pub mod Sides
-pub mod Fits
+pub mod Fitting
 pub mod Dress
 pub mod Law
 pub mod Rules
 pub mod RuleNames
-pub mod OneEnded
+pub mod OneEnd
 pub mod PortRules
 pub mod MessageRules
 pub mod Aborted
 pub mod Settled
 pub mod Owned
 pub mod Accord
-pub mod Divides
-pub mod CanBeWritten
+pub mod Divisions
+pub mod Writable
+pub use CaptureText.{Datagram, Header}
+pub use Sides.{BeginsAsRequest, from_server, server_port}
+pub use Fitting.{Fits, IsWritable, ReadsAs, written_wire}
+pub use Dress.{AnswersStray, Carries, CarriesDeed, ComesAstray, Division, GoesToServer, HasClientId, HasPart, HasPartBy, HasServerId, HaveParts, HavePartsBy, IsDressed, IsMain, Main, Part, Placed, Saying, Stray, TransferIds, datagrams_of, dir_of, packet_of, says_of, view_in}
+pub use Law.{IsLawful, IsLawfulUpTo, IsSeen, Shows, ShowsBy}
+pub use Rules.{Agrees, Answer, Answers, AreTerms, Begins, Broken, ClientWentOn, EndBreaks, FirstAnswer, FirstAsked, FirstBroken, FirstOack, GoesOn, IsAnswer, IsError, IsWrongKind, NotAnswered, Says, number_of, plain_terms, size_from, terms_after}
+pub use RuleNames.{rule_name}
+pub use OneEnd.{IsAgreed, IsEnded, IsJoined, IsRead, IsRefused, IsWhole, Meant, OneEnded, Passes}
+pub use MessageRules.{AckSent, AreTermsAfter, BlockSent, FirstOackBreaks, KindBreaks, LaterOackBreaks, MessageBreaks, OackBreaks, RequestBreaks, TermsBreak, rule_of_end}
+pub use Aborted.{FirstError, IsAborted, IsErrorBy, IsNotAborted, NoErrorPassed, by_of}
+pub use Owned.{meaning_from}
+pub use Accord.{Accords, AreRouted, AreRoutedBy, SaysAs, SaysAsBy, Stands, Starts, packet_route, part_route, request_at, request_back}
+pub use Divisions.{Divides, FindPlaces, FindsPlace, packet_in, says_some}
+pub use Writable.{CanBeWritten, HasPayload, blocks_of, wire_of}
+pub use declared.by.By.{By}
+pub use declared.by.By.TheVariants.{Local, Peer}
+pub use declared.rule.Rule.{Rule}
+pub use declared.rule.Rule.TheVariants.{BeyondBlock65535, BlockSkipped, ForeignPort, GoneBack, Malformed, MulticastAgreed, OackEmpty, OptionNotRequested, OptionOutsideProfile, OptionValue, WrongPort}

@@ -1,10 +1,8 @@
 -- A meaning as the tuple of its parts, by which it is kept in memory.
 use Rattle.std.specs.Prelude.{ℕ, List, refl}
 use Rattle.std.specs.Coded.{Coded, code_by, coded×, coded_ℕ, coded_list}
-use Rattle.tftp_packet.specs.OptionMap.{OptionMap}
-use Rattle.tftp_packet.specs.Message.{RequestParts}
-use Rattle.tftp_packet.specs.Owned.{options_code, parts_code}
-use Rattle.tftp_ends.specs.Meaning.{Meaning, request_of}
+use Rattle.tftp_packet.specs.{OptionMap, RequestParts, options_code, parts_code}
+use Rattle.tftp_model.specs.{Meaning, request_of}
 
 abbrev pub meaning_from : RequestParts × (OptionMap × List ℕ) → Meaning
 meaning_from p = record { side = p.0.side; name = p.0.name; mode = p.0.mode; requested = p.0.options; agreed = p.1.0; file = p.1.1 }

@@ -1,5 +1,5 @@
 -- The rules of ports among all rules.
-use Rattle.tftp_ends.specs.Ports.{PortRule, Foreign, Wrong, BadAnswer}
+use Rattle.tftp_rules.specs.{PortRule, Foreign, Wrong, BadAnswer}
 use Rattle.tftp_law.specs.declared.rule.Rule.{Rule}
 use Rattle.tftp_law.specs.declared.rule.Rule.TheVariants.{ForeignPort, WrongPort, StrayAnswer}
 

@@ -2,29 +2,11 @@
 -- `earlier` has the datagrams that have passed at the named end, the newest first.
 use Rattle.std.specs.Prelude.{◌≡◌, ◌≢◌, ◌⊎◌, ℕ, ◌<◌, List, [], ◌∷◌, Option, Some, None, true, codes}
 use Rattle.std.specs.FinMap as map
-use Rattle.tftp_packet.specs.OptionMap.{OptionMap, OptionValue as Value, Num}
-use Rattle.tftp_packet.specs.Message.{Message, RequestParts}
-use Rattle.tftp_packet.specs.Spelling.{Spells}
-use Rattle.tftp_packet.specs.Faults.{FirstFault}
-use Rattle.tftp_packet.specs.declared.kinds.Side.{Side}
-use Rattle.tftp_packet.specs.declared.kinds.Side.TheVariants.{Get, Put}
-use Rattle.tftp_packet.specs.declared.kinds.Mode.{Mode}
-use Rattle.tftp_packet.specs.declared.kinds.Mode.TheVariants.{Octet}
-use Rattle.tftp_packet.specs.declared.kinds.End.{End}
-use Rattle.tftp_packet.specs.declared.kinds.End.TheVariants.{Client, Server}
-use Rattle.tftp_packet.specs.declared.kinds.Dir.{Dir}
-use Rattle.tftp_packet.specs.declared.kinds.Dir.TheVariants.{Out}
-use Rattle.tftp_ends.specs.CaptureText.{Datagram, Header}
-use Rattle.tftp_ends.specs.Meaning.{option_or}
-use Rattle.tftp_ends.specs.Roles.{author_of}
-use Rattle.tftp_ends.specs.Ports.{Route, asks, first_of, route_of, is_of_transfer, transfer_of, PortRule, PortBroken}
-use Rattle.tftp_ends.specs.Rules.{Passed, EndBroken}
-use Rattle.tftp_ends.specs.declared.terms.Reply.{Reply}
-use Rattle.tftp_ends.specs.declared.terms.Reply.TheVariants.{NoReply, Plain, Oacked}
-use Rattle.tftp_ends.specs.declared.terms.Terms.{Terms}
-use Rattle.tftp_ends.specs.declared.rule.EndRule.{EndRule}
-use Rattle.tftp_nego.specs.Faults.{Holds}
-use Rattle.tftp_nego.specs.declared.fault.NegoFault.{NegoFault}
+use Rattle.tftp_packet.specs.{OptionMap, OptionValue as Value, Num, Message, RequestParts, Spells, FirstFault, Side, Get, Put, Mode, Octet, End, Client, Server}
+use Rattle.tftp_hosts.specs.{Dir, Out, Datagram, Header}
+use Rattle.tftp_model.specs.{option_or}
+use Rattle.tftp_rules.specs.{author_of, Route, asks, first_of, route_of, is_of_transfer, transfer_of, PortRule, PortBroken, Passed, EndBroken, Reply, NoReply, Plain, Oacked, Terms, EndRule}
+use Rattle.tftp_nego.specs.{Holds, NegoFault}
 use Rattle.tftp_law.specs.declared.rule.Rule.{Rule}
 use Rattle.tftp_law.specs.declared.rule.Rule.TheVariants.{ForeignPort, WrongPort, StrayAnswer, NoRequest, Malformed, WrongKind, AfterError, RequestChanged, RequestAfterStart, ReplyChanged, OackEmpty, MulticastAgreed, OptionNotRequested, OptionOutsideProfile, OptionValue, OackChanged, OackAfterStart, NotStarted, BlockZero, BeyondBlock65535, BlockLength, WindowOverrun, BlockSkipped, GoneBack, BlockChanged, AckAhead, AckZero}
 

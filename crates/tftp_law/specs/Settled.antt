@@ -1,9 +1,8 @@
 -- What the rules leave of the blocks that have passed: each block has one text, and one block is the last.
 use Rattle.std.specs.Prelude.{◌≡◌, ℕ, List}
-use Rattle.tftp_packet.specs.Message.{Message}
-use Rattle.tftp_ends.specs.CaptureText.{Datagram}
-use Rattle.tftp_ends.specs.Rules.{HasPassed, IsLast}
-use Rattle.tftp_ends.specs.declared.terms.Terms.{Terms}
+use Rattle.tftp_packet.specs.{Message}
+use Rattle.tftp_hosts.specs.{Datagram}
+use Rattle.tftp_rules.specs.{HasPassed, IsLast, Terms}
 
 -- a block that comes again is the same
 abbrev pub AreOnce : List Datagram → Type 0

@@ -1,9 +1,7 @@
 -- A datagram's ports at its two sides, and which way it went between them.
 use Rattle.std.specs.Prelude.{◌≡◌, ℕ, ◌⊎◌, List, ◌∷◌}
-use Rattle.tftp_packet.specs.declared.kinds.End.{End}
-use Rattle.tftp_packet.specs.declared.kinds.End.TheVariants.{Client, Server}
-use Rattle.tftp_packet.specs.declared.kinds.Dir.{Dir}
-use Rattle.tftp_packet.specs.declared.kinds.Dir.TheVariants.{In, Out}
+use Rattle.tftp_packet.specs.{End, Client, Server}
+use Rattle.tftp_hosts.specs.{Dir, In, Out}
 use Rattle.tftp_law.specs.CaptureText.{Datagram}
 
 -- the port at the server's side of a datagram that was recorded at this end

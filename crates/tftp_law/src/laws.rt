@@ -1,20 +1,17 @@
 //! Laws of the definitions in `specs/`. Each is the contract of a function that does nothing.
 
 ghost use Rattle.std.specs.Prelude.{◌≡◌, ◌≢◌, ◌≤◌, ◌⊎◌, ℕ, List, [], ◌∷◌, ◌++◌, All, length};
-ghost use Rattle.tftp_packet.specs.OptionMap.{OptionMap, no_options};
-ghost use Rattle.tftp_packet.specs.Message.{RequestParts};
-ghost use Rattle.tftp_nego.specs.Agreement.{MayAgree};
-ghost use Rattle.tftp_nego.specs.Faults.{Holds};
-ghost use Rattle.tftp_nego.specs.declared.fault.NegoFault.{NegoFault};
-ghost use Rattle.tftp_ends.specs.Meaning.{Meaning};
+ghost use Rattle.tftp_packet.specs.{OptionMap, no_options, RequestParts};
+ghost use Rattle.tftp_nego.specs.{MayAgree, Holds, NegoFault};
+ghost use Rattle.tftp_model.specs.{Meaning};
 ghost use Rattle.tftp_law.specs.CaptureText.{Datagram, Header};
-ghost use Rattle.tftp_law.specs.CanBeWritten.{CanBeWritten};
+ghost use Rattle.tftp_law.specs.Writable.{CanBeWritten};
 ghost use Rattle.tftp_law.specs.Law.{Shows, IsLawful, IsLawfulUpTo};
 ghost use Rattle.tftp_law.specs.Rules.{number_of, FirstBroken};
 ghost use Rattle.tftp_law.specs.declared.rule.Rule.{Rule};
 ghost use Rattle.tftp_law.specs.Aborted.{IsAborted, IsNotAborted};
 ghost use Rattle.tftp_law.specs.declared.by.By.{By};
-ghost use Rattle.tftp_law.specs.OneEnded.{OneEnded, IsRefused, Meant};
+ghost use Rattle.tftp_law.specs.OneEnd.{OneEnded, IsRefused, Meant};
 
 /// Options that may be agreed have none of the faults of an OACK, where there are any (RFC 2347).
 pub fn agreed_options_have_no_fault()

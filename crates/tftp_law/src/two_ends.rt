@@ -1,14 +1,13 @@
 //! The rules at one end are the runs of two. Each law is the contract of a function that does nothing.
 
 ghost use Rattle.std.specs.Prelude.{◌≡◌, ◌↔◌, ℕ, List, reverse};
-ghost use Rattle.tftp_ends.specs.CaptureText.{Datagram, Header};
-ghost use Rattle.tftp_ends.specs.Meaning.{Meaning};
-ghost use Rattle.tftp_ends.specs.OneSide.{IsOneSided};
+ghost use Rattle.tftp_hosts.specs.{Datagram, Header};
+ghost use Rattle.tftp_model.specs.{Meaning, IsOneSided};
 ghost use Rattle.tftp_law.specs.Dress.{TransferIds, Division, HaveParts, HavePartsBy, view_in};
 ghost use Rattle.tftp_law.specs.Accord.{Accords, AreRouted, AreRoutedBy, Starts};
-ghost use Rattle.tftp_law.specs.Divides.{says_some, FindPlaces, Divides};
+ghost use Rattle.tftp_law.specs.Divisions.{says_some, FindPlaces, Divides};
 ghost use Rattle.tftp_law.specs.Law.{IsSeen, IsLawful, ShowsBy, Shows};
-ghost use Rattle.tftp_law.specs.OneEnded.{OneEnded, Meant};
+ghost use Rattle.tftp_law.specs.OneEnd.{OneEnded, Meant};
 
 /// The parts of a division are its routes, and what has such routes has parts, where the view begins with the client's
 /// request and has no request of the server's. The view of such parts begins so, where it is one that one end might have.

@@ -1,19 +1,15 @@
 -- What is known of a text by its header, and of one that has none.
 use Rattle.std.proofs.Common.{◌≡◌, inl, inr, ℕ, Bool, false, List, [], ◌∷◌, ◌++◌, length, Option, Some, Err, refl, sym, ap, ◌∙◌, subst, arith, append_assoc, append-nil}
 use Rattle.std.specs.Io.KnownBytes.{Consumes, IsAtEnd, prepend_known}
-use Rattle.tftp_packet.specs.declared.kinds.End.{End}
-use Rattle.tftp_capture.specs.CaptureText.{Begins, BeginsWith, HasFault, Numbered}
-use Rattle.tftp_capture.specs.History.{FailsToBegin, GoesOn, IsAtTextEnd, ReaderState}
-use Rattle.tftp_capture.specs.declared.fault.CaptureFault.{CaptureFault}
+use Rattle.tftp_packet.specs.{End}
+use Rattle.tftp_capture.specs.{Begins, BeginsWith, HasFault, Numbered, FailsToBegin, GoesOn, IsAtTextEnd, ReaderState, CaptureFault, Open}
 use Rattle.tftp_capture.specs.declared.fault.CaptureFault.TheVariants.{Text, Read, Memory}
-use Rattle.tftp_capture.specs.declared.standing.Standing.TheVariants.{Open}
 use Rattle.tftp_capture.proofs.Beginnings.{agree, begins_more, fault_after}
 use Rattle.tftp_capture.proofs.Staying.{stays}
-use Rattle.tftp_ends.specs.CaptureText.{Header}
-use Rattle.tftp_judge.specs.declared.verdict.Verdict.TheVariants.{Capture}
+use Rattle.tftp_hosts.specs.{Header}
+use Rattle.tftp_judge.specs.{Capture}
 use Rattle.tftp_judge.proofs.FirstFaults.{fault_kinds}
-use Rattle.tftp_match.specs.Merging.{HasBegun}
-use Rattle.tftp_match.specs.Said.{IsStopped, NamesEnd}
+use Rattle.tftp_match.specs.{HasBegun, IsStopped, NamesEnd}
 use Rattle.tftp_match.proofs.Fronts.{all_of, rest_of}
 
 pub has_begun : (before after : Option (List ℕ)) (failed : Bool) (reader : ReaderState) (taken : List ℕ) → Consumes before (prepend_known reader.lines.ahead after) taken → GoesOn reader.header reader.lines reader.count taken [] → reader.standing ≡ Open → failed ≡ false

@@ -1,11 +1,9 @@
 -- Two texts that are read side by side, of which one goes on.
 use Rattle.std.proofs.Common.{◌≡◌, ◌^◌, ◌<◌, ◌≤◌, ℕ, Option, Some, None, refl, sym, ap, subst, arith}
-use Rattle.tftp_packet.specs.declared.kinds.End.TheVariants.{Client, Server}
-use Rattle.tftp_judge.specs.Kept.{Judge}
-use Rattle.tftp_pair_judge.specs.Kept.{HasSame, Pair}
-use Rattle.tftp_match.specs.Reading.{IsSeenAt, Seen}
-use Rattle.tftp_match.specs.Merging.{BothRun, Runs, lines_left}
-use Rattle.tftp_match.specs.declared.reading.Halt.{Halt}
+use Rattle.tftp_packet.specs.{Client, Server}
+use Rattle.tftp_judge.specs.{Judge}
+use Rattle.tftp_pair_judge.specs.{HasSame, Pair}
+use Rattle.tftp_match.specs.{IsSeenAt, Seen, BothRun, Runs, lines_left, Halt}
 
 module _ (client server : Seen) (start : Pair) (mine theirs : Seen) (p p' : Pair) (runs : BothRun client server start mine theirs p) where
   pub client_goes : (mine' : Seen) → Runs Client mine p mine' p' → HasSame p.server p'.server → BothRun client server start mine' theirs p'

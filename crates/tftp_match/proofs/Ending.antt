@@ -1,25 +1,15 @@
 -- What there is to say of two texts of which no more is read.
-use Rattle.std.proofs.Common.{◌≡◌, inl, inr, ℕ, Bool, List, Option, Some, None, Result, Ok, Err, refl, sym, ap, ◌∙◌, subst}
-use Rattle.std.specs.Prelude.{length, reverse, IfOk, IfErr}
-use Rattle.tftp_packet.specs.declared.kinds.End.TheVariants.{Client, Server}
-use Rattle.tftp_capture.specs.History.{ReaderState}
-use Rattle.tftp_ends.specs.CaptureText.{Datagram, Header}
-use Rattle.tftp_ends.specs.Meaning.{Meaning}
-use Rattle.tftp_judge.specs.Verdict.{IsVerdict}
-use Rattle.tftp_judge.specs.declared.refusal.Refusal.{Refusal}
+use Rattle.std.proofs.Common.{◌≡◌, inl, inr, ℕ, Bool, List, Option, Some, None, Result, Ok, Err, refl, sym, ap, ◌∙◌, subst, length, reverse, IfOk, IfErr}
+use Rattle.tftp_packet.specs.{Client, Server}
+use Rattle.tftp_capture.specs.{ReaderState}
+use Rattle.tftp_hosts.specs.{Datagram, Header}
+use Rattle.tftp_model.specs.{Meaning}
+use Rattle.tftp_judge.specs.{IsVerdict, Refusal}
 use Rattle.tftp_judge.specs.declared.refusal.Refusal.TheVariants.{Memory}
-use Rattle.tftp_pair.specs.Captures.{Capture}
-use Rattle.tftp_pair.specs.PairVerdict.{IsLawfulTo, IsPairVerdict}
-use Rattle.tftp_pair_judge.specs.Rest.{IsRestAfter, Rest}
-use Rattle.tftp_pair_judge.specs.Verdicts.{IsReadOf}
-use Rattle.tftp_match.specs.Datagrams.{capture_of}
-use Rattle.tftp_match.specs.Merging.{HasBegun}
-use Rattle.tftp_match.specs.Reading.{IsFinished, IsHalted, said_by}
-use Rattle.tftp_match.specs.Said.{AreCopies, AreNumbersOf, AreTogether, AreWhys, IsApart, IsPairSaid, IsWhy}
-use Rattle.tftp_match.specs.declared.reading.Halt.{Halt}
-use Rattle.tftp_match.specs.declared.said.Apart.{Apart}
-use Rattle.tftp_match.specs.declared.said.Apart.TheVariants.{WrongEnd, Stopped}
-use Rattle.tftp_match.specs.declared.said.Matched.{Matched}
+use Rattle.tftp_pair.specs.{Capture, IsLawfulTo, IsPairVerdict}
+use Rattle.tftp_pair_judge.specs.Rest.{Rest}
+use Rattle.tftp_pair_judge.specs.{IsRestAfter, IsReadOf}
+use Rattle.tftp_match.specs.{capture_of, HasBegun, IsFinished, IsHalted, said_by, AreCopies, AreNumbersOf, AreTogether, AreWhys, IsApart, IsPairSaid, IsWhy, Halt, Apart, WrongEnd, Stopped, Matched}
 use Rattle.tftp_match.proofs.Begun.{names_end}
 
 pub finished : (refused : Option Refusal) (h : Header) (read : List Datagram) (r : Result Meaning Refusal) → (refused ≡ None → IsVerdict h (reverse read) r) → ((count : ℕ) → refused ≡ None → r ≡ Err (Memory count) → ⊥)

@@ -3,15 +3,14 @@ use Rattle.std.proofs.Common.{◌≡◌, ◌≤◌, inl, inr, ℕ, List, [], ◌
 use Rattle.std.specs.Io.KnownBytes.{Consumes, IsAtEnd}
 use Rattle.std.proofs.Math.Seq.{take-append_seam}
 use Rattle.std.proofs.lemmas.List.{length-append, length-reverse, map-append, reverse-append}
-use Rattle.tftp_capture.specs.CaptureText.{Begins, BeginsWith, HasFault, IsCapture, Numbered}
-use Rattle.tftp_capture.specs.declared.fault.TextFault.{TextFault}
+use Rattle.tftp_capture.specs.{Begins, BeginsWith, HasFault, IsCapture, Numbered, TextFault}
 use Rattle.tftp_capture.proofs.Beginnings.{agree, capture_begins, capture_has, fault_after}
-use Rattle.tftp_ends.specs.CaptureText.{Datagram, Header}
-use Rattle.tftp_law.specs.OneEnded.{OneEnded}
-use Rattle.tftp_judge.specs.TextVerdict.{unnumbered}
-use Rattle.tftp_pair.specs.PairVerdict.{IsLawfulTo}
-use Rattle.tftp_pair_judge.specs.Verdicts.{IsReadOf}
-use Rattle.tftp_match.specs.Datagrams.{HasDatagrams, capture_of}
+use Rattle.tftp_hosts.specs.{Datagram, Header}
+use Rattle.tftp_law.specs.{OneEnded}
+use Rattle.tftp_judge.specs.{unnumbered}
+use Rattle.tftp_pair.specs.{IsLawfulTo}
+use Rattle.tftp_pair_judge.specs.{IsReadOf}
+use Rattle.tftp_match.specs.{HasDatagrams, capture_of}
 
 -- ---- lists
 

@@ -3,38 +3,23 @@ use Rattle.std.proofs.Common.{◌≡◌, ◌≤◌, ◌⊎◌, inl, inr, ℕ, Bo
 use Rattle.std.specs.Io.KnownBytes.{Consumes, IsAtEnd, prepend_known}
 use Rattle.std.proofs.KnownBytes.{Consumes-trans}
 use Rattle.std.proofs.lemmas.List.{map-append, reverse-append, reverse-reverse}
-use Rattle.tftp_capture.specs.CaptureText.{Begins, HasFault, IsCapture, Numbered}
-use Rattle.tftp_capture.specs.Fields.{datagram_of}
-use Rattle.tftp_capture.specs.History.{Continues, GoesOn, IsAtTextEnd, IsReadFault, ReaderState, StandingTells, StandsFor, standing_after, with_answer}
+use Rattle.tftp_capture.specs.{Begins, HasFault, IsCapture, Numbered, datagram_of, Continues, GoesOn, IsAtTextEnd, IsReadFault, ReaderState, StandingTells, StandsFor, standing_after, with_answer, CaptureFault, TextFault, Open, Over, Failed, Stands}
 use Rattle.tftp_capture.specs.declared.datagram.Datagram.{Datagram as Owned}
-use Rattle.tftp_capture.specs.declared.fault.CaptureFault.{CaptureFault}
 use Rattle.tftp_capture.specs.declared.fault.CaptureFault.TheVariants.{Text, Read, Memory as NoMemory}
-use Rattle.tftp_capture.specs.declared.fault.TextFault.{TextFault}
-use Rattle.tftp_capture.specs.declared.standing.Standing.TheVariants.{Open, Over, Failed}
 use Rattle.tftp_capture.proofs.Beginnings.{begins_more, capture_begins}
 use Rattle.tftp_capture.proofs.Staying.{stays}
-use Rattle.tftp_ends.specs.CaptureText.{Datagram, Header}
-use Rattle.tftp_ends.specs.Meaning.{Meaning}
-use Rattle.tftp_law.specs.OneEnded.{OneEnded}
-use Rattle.tftp_judge.specs.Finds.{Refuses}
-use Rattle.tftp_judge.specs.Kept.{IsJudgeAfter, Judge}
-use Rattle.tftp_judge.specs.TextVerdict.{IsOfText, IsReadVerdict, IsTextVerdict, SaysReadFailed, unnumbered}
-use Rattle.tftp_judge.specs.Verdict.{IsVerdict}
-use Rattle.tftp_judge.specs.declared.refusal.Refusal.{Refusal}
-use Rattle.tftp_judge.specs.declared.refusal.Refusal.TheVariants.{Unlawful, Aborted, Incomplete, NormalTooLong, Memory}
-use Rattle.tftp_judge.specs.declared.verdict.Verdict.{Verdict}
-use Rattle.tftp_judge.specs.declared.verdict.Verdict.TheVariants.{Capture, Refused as RefusedFor}
+use Rattle.tftp_hosts.specs.{Datagram, Header}
+use Rattle.tftp_model.specs.{Meaning}
+use Rattle.tftp_law.specs.{OneEnded}
+use Rattle.tftp_judge.specs.{Refuses, IsJudgeAfter, Judge, IsOfText, IsReadVerdict, IsTextVerdict, SaysReadFailed, unnumbered, IsVerdict, Refusal, Unlawful, Aborted, Incomplete, NormalTooLong, Verdict, Capture, Refused as RefusedFor}
+use Rattle.tftp_judge.specs.declared.refusal.Refusal.TheVariants.{Memory}
 use Rattle.tftp_judge.proofs.FirstFaults.{begins_longer, fault_kinds}
 use Rattle.tftp_judge.proofs.Follows.{Follows, found_fault, found_refused}
 use Rattle.tftp_judge.proofs.TextFound.{Closed, Found, closed, found_ended, found_exact, found_judged, found_tally, found_whole}
-use Rattle.tftp_capture.specs.CaptureText.{Stands}
 use Rattle.tftp_capture.specs.CaptureText.Due.{Body}
-use Rattle.tftp_pair.specs.PairVerdict.{IsLawfulTo}
-use Rattle.tftp_pair_judge.specs.Verdicts.{IsReadOf}
-use Rattle.tftp_match.specs.Datagrams.{HasDatagrams, capture_of}
-use Rattle.tftp_match.specs.Judged.{IsJudged}
-use Rattle.tftp_match.specs.Reading.{HasRead, IsFinished, IsGiven, IsHalted, said_by}
-use Rattle.tftp_match.specs.declared.reading.Halt.TheVariants.{Ended, Refused, Fault}
+use Rattle.tftp_pair.specs.{IsLawfulTo}
+use Rattle.tftp_pair_judge.specs.{IsReadOf}
+use Rattle.tftp_match.specs.{HasDatagrams, capture_of, IsJudged, HasRead, IsFinished, IsGiven, IsHalted, said_by, Ended, Refused, Fault}
 use Rattle.tftp_match.proofs.Fronts.{all_of, front_in, has_before_fault, has_captured, lawful_front, lawful_whole, rest_of}
 
 -- ---- what was found is what there is to say

@@ -1,32 +1,24 @@
 -- Two captures are said to be matched exactly if one run has both.
 use Rattle.std.proofs.Common.{◌≡◌, ◌⊎◌, ◌↔◌, inl, inr, ℕ, Bool, false, true≢false, List, Option, Some, Result, Ok, Err, sym, ◌∙◌, subst}
-use Rattle.tftp_packet.specs.declared.kinds.End.TheVariants.{Client, Server}
-use Rattle.tftp_capture.specs.CaptureText.{IsCapture, Numbered}
+use Rattle.tftp_packet.specs.{Client, Server}
+use Rattle.tftp_capture.specs.{IsCapture, Numbered}
 use Rattle.tftp_capture.specs.CaptureText.Reading.{Capture as Says}
 use Rattle.tftp_capture.specs.declared.fault.CaptureFault.TheVariants.{Text, Read, Memory as NoMemory}
 use Rattle.tftp_capture.proofs.Beginnings.{capture_begins, capture_has}
 use Rattle.tftp_capture.proofs.Readings.{reads_same}
-use Rattle.tftp_ends.specs.CaptureText.{Header}
-use Rattle.tftp_ends.specs.Meaning.{Meaning}
-use Rattle.tftp_law.specs.Law.{IsLawful}
-use Rattle.tftp_law.proofs.TwoEnds.{lawful}
-use Rattle.tftp_judge.specs.TextVerdict.{IsOfText, IsTextVerdict, SaysReadFailed, WantsMemory, unnumbered}
-use Rattle.tftp_judge.specs.Verdict.{IsVerdict}
-use Rattle.tftp_judge.specs.declared.refusal.Refusal.TheVariants.{Unlawful, Aborted, Incomplete, NormalTooLong, Memory}
-use Rattle.tftp_judge.specs.declared.verdict.Verdict.{Verdict}
-use Rattle.tftp_judge.specs.declared.verdict.Verdict.TheVariants.{Capture, Refused}
+use Rattle.tftp_hosts.specs.{Header}
+use Rattle.tftp_model.specs.{Meaning}
+use Rattle.tftp_law.specs.{IsLawful}
+use Rattle.tftp_law.proofs.Whole.TwoEnds.{lawful}
+use Rattle.tftp_judge.specs.{IsOfText, IsTextVerdict, SaysReadFailed, WantsMemory, unnumbered, IsVerdict, Unlawful, Aborted, Incomplete, NormalTooLong, Verdict, Capture, Refused}
+use Rattle.tftp_judge.specs.declared.refusal.Refusal.TheVariants.{Memory}
 use Rattle.tftp_judge.proofs.OneTextVerdict.{captured_or_faulty, longer_unlawful}
 use Rattle.tftp_judge.proofs.OneVerdict.{not_lawful}
 use Rattle.tftp_judge.proofs.TextFound.{answers}
-use Rattle.tftp_pair.specs.Captures.{AreConsistent}
+use Rattle.tftp_pair.specs.{AreConsistent}
 use Rattle.tftp_pair.proofs.PairVerdict.{kept_all, lawful_whole, pair_decides}
-use Rattle.tftp_match.specs.Datagrams.{capture_of}
+use Rattle.tftp_match.specs.{capture_of, IsJudged, IsAllLawful, IsPairSaid, IsTextFault, SaysMatched, Apart, WrongEnd, Stopped, Matched}
 use Rattle.tftp_match.proofs.Fronts.{has_all}
-use Rattle.tftp_match.specs.Judged.{IsJudged}
-use Rattle.tftp_match.specs.Said.{IsAllLawful, IsPairSaid, IsTextFault, SaysMatched}
-use Rattle.tftp_match.specs.declared.said.Apart.{Apart}
-use Rattle.tftp_match.specs.declared.said.Apart.TheVariants.{WrongEnd, Stopped}
-use Rattle.tftp_match.specs.declared.said.Matched.{Matched}
 
 -- ---- one capture
 

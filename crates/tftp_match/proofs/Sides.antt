@@ -1,14 +1,11 @@
 -- The judge of a pair, with one of its ends first.
-use Rattle.std.proofs.Common.{◌≡◌, ◌∷◌, List, false, true≢false, Option, Some, None, refl, sym, ◌∙◌}
-use Rattle.std.specs.Prelude.{is_some}
-use Rattle.tftp_packet.specs.declared.kinds.End.{End}
-use Rattle.tftp_packet.specs.declared.kinds.End.TheVariants.{Client, Server}
-use Rattle.tftp_ends.specs.CaptureText.{Datagram, Header}
-use Rattle.tftp_judge.specs.Kept.{IsJudgeAfter, Judge}
-use Rattle.tftp_judge.specs.declared.refusal.Refusal.{Refusal}
-use Rattle.tftp_pair_judge.specs.Kept.{HasSame, IsPairAfter, Pair, Side}
-use Rattle.tftp_pair_judge.specs.Rest.{IsRestAfter, Rest}
-use Rattle.tftp_match.specs.Merging.{IsPairAt, IsRestAt, judge_at, left_judge_at}
+use Rattle.std.proofs.Common.{◌≡◌, ◌∷◌, List, false, true≢false, Option, Some, None, refl, sym, ◌∙◌, is_some}
+use Rattle.tftp_packet.specs.{End, Client, Server}
+use Rattle.tftp_hosts.specs.{Datagram, Header}
+use Rattle.tftp_judge.specs.{IsJudgeAfter, Judge, Refusal}
+use Rattle.tftp_pair_judge.specs.{HasSame, IsPairAfter, Pair, Side, IsRestAfter}
+use Rattle.tftp_pair_judge.specs.Rest.{Rest}
+use Rattle.tftp_match.specs.{IsPairAt, IsRestAt, judge_at, left_judge_at}
 
 pub own_of_pair : (e : End) (p : Pair) (h k : Header) (read other : List Datagram) → IsPairAt e p h read k other → (judge_at e p).refused ≡ None → IsJudgeAfter (judge_at e p) h read
 own_of_pair Client p h k read other at none = at.own_side.goes_on none

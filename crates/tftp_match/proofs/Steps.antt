@@ -1,14 +1,9 @@
 -- One step of a text that is read: what judges stood for all that was read, it stands for all that is read then.
 use Rattle.std.proofs.Common.{◌≡◌, ℕ, Bool, List, ◌∷◌, Option, Some, None, sym, subst}
-use Rattle.tftp_capture.specs.History.{ReaderState}
-use Rattle.tftp_ends.specs.CaptureText.{Datagram, Header}
-use Rattle.tftp_judge.specs.Finds.{Refuses}
-use Rattle.tftp_judge.specs.Kept.{IsJudgeAfter, Judge}
-use Rattle.tftp_judge.specs.declared.refusal.Refusal.{Refusal}
-use Rattle.tftp_match.specs.Reading.{GoesOnAt, IsGiven, IsHalted, IsSeenAt, Seen, seen}
-use Rattle.tftp_match.specs.Merging.{RunsBy}
-use Rattle.tftp_match.specs.declared.reading.Halt.{Halt}
-use Rattle.tftp_match.specs.declared.reading.Halt.TheVariants.{Refused}
+use Rattle.tftp_capture.specs.{ReaderState}
+use Rattle.tftp_hosts.specs.{Datagram, Header}
+use Rattle.tftp_judge.specs.{Refuses, IsJudgeAfter, Judge, Refusal}
+use Rattle.tftp_match.specs.{GoesOnAt, IsGiven, IsHalted, IsSeenAt, Seen, seen, RunsBy, Halt, Refused}
 
 -- ---- whether more is read
 

@@ -1,9 +1,9 @@
 -- The datagrams of a capture text, also of one that has a fault behind them.
 use Rattle.std.specs.Prelude.{ℕ, List}
-use Rattle.tftp_capture.specs.CaptureText.{Begins, BeginsWith, Numbered}
-use Rattle.tftp_ends.specs.CaptureText.{Header}
-use Rattle.tftp_judge.specs.TextVerdict.{unnumbered}
-use Rattle.tftp_pair.specs.Captures.{Capture}
+use Rattle.tftp_capture.specs.{Begins, BeginsWith, Numbered}
+use Rattle.tftp_hosts.specs.{Header}
+use Rattle.tftp_judge.specs.{unnumbered}
+use Rattle.tftp_pair.specs.{Capture}
 
 -- The text begins with a header and these datagrams, and with no others but the first of these: they are all of a capture,
 -- or all before the text's first fault.

@@ -1,12 +1,11 @@
 -- Two capture texts that are read side by side. Lists of datagrams have the newest first.
 use Rattle.std.specs.Prelude.{◌≡◌, ◌+◌, ◌-◌, ◌^◌, ℕ, List, [], Bool, Option, Some, None}
-use Rattle.tftp_packet.specs.declared.kinds.End.{End}
-use Rattle.tftp_packet.specs.declared.kinds.End.TheVariants.{Client, Server}
-use Rattle.tftp_capture.specs.History.{ReaderState}
-use Rattle.tftp_ends.specs.CaptureText.{Datagram, Header}
-use Rattle.tftp_judge.specs.Kept.{IsJudgeAfter, Judge}
-use Rattle.tftp_pair_judge.specs.Kept.{IsPairAfter, Pair, side_at}
-use Rattle.tftp_pair_judge.specs.Rest.{IsRestAfter, Rest, left_at}
+use Rattle.tftp_packet.specs.{End, Client, Server}
+use Rattle.tftp_capture.specs.{ReaderState}
+use Rattle.tftp_hosts.specs.{Datagram, Header}
+use Rattle.tftp_judge.specs.{IsJudgeAfter, Judge}
+use Rattle.tftp_pair_judge.specs.{IsPairAfter, Pair, side_at, IsRestAfter, left_at}
+use Rattle.tftp_pair_judge.specs.Rest.{Rest}
 use Rattle.tftp_match.specs.Reading.{GoesOnAt, IsSeenAt, Seen}
 use Rattle.tftp_match.specs.declared.reading.Halt.{Halt}
 

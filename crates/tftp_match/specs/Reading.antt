@@ -1,20 +1,13 @@
 -- What was read of one of two capture texts, and why no more is. Lists of datagrams have the newest first, but those of texts.
 use Rattle.std.specs.Prelude.{◌≡◌, ◌∷◌, ℕ, List, Bool, false, length, reverse, Option, Some, None, Result, Ok, Err}
 use Rattle.std.specs.Io.KnownBytes.{Consumes, prepend_known}
-use Rattle.tftp_capture.specs.CaptureText.{Numbered}
-use Rattle.tftp_capture.specs.History.{GoesOn, ReaderState}
-use Rattle.tftp_capture.specs.declared.standing.Standing.TheVariants.{Open}
-use Rattle.tftp_ends.specs.CaptureText.{Datagram, Header}
-use Rattle.tftp_ends.specs.Meaning.{Meaning}
-use Rattle.tftp_judge.specs.Finds.{Refuses}
-use Rattle.tftp_judge.specs.TextVerdict.{IsOfText, unnumbered}
-use Rattle.tftp_judge.specs.Verdict.{IsVerdict}
-use Rattle.tftp_judge.specs.declared.refusal.Refusal.{Refusal}
+use Rattle.tftp_capture.specs.{Numbered, GoesOn, ReaderState, Open}
+use Rattle.tftp_hosts.specs.{Datagram, Header}
+use Rattle.tftp_model.specs.{Meaning}
+use Rattle.tftp_judge.specs.{Refuses, IsOfText, unnumbered, IsVerdict, Refusal, Verdict, Capture, Refused as RefusedFor}
 use Rattle.tftp_judge.specs.declared.refusal.Refusal.TheVariants.{Memory}
-use Rattle.tftp_judge.specs.declared.verdict.Verdict.{Verdict}
-use Rattle.tftp_judge.specs.declared.verdict.Verdict.TheVariants.{Capture, Refused as RefusedFor}
-use Rattle.tftp_pair.specs.PairVerdict.{IsLawfulTo}
-use Rattle.tftp_pair_judge.specs.Verdicts.{IsReadOf}
+use Rattle.tftp_pair.specs.{IsLawfulTo}
+use Rattle.tftp_pair_judge.specs.{IsReadOf}
 use Rattle.tftp_match.specs.Judged.{IsJudged}
 use Rattle.tftp_match.specs.Datagrams.{HasDatagrams, capture_of}
 use Rattle.tftp_match.specs.declared.reading.Halt.{Halt}

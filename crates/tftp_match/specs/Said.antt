@@ -1,18 +1,14 @@
 -- What there is to say of two capture texts together.
 use Rattle.std.specs.Prelude.{◌≡◌, ◌⊎◌, ℕ, List, [], Bool, Option, Some, Result, Ok, Err, IfOk, IfErr}
-use Rattle.tftp_packet.specs.declared.kinds.End.{End}
-use Rattle.tftp_packet.specs.declared.kinds.End.TheVariants.{Client, Server}
-use Rattle.tftp_capture.specs.CaptureText.{Begins, Numbered}
+use Rattle.tftp_packet.specs.{End, Client, Server}
+use Rattle.tftp_capture.specs.{Begins, Numbered}
 use Rattle.tftp_capture.specs.declared.fault.CaptureFault.TheVariants.{Text, Read, Memory}
-use Rattle.tftp_ends.specs.CaptureText.{Header}
-use Rattle.tftp_ends.specs.Meaning.{Meaning}
-use Rattle.tftp_judge.specs.TextVerdict.{IsOfText}
+use Rattle.tftp_hosts.specs.{Header}
+use Rattle.tftp_model.specs.{Meaning}
+use Rattle.tftp_judge.specs.{IsOfText, Verdict, Capture, Refused}
 use Rattle.tftp_judge.specs.declared.refusal.Refusal.TheVariants as refusal
-use Rattle.tftp_judge.specs.declared.verdict.Verdict.{Verdict}
-use Rattle.tftp_judge.specs.declared.verdict.Verdict.TheVariants.{Capture, Refused}
-use Rattle.tftp_pair.specs.Captures.{Capture as Captured}
-use Rattle.tftp_pair.specs.PairVerdict.{IsPairVerdict}
-use Rattle.tftp_pair_judge.specs.Verdicts.{AreCarried, AreCountsOf, IsWhyWaiting}
+use Rattle.tftp_pair.specs.{Capture as Captured, IsPairVerdict}
+use Rattle.tftp_pair_judge.specs.{AreCarried, AreCountsOf, IsWhyWaiting}
 use Rattle.tftp_match.specs.Judged.{IsJudged}
 use Rattle.tftp_match.specs.Datagrams.{HasDatagrams, capture_of}
 use Rattle.tftp_match.specs.declared.said.Matched.{Matched}

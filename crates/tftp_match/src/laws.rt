@@ -1,9 +1,8 @@
 //! Laws of the definitions in `specs/`. Each is the contract of a function that does nothing.
 
 ghost use Rattle.std.specs.Prelude.{◌≡◌, ℕ, List};
-ghost use Rattle.tftp_capture.specs.CaptureText.{Begins, HasFault, IsCapture, Numbered};
-ghost use Rattle.tftp_capture.specs.declared.fault.TextFault.{TextFault};
-ghost use Rattle.tftp_ends.specs.CaptureText.{Header};
+ghost use Rattle.tftp_capture.specs.{Begins, HasFault, IsCapture, Numbered, TextFault};
+ghost use Rattle.tftp_hosts.specs.{Header};
 ghost use Rattle.tftp_match.specs.Datagrams.{HasDatagrams};
 
 /// The datagrams of a capture are those that it says, the datagrams of a text with a fault are those before it, where it has

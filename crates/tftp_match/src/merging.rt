@@ -1,15 +1,15 @@
 ghost use Rattle.std.specs.Prelude.{◌≡◌, ◌<◌, ◌≤◌, ◌^◌, true, false, None, is_some};
-ghost use Rattle.tftp_capture.specs.declared.standing.Standing.{Standing};
-ghost use Rattle.tftp_ends.specs.Roles.{other_end};
-ghost use Rattle.tftp_pair_judge.specs.Kept.{HasSame, side_at};
+ghost use Rattle.tftp_capture.specs.{Standing};
+ghost use Rattle.tftp_model.specs.Roles.{other_end};
+ghost use Rattle.tftp_pair_judge.specs.{HasSame, side_at};
 ghost use Rattle.tftp_match.specs.Merging.{BothRun, Runs, judge_at};
 ghost use Rattle.tftp_match.specs.Reading.{seen};
 
 use crate::reading::{Halt, Reading};
 use std::alloc::Global;
 use std::io::Read;
+use tftp_blocks::RingDelivered;
 use tftp_capture::{Datagram, Tallied};
-use tftp_ends::RingDelivered;
 use tftp_packet::End;
 use tftp_pair_judge::PairJudge;
 

@@ -1,8 +1,7 @@
 ghost use Rattle.std.specs.Prelude.{◌≡◌, ◌<◌, ◌≤◌, ◌^◌, ℕ, List, length, true, false, Option, None, Some};
-ghost use Rattle.tftp_capture.specs.Fields.{datagram_of};
-ghost use Rattle.tftp_capture.specs.declared.standing.Standing.{Standing};
-ghost use Rattle.tftp_ends.specs.CaptureText.{Datagram as DatagramParts, Header as HeaderParts};
-ghost use Rattle.tftp_judge.specs.Kept.{IsJudgeAfter, Judge as JudgeParts};
+ghost use Rattle.tftp_capture.specs.{datagram_of, Standing};
+ghost use Rattle.tftp_hosts.specs.{Datagram as DatagramParts, Header as HeaderParts};
+ghost use Rattle.tftp_judge.specs.{IsJudgeAfter, Judge as JudgeParts};
 ghost use Rattle.tftp_match.specs.Reading.{GoesOnAt, IsGiven, IsHalted, said_by};
 ghost use Rattle.tftp_match.specs.declared.reading.Halt.{Halt as HaltKind};
 

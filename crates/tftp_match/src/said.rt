@@ -1,5 +1,5 @@
 ghost use Rattle.std.specs.Prelude.{◌↔◌, IsTrue, IfOk, IfErr};
-ghost use Rattle.tftp_judge.specs.TextVerdict.{IsOfText};
+ghost use Rattle.tftp_judge.specs.{IsOfText};
 ghost use Rattle.tftp_match.specs.Said.{AreTogether, IsAllLawful, IsApart, SaysMatched};
 
 use tftp_capture::CaptureFault;

@@ -1,10 +1,8 @@
 -- Numbers that answer numbers.
-use Rattle.std.proofs.Common.{◌≡◌, ◌⊎◌, inl, inr, ℕ, List, Option, Some, None, refl, sym, subst, ◌∙◌}
-use Rattle.std.specs.Prelude.{option_and_then}
+use Rattle.std.proofs.Common.{◌≡◌, ◌⊎◌, inl, inr, ℕ, List, Option, Some, None, refl, sym, subst, ◌∙◌, option_and_then}
 use Rattle.std.specs.FinMap as map
-use Rattle.tftp_packet.specs.OptionMap.{OptionMap, OptionValue, Num, Text, number_in}
-use Rattle.tftp_nego.specs.Faults.{HasOption}
-use Rattle.tftp_nego.specs.Agreed.{both, numbers_of, IsAnswered, IsUnanswered, AreNot}
+use Rattle.tftp_packet.specs.{OptionMap, OptionValue, Num, Text, number_in}
+use Rattle.tftp_nego.specs.{HasOption, both, numbers_of, IsAnswered, IsUnanswered, AreNot}
 
 pub answered_none : (May : ℕ → ℕ → Type 0) (asked given : OptionMap) (name : List ℕ) → map.get given name ≡ None → IsAnswered May asked given name
 answered_none May asked given name none value e = let same : None ≡ Some value = sym none ∙ e in absurd (let x : ⊥ = cc in x)

@@ -1,11 +1,8 @@
 -- The faults stand in one order, so the first one is one.
 use Rattle.std.proofs.Common.{◌≡◌, inl, inr, ◌<◌, refl, arith}
 use Rattle.std.proofs.lemmas.Bool.{cases_lt}
-use Rattle.tftp_packet.specs.OptionMap.{OptionMap}
-use Rattle.tftp_packet.specs.Message.{RequestParts}
-use Rattle.tftp_nego.specs.declared.fault.NegoFault.{NegoFault}
-use Rattle.tftp_nego.specs.declared.fault.NegoFault.TheVariants.{OackEmpty, MulticastAgreed, OptionNotRequested, OptionOutsideProfile, OptionValue, BeyondBlock65535, Memory}
-use Rattle.tftp_nego.specs.Faults.{Holds, number, FirstFault}
+use Rattle.tftp_packet.specs.{OptionMap, RequestParts}
+use Rattle.tftp_nego.specs.{NegoFault, OackEmpty, MulticastAgreed, OptionNotRequested, OptionOutsideProfile, OptionValue, BeyondBlock65535, Memory, Holds, number, FirstFault}
 
 number_injective : (f g : NegoFault) → number f ≡ number g → f ≡ g
 number_injective OackEmpty OackEmpty e = refl

@@ -1,15 +1,13 @@
 -- The numbers of options are in range.
-use Rattle.std.proofs.Common.{◌≡◌, ℕ, ◌<◌, ◌≤◌, Bool, true, false, cond, List, Option, Some, None, refl, sym, ap, subst, ◌∙◌, arith}
-use Rattle.std.specs.Prelude.{option_and_then, codes, nat_le, ◌&&◌}
+use Rattle.std.proofs.Common.{◌≡◌, ℕ, ◌<◌, ◌≤◌, Bool, true, false, cond, List, Option, Some, None, refl, sym, ap, subst, ◌∙◌, arith, option_and_then, codes, nat_le, ◌&&◌}
 use Rattle.std.specs.Ordering.{nat_cmp}
 use Rattle.std.specs.Cmp.Lexicographic.{slice_cmp}
 use Rattle.std.specs.FinMap as map
 use Rattle.std.specs.FinMap.{get-empty}
 use Rattle.std.specs.Str.Parse.{digits_value}
 use Rattle.std.proofs.lemmas.Bool.{leb-true, and_parts}
-use Rattle.tftp_packet.specs.OptionMap.{OptionMap, OptionValue, Num, Text, value_of, is_known_number, is_number, is_within, range_of, number_in, no_options}
-use Rattle.tftp_packet.specs.Written.{Pair, map_of}
-use Rattle.tftp_nego.specs.Agreed.{AreInRange}
+use Rattle.tftp_packet.specs.{OptionMap, OptionValue, Num, Text, value_of, is_known_number, is_number, is_within, range_of, number_in, no_options, Pair, map_of}
+use Rattle.tftp_nego.specs.{AreInRange}
 use Rattle.tftp_nego.proofs.OptionMaps.{text_of_value}
 
 cond_number : (b : Bool) (d n : ℕ) (text : List ℕ) → cond b (Num d) (Text text) ≡ Num n → (b ≡ true) × (d ≡ n)

@@ -1,19 +1,15 @@
 -- What is said of the options one by one, and of their map.
-use Rattle.std.proofs.Common.{◌≡◌, ◌≢◌, inl, inr, ℕ, Bool, true, false, cond, List, [], ◌∷◌, Option, Some, None, refl, sym, ap, subst, ◌∙◌}
-use Rattle.std.specs.Prelude.{bytes_eq, option_map, is_some}
+use Rattle.std.proofs.Common.{◌≡◌, ◌≢◌, inl, inr, ℕ, Bool, true, false, cond, List, [], ◌∷◌, Option, Some, None, refl, sym, ap, subst, ◌∙◌, bytes_eq, option_map, is_some}
 use Rattle.std.specs.Ordering.{nat_cmp}
 use Rattle.std.specs.Cmp.Lexicographic.{slice_cmp}
 use Rattle.std.specs.FinMap as map
 use Rattle.std.specs.FinMap.{get-empty}
 use Rattle.std.proofs.lemmas.Slice.Eq.{bytes_eq-Decides}
 use Rattle.std.proofs.lemmas.Bool.{cases_Bool}
-use Rattle.tftp_packet.specs.OptionMap.{OptionMap, OptionValue, lower, value_of, no_options}
-use Rattle.tftp_packet.specs.Written.{Pair, map_of, text_of, AreApart}
-use Rattle.tftp_packet.specs.Same.{HasEach}
+use Rattle.tftp_packet.specs.{OptionMap, OptionValue, lower, value_of, no_options, Pair, map_of, text_of, AreApart, HasEach}
 use Rattle.tftp_packet.proofs.Maps.{text_in_map}
 use Rattle.tftp_packet.proofs.SameMaps.{map_has_each}
-use Rattle.tftp_nego.specs.Faults.{HasOption}
-use Rattle.tftp_nego.specs.Agreed.{EachName, SomeName}
+use Rattle.tftp_nego.specs.{HasOption, EachName, SomeName}
 
 -- ---- the texts and the map
 no_text : {X : Type 0} (f : X → List ℕ) (o : Option X) (found : Option (List ℕ)) → is_some o ≡ false → option_map f o ≡ found → found ≡ None

@@ -1,19 +1,11 @@
 -- From the tests of an OACK, one by one, to its agreement or its first fault.
-use Rattle.std.proofs.Common.{Bool, true, false, cond, ◌≡◌, ◌≢◌, inl, inr, ℕ, ◌<◌, ◌≤◌, List, [], ◌∷◌, get_or, Some, None, refl, sym, ap, subst, ◌∙◌, arith}
-use Rattle.std.specs.Prelude.{codes, bytes_eq}
+use Rattle.std.proofs.Common.{Bool, true, false, cond, ◌≡◌, ◌≢◌, inl, inr, ℕ, ◌<◌, ◌≤◌, List, [], ◌∷◌, get_or, Some, None, refl, sym, ap, subst, ◌∙◌, arith, codes, bytes_eq}
 use Rattle.std.proofs.lemmas.Slice.Eq.{bytes_eq-Decides}
 use Rattle.std.specs.FinMap as map
 use Rattle.std.proofs.lemmas.Bool.{cases_lt}
-use Rattle.tftp_packet.specs.OptionMap.{OptionMap, OptionValue, Num, Text, no_options, lower, value_of}
-use Rattle.tftp_packet.specs.Message.{RequestParts}
-use Rattle.tftp_packet.specs.Written.{Pair, map_of, AreApart}
-use Rattle.tftp_packet.specs.declared.kinds.Side.{Side}
-use Rattle.tftp_packet.specs.declared.kinds.Side.TheVariants.{Get, Put}
-use Rattle.tftp_nego.specs.declared.fault.NegoFault.{NegoFault}
+use Rattle.tftp_packet.specs.{OptionMap, OptionValue, Num, Text, no_options, lower, value_of, RequestParts, Pair, map_of, AreApart, Side, Get, Put}
+use Rattle.tftp_nego.specs.{NegoFault, MayAnswer, MayAgree, Holds, FirstFault, HasOption, IsOutsideProfile, IsWrongNumber, IsWrongValue, EachName, SomeName, IsInProfile, IsAnswered, IsUnanswered, AreNot, IsLowered, IsKept, IsSize, AllAnswered, SomeUnanswered, FitsNumbers}
 use Rattle.tftp_nego.specs.declared.fault.NegoFault.TheVariants as fault
-use Rattle.tftp_nego.specs.Agreement.{MayAnswer, MayAgree}
-use Rattle.tftp_nego.specs.Faults.{Holds, FirstFault, HasOption, IsOutsideProfile, IsWrongNumber, IsWrongValue}
-use Rattle.tftp_nego.specs.Agreed.{EachName, SomeName, IsInProfile, IsAnswered, IsUnanswered, AreNot, IsLowered, IsKept, IsSize, AllAnswered, SomeUnanswered, FitsNumbers}
 use Rattle.tftp_nego.proofs.OptionMaps.{text_of_value, each_in_map, some_in_map, has_not_empty, some_not_empty}
 use Rattle.tftp_nego.proofs.FaultOrder.{first_MulticastAgreed, first_OptionNotRequested, first_OptionOutsideProfile, first_OptionValue, first_BeyondBlock65535}
 

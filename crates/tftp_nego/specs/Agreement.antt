@@ -1,11 +1,7 @@
 -- Which options a server may agree to (RFC 2347; RFC 2348; RFC 2349; RFC 7440, section 3).
 use Rattle.std.specs.Prelude.{◌≡◌, ℕ, ◌+◌, ◌/◌, ◌≤◌, ◌⊎◌, List, Some, codes}
 use Rattle.std.specs.FinMap as map
-use Rattle.tftp_packet.specs.OptionMap.{OptionMap, OptionValue, Num}
-use Rattle.tftp_packet.specs.Message.{RequestParts}
-use Rattle.tftp_packet.specs.declared.kinds.Side.{Side}
-use Rattle.tftp_packet.specs.declared.kinds.Side.TheVariants.{Put}
-use Rattle.tftp_packet.specs.declared.kinds.Mode.TheVariants.{Octet}
+use Rattle.tftp_packet.specs.{OptionMap, OptionValue, Num, RequestParts, Side, Put, Octet}
 use Rattle.tftp_nego.specs.Numbers.{option_or}
 
 -- The number given may answer the number asked for. A server lowers a block size or a window and takes over a

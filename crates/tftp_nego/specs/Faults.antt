@@ -2,11 +2,7 @@
 -- RFC 2349; RFC 7440, section 3).
 use Rattle.std.specs.Prelude.{◌≡◌, ◌≢◌, ◌⊎◌, ℕ, ◌+◌, ◌/◌, ◌<◌, List, Some, None, codes}
 use Rattle.std.specs.FinMap as map
-use Rattle.tftp_packet.specs.OptionMap.{OptionMap, OptionValue, Num, Text, no_options}
-use Rattle.tftp_packet.specs.Message.{RequestParts}
-use Rattle.tftp_packet.specs.declared.kinds.Side.{Side}
-use Rattle.tftp_packet.specs.declared.kinds.Side.TheVariants.{Put}
-use Rattle.tftp_packet.specs.declared.kinds.Mode.TheVariants.{Octet}
+use Rattle.tftp_packet.specs.{OptionMap, OptionValue, Num, Text, no_options, RequestParts, Side, Put, Octet}
 use Rattle.tftp_nego.specs.declared.fault.NegoFault.{NegoFault}
 use Rattle.tftp_nego.specs.declared.fault.NegoFault.TheVariants as fault
 use Rattle.tftp_nego.specs.Numbers.{option_or}

@@ -1,9 +1,6 @@
 -- Requests and OACKs for worked examples.
 use Rattle.std.specs.Prelude.{ℕ, List, [], ◌∷◌, codes}
-use Rattle.tftp_packet.specs.Message.{RequestParts}
-use Rattle.tftp_packet.specs.Written.{Pair, map_of}
-use Rattle.tftp_packet.specs.declared.kinds.Side.{Side}
-use Rattle.tftp_packet.specs.declared.kinds.Mode.TheVariants.{Octet}
+use Rattle.tftp_packet.specs.{RequestParts, Pair, map_of, Side, Octet}
 
 -- one option
 abbrev pub one : List ℕ → List ℕ → List Pair

@@ -9,7 +9,7 @@ pub struct Agreed {
 }
 
 impl Model for Agreed {
-    ghost use Rattle.tftp_packet.specs.OptionMap.{OptionMap};
+    ghost use Rattle.tftp_packet.specs.OptionMaps.{OptionMap};
     ghost use Rattle.tftp_packet.specs.Owned.{options_code};
     ghost use Rattle.tftp_nego.specs.Agreed.{AreInRange};
 
@@ -25,7 +25,7 @@ impl Model for Agreed {
 impl Agreed {
     ghost use Rattle.std.specs.Prelude.{◌≡◌, ◌↔◌, ◌≤◌, IsTrue, codes, option_and_then};
     ghost use Rattle.std.specs.FinMap as map;
-    ghost use Rattle.tftp_packet.specs.OptionMap.{no_options, number_in};
+    ghost use Rattle.tftp_packet.specs.OptionMaps.{no_options, number_in};
     ghost use Rattle.tftp_nego.specs.Agreed.{AreInRange};
     ghost use Rattle.tftp_nego.specs.Numbers.{option_or};
 
@@ -106,7 +106,7 @@ impl Agreed {
 }
 
 ghost use Rattle.std.specs.Prelude.{◌≡◌};
-ghost use Rattle.tftp_packet.specs.OptionMap.{no_options};
+ghost use Rattle.tftp_packet.specs.{no_options};
 
 /// The agreement of a transfer without an OACK. Takes no memory.
 pub fn nothing_agreed(alloc: Global) -> Agreed

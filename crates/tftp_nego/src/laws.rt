@@ -1,8 +1,5 @@
 ghost use Rattle.std.specs.Prelude.{◌≡◌, ◌≢◌, codes};
-ghost use Rattle.tftp_packet.specs.OptionMap.{OptionMap, no_options};
-ghost use Rattle.tftp_packet.specs.Message.{RequestParts};
-ghost use Rattle.tftp_packet.specs.Written.{map_of};
-ghost use Rattle.tftp_packet.specs.declared.kinds.Side.{Side};
+ghost use Rattle.tftp_packet.specs.{OptionMap, no_options, RequestParts, map_of, Side};
 ghost use Rattle.tftp_nego.specs.Agreement.{MayAgree};
 ghost use Rattle.tftp_nego.specs.Faults.{FirstFault, Holds};
 ghost use Rattle.tftp_nego.specs.Worked.{asks, one};

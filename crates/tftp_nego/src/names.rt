@@ -1,7 +1,6 @@
 ghost use Rattle.std.specs.Prelude.{◌≡◌, ◌↔◌, IsTrue, false, None, codes};
 ghost use Rattle.std.specs.FinMap as map;
-ghost use Rattle.tftp_packet.specs.OptionMap.{lower};
-ghost use Rattle.tftp_packet.specs.Written.{map_of, AreOptions};
+ghost use Rattle.tftp_packet.specs.{lower, map_of, AreOptions};
 ghost use Rattle.tftp_nego.specs.Agreed.{EachName, SomeName, IsInProfile};
 ghost use Rattle.tftp_nego.specs.Faults.{HasOption, IsOutsideProfile};
 

@@ -1,6 +1,5 @@
 ghost use Rattle.std.specs.Prelude.{◌≡◌, ◌≢◌, ◌↔◌, ◌⊎◌, IsTrue, IsOk, IfOk, IfErr, Err};
-ghost use Rattle.tftp_packet.specs.OptionMap.{no_options};
-ghost use Rattle.tftp_packet.specs.Written.{map_of};
+ghost use Rattle.tftp_packet.specs.{no_options, map_of};
 ghost use Rattle.tftp_nego.specs.Agreement.{MayAgree};
 ghost use Rattle.tftp_nego.specs.Faults.{FirstFault};
 ghost use Rattle.tftp_nego.specs.declared.fault.NegoFault.{NegoFault};

@@ -1,7 +1,6 @@
 ghost use Rattle.std.specs.Prelude.{◌≡◌, ◌<◌, ◌+◌, ℕ, IsTrue, false, Some, codes};
 ghost use Rattle.std.specs.FinMap as map;
-ghost use Rattle.tftp_packet.specs.OptionMap.{OptionValue, lower};
-ghost use Rattle.tftp_packet.specs.Written.{map_of};
+ghost use Rattle.tftp_packet.specs.{OptionValue, lower, map_of};
 ghost use Rattle.tftp_nego.specs.declared.fault.NegoFault.{NegoFault};
 ghost use Rattle.tftp_nego.specs.Agreed.{AllAnswered, SomeUnanswered, IsAnswered, IsUnanswered, IsLowered, IsKept, IsSize, numbers_of, FitsNumbers};
 ghost use Rattle.tftp_nego.specs.Faults.{Holds};

@@ -5,8 +5,7 @@ use Rattle.std.proofs.lemmas.List.{append-nil, append_assoc, length-append}
 use Rattle.std.proofs.lemmas.List.Sums.{sum_by-cons}
 use Rattle.std.proofs.lemmas.List.Elements.{recursion_from_All}
 use Rattle.std.specs.List.{All, AllByRecursion, count_by}
-use Rattle.tftp_netascii.specs.Runs.{IsPlain}
-use Rattle.tftp_netascii.specs.Netascii.{Reads, end, line_end, bare_return, itself, canonical_bytes, canonical_wire}
+use Rattle.tftp_netascii.specs.{IsPlain, Reads, end, line_end, bare_return, itself, canonical_bytes, canonical_wire}
 use Rattle.tftp_netascii.proofs.ReadsLemmas.{no_pair}
 
 pub canonical_bytes-plain : (x : ℕ) → x ≢ 10 → x ≢ 13 → canonical_bytes x ≡ x ∷ []

@@ -4,8 +4,7 @@ use Rattle.std.proofs.lemmas.Bool.{cases_eq, ne_eqb, cases_Bool}
 use Rattle.std.proofs.lemmas.List.{append-nil, append_cancel_right}
 use Rattle.std.proofs.lemmas.List.Elements.{recursion_from_All}
 use Rattle.std.specs.List.{All, AllByRecursion}
-use Rattle.tftp_netascii.specs.Netascii.{Reads, end, line_end, bare_return, itself, BeginsWithPair}
-use Rattle.tftp_netascii.specs.Decoder.{StandsFor, EndsInReturn}
+use Rattle.tftp_netascii.specs.{Reads, end, line_end, bare_return, itself, BeginsWithPair, StandsFor, EndsInReturn}
 use Rattle.tftp_netascii.proofs.ReadsLemmas.{given, after, held, no_pair, Reads-unique, Reads-push_return}
 
 -- how a text ends, with one byte more before it

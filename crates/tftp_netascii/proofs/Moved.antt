@@ -4,7 +4,7 @@ use Rattle.std.proofs.Math.ListN.{set}
 use Rattle.std.proofs.Math.Seq.{paste, take-append_seam, drop-append_seam}
 use Rattle.std.proofs.lemmas.List.{drop-drop, length-drop, drop-set-lt, take_more_set}
 use Rattle.std.proofs.lemmas.List.Edits.{take-paste, drop-paste}
-use Rattle.tftp_netascii.specs.Runs.{ReadsAfterReturn}
+use Rattle.tftp_netascii.specs.{ReadsAfterReturn}
 
 -- the bytes of a tail that are still to be read
 pub left_of_tail : (tail after : List ℕ) (byte : ℕ) → ReadsAfterReturn tail byte after → (after ≡ drop (length tail - length after) tail) × (length after ≤ length tail)

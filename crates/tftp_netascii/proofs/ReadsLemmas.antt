@@ -1,7 +1,7 @@
 -- Reading as a machine that goes over the text byte by byte, and that it finds the one file.
 use Rattle.std.proofs.Common.{◌≡◌, ◌≢◌, ℕ, Bool, true, false, cond, eqb, List, [], ◌∷◌, ◌++◌, refl, sym, ap, ◌∙◌, inl, inr, ⊎_elim}
 use Rattle.std.proofs.lemmas.Bool.{cases_eq, ne_eqb}
-use Rattle.tftp_netascii.specs.Netascii.{Reads, end, line_end, bare_return, itself, BeginsWithPair}
+use Rattle.tftp_netascii.specs.{Reads, end, line_end, bare_return, itself, BeginsWithPair}
 
 -- what is written by the end of these bytes, with a CR before them that is held back, or none
 abbrev pub given : Bool → List ℕ → List ℕ

@@ -2,8 +2,7 @@
 use Rattle.std.proofs.Common.{◌≡◌, ◌≢◌, ℕ, List, [], ◌∷◌, ◌++◌, All, inl, inr, sym, subst, ⊎_elim}
 use Rattle.std.specs.List.{AllByRecursion}
 use Rattle.std.proofs.lemmas.List.Elements.{recursion_from_All}
-use Rattle.tftp_netascii.specs.Netascii.{Reads, end, line_end, bare_return, itself}
-use Rattle.tftp_netascii.specs.Runs.{ReadsAfterReturn}
+use Rattle.tftp_netascii.specs.{Reads, end, line_end, bare_return, itself, ReadsAfterReturn}
 use Rattle.tftp_netascii.proofs.ReadsLemmas.{no_pair}
 
 nothing : (file : List ℕ) → Reads [] file → Reads (13 ∷ []) (13 ∷ file)

@@ -1,20 +1,13 @@
 -- The blocks of a window that are put one after another.
 use Rattle.std.proofs.Common.{◌≡◌, ℕ, suc, ◌+◌, ◌-◌, ◌*◌, ◌<◌, List, [], ◌∷◌, ◌++◌, length, length-append, take, drop, Option, refl, sym, subst, ap, ◌∙◌, arith, suc-mul, zero-mul, drop-drop}
 use Rattle.std.proofs.lemmas.List.{length-map}
-use Rattle.tftp_packet.specs.Message.{Message}
-use Rattle.tftp_packet.specs.Canonical.{canonical}
-use Rattle.tftp_packet.specs.declared.kinds.End.{End}
-use Rattle.tftp_packet.specs.declared.kinds.End.TheVariants.{Client, Server}
-use Rattle.tftp_capture.specs.Tally.{AppendsPrefix}
-use Rattle.tftp_capture.specs.Written.{WriterState}
-use Rattle.tftp_ends.specs.CaptureText.{Datagram}
-use Rattle.tftp_ends.specs.Meaning.{Meaning, blksize_of}
-use Rattle.tftp_ends.specs.Blocks.{block}
-use Rattle.tftp_ends.specs.Machines.{MachinePacket, Data, Ack, message_of, sender_of, receiver_of}
-use Rattle.tftp_law.specs.Dress.{dir_of}
-use Rattle.tftp_law.specs.CanBeWritten.{wire_of}
-use Rattle.tftp_normal.specs.Normal.{blocks_after, deed_of_client, normal_datagram}
-use Rattle.tftp_normal.specs.Writing.{dir_from, sent_by, datagrams_of, lines_of, HasPut}
+use Rattle.tftp_packet.specs.{Message, canonical, End, Client, Server}
+use Rattle.tftp_capture.specs.{AppendsPrefix, WriterState}
+use Rattle.tftp_hosts.specs.{Datagram}
+use Rattle.tftp_model.specs.{Meaning, blksize_of, block, MachinePacket, Data, Ack, message_of}
+use Rattle.tftp_model.specs.Machines.{sender_of, receiver_of}
+use Rattle.tftp_law.specs.{dir_of, wire_of}
+use Rattle.tftp_normal.specs.{blocks_after, deed_of_client, normal_datagram, dir_from, sent_by, datagrams_of, lines_of, HasPut}
 use Rattle.tftp_normal.proofs.Lengths.{blocks_length}
 use Rattle.tftp_normal.proofs.Putting.{Putting, putting_next, putting_failed}
 

@@ -1,26 +1,16 @@
 -- The packets of the normal capture, one after another, as parts of a dressed one-sided history.
-use Rattle.std.proofs.Common.{◌≡◌, ℕ, zero, suc, ◌+◌, ◌-◌, ◌*◌, ◌/◌, ◌%◌, ◌<◌, ◌≤◌, ◌⊎◌, true, false, min, List, [], ◌∷◌, ◌++◌, drop, Contains, inl, inr, refl, sym, subst, ap, ◌∙◌, arith, suc-mul, zero-mul}
+use Rattle.std.proofs.Common.{◌≡◌, ℕ, zero, suc, ◌+◌, ◌-◌, ◌*◌, ◌/◌, ◌%◌, ◌<◌, ◌≤◌, ◌⊎◌, true, false, min, List, [], ◌∷◌, ◌++◌, drop, Contains, inl, inr, refl, sym, subst, ap, ◌∙◌, arith, suc-mul, zero-mul, Any}
 use Rattle.std.proofs.lemmas.Bool.{cases_lt}
-use Rattle.std.specs.Prelude.{Any}
-use Rattle.tftp_packet.specs.Spelling.{Spells}
-use Rattle.tftp_packet.specs.Canonical.{canonical}
-use Rattle.tftp_packet.specs.Host.{no_host}
-use Rattle.tftp_packet.specs.declared.kinds.Side.{Side}
-use Rattle.tftp_packet.specs.declared.kinds.Side.TheVariants.{Get, Put}
-use Rattle.tftp_packet.specs.declared.kinds.End.{End}
-use Rattle.tftp_packet.specs.declared.kinds.End.TheVariants.{Client, Server}
-use Rattle.tftp_packet.specs.declared.kinds.Dir.TheVariants.{In}
-use Rattle.tftp_ends.specs.Meaning.{Meaning, blksize_of, windowsize_of}
-use Rattle.tftp_ends.specs.Roles.{sender_of, receiver_of}
-use Rattle.tftp_ends.specs.Machines.{MachinePacket, Req, Oack, Data, Ack, Deed, Sent, Took, History, HasSent, IsStartedOn, message_of}
-use Rattle.tftp_ends.specs.OneSide.{heard, LetsStartOn, IsOneSided}
-use Rattle.tftp_ends.proofs.HistoryTests.{all_sent, is_no_error, none_sent}
-use Rattle.tftp_ends.proofs.Stops.{stopped, heard_all}
-use Rattle.tftp_ends.proofs.Members.{contains_first, contains_later, contains_cases}
-use Rattle.tftp_law.specs.Dress.{Placed, Main, TransferIds, Division, view_in, dir_of, packet_of, HaveParts}
-use Rattle.tftp_law.proofs.EachOf.{all_take, all_drop}
-use Rattle.tftp_law.specs.CanBeWritten.{wire_of, blocks_of, CanBeWritten}
-use Rattle.tftp_normal.specs.Normal.{blocks_after, windows_after, author, deed_of_client, client_deed, normal_remote, normal_header}
+use Rattle.tftp_packet.specs.{Spells, canonical, Side, Get, Put, End, Client, Server}
+use Rattle.tftp_hosts.specs.{no_host, In}
+use Rattle.tftp_model.specs.{Meaning, blksize_of, windowsize_of, MachinePacket, Req, Oack, Data, Ack, Deed, Sent, Took, History, HasSent, IsStartedOn, message_of, heard, LetsStartOn, IsOneSided}
+use Rattle.tftp_model.specs.Roles.{sender_of, receiver_of}
+use Rattle.tftp_model.proofs.HistoryTests.{all_sent, is_no_error, none_sent}
+use Rattle.tftp_model.proofs.Stops.{stopped, heard_all}
+use Rattle.tftp_model.proofs.Members.{contains_first, contains_later, contains_cases}
+use Rattle.tftp_law.specs.{Placed, Main, TransferIds, Division, view_in, dir_of, packet_of, HaveParts, wire_of, blocks_of, CanBeWritten}
+use Rattle.tftp_law.proofs.Written.EachOf.{all_take, all_drop}
+use Rattle.tftp_normal.specs.{blocks_after, windows_after, author, deed_of_client, client_deed, normal_remote, normal_header}
 
 abbrev pub ids : TransferIds
 ids = record { own = 50000; peer = record { host = no_host; port = 50001 }; asked = no_host }

@@ -1,10 +1,9 @@
 -- A text is accepted exactly if a run of two ends shows it as a whole transfer, and what follows for its normal text.
 use Rattle.std.proofs.Common.{◌≡◌, ◌↔◌, ℕ, List, Ok}
-use Rattle.tftp_ends.specs.Meaning.{Meaning}
-use Rattle.tftp_judge.specs.TextVerdict.{IsTextVerdict, unnumbered}
-use Rattle.tftp_law.proofs.Beginnings.{shown_is_lawful}
-use Rattle.tftp_normal.specs.Accepted.{IsAccepted}
-use Rattle.tftp_normal.specs.Normal.{normal_text}
+use Rattle.tftp_model.specs.{Meaning}
+use Rattle.tftp_judge.specs.{IsTextVerdict, unnumbered}
+use Rattle.tftp_law.proofs.Whole.Beginnings.{shown_is_lawful}
+use Rattle.tftp_normal.specs.{IsAccepted, normal_text}
 use Rattle.tftp_normal.proofs.Texts.{normal_accepted, normal_again, same_texts}
 
 pub shown_text : (text : List ℕ) (m : Meaning) → IsTextVerdict text (Ok m) → IsAccepted text m

@@ -5,18 +5,14 @@ use Rattle.std.specs.FinMap as finite
 use Rattle.std.specs.FinMap.{len-empty}
 use Rattle.std.specs.Ordering.{nat_cmp}
 use Rattle.std.specs.Cmp.Lexicographic.{slice_cmp}
-use Rattle.tftp_packet.specs.OptionMap.{OptionValue}
-use Rattle.tftp_packet.specs.declared.kinds.Side.{Side}
-use Rattle.tftp_packet.specs.declared.kinds.Side.TheVariants.{Get, Put}
-use Rattle.tftp_packet.specs.Canonical.{canonical}
-use Rattle.tftp_capture.specs.CaptureText.{IsLawful}
-use Rattle.tftp_packet.specs.Host.{IsHost, no_host}
-use Rattle.tftp_ends.specs.Meaning.{Meaning, SomethingAgreed, blksize_of, windowsize_of}
-use Rattle.tftp_ends.specs.Machines.{MachinePacket, Req, Oack, Data, Ack, Error, message_of}
-use Rattle.tftp_law.specs.CanBeWritten.{wire_of, blocks_of, CanBeWritten}
-use Rattle.tftp_normal.specs.Normal.{windows_of, opening_on, opening, blocks_after, windows_after, normal_packets, normal_remote, normal_datagram, normal_datagrams, opening_count, normal_count}
+use Rattle.tftp_packet.specs.{OptionValue, Side, Get, Put, canonical}
+use Rattle.tftp_capture.specs.{IsLawful}
+use Rattle.tftp_hosts.specs.{IsHost, no_host}
+use Rattle.tftp_model.specs.{Meaning, SomethingAgreed, blksize_of, windowsize_of, MachinePacket, Req, Oack, Data, Ack, Error, message_of}
+use Rattle.tftp_law.specs.{wire_of, blocks_of, CanBeWritten}
+use Rattle.tftp_normal.specs.{windows_of, opening_on, opening, blocks_after, windows_after, normal_packets, normal_remote, normal_datagram, normal_datagrams, opening_count, normal_count}
 use Rattle.hex.specs.Hex.{IsBytes}
-use Rattle.tftp_law.proofs.EachOf.{Bytes, all_both, all_each}
+use Rattle.tftp_law.proofs.Written.EachOf.{Bytes, all_both, all_each}
 use Rattle.tftp_normal.proofs.Going.{data_spells, ack_spells}
 
 pub at_each : (bytes : List ℕ) → Bytes bytes → IsBytes bytes

@@ -2,16 +2,13 @@
 use Rattle.std.proofs.Common.{◌≡◌, ℕ, zero, suc, ◌+◌, ◌-◌, ◌*◌, ◌<◌, ◌≤◌, min, List, ◌∷◌, length, length-append, refl, ap, ◌∙◌, arith, suc-mul, zero-mul}
 use Rattle.std.proofs.lemmas.List.{length-map}
 use Rattle.std.specs.FinMap as finite
-use Rattle.tftp_packet.specs.declared.kinds.Side.{Side}
-use Rattle.tftp_packet.specs.declared.kinds.Side.TheVariants.{Get, Put}
-use Rattle.tftp_ends.specs.Meaning.{Meaning, windowsize_of}
-use Rattle.tftp_ends.specs.Machines.{Ack}
-use Rattle.tftp_law.specs.CanBeWritten.{wire_of, blocks_of}
-use Rattle.tftp_normal.specs.Normal.{windows_of, opening, opening_on, blocks_after, windows_after, normal_packets, normal_datagram, normal_datagrams, opening_count, normal_count}
-use Rattle.tftp_law.proofs.Passed.{some_window}
+use Rattle.tftp_packet.specs.{Side, Get, Put}
+use Rattle.tftp_model.specs.{Meaning, windowsize_of, Ack}
+use Rattle.tftp_law.specs.{wire_of, blocks_of, ShowsBy}
+use Rattle.tftp_normal.specs.{windows_of, opening, opening_on, blocks_after, windows_after, normal_packets, normal_datagram, normal_datagrams, opening_count, normal_count}
+use Rattle.tftp_law.proofs.Written.Passed.{some_window}
 use Rattle.tftp_normal.proofs.Shortest.{windows_hold, count_is_least}
-use Rattle.tftp_ends.specs.CaptureText.{Datagram, Header}
-use Rattle.tftp_law.specs.Law.{ShowsBy}
+use Rattle.tftp_hosts.specs.{Datagram, Header}
 
 pub opening_length : (side : Side) (agreed : ℕ) → length (opening_on side agreed) ≡ opening_count side agreed
 opening_length Get zero = refl

@@ -1,14 +1,10 @@
 -- What was written of a text that a judge accepts.
 use Rattle.std.proofs.Common.{◌≡◌, ℕ, List, Bool, true, false, Option, Result, Ok, Err, OnOk, ◌⊎◌, inl, inr, refl, sym, subst}
 use Rattle.std.specs.Io.KnownBytes.{Appends}
-use Rattle.tftp_ends.specs.Meaning.{Meaning}
-use Rattle.tftp_judge.specs.TextVerdict.{IsTextVerdict, WantsMemory}
-use Rattle.tftp_judge.specs.declared.verdict.Verdict.{Verdict}
+use Rattle.tftp_model.specs.{Meaning}
+use Rattle.tftp_judge.specs.{IsTextVerdict, WantsMemory, Verdict}
 use Rattle.tftp_normal.specs.declared.fault.NormalFault.TheVariants as fault
-use Rattle.tftp_normal.specs.Accepted.{IsAccepted}
-use Rattle.tftp_normal.specs.Normal.{normal_text}
-use Rattle.tftp_normal.specs.Normalised.{Normalises, WritesNormal}
-use Rattle.tftp_normal.specs.declared.fault.NormalFault.{NormalFault}
+use Rattle.tftp_normal.specs.{IsAccepted, normal_text, Normalises, WritesNormal, NormalFault}
 use Rattle.tftp_normal.proofs.Headline.{shown_text}
 
 pub not_true : (b : Bool) → (b ≡ true → ⊥) → b ≡ false

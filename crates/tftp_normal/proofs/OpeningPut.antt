@@ -1,18 +1,12 @@
 -- The datagrams that open a transfer, put one after another.
 use Rattle.std.proofs.Common.{◌≡◌, ◌≢◌, ℕ, zero, suc, ◌-◌, List, [], ◌∷◌, ◌++◌, Option, refl, sym, subst, ap, ◌∙◌, arith, false}
 use Rattle.std.specs.FinMap as map
-use Rattle.tftp_packet.specs.Message.{Message}
-use Rattle.tftp_packet.specs.Canonical.{canonical}
-use Rattle.tftp_packet.specs.declared.kinds.Side.{Side}
-use Rattle.tftp_packet.specs.declared.kinds.Side.TheVariants.{Get, Put}
-use Rattle.tftp_packet.specs.declared.kinds.End.TheVariants.{Client, Server}
-use Rattle.tftp_capture.specs.Tally.{AppendsPrefix}
-use Rattle.tftp_capture.specs.Written.{WriterState}
-use Rattle.tftp_ends.specs.CaptureText.{Datagram}
-use Rattle.tftp_ends.specs.Meaning.{Meaning, request_of}
-use Rattle.tftp_ends.specs.Machines.{Req, Oack, Ack, receiver_of}
-use Rattle.tftp_normal.specs.Normal.{opening_on, opening, normal_datagram}
-use Rattle.tftp_normal.specs.Writing.{asked_by, sent_by, datagrams_of, lines_of, HasPut}
+use Rattle.tftp_packet.specs.{Message, canonical, Side, Get, Put, Client, Server}
+use Rattle.tftp_capture.specs.{AppendsPrefix, WriterState}
+use Rattle.tftp_hosts.specs.{Datagram}
+use Rattle.tftp_model.specs.{Meaning, request_of, Req, Oack, Ack}
+use Rattle.tftp_model.specs.Machines.{receiver_of}
+use Rattle.tftp_normal.specs.{opening_on, opening, normal_datagram, asked_by, sent_by, datagrams_of, lines_of, HasPut}
 use Rattle.tftp_normal.proofs.Putting.{put_failed, put_none}
 use Rattle.tftp_normal.proofs.BlocksPut.{ack_datagram}
 

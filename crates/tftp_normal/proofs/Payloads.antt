@@ -4,11 +4,9 @@ use Rattle.std.specs.FinMap as map
 use Rattle.std.specs.FinMap.{len-empty}
 use Rattle.std.specs.Ordering.{nat_cmp}
 use Rattle.std.specs.Cmp.Lexicographic.{slice_cmp}
-use Rattle.tftp_packet.specs.OptionMap.{OptionValue}
-use Rattle.tftp_packet.specs.Message.{Message}
-use Rattle.tftp_packet.specs.Canonical.{canonical}
-use Rattle.tftp_ends.specs.Meaning.{Meaning}
-use Rattle.tftp_law.specs.CanBeWritten.{CanBeWritten}
+use Rattle.tftp_packet.specs.{OptionValue, Message, canonical}
+use Rattle.tftp_model.specs.{Meaning}
+use Rattle.tftp_law.specs.{CanBeWritten}
 
 pub oack_short : (m : Meaning) → CanBeWritten m → map.len m.agreed ≢ 0 → length (canonical (Message.Oack m.agreed)) ≤ 65527
 oack_short m can some = (can.oack (λ none. some (ap map.len none ∙ len-empty (slice_cmp nat_cmp) OptionValue))).1

@@ -2,12 +2,10 @@
 use Rattle.std.proofs.Common.{◌≡◌, ℕ, List, [], ◌∷◌, ◌++◌, length-append, map as each, Option, Result, Ok, Err, IsErr, Bool, true, false, true≢false, refl, sym, subst, ap, ◌∙◌, arith, append-nil, append_assoc}
 use Rattle.std.proofs.lemmas.List.{map-append}
 use Rattle.std.proofs.lemmas.List.Concat.{flat_map-append}
-use Rattle.tftp_capture.specs.CaptureText.{datagram_line, whole_lines}
-use Rattle.tftp_capture.specs.Tally.{AppendsPrefix, Gathers}
-use Rattle.tftp_capture.specs.Written.{WriterState}
+use Rattle.tftp_capture.specs.{datagram_line, whole_lines, AppendsPrefix, Gathers, WriterState}
 use Rattle.tftp_capture.proofs.Gathering.{gathers_none, gathers_more, gathers_prefix, prefix_after}
-use Rattle.tftp_ends.specs.CaptureText.{Datagram}
-use Rattle.tftp_normal.specs.Writing.{lines_of, HasPut, Puts}
+use Rattle.tftp_hosts.specs.{Datagram}
+use Rattle.tftp_normal.specs.{lines_of, HasPut, Puts}
 
 pub lines_both : (ds es : List Datagram) → lines_of (ds ++ es) ≡ lines_of ds ++ lines_of es
 lines_both ds es = ap whole_lines (map-append datagram_line ds es) ∙ flat_map-append (λ (l : List ℕ). l ++ 10 ∷ []) (each datagram_line ds) (each datagram_line es)

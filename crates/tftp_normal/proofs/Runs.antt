@@ -5,11 +5,10 @@ use Rattle.std.proofs.lemmas.List.{take-append-drop, take-take}
 use Rattle.std.proofs.lemmas.List.Elements.{recursion_from_All}
 use Rattle.std.proofs.Math.Seq.{take-append_seam, drop-append_seam, take-add}
 use Rattle.std.specs.List.{between}
-use Rattle.tftp_packet.specs.declared.kinds.Mode.{Mode}
-use Rattle.tftp_packet.specs.declared.kinds.Mode.TheVariants.{Octet, Netascii}
-use Rattle.tftp_netascii.specs.Runs.{IsPlain}
+use Rattle.tftp_packet.specs.{Mode, Octet, Netascii}
+use Rattle.tftp_netascii.specs.{IsPlain}
 use Rattle.tftp_netascii.proofs.CanonicalLemmas.{canonical_run}
-use Rattle.tftp_law.specs.Fits.{written_wire}
+use Rattle.tftp_law.specs.{written_wire}
 
 written_run : (mode : Mode) (run rest : List ℕ) → AllByRecursion IsPlain run → written_wire mode (run ++ rest) ≡ run ++ written_wire mode rest
 written_run Octet run rest plain = refl

@@ -6,25 +6,17 @@ use Rattle.std.specs.FinMap as finite
 use Rattle.std.specs.FinMap.{len-empty}
 use Rattle.std.specs.Ordering.{nat_cmp}
 use Rattle.std.specs.Cmp.Lexicographic.{slice_cmp}
-use Rattle.tftp_packet.specs.OptionMap.{OptionValue}
-use Rattle.tftp_packet.specs.declared.kinds.Side.{Side}
-use Rattle.tftp_packet.specs.declared.kinds.Side.TheVariants.{Get, Put}
-use Rattle.tftp_packet.specs.declared.kinds.End.{End}
-use Rattle.tftp_ends.specs.CaptureText.{Datagram, Header}
-use Rattle.tftp_ends.specs.Meaning.{Meaning, NothingAgreed, blksize_of, windowsize_of}
-use Rattle.tftp_ends.specs.Blocks.{block_count}
-use Rattle.tftp_ends.specs.Machines.{MachinePacket, Req, Oack, Data, Ack, Error, Deed, Sent, Took, History}
-use Rattle.tftp_ends.specs.OneSide.{IsOneSided}
-use Rattle.tftp_ends.specs.Runs.{IsComplete}
-use Rattle.tftp_ends.proofs.Members.{contains_first, contains_later, contains_cases, contains_none}
-use Rattle.tftp_ends.proofs.OneSided.{view_one_sided}
-use Rattle.tftp_law.specs.Dress.{Part, Main, Stray, StrayAnswer, Division, view_in, packet_of}
-use Rattle.tftp_law.specs.Law.{ShowsBy}
-use Rattle.tftp_law.specs.CanBeWritten.{wire_of}
-use Rattle.tftp_normal.specs.Normal.{window_count, opening_count, normal_count}
+use Rattle.tftp_packet.specs.{OptionValue, Side, Get, Put, End}
+use Rattle.tftp_hosts.specs.{Datagram, Header}
+use Rattle.tftp_model.specs.{Meaning, NothingAgreed, blksize_of, windowsize_of, block_count, MachinePacket, Req, Oack, Data, Ack, Error, Deed, Sent, Took, History, IsOneSided, IsComplete}
+use Rattle.tftp_model.proofs.Members.{contains_first, contains_later, contains_cases, contains_none}
+use Rattle.tftp_model.proofs.OneSided.{view_one_sided}
+use Rattle.tftp_law.specs.Dress.{StrayAnswer}
+use Rattle.tftp_law.specs.{Part, Main, Stray, Division, view_in, packet_of, ShowsBy, wire_of}
+use Rattle.tftp_normal.specs.{window_count, opening_count, normal_count}
 use Rattle.tftp_normal.proofs.Counted.{at_least}
-use Rattle.tftp_law.proofs.Passed.{each_block, last_ack, first, some_block}
-use Rattle.tftp_law.proofs.Needed.{HasPassed, let_go, opened_get, opened_put}
+use Rattle.tftp_law.proofs.Written.Passed.{each_block, last_ack, first, some_block}
+use Rattle.tftp_law.proofs.Written.Needed.{HasPassed, let_go, opened_get, opened_put}
 
 contains_map : {A B : Type 0} (f : A → B) (x : A) (xs : List A) → Contains xs x → Contains (each f xs) (f x)
 contains_map f x [] at = absurd (contains_none x at)

@@ -5,23 +5,15 @@ use Rattle.std.specs.FinMap as finite
 use Rattle.std.specs.FinMap.{len-empty, empty_of_len}
 use Rattle.std.specs.Ordering.{nat_cmp}
 use Rattle.std.specs.Cmp.Lexicographic.{slice_cmp}
-use Rattle.tftp_packet.specs.OptionMap.{OptionValue}
-use Rattle.tftp_packet.specs.declared.kinds.Side.{Side}
-use Rattle.tftp_packet.specs.declared.kinds.Side.TheVariants.{Get, Put}
-use Rattle.tftp_packet.specs.declared.kinds.End.TheVariants.{Client, Server}
-use Rattle.tftp_ends.specs.Meaning.{Meaning, NothingAgreed, SomethingAgreed, windowsize_of}
-use Rattle.tftp_ends.specs.Roles.{sender_of, receiver_of}
-use Rattle.tftp_ends.specs.Machines.{MachinePacket, Req, Oack, Data, Ack, Sent, Took, MaySendReq, MayAckZeroOn}
-use Rattle.tftp_ends.specs.OneSide.{LetsAckZeroOn}
-use Rattle.tftp_ends.specs.Runs.{IsComplete}
-use Rattle.tftp_ends.proofs.HistoryTests.{none_sent}
-use Rattle.tftp_ends.proofs.Members.{contains_first, contains_cases, contains_none}
-use Rattle.tftp_ends.proofs.MadeRuns.{one_sided_view}
-use Rattle.tftp_law.specs.Dress.{Division, view_in, datagrams_of}
-use Rattle.tftp_law.specs.Law.{ShowsBy, Shows}
-use Rattle.tftp_law.proofs.TwoEnds.{one}
-use Rattle.tftp_law.specs.CanBeWritten.{wire_of, blocks_of, CanBeWritten}
-use Rattle.tftp_normal.specs.Normal.{windows_of, opening_on, opening, windows_after, normal_packets, normal_datagram, normal_datagrams, normal_header}
+use Rattle.tftp_packet.specs.{OptionValue, Side, Get, Put, Client, Server}
+use Rattle.tftp_model.specs.{Meaning, NothingAgreed, SomethingAgreed, windowsize_of, MachinePacket, Req, Oack, Data, Ack, Sent, Took, MaySendReq, MayAckZeroOn, LetsAckZeroOn, IsComplete}
+use Rattle.tftp_model.specs.Roles.{sender_of, receiver_of}
+use Rattle.tftp_model.proofs.HistoryTests.{none_sent}
+use Rattle.tftp_model.proofs.Members.{contains_first, contains_cases, contains_none}
+use Rattle.tftp_model.proofs.MadeRuns.{one_sided_view}
+use Rattle.tftp_law.specs.{Division, view_in, datagrams_of, ShowsBy, Shows, wire_of, blocks_of, CanBeWritten}
+use Rattle.tftp_law.proofs.Whole.TwoEnds.{one}
+use Rattle.tftp_normal.specs.{windows_of, opening_on, opening, windows_after, normal_packets, normal_datagram, normal_datagrams, normal_header}
 use Rattle.tftp_normal.proofs.Shortest.{windows_hold}
 use Rattle.tftp_normal.proofs.Going.{ids, place, after, after_both, Going, windows, ack_spells, answer_first}
 

@@ -4,12 +4,10 @@ use Rattle.std.proofs.lemmas.Fmt.{length-decimal-le}
 use Rattle.std.specs.List.{AllByRecursion}
 use Rattle.hex.specs.Hex.{lower_digits}
 use Rattle.hex.proofs.HexLemmas.{length-encode_with}
-use Rattle.tftp_packet.specs.declared.kinds.Dir.{Dir}
-use Rattle.tftp_packet.specs.declared.kinds.Dir.TheVariants.{In, Out}
-use Rattle.tftp_packet.specs.declared.kinds.End.{End}
-use Rattle.tftp_packet.specs.declared.kinds.End.TheVariants.{Client, Server}
-use Rattle.tftp_capture.specs.CaptureText.{Header, Datagram, IsLawful, IsPort, dir_word, head_line, end_line, service_line, datagram_line, total_line, payload_text, whole_lines, text_of}
-use Rattle.tftp_capture.specs.declared.version.Version.TheVariants.{One}
+use Rattle.tftp_hosts.specs.{Dir, In, Out}
+use Rattle.tftp_packet.specs.{End, Client, Server}
+use Rattle.tftp_capture.specs.CaptureText.{Header, Datagram}
+use Rattle.tftp_capture.specs.{IsLawful, IsPort, dir_word, head_line, end_line, service_line, datagram_line, total_line, payload_text, whole_lines, text_of, One}
 
 short_dir : (dir : Dir) → length (dir_word dir) ≤ 3
 short_dir In = lit≤ tt

@@ -3,17 +3,13 @@ use Rattle.std.proofs.Common.{◌≡◌, ℕ, ◌+◌, ◌≤◌, List, [], ◌�
 use Rattle.std.proofs.lemmas.List.{map-append}
 use Rattle.std.proofs.lemmas.List.Concat.{flat_map-append}
 use Rattle.std.specs.Io.KnownBytes.{Appends}
-use Rattle.tftp_capture.specs.declared.version.Version.TheVariants.{One}
-use Rattle.tftp_capture.specs.CaptureText.{datagram_line, head_line, end_line, service_line, total_line, whole_lines}
-use Rattle.tftp_capture.specs.Tally.{AppendsPrefix, Gathers, Writes}
-use Rattle.tftp_capture.specs.Written.{WriterState, HasWritten, header_text}
+use Rattle.tftp_capture.specs.{One, datagram_line, head_line, end_line, service_line, total_line, whole_lines, AppendsPrefix, Gathers, Writes, WriterState, HasWritten, header_text}
 use Rattle.tftp_capture.proofs.Gathering.{gathers_more, gathers_prefix, prefix_of, prefix_after}
 use Rattle.tftp_capture.proofs.Skips.{whole_lines-push}
-use Rattle.tftp_ends.specs.CaptureText.{Datagram}
-use Rattle.tftp_ends.specs.Meaning.{Meaning, windowsize_of}
-use Rattle.tftp_law.specs.CanBeWritten.{blocks_of}
-use Rattle.tftp_normal.specs.Normal.{opening, windows_after, windows_of, normal_datagram, normal_datagrams, normal_header, normal_text, normal_count}
-use Rattle.tftp_normal.specs.Writing.{datagrams_of, lines_of, HasPut}
+use Rattle.tftp_hosts.specs.{Datagram}
+use Rattle.tftp_model.specs.{Meaning, windowsize_of}
+use Rattle.tftp_law.specs.{blocks_of}
+use Rattle.tftp_normal.specs.{opening, windows_after, windows_of, normal_datagram, normal_datagrams, normal_header, normal_text, normal_count, datagrams_of, lines_of, HasPut}
 use Rattle.tftp_normal.proofs.Lengths.{counted}
 use Rattle.tftp_normal.proofs.Putting.{lines_both}
 use Rattle.tftp_normal.proofs.WindowsPut.{all_windows}

@@ -2,24 +2,21 @@
 use Rattle.std.proofs.Common.{◌≡◌, ℕ, ◌+◌, ◌^◌, ◌≤◌, ◌↔◌, List, [], ◌∷◌, map as each, length, All, refl, sym, subst, ap, arith}
 use Rattle.std.proofs.lemmas.List.Elements.{All-from_recursion}
 use Rattle.std.specs.List.{AllByRecursion, AllZip}
-use Rattle.tftp_capture.specs.CaptureText.{Header, Numbered, SaysDatagram, IsCapture, Reading, IsLawful, NamesNoHost, numbered}
+use Rattle.tftp_capture.specs.CaptureText.{Header}
+use Rattle.tftp_capture.specs.{Numbered, SaysDatagram, IsCapture, Reading, IsLawful, NamesNoHost, numbered, Version}
 use Rattle.tftp_capture.specs.CaptureText.Reading.{Capture, Fault}
-use Rattle.tftp_capture.specs.declared.version.Version.{Version}
 use Rattle.tftp_capture.proofs.Canonical.{canonical_is_read}
 use Rattle.tftp_capture.proofs.Readings.{reads_same}
-use Rattle.tftp_ends.specs.CaptureText.{Datagram}
-use Rattle.tftp_ends.specs.Meaning.{Meaning}
-use Rattle.tftp_ends.specs.Machines.{MachinePacket}
-use Rattle.tftp_law.specs.Law.{Shows}
-use Rattle.tftp_law.proofs.TwoEnds.{one}
-use Rattle.tftp_law.specs.CanBeWritten.{CanBeWritten}
-use Rattle.tftp_normal.specs.Normal.{normal_packets, normal_datagram, normal_datagrams, normal_header, normal_text}
-use Rattle.tftp_normal.specs.Accepted.{IsAccepted}
+use Rattle.tftp_hosts.specs.{Datagram}
+use Rattle.tftp_model.specs.{Meaning, MachinePacket}
+use Rattle.tftp_law.specs.{Shows, CanBeWritten}
+use Rattle.tftp_law.proofs.Whole.TwoEnds.{one}
+use Rattle.tftp_normal.specs.{normal_packets, normal_datagram, normal_datagrams, normal_header, normal_text, IsAccepted}
 use Rattle.tftp_normal.proofs.Lawful.{lawful, few}
 use Rattle.tftp_normal.proofs.Lengths.{counted}
 use Rattle.tftp_normal.proofs.TextLength.{text_fits}
 use Rattle.tftp_normal.proofs.Shown.{shows}
-use Rattle.tftp_law.proofs.Written.{can_be_written}
+use Rattle.tftp_law.proofs.Written.Written.{can_be_written}
 
 -- the datagrams of a capture, without the numbers of their lines
 abbrev unnumbered : List Numbered → List Datagram

@@ -1,14 +1,11 @@
 -- The windows that are put one after another.
 use Rattle.std.proofs.Common.{◌≡◌, ℕ, zero, suc, ◌+◌, ◌-◌, ◌*◌, ◌<◌, ◌≤◌, min, false, List, [], ◌∷◌, ◌++◌, length, length-append, Option, sym, subst, arith, suc-mul, zero-mul}
 use Rattle.std.proofs.lemmas.List.{map-append}
-use Rattle.tftp_capture.specs.Tally.{AppendsPrefix}
-use Rattle.tftp_capture.specs.Written.{WriterState}
-use Rattle.tftp_ends.specs.CaptureText.{Datagram}
-use Rattle.tftp_ends.specs.Meaning.{Meaning, windowsize_of}
-use Rattle.tftp_ends.specs.Machines.{Ack}
-use Rattle.tftp_law.specs.CanBeWritten.{blocks_of}
-use Rattle.tftp_normal.specs.Normal.{windows_of, blocks_after, windows_after, normal_datagram}
-use Rattle.tftp_normal.specs.Writing.{datagrams_of, lines_of, HasPut}
+use Rattle.tftp_capture.specs.{AppendsPrefix, WriterState}
+use Rattle.tftp_hosts.specs.{Datagram}
+use Rattle.tftp_model.specs.{Meaning, windowsize_of, Ack}
+use Rattle.tftp_law.specs.{blocks_of}
+use Rattle.tftp_normal.specs.{windows_of, blocks_after, windows_after, normal_datagram, datagrams_of, lines_of, HasPut}
 use Rattle.tftp_normal.proofs.Shortest.{windows_hold}
 use Rattle.tftp_normal.proofs.Putting.{Putting, putting_first, putting_next, putting_failed, putting_all}
 use Rattle.tftp_normal.proofs.BlocksPut.{length-blocks, putting_count}

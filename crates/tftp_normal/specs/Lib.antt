@@ -5,3 +5,11 @@ pub mod Worked
 pub mod WireLeft
 pub mod Transfer
 pub mod Writing
+pub use Normal.{author, blocks_after, client_deed, deed_of_client, normal_count, normal_datagram, normal_datagrams, normal_header, normal_packets, normal_remote, normal_text, opening, opening_count, opening_on, window_count, windows_after, windows_of}
+pub use Accepted.{IsAccepted}
+pub use Normalised.{Normalises, WritesNormal}
+pub use Worked.{line_end_cut, line_end_cut_datagrams, six_blocks_datagrams, six_blocks_text, ten_bytes_written, ten_bytes_written_datagrams, two_bytes_datagrams, two_bytes_text}
+pub use WireLeft.{bytes_of}
+pub use Transfer.{meaning_in}
+pub use Writing.{HasPut, Puts, asked_by, datagrams_of, dir_from, lines_of, sent_by}
+pub use declared.fault.NormalFault.{NormalFault}

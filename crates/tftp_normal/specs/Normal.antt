@@ -2,18 +2,12 @@
 -- ACK only where the next window, or the end, needs one (RFC 1350, sections 2, 4 and 6; RFC 2347; RFC 7440, section 4).
 use Rattle.std.specs.Prelude.{ℕ, zero, suc, ◌+◌, ◌-◌, ◌/◌, min, List, [], ◌∷◌, ◌++◌, map as each}
 use Rattle.std.specs.FinMap as map
-use Rattle.tftp_packet.specs.Host.{no_host}
-use Rattle.tftp_packet.specs.declared.kinds.Side.{Side}
-use Rattle.tftp_packet.specs.declared.kinds.Side.TheVariants.{Get, Put}
-use Rattle.tftp_packet.specs.declared.kinds.End.{End}
-use Rattle.tftp_packet.specs.declared.kinds.End.TheVariants.{Client, Server}
-use Rattle.tftp_packet.specs.Canonical.{canonical}
-use Rattle.tftp_capture.specs.CaptureText.{text_of}
-use Rattle.tftp_ends.specs.CaptureText.{Datagram, Header}
-use Rattle.tftp_ends.specs.Meaning.{Meaning, windowsize_of}
-use Rattle.tftp_ends.specs.Machines.{MachinePacket, Req, Oack, Data, Ack, Deed, Sent, Took, message_of, sender_of, receiver_of}
-use Rattle.tftp_law.specs.Dress.{dir_of}
-use Rattle.tftp_law.specs.CanBeWritten.{wire_of, blocks_of}
+use Rattle.tftp_hosts.specs.{no_host, Datagram, Header}
+use Rattle.tftp_packet.specs.{Side, Get, Put, End, Client, Server, canonical}
+use Rattle.tftp_capture.specs.{text_of}
+use Rattle.tftp_model.specs.{Meaning, windowsize_of, MachinePacket, Req, Oack, Data, Ack, Deed, Sent, Took, message_of}
+use Rattle.tftp_model.specs.Machines.{sender_of, receiver_of}
+use Rattle.tftp_law.specs.{dir_of, wire_of, blocks_of}
 
 -- how many windows of w blocks hold n blocks
 abbrev pub window_count : (w n : ℕ) → ℕ

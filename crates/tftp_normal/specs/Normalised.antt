@@ -1,10 +1,9 @@
 -- What is written of a capture text: the normal text of what it means, and nothing of any other.
 use Rattle.std.specs.Prelude.{◌≡◌, ◌⊎◌, ℕ, Bool, true, false, List, Option, Result, Ok, Err}
 use Rattle.std.specs.Io.KnownBytes.{Appends}
-use Rattle.tftp_capture.specs.Tally.{AppendsPrefix}
-use Rattle.tftp_ends.specs.Meaning.{Meaning}
-use Rattle.tftp_judge.specs.TextVerdict.{WantsMemory}
-use Rattle.tftp_judge.specs.declared.verdict.Verdict.{Verdict}
+use Rattle.tftp_capture.specs.{AppendsPrefix}
+use Rattle.tftp_model.specs.{Meaning}
+use Rattle.tftp_judge.specs.{WantsMemory, Verdict}
 use Rattle.tftp_normal.specs.declared.fault.NormalFault.{NormalFault}
 use Rattle.tftp_normal.specs.declared.fault.NormalFault.TheVariants as fault
 use Rattle.tftp_normal.specs.Normal.{normal_text}

@@ -1,8 +1,7 @@
 -- A transfer that is to be written, by its parts in memory, and the DATA of its wire in turn (RFC 1350, section 2).
 use Rattle.std.specs.Prelude.{◌≡◌, ℕ, ◌-◌, ◌≤◌, List, length, take}
-use Rattle.tftp_ends.specs.Meaning.{Meaning}
-use Rattle.tftp_law.specs.Owned.{meaning_from}
-use Rattle.tftp_law.specs.CanBeWritten.{blocks_of, CanBeWritten}
+use Rattle.tftp_model.specs.{Meaning}
+use Rattle.tftp_law.specs.{meaning_from, blocks_of, CanBeWritten}
 use Rattle.tftp_normal.specs.declared.transfer.Transfer.TheInside as transfer
 use Rattle.tftp_normal.specs.declared.data_packets.DataPackets.TheInside as packets
 

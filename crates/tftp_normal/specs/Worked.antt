@@ -1,14 +1,10 @@
 -- Four small transfers, and the normal capture of each: a read of two bytes without options, a read of 43 bytes by
 -- windows of four blocks, a write in lock step, and a read of a text in which a block ends between CR and LF.
 use Rattle.std.specs.Prelude.{ℕ, List, [], ◌∷◌, ◌++◌, codes}
-use Rattle.tftp_packet.specs.Host.{no_host}
-use Rattle.tftp_packet.specs.declared.kinds.Side.TheVariants.{Get, Put}
-use Rattle.tftp_packet.specs.declared.kinds.Mode.TheVariants.{Octet, Netascii}
-use Rattle.tftp_packet.specs.declared.kinds.Dir.TheVariants.{In, Out}
-use Rattle.tftp_capture.specs.Worked.{line}
-use Rattle.tftp_ends.specs.CaptureText.{Datagram}
-use Rattle.tftp_ends.specs.Meaning.{Meaning}
-use Rattle.tftp_ends.specs.Worked.{eight_a_block}
+use Rattle.tftp_hosts.specs.{no_host, In, Out, Datagram}
+use Rattle.tftp_packet.specs.{Get, Put, Octet, Netascii}
+use Rattle.tftp_capture.specs.{line}
+use Rattle.tftp_model.specs.{Meaning, eight_a_block}
 
 -- what goes out from the client first, to the service port, and what goes on between the two ends' own ports
 abbrev pub asks : List ℕ → Datagram

@@ -1,16 +1,9 @@
 -- What is written of a capture: the lines of its datagrams, one after another.
 use Rattle.std.specs.Prelude.{◌≡◌, ℕ, ◌+◌, ◌++◌, Bool, true, false, List, length, map as each, Option, Result, Ok, Err}
-use Rattle.tftp_packet.specs.Host.{no_host}
-use Rattle.tftp_packet.specs.declared.kinds.Dir.{Dir}
-use Rattle.tftp_packet.specs.declared.kinds.Dir.TheVariants.{In, Out}
-use Rattle.tftp_packet.specs.declared.kinds.End.{End}
-use Rattle.tftp_packet.specs.declared.kinds.End.TheVariants.{Client, Server}
-use Rattle.tftp_capture.specs.CaptureText.{datagram_line, whole_lines}
-use Rattle.tftp_capture.specs.Tally.{AppendsPrefix, Gathers}
-use Rattle.tftp_capture.specs.Written.{WriterState}
-use Rattle.tftp_ends.specs.CaptureText.{Datagram}
-use Rattle.tftp_ends.specs.Meaning.{Meaning}
-use Rattle.tftp_ends.specs.Machines.{MachinePacket}
+use Rattle.tftp_hosts.specs.{no_host, Dir, In, Out, Datagram}
+use Rattle.tftp_packet.specs.{End, Client, Server}
+use Rattle.tftp_capture.specs.{datagram_line, whole_lines, AppendsPrefix, Gathers, WriterState}
+use Rattle.tftp_model.specs.{Meaning, MachinePacket}
 use Rattle.tftp_normal.specs.Normal.{normal_datagram}
 
 -- a datagram that an end sent from its own port, seen at the client

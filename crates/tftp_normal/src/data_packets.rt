@@ -27,7 +27,7 @@ impl<'a> Model for DataPackets<'a> {
 
 impl<'a> DataPackets<'a> {
     ghost use Rattle.std.specs.Prelude.{◌≡◌, ◌≤◌, length, take, drop, IfOk};
-    ghost use Rattle.tftp_packet.specs.Message.{Message};
+    ghost use Rattle.tftp_packet.specs.Messages.{Message};
     ghost use Rattle.tftp_packet.specs.Canonical.{canonical};
 
     /// Before the first packet of a wire. It takes the memory for one.

@@ -1,11 +1,11 @@
 //! What holds of the normal capture. Each law is the contract of a function that does nothing.
 
 ghost use Rattle.std.specs.Prelude.{◌≡◌, ◌^◌, ◌≤◌, ◌↔◌, ℕ, List, All, Ok, length};
-ghost use Rattle.tftp_capture.specs.CaptureText.{Datagram, Header, IsCapture, IsLawful as IsLawfulDatagram, NamesNoHost, numbered};
-ghost use Rattle.tftp_ends.specs.Meaning.{Meaning, windowsize_of};
-ghost use Rattle.tftp_judge.specs.TextVerdict.{IsTextVerdict};
-ghost use Rattle.tftp_law.specs.Law.{Shows, ShowsBy};
-ghost use Rattle.tftp_law.specs.CanBeWritten.{wire_of, CanBeWritten};
+ghost use Rattle.tftp_capture.specs.CaptureText.{Datagram, Header};
+ghost use Rattle.tftp_capture.specs.{IsCapture, IsLawful as IsLawfulDatagram, NamesNoHost, numbered};
+ghost use Rattle.tftp_model.specs.{Meaning, windowsize_of};
+ghost use Rattle.tftp_judge.specs.{IsTextVerdict};
+ghost use Rattle.tftp_law.specs.{Shows, ShowsBy, wire_of, CanBeWritten};
 ghost use Rattle.tftp_normal.specs.Normal.{normal_datagrams, normal_header, normal_text, normal_count};
 ghost use Rattle.tftp_normal.specs.Accepted.{IsAccepted};
 

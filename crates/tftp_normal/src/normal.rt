@@ -2,10 +2,9 @@
 
 ghost use Rattle.std.specs.Prelude.{◌≡◌, ℕ, List, Some, length, true, false, Result, Ok, OnOk};
 ghost use Rattle.std.specs.Io.KnownBytes.{Appends, Consumes, IsAtEnd};
-ghost use Rattle.tftp_ends.specs.Meaning.{Meaning as Parts};
-ghost use Rattle.tftp_judge.specs.TextVerdict.{EndsText, IsReadVerdict, IsTextVerdict, SaysReadFailed};
-ghost use Rattle.tftp_judge.specs.declared.verdict.Verdict.{Verdict};
-ghost use Rattle.tftp_law.specs.CanBeWritten.{CanBeWritten};
+ghost use Rattle.tftp_model.specs.{Meaning as Parts};
+ghost use Rattle.tftp_judge.specs.{EndsText, IsReadVerdict, IsTextVerdict, SaysReadFailed, Verdict};
+ghost use Rattle.tftp_law.specs.{CanBeWritten};
 ghost use Rattle.tftp_normal.specs.Accepted.{IsAccepted};
 ghost use Rattle.tftp_normal.specs.Normal.{normal_count as count_of, normal_datagrams, normal_text};
 ghost use Rattle.tftp_normal.specs.Normalised.{Normalises, WritesNormal};

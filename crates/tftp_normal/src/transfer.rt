@@ -14,7 +14,7 @@ pub(crate) struct Transfer<'a> {
 }
 
 impl<'a> Model for Transfer<'a> {
-    ghost use Rattle.tftp_ends.specs.Meaning.{Meaning};
+    ghost use Rattle.tftp_model.specs.Meanings.{Meaning};
     ghost use Rattle.tftp_normal.specs.Transfer.{meaning_in, IsToBeWritten};
     ghost use Rattle.tftp_law.specs.Owned.{meaning_code};
 
@@ -30,11 +30,11 @@ impl<'a> Model for Transfer<'a> {
 impl<'a> Transfer<'a> {
     ghost use Rattle.std.specs.Prelude.{◌≡◌, ◌≢◌, ◌↔◌, ◌+◌, ◌≤◌, min, length, IfOk, IsTrue};
     ghost use Rattle.std.specs.FinMap as map;
-    ghost use Rattle.tftp_packet.specs.Message.{Message};
+    ghost use Rattle.tftp_packet.specs.Messages.{Message};
     ghost use Rattle.tftp_packet.specs.Canonical.{canonical};
-    ghost use Rattle.tftp_ends.specs.Meaning.{request_of, blksize_of, windowsize_of};
+    ghost use Rattle.tftp_model.specs.Meanings.{request_of, blksize_of, windowsize_of};
     ghost use Rattle.tftp_law.specs.Owned.{meaning_from};
-    ghost use Rattle.tftp_law.specs.CanBeWritten.{blocks_of, CanBeWritten};
+    ghost use Rattle.tftp_law.specs.Writable.{blocks_of, CanBeWritten};
     ghost use Rattle.tftp_normal.specs.Normal.{normal_count, opening_count};
 
     /// Takes the parts, and no memory.

@@ -2,10 +2,9 @@
 
 ghost use Rattle.std.specs.Prelude.{◌≡◌, [], ◌∷◌, ◌++◌, ◌≤◌, All, length, OnOk, MatchOption};
 ghost use Rattle.std.specs.Prelude.{take, drop};
-ghost use Rattle.tftp_packet.specs.declared.kinds.Mode.TheVariants.{Octet, Netascii};
-ghost use Rattle.tftp_netascii.specs.Netascii.{canonical_bytes};
-ghost use Rattle.tftp_netascii.specs.Runs.{IsPlain};
-ghost use Rattle.tftp_law.specs.Fits.{written_wire};
+ghost use Rattle.tftp_packet.specs.{Octet, Netascii};
+ghost use Rattle.tftp_netascii.specs.{canonical_bytes, IsPlain};
+ghost use Rattle.tftp_law.specs.{written_wire};
 ghost use Rattle.tftp_normal.specs.WireLeft.{bytes_of};
 
 use memchr::memchr2;
@@ -42,7 +41,7 @@ impl<'a> Model for WireBlocks<'a> {
 
 impl<'a> WireBlocks<'a> {
     ghost use Rattle.std.specs.Prelude.{◌≡◌, ◌≤◌, [], ◌++◌, length, take, drop, IfNone};
-    ghost use Rattle.tftp_law.specs.Fits.{written_wire};
+    ghost use Rattle.tftp_law.specs.Fitting.{written_wire};
     ghost use Rattle.tftp_normal.specs.WireLeft.{bytes_of};
 
     /// The whole wire of a file.

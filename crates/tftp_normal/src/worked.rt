@@ -2,11 +2,9 @@
 
 ghost use Rattle.std.specs.Prelude.{◌≡◌, ℕ, suc, length};
 ghost use Rattle.std.specs.FinMap as map;
-ghost use Rattle.tftp_packet.specs.declared.kinds.Side.TheVariants.{Get};
-ghost use Rattle.tftp_ends.specs.Meaning.{Meaning, NothingAgreed, windowsize_of};
-ghost use Rattle.tftp_ends.specs.Worked.{two_bytes};
-ghost use Rattle.tftp_ends.specs.WorkedWindows.{six_blocks};
-ghost use Rattle.tftp_law.specs.CanBeWritten.{blocks_of};
+ghost use Rattle.tftp_packet.specs.{Get};
+ghost use Rattle.tftp_model.specs.{Meaning, NothingAgreed, windowsize_of, two_bytes, six_blocks};
+ghost use Rattle.tftp_law.specs.{blocks_of};
 ghost use Rattle.tftp_normal.specs.Normal.{normal_datagrams, normal_text, normal_count};
 ghost use Rattle.tftp_normal.specs.Worked.{
   two_bytes_datagrams,

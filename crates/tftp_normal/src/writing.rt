@@ -2,13 +2,11 @@
 
 ghost use Rattle.std.specs.Prelude.{◌≡◌, ◌≢◌, ◌+◌, ◌-◌, ◌*◌, ◌^◌, ◌≤◌, [], ◌∷◌, length, drop, true, false, Ok, OnOk};
 ghost use Rattle.std.specs.FinMap as map;
-ghost use Rattle.tftp_packet.specs.Message.{Message};
-ghost use Rattle.tftp_packet.specs.Canonical.{canonical};
-ghost use Rattle.tftp_packet.specs.declared.kinds.End.{End};
-ghost use Rattle.tftp_capture.specs.Tally.{Writes};
-ghost use Rattle.tftp_ends.specs.Meaning.{Meaning, request_of, blksize_of, windowsize_of};
-ghost use Rattle.tftp_ends.specs.Machines.{sender_of};
-ghost use Rattle.tftp_law.specs.CanBeWritten.{wire_of, blocks_of, CanBeWritten};
+ghost use Rattle.tftp_packet.specs.{Message, canonical, End};
+ghost use Rattle.tftp_capture.specs.{Writes};
+ghost use Rattle.tftp_model.specs.{Meaning, request_of, blksize_of, windowsize_of};
+ghost use Rattle.tftp_model.specs.Machines.{sender_of};
+ghost use Rattle.tftp_law.specs.{wire_of, blocks_of, CanBeWritten};
 ghost use Rattle.tftp_normal.specs.Normal.{opening, blocks_after, windows_after, windows_of, normal_count, normal_text};
 ghost use Rattle.tftp_normal.specs.Normalised.{Normalises};
 ghost use Rattle.tftp_normal.specs.Writing.{asked_by, sent_by, datagrams_of, Puts};
@@ -20,7 +18,8 @@ use crate::wire_blocks::WireBlocks;
 use std::alloc::Global;
 use std::io::Write;
 use tftp_capture::{CaptureWriter, Header, Tallied, WriteFault};
-use tftp_packet::{Dir, End, Side};
+use tftp_hosts::Dir;
+use tftp_packet::{End, Side};
 
 /// The client's own port.
 const CLIENT_PORT: u16 = 50_000;

@@ -1,9 +1,6 @@
 -- A payload is written in one way.
 use Rattle.std.proofs.Common.{◌≡◌, ℕ, List, sym, ap, ◌∙◌}
-use Rattle.tftp_packet.specs.OptionMap.{lower}
-use Rattle.tftp_packet.specs.Written.{strings, Pair, pair_strings, WrittenRequest}
-use Rattle.tftp_packet.specs.Spelling.{side_opcode}
-use Rattle.tftp_packet.specs.AsWritten.{IsWrittenRequest, IsWrittenOack, request_strings, written_request, written_oack}
+use Rattle.tftp_packet.specs.{lower, strings, Pair, pair_strings, WrittenRequest, side_opcode, IsWrittenRequest, IsWrittenOack, request_strings, written_request, written_oack}
 use Rattle.tftp_packet.proofs.PairStrings.{pair_strings_injective}
 use Rattle.tftp_packet.proofs.Strings.{strings_injective}
 use Rattle.tftp_packet.proofs.Unique.{side_opcode_injective, mode_name_injective}

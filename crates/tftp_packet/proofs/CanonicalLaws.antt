@@ -1,15 +1,7 @@
 -- What is written for a message spells it, and nothing shorter does.
 use Rattle.std.proofs.Common.{◌≡◌, ℕ, ◌/◌, ◌%◌, ◌<◌, ◌≤◌, List, [], ◌∷◌, length, length-append, refl, sym, ap, subst, ◌∙◌, arith, rules}
 use Rattle.std.specs.List.{AllByRecursion}
-use Rattle.tftp_packet.specs.OptionMap.{OptionMap, lower}
-use Rattle.tftp_packet.specs.Message.{RequestParts, Message, Request, Data, Ack, Error, Oack}
-use Rattle.tftp_packet.specs.Written.{IsString, terminated, strings, pair_strings, map_of}
-use Rattle.tftp_packet.specs.Spelling.{IsPair, side_opcode, mode_name, SpellsRequest, SpellsOack, Spells}
-use Rattle.tftp_packet.specs.Canonical.{canonical, canonical_pairs, shown_pairs}
-use Rattle.tftp_packet.specs.declared.kinds.Side.{Side}
-use Rattle.tftp_packet.specs.declared.kinds.Side.TheVariants.{Get, Put}
-use Rattle.tftp_packet.specs.declared.kinds.Mode.{Mode}
-use Rattle.tftp_packet.specs.declared.kinds.Mode.TheVariants.{Octet, Netascii}
+use Rattle.tftp_packet.specs.{OptionMap, lower, RequestParts, Message, Request, Data, Ack, Error, Oack, IsString, terminated, strings, pair_strings, map_of, IsPair, side_opcode, mode_name, SpellsRequest, SpellsOack, Spells, canonical, canonical_pairs, shown_pairs, Side, Get, Put, Mode, Octet, Netascii}
 use Rattle.tftp_packet.proofs.CanonicalOptions.{Bytes, bytes_of_strings, strings_bytes, Canonical, canonical_good, no_entry, length_lower}
 
 numbered : (x y n : ℕ) → IsPair x y n → IsPair (n / 256) (n % 256) n

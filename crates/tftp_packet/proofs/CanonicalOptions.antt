@@ -1,6 +1,5 @@
 -- The canonical options of a map stand for the map, and are as short as any that do.
-use Rattle.std.proofs.Common.{◌≡◌, ◌≢◌, inl, inr, ℕ, suc, ◌+◌, ◌^◌, ◌<◌, ◌≤◌, Bool, true, false, cond, T, List, [], ◌∷◌, ◌++◌, length, length-append, Option, Some, None, refl, sym, ap, subst, ◌∙◌, arith}
-use Rattle.std.specs.Prelude.{◌&&◌, decimal, map as each}
+use Rattle.std.proofs.Common.{◌≡◌, ◌≢◌, inl, inr, ℕ, suc, ◌+◌, ◌^◌, ◌<◌, ◌≤◌, Bool, true, false, cond, T, List, [], ◌∷◌, ◌++◌, length, length-append, Option, Some, None, refl, sym, ap, subst, ◌∙◌, arith, ◌&&◌, decimal, map as each}
 use Rattle.std.specs.List.{AllByRecursion}
 use Rattle.std.specs.Char.{to_ascii_lowercase}
 use Rattle.std.specs.Str.Parse.{AllDigits, digits_value}
@@ -17,10 +16,7 @@ use Rattle.std.proofs.lemmas.Fmt.{decimal_is_IsNumeral, length-decimal-le}
 use Rattle.std.proofs.lemmas.Int.Digits.{digits_value-lt}
 use Rattle.std.proofs.lemmas.Str.Parse.{digit_from_value}
 use Rattle.std.proofs.lemmas.List.{nil_from_length}
-use Rattle.tftp_packet.specs.OptionMap.{OptionMap, OptionValue, Num, Text, lower, range_of, is_within, is_number, is_known_number, value_of}
-use Rattle.tftp_packet.specs.Written.{IsString, AreStrings, terminated, strings, Pair, pair_strings, AreNamed, AreApart, AreOptions, SameName, map_of}
-use Rattle.tftp_packet.specs.Owned.{Shown}
-use Rattle.tftp_packet.specs.Canonical.{value_text, shown_pair, shown_pairs, canonical_pairs}
+use Rattle.tftp_packet.specs.{OptionMap, OptionValue, Num, Text, lower, range_of, is_within, is_number, is_known_number, value_of, IsString, AreStrings, terminated, strings, Pair, pair_strings, AreNamed, AreApart, AreOptions, SameName, map_of, Shown, value_text, shown_pair, shown_pairs, canonical_pairs}
 use Rattle.tftp_packet.proofs.Values.{range_below, is_below, number_of_numeral, numeral_of_number}
 use Rattle.tftp_packet.proofs.Maps.{entry_of}
 use Rattle.tftp_packet.proofs.OwnedMaps.{lower_twice}

@@ -1,9 +1,7 @@
 -- The faults stand in one order, so the first one is one.
 use Rattle.std.proofs.Common.{◌≡◌, inl, inr, ℕ, ◌<◌, List, refl, arith}
 use Rattle.std.proofs.lemmas.Bool.{cases_lt}
-use Rattle.tftp_packet.specs.declared.fault.PacketFault.{PacketFault}
-use Rattle.tftp_packet.specs.declared.fault.PacketFault.TheVariants.{Short, Opcode, AckLength, NoTerminator, OddOptions, EmptyOptionName, DuplicateOption, UnknownMode, MailMode, RequestTooLong}
-use Rattle.tftp_packet.specs.Faults.{Holds, number, FirstFault}
+use Rattle.tftp_packet.specs.{PacketFault, Short, Opcode, AckLength, NoTerminator, OddOptions, EmptyOptionName, DuplicateOption, UnknownMode, MailMode, RequestTooLong, Holds, number, FirstFault}
 
 number_injective : (f g : PacketFault) → number f ≡ number g → f ≡ g
 number_injective Short Short e = refl

@@ -1,20 +1,10 @@
 -- From what the parts of `read_packet` answer to what it promises.
-use Rattle.std.proofs.Common.{◌≡◌, ◌≢◌, ◌↔◌, inl, inr, ℕ, ◌+◌, ◌-◌, ◌*◌, ◌/◌, ◌%◌, ◌∙◌, ◌<◌, ◌≤◌, List, [], ◌∷◌, sym, length, take, drop, get_or, ap, subst, arith, Fits, w8}
-use Rattle.std.specs.Prelude.{Result, Ok, Err, IfOk, IsOkAnd}
+use Rattle.std.proofs.Common.{◌≡◌, ◌≢◌, ◌↔◌, inl, inr, ℕ, ◌+◌, ◌-◌, ◌*◌, ◌/◌, ◌%◌, ◌∙◌, ◌<◌, ◌≤◌, List, [], ◌∷◌, sym, length, take, drop, get_or, ap, subst, arith, Fits, w8, Result, Ok, Err, IfOk, IsOkAnd}
 use Rattle.std.specs.List.{AllByRecursion}
 use Rattle.std.proofs.lemmas.List.Elements.{recursion_from_All, All-from_get_or}
 use Rattle.std.proofs.lemmas.List.{take_all}
-use Rattle.tftp_packet.specs.Written.{IsString, terminated}
-use Rattle.tftp_packet.specs.Message.{Message}
-use Rattle.tftp_packet.specs.Meaning.{meaning}
-use Rattle.tftp_packet.specs.Spelling.{Spells, IsPair}
+use Rattle.tftp_packet.specs.{IsString, terminated, Message, meaning, Spells, IsPair, Holds, FirstFault, opcode_of, IsWritten, Judges, Packet, PacketFault, Short, Opcode, NoTerminator}
 use Rattle.byteorder.specs.Endian.{big_number}
-use Rattle.tftp_packet.specs.Faults.{Holds, FirstFault, opcode_of}
-use Rattle.tftp_packet.specs.AsWritten.{IsWritten}
-use Rattle.tftp_packet.specs.Reading.{Judges}
-use Rattle.tftp_packet.specs.declared.packet.Packet.{Packet}
-use Rattle.tftp_packet.specs.declared.fault.PacketFault.{PacketFault}
-use Rattle.tftp_packet.specs.declared.fault.PacketFault.TheVariants.{Short, Opcode, NoTerminator}
 use Rattle.tftp_packet.proofs.FaultOrder.{first_fault_unique, first_Short, first_NoTerminator}
 use Rattle.tftp_packet.proofs.Unique.{one_message}
 use Rattle.tftp_packet.proofs.NoFault.{no_fault}

@@ -19,4 +19,3 @@ pub mod CanonicalLaws
 pub mod NameLists
 pub mod NameOrder
 pub mod NameTable
-pub mod Hosts

@@ -1,6 +1,5 @@
 -- The map of options, by their names.
-use Rattle.std.proofs.Common.{◌≡◌, ℕ, ◌+◌, ◌/◌, Bool, true, false, cond, List, [], ◌∷◌, length, Option, Some, None, refl, sym, ap, ◌∙◌, arith}
-use Rattle.std.specs.Prelude.{bytes_eq, option_map, map as each, option_and_then, count_by, ◌==◌, is_some}
+use Rattle.std.proofs.Common.{◌≡◌, ℕ, ◌+◌, ◌/◌, Bool, true, false, cond, List, [], ◌∷◌, length, Option, Some, None, refl, sym, ap, ◌∙◌, arith, bytes_eq, option_map, map as each, option_and_then, count_by, ◌==◌, is_some}
 use Rattle.std.specs.List.{AllByRecursion}
 use Rattle.std.specs.Ordering.{nat_cmp, eq_by_cmp}
 use Rattle.std.specs.Cmp.{eq_by_cmp_equiv}
@@ -8,9 +7,7 @@ use Rattle.std.specs.Cmp.Lexicographic.{slice_cmp, nat_list_cmp_total, texts_tie
 use Rattle.std.specs.FinMap as map
 use Rattle.std.specs.FinMap.{find, get-from_entries, len-insert, len-empty}
 use Rattle.std.proofs.lemmas.Slice.Eq.{bytes_eq-Decides}
-use Rattle.tftp_packet.specs.OptionMap.{OptionValue, lower, value_of, number_in}
-use Rattle.tftp_packet.specs.Written.{Pair, pair_strings, map_of, text_of, AreApart, SameName}
-use Rattle.tftp_packet.specs.OptionFaults.{HoldsOptions}
+use Rattle.tftp_packet.specs.{OptionValue, lower, value_of, number_in, Pair, pair_strings, map_of, text_of, AreApart, SameName, HoldsOptions}
 use Rattle.tftp_packet.proofs.Values.{bytes_eq_no}
 use Rattle.tftp_packet.proofs.Strings.{zeros_of_strings}
 use Rattle.tftp_packet.proofs.PairStrings.{length_pair_strings}

@@ -1,8 +1,7 @@
 -- Names of which two are equal, in two lists one after the other.
 use Rattle.std.proofs.Common.{◌≡◌, inl, inr, ◌⊎◌, ℕ, List, [], ◌∷◌, ◌++◌, refl, subst}
 use Rattle.std.specs.List.{AllByRecursion}
-use Rattle.tftp_packet.specs.Faults.{AnyOf}
-use Rattle.tftp_packet.specs.Names.{HasTwo, HasCommon}
+use Rattle.tftp_packet.specs.{AnyOf, HasTwo, HasCommon}
 
 pub any_left : {X : Type 0} (P : X → Type 0) (xs ys : List X) → AnyOf P xs → AnyOf P (xs ++ ys)
 any_left P [] ys any = absurd any

@@ -1,6 +1,5 @@
 -- Names in order: two are equal just where two side by side are.
-use Rattle.std.proofs.Common.{◌≡◌, inl, inr, ◌⊎◌, ◌↔◌, ℕ, zero, suc, ◌+◌, ◌<◌, ◌≤◌, Bool, true, false, cond, List, [], ◌∷◌, ◌++◌, length, get_or, take, set, refl, sym, ap, subst, ◌∙◌, true≢false, append_assoc, nat_cmp, is_lt, arith}
-use Rattle.std.specs.Prelude.{bytes_eq, map as each, IsPermutation, Result, Ok, Err, is_ok, MatchBool}
+use Rattle.std.proofs.Common.{◌≡◌, inl, inr, ◌⊎◌, ◌↔◌, ℕ, zero, suc, ◌+◌, ◌<◌, ◌≤◌, Bool, true, false, cond, List, [], ◌∷◌, ◌++◌, length, get_or, take, set, refl, sym, ap, subst, ◌∙◌, true≢false, append_assoc, nat_cmp, is_lt, arith, bytes_eq, map as each, IsPermutation, Result, Ok, Err, is_ok, MatchBool}
 use Rattle.std.specs.List.{sum_by}
 use Rattle.std.specs.List.Sorted.{IsSortedBy, IsSearchInRange, IsBinarySearchResult}
 use Rattle.std.specs.Cmp.{tied_itself}
@@ -15,10 +14,7 @@ use Rattle.std.proofs.lemmas.List.{map-append, take_more_set}
 use Rattle.std.proofs.lemmas.List.Sums.{sum_by-cons}
 use Rattle.std.proofs.lemmas.List.Sorted.{ranks_by, sorted_far, searchable_from_sorted, sum_by-IsPermutation, IsPermutation-sym}
 use Rattle.std.proofs.lemmas.Slice.Eq.{bytes_eq-Decides}
-use Rattle.tftp_packet.specs.OptionMap.{lower}
-use Rattle.tftp_packet.specs.Written.{Pair}
-use Rattle.tftp_packet.specs.Faults.{AnyOf, HasRepeat}
-use Rattle.tftp_packet.specs.Names.{HasTwo, HasTwoBeside, HasCommon}
+use Rattle.tftp_packet.specs.{lower, Pair, AnyOf, HasRepeat, HasTwo, HasTwoBeside, HasCommon}
 use Rattle.tftp_packet.proofs.NameLists.{any_of, two_of_common}
 use Rattle.tftp_packet.proofs.Maps.{bytes_eq_yes}
 

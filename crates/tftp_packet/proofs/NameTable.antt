@@ -1,15 +1,11 @@
 -- A table of names: what is put into it is found, and nothing else.
-use Rattle.std.proofs.Common.{◌≡◌, ◌≢◌, ◌↔◌, inl, inr, ℕ, zero, suc, ◌+◌, ◌-◌, ◌<◌, ◌≤◌, List, [], ◌∷◌, ◌++◌, length, get_or, drop, set, take, refl, sym, ap, subst, ◌∙◌, append_assoc, get_or-set_same, get_or-set_other, length-append, length-drop, take_all, arith}
+use Rattle.std.proofs.Common.{◌≡◌, ◌≢◌, ◌↔◌, inl, inr, ℕ, zero, suc, ◌+◌, ◌-◌, ◌<◌, ◌≤◌, List, [], ◌∷◌, ◌++◌, length, get_or, drop, set, take, refl, sym, ap, subst, ◌∙◌, append_assoc, get_or-set_same, get_or-set_other, length-append, length-drop, take_all, arith, replicate, map as each}
 use Rattle.std.proofs.lemmas.List.{drop_all}
-use Rattle.std.specs.Prelude.{replicate, map as each}
 use Rattle.std.specs.List.{AllByRecursion}
 use Rattle.std.proofs.lemmas.Bool.{cases_eq, ne_eqb}
 use lib.Seq.{drop-append_seam}
-use Rattle.tftp_packet.specs.OptionMap.{lower}
-use Rattle.tftp_packet.specs.Written.{IsString, pairs_of}
-use Rattle.tftp_packet.specs.Faults.{AnyOf, HasRepeat}
-use Rattle.tftp_packet.specs.Names.{HasTwo}
-use Rattle.tftp_packet.specs.NameTable.{StandsFirst, keys_of, string_first, mark_of, key_at, AreMarked, IsHeld, IsFound, IsFree, StandForSome, Holds}
+use Rattle.tftp_packet.specs.{lower, IsString, pairs_of, AnyOf, HasRepeat, HasTwo, StandsFirst, keys_of, string_first, mark_of, key_at, AreMarked, IsHeld, IsFound, IsFree, StandForSome}
+use Rattle.tftp_packet.specs.NameTable.{Holds}
 use Rattle.tftp_packet.proofs.NameLists.{any_left, any_right, two_right, two_across, two_skipped, two_behind, all_more, any_of}
 use Rattle.tftp_packet.proofs.NameOrder.{two_of_repeat, repeat_of_two}
 

@@ -1,15 +1,6 @@
 -- A payload that spells a message has no fault.
-use Rattle.std.proofs.Common.{◌≡◌, ◌≢◌, ◌⊎◌, inl, inr, ℕ, ◌%◌, ◌<◌, ◌≤◌, List, [], ◌∷◌, length, refl, sym, ap, subst, ◌∙◌, arith}
-use Rattle.std.specs.Prelude.{codes}
-use Rattle.tftp_packet.specs.OptionMap.{lower}
-use Rattle.tftp_packet.specs.Message.{Message, Request, Data, Ack, Error, Oack}
-use Rattle.tftp_packet.specs.Written.{IsString, AreStrings, terminated, strings, Pair, pair_strings, AreNamed, AreApart}
-use Rattle.tftp_packet.specs.Spelling.{side_opcode, mode_name, Layout}
-use Rattle.tftp_packet.specs.declared.kinds.Mode.{Mode}
-use Rattle.tftp_packet.specs.declared.kinds.Mode.TheVariants.{Octet, Netascii}
-use Rattle.tftp_packet.specs.declared.fault.PacketFault.{PacketFault}
-use Rattle.tftp_packet.specs.declared.fault.PacketFault.TheVariants.{Short, Opcode, AckLength, NoTerminator, OddOptions, EmptyOptionName, DuplicateOption, UnknownMode, MailMode, RequestTooLong}
-use Rattle.tftp_packet.specs.Faults.{Holds, IsRequest, HasOptionStrings, EndsWithZero, opcode_of}
+use Rattle.std.proofs.Common.{◌≡◌, ◌≢◌, ◌⊎◌, inl, inr, ℕ, ◌%◌, ◌<◌, ◌≤◌, List, [], ◌∷◌, length, refl, sym, ap, subst, ◌∙◌, arith, codes}
+use Rattle.tftp_packet.specs.{lower, Message, Request, Data, Ack, Error, Oack, IsString, AreStrings, terminated, strings, Pair, pair_strings, AreNamed, AreApart, side_opcode, mode_name, Layout, Mode, Octet, Netascii, PacketFault, Short, Opcode, AckLength, NoTerminator, OddOptions, EmptyOptionName, DuplicateOption, UnknownMode, MailMode, RequestTooLong, Holds, IsRequest, HasOptionStrings, EndsWithZero, opcode_of}
 use Rattle.tftp_packet.proofs.Strings.{strings_injective, strings_end}
 use Rattle.tftp_packet.proofs.PairStrings.{pair_strings_injective, not_odd, none_of_all, no_repeat}
 use Rattle.tftp_packet.proofs.Requests.{not_short, not_opcode, not_ack, not_unended, paired, all_named, all_apart, same_mode, same_strings}

@@ -1,10 +1,6 @@
 -- What the bytes of an OACK's body say of the whole payload, case by case.
 use Rattle.std.proofs.Common.{◌≡◌, ◌≢◌, inl, inr, ℕ, ◌%◌, List, [], ◌∷◌, length, refl, sym, ap, subst, ◌∙◌, arith}
-use Rattle.tftp_packet.specs.Written.{AreStrings, strings, pair_strings, AreNamed}
-use Rattle.tftp_packet.specs.OptionFaults.{OptionFault}
-use Rattle.tftp_packet.specs.declared.fault.PacketFault.{PacketFault}
-use Rattle.tftp_packet.specs.declared.fault.PacketFault.TheVariants.{Short, Opcode, AckLength, NoTerminator, OddOptions, EmptyOptionName, DuplicateOption, UnknownMode, MailMode, RequestTooLong}
-use Rattle.tftp_packet.specs.Faults.{Holds, FirstFault, IsRequest, HasOptionStrings, EndsWithZero, opcode_of}
+use Rattle.tftp_packet.specs.{AreStrings, strings, pair_strings, AreNamed, OptionFault, PacketFault, Short, Opcode, AckLength, NoTerminator, OddOptions, EmptyOptionName, DuplicateOption, UnknownMode, MailMode, RequestTooLong, Holds, FirstFault, IsRequest, HasOptionStrings, EndsWithZero, opcode_of}
 use Rattle.tftp_packet.proofs.FaultOrder.{first_NoTerminator, first_OddOptions, first_EmptyOptionName, first_DuplicateOption}
 use Rattle.tftp_packet.proofs.Strings.{strings_injective, strings_end}
 use Rattle.tftp_packet.proofs.PairStrings.{pair_strings_injective, not_odd, none_of_all}

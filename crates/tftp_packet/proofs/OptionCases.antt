@@ -1,10 +1,6 @@
 -- What bytes hold as options, once they end with zero.
-use Rattle.std.proofs.Common.{◌≡◌, ◌⊎◌, inl, inr, ℕ, ◌%◌, List, [], ◌∷◌, length, sym, ap, ◌∙◌}
-use Rattle.std.specs.Prelude.{count_by, ◌==◌}
-use Rattle.tftp_packet.specs.Written.{AreStrings, strings, pair_strings, pairs_of, AreOptions}
-use Rattle.tftp_packet.specs.Faults.{EndsWithZero, AnyOf, HasRepeat}
-use Rattle.tftp_packet.specs.OptionFaults.{OptionFault}
-use Rattle.tftp_packet.specs.declared.fault.PacketFault.TheVariants.{OddOptions, EmptyOptionName, DuplicateOption}
+use Rattle.std.proofs.Common.{◌≡◌, ◌⊎◌, inl, inr, ℕ, ◌%◌, List, [], ◌∷◌, length, sym, ap, ◌∙◌, count_by, ◌==◌}
+use Rattle.tftp_packet.specs.{AreStrings, strings, pair_strings, pairs_of, AreOptions, EndsWithZero, AnyOf, HasRepeat, OptionFault, OddOptions, EmptyOptionName, DuplicateOption}
 use Rattle.tftp_packet.proofs.Strings.{cut_strings, zeros_of_strings}
 use Rattle.tftp_packet.proofs.PairStrings.{held, all_of_none, apart_of_no_repeat}
 

@@ -1,6 +1,5 @@
 -- Entries in the order of their names are a map.
-use Rattle.std.proofs.Common.{◌≡◌, inl, inr, ℕ, zero, suc, ◌+◌, ◌<◌, ◌≤◌, Bool, true, false, cond, T, List, [], ◌∷◌, ◌++◌, length, get_or, take, drop, Some, None, refl, sym, ap, subst, ◌∙◌, add-one, arith}
-use Rattle.std.specs.Prelude.{option_map, map as each, insert}
+use Rattle.std.proofs.Common.{◌≡◌, inl, inr, ℕ, zero, suc, ◌+◌, ◌<◌, ◌≤◌, Bool, true, false, cond, T, List, [], ◌∷◌, ◌++◌, length, get_or, take, drop, Some, None, refl, sym, ap, subst, ◌∙◌, add-one, arith, option_map, map as each, insert}
 use Rattle.std.specs.List.{AllByRecursion}
 use Rattle.std.specs.Char.{to_ascii_lowercase}
 use Rattle.std.specs.Ordering.{nat_cmp, is_lt, is_eq, ordering_reverse}
@@ -11,10 +10,7 @@ use Rattle.std.specs.FinMap as map
 use Rattle.std.specs.FinMap.{find, is_sorted, put, get-from_sorted, entries-from_sorted, len-entries, empty_of_len, entries-insert, same_entries_map, from_entries_push, nat_cmp-IsAntisymmetric, slice_cmp-IsAntisymmetric}
 use Rattle.std.specs.FinMap.Entries.{is_sorted-put, by_order}
 use Rattle.std.proofs.lemmas.Bool.{cases_lt, lt-ltb, le-ltb}
-use Rattle.tftp_packet.specs.OptionMap.{OptionMap, OptionValue, lower, value_of, no_options}
-use Rattle.tftp_packet.specs.Written.{Pair, map_of, text_of, AreApart, SameName}
-use Rattle.tftp_packet.specs.Owned.{Shown, shown, shown_entry, shown_entries, AreLower, AreInOrder, place}
-use Rattle.tftp_packet.specs.declared.owned_options.Entry.{Entry}
+use Rattle.tftp_packet.specs.{OptionMap, OptionValue, lower, value_of, no_options, Pair, map_of, text_of, AreApart, SameName, Shown, shown, shown_entry, shown_entries, AreLower, AreInOrder, place, Entry}
 use Rattle.tftp_packet.proofs.Values.{bytes_eq_no}
 use Rattle.tftp_packet.proofs.Maps.{bytes_eq_yes, ties, text_in_map, find_text, entry_of}
 

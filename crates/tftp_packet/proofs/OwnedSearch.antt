@@ -1,6 +1,5 @@
 -- A name is searched for among entries in the order of their names.
-use Rattle.std.proofs.Common.{inl, inr, ◌≡◌, ◌≢◌, ℕ, zero, suc, ◌+◌, ◌<◌, Bool, true, false, cond, T, List, [], ◌∷◌, length, get_or, Some, None, refl, sym, ap, subst, ◌∙◌, true≢false, arith}
-use Rattle.std.specs.Prelude.{◌&&◌}
+use Rattle.std.proofs.Common.{inl, inr, ◌≡◌, ◌≢◌, ℕ, zero, suc, ◌+◌, ◌<◌, Bool, true, false, cond, T, List, [], ◌∷◌, length, get_or, Some, None, refl, sym, ap, subst, ◌∙◌, true≢false, arith, ◌&&◌}
 use Rattle.std.specs.Ordering.{nat_cmp, is_lt, ordering_reverse, ordering_index}
 use Rattle.std.specs.Cmp.{tied_itself}
 use Rattle.std.specs.Cmp.Lexicographic.{slice_cmp, nat_list_cmp_total}
@@ -11,9 +10,7 @@ use Rattle.std.specs.FinMap.{find, is_sorted, nat_cmp-IsAntisymmetric, slice_cmp
 use Rattle.std.specs.FinMap.Entries.{below_all}
 use Rattle.std.proofs.lemmas.Bool.{cases_lt}
 use Rattle.std.proofs.lemmas.List.Sorted.{searchable_from_sorted}
-use Rattle.tftp_packet.specs.OptionMap.{lower}
-use Rattle.tftp_packet.specs.Owned.{shown, shown_entries, AreLower, AreInOrder}
-use Rattle.tftp_packet.specs.declared.owned_options.Entry.{Entry}
+use Rattle.tftp_packet.specs.{lower, shown, shown_entries, AreLower, AreInOrder, Entry}
 use Rattle.tftp_packet.proofs.Values.{bytes_eq_no}
 use Rattle.tftp_packet.proofs.Maps.{bytes_eq_yes, ties}
 

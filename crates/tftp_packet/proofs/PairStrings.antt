@@ -1,9 +1,7 @@
 -- Strings are paired in one way, and what holds of all pairs fails of none.
 use Rattle.std.proofs.Common.{◌≡◌, inl, inr, ℕ, suc, ◌*◌, ◌%◌, ◌<◌, List, [], ◌∷◌, ◌++◌, length, refl, sym, ap, subst, ◌∙◌, length-append, arith}
 use Rattle.std.specs.List.{AllByRecursion}
-use Rattle.tftp_packet.specs.Written.{IsString, AreStrings, strings, strings_of, pairs_of, Pair, pair_strings, pair_up, AreApart, SameName}
-use Rattle.tftp_packet.specs.Faults.{AnyOf, HasRepeat}
-use Rattle.tftp_packet.specs.NameTable.{StandsFirst}
+use Rattle.tftp_packet.specs.{IsString, AreStrings, strings, strings_of, pairs_of, Pair, pair_strings, pair_up, AreApart, SameName, AnyOf, HasRepeat, StandsFirst}
 use Rattle.tftp_packet.proofs.Strings.{strings_of_front, strings_of_string, strings_of_strings}
 
 pub pair_strings_injective : (ps qs : List Pair) → pair_strings ps ≡ pair_strings qs → ps ≡ qs

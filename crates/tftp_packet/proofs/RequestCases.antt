@@ -1,15 +1,6 @@
 -- What the bytes of a request's body say of the whole payload, case by case.
-use Rattle.std.proofs.Common.{◌≡◌, ◌≢◌, ◌⊎◌, inl, inr, ℕ, ◌<◌, List, [], ◌∷◌, ◌++◌, length, refl, sym, ap, subst, ◌∙◌, append_assoc, arith}
-use Rattle.std.specs.Prelude.{codes}
-use Rattle.tftp_packet.specs.OptionMap.{lower}
-use Rattle.tftp_packet.specs.Written.{IsString, AreStrings, terminated, strings, Pair, pair_strings, AreNamed, AreApart}
-use Rattle.tftp_packet.specs.Spelling.{mode_name}
-use Rattle.tftp_packet.specs.OptionFaults.{OptionFault}
-use Rattle.tftp_packet.specs.declared.kinds.Mode.{Mode}
-use Rattle.tftp_packet.specs.declared.kinds.Mode.TheVariants.{Octet, Netascii}
-use Rattle.tftp_packet.specs.declared.fault.PacketFault.{PacketFault}
-use Rattle.tftp_packet.specs.declared.fault.PacketFault.TheVariants.{Short, Opcode, AckLength, NoTerminator, OddOptions, EmptyOptionName, DuplicateOption, UnknownMode, MailMode, RequestTooLong}
-use Rattle.tftp_packet.specs.Faults.{FirstFault, EndsWithZero, ModeFault}
+use Rattle.std.proofs.Common.{◌≡◌, ◌≢◌, ◌⊎◌, inl, inr, ℕ, ◌<◌, List, [], ◌∷◌, ◌++◌, length, refl, sym, ap, subst, ◌∙◌, append_assoc, arith, codes}
+use Rattle.tftp_packet.specs.{lower, IsString, AreStrings, terminated, strings, Pair, pair_strings, AreNamed, AreApart, mode_name, OptionFault, Mode, Octet, Netascii, PacketFault, Short, Opcode, AckLength, NoTerminator, OddOptions, EmptyOptionName, DuplicateOption, UnknownMode, MailMode, RequestTooLong, FirstFault, EndsWithZero, ModeFault}
 use Rattle.tftp_packet.proofs.FaultOrder.{first_NoTerminator, first_OddOptions, first_EmptyOptionName, first_DuplicateOption, first_UnknownMode, first_MailMode, first_RequestTooLong}
 use Rattle.tftp_packet.proofs.Strings.{string_has_no_zero, end_after, strings_end}
 use Rattle.tftp_packet.proofs.Requests.{not_short, not_opcode, not_ack, begins, same_mode, not_unended, unended, paired, all_named, all_apart}

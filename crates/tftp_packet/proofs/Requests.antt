@@ -1,9 +1,7 @@
 -- What holds of a payload that begins as a request, by what its bytes are after the opcode.
 use Rattle.std.proofs.Common.{◌≡◌, ◌⊎◌, inl, inr, ℕ, ◌%◌, List, [], ◌∷◌, length, sym, ap, subst, ◌∙◌, arith}
 use Rattle.std.proofs.lemmas.List.{append-nil}
-use Rattle.tftp_packet.specs.Written.{IsString, AreStrings, terminated, strings, Pair, pair_strings, AreNamed, AreApart}
-use Rattle.tftp_packet.specs.declared.fault.PacketFault.TheVariants.{Short, Opcode, AckLength, NoTerminator, OddOptions, EmptyOptionName, DuplicateOption}
-use Rattle.tftp_packet.specs.Faults.{Holds, IsRequest, IsRequestOf, HasOptionStrings, HasMode, EndsWithZero}
+use Rattle.tftp_packet.specs.{IsString, AreStrings, terminated, strings, Pair, pair_strings, AreNamed, AreApart, Short, Opcode, AckLength, NoTerminator, OddOptions, EmptyOptionName, DuplicateOption, Holds, IsRequest, IsRequestOf, HasOptionStrings, HasMode, EndsWithZero}
 use Rattle.tftp_packet.proofs.PairStrings.{pair_strings_injective, not_odd, none_of_all, no_repeat}
 use Rattle.tftp_packet.proofs.Strings.{strings_injective}
 

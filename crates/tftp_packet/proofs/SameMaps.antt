@@ -1,14 +1,11 @@
 -- A map that has each of as many options as it has entries is their map.
-use Rattle.std.proofs.Common.{◌≡◌, ℕ, ◌-◌, Bool, true, false, cond, List, [], ◌∷◌, length, Some, None, refl, sym, ap, ◌∙◌, arith}
-use Rattle.std.specs.Prelude.{bytes_eq, is_some}
+use Rattle.std.proofs.Common.{◌≡◌, ℕ, ◌-◌, Bool, true, false, cond, List, [], ◌∷◌, length, Some, None, refl, sym, ap, ◌∙◌, arith, bytes_eq, is_some}
 use Rattle.std.specs.List.{AllByRecursion}
 use Rattle.std.specs.Cmp.Lexicographic.{nat_list_cmp_total}
 use Rattle.std.specs.FinMap as map
 use Rattle.std.specs.FinMap.{get-insert, get-remove, len-remove, empty_of_len, same_map, nat_cmp-IsAntisymmetric, slice_cmp-IsAntisymmetric}
 use Rattle.std.proofs.lemmas.Slice.Eq.{bytes_eq-Decides}
-use Rattle.tftp_packet.specs.OptionMap.{OptionMap, OptionValue, lower, value_of}
-use Rattle.tftp_packet.specs.Written.{Pair, map_of, AreApart, SameName}
-use Rattle.tftp_packet.specs.Same.{HasEach}
+use Rattle.tftp_packet.specs.{OptionMap, OptionValue, lower, value_of, Pair, map_of, AreApart, SameName, HasEach}
 use Rattle.tftp_packet.proofs.Values.{bytes_eq_no}
 use Rattle.tftp_packet.proofs.Maps.{bytes_eq_yes, ties, len_map}
 

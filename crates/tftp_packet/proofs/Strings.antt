@@ -1,13 +1,11 @@
 -- Bytes are cut into strings in one way.
-use Rattle.std.proofs.Common.{◌≡◌, ◌≢◌, ◌⊎◌, inl, inr, ℕ, ◌+◌, ◌-◌, ◌≤◌, List, [], ◌∷◌, ◌++◌, length, take, drop, refl, sym, ap, subst, ◌∙◌, append_assoc, length-append, length-drop, take_all, arith}
+use Rattle.std.proofs.Common.{◌≡◌, ◌≢◌, ◌⊎◌, inl, inr, ℕ, ◌+◌, ◌-◌, ◌≤◌, List, [], ◌∷◌, ◌++◌, length, take, drop, refl, sym, ap, subst, ◌∙◌, append_assoc, length-append, length-drop, take_all, arith, count_by, cond, ◌==◌}
 use Rattle.std.proofs.Math.Seq.{take-append_seam}
 use Rattle.std.proofs.lemmas.List.{length-take, take-append-drop}
-use Rattle.std.specs.Prelude.{count_by, cond, ◌==◌}
 use Rattle.std.proofs.lemmas.Bool.{cases_eq, ne_eqb}
 use Rattle.std.proofs.lemmas.List.{append-nil}
 use Rattle.std.proofs.lemmas.List.Sums.{sum_by-append}
-use Rattle.tftp_packet.specs.Written.{IsString, AreStrings, terminated, strings, strings_of}
-use Rattle.tftp_packet.specs.Faults.{EndsWithZero}
+use Rattle.tftp_packet.specs.{IsString, AreStrings, terminated, strings, strings_of, EndsWithZero}
 
 -- a string ends at the first zero byte
 pub split_unique : (s t xs ys : List ℕ) → IsString s → IsString t → s ++ 0 ∷ xs ≡ t ++ 0 ∷ ys → (s ≡ t) × (xs ≡ ys)

@@ -1,14 +1,6 @@
 -- A payload spells one message at most.
 use Rattle.std.proofs.Common.{◌≡◌, ◌⊎◌, inl, inr, ℕ, ◌<◌, List, [], ◌∷◌, refl, sym, ap, ◌∙◌, arith}
-use Rattle.tftp_packet.specs.OptionMap.{OptionMap, lower}
-use Rattle.tftp_packet.specs.Message.{RequestParts, Message, Request, Data, Ack, Error, Oack}
-use Rattle.tftp_packet.specs.Written.{terminated, strings, pair_strings, map_of}
-use Rattle.tftp_packet.specs.Spelling.{side_opcode, mode_name, SpellsRequest, SpellsOack, Layout}
-use Rattle.tftp_packet.specs.Faults.{opcode_of}
-use Rattle.tftp_packet.specs.declared.kinds.Side.{Side}
-use Rattle.tftp_packet.specs.declared.kinds.Side.TheVariants.{Get, Put}
-use Rattle.tftp_packet.specs.declared.kinds.Mode.{Mode}
-use Rattle.tftp_packet.specs.declared.kinds.Mode.TheVariants.{Octet, Netascii}
+use Rattle.tftp_packet.specs.{OptionMap, lower, RequestParts, Message, Request, Data, Ack, Error, Oack, terminated, strings, pair_strings, map_of, side_opcode, mode_name, SpellsRequest, SpellsOack, Layout, opcode_of, Side, Get, Put, Mode, Octet, Netascii}
 use Rattle.tftp_packet.proofs.PairStrings.{pair_strings_injective}
 use Rattle.tftp_packet.proofs.Strings.{split_unique, strings_injective}
 

@@ -1,7 +1,7 @@
 -- Packets as they are written: the bytes of their strings and the order of their options, which a message leaves
 -- out (RFC 1350, section 5; RFC 2347, section "Packet Formats").
 use Rattle.std.specs.Prelude.{◌≡◌, ◌/◌, ◌%◌, ℕ, List, [], ◌∷◌}
-use Rattle.tftp_packet.specs.OptionMap.{lower}
+use Rattle.tftp_packet.specs.OptionMaps.{lower}
 use Rattle.tftp_packet.specs.Written.{AreStrings, terminated, strings, Pair, pair_strings, WrittenRequest}
 use Rattle.tftp_packet.specs.Spelling.{side_opcode, mode_name}
 use Rattle.tftp_packet.specs.declared.packet.Packet.{Packet}

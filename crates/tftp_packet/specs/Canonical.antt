@@ -2,8 +2,8 @@
 -- names, numbers without leading zeros.
 use Rattle.std.specs.Prelude.{◌/◌, ◌%◌, ℕ, List, [], ◌∷◌, map as each, decimal}
 use Rattle.std.specs.FinMap as map
-use Rattle.tftp_packet.specs.OptionMap.{OptionMap, OptionValue, Num, Text}
-use Rattle.tftp_packet.specs.Message.{Message, Request, Data, Ack, Error, Oack}
+use Rattle.tftp_packet.specs.OptionMaps.{OptionMap, OptionValue, Num, Text}
+use Rattle.tftp_packet.specs.Messages.{Message, Request, Data, Ack, Error, Oack}
 use Rattle.tftp_packet.specs.Written.{terminated, strings, Pair, pair_strings}
 use Rattle.tftp_packet.specs.Spelling.{side_opcode, mode_name}
 use Rattle.tftp_packet.specs.Owned.{Shown}

@@ -1,5 +1,5 @@
 -- What a packet that was read says.
-use Rattle.tftp_packet.specs.Message.{Message, Request, Data, Ack, Error, Oack}
+use Rattle.tftp_packet.specs.Messages.{Message, Request, Data, Ack, Error, Oack}
 use Rattle.tftp_packet.specs.Written.{IsString, parts, map_of}
 use Rattle.tftp_packet.specs.declared.packet.Packet.{Packet}
 use Rattle.tftp_packet.specs.declared.packet.Packet.TheVariants as packet

@@ -1,7 +1,7 @@
 -- A table of places at which names stand in bytes, found by their hashes.
 use Rattle.std.specs.Prelude.{◌≡◌, ◌≢◌, ◌⊎◌, ◌+◌, ◌-◌, ◌*◌, ◌/◌, ◌%◌, ◌^◌, ◌<◌, ◌≤◌, ℕ, List, [], ◌∷◌, ◌++◌, cond, nat_eq, length, drop, slice_index, map as each}
 use Rattle.std.specs.List.{AllByRecursion}
-use Rattle.tftp_packet.specs.OptionMap.{lower}
+use Rattle.tftp_packet.specs.OptionMaps.{lower}
 use Rattle.tftp_packet.specs.Written.{IsString, pairs_of}
 use Rattle.tftp_packet.specs.Faults.{AnyOf}
 use Rattle.tftp_packet.specs.Names.{HasTwo}

@@ -1,7 +1,7 @@
 -- The numbers of options, and what counts where there is none (RFC 2347).
 use Rattle.std.specs.Prelude.{ℕ, List, Option, Some, None}
 use Rattle.std.specs.FinMap as map
-use Rattle.tftp_packet.specs.OptionMap.{OptionMap, OptionValue, Num, Text}
+use Rattle.tftp_packet.specs.OptionMaps.{OptionMap, OptionValue, Num, Text}
 
 -- the number of an option, where the map has one
 abbrev pub number_or : ℕ → Option OptionValue → ℕ

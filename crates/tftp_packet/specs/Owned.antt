@@ -6,11 +6,11 @@ use Rattle.std.specs.Cmp.Lexicographic.{slice_cmp}
 use Rattle.std.specs.Coded.{Coded, code_by, coded⊎, coded×, coded_ℕ, coded_list}
 use Rattle.std.specs.FinMap as map
 use Rattle.std.specs.FinMap.{is_sorted}
-use Rattle.tftp_packet.specs.OptionMap.{OptionMap, OptionValue, Num, Text, lower}
+use Rattle.tftp_packet.specs.OptionMaps.{OptionMap, OptionValue, Num, Text, lower}
 use Rattle.tftp_packet.specs.declared.value.Value.{Value}
 use Rattle.tftp_packet.specs.declared.value.Value.TheVariants as value
 use Rattle.tftp_packet.specs.declared.owned_options.Entry.{Entry}
-use Rattle.tftp_packet.specs.Message.{RequestParts}
+use Rattle.tftp_packet.specs.Messages.{RequestParts}
 use Rattle.tftp_packet.specs.Spelling.{side_opcode}
 use Rattle.tftp_packet.specs.declared.kinds.Side.{Side}
 use Rattle.tftp_packet.specs.declared.kinds.Side.TheVariants.{Get, Put}

@@ -2,7 +2,7 @@
 use Rattle.std.specs.Prelude.{◌≡◌, List, Some}
 use Rattle.std.specs.List.{AllByRecursion}
 use Rattle.std.specs.FinMap as map
-use Rattle.tftp_packet.specs.OptionMap.{OptionMap, lower, value_of}
+use Rattle.tftp_packet.specs.OptionMaps.{OptionMap, lower, value_of}
 use Rattle.tftp_packet.specs.Written.{Pair}
 
 -- the map has the option, with its value

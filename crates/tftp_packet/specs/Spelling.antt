@@ -1,8 +1,8 @@
 -- Which bytes spell which packet (RFC 1350, section 5; RFC 2347, section "Packet Formats").
 use Rattle.std.specs.Prelude.{◌≡◌, ◌≢◌, ◌+◌, ◌*◌, ◌<◌, ◌≤◌, ℕ, List, [], ◌∷◌, length, codes}
 use Rattle.std.specs.List.{AllByRecursion}
-use Rattle.tftp_packet.specs.OptionMap.{OptionMap, lower, no_options}
-use Rattle.tftp_packet.specs.Message.{RequestParts, Message, Request, Data, Ack, Error, Oack}
+use Rattle.tftp_packet.specs.OptionMaps.{OptionMap, lower, no_options}
+use Rattle.tftp_packet.specs.Messages.{RequestParts, Message, Request, Data, Ack, Error, Oack}
 use Rattle.tftp_packet.specs.Written.{IsString, AreStrings, terminated, strings, Pair, pair_strings, AreNamed, AreApart, map_of}
 use Rattle.tftp_packet.specs.declared.kinds.Side.{Side}
 use Rattle.tftp_packet.specs.declared.kinds.Side.TheVariants.{Get, Put}

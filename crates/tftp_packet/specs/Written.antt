@@ -2,8 +2,8 @@
 use Rattle.std.specs.Prelude.{◌≡◌, ◌≢◌, ℕ, List, [], ◌∷◌, ◌++◌, map as each, flat_map, Option, Some, None, cond, nat_eq, bytes_eq}
 use Rattle.std.specs.List.{AllByRecursion}
 use Rattle.std.specs.FinMap as map
-use Rattle.tftp_packet.specs.OptionMap.{OptionMap, lower, value_of}
-use Rattle.tftp_packet.specs.Message.{RequestParts}
+use Rattle.tftp_packet.specs.OptionMaps.{OptionMap, lower, value_of}
+use Rattle.tftp_packet.specs.Messages.{RequestParts}
 use Rattle.tftp_packet.specs.declared.kinds.Side.{Side}
 use Rattle.tftp_packet.specs.declared.kinds.Mode.{Mode}
 

@@ -1,6 +1,6 @@
 ghost use Rattle.std.specs.Prelude.{◌≡◌, ◌∷◌, ◌++◌, [], ◌≤◌, ℕ, List, codes, length, option_map};
-ghost use Rattle.tftp_packet.specs.Message.{Message};
-ghost use Rattle.tftp_packet.specs.OptionMap.{OptionValue, value_of};
+ghost use Rattle.tftp_packet.specs.Messages.{Message};
+ghost use Rattle.tftp_packet.specs.OptionMaps.{OptionValue, value_of};
 ghost use Rattle.std.specs.FinMap as map;
 ghost use Rattle.tftp_packet.specs.Written.{terminated, strings, Pair, AreApart, map_of, text_of, WrittenRequest};
 ghost use Rattle.tftp_packet.specs.AsWritten.{IsWrittenRequest, IsWrittenOack};

@@ -3,7 +3,6 @@
 
 mod byte_list;
 mod fault;
-mod host;
 mod kinds;
 mod laws;
 mod name_order;
@@ -21,8 +20,7 @@ mod write;
 
 pub use byte_list::Bytes;
 pub use fault::PacketFault;
-pub use host::Host;
-pub use kinds::{Dir, End, Mode, Side};
+pub use kinds::{End, Mode, Side};
 pub use laws::{
     canonical_is_shortest, canonical_spells, first_fault_is_one, map_of_options,
     spelled_has_no_fault, spells_one_message, worked_canonicals, worked_faults, worked_mode_faults,

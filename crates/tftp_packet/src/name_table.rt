@@ -1,7 +1,7 @@
 //! Whether a name stands twice among many: a table of places, found by hashes of the names.
 
 ghost use Rattle.std.specs.Prelude.{◌≡◌, ◌↔◌, ◌+◌, ◌-◌, ◌<◌, ◌≤◌, ◌⊎◌, ℕ, [], IsTrue, IfSome, IfNone, MatchBool, MatchOption, length, slice_index};
-ghost use Rattle.tftp_packet.specs.OptionMap.{lower};
+ghost use Rattle.tftp_packet.specs.OptionMaps.{lower};
 ghost use Rattle.tftp_packet.specs.Written.{pairs_of};
 ghost use Rattle.tftp_packet.specs.Faults.{AnyOf, HasRepeat};
 ghost use Rattle.tftp_packet.specs.NameTable.{string_first, first_slot, mark_of, key_at, keys_of, AreMarked, IsHeld, IsFound, Tells, Holds};

@@ -1,5 +1,5 @@
 ghost use Rattle.std.specs.Prelude.{◌≡◌, ◌↔◌, ◌%◌, ◌==◌, [], IsTrue, count_by};
-ghost use Rattle.tftp_packet.specs.OptionMap.{lower};
+ghost use Rattle.tftp_packet.specs.OptionMaps.{lower};
 ghost use Rattle.tftp_packet.specs.Written.{pairs_of};
 ghost use Rattle.tftp_packet.specs.Faults.{AnyOf, HasRepeat};
 

@@ -27,7 +27,7 @@ impl<'a> Model for OptionsView<'a> {
 impl<'a> OptionsView<'a> {
     ghost use Rattle.std.specs.Prelude.{◌≡◌, ◌↔◌, [], length, IsTrue, IfOk, IfErr, option_map, option_and_then};
     ghost use Rattle.std.specs.FinMap as map;
-    ghost use Rattle.tftp_packet.specs.OptionMap.{lower, number_in};
+    ghost use Rattle.tftp_packet.specs.OptionMaps.{lower, number_in};
     ghost use Rattle.tftp_packet.specs.Written.{AreOptions, map_of, text_of};
     ghost use Rattle.tftp_packet.specs.OptionFaults.{HoldsOptions, OptionFault};
 

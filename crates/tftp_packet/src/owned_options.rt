@@ -4,7 +4,7 @@ ghost use Rattle.std.specs.Cmp.Lexicographic.{slice_cmp};
 ghost use Rattle.std.specs.FinMap.{find};
 ghost use Rattle.std.specs.FinMap.Entries.{put};
 ghost use Rattle.tftp_packet.specs.Written.{map_of};
-ghost use Rattle.tftp_packet.specs.OptionMap.{lower};
+ghost use Rattle.tftp_packet.specs.OptionMaps.{lower};
 ghost use Rattle.tftp_packet.specs.Owned.{shown, shown_entries, place, AreInOrder};
 
 use crate::byte_list::Bytes;
@@ -26,7 +26,7 @@ impl Entry {
     ghost use Rattle.std.specs.Prelude.{◌≡◌, IfOk};
     ghost use Rattle.std.specs.Ordering.{nat_cmp};
     ghost use Rattle.std.specs.Cmp.Lexicographic.{slice_cmp};
-    ghost use Rattle.tftp_packet.specs.OptionMap.{lower, value_of};
+    ghost use Rattle.tftp_packet.specs.OptionMaps.{lower, value_of};
     ghost use Rattle.tftp_packet.specs.Owned.{shown_entry};
 
     /// The option that a name and a text are.
@@ -59,7 +59,7 @@ pub struct Options {
 
 impl Model for Options {
     ghost use Rattle.std.specs.FinMap as map;
-    ghost use Rattle.tftp_packet.specs.OptionMap.{OptionMap};
+    ghost use Rattle.tftp_packet.specs.OptionMaps.{OptionMap};
     ghost use Rattle.tftp_packet.specs.Owned.{options_code};
 
     ghost Value = { OptionMap };
@@ -76,7 +76,7 @@ impl Model for Options {
 impl Options {
     ghost use Rattle.std.specs.Prelude.{◌≡◌, ◌↔◌, IsTrue, option_map};
     ghost use Rattle.std.specs.FinMap as map;
-    ghost use Rattle.tftp_packet.specs.OptionMap.{no_options, lower};
+    ghost use Rattle.tftp_packet.specs.OptionMaps.{no_options, lower};
     ghost use Rattle.tftp_packet.specs.Owned.{shown, shown_entries};
 
     /// No option. Takes no memory.

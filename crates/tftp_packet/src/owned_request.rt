@@ -19,7 +19,7 @@ pub struct Request {
 }
 
 impl Model for Request {
-    ghost use Rattle.tftp_packet.specs.Message.{RequestParts};
+    ghost use Rattle.tftp_packet.specs.Messages.{RequestParts};
     ghost use Rattle.tftp_packet.specs.Owned.{parts_code};
 
     ghost Value = { RequestParts };

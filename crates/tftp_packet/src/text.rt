@@ -1,5 +1,5 @@
 ghost use Rattle.std.specs.Prelude.{◌≡◌, ◌≢◌, ◌++◌, ◌∷◌, [], ◌<◌, ℕ, List, length, codes, ◌↔◌, ◌⊎◌, IsTrue, MatchBool, MatchOption, MatchResult};
-ghost use Rattle.tftp_packet.specs.OptionMap.{lower};
+ghost use Rattle.tftp_packet.specs.OptionMaps.{lower};
 ghost use Rattle.tftp_packet.specs.Written.{IsString, terminated, pairs_of};
 ghost use Rattle.tftp_packet.specs.Spelling.{mode_name};
 ghost use Rattle.tftp_packet.specs.Faults.{EndsWithZero, ModeFault};

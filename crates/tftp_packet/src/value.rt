@@ -1,7 +1,7 @@
 ghost use Rattle.std.specs.Prelude.{◌≡◌, ◌^◌, ◌<◌, ◌↔◌, IsTrue, SomeIff, IfOk};
 ghost use Rattle.std.specs.Str.Parse.{IsNumeral, digits_value};
 ghost use Rattle.tftp_packet.specs.Owned.{shown};
-ghost use Rattle.tftp_packet.specs.OptionMap.{lower, range_of, number_in, value_of};
+ghost use Rattle.tftp_packet.specs.OptionMaps.{lower, range_of, number_in, value_of};
 
 use crate::byte_list::Bytes;
 use std::alloc::{AllocError, Global};

@@ -1,5 +1,5 @@
 ghost use Rattle.std.specs.Prelude.{◌≡◌, ◌++◌, ◌∷◌, [], ◌<◌, ◌/◌, ◌%◌, IfOk, OnOk};
-ghost use Rattle.tftp_packet.specs.Message.{Message};
+ghost use Rattle.tftp_packet.specs.Messages.{Message};
 ghost use Rattle.tftp_packet.specs.Meaning.{meaning, HasStringMessage};
 ghost use Rattle.tftp_packet.specs.Written.{terminated, strings, pair_strings};
 ghost use Rattle.tftp_packet.specs.Owned.{shown};

@@ -1,17 +1,12 @@
 -- Two captures are consistent exactly if each breaks no rule and they are merged by what they say.
-use Rattle.std.proofs.Common.{ℕ, List, sym, subst, ◌↔◌}
-use Rattle.std.specs.Prelude.{reverse}
-use Rattle.tftp_ends.specs.Meaning.{Meaning}
-use Rattle.tftp_ends.specs.OneSide.{IsOneSided}
-use Rattle.tftp_ends.specs.Ports.{transfer_of}
-use Rattle.tftp_ends.proofs.OneSided.{view_one_sided}
-use Rattle.tftp_law.specs.CaptureText.{Datagram, Header}
-use Rattle.tftp_law.specs.Dress.{view_in}
-use Rattle.tftp_law.specs.Law.{IsSeen}
-use Rattle.tftp_law.proofs.Routed.{routed}
-use Rattle.tftp_law.proofs.TwoEnds.{seen}
-use Rattle.tftp_pair.specs.Captures.{Capture, AreConsistent}
-use Rattle.tftp_pair.specs.Messages.{AreMergedBy, AreLawfulAndMerged, passed_in}
+use Rattle.std.proofs.Common.{ℕ, List, sym, subst, ◌↔◌, reverse}
+use Rattle.tftp_model.specs.{Meaning, IsOneSided}
+use Rattle.tftp_rules.specs.{transfer_of}
+use Rattle.tftp_model.proofs.OneSided.{view_one_sided}
+use Rattle.tftp_law.specs.{Datagram, Header, view_in, IsSeen}
+use Rattle.tftp_law.proofs.Division.Routed.{routed}
+use Rattle.tftp_law.proofs.Whole.TwoEnds.{seen}
+use Rattle.tftp_pair.specs.{Capture, AreConsistent, AreMergedBy, AreLawfulAndMerged, passed_in}
 use Rattle.tftp_pair.proofs.Together.{client_seen, server_seen, seen_merged, together, each_lawful}
 use Rattle.tftp_pair.proofs.Spelt.{AreSpelt, spelt, deeds_merged, messages_merged}
 use Rattle.tftp_pair.proofs.CommonMeaning.{one_for_both}

@@ -1,38 +1,24 @@
 -- Two lists that break no rule, and are merged by what they say, are in accord with one meaning and one wire.
 use Rattle.std.proofs.Common.{◌≡◌, ◌⊎◌, ℕ, ◌≤◌, List, [], ◌∷◌, Contains, Option, Some, None, inl, inr, refl, sym, subst, ap, ◌∙◌}
-use Rattle.tftp_packet.specs.OptionMap.{OptionMap, no_options}
-use Rattle.tftp_packet.specs.Message.{Message, RequestParts}
-use Rattle.tftp_packet.specs.Spelling.{Spells}
-use Rattle.tftp_packet.specs.declared.kinds.Side.{Side}
-use Rattle.tftp_packet.specs.declared.kinds.Side.TheVariants.{Get, Put}
-use Rattle.tftp_packet.specs.declared.kinds.End.TheVariants.{Client, Server}
-use Rattle.tftp_packet.specs.declared.kinds.Dir.{Dir}
-use Rattle.tftp_packet.specs.declared.kinds.Dir.TheVariants.{In, Out}
-use Rattle.tftp_ends.specs.CaptureText.{Datagram, Header}
-use Rattle.tftp_ends.specs.Meaning.{Meaning, request_of, NothingAgreed, blksize_of}
-use Rattle.tftp_ends.specs.Blocks.{block, block_count}
-use Rattle.tftp_ends.specs.Machines.{MachinePacket, Req, Oack, Data, Ack, Deed, Sent, Took, HasSent, HasTaken, message_of, sender_of, receiver_of, IsStartedOn, MayAckZeroOn, MaySend}
-use Rattle.tftp_ends.specs.OneSide.{IsOneSided}
-use Rattle.tftp_ends.specs.Ports.{asks, first_of, transfer_of}
-use Rattle.tftp_ends.specs.Rules.{Passed, HasPassed}
-use Rattle.tftp_ends.proofs.MadeRuns.{one_sided_view}
-use Rattle.tftp_law.specs.Dress.{Division, datagrams_of, view_in, dir_of, packet_of}
-use Rattle.tftp_law.specs.Accord.{Accords, AreRouted}
-use Rattle.tftp_law.specs.Rules.{Answer, Agrees, Begins, IsAnswer, NotAnswered, FirstAnswer}
-use Rattle.tftp_law.specs.OneEnded.{OneEnded}
-use Rattle.tftp_law.proofs.TwoEnds.{some}
-use Rattle.tftp_law.proofs.RulesDivide.{divides}
-use Rattle.tftp_law.proofs.PassedIsDone.{passed_told, told_passed}
-use Rattle.tftp_law.proofs.EarlierList.{requested}
-use Rattle.tftp_law.proofs.FirstRequests.{none_before}
-use Rattle.tftp_law.proofs.FirstAnswered.{not_both}
-use Rattle.tftp_law.proofs.FirstReply.{sent_data, sent_zero, no_oack}
-use Rattle.tftp_law.proofs.HighestNumbers.{transfer_spelled}
-use Rattle.tftp_law.proofs.MadeMeaning.{answer_cases, oack_spelled}
-use Rattle.tftp_law.proofs.Moments.{sent_moment}
+use Rattle.tftp_packet.specs.{OptionMap, no_options, Message, RequestParts, Spells, Side, Get, Put, Client, Server}
+use Rattle.tftp_hosts.specs.{Dir, In, Out, Datagram, Header}
+use Rattle.tftp_model.specs.{Meaning, request_of, NothingAgreed, blksize_of, block, block_count, MachinePacket, Req, Oack, Data, Ack, Deed, Sent, Took, HasSent, HasTaken, message_of, IsStartedOn, MayAckZeroOn, MaySend, IsOneSided}
+use Rattle.tftp_model.specs.Machines.{sender_of, receiver_of}
+use Rattle.tftp_rules.specs.{asks, first_of, transfer_of, Passed, HasPassed}
+use Rattle.tftp_model.proofs.MadeRuns.{one_sided_view}
+use Rattle.tftp_law.specs.{Division, datagrams_of, view_in, dir_of, packet_of, Accords, AreRouted, Answer, Agrees, Begins, IsAnswer, NotAnswered, FirstAnswer, OneEnded}
+use Rattle.tftp_law.proofs.Whole.TwoEnds.{some}
+use Rattle.tftp_law.proofs.Soundness.RulesDivide.{divides}
+use Rattle.tftp_law.proofs.Accord.PassedIsDone.{passed_told, told_passed}
+use Rattle.tftp_law.proofs.Soundness.EarlierList.{requested}
+use Rattle.tftp_law.proofs.FirstBroken.FirstRequests.{none_before}
+use Rattle.tftp_law.proofs.FirstBroken.FirstAnswered.{not_both}
+use Rattle.tftp_law.proofs.Accord.FirstReply.{sent_data, sent_zero, no_oack}
+use Rattle.tftp_law.proofs.Accord.HighestNumbers.{transfer_spelled}
+use Rattle.tftp_law.proofs.Soundness.MadeMeaning.{answer_cases, oack_spelled}
+use Rattle.tftp_law.proofs.Accord.Moments.{sent_moment}
 use Rattle.tftp_law.proofs.Spelled.{spelled_once}
-use Rattle.tftp_pair.specs.Pair.{AreMerged, MaySendEach}
-use Rattle.tftp_pair.specs.Messages.{IsBrought, AreMergedBy}
+use Rattle.tftp_pair.specs.{AreMerged, MaySendEach, IsBrought, AreMergedBy}
 use Rattle.tftp_pair.proofs.Merged.{turned, to_client_went}
 use Rattle.tftp_pair.proofs.TwoViews.{view_each}
 use Rattle.tftp_pair.proofs.Counted.{client_took, server_took}

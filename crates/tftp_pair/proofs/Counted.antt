@@ -1,9 +1,8 @@
 -- How often a packet was sent and taken.
 use Rattle.std.proofs.Common.{◌≡◌, ◌⊎◌, ℕ, zero, suc, [], ◌∷◌, Contains, inl, inr, refl, sym, subst, ◌∙◌, arith}
-use Rattle.tftp_ends.specs.Machines.{Deed, Sent, Took, MachinePacket, History, HasSent, HasTaken}
-use Rattle.tftp_ends.proofs.Members.{contains_first, contains_later, contains_cases, contains_none}
-use Rattle.tftp_pair.specs.Pair.{IsOpen, AreMerged}
-use Rattle.tftp_pair.specs.Counts.{Times, PassedSoOften}
+use Rattle.tftp_model.specs.{Deed, Sent, Took, MachinePacket, History, HasSent, HasTaken}
+use Rattle.tftp_model.proofs.Members.{contains_first, contains_later, contains_cases, contains_none}
+use Rattle.tftp_pair.specs.{IsOpen, AreMerged, Times, PassedSoOften}
 use Rattle.tftp_pair.proofs.Merged.{turned, to_client_went}
 
 times_one : (h : History) (d : Deed) (n k : ℕ) → Times h d n → Times h d k → n ≡ k

@@ -1,18 +1,14 @@
 -- Where neither capture can go on, no merge has more of either.
-use Rattle.std.proofs.Common.{◌≡◌, ℕ, zero, suc, ◌+◌, ◌<◌, ◌≤◌, Bool, true, false, List, [], ◌∷◌, length, take, get_or, inl, inr, refl, sym, subst, ap, ◌∙◌, arith, ◌↔◌}
-use Rattle.std.specs.Prelude.{reverse}
+use Rattle.std.proofs.Common.{◌≡◌, ℕ, zero, suc, ◌+◌, ◌<◌, ◌≤◌, Bool, true, false, List, [], ◌∷◌, length, take, get_or, inl, inr, refl, sym, subst, ap, ◌∙◌, arith, ◌↔◌, reverse}
 use Rattle.std.proofs.lemmas.Bool.{cases_lt, false≢true}
 use Rattle.std.proofs.Math.Seq.{take-suc, take-length}
 use Rattle.std.proofs.lemmas.List.{reverse-append}
-use Rattle.tftp_packet.specs.declared.kinds.End.TheVariants.{Client, Server}
-use Rattle.tftp_packet.specs.declared.kinds.Dir.TheVariants.{Out}
-use Rattle.tftp_ends.specs.CaptureText.{Datagram}
-use Rattle.tftp_ends.specs.Ports.{route_of, is_of_transfer, transfer_of}
-use Rattle.tftp_law.specs.OneEnded.{OneEnded}
-use Rattle.tftp_law.proofs.FirstAnswered.{main_none, main_some}
-use Rattle.tftp_pair.specs.Captures.{Capture, AreConsistent}
-use Rattle.tftp_pair.specs.Messages.{IsBrought, AreMergedBy, passed_in}
-use Rattle.tftp_pair.specs.MatchedCaptures.{begun, IsNextIn, IsOpenIn, AreMatchedTo, IsShut}
+use Rattle.tftp_packet.specs.{Client, Server}
+use Rattle.tftp_hosts.specs.{Out, Datagram}
+use Rattle.tftp_rules.specs.{route_of, is_of_transfer, transfer_of}
+use Rattle.tftp_law.specs.{OneEnded}
+use Rattle.tftp_law.proofs.FirstBroken.FirstAnswered.{main_none, main_some}
+use Rattle.tftp_pair.specs.{Capture, AreConsistent, IsBrought, AreMergedBy, passed_in, begun, IsNextIn, IsOpenIn, AreMatchedTo, IsShut}
 use Rattle.tftp_pair.proofs.Merged.{at_client, turned, IsEarlier, earlier_all, earlier_length, earlier_one, IsShutAt, no_longer}
 use Rattle.tftp_pair.proofs.ByMessages.{by_messages}
 

@@ -1,10 +1,9 @@
 -- What holds of two lists with one order, whatever they are of.
 use Rattle.std.proofs.Common.{◌≡◌, ◌⊎◌, ◌≤◌, List, [], ◌∷◌, length, inl, inr, refl, sym, subst, ap, arith}
 use Rattle.std.proofs.lemmas.Bool.{cases_lt}
-use Rattle.tftp_packet.specs.declared.kinds.End.{End}
-use Rattle.tftp_packet.specs.declared.kinds.End.TheVariants.{Client, Server}
-use Rattle.tftp_ends.specs.Roles.{other_end}
-use Rattle.tftp_pair.specs.Merged.{Event, seen_at, AreAllOpen, HaveOneOrder}
+use Rattle.tftp_packet.specs.{End, Client, Server}
+use Rattle.tftp_model.specs.Roles.{other_end}
+use Rattle.tftp_pair.specs.{Event, seen_at, AreAllOpen, HaveOneOrder}
 
 module _ {X : Type 0} (Open : List X → X → Type 0) where
   pub nothing : HaveOneOrder Open [] []

@@ -1,19 +1,13 @@
 -- Two whole captures that are consistent mean the same transfer.
-use Rattle.std.proofs.Common.{◌≡◌, ℕ, List, sym, subst, ◌∙◌}
-use Rattle.std.specs.Prelude.{reverse}
-use Rattle.tftp_ends.specs.Meaning.{Meaning}
-use Rattle.tftp_ends.specs.OneSide.{IsOneSided}
-use Rattle.tftp_ends.specs.Runs.{IsComplete}
-use Rattle.tftp_ends.proofs.OneSided.{view_one_sided}
-use Rattle.tftp_law.specs.CaptureText.{Datagram, Header}
-use Rattle.tftp_law.specs.Law.{IsSeen}
-use Rattle.tftp_law.specs.Accord.{Accords}
-use Rattle.tftp_law.specs.OneEnded.{IsEnded, Meant}
-use Rattle.tftp_law.proofs.Routed.{routed}
-use Rattle.tftp_law.proofs.TwoEnds.{rules, meant_by}
-use Rattle.tftp_law.proofs.EndedIsComplete.{completed}
-use Rattle.tftp_law.proofs.OneMeaning.{one_meaning}
-use Rattle.tftp_pair.specs.Captures.{Capture, AreConsistent}
+use Rattle.std.proofs.Common.{◌≡◌, ℕ, List, sym, subst, ◌∙◌, reverse}
+use Rattle.tftp_model.specs.{Meaning, IsOneSided, IsComplete}
+use Rattle.tftp_model.proofs.OneSided.{view_one_sided}
+use Rattle.tftp_law.specs.{Datagram, Header, IsSeen, Accords, IsEnded, Meant}
+use Rattle.tftp_law.proofs.Division.Routed.{routed}
+use Rattle.tftp_law.proofs.Whole.TwoEnds.{rules, meant_by}
+use Rattle.tftp_law.proofs.Whole.EndedIsComplete.{completed}
+use Rattle.tftp_law.proofs.Whole.OneMeaning.{one_meaning}
+use Rattle.tftp_pair.specs.{Capture, AreConsistent}
 use Rattle.tftp_pair.proofs.Together.{client_seen, server_seen}
 
 -- what is seen of a meaning, and is whole, means it

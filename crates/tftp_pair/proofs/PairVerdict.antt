@@ -1,14 +1,11 @@
 -- What is said of two captures is one, and it says whether they are consistent.
-use Rattle.std.proofs.Common.{◌≡◌, ℕ, zero, suc, ◌+◌, ◌<◌, ◌≤◌, [], ◌∷◌, length, take, get_or, inl, inr, refl, sym, subst, ap, ◌∙◌, arith, ◌↔◌}
-use Rattle.std.specs.Prelude.{reverse}
+use Rattle.std.proofs.Common.{◌≡◌, ℕ, zero, suc, ◌+◌, ◌<◌, ◌≤◌, [], ◌∷◌, length, take, get_or, inl, inr, refl, sym, subst, ap, ◌∙◌, arith, ◌↔◌, reverse}
 use Rattle.std.proofs.lemmas.Bool.{cases_lt}
 use Rattle.std.proofs.Math.Seq.{take-suc, take-length}
 use Rattle.std.proofs.lemmas.List.{reverse-append}
-use Rattle.tftp_packet.specs.declared.kinds.End.TheVariants.{Client, Server}
-use Rattle.tftp_law.specs.OneEnded.{OneEnded}
-use Rattle.tftp_pair.specs.Captures.{Capture, AreConsistent}
-use Rattle.tftp_pair.specs.MatchedCaptures.{begun, AreMatchedTo}
-use Rattle.tftp_pair.specs.PairVerdict.{Keeps, IsLawfulTo, IsPairVerdict, IsWholePair}
+use Rattle.tftp_packet.specs.{Client, Server}
+use Rattle.tftp_law.specs.{OneEnded}
+use Rattle.tftp_pair.specs.{Capture, AreConsistent, begun, AreMatchedTo, Keeps, IsLawfulTo, IsPairVerdict, IsWholePair}
 use Rattle.tftp_pair.proofs.ByMessages.{by_messages}
 use Rattle.tftp_pair.proofs.MatchedCaptures.{matched_to_one, decides_to, any_datagram}
 

@@ -1,27 +1,19 @@
 -- What a judge keeps tells what its end has sent.
 use Rattle.std.proofs.Common.{◌≡◌, ℕ, Bool, List, Option, Some, None, inl, inr, refl, sym, subst, ap, ◌∙◌, ◌↔◌}
-use Rattle.tftp_packet.specs.OptionMap.{OptionMap}
-use Rattle.tftp_packet.specs.Message.{Message, RequestParts}
-use Rattle.tftp_packet.specs.declared.kinds.End.TheVariants.{Client, Server}
-use Rattle.tftp_packet.specs.declared.kinds.Dir.TheVariants.{In, Out}
-use Rattle.tftp_ends.specs.CaptureText.{Datagram, Header}
-use Rattle.tftp_ends.specs.Meaning.{Meaning, SomethingAgreed}
-use Rattle.tftp_ends.specs.Machines.{Req, Oack, Sent, MaySend}
-use Rattle.tftp_ends.specs.NamedEnd.{NamedEnd, Sends, Receives, HoldsBlock, IsEndAfter}
-use Rattle.tftp_ends.specs.OneSide.{IsOneSided, MayCome}
-use Rattle.tftp_ends.specs.Ports.{transfer_of}
-use Rattle.tftp_ends.specs.Rules.{Passed}
-use Rattle.tftp_law.specs.Dress.{Division, datagrams_of, view_in}
-use Rattle.tftp_law.specs.Accord.{Accords, AreRouted}
-use Rattle.tftp_law.specs.Rules.{FirstAsked, FirstAnswer, Agrees, Begins}
-use Rattle.tftp_law.proofs.EarlierList.{requested}
-use Rattle.tftp_law.proofs.FirstReply.{no_oack}
-use Rattle.tftp_law.proofs.Moments.{sent_moment, took_moment}
-use Rattle.tftp_law.proofs.PassedIsDone.{told_passed}
-use Rattle.tftp_law.proofs.RulesDivide.{divides}
-use Rattle.tftp_law.proofs.TwoEnds.{some}
-use Rattle.tftp_judge.specs.Kept.{Course, Unanswered, Begun, Agreed, Transfer, ErrorText, IsErrorOf, IsCourse, IsTransferAfter, IsTransferOf}
-use Rattle.tftp_judge.specs.SentByKept.{HasBlock, HasAgreed, AreFlags, HasSentBy}
+use Rattle.tftp_packet.specs.{OptionMap, Message, RequestParts, Client, Server}
+use Rattle.tftp_hosts.specs.{In, Out, Datagram, Header}
+use Rattle.tftp_model.specs.{Meaning, SomethingAgreed, Req, Oack, Sent, MaySend, IsOneSided, MayCome}
+use Rattle.tftp_ends.specs.{NamedEnd, Sends, Receives, HoldsBlock, IsEndAfter}
+use Rattle.tftp_rules.specs.{transfer_of, Passed}
+use Rattle.tftp_law.specs.{Division, datagrams_of, view_in, Accords, AreRouted, FirstAsked, FirstAnswer, Agrees, Begins}
+use Rattle.tftp_law.proofs.Soundness.EarlierList.{requested}
+use Rattle.tftp_law.proofs.Accord.FirstReply.{no_oack}
+use Rattle.tftp_law.proofs.Accord.Moments.{sent_moment, took_moment}
+use Rattle.tftp_law.proofs.Accord.PassedIsDone.{told_passed}
+use Rattle.tftp_law.proofs.Soundness.RulesDivide.{divides}
+use Rattle.tftp_law.proofs.Whole.TwoEnds.{some}
+use Rattle.tftp_judge.specs.Kept.{Course}
+use Rattle.tftp_judge.specs.{Unanswered, Begun, Agreed, Transfer, ErrorText, IsErrorOf, IsCourse, IsTransferAfter, IsTransferOf, HasBlock, HasAgreed, AreFlags, HasSentBy}
 use Rattle.tftp_pair.proofs.Spelt.{packet_is}
 use Rattle.tftp_pair.proofs.CommonMeaning.{out_is, in_is, oack_out, request_out, agrees_passed}
 

@@ -2,13 +2,12 @@
 use Rattle.std.proofs.Common.{◌≡◌, ℕ, ◌<◌, nat_lt, nat_eq, true, List, [], ◌∷◌, inl, inr, refl, sym, ap}
 use Rattle.std.proofs.lemmas.Bool.{and_parts, ltb-true, false≢true}
 use Rattle.std.specs.List.{AllByRecursion, list_all}
-use Rattle.tftp_packet.specs.Message.{Message}
-use Rattle.tftp_packet.specs.Spelling.{IsPair, Spells}
+use Rattle.tftp_packet.specs.{Message, IsPair, Spells}
 use Rattle.tftp_packet.proofs.Unique.{one_message}
-use Rattle.tftp_packet.specs.declared.kinds.Dir.TheVariants.{Out}
-use Rattle.tftp_ends.specs.Rules.{Passed}
+use Rattle.tftp_hosts.specs.{Out}
+use Rattle.tftp_rules.specs.{Passed}
 use Rattle.tftp_ends.proofs.Passing.{in_not_out}
-use Rattle.tftp_pair.specs.Worked.{block_of, acknowledged, at_the_server}
+use Rattle.tftp_pair.specs.{block_of, acknowledged, at_the_server}
 
 bytes_are : (xs : List ℕ) → list_all (λ b. nat_lt b 256) xs ≡ true → AllByRecursion (λ b. b < 256) xs
 bytes_are [] e = tt

@@ -1,9 +1,8 @@
 -- What went on at the two ends, put into one order. `Open other x`: what the other end has done so far lets x be. The network
 -- loses, repeats and reorders, and makes nothing up (RFC 1350, section 2). Lists have the newest first.
 use Rattle.std.specs.Prelude.{◌≡◌, List, [], ◌∷◌, filter_map, Option, Some, None}
-use Rattle.tftp_packet.specs.declared.kinds.End.{End}
-use Rattle.tftp_packet.specs.declared.kinds.End.TheVariants.{Client, Server}
-use Rattle.tftp_ends.specs.Roles.{other_end}
+use Rattle.tftp_packet.specs.{End, Client, Server}
+use Rattle.tftp_model.specs.Roles.{other_end}
 
 -- It went on at an end.
 pub record Event (X : Type 0) : Type 0 where

@@ -1,10 +1,9 @@
 -- Why the datagram behind those that are matched waits: of two captures, of which the first n and k datagrams are lawful.
 use Rattle.std.specs.Prelude.{ℕ}
-use Rattle.tftp_packet.specs.Message.{Message}
-use Rattle.tftp_packet.specs.Spelling.{Spells}
-use Rattle.tftp_packet.specs.declared.kinds.Dir.TheVariants.{Out}
-use Rattle.tftp_ends.specs.Rules.{Passed}
-use Rattle.tftp_law.specs.CaptureText.{Datagram}
+use Rattle.tftp_packet.specs.{Message, Spells}
+use Rattle.tftp_hosts.specs.{Out}
+use Rattle.tftp_rules.specs.{Passed}
+use Rattle.tftp_law.specs.{Datagram}
 use Rattle.tftp_pair.specs.Captures.{Capture}
 use Rattle.tftp_pair.specs.Messages.{passed_in}
 use Rattle.tftp_pair.specs.MatchedCaptures.{begun, IsNextIn}

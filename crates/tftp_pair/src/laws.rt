@@ -1,25 +1,16 @@
 //! Laws of the definitions in `specs/`. Each is the contract of a function that does nothing.
 
 ghost use Rattle.std.specs.Prelude.{◌≡◌, ◌+◌, ◌≤◌, ◌↔◌, ℕ, Bool, List, [], ◌∷◌, length, reverse};
-ghost use Rattle.tftp_packet.specs.Message.{Message};
-ghost use Rattle.tftp_packet.specs.declared.kinds.Dir.TheVariants.{In, Out};
-ghost use Rattle.tftp_ends.specs.CaptureText.{Header};
-ghost use Rattle.tftp_ends.specs.Ports.{transfer_of};
-ghost use Rattle.tftp_ends.specs.Rules.{Passed};
-ghost use Rattle.tftp_judge.specs.Kept.{Transfer, IsTransferOf};
+ghost use Rattle.tftp_packet.specs.{Message, End, Client, Server};
+ghost use Rattle.tftp_hosts.specs.{In, Out, Header};
+ghost use Rattle.tftp_rules.specs.{transfer_of, Passed};
+ghost use Rattle.tftp_judge.specs.{Transfer, IsTransferOf, AreFlags, HasSentBy};
 ghost use Rattle.tftp_pair.specs.PairVerdict.{IsPairVerdict, IsWholePair};
-ghost use Rattle.tftp_judge.specs.SentByKept.{AreFlags, HasSentBy};
-ghost use Rattle.tftp_packet.specs.declared.kinds.End.{End};
-ghost use Rattle.tftp_packet.specs.declared.kinds.End.TheVariants.{Client, Server};
-ghost use Rattle.tftp_ends.specs.Meaning.{Meaning};
-ghost use Rattle.tftp_ends.specs.Machines.{Deed, Sent, Took, MachinePacket, Data, Ack, History};
-ghost use Rattle.tftp_law.specs.Divides.{Divides};
-ghost use Rattle.tftp_law.specs.Law.{IsSeen};
+ghost use Rattle.tftp_model.specs.{Meaning, Deed, Sent, Took, MachinePacket, Data, Ack, History};
+ghost use Rattle.tftp_law.specs.{Divides, IsSeen, Datagram, OneEnded, Meant};
 ghost use Rattle.tftp_pair.specs.Captures.{Capture, AreSeenTogether, AreConsistent, AreConsistentByRules};
 ghost use Rattle.tftp_pair.specs.Merged.{AreAllOpen};
 ghost use Rattle.tftp_pair.specs.Pair.{ArePair, IsOpen, AreMerged, MaySendEach};
-ghost use Rattle.tftp_law.specs.CaptureText.{Datagram};
-ghost use Rattle.tftp_law.specs.OneEnded.{OneEnded, Meant};
 ghost use Rattle.tftp_pair.specs.Counts.{PassedSoOften};
 ghost use Rattle.tftp_pair.specs.MatchedCaptures.{begun, IsNextIn, IsOpenIn, IsShut, AreMatchedTo};
 ghost use Rattle.tftp_pair.specs.Messages.{IsBrought, AreMergedBy, AreLawfulAndMerged, passed_in};

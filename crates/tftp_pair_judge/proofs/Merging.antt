@@ -1,12 +1,11 @@
 -- What is merged while two captures are read.
 use Rattle.std.proofs.Common.{◌≡◌, true, false, List, ◌∷◌, Option, Some, None, inl, inr, sym, subst, ap, ◌∙◌}
-use Rattle.tftp_packet.specs.declared.kinds.Dir.TheVariants.{In, Out}
-use Rattle.tftp_ends.specs.CaptureText.{Datagram, Header}
-use Rattle.tftp_ends.specs.Ports.{route_of, is_of_transfer, transfer_of}
-use Rattle.tftp_law.proofs.FirstAnswered.{main_none, main_some}
-use Rattle.tftp_pair.specs.Messages.{IsBrought, AreMergedBy}
+use Rattle.tftp_hosts.specs.{In, Out, Datagram, Header}
+use Rattle.tftp_rules.specs.{route_of, is_of_transfer, transfer_of}
+use Rattle.tftp_law.proofs.FirstBroken.FirstAnswered.{main_none, main_some}
+use Rattle.tftp_pair.specs.{IsBrought, AreMergedBy}
 use Rattle.tftp_pair.proofs.Merged.{at_client, at_server, turned}
-use Rattle.tftp_pair_judge.specs.Merging.{WasSent, with_held, Waits, AreMergedBut, IsAskedAgain}
+use Rattle.tftp_pair_judge.specs.{WasSent, with_held, Waits, AreMergedBut, IsAskedAgain}
 
 -- ---- the two ends the other way round
 

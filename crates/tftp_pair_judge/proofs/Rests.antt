@@ -1,11 +1,9 @@
 -- What is left of two captures.
-use Rattle.std.proofs.Common.{◌≡◌, ◌∷◌, true, List, [], length, Option, refl, sym, subst, ap, ◌∙◌}
-use Rattle.std.specs.Prelude.{is_some}
+use Rattle.std.proofs.Common.{◌≡◌, ◌∷◌, true, List, [], length, Option, refl, sym, subst, ap, ◌∙◌, is_some}
 use Rattle.std.proofs.lemmas.Bool.{false≢true}
-use Rattle.tftp_ends.specs.CaptureText.{Datagram, Header}
-use Rattle.tftp_pair_judge.specs.Merging.{with_held}
-use Rattle.tftp_pair_judge.specs.Kept.{IsPairAfter, IsSideAfter, Pair, Side}
-use Rattle.tftp_pair_judge.specs.Rest.{IsLeftAfter, IsRestAfter, Left, Rest}
+use Rattle.tftp_hosts.specs.{Datagram, Header}
+use Rattle.tftp_pair_judge.specs.{with_held, IsPairAfter, IsSideAfter, Pair, Side, IsLeftAfter, IsRestAfter, Left}
+use Rattle.tftp_pair_judge.specs.Rest.{Rest}
 
 pub left_on : (old new : Left) (held : Option Datagram) (part early : List Datagram) (h : Header) (read : List Datagram) (d : Datagram) → IsLeftAfter old held part early h read → IsSideAfter new.side h (d ∷ read)
     → new.merged ≡ old.merged → new.side.held ≡ old.side.held → is_some old.side.held ≡ true → IsLeftAfter new held part early h (d ∷ read)

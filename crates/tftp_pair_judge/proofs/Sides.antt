@@ -1,23 +1,16 @@
 -- What is kept of one end stands for its datagrams.
-use Rattle.std.proofs.Common.{◌≡◌, ◌≤◌, ◌<◌, ◌+◌, ◌⊎◌, ◌↔◌, ◌||◌, ◌==◌, if◌then◌else◌, ℕ, suc, Bool, true, false, IsTrue, List, [], ◌∷◌, length, Option, Some, None, IfNone, IfSome, Result, Ok, Err, inl, inr, refl, sym, subst, ap, ◌∙◌, arith}
-use Rattle.std.specs.Prelude.{IfErr, OnOk}
+use Rattle.std.proofs.Common.{◌≡◌, ◌≤◌, ◌<◌, ◌+◌, ◌⊎◌, ◌↔◌, ◌||◌, ◌==◌, if◌then◌else◌, ℕ, suc, Bool, true, false, IsTrue, List, [], ◌∷◌, length, Option, Some, None, IfNone, IfSome, Result, Ok, Err, inl, inr, refl, sym, subst, ap, ◌∙◌, arith, IfErr, OnOk}
 use Rattle.std.proofs.lemmas.Bool.{eqb-true, eq-eqb}
-use Rattle.tftp_packet.specs.Message.{Message}
-use Rattle.tftp_packet.specs.Spelling.{Spells}
-use Rattle.tftp_packet.specs.declared.kinds.Dir.TheVariants.{In, Out}
+use Rattle.tftp_packet.specs.{Message, Spells}
+use Rattle.tftp_hosts.specs.{In, Out, Datagram, Header}
 use Rattle.tftp_law.proofs.Spelled.{spelled_once}
-use Rattle.tftp_ends.specs.CaptureText.{Datagram, Header}
-use Rattle.tftp_ends.specs.Ports.{route_of, is_of_transfer, transfer_of}
-use Rattle.tftp_ends.specs.Rules.{Passed}
-use Rattle.tftp_law.proofs.FirstAnswered.{main_none, main_some}
-use Rattle.tftp_judge.specs.Kept.{IsJudgeAfter, IsKept, Judge, Transfer}
-use Rattle.tftp_judge.specs.SentByKept.{AreFlags, HasSentIn, flags_of}
-use Rattle.tftp_judge.specs.declared.refusal.Refusal.{Refusal}
+use Rattle.tftp_rules.specs.{route_of, is_of_transfer, transfer_of, Passed}
+use Rattle.tftp_law.proofs.FirstBroken.FirstAnswered.{main_none, main_some}
+use Rattle.tftp_judge.specs.{IsJudgeAfter, IsKept, Judge, Transfer, AreFlags, HasSentIn, flags_of, Refusal}
 use Rattle.tftp_pair.proofs.SentByKept.{sent_by_kept}
-use Rattle.tftp_counts.specs.Counts.{AreCounted, AreTooMany, Counted}
+use Rattle.tftp_counts.specs.{AreCounted, AreTooMany, Counted}
 use Rattle.tftp_counts.proofs.Growing.{many_of_many}
-use Rattle.tftp_pair_judge.specs.Merging.{AreMergedBut, IsAskedAgain, WasSent}
-use Rattle.tftp_pair_judge.specs.Kept.{AreSidesAfter, HasSame, IsSideAfter, Side}
+use Rattle.tftp_pair_judge.specs.{AreMergedBut, IsAskedAgain, WasSent, AreSidesAfter, HasSame, IsSideAfter, Side}
 use Rattle.tftp_pair_judge.proofs.Merging.{but_turned, merges_held, merges_in, merges_out, merges_stray}
 
 -- ---- what was sent

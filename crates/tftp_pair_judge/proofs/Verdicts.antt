@@ -1,28 +1,17 @@
 -- What is merged when neither capture goes on is what there is to say of the two.
-use Rattle.std.proofs.Common.{◌≡◌, ◌⊎◌, IfNone, ℕ, zero, suc, ◌+◌, ◌<◌, ◌≤◌, true, List, [], ◌∷◌, ◌++◌, length, take, get_or, Option, Some, None, inl, inr, refl, sym, subst, ap, ◌∙◌, arith}
-use Rattle.std.specs.Prelude.{reverse, IfSome}
+use Rattle.std.proofs.Common.{◌≡◌, ◌⊎◌, IfNone, ℕ, zero, suc, ◌+◌, ◌<◌, ◌≤◌, true, List, [], ◌∷◌, ◌++◌, length, take, get_or, Option, Some, None, inl, inr, refl, sym, subst, ap, ◌∙◌, arith, reverse, IfSome}
 use Rattle.std.proofs.lemmas.Bool.{cases_lt}
 use Rattle.std.proofs.lemmas.List.{length-append, reverse-append}
 use Rattle.std.proofs.Math.Seq.{take-suc}
-use Rattle.tftp_packet.specs.declared.kinds.Dir.TheVariants.{In}
-use Rattle.tftp_ends.specs.CaptureText.{Datagram, Header}
-use Rattle.tftp_ends.specs.Ports.{route_of, is_of_transfer, transfer_of}
-use Rattle.tftp_law.specs.OneEnded.{OneEnded}
-use Rattle.tftp_pair.specs.Captures.{Capture}
-use Rattle.tftp_pair.specs.Messages.{AreMergedBy, passed_in}
-use Rattle.tftp_pair.specs.MatchedCaptures.{begun, IsNextIn, IsShut}
-use Rattle.tftp_pair.specs.PairVerdict.{IsLawfulTo, IsPairVerdict}
+use Rattle.tftp_hosts.specs.{In, Datagram, Header}
+use Rattle.tftp_rules.specs.{route_of, is_of_transfer, transfer_of}
+use Rattle.tftp_law.specs.{OneEnded}
+use Rattle.tftp_pair.specs.{Capture, AreMergedBy, passed_in, begun, IsNextIn, IsShut, IsLawfulTo, IsPairVerdict, IsSentAmong, IsSentLater, IsUnsent}
 use Rattle.tftp_pair.proofs.MatchedCaptures.{stuck_to}
 use Rattle.tftp_pair.proofs.PairVerdict.{kept_before}
-use Rattle.tftp_pair.specs.Waiting.{IsSentAmong, IsSentLater, IsUnsent}
-use Rattle.tftp_pair_judge.specs.Merging.{WasSent, with_held, Waits, AreMergedBut, IsWaitFor}
-use Rattle.tftp_pair_judge.specs.Kept.{IsSideAfter, Side}
-use Rattle.tftp_pair_judge.specs.Rest.{IsLeftAfter, IsRestAfter, Left, Rest}
-use Rattle.tftp_counts.specs.Counts.{AreCounted, AreLostBetween, AreRepeatedBetween, Counted}
-use Rattle.tftp_counts.specs.declared.carried.Carried.{Carried}
-use Rattle.tftp_pair_judge.specs.Verdicts.{AreCarried, AreCountsOf, IsReadOf, GoesNoFurther, IsWhyWaiting}
-use Rattle.tftp_pair_judge.specs.declared.waiting.Wait.{Wait}
-use Rattle.tftp_pair_judge.specs.declared.waiting.Wait.TheVariants.{Unsent, SentLater}
+use Rattle.tftp_pair_judge.specs.{WasSent, with_held, Waits, AreMergedBut, IsWaitFor, IsSideAfter, Side, IsLeftAfter, IsRestAfter, Left, AreCarried, AreCountsOf, IsReadOf, GoesNoFurther, IsWhyWaiting, Wait, Unsent, SentLater}
+use Rattle.tftp_pair_judge.specs.Rest.{Rest}
+use Rattle.tftp_counts.specs.{AreCounted, AreLostBetween, AreRepeatedBetween, Counted, Carried}
 
 -- ---- lists
 

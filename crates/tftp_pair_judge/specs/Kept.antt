@@ -1,13 +1,11 @@
 -- What the judge of a pair keeps, and for which datagrams of the two captures that stands. Lists have the newest first.
 use Rattle.std.specs.Prelude.{◌≡◌, ◌≤◌, ◌^◌, ℕ, List, All, length, Option, Some, None, IfNone}
-use Rattle.tftp_packet.specs.declared.kinds.End.{End}
-use Rattle.tftp_packet.specs.declared.kinds.End.TheVariants.{Client, Server}
-use Rattle.tftp_ends.specs.CaptureText.{Datagram, Header}
-use Rattle.tftp_ends.specs.Ports.{transfer_of}
-use Rattle.tftp_law.specs.OneEnded.{OneEnded}
-use Rattle.tftp_judge.specs.Kept.{IsJudgeAfter, IsKept, Judge}
-use Rattle.tftp_judge.specs.SentByKept.{AreFlags, flags_of}
-use Rattle.tftp_counts.specs.Counts.{AreCounted, Counted, TakesRoom, counts_of, packet_of}
+use Rattle.tftp_packet.specs.{End, Client, Server}
+use Rattle.tftp_hosts.specs.{Datagram, Header}
+use Rattle.tftp_rules.specs.{transfer_of}
+use Rattle.tftp_law.specs.{OneEnded}
+use Rattle.tftp_judge.specs.{IsJudgeAfter, IsKept, Judge, AreFlags, flags_of}
+use Rattle.tftp_counts.specs.{AreCounted, Counted, TakesRoom, counts_of, packet_of}
 use Rattle.tftp_pair_judge.specs.Merging.{AreMergedBut}
 
 -- what is kept of one end

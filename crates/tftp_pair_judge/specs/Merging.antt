@@ -1,12 +1,9 @@
 -- How far two captures are merged while they are read, and what waits. Lists have the newest datagram first.
 use Rattle.std.specs.Prelude.{◌≡◌, ℕ, true, List, ◌∷◌, Option, Some, None}
-use Rattle.tftp_packet.specs.Message.{Message}
-use Rattle.tftp_packet.specs.Spelling.{Spells}
-use Rattle.tftp_packet.specs.declared.kinds.Dir.TheVariants.{In, Out}
-use Rattle.tftp_ends.specs.CaptureText.{Datagram, Header}
-use Rattle.tftp_ends.specs.Ports.{route_of, is_of_transfer, transfer_of}
-use Rattle.tftp_ends.specs.Rules.{Passed}
-use Rattle.tftp_pair.specs.Messages.{AreMergedBy}
+use Rattle.tftp_packet.specs.{Message, Spells}
+use Rattle.tftp_hosts.specs.{In, Out, Datagram, Header}
+use Rattle.tftp_rules.specs.{route_of, is_of_transfer, transfer_of, Passed}
+use Rattle.tftp_pair.specs.{AreMergedBy}
 use Rattle.tftp_pair_judge.specs.declared.waiting.Wait.{Wait}
 use Rattle.tftp_pair_judge.specs.declared.waiting.Wait.TheVariants.{Unsent, SentLater}
 

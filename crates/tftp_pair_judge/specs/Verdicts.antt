@@ -1,12 +1,8 @@
 -- What was read of a capture, and when no more of it is to come.
 use Rattle.std.specs.Prelude.{◌≡◌, ◌≤◌, ◌⊎◌, ℕ, List, length, take, reverse, Option, Some, None}
-use Rattle.tftp_ends.specs.CaptureText.{Datagram}
-use Rattle.tftp_pair.specs.Captures.{Capture}
-use Rattle.tftp_pair.specs.Waiting.{IsSentLater, IsUnsent}
-use Rattle.tftp_pair.specs.MatchedCaptures.{begun}
-use Rattle.tftp_pair.specs.Messages.{passed_in}
-use Rattle.tftp_counts.specs.Counts.{AreCounted, AreLostBetween, AreRepeatedBetween, Counted}
-use Rattle.tftp_counts.specs.declared.carried.Carried.{Carried}
+use Rattle.tftp_hosts.specs.{Datagram}
+use Rattle.tftp_pair.specs.{Capture, IsSentLater, IsUnsent, begun, passed_in}
+use Rattle.tftp_counts.specs.{AreCounted, AreLostBetween, AreRepeatedBetween, Counted, Carried}
 use Rattle.tftp_pair_judge.specs.declared.waiting.Wait.{Wait}
 use Rattle.tftp_pair_judge.specs.declared.waiting.Wait.TheVariants.{Unsent, SentLater}
 

@@ -1,10 +1,9 @@
 //! Laws of the definitions in `specs/`. Each is the contract of a function that does nothing.
 
 ghost use Rattle.std.specs.Prelude.{◌≡◌, ℕ, List, Option, length};
-ghost use Rattle.tftp_ends.specs.CaptureText.{Datagram};
-ghost use Rattle.tftp_law.specs.OneEnded.{OneEnded};
-ghost use Rattle.tftp_pair.specs.Captures.{Capture};
-ghost use Rattle.tftp_pair.specs.PairVerdict.{IsLawfulTo, IsPairVerdict};
+ghost use Rattle.tftp_hosts.specs.{Datagram};
+ghost use Rattle.tftp_law.specs.{OneEnded};
+ghost use Rattle.tftp_pair.specs.{Capture, IsLawfulTo, IsPairVerdict};
 ghost use Rattle.tftp_pair_judge.specs.Merging.{AreMergedBut};
 ghost use Rattle.tftp_pair_judge.specs.Verdicts.{GoesNoFurther, IsReadOf, IsWhyWaiting};
 ghost use Rattle.tftp_pair_judge.specs.declared.waiting.Wait.{Wait};

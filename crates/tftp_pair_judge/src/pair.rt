@@ -1,11 +1,10 @@
 ghost use Rattle.std.specs.Prelude.{◌≡◌, ◌+◌, ◌^◌, ◌<◌, ◌≤◌, ℕ, List, [], ◌∷◌, length, None, Some, is_some, Err, OnOk, IfErr};
-ghost use Rattle.tftp_capture.specs.Fields.{datagram_of, header_of};
-ghost use Rattle.tftp_packet.specs.declared.kinds.End.TheVariants.{Client, Server};
-ghost use Rattle.tftp_ends.specs.CaptureText.{Datagram as DatagramParts, Header as HeaderParts};
-ghost use Rattle.tftp_ends.specs.Roles.{other_end};
-ghost use Rattle.tftp_law.specs.OneEnded.{Passes};
-ghost use Rattle.tftp_judge.specs.Finds.{Refuses};
-ghost use Rattle.tftp_judge.specs.declared.refusal.Refusal.{Refusal as RefusalKind};
+ghost use Rattle.tftp_capture.specs.{datagram_of, header_of};
+ghost use Rattle.tftp_packet.specs.{Client, Server};
+ghost use Rattle.tftp_hosts.specs.{Datagram as DatagramParts, Header as HeaderParts};
+ghost use Rattle.tftp_model.specs.Roles.{other_end};
+ghost use Rattle.tftp_law.specs.{Passes};
+ghost use Rattle.tftp_judge.specs.{Refuses, Refusal as RefusalKind};
 ghost use Rattle.tftp_pair_judge.specs.Kept.{CountsOn, HasSame, IsPairAfter, side_at};
 ghost use Rattle.tftp_pair_judge.specs.Rest.{IsRestAfter};
 
@@ -13,8 +12,8 @@ use crate::rest::{Left, PairRest};
 use crate::side::Side;
 use std::alloc::Global;
 use std::marker::Model;
+use tftp_blocks::Delivered;
 use tftp_capture::{Datagram, Header};
-use tftp_ends::Delivered;
 use tftp_judge::Refusal;
 use tftp_packet::End;
 

@@ -1,13 +1,10 @@
 ghost use Rattle.std.specs.Prelude.{◌≡◌, ◌↔◌, ◌+◌, ◌^◌, ◌<◌, ◌≤◌, List, [], ◌∷◌, length, IsTrue, true, None, Some, is_some, Err, OnOk, IfOk, IfErr, IfNone, IfSome, ◌⊎◌};
-ghost use Rattle.tftp_capture.specs.Fields.{datagram_of, header_of};
-ghost use Rattle.tftp_packet.specs.declared.kinds.Dir.TheVariants.{Out};
-ghost use Rattle.tftp_ends.specs.CaptureText.{Datagram as DatagramParts, Header as HeaderParts};
-ghost use Rattle.tftp_ends.specs.Ports.{is_of_transfer, route_of, transfer_of};
-ghost use Rattle.tftp_law.specs.OneEnded.{Passes};
-ghost use Rattle.tftp_judge.specs.Finds.{Refuses};
-ghost use Rattle.tftp_judge.specs.SentByKept.{AreFlags, flags_of};
-ghost use Rattle.tftp_judge.specs.declared.refusal.Refusal.{Refusal as RefusalKind};
-ghost use Rattle.tftp_counts.specs.Counts.{AreCounted, AreLostBetween, AreRepeatedBetween};
+ghost use Rattle.tftp_capture.specs.{datagram_of, header_of};
+ghost use Rattle.tftp_hosts.specs.{Out, Datagram as DatagramParts, Header as HeaderParts};
+ghost use Rattle.tftp_rules.specs.{is_of_transfer, route_of, transfer_of};
+ghost use Rattle.tftp_law.specs.{Passes};
+ghost use Rattle.tftp_judge.specs.{Refuses, AreFlags, flags_of, Refusal as RefusalKind};
+ghost use Rattle.tftp_counts.specs.{AreCounted, AreLostBetween, AreRepeatedBetween};
 ghost use Rattle.tftp_pair_judge.specs.Merging.{AreMergedBut, IsAskedAgain, IsWaitFor, WasSent, with_held};
 ghost use Rattle.tftp_pair_judge.specs.Kept.{AreSidesAfter, CountsOn, IsSideAfter, HasSame};
 
@@ -15,11 +12,12 @@ use crate::waiting::Wait;
 use std::alloc::Global;
 use std::marker::Model;
 use std::mem;
+use tftp_blocks::Delivered;
 use tftp_capture::{Datagram, Header};
 use tftp_counts::{Carried, Counts};
-use tftp_ends::Delivered;
+use tftp_hosts::Dir;
 use tftp_judge::{Judge, Refusal, SentAcks};
-use tftp_packet::{Dir, Packet, read_packet};
+use tftp_packet::{Packet, read_packet};
 
 /// One end of a pair: its judge, the ACKs that it has sent, and its last datagram where that came in and waits for what the
 /// other end sends.

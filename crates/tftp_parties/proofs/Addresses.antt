@@ -9,12 +9,10 @@ use Rattle.std.specs.declared.net.ip_addr.IpAddr.TheVariants as Ip
 use Rattle.std.specs.Net.Addr.{octets_of, segments_of}
 use Rattle.std.specs.Net.Grammar.{IsIpText}
 use Rattle.std.specs.Net.Text.{ip_text, ipv4_text, ipv6_text}
-use Rattle.tftp_packet.specs.Host.{IsHost, IsSign}
-use Rattle.tftp_transfers.specs.Recording.{same_address}
-use Rattle.tftp_transfers.specs.declared.endpoint.Address.{Address}
-use Rattle.tftp_transfers.specs.declared.endpoint.Address.TheVariants.{V4, V6}
-use Rattle.tftp_transfers.proofs.Endpoints.{is_same_address, same_itself}
-use Rattle.tftp_parties.specs.Naming.{AreBytes, IsAddress, address_of, host_name}
+use Rattle.tftp_hosts.specs.{IsHost, IsSign}
+use Rattle.tftp_lines.specs.{same_address, Address, V4, V6}
+use Rattle.tftp_lines.proofs.Endpoints.{is_same_address, same_itself}
+use Rattle.tftp_parties.specs.{AreBytes, IsAddress, address_of, host_name}
 use Rattle.tftp_parties.proofs.Names.{ipv4_few, ipv4_signs, ipv4_some, ipv6_few, ipv6_signs, ipv6_some, same_segments, segments_fit, some_segments}
 
 pub called_as_written : (a : IpAddr) → host_name (address_of a) ≡ ip_text a

@@ -1,8 +1,7 @@
 -- The text of an address names a host: 1 sign at least, and signs only.
-use Rattle.std.proofs.Common.{◌≡◌, ℕ, zero, suc, ◌+◌, ◌*◌, ◌/◌, ◌%◌, ◌^◌, ◌<◌, ◌≤◌, Bool, List, [], ◌∷◌, ◌++◌, get_or, length, take, drop, decimal, refl, arith, inl, inr, ap, sym, subst, ◌∙◌, length-append, length-drop, length-take-le}
+use Rattle.std.proofs.Common.{◌≡◌, ℕ, zero, suc, ◌+◌, ◌*◌, ◌/◌, ◌%◌, ◌^◌, ◌<◌, ◌≤◌, Bool, List, [], ◌∷◌, ◌++◌, get_or, length, take, drop, decimal, refl, arith, inl, inr, ap, sym, subst, ◌∙◌, length-append, length-drop, length-take-le, codes, flat_map, nat_lt}
 use Rattle.std.proofs.lemmas.Fmt.{length-decimal-le}
 use Rattle.std.specs.List.{All}
-use Rattle.std.specs.Prelude.{codes, flat_map, nat_lt}
 use Rattle.std.specs.Str.{bytes_eq}
 use Rattle.std.proofs.lemmas.Bool.Decides.{nat_tests}
 use Rattle.std.specs.Char.{digit_char}
@@ -14,7 +13,7 @@ use Rattle.std.proofs.lemmas.Bool.{cond_both, ltb-true}
 use Rattle.std.proofs.lemmas.List.Elements.{All-append, All-from_recursion}
 use Rattle.std.proofs.NetLemmas.Alphabet.{IsDigitOrDot, IsHexOrColon, All-ipv4_text, All-hex_groups_text}
 use Rattle.std.proofs.NetLemmas.Texts.{AllSegments, AllSegments-drop, IsZeroRun-longest_zero_run}
-use Rattle.tftp_packet.specs.Host.{IsSign}
+use Rattle.tftp_hosts.specs.{IsSign}
 
 digit_is_sign : (b : ℕ) → IsDigitOrDot b → IsSign b
 digit_is_sign b (inl d) = omega (arith, d)

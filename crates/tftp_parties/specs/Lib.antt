@@ -1,1 +1,2 @@
 pub mod Naming
+pub use Naming.{AreBytes, IsAddress, address_of, host_name}

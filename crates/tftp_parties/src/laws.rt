@@ -3,11 +3,9 @@
 ghost use Rattle.std.specs.Prelude.{◌≡◌, ◌↔◌, ◌∷◌, [], codes, true};
 ghost use Rattle.std.specs.Net.Text.{ip_text};
 ghost use Rattle.std.specs.declared.net.ip_addr.IpAddr.{IpAddr};
-ghost use Rattle.tftp_packet.specs.Host.{IsHost};
+ghost use Rattle.tftp_hosts.specs.{IsHost};
 ghost use Rattle.tftp_parties.specs.Naming.{IsAddress, address_of, host_name};
-ghost use Rattle.tftp_transfers.specs.Recording.{same_address};
-ghost use Rattle.tftp_transfers.specs.declared.endpoint.Address.{Address};
-ghost use Rattle.tftp_transfers.specs.declared.endpoint.Address.TheVariants.{V4, V6};
+ghost use Rattle.tftp_lines.specs.{same_address, Address, V4, V6};
 
 /// Two addresses are the same exactly if their hosts are called the same; and what a host is called may stand in a capture
 /// text.

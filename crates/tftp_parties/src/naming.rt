@@ -2,13 +2,13 @@ ghost use Rattle.std.specs.Prelude.{◌≡◌, ◌≤◌, length};
 ghost use Rattle.std.specs.List.{All};
 ghost use Rattle.std.specs.Net.Addr.{segments_of};
 ghost use Rattle.std.specs.Net.Text.{ip_text, ipv4_text, ipv6_text};
-ghost use Rattle.tftp_packet.specs.Host.{IsSign};
+ghost use Rattle.tftp_hosts.specs.{IsSign};
 ghost use Rattle.tftp_parties.specs.Naming.{IsAddress, address_of, host_name};
 
 use std::net::IpAddr;
 use tftp_frames::write_address;
-use tftp_packet::Host;
-use tftp_transfers::{Address, Endpoint};
+use tftp_hosts::Host;
+use tftp_lines::{Address, Endpoint};
 use tftp_views::Party;
 
 /// The address of a host, of the same version and with the same bytes.

@@ -1,19 +1,9 @@
 -- How many bytes a piece has, by its own first bytes.
-use Rattle.std.proofs.Common.{◌≡◌, ◌≢◌, inl, inr, ℕ, ◌+◌, ◌%◌, ◌<◌, ◌≤◌, List, length, take, get_or, refl, sym, ap, ◌∙◌, arith}
-use Rattle.std.specs.Prelude.{Bool, true, false, Result, Ok, Err}
+use Rattle.std.proofs.Common.{◌≡◌, ◌≢◌, inl, inr, ℕ, ◌+◌, ◌%◌, ◌<◌, ◌≤◌, List, length, take, get_or, refl, sym, ap, ◌∙◌, arith, Bool, true, false, Result, Ok, Err}
 use Rattle.std.specs.List.{slice_range}
-use Rattle.tftp_pcap.specs.Numbers.{number_at}
-use Rattle.tftp_pcap.specs.Classic.{magic}
-use Rattle.tftp_pcap.specs.Blocks.{section_type, order_magic}
-use Rattle.tftp_pcap.specs.Frames.{longest_frame}
-use Rattle.tftp_pcap.specs.Pieces.{Announces, AnnouncesSection}
-use Rattle.tftp_pcap.specs.Sizes.{SizeTells, BlockSizeTells, IsTooLong}
-use Rattle.tftp_pcap.specs.declared.numbers.Order.{Order}
-use Rattle.tftp_pcap.specs.declared.numbers.Order.TheVariants.{Big, Little}
+use Rattle.tftp_pcap.specs.{number_at, magic, section_type, order_magic, longest_frame, Announces, AnnouncesSection, SizeTells, BlockSizeTells, IsTooLong, Order, Big, Little, Unopened, FaultKind, Bad, TooLong}
 use Rattle.tftp_pcap.specs.declared.layout.Classic.{Classic as Header}
-use Rattle.tftp_pcap.specs.declared.layout.Layout.TheVariants.{Unopened, Classic, Blocks}
-use Rattle.tftp_pcap.specs.declared.fault.FaultKind.{FaultKind}
-use Rattle.tftp_pcap.specs.declared.fault.FaultKind.TheVariants.{Bad, TooLong}
+use Rattle.tftp_pcap.specs.declared.layout.Layout.TheVariants.{Classic, Blocks}
 
 pub order_one : (o p : Order) → order_magic o ≡ order_magic p → o ≡ p
 order_one Big Big e = refl

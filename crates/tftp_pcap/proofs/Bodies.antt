@@ -1,17 +1,8 @@
 -- What the body of a block says, by its type.
-use Rattle.std.proofs.Common.{◌≡◌, ◌≢◌, inl, inr, ℕ, ◌+◌, ◌-◌, ◌%◌, ◌≤◌, List, [], ◌++◌, length, take, append-nil, refl, sym, ap, ◌∙◌, subst, arith}
-use Rattle.std.specs.Prelude.{◌⊎◌, Option, Some, None, MatchOption}
-use Rattle.tftp_pcap.specs.Numbers.{number_at}
-use Rattle.tftp_pcap.specs.Frames.{FrameParts, frame_at}
-use Rattle.tftp_pcap.specs.Blocks.{SpellsInterface, SpellsPacket, section_type, longest_block}
-use Rattle.tftp_pcap.specs.Pieces.{Said, BodySays, BlockSays, Says, OpensAgain, said_of}
+use Rattle.std.proofs.Common.{◌≡◌, ◌≢◌, inl, inr, ℕ, ◌+◌, ◌-◌, ◌%◌, ◌≤◌, List, [], ◌++◌, length, take, append-nil, refl, sym, ap, ◌∙◌, subst, arith, ◌⊎◌, Option, Some, None, MatchOption}
+use Rattle.tftp_pcap.specs.{number_at, FrameParts, frame_at, SpellsInterface, SpellsPacket, section_type, longest_block, Said, BodySays, BlockSays, Says, OpensAgain, said_of, Order, Place, Interface, Layout, Unopened, Found}
 use Rattle.tftp_pcap.specs.Pieces.Said.{Opens, Names, Gives, Skips}
-use Rattle.tftp_pcap.specs.declared.numbers.Order.{Order}
-use Rattle.tftp_pcap.specs.declared.place.Place.{Place}
-use Rattle.tftp_pcap.specs.declared.layout.Interface.{Interface}
-use Rattle.tftp_pcap.specs.declared.layout.Layout.{Layout}
-use Rattle.tftp_pcap.specs.declared.layout.Layout.TheVariants.{Unopened, Classic, Blocks}
-use Rattle.tftp_pcap.specs.declared.found.Found.{Found}
+use Rattle.tftp_pcap.specs.declared.layout.Layout.TheVariants.{Classic, Blocks}
 use Rattle.tftp_pcap.specs.declared.found.Found.TheVariants as found
 use Rattle.tftp_pcap.proofs.Whole.{block_says, body_says, packet_moved, body_of, section_known}
 

@@ -1,7 +1,6 @@
 -- Numbers of four bytes, one after another.
 use Rattle.std.proofs.Common.{◌≡◌, ℕ, ◌*◌, List, [], ◌∷◌, ◌++◌, length, refl, sym, ap, ◌∙◌, arith}
-use Rattle.tftp_pcap.specs.Numbers.{four, Spells}
-use Rattle.tftp_pcap.specs.declared.numbers.Order.{Order}
+use Rattle.tftp_pcap.specs.{four, Spells, Order}
 
 -- four bytes more in front
 pub spells_more : (order : Order) (a b c d n : ℕ) (rest ns : List ℕ) → n ≡ four order a b c d → Spells order rest ns → Spells order (a ∷ b ∷ c ∷ d ∷ rest) (n ∷ ns)

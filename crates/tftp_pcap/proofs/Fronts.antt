@@ -1,13 +1,9 @@
 -- What the first bytes of a piece announce stays, whatever follows them.
-use Rattle.std.proofs.Common.{◌≡◌, inl, inr, ℕ, ◌<◌, ◌≤◌, List, [], ◌∷◌, ◌++◌, length, length-append, sym, ap, ◌∙◌, subst, lit<, arith}
-use Rattle.std.specs.Prelude.{Option}
+use Rattle.std.proofs.Common.{◌≡◌, inl, inr, ℕ, ◌<◌, ◌≤◌, List, [], ◌∷◌, ◌++◌, length, length-append, sym, ap, ◌∙◌, subst, lit<, arith, Option}
 use Rattle.std.specs.Io.KnownBytes.{Consumes}
 use Rattle.std.proofs.KnownBytes.{Consumes-trans}
-use Rattle.tftp_pcap.specs.Numbers.{number_at}
-use Rattle.tftp_pcap.specs.Pieces.{Announces, AnnouncesSection, BeginsAsOne, IsSize, front_of}
-use Rattle.tftp_pcap.specs.Stops.{IsLonger, IsPart, IsShort, IsCut, IsSkipped, IsWhole}
-use Rattle.tftp_pcap.specs.declared.layout.Layout.{Layout}
-use Rattle.tftp_pcap.specs.declared.layout.Layout.TheVariants.{Unopened, Classic, Blocks}
+use Rattle.tftp_pcap.specs.{number_at, Announces, AnnouncesSection, BeginsAsOne, IsSize, front_of, IsLonger, IsPart, IsShort, IsCut, IsSkipped, IsWhole, Layout, Unopened}
+use Rattle.tftp_pcap.specs.declared.layout.Layout.TheVariants.{Classic, Blocks}
 use Rattle.tftp_pcap.proofs.Announced.{order_one, magic_other}
 
 pub announces_front : (layout : Layout) (p b : List ℕ) (n : ℕ) → front_of layout ≤ length p → Announces layout (p ++ b) n → Announces layout p n

@@ -1,13 +1,6 @@
 -- Bytes have one fault.
-use Rattle.std.proofs.Common.{◌≡◌, inl, inr, ℕ, List, [], ◌∷◌, ◌++◌, length, refl, sym, ap, ◌∙◌, subst, append_assoc, arith}
-use Rattle.std.specs.Prelude.{flat_map}
-use Rattle.tftp_pcap.specs.Frames.{FrameParts}
-use Rattle.tftp_pcap.specs.Pieces.{Said, Says, Mode, Follows, next_mode, given, start}
-use Rattle.tftp_pcap.specs.Stops.{IsBad, IsCut, Stops}
-use Rattle.tftp_pcap.specs.Sizes.{IsTooLong}
-use Rattle.tftp_pcap.specs.History.{FailsAs, IsWrong}
-use Rattle.tftp_pcap.specs.declared.fault.FaultKind.{FaultKind}
-use Rattle.tftp_pcap.specs.declared.fault.FaultKind.TheVariants.{NotARecording, Truncated, Bad, TooLong, TooMany, Read, Memory}
+use Rattle.std.proofs.Common.{◌≡◌, inl, inr, ℕ, List, [], ◌∷◌, ◌++◌, length, refl, sym, ap, ◌∙◌, subst, append_assoc, arith, flat_map}
+use Rattle.tftp_pcap.specs.{FrameParts, Said, Says, Mode, Follows, next_mode, given, start, IsBad, IsCut, Stops, IsTooLong, FailsAs, IsWrong, FaultKind, NotARecording, Truncated, Bad, TooLong, TooMany, Read, Memory}
 use Rattle.tftp_pcap.proofs.Fronts.{announces_one, announces_enough, begins_of}
 use Rattle.tftp_pcap.proofs.OneReading.{no_piece, piece_one, says_one}
 

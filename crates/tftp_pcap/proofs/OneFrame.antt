@@ -1,15 +1,6 @@
 -- Bytes say one frame, one interface or one layout at most.
-use Rattle.std.proofs.Common.{◌≡◌, inl, inr, ℕ, ◌+◌, ◌*◌, ◌/◌, ◌%◌, ◌^◌, ◌<◌, List, [], ◌∷◌, ◌++◌, length, get_or, refl, sym, ap, ◌∙◌, subst, arith}
-use Rattle.std.specs.Prelude.{Bool, true, false, Some, slice_get}
-use Rattle.tftp_pcap.specs.Numbers.{two, Spells}
-use Rattle.tftp_pcap.specs.Times.{time_of}
-use Rattle.tftp_pcap.specs.Frames.{FrameParts}
-use Rattle.tftp_pcap.specs.Classic.{magic, major, fraction_unit, SpellsHeader, SpellsRecord}
-use Rattle.tftp_pcap.specs.Options.{OptionParts, SpellsOptions, first_value}
-use Rattle.tftp_pcap.specs.Blocks.{SpellsInterface, SpellsTimed, SpellsEnhanced, SpellsObsolete, SpellsSimple, SpellsPacket, kept, units_by, offset_by, direction_by}
-use Rattle.tftp_pcap.specs.declared.numbers.Order.{Order}
-use Rattle.tftp_pcap.specs.declared.numbers.Order.TheVariants.{Big, Little}
-use Rattle.tftp_pcap.specs.declared.layout.Interface.{Interface}
+use Rattle.std.proofs.Common.{◌≡◌, inl, inr, ℕ, ◌+◌, ◌*◌, ◌/◌, ◌%◌, ◌^◌, ◌<◌, List, [], ◌∷◌, ◌++◌, length, get_or, refl, sym, ap, ◌∙◌, subst, arith, Bool, true, false, Some, slice_get}
+use Rattle.tftp_pcap.specs.{two, Spells, time_of, FrameParts, magic, major, fraction_unit, SpellsHeader, SpellsRecord, OptionParts, SpellsOptions, first_value, SpellsInterface, SpellsTimed, SpellsEnhanced, SpellsObsolete, SpellsSimple, SpellsPacket, kept, units_by, offset_by, direction_by, Order, Big, Little, Interface}
 use Rattle.tftp_pcap.specs.declared.layout.Classic.{Classic as Header}
 use Rattle.tftp_pcap.proofs.Cuts.{cut_one}
 use Rattle.tftp_pcap.proofs.Fours.{spells_one}

@@ -1,23 +1,10 @@
 -- Bytes are a recording in one way.
-use Rattle.std.proofs.Common.{◌≡◌, inl, inr, ℕ, ◌+◌, ◌%◌, ◌<◌, ◌≤◌, List, [], ◌∷◌, ◌++◌, length, length-append, take, refl, sym, ap, ◌∙◌, subst, append_assoc, append-nil, arith}
-use Rattle.std.specs.Prelude.{flat_map}
+use Rattle.std.proofs.Common.{◌≡◌, inl, inr, ℕ, ◌+◌, ◌%◌, ◌<◌, ◌≤◌, List, [], ◌∷◌, ◌++◌, length, length-append, take, refl, sym, ap, ◌∙◌, subst, append_assoc, append-nil, arith, flat_map}
 use Rattle.std.specs.List.{slice_range}
-use Rattle.tftp_pcap.specs.Numbers.{number_at, Spells}
-use Rattle.tftp_pcap.specs.Frames.{FrameParts}
-use Rattle.tftp_pcap.specs.Classic.{magic, major, SpellsHeader, SpellsRecord}
-use Rattle.tftp_pcap.specs.Blocks.{SpellsSection}
-use Rattle.tftp_pcap.specs.Pieces.{Said, Says, BodySays, BlockSays, OpensAs, OpensAgain, Mode, Announces, BeginsAsOne, IsSize, Follows, IsRecording, next_mode, given, start}
-use Rattle.tftp_pcap.specs.Sizes.{IsIrregular, IsTooLong}
-use Rattle.tftp_pcap.specs.Stops.{IsPart, Stops}
-use Rattle.tftp_pcap.specs.History.{FailsAs, IsWrong}
-use Rattle.tftp_pcap.specs.declared.fault.FaultKind.{FaultKind}
-use Rattle.tftp_pcap.specs.declared.fault.FaultKind.TheVariants.{NotARecording, Truncated, Bad, TooLong, TooMany, Read, Memory}
+use Rattle.tftp_pcap.specs.{number_at, Spells, FrameParts, magic, major, SpellsHeader, SpellsRecord, SpellsSection, Said, Says, BodySays, BlockSays, OpensAs, OpensAgain, Mode, Announces, BeginsAsOne, IsSize, Follows, IsRecording, next_mode, given, start, IsIrregular, IsTooLong, IsPart, Stops, FailsAs, IsWrong, FaultKind, NotARecording, Truncated, Bad, TooLong, TooMany, Read, Memory, Order, Interface, Layout, Unopened}
 use Rattle.tftp_pcap.specs.Pieces.Said.{Opens, Names, Gives, Skips}
-use Rattle.tftp_pcap.specs.declared.numbers.Order.{Order}
-use Rattle.tftp_pcap.specs.declared.layout.Interface.{Interface}
 use Rattle.tftp_pcap.specs.declared.layout.Classic.{Classic as Header}
-use Rattle.tftp_pcap.specs.declared.layout.Layout.{Layout}
-use Rattle.tftp_pcap.specs.declared.layout.Layout.TheVariants.{Unopened, Classic, Blocks}
+use Rattle.tftp_pcap.specs.declared.layout.Layout.TheVariants.{Classic, Blocks}
 use Rattle.tftp_pcap.proofs.Cuts.{cut_one}
 use Rattle.tftp_pcap.proofs.Fours.{spells_length}
 use Rattle.tftp_pcap.proofs.Announced.{order_one, magic_other}

@@ -1,10 +1,7 @@
 -- Options, one after another.
-use Rattle.std.proofs.Common.{◌≡◌, ◌≢◌, ℕ, ◌+◌, ◌-◌, ◌*◌, ◌/◌, ◌%◌, ◌≤◌, inl, inr, List, [], ◌∷◌, ◌++◌, length, take, drop, refl, sym, ap, ◌∙◌, subst, append_assoc, arith}
+use Rattle.std.proofs.Common.{◌≡◌, ◌≢◌, ℕ, ◌+◌, ◌-◌, ◌*◌, ◌/◌, ◌%◌, ◌≤◌, inl, inr, List, [], ◌∷◌, ◌++◌, length, take, drop, refl, sym, ap, ◌∙◌, subst, append_assoc, arith, Bool, IfSome, ◌&&◌, ◌==◌, if◌then◌else◌, true, false, Option, Some, None, is_some, option_map}
 use Rattle.std.specs.List.{slice_range}
-use Rattle.std.specs.Prelude.{Bool, IfSome, ◌&&◌, ◌==◌, if◌then◌else◌, true, false, Option, Some, None, is_some, option_map}
-use Rattle.tftp_pcap.specs.Numbers.{two, short_at}
-use Rattle.tftp_pcap.specs.Options.{OptionParts, BeginsWithOption, EndsOptions, SpellsOptions, first_value}
-use Rattle.tftp_pcap.specs.declared.numbers.Order.{Order}
+use Rattle.tftp_pcap.specs.{two, short_at, OptionParts, BeginsWithOption, EndsOptions, SpellsOptions, first_value, Order}
 use Rattle.tftp_pcap.proofs.Cuts.{after, after_is_drop, drop_twice, three_parts, length-slice_range, cut_one, rounded}
 use Rattle.std.proofs.lemmas.Bool.{false≢true}
 use Rattle.std.proofs.lemmas.Bool.Decides.{nat_tests}

@@ -1,18 +1,8 @@
 -- Interfaces and packets, from the bytes at their places.
-use Rattle.std.proofs.Common.{◌≡◌, inl, inr, ℕ, ◌+◌, ◌-◌, ◌*◌, ◌/◌, ◌%◌, ◌<◌, ◌≤◌, ◌^◌, List, [], ◌∷◌, ◌++◌, length, length-append, take, drop, get_or, refl, sym, ap, ◌∙◌, subst, append_assoc, arith}
+use Rattle.std.proofs.Common.{◌≡◌, inl, inr, ℕ, ◌+◌, ◌-◌, ◌*◌, ◌/◌, ◌%◌, ◌<◌, ◌≤◌, ◌^◌, List, [], ◌∷◌, ◌++◌, length, length-append, take, drop, get_or, refl, sym, ap, ◌∙◌, subst, append_assoc, arith, Option, Some, None, slice_get, MatchOption}
 use Rattle.std.specs.List.{slice_range}
-use Rattle.std.specs.Prelude.{Option, Some, None, slice_get, MatchOption}
-use Rattle.tftp_pcap.specs.declared.frame.Direction.TheVariants.{Unknown}
+use Rattle.tftp_pcap.specs.{Unknown, four, two, number_at, short_at, Spells, time_of, FrameParts, frame_at, longest_frame, Place, OptionParts, SpellsOptions, first_value, SpellsInterface, SpellsTimed, SpellsEnhanced, SpellsObsolete, SpellsSimple, SpellsPacket, kept, units_by, offset_by, direction_by, Order, Interface, Direction}
 use Rattle.std.proofs.lemmas.List.{take-append-drop, length-take-le}
-use Rattle.tftp_pcap.specs.Numbers.{four, two, number_at, short_at, Spells}
-use Rattle.tftp_pcap.specs.Times.{time_of}
-use Rattle.tftp_pcap.specs.Frames.{FrameParts, frame_at, longest_frame}
-use Rattle.tftp_pcap.specs.declared.place.Place.{Place}
-use Rattle.tftp_pcap.specs.Options.{OptionParts, SpellsOptions, first_value}
-use Rattle.tftp_pcap.specs.Blocks.{SpellsInterface, SpellsTimed, SpellsEnhanced, SpellsObsolete, SpellsSimple, SpellsPacket, kept, units_by, offset_by, direction_by}
-use Rattle.tftp_pcap.specs.declared.numbers.Order.{Order}
-use Rattle.tftp_pcap.specs.declared.layout.Interface.{Interface}
-use Rattle.tftp_pcap.specs.declared.frame.Direction.{Direction}
 use Rattle.tftp_pcap.proofs.Cuts.{after, after_is_drop, drop_twice, three_parts, length-slice_range, cut_one, rounded}
 use Rattle.tftp_pcap.proofs.Fours.{spells_one}
 use Rattle.tftp_pcap.proofs.OptionCuts.{options_one}

@@ -1,13 +1,9 @@
 -- The header and a record of a classic recording, from the bytes at their places.
-use Rattle.std.proofs.Common.{◌≡◌, ℕ, ◌+◌, ◌-◌, ◌*◌, ◌%◌, ◌≤◌, List, [], ◌∷◌, ◌++◌, length, take, drop, refl, sym, ap, ◌∙◌, arith}
-use Rattle.std.specs.Prelude.{Some}
-use Rattle.tftp_pcap.specs.Numbers.{four, number_at}
-use Rattle.tftp_pcap.specs.Classic.{magic, major, SpellsHeader, SpellsRecord, fraction_unit}
+use Rattle.std.proofs.Common.{◌≡◌, ℕ, ◌+◌, ◌-◌, ◌*◌, ◌%◌, ◌≤◌, List, [], ◌∷◌, ◌++◌, length, take, drop, refl, sym, ap, ◌∙◌, arith, Some}
+use Rattle.tftp_pcap.specs.{four, number_at, magic, major, SpellsHeader, SpellsRecord, fraction_unit, FrameParts, longest_frame, Unknown}
 use Rattle.tftp_pcap.specs.declared.layout.Classic.{Classic}
 use Rattle.std.specs.List.{slice_range}
 use Rattle.std.proofs.lemmas.List.{take_all}
-use Rattle.tftp_pcap.specs.Frames.{FrameParts, longest_frame}
-use Rattle.tftp_pcap.specs.declared.frame.Direction.TheVariants.{Unknown}
 
 pub header_spelled : (s : List ℕ) (classic : Classic) (link : ℕ) → length s ≡ 24 → take 4 s ≡ magic classic.order classic.nano → take (6 - 4) (drop 4 s) ≡ major classic.order
     → link ≡ number_at classic.order s 20 → classic.link ≡ link % 65536 → SpellsHeader s classic

@@ -1,17 +1,9 @@
 -- The rest of a piece, after its first bytes.
-use Rattle.std.proofs.Common.{◌≡◌, ◌≢◌, inl, inr, ℕ, ◌+◌, ◌-◌, ◌<◌, ◌≤◌, List, [], ◌++◌, length, length-append, take, drop, refl, sym, ap, ◌∙◌, append_assoc, append-nil, arith}
+use Rattle.std.proofs.Common.{◌≡◌, ◌≢◌, inl, inr, ℕ, ◌+◌, ◌-◌, ◌<◌, ◌≤◌, List, [], ◌++◌, length, length-append, take, drop, refl, sym, ap, ◌∙◌, append_assoc, append-nil, arith, ◌⊎◌, Bool, true, false, Result, Ok, Err}
 use Rattle.std.proofs.lemmas.Grind.{common_steps}
-use Rattle.std.specs.Prelude.{◌⊎◌, Bool, true, false, Result, Ok, Err}
-use Rattle.tftp_pcap.specs.Numbers.{number_at}
-use Rattle.tftp_pcap.specs.Blocks.{section_type}
-use Rattle.tftp_pcap.specs.Pieces.{Announces, IsSize, Mode, Said, Says, front_of}
-use Rattle.tftp_pcap.specs.Stops.{EndReached, IsSkipped, IsWhole, RestEnds}
-use Rattle.tftp_pcap.specs.declared.numbers.Order.{Order}
-use Rattle.tftp_pcap.specs.declared.layout.Interface.{Interface}
+use Rattle.tftp_pcap.specs.{number_at, section_type, Announces, IsSize, Mode, Said, Says, front_of, EndReached, IsSkipped, IsWhole, RestEnds, Order, Interface, FaultKind, Truncated, Bad, Read, Memory}
 use Rattle.tftp_pcap.specs.declared.layout.Layout.TheVariants.{Blocks}
 use Rattle.tftp_pcap.specs.declared.found.Found.TheVariants as found
-use Rattle.tftp_pcap.specs.declared.fault.FaultKind.{FaultKind}
-use Rattle.tftp_pcap.specs.declared.fault.FaultKind.TheVariants.{Truncated, Bad, Read, Memory}
 use Rattle.tftp_pcap.proofs.Whole.{number_dropped}
 use Rattle.tftp_pcap.proofs.Bodies.{skipped, wrong_end, block_none}
 use Rattle.tftp_pcap.proofs.Fronts.{front_some, grown_cut, grown_part, grown_whole, skipped_more}

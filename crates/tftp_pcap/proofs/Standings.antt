@@ -1,18 +1,10 @@
 -- A reader of frames goes on from one history to the next.
-use Rattle.std.proofs.Common.{◌≡◌, ◌≢◌, ◌<◌, ◌≤◌, ◌⊎◌, inl, inr, ℕ, ◌+◌, List, [], ◌∷◌, ◌++◌, length, length-append, refl, sym, ap, ◌∙◌, subst, append_assoc, arith}
-use Rattle.std.specs.Prelude.{Option, Some, None, true, false, Ok, Err}
+use Rattle.std.proofs.Common.{◌≡◌, ◌≢◌, ◌<◌, ◌≤◌, ◌⊎◌, inl, inr, ℕ, ◌+◌, List, [], ◌∷◌, ◌++◌, length, length-append, refl, sym, ap, ◌∙◌, subst, append_assoc, arith, Option, Some, None, true, false, Ok, Err}
 use Rattle.std.specs.Io.KnownBytes.{prepend_known, Consumes, IsAtEnd}
 use Rattle.std.proofs.KnownBytes.{Consumes-nil, prepend_known-nil}
-use Rattle.tftp_pcap.specs.Frames.{FrameParts}
-use Rattle.tftp_pcap.specs.Pieces.{Announces, Says, Mode, Stands, start, given, said_of, next_mode}
-use Rattle.tftp_pcap.specs.Stops.{PiecesState, StepEnds}
-use Rattle.tftp_pcap.specs.History.{FailsToBegin, FillTells, ReaderState, RunsOut, StandsFor, Continues}
-use Rattle.tftp_pcap.specs.declared.found.Found.{Found}
+use Rattle.tftp_pcap.specs.{FrameParts, Announces, Says, Mode, Stands, start, given, said_of, next_mode, PiecesState, StepEnds, FailsToBegin, FillTells, ReaderState, RunsOut, StandsFor, Continues, Found, Unopened, FaultKind, Memory, NotARecording, Open, Over, Failed}
 use Rattle.tftp_pcap.specs.declared.found.Found.TheVariants as found
-use Rattle.tftp_pcap.specs.declared.layout.Layout.TheVariants.{Unopened, Classic, Blocks}
-use Rattle.tftp_pcap.specs.declared.fault.FaultKind.{FaultKind}
-use Rattle.tftp_pcap.specs.declared.fault.FaultKind.TheVariants.{Memory, NotARecording}
-use Rattle.tftp_pcap.specs.declared.standing.Standing.TheVariants.{Open, Over, Failed}
+use Rattle.tftp_pcap.specs.declared.layout.Layout.TheVariants.{Classic, Blocks}
 use Rattle.tftp_pcap.proofs.Steps.{reach_said}
 
 nothing : Stands [] start 0 []

@@ -1,18 +1,10 @@
 -- Pieces, one after another.
-use Rattle.std.proofs.Common.{◌≡◌, ◌≤◌, ◌<◌, ◌^◌, inl, inr, ℕ, ◌+◌, List, length, [], ◌∷◌, ◌++◌, length-append, refl, sym, ap, ◌∙◌, subst, append_assoc, append-nil, arith}
-use Rattle.std.specs.Prelude.{◌⊎◌, Option, Some, None, Ok, Err, flat_map}
+use Rattle.std.proofs.Common.{◌≡◌, ◌≤◌, ◌<◌, ◌^◌, inl, inr, ℕ, ◌+◌, List, length, [], ◌∷◌, ◌++◌, length-append, refl, sym, ap, ◌∙◌, subst, append_assoc, append-nil, arith, ◌⊎◌, Option, Some, None, Ok, Err, flat_map}
 use Rattle.std.specs.Io.KnownBytes.{prepend_known, Consumes}
 use Rattle.std.proofs.KnownBytes.{Consumes-trans}
 use Rattle.std.proofs.lemmas.Grind.{flat_map-append}
-use Rattle.tftp_pcap.specs.Frames.{FrameParts}
-use Rattle.tftp_pcap.specs.Pieces.{Said, Says, Mode, Follows, Stands, IsRecording, next_mode, given, said_of}
-use Rattle.tftp_pcap.specs.History.{FailsAs, RunsOut}
-use Rattle.tftp_pcap.specs.Stops.{IsLonger, FrontEnds, RestEnds, Stops, PiecesState, StepEnds, WantsMemory}
-use Rattle.tftp_pcap.specs.declared.found.Found.{Found}
+use Rattle.tftp_pcap.specs.{FrameParts, Said, Says, Mode, Follows, Stands, IsRecording, next_mode, given, said_of, FailsAs, RunsOut, IsLonger, FrontEnds, RestEnds, Stops, PiecesState, StepEnds, WantsMemory, Found, Interface, FaultKind, NotARecording, Truncated, Bad, TooLong, TooMany, Read, Memory}
 use Rattle.tftp_pcap.specs.declared.found.Found.TheVariants as found
-use Rattle.tftp_pcap.specs.declared.layout.Interface.{Interface}
-use Rattle.tftp_pcap.specs.declared.fault.FaultKind.{FaultKind}
-use Rattle.tftp_pcap.specs.declared.fault.FaultKind.TheVariants.{NotARecording, Truncated, Bad, TooLong, TooMany, Read, Memory}
 
 pub stops_of : (kind : FaultKind) (mode : Mode) (count : ℕ) (part : List ℕ) → FrontEnds mode.layout (Err kind) part → Stops kind mode count part
 stops_of NotARecording mode count part h = h

@@ -4,15 +4,8 @@ use Rattle.std.specs.List.{slice_range}
 use Rattle.std.proofs.lemmas.List.Folds.{drop_split}
 use Rattle.std.proofs.lemmas.List.{length-take-le, length-drop, drop-take}
 use Rattle.std.proofs.lemmas.Grind.{common_steps}
-use Rattle.tftp_pcap.specs.Numbers.{four, two, number_at, short_at, Spells}
-use Rattle.tftp_pcap.specs.Frames.{FrameParts, frame_at}
-use Rattle.tftp_pcap.specs.Blocks.{SpellsBlock, SpellsSection, section_type, order_magic, longest_block}
+use Rattle.tftp_pcap.specs.{four, two, number_at, short_at, Spells, FrameParts, frame_at, SpellsBlock, SpellsSection, section_type, order_magic, longest_block, Said, BodySays, BlockSays, Interface, Big, Little, Order, Place}
 use lib.Seq.{take-add}
-use Rattle.tftp_pcap.specs.Pieces.{Said, BodySays, BlockSays}
-use Rattle.tftp_pcap.specs.declared.layout.Interface.{Interface}
-use Rattle.tftp_pcap.specs.declared.numbers.Order.TheVariants.{Big, Little}
-use Rattle.tftp_pcap.specs.declared.numbers.Order.{Order}
-use Rattle.tftp_pcap.specs.declared.place.Place.{Place}
 use Rattle.tftp_pcap.proofs.Cuts.{drop_twice, three_parts, length-slice_range, cut_one}
 use Rattle.tftp_pcap.proofs.Fours.{spells_one, spells_length}
 use Rattle.tftp_pcap.proofs.Announced.{order_one}

@@ -1,15 +1,9 @@
 -- The worked recordings are recordings of the worked frame.
-use Rattle.std.proofs.Common.{inl, ℕ, List, [], ◌∷◌, get_or, ap, arith, refl, lit≤, lit<}
-use Rattle.std.specs.Prelude.{false}
-use Rattle.tftp_pcap.specs.Classic.{SpellsHeader, SpellsRecord}
-use Rattle.tftp_pcap.specs.Blocks.{SpellsBlock, SpellsSection, SpellsInterface, SpellsEnhanced}
-use Rattle.tftp_pcap.specs.Pieces.{IsRecording}
+use Rattle.std.proofs.Common.{inl, ℕ, List, [], ◌∷◌, get_or, ap, arith, refl, lit≤, lit<, false}
+use Rattle.tftp_pcap.specs.{SpellsHeader, SpellsRecord, SpellsBlock, SpellsSection, SpellsInterface, SpellsEnhanced, IsRecording, worked_frame, worked_classic, worked_header, worked_record, worked_blocks, worked_section, worked_interface, worked_packet, Little, Interface}
 use Rattle.tftp_pcap.specs.Pieces.Said.{Opens, Names, Gives}
-use Rattle.tftp_pcap.specs.Worked.{worked_frame, worked_classic, worked_header, worked_record, worked_blocks, worked_section, worked_interface, worked_packet}
-use Rattle.tftp_pcap.specs.declared.numbers.Order.TheVariants.{Little}
 use Rattle.tftp_pcap.specs.declared.layout.Layout.TheVariants.{Classic, Blocks}
 use Rattle.tftp_pcap.specs.declared.layout.Classic.{Classic as Header}
-use Rattle.tftp_pcap.specs.declared.layout.Interface.{Interface}
 
 abbrev header : Header
 header = record { order = Little; nano = false; link = 1 }

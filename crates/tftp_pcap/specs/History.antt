@@ -3,7 +3,7 @@ use Rattle.std.specs.Prelude.{◌≡◌, ◌+◌, ◌≤◌, ◌⊎◌, ℕ, Boo
 use Rattle.std.specs.Io.KnownBytes.{Consumes, IsAtEnd}
 use Rattle.tftp_pcap.specs.Frames.{FrameParts, frame_at}
 use Rattle.tftp_pcap.specs.Pieces.{Mode, Stands, IsRecording}
-use Rattle.tftp_pcap.specs.Stops.{PiecesState, Stops, WantsMemory}
+use Rattle.tftp_pcap.specs.Stopping.{PiecesState, Stops, WantsMemory}
 use Rattle.tftp_pcap.specs.declared.place.Place.{Place}
 use Rattle.tftp_pcap.specs.declared.fault.FaultKind.{FaultKind}
 use Rattle.tftp_pcap.specs.declared.fault.FaultKind.TheVariants.{NotARecording, Truncated, Bad, TooLong, TooMany, Read, Memory}

@@ -6,6 +6,31 @@ pub mod Options
 pub mod Blocks
 pub mod Pieces
 pub mod Sizes
-pub mod Stops
+pub mod Stopping
 pub mod History
 pub mod Worked
+pub use Numbers.{Spells, four, number_at, short_at, two}
+pub use Times.{time_of}
+pub use Frames.{FrameParts, FrameState, frame_at, longest_frame, no_frame}
+pub use Classic.{SpellsHeader, SpellsRecord, fraction_unit, magic, major}
+pub use Options.{BeginsWithOption, EndsOptions, OptionParts, SpellsOptions, first_value}
+pub use Blocks.{SpellsBlock, SpellsEnhanced, SpellsInterface, SpellsObsolete, SpellsPacket, SpellsSection, SpellsSimple, SpellsTimed, direction_by, kept, longest_block, offset_by, order_magic, section_type, units_by}
+pub use Pieces.{Announces, AnnouncesSection, BeginsAsOne, BlockSays, BodySays, Follows, IsRecording, IsSize, Mode, OpensAgain, OpensAs, Said, Says, Stands, front_of, given, next_mode, said_of, start}
+pub use Sizes.{BlockSizeTells, IsIrregular, IsTooLong, SizeTells}
+pub use Stopping.{EndReached, FrontEnds, IsBad, IsCut, IsLonger, IsPart, IsShort, IsSkipped, IsWhole, PiecesState, RestEnds, StepEnds, Stops, WantsMemory}
+pub use History.{Continues, FailsAs, FailsToBegin, FillTells, IsWrong, KeepsAnswer, ReaderState, RunsOut, StandingTells, StandsFor, standing_after}
+pub use Worked.{worked_blocks, worked_classic, worked_frame, worked_header, worked_interface, worked_packet, worked_record, worked_section}
+pub use declared.fault.FaultKind.{FaultKind}
+pub use declared.fault.FaultKind.TheVariants.{Bad, Memory, NotARecording, Read, TooLong, TooMany, Truncated}
+pub use declared.fault.PcapFault.{PcapFault}
+pub use declared.found.Found.{Found}
+pub use declared.frame.Direction.{Direction}
+pub use declared.frame.Direction.TheVariants.{In, Out, Unknown}
+pub use declared.layout.Interface.{Interface}
+pub use declared.layout.Layout.{Layout}
+pub use declared.layout.Layout.TheVariants.{Unopened}
+pub use declared.numbers.Order.{Order}
+pub use declared.numbers.Order.TheVariants.{Big, Little}
+pub use declared.place.Place.{Place}
+pub use declared.standing.Standing.{Standing}
+pub use declared.standing.Standing.TheVariants.{Failed, Open, Over}

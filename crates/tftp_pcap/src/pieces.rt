@@ -2,7 +2,7 @@ ghost use Rattle.std.specs.Prelude.{◌≡◌, ◌≢◌, ◌+◌, ◌%◌, ◌�
 ghost use Rattle.tftp_pcap.specs.Blocks.{SpellsSection, longest_block, section_type};
 ghost use Rattle.tftp_pcap.specs.Numbers.{number_at};
 ghost use Rattle.tftp_pcap.specs.Pieces.{Announces, AnnouncesSection, BlockSays, BodySays, IsSize, LiesWithin, OpensAs, Said, Says, front_of, said_of};
-ghost use Rattle.tftp_pcap.specs.Stops.{IsSkipped};
+ghost use Rattle.tftp_pcap.specs.Stopping.{IsSkipped};
 ghost use Rattle.tftp_pcap.specs.declared.layout.Layout.{Layout};
 ghost use Rattle.tftp_pcap.specs.declared.layout.Interface.{Interface};
 ghost use Rattle.tftp_pcap.specs.declared.found.Found.{Found};

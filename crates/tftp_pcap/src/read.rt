@@ -1,7 +1,7 @@
 ghost use Rattle.std.specs.Prelude.{◌≡◌, ◌≢◌, ◌≤◌, ◌<◌, ◌⊎◌, ◌++◌, ℕ, List, [], length, vec_capacity, true, None, Ok, Err, IfOk};
 ghost use Rattle.std.specs.Io.KnownBytes.{prepend_known, Consumes, IsAtEnd};
 ghost use Rattle.tftp_pcap.specs.Pieces.{Announces, IsSize, LiesWithin, front_of};
-ghost use Rattle.tftp_pcap.specs.Stops.{FrontEnds, IsLonger, IsSkipped, RestEnds};
+ghost use Rattle.tftp_pcap.specs.Stopping.{FrontEnds, IsLonger, IsSkipped, RestEnds};
 
 use crate::fault::FaultKind;
 use crate::found::Found;

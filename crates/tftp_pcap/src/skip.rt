@@ -1,7 +1,7 @@
 ghost use Rattle.std.specs.Prelude.{◌≡◌, ◌≢◌, ◌≤◌, ◌%◌, ◌⊎◌, ◌++◌, ℕ, List, [], length, vec_capacity, true, false, Ok, Err, IfErr, IfOk};
 ghost use Rattle.std.specs.Io.KnownBytes.{prepend_known, Consumes, IsAtEnd};
 ghost use Rattle.tftp_pcap.specs.Pieces.{Announces, IsSize, LiesWithin};
-ghost use Rattle.tftp_pcap.specs.Stops.{IsSkipped, RestEnds, EndReached, SkipEnds};
+ghost use Rattle.tftp_pcap.specs.Stopping.{IsSkipped, RestEnds, EndReached, SkipEnds};
 ghost use Rattle.tftp_pcap.specs.declared.layout.Layout.{Layout};
 ghost use Rattle.tftp_pcap.specs.declared.layout.Interface.{Interface};
 

@@ -3,7 +3,7 @@ ghost use Rattle.std.specs.Io.KnownBytes.{prepend_known, Consumes, IsAtEnd};
 ghost use Rattle.tftp_pcap.specs.declared.layout.Interface.{Interface};
 ghost use Rattle.tftp_pcap.specs.declared.found.Found.{Found};
 ghost use Rattle.tftp_pcap.specs.Pieces.{LiesWithin, next_mode, said_of, start};
-ghost use Rattle.tftp_pcap.specs.Stops.{StepEnds, WantsMemory};
+ghost use Rattle.tftp_pcap.specs.Stopping.{StepEnds, WantsMemory};
 
 use crate::fault::FaultKind;
 use crate::found::Found;
@@ -28,7 +28,7 @@ pub struct Pieces {
 
 impl Model for Pieces {
     ghost use Rattle.std.specs.Prelude.{◌≤◌, ◌^◌, vec_capacity};
-    ghost use Rattle.tftp_pcap.specs.Stops.{PiecesState};
+    ghost use Rattle.tftp_pcap.specs.Stopping.{PiecesState};
 
     ghost Value = { PiecesState };
 

@@ -1,19 +1,12 @@
 -- Each frame is accounted for once: what a frame does to those that wait, in three stages, and then whole histories.
 use Rattle.std.proofs.Common.{◌≡◌, ◌≢◌, ℕ, ◌+◌, ◌≤◌, Bool, true, false, ◌⊎◌, inl, inr, List, [], ◌∷◌, ◌++◌, length, Option, Some, None, refl, sym, ap, ◌∙◌, subst, arith}
 use Rattle.std.proofs.lemmas.Bool.{cases_lt}
-use Rattle.tftp_fragments.specs.Key.{same_key}
-use Rattle.tftp_fragments.specs.Set.{Arrival, SetState}
-use Rattle.tftp_fragments.specs.Store.{PutEnds, Sets, frames_of, is_long, set_at}
+use Rattle.tftp_fragments.specs.{same_key, Arrival, SetState, PutEnds, Sets, frames_of, is_long, set_at, Outcome, Waits, Apart, Empty, TooLong, Full}
 use Rattle.tftp_fragments.specs.Whole.{Part}
 use Rattle.tftp_fragments.specs.declared.key.Key.{Key}
-use Rattle.tftp_fragments.specs.declared.outcome.Outcome.{Outcome}
-use Rattle.tftp_fragments.specs.declared.outcome.Outcome.TheVariants.{Waits, Whole, Apart, Empty, TooLong, Full}
-use Rattle.tftp_pcap.specs.Frames.{FrameParts}
-use Rattle.tftp_recording.specs.Accounts.{IsIn, IsSettled, IsTold, IsWaiting, NoneTwice, ToldOneWay, WaitsAt}
-use Rattle.tftp_recording.specs.Brought.{BroughtState, LetsGoOld, MakesRoom, Takes, TakesPart, nothing_brought}
-use Rattle.tftp_recording.specs.Fate.{sharers}
-use Rattle.tftp_recording.specs.History.{IsHistory, Step, waiting}
-use Rattle.tftp_recording.specs.Likeness.{is_copy}
+use Rattle.tftp_fragments.specs.declared.outcome.Outcome.TheVariants.{Whole}
+use Rattle.tftp_pcap.specs.{FrameParts}
+use Rattle.tftp_recording.specs.{IsIn, IsSettled, IsTold, IsWaiting, NoneTwice, ToldOneWay, WaitsAt, BroughtState, LetsGoOld, MakesRoom, Takes, TakesPart, nothing_brought, sharers, IsHistory, Step, waiting, is_copy}
 use Rattle.tftp_recording.proofs.Keys.{same_on, same_set_at, truth}
 
 in_left : (n : ℕ) (xs ys : List ℕ) → IsIn n xs → IsIn n (xs ++ ys)

@@ -1,19 +1,11 @@
 -- What a frame does among the fragments that wait.
 use Rattle.std.proofs.Common.{◌≡◌, ◌≢◌, ℕ, inr, List, [], Option, None, Result, Ok, Err, OnErr, length, refl, sym, ap, ◌∙◌, subst, arith}
 use Rattle.std.specs.Result.{IsOkAnd}
-use Rattle.tftp_frames.specs.Frame.{SpellsFrame}
-use Rattle.tftp_frames.specs.Ip.{Packet}
-use Rattle.tftp_frames.specs.Parts.{shown}
-use Rattle.tftp_frames.specs.Udp.{HoldsUdp, SpellsUdp, Udp}
-use Rattle.tftp_frames.specs.declared.fault.FrameFault.{FrameFault}
-use Rattle.tftp_frames.specs.declared.fault.UdpFault.{UdpFault}
-use Rattle.tftp_frames.specs.declared.packet.IpPacket.{IpPacket}
-use Rattle.tftp_fragments.specs.Set.{Arrival, SetState}
-use Rattle.tftp_fragments.specs.Store.{HasRoom, IsTried, MayBePut, PutEnds, Sets, room_of_all}
+use Rattle.tftp_frames.specs.{SpellsFrame, Packet, shown, HoldsUdp, SpellsUdp, Udp, FrameFault, UdpFault, IpPacket}
+use Rattle.tftp_fragments.specs.{Arrival, SetState, HasRoom, IsTried, MayBePut, PutEnds, Sets, room_of_all, Outcome, Waits, Apart, Empty, TooLong, Full}
 use Rattle.tftp_fragments.specs.Whole.{Part}
-use Rattle.tftp_fragments.specs.declared.outcome.Outcome.{Outcome}
-use Rattle.tftp_fragments.specs.declared.outcome.Outcome.TheVariants.{Waits, Whole, Apart, Empty, TooLong, Full}
-use Rattle.tftp_recording.specs.Brought.{MakesRoom}
+use Rattle.tftp_fragments.specs.declared.outcome.Outcome.TheVariants.{Whole}
+use Rattle.tftp_recording.specs.{MakesRoom}
 
 pub on_err : {A E : Type 0} (r : Result A E) (X : Type 0) → X → OnErr r X
 on_err (Ok a) X x = tt

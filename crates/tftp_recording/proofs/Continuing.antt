@@ -3,21 +3,12 @@ use Rattle.std.proofs.Common.{◌≡◌, ℕ, ◌+◌, Bool, true, List, [], ◌
 use Rattle.std.proofs.KnownBytes.{Consumes-nil}
 use Rattle.std.proofs.lemmas.List.{length-map, length-reverse, reverse-append}
 use Rattle.std.specs.Io.KnownBytes.{prepend_known}
-use Rattle.tftp_copies.specs.Copies.{Packet as Recorded}
-use Rattle.tftp_copies.specs.Held.{RecentState}
-use Rattle.tftp_copies.specs.Held as copies
-use Rattle.tftp_fragments.specs.Store.{Sets}
-use Rattle.tftp_pcap.specs.Frames.{FrameParts, FrameState}
-use Rattle.tftp_pcap.specs.History.{KeepsAnswer, ReaderState, StandingTells}
+use Rattle.tftp_copies.specs.{Packet as Recorded, RecentState}
+use Rattle.tftp_copies.specs.Recently as copies
+use Rattle.tftp_fragments.specs.{Sets}
+use Rattle.tftp_pcap.specs.{FrameParts, FrameState, KeepsAnswer, ReaderState, StandingTells, Memory, PcapFault, Standing, Open, Over, Failed}
 use Rattle.tftp_pcap.specs.History as pcap
-use Rattle.tftp_pcap.specs.declared.fault.FaultKind.TheVariants.{Memory}
-use Rattle.tftp_pcap.specs.declared.fault.PcapFault.{PcapFault}
-use Rattle.tftp_pcap.specs.declared.standing.Standing.{Standing}
-use Rattle.tftp_pcap.specs.declared.standing.Standing.TheVariants.{Open, Over, Failed}
-use Rattle.tftp_recording.specs.Brought.{BroughtState, Takes}
-use Rattle.tftp_recording.specs.History.{Continues, EventState, RecordingState, RefusedTells, StandsFor, Step, WantsNext, frames_of, packets_of, waiting}
-use Rattle.tftp_recording.specs.Likeness.{Comes, is_copy}
-use Rattle.tftp_recording.specs.declared.likeness.Likeness.{Likeness}
+use Rattle.tftp_recording.specs.{BroughtState, Takes, Continues, EventState, RecordingState, RefusedTells, StandsFor, Step, WantsNext, frames_of, packets_of, waiting, Comes, is_copy, Likeness}
 
 -- the frame comes, and the packets that are held are the last ones with its own
 abbrev pub Coming : RecentState → FrameParts → Likeness → RecentState → Type 0

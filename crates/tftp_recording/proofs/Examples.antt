@@ -1,37 +1,22 @@
 -- The worked examples.
 use Rattle.std.proofs.Common.{◌≡◌, ℕ, zero, suc, ◌+◌, Bool, true, false, inl, inr, List, [], ◌∷◌, ◌++◌, length, length-append, map, Option, Some, None, Vec, Global, cond, refl, sym, ap, ◌∙◌, subst, arith, rules}
 use Rattle.std.proofs.lemmas.List.{get_or-append-add, get_or-map, get_or_append_left, get_or_past, length-map}
-use Rattle.tftp_copies.specs.Copies.{Packet as Recorded, IsCopy}
-use Rattle.tftp_fragments.specs.Held.{Agrees, AreLaid, Held, IsHeld, content_of as put_together, nothing_held}
-use Rattle.tftp_fragments.specs.Key.{same_key}
-use Rattle.tftp_fragments.specs.Set.{Arrival, IsSetOf, SetState, parts_of}
-use Rattle.tftp_fragments.specs.Store.{IsKeptOf, PutEnds, Sets, is_long, room_under, set_at}
-use Rattle.tftp_fragments.specs.Whole.{Content, Give, Part}
+use Rattle.tftp_copies.specs.{Packet as Recorded, IsCopy}
+use Rattle.tftp_fragments.specs.{Agrees, AreLaid, Held, IsHeld, content_of as put_together, nothing_held, same_key, Arrival, IsSetOf, SetState, parts_of, IsKeptOf, PutEnds, Sets, is_long, room_under, set_at, Give, Outcome, Waits}
+use Rattle.tftp_fragments.specs.Whole.{Content, Part}
 use Rattle.tftp_fragments.specs.declared.content.Content.{Content as Made}
 use Rattle.tftp_fragments.specs.declared.key.Key.{Key}
-use Rattle.tftp_fragments.specs.declared.outcome.Outcome.{Outcome}
-use Rattle.tftp_fragments.specs.declared.outcome.Outcome.TheVariants.{Waits, Whole}
+use Rattle.tftp_fragments.specs.declared.outcome.Outcome.TheVariants.{Whole}
 use Rattle.tftp_fragments.proofs.Holding.{Added, stands_more, whole_given}
 use Rattle.tftp_fragments.proofs.Puts.{empty_set, nothing_agrees}
-use Rattle.tftp_frames.specs.Frame.{SpellsFrame}
-use Rattle.tftp_frames.specs.Ip.{Packet}
-use Rattle.tftp_frames.specs.Udp.{HasUdp, HoldsUdp, SpellsUdp}
-use Rattle.tftp_frames.specs.Extension.{Reached}
+use Rattle.tftp_frames.specs.{SpellsFrame, Packet, HasUdp, HoldsUdp, SpellsUdp, Reached, acknowledgement, cooked_head, ipv4_bytes, ipv4_packet, two_tags, udp_bytes, Cooked, Ethernet, RawIpv4, RawIpv6, Ipv4, Ipv6, Out, Unknown}
 use Rattle.tftp_frames.specs.declared.fault.FrameFault.TheVariants.{Protocol}
 use Rattle.tftp_frames.specs.declared.fault.UdpFault.TheVariants.{Protocol as NotUdp}
-use Rattle.tftp_frames.specs.Worked.{acknowledgement, cooked_head, ipv4_bytes, ipv4_packet, two_tags, udp_bytes}
-use Rattle.tftp_frames.specs.declared.link.LinkType.TheVariants.{Cooked, Ethernet, RawIpv4, RawIpv6}
-use Rattle.tftp_frames.specs.declared.link.Network.TheVariants.{Ipv4, Ipv6}
-use Rattle.tftp_frames.specs.declared.packet.Direction.TheVariants.{Out, Unknown}
 use Rattle.tftp_frames.proofs.FaultOrder.{packet_one}
-use Rattle.tftp_recording.specs.Brought.{LetsGoOld, TakesPart, arrival_of}
-use Rattle.tftp_recording.specs.Fate.{IsDatagram, IsFateOf}
-use Rattle.tftp_recording.specs.History.{IsHistory}
-use Rattle.tftp_recording.specs.Worked.{cooked_step, ethernet_step, first_bytes, first_part, first_set, first_step, icmp_content, icmp_frame, last_bytes, last_named, last_of_icmp, last_part, last_step, part_of_icmp, raw_frame, recorded_at, recorded_first, worked_content, worked_key, worked_time}
+use Rattle.tftp_recording.specs.{LetsGoOld, TakesPart, arrival_of, IsDatagram, IsFateOf, IsHistory, cooked_step, ethernet_step, first_bytes, first_part, first_set, first_step, icmp_content, icmp_frame, last_bytes, last_named, last_of_icmp, last_part, last_step, part_of_icmp, raw_frame, recorded_at, recorded_first, worked_content, worked_key, worked_time, Left, Frame, New}
 use Rattle.tftp_recording.specs.declared.fate.Datagram.{Datagram as Given}
-use Rattle.tftp_recording.specs.declared.fate.Fate.TheVariants.{Datagram, Left}
-use Rattle.tftp_recording.specs.declared.fate.LeftOut.TheVariants.{Frame}
-use Rattle.tftp_recording.specs.declared.likeness.Likeness.TheVariants.{Copy, New}
+use Rattle.tftp_recording.specs.declared.fate.Fate.TheVariants.{Datagram}
+use Rattle.tftp_recording.specs.declared.likeness.Likeness.TheVariants.{Copy}
 use Rattle.tftp_recording.proofs.Keys.{same_back, same_itself, truth}
 
 not_both : (b : Bool) → b ≡ true → b ≡ false → ⊥

@@ -2,20 +2,13 @@
 use Rattle.std.proofs.Common.{◌≡◌, ℕ, ◌+◌, inl, inr, List, [], ◌∷◌, ◌++◌, length, map, reverse, Option, Some, None, Vec, Global, refl, sym, ap, ◌∙◌, subst}
 use Rattle.std.specs.List.{AllByRecursion}
 use Rattle.std.proofs.lemmas.List.{reverse-append}
-use Rattle.tftp_frames.specs.Ip.{Packet}
-use Rattle.tftp_frames.specs.declared.packet.Fragment.{Fragment}
-use Rattle.tftp_fragments.specs.Key.{same_key}
-use Rattle.tftp_fragments.specs.Set.{Arrival, SetState, parts_of}
-use Rattle.tftp_fragments.specs.Store.{IsKeptOf, PutEnds, Sets, frames_of, set_at}
-use Rattle.tftp_fragments.specs.Whole.{Content, Give, Part}
-use Rattle.tftp_fragments.specs.Held.{content_of}
+use Rattle.tftp_frames.specs.{Packet, Fragment}
+use Rattle.tftp_fragments.specs.{same_key, Arrival, SetState, parts_of, IsKeptOf, PutEnds, Sets, frames_of, set_at, Give, content_of, Outcome, Waits, Apart, Empty, TooLong, Full}
+use Rattle.tftp_fragments.specs.Whole.{Content, Part}
 use Rattle.tftp_fragments.specs.declared.content.Content.{Content as Given}
 use Rattle.tftp_fragments.specs.declared.key.Key.{Key}
-use Rattle.tftp_fragments.specs.declared.outcome.Outcome.{Outcome}
-use Rattle.tftp_fragments.specs.declared.outcome.Outcome.TheVariants.{Waits, Whole, Apart, Empty, TooLong, Full}
-use Rattle.tftp_recording.specs.Brought.{BroughtState, IsPart, LetsGoOld, MakesRoom, TakesPart, arrival_of, key_of}
-use Rattle.tftp_recording.specs.Contents.{IsBrought, IsPutTogether}
-use Rattle.tftp_recording.specs.History.{IsHistory, Step, waiting}
+use Rattle.tftp_fragments.specs.declared.outcome.Outcome.TheVariants.{Whole}
+use Rattle.tftp_recording.specs.{BroughtState, IsPart, LetsGoOld, MakesRoom, TakesPart, arrival_of, key_of, IsBrought, IsPutTogether, IsHistory, Step, waiting}
 use Rattle.tftp_recording.proofs.Accounting.{none_waits, old_at, some_is}
 use Rattle.tftp_recording.proofs.Keys.{same_back, same_itself, same_set_at, truth}
 

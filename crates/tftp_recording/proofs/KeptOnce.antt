@@ -2,19 +2,14 @@
 use Rattle.std.proofs.Common.{◌≡◌, ◌⊎◌, ◌≢◌, ◌↔◌, ℕ, ◌+◌, ◌<◌, ◌≤◌, Bool, true, false, inl, inr, List, [], ◌∷◌, ◌++◌, length, length-append, map, Option, Some, None, Vec, Global, refl, sym, ap, ◌∙◌, subst, arith}
 use Rattle.std.proofs.lemmas.Bool.{cases_lt}
 use Rattle.std.proofs.lemmas.List.{get_or-map, get_or_append_left, length-map}
-use Rattle.tftp_fragments.specs.Held.{Held, HoldsPart, StandsFor, content_of}
-use Rattle.tftp_fragments.specs.Key.{same_key}
-use Rattle.tftp_fragments.specs.Set.{AreApart, Arrival, IsSetOf, SetState, parts_of}
-use Rattle.tftp_fragments.specs.Store.{CountsAt, IsFull, IsKeptOf, IsTried, MayBePut, PutEnds, Sets, frames_of, is_long, least_behind, room_of_all, room_under, set_at}
-use Rattle.tftp_fragments.specs.Whole.{Content, EndsRightly, HasPart, Part, end_of}
+use Rattle.tftp_fragments.specs.{Held, HoldsPart, StandsFor, content_of, same_key, AreApart, Arrival, IsSetOf, SetState, parts_of, CountsAt, IsFull, IsKeptOf, IsTried, MayBePut, PutEnds, Sets, frames_of, is_long, least_behind, room_of_all, room_under, set_at, EndsRightly, HasPart, end_of, Outcome, Waits, Apart, Empty, TooLong, Full}
+use Rattle.tftp_fragments.specs.Whole.{Content, Part}
 use Rattle.tftp_fragments.specs.declared.content.Content.{Content as Given}
 use Rattle.tftp_fragments.specs.declared.key.Key.{Key}
-use Rattle.tftp_fragments.specs.declared.outcome.Outcome.{Outcome}
-use Rattle.tftp_fragments.specs.declared.outcome.Outcome.TheVariants.{Waits, Whole, Apart, Empty, TooLong, Full}
+use Rattle.tftp_fragments.specs.declared.outcome.Outcome.TheVariants.{Whole}
 use Rattle.tftp_fragments.proofs.Contents.{one_content}
 use Rattle.tftp_fragments.proofs.Members.{all_at, all_weaker, member}
-use Rattle.tftp_recording.specs.Brought.{BroughtState, LetsGoOld, MakesRoom, TakesPart}
-use Rattle.tftp_recording.specs.OneWay.{frames_at}
+use Rattle.tftp_recording.specs.{BroughtState, LetsGoOld, MakesRoom, TakesPart, frames_at}
 use Rattle.tftp_recording.proofs.Keys.{same_set_at, truth}
 
 not_both : (b : Bool) → b ≡ true → b ≡ false → ⊥

@@ -5,9 +5,7 @@ use Rattle.std.specs.Ordering.{is_eq}
 use Rattle.std.specs.declared.cmp.Ordering.{Ordering}
 use Rattle.std.specs.declared.cmp.Ordering.TheVariants.{Less, Equal, Greater}
 use Rattle.std.proofs.lemmas.Cmp.{tied_itself}
-use Rattle.tftp_fragments.specs.Key.{key_cmp, same_key}
-use Rattle.tftp_fragments.specs.KeyOrder.{key_total}
-use Rattle.tftp_fragments.specs.Store.{Sets, set_at}
+use Rattle.tftp_fragments.specs.{key_cmp, same_key, key_total, Sets, set_at}
 use Rattle.tftp_fragments.specs.declared.key.Key.{Key}
 
 pub truth : (b : Bool) → (b ≡ true) ⊎ (b ≡ false)

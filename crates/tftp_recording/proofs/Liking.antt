@@ -1,15 +1,10 @@
 -- Which packets are copies, by what is told of them.
 use Rattle.std.proofs.Common.{◌≡◌, ◌<◌, ◌↔◌, ℕ, Bool, true, false, inr, List, ◌∷◌, length, Option, Some, IsTrue, refl, sym, subst, ap, arith}
-use Rattle.tftp_copies.specs.Copies.{Packet as Recorded, IsCopy}
-use Rattle.tftp_copies.specs.Held.{RecentState, StandsFor}
-use Rattle.tftp_frames.specs.Ip.{Packet, is_identified}
-use Rattle.tftp_frames.specs.Frame.{SpellsFrame}
-use Rattle.tftp_frames.specs.declared.packet.Fragment.{Fragment}
-use Rattle.tftp_fragments.specs.Store.{Sets}
-use Rattle.tftp_pcap.specs.Frames.{FrameParts}
-use Rattle.tftp_recording.specs.Brought.{DoesNothing, IsNoPart, Wants, WantsPart, key_of, key_protocol}
-use Rattle.tftp_recording.specs.Likeness.{Comes, IsLike, WantsToHold, likeness_by, recorded}
-use Rattle.tftp_recording.specs.declared.likeness.Likeness.{Likeness}
+use Rattle.tftp_copies.specs.{Packet as Recorded, IsCopy, RecentState, StandsFor}
+use Rattle.tftp_frames.specs.{Packet, is_identified, SpellsFrame, Fragment}
+use Rattle.tftp_fragments.specs.{Sets}
+use Rattle.tftp_pcap.specs.{FrameParts}
+use Rattle.tftp_recording.specs.{DoesNothing, IsNoPart, Wants, WantsPart, key_of, key_protocol, Comes, IsLike, WantsToHold, likeness_by, recorded, Likeness}
 
 impossible : false ≡ true → ⊥
 impossible e = cc

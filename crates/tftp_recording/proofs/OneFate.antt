@@ -1,29 +1,19 @@
 -- What becomes of a frame is one thing.
 use Rattle.std.proofs.Common.{◌≡◌, ℕ, true, false, inl, inr, List, ◌∷◌, Option, Some, None, refl, sym, ap, ◌∙◌, subst}
-use Rattle.tftp_copies.specs.Copies.{Packet as Recorded}
-use Rattle.tftp_fragments.specs.Held.{content_of as put_together}
+use Rattle.tftp_copies.specs.{Packet as Recorded}
+use Rattle.tftp_fragments.specs.{content_of as put_together, Outcome, Waits as Held, Apart as Torn, Empty as Bare, TooLong as Long, Full as Crowded}
 use Rattle.tftp_fragments.specs.Whole.{Content}
-use Rattle.tftp_fragments.specs.declared.outcome.Outcome.{Outcome}
-use Rattle.tftp_fragments.specs.declared.outcome.Outcome.TheVariants.{Waits as Held, Whole, Apart as Torn, Empty as Bare, TooLong as Long, Full as Crowded}
-use Rattle.tftp_frames.specs.Frame.{SpellsFrame}
-use Rattle.tftp_frames.specs.Ip.{Packet}
-use Rattle.tftp_frames.specs.Udp.{HoldsUdp, SpellsUdp, Udp}
-use Rattle.tftp_frames.specs.declared.fault.FrameFault.{FrameFault}
-use Rattle.tftp_frames.specs.declared.fault.UdpFault.{UdpFault}
+use Rattle.tftp_fragments.specs.declared.outcome.Outcome.TheVariants.{Whole}
+use Rattle.tftp_frames.specs.{SpellsFrame, Packet, HoldsUdp, SpellsUdp, Udp, FrameFault, UdpFault}
 use Rattle.tftp_frames.specs.declared.fault.UdpFault.TheVariants.{Protocol as NotUdp}
 use Rattle.tftp_frames.proofs.Datagrams.{fault_one, udp_one}
 use Rattle.tftp_frames.proofs.Datagrams as datagrams
 use Rattle.tftp_frames.proofs.FaultOrder.{first_one, no_fault, packet_one}
-use Rattle.tftp_pcap.specs.Frames.{FrameParts}
-use Rattle.tftp_recording.specs.Fate.{HasFault, IsDatagram, IsFate, IsFateOf, Says, content_of, sharers}
-use Rattle.tftp_recording.specs.Likeness.{Comes, IsLike, recorded}
-use Rattle.tftp_recording.specs.OneWay.{IsSameDatagram, IsSameFate}
+use Rattle.tftp_pcap.specs.{FrameParts}
+use Rattle.tftp_recording.specs.{HasFault, IsDatagram, IsFate, IsFateOf, Says, content_of, sharers, Comes, IsLike, recorded, IsSameDatagram, IsSameFate, Fate, Left, Waits, LeftOut, Frame, Udp as NoUdp, Apart, Empty, TooLong, Full, Likeness}
 use Rattle.tftp_recording.specs.declared.fate.Datagram.{Datagram as Given}
-use Rattle.tftp_recording.specs.declared.fate.Fate.{Fate}
-use Rattle.tftp_recording.specs.declared.fate.Fate.TheVariants.{Datagram, Left, Waits}
-use Rattle.tftp_recording.specs.declared.fate.LeftOut.{LeftOut}
-use Rattle.tftp_recording.specs.declared.fate.LeftOut.TheVariants.{Frame, Udp as NoUdp, Apart, Empty, TooLong, Full, Copy}
-use Rattle.tftp_recording.specs.declared.likeness.Likeness.{Likeness}
+use Rattle.tftp_recording.specs.declared.fate.Fate.TheVariants.{Datagram}
+use Rattle.tftp_recording.specs.declared.fate.LeftOut.TheVariants.{Copy}
 use Rattle.tftp_recording.specs.declared.likeness.Likeness.TheVariants as likeness
 use Rattle.tftp_recording.proofs.KeptOnce.{IsSame}
 

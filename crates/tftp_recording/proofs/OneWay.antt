@@ -1,24 +1,15 @@
 -- A recording is read in one way.
 use Rattle.std.proofs.Common.{◌≡◌, ◌↔◌, ℕ, ◌+◌, Bool, true, false, inl, inr, List, [], ◌∷◌, length, map, reverse, Option, Some, None, refl, sym, ap, ◌∙◌, subst, arith}
 use Rattle.std.proofs.lemmas.List.{reverse-reverse}
-use Rattle.tftp_copies.specs.Copies.{Packet as Recorded}
-use Rattle.tftp_fragments.specs.Store.{Sets}
+use Rattle.tftp_copies.specs.{Packet as Recorded}
+use Rattle.tftp_fragments.specs.{Sets, Outcome}
 use Rattle.tftp_fragments.specs.declared.key.Key.{Key}
-use Rattle.tftp_fragments.specs.declared.outcome.Outcome.{Outcome}
-use Rattle.tftp_frames.specs.Ip.{Packet}
-use Rattle.tftp_frames.specs.declared.packet.Fragment.{Fragment}
+use Rattle.tftp_frames.specs.{Packet, Fragment}
 use Rattle.tftp_frames.proofs.FaultOrder.{packet_one}
-use Rattle.tftp_pcap.specs.Frames.{FrameParts}
-use Rattle.tftp_pcap.specs.History.{IsWrong}
-use Rattle.tftp_pcap.specs.declared.fault.FaultKind.{FaultKind}
+use Rattle.tftp_pcap.specs.{FrameParts, IsWrong, FaultKind}
 use Rattle.tftp_pcap.proofs.OneFault.{fault_one}
 use Rattle.tftp_pcap.proofs.OneReading.{fault_or_recording, recording_one}
-use Rattle.tftp_recording.specs.Brought.{BroughtState, DoesNothing, IsPart, Takes, TakesPart, arrival_of, key_of}
-use Rattle.tftp_recording.specs.Fate.{IsFateOf}
-use Rattle.tftp_recording.specs.History.{IsHistory, Step, frames_of, packets_of, waiting}
-use Rattle.tftp_recording.specs.Likeness.{Comes, is_copy}
-use Rattle.tftp_recording.specs.OneWay.{AreToldAlike, IsRead, IsReadTo, frames_at}
-use Rattle.tftp_recording.specs.declared.likeness.Likeness.{Likeness}
+use Rattle.tftp_recording.specs.{BroughtState, DoesNothing, IsPart, Takes, TakesPart, arrival_of, key_of, IsFateOf, IsHistory, Step, frames_of, packets_of, waiting, Comes, is_copy, AreToldAlike, IsRead, IsReadTo, frames_at, Likeness}
 use Rattle.tftp_recording.proofs.KeptOnce.{Alike, IsSame, part_alike}
 use Rattle.tftp_recording.proofs.OneFate.{IsSameIf, comes_one, fate_of_one, sharers_one}
 

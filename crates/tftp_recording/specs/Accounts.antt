@@ -1,10 +1,9 @@
 -- Each frame of a recording is accounted for once.
 use Rattle.std.specs.Prelude.{◌≡◌, ◌≢◌, ◌⊎◌, ◌+◌, ℕ, List, [], ◌∷◌, length, Some}
-use Rattle.tftp_fragments.specs.Store.{Sets, frames_of, set_at}
+use Rattle.tftp_fragments.specs.{Sets, frames_of, set_at, Waits}
 use Rattle.tftp_fragments.specs.declared.key.Key.{Key}
-use Rattle.tftp_fragments.specs.declared.outcome.Outcome.TheVariants.{Waits}
 use Rattle.tftp_recording.specs.Brought.{BroughtState}
-use Rattle.tftp_recording.specs.Fate.{sharers}
+use Rattle.tftp_recording.specs.Fates.{sharers}
 use Rattle.tftp_recording.specs.History.{Step}
 
 -- the number is one of the list

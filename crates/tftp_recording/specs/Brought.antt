@@ -2,17 +2,11 @@
 use Rattle.std.specs.Prelude.{◌≡◌, ◌≢◌, ◌⊎◌, ℕ, Bool, true, false, List, [], Option, Some, None}
 use Rattle.std.specs.declared.net.ip_addr.IpAddr.{IpAddr}
 use Rattle.std.specs.declared.net.ip_addr.IpAddr.TheVariants.{V4, V6}
-use Rattle.tftp_frames.specs.Frame.{SpellsFrame}
-use Rattle.tftp_frames.specs.Ip.{Packet}
-use Rattle.tftp_frames.specs.declared.packet.Fragment.{Fragment}
-use Rattle.tftp_fragments.specs.Key.{same_key}
-use Rattle.tftp_fragments.specs.Set.{Arrival, SetState}
-use Rattle.tftp_fragments.specs.Store.{Sets, CountsAt, HasRoom, IsFull, IsTried, MayBePut, PutEnds, WantsMemory, is_long, room_of_all, set_at}
+use Rattle.tftp_frames.specs.{SpellsFrame, Packet, Fragment}
+use Rattle.tftp_fragments.specs.{same_key, Arrival, SetState, Sets, CountsAt, HasRoom, IsFull, IsTried, MayBePut, PutEnds, WantsMemory, is_long, room_of_all, set_at, Outcome, Full}
 use Rattle.tftp_fragments.specs.Whole.{Part}
 use Rattle.tftp_fragments.specs.declared.key.Key.{Key}
-use Rattle.tftp_fragments.specs.declared.outcome.Outcome.{Outcome}
-use Rattle.tftp_fragments.specs.declared.outcome.Outcome.TheVariants.{Full}
-use Rattle.tftp_pcap.specs.Frames.{FrameParts}
+use Rattle.tftp_pcap.specs.{FrameParts}
 
 -- the frames that had waited too long, the fragments that had to make room, and what became of the frame as a fragment
 pub record BroughtState : Type 0 where

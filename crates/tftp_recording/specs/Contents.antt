@@ -1,11 +1,9 @@
 -- Of which frames a content is that was put together.
 use Rattle.std.specs.Prelude.{◌≡◌, ◌⊎◌, ◌+◌, ℕ, true, List, [], ◌∷◌, length, map, reverse}
 use Rattle.std.specs.List.{AllByRecursion}
-use Rattle.tftp_frames.specs.Ip.{Packet}
-use Rattle.tftp_frames.specs.declared.packet.Fragment.{Fragment}
-use Rattle.tftp_fragments.specs.Key.{same_key}
-use Rattle.tftp_fragments.specs.Set.{Arrival, parts_of}
-use Rattle.tftp_fragments.specs.Whole.{Content, Give}
+use Rattle.tftp_frames.specs.{Packet, Fragment}
+use Rattle.tftp_fragments.specs.{same_key, Arrival, parts_of, Give}
+use Rattle.tftp_fragments.specs.Whole.{Content}
 use Rattle.tftp_fragments.specs.declared.key.Key.{Key}
 use Rattle.tftp_recording.specs.Brought.{IsPart, arrival_of, key_of}
 use Rattle.tftp_recording.specs.History.{Step}

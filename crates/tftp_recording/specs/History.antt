@@ -1,19 +1,13 @@
 -- What a reader of a recording holds, and for what bytes and frames it stands.
 use Rattle.std.specs.Prelude.{◌≡◌, ◌+◌, ℕ, Bool, true, false, ◌⊎◌, List, [], ◌∷◌, ◌++◌, length, map, reverse, Option, Some, None, Result, Ok, Err}
 use Rattle.std.specs.Io.KnownBytes.{Consumes}
-use Rattle.tftp_copies.specs.Copies.{Packet as Recorded}
-use Rattle.tftp_copies.specs.Held.{RecentState}
-use Rattle.tftp_copies.specs.Held as copies
-use Rattle.tftp_fragments.specs.Store.{Sets}
-use Rattle.tftp_pcap.specs.Frames.{FrameParts, FrameState}
-use Rattle.tftp_pcap.specs.History.{ReaderState}
+use Rattle.tftp_copies.specs.{Packet as Recorded, RecentState}
+use Rattle.tftp_copies.specs.Recently as copies
+use Rattle.tftp_fragments.specs.{Sets}
+use Rattle.tftp_pcap.specs.{FrameParts, FrameState, ReaderState, Memory, PcapFault, Standing, Failed}
 use Rattle.tftp_pcap.specs.History as pcap
-use Rattle.tftp_pcap.specs.declared.fault.FaultKind.TheVariants.{Memory}
-use Rattle.tftp_pcap.specs.declared.fault.PcapFault.{PcapFault}
-use Rattle.tftp_pcap.specs.declared.standing.Standing.{Standing}
-use Rattle.tftp_pcap.specs.declared.standing.Standing.TheVariants.{Failed}
 use Rattle.tftp_recording.specs.Brought.{BroughtState, Takes, Wants}
-use Rattle.tftp_recording.specs.Likeness.{Comes, WantsToHold, is_copy}
+use Rattle.tftp_recording.specs.Alike.{Comes, WantsToHold, is_copy}
 use Rattle.tftp_recording.specs.declared.likeness.Likeness.{Likeness}
 
 -- ---- the frames of a recording, one after another

@@ -1,11 +1,9 @@
 -- Recordings are read in one way: what it is that two readings say the same.
 use Rattle.std.specs.Prelude.{◌≡◌, ◌↔◌, ℕ, List, [], ◌∷◌}
-use Rattle.tftp_fragments.specs.Store.{Sets, frames_of as waiting_of, set_at}
+use Rattle.tftp_fragments.specs.{Sets, frames_of as waiting_of, set_at}
 use Rattle.tftp_fragments.specs.declared.key.Key.{Key}
-use Rattle.tftp_pcap.specs.Pieces.{IsRecording}
-use Rattle.tftp_pcap.specs.History.{FailsAs}
-use Rattle.tftp_pcap.specs.declared.fault.FaultKind.{FaultKind}
-use Rattle.tftp_recording.specs.Fate.{IsFateOf, sharers}
+use Rattle.tftp_pcap.specs.{IsRecording, FailsAs, FaultKind}
+use Rattle.tftp_recording.specs.Fates.{IsFateOf, sharers}
 use Rattle.tftp_recording.specs.History.{IsHistory, Step, frames_of}
 use Rattle.tftp_recording.specs.declared.fate.Datagram.{Datagram as Given}
 use Rattle.tftp_recording.specs.declared.fate.Fate.{Fate}

@@ -1,17 +1,14 @@
 -- Frames for worked examples: the acknowledgement of the worked frames of tftp_frames, in two fragments, and recorded twice.
 use Rattle.std.specs.Prelude.{ℕ, List, [], ◌∷◌, ◌++◌, length, map, Option, Some, true, false}
 use Rattle.std.specs.Global.{Vec}
-use Rattle.tftp_copies.specs.Copies.{Packet as Recorded}
-use Rattle.tftp_fragments.specs.Set.{SetState}
+use Rattle.tftp_copies.specs.{Packet as Recorded}
+use Rattle.tftp_fragments.specs.{SetState, Waits}
 use Rattle.tftp_fragments.specs.Whole.{Content}
 use Rattle.tftp_fragments.specs.declared.content.Content.{Content as Given}
 use Rattle.tftp_fragments.specs.declared.key.Key.{Key}
-use Rattle.tftp_fragments.specs.declared.outcome.Outcome.TheVariants.{Waits, Whole}
-use Rattle.tftp_frames.specs.Ip.{Packet}
-use Rattle.tftp_frames.specs.Worked.{cooked_head, host, ipv4_bytes, ipv4_packet, ipv6_part, two_tags, udp_bytes}
-use Rattle.tftp_frames.specs.declared.packet.Direction.TheVariants.{Unknown}
-use Rattle.tftp_frames.specs.declared.packet.Fragment.{Fragment}
-use Rattle.tftp_pcap.specs.Frames.{FrameParts}
+use Rattle.tftp_fragments.specs.declared.outcome.Outcome.TheVariants.{Whole}
+use Rattle.tftp_frames.specs.{Packet, cooked_head, host, ipv4_bytes, ipv4_packet, ipv6_part, two_tags, udp_bytes, Unknown, Fragment}
+use Rattle.tftp_pcap.specs.{FrameParts}
 use Rattle.tftp_pcap.specs.declared.frame.Direction.TheVariants as recorded
 use Rattle.tftp_recording.specs.Brought.{nothing_brought}
 use Rattle.tftp_recording.specs.History.{Step}

@@ -1,12 +1,9 @@
 ghost use Rattle.std.specs.Prelude.{◌≡◌, List, [], IfOk, OnErr, Some, None, false};
-ghost use Rattle.tftp_fragments.specs.Held.{part_of};
-ghost use Rattle.tftp_fragments.specs.Set.{SetState};
-ghost use Rattle.tftp_fragments.specs.Store.{is_long, set_at};
+ghost use Rattle.tftp_fragments.specs.{part_of, SetState, is_long, set_at};
 ghost use Rattle.tftp_recording.specs.Brought.{key_protocol, nothing_brought, LetsGoOld, Takes, TakesPart, WantsPart};
 ghost use Rattle.tftp_recording.specs.History.{WantsNext};
-ghost use Rattle.tftp_recording.specs.Likeness.{Comes, is_copy};
-ghost use Rattle.tftp_copies.specs.Copies.{Packet as Recorded};
-ghost use Rattle.tftp_copies.specs.Held.{StandsFor};
+ghost use Rattle.tftp_recording.specs.Alike.{Comes, is_copy};
+ghost use Rattle.tftp_copies.specs.{Packet as Recorded, StandsFor};
 
 use crate::likeness::{Likeness, likeness_of};
 use std::alloc::{AllocError, Global};

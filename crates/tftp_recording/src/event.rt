@@ -1,12 +1,11 @@
 ghost use Rattle.std.specs.Prelude.{◌≡◌, [], None, option_map, MatchOption};
 ghost use Rattle.std.specs.declared.net.ip_addr.IpAddr.{IpAddr as Host};
-ghost use Rattle.tftp_fragments.specs.Held.{content_of as put_together};
-ghost use Rattle.tftp_frames.specs.Frame.{IsBetween};
-ghost use Rattle.tftp_frames.specs.Parts.{shown};
-ghost use Rattle.tftp_pcap.specs.Frames.{no_frame};
+ghost use Rattle.tftp_fragments.specs.{content_of as put_together};
+ghost use Rattle.tftp_frames.specs.{IsBetween, shown};
+ghost use Rattle.tftp_pcap.specs.{no_frame};
 ghost use Rattle.tftp_recording.specs.Brought.{nothing_brought};
-ghost use Rattle.tftp_recording.specs.Fate.{content_of, direction_of, IsFate, IsFateOf, IsSoundFate, Says, sharers};
-ghost use Rattle.tftp_recording.specs.Likeness.{is_doubtful};
+ghost use Rattle.tftp_recording.specs.Fates.{content_of, direction_of, IsFate, IsFateOf, IsSoundFate, Says, sharers};
+ghost use Rattle.tftp_recording.specs.Alike.{is_doubtful};
 ghost use Rattle.tftp_recording.specs.declared.likeness.Likeness.{Likeness};
 
 use crate::brought::Brought;

@@ -1,8 +1,7 @@
 ghost use Rattle.std.specs.Prelude.{◌≡◌, ◌<◌, ◌∷◌, List, length, IfOk, OnOk, OnErr};
-ghost use Rattle.tftp_copies.specs.Copies.{Packet as Recorded};
-ghost use Rattle.tftp_copies.specs.Held.{StandsFor};
-ghost use Rattle.tftp_frames.specs.Parts.{shown};
-ghost use Rattle.tftp_recording.specs.Likeness.{IsLike, is_copy, is_doubtful, likeness_by, recorded};
+ghost use Rattle.tftp_copies.specs.{Packet as Recorded, StandsFor};
+ghost use Rattle.tftp_frames.specs.{shown};
+ghost use Rattle.tftp_recording.specs.Alike.{IsLike, is_copy, is_doubtful, likeness_by, recorded};
 
 use std::alloc::{AllocError, Global};
 use tftp_copies::Recent;

@@ -1,8 +1,6 @@
 ghost use Rattle.std.specs.Prelude.{◌≡◌, ◌≢◌, ◌+◌, ◌++◌, ℕ, List, [], true, false, None, Ok, Err, IfOk, IfErr, OnOk};
 ghost use Rattle.std.specs.Io.KnownBytes.{prepend_known, Consumes, IsAtEnd};
-ghost use Rattle.tftp_pcap.specs.History.{FailsToBegin, KeepsAnswer, standing_after};
-ghost use Rattle.tftp_pcap.specs.declared.fault.FaultKind.{FaultKind};
-ghost use Rattle.tftp_pcap.specs.declared.standing.Standing.{Standing};
+ghost use Rattle.tftp_pcap.specs.{FailsToBegin, KeepsAnswer, standing_after, FaultKind, Standing};
 ghost use Rattle.tftp_recording.specs.History.{Continues, StandsFor, Step, standing_of};
 
 use crate::brought::take_frame;

@@ -1,19 +1,15 @@
 -- The sides of a recording's transfers are addresses of hosts.
-use Rattle.std.proofs.Common.{◌≡◌, ℕ, Bool, true, false, List, [], ◌∷◌, Option, Some, None, refl, sym, ◌∙◌, subst}
+use Rattle.std.proofs.Common.{◌≡◌, ℕ, Bool, true, false, List, [], ◌∷◌, Option, Some, None, refl, sym, ◌∙◌, subst, IfSome, option_map}
 use Rattle.std.specs.List.{AllByRecursion}
-use Rattle.std.specs.Prelude.{IfSome, option_map}
-use Rattle.tftp_ends.specs.Ports.{first_of, or_this}
-use Rattle.tftp_between.specs.Captured.{is_to_itself, server_or_asked, sides_of}
+use Rattle.tftp_rules.specs.{first_of, or_this}
+use Rattle.tftp_between.specs.{is_to_itself, server_or_asked, sides_of}
 use Rattle.tftp_between.proofs.Sides.{apart_from_both}
-use Rattle.tftp_tap.specs.TapCapture.{AreApart}
-use Rattle.tftp_recording_audit.specs.Sound.{IsSoundDatagram, IsSoundEnd}
+use Rattle.tftp_tap.specs.{AreApart}
+use Rattle.tftp_recording_audit.specs.{IsSoundDatagram, IsSoundEnd}
 use Rattle.tftp_recording_audit.proofs.Writing.{opened_ends, placed_sound}
-use Rattle.tftp_recording_judge.specs.Kept.{opened}
-use Rattle.tftp_transfers.specs.Places.{Placed, placed}
-use Rattle.tftp_transfers.specs.Recording.{Recorded}
-use Rattle.tftp_transfers.specs.Views.{answered_by, comes, goes_on, server_of, went_on_with}
-use Rattle.tftp_transfers.specs.declared.endpoint.Endpoint.{Endpoint}
-use Rattle.tftp_transfers.specs.declared.place.Transfer.{Transfer}
+use Rattle.tftp_recording_judge.specs.{opened}
+use Rattle.tftp_lines.specs.{Placed, Recorded, Endpoint, Transfer}
+use Rattle.tftp_transfers.specs.{placed, answered_by, comes, goes_on, server_of, went_on_with}
 
 -- ---- what was found among sound datagrams
 

@@ -1,21 +1,11 @@
 -- What a frame adds to what has passed.
-use Rattle.std.proofs.Common.{◌≡◌, ◌≢◌, ℕ, List, ◌∷◌, Result, Ok, Err, Option, Some, None, refl, sym, subst}
+use Rattle.std.proofs.Common.{◌≡◌, ◌≢◌, ℕ, List, ◌∷◌, Result, Ok, Err, Option, Some, None, refl, sym, subst, IfSome}
 use Rattle.std.specs.Option.{unwrap_or}
-use Rattle.std.specs.Prelude.{IfSome}
-use Rattle.tftp_fragments.specs.declared.outcome.Outcome.{Outcome}
-use Rattle.tftp_pcap.specs.Frames.{FrameParts}
-use Rattle.tftp_recording.specs.Fate.{IsFateOf}
-use Rattle.tftp_recording.specs.History.{EventState, Step}
-use Rattle.tftp_recording.specs.declared.fate.Fate.{Fate}
-use Rattle.tftp_recording.specs.declared.likeness.Likeness.{Likeness}
-use Rattle.tftp_pcap.specs.declared.fault.PcapFault.{PcapFault}
-use Rattle.tftp_recording_audit.specs.Audited.{GoesOn, IsNoted, IsOf}
-use Rattle.tftp_recording_audit.specs.declared.next.AuditFault.{AuditFault}
-use Rattle.tftp_recording_audit.specs.declared.next.AuditFault.TheVariants.{Recording, Judges}
-use Rattle.tftp_recording_audit.specs.declared.next.NextFrame.{NextFrame}
-use Rattle.tftp_recording_audit.specs.declared.next.NextFrame.TheVariants.{End, Nothing, Datagram}
-use Rattle.tftp_recording_audit.specs.Passed.{last_time, time_by}
-use Rattle.tftp_transfers.specs.Recording.{Recorded}
+use Rattle.tftp_fragments.specs.{Outcome}
+use Rattle.tftp_pcap.specs.{FrameParts, PcapFault}
+use Rattle.tftp_recording.specs.{IsFateOf, EventState, Step, Fate, Likeness}
+use Rattle.tftp_recording_audit.specs.{GoesOn, IsNoted, IsOf, AuditFault, Recording, Judges, NextFrame, End, Nothing, Datagram, last_time, time_by}
+use Rattle.tftp_lines.specs.{Recorded}
 
 -- the time of a frame, or else that of the datagram before
 pub unwrapped : (time : Option ℕ) (older : List Recorded) → unwrap_or time (last_time older) ≡ time_by time older

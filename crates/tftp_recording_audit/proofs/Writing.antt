@@ -1,24 +1,18 @@
 -- The captures of a recording can be written.
-use Rattle.std.proofs.Common.{◌≡◌, ℕ, Bool, true, false, List, [], ◌∷◌, ◌++◌, Some, filter, map, reverse, max, refl, sym, ap, ◌∙◌, subst}
+use Rattle.std.proofs.Common.{◌≡◌, ℕ, Bool, true, false, List, [], ◌∷◌, ◌++◌, Some, filter, map, reverse, max, refl, sym, ap, ◌∙◌, subst, All}
 use mathlib.Core.List.{reverse-cons}
 use Rattle.std.proofs.lemmas.List.Elements.{All-from_recursion}
 use Rattle.std.specs.List.{AllByRecursion}
-use Rattle.std.specs.Prelude.{All}
-use Rattle.tftp_capture.specs.CaptureText.{IsLawful, IsPort}
-use Rattle.tftp_packet.specs.declared.kinds.Dir.{Dir}
-use Rattle.tftp_packet.specs.declared.kinds.Dir.TheVariants.{In, Out}
-use Rattle.tftp_parties.specs.Naming.{host_name}
+use Rattle.tftp_capture.specs.{IsLawful, IsPort}
+use Rattle.tftp_hosts.specs.{Dir, In, Out}
+use Rattle.tftp_parties.specs.{host_name}
 use Rattle.tftp_parties.proofs.Addresses.{is_host}
-use Rattle.tftp_recording_audit.specs.Sound.{IsSoundDatagram, IsSoundEnd}
-use Rattle.tftp_recording_judge.specs.Kept.{opened}
+use Rattle.tftp_recording_audit.specs.{IsSoundDatagram, IsSoundEnd}
+use Rattle.tftp_recording_judge.specs.{opened}
 use Rattle.tftp_transfers.proofs.Ends.{placed_where}
-use Rattle.tftp_transfers.specs.Places.{Placed, clock, place_of, placed, transfer_of}
-use Rattle.tftp_transfers.specs.Recording.{Recorded}
-use Rattle.tftp_transfers.specs.Views.{opened_it}
-use Rattle.tftp_transfers.specs.declared.place.Place.{Place}
-use Rattle.tftp_transfers.specs.declared.place.Place.TheVariants.{Opens, Repeats, Talks, Apart, Beside, Nowhere}
-use Rattle.tftp_transfers.specs.declared.place.Transfer.{Transfer}
-use Rattle.tftp_views.specs.Captured.{captured}
+use Rattle.tftp_lines.specs.{Placed, clock, transfer_of, Recorded, Place, Opens, Repeats, Talks, Apart, Beside, Nowhere, Transfer}
+use Rattle.tftp_transfers.specs.{place_of, placed, opened_it}
+use Rattle.tftp_views.specs.{captured}
 
 -- ---- all of a list
 

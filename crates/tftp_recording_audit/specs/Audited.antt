@@ -2,21 +2,17 @@
 use Rattle.std.specs.Prelude.{◌≡◌, ◌∷◌, ℕ, Bool, List, max, Result, Ok, Err}
 use Rattle.std.specs.BTreeMap.{BTreeMap}
 use Rattle.std.specs.List.{AllByRecursion}
-use Rattle.tftp_parties.specs.Naming.{host_name}
-use Rattle.tftp_recording.specs.History.{EventState, Step}
-use Rattle.tftp_recording_judge.specs.Kept.{StandsAfter, Watched}
-use Rattle.tftp_recording_judge.specs.declared.judging.Judging.{Judging}
+use Rattle.tftp_parties.specs.{host_name}
+use Rattle.tftp_recording.specs.{EventState, Step}
+use Rattle.tftp_recording_judge.specs.{StandsAfter, Watched, Judging}
 use Rattle.tftp_recording_audit.specs.Passed.{HasPassed, last_time}
 use Rattle.tftp_recording_audit.specs.Sound.{IsSoundDatagram}
 use Rattle.tftp_recording_audit.specs.declared.next.AuditFault.{AuditFault}
 use Rattle.tftp_recording_audit.specs.declared.next.AuditFault.TheVariants.{Recording, Judges}
 use Rattle.tftp_recording_audit.specs.declared.next.NextFrame.{NextFrame}
 use Rattle.tftp_recording_audit.specs.declared.next.NextFrame.TheVariants.{End, Nothing, Datagram}
-use Rattle.tftp_transfers.specs.declared.attribution.Attributed.{Attributed}
-use Rattle.tftp_transfers.specs.declared.attribution.Attribution.{Attribution}
-use Rattle.tftp_transfers.specs.Doubts.{doubts_of}
-use Rattle.tftp_transfers.specs.Places.{Placed, clock, place_of, placed}
-use Rattle.tftp_transfers.specs.Recording.{Recorded}
+use Rattle.tftp_transfers.specs.{Attributed, Attribution, place_of, placed}
+use Rattle.tftp_lines.specs.{doubts_of, Placed, clock, Recorded}
 
 -- The judges, where transfers are to be judged, were given what these frames of a recording have given, and nothing else; each
 -- host is named by its address.

@@ -1,16 +1,12 @@
 -- Which datagrams the frames of a recording have given, as the judges of a recording take them. Lists have the newest first.
 use Rattle.std.specs.Prelude.{◌≡◌, ◌↔◌, ℕ, List, [], ◌∷◌, true, Option, Some, None}
 use Rattle.std.specs.declared.net.ip_addr.IpAddr.{IpAddr}
-use Rattle.tftp_packet.specs.Message.{Request, RequestParts}
-use Rattle.tftp_packet.specs.Spelling.{Spells}
-use Rattle.tftp_parties.specs.Naming.{address_of}
-use Rattle.tftp_recording.specs.Fate.{IsFateOf}
-use Rattle.tftp_recording.specs.History.{Step}
+use Rattle.tftp_packet.specs.{Request, RequestParts, Spells}
+use Rattle.tftp_parties.specs.{address_of}
+use Rattle.tftp_recording.specs.{IsFateOf, Step, Fate, Left, Waits}
 use Rattle.tftp_recording.specs.declared.fate.Datagram.{Datagram as Given}
-use Rattle.tftp_recording.specs.declared.fate.Fate.{Fate}
-use Rattle.tftp_recording.specs.declared.fate.Fate.TheVariants.{Datagram, Left, Waits}
-use Rattle.tftp_transfers.specs.Recording.{Recorded}
-use Rattle.tftp_transfers.specs.declared.endpoint.Endpoint.{Endpoint}
+use Rattle.tftp_recording.specs.declared.fate.Fate.TheVariants.{Datagram}
+use Rattle.tftp_lines.specs.{Recorded, Endpoint}
 
 abbrev pub end_of : IpAddr → ℕ → Endpoint
 end_of host port = record { address = address_of host; port = port }

@@ -1,9 +1,8 @@
 -- What a capture wants of the datagrams that have passed.
 use Rattle.std.specs.Prelude.{◌<◌, ◌≤◌, ℕ, length, slice_index}
-use Rattle.tftp_capture.specs.CaptureText.{IsPort}
-use Rattle.tftp_parties.specs.Naming.{IsAddress}
-use Rattle.tftp_transfers.specs.Recording.{Recorded}
-use Rattle.tftp_transfers.specs.declared.endpoint.Endpoint.{Endpoint}
+use Rattle.tftp_capture.specs.{IsPort}
+use Rattle.tftp_parties.specs.{IsAddress}
+use Rattle.tftp_lines.specs.{Recorded, Endpoint}
 
 -- its address is one of IPv4 or IPv6, and its port none of 0
 abbrev pub IsSoundEnd : Endpoint → Type 0

@@ -2,33 +2,30 @@
 
 ghost use Rattle.std.specs.Prelude.{◌≡◌, ◌≤◌, ◌+◌, ◌++◌, ◌^◌, ◌∷◌, ◌⊎◌, ℕ, List, [], length, max, IfOk, IfSome, IsErr, IsSome, MatchBool, MatchOption, OnErr, Ok, Err, None, Some, false, true, ◌≢◌};
 ghost use Rattle.std.specs.Io.KnownBytes.{Consumes, prepend_known};
-ghost use Rattle.tftp_pcap.specs.declared.fault.PcapFault.{PcapFault};
-ghost use Rattle.tftp_pcap.specs.declared.standing.Standing.{Standing};
-ghost use Rattle.tftp_recording.specs.Fate.{IsFateOf};
-ghost use Rattle.tftp_recording.specs.History.{StandsFor, Step, standing_of};
+ghost use Rattle.tftp_pcap.specs.{PcapFault, Standing};
+ghost use Rattle.tftp_recording.specs.{IsFateOf, StandsFor, Step, standing_of, Fate};
 ghost use Rattle.tftp_recording.specs.declared.fate.Datagram.{Datagram};
-ghost use Rattle.tftp_recording.specs.declared.fate.Fate.{Fate};
 ghost use Rattle.tftp_recording_audit.specs.Audited.{AuditsAfter, GoesOn, IsAttributed, IsNoted, IsOf};
 ghost use Rattle.tftp_recording_audit.specs.declared.next.AuditFault.{AuditFault};
 ghost use Rattle.tftp_recording_audit.specs.declared.next.NextFrame.{NextFrame};
 ghost use Rattle.tftp_recording_audit.specs.Sound.{IsSoundDatagram};
-ghost use Rattle.tftp_frames.specs.Udp.{IsSound};
+ghost use Rattle.tftp_frames.specs.{IsSound};
 ghost use Rattle.tftp_recording_audit.specs.Passed.{IsTaken, last_time, time_by};
-ghost use Rattle.tftp_recording_judge.specs.Kept.{AreCrowded, IsWatching, StandsAfter, is_among, opened};
-ghost use Rattle.tftp_parties.specs.Naming.{host_name};
-ghost use Rattle.tftp_transfers.specs.declared.attribution.AttributionFault.{AttributionFault};
-ghost use Rattle.tftp_transfers.specs.Places.{clock, line, live, placed};
-ghost use Rattle.tftp_transfers.specs.Recording.{Recorded};
+ghost use Rattle.tftp_recording_judge.specs.{AreCrowded, IsWatching, StandsAfter, is_among, opened};
+ghost use Rattle.tftp_parties.specs.{host_name};
+ghost use Rattle.tftp_transfers.specs.{AttributionFault, placed};
+ghost use Rattle.tftp_lines.specs.{clock, line, live, Recorded};
 
 use crate::next::{AuditFault, NextFrame};
 use std::alloc::{AllocError, Global};
 use std::io::Read;
+use tftp_blocks::Delivered;
 use tftp_capture::Tallied;
-use tftp_ends::Delivered;
+use tftp_lines::{Endpoint, spells_request};
 use tftp_parties::party_of;
 use tftp_recording::{Datagram, Event, Fate, RecordingReader};
 use tftp_recording_judge::{Judging, RecordingJudge, Watched};
-use tftp_transfers::{Attributed, AttributionFault, Endpoint, spells_request};
+use tftp_transfers::{Attributed, AttributionFault};
 
 /// The judges of a recording's transfers, to be given what became of each of its frames, from the first to the last.
 #[derive(Drop)]

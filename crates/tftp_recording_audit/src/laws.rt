@@ -2,17 +2,15 @@
 
 ghost use Rattle.std.specs.Prelude.{◌≡◌, ◌≤◌, ◌^◌, ℕ, List, Some, length, reverse, false};
 ghost use Rattle.std.specs.List.{AllByRecursion};
-ghost use Rattle.tftp_between.specs.Captured.{is_to_itself, sides_of};
-ghost use Rattle.tftp_capture.specs.CaptureText.{text_with_hosts};
-ghost use Rattle.tftp_parties.specs.Naming.{host_name};
+ghost use Rattle.tftp_between.specs.{is_to_itself, sides_of};
+ghost use Rattle.tftp_capture.specs.{text_with_hosts};
+ghost use Rattle.tftp_parties.specs.{host_name};
 ghost use Rattle.tftp_recording_audit.specs.Sound.{IsSoundDatagram};
-ghost use Rattle.tftp_recording_judge.specs.Kept.{opened};
-ghost use Rattle.tftp_tap.specs.TapCapture.{AreApart};
-ghost use Rattle.tftp_transfers.specs.Places.{placed};
-ghost use Rattle.tftp_transfers.specs.Recording.{Recorded};
-ghost use Rattle.tftp_transfers.specs.declared.place.Transfer.{Transfer};
-ghost use Rattle.tftp_views.specs.Captured.{client_capture, client_header, server_capture, server_header};
-ghost use Rattle.tftp_views.specs.Judged.{AreWritten};
+ghost use Rattle.tftp_recording_judge.specs.{opened};
+ghost use Rattle.tftp_tap.specs.{AreApart};
+ghost use Rattle.tftp_transfers.specs.{placed};
+ghost use Rattle.tftp_lines.specs.{Recorded, Transfer};
+ghost use Rattle.tftp_views.specs.{client_capture, client_header, server_capture, server_header, AreWritten};
 
 /// What each end of a transfer saw of a recording can be written as a capture text, unless that were longer than a capture
 /// text may be: so the verdict that the judges of a recording give is that of this text.

@@ -1,24 +1,17 @@
 -- What is kept of all transfers, with one datagram more.
-use Rattle.std.proofs.Common.{rules, arith, ◌≡◌, ◌≤◌, ◌<◌, ℕ, suc, Bool, true, false, cond, List, [], ◌∷◌, length, Option, Some, None, ◌⊎◌, inl, inr, refl, sym, ap, subst, ◌∙◌}
-use Rattle.std.specs.Prelude.{◌==◌, ◌&&◌, ◌||◌, not, IsSome, if◌then◌else◌}
+use Rattle.std.proofs.Common.{rules, arith, ◌≡◌, ◌≤◌, ◌<◌, ℕ, suc, Bool, true, false, cond, List, [], ◌∷◌, length, Option, Some, None, ◌⊎◌, inl, inr, refl, sym, ap, subst, ◌∙◌, ◌==◌, ◌&&◌, ◌||◌, not, IsSome, if◌then◌else◌}
 use Rattle.std.specs.BTreeMap.{get, is_at, BTreeMap, IsLowerBound, IsUnchanged}
 use Rattle.std.specs.Map.{lookup}
 use Rattle.std.specs.Ordering.{is_eq, is_gt, nat_cmp}
 use Rattle.std.specs.List.{All}
 use Rattle.std.proofs.lemmas.Bool.{eqb-true, or_parts}
 use Rattle.std.proofs.lemmas.List.Elements.{All-head, All-tail}
-use Rattle.tftp_transfers.specs.declared.place.Place.{Place}
-use Rattle.tftp_transfers.specs.declared.place.Place.TheVariants.{Opens, Repeats, Talks, Apart, Beside, Nowhere}
-use Rattle.tftp_transfers.specs.declared.place.Transfer.{Transfer}
-use Rattle.tftp_transfers.specs.Recording.{Recorded}
-use Rattle.tftp_transfers.specs.Places.{Placed, newest_of, place_of, placed, transfer_of}
-use Rattle.tftp_transfers.specs.Views.{is_about, opened_it}
-use Rattle.tftp_transfers.specs.Doubts.{is_it, may_be_answer_of}
-use Rattle.tftp_transfers.proofs.Lines.{by_test}
+use Rattle.tftp_lines.specs.{Place, Opens, Repeats, Talks, Apart, Beside, Nowhere, Transfer, Recorded, Placed, newest_of, transfer_of, may_be_answer_of}
+use Rattle.tftp_transfers.specs.{place_of, placed, is_about, opened_it, is_it}
+use Rattle.tftp_lines.proofs.Lines.{by_test}
 use Rattle.tftp_transfers.proofs.Numbers.{none_answers_before, none_before, opening_number}
-use Rattle.tftp_views.specs.Captured.{Naming}
-use Rattle.tftp_recording_judge.specs.declared.judging.Judging.{Judging}
-use Rattle.tftp_recording_judge.specs.Kept.{AreCrowded, AreHanded, AreKept, IsCrowded, IsKept, IsUnheard, IsWatching, Watched, is_among, opened}
+use Rattle.tftp_views.specs.{Naming}
+use Rattle.tftp_recording_judge.specs.{Judging, AreCrowded, AreHanded, AreKept, IsCrowded, IsKept, IsUnheard, IsWatching, Watched, is_among, opened}
 use Rattle.tftp_recording_judge.proofs.Watching.{watching_on, watching_unheard}
 
 pub same_number : (m n : ℕ) → is_eq (nat_cmp m n) ≡ (m == n)

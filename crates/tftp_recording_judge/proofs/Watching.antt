@@ -1,21 +1,16 @@
 -- What is kept of a transfer stands for each datagram that tells nothing of it.
-use Rattle.std.proofs.Common.{◌≡◌, false, List, [], ◌∷◌, Option, Some, None, Result, Ok, Err, ap, ◌∙◌}
-use Rattle.std.specs.Prelude.{IfSome, OnOk}
+use Rattle.std.proofs.Common.{◌≡◌, false, List, [], ◌∷◌, Option, Some, None, Result, Ok, Err, ap, ◌∙◌, IfSome, OnOk}
 use Rattle.std.proofs.lemmas.Bool.{or_parts}
 use Rattle.std.proofs.lemmas.List.Elements.{All-head, All-tail}
-use Rattle.tftp_transfers.specs.declared.place.Transfer.{Transfer}
-use Rattle.tftp_transfers.specs.Places.{Placed}
-use Rattle.tftp_transfers.specs.Views.{is_about}
-use Rattle.tftp_transfers.specs.Doubts.{is_answered_apart, is_it, may_be_answer_of}
-use Rattle.tftp_views.specs.Captured.{Naming}
-use Rattle.tftp_views.specs.Kept.{Client, View}
-use Rattle.tftp_between.specs.Kept.{View as Between}
+use Rattle.tftp_lines.specs.{Transfer, Placed, may_be_answer_of}
+use Rattle.tftp_transfers.specs.{is_about, is_answered_apart, is_it}
+use Rattle.tftp_views.specs.{Naming, Client, View}
+use Rattle.tftp_between.specs.{View as Between}
 use Rattle.tftp_between.proofs.Holding.{passes_by as between_passes_by}
 use Rattle.tftp_transfers.proofs.OwnDatagrams.{about_none}
 use Rattle.tftp_views.proofs.Holding.{passes_by}
 use Rattle.tftp_views.proofs.Passing.{client_passes_by, doubts_pass_by}
-use Rattle.tftp_recording_judge.specs.declared.judging.Judging.{Judging}
-use Rattle.tftp_recording_judge.specs.Kept.{AreJudgesAfter, BetweenStands, ClientStands, IsUnheard, IsWatching, Judges, ServerStands, Watched}
+use Rattle.tftp_recording_judge.specs.{Judging, AreJudgesAfter, BetweenStands, ClientStands, IsUnheard, IsWatching, Judges, ServerStands, Watched}
 
 -- ---- at each point
 

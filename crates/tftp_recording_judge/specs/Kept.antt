@@ -3,19 +3,11 @@ use Rattle.std.specs.Prelude.{◌≡◌, ◌≤◌, ◌<◌, ◌^◌, ◌⊎◌,
 use Rattle.std.specs.BTreeMap.{BTreeMap, get}
 use Rattle.std.specs.List.{list_any}
 use Rattle.std.specs.Ordering.{nat_cmp}
-use Rattle.tftp_transfers.specs.declared.attribution.Attribution.{Attribution}
-use Rattle.tftp_transfers.specs.declared.doubted.TransferDoubts.{TransferDoubts}
-use Rattle.tftp_transfers.specs.declared.place.Transfer.{Transfer}
-use Rattle.tftp_transfers.specs.Recording.{Recorded}
-use Rattle.tftp_transfers.specs.Places.{Placed, newest_of, placed, transfer_of}
-use Rattle.tftp_transfers.specs.Views.{is_about, opened_it}
-use Rattle.tftp_transfers.specs.Doubts.{is_answered_apart}
-use Rattle.tftp_transfers.specs.Kept.{IsAfter, IsDoubtedAfter}
-use Rattle.tftp_views.specs.declared.party.Party.{Party}
-use Rattle.tftp_views.specs.Captured.{Naming}
-use Rattle.tftp_views.specs.Kept.{Client, IsClientAfter, IsViewAfter, View, fed_to}
-use Rattle.tftp_parties.specs.Naming.{host_name}
-use Rattle.tftp_between.specs.Kept.{IsBetweenAfter, View as Between, given_to}
+use Rattle.tftp_transfers.specs.{Attribution, TransferDoubts, placed, is_about, opened_it, is_answered_apart, IsAfter, IsDoubtedAfter}
+use Rattle.tftp_lines.specs.{Transfer, Recorded, Placed, newest_of, transfer_of}
+use Rattle.tftp_views.specs.{Party, Naming, Client, IsClientAfter, IsViewAfter, View, fed_to}
+use Rattle.tftp_parties.specs.{host_name}
+use Rattle.tftp_between.specs.{IsBetweenAfter, View as Between, given_to}
 use Rattle.tftp_judge.specs.declared.refusal.Refusal.TheVariants.{Memory}
 use Rattle.tftp_tap_judge.specs.declared.refusal.TapRefusal.TheVariants.{Memory as TapMemory}
 use Rattle.tftp_recording_judge.specs.declared.judging.Judging.{Judging}

@@ -3,8 +3,7 @@ use Rattle.std.specs.Prelude.{Bool, true, false, not}
 use Rattle.tftp_recording_judge.specs.declared.judging.Judging.{Judging}
 use Rattle.tftp_recording_judge.specs.declared.judging.Judging.TheVariants.{Nowhere, Client, Server, Between, WhereRecorded}
 use Rattle.tftp_recording_judge.specs.declared.judging.Points.{Points}
-use Rattle.tftp_transfers.specs.declared.place.Transfer.{Transfer}
-use Rattle.tftp_transfers.specs.Recording.{same_address}
+use Rattle.tftp_lines.specs.{Transfer, same_address}
 
 -- the client asks at its own host, so that what passes there passes at both ends
 abbrev pub is_at_own_host : Transfer → Bool

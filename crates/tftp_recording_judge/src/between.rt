@@ -1,24 +1,21 @@
 //! A transfer's judge between its two ends, where it is judged there.
 
 ghost use Rattle.std.specs.Prelude.{◌≡◌, ◌^◌, ◌<◌, ◌≤◌, ◌∷◌, ℕ, List, [], length, is_some, IfSome, OnOk, Ok, Err, true, false};
-ghost use Rattle.tftp_between.specs.Captured.{between_capture, is_to_itself, sides_of};
-ghost use Rattle.tftp_between.specs.Judged.{IsBetweenVerdict};
-ghost use Rattle.tftp_parties.specs.Naming.{host_name};
+ghost use Rattle.tftp_between.specs.{between_capture, is_to_itself, sides_of, IsBetweenVerdict};
+ghost use Rattle.tftp_parties.specs.{host_name};
 ghost use Rattle.tftp_recording_judge.specs.Kept.{BetweenStands, fed_between};
-ghost use Rattle.tftp_tap.specs.TapCapture.{AreApart};
-ghost use Rattle.tftp_tap_judge.specs.declared.refusal.TapRefusal.{TapRefusal as RefusalKind};
-ghost use Rattle.tftp_transfers.specs.Places.{Placed};
-ghost use Rattle.tftp_transfers.specs.Views.{is_about};
-ghost use Rattle.tftp_transfers.specs.declared.place.Transfer.{Transfer};
-ghost use Rattle.tftp_views.specs.Captured.{Naming};
-ghost use Rattle.tftp_views.specs.Kept.{IsFed};
+ghost use Rattle.tftp_tap.specs.{AreApart};
+ghost use Rattle.tftp_tap_judge.specs.{TapRefusal as RefusalKind};
+ghost use Rattle.tftp_lines.specs.{Placed, Transfer};
+ghost use Rattle.tftp_transfers.specs.{is_about};
+ghost use Rattle.tftp_views.specs.{Naming, IsFed};
 
 use std::alloc::{AllocError, Global};
 use tftp_between::BetweenView;
-use tftp_ends::Delivered;
+use tftp_blocks::Delivered;
 use tftp_judge::Meaning;
+use tftp_lines::{Place, Transfer};
 use tftp_tap_judge::TapRefusal;
-use tftp_transfers::{Place, Transfer};
 use tftp_views::Party;
 
 /// The judge, before any datagram, if this is a point where it is judged. Takes no memory.

@@ -3,21 +3,17 @@
 ghost use Rattle.std.specs.Prelude.{◌≡◌, ◌≢◌, ◌≤◌, ◌∷◌, ◌&&◌, ◌||◌, not, ℕ, Bool, List, length, IsOk, OnOk, Err, None, true, false};
 ghost use Rattle.tftp_recording_judge.specs.Kept.{AreCrowded, AreHanded, AreKept, IsUnheard};
 ghost use Rattle.tftp_recording_judge.specs.declared.judging.Judging.{Judging as JudgingKind};
-ghost use Rattle.tftp_transfers.specs.Doubts.{doubts_of, is_it};
-ghost use Rattle.tftp_transfers.specs.Places.{Placed};
-ghost use Rattle.tftp_transfers.specs.Views.{is_about};
-ghost use Rattle.tftp_transfers.specs.declared.place.Place.{Place};
-ghost use Rattle.tftp_transfers.specs.declared.place.Transfer.{Transfer};
-ghost use Rattle.tftp_transfers.specs.declared.attribution.AttributionFault.{AttributionFault};
-ghost use Rattle.tftp_views.specs.Captured.{Naming};
-ghost use Rattle.tftp_views.specs.Kept.{IsFed};
+ghost use Rattle.tftp_lines.specs.{doubts_of, Placed, Place, Transfer};
+ghost use Rattle.tftp_transfers.specs.{is_it, is_about, AttributionFault};
+ghost use Rattle.tftp_views.specs.{Naming, IsFed};
 
 use crate::judging::Judging;
 use crate::watched::Watched;
 use std::alloc::{AllocError, Global};
 use std::collections::BTreeMap;
-use tftp_ends::Delivered;
-use tftp_transfers::{Attributed, AttributionFault, Place, Transfer};
+use tftp_blocks::Delivered;
+use tftp_lines::{Place, Transfer};
+use tftp_transfers::{Attributed, AttributionFault};
 use tftp_views::Party;
 
 /// A transfer that a request opens is kept, before any datagram.

@@ -1,18 +1,14 @@
 //! The judges of one transfer, beside each other.
 
 ghost use Rattle.std.specs.Prelude.{◌≡◌, ◌≤◌, ◌∷◌, ℕ, List, [], length, option_copied, IfSome, IsErr, OnErr, OnOk, Ok, Err, MatchBool, true, false};
-ghost use Rattle.tftp_between.specs.Captured.{between_capture, is_to_itself, sides_of};
-ghost use Rattle.tftp_between.specs.Judged.{IsBetweenVerdict};
-ghost use Rattle.tftp_parties.specs.Naming.{host_name};
+ghost use Rattle.tftp_between.specs.{between_capture, is_to_itself, sides_of, IsBetweenVerdict};
+ghost use Rattle.tftp_parties.specs.{host_name};
 ghost use Rattle.tftp_recording_judge.specs.Kept.{AreAt, AreFew, AreJudgesAfter, AreOf, AreTold, AreWants, IsCrowded};
-ghost use Rattle.tftp_tap.specs.TapCapture.{AreApart};
-ghost use Rattle.tftp_tap_judge.specs.declared.refusal.TapRefusal.{TapRefusal};
-ghost use Rattle.tftp_transfers.specs.Places.{Placed};
-ghost use Rattle.tftp_transfers.specs.Views.{is_about};
-ghost use Rattle.tftp_transfers.specs.declared.place.Transfer.{Transfer};
-ghost use Rattle.tftp_views.specs.Captured.{Naming, client_capture, client_header, server_capture, server_header};
-ghost use Rattle.tftp_views.specs.Judged.{IsJudgedWith};
-ghost use Rattle.tftp_views.specs.Kept.{IsFed};
+ghost use Rattle.tftp_tap.specs.{AreApart};
+ghost use Rattle.tftp_tap_judge.specs.{TapRefusal};
+ghost use Rattle.tftp_lines.specs.{Placed, Transfer};
+ghost use Rattle.tftp_transfers.specs.{is_about};
+ghost use Rattle.tftp_views.specs.{Naming, client_capture, client_header, server_capture, server_header, IsJudgedWith, IsFed};
 
 use crate::judging::Points;
 use crate::verdicts::Verdicts;
@@ -20,8 +16,8 @@ use crate::{between, client, server};
 use std::alloc::{AllocError, Global};
 use std::marker::Model;
 use tftp_between::BetweenView;
-use tftp_ends::Delivered;
-use tftp_transfers::{Place, Transfer};
+use tftp_blocks::Delivered;
+use tftp_lines::{Place, Transfer};
 use tftp_views::{ClientJudge, Party, ServerView};
 
 /// How many datagrams a judge can count.

@@ -3,7 +3,7 @@
 ghost use Rattle.std.specs.Prelude.{◌≡◌};
 ghost use Rattle.tftp_recording_judge.specs.Points.{points_of};
 
-use tftp_transfers::Transfer;
+use tftp_lines::Transfer;
 
 /// Where the transfers of a recording are judged.
 #[derive(Clone, Copy, Debug, PartialEq, Eq)]

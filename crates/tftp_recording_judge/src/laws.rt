@@ -4,11 +4,9 @@ ghost use Rattle.std.specs.Prelude.{◌≡◌, [], ◌∷◌, None, Some, false,
 ghost use Rattle.tftp_recording_judge.specs.Kept.{opened};
 ghost use Rattle.tftp_recording_judge.specs.Points.{points_of};
 ghost use Rattle.tftp_recording_judge.specs.declared.judging.Judging.{Judging};
-ghost use Rattle.tftp_transfers.specs.Places.{placed};
-ghost use Rattle.tftp_transfers.specs.Recording.{same_address};
-ghost use Rattle.tftp_transfers.specs.declared.place.Transfer.{Transfer};
-ghost use Rattle.tftp_transfers.specs.Worked.{asked_twice};
-ghost use Rattle.tftp_views.specs.Worked.{first_transfer};
+ghost use Rattle.tftp_transfers.specs.{placed, asked_twice};
+ghost use Rattle.tftp_lines.specs.{same_address, Transfer};
+ghost use Rattle.tftp_views.specs.{first_transfer};
 
 /// Of a request that is sent twice the first one opens a transfer, and no other datagram does.
 pub fn worked_openings()

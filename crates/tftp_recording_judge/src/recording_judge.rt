@@ -2,21 +2,18 @@
 
 ghost use Rattle.std.specs.Prelude.{◌≡◌, ◌≢◌, ◌≤◌, ◌+◌, ◌^◌, ◌<◌, ◌∷◌, ◌⊎◌, ℕ, List, [], length, max, IfOk, IfSome, IsErr, IsSome, MatchBool, MatchOption, OnErr, OnOk, Err, None, Some, true, false};
 ghost use Rattle.tftp_recording_judge.specs.Kept.{AreCrowded, IsCalled, IsWatching, StandsAfter, is_among, opened};
-ghost use Rattle.tftp_transfers.specs.Doubts.{doubts_of};
-ghost use Rattle.tftp_transfers.specs.Kept.{IsRecorded};
-ghost use Rattle.tftp_transfers.specs.Places.{clock, line, live, place_of, placed};
-ghost use Rattle.tftp_transfers.specs.Recording.{Recorded};
-ghost use Rattle.tftp_transfers.specs.declared.attribution.AttributionFault.{AttributionFault};
-ghost use Rattle.tftp_transfers.specs.declared.place.Place.TheVariants.{Nowhere};
-ghost use Rattle.tftp_views.specs.Captured.{Naming};
+ghost use Rattle.tftp_lines.specs.{doubts_of, clock, line, live, Recorded, Nowhere};
+ghost use Rattle.tftp_transfers.specs.{IsRecorded, place_of, placed, AttributionFault};
+ghost use Rattle.tftp_views.specs.{Naming};
 
 use crate::hands::{hand_on, open};
 use crate::judging::Judging;
 use crate::watched::Watched;
 use std::alloc::{AllocError, Global};
 use std::collections::BTreeMap;
-use tftp_ends::Delivered;
-use tftp_transfers::{Attributed, Attribution, AttributionFault, Endpoint};
+use tftp_blocks::Delivered;
+use tftp_lines::Endpoint;
+use tftp_transfers::{Attributed, Attribution, AttributionFault};
 use tftp_views::Party;
 
 /// The judge of a whole recording, fed from its first datagram to its last: it divides what passed into transfers, and

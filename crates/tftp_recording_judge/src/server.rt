@@ -1,19 +1,16 @@
 //! A transfer's judge at its server, where it is judged there.
 
 ghost use Rattle.std.specs.Prelude.{◌≡◌, ◌^◌, ◌<◌, ◌≤◌, ◌∷◌, ℕ, List, [], length, is_some, IfSome, OnOk, Ok, Err, true, false};
-ghost use Rattle.tftp_judge.specs.declared.refusal.Refusal.{Refusal as RefusalKind};
+ghost use Rattle.tftp_judge.specs.{Refusal as RefusalKind};
 ghost use Rattle.tftp_recording_judge.specs.Kept.{ServerStands, fed_at_server};
-ghost use Rattle.tftp_transfers.specs.Places.{Placed};
-ghost use Rattle.tftp_transfers.specs.Views.{is_about};
-ghost use Rattle.tftp_transfers.specs.declared.place.Transfer.{Transfer};
-ghost use Rattle.tftp_views.specs.Captured.{Naming, server_capture, server_header};
-ghost use Rattle.tftp_views.specs.Judged.{IsJudgedWith};
-ghost use Rattle.tftp_views.specs.Kept.{IsFed};
+ghost use Rattle.tftp_lines.specs.{Placed, Transfer};
+ghost use Rattle.tftp_transfers.specs.{is_about};
+ghost use Rattle.tftp_views.specs.{Naming, server_capture, server_header, IsJudgedWith, IsFed};
 
 use std::alloc::{AllocError, Global};
-use tftp_ends::Delivered;
+use tftp_blocks::Delivered;
 use tftp_judge::{Meaning, Refusal};
-use tftp_transfers::{Place, Transfer};
+use tftp_lines::{Place, Transfer};
 use tftp_views::{Party, ServerView};
 
 /// The judge, before any datagram, if this is a point where it is judged. Takes no memory.

@@ -1,22 +1,16 @@
 //! One transfer of a recording.
 
 ghost use Rattle.std.specs.Prelude.{◌≡◌, ◌≤◌, ◌∷◌, ℕ, List, [], length, option_copied, IfSome, OnOk, Err, false, true};
-ghost use Rattle.tftp_between.specs.Captured.{between_capture, is_to_itself, sides_of};
-ghost use Rattle.tftp_between.specs.Judged.{IsBetweenVerdict};
-ghost use Rattle.tftp_parties.specs.Naming.{host_name};
+ghost use Rattle.tftp_between.specs.{between_capture, is_to_itself, sides_of, IsBetweenVerdict};
+ghost use Rattle.tftp_parties.specs.{host_name};
 ghost use Rattle.tftp_recording_judge.specs.Kept.{AreTold, AreWants, IsCrowded, IsWatching};
 ghost use Rattle.tftp_recording_judge.specs.Points.{points_of};
 ghost use Rattle.tftp_recording_judge.specs.declared.judging.Judging.{Judging as JudgingKind};
-ghost use Rattle.tftp_tap.specs.TapCapture.{AreApart};
-ghost use Rattle.tftp_tap_judge.specs.declared.refusal.TapRefusal.{TapRefusal};
-ghost use Rattle.tftp_transfers.specs.Doubts.{doubts_of};
-ghost use Rattle.tftp_transfers.specs.Places.{Placed};
-ghost use Rattle.tftp_transfers.specs.Views.{is_about};
-ghost use Rattle.tftp_transfers.specs.declared.attribution.AttributionFault.{AttributionFault};
-ghost use Rattle.tftp_transfers.specs.declared.place.Transfer.{Transfer};
-ghost use Rattle.tftp_views.specs.Captured.{Naming, client_capture, client_header, server_capture, server_header};
-ghost use Rattle.tftp_views.specs.Judged.{IsJudgedWith};
-ghost use Rattle.tftp_views.specs.Kept.{IsFed};
+ghost use Rattle.tftp_tap.specs.{AreApart};
+ghost use Rattle.tftp_tap_judge.specs.{TapRefusal};
+ghost use Rattle.tftp_lines.specs.{doubts_of, Placed, Transfer};
+ghost use Rattle.tftp_transfers.specs.{is_about, AttributionFault};
+ghost use Rattle.tftp_views.specs.{Naming, client_capture, client_header, server_capture, server_header, IsJudgedWith, IsFed};
 
 use crate::judges::Judges;
 use crate::judging::Judging;
@@ -24,8 +18,9 @@ use crate::verdicts::Verdicts;
 use std::alloc::Global;
 use std::marker::Model;
 use tftp_between::BetweenView;
-use tftp_ends::Delivered;
-use tftp_transfers::{Attributed, AttributionFault, Transfer, TransferDoubts};
+use tftp_blocks::Delivered;
+use tftp_lines::Transfer;
+use tftp_transfers::{Attributed, AttributionFault, TransferDoubts};
 use tftp_views::{ClientJudge, Party, ServerView};
 
 /// A transfer of a recording: its judges, each at a point where it is judged, and what makes a refusal of it no accusation.

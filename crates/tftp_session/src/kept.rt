@@ -1,14 +1,14 @@
 //! The capture texts that are wanted.
 
 ghost use Rattle.std.specs.Prelude.{◌≤◌, length};
-ghost use Rattle.tftp_capture.specs.CaptureText.{IsPort};
+ghost use Rattle.tftp_capture.specs.{IsPort};
 
-use crate::passing::{Passing, about};
 use crate::plain::put_number;
 use std::alloc::{AllocError, Global};
 use std::collections::BTreeMap;
+use tftp_blame::{Passing, about};
+use tftp_lines::{Place, Transfer};
 use tftp_texts::{Comment, TransferText};
-use tftp_transfers::{Place, Transfer};
 use tftp_views::Party;
 
 /// Of which transfers of a recording the texts are wanted.

@@ -3,34 +3,12 @@
 use std::alloc::{AllocError, Global};
 use std::collections::BTreeMap;
 use std::net::IpAddr;
+use tftp_blame::Span;
+use tftp_lines::{Address, Endpoint};
 use tftp_parties::address_of;
-use tftp_transfers::{Address, Endpoint};
 
 /// The hosts of a frame, where its IP header is there.
 type Hosts = Option<(IpAddr, IpAddr)>;
-
-/// The first and the last one of some frames.
-#[derive(Clone, Copy)]
-pub struct Span {
-    pub first: u64,
-    pub last: u64,
-}
-
-impl Span {
-    /// These frames and one more.
-    fn and(before: Option<Span>, frame: u64) -> Span {
-        match before {
-            Some(span) => Span {
-                first: span.first.min(frame),
-                last: span.last.max(frame),
-            },
-            None => Span {
-                first: frame,
-                last: frame,
-            },
-        }
-    }
-}
 
 /// Frames that may have been datagrams of UDP, or parts of such, and can't be read.
 #[derive(Drop)]

@@ -1,15 +1,15 @@
 //! What is to be told of a recording as a whole.
 
 use crate::losses::Losses;
-use crate::passing::Passing;
 use crate::plain::put_number;
 use std::alloc::{AllocError, Global};
 use std::net::IpAddr;
+use tftp_blame::Passing;
 use tftp_fragments::Fragments;
 use tftp_frames::{FrameFault, UdpFault};
+use tftp_lines::Address;
 use tftp_pcap::PcapFault;
 use tftp_recording::{Event, LeftOut};
-use tftp_transfers::Address;
 
 /// How many frames or ports are named.
 const NAMED: usize = 5;

@@ -1,24 +1,23 @@
 //! A recording, as far as it was read.
 
-ghost use Rattle.tftp_frames.specs.Udp.{IsSound};
+ghost use Rattle.tftp_frames.specs.{IsSound};
 
 use crate::fault::{ReadFault, TextFault};
 use crate::kept::Kept;
-use crate::losses::Span;
 use crate::notes::Notes;
-use crate::passing::{Passing, about};
-use crate::trail::Trail;
 use std::alloc::{AllocError, Global};
 use std::collections::BTreeMap;
 use std::io::Read;
+use tftp_blame::{Passing, Span, Trail, about};
+use tftp_blocks::RingDelivered;
 use tftp_capture::Tallied;
-use tftp_ends::RingDelivered;
+use tftp_lines::{Place, Transfer};
 use tftp_parties::party_of;
 use tftp_pcap::{FaultKind, PcapFault};
 use tftp_recording::{Datagram, Event, Fate, RecordingReader};
 use tftp_recording_audit::{AuditFault, NextFrame, RecordingAudit};
 use tftp_recording_judge::{Judging, Watched};
-use tftp_transfers::{Attributed, AttributionFault, Place, Transfer};
+use tftp_transfers::{Attributed, AttributionFault};
 
 /// What a recording has: its transfers by how many datagrams came before each, and what is to be told of it.
 #[derive(Drop)]

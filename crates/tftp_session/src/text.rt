@@ -4,11 +4,11 @@ use crate::endpoint::shown;
 use crate::fault::TextFault;
 use crate::plain::{put_number, put_plain};
 use crate::session::Session;
-use crate::trail::Trail;
 use std::alloc::{AllocError, Global};
+use tftp_blame::Trail;
+use tftp_lines::Endpoint;
 use tftp_packet::End;
 use tftp_texts::{Comment, TransferText};
-use tftp_transfers::Endpoint;
 
 /// The text of a transfer that is read, and which end it is wanted at: `text.write` writes it, with this heading.
 #[derive(Drop)]

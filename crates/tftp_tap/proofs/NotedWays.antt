@@ -1,10 +1,9 @@
 -- What a set of ways has, by the test of ways.
-use Rattle.std.proofs.Common.{◌≡◌, Bool, true, false, List, rules, cond, refl, sym, ◌∙◌}
-use Rattle.std.specs.Prelude.{◌||◌}
+use Rattle.std.proofs.Common.{◌≡◌, Bool, true, false, List, rules, cond, refl, sym, ◌∙◌, ◌||◌}
 use Rattle.std.specs.Cmp.Rules.{comparing}
 use Rattle.std.specs.List.{list_any}
 use Rattle.std.specs.Ordering.{is_eq}
-use Rattle.tftp_tap.specs.TapPorts.{WayIds, same_way, way_cmp, is_noted}
+use Rattle.tftp_tap.specs.{WayIds, same_way, way_cmp, is_noted}
 
 same_by_order : (one other : WayIds) → is_eq (way_cmp one other) ≡ same_way one other
 same_by_order one other = sym (search (comparing, rules))

@@ -1,17 +1,12 @@
 -- A capture between the ends divides in one way.
 use Rattle.std.proofs.Common.{◌≡◌, ℕ, List, [], ◌∷◌, Any, Some, inl, inr, refl, sym, subst, ap, ◌∙◌}
-use Rattle.tftp_packet.specs.Message.{Message}
-use Rattle.tftp_packet.specs.declared.kinds.End.{End}
-use Rattle.tftp_packet.specs.declared.kinds.End.TheVariants.{Client, Server}
-use Rattle.tftp_ends.specs.Meaning.{Meaning}
-use Rattle.tftp_ends.specs.Machines.{MachinePacket, Req, Oack, Data, Ack, Error, message_of}
-use Rattle.tftp_law.specs.Dress.{says_of}
-use Rattle.tftp_law.specs.Divides.{packet_in, says_some}
+use Rattle.tftp_packet.specs.{Message, End, Client, Server}
+use Rattle.tftp_model.specs.{Meaning, MachinePacket, Req, Oack, Data, Ack, Error, message_of}
+use Rattle.tftp_law.specs.{says_of, packet_in, says_some}
 use Rattle.tftp_law.proofs.Spelled.{spelled_once}
-use Rattle.tftp_law.proofs.Divided.{any_none, any_cases}
-use Rattle.tftp_tap.specs.Tap.{Pass}
-use Rattle.tftp_tap.specs.TapCapture.{PeerId, TapDatagram, TapSides, side_of, AreApart}
-use Rattle.tftp_tap.specs.TapDress.{TapPart, Main, Stray, StrayAnswer, TapPlaced, TapDivision, tapped_of, GoesThere, CarriesPass, AnswersTapStray, HasTapPart, HaveTapParts}
+use Rattle.tftp_law.proofs.Division.Divided.{any_none, any_cases}
+use Rattle.tftp_tap.specs.{Pass, PeerId, TapDatagram, TapSides, side_of, AreApart, TapPart, Main, TapPlaced, TapDivision, tapped_of, GoesThere, CarriesPass, AnswersTapStray, HasTapPart, HaveTapParts}
+use Rattle.tftp_tap.specs.TapDress.{Stray, StrayAnswer}
 
 -- ---- what is told
 

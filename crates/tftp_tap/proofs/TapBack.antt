@@ -1,17 +1,11 @@
 -- What passed may pass where what is kept of it may, and the rest came in time.
-use Rattle.std.proofs.Common.{◌≡◌, ◌⊎◌, ◌↔◌, ℕ, Bool, true, false, List, [], ◌∷◌, Contains, inl, inr, refl, sym, subst, ap, ◌∙◌}
-use Rattle.std.specs.Prelude.{◌&&◌, ◌||◌, not}
+use Rattle.std.proofs.Common.{◌≡◌, ◌⊎◌, ◌↔◌, ℕ, Bool, true, false, List, [], ◌∷◌, Contains, inl, inr, refl, sym, subst, ap, ◌∙◌, ◌&&◌, ◌||◌, not}
 use Rattle.std.specs.List.{list_any}
 use Rattle.std.proofs.lemmas.Bool.{true≢false}
-use Rattle.tftp_packet.specs.declared.kinds.Side.{Side}
-use Rattle.tftp_packet.specs.declared.kinds.Side.TheVariants.{Get, Put}
-use Rattle.tftp_packet.specs.declared.kinds.End.{End}
-use Rattle.tftp_packet.specs.declared.kinds.End.TheVariants.{Client, Server}
-use Rattle.tftp_ends.specs.Meaning.{Meaning}
-use Rattle.tftp_ends.specs.Machines.{MachinePacket, Req, Oack, Data, Ack, Error, HasSent, other_end, receiver_of}
-use Rattle.tftp_ends.specs.OneSide.{is_error, heard, LetsStartOn, MayComeOack, MayComeData, IsOneSided}
-use Rattle.tftp_tap.specs.Tap.{Pass, as_at, MayPass, MayPassEach}
-use Rattle.tftp_tap.specs.TapOrder.{is_left_out, before_error, same_end, is_request, pass_tests, kept_at, IsAnsweredInTime, IsInTime, AreInTime}
+use Rattle.tftp_packet.specs.{Side, Get, Put, End, Client, Server}
+use Rattle.tftp_model.specs.{Meaning, MachinePacket, Req, Oack, Data, Ack, Error, HasSent, is_error, heard, LetsStartOn, MayComeOack, MayComeData, IsOneSided}
+use Rattle.tftp_model.specs.Machines.{other_end, receiver_of}
+use Rattle.tftp_tap.specs.{Pass, as_at, MayPass, MayPassEach, is_left_out, before_error, same_end, is_request, pass_tests, kept_at, IsAnsweredInTime, IsInTime, AreInTime}
 use Rattle.tftp_tap.proofs.Passed.{at_sent, sent_passed}
 use Rattle.tftp_tap.proofs.OneTap.{Has}
 use Rattle.tftp_tap.proofs.AtReceiver.{receiver_is}

@@ -1,24 +1,15 @@
 -- What a list of main datagrams has, by its packets and by what is spelled.
-use Rattle.std.proofs.Common.{◌≡◌, ◌⊎◌, ℕ, Bool, true, false, List, [], ◌∷◌, Contains, Option, Some, None, inl, inr, refl, sym, subst, ap, ◌∙◌}
-use Rattle.std.specs.Prelude.{map}
+use Rattle.std.proofs.Common.{◌≡◌, ◌⊎◌, ℕ, Bool, true, false, List, [], ◌∷◌, Contains, Option, Some, None, inl, inr, refl, sym, subst, ap, ◌∙◌, map}
 use Rattle.std.specs.List.{list_any}
-use Rattle.tftp_packet.specs.Message.{Message, RequestParts}
-use Rattle.tftp_packet.specs.Spelling.{Spells}
-use Rattle.tftp_packet.specs.declared.kinds.End.{End}
-use Rattle.tftp_ends.specs.Meaning.{Meaning, request_of}
-use Rattle.tftp_ends.specs.Machines.{MachinePacket, Req, Oack, Data, Ack, Error, message_of}
-use Rattle.tftp_ends.specs.Ports.{first_of, or_this}
-use Rattle.tftp_ends.proofs.Members.{contains_first, contains_later, contains_cases, contains_none}
-use Rattle.tftp_law.specs.Dress.{says_of}
-use Rattle.tftp_law.specs.Divides.{says_some}
+use Rattle.tftp_packet.specs.{Message, RequestParts, Spells, End}
+use Rattle.tftp_model.specs.{Meaning, request_of, MachinePacket, Req, Oack, Data, Ack, Error, message_of}
+use Rattle.tftp_rules.specs.{first_of, or_this}
+use Rattle.tftp_model.proofs.Members.{contains_first, contains_later, contains_cases, contains_none}
+use Rattle.tftp_law.specs.{says_of, says_some}
 use Rattle.tftp_law.proofs.Spelled.{spelled_once}
-use Rattle.tftp_law.proofs.FirstRequests.{request_same}
-use Rattle.tftp_law.proofs.Divided.{any_first, any_later}
-use Rattle.tftp_tap.specs.Tap.{Pass}
-use Rattle.tftp_tap.specs.TapCapture.{TapDatagram, TapSides}
-use Rattle.tftp_tap.specs.TapOrder.{Tests, before_error}
-use Rattle.tftp_tap.specs.TapRoutes.{tap_tests}
-use Rattle.tftp_tap.specs.TapRules.{FirstTapAsked, Says, HasKind}
+use Rattle.tftp_law.proofs.FirstBroken.FirstRequests.{request_same}
+use Rattle.tftp_law.proofs.Division.Divided.{any_first, any_later}
+use Rattle.tftp_tap.specs.{Pass, TapDatagram, TapSides, Tests, before_error, tap_tests, FirstTapAsked, Says, HasKind}
 use Rattle.tftp_tap.proofs.OneTap.{Has}
 use Rattle.tftp_tap.proofs.OneTapDivision.{some_of}
 use Rattle.tftp_tap.proofs.KeptOf.{is_or_not, before_all, before_less}

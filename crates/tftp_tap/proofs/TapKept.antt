@@ -1,18 +1,11 @@
 -- What is kept of what passed may pass, and the other way round.
-use Rattle.std.proofs.Common.{◌≡◌, ℕ, Bool, true, false, List, [], ◌∷◌, Contains, inl, inr, refl, sym, subst, ap, ◌∙◌}
-use Rattle.std.specs.Prelude.{◌&&◌}
+use Rattle.std.proofs.Common.{◌≡◌, ℕ, Bool, true, false, List, [], ◌∷◌, Contains, inl, inr, refl, sym, subst, ap, ◌∙◌, ◌&&◌}
 use Rattle.std.specs.List.{list_any}
 use Rattle.std.proofs.lemmas.Bool.{true≢false}
-use Rattle.tftp_packet.specs.declared.kinds.Side.{Side}
-use Rattle.tftp_packet.specs.declared.kinds.Side.TheVariants.{Get, Put}
-use Rattle.tftp_packet.specs.declared.kinds.End.{End}
-use Rattle.tftp_packet.specs.declared.kinds.End.TheVariants.{Client, Server}
-use Rattle.tftp_ends.specs.Meaning.{Meaning}
-use Rattle.tftp_ends.specs.Machines.{MachinePacket, Req, Oack, Data, Ack, Error, History, HasSent, HasTaken, other_end, receiver_of}
-use Rattle.tftp_ends.specs.OneSide.{is_error, takes_error, heard, LetsStartOn, LetsAckZeroOn, MayCome, IsOneSided}
-use Rattle.tftp_tap.specs.Tap.{Pass, deed_at, as_at, MayPass, MayPassEach}
-use Rattle.tftp_tap.specs.AtReceiver.{KeepsOrder, KeepsOrderEach}
-use Rattle.tftp_tap.specs.TapOrder.{is_left_out, before_error, same_end, is_request, pass_tests, kept_at}
+use Rattle.tftp_packet.specs.{Side, Get, Put, End, Client, Server}
+use Rattle.tftp_model.specs.{Meaning, MachinePacket, Req, Oack, Data, Ack, Error, History, HasSent, HasTaken, is_error, takes_error, heard, LetsStartOn, LetsAckZeroOn, MayCome, IsOneSided}
+use Rattle.tftp_model.specs.Machines.{other_end, receiver_of}
+use Rattle.tftp_tap.specs.{Pass, deed_at, as_at, MayPass, MayPassEach, KeepsOrder, KeepsOrderEach, is_left_out, before_error, same_end, is_request, pass_tests, kept_at}
 use Rattle.tftp_tap.proofs.Passed.{at_sent, at_took, sent_passed, took_passed}
 use Rattle.tftp_tap.proofs.Ordered.{ack_asked, client_reads}
 use Rattle.tftp_tap.proofs.OneTap.{Has}

@@ -1,21 +1,14 @@
 -- The rules between the ends are the runs that pass there.
-use Rattle.std.proofs.Common.{◌≡◌, ◌↔◌, ℕ, true, List, [], ◌∷◌, inl, inr, refl, sym, subst, ap, ◌∙◌}
-use Rattle.std.specs.Prelude.{map}
+use Rattle.std.proofs.Common.{◌≡◌, ◌↔◌, ℕ, true, List, [], ◌∷◌, inl, inr, refl, sym, subst, ap, ◌∙◌, map}
 use Rattle.std.specs.List.{list_any}
-use Rattle.tftp_packet.specs.Message.{Message, RequestParts}
-use Rattle.tftp_packet.specs.Spelling.{Spells}
-use Rattle.tftp_packet.specs.declared.kinds.Side.TheVariants.{Get}
-use Rattle.tftp_ends.specs.Meaning.{Meaning}
-use Rattle.tftp_ends.specs.Ports.{first_of}
-use Rattle.tftp_law.specs.Dress.{says_of}
-use Rattle.tftp_law.specs.Divides.{says_some}
-use Rattle.tftp_law.proofs.MadeMeaning.{some_accord}
-use Rattle.tftp_law.proofs.FirstRequests.{begins_asked}
-use Rattle.tftp_tap.specs.Tap.{MayPassEach}
-use Rattle.tftp_tap.specs.TapCapture.{TapDatagram, TapSides, AreApart}
-use Rattle.tftp_tap.specs.TapDress.{TapPart, Main, Stray, StrayAnswer, TapDivision, tapped_of, passed_of, HasTapPart, HaveTapParts, IsLawfulBetween}
-use Rattle.tftp_tap.specs.TapRoutes.{asks_in, tap_tests}
-use Rattle.tftp_tap.specs.TapRules.{header_at, FirstTapAsked, BreaksNoTapRule}
+use Rattle.tftp_packet.specs.{Message, RequestParts, Spells, Get}
+use Rattle.tftp_model.specs.{Meaning}
+use Rattle.tftp_rules.specs.{first_of}
+use Rattle.tftp_law.specs.{says_of, says_some}
+use Rattle.tftp_law.proofs.Soundness.MadeMeaning.{some_accord}
+use Rattle.tftp_law.proofs.FirstBroken.FirstRequests.{begins_asked}
+use Rattle.tftp_tap.specs.{MayPassEach, TapDatagram, TapSides, AreApart, TapPart, Main, TapDivision, tapped_of, passed_of, HasTapPart, HaveTapParts, IsLawfulBetween, asks_in, tap_tests, header_at, FirstTapAsked, BreaksNoTapRule}
+use Rattle.tftp_tap.specs.TapDress.{Stray, StrayAnswer}
 use Rattle.tftp_tap.proofs.Replays.{tap_view_is}
 use Rattle.tftp_tap.proofs.KeptOf.{is_or_not, and_true}
 use Rattle.tftp_tap.proofs.TapRouted.{Carried, add_main, mains}

@@ -1,29 +1,18 @@
 -- What breaks no rule between the ends divides; and what its main datagrams break none of.
-use Rattle.std.proofs.Common.{◌≡◌, ◌⊎◌, Bool, true, false, List, [], ◌∷◌, Any, Some, None, Option, inl, inr, refl, sym, subst, ap, ◌∙◌}
-use Rattle.std.specs.Prelude.{map}
+use Rattle.std.proofs.Common.{◌≡◌, ◌⊎◌, Bool, true, false, List, [], ◌∷◌, Any, Some, None, Option, inl, inr, refl, sym, subst, ap, ◌∙◌, map}
 use Rattle.std.specs.List.{list_any}
 use Rattle.std.proofs.lemmas.Bool.{true≢false}
-use Rattle.tftp_packet.specs.Message.{Message, RequestParts}
-use Rattle.tftp_packet.specs.Spelling.{Spells}
-use Rattle.tftp_packet.specs.declared.kinds.Side.{Side}
-use Rattle.tftp_packet.specs.declared.kinds.Side.TheVariants.{Get, Put}
-use Rattle.tftp_packet.specs.declared.kinds.End.{End}
-use Rattle.tftp_packet.specs.declared.kinds.End.TheVariants.{Client, Server}
-use Rattle.tftp_ends.specs.Machines.{MachinePacket, Req, Oack, Data, Ack, Error, sender_of, receiver_of}
-use Rattle.tftp_ends.specs.Ports.{first_of, or_this}
-use Rattle.tftp_law.specs.Divides.{packet_in, says_some}
-use Rattle.tftp_law.specs.Rules.{IsWrongKind}
-use Rattle.tftp_law.specs.declared.rule.Rule.{Rule}
+use Rattle.tftp_packet.specs.{Message, RequestParts, Spells, Side, Get, Put, End, Client, Server}
+use Rattle.tftp_model.specs.Machines.{sender_of, receiver_of}
+use Rattle.tftp_model.specs.{MachinePacket, Req, Oack, Data, Ack, Error}
+use Rattle.tftp_rules.specs.{first_of, or_this}
+use Rattle.tftp_law.specs.{packet_in, says_some, IsWrongKind, Rule}
 use Rattle.tftp_law.specs.declared.rule.Rule.TheVariants as rule
-use Rattle.tftp_law.proofs.FirstRequests.{some_same}
-use Rattle.tftp_law.proofs.SameOrNot.{same_request}
-use Rattle.tftp_law.proofs.Divided.{any_none, any_cases}
-use Rattle.tftp_tap.specs.Tap.{Pass}
-use Rattle.tftp_tap.specs.TapCapture.{TapDatagram, TapSides, side_of, AreApart}
-use Rattle.tftp_tap.specs.TapOrder.{same_end}
-use Rattle.tftp_tap.specs.TapDress.{TapPart, Main, Stray, StrayAnswer, TapPlaced, TapDivision, tapped_of, IsMainFrom, CarriesPass, HasTapPart, HaveTapParts}
-use Rattle.tftp_tap.specs.TapRoutes.{tap_tests, tap_route, is_passing, transfer_between}
-use Rattle.tftp_tap.specs.TapRules.{FirstTapAsked, PassingBreaks, LateBroken, KeptBreaks, TapPasses, BreaksNoTapRule}
+use Rattle.tftp_law.proofs.FirstBroken.FirstRequests.{some_same}
+use Rattle.tftp_law.proofs.Soundness.SameOrNot.{same_request}
+use Rattle.tftp_law.proofs.Division.Divided.{any_none, any_cases}
+use Rattle.tftp_tap.specs.{Pass, TapDatagram, TapSides, side_of, AreApart, same_end, TapPart, Main, TapPlaced, TapDivision, tapped_of, IsMainFrom, CarriesPass, HasTapPart, HaveTapParts, tap_tests, tap_route, is_passing, transfer_between, FirstTapAsked, PassingBreaks, LateBroken, KeptBreaks, TapPasses, BreaksNoTapRule}
+use Rattle.tftp_tap.specs.TapDress.{Stray, StrayAnswer}
 use Rattle.tftp_tap.proofs.KeptOf.{is_or_not, any_here, any_skip, any_more}
 use Rattle.tftp_tap.proofs.TapPlacing.{has_part}
 use Rattle.tftp_tap.proofs.TapRouted.{Carried, add_main, mains, pass_route, route_is, transfer_is}

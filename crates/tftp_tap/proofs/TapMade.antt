@@ -1,36 +1,21 @@
 -- What breaks no rule between the ends is kept as a capture of the receiver that breaks none.
-use Rattle.std.proofs.Common.{◌≡◌, ◌⊎◌, ℕ, Bool, true, false, List, [], ◌∷◌, Contains, Some, inl, inr, refl, sym, subst, ap, ◌∙◌, arith}
-use Rattle.std.specs.Prelude.{◌&&◌, map}
+use Rattle.std.proofs.Common.{◌≡◌, ◌⊎◌, ℕ, Bool, true, false, List, [], ◌∷◌, Contains, Some, inl, inr, refl, sym, subst, ap, ◌∙◌, arith, ◌&&◌, map}
 use Rattle.std.specs.List.{list_any}
 use Rattle.std.proofs.lemmas.Bool.{true≢false, cases_lt}
-use Rattle.tftp_packet.specs.Message.{Message, RequestParts}
-use Rattle.tftp_packet.specs.Spelling.{Spells}
+use Rattle.tftp_packet.specs.{Message, RequestParts, Spells, Side, Get, Put, End, Client, Server}
 use Rattle.tftp_packet.proofs.NoFault.{no_fault}
-use Rattle.tftp_packet.specs.declared.kinds.Side.{Side}
-use Rattle.tftp_packet.specs.declared.kinds.Side.TheVariants.{Get, Put}
-use Rattle.tftp_packet.specs.declared.kinds.End.{End}
-use Rattle.tftp_packet.specs.declared.kinds.End.TheVariants.{Client, Server}
-use Rattle.tftp_ends.specs.CaptureText.{Datagram, Header}
-use Rattle.tftp_ends.specs.Machines.{MachinePacket, Req, Oack, Data, Ack, Error, receiver_of}
-use Rattle.tftp_ends.specs.OneSide.{is_error}
-use Rattle.tftp_ends.specs.Ports.{Route, same_peer, route_of, is_of_transfer, asks}
-use Rattle.tftp_ends.proofs.Members.{contains_first, contains_later}
-use Rattle.tftp_law.specs.Dress.{packet_of}
-use Rattle.tftp_law.specs.Accord.{packet_route}
-use Rattle.tftp_law.specs.Divides.{packet_in, says_some}
-use Rattle.tftp_law.specs.OneEnded.{OneEnded, Passes, IsRead}
-use Rattle.tftp_law.specs.Rules.{Broken}
-use Rattle.tftp_law.specs.declared.rule.Rule.{Rule}
+use Rattle.tftp_hosts.specs.{Datagram, Header}
+use Rattle.tftp_model.specs.Machines.{receiver_of}
+use Rattle.tftp_model.specs.{MachinePacket, Req, Oack, Data, Ack, Error, is_error}
+use Rattle.tftp_rules.specs.{Route, same_peer, route_of, is_of_transfer, asks}
+use Rattle.tftp_model.proofs.Members.{contains_first, contains_later}
+use Rattle.tftp_law.specs.{packet_of, packet_route, packet_in, says_some, OneEnded, Passes, IsRead, Broken, Rule}
 use Rattle.tftp_law.specs.declared.rule.Rule.TheVariants as rule
-use Rattle.tftp_law.proofs.RouteTests.{IsTold}
+use Rattle.tftp_law.proofs.Division.RouteTests.{IsTold}
 use Rattle.tftp_law.proofs.Spelled.{spelled_once}
-use Rattle.tftp_law.proofs.FirstRequests.{some_same}
-use Rattle.tftp_law.proofs.Divided.{any_none, any_cases, any_first, any_later}
-use Rattle.tftp_tap.specs.Tap.{deed_at}
-use Rattle.tftp_tap.specs.TapCapture.{TapDatagram, TapSides, side_of, AreApart}
-use Rattle.tftp_tap.specs.TapOrder.{is_left_out, kept_of, before_error, same_end, is_request}
-use Rattle.tftp_tap.specs.TapRoutes.{tap_tests}
-use Rattle.tftp_tap.specs.TapRules.{recorded_at, header_at, FirstTapAsked, Says, HasKind, IsReply, IsLateBlock, is_of_ports}
+use Rattle.tftp_law.proofs.FirstBroken.FirstRequests.{some_same}
+use Rattle.tftp_law.proofs.Division.Divided.{any_none, any_cases, any_first, any_later}
+use Rattle.tftp_tap.specs.{deed_at, TapDatagram, TapSides, side_of, AreApart, is_left_out, kept_of, before_error, same_end, is_request, tap_tests, recorded_at, header_at, FirstTapAsked, Says, HasKind, IsReply, IsLateBlock, is_of_ports}
 use Rattle.tftp_tap.proofs.KeptOf.{is_or_not, any_here, any_skip, any_of, some_of, before_there, kept_out, kept_in, kept_more, kept_plain, kept_asks}
 use Rattle.tftp_tap.proofs.TapTests.{asks_some}
 use Rattle.tftp_tap.proofs.TapRouted.{Carried}

@@ -1,37 +1,19 @@
 -- The rules of the order in which an end sends are never the first that is broken between the ends.
-use Rattle.std.proofs.Common.{◌≡◌, ◌<◌, Bool, true, false, List, [], ◌∷◌, Contains, inl, inr, refl, sym, subst, ap, ◌∙◌, arith}
-use Rattle.std.specs.Prelude.{◌&&◌, map}
+use Rattle.std.proofs.Common.{◌≡◌, ◌<◌, Bool, true, false, List, [], ◌∷◌, Contains, inl, inr, refl, sym, subst, ap, ◌∙◌, arith, ◌&&◌, map}
 use Rattle.std.specs.List.{list_any}
 use Rattle.std.proofs.lemmas.Bool.{true≢false}
-use Rattle.tftp_packet.specs.Message.{Message, RequestParts}
-use Rattle.tftp_packet.specs.Spelling.{Spells}
-use Rattle.tftp_packet.specs.declared.kinds.Side.{Side}
-use Rattle.tftp_packet.specs.declared.kinds.Side.TheVariants.{Get, Put}
-use Rattle.tftp_packet.specs.declared.kinds.End.{End}
-use Rattle.tftp_packet.specs.declared.kinds.End.TheVariants.{Client, Server}
-use Rattle.tftp_packet.specs.declared.kinds.Dir.TheVariants.{In, Out}
-use Rattle.tftp_ends.specs.CaptureText.{Datagram, Header}
-use Rattle.tftp_ends.specs.Machines.{MachinePacket, Req, Oack, Data, Ack, Error, sender_of, receiver_of}
-use Rattle.tftp_ends.specs.OneSide.{is_error}
-use Rattle.tftp_ends.specs.Ports.{same_peer, asks, transfer_of}
-use Rattle.tftp_packet.specs.OptionMap.{OptionMap}
-use Rattle.tftp_ends.specs.Rules.{IsSender, EndBroken}
-use Rattle.tftp_ends.specs.declared.rule.EndRule.{EndRule}
-use Rattle.tftp_ends.specs.declared.terms.Reply.TheVariants.{NoReply}
-use Rattle.tftp_ends.specs.declared.terms.Terms.{Terms}
-use Rattle.tftp_ends.proofs.Members.{contains_first, contains_later, contains_cases, contains_none}
-use Rattle.tftp_law.specs.Divides.{packet_in, says_some}
-use Rattle.tftp_law.specs.Rules.{number_of, FirstAsked, Answer, Agrees, Begins, AreTerms, plain_terms, terms_after, EndBreaks, IsWrongKind, Broken}
-use Rattle.tftp_law.specs.declared.rule.Rule.{Rule}
+use Rattle.tftp_packet.specs.{Message, RequestParts, Spells, Side, Get, Put, End, Client, Server, OptionMap}
+use Rattle.tftp_hosts.specs.{In, Out, Datagram, Header}
+use Rattle.tftp_model.specs.Machines.{sender_of, receiver_of}
+use Rattle.tftp_model.specs.{MachinePacket, Req, Oack, Data, Ack, Error, is_error}
+use Rattle.tftp_rules.specs.{same_peer, asks, transfer_of, IsSender, EndBroken, EndRule, NoReply, Terms}
+use Rattle.tftp_model.proofs.Members.{contains_first, contains_later, contains_cases, contains_none}
+use Rattle.tftp_law.specs.{packet_in, says_some, number_of, FirstAsked, Answer, Agrees, Begins, AreTerms, plain_terms, terms_after, EndBreaks, IsWrongKind, Broken, Rule}
 use Rattle.tftp_law.specs.declared.rule.Rule.TheVariants as rule
 use Rattle.tftp_law.proofs.Spelled.{spelled_once}
-use Rattle.tftp_law.proofs.FirstRequests.{request_same, some_same}
-use Rattle.tftp_law.proofs.RouteTests.{is_same, same_is}
-use Rattle.tftp_tap.specs.TapCapture.{TapDatagram, TapSides, side_of, AreApart}
-use Rattle.tftp_tap.specs.TapOrder.{is_left_out, kept_of, same_end, is_request}
-use Rattle.tftp_tap.specs.TapRoutes.{asks_in, tap_tests, tap_route, is_passing, transfer_between}
-use Rattle.tftp_tap.specs.TapRules.{recorded_at, header_at, FirstTapAsked, LateBroken, LateBreaks, SidesBreak, PassingBreaks, KeptBreaks, FirstTapBroken, BreaksNoTapRule, IsOfSending}
-use Rattle.tftp_tap.specs.declared.route.TapRoute.{TapRoute}
+use Rattle.tftp_law.proofs.FirstBroken.FirstRequests.{request_same, some_same}
+use Rattle.tftp_law.proofs.Division.RouteTests.{is_same, same_is}
+use Rattle.tftp_tap.specs.{TapDatagram, TapSides, side_of, AreApart, is_left_out, kept_of, same_end, is_request, asks_in, tap_tests, tap_route, is_passing, transfer_between, recorded_at, header_at, FirstTapAsked, LateBroken, LateBreaks, SidesBreak, PassingBreaks, KeptBreaks, FirstTapBroken, BreaksNoTapRule, IsOfSending, TapRoute}
 use Rattle.tftp_tap.proofs.KeptOf.{is_or_not, or_false, any_of, kept_there, kept_asks}
 use Rattle.tftp_tap.proofs.TapTests.{asks_says}
 use Rattle.tftp_tap.proofs.TapRouted.{Carried, mains, transfer_is}

@@ -1,26 +1,14 @@
 -- A capture between the ends shows one transfer, names one first broken rule, and tells its server.
-use Rattle.std.proofs.Common.{◌≡◌, ℕ, Bool, true, false, List, [], ◌∷◌, Contains, Some, inl, inr, refl, sym, subst, ap, ◌∙◌, arith}
-use Rattle.std.specs.Prelude.{◌||◌, not}
+use Rattle.std.proofs.Common.{◌≡◌, ℕ, Bool, true, false, List, [], ◌∷◌, Contains, Some, inl, inr, refl, sym, subst, ap, ◌∙◌, arith, ◌||◌, not}
 use Rattle.std.proofs.lemmas.Bool.{true≢false, cases_lt}
-use Rattle.tftp_packet.specs.Message.{Message}
-use Rattle.tftp_packet.specs.declared.kinds.End.{End}
-use Rattle.tftp_packet.specs.declared.kinds.End.TheVariants.{Client, Server}
-use Rattle.tftp_ends.specs.Meaning.{Meaning}
-use Rattle.tftp_ends.specs.Machines.{MachinePacket, Req, Oack, Data, Ack, Error}
-use Rattle.tftp_ends.specs.OneSide.{is_error}
-use Rattle.tftp_ends.specs.Ports.{same_peer, first_of}
-use Rattle.tftp_ends.proofs.Members.{contains_cases, contains_none}
-use Rattle.tftp_law.specs.Dress.{says_of}
-use Rattle.tftp_law.specs.Divides.{says_some}
-use Rattle.tftp_law.specs.Rules.{number_of}
-use Rattle.tftp_law.specs.declared.rule.Rule.{Rule}
-use Rattle.tftp_law.proofs.RouteTests.{is_same}
-use Rattle.tftp_tap.specs.Seen.{Tapped, AreCarried, IsSeenAtTap, ShowsAtTap}
-use Rattle.tftp_tap.specs.TapCapture.{TapDatagram, TapSides, side_of, AreApart}
-use Rattle.tftp_tap.specs.TapDress.{TapPart, Main, Stray, StrayAnswer, TapDivision, tapped_of, passed_of, GoesThere, HasTapPart, HaveTapParts, IsSeenBetween, ShowsBetween, IsLawfulBetween}
-use Rattle.tftp_tap.specs.TapOrder.{is_request}
-use Rattle.tftp_tap.specs.TapRoutes.{asks_in, ends_in}
-use Rattle.tftp_tap.specs.TapRules.{FirstTapBroken, BreaksNoTapRule, IsTapRefused, goes_on_to, told_server}
+use Rattle.tftp_packet.specs.{Message, End, Client, Server}
+use Rattle.tftp_model.specs.{Meaning, MachinePacket, Req, Oack, Data, Ack, Error, is_error}
+use Rattle.tftp_rules.specs.{same_peer, first_of}
+use Rattle.tftp_model.proofs.Members.{contains_cases, contains_none}
+use Rattle.tftp_law.specs.{says_of, says_some, number_of, Rule}
+use Rattle.tftp_law.proofs.Division.RouteTests.{is_same}
+use Rattle.tftp_tap.specs.{Tapped, AreCarried, IsSeenAtTap, ShowsAtTap, TapDatagram, TapSides, side_of, AreApart, TapPart, Main, TapDivision, tapped_of, passed_of, GoesThere, HasTapPart, HaveTapParts, IsSeenBetween, ShowsBetween, IsLawfulBetween, is_request, asks_in, ends_in, FirstTapBroken, BreaksNoTapRule, IsTapRefused, goes_on_to, told_server}
+use Rattle.tftp_tap.specs.TapDress.{Stray, StrayAnswer}
 use Rattle.tftp_tap.proofs.OneTap.{shown_one}
 use Rattle.tftp_tap.proofs.OneTapDivision.{parts_some, one_division}
 use Rattle.tftp_tap.proofs.KeptOf.{and_true, or_false}

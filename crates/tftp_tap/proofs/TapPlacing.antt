@@ -1,25 +1,16 @@
 -- A datagram that passes between the ends has a part.
-use Rattle.std.proofs.Common.{◌≡◌, ℕ, true, false, List, [], ◌∷◌, Any, inl, inr, refl, sym, subst, ◌∙◌}
-use Rattle.std.specs.Prelude.{◌&&◌, ◌==◌}
+use Rattle.std.proofs.Common.{◌≡◌, ℕ, true, false, List, [], ◌∷◌, Any, inl, inr, refl, sym, subst, ◌∙◌, ◌&&◌, ◌==◌}
 use Rattle.std.proofs.lemmas.Bool.{true≢false, eq-eqb}
-use Rattle.tftp_packet.specs.Message.{Message}
-use Rattle.tftp_packet.specs.Spelling.{Spells}
-use Rattle.tftp_packet.specs.declared.kinds.End.{End}
-use Rattle.tftp_packet.specs.declared.kinds.End.TheVariants.{Client, Server}
-use Rattle.tftp_ends.specs.Machines.{MachinePacket, Req, Oack, Data, Ack, Error}
-use Rattle.tftp_ends.specs.Ports.{same_peer}
-use Rattle.tftp_law.specs.Sides.{BeginsAsRequest}
-use Rattle.tftp_law.specs.Divides.{says_some}
+use Rattle.tftp_packet.specs.{Message, Spells, End, Client, Server}
+use Rattle.tftp_model.specs.{MachinePacket, Req, Oack, Data, Ack, Error}
+use Rattle.tftp_rules.specs.{same_peer}
+use Rattle.tftp_law.specs.{BeginsAsRequest, says_some}
 use Rattle.tftp_law.specs.declared.rule.Rule.TheVariants as rule
-use Rattle.tftp_law.proofs.RouteTests.{same_is, is_same, apart_is}
-use Rattle.tftp_law.proofs.FirstRequests.{begins_asked}
-use Rattle.tftp_law.proofs.Divided.{any_first, any_later}
-use Rattle.tftp_tap.specs.Tap.{Pass}
-use Rattle.tftp_tap.specs.TapCapture.{PeerId, TapDatagram, TapSides, side_of, AreApart}
-use Rattle.tftp_tap.specs.TapDress.{TapPart, Main, Stray, StrayAnswer, TapPlaced, TapDivision, tapped_of, IsMainFrom, GoesThere, HasTapPart, HaveTapParts}
-use Rattle.tftp_tap.specs.TapRoutes.{asks_in, ends_in, has_gone, route_astray, tap_route}
-use Rattle.tftp_tap.specs.TapRules.{IsTapRead, TapPasses}
-use Rattle.tftp_tap.specs.declared.route.TapRoute.{TapRoute}
+use Rattle.tftp_law.proofs.Division.RouteTests.{same_is, is_same, apart_is}
+use Rattle.tftp_law.proofs.FirstBroken.FirstRequests.{begins_asked}
+use Rattle.tftp_law.proofs.Division.Divided.{any_first, any_later}
+use Rattle.tftp_tap.specs.{Pass, PeerId, TapDatagram, TapSides, side_of, AreApart, TapPart, Main, TapPlaced, TapDivision, tapped_of, IsMainFrom, GoesThere, HasTapPart, HaveTapParts, asks_in, ends_in, has_gone, route_astray, tap_route, IsTapRead, TapPasses, TapRoute}
+use Rattle.tftp_tap.specs.TapDress.{Stray, StrayAnswer}
 use Rattle.tftp_tap.proofs.OneTapDivision.{no_stray_side}
 use Rattle.tftp_tap.proofs.KeptOf.{is_or_not, and_true, any_skip}
 use Rattle.tftp_tap.proofs.TapTests.{asks_says, source_is}

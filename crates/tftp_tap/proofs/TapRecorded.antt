@@ -1,28 +1,18 @@
 -- What is kept of a division, as the receiver's capture.
-use Rattle.std.proofs.Common.{◌≡◌, ◌⊎◌, Bool, true, false, List, [], ◌∷◌, Any, inl, inr, refl, sym, subst, ap, ◌∙◌}
-use Rattle.std.specs.Prelude.{map}
+use Rattle.std.proofs.Common.{◌≡◌, ◌⊎◌, Bool, true, false, List, [], ◌∷◌, Any, inl, inr, refl, sym, subst, ap, ◌∙◌, map}
 use Rattle.std.specs.List.{list_any}
 use Rattle.std.proofs.lemmas.Bool.{true≢false}
-use Rattle.tftp_packet.specs.declared.kinds.End.{End}
-use Rattle.tftp_packet.specs.declared.kinds.End.TheVariants.{Client, Server}
-use Rattle.tftp_packet.specs.declared.kinds.Dir.TheVariants.{In, Out}
-use Rattle.tftp_ends.specs.CaptureText.{Datagram, Header, peer_of}
-use Rattle.tftp_ends.specs.Machines.{MachinePacket, Req, Oack, Data, Ack, Error, other_end}
-use Rattle.tftp_ends.specs.Ports.{same_peer}
-use Rattle.tftp_law.specs.Sides.{from_server}
-use Rattle.tftp_law.specs.Dress.{Main, Placed, Division, datagrams_of, view_in, TransferIds, Saying, GoesToServer, Carries, HavePartsBy}
-use Rattle.tftp_law.specs.Accord.{AreRoutedBy, Stands, Starts, request_at, request_back}
-use Rattle.tftp_law.specs.Divides.{says_some}
-use Rattle.tftp_law.proofs.RouteTests.{same_is, IsTold}
-use Rattle.tftp_law.proofs.Routed.{routed_by}
-use Rattle.tftp_law.proofs.Divided.{any_first, any_later}
-use Rattle.tftp_tap.specs.Tap.{Pass, deed_at, as_at}
-use Rattle.tftp_tap.specs.TapCapture.{TapDatagram, TapSides, side_of, AreApart}
-use Rattle.tftp_tap.specs.TapOrder.{Tests, is_left_out, kept_of, same_end, pass_tests}
-use Rattle.tftp_tap.specs.TapDress.{TapPart, TapPlaced, TapDivision, tapped_of, passed_of, GoesThere, CarriesPass, HasTapPart, HaveTapParts}
+use Rattle.tftp_packet.specs.{End, Client, Server}
+use Rattle.tftp_hosts.specs.{In, Out, Datagram, Header, peer_of}
+use Rattle.tftp_model.specs.Machines.{other_end}
+use Rattle.tftp_model.specs.{MachinePacket, Req, Oack, Data, Ack, Error}
+use Rattle.tftp_rules.specs.{same_peer}
+use Rattle.tftp_law.specs.{from_server, Main, Placed, Division, datagrams_of, view_in, TransferIds, Saying, GoesToServer, Carries, HavePartsBy, AreRoutedBy, Stands, Starts, request_at, request_back, says_some}
+use Rattle.tftp_law.proofs.Division.RouteTests.{same_is, IsTold}
+use Rattle.tftp_law.proofs.Division.Routed.{routed_by}
+use Rattle.tftp_law.proofs.Division.Divided.{any_first, any_later}
+use Rattle.tftp_tap.specs.{Pass, deed_at, as_at, TapDatagram, TapSides, side_of, AreApart, Tests, is_left_out, kept_of, same_end, pass_tests, TapPart, TapPlaced, TapDivision, tapped_of, passed_of, GoesThere, CarriesPass, HasTapPart, HaveTapParts, tap_tests, recorded_at}
 use Rattle.tftp_tap.specs.TapDress as tap
-use Rattle.tftp_tap.specs.TapRoutes.{tap_tests}
-use Rattle.tftp_tap.specs.TapRules.{recorded_at}
 use Rattle.tftp_tap.proofs.KeptOf.{is_or_not, kept_out, kept_in, any_skip}
 use Rattle.tftp_tap.proofs.TapTests.{source_is, asks_some, ends_some}
 use Rattle.tftp_tap.proofs.TapRouted.{Carried, add_main, mains}

@@ -1,22 +1,15 @@
 -- The route of a datagram that passed between the ends is that of its part.
-use Rattle.std.proofs.Common.{◌≡◌, true, false, List, [], ◌∷◌, Any, inl, inr, refl, sym, subst, ap, ◌∙◌}
-use Rattle.std.specs.Prelude.{◌&&◌, ◌==◌, map}
+use Rattle.std.proofs.Common.{◌≡◌, true, false, List, [], ◌∷◌, Any, inl, inr, refl, sym, subst, ap, ◌∙◌, ◌&&◌, ◌==◌, map}
 use Rattle.std.proofs.lemmas.Bool.{eqb-true}
-use Rattle.tftp_packet.specs.Message.{Message}
-use Rattle.tftp_packet.specs.declared.kinds.End.{End}
-use Rattle.tftp_packet.specs.declared.kinds.End.TheVariants.{Client, Server}
-use Rattle.tftp_ends.specs.Machines.{MachinePacket, Req, Oack, Data, Ack, Error}
-use Rattle.tftp_ends.specs.Ports.{same_peer}
-use Rattle.tftp_law.specs.Divides.{says_some}
-use Rattle.tftp_law.proofs.RouteTests.{same_is, other_peer}
-use Rattle.tftp_law.proofs.ServerRoutes.{byte_begins}
-use Rattle.tftp_law.proofs.Divided.{any_none, any_cases}
-use Rattle.tftp_tap.specs.Tap.{Pass}
-use Rattle.tftp_tap.specs.TapOrder.{is_request}
-use Rattle.tftp_tap.specs.TapCapture.{PeerId, TapDatagram, TapSides, side_of, AreApart}
-use Rattle.tftp_tap.specs.TapDress.{TapPart, Main, Stray, StrayAnswer, TapPlaced, TapDivision, tapped_of, IsMainFrom, GoesThere, CarriesPass, PassesAstray, AnswersTapStray, HasTapPart, HaveTapParts}
-use Rattle.tftp_tap.specs.TapRoutes.{asks_in, has_gone, tap_route, is_passing, transfer_between}
-use Rattle.tftp_tap.specs.declared.route.TapRoute.{TapRoute}
+use Rattle.tftp_packet.specs.{Message, End, Client, Server}
+use Rattle.tftp_model.specs.{MachinePacket, Req, Oack, Data, Ack, Error}
+use Rattle.tftp_rules.specs.{same_peer}
+use Rattle.tftp_law.specs.{says_some}
+use Rattle.tftp_law.proofs.Division.RouteTests.{same_is, other_peer}
+use Rattle.tftp_law.proofs.Division.ServerRoutes.{byte_begins}
+use Rattle.tftp_law.proofs.Division.Divided.{any_none, any_cases}
+use Rattle.tftp_tap.specs.{Pass, is_request, PeerId, TapDatagram, TapSides, side_of, AreApart, TapPart, Main, TapPlaced, TapDivision, tapped_of, IsMainFrom, GoesThere, CarriesPass, PassesAstray, AnswersTapStray, HasTapPart, HaveTapParts, asks_in, has_gone, tap_route, is_passing, transfer_between, TapRoute}
+use Rattle.tftp_tap.specs.TapDress.{Stray, StrayAnswer}
 use Rattle.tftp_tap.proofs.OneTapDivision.{no_stray_side}
 use Rattle.tftp_tap.proofs.KeptOf.{is_or_not, and_true, any_more}
 use Rattle.tftp_tap.proofs.TapTests.{asks_says, ends_says, asks_some, source_is}

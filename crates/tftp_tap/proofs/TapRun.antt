@@ -1,38 +1,24 @@
 -- What breaks no rule between the ends is what some run shows there.
-use Rattle.std.proofs.Common.{◌≡◌, ◌⊎◌, ℕ, ◌≤◌, Bool, true, false, List, [], ◌∷◌, Any, Contains, Some, inl, inr, refl, sym, subst, ap, ◌∙◌, arith}
-use Rattle.std.specs.Prelude.{◌&&◌, ◌||◌, not, map}
+use Rattle.std.proofs.Common.{◌≡◌, ◌⊎◌, ℕ, ◌≤◌, Bool, true, false, List, [], ◌∷◌, Any, Contains, Some, inl, inr, refl, sym, subst, ap, ◌∙◌, arith, ◌&&◌, ◌||◌, not, map}
 use Rattle.std.specs.List.{list_any}
 use Rattle.std.proofs.lemmas.Bool.{true≢false, cases_lt}
-use Rattle.tftp_packet.specs.OptionMap.{no_options}
-use Rattle.tftp_packet.specs.Message.{Message, RequestParts}
-use Rattle.tftp_packet.specs.Spelling.{Spells}
-use Rattle.tftp_packet.specs.declared.kinds.Side.{Side}
-use Rattle.tftp_packet.specs.declared.kinds.Side.TheVariants.{Get, Put}
-use Rattle.tftp_packet.specs.declared.kinds.End.{End}
-use Rattle.tftp_packet.specs.declared.kinds.End.TheVariants.{Client, Server}
-use Rattle.tftp_ends.specs.Meaning.{Meaning, request_of, SomethingAgreed}
-use Rattle.tftp_ends.specs.Machines.{MachinePacket, Req, Oack, Data, Ack, Error, HasSent, HasTaken, other_end, sender_of, receiver_of, MayAckZeroOn}
-use Rattle.tftp_ends.specs.OneSide.{is_error, heard, LetsAckZeroOn, MayComeError, IsOneSided}
-use Rattle.tftp_ends.proofs.Members.{contains_first, contains_later, contains_cases, contains_none}
-use Rattle.tftp_ends.proofs.Stops.{lawful_tail}
-use Rattle.tftp_law.specs.Dress.{view_in, says_of, packet_of}
-use Rattle.tftp_law.specs.Fits.{Fits}
-use Rattle.tftp_law.specs.Accord.{AreRouted}
-use Rattle.tftp_law.specs.Divides.{packet_in, says_some}
+use Rattle.tftp_packet.specs.{no_options, Message, RequestParts, Spells, Side, Get, Put, End, Client, Server}
+use Rattle.tftp_model.specs.{Meaning, request_of, SomethingAgreed, MachinePacket, Req, Oack, Data, Ack, Error, HasSent, HasTaken, MayAckZeroOn, is_error, heard, LetsAckZeroOn, MayComeError, IsOneSided}
+use Rattle.tftp_model.specs.Machines.{other_end, sender_of, receiver_of}
+use Rattle.tftp_model.proofs.Members.{contains_first, contains_later, contains_cases, contains_none}
+use Rattle.tftp_model.proofs.Stops.{lawful_tail}
+use Rattle.tftp_law.specs.{view_in, says_of, packet_of, Fits, AreRouted, packet_in, says_some}
 use Rattle.tftp_law.specs.declared.rule.Rule.TheVariants as rule
-use Rattle.tftp_law.proofs.MadeMeaning.{some_accord}
-use Rattle.tftp_law.proofs.RulesDivide.{divides}
-use Rattle.tftp_law.proofs.Parted.{parts_of}
-use Rattle.tftp_law.proofs.OneDivision.{run_divides, division_one}
-use Rattle.tftp_law.proofs.Routed.{routed_by}
-use Rattle.tftp_law.proofs.SameOrNot.{same_options, same_text}
+use Rattle.tftp_law.proofs.Soundness.MadeMeaning.{some_accord}
+use Rattle.tftp_law.proofs.Soundness.RulesDivide.{divides}
+use Rattle.tftp_law.proofs.Division.Parted.{parts_of}
+use Rattle.tftp_law.proofs.Division.OneDivision.{run_divides, division_one}
+use Rattle.tftp_law.proofs.Division.Routed.{routed_by}
+use Rattle.tftp_law.proofs.Soundness.SameOrNot.{same_options, same_text}
 use Rattle.tftp_law.proofs.Spelled.{spelled_once}
-use Rattle.tftp_law.proofs.FirstRequests.{some_same, request_same}
-use Rattle.tftp_law.proofs.Divided.{any_first, any_later}
-use Rattle.tftp_tap.specs.Tap.{Pass, deed_at, as_at, MayPassEach}
-use Rattle.tftp_tap.specs.TapCapture.{TapDatagram, TapSides, side_of, AreApart}
-use Rattle.tftp_tap.specs.TapOrder.{is_left_out, kept_of, before_error, same_end, is_request, pass_tests, IsAnsweredInTime, IsInTime, AreInTime}
-use Rattle.tftp_tap.specs.TapRules.{recorded_at, header_at, FirstTapAsked, Says, HasKind, IsBlock, IsSomeBlock, IsOack, IsLateZero}
+use Rattle.tftp_law.proofs.FirstBroken.FirstRequests.{some_same, request_same}
+use Rattle.tftp_law.proofs.Division.Divided.{any_first, any_later}
+use Rattle.tftp_tap.specs.{Pass, deed_at, as_at, MayPassEach, TapDatagram, TapSides, side_of, AreApart, is_left_out, kept_of, before_error, same_end, is_request, pass_tests, IsAnsweredInTime, IsInTime, AreInTime, recorded_at, header_at, FirstTapAsked, Says, HasKind, IsBlock, IsSomeBlock, IsOack, IsLateZero}
 use Rattle.tftp_tap.proofs.Passed.{sent_at, at_sent, took_passed}
 use Rattle.tftp_tap.proofs.AtReceiver.{receiver_is}
 use Rattle.tftp_tap.proofs.OneTap.{Has, pass_moment, begun}

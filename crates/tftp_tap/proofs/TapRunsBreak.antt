@@ -1,38 +1,20 @@
 -- What a run shows between its ends breaks no rule there.
-use Rattle.std.proofs.Common.{◌≡◌, ℕ, zero, suc, true, false, List, [], ◌∷◌, Any, Contains, inl, inr, refl, sym, subst, ap, ◌∙◌, arith}
-use Rattle.std.specs.Prelude.{not, map}
+use Rattle.std.proofs.Common.{◌≡◌, ℕ, zero, suc, true, false, List, [], ◌∷◌, Any, Contains, inl, inr, refl, sym, subst, ap, ◌∙◌, arith, not, map}
 use Rattle.std.specs.List.{list_any}
 use Rattle.std.proofs.lemmas.Bool.{true≢false}
-use Rattle.tftp_packet.specs.Message.{Message, RequestParts}
-use Rattle.tftp_packet.specs.Spelling.{Spells}
+use Rattle.tftp_packet.specs.{Message, RequestParts, Spells, Side, Get, Put, End, Client, Server, no_options}
 use Rattle.tftp_packet.proofs.NoFault.{no_fault}
-use Rattle.tftp_packet.specs.declared.kinds.Side.{Side}
-use Rattle.tftp_packet.specs.declared.kinds.Side.TheVariants.{Get, Put}
-use Rattle.tftp_packet.specs.declared.kinds.End.{End}
-use Rattle.tftp_packet.specs.declared.kinds.End.TheVariants.{Client, Server}
-use Rattle.tftp_ends.specs.Meaning.{Meaning, request_of}
-use Rattle.tftp_ends.specs.Machines.{MachinePacket, Req, Oack, Data, Ack, Error, HasSent, message_of, other_end, sender_of, receiver_of}
-use Rattle.tftp_packet.specs.OptionMap.{no_options}
-use Rattle.tftp_ends.proofs.Members.{contains_first, contains_later}
-use Rattle.tftp_ends.specs.OneSide.{is_error, heard, LetsStartOn, LetsAckZeroOn, IsOneSided}
-use Rattle.tftp_law.specs.Fits.{Fits}
-use Rattle.tftp_law.specs.Dress.{says_of, view_in}
-use Rattle.tftp_law.specs.Divides.{says_some}
-use Rattle.tftp_law.specs.OneEnded.{OneEnded}
-use Rattle.tftp_law.specs.Rules.{IsWrongKind, Broken}
-use Rattle.tftp_law.specs.declared.rule.Rule.{Rule}
+use Rattle.tftp_model.specs.{Meaning, request_of, MachinePacket, Req, Oack, Data, Ack, Error, HasSent, message_of, is_error, heard, LetsStartOn, LetsAckZeroOn, IsOneSided}
+use Rattle.tftp_model.specs.Machines.{other_end, sender_of, receiver_of}
+use Rattle.tftp_model.proofs.Members.{contains_first, contains_later}
+use Rattle.tftp_law.specs.{Fits, says_of, view_in, says_some, OneEnded, IsWrongKind, Broken, Rule}
 use Rattle.tftp_law.specs.declared.rule.Rule.TheVariants as rule
 use Rattle.tftp_law.proofs.Spelled.{spelled_once}
-use Rattle.tftp_law.proofs.Divided.{any_none, any_cases}
-use Rattle.tftp_law.proofs.Routed.{told_of}
-use Rattle.tftp_law.proofs.RunsPass.{ruled}
-use Rattle.tftp_tap.specs.Tap.{Pass, as_at, MayPass, MayPassEach}
-use Rattle.tftp_tap.specs.TapCapture.{TapDatagram, TapSides, side_of, AreApart}
-use Rattle.tftp_tap.specs.TapOrder.{is_left_out, kept_of, before_error, pass_tests, kept_at, IsAnsweredInTime, IsInTime}
-use Rattle.tftp_tap.specs.TapDress.{TapPart, Main, Stray, StrayAnswer, TapPlaced, TapDivision, tapped_of, passed_of, IsSeenBetween, HasTapPart, HaveTapParts}
-use Rattle.tftp_tap.specs.TapRoutes.{tap_tests, tap_route, is_passing, transfer_between}
-use Rattle.tftp_tap.specs.TapRules.{recorded_at, header_at, kept_between, FirstTapAsked, Says, HasKind, IsBlock, IsSomeBlock, IsOack, IsReply, SidesBreak, OtherError, IsLateAck, IsLateZero, IsLateBlock, LateBreaks, LateBroken, PassingBreaks, KeptBreaks, IsTapRead, TapPasses, BreaksNoTapRule}
-use Rattle.tftp_tap.specs.declared.route.TapRoute.{TapRoute}
+use Rattle.tftp_law.proofs.Division.Divided.{any_none, any_cases}
+use Rattle.tftp_law.proofs.Division.Routed.{told_of}
+use Rattle.tftp_law.proofs.Completeness.RunsPass.{ruled}
+use Rattle.tftp_tap.specs.{Pass, as_at, MayPass, MayPassEach, TapDatagram, TapSides, side_of, AreApart, is_left_out, kept_of, before_error, pass_tests, kept_at, IsAnsweredInTime, IsInTime, TapPart, Main, TapPlaced, TapDivision, tapped_of, passed_of, IsSeenBetween, HasTapPart, HaveTapParts, tap_tests, tap_route, is_passing, transfer_between, recorded_at, header_at, kept_between, FirstTapAsked, Says, HasKind, IsBlock, IsSomeBlock, IsOack, IsReply, SidesBreak, OtherError, IsLateAck, IsLateZero, IsLateBlock, LateBreaks, LateBroken, PassingBreaks, KeptBreaks, IsTapRead, TapPasses, BreaksNoTapRule, TapRoute}
+use Rattle.tftp_tap.specs.TapDress.{Stray, StrayAnswer}
 use Rattle.tftp_tap.proofs.Replays.{tap_view_is}
 use Rattle.tftp_tap.proofs.Passed.{sent_passed, at_took}
 use Rattle.tftp_tap.proofs.OneTap.{Has, begun}

@@ -1,21 +1,11 @@
 -- What a payload begins as, and what a packet is; the sides of an end.
 use Rattle.std.proofs.Common.{◌≡◌, ℕ, Bool, true, false, List, ◌∷◌, Some, refl, sym, subst, ap, ◌∙◌}
-use Rattle.tftp_packet.specs.Message.{Message, RequestParts}
-use Rattle.tftp_packet.specs.Spelling.{Spells, side_opcode}
-use Rattle.tftp_packet.specs.declared.kinds.Side.{Side}
-use Rattle.tftp_packet.specs.declared.kinds.Side.TheVariants.{Get, Put}
-use Rattle.tftp_packet.specs.declared.kinds.End.{End}
-use Rattle.tftp_packet.specs.declared.kinds.End.TheVariants.{Client, Server}
-use Rattle.tftp_ends.specs.Machines.{MachinePacket, Req, Oack, Data, Ack, Error}
-use Rattle.tftp_ends.specs.OneSide.{is_error}
-use Rattle.tftp_ends.specs.Ports.{same_peer}
-use Rattle.tftp_law.specs.Divides.{packet_in, says_some}
-use Rattle.tftp_law.proofs.RouteTests.{request_begins, same_is, other_peer}
-use Rattle.tftp_tap.specs.Tap.{Pass}
-use Rattle.tftp_tap.specs.TapCapture.{TapDatagram, TapSides, side_of, AreApart}
-use Rattle.tftp_tap.specs.TapOrder.{same_end, is_request, pass_tests}
-use Rattle.tftp_tap.specs.TapRoutes.{asks_in, ends_in, tap_tests}
-use Rattle.tftp_tap.specs.TapDress.{TapDivision, CarriesPass}
+use Rattle.tftp_packet.specs.{Message, RequestParts, Spells, side_opcode, Side, Get, Put, End, Client, Server}
+use Rattle.tftp_model.specs.{MachinePacket, Req, Oack, Data, Ack, Error, is_error}
+use Rattle.tftp_rules.specs.{same_peer}
+use Rattle.tftp_law.specs.{packet_in, says_some}
+use Rattle.tftp_law.proofs.Division.RouteTests.{request_begins, same_is, other_peer}
+use Rattle.tftp_tap.specs.{Pass, TapDatagram, TapSides, side_of, AreApart, same_end, is_request, pass_tests, asks_in, ends_in, tap_tests, TapDivision, CarriesPass}
 
 abbrev pub asks_message : Message → Bool
 asks_message (Message.Request asked) = true

@@ -3,35 +3,23 @@ use Rattle.std.proofs.Common.{◌≡◌, ℕ, ◌≤◌, ◌<◌, true, [], ◌�
 use Rattle.std.proofs.lemmas.Bool.{true≢false}
 use Rattle.std.specs.FinMap as map
 use Rattle.std.specs.Cmp.Lexicographic.{nat_list_cmp_total}
-use Rattle.tftp_packet.specs.OptionMap.{Num}
-use Rattle.tftp_packet.specs.Message.{Message}
-use Rattle.tftp_packet.specs.Spelling.{Spells, IsPair}
-use Rattle.tftp_packet.specs.declared.kinds.End.TheVariants.{Client, Server}
-use Rattle.tftp_ends.specs.Meaning.{number_or, request_of, blksize_of, windowsize_of}
-use Rattle.tftp_ends.specs.Blocks.{block, block_count}
-use Rattle.tftp_ends.specs.Machines.{Sent, Took, Req, Oack, Data, Ack, HasSent}
-use Rattle.tftp_ends.specs.Runs.{IsRun, IsView}
-use Rattle.tftp_ends.specs.Worked.{two_bytes, two_bytes_view, ten_bytes, ten_bytes_view}
-use Rattle.tftp_ends.specs.WorkedWindows.{eight_by_four, window_repeated, window_repeated_steps}
-use Rattle.tftp_ends.proofs.Members.{contains_first, contains_cases, contains_none}
-use Rattle.tftp_ends.proofs.OneSided.{view_one_sided}
-use Rattle.tftp_ends.proofs.Worked.{two_bytes_is_view}
-use Rattle.tftp_ends.proofs.WorkedMore.{ten_bytes_is_view}
-use Rattle.tftp_ends.proofs.WorkedWindows.{eight_of_both, four_of_both, has_some}
-use Rattle.tftp_ends.proofs.Computed.{IsPlan, run_is}
-use Rattle.tftp_law.specs.Dress.{says_of}
-use Rattle.tftp_law.proofs.NothingAgreed.{two_bytes_fit}
-use Rattle.tftp_law.proofs.Divided.{any_first, any_later}
-use Rattle.tftp_tap.specs.Tap.{as_at, tapped_at, IsTapView}
-use Rattle.tftp_tap.specs.TapCapture.{PeerId, side_of, AreApart}
-use Rattle.tftp_tap.specs.TapDress.{Main, Stray, StrayAnswer, TapPlaced, TapDivision, IsMainFrom, HaveTapParts, IsSeenBetween, ShowsBetween}
-use Rattle.tftp_tap.specs.WorkedTap.{client_side, other_side, worked_sides, request_passes, hi_passes, stray_passes, answer_passes, ack_passes, read_between, block_passes_late, both_pass_late, block_passes_early, ack_of_nothing}
+use Rattle.tftp_packet.specs.{Num, Message, Spells, IsPair, Client, Server, End}
+use Rattle.tftp_model.specs.{number_or, request_of, blksize_of, windowsize_of, block, block_count, Sent, Took, Req, Oack, Data, Ack, HasSent, IsRun, IsView, two_bytes, two_bytes_view, ten_bytes, ten_bytes_view, eight_by_four, window_repeated, window_repeated_steps}
+use Rattle.tftp_model.proofs.Members.{contains_first, contains_cases, contains_none}
+use Rattle.tftp_model.proofs.OneSided.{view_one_sided}
+use Rattle.tftp_model.proofs.Worked.{two_bytes_is_view}
+use Rattle.tftp_model.proofs.WorkedMore.{ten_bytes_is_view}
+use Rattle.tftp_model.proofs.WorkedWindows.{eight_of_both, four_of_both, has_some}
+use Rattle.tftp_model.proofs.Computed.{IsPlan, run_is}
+use Rattle.tftp_law.specs.{says_of, BeginsAsRequest}
+use Rattle.tftp_law.proofs.Whole.NothingAgreed.{two_bytes_fit}
+use Rattle.tftp_law.proofs.Division.Divided.{any_first, any_later}
+use Rattle.tftp_tap.specs.{as_at, tapped_at, IsTapView, PeerId, side_of, AreApart, Main, TapPlaced, TapDivision, IsMainFrom, HaveTapParts, IsSeenBetween, ShowsBetween, client_side, other_side, worked_sides, hi_passes, stray_passes, answer_passes, ack_passes, read_between, block_passes_late, both_pass_late, block_passes_early, ack_of_nothing, BreaksNoTapRule}
+use Rattle.tftp_tap.specs.TapDress.{Stray, StrayAnswer}
+use Rattle.tftp_tap.specs.WorkedTap.{request_passes}
 use Rattle.tftp_tap.proofs.Beside.{view_is_tapped}
 use Rattle.tftp_tap.proofs.TapRunsBreak.{runs_break_none}
-use Rattle.tftp_tap.specs.TapRules.{BreaksNoTapRule}
-use Rattle.tftp_law.specs.Sides.{BeginsAsRequest}
-use Rattle.tftp_packet.specs.declared.kinds.End.{End}
-use Rattle.tftp_ends.proofs.Defaults.{default_blksize}
+use Rattle.tftp_model.proofs.Defaults.{default_blksize}
 use Rattle.tftp_tap.proofs.Apart.{earlier_passed}
 use Rattle.tftp_tap.proofs.Wholes.{passes_again}
 use Rattle.tftp_tap.proofs.Projects.{view_may_pass}

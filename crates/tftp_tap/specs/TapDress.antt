@@ -1,15 +1,9 @@
 -- How the datagrams of a capture between the ends carry what passed there (RFC 1350, sections 4 and 5). Lists have the
 -- newest first.
 use Rattle.std.specs.Prelude.{◌≡◌, ℕ, List, [], ◌∷◌, map, filter_map, Any, Option, Some, None}
-use Rattle.tftp_packet.specs.Message.{Message}
-use Rattle.tftp_packet.specs.Spelling.{Spells}
-use Rattle.tftp_packet.specs.declared.kinds.End.{End}
-use Rattle.tftp_packet.specs.declared.kinds.End.TheVariants.{Client, Server}
-use Rattle.tftp_ends.specs.Meaning.{Meaning}
-use Rattle.tftp_ends.specs.Machines.{MachinePacket, Req}
-use Rattle.tftp_law.specs.Sides.{BeginsAsRequest}
-use Rattle.tftp_law.specs.Fits.{Fits}
-use Rattle.tftp_law.specs.Dress.{Saying, says_of}
+use Rattle.tftp_packet.specs.{Message, Spells, End, Client, Server}
+use Rattle.tftp_model.specs.{Meaning, MachinePacket, Req}
+use Rattle.tftp_law.specs.{BeginsAsRequest, Fits, Saying, says_of}
 use Rattle.tftp_tap.specs.Tap.{Pass, IsTapView, IsWholeAtTap}
 use Rattle.tftp_tap.specs.TapCapture.{TapDatagram, TapSides, side_of}
 

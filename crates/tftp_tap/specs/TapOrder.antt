@@ -2,13 +2,8 @@
 -- first.
 use Rattle.std.specs.Prelude.{◌≡◌, ◌⊎◌, ◌&&◌, ◌||◌, not, ℕ, Bool, true, false, List, [], ◌∷◌, Contains, if◌then◌else◌}
 use Rattle.std.specs.List.{list_any}
-use Rattle.tftp_packet.specs.declared.kinds.End.{End}
-use Rattle.tftp_packet.specs.declared.kinds.End.TheVariants.{Client, Server}
-use Rattle.tftp_packet.specs.declared.kinds.Side.{Side}
-use Rattle.tftp_packet.specs.declared.kinds.Side.TheVariants.{Get, Put}
-use Rattle.tftp_ends.specs.Meaning.{Meaning}
-use Rattle.tftp_ends.specs.Machines.{MachinePacket, Req, Oack, Data, Ack, Error}
-use Rattle.tftp_ends.specs.OneSide.{is_error}
+use Rattle.tftp_packet.specs.{End, Client, Server, Side, Get, Put}
+use Rattle.tftp_model.specs.{Meaning, MachinePacket, Req, Oack, Data, Ack, Error, is_error}
 use Rattle.tftp_tap.specs.Tap.{Pass, MayPass}
 
 -- what is asked of one that passed: whether it is the client's request, whether the server's, and whose ERROR it is

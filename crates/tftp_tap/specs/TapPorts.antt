@@ -4,8 +4,8 @@ use Rattle.std.specs.Prelude.{◌≡◌, ◌&&◌, Bool, List}
 use Rattle.std.specs.List.{list_any}
 use Rattle.std.specs.declared.cmp.Ordering.{Ordering}
 use Rattle.std.specs.Ordering.{on, then_cmp}
-use Rattle.tftp_ends.specs.Ports.{same_peer}
-use Rattle.tftp_ends.specs.KnownIds.{peer_cmp}
+use Rattle.tftp_rules.specs.{same_peer}
+use Rattle.tftp_ends.specs.{peer_cmp}
 use Rattle.tftp_tap.specs.TapCapture.{PeerId, TapDatagram, TapSides}
 use Rattle.tftp_tap.specs.TapRoutes.{has_gone}
 

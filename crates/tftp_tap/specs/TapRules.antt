@@ -2,19 +2,11 @@
 -- that have passed, `passed` those of the transfer, the newest first.
 use Rattle.std.specs.Prelude.{◌≡◌, ◌≢◌, ◌⊎◌, ℕ, ◌<◌, ◌≤◌, ◌&&◌, ◌||◌, not, Bool, true, false, List, [], ◌∷◌, map, Any, Option, Some, None, option_map, if◌then◌else◌}
 use Rattle.std.specs.List.{list_any}
-use Rattle.tftp_packet.specs.Message.{Message, RequestParts}
-use Rattle.tftp_packet.specs.Spelling.{Spells}
-use Rattle.tftp_packet.specs.Faults.{FirstFault}
-use Rattle.tftp_packet.specs.declared.kinds.Side.{Side}
-use Rattle.tftp_packet.specs.declared.kinds.Side.TheVariants.{Get, Put}
-use Rattle.tftp_packet.specs.declared.kinds.End.{End}
-use Rattle.tftp_packet.specs.declared.kinds.End.TheVariants.{Client, Server}
-use Rattle.tftp_packet.specs.declared.kinds.Dir.TheVariants.{In, Out}
-use Rattle.tftp_ends.specs.CaptureText.{Datagram, Header}
-use Rattle.tftp_ends.specs.Roles.{receiver_of}
-use Rattle.tftp_ends.specs.Ports.{same_peer, first_of}
-use Rattle.tftp_law.specs.Rules.{Broken, IsWrongKind, number_of}
-use Rattle.tftp_law.specs.declared.rule.Rule.{Rule}
+use Rattle.tftp_packet.specs.{Message, RequestParts, Spells, FirstFault, Side, Get, Put, End, Client, Server}
+use Rattle.tftp_hosts.specs.{In, Out, Datagram, Header}
+use Rattle.tftp_model.specs.Roles.{receiver_of}
+use Rattle.tftp_rules.specs.{same_peer, first_of}
+use Rattle.tftp_law.specs.{Broken, IsWrongKind, number_of, Rule}
 use Rattle.tftp_law.specs.declared.rule.Rule.TheVariants as rule
 use Rattle.tftp_tap.specs.TapCapture.{PeerId, TapDatagram, TapSides, side_of}
 use Rattle.tftp_tap.specs.TapOrder.{is_left_out, kept_of, before_error}

@@ -1,5 +1,5 @@
 ghost use Rattle.std.specs.Prelude.{◌≡◌, ℕ, List, [], ◌∷◌, false, OnOk, OnErr};
-ghost use Rattle.tftp_packet.specs.Faults.{opcode_of};
+ghost use Rattle.tftp_packet.specs.{opcode_of};
 ghost use Rattle.tftp_tap.specs.TapCapture.{TapDatagram, TapSides};
 ghost use Rattle.tftp_tap.specs.TapRoutes.{has_gone, tap_route};
 ghost use Rattle.tftp_tap.specs.TapPorts.{StandsForTap};

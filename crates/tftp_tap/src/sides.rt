@@ -1,12 +1,12 @@
 ghost use Rattle.std.specs.Prelude.{◌≡◌, ℕ, List};
-ghost use Rattle.tftp_packet.specs.Faults.{opcode_of};
+ghost use Rattle.tftp_packet.specs.{opcode_of};
 ghost use Rattle.tftp_tap.specs.TapCapture.{TapDatagram};
 ghost use Rattle.tftp_tap.specs.TapRoutes.{asks_in, ends_in, has_gone, route_astray, route_from_client, route_from_server, route_from_elsewhere, tap_route};
 
 use crate::route::TapRoute;
 use std::cmp::Ordering;
 use std::marker::Model;
-use tftp_packet::Host;
+use tftp_hosts::Host;
 
 /// One side of a datagram: a host, and a port there (RFC 1350, section 4).
 #[derive(Clone, Copy)]
@@ -30,7 +30,7 @@ impl Model for Endpoint {
 impl PartialEq for Endpoint {
     ghost use Rattle.std.proofs.Common.{rules};
     ghost use Rattle.std.specs.Cmp.Rules.{comparing};
-    ghost use Rattle.tftp_ends.specs.Ports.{same_peer};
+    ghost use Rattle.tftp_rules.specs.Ports.{same_peer};
 
     ghost eq = { same_peer };
 
@@ -53,7 +53,7 @@ impl PartialOrd for Endpoint {
     ghost use Rattle.std.proofs.Common.{rules};
     ghost use Rattle.std.specs.Cmp.Rules.{comparing};
     ghost use Rattle.std.specs.Ordering.{as_partial_cmp};
-    ghost use Rattle.tftp_ends.specs.KnownIds.{peer_cmp};
+    ghost use Rattle.tftp_ends.specs.Known.{peer_cmp};
 
     ghost partial_cmp = { as_partial_cmp peer_cmp };
 
@@ -68,7 +68,7 @@ impl PartialOrd for Endpoint {
 impl Ord for Endpoint {
     ghost use Rattle.std.proofs.Common.{rules};
     ghost use Rattle.std.specs.Cmp.Rules.{comparing};
-    ghost use Rattle.tftp_ends.specs.KnownIds.{peer_cmp};
+    ghost use Rattle.tftp_ends.specs.Known.{peer_cmp};
 
     ghost cmp = { peer_cmp };
 

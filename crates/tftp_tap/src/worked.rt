@@ -1,10 +1,8 @@
 //! Worked cases of the law at a tap, proved from its definitions. Each is the contract of a function that does nothing.
 
 ghost use Rattle.std.specs.Prelude.{◌≡◌};
-ghost use Rattle.tftp_packet.specs.declared.kinds.End.TheVariants.{Client, Server};
-ghost use Rattle.tftp_ends.specs.Runs.{IsView};
-ghost use Rattle.tftp_ends.specs.Worked.{two_bytes, ten_bytes};
-ghost use Rattle.tftp_ends.specs.WorkedWindows.{window_repeated};
+ghost use Rattle.tftp_packet.specs.{Client, Server};
+ghost use Rattle.tftp_model.specs.{IsView, two_bytes, ten_bytes, window_repeated};
 ghost use Rattle.tftp_tap.specs.Tap.{IsTapView, as_at};
 ghost use Rattle.tftp_tap.specs.TapDress.{ShowsBetween, IsLawfulBetween};
 ghost use Rattle.tftp_tap.specs.TapRules.{BreaksNoTapRule};

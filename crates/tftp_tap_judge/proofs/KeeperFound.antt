@@ -1,35 +1,22 @@
 -- What is found of a datagram between the ends by where it belongs, and what is kept of it.
-use Rattle.std.proofs.Common.{◌≡◌, ◌⊎◌, ◌<◌, ℕ, Bool, true, false, List, [], ◌∷◌, Option, Some, None, Result, Ok, Err, inl, inr, refl, sym, subst, ap, ◌∙◌, arith}
-use Rattle.std.specs.Prelude.{◌&&◌, ◌==◌, map, IfErr, IfOk, IsErrAnd}
+use Rattle.std.proofs.Common.{◌≡◌, ◌⊎◌, ◌<◌, ℕ, Bool, true, false, List, [], ◌∷◌, Option, Some, None, Result, Ok, Err, inl, inr, refl, sym, subst, ap, ◌∙◌, arith, ◌&&◌, ◌==◌, map, IfErr, IfOk, IsErrAnd}
 use Rattle.std.specs.List.{list_any}
 use Rattle.std.proofs.lemmas.Bool.{true≢false}
-use Rattle.tftp_packet.specs.Message.{Message, RequestParts}
-use Rattle.tftp_packet.specs.Spelling.{Spells}
-use Rattle.tftp_packet.specs.Faults.{FirstFault}
+use Rattle.tftp_packet.specs.{Message, RequestParts, Spells, FirstFault, PacketFault, Client, Server}
 use Rattle.tftp_packet.proofs.NoFault.{no_fault}
-use Rattle.tftp_packet.specs.declared.fault.PacketFault.{PacketFault}
-use Rattle.tftp_packet.specs.declared.kinds.End.TheVariants.{Client, Server}
-use Rattle.tftp_ends.specs.Ports.{first_of, same_peer}
-use Rattle.tftp_judge.specs.Finds.{NoneBreaks}
-use Rattle.tftp_law.specs.OneEnded.{OneEnded, Passes}
-use Rattle.tftp_law.specs.Rules.{number_of}
-use Rattle.tftp_law.specs.declared.rule.Rule.{Rule}
+use Rattle.tftp_rules.specs.{first_of, same_peer}
+use Rattle.tftp_judge.specs.{NoneBreaks}
+use Rattle.tftp_law.specs.{OneEnded, Passes, number_of, Rule}
 use Rattle.tftp_law.specs.declared.rule.Rule.TheVariants as rule
-use Rattle.tftp_law.proofs.RouteTests.{is_same, same_is}
-use Rattle.tftp_law.proofs.Divided.{any_none}
-use Rattle.tftp_ends.specs.Roles.{receiver_of}
-use Rattle.tftp_tap.specs.TapCapture.{TapDatagram, TapSides, AreApart}
-use Rattle.tftp_tap.specs.TapOrder.{kept_of}
-use Rattle.tftp_tap.specs.TapRoutes.{asks_in, ends_in, has_gone, is_passing, tap_route, tap_tests, transfer_between}
-use Rattle.tftp_tap.specs.TapRules.{BreaksNoTapRule, FirstTapAsked, FirstTapBroken, IsTapRead, KeptBreaks, LateBroken, PassingBreaks, SidesBreak, TapBroken, TapPasses, header_at, kept_between, recorded_at}
-use Rattle.tftp_tap.specs.declared.route.TapRoute.{TapRoute}
+use Rattle.tftp_law.proofs.Division.RouteTests.{is_same, same_is}
+use Rattle.tftp_law.proofs.Division.Divided.{any_none}
+use Rattle.tftp_model.specs.Roles.{receiver_of}
+use Rattle.tftp_tap.specs.{TapDatagram, TapSides, AreApart, kept_of, asks_in, ends_in, has_gone, is_passing, tap_route, tap_tests, transfer_between, BreaksNoTapRule, FirstTapAsked, FirstTapBroken, IsTapRead, KeptBreaks, LateBroken, PassingBreaks, SidesBreak, TapBroken, TapPasses, header_at, kept_between, recorded_at, TapRoute}
 use Rattle.tftp_tap.specs.declared.route.TapRoute.TheVariants as route
 use Rattle.tftp_tap.proofs.KeptOf.{and_true, any_skip, is_or_not, kept_in}
 use Rattle.tftp_tap.proofs.TapTests.{source_is}
-use Rattle.tftp_tap_judge.specs.TapKept.{IsKeptAtTap, IsTapTransfer, TapTransfer}
-use Rattle.tftp_tap_judge.specs.TapStops.{BeginsAtTap, FindsAtTap, FindsTo, IsNoRequest, IsReadUnless, ReceiverBreaks, TransferBreaks}
-use Rattle.tftp_tap_judge.specs.declared.stop.Stop.{Stop}
-use Rattle.tftp_tap_judge.specs.declared.stop.Stop.TheVariants.{Breaks, Memory}
+use Rattle.tftp_tap_judge.specs.{IsKeptAtTap, IsTapTransfer, TapTransfer, BeginsAtTap, FindsAtTap, FindsTo, IsNoRequest, IsReadUnless, ReceiverBreaks, TransferBreaks, Stop, Breaks}
+use Rattle.tftp_tap_judge.specs.declared.stop.Stop.TheVariants.{Memory}
 use Rattle.tftp_tap_judge.proofs.KeptLawful.{kept_lawful}
 use Rattle.tftp_tap_judge.proofs.Receivings.{kept_alone}
 use Rattle.tftp_tap_judge.proofs.TransferFound.{asked_first, asked_stays}

@@ -1,14 +1,9 @@
 -- What the end that gets the file would keep of a lawful capture between the ends is lawful there.
-use Rattle.std.proofs.Common.{◌≡◌, List, inr, sym, subst, ap, ◌∙◌}
-use Rattle.std.specs.Prelude.{map}
-use Rattle.tftp_packet.specs.Message.{RequestParts}
-use Rattle.tftp_ends.specs.Roles.{receiver_of}
-use Rattle.tftp_law.specs.Divides.{says_some}
-use Rattle.tftp_law.specs.OneEnded.{OneEnded}
-use Rattle.tftp_tap.specs.TapCapture.{TapDatagram, TapSides, AreApart}
-use Rattle.tftp_tap.specs.TapOrder.{kept_of}
-use Rattle.tftp_tap.specs.TapRoutes.{tap_tests, transfer_between}
-use Rattle.tftp_tap.specs.TapRules.{BreaksNoTapRule, FirstTapAsked, header_at, kept_between, recorded_at}
+use Rattle.std.proofs.Common.{◌≡◌, List, inr, sym, subst, ap, ◌∙◌, map}
+use Rattle.tftp_packet.specs.{RequestParts}
+use Rattle.tftp_model.specs.Roles.{receiver_of}
+use Rattle.tftp_law.specs.{says_some, OneEnded}
+use Rattle.tftp_tap.specs.{TapDatagram, TapSides, AreApart, kept_of, tap_tests, transfer_between, BreaksNoTapRule, FirstTapAsked, header_at, kept_between, recorded_at}
 use Rattle.tftp_tap.proofs.TapRouted.{Carried, mains, transfer_is}
 use Rattle.tftp_tap.proofs.TapRecorded.{datagram_in, datagrams_each, kept_map, mains_carried, pair_tests}
 use Rattle.tftp_tap.proofs.TapLawful.{mains_lawful, parted, rights}

@@ -1,20 +1,11 @@
 -- What a message breaks by itself, by its kind.
 use Rattle.std.proofs.Common.{◌≡◌, ◌⊎◌, ℕ, ◌+◌, ◌<◌, ◌≤◌, List, Option, Some, None, inl, inr, refl, sym, subst, arith}
-use Rattle.tftp_packet.specs.Message.{Message, RequestParts}
-use Rattle.tftp_packet.specs.declared.kinds.Side.{Side}
-use Rattle.tftp_packet.specs.declared.kinds.End.{End}
-use Rattle.tftp_packet.specs.declared.kinds.End.TheVariants.{Client, Server}
-use Rattle.tftp_ends.specs.Roles.{receiver_of}
-use Rattle.tftp_law.specs.Rules.{IsWrongKind, number_of}
-use Rattle.tftp_law.specs.declared.rule.Rule.{Rule}
+use Rattle.tftp_packet.specs.{Message, RequestParts, Side, End, Client, Server}
+use Rattle.tftp_model.specs.Roles.{receiver_of}
+use Rattle.tftp_law.specs.{IsWrongKind, number_of, Rule}
 use Rattle.tftp_law.specs.declared.rule.Rule.TheVariants as rule
-use Rattle.tftp_tap.specs.TapCapture.{TapDatagram, TapSides}
-use Rattle.tftp_tap.specs.TapOrder.{before_error}
-use Rattle.tftp_tap.specs.TapRoutes.{tap_tests}
-use Rattle.tftp_tap.specs.TapRules.{LateBreaks, IsLateAck, IsLateZero, IsLateBlock}
-use Rattle.tftp_tap_judge.specs.declared.seen.Marks.{Marks}
-use Rattle.tftp_tap_judge.specs.TapSeen.{AreMarks}
-use Rattle.tftp_tap_judge.specs.TapFinds.{FindsRule, IsOtherError, IsOtherRequest, MessageBreaks}
+use Rattle.tftp_tap.specs.{TapDatagram, TapSides, before_error, tap_tests, LateBreaks, IsLateAck, IsLateZero, IsLateBlock}
+use Rattle.tftp_tap_judge.specs.{Marks, AreMarks, FindsRule, IsOtherError, IsOtherRequest, MessageBreaks}
 
 module _ (s : TapSides) (side : Side) (passed : List TapDatagram) where
   late_data : (k : ℕ) (bytes : List ℕ) (r : Rule) → LateBreaks s side passed (Message.Data k bytes) r → (r ≡ rule.NotStarted) × IsLateBlock s side passed

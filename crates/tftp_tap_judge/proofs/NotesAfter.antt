@@ -1,26 +1,16 @@
 -- What is kept of ERRORs, after one more datagram.
-use Rattle.std.proofs.Common.{◌≡◌, ◌⊎◌, ℕ, Bool, true, false, List, ◌∷◌, Option, Some, None, inl, inr, refl, sym, subst, ap, ◌∙◌}
-use Rattle.std.specs.Prelude.{◌&&◌, Result, Ok, Err, OnOk, OnErr}
+use Rattle.std.proofs.Common.{◌≡◌, ◌⊎◌, ℕ, Bool, true, false, List, ◌∷◌, Option, Some, None, inl, inr, refl, sym, subst, ap, ◌∙◌, ◌&&◌, Result, Ok, Err, OnOk, OnErr}
 use Rattle.std.proofs.lemmas.Bool.{true≢false, cases_eq}
-use Rattle.tftp_packet.specs.Message.{Message}
-use Rattle.tftp_packet.specs.Spelling.{Spells}
-use Rattle.tftp_packet.specs.Meaning.{meaning}
-use Rattle.tftp_packet.specs.declared.packet.Packet.{Packet}
+use Rattle.tftp_packet.specs.{Message, Spells, meaning, Packet, End, Client, Server}
 use Rattle.tftp_packet.specs.declared.packet.Packet.TheVariants as packet
-use Rattle.tftp_packet.specs.declared.kinds.End.{End}
-use Rattle.tftp_packet.specs.declared.kinds.End.TheVariants.{Client, Server}
-use Rattle.tftp_law.proofs.Divided.{any_cases, any_first, any_later}
-use Rattle.tftp_law.proofs.RouteTests.{same_is}
-use Rattle.tftp_law.proofs.SameOrNot.{same_text}
+use Rattle.tftp_law.proofs.Division.Divided.{any_cases, any_first, any_later}
+use Rattle.tftp_law.proofs.Division.RouteTests.{same_is}
+use Rattle.tftp_law.proofs.Soundness.SameOrNot.{same_text}
 use Rattle.tftp_law.proofs.Spelled.{spelled_once}
-use Rattle.tftp_tap.specs.TapCapture.{TapDatagram, TapSides, side_of, AreApart}
-use Rattle.tftp_tap.specs.TapOrder.{same_end}
-use Rattle.tftp_tap.specs.TapRoutes.{ends_in, tap_tests}
+use Rattle.tftp_tap.specs.{TapDatagram, TapSides, side_of, AreApart, same_end, ends_in, tap_tests}
 use Rattle.tftp_tap.proofs.KeptOf.{any_here, any_skip, any_more, before_all, before_less}
 use Rattle.tftp_tap.proofs.TapTests.{ends_message, ends_says, source_is}
-use Rattle.tftp_tap_judge.specs.declared.seen.Marks.{Marks}
-use Rattle.tftp_tap_judge.specs.TapSeen.{AreMarks, AreNotes, AreSeen, ErrorPassed, IsStop, IsStoppedBy, IsNew, IsNewBlock, Notes, Seen, Stopped, first_stop, stop_of}
-use Rattle.tftp_tap_judge.specs.TapFinds.{IsOtherError}
+use Rattle.tftp_tap_judge.specs.{Marks, AreMarks, AreNotes, AreSeen, ErrorPassed, IsStop, IsStoppedBy, IsNew, IsNewBlock, Notes, Seen, Stopped, first_stop, stop_of, IsOtherError}
 use Rattle.tftp_tap_judge.proofs.StopsNoted.{IsErrorFrom, error_ends}
 
 code_is : (code other : ℕ) (text words : List ℕ) → Message.Error code text ≡ Message.Error other words → (code ≡ other) × (text ≡ words)

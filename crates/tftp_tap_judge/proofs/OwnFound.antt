@@ -2,25 +2,16 @@
 use Rattle.std.proofs.Common.{◌≡◌, true, List, Option, Some, None, inl, inr, refl, sym, subst, ◌∙◌, ◌<◌, arith}
 use Rattle.std.specs.List.{list_any}
 use Rattle.std.proofs.lemmas.Bool.{true≢false}
-use Rattle.tftp_packet.specs.Message.{Message, RequestParts}
-use Rattle.tftp_packet.specs.Spelling.{Spells}
+use Rattle.tftp_packet.specs.{Message, RequestParts, Spells, End, Client, Server, FirstFault, PacketFault}
 use Rattle.tftp_packet.proofs.NoFault.{no_fault}
-use Rattle.tftp_packet.specs.declared.kinds.End.{End}
-use Rattle.tftp_packet.specs.declared.kinds.End.TheVariants.{Client, Server}
-use Rattle.tftp_law.specs.Rules.{IsWrongKind, number_of}
-use Rattle.tftp_packet.specs.Faults.{FirstFault}
-use Rattle.tftp_packet.specs.declared.fault.PacketFault.{PacketFault}
-use Rattle.tftp_law.specs.declared.rule.Rule.{Rule}
+use Rattle.tftp_law.specs.{IsWrongKind, number_of, Rule}
 use Rattle.tftp_law.specs.declared.rule.Rule.TheVariants as rule
 use Rattle.tftp_law.proofs.Spelled.{spelled_once}
-use Rattle.tftp_law.proofs.FirstRequests.{request_same, some_same}
-use Rattle.tftp_tap.specs.TapCapture.{TapDatagram, TapSides, side_of, AreApart}
-use Rattle.tftp_tap.specs.TapRoutes.{tap_tests}
-use Rattle.tftp_tap.specs.TapRules.{FirstTapAsked, LateBreaks, OtherError, PassingBreaks}
-use Rattle.tftp_tap.specs.declared.route.TapRoute.{TapRoute}
+use Rattle.tftp_law.proofs.FirstBroken.FirstRequests.{request_same, some_same}
+use Rattle.tftp_tap.specs.{TapDatagram, TapSides, side_of, AreApart, tap_tests, FirstTapAsked, LateBreaks, OtherError, PassingBreaks, TapRoute}
 use Rattle.tftp_tap.proofs.KeptOf.{any_of}
 use Rattle.tftp_tap.proofs.TapBefore.{first_holds}
-use Rattle.tftp_tap_judge.specs.TapFinds.{FindsRule, IsOtherError, IsOtherRequest, MessageBreaks, OwnBreaks}
+use Rattle.tftp_tap_judge.specs.{FindsRule, IsOtherError, IsOtherRequest, MessageBreaks, OwnBreaks}
 
 pub asked_same : (s : TapSides) (passed : List TapDatagram) (one other : RequestParts) → FirstTapAsked s passed one → FirstTapAsked s passed other → one ≡ other
 asked_same s passed one other (d, is, t) (e, at, u) =

@@ -1,29 +1,18 @@
 -- What the end that gets the file keeps, after one more datagram, and what it finds of it.
-use Rattle.std.proofs.Common.{◌≡◌, ◌⊎◌, inl, inr, ℕ, Bool, true, false, List, [], ◌∷◌, Err, refl, sym, subst, ap, ◌∙◌}
-use Rattle.std.specs.Prelude.{◌||◌, ◌&&◌, ◌==◌, map}
+use Rattle.std.proofs.Common.{◌≡◌, ◌⊎◌, inl, inr, ℕ, Bool, true, false, List, [], ◌∷◌, Err, refl, sym, subst, ap, ◌∙◌, ◌||◌, ◌&&◌, ◌==◌, map}
 use Rattle.std.specs.List.{list_any}
 use Rattle.std.proofs.lemmas.Bool.{true≢false, eqb-true}
-use Rattle.tftp_packet.specs.declared.kinds.Side.{Side}
-use Rattle.tftp_packet.specs.declared.kinds.End.{End}
-use Rattle.tftp_packet.specs.declared.kinds.End.TheVariants.{Client, Server}
-use Rattle.tftp_packet.specs.Faults.{opcode_of}
-use Rattle.tftp_ends.specs.CaptureText.{Datagram}
-use Rattle.tftp_ends.specs.Roles.{receiver_of}
-use Rattle.tftp_judge.specs.Finds.{Refuses}
-use Rattle.tftp_judge.specs.Kept.{IsJudgeAfter, Judge}
-use Rattle.tftp_judge.specs.Memory.{TakesMemory}
-use Rattle.tftp_judge.specs.declared.refusal.Refusal.{Refusal}
+use Rattle.tftp_packet.specs.{Side, End, Client, Server, opcode_of}
+use Rattle.tftp_hosts.specs.{Datagram}
+use Rattle.tftp_model.specs.Roles.{receiver_of}
+use Rattle.tftp_judge.specs.{Refuses, IsJudgeAfter, Judge, TakesMemory, Refusal}
 use Rattle.tftp_judge.specs.declared.refusal.Refusal.TheVariants as of_end
-use Rattle.tftp_tap.specs.TapCapture.{TapDatagram, TapSides, side_of, AreApart}
-use Rattle.tftp_tap.specs.TapOrder.{is_left_out, same_end}
-use Rattle.tftp_tap.specs.TapRoutes.{asks_in, ends_in, tap_tests}
-use Rattle.tftp_tap.specs.TapRules.{header_at, kept_between, recorded_at}
-use Rattle.tftp_ends.specs.Ports.{same_peer}
+use Rattle.tftp_tap.specs.{TapDatagram, TapSides, side_of, AreApart, is_left_out, same_end, asks_in, ends_in, tap_tests, header_at, kept_between, recorded_at}
+use Rattle.tftp_rules.specs.{same_peer}
 use Rattle.tftp_tap.proofs.KeptOf.{is_or_not, any_here, any_more, kept_in}
 use Rattle.tftp_tap.proofs.TapTests.{source_is}
-use Rattle.tftp_law.proofs.RouteTests.{same_is}
-use Rattle.tftp_tap_judge.specs.TapKept.{IsReceiving, Receiving, kept_there}
-use Rattle.tftp_tap_judge.specs.TapStops.{FindsTo, ReceiverBreaks, stop_by_refusal}
+use Rattle.tftp_law.proofs.Division.RouteTests.{same_is}
+use Rattle.tftp_tap_judge.specs.{IsReceiving, Receiving, kept_there, FindsTo, ReceiverBreaks, stop_by_refusal}
 use Rattle.tftp_tap_judge.specs.declared.stop.Stop.TheVariants as stop
 
 module _ (s : TapSides) (side : Side) (passed : List TapDatagram) (d : TapDatagram) (stays : is_left_out (tap_tests s) (receiver_of side) d (kept_there s side passed) ≡ false) where

@@ -4,12 +4,9 @@ use Rattle.std.specs.Ordering.{nat_cmp, is_eq}
 use Rattle.std.specs.Cmp.{nat_cmp_is}
 use Rattle.std.specs.declared.cmp.Ordering.TheVariants.{Less, Equal, Greater}
 use Rattle.std.proofs.lemmas.Bool.{true≢false, cases_lt}
-use Rattle.tftp_packet.specs.Message.{Message}
-use Rattle.tftp_packet.specs.Spelling.{Spells}
-use Rattle.tftp_tap.specs.TapCapture.{TapDatagram}
-use Rattle.tftp_tap.specs.TapRules.{HasKind, IsBlock, IsSomeBlock, IsOack, IsReply}
-use Rattle.tftp_tap_judge.specs.declared.seen.Marks.{Marks}
-use Rattle.tftp_tap_judge.specs.TapSeen.{has_number, Seen, AreMarks, AreSeen}
+use Rattle.tftp_packet.specs.{Message, Spells}
+use Rattle.tftp_tap.specs.{TapDatagram, HasKind, IsBlock, IsSomeBlock, IsOack, IsReply}
+use Rattle.tftp_tap_judge.specs.{Marks, has_number, Seen, AreMarks, AreSeen}
 use Rattle.tftp_tap_judge.proofs.KindsPassed.{kind_now, kind_before, kind_cases}
 
 -- a flag that is set where it was, or where this message is of its kind

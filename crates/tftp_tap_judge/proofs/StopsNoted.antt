@@ -1,25 +1,14 @@
 -- What is kept of the first ERROR of an end, and what that tells.
-use Rattle.std.proofs.Common.{◌≡◌, ◌↔◌, ℕ, Bool, true, false, List, [], ◌∷◌, Some, None, inl, inr, refl, sym, subst, ◌∙◌}
-use Rattle.std.specs.Prelude.{not}
+use Rattle.std.proofs.Common.{◌≡◌, ◌↔◌, ℕ, Bool, true, false, List, [], ◌∷◌, Some, None, inl, inr, refl, sym, subst, ◌∙◌, not}
 use Rattle.std.specs.List.{list_any}
 use Rattle.std.proofs.lemmas.Bool.{true≢false}
-use Rattle.tftp_packet.specs.Message.{Message}
-use Rattle.tftp_packet.specs.Spelling.{Spells}
-use Rattle.tftp_packet.specs.declared.kinds.Side.{Side}
-use Rattle.tftp_packet.specs.declared.kinds.Side.TheVariants.{Get, Put}
-use Rattle.tftp_packet.specs.declared.kinds.End.{End}
-use Rattle.tftp_packet.specs.declared.kinds.End.TheVariants.{Client, Server}
-use Rattle.tftp_law.proofs.Divided.{any_none, any_cases}
-use Rattle.tftp_law.proofs.RouteTests.{same_is}
-use Rattle.tftp_tap.specs.TapCapture.{TapDatagram, TapSides, side_of}
-use Rattle.tftp_tap.specs.TapOrder.{before_error}
-use Rattle.tftp_tap.specs.TapRoutes.{tap_tests}
-use Rattle.tftp_tap.specs.TapRules.{IsLateBlock, IsLateZero}
+use Rattle.tftp_packet.specs.{Message, Spells, Side, Get, Put, End, Client, Server}
+use Rattle.tftp_law.proofs.Division.Divided.{any_none, any_cases}
+use Rattle.tftp_law.proofs.Division.RouteTests.{same_is}
+use Rattle.tftp_tap.specs.{TapDatagram, TapSides, side_of, before_error, tap_tests, IsLateBlock, IsLateZero}
 use Rattle.tftp_tap.proofs.KeptOf.{any_here, any_more, before_all}
 use Rattle.tftp_tap.proofs.TapTests.{ends_says}
-use Rattle.tftp_tap_judge.specs.declared.seen.Marks.{Marks}
-use Rattle.tftp_tap_judge.specs.TapSeen.{AreMarks, AreNotes, ErrorPassed, IsStop, IsStoppedBy, Notes, Stopped, stop_of}
-use Rattle.tftp_tap_judge.specs.TapFinds.{IsOtherError}
+use Rattle.tftp_tap_judge.specs.{Marks, AreMarks, AreNotes, ErrorPassed, IsStop, IsStoppedBy, Notes, Stopped, stop_of, IsOtherError}
 
 abbrev pub IsErrorFrom : TapSides → End → ℕ → List ℕ → TapDatagram → Type 0
 IsErrorFrom s e code text x = (x.source ≡ side_of s e) × Spells x.payload (Message.Error code text)

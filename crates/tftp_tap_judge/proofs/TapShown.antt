@@ -1,34 +1,19 @@
 -- What a capture between the ends shows is what the end that gets the file would show of what it would keep.
-use Rattle.std.proofs.Common.{◌≡◌, ℕ, true, List, [], ◌∷◌, Contains, inr, refl, sym, subst, ap, ◌∙◌}
-use Rattle.std.specs.Prelude.{map, reverse}
+use Rattle.std.proofs.Common.{◌≡◌, ℕ, true, List, [], ◌∷◌, Contains, inr, refl, sym, subst, ap, ◌∙◌, map, reverse}
 use Rattle.std.proofs.lemmas.List.{reverse-reverse}
 use Rattle.std.specs.List.{list_any}
-use Rattle.tftp_packet.specs.Message.{RequestParts}
-use Rattle.tftp_packet.specs.declared.kinds.End.{End}
-use Rattle.tftp_packet.specs.declared.kinds.Side.{Side}
-use Rattle.tftp_packet.specs.declared.kinds.Side.TheVariants.{Get, Put}
-use Rattle.tftp_ends.specs.CaptureText.{Datagram, Header}
-use Rattle.tftp_ends.specs.Meaning.{Meaning, blksize_of, request_of}
-use Rattle.tftp_ends.specs.Blocks.{block_count}
-use Rattle.tftp_ends.specs.Machines.{Ack, Data, HasSent, HasTaken, other_end, receiver_of, sender_of}
-use Rattle.tftp_ends.specs.Runs.{IsView}
-use Rattle.tftp_ends.specs.OneSide.{IsOneSided}
-use Rattle.tftp_ends.proofs.Members.{contains_none}
-use Rattle.tftp_ends.proofs.OneSided.{view_one_sided}
-use Rattle.tftp_ends.proofs.MadeRuns.{one_sided_view}
-use Rattle.tftp_law.specs.Law.{ShowsBy}
-use Rattle.tftp_law.specs.Dress.{datagrams_of, view_in, says_of}
-use Rattle.tftp_law.specs.Accord.{AreRouted}
-use Rattle.tftp_law.specs.Divides.{says_some}
-use Rattle.tftp_law.proofs.Parted.{parts_of}
-use Rattle.tftp_law.proofs.OneDivision.{run_divides, division_one}
-use Rattle.tftp_law.proofs.Routed.{routed_by, told_of}
-use Rattle.tftp_tap.specs.Tap.{Pass, as_at, MayPassEach, IsWholeAtTap}
-use Rattle.tftp_tap.specs.TapCapture.{TapDatagram, TapSides, AreApart}
-use Rattle.tftp_tap.specs.TapDress.{ShowsBetween, passed_of}
-use Rattle.tftp_tap.specs.TapOrder.{kept_of, pass_tests, kept_at}
-use Rattle.tftp_tap.specs.TapRoutes.{tap_tests, transfer_between}
-use Rattle.tftp_tap.specs.TapRules.{BreaksNoTapRule, FirstTapAsked, header_at, kept_between, recorded_at}
+use Rattle.tftp_packet.specs.{RequestParts, End, Side, Get, Put}
+use Rattle.tftp_hosts.specs.{Datagram, Header}
+use Rattle.tftp_model.specs.{Meaning, blksize_of, request_of, block_count, Ack, Data, HasSent, HasTaken, IsView, IsOneSided}
+use Rattle.tftp_model.specs.Machines.{other_end, receiver_of, sender_of}
+use Rattle.tftp_model.proofs.Members.{contains_none}
+use Rattle.tftp_model.proofs.OneSided.{view_one_sided}
+use Rattle.tftp_model.proofs.MadeRuns.{one_sided_view}
+use Rattle.tftp_law.specs.{ShowsBy, datagrams_of, view_in, says_of, AreRouted, says_some}
+use Rattle.tftp_law.proofs.Division.Parted.{parts_of}
+use Rattle.tftp_law.proofs.Division.OneDivision.{run_divides, division_one}
+use Rattle.tftp_law.proofs.Division.Routed.{routed_by, told_of}
+use Rattle.tftp_tap.specs.{Pass, as_at, MayPassEach, IsWholeAtTap, TapDatagram, TapSides, AreApart, ShowsBetween, passed_of, kept_of, pass_tests, kept_at, tap_tests, transfer_between, BreaksNoTapRule, FirstTapAsked, header_at, kept_between, recorded_at}
 use Rattle.tftp_tap.proofs.Replays.{tap_view_is}
 use Rattle.tftp_tap.proofs.Passed.{sent_passed, at_sent, at_took}
 use Rattle.tftp_tap.proofs.OneTapDivision.{parts_some}

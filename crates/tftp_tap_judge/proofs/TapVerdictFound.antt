@@ -1,26 +1,17 @@
 -- The verdict between the ends by the one at the end that gets the file.
-use Rattle.std.proofs.Common.{◌≡◌, ℕ, List, [], ◌∷◌, ◌++◌, Option, Some, None, Result, Ok, Err, sym, subst, ◌∙◌, append_assoc}
-use Rattle.std.specs.Prelude.{length, reverse}
+use Rattle.std.proofs.Common.{◌≡◌, ℕ, List, [], ◌∷◌, ◌++◌, Option, Some, None, Result, Ok, Err, sym, subst, ◌∙◌, append_assoc, length, reverse}
 use Rattle.std.proofs.lemmas.List.{reverse-reverse}
-use Rattle.tftp_packet.specs.Message.{RequestParts}
-use Rattle.tftp_packet.specs.declared.kinds.End.{End}
-use Rattle.tftp_ends.specs.CaptureText.{Datagram, Header}
-use Rattle.tftp_ends.specs.Meaning.{Meaning}
-use Rattle.tftp_judge.specs.Verdict.{IsUnlawfulAt, IsVerdict}
-use Rattle.tftp_judge.specs.declared.refusal.Refusal.{Refusal}
+use Rattle.tftp_packet.specs.{RequestParts, End}
+use Rattle.tftp_hosts.specs.{Datagram, Header}
+use Rattle.tftp_model.specs.{Meaning}
+use Rattle.tftp_judge.specs.{IsUnlawfulAt, IsVerdict, Refusal}
 use Rattle.tftp_judge.specs.declared.refusal.Refusal.TheVariants as of_end
-use Rattle.tftp_law.specs.Law.{IsLawful}
-use Rattle.tftp_law.specs.OneEnded.{IsEnded, OneEnded}
-use Rattle.tftp_law.specs.declared.rule.Rule.{Rule}
-use Rattle.tftp_law.proofs.Beginnings.{beginning_is_lawful}
-use Rattle.tftp_law.proofs.TwoEnds.{lawful}
-use Rattle.tftp_tap.specs.TapCapture.{TapDatagram, TapSides, AreApart}
-use Rattle.tftp_tap.specs.TapDress.{IsLawfulBetween}
-use Rattle.tftp_tap.specs.TapRoutes.{transfer_between}
-use Rattle.tftp_tap.specs.TapRules.{BreaksNoTapRule, FirstTapAsked, header_at, kept_between}
+use Rattle.tftp_law.specs.{IsLawful, IsEnded, OneEnded, Rule}
+use Rattle.tftp_law.proofs.Whole.Beginnings.{beginning_is_lawful}
+use Rattle.tftp_law.proofs.Whole.TwoEnds.{lawful}
+use Rattle.tftp_tap.specs.{TapDatagram, TapSides, AreApart, IsLawfulBetween, transfer_between, BreaksNoTapRule, FirstTapAsked, header_at, kept_between}
 use Rattle.tftp_tap.proofs.TapLaw.{rules_run}
-use Rattle.tftp_tap_judge.specs.TapKept.{IsFirstError}
-use Rattle.tftp_tap_judge.specs.TapVerdict.{IsTapVerdict, NoneShown, said_at_tap, unfinished_by}
+use Rattle.tftp_tap_judge.specs.{IsFirstError, IsTapVerdict, NoneShown, said_at_tap, unfinished_by}
 use Rattle.tftp_tap_judge.proofs.KeptLawful.{kept_lawful}
 use Rattle.tftp_tap_judge.proofs.TapShown.{never_shown, shown_at_end, shown_between}
 

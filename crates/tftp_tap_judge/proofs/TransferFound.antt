@@ -1,35 +1,21 @@
 -- What is found of a datagram of a transfer between the ends, and what is kept of it.
-use Rattle.std.proofs.Common.{◌≡◌, ◌⊎◌, ℕ, true, false, List, [], ◌∷◌, Option, Some, None, Result, Ok, Err, inl, inr, refl, sym, subst, ap, ◌∙◌, arith}
-use Rattle.std.specs.Prelude.{◌↔◌, ◌&&◌, not, nat_lt, is_some, IfOk}
+use Rattle.std.proofs.Common.{◌≡◌, ◌⊎◌, ℕ, true, false, List, [], ◌∷◌, Option, Some, None, Result, Ok, Err, inl, inr, refl, sym, subst, ap, ◌∙◌, arith, ◌↔◌, ◌&&◌, not, nat_lt, is_some, IfOk}
 use Rattle.std.proofs.lemmas.Bool.{true≢false, ltb-true, ltb-false}
-use Rattle.tftp_packet.specs.Message.{Message, RequestParts}
-use Rattle.tftp_packet.specs.Spelling.{Spells}
-use Rattle.tftp_packet.specs.Faults.{FirstFault}
-use Rattle.tftp_packet.specs.Meaning.{meaning}
-use Rattle.tftp_packet.specs.declared.packet.Packet.{Packet}
-use Rattle.tftp_packet.specs.declared.fault.PacketFault.{PacketFault}
-use Rattle.tftp_packet.specs.declared.kinds.End.{End}
-use Rattle.tftp_judge.specs.Finds.{NoneBreaks}
-use Rattle.tftp_ends.specs.CaptureText.{Datagram, Header}
-use Rattle.tftp_ends.specs.Ports.{is_of_transfer, or_this, route_of}
-use Rattle.tftp_ends.specs.Roles.{receiver_of}
-use Rattle.tftp_law.specs.Rules.{Broken, number_of}
-use Rattle.tftp_law.specs.declared.rule.Rule.{Rule}
+use Rattle.tftp_packet.specs.{Message, RequestParts, Spells, FirstFault, meaning, Packet, PacketFault, End}
+use Rattle.tftp_judge.specs.{NoneBreaks}
+use Rattle.tftp_hosts.specs.{Datagram, Header}
+use Rattle.tftp_rules.specs.{is_of_transfer, or_this, route_of}
+use Rattle.tftp_model.specs.Roles.{receiver_of}
+use Rattle.tftp_law.specs.{Broken, number_of, Rule}
 use Rattle.tftp_law.specs.declared.rule.Rule.TheVariants as rule
-use Rattle.tftp_law.proofs.RouteTests.{same_is}
+use Rattle.tftp_law.proofs.Division.RouteTests.{same_is}
 use Rattle.tftp_law.proofs.Spelled.{spelled_once}
-use Rattle.tftp_tap.specs.TapCapture.{TapDatagram, TapSides, side_of, AreApart}
-use Rattle.tftp_tap.specs.TapRoutes.{tap_tests}
-use Rattle.tftp_tap.specs.TapRules.{FirstTapAsked, header_at, is_of_ports, kept_between, recorded_at}
-use Rattle.tftp_tap.specs.declared.route.TapRoute.{TapRoute}
+use Rattle.tftp_tap.specs.{TapDatagram, TapSides, side_of, AreApart, tap_tests, FirstTapAsked, header_at, is_of_ports, kept_between, recorded_at, TapRoute}
 use Rattle.tftp_tap.proofs.KeptOf.{is_or_not}
 use Rattle.tftp_tap.proofs.TapMade.{ports_off}
 use Rattle.tftp_tap.proofs.TapTests.{asks_says}
-use Rattle.tftp_tap_judge.specs.TapFinds.{FindsRule, IsOtherError, IsReadOf, OwnBreaks}
-use Rattle.tftp_tap_judge.specs.TapKept.{IsErrorOf, IsFirstError, NoErrorAtTap}
-use Rattle.tftp_tap_judge.specs.TapStops.{FindsTo, IsReadUnless, ReceiverBreaks, TransferBreaks, smaller_of}
-use Rattle.tftp_tap_judge.specs.declared.stop.Stop.{Stop}
-use Rattle.tftp_tap_judge.specs.declared.stop.Stop.TheVariants.{Breaks, Memory}
+use Rattle.tftp_tap_judge.specs.{FindsRule, IsOtherError, IsReadOf, OwnBreaks, IsErrorOf, IsFirstError, NoErrorAtTap, FindsTo, IsReadUnless, ReceiverBreaks, TransferBreaks, smaller_of, Stop, Breaks}
+use Rattle.tftp_tap_judge.specs.declared.stop.Stop.TheVariants.{Memory}
 use Rattle.tftp_tap_judge.proofs.OwnFound.{asked_same, other_error}
 
 -- what breaks another rule than one of ports at an end is of the transfer there

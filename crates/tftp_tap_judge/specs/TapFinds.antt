@@ -1,20 +1,10 @@
 -- What a datagram of the transfer breaks by itself between the ends, apart from what the end that gets the file would find.
 -- The list `passed` has the datagrams of the transfer that have passed, the newest first.
 use Rattle.std.specs.Prelude.{◌≡◌, ◌⊎◌, ◌<◌, ℕ, List, Option, Some, None, Result, Ok, Err}
-use Rattle.tftp_packet.specs.Message.{Message, RequestParts}
-use Rattle.tftp_packet.specs.Meaning.{meaning}
-use Rattle.tftp_packet.specs.Spelling.{Spells}
-use Rattle.tftp_packet.specs.Faults.{FirstFault}
-use Rattle.tftp_packet.specs.declared.packet.Packet.{Packet}
-use Rattle.tftp_packet.specs.declared.fault.PacketFault.{PacketFault}
-use Rattle.tftp_packet.specs.declared.kinds.End.{End}
-use Rattle.tftp_packet.specs.declared.kinds.End.TheVariants.{Client}
-use Rattle.tftp_law.specs.Rules.{IsWrongKind, number_of}
-use Rattle.tftp_law.specs.declared.rule.Rule.{Rule}
+use Rattle.tftp_packet.specs.{Message, RequestParts, meaning, Spells, FirstFault, Packet, PacketFault, End, Client}
+use Rattle.tftp_law.specs.{IsWrongKind, number_of, Rule}
 use Rattle.tftp_law.specs.declared.rule.Rule.TheVariants as rule
-use Rattle.tftp_tap.specs.TapCapture.{TapDatagram, TapSides}
-use Rattle.tftp_tap.specs.TapRules.{PassingBreaks, LateBreaks, LateBroken}
-use Rattle.tftp_tap.specs.declared.route.TapRoute.{TapRoute}
+use Rattle.tftp_tap.specs.{TapDatagram, TapSides, PassingBreaks, LateBreaks, LateBroken, TapRoute}
 use Rattle.tftp_tap_judge.specs.TapSeen.{ErrorPassed}
 
 -- none is broken, or this is the first that is

@@ -2,17 +2,10 @@
 -- and `passed` have the datagrams that have passed and those of the transfer, the newest first.
 use Rattle.std.specs.Prelude.{◌≡◌, ◌⊎◌, ◌<◌, ◌≤◌, ◌^◌, ℕ, Bool, true, List, [], ◌∷◌, length, Option, Some, None}
 use Rattle.std.specs.List.{list_any}
-use Rattle.tftp_packet.specs.Message.{Message, RequestParts}
-use Rattle.tftp_packet.specs.Spelling.{Spells}
-use Rattle.tftp_packet.specs.declared.kinds.Side.{Side}
-use Rattle.tftp_packet.specs.declared.kinds.End.{End}
-use Rattle.tftp_ends.specs.Roles.{receiver_of}
-use Rattle.tftp_judge.specs.Kept.{IsJudgeAfter, Judge}
-use Rattle.tftp_tap.specs.TapCapture.{TapDatagram, TapSides, side_of, AreApart}
-use Rattle.tftp_tap.specs.TapOrder.{kept_of}
-use Rattle.tftp_tap.specs.TapPorts.{KnownWays, StandsForTap}
-use Rattle.tftp_tap.specs.TapRoutes.{tap_tests, transfer_between}
-use Rattle.tftp_tap.specs.TapRules.{BreaksNoTapRule, FirstTapAsked, header_at, kept_between}
+use Rattle.tftp_packet.specs.{Message, RequestParts, Spells, Side, End}
+use Rattle.tftp_model.specs.Roles.{receiver_of}
+use Rattle.tftp_judge.specs.{IsJudgeAfter, Judge}
+use Rattle.tftp_tap.specs.{TapDatagram, TapSides, side_of, AreApart, kept_of, KnownWays, StandsForTap, tap_tests, transfer_between, BreaksNoTapRule, FirstTapAsked, header_at, kept_between}
 use Rattle.tftp_tap_judge.specs.TapSeen.{AreNotes, Notes}
 use Rattle.tftp_tap_judge.specs.declared.refusal.TapRefusal.{TapRefusal}
 

@@ -3,14 +3,8 @@
 use Rattle.std.specs.Prelude.{◌≡◌, ◌⊎◌, ◌↔◌, ℕ, ◌+◌, ◌<◌, ◌≤◌, Bool, true, false, List, Any, Option, Some, None}
 use Rattle.std.specs.List.{list_any}
 use Rattle.std.specs.Ordering.{nat_cmp, is_eq}
-use Rattle.tftp_packet.specs.Message.{Message}
-use Rattle.tftp_packet.specs.Spelling.{Spells}
-use Rattle.tftp_packet.specs.declared.kinds.End.{End}
-use Rattle.tftp_packet.specs.declared.kinds.End.TheVariants.{Client, Server}
-use Rattle.tftp_tap.specs.TapCapture.{TapDatagram, TapSides, side_of}
-use Rattle.tftp_tap.specs.TapOrder.{before_error}
-use Rattle.tftp_tap.specs.TapRoutes.{tap_tests}
-use Rattle.tftp_tap.specs.TapRules.{HasKind, IsBlock, IsSomeBlock, IsOack, IsReply}
+use Rattle.tftp_packet.specs.{Message, Spells, End, Client, Server}
+use Rattle.tftp_tap.specs.{TapDatagram, TapSides, side_of, before_error, tap_tests, HasKind, IsBlock, IsSomeBlock, IsOack, IsReply}
 use Rattle.tftp_tap_judge.specs.declared.seen.Marks.{Marks}
 
 -- ---- what has passed

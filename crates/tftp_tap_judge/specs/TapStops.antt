@@ -1,26 +1,15 @@
 -- What is found of one datagram between the ends, by the rules that it may break. The lists `earlier` and `passed` have the
 -- datagrams that have passed and those of the transfer, the newest first.
 use Rattle.std.specs.Prelude.{◌≡◌, ◌⊎◌, ◌+◌, ◌&&◌, not, ℕ, false, List, [], ◌∷◌, length, nat_lt, Option, Some, None, Result, Ok, Err, if◌then◌else◌}
-use Rattle.tftp_packet.specs.Message.{Message, RequestParts}
-use Rattle.tftp_packet.specs.Spelling.{Spells}
-use Rattle.tftp_packet.specs.Faults.{FirstFault}
-use Rattle.tftp_packet.specs.declared.kinds.Side.{Side}
-use Rattle.tftp_packet.specs.declared.kinds.End.{End}
+use Rattle.tftp_packet.specs.{Message, RequestParts, Spells, FirstFault, Side, End}
 use Rattle.tftp_capture.specs.declared.datagram.Datagram.{Datagram as OwnedDatagram}
-use Rattle.tftp_capture.specs.Fields.{datagram_of}
-use Rattle.tftp_ends.specs.Roles.{receiver_of}
-use Rattle.tftp_judge.specs.Finds.{NoneBreaks, IsFirstOf}
-use Rattle.tftp_judge.specs.Memory.{TakesMemory}
-use Rattle.tftp_judge.specs.declared.refusal.Refusal.{Refusal}
+use Rattle.tftp_capture.specs.{datagram_of}
+use Rattle.tftp_model.specs.Roles.{receiver_of}
+use Rattle.tftp_judge.specs.{NoneBreaks, IsFirstOf, TakesMemory, Refusal}
 use Rattle.tftp_judge.specs.declared.refusal.Refusal.TheVariants as of_end
-use Rattle.tftp_law.specs.Rules.{Broken, number_of}
-use Rattle.tftp_law.specs.declared.rule.Rule.{Rule}
+use Rattle.tftp_law.specs.{Broken, number_of, Rule}
 use Rattle.tftp_law.specs.declared.rule.Rule.TheVariants as rule
-use Rattle.tftp_tap.specs.TapCapture.{TapDatagram, TapSides, side_of}
-use Rattle.tftp_tap.specs.TapOrder.{is_left_out}
-use Rattle.tftp_tap.specs.TapRoutes.{asks_in, has_gone, tap_tests, transfer_between}
-use Rattle.tftp_tap.specs.TapRules.{FirstTapAsked, FirstTapBroken, KeptBreaks, TapPasses, header_at, is_of_ports, kept_between, recorded_at}
-use Rattle.tftp_tap.specs.declared.route.TapRoute.{TapRoute}
+use Rattle.tftp_tap.specs.{TapDatagram, TapSides, side_of, is_left_out, asks_in, has_gone, tap_tests, transfer_between, FirstTapAsked, FirstTapBroken, KeptBreaks, TapPasses, header_at, is_of_ports, kept_between, recorded_at, TapRoute}
 use Rattle.tftp_tap_judge.specs.TapFinds.{OwnBreaks}
 use Rattle.tftp_tap_judge.specs.TapKept.{IsTapTransfer, TapTransfer, kept_there}
 use Rattle.tftp_tap_judge.specs.TapSeen.{IsNew}

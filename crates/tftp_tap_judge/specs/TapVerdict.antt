@@ -1,17 +1,12 @@
 -- What there is to say of a lawful capture between the ends: what it means, or why it means nothing whole. Lists have the newest
 -- first.
 use Rattle.std.specs.Prelude.{◌≡◌, ℕ, List, length, Option, Some, None, Result, Ok, Err}
-use Rattle.tftp_packet.specs.Message.{RequestParts}
-use Rattle.tftp_packet.specs.declared.kinds.End.{End}
-use Rattle.tftp_ends.specs.Meaning.{Meaning}
-use Rattle.tftp_judge.specs.declared.refusal.Refusal.{Refusal}
+use Rattle.tftp_packet.specs.{RequestParts, End}
+use Rattle.tftp_model.specs.{Meaning}
+use Rattle.tftp_judge.specs.{Refusal}
 use Rattle.tftp_judge.specs.declared.refusal.Refusal.TheVariants as of_end
-use Rattle.tftp_law.specs.Fits.{IsWritable}
-use Rattle.tftp_law.specs.OneEnded.{IsEnded}
-use Rattle.tftp_tap.specs.TapCapture.{TapDatagram, TapSides}
-use Rattle.tftp_tap.specs.TapDress.{IsLawfulBetween, ShowsBetween}
-use Rattle.tftp_tap.specs.TapRoutes.{transfer_between}
-use Rattle.tftp_tap.specs.TapRules.{FirstTapAsked, header_at, kept_between}
+use Rattle.tftp_law.specs.{IsWritable, IsEnded}
+use Rattle.tftp_tap.specs.{TapDatagram, TapSides, IsLawfulBetween, ShowsBetween, transfer_between, FirstTapAsked, header_at, kept_between}
 use Rattle.tftp_tap_judge.specs.TapKept.{FirstErrorAtTap, NoErrorAtTap}
 use Rattle.tftp_tap_judge.specs.declared.refusal.TapRefusal.{TapRefusal}
 use Rattle.tftp_tap_judge.specs.declared.refusal.TapRefusal.TheVariants.{Unlawful, Aborted, Incomplete, NormalTooLong, Memory}

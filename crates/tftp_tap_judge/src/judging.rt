@@ -1,6 +1,5 @@
 ghost use Rattle.std.specs.Prelude.{◌≡◌, ◌+◌, ◌^◌, ◌<◌, ◌≤◌, List, [], ◌∷◌, length, None, Some, OnOk, IfErr, Err};
-ghost use Rattle.tftp_tap.specs.TapCapture.{TapDatagram as Passing, TapSides, AreApart};
-ghost use Rattle.tftp_tap.specs.TapRules.{TapPasses};
+ghost use Rattle.tftp_tap.specs.{TapDatagram as Passing, TapSides, AreApart, TapPasses};
 ghost use Rattle.tftp_tap_judge.specs.TapKept.{IsTapJudge};
 ghost use Rattle.tftp_tap_judge.specs.TapStops.{RefusesAtTap, passing_of};
 ghost use Rattle.tftp_tap_judge.specs.TapVerdict.{IsTapVerdict};
@@ -12,7 +11,7 @@ use crate::refusal::TapRefusal;
 use crate::stop::Stop;
 use std::alloc::Global;
 use std::marker::Model;
-use tftp_ends::Delivered;
+use tftp_blocks::Delivered;
 use tftp_judge::Meaning;
 use tftp_tap::Sides;
 

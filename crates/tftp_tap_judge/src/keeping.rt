@@ -1,10 +1,6 @@
 ghost use Rattle.std.specs.Prelude.{◌≡◌, ◌↔◌, ◌+◌, ◌≤◌, ℕ, List, [], ◌∷◌, length, true, IsTrue, IfOk, IfErr, OnOk, Err};
-ghost use Rattle.tftp_packet.specs.Message.{Message};
-ghost use Rattle.tftp_packet.specs.Spelling.{Spells};
-ghost use Rattle.tftp_tap.specs.TapCapture.{TapDatagram as Passing, TapSides, side_of, AreApart};
-ghost use Rattle.tftp_tap.specs.TapPorts.{StandsForTap};
-ghost use Rattle.tftp_tap.specs.TapRoutes.{is_passing, tap_route, transfer_between};
-ghost use Rattle.tftp_tap.specs.TapRules.{BreaksNoTapRule};
+ghost use Rattle.tftp_packet.specs.{Message, Spells};
+ghost use Rattle.tftp_tap.specs.{TapDatagram as Passing, TapSides, side_of, AreApart, StandsForTap, is_passing, tap_route, transfer_between, BreaksNoTapRule};
 ghost use Rattle.tftp_tap_judge.specs.TapKept.{FedWithin, HasKeptAtTap, IsFewFed, IsKeptAtTap};
 ghost use Rattle.tftp_tap_judge.specs.TapSeen.{AreNotes};
 ghost use Rattle.tftp_tap_judge.specs.TapStops.{BeginsAtTap, FindsAtTap, IsNoRequest, IsRecorded, TakesMemoryAtTap, passing_of};
@@ -16,10 +12,11 @@ use crate::stop::Stop;
 use crate::transfer::{TapTransfer, receiver_of_file};
 use std::alloc::Global;
 use std::marker::Model;
+use tftp_blocks::Delivered;
 use tftp_capture::Datagram;
-use tftp_ends::Delivered;
+use tftp_hosts::Dir;
 use tftp_law::Rule;
-use tftp_packet::{Dir, End, Packet, Request, opcode, own_request, read_packet};
+use tftp_packet::{End, Packet, Request, opcode, own_request, read_packet};
 use tftp_tap::{Endpoint, Sides, TapPorts, TapRoute};
 
 /// What is kept of the datagrams that have passed between the ends: the ways that they went, and the transfer from its first

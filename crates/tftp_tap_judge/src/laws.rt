@@ -1,14 +1,10 @@
 //! Laws of the definitions in `specs/`. Each is the contract of a function that does nothing.
 
 ghost use Rattle.std.specs.Prelude.{◌↔◌, ℕ, List, reverse};
-ghost use Rattle.tftp_packet.specs.Message.{RequestParts};
-ghost use Rattle.tftp_ends.specs.Meaning.{Meaning};
-ghost use Rattle.tftp_law.specs.Law.{ShowsBy};
-ghost use Rattle.tftp_law.specs.OneEnded.{OneEnded};
-ghost use Rattle.tftp_tap.specs.TapCapture.{TapDatagram, TapSides, AreApart};
-ghost use Rattle.tftp_tap.specs.TapDress.{ShowsBetween};
-ghost use Rattle.tftp_tap.specs.TapRoutes.{transfer_between};
-ghost use Rattle.tftp_tap.specs.TapRules.{BreaksNoTapRule, FirstTapAsked, header_at, kept_between};
+ghost use Rattle.tftp_packet.specs.{RequestParts};
+ghost use Rattle.tftp_model.specs.{Meaning};
+ghost use Rattle.tftp_law.specs.{ShowsBy, OneEnded};
+ghost use Rattle.tftp_tap.specs.{TapDatagram, TapSides, AreApart, ShowsBetween, transfer_between, BreaksNoTapRule, FirstTapAsked, header_at, kept_between};
 
 /// What the end that gets the file would keep of a lawful capture between the ends breaks no rule there. So what it would keep
 /// and does refuse, no point between the ends could have seen.

@@ -1,15 +1,8 @@
 //! What a datagram of a transfer breaks by itself between the ends, and what is kept to tell that.
 
 ghost use Rattle.std.specs.Prelude.{◌≡◌, ◌↔◌, List, [], ◌∷◌, IsTrue, None, option_map, OnOk, OnErr};
-ghost use Rattle.tftp_packet.specs.Message.{Message};
-ghost use Rattle.tftp_packet.specs.Meaning.{meaning};
-ghost use Rattle.tftp_packet.specs.Spelling.{Spells};
-ghost use Rattle.tftp_packet.specs.declared.kinds.End.{End as Who};
-ghost use Rattle.tftp_tap.specs.TapCapture.{TapDatagram, TapSides, side_of, AreApart};
-ghost use Rattle.tftp_tap.specs.TapOrder.{before_error};
-ghost use Rattle.tftp_tap.specs.TapRoutes.{tap_tests};
-ghost use Rattle.tftp_tap.specs.TapRules.{FirstTapAsked, IsLateBlock, IsLateZero, LateBreaks};
-ghost use Rattle.tftp_tap.specs.declared.route.TapRoute.{TapRoute};
+ghost use Rattle.tftp_packet.specs.{Message, meaning, Spells, End as Who};
+ghost use Rattle.tftp_tap.specs.{TapDatagram, TapSides, side_of, AreApart, before_error, tap_tests, FirstTapAsked, IsLateBlock, IsLateZero, LateBreaks, TapRoute};
 ghost use Rattle.tftp_tap_judge.specs.TapSeen.{AreMarks, AreNotes, IsNew, first_stop, stop_of};
 ghost use Rattle.tftp_tap_judge.specs.TapFinds.{FindsRule, IsOtherError, IsReadOf, MessageBreaks, OwnBreaks};
 

@@ -1,11 +1,8 @@
 //! What has passed, as far as an ACK and a block are judged by it.
 
 ghost use Rattle.std.specs.Prelude.{◌≡◌, ℕ, ◌+◌, ◌<◌, ◌≤◌, List, [], ◌∷◌, true, false, OnOk, OnErr};
-ghost use Rattle.tftp_packet.specs.Message.{Message};
-ghost use Rattle.tftp_packet.specs.Meaning.{meaning};
-ghost use Rattle.tftp_packet.specs.Spelling.{Spells};
-ghost use Rattle.tftp_tap.specs.TapCapture.{TapDatagram as Parts};
-ghost use Rattle.tftp_tap.specs.TapRules.{HasKind, IsBlock};
+ghost use Rattle.tftp_packet.specs.{Message, meaning, Spells};
+ghost use Rattle.tftp_tap.specs.{TapDatagram as Parts, HasKind, IsBlock};
 ghost use Rattle.tftp_tap_judge.specs.TapSeen.{AreSeen, IsNewBlock, has_number};
 
 use std::alloc::{AllocError, Global};

@@ -1,5 +1,5 @@
 ghost use Rattle.std.specs.Prelude.{◌≡◌};
-ghost use Rattle.tftp_tap.specs.TapRules.{is_of_ports};
+ghost use Rattle.tftp_tap.specs.{is_of_ports};
 ghost use Rattle.tftp_tap_judge.specs.TapStops.{smaller_of, stop_by_refusal};
 
 use std::alloc::AllocError;

@@ -4,7 +4,7 @@ use crate::commands::says;
 use crate::scripts::all_hold;
 use crate::verdicts::{is_judged, is_verdict};
 use std::test::Fail;
-use tftp_ends::{MapDelivered, RingDelivered};
+use tftp_blocks::{MapDelivered, RingDelivered};
 
 mod errors;
 mod hosts;

@@ -5,10 +5,11 @@ use crate::views::is_so;
 use std::alloc::{AllocError, Global};
 use std::marker::Model;
 use std::test::Fail;
+use tftp_blocks::{Delivered, MapDelivered, RingDelivered};
 use tftp_capture::{Datagram, Header};
-use tftp_ends::{Delivered, MapDelivered, RingDelivered};
+use tftp_hosts::{Dir, Host};
 use tftp_judge::{Judge, Meaning, Refusal, Rule};
-use tftp_packet::{Bytes, Dir, End as Side, Host};
+use tftp_packet::{Bytes, End as Side};
 
 /// A judge on this store. Contracts see nothing of it, so that what the library promises of its judges is read only here,
 /// where it is called.

@@ -1,14 +1,14 @@
 //! Packets and options: payloads and what they spell, and what is written.
 
-ghost use Rattle.tftp_packet.specs.Meaning.{HasStringMessage};
+ghost use Rattle.tftp_packet.specs.{HasStringMessage};
 
 use crate::views::{is_same, is_so, oack_of, owned_request_of, packet_of, request_of};
 use std::alloc::AllocError;
 use std::test::Fail;
+use tftp_hosts::Host;
 use tftp_packet::{
-    Bytes, Host, Mode, Options, OptionsView, Packet, PacketFault, Request, RequestView, Side,
-    Value, opcode, own_options, same_options, same_request, write_oack, write_packet,
-    write_request,
+    Bytes, Mode, Options, OptionsView, Packet, PacketFault, Request, RequestView, Side, Value,
+    opcode, own_options, same_options, same_request, write_oack, write_packet, write_request,
 };
 
 mod faults;

@@ -2,7 +2,8 @@
 
 use std::test::Fail;
 use tftp_ends::{PortFault, Ports, Route};
-use tftp_packet::{Dir, End, Host};
+use tftp_hosts::{Dir, Host};
+use tftp_packet::End;
 
 /// A datagram by its direction, its port at the named end, the other host, the port there and the
 /// opcode; and what is answered.

@@ -1,11 +1,12 @@
 //! The states of the two ends, on each of the two stores by the same steps.
 
 ghost use Rattle.std.specs.Prelude.{◌≤◌, OnOk};
-ghost use Rattle.tftp_ends.specs.States.{Fits, MayAcknowledge, MaySend};
+ghost use Rattle.tftp_ends.specs.{Fits, MayAcknowledge, MaySend};
 
 use std::alloc::AllocError;
 use std::test::Fail;
-use tftp_ends::{Delivered, EndFault, MapDelivered, ReceiverState, RingDelivered, SenderState};
+use tftp_blocks::{Delivered, MapDelivered, RingDelivered};
+use tftp_ends::{EndFault, ReceiverState, SenderState};
 use tftp_packet::Side;
 
 /// A call of a state, and what it answers.

@@ -2,7 +2,7 @@
 
 use std::alloc::AllocError;
 use std::test::Fail;
-use tftp_ends::{Delivered, MapDelivered, Placed, RingDelivered};
+use tftp_blocks::{Delivered, MapDelivered, Placed, RingDelivered};
 
 /// A call of a store, and what it answers.
 enum Step {

@@ -5,8 +5,8 @@ use crate::judges::{End, Judging};
 use crate::views::is_so;
 use std::alloc::{AllocError, Global};
 use std::test::Fail;
+use tftp_blocks::Delivered;
 use tftp_capture::{CaptureFault, DripReader, Tallied};
-use tftp_ends::Delivered;
 use tftp_judge::{By, Meaning, Refusal, Rule, Verdict, judge_text};
 use tftp_packet::{Mode, Side};
 

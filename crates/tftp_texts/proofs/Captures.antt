@@ -1,16 +1,13 @@
 -- What an end saw, from the oldest datagram on.
-use Rattle.std.proofs.Common.{◌≡◌, ℕ, Bool, true, false, cond, List, [], ◌∷◌, ◌++◌, map, reverse, refl, sym, ap, ◌∙◌}
-use Rattle.std.specs.Prelude.{filter}
+use Rattle.std.proofs.Common.{◌≡◌, ℕ, Bool, true, false, cond, List, [], ◌∷◌, ◌++◌, map, reverse, refl, sym, ap, ◌∙◌, filter}
 use Rattle.std.proofs.lemmas.List.{map-append, reverse-append}
 use Rattle.std.proofs.lemmas.List.Elements.{filter-append}
-use Rattle.tftp_packet.specs.declared.kinds.End.{End}
-use Rattle.tftp_packet.specs.declared.kinds.End.TheVariants.{Client, Server}
-use Rattle.tftp_transfers.specs.declared.place.Transfer.{Transfer}
-use Rattle.tftp_transfers.specs.Places.{Placed}
-use Rattle.tftp_transfers.specs.Views.{is_about, is_at_server, is_of}
+use Rattle.tftp_packet.specs.{End, Client, Server}
+use Rattle.tftp_lines.specs.{Transfer, Placed, is_of}
+use Rattle.tftp_transfers.specs.{is_about, is_at_server}
 use Rattle.tftp_transfers.proofs.OwnDatagrams.{about_none, filter_kept, seen_none}
-use Rattle.tftp_views.specs.Captured.{Naming}
-use Rattle.tftp_texts.specs.Views.{capture_at, captured_at, header_at, is_seen}
+use Rattle.tftp_views.specs.{Naming}
+use Rattle.tftp_texts.specs.{capture_at, captured_at, header_at, is_seen}
 
 pub header_is : (end : End) (x : Transfer) → record { named = end; service = x.asked.port } ≡ header_at end x
 header_is Client x = refl

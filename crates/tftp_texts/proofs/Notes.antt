@@ -1,9 +1,8 @@
 -- The datagrams that are kept, one after another.
 use Rattle.std.proofs.Common.{◌≡◌, ℕ, suc, zero, ◌+◌, ◌<◌, List, [], ◌∷◌, ◌++◌, get_or, length, map, take, refl, ap, ◌∙◌, arith}
-use Rattle.tftp_transfers.specs.Places.{Placed}
-use Rattle.tftp_views.specs.Captured.{Naming}
-use Rattle.tftp_views.specs.Kept.{AreHeld, IsFed}
-use Rattle.tftp_texts.specs.declared.noted.Noted.{Noted}
+use Rattle.tftp_lines.specs.{Placed}
+use Rattle.tftp_views.specs.{Naming, AreHeld, IsFed}
+use Rattle.tftp_texts.specs.{Noted}
 
 -- it was fed as this datagram
 abbrev pub IsFedAs : Naming → Noted → Placed → Type 0

@@ -1,27 +1,16 @@
 -- What one datagram, and then the whole, adds to a text.
-use Rattle.std.proofs.Common.{◌≡◌, ℕ, Bool, true, false, cond, List, [], ◌∷◌, ◌++◌, All, Option, Result, Ok, Err, map, reverse, take, append_assoc, append-nil, sym, ap, ◌∙◌, subst}
-use Rattle.std.specs.Prelude.{OnOk, filter}
+use Rattle.std.proofs.Common.{◌≡◌, ℕ, Bool, true, false, cond, List, [], ◌∷◌, ◌++◌, All, Option, Result, Ok, Err, map, reverse, take, append_assoc, append-nil, sym, ap, ◌∙◌, subst, OnOk, filter}
 use Rattle.std.proofs.lemmas.List.Elements.{All-cons, All-nil}
 use Rattle.tftp_capture.specs.CaptureText.{Datagram, Header}
-use Rattle.tftp_capture.specs.Commented.{Entry, said_in}
+use Rattle.tftp_capture.specs.{Entry, said_in, HasWrittenHosts, WriterState, WriteFault}
 use Rattle.tftp_capture.specs.Commented.Entry.{Comment, Passed}
-use Rattle.tftp_capture.specs.Written.{HasWrittenHosts, WriterState}
-use Rattle.tftp_capture.specs.declared.fault.WriteFault.{WriteFault}
-use Rattle.tftp_packet.specs.declared.kinds.Dir.{Dir}
-use Rattle.tftp_packet.specs.declared.kinds.Dir.TheVariants.{In, Out}
-use Rattle.tftp_packet.specs.declared.kinds.End.{End}
-use Rattle.tftp_transfers.specs.declared.place.Place.{Place}
-use Rattle.tftp_transfers.specs.declared.place.Transfer.{Transfer}
-use Rattle.tftp_transfers.specs.Kept.{AreEndsAfter}
-use Rattle.tftp_transfers.specs.Places.{Placed}
-use Rattle.tftp_transfers.specs.Views.{is_about}
-use Rattle.tftp_views.specs.Captured.{Naming, captured}
-use Rattle.tftp_views.specs.Kept.{IsFed}
-use Rattle.tftp_views.specs.declared.party.Party.{Party}
+use Rattle.tftp_hosts.specs.{Dir, In, Out}
+use Rattle.tftp_packet.specs.{End}
+use Rattle.tftp_lines.specs.{Place, Transfer, Placed}
+use Rattle.tftp_transfers.specs.{AreEndsAfter, is_about}
+use Rattle.tftp_views.specs.{Naming, captured, IsFed, Party}
 use Rattle.tftp_views.proofs.Feeding.{came_in, went_out}
-use Rattle.tftp_texts.specs.Kept.{AreNotesAfter, Notes}
-use Rattle.tftp_texts.specs.declared.noted.Noted.{Noted}
-use Rattle.tftp_texts.specs.Views.{HasComment, IsComment, capture_at, captured_at, is_seen, way_at}
+use Rattle.tftp_texts.specs.{AreNotesAfter, Notes, Noted, HasComment, IsComment, capture_at, captured_at, is_seen, way_at}
 
 pub on_written : {A B : Type 0} (r : Result (Unit {0}) WriteFault) → (A → B) → OnOk r A → OnOk r B
 on_written (Ok u) f a = f a

@@ -1,13 +1,9 @@
 -- What is kept of a transfer for its text.
 use Rattle.std.specs.Prelude.{◌≡◌, ◌≤◌, List, filter, length, map, reverse}
-use Rattle.tftp_capture.specs.CaptureText.{IsPort}
-use Rattle.tftp_transfers.specs.Kept.{AreEndsAfter}
-use Rattle.tftp_transfers.specs.Places.{Placed}
-use Rattle.tftp_transfers.specs.Views.{is_about}
-use Rattle.tftp_transfers.specs.declared.place.Transfer.{Transfer}
-use Rattle.tftp_transfers.specs.declared.views.TransferEnds.{TransferEnds}
-use Rattle.tftp_views.specs.Captured.{Naming}
-use Rattle.tftp_views.specs.Kept.{AreHeld}
+use Rattle.tftp_capture.specs.{IsPort}
+use Rattle.tftp_transfers.specs.{AreEndsAfter, is_about, TransferEnds}
+use Rattle.tftp_lines.specs.{Placed, Transfer}
+use Rattle.tftp_views.specs.{Naming, AreHeld}
 use Rattle.tftp_texts.specs.declared.noted.Noted.{Noted}
 
 -- its ends, and its datagrams with a comment each, the oldest first

@@ -1,16 +1,13 @@
 -- The capture text of what an end of a transfer saw. Lists of placed datagrams have the newest first.
 use Rattle.std.specs.Prelude.{◌≡◌, ℕ, ◌≤◌, Bool, List, All, filter, length, map, reverse}
-use Rattle.tftp_packet.specs.declared.kinds.Dir.{Dir}
-use Rattle.tftp_packet.specs.declared.kinds.End.{End}
-use Rattle.tftp_packet.specs.declared.kinds.End.TheVariants.{Client, Server}
+use Rattle.tftp_hosts.specs.{Dir}
+use Rattle.tftp_packet.specs.{End, Client, Server}
 use Rattle.tftp_capture.specs.CaptureText.{Datagram, Header}
-use Rattle.tftp_capture.specs.Commented.{Entry, commented_text, said_in}
+use Rattle.tftp_capture.specs.{Entry, commented_text, said_in, HasNoEnd}
 use Rattle.tftp_capture.specs.Commented.Entry.{Comment, Passed}
-use Rattle.tftp_capture.specs.Lines.{HasNoEnd}
-use Rattle.tftp_transfers.specs.declared.place.Transfer.{Transfer}
-use Rattle.tftp_transfers.specs.Places.{Placed}
-use Rattle.tftp_transfers.specs.Views.{is_at_server, is_of}
-use Rattle.tftp_views.specs.Captured.{Naming, captured, client_header, server_header, way_at_client, way_at_server}
+use Rattle.tftp_lines.specs.{Transfer, Placed, is_of}
+use Rattle.tftp_transfers.specs.{is_at_server}
+use Rattle.tftp_views.specs.{Naming, captured, client_header, server_header, way_at_client, way_at_server}
 
 -- of the transfer with this number the datagram is in the end's view
 abbrev pub is_seen : End → ℕ → List Placed → Placed → Bool

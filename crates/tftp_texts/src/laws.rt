@@ -1,17 +1,13 @@
 //! Laws of the definitions in `specs/`. Each is the contract of a function that does nothing.
 
 ghost use Rattle.std.specs.Prelude.{◌≡◌, ◌^◌, ◌≤◌, ℕ, List, Result, All, length, reverse};
-ghost use Rattle.tftp_capture.specs.CaptureText.{IsCapture, IsLawful, IsPort, Numbered};
-ghost use Rattle.tftp_ends.specs.CaptureText.{Datagram, Header};
-ghost use Rattle.tftp_ends.specs.Meaning.{Meaning};
-ghost use Rattle.tftp_judge.specs.TextVerdict.{IsTextVerdict, unnumbered};
-ghost use Rattle.tftp_judge.specs.Verdict.{IsSaid, IsVerdict};
-ghost use Rattle.tftp_judge.specs.declared.refusal.Refusal.{Refusal};
-ghost use Rattle.tftp_packet.specs.declared.kinds.End.TheVariants.{Client, Server};
-ghost use Rattle.tftp_transfers.specs.Places.{Placed};
-ghost use Rattle.tftp_transfers.specs.declared.place.Transfer.{Transfer};
-ghost use Rattle.tftp_views.specs.Captured.{Naming, client_capture, server_capture};
-ghost use Rattle.tftp_views.specs.Judged.{of_text};
+ghost use Rattle.tftp_capture.specs.{IsCapture, IsLawful, IsPort, Numbered};
+ghost use Rattle.tftp_hosts.specs.{Datagram, Header};
+ghost use Rattle.tftp_model.specs.{Meaning};
+ghost use Rattle.tftp_judge.specs.{IsTextVerdict, unnumbered, IsSaid, IsVerdict, Refusal};
+ghost use Rattle.tftp_packet.specs.{Client, Server};
+ghost use Rattle.tftp_lines.specs.{Placed, Transfer};
+ghost use Rattle.tftp_views.specs.{Naming, client_capture, server_capture, of_text};
 ghost use Rattle.tftp_texts.specs.Views.{IsTextOf, capture_at};
 
 /// A text of datagrams that can stand in one is a capture of just these; and what there is to say of them is its verdict.

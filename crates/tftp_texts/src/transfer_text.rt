@@ -2,15 +2,12 @@
 
 ghost use Rattle.std.specs.Prelude.{◌≡◌, ◌+◌, ◌^◌, ◌<◌, ◌≤◌, ◌∷◌, ◌++◌, ℕ, List, [], All, Option, filter, length, IfSome, OnErr, OnOk, None, Ok, true, false};
 ghost use Rattle.std.specs.Io.KnownBytes.{Appends};
-ghost use Rattle.tftp_capture.specs.CaptureText.{Header as HeaderParts, IsPort};
-ghost use Rattle.tftp_capture.specs.Commented.{Entry, said_in};
-ghost use Rattle.tftp_capture.specs.Written.{HasWrittenHosts};
-ghost use Rattle.tftp_packet.specs.declared.kinds.Dir.TheVariants.{In, Out};
-ghost use Rattle.tftp_transfers.specs.Kept.{AreEndsAfter};
-ghost use Rattle.tftp_transfers.specs.Places.{Placed};
-ghost use Rattle.tftp_transfers.specs.Views.{is_about, is_end, server_of};
-ghost use Rattle.tftp_views.specs.Captured.{Naming};
-ghost use Rattle.tftp_views.specs.Kept.{IsFed};
+ghost use Rattle.tftp_capture.specs.CaptureText.{Header as HeaderParts};
+ghost use Rattle.tftp_capture.specs.{IsPort, Entry, said_in, HasWrittenHosts};
+ghost use Rattle.tftp_hosts.specs.{In, Out};
+ghost use Rattle.tftp_transfers.specs.{AreEndsAfter, is_about, is_end, server_of};
+ghost use Rattle.tftp_lines.specs.{Placed};
+ghost use Rattle.tftp_views.specs.{Naming, IsFed};
 ghost use Rattle.tftp_texts.specs.Kept.{AreNotesAfter, CanBeWritten};
 ghost use Rattle.tftp_texts.specs.Views.{HasComment, IsTextOf, capture_at, captured_at, header_at, is_seen, way_at};
 
@@ -20,8 +17,10 @@ use std::alloc::{AllocError, Global};
 use std::io::Write;
 use std::marker::Model;
 use tftp_capture::{Header, HostCaptureWriter, Tallied, WriteFault};
-use tftp_packet::{Bytes, Dir, End};
-use tftp_transfers::{Endpoint, Place, Transfer, TransferEnds};
+use tftp_hosts::Dir;
+use tftp_lines::{Endpoint, Place, Transfer};
+use tftp_packet::{Bytes, End};
+use tftp_transfers::TransferEnds;
 use tftp_views::{Held, Party};
 
 /// The most datagrams that are kept.

@@ -1,12 +1,6 @@
 -- What a datagram makes doubtful, where it begins a line.
 use Rattle.std.proofs.Common.{◌≡◌, ℕ, false, List, [], Some, None, refl, ap, ◌∙◌}
-use Rattle.tftp_transfers.specs.declared.place.Place.{Place}
-use Rattle.tftp_transfers.specs.declared.place.Place.TheVariants.{Opens, Repeats, Talks, Apart, Beside, Nowhere}
-use Rattle.tftp_transfers.specs.declared.place.Transfer.{Transfer}
-use Rattle.tftp_transfers.specs.declared.doubts.Doubts.{Doubts}
-use Rattle.tftp_transfers.specs.Recording.{Recorded}
-use Rattle.tftp_transfers.specs.Places.{Placed, live, line, transfer_of}
-use Rattle.tftp_transfers.specs.Doubts.{doubts_of}
+use Rattle.tftp_lines.specs.{Place, Opens, Repeats, Talks, Apart, Beside, Nowhere, Transfer, Doubts, Recorded, Placed, live, line, transfer_of, doubts_of}
 
 abbrev pub none_of : Doubts
 none_of = record { goes_over = false; is_late = false; is_disordered = false; is_asked_again = false; may_be_answer_of = None }

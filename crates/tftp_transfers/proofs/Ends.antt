@@ -1,17 +1,11 @@
 -- What a place says of the ends of its datagram.
-use Rattle.std.proofs.Common.{◌≡◌, ◌≢◌, ◌⊎◌, ℕ, ◌+◌, Bool, true, false, List, [], ◌∷◌, Option, Some, None, inl, inr, refl, sym, ap, subst, ◌∙◌}
-use Rattle.std.specs.Prelude.{◌&&◌, not, nat_le, option_map, length, if◌then◌else◌}
+use Rattle.std.proofs.Common.{◌≡◌, ◌≢◌, ◌⊎◌, ℕ, ◌+◌, Bool, true, false, List, [], ◌∷◌, Option, Some, None, inl, inr, refl, sym, ap, subst, ◌∙◌, ◌&&◌, not, nat_le, option_map, length, if◌then◌else◌}
 use Rattle.std.specs.List.{AllByRecursion}
-use Rattle.tftp_transfers.specs.declared.endpoint.Endpoint.{Endpoint}
-use Rattle.tftp_transfers.specs.declared.place.Place.{Place}
-use Rattle.tftp_transfers.specs.declared.place.Place.TheVariants.{Opens, Repeats, Talks, Apart, Beside, Nowhere}
-use Rattle.tftp_transfers.specs.declared.place.Transfer.{Transfer}
-use Rattle.tftp_transfers.specs.declared.line.Talk.{Talk}
-use Rattle.tftp_transfers.specs.Recording.{Recorded, same_endpoint, is_between, is_again}
-use Rattle.tftp_transfers.specs.Places.{Placed, opens, is_request, is_apart, is_at, newest_of, live, line, silence, transfer_of, latest_in, answered_in, talked_of, talk_in, place_asked, place_talked, place_at, either, or_talks, at_client, beside, beside_by, served_at, is_nowhere, asks, place_of, opened_by, asked_after, is_known_host, last_was_ack_0}
-use Rattle.tftp_transfers.proofs.Endpoints.{is_same}
-use Rattle.tftp_transfers.proofs.Lines.{by_test}
-use Rattle.tftp_transfers.proofs.AllLines.{line_here, line_elsewhere}
+use Rattle.tftp_lines.specs.{Endpoint, Place, Opens, Repeats, Talks, Apart, Beside, Nowhere, Transfer, Talk, Recorded, same_endpoint, is_between, is_again, Placed, opens, is_request, is_apart, is_at, newest_of, live, line, silence, transfer_of, latest_in, answered_in, talked_of, talk_in, place_asked, place_talked, place_at, opened_by, asked_after, is_known_host, last_was_ack_0}
+use Rattle.tftp_transfers.specs.{either, or_talks, at_client, beside, beside_by, served_at, is_nowhere, asks, place_of}
+use Rattle.tftp_lines.proofs.Endpoints.{is_same}
+use Rattle.tftp_lines.proofs.Lines.{by_test}
+use Rattle.tftp_lines.proofs.AllLines.{line_here, line_elsewhere}
 
 -- ---- all of a line passed at its client
 

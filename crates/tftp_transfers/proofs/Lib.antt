@@ -1,8 +1,3 @@
-pub mod Endpoints
-pub mod Lines
-pub mod Requests
-pub mod Silences
-pub mod AllLines
 pub mod Ends
 pub mod Serving
 pub mod Doubting

@@ -1,13 +1,8 @@
 -- Of which transfer a datagram is seen.
-use Rattle.std.proofs.Common.{◌≡◌, ◌⊎◌, ℕ, Bool, true, List, inl, inr, refl, sym, ◌∙◌}
-use Rattle.std.specs.Prelude.{◌==◌, ◌&&◌, ◌||◌}
+use Rattle.std.proofs.Common.{◌≡◌, ◌⊎◌, ℕ, Bool, true, List, inl, inr, refl, sym, ◌∙◌, ◌==◌, ◌&&◌, ◌||◌}
 use Rattle.std.proofs.lemmas.Bool.{and_parts, eqb-true}
-use Rattle.tftp_transfers.specs.declared.place.Place.{Place}
-use Rattle.tftp_transfers.specs.declared.place.Place.TheVariants.{Opens, Repeats, Talks, Apart, Beside, Nowhere}
-use Rattle.tftp_transfers.specs.Recording.{Recorded, other_of}
-use Rattle.tftp_transfers.specs.Places.{Placed}
-use Rattle.tftp_transfers.specs.Views.{is_of, is_at_server, is_server, is_end, server_of}
-use Rattle.tftp_transfers.specs.Doubts.{is_beside}
+use Rattle.tftp_lines.specs.{Place, Opens, Repeats, Talks, Apart, Beside, Nowhere, Recorded, other_of, Placed, is_of}
+use Rattle.tftp_transfers.specs.{is_at_server, is_server, is_end, server_of, is_beside}
 
 one_number : (n m k : ℕ) → (k == n) ≡ true → (k == m) ≡ true → n ≡ m
 one_number n m k is also = sym (eqb-true k n is) ∙ eqb-true k m also

@@ -1,20 +1,13 @@
 -- Who served whom, after one datagram more; and the other end of a datagram.
-use Rattle.std.proofs.Common.{◌≡◌, ◌≢◌, ◌≤◌, ◌⊎◌, ℕ, ◌+◌, Bool, true, false, List, [], ◌∷◌, Option, Some, None, cond, inl, inr, refl, sym, ap, subst, ◌∙◌}
-use Rattle.std.specs.Prelude.{◌||◌, nat_le, if◌then◌else◌}
+use Rattle.std.proofs.Common.{◌≡◌, ◌≢◌, ◌≤◌, ◌⊎◌, ℕ, ◌+◌, Bool, true, false, List, [], ◌∷◌, Option, Some, None, cond, inl, inr, refl, sym, ap, subst, ◌∙◌, ◌||◌, nat_le, if◌then◌else◌}
 use Rattle.std.specs.BTreeMap.{get, BTreeMap}
 use Rattle.std.specs.Ordering.{is_eq}
 use Rattle.std.proofs.lemmas.Bool.{false≢true, and_from}
-use Rattle.tftp_transfers.specs.declared.endpoint.Endpoint.{Endpoint}
-use Rattle.tftp_transfers.specs.declared.place.Place.TheVariants.{Talks}
-use Rattle.tftp_transfers.specs.declared.place.Transfer.{Transfer}
-use Rattle.tftp_transfers.specs.declared.attribution.Served.{Served}
-use Rattle.tftp_transfers.specs.declared.line.Line.{Line}
-use Rattle.tftp_transfers.specs.Recording.{Recorded, same_endpoint, endpoint_cmp, goes, is_between}
-use Rattle.tftp_transfers.specs.Places.{Placed, latest_in, newer, serves, clock, silence, last_served, served_within, served_by}
-use Rattle.tftp_transfers.specs.Kept.{IsLineOf, seen_of, other_end, IsServedKept, AreServed}
-use Rattle.tftp_transfers.proofs.Endpoints.{same_itself, same_by_order, is_same}
-use Rattle.tftp_transfers.proofs.Silences.{still_false}
-use Rattle.tftp_transfers.proofs.Lines.{by_test}
+use Rattle.tftp_lines.specs.{Endpoint, Talks, Transfer, Line, Recorded, same_endpoint, endpoint_cmp, goes, is_between, Placed, latest_in, clock, silence, IsLineOf, seen_of, other_end}
+use Rattle.tftp_transfers.specs.{Served, newer, serves, last_served, served_within, served_by, IsServedKept, AreServed}
+use Rattle.tftp_lines.proofs.Endpoints.{same_itself, same_by_order, is_same}
+use Rattle.tftp_lines.proofs.Silences.{still_false}
+use Rattle.tftp_lines.proofs.Lines.{by_test}
 
 pub served_there : (o : Endpoint) (d : Recorded) (x : Transfer) (now : ℕ) (rest : Option Served) → same_endpoint d.target x.client ≡ true
     → newer (serves o (record { datagram = d; moment = now; place = Talks x })) rest ≡ cond (same_endpoint d.source o) (Some (record { transfer = x; moment = now })) rest

@@ -2,17 +2,11 @@
 -- contract names `SparesClients`, so it is not proved. tests/attribution.py tries it on drawn recordings.
 use Rattle.std.specs.Prelude.{◌≡◌, ◌≤◌, ℕ, ◌+◌, ◌||◌, Bool, true, List, [], ◌∷◌, ◌++◌, map, reverse, filter, All, Contains, Some, if◌then◌else◌}
 use Rattle.std.specs.List.{flat_map}
-use Rattle.tftp_packet.specs.declared.kinds.Dir.TheVariants.{In, Out}
-use Rattle.tftp_packet.specs.declared.kinds.End.TheVariants.{Client}
-use Rattle.tftp_ends.specs.CaptureText.{Datagram, Header}
-use Rattle.tftp_law.specs.Law.{IsLawful}
-use Rattle.tftp_law.specs.OneEnded.{IsRefused}
-use Rattle.tftp_law.specs.declared.rule.Rule.{Rule}
-use Rattle.tftp_transfers.specs.declared.endpoint.Address.{Address}
-use Rattle.tftp_transfers.specs.declared.endpoint.Endpoint.{Endpoint}
-use Rattle.tftp_transfers.specs.declared.place.Transfer.{Transfer}
-use Rattle.tftp_transfers.specs.Recording.{Recorded, same_endpoint}
-use Rattle.tftp_transfers.specs.Places.{Placed, silence, transfer_of, placed}
+use Rattle.tftp_hosts.specs.{In, Out, Datagram, Header}
+use Rattle.tftp_packet.specs.{Client}
+use Rattle.tftp_law.specs.{IsLawful, IsRefused, Rule}
+use Rattle.tftp_lines.specs.{Address, Endpoint, Transfer, Recorded, same_endpoint, Placed, silence, transfer_of}
+use Rattle.tftp_transfers.specs.Places.{placed}
 use Rattle.tftp_transfers.specs.Views.{client_view}
 use Rattle.tftp_transfers.specs.Doubts.{is_doubtful}
 

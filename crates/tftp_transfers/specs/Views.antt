@@ -1,20 +1,7 @@
 -- What each end of a transfer saw of it. Lists have the newest first; a transfer is known by its number.
 use Rattle.std.specs.Prelude.{ℕ, ◌==◌, ◌&&◌, ◌||◌, not, Bool, false, List, filter, Option, Some, None, option_map}
-use Rattle.tftp_ends.specs.Ports.{first_of}
-use Rattle.tftp_transfers.specs.declared.endpoint.Endpoint.{Endpoint}
-use Rattle.tftp_transfers.specs.declared.place.Place.{Place}
-use Rattle.tftp_transfers.specs.declared.place.Place.TheVariants.{Opens, Repeats, Talks, Apart, Beside, Nowhere}
-use Rattle.tftp_transfers.specs.Recording.{same_address, same_endpoint, other_of, begins_error}
-use Rattle.tftp_transfers.specs.Places.{Placed}
-
--- it passed at the transfer's client
-abbrev pub is_of : ℕ → Placed → Bool
-is_of n p = by p.place where
-  by : Place → Bool
-  by (Opens x) = x.number == n
-  by (Repeats x) = x.number == n
-  by (Talks x) = x.number == n
-  by _ = false
+use Rattle.tftp_rules.specs.{first_of}
+use Rattle.tftp_lines.specs.{Endpoint, Place, Opens, Repeats, Talks, Apart, Beside, Nowhere, same_address, same_endpoint, other_of, begins_error, Placed, is_of}
 
 abbrev pub client_view : ℕ → List Placed → List Placed
 client_view n placed = filter (is_of n) placed

@@ -1,12 +1,9 @@
 -- Recordings, the newest datagram first, with times in seconds.
 use Rattle.std.specs.Prelude.{ℕ, ◌*◌, Bool, true, false, List, [], ◌∷◌, ◌++◌, map, codes}
-use Rattle.tftp_transfers.specs.declared.endpoint.Address.TheVariants.{V4}
-use Rattle.tftp_transfers.specs.declared.endpoint.Endpoint.{Endpoint}
-use Rattle.tftp_transfers.specs.Recording.{Recorded}
-use Rattle.tftp_transfers.specs.declared.place.Place.{Place}
-use Rattle.tftp_transfers.specs.Places.{Placed, placed}
+use Rattle.tftp_lines.specs.{V4, Endpoint, Recorded, Place, Placed, is_late}
+use Rattle.tftp_transfers.specs.Places.{placed}
 use Rattle.tftp_transfers.specs.Views.{client_view, server_view}
-use Rattle.tftp_transfers.specs.Doubts.{is_doubted, is_late, some_of}
+use Rattle.tftp_transfers.specs.Doubts.{is_doubted, some_of}
 
 abbrev pub at : ℕ → ℕ → Endpoint
 at host port = record { address = V4 (192 ∷ 0 ∷ 2 ∷ host ∷ []); port = port }

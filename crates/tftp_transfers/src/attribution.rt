@@ -2,44 +2,19 @@
 
 ghost use Rattle.std.specs.Prelude.{◌≡◌, ◌≢◌, ◌≤◌, ◌+◌, ◌∷◌, ℕ, List, [], MatchBool, OnOk, IfOk, IsOk, Err, ◌^◌, ◌<◌, max, true, false, ◌&&◌, ◌||◌, not, is_some, nat_le, MatchOption, IfSome, Some, None, if◌then◌else◌};
 ghost use Rattle.std.specs.BTreeMap.{get};
-ghost use Rattle.tftp_transfers.specs.Recording.{Recorded, endpoint_cmp};
-ghost use Rattle.tftp_transfers.specs.Places.{
-  Placed,
-  live,
-  line,
-  clock,
-  silence,
-  is_service,
-  asks,
-  talk_in,
-  place_asked,
-  place_at,
-  either,
-  at_client,
-  served_by,
-  served_at,
-  beside,
-  beside_by,
-  is_nowhere,
-  or_talks,
-  place_of,
-  and_then,
-};
-ghost use Rattle.tftp_transfers.specs.Kept.{IsLineOf, IsAfter, AreLinesOf, AreServed, AreServices, IsRecorded, seen_of, is_asked, takes_memory};
-ghost use Rattle.tftp_transfers.specs.Doubts.{doubts_of};
-ghost use Rattle.tftp_transfers.specs.declared.place.Place.{Place};
+ghost use Rattle.tftp_lines.specs.{Recorded, endpoint_cmp, Placed, live, line, clock, silence, talk_in, place_asked, place_at, IsLineOf, AreLinesOf, seen_of, doubts_of, Place};
+ghost use Rattle.tftp_transfers.specs.Places.{is_service, asks, either, at_client, served_by, served_at, beside, beside_by, is_nowhere, or_talks, place_of, and_then};
+ghost use Rattle.tftp_transfers.specs.Kept.{IsAfter, AreServed, AreServices, IsRecorded, is_asked, takes_memory};
 ghost use Rattle.tftp_transfers.specs.declared.attribution.AttributionFault.{AttributionFault};
 
-use crate::all_lines::{begin, let_line_go, next_line, note, reopen, repeat};
-use crate::doubts::Doubts;
-use crate::endpoint::{Address, Endpoint};
-use crate::kind::{Kind, Seen, other_end};
-use crate::line::{Line, SILENCE};
-use crate::place::{Place, Transfer};
 use std::alloc::{AllocError, Global};
 use std::collections::{BTreeMap, BTreeSet};
 use std::convert::From;
 use std::ops::Bound;
+use tftp_lines::all_lines::{begin, let_line_go, next_line, note, reopen, repeat};
+use tftp_lines::{
+    Address, Doubts, Endpoint, Kind, Line, Place, SILENCE, Seen, Transfer, other_end,
+};
 
 /// Why a datagram got no place.
 #[derive(Clone, Copy, Debug, PartialEq, Eq)]

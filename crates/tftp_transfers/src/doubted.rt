@@ -1,9 +1,8 @@
 //! The doubts of one transfer, of all its datagrams.
 
 ghost use Rattle.std.specs.Prelude.{◌≡◌, ◌∷◌, ℕ, List, []};
-ghost use Rattle.tftp_transfers.specs.Places.{Placed};
-ghost use Rattle.tftp_transfers.specs.Doubts.{doubts_of, goes_over, is_late, is_disordered, is_asked_again, is_answered_apart, is_doubted, some_of};
-ghost use Rattle.tftp_transfers.specs.Views.{is_of};
+ghost use Rattle.tftp_lines.specs.{Placed, is_of, doubts_of, goes_over, is_late, is_disordered, is_asked_again};
+ghost use Rattle.tftp_transfers.specs.Doubts.{is_answered_apart, is_doubted, some_of};
 ghost use Rattle.tftp_transfers.specs.Kept.{IsDoubtedAfter};
 
 use crate::attribution::Attributed;

@@ -2,13 +2,11 @@
 
 ghost use Rattle.std.specs.Prelude.{◌≡◌, ◌≢◌, ◌⊎◌, ◌≤◌, ℕ, List, true, false, [], ◌∷◌, codes, filter, length};
 ghost use Rattle.std.specs.List.{All};
-ghost use Rattle.tftp_transfers.specs.Recording.{Recorded};
-ghost use Rattle.tftp_transfers.specs.Places.{Placed, live, line, place_of, placed};
+ghost use Rattle.tftp_lines.specs.{Recorded, Placed, live, line, is_of, Place, Transfer};
+ghost use Rattle.tftp_transfers.specs.Places.{place_of, placed};
 ghost use Rattle.tftp_transfers.specs.Settled.{is_settled};
-ghost use Rattle.tftp_transfers.specs.Views.{client_view, is_about, is_at_server, is_of, server_of, server_view};
+ghost use Rattle.tftp_transfers.specs.Views.{client_view, is_about, is_at_server, server_of, server_view};
 ghost use Rattle.tftp_transfers.specs.Doubts.{is_answered_apart, is_beside};
-ghost use Rattle.tftp_transfers.specs.declared.place.Place.{Place};
-ghost use Rattle.tftp_transfers.specs.declared.place.Transfer.{Transfer};
 ghost use Rattle.tftp_transfers.specs.Worked.{
   Where,
   where_all,

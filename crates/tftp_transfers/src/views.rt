@@ -1,14 +1,13 @@
 //! The two ends of one transfer, and which datagrams each of them saw.
 
 ghost use Rattle.std.specs.Prelude.{◌≡◌, ◌∷◌, ℕ, List, [], false};
-ghost use Rattle.tftp_ends.specs.Ports.{or_this};
-ghost use Rattle.tftp_transfers.specs.Places.{Placed};
-ghost use Rattle.tftp_transfers.specs.Views.{is_about, is_of, opened_it, comes, goes_on, server_of, has_host, has_port, is_end, is_server, is_at_server};
+ghost use Rattle.tftp_rules.specs.{or_this};
+ghost use Rattle.tftp_lines.specs.{Placed, is_of};
+ghost use Rattle.tftp_transfers.specs.Views.{is_about, opened_it, comes, goes_on, server_of, has_host, has_port, is_end, is_server, is_at_server};
 ghost use Rattle.tftp_transfers.specs.Kept.{AreEndsAfter};
 ghost use Rattle.tftp_transfers.specs.Settled.{is_settled};
 
-use crate::endpoint::Endpoint;
-use crate::place::Place;
+use tftp_lines::{Endpoint, Place};
 use tftp_packet::opcode;
 
 /// Whom a transfer's client asked, who answered it, and with whom it went on, by the datagrams that have been noted.

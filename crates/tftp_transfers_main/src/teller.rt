@@ -6,7 +6,8 @@ use crate::verdicts::{Judged, Told};
 use anyhow::Result;
 use serde::Serialize;
 use std::alloc::AllocError;
-use tftp_session::{Ended, Session, Span, put_plain};
+use tftp_blame::Span;
+use tftp_session::{Ended, Session, put_plain};
 use tftp_verdict_rows::Row;
 
 /// What is told of each transfer.

@@ -1,12 +1,13 @@
 //! The verdict on a transfer at each point where it was judged.
 
 use std::alloc::{AllocError, Global};
+use tftp_blame::{Blamed, Doubted, Span, Trail, put_unseen};
 use tftp_capture::Tallied;
 use tftp_commands::{say_accepted, say_verdict};
 use tftp_judge::{Meaning, Refusal, Rule, Verdict};
 use tftp_packet::End;
 use tftp_recording_judge::Verdicts;
-use tftp_session::{Blamed, Doubted, Ended, Span, Trail, put_unseen};
+use tftp_session::Ended;
 use tftp_tap_judge::TapRefusal;
 use tftp_verdict_rows::{Place, Point, Row, Rows, Said, rows_told};
 

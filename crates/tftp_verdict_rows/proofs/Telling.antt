@@ -1,9 +1,6 @@
 -- Nothing that was judged is hidden.
 use Rattle.std.proofs.Common.{rules, Any, Bool, true, false, IsSome, None, Option, Some, inl, inr, refl, ◌≢◌}
-use Rattle.tftp_verdict_rows.specs.Told.{Tells, both_row, plain_row, rows_told, said_at}
-use Rattle.tftp_verdict_rows.specs.declared.row.Point.{Point}
-use Rattle.tftp_verdict_rows.specs.declared.row.Point.TheVariants.{Client, Server, Between}
-use Rattle.tftp_verdict_rows.specs.declared.said.Said.{Said}
+use Rattle.tftp_verdict_rows.specs.{Tells, both_row, plain_row, rows_told, said_at, Point, Client, Server, Between, Said}
 
 by_both : (c s : Said) (point : Point) → point ≢ Between → Tells (Some c) (Some s) true point both_row
 by_both c s point not = inr (refl, not, refl, search rules, search rules)

@@ -1,1 +1,5 @@
 pub mod Told
+pub use Told.{Tells, both_row, plain_row, rows_told, said_at}
+pub use declared.row.Point.{Point}
+pub use declared.row.Point.TheVariants.{Between, Client, Server}
+pub use declared.said.Said.{Said}

@@ -1,9 +1,9 @@
 -- Which verdicts are told of a transfer, by the points at which it was judged.
 use Rattle.std.specs.Prelude.{◌≡◌, ◌≢◌, ◌⊎◌, ◌&&◌, ℕ, Bool, true, false, List, [], ◌∷◌, ◌++◌, Option, Some, None, IsSome, is_some, option_to_list, Result, Ok, Err, if◌then◌else◌}
-use Rattle.tftp_ends.specs.Meaning.{Meaning}
-use Rattle.tftp_judge.specs.declared.refusal.Refusal.{Refusal}
+use Rattle.tftp_model.specs.{Meaning}
+use Rattle.tftp_judge.specs.{Refusal}
 use Rattle.tftp_judge.specs.declared.refusal.Refusal.TheVariants as refusal
-use Rattle.tftp_tap_judge.specs.declared.refusal.TapRefusal.{TapRefusal}
+use Rattle.tftp_tap_judge.specs.{TapRefusal}
 use Rattle.tftp_tap_judge.specs.declared.refusal.TapRefusal.TheVariants as tap
 use Rattle.tftp_verdict_rows.specs.declared.said.Said.{Said}
 use Rattle.tftp_verdict_rows.specs.declared.said.Said.TheVariants.{Accepted, Refused, NotWhole, Memory}

@@ -1,7 +1,7 @@
 //! Laws of the definitions in `specs/`. Each is the contract of a function that does nothing.
 
 ghost use Rattle.std.specs.Prelude.{◌≡◌, ◌∷◌, [], Any, Bool, IsSome, None, Option, Some, true, false};
-ghost use Rattle.tftp_law.specs.declared.rule.Rule.TheVariants.{BlockSkipped, GoneBack};
+ghost use Rattle.tftp_law.specs.{BlockSkipped, GoneBack};
 ghost use Rattle.tftp_verdict_rows.specs.Told.{Tells, both_row, plain_row, rows_told, said_at};
 ghost use Rattle.tftp_verdict_rows.specs.declared.row.Point.{Point as PointKind};
 ghost use Rattle.tftp_verdict_rows.specs.declared.row.Point.TheVariants.{Client, Server, Between};

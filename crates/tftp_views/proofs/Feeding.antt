@@ -1,17 +1,11 @@
 -- What is fed is captured as it passed.
-use Rattle.std.proofs.Common.{◌≡◌, ℕ, Bool, true, false, cond, List, ◌∷◌, refl, sym, ap, ◌∙◌, map}
-use Rattle.std.specs.Prelude.{filter}
-use Rattle.tftp_capture.specs.Fields.{datagram_of}
+use Rattle.std.proofs.Common.{◌≡◌, ℕ, Bool, true, false, cond, List, ◌∷◌, refl, sym, ap, ◌∙◌, map, filter}
+use Rattle.tftp_capture.specs.{datagram_of}
 use Rattle.tftp_capture.specs.declared.datagram.Datagram.{Datagram as Owned}
-use Rattle.tftp_packet.specs.declared.kinds.Dir.{Dir}
-use Rattle.tftp_packet.specs.declared.kinds.Dir.TheVariants.{In, Out}
-use Rattle.tftp_transfers.specs.declared.place.Place.{Place}
-use Rattle.tftp_transfers.specs.declared.place.Transfer.{Transfer}
-use Rattle.tftp_transfers.specs.Places.{Placed}
-use Rattle.tftp_transfers.specs.Views.{is_at_server}
-use Rattle.tftp_views.specs.declared.party.Party.{Party}
-use Rattle.tftp_views.specs.Captured.{Naming, captured, captured_at_server, server_capture, way_at_server}
-use Rattle.tftp_views.specs.Kept.{IsFed}
+use Rattle.tftp_hosts.specs.{Dir, In, Out}
+use Rattle.tftp_lines.specs.{Place, Transfer, Placed}
+use Rattle.tftp_transfers.specs.{is_at_server}
+use Rattle.tftp_views.specs.{Party, Naming, captured, captured_at_server, server_capture, way_at_server, IsFed}
 
 module _ (name : Naming) (p : Placed) (place : Place) (source target : Party) (payload : List ℕ) (fed : IsFed name p place source target payload) where
   from_host : name p.datagram.source.address ≡ source.host

@@ -1,23 +1,16 @@
 -- The verdict on what a judge was given, and on the text that has just that.
-use Rattle.std.proofs.Common.{◌≡◌, ℕ, ◌+◌, List, [], ◌∷◌, ◌++◌, reverse, Option, Some, None, Result, Ok, Err, refl, sym, ap, ◌∙◌, subst, append_assoc}
-use Rattle.std.specs.Prelude.{OnOk, IfErr}
+use Rattle.std.proofs.Common.{◌≡◌, ℕ, ◌+◌, List, [], ◌∷◌, ◌++◌, reverse, Option, Some, None, Result, Ok, Err, refl, sym, ap, ◌∙◌, subst, append_assoc, OnOk, IfErr}
 use Rattle.std.proofs.lemmas.List.{length-reverse, reverse-append, reverse-reverse}
-use Rattle.tftp_capture.specs.CaptureText.{IsCapture, numbered, text_with_hosts}
+use Rattle.tftp_capture.specs.{IsCapture, numbered, text_with_hosts}
 use Rattle.tftp_capture.proofs.Beginnings.{capture_begins}
 use Rattle.tftp_capture.proofs.Canonical.{hosts_are_read}
-use Rattle.tftp_ends.specs.CaptureText.{Datagram, Header}
-use Rattle.tftp_ends.specs.Meaning.{Meaning}
-use Rattle.tftp_law.specs.OneEnded.{OneEnded, Passes}
-use Rattle.tftp_law.specs.Rules.{FirstBroken}
-use Rattle.tftp_law.specs.declared.rule.Rule.{Rule}
-use Rattle.tftp_judge.specs.Finds.{Refuses}
-use Rattle.tftp_judge.specs.Kept.{IsJudgeAfter, Judge}
-use Rattle.tftp_judge.specs.TextVerdict.{IsTextVerdict, unnumbered}
-use Rattle.tftp_judge.specs.Verdict.{IsSaid, IsVerdict, IsVerdictByRules}
-use Rattle.tftp_judge.specs.declared.refusal.Refusal.{Refusal}
-use Rattle.tftp_judge.specs.declared.refusal.Refusal.TheVariants.{Unlawful, Aborted, Incomplete, NormalTooLong, Memory}
+use Rattle.tftp_hosts.specs.{Datagram, Header}
+use Rattle.tftp_model.specs.{Meaning}
+use Rattle.tftp_law.specs.{OneEnded, Passes, FirstBroken, Rule}
+use Rattle.tftp_judge.specs.{Refuses, IsJudgeAfter, Judge, IsTextVerdict, unnumbered, IsSaid, IsVerdict, IsVerdictByRules, Refusal, Unlawful, Aborted, Incomplete, NormalTooLong}
+use Rattle.tftp_judge.specs.declared.refusal.Refusal.TheVariants.{Memory}
 use Rattle.tftp_judge.proofs.ByRuns.{verdict}
-use Rattle.tftp_views.specs.Judged.{AreWritten, HasJudged, IsJudged, IsRefusedIn, JudgedBy, of_text}
+use Rattle.tftp_views.specs.{AreWritten, HasJudged, IsJudged, IsRefusedIn, JudgedBy, of_text}
 
 -- ---- one datagram more
 

@@ -1,15 +1,9 @@
 -- What is not about a transfer changes nothing of it.
-use Rattle.std.proofs.Common.{◌≡◌, ℕ, Bool, false, cond, List, ◌∷◌, sym, ap, ◌∙◌, subst, map}
-use Rattle.std.specs.Prelude.{◌&&◌, ◌||◌, filter}
-use Rattle.tftp_transfers.specs.declared.doubted.TransferDoubts.{TransferDoubts}
-use Rattle.tftp_transfers.specs.Doubts.{goes_over, is_answered_apart, is_asked_again, is_disordered, is_it, is_late, may_be_answer_of, some_of}
-use Rattle.tftp_transfers.specs.Kept.{IsDoubtedAfter}
-use Rattle.tftp_transfers.specs.Places.{Placed}
-use Rattle.tftp_transfers.specs.Views.{is_about, is_of}
+use Rattle.std.proofs.Common.{◌≡◌, ℕ, Bool, false, cond, List, ◌∷◌, sym, ap, ◌∙◌, subst, map, ◌&&◌, ◌||◌, filter}
+use Rattle.tftp_transfers.specs.{TransferDoubts, is_answered_apart, is_it, some_of, IsDoubtedAfter, is_about}
+use Rattle.tftp_lines.specs.{goes_over, is_asked_again, is_disordered, is_late, may_be_answer_of, Placed, is_of}
 use Rattle.tftp_transfers.proofs.OwnDatagrams.{about_none}
-use Rattle.tftp_views.specs.Captured.{Naming, captured_at_client, client_header}
-use Rattle.tftp_views.specs.Judged.{HasJudged}
-use Rattle.tftp_views.specs.Kept.{Client, IsClientAfter}
+use Rattle.tftp_views.specs.{Naming, captured_at_client, client_header, HasJudged, Client, IsClientAfter}
 
 pub client_passes_by : (c : Client) (name : Naming) (p : Placed) (older : List Placed) → is_about c.transfer.number p ≡ false → IsClientAfter c name older → IsClientAfter c name (p ∷ older)
 client_passes_by c name p older off = subst (HasJudged c.end.judge (client_header c.transfer))

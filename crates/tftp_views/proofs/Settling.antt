@@ -1,24 +1,12 @@
 -- Who the ends are stays, once it is known.
-use Rattle.std.proofs.Common.{◌≡◌, ℕ, ◌&&◌, ◌||◌, ◌==◌, Bool, true, true≢false, List, [], ◌∷◌, ◌++◌, Option, Some, None, refl, sym, ap, subst, map, ◌∙◌}
-use Rattle.std.specs.Prelude.{filter, is_some, option_map, if◌then◌else◌}
+use Rattle.std.proofs.Common.{◌≡◌, ℕ, ◌&&◌, ◌||◌, ◌==◌, Bool, true, true≢false, List, [], ◌∷◌, ◌++◌, Option, Some, None, refl, sym, ap, subst, map, ◌∙◌, filter, is_some, option_map, if◌then◌else◌}
 use Rattle.std.proofs.lemmas.Bool.{and_parts}
 use Rattle.std.proofs.lemmas.List.Elements.{filter-append, filter_agree}
-use Rattle.tftp_ends.specs.Ports.{first_of, or_this}
-use Rattle.tftp_transfers.specs.declared.endpoint.Endpoint.{Endpoint}
-use Rattle.tftp_transfers.specs.declared.place.Place.{Place}
-use Rattle.tftp_transfers.specs.declared.place.Place.TheVariants.{Opens, Repeats, Talks, Apart, Beside, Nowhere}
-use Rattle.tftp_transfers.specs.Recording.{Recorded, other_of}
-use Rattle.tftp_transfers.specs.Places.{Placed}
-use Rattle.tftp_transfers.specs.Views.{answered_by, asked_of, comes, goes_on, has_host, has_port, is_at_server, is_end, is_server, opened_it, server_of, server_view, went_on_with}
-use Rattle.tftp_transfers.specs.Settled.{is_settled}
-use Rattle.tftp_transfers.specs.Kept.{AreEndsAfter}
-use Rattle.tftp_transfers.specs.declared.place.Transfer.{Transfer}
-use Rattle.tftp_transfers.specs.declared.views.TransferEnds.{TransferEnds}
-use Rattle.tftp_packet.specs.declared.kinds.Dir.TheVariants.{In, Out}
-use Rattle.tftp_ends.specs.CaptureText.{Datagram}
-use Rattle.tftp_views.specs.Captured.{Naming, captured, captured_at_server, server_capture, server_header, way_at_server}
-use Rattle.tftp_views.specs.Judged.{HasJudged}
-use Rattle.tftp_views.specs.Kept.{IsServerAfter, Server}
+use Rattle.tftp_rules.specs.{first_of, or_this}
+use Rattle.tftp_lines.specs.{Endpoint, Place, Opens, Repeats, Talks, Apart, Beside, Nowhere, Recorded, other_of, Placed, Transfer}
+use Rattle.tftp_transfers.specs.{answered_by, asked_of, comes, goes_on, has_host, has_port, is_at_server, is_end, is_server, opened_it, server_of, server_view, went_on_with, is_settled, AreEndsAfter, TransferEnds}
+use Rattle.tftp_hosts.specs.{In, Out, Datagram}
+use Rattle.tftp_views.specs.{Naming, captured, captured_at_server, server_capture, server_header, way_at_server, HasJudged, IsServerAfter, Server}
 
 first_stays : (test : Placed → Bool) (more placed : List Placed) (e : Placed) → first_of test placed ≡ Some e → first_of test (more ++ placed) ≡ Some e
 first_stays test [] placed e is = is

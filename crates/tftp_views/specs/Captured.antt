@@ -1,16 +1,9 @@
 -- What is captured of a transfer at each end, by a recording. Lists have the newest first; `name` names each host.
 use Rattle.std.specs.Prelude.{ℕ, List, filter, map, if◌then◌else◌}
-use Rattle.tftp_packet.specs.declared.kinds.Dir.{Dir}
-use Rattle.tftp_packet.specs.declared.kinds.Dir.TheVariants.{In, Out}
-use Rattle.tftp_packet.specs.declared.kinds.End.TheVariants.{Client, Server}
-use Rattle.tftp_ends.specs.CaptureText.{Datagram, Header}
-use Rattle.tftp_transfers.specs.declared.endpoint.Address.{Address}
-use Rattle.tftp_transfers.specs.declared.place.Place.{Place}
-use Rattle.tftp_transfers.specs.declared.place.Place.TheVariants.{Talks, Beside}
-use Rattle.tftp_transfers.specs.declared.place.Transfer.{Transfer}
-use Rattle.tftp_transfers.specs.Recording.{Recorded, same_endpoint}
-use Rattle.tftp_transfers.specs.Places.{Placed}
-use Rattle.tftp_transfers.specs.Views.{client_view, is_at_server, is_end, server_of}
+use Rattle.tftp_hosts.specs.{Dir, In, Out, Datagram, Header}
+use Rattle.tftp_packet.specs.{Client, Server}
+use Rattle.tftp_lines.specs.{Address, Place, Talks, Beside, Transfer, Recorded, same_endpoint, Placed}
+use Rattle.tftp_transfers.specs.{client_view, is_at_server, is_end, server_of}
 
 abbrev pub Naming : Type 0
 Naming = Address → List ℕ

@@ -1,16 +1,10 @@
 -- What a judge stands for that was given each datagram of a capture, also after it refused one. Lists have the newest first.
 use Rattle.std.specs.Prelude.{◌≡◌, ◌^◌, ◌≤◌, List, ◌∷◌, ◌++◌, All, length, reverse, Option, Some, None, Result, Ok, Err}
-use Rattle.tftp_capture.specs.CaptureText.{IsLawful, IsPort, text_with_hosts}
-use Rattle.tftp_ends.specs.CaptureText.{Datagram, Header}
-use Rattle.tftp_ends.specs.Meaning.{Meaning}
-use Rattle.tftp_law.specs.OneEnded.{OneEnded}
-use Rattle.tftp_judge.specs.Finds.{Refuses}
-use Rattle.tftp_judge.specs.Kept.{IsJudgeAfter, Judge}
-use Rattle.tftp_judge.specs.TextVerdict.{IsTextVerdict}
-use Rattle.tftp_judge.specs.Verdict.{IsSaid, IsVerdict}
-use Rattle.tftp_judge.specs.declared.refusal.Refusal.{Refusal}
-use Rattle.tftp_judge.specs.declared.verdict.Verdict.{Verdict}
-use Rattle.tftp_judge.specs.declared.verdict.Verdict.TheVariants.{Refused}
+use Rattle.tftp_capture.specs.{IsLawful, IsPort, text_with_hosts}
+use Rattle.tftp_hosts.specs.{Datagram, Header}
+use Rattle.tftp_model.specs.{Meaning}
+use Rattle.tftp_law.specs.{OneEnded}
+use Rattle.tftp_judge.specs.{Refuses, IsJudgeAfter, Judge, IsTextVerdict, IsSaid, IsVerdict, Refusal, Verdict, Refused}
 
 -- Those before this one break no rule, and this one was refused.
 pub record IsRefusedIn (h : Header) (given : List Datagram) (refusal : Refusal) : Type 0 where

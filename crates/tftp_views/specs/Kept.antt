@@ -1,17 +1,11 @@
 -- What the judges of the two ends keep, and for which datagrams of a recording they stand.
 use Rattle.std.specs.Prelude.{◌≡◌, ℕ, true, false, List, [], filter, length, reverse, Option, Some, None}
 use Rattle.std.specs.List.{AllZip}
-use Rattle.tftp_judge.specs.Kept.{Judge}
-use Rattle.tftp_judge.specs.declared.refusal.Refusal.{Refusal}
-use Rattle.tftp_transfers.specs.declared.place.Place.{Place}
-use Rattle.tftp_transfers.specs.declared.place.Transfer.{Transfer}
-use Rattle.tftp_transfers.specs.Places.{Placed}
-use Rattle.tftp_transfers.specs.Settled.{is_settled}
-use Rattle.tftp_transfers.specs.Views.{is_about}
+use Rattle.tftp_judge.specs.{Judge, Refusal}
+use Rattle.tftp_lines.specs.{Place, Transfer, Placed}
+use Rattle.tftp_transfers.specs.{is_settled, is_about, TransferEnds, AreEndsAfter}
 use Rattle.tftp_views.specs.declared.held.Held.{Held}
 use Rattle.tftp_views.specs.declared.party.Party.{Party}
-use Rattle.tftp_transfers.specs.declared.views.TransferEnds.{TransferEnds}
-use Rattle.tftp_transfers.specs.Kept.{AreEndsAfter}
 use Rattle.tftp_views.specs.Captured.{Naming, client_capture, client_header, server_capture, server_header}
 use Rattle.tftp_views.specs.Judged.{HasJudged}
 

@@ -1,11 +1,8 @@
 -- Captures of the worked recordings.
 use Rattle.std.specs.Prelude.{ℕ, List, [], ◌∷◌, codes}
-use Rattle.tftp_packet.specs.declared.kinds.Dir.TheVariants.{In, Out}
-use Rattle.tftp_ends.specs.CaptureText.{Datagram}
-use Rattle.tftp_transfers.specs.declared.endpoint.Address.{Address}
-use Rattle.tftp_transfers.specs.declared.place.Transfer.{Transfer}
-use Rattle.tftp_transfers.specs.Recording.{bytes_of}
-use Rattle.tftp_transfers.specs.Worked.{client, service, ack_of, data_of, read_of}
+use Rattle.tftp_hosts.specs.{In, Out, Datagram}
+use Rattle.tftp_lines.specs.{Address, Transfer, bytes_of}
+use Rattle.tftp_transfers.specs.{client, service, ack_of, data_of, read_of}
 
 -- the transfer that datagram 0 opened
 abbrev pub first_transfer : Transfer

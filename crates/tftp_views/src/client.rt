@@ -1,13 +1,11 @@
 //! The judge of a transfer's client, fed with a recording.
 
 ghost use Rattle.std.specs.Prelude.{◌≡◌, ◌+◌, ◌^◌, ◌<◌, ◌≤◌, ◌∷◌, ℕ, List, [], length, OnOk, OnErr, Ok, Err, None, Some, true, false};
-ghost use Rattle.tftp_ends.specs.Ports.{transfer_of};
-ghost use Rattle.tftp_judge.specs.Memory.{TakesForJoin};
-ghost use Rattle.tftp_judge.specs.declared.refusal.Refusal.{Refusal as RefusalKind};
-ghost use Rattle.tftp_law.specs.OneEnded.{IsEnded};
-ghost use Rattle.tftp_packet.specs.declared.kinds.Dir.TheVariants.{In, Out};
-ghost use Rattle.tftp_transfers.specs.Places.{Placed};
-ghost use Rattle.tftp_transfers.specs.Views.{is_of};
+ghost use Rattle.tftp_rules.specs.{transfer_of};
+ghost use Rattle.tftp_judge.specs.{TakesForJoin, Refusal as RefusalKind};
+ghost use Rattle.tftp_law.specs.{IsEnded};
+ghost use Rattle.tftp_hosts.specs.{In, Out};
+ghost use Rattle.tftp_lines.specs.{Placed, is_of};
 ghost use Rattle.tftp_views.specs.Captured.{Naming, client_capture, client_header, way_at_client};
 ghost use Rattle.tftp_views.specs.Judged.{IsJudgedWith};
 ghost use Rattle.tftp_views.specs.Kept.{IsClientAfter, IsFed};
@@ -16,11 +14,12 @@ use crate::end_judge::EndJudge;
 use crate::party::Party;
 use std::alloc::{AllocError, Global};
 use std::marker::Model;
+use tftp_blocks::Delivered;
 use tftp_capture::Header;
-use tftp_ends::Delivered;
+use tftp_hosts::Dir;
 use tftp_judge::{Meaning, Refusal};
-use tftp_packet::{Dir, End};
-use tftp_transfers::{Endpoint, Place, Transfer};
+use tftp_lines::{Endpoint, Place, Transfer};
+use tftp_packet::End;
 
 /// The judge of a transfer at its client (RFC 1350, section 2): it picks the client's view out of a recording.
 #[derive(Drop)]

@@ -1,20 +1,20 @@
 //! The judge of one end, which is given each datagram that passed there.
 
 ghost use Rattle.std.specs.Prelude.{◌≡◌, ◌+◌, ◌^◌, ◌<◌, ◌≤◌, ◌∷◌, ℕ, List, [], length, vec_len, Err, None, Some, OnOk, OnErr};
-ghost use Rattle.tftp_capture.specs.Fields.{datagram_of, header_of};
-ghost use Rattle.tftp_ends.specs.CaptureText.{Datagram as DatagramParts, Header as HeaderParts};
-ghost use Rattle.tftp_ends.specs.Ports.{transfer_of};
-ghost use Rattle.tftp_judge.specs.Memory.{TakesForJoin};
-ghost use Rattle.tftp_judge.specs.declared.refusal.Refusal.{Refusal as RefusalKind};
-ghost use Rattle.tftp_law.specs.OneEnded.{IsEnded};
+ghost use Rattle.tftp_capture.specs.{datagram_of, header_of};
+ghost use Rattle.tftp_hosts.specs.{Datagram as DatagramParts, Header as HeaderParts};
+ghost use Rattle.tftp_rules.specs.{transfer_of};
+ghost use Rattle.tftp_judge.specs.{TakesForJoin, Refusal as RefusalKind};
+ghost use Rattle.tftp_law.specs.{IsEnded};
 ghost use Rattle.tftp_views.specs.Judged.{HasJudged, IsJudgedWith};
 
 use std::alloc::{AllocError, Global};
 use std::marker::Model;
+use tftp_blocks::Delivered;
 use tftp_capture::{Datagram, Header};
-use tftp_ends::Delivered;
+use tftp_hosts::{Dir, Host};
 use tftp_judge::{Judge, Meaning, Refusal};
-use tftp_packet::{Bytes, Dir, Host};
+use tftp_packet::Bytes;
 
 /// A judge, and memory for one datagram, into which each is copied.
 #[derive(Drop)]

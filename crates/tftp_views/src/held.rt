@@ -1,6 +1,6 @@
 use crate::party::Party;
+use tftp_lines::Place;
 use tftp_packet::Bytes;
-use tftp_transfers::Place;
 
 /// A datagram that is held until it is known who the server is.
 #[derive(Drop)]

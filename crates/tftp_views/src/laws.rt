@@ -1,22 +1,14 @@
 //! Laws of the definitions in `specs/`. Each is the contract of a function that does nothing.
 
 ghost use Rattle.std.specs.Prelude.{◌≡◌, [], ◌++◌, ◌∷◌, ℕ, List, Result, filter, reverse, false, true};
-ghost use Rattle.tftp_ends.specs.CaptureText.{Datagram, Header};
-ghost use Rattle.tftp_ends.specs.Meaning.{Meaning};
-ghost use Rattle.tftp_judge.specs.Verdict.{IsVerdict};
-ghost use Rattle.tftp_capture.specs.CaptureText.{text_with_hosts};
-ghost use Rattle.tftp_judge.specs.TextVerdict.{IsTextVerdict};
-ghost use Rattle.tftp_judge.specs.Verdict.{IsSaid};
-ghost use Rattle.tftp_judge.specs.declared.refusal.Refusal.{Refusal};
-ghost use Rattle.tftp_transfers.specs.Places.{Placed, placed};
-ghost use Rattle.tftp_transfers.specs.Doubts.{is_it, may_be_answer_of};
-ghost use Rattle.tftp_transfers.specs.Kept.{IsDoubtedAfter};
-ghost use Rattle.tftp_transfers.specs.Views.{is_about, is_at_server, server_of, server_view};
-ghost use Rattle.tftp_transfers.specs.declared.doubted.TransferDoubts.{TransferDoubts};
-ghost use Rattle.tftp_transfers.specs.Worked.{asked_twice};
+ghost use Rattle.tftp_hosts.specs.{Datagram, Header};
+ghost use Rattle.tftp_model.specs.{Meaning};
+ghost use Rattle.tftp_judge.specs.{IsVerdict, IsTextVerdict, IsSaid, Refusal};
+ghost use Rattle.tftp_capture.specs.{text_with_hosts};
+ghost use Rattle.tftp_lines.specs.{Placed, may_be_answer_of};
+ghost use Rattle.tftp_transfers.specs.{placed, is_it, IsDoubtedAfter, is_about, is_at_server, server_of, server_view, TransferDoubts, asked_twice, is_settled};
 ghost use Rattle.tftp_views.specs.Captured.{Naming, client_capture, server_capture};
 ghost use Rattle.tftp_views.specs.Kept.{Client, IsClientAfter, IsViewAfter, View};
-ghost use Rattle.tftp_transfers.specs.Settled.{is_settled};
 ghost use Rattle.tftp_views.specs.Judged.{AreWritten, of_text};
 ghost use Rattle.tftp_views.specs.Worked.{asked_twice_at_client, asked_twice_at_server, by_bytes, first_transfer};
 

@@ -1,5 +1,5 @@
-use tftp_packet::Host;
-use tftp_transfers::Endpoint;
+use tftp_hosts::Host;
+use tftp_lines::Endpoint;
 
 /// An end of a datagram, and what its host is called in a capture text.
 #[derive(Clone, Copy, Debug)]

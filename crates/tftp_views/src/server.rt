@@ -1,16 +1,13 @@
 //! The judge of a transfer's server, fed with a recording once it is known who the server is.
 
 ghost use Rattle.std.specs.Prelude.{◌≡◌, ◌+◌, ◌^◌, ◌<◌, ◌≤◌, ◌∷◌, ℕ, List, [], length, OnOk, OnErr, Ok, Err, None, Some, true, false};
-ghost use Rattle.tftp_ends.specs.Ports.{transfer_of};
-ghost use Rattle.tftp_judge.specs.Memory.{TakesForJoin};
-ghost use Rattle.tftp_judge.specs.declared.refusal.Refusal.{Refusal as RefusalKind};
-ghost use Rattle.tftp_law.specs.OneEnded.{IsEnded};
-ghost use Rattle.tftp_capture.specs.Fields.{datagram_of};
-ghost use Rattle.tftp_packet.specs.declared.kinds.Dir.TheVariants.{In, Out};
-ghost use Rattle.tftp_transfers.specs.Kept.{AreEndsAfter};
-ghost use Rattle.tftp_transfers.specs.Places.{Placed};
-ghost use Rattle.tftp_transfers.specs.Settled.{is_settled};
-ghost use Rattle.tftp_transfers.specs.Views.{is_at_server, is_end, server_of};
+ghost use Rattle.tftp_rules.specs.{transfer_of};
+ghost use Rattle.tftp_judge.specs.{TakesForJoin, Refusal as RefusalKind};
+ghost use Rattle.tftp_law.specs.{IsEnded};
+ghost use Rattle.tftp_capture.specs.{datagram_of};
+ghost use Rattle.tftp_hosts.specs.{In, Out};
+ghost use Rattle.tftp_transfers.specs.{AreEndsAfter, is_settled, is_at_server, is_end, server_of};
+ghost use Rattle.tftp_lines.specs.{Placed};
 ghost use Rattle.tftp_views.specs.Captured.{Naming, server_capture, server_header, way_at_server};
 ghost use Rattle.tftp_views.specs.Judged.{IsJudgedWith};
 ghost use Rattle.tftp_views.specs.Kept.{IsFed, IsServerAfter};
@@ -20,11 +17,13 @@ use crate::held::Held;
 use crate::party::Party;
 use std::alloc::{AllocError, Global};
 use std::marker::Model;
+use tftp_blocks::Delivered;
 use tftp_capture::{Datagram, Header};
-use tftp_ends::Delivered;
+use tftp_hosts::Dir;
 use tftp_judge::{Meaning, Refusal};
-use tftp_packet::{Dir, End};
-use tftp_transfers::{Endpoint, Place, Transfer, TransferEnds};
+use tftp_lines::{Endpoint, Place, Transfer};
+use tftp_packet::End;
+use tftp_transfers::TransferEnds;
 
 /// The judge of a transfer at its server (RFC 1350, section 2): it picks the server's view out of a recording.
 #[derive(Drop)]

@@ -2,11 +2,9 @@
 
 ghost use Rattle.std.specs.Prelude.{◌≡◌, ◌+◌, ◌^◌, ◌<◌, ◌≤◌, ◌∷◌, ℕ, List, [], All, filter, length, reverse, OnOk, OnErr, Ok, Err, None, Some, true, false};
 ghost use Rattle.std.specs.VecDeque.{deque_len};
-ghost use Rattle.tftp_judge.specs.declared.refusal.Refusal.{Refusal as RefusalKind};
-ghost use Rattle.tftp_transfers.specs.Kept.{AreEndsAfter};
-ghost use Rattle.tftp_transfers.specs.Places.{Placed};
-ghost use Rattle.tftp_transfers.specs.Settled.{is_settled};
-ghost use Rattle.tftp_transfers.specs.Views.{is_about};
+ghost use Rattle.tftp_judge.specs.{Refusal as RefusalKind};
+ghost use Rattle.tftp_transfers.specs.{AreEndsAfter, is_settled, is_about};
+ghost use Rattle.tftp_lines.specs.{Placed};
 ghost use Rattle.tftp_views.specs.Captured.{Naming, server_capture, server_header};
 ghost use Rattle.tftp_views.specs.Judged.{IsJudgedWith};
 ghost use Rattle.tftp_views.specs.Kept.{AreHeld, IsFed, IsServerAfter, IsViewAfter, fed_to, has_refused};
@@ -18,10 +16,11 @@ use std::alloc::{AllocError, Global};
 use std::collections::VecDeque;
 use std::marker::Model;
 use std::mem;
-use tftp_ends::Delivered;
+use tftp_blocks::Delivered;
 use tftp_judge::{Meaning, Refusal};
+use tftp_lines::{Place, Transfer};
 use tftp_packet::Bytes;
-use tftp_transfers::{Place, Transfer, TransferEnds};
+use tftp_transfers::TransferEnds;
 
 /// The judge of a transfer at its server (RFC 1350, section 2), fed with a recording from its first datagram to its last.
 /// Until it is known who the server is it holds the transfer's datagrams; then it gives them to the judge, and holds none.

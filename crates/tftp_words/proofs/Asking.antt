@@ -1,11 +1,8 @@
 -- What the words ask for, by the command.
 use Rattle.std.proofs.Common.{◌≡◌, ◌≢◌, inl, inr, ℕ, List, [], ◌∷◌, drop, Option, Some, None, codes, slice_get, get_or, refl, sym, ap, ◌∙◌, subst, arith, ◌≤◌, length, map, Bool, true, false, if◌then◌else◌, option_to_list, Bor}
 use Rattle.std.proofs.lemmas.Option.{slice_get_within}
-use Rattle.tftp_words.specs.declared.point.Point.{Point}
-use Rattle.tftp_words.specs.declared.request.Command.{Command}
+use Rattle.tftp_words.specs.{Point, Command, Word, Part, Say, Have, IsOnce, IsTransfer, end_word, plains, Asked, Listed, Written, AllWritten, Judged, Argues, IsRequest, IsNoName, Names, Calls}
 use Rattle.tftp_words.specs.declared.request.Command.TheVariants as command
-use Rattle.tftp_words.specs.Parts.{Word, Part, Say, Have, IsOnce, IsTransfer, end_word, plains}
-use Rattle.tftp_words.specs.Asked.{Asked, Listed, Written, AllWritten, Judged, Argues, IsRequest, IsNoName, Names, Calls}
 
 -- the arguments of what is asked
 abbrev pub Arguments : Asked → List Word → Type 0

@@ -1,8 +1,7 @@
 -- What more parts have.
 use Rattle.std.proofs.Common.{◌≡◌, ℕ, ◌+◌, List, [], ◌∷◌, ◌++◌, length, Bool, true, Option, Some, None, option_to_list, is_some, false, map, Bor, refl, ap, ◌∙◌, append-nil, arith}
 use Rattle.std.proofs.lemmas.List.{map-append}
-use Rattle.tftp_words.specs.declared.point.Point.{Point}
-use Rattle.tftp_words.specs.Parts.{Word, Part, Service, Json, At, Plain, services, jsons, points, plains, Have, IsOnce}
+use Rattle.tftp_words.specs.{Point, Word, Part, Service, Json, At, Plain, services, jsons, points, plains, Have, IsOnce}
 
 services-append : (ps qs : List Part) → services (ps ++ qs) ≡ services ps ++ services qs
 services-append [] qs = refl

@@ -1,8 +1,7 @@
 -- How the words begin.
 use Rattle.std.proofs.Common.{◌≡◌, ◌≢◌, inl, inr, ℕ, [], ◌∷◌, ◌++◌, length, true, false, Option, Some, codes, ◌==◌, refl, sym, ap, ◌∙◌, append-nil, get_or, subst, arith}
-use Rattle.tftp_words.specs.declared.point.Point.{Point}
+use Rattle.tftp_words.specs.{Point, Word, Part, Service, Json, At, Plain, IsOption, IsPlain, IsPort, Gives, Begins, point_word}
 use Rattle.std.proofs.lemmas.List.{append_cancel_left}
-use Rattle.tftp_words.specs.Parts.{Word, Part, Service, Json, At, Plain, IsOption, IsPlain, IsPort, Gives, Begins, point_word}
 
 pub no_name : (name word : Word) (next : Option Word) → ((rest : Word) → word ≡ name ++ rest → ⊥) → (value : Word) (count : ℕ) → Gives name word next value count → ⊥
 no_name name word next not value count (inl (one, is)) = not _ is

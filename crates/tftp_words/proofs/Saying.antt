@@ -1,9 +1,8 @@
 -- Words say one list of parts.
 use Rattle.std.proofs.Common.{◌≡◌, ◌≢◌, ◌⊎◌, inl, inr, ℕ, ◌≤◌, List, [], ◌∷◌, ◌++◌, length, drop, map, Option, Some, None, codes, slice_get, refl, sym, ap, ◌∙◌, get_or, subst, arith, append-nil}
 use Rattle.std.proofs.lemmas.List.{append_cancel_left}
-use Rattle.tftp_words.specs.declared.point.Point.{Point}
+use Rattle.tftp_words.specs.{Point, Word, Part, Service, Json, At, Plain, IsOption, IsPlain, IsPort, IsNumber, Gives, Begins, Says, Say, Done, First, Rest, point_word}
 use Rattle.tftp_words.specs.declared.point.Point.TheVariants as point
-use Rattle.tftp_words.specs.Parts.{Word, Part, Service, Json, At, Plain, IsOption, IsPlain, IsPort, IsNumber, Gives, Begins, Says, Say, Done, First, Rest, point_word}
 use Rattle.tftp_words.proofs.PartLemmas.{service_given, point_given, one_value, third_of}
 
 -- ---- the words begin with one part

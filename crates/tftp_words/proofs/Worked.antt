@@ -2,8 +2,7 @@
 use Rattle.std.proofs.Common.{rules, ◌≡◌, inl, inr, [], ◌∷◌, codes, false, true, Some, refl, get_or, ap, arith}
 use Rattle.tftp_packet.specs.declared.kinds.End.TheVariants as end
 use Rattle.tftp_words.specs.declared.point.Point.TheVariants as point
-use Rattle.tftp_words.specs.Parts.{Service, Json, At, Plain, IsPort, IsPlain, Done, First, Rest}
-use Rattle.tftp_words.specs.Asked.{Listed, AllWritten, Judged, IsRequest}
+use Rattle.tftp_words.specs.{Service, Json, At, Plain, IsPort, IsPlain, Done, First, Rest, Listed, AllWritten, Judged, IsRequest}
 
 port_6969 : IsPort (codes "6969") 6969
 port_6969 = search rules

@@ -2,7 +2,7 @@
 use Rattle.std.specs.Prelude.{◌≡◌, ◌≢◌, ◌⊎◌, ◌≤◌, ◌<◌, ◌^◌, ℕ, ◌+◌, List, [], ◌∷◌, ◌++◌, codes, map, Option, Some, Bool, if◌then◌else◌, option_to_list, length}
 use Rattle.tftp_words.specs.declared.given.Given.{Given}
 use Rattle.std.specs.Str.Parse.{IsNumeral, digits_value, without_leading_plus}
-use Rattle.tftp_packet.specs.declared.kinds.End.{End}
+use Rattle.tftp_packet.specs.{End}
 use Rattle.tftp_packet.specs.declared.kinds.End.TheVariants as end
 use Rattle.tftp_words.specs.declared.point.Point.{Point}
 use Rattle.tftp_words.specs.declared.point.Point.TheVariants as point

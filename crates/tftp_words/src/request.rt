@@ -1,6 +1,6 @@
 ghost use Rattle.std.specs.Prelude.{◌≡◌, ◌⊎◌, ℕ, Err, IfOk, IsOkAnd, MatchOption, map};
 ghost use Rattle.tftp_words.specs.Parts.{Holds};
-ghost use Rattle.tftp_words.specs.Asked.{Argues, Calls, IsRequest, Names, asked};
+ghost use Rattle.tftp_words.specs.Requests.{Argues, Calls, IsRequest, Names, asked};
 ghost use Rattle.tftp_words.specs.declared.given.ReadFault.TheVariants.{Memory};
 
 use crate::given::{Given, ReadFault, given_of, word_at};

@@ -1,5 +1,5 @@
 ghost use Rattle.std.specs.Prelude.{◌≡◌, ◌⊎◌, Err, IfErr, IfOk, IsOkAnd, map};
-ghost use Rattle.tftp_words.specs.Asked.{IsRequest, asked};
+ghost use Rattle.tftp_words.specs.Requests.{IsRequest, asked};
 ghost use Rattle.tftp_words.specs.Told.{IsTold};
 
 use crate::given::ReadFault;

@@ -1,21 +1,12 @@
 -- Worked captures that break no rule, and what they mean by the rules.
 use Rattle.std.proofs.Common.{◌≡◌, ℕ, ◌==◌, Bool, true, List, [], ◌∷◌, ◌++◌, reverse, Some, None, codes, inl, inr, refl, subst, arith}
 use Rattle.std.proofs.lemmas.Bool.{false≢true}
-use Rattle.tftp_packet.specs.OptionMap.{OptionMap}
-use Rattle.tftp_packet.specs.Message.{Message}
-use Rattle.tftp_packet.specs.declared.kinds.Side.TheVariants.{Get}
-use Rattle.tftp_packet.specs.declared.kinds.Dir.{Dir}
-use Rattle.tftp_packet.specs.declared.kinds.Dir.TheVariants.{In}
-use Rattle.tftp_ends.specs.Meaning.{request_of}
-use Rattle.tftp_ends.specs.Blocks.{block as slice}
-use Rattle.tftp_ends.specs.Ports.{transfer_of}
-use Rattle.tftp_ends.specs.Rules.{Passed, HasPassed, IsFront}
-use Rattle.tftp_ends.specs.declared.terms.Reply.TheVariants.{NoReply, Plain}
-use Rattle.tftp_ends.specs.Worked.{two_bytes}
-use Rattle.tftp_law.specs.Rules.{Agrees, Begins, plain_terms}
-use Rattle.tftp_law.specs.OneEnded.{OneEnded, IsEnded, Meant}
-use Rattle.tftp_worked.specs.Worked.{at_client, asks_for_a, brings_hi, acknowledges_hi, one_block_read}
-use Rattle.tftp_worked.specs.WorkedWindows.{block, ack, answers, hears, at_service, window_out_of_order, window_at_server, block_sent_again, window_sent_again}
+use Rattle.tftp_packet.specs.{OptionMap, Message, Get}
+use Rattle.tftp_hosts.specs.{Dir, In}
+use Rattle.tftp_model.specs.{request_of, block as slice, two_bytes}
+use Rattle.tftp_rules.specs.{transfer_of, Passed, HasPassed, IsFront, NoReply, Plain}
+use Rattle.tftp_law.specs.{Agrees, Begins, plain_terms, OneEnded, IsEnded, Meant}
+use Rattle.tftp_worked.specs.{at_client, asks_for_a, brings_hi, acknowledges_hi, one_block_read, block, ack, answers, hears, at_service, window_out_of_order, window_at_server, block_sent_again, window_sent_again}
 use Rattle.tftp_worked.proofs.Spelled.{request_spelled, hi_spelled, ack_spelled}
 use Rattle.tftp_worked.proofs.Payloads.{Spelled, datagrams, AllSpelled, data_spells, ack_spells}
 use Rattle.tftp_worked.proofs.Passing.{every_is, answered_is, answered_there}

@@ -2,24 +2,13 @@
 use Rattle.std.proofs.Common.{◌≡◌, ℕ, List, [], ◌∷◌, Some, None, codes, inl, inr, refl, ap, arith}
 use Rattle.std.specs.FinMap as map
 use Rattle.std.specs.Cmp.Lexicographic.{nat_list_cmp_total}
-use Rattle.tftp_packet.specs.OptionMap.{OptionMap, Num, value_of, is_known_number, is_number, range_of}
-use Rattle.tftp_packet.specs.Written.{map_of}
-use Rattle.tftp_packet.specs.Message.{Message, RequestParts}
-use Rattle.tftp_packet.specs.Spelling.{Spells}
-use Rattle.tftp_packet.specs.declared.kinds.Side.{Side}
-use Rattle.tftp_packet.specs.declared.kinds.Side.TheVariants.{Get, Put}
-use Rattle.tftp_packet.specs.declared.kinds.Mode.TheVariants.{Octet}
-use Rattle.tftp_ends.specs.Meaning.{number_or}
-use Rattle.tftp_ends.specs.declared.terms.Reply.TheVariants.{NoReply}
-use Rattle.tftp_law.proofs.Agreed.{AllAnswer}
-use Rattle.tftp_ends.specs.Worked.{eight_a_block}
-use Rattle.tftp_ends.specs.WorkedWindows.{eight_by_four}
-use Rattle.tftp_ends.proofs.WorkedMore.{eight_for_blksize}
-use Rattle.tftp_law.specs.Rules.{Agrees, plain_terms}
-use Rattle.tftp_law.specs.OneEnded.{OneEnded}
-use Rattle.tftp_worked.specs.Worked.{at_client}
-use Rattle.tftp_worked.specs.WorkedWindows.{request, oack, by_eight, by_four, by_two, asks, comes, answers, is_asked, at_service}
-use Rattle.tftp_worked.specs.WorkedRules.{by_most, sized}
+use Rattle.tftp_packet.specs.{OptionMap, Num, value_of, is_known_number, is_number, range_of, map_of, Message, RequestParts, Spells, Side, Get, Put, Octet}
+use Rattle.tftp_model.specs.{number_or, eight_a_block, eight_by_four}
+use Rattle.tftp_rules.specs.{NoReply}
+use Rattle.tftp_law.proofs.FirstBroken.Agreed.{AllAnswer}
+use Rattle.tftp_model.proofs.WorkedMore.{eight_for_blksize}
+use Rattle.tftp_law.specs.{Agrees, plain_terms, OneEnded}
+use Rattle.tftp_worked.specs.{at_client, request, oack, by_eight, by_four, by_two, asks, comes, answers, is_asked, at_service, by_most, sized}
 use Rattle.tftp_worked.proofs.Payloads.{Spelled, datagrams, request_spells, oack_spells, eight_is, four_is, two_is, eight_by_two}
 use Rattle.tftp_worked.proofs.WindowsShown.{eight_may_be_agreed}
 use Rattle.tftp_worked.proofs.Chains.{Base, one_more, first_oack}

@@ -1,12 +1,10 @@
 -- What breaks a rule is in no run, by the law that the rules are the runs.
 use Rattle.std.proofs.Common.{◌≡◌, ℕ, ◌+◌, List, [], ◌∷◌, ◌++◌, length, reverse, Err, refl, subst}
-use Rattle.tftp_ends.specs.CaptureText.{Datagram, Header}
-use Rattle.tftp_law.specs.OneEnded.{OneEnded, IsRefused}
-use Rattle.tftp_law.specs.declared.rule.Rule.{Rule}
-use Rattle.tftp_law.proofs.FirstBroken.{refused_does_not_pass}
-use Rattle.tftp_law.proofs.TwoEnds.{lawful}
-use Rattle.tftp_judge.specs.Verdict.{IsVerdict}
-use Rattle.tftp_judge.specs.declared.refusal.Refusal.TheVariants.{Unlawful}
+use Rattle.tftp_hosts.specs.{Datagram, Header}
+use Rattle.tftp_law.specs.{OneEnded, IsRefused, Rule}
+use Rattle.tftp_law.proofs.FirstBroken.FirstBroken.{refused_does_not_pass}
+use Rattle.tftp_law.proofs.Whole.TwoEnds.{lawful}
+use Rattle.tftp_judge.specs.{IsVerdict, Unlawful}
 
 pub refused_verdict : (h : Header) (before : List Datagram) (d : Datagram) (rule : Rule) (index : ℕ) → reverse (before ++ d ∷ []) ≡ d ∷ reverse before → index ≡ length before + 1 → IsRefused h (reverse before) d rule
     → IsVerdict h (before ++ d ∷ []) (Err (Unlawful index rule))

@@ -1,23 +1,14 @@
 -- Lists of datagrams that break no rule, one datagram at a time or by computation.
 use Rattle.std.proofs.Common.{◌≡◌, ℕ, ◌<◌, ◌&&◌, Bool, true, false, List, [], ◌∷◌, ◌++◌, Option, Some, None, inr, sym, subst, ap, ◌∙◌}
 use Rattle.std.proofs.lemmas.Bool.{and_parts}
-use Rattle.tftp_packet.specs.OptionMap.{OptionMap}
-use Rattle.tftp_packet.specs.Message.{Message, RequestParts}
-use Rattle.tftp_packet.specs.Spelling.{Spells}
-use Rattle.tftp_packet.specs.declared.kinds.Side.{Side}
-use Rattle.tftp_ends.specs.CaptureText.{Header}
-use Rattle.tftp_ends.specs.Ports.{or_this, asks, route_of, is_of_transfer, transfer_of}
-use Rattle.tftp_ends.specs.Rules.{EndBroken}
-use Rattle.tftp_ends.specs.declared.terms.Terms.{Terms}
-use Rattle.tftp_ends.specs.declared.rule.EndRule.{EndRule}
-use Rattle.tftp_nego.specs.Faults.{Holds}
-use Rattle.tftp_nego.specs.declared.fault.NegoFault.{NegoFault}
-use Rattle.tftp_law.specs.Rules.{number_of, Answer, Agrees, terms_after, AreTerms, FirstOack, EndBreaks, Broken}
-use Rattle.tftp_law.specs.declared.rule.Rule.{Rule}
-use Rattle.tftp_law.specs.OneEnded.{OneEnded, IsRefused}
+use Rattle.tftp_packet.specs.{OptionMap, Message, RequestParts, Spells, Side}
+use Rattle.tftp_hosts.specs.{Header}
+use Rattle.tftp_rules.specs.{or_this, asks, route_of, is_of_transfer, transfer_of, EndBroken, Terms, EndRule}
+use Rattle.tftp_nego.specs.{Holds, NegoFault}
+use Rattle.tftp_law.specs.{number_of, Answer, Agrees, terms_after, AreTerms, FirstOack, EndBreaks, Broken, Rule, OneEnded, IsRefused}
 use Rattle.tftp_law.proofs.Spelled.{spelled_once}
 use Rattle.tftp_worked.proofs.Payloads.{Spelled, datagrams, AllSpelled}
-use Rattle.tftp_law.proofs.Answering.{answer_of}
+use Rattle.tftp_law.proofs.FirstBroken.Answering.{answer_of}
 use Rattle.tftp_worked.proofs.Passing.{kept_if, main_of, first_asked, asked_by, asked_is, asked_back, first_answer, or_now, unanswered_is, answered_is, answered_there, terms_of, terms_from, terms_by, terms_are}
 use Rattle.tftp_worked.proofs.RuleTests.{not_oack}
 use Rattle.tftp_worked.proofs.Kept.{passes_by, keeps_below, passes_is, none_below, no_oack, OackKeeps, not_answered}

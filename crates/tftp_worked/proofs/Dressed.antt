@@ -3,22 +3,15 @@ use Rattle.std.proofs.Common.{◌≡◌, ℕ, ◌==◌, ◌&&◌, ◌||◌, not,
 use Rattle.std.proofs.lemmas.Bool.{and_parts, or_cases, eqb-true, eq-eqb, false≢true}
 use Rattle.std.proofs.lemmas.Slice.Eq.{bytes_eq-Decides}
 use Rattle.std.specs.Str.{bytes_eq}
-use Rattle.tftp_packet.specs.Spelling.{Spells}
-use Rattle.tftp_packet.specs.Message.{Message}
-use Rattle.tftp_packet.specs.declared.kinds.End.{End}
-use Rattle.tftp_packet.specs.declared.kinds.End.TheVariants.{Client, Server}
-use Rattle.tftp_packet.specs.declared.kinds.Dir.{Dir}
-use Rattle.tftp_packet.specs.declared.kinds.Dir.TheVariants.{In, Out}
-use Rattle.tftp_ends.specs.CaptureText.{Datagram, Header, PeerId, peer_of}
-use Rattle.tftp_ends.specs.Meaning.{Meaning, blksize_of, request_of}
-use Rattle.tftp_ends.specs.Blocks.{block}
-use Rattle.tftp_ends.specs.Ports.{same_peer, SaysUnknownId}
-use Rattle.tftp_ends.proofs.HistoryTests.{same_end}
-use Rattle.tftp_ends.specs.Machines.{MachinePacket, Req, Oack, Data, Ack, Error, Deed, message_of, History}
-use Rattle.tftp_law.specs.Sides.{server_port, from_server, BeginsAsRequest}
-use Rattle.tftp_law.specs.Dress.{Part, Main, Stray, StrayAnswer, Placed, Division, datagrams_of, view_in, TransferIds, HasClientId, HasServerId, GoesToServer, dir_of, packet_of, IsMain, HasPart, HaveParts, IsDressed}
-use Rattle.tftp_law.proofs.Divided.{any_first, any_later}
-use Rattle.tftp_law.proofs.RouteTests.{apart_is, is_same}
+use Rattle.tftp_packet.specs.{Spells, Message, End, Client, Server}
+use Rattle.tftp_hosts.specs.{Dir, In, Out, Datagram, Header, PeerId, peer_of}
+use Rattle.tftp_model.specs.{Meaning, blksize_of, request_of, block, MachinePacket, Req, Oack, Data, Ack, Error, Deed, message_of, History}
+use Rattle.tftp_rules.specs.{same_peer, SaysUnknownId}
+use Rattle.tftp_model.proofs.HistoryTests.{same_end}
+use Rattle.tftp_law.specs.{server_port, from_server, BeginsAsRequest, Part, Main, Stray, Placed, Division, datagrams_of, view_in, TransferIds, HasClientId, HasServerId, GoesToServer, dir_of, packet_of, IsMain, HasPart, HaveParts, IsDressed}
+use Rattle.tftp_law.specs.Dress.{StrayAnswer}
+use Rattle.tftp_law.proofs.Division.Divided.{any_first, any_later}
+use Rattle.tftp_law.proofs.Division.RouteTests.{apart_is, is_same}
 
 -- a datagram with the deed that it carries
 abbrev pub Carried : Type 0

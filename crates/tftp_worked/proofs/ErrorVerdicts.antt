@@ -1,22 +1,13 @@
 -- Worked verdicts of transfers in which an ERROR is sent.
 use Rattle.std.proofs.Common.{◌≡◌, ℕ, List, [], ◌∷◌, ◌++◌, ◌+◌, length, reverse, codes, inl, inr, Ok, Err, refl}
-use Rattle.tftp_packet.specs.declared.kinds.Side.TheVariants.{Get}
-use Rattle.tftp_ends.specs.CaptureText.{Datagram, Header}
-use Rattle.tftp_ends.specs.Meaning.{Meaning}
-use Rattle.tftp_ends.specs.Worked.{two_bytes}
-use Rattle.tftp_ends.specs.declared.terms.Reply.TheVariants.{NoReply, Plain}
-use Rattle.tftp_law.specs.Aborted.{IsAborted}
-use Rattle.tftp_law.specs.declared.by.By.{By}
-use Rattle.tftp_law.specs.declared.by.By.TheVariants.{Local, Peer}
-use Rattle.tftp_law.specs.Law.{IsLawful}
-use Rattle.tftp_law.specs.OneEnded.{IsRefused, Meant}
-use Rattle.tftp_law.specs.Rules.{plain_terms}
-use Rattle.tftp_law.specs.declared.rule.Rule.{Rule}
-use Rattle.tftp_law.proofs.TwoEnds.{whole}
-use Rattle.tftp_judge.specs.Verdict.{IsVerdict}
-use Rattle.tftp_judge.specs.declared.refusal.Refusal.TheVariants.{Unlawful, Aborted}
-use Rattle.tftp_worked.specs.Worked.{at_client, acknowledges_hi}
-use Rattle.tftp_worked.specs.WorkedErrors.{says_forbidden, read_refused, read_refused_twice, read_given_up, read_given_up_twice, stopped_at_the_end, stopped_after_the_end, block_after_error, before_late_answer, late_answer}
+use Rattle.tftp_packet.specs.{Get}
+use Rattle.tftp_hosts.specs.{Datagram, Header}
+use Rattle.tftp_model.specs.{Meaning, two_bytes}
+use Rattle.tftp_rules.specs.{NoReply, Plain}
+use Rattle.tftp_law.specs.{IsAborted, By, Local, Peer, IsLawful, IsRefused, Meant, plain_terms, Rule}
+use Rattle.tftp_law.proofs.Whole.TwoEnds.{whole}
+use Rattle.tftp_judge.specs.{IsVerdict, Unlawful, Aborted}
+use Rattle.tftp_worked.specs.{at_client, acknowledges_hi, says_forbidden, read_refused, read_refused_twice, read_given_up, read_given_up_twice, stopped_at_the_end, stopped_after_the_end, block_after_error, before_late_answer, late_answer}
 use Rattle.tftp_worked.proofs.Spelled.{request_spelled, hi_spelled}
 use Rattle.tftp_worked.proofs.Chains.{fixed_all, fixed_terms}
 use Rattle.tftp_worked.proofs.Bases.{read_by_eight}

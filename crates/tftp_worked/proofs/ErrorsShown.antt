@@ -1,33 +1,22 @@
 -- Captures in which an ERROR is sent: the runs that they show, and those that no run has.
 use Rattle.std.proofs.Common.{◌≡◌, ◌⊎◌, ℕ, ◌+◌, ◌≤◌, nat_le, Bool, true, false, List, [], ◌∷◌, ◌++◌, Any, codes, inl, inr, refl, sym, subst, ap, ◌∙◌, arith}
 use Rattle.std.proofs.lemmas.Bool.{true≢false, leb-true}
-use Rattle.tftp_packet.specs.Message.{Message}
-use Rattle.tftp_packet.specs.OptionMap.{OptionMap}
-use Rattle.tftp_packet.specs.declared.kinds.Side.TheVariants.{Get}
-use Rattle.tftp_packet.specs.declared.kinds.Dir.TheVariants.{In, Out}
-use Rattle.tftp_packet.specs.declared.kinds.End.TheVariants.{Client}
-use Rattle.tftp_ends.specs.CaptureText.{Datagram, PeerId}
-use Rattle.tftp_ends.specs.Meaning.{Meaning, request_of, option_or, windowsize_of}
-use Rattle.tftp_ends.specs.Machines.{MachinePacket, Sent, Took, Req, Oack, Data, Ack, Error, History}
-use Rattle.tftp_ends.specs.OneSide.{IsOneSided}
-use Rattle.tftp_ends.specs.Runs.{Step, IsView, IsComplete}
-use Rattle.tftp_ends.specs.Worked.{client, server, two_bytes, ten_bytes, eight_a_block}
-use Rattle.tftp_ends.specs.WorkedErrors.{read_refused_view, read_given_up_view, given_up_view, stopped_at_the_end_view, one_block_view, block_after_error_view}
-use Rattle.tftp_ends.proofs.Members.{contains_first}
-use Rattle.tftp_ends.proofs.Defaults.{default_blksize}
-use Rattle.tftp_ends.proofs.Worked.{one_block, window_one}
-use Rattle.tftp_ends.proofs.WorkedMore.{something_agreed, two_blocks, blocks_of_eight, one_at_a_time}
-use Rattle.tftp_ends.proofs.WorkedErrors.{read_refused_is_view, read_given_up_is_view, stopped_at_the_end_is_view, stopped_at_the_end_complete, block_after_error_is_view}
-use Rattle.tftp_ends.proofs.Computed.{Plan, IsPlan, run_is, complete_is, all_is}
-use Rattle.tftp_ends.proofs.OneSided.{view_one_sided}
-use Rattle.tftp_law.specs.Dress.{Part, Main, Stray, StrayAnswer, Placed, IsMain, TransferIds, HasPart, HaveParts, IsDressed}
-use Rattle.tftp_law.proofs.Divided.{divided_more, divided_none, any_none, any_cases}
+use Rattle.tftp_packet.specs.{Message, OptionMap, Get, Client}
+use Rattle.tftp_hosts.specs.{In, Out, Datagram, PeerId}
+use Rattle.tftp_model.specs.{Meaning, request_of, option_or, windowsize_of, MachinePacket, Sent, Took, Req, Oack, Data, Ack, Error, History, IsOneSided, Step, IsView, IsComplete, client, server, two_bytes, ten_bytes, eight_a_block, read_refused_view, read_given_up_view, given_up_view, stopped_at_the_end_view, one_block_view, block_after_error_view}
+use Rattle.tftp_model.proofs.Members.{contains_first}
+use Rattle.tftp_model.proofs.Defaults.{default_blksize}
+use Rattle.tftp_model.proofs.Worked.{one_block, window_one}
+use Rattle.tftp_model.proofs.WorkedMore.{something_agreed, two_blocks, blocks_of_eight, one_at_a_time}
+use Rattle.tftp_model.proofs.WorkedErrors.{read_refused_is_view, read_given_up_is_view, stopped_at_the_end_is_view, stopped_at_the_end_complete, block_after_error_is_view}
+use Rattle.tftp_model.proofs.Computed.{Plan, IsPlan, run_is, complete_is, all_is}
+use Rattle.tftp_model.proofs.OneSided.{view_one_sided}
+use Rattle.tftp_law.specs.Dress.{StrayAnswer}
+use Rattle.tftp_law.specs.{Part, Main, Stray, Placed, IsMain, TransferIds, HasPart, HaveParts, IsDressed, IsSeen, IsLawful, Shows}
+use Rattle.tftp_law.proofs.Division.Divided.{divided_more, divided_none, any_none, any_cases}
 use Rattle.tftp_law.proofs.Spelled.{spelled_once}
-use Rattle.tftp_law.specs.Law.{IsSeen, IsLawful, Shows}
-use Rattle.tftp_law.proofs.NothingAgreed.{two_bytes_fit}
-use Rattle.tftp_worked.specs.Worked.{at_client, asks_for_a, brings_hi, acknowledges_hi, server_host}
-use Rattle.tftp_worked.specs.WorkedWindows.{request, oack, block, ack, by_eight, asks, goes, comes, is_asked, at_service}
-use Rattle.tftp_worked.specs.WorkedErrors.{says_not_found, says_forbidden, stops, gives_up, read_refused, read_refused_twice, read_given_up, read_given_up_twice, stopped_at_the_end, stopped_after_the_end, block_after_error, before_late_answer, late_answer, only_offered, stops_unanswered}
+use Rattle.tftp_law.proofs.Whole.NothingAgreed.{two_bytes_fit}
+use Rattle.tftp_worked.specs.{at_client, asks_for_a, brings_hi, acknowledges_hi, server_host, request, oack, block, ack, by_eight, asks, goes, comes, is_asked, at_service, says_not_found, says_forbidden, stops, gives_up, read_refused, read_refused_twice, read_given_up, read_given_up_twice, stopped_at_the_end, stopped_after_the_end, block_after_error, before_late_answer, late_answer, only_offered, stops_unanswered}
 use Rattle.tftp_worked.proofs.Spelled.{request_spelled, hi_spelled, ack_spelled}
 use Rattle.tftp_worked.proofs.Payloads.{Spelled, data_spells, ack_spells}
 use Rattle.tftp_worked.proofs.Dressed.{Carried, dressed_by}

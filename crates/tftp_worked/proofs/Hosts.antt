@@ -1,22 +1,14 @@
 -- The worked read where several hosts have the same ports.
 use Rattle.std.proofs.Common.{List, [], ◌∷◌, Some, None, codes, reverse, inl, refl, arith}
-use Rattle.tftp_packet.specs.Message.{Message}
-use Rattle.tftp_packet.specs.declared.kinds.Side.TheVariants.{Get}
-use Rattle.tftp_ends.specs.Meaning.{request_of}
-use Rattle.tftp_ends.specs.Machines.{Sent, Took, Req, Data, Ack}
-use Rattle.tftp_ends.specs.Worked.{two_bytes, two_bytes_view}
-use Rattle.tftp_ends.specs.declared.terms.Reply.TheVariants.{NoReply, Plain}
-use Rattle.tftp_ends.proofs.Defaults.{default_blksize}
-use Rattle.tftp_ends.proofs.Worked.{one_block, two_bytes_is_view, two_bytes_complete}
-use Rattle.tftp_law.specs.Dress.{Main, Stray, StrayAnswer, Division, TransferIds}
-use Rattle.tftp_law.specs.Law.{Shows}
-use Rattle.tftp_law.specs.Rules.{plain_terms}
-use Rattle.tftp_law.specs.OneEnded.{OneEnded, IsRefused}
-use Rattle.tftp_law.specs.declared.rule.Rule.{Rule}
-use Rattle.tftp_law.proofs.NothingAgreed.{two_bytes_fit}
-use Rattle.tftp_worked.specs.Worked.{at_client, at_server, server_host, asks_for_a, brings_hi, acknowledges_hi, is_asked_for_a}
-use Rattle.tftp_worked.specs.WorkedHosts.{third_host, comes_from_third_host, answers_third_host, read_with_a_third_host, after_third_host, acknowledges_third_host, read_from_third_host, answered_from_third_host, asks_third_host, third_host_asks, only_is_asked}
-use Rattle.tftp_worked.specs.WorkedRules.{only_asked}
+use Rattle.tftp_packet.specs.{Message, Get}
+use Rattle.tftp_model.specs.{request_of, Sent, Took, Req, Data, Ack, two_bytes, two_bytes_view}
+use Rattle.tftp_rules.specs.{NoReply, Plain}
+use Rattle.tftp_model.proofs.Defaults.{default_blksize}
+use Rattle.tftp_model.proofs.Worked.{one_block, two_bytes_is_view, two_bytes_complete}
+use Rattle.tftp_law.specs.Dress.{StrayAnswer}
+use Rattle.tftp_law.specs.{Main, Stray, Division, TransferIds, Shows, plain_terms, OneEnded, IsRefused, Rule}
+use Rattle.tftp_law.proofs.Whole.NothingAgreed.{two_bytes_fit}
+use Rattle.tftp_worked.specs.{at_client, at_server, server_host, asks_for_a, brings_hi, acknowledges_hi, is_asked_for_a, third_host, comes_from_third_host, answers_third_host, read_with_a_third_host, after_third_host, acknowledges_third_host, read_from_third_host, answered_from_third_host, asks_third_host, third_host_asks, only_is_asked, only_asked}
 use Rattle.tftp_worked.proofs.Spelled.{request_spelled, hi_spelled, ack_spelled, unknown_id_spelled}
 use Rattle.tftp_worked.proofs.Payloads.{Spelled, datagrams}
 use Rattle.tftp_worked.proofs.Dressed.{Carried, dressed_as, dressed_by}

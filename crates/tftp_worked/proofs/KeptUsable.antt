@@ -1,19 +1,10 @@
 -- What the tests of rules 18, 22, 26 and 27 tell, of all datagrams of a list.
 use Rattle.std.proofs.Common.{◌≡◌, ℕ, ◌+◌, ◌<◌, ◌≤◌, ◌==◌, ◌&&◌, ◌||◌, not, nat_le, zero, suc, Bool, true, false, List, inl, inr, refl, sym, subst, arith}
 use Rattle.std.proofs.lemmas.Bool.{and_parts, or_cases, eqb-true, leb-true, cases_lt, false≢true}
-use Rattle.tftp_packet.specs.Message.{Message}
-use Rattle.tftp_packet.specs.declared.kinds.Side.{Side}
-use Rattle.tftp_packet.specs.declared.kinds.Side.TheVariants.{Get, Put}
-use Rattle.tftp_packet.specs.declared.kinds.End.{End}
-use Rattle.tftp_packet.specs.declared.kinds.End.TheVariants.{Client, Server}
-use Rattle.tftp_packet.specs.declared.kinds.Dir.{Dir}
-use Rattle.tftp_packet.specs.declared.kinds.Dir.TheVariants.{In, Out}
-use Rattle.tftp_ends.specs.CaptureText.{Datagram}
-use Rattle.tftp_ends.specs.Roles.{sender_of, receiver_of}
-use Rattle.tftp_ends.specs.Rules.{Passed, HasPassed, BlockPassed, BlocksWait, AckZeroWaits, IsAckedAt, IsReachedAt}
-use Rattle.tftp_ends.specs.declared.terms.Reply.{Reply}
-use Rattle.tftp_ends.specs.declared.terms.Reply.TheVariants.{NoReply, Plain, Oacked}
-use Rattle.tftp_ends.specs.declared.terms.Terms.{Terms}
+use Rattle.tftp_packet.specs.{Message, Side, Get, Put, End, Client, Server}
+use Rattle.tftp_hosts.specs.{Dir, In, Out, Datagram}
+use Rattle.tftp_model.specs.Roles.{sender_of, receiver_of}
+use Rattle.tftp_rules.specs.{Passed, HasPassed, BlockPassed, BlocksWait, AckZeroWaits, IsAckedAt, IsReachedAt, Reply, NoReply, Plain, Oacked, Terms}
 use Rattle.tftp_worked.proofs.Payloads.{Spelled, datagrams, AllSpelled}
 use Rattle.tftp_worked.proofs.Passing.{some, some_in}
 use Rattle.tftp_worked.proofs.RuleTests.{is_ack_zero, is_block, same_end, is_sender, is_receiver, may_start, may_be_zero, allows, in_window, reaches, is_taken, taken_up_to}

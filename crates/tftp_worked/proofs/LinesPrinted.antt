@@ -2,26 +2,18 @@
 use Rattle.std.proofs.Common.{◌≡◌, ℕ, ◌++◌, lit≤, List, ◌∷◌, Ok, codes, decimal, refl, sym, ap, ◌∙◌, subst}
 use Rattle.std.specs.Fmt.{digits}
 use Rattle.hex.specs.Hex.{encode_with}
-use Rattle.tftp_capture.specs.CaptureText.{text_of}
-use Rattle.tftp_capture.specs.Worked.{line}
-use Rattle.tftp_ends.specs.Blocks.{block_count}
-use Rattle.tftp_ends.proofs.WorkedMore.{blocks_of_eight}
-use Rattle.tftp_law.specs.CanBeWritten.{CanBeWritten, blocks_of}
-use Rattle.tftp_law.proofs.Written.{can_be_written}
-use Rattle.tftp_judge.specs.TextVerdict.{IsTextVerdict}
-use Rattle.tftp_normal.specs.Normal.{normal_header, normal_text}
-use Rattle.tftp_normal.specs.Worked.{line_end_cut, line_end_cut_datagrams}
+use Rattle.tftp_capture.specs.{text_of, line}
+use Rattle.tftp_model.specs.{block_count}
+use Rattle.tftp_model.proofs.WorkedMore.{blocks_of_eight}
+use Rattle.tftp_law.specs.{CanBeWritten, blocks_of}
+use Rattle.tftp_law.proofs.Written.Written.{can_be_written}
+use Rattle.tftp_judge.specs.{IsTextVerdict}
+use Rattle.tftp_normal.specs.{normal_header, normal_text, line_end_cut, line_end_cut_datagrams}
 use Rattle.tftp_normal.proofs.Computed.{line_end_row}
 use Rattle.tftp_normal.proofs.Headline.{judged_text}
 use Rattle.tftp_normal.proofs.Texts.{is_accepted}
-use Rattle.tftp_commands.specs.Checked.{IsChecked}
-use Rattle.tftp_commands.specs.Extracted.{IsExtracted}
-use Rattle.tftp_commands.specs.Judged.{IsJudged}
-use Rattle.tftp_commands.specs.Normalised.{IsNormalised}
-use Rattle.tftp_commands.specs.Source.{given}
-use Rattle.tftp_worked.specs.Worked.{at_client}
-use Rattle.tftp_worked.specs.WorkedNetascii.{read_of_lines}
-use Rattle.tftp_worked.specs.WorkedTexts.{lines_text, with_success}
+use Rattle.tftp_commands.specs.{IsChecked, IsExtracted, IsJudged, IsNormalised, given}
+use Rattle.tftp_worked.specs.{at_client, read_of_lines, lines_text, with_success}
 use Rattle.tftp_worked.proofs.LinesShown.{lines_are_shown}
 use Rattle.tftp_worked.proofs.TextsPrinted.{no_failure}
 

@@ -2,28 +2,16 @@
 use Rattle.std.proofs.Common.{◌≡◌, ◌≢◌, ℕ, ◌++◌, true, not, ◌==◌, List, [], ◌∷◌, codes, refl, subst, ap, ◌∙◌, arith}
 use Rattle.std.proofs.lemmas.Bool.{true≢false, false≢true}
 use Rattle.std.proofs.lemmas.List.Elements.{All-from_recursion}
-use Rattle.tftp_packet.specs.Message.{Message}
-use Rattle.tftp_packet.specs.Spelling.{Spells}
-use Rattle.tftp_packet.specs.declared.kinds.Side.TheVariants.{Get}
-use Rattle.tftp_packet.specs.declared.kinds.Mode.TheVariants.{Netascii}
-use Rattle.tftp_packet.specs.declared.kinds.End.TheVariants.{Client}
-use Rattle.tftp_netascii.specs.Netascii.{Reads}
+use Rattle.tftp_packet.specs.{Message, Spells, Get, Netascii, Client}
+use Rattle.tftp_netascii.specs.{Reads}
 use Rattle.tftp_netascii.proofs.CanonicalLemmas.{Reads-canonical}
 use Rattle.tftp_netascii.proofs.RunReads.{run_to_end}
-use Rattle.tftp_ends.specs.Blocks.{block_count}
-use Rattle.tftp_ends.specs.Meaning.{request_of}
-use Rattle.tftp_ends.specs.Machines.{Sent, Took, Req, Oack, Data, Ack}
-use Rattle.tftp_ends.specs.Runs.{IsView, IsComplete}
-use Rattle.tftp_ends.specs.Worked.{eight_a_block, ten_bytes_view, ten_bytes_steps}
-use Rattle.tftp_ends.proofs.Computed.{Plan, IsPlan, run_is, complete_is}
-use Rattle.tftp_ends.proofs.WorkedMore.{blocks_of_eight, one_at_a_time, something_agreed}
-use Rattle.tftp_law.specs.Dress.{IsDressed}
-use Rattle.tftp_law.specs.Fits.{Fits, IsWritable}
-use Rattle.tftp_law.specs.Law.{Shows}
-use Rattle.tftp_worked.specs.Worked.{at_client}
-use Rattle.tftp_worked.specs.WorkedWindows.{oack, block, ack, by_eight, goes, comes}
-use Rattle.tftp_normal.specs.Worked.{line_end_cut}
-use Rattle.tftp_worked.specs.WorkedNetascii.{asks_for_lines, read_of_lines, read_of_bare_lines}
+use Rattle.tftp_model.specs.{block_count, request_of, Sent, Took, Req, Oack, Data, Ack, IsView, IsComplete, eight_a_block, ten_bytes_view, ten_bytes_steps}
+use Rattle.tftp_model.proofs.Computed.{Plan, IsPlan, run_is, complete_is}
+use Rattle.tftp_model.proofs.WorkedMore.{blocks_of_eight, one_at_a_time, something_agreed}
+use Rattle.tftp_law.specs.{IsDressed, Fits, IsWritable, Shows}
+use Rattle.tftp_worked.specs.{at_client, oack, block, ack, by_eight, goes, comes, asks_for_lines, read_of_lines, read_of_bare_lines}
+use Rattle.tftp_normal.specs.{line_end_cut}
 use Rattle.tftp_worked.proofs.Payloads.{request_for_spells, oack_spells, data_spells, ack_spells, eight_is, all_from}
 use Rattle.tftp_worked.proofs.Dressed.{Carried, dressed_by}
 use Rattle.tftp_worked.proofs.ReadShown.{ids}

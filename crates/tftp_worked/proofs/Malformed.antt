@@ -1,17 +1,12 @@
 -- Payloads that are no packets: no earlier rule is broken than the one that they break.
 use Rattle.std.proofs.Common.{◌≡◌, ◌<◌, true, List, [], codes, reverse, inl, inr, refl, sym, ap, ◌∙◌, arith, rules}
 use Rattle.std.proofs.lemmas.Bool.{false≢true}
-use Rattle.tftp_packet.specs.Faults.{FirstFault, Holds, number}
-use Rattle.tftp_packet.specs.declared.fault.PacketFault.{PacketFault}
-use Rattle.tftp_packet.specs.declared.fault.PacketFault.TheVariants.{Short, Opcode, AckLength, MailMode}
+use Rattle.tftp_packet.specs.{FirstFault, Holds, number, PacketFault, Short, Opcode, AckLength, MailMode}
 use Rattle.tftp_packet.proofs.RequestCases.{mode_fault}
-use Rattle.tftp_ends.specs.CaptureText.{Datagram, Header}
-use Rattle.tftp_ends.specs.Ports.{route_of, is_of_transfer}
-use Rattle.tftp_law.specs.Rules.{number_of, Broken}
-use Rattle.tftp_law.specs.OneEnded.{IsRefused}
-use Rattle.tftp_law.specs.declared.rule.Rule.{Rule}
-use Rattle.tftp_worked.specs.Worked.{at_client, read_without_its_ack}
-use Rattle.tftp_worked.specs.WorkedOffers.{acknowledges_too_long, asks_for_mail}
+use Rattle.tftp_hosts.specs.{Datagram, Header}
+use Rattle.tftp_rules.specs.{route_of, is_of_transfer}
+use Rattle.tftp_law.specs.{number_of, Broken, IsRefused, Rule}
+use Rattle.tftp_worked.specs.{at_client, read_without_its_ack, acknowledges_too_long, asks_for_mail}
 use Rattle.tftp_worked.proofs.RefusedMore.{plain_begun}
 
 module _ (h : Header) (earlier : List Datagram) (d : Datagram) (routed : is_of_transfer (route_of h earlier d) ≡ true) (asked : Broken h earlier d Rule.NoRequest → ⊥) where

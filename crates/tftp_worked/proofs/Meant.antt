@@ -1,18 +1,15 @@
 -- What a dressed capture says of the view and of the meaning, where each datagram goes between the same two ports and
 -- spells something else than an ERROR 5.
 use Rattle.std.proofs.Common.{◌≡◌, ℕ, List, [], ◌∷◌, ◌++◌, map as each, inl, inr, refl, sym, subst, ap, ◌∙◌}
-use Rattle.tftp_packet.specs.Message.{Message, RequestParts}
-use Rattle.tftp_packet.specs.Spelling.{Spells}
-use Rattle.tftp_packet.specs.declared.kinds.Dir.{Dir}
-use Rattle.tftp_packet.specs.declared.kinds.Dir.TheVariants.{In, Out}
-use Rattle.tftp_ends.specs.CaptureText.{Datagram, Header, peer_of}
-use Rattle.tftp_ends.specs.Meaning.{Meaning, request_of}
-use Rattle.tftp_ends.specs.Machines.{MachinePacket, Req, Oack, Data, Ack, Error, Deed, Sent, Took, message_of, History}
-use Rattle.tftp_law.specs.Dress.{Part, Main, Stray, StrayAnswer, Placed, Division, IsMain, datagrams_of, view_in, TransferIds, dir_of, packet_of, CarriesDeed, HasPart, HaveParts}
-use Rattle.tftp_worked.specs.Worked.{at_client}
+use Rattle.tftp_packet.specs.{Message, RequestParts, Spells}
+use Rattle.tftp_hosts.specs.{Dir, In, Out, Datagram, Header, peer_of}
+use Rattle.tftp_model.specs.{Meaning, request_of, MachinePacket, Req, Oack, Data, Ack, Error, Deed, Sent, Took, message_of, History}
+use Rattle.tftp_law.specs.Dress.{StrayAnswer}
+use Rattle.tftp_law.specs.{Part, Main, Stray, Placed, Division, IsMain, datagrams_of, view_in, TransferIds, dir_of, packet_of, CarriesDeed, HasPart, HaveParts}
+use Rattle.tftp_worked.specs.{at_client}
 use Rattle.tftp_law.proofs.Spelled.{spelled_once}
 use Rattle.tftp_worked.proofs.Payloads.{Spelled, datagrams, AllSpelled}
-use Rattle.tftp_law.proofs.Divided.{divided_more, divided_none, view_main, any_none, any_cases}
+use Rattle.tftp_law.proofs.Division.Divided.{divided_more, divided_none, view_main, any_none, any_cases}
 
 -- the machine packet that a message is
 abbrev pub packet_for : Message → MachinePacket

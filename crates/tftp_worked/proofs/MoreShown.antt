@@ -1,19 +1,15 @@
 -- A write, and a read with an agreed block size, as the worked captures have them.
 use Rattle.std.proofs.Common.{false, List, [], ◌∷◌, codes, refl, sym, arith}
 use Rattle.std.proofs.lemmas.Bool.{true≢false}
-use Rattle.tftp_packet.specs.declared.kinds.End.TheVariants.{Server}
-use Rattle.tftp_packet.specs.OptionMap.{OptionValue}
-use Rattle.tftp_ends.specs.Meaning.{request_of}
-use Rattle.tftp_ends.specs.Machines.{Sent, Took, Req, Oack, Data, Ack, History}
-use Rattle.tftp_ends.specs.Worked.{two_bytes_written, two_bytes_written_view, two_bytes_written_steps, ten_bytes, ten_bytes_view}
-use Rattle.tftp_ends.proofs.Defaults.{default_blksize, default_windowsize}
-use Rattle.tftp_ends.proofs.Computed.{Plan, IsPlan, run_is, complete_is}
-use Rattle.tftp_ends.proofs.WorkedMore.{blocks_of_eight, two_blocks, written_one_block, written_is_view, written_complete, ten_bytes_is_view, ten_bytes_complete}
-use Rattle.tftp_law.specs.Fits.{Fits}
-use Rattle.tftp_law.specs.Law.{Shows}
-use Rattle.tftp_worked.specs.Worked.{at_client, at_server, offers_a, is_accepted, gives_hi, hi_is_acknowledged, one_block_write, is_offered_a, accepts_it, gets_hi, has_hi, write_at_server, asks_for_eights, agrees_to_eights, takes_offer, brings_eight, acknowledges_eight, brings_two, acknowledges_two, read_in_eights}
+use Rattle.tftp_packet.specs.{Server, OptionValue}
+use Rattle.tftp_model.specs.{request_of, Sent, Took, Req, Oack, Data, Ack, History, two_bytes_written, two_bytes_written_view, two_bytes_written_steps, ten_bytes, ten_bytes_view}
+use Rattle.tftp_model.proofs.Defaults.{default_blksize, default_windowsize}
+use Rattle.tftp_model.proofs.Computed.{Plan, IsPlan, run_is, complete_is}
+use Rattle.tftp_model.proofs.WorkedMore.{blocks_of_eight, two_blocks, written_one_block, written_is_view, written_complete, ten_bytes_is_view, ten_bytes_complete}
+use Rattle.tftp_law.specs.{Fits, Shows}
+use Rattle.tftp_worked.specs.{at_client, at_server, offers_a, is_accepted, gives_hi, hi_is_acknowledged, one_block_write, is_offered_a, accepts_it, gets_hi, has_hi, write_at_server, asks_for_eights, agrees_to_eights, takes_offer, brings_eight, acknowledges_eight, brings_two, acknowledges_two, read_in_eights}
 use Rattle.tftp_worked.proofs.Spelled.{write_spelled, ack_zero_spelled, hi_spelled, ack_spelled, eights_spelled, agreed_spelled, eight_bytes_spelled, two_bytes_spelled, ack_two_spelled}
-use Rattle.tftp_law.proofs.NothingAgreed.{nothing_may_be_agreed_by, none_there}
+use Rattle.tftp_law.proofs.Whole.NothingAgreed.{nothing_may_be_agreed_by, none_there}
 use Rattle.tftp_worked.proofs.Dressed.{Carried, dressed_by}
 use Rattle.tftp_worked.proofs.ReadShown.{ids}
 use Rattle.tftp_worked.proofs.ReadVariants.{server_ids}

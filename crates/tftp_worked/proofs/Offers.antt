@@ -3,28 +3,15 @@ use Rattle.std.proofs.Common.{◌≡◌, ◌≢◌, ℕ, ◌<◌, ◌≤◌, tru
 use Rattle.std.proofs.lemmas.Bool.{false≢true}
 use Rattle.std.proofs.lemmas.Slice.Eq.{bytes_eq-Decides}
 use Rattle.std.specs.FinMap as map
-use Rattle.tftp_packet.specs.OptionMap.{OptionMap, OptionValue, Num, Text, no_options, value_of, is_known_number, is_number, range_of}
-use Rattle.tftp_packet.specs.Written.{map_of}
-use Rattle.tftp_packet.specs.Message.{Message, RequestParts}
-use Rattle.tftp_packet.specs.Spelling.{Spells}
-use Rattle.tftp_packet.specs.declared.kinds.Side.TheVariants.{Get}
-use Rattle.tftp_packet.specs.declared.kinds.Mode.TheVariants.{Octet}
-use Rattle.tftp_nego.specs.Faults.{Holds}
-use Rattle.tftp_nego.specs.declared.fault.NegoFault.{NegoFault}
-use Rattle.tftp_ends.specs.CaptureText.{Datagram}
-use Rattle.tftp_ends.specs.Ports.{route_of, is_of_transfer}
-use Rattle.tftp_ends.specs.Worked.{eight_a_block}
-use Rattle.tftp_ends.specs.declared.terms.Terms.{Terms}
-use Rattle.tftp_ends.specs.declared.terms.Reply.TheVariants.{NoReply, Plain}
-use Rattle.tftp_ends.proofs.WorkedMore.{eight_for_blksize}
-use Rattle.tftp_law.specs.Rules.{number_of, plain_terms, Broken, FirstOack}
-use Rattle.tftp_law.specs.OneEnded.{OneEnded, IsRefused}
-use Rattle.tftp_law.specs.declared.rule.Rule.{Rule}
+use Rattle.tftp_packet.specs.{OptionMap, OptionValue, Num, Text, no_options, value_of, is_known_number, is_number, range_of, map_of, Message, RequestParts, Spells, Get, Octet}
+use Rattle.tftp_nego.specs.{Holds, NegoFault}
+use Rattle.tftp_hosts.specs.{Datagram}
+use Rattle.tftp_rules.specs.{route_of, is_of_transfer, Terms, NoReply, Plain}
+use Rattle.tftp_model.specs.{eight_a_block}
+use Rattle.tftp_model.proofs.WorkedMore.{eight_for_blksize}
+use Rattle.tftp_law.specs.{number_of, plain_terms, Broken, FirstOack, OneEnded, IsRefused, Rule}
 use Rattle.tftp_law.proofs.Spelled.{spelled_once}
-use Rattle.tftp_worked.specs.Worked.{at_client, asks_for_a, acknowledges_hi, one_block_read}
-use Rattle.tftp_worked.specs.WorkedWindows.{request, oack, by_eight}
-use Rattle.tftp_worked.specs.WorkedRules.{only_asked}
-use Rattle.tftp_worked.specs.WorkedOffers.{asks_for_b, agrees_to_none, agrees_unasked, by_multicast, only_multicast_asked, agrees_to_multicast, by_foo, only_foo_asked, agrees_to_foo, only_512_asked, agrees_to_1024}
+use Rattle.tftp_worked.specs.{at_client, asks_for_a, acknowledges_hi, one_block_read, request, oack, by_eight, only_asked, asks_for_b, agrees_to_none, agrees_unasked, by_multicast, only_multicast_asked, agrees_to_multicast, by_foo, only_foo_asked, agrees_to_foo, only_512_asked, agrees_to_1024}
 use Rattle.tftp_worked.proofs.Spelled.{request_spelled, hi_spelled, ack_spelled}
 use Rattle.tftp_worked.proofs.Payloads.{Spelled, AllSpelled, request_spells, request_for_spells, oack_spells, eight_is}
 use Rattle.tftp_worked.proofs.Passing.{asked_by, asked_is, asked_there, first_answer, first_asked, main_of, terms_of, unanswered_there}

@@ -3,8 +3,8 @@ use Rattle.std.proofs.Common.{Ordering, Less, Equal, Greater, ◌≡◌, ◌≢�
 use Rattle.std.specs.FinMap as map
 use Rattle.std.specs.Ordering.{nat_cmp, is_eq, eq_by_cmp}
 use Rattle.std.specs.Cmp.Lexicographic.{slice_cmp, nat_list_cmp_total}
-use Rattle.tftp_packet.specs.OptionMap.{OptionMap, OptionValue, no_options}
-use Rattle.tftp_nego.specs.Faults.{HasOption}
+use Rattle.tftp_packet.specs.{OptionMap, OptionValue, no_options}
+use Rattle.tftp_nego.specs.{HasOption}
 
 abbrev pub single : List ℕ → OptionValue → OptionMap
 single name value = map.from_entries ((name, value) ∷ [])

@@ -3,17 +3,13 @@ use Rattle.std.proofs.Common.{◌≡◌, ◌≢◌, ℕ, ◌+◌, ◌/◌, ◌<�
 use Rattle.std.specs.FinMap as map
 use Rattle.std.specs.Ordering.{nat_cmp, eq_by_cmp}
 use Rattle.std.specs.Cmp.Lexicographic.{slice_cmp, nat_list_cmp_total}
-use Rattle.tftp_packet.specs.OptionMap.{OptionMap, OptionValue, Num, no_options}
-use Rattle.tftp_packet.specs.Message.{RequestParts}
-use Rattle.tftp_ends.specs.CaptureText.{Header}
-use Rattle.tftp_ends.specs.Meaning.{number_or, option_or}
-use Rattle.tftp_ends.specs.declared.terms.Reply.TheVariants.{Oacked}
-use Rattle.tftp_ends.specs.declared.terms.Terms.{Terms}
-use Rattle.tftp_nego.specs.Agreement.{MayAnswer}
-use Rattle.tftp_nego.specs.Faults.{Holds}
-use Rattle.tftp_nego.specs.declared.fault.NegoFault.{NegoFault}
-use Rattle.tftp_law.specs.Rules.{Agrees, size_from, terms_after}
-use Rattle.tftp_law.proofs.Agreed.{AllAnswer, no_option_fault}
+use Rattle.tftp_packet.specs.{OptionMap, OptionValue, Num, no_options, RequestParts}
+use Rattle.tftp_hosts.specs.{Header}
+use Rattle.tftp_model.specs.{number_or, option_or}
+use Rattle.tftp_rules.specs.{Oacked, Terms}
+use Rattle.tftp_nego.specs.{MayAnswer, Holds, NegoFault}
+use Rattle.tftp_law.specs.{Agrees, size_from, terms_after}
+use Rattle.tftp_law.proofs.FirstBroken.Agreed.{AllAnswer, no_option_fault}
 use Rattle.tftp_worked.proofs.Chains.{OackFine}
 use Rattle.tftp_worked.proofs.OneOption.{has_some, name_is}
 

@@ -2,17 +2,11 @@
 use Rattle.std.proofs.Common.{◌≡◌, ◌&&◌, ◌||◌, ◌⊎◌, Bool, true, false, List, [], ◌∷◌, Option, Some, None, option_map, inl, inr, refl, sym, subst, ap, ◌∙◌, if◌then◌else◌}
 use Rattle.std.specs.List.{list_any}
 use Rattle.std.proofs.lemmas.Bool.{and_parts, or_cases, false≢true}
-use Rattle.tftp_packet.specs.Message.{Message, RequestParts}
-use Rattle.tftp_packet.specs.Spelling.{Spells}
-use Rattle.tftp_packet.specs.declared.kinds.Side.{Side}
-use Rattle.tftp_packet.specs.declared.kinds.Dir.{Dir}
-use Rattle.tftp_ends.specs.CaptureText.{Datagram, Header}
-use Rattle.tftp_ends.specs.Ports.{goes_out, or_this, first_of, asks, route_of, is_of_transfer, transfer_of}
-use Rattle.tftp_ends.specs.Rules.{Passed, brings_error, usable}
-use Rattle.tftp_ends.specs.declared.terms.Terms.{Terms}
-use Rattle.tftp_ends.specs.declared.terms.Reply.TheVariants.{NoReply}
-use Rattle.tftp_law.specs.Rules.{FirstAsked, Answer, Answers, NotAnswered, FirstAnswer, plain_terms, terms_after, AreTerms}
-use Rattle.tftp_law.proofs.Answering.{answer_of, answer_is, answer_there}
+use Rattle.tftp_packet.specs.{Message, RequestParts, Spells, Side}
+use Rattle.tftp_hosts.specs.{Dir, Datagram, Header}
+use Rattle.tftp_rules.specs.{goes_out, or_this, first_of, asks, route_of, is_of_transfer, transfer_of, Passed, brings_error, usable, Terms, NoReply}
+use Rattle.tftp_law.specs.{FirstAsked, Answer, Answers, NotAnswered, FirstAnswer, plain_terms, terms_after, AreTerms}
+use Rattle.tftp_law.proofs.FirstBroken.Answering.{answer_of, answer_is, answer_there}
 use Rattle.tftp_law.proofs.Spelled.{spelled_once}
 use Rattle.tftp_worked.proofs.Payloads.{Spelled, datagrams, AllSpelled}
 

@@ -5,18 +5,10 @@ use Rattle.std.proofs.lemmas.Slice.Eq.{bytes_eq-Decides}
 use Rattle.std.specs.Str.{bytes_eq}
 use Rattle.std.specs.List.{AllByRecursion, list_all}
 use Rattle.std.specs.FinMap as map
-use Rattle.tftp_packet.specs.OptionMap.{OptionMap, Num, lower, value_of, is_known_number, is_number, range_of}
-use Rattle.tftp_packet.specs.Message.{Message}
-use Rattle.tftp_ends.specs.CaptureText.{Datagram}
-use Rattle.tftp_packet.specs.Written.{IsString, AreStrings, Pair, pair_strings, AreNamed, SameName, AreApart, map_of}
-use Rattle.tftp_packet.specs.Spelling.{Spells, mode_name, side_opcode}
-use Rattle.tftp_packet.specs.declared.kinds.Side.{Side}
-use Rattle.tftp_packet.specs.declared.kinds.Mode.{Mode}
-use Rattle.tftp_packet.specs.declared.kinds.Mode.TheVariants.{Octet}
-use Rattle.tftp_worked.specs.WorkedWindows.{request, request_for, oack, block, ack, by_eight, by_four, by_two}
-use Rattle.tftp_worked.specs.WorkedErrors.{error}
-use Rattle.tftp_ends.specs.Worked.{eight_a_block}
-use Rattle.tftp_ends.specs.WorkedWindows.{eight_by_four}
+use Rattle.tftp_packet.specs.{OptionMap, Num, lower, value_of, is_known_number, is_number, range_of, Message, IsString, AreStrings, Pair, pair_strings, AreNamed, SameName, AreApart, map_of, Spells, mode_name, side_opcode, Side, Mode, Octet}
+use Rattle.tftp_hosts.specs.{Datagram}
+use Rattle.tftp_worked.specs.{request, request_for, oack, block, ack, by_eight, by_four, by_two, error}
+use Rattle.tftp_model.specs.{eight_a_block, eight_by_four}
 
 -- a datagram with what it spells
 abbrev pub Spelled : Type 0

@@ -1,18 +1,14 @@
 -- What the worked datagrams can be in a division.
 use Rattle.std.proofs.Common.{◌≡◌, ℕ, List, [], ◌∷◌, Any, codes, inl, inr, refl, sym, subst, ap, ◌∙◌}
-use Rattle.tftp_packet.specs.Message.{Message, RequestParts}
-use Rattle.tftp_packet.specs.declared.kinds.Dir.TheVariants.{In, Out}
-use Rattle.tftp_ends.specs.Meaning.{Meaning, request_of, blksize_of}
-use Rattle.tftp_ends.specs.Blocks.{block}
-use Rattle.tftp_ends.specs.Machines.{Deed, Sent, Took, MachinePacket, Req, Oack, Data, Ack, Error, History, message_of}
-use Rattle.tftp_ends.specs.Worked.{two_bytes}
-use Rattle.tftp_ends.specs.CaptureText.{Datagram, PeerId, peer_of}
-use Rattle.tftp_packet.specs.Spelling.{Spells}
-use Rattle.tftp_law.specs.Dress.{Part, Main, Stray, StrayAnswer, Placed, Division, datagrams_of, view_in, TransferIds, HasPart, HaveParts}
-use Rattle.tftp_worked.specs.Worked.{at_client, asks_for_a, brings_hi, acknowledges_hi, brings_more}
+use Rattle.tftp_packet.specs.{Message, RequestParts, Spells}
+use Rattle.tftp_hosts.specs.{In, Out, Datagram, PeerId, peer_of}
+use Rattle.tftp_model.specs.{Meaning, request_of, blksize_of, block, Deed, Sent, Took, MachinePacket, Req, Oack, Data, Ack, Error, History, message_of, two_bytes}
+use Rattle.tftp_law.specs.Dress.{StrayAnswer}
+use Rattle.tftp_law.specs.{Part, Main, Stray, Placed, Division, datagrams_of, view_in, TransferIds, HasPart, HaveParts}
+use Rattle.tftp_worked.specs.{at_client, asks_for_a, brings_hi, acknowledges_hi, brings_more}
 use Rattle.tftp_law.proofs.Spelled.{spelled_once}
 use Rattle.tftp_worked.proofs.Spelled.{request_spelled, hi_spelled, ack_spelled, more_spelled}
-use Rattle.tftp_law.proofs.Divided.{divided_more, divided_none, view_main, any_none, any_cases}
+use Rattle.tftp_law.proofs.Division.Divided.{divided_more, divided_none, view_main, any_none, any_cases}
 
 same_parts : (p q : RequestParts) → Message.Request p ≡ Message.Request q → p ≡ q
 same_parts p q e = cc

@@ -1,17 +1,12 @@
 -- What the runs of the worked read have in common.
 use Rattle.std.proofs.Common.{◌≡◌, ◌≢◌, ℕ, ◌≤◌, ◌⊎◌, List, [], ◌∷◌, Contains, length, take, codes, inl, inr, sym, subst, ap, ◌∙◌, arith, length-take, take_all}
-use Rattle.tftp_packet.specs.declared.kinds.Side.TheVariants.{Get}
-use Rattle.tftp_packet.specs.declared.kinds.End.TheVariants.{Client, Server}
-use Rattle.tftp_ends.specs.Meaning.{Meaning, request_of, NothingAgreed, blksize_of}
-use Rattle.tftp_ends.specs.Blocks.{block, block_count}
-use Rattle.tftp_ends.specs.Machines.{Deed, Sent, Took, Req, Data, Ack, History, HasSent, HasTaken, IsStartedOn}
-use Rattle.tftp_ends.specs.Runs.{Step, view_of, IsRun, IsView}
-use Rattle.tftp_ends.specs.Worked.{two_bytes}
-use Rattle.tftp_ends.proofs.Members.{contains_first, contains_later, contains_cases, contains_none}
-use Rattle.tftp_ends.proofs.Moments.{moment, taken_was_sent}
-use Rattle.tftp_ends.proofs.Blocks.{block_of_sender}
-use Rattle.tftp_ends.proofs.Defaults.{default_blksize}
-use Rattle.tftp_law.specs.Fits.{Fits, ReadsAs}
+use Rattle.tftp_packet.specs.{Get, Client, Server}
+use Rattle.tftp_model.specs.{Meaning, request_of, NothingAgreed, blksize_of, block, block_count, Deed, Sent, Took, Req, Data, Ack, History, HasSent, HasTaken, IsStartedOn, Step, view_of, IsRun, IsView, two_bytes}
+use Rattle.tftp_model.proofs.Members.{contains_first, contains_later, contains_cases, contains_none}
+use Rattle.tftp_model.proofs.Moments.{moment, taken_was_sent}
+use Rattle.tftp_model.proofs.Blocks.{block_of_sender}
+use Rattle.tftp_model.proofs.Defaults.{default_blksize}
+use Rattle.tftp_law.specs.{Fits, ReadsAs}
 
 -- a read whose client took a block and sent no ACK 0 has agreed to nothing
 nothing_agreed_in : (m : Meaning) (wire : List ℕ) (steps : List Step) (k : ℕ) → IsRun m wire steps → m.side ≡ Get → HasTaken (view_of Client steps) (Data k) → (HasSent (view_of Client steps) (Ack 0) → ⊥) → NothingAgreed m

@@ -1,23 +1,17 @@
 -- The worked captures: what they show, and what they cannot.
 use Rattle.std.proofs.Common.{◌≡◌, ◌≢◌, ℕ, ◌≤◌, List, [], ◌∷◌, codes, inl, inr, refl, sym, subst, ap, ◌∙◌, arith}
-use Rattle.tftp_packet.specs.Message.{Message}
-use Rattle.tftp_packet.specs.declared.kinds.End.TheVariants.{Client, Server}
-use Rattle.tftp_packet.specs.declared.kinds.Dir.TheVariants.{In}
-use Rattle.tftp_ends.specs.Meaning.{Meaning, NothingAgreed, blksize_of}
-use Rattle.tftp_ends.specs.Blocks.{block, block_count}
-use Rattle.tftp_ends.specs.Machines.{Deed, Sent, Took, Req, Data, Ack, History, HasSent, HasTaken, receiver_of}
-use Rattle.tftp_ends.specs.Runs.{Step, IsView}
-use Rattle.tftp_ends.specs.Worked.{two_bytes, two_bytes_view}
-use Rattle.tftp_ends.proofs.Members.{contains_first, contains_cases, contains_none}
-use Rattle.tftp_ends.proofs.Defaults.{default_blksize}
-use Rattle.tftp_ends.proofs.Worked.{one_block, two_bytes_run, two_bytes_is_view, two_bytes_complete}
-use Rattle.tftp_packet.specs.Spelling.{Spells}
-use Rattle.tftp_law.specs.Dress.{Main, Placed, Division, TransferIds, CarriesDeed, HaveParts, IsDressed}
-use Rattle.tftp_law.specs.Law.{IsSeen, IsLawful, ShowsBy, Shows}
-use Rattle.tftp_worked.specs.Worked.{at_client, server_host, asks_for_a, brings_hi, acknowledges_hi, one_block_read, read_without_its_ack, read_past_its_end}
-use Rattle.tftp_law.proofs.NothingAgreed.{two_bytes_fit}
+use Rattle.tftp_packet.specs.{Message, Client, Server, Spells}
+use Rattle.tftp_hosts.specs.{In}
+use Rattle.tftp_model.specs.{Meaning, NothingAgreed, blksize_of, block, block_count, Deed, Sent, Took, Req, Data, Ack, History, HasSent, HasTaken, Step, IsView, two_bytes, two_bytes_view}
+use Rattle.tftp_model.specs.Machines.{receiver_of}
+use Rattle.tftp_model.proofs.Members.{contains_first, contains_cases, contains_none}
+use Rattle.tftp_model.proofs.Defaults.{default_blksize}
+use Rattle.tftp_model.proofs.Worked.{one_block, two_bytes_run, two_bytes_is_view, two_bytes_complete}
+use Rattle.tftp_law.specs.{Main, Placed, Division, TransferIds, CarriesDeed, HaveParts, IsDressed, IsSeen, IsLawful, ShowsBy, Shows}
+use Rattle.tftp_worked.specs.{at_client, server_host, asks_for_a, brings_hi, acknowledges_hi, one_block_read, read_without_its_ack, read_past_its_end}
+use Rattle.tftp_law.proofs.Whole.NothingAgreed.{two_bytes_fit}
 use Rattle.tftp_worked.proofs.Spelled.{request_spelled, hi_spelled, ack_spelled}
-use Rattle.tftp_law.proofs.Divided.{any_first}
+use Rattle.tftp_law.proofs.Division.Divided.{any_first}
 use Rattle.tftp_worked.proofs.Read.{begun, Followed, acknowledged, more_came}
 use Rattle.tftp_worked.proofs.ReadRuns.{nothing_agreed, taken_in_wire, wire_is_hi, side_is_get, file_is_wire, meaning_is, hi_taken, no_ack_zero}
 

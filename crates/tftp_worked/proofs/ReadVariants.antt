@@ -1,13 +1,12 @@
 -- The worked read with a stray between, and as its server sees it.
 use Rattle.std.proofs.Common.{[], ◌∷◌, refl, arith}
-use Rattle.tftp_ends.specs.Machines.{Sent, Took, Req, Data, Ack}
-use Rattle.tftp_ends.specs.Worked.{two_bytes, two_bytes_view, two_bytes_server_view}
-use Rattle.tftp_ends.proofs.Defaults.{default_blksize}
-use Rattle.tftp_ends.proofs.Worked.{one_block, two_bytes_is_view, two_bytes_complete, two_bytes_is_server_view, two_bytes_complete_at_server}
-use Rattle.tftp_law.specs.Dress.{Main, Stray, StrayAnswer, Division, TransferIds}
-use Rattle.tftp_law.specs.Law.{Shows}
-use Rattle.tftp_law.proofs.NothingAgreed.{two_bytes_fit}
-use Rattle.tftp_worked.specs.Worked.{at_client, at_server, client_host, asks_for_a, brings_hi, acknowledges_hi, comes_astray, answers_stray, read_with_a_stray, is_asked_for_a, sends_hi, is_told, read_at_server}
+use Rattle.tftp_model.specs.{Sent, Took, Req, Data, Ack, two_bytes, two_bytes_view, two_bytes_server_view}
+use Rattle.tftp_model.proofs.Defaults.{default_blksize}
+use Rattle.tftp_model.proofs.Worked.{one_block, two_bytes_is_view, two_bytes_complete, two_bytes_is_server_view, two_bytes_complete_at_server}
+use Rattle.tftp_law.specs.Dress.{StrayAnswer}
+use Rattle.tftp_law.specs.{Main, Stray, Division, TransferIds, Shows}
+use Rattle.tftp_law.proofs.Whole.NothingAgreed.{two_bytes_fit}
+use Rattle.tftp_worked.specs.{at_client, at_server, client_host, asks_for_a, brings_hi, acknowledges_hi, comes_astray, answers_stray, read_with_a_stray, is_asked_for_a, sends_hi, is_told, read_at_server}
 use Rattle.tftp_worked.proofs.Dressed.{dressed_as, dressed_by}
 use Rattle.tftp_worked.proofs.ReadShown.{ids}
 use Rattle.tftp_worked.proofs.Shown.{shown_by}

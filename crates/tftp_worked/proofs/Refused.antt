@@ -2,18 +2,11 @@
 use Rattle.std.proofs.Common.{◌≡◌, ℕ, ◌≤◌, nat_le, Bool, true, false, List, [], ◌∷◌, ◌++◌, reverse, codes, inl, inr, refl, arith}
 use Rattle.std.proofs.lemmas.Bool.{leb-true, false≢true}
 use Rattle.std.proofs.lemmas.Slice.Eq.{bytes_eq-Decides}
-use Rattle.tftp_packet.specs.Message.{Message}
-use Rattle.tftp_packet.specs.declared.kinds.Dir.{Dir}
-use Rattle.tftp_packet.specs.declared.kinds.Dir.TheVariants.{In, Out}
-use Rattle.tftp_ends.specs.CaptureText.{Header}
-use Rattle.tftp_ends.specs.Ports.{transfer_of}
-use Rattle.tftp_ends.specs.Rules.{Passed, HasPassed, IsTop, IsAcked}
-use Rattle.tftp_ends.specs.declared.rule.EndRule.{EndRule}
-use Rattle.tftp_law.specs.declared.rule.Rule.{Rule}
-use Rattle.tftp_law.specs.OneEnded.{IsRefused}
-use Rattle.tftp_worked.specs.Worked.{at_client}
-use Rattle.tftp_worked.specs.WorkedWindows.{block, ack, goes, comes, before_overrun, block_seven, before_skip, block_two}
-use Rattle.tftp_worked.specs.WorkedRules.{before_going_back, goes_back, before_ack_zero, ack_zero, before_last_number, last_number, before_changed_block, changed_block, before_short_block, short_block, before_taking_offer, block_too_early}
+use Rattle.tftp_packet.specs.{Message}
+use Rattle.tftp_hosts.specs.{Dir, In, Out, Header}
+use Rattle.tftp_rules.specs.{transfer_of, Passed, HasPassed, IsTop, IsAcked, EndRule}
+use Rattle.tftp_law.specs.{Rule, IsRefused}
+use Rattle.tftp_worked.specs.{at_client, block, ack, goes, comes, before_overrun, block_seven, before_skip, block_two, before_going_back, goes_back, before_ack_zero, ack_zero, before_last_number, last_number, before_changed_block, changed_block, before_short_block, short_block, before_taking_offer, block_too_early}
 use Rattle.tftp_worked.proofs.Payloads.{Spelled, datagrams, AllSpelled, data_spells, block_spells, ack_spells}
 use Rattle.tftp_worked.proofs.Passing.{main_of, every, every_is}
 use Rattle.tftp_worked.proofs.Chains.{end_breaks, refused_after}

@@ -1,22 +1,11 @@
 -- Transfers in which an ERROR is sent break no rule, and what follows one breaks one.
 use Rattle.std.proofs.Common.{◌≡◌, ℕ, ◌≤◌, true, List, [], ◌∷◌, ◌++◌, reverse, Some, None, codes, inl, inr, refl, sym, subst, ap, ◌∙◌, arith}
 use Rattle.std.proofs.lemmas.Bool.{leb-true}
-use Rattle.tftp_packet.specs.Message.{Message}
-use Rattle.tftp_packet.specs.OptionMap.{no_options}
-use Rattle.tftp_packet.specs.Spelling.{Spells}
-use Rattle.tftp_packet.specs.declared.kinds.Side.TheVariants.{Get, Put}
-use Rattle.tftp_packet.specs.declared.kinds.Dir.TheVariants.{Out}
-use Rattle.tftp_ends.specs.CaptureText.{Header}
-use Rattle.tftp_ends.specs.Ports.{transfer_of}
-use Rattle.tftp_ends.specs.Rules.{Passed, IsAcked, usable}
-use Rattle.tftp_ends.specs.declared.terms.Reply.TheVariants.{NoReply, Plain}
-use Rattle.tftp_ends.specs.declared.rule.EndRule.{EndRule}
-use Rattle.tftp_law.specs.Rules.{plain_terms}
-use Rattle.tftp_law.specs.declared.rule.Rule.{Rule}
-use Rattle.tftp_law.specs.OneEnded.{OneEnded, IsRefused}
-use Rattle.tftp_worked.specs.Worked.{at_client, acknowledges_hi}
-use Rattle.tftp_worked.specs.WorkedWindows.{request, at_service, is_asked}
-use Rattle.tftp_worked.specs.WorkedErrors.{says_not_found, says_forbidden, stops, gives_up, read_refused, read_refused_twice, read_given_up, read_given_up_twice, stopped_at_the_end, stopped_after_the_end, block_after_error, before_late_answer, late_answer, only_offered, stops_unanswered}
+use Rattle.tftp_packet.specs.{Message, no_options, Spells, Get, Put}
+use Rattle.tftp_hosts.specs.{Out, Header}
+use Rattle.tftp_rules.specs.{transfer_of, Passed, IsAcked, usable, NoReply, Plain, EndRule}
+use Rattle.tftp_law.specs.{plain_terms, Rule, OneEnded, IsRefused}
+use Rattle.tftp_worked.specs.{at_client, acknowledges_hi, request, at_service, is_asked, says_not_found, says_forbidden, stops, gives_up, read_refused, read_refused_twice, read_given_up, read_given_up_twice, stopped_at_the_end, stopped_after_the_end, block_after_error, before_late_answer, late_answer, only_offered, stops_unanswered}
 use Rattle.tftp_worked.proofs.Spelled.{request_spelled, hi_spelled, ack_spelled}
 use Rattle.tftp_worked.proofs.Payloads.{Spelled, datagrams, AllSpelled, request_spells, data_spells, ack_spells, error_spells}
 use Rattle.tftp_worked.proofs.Passing.{main_of, main_is, main_spelled, used_of, used_is, all_used, every, every_in}

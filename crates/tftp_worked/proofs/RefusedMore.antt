@@ -2,25 +2,14 @@
 use Rattle.std.proofs.Common.{◌≡◌, ◌+◌, ◌/◌, ◌<◌, List, [], ◌∷◌, ◌++◌, reverse, Some, None, codes, inl, inr, refl, sym, ap, subst, ◌∙◌, arith, Bool, true, ◌==◌}
 use Rattle.std.specs.FinMap as map
 use Rattle.std.specs.Cmp.Lexicographic.{nat_list_cmp_total}
-use Rattle.tftp_packet.specs.OptionMap.{Num}
-use Rattle.tftp_packet.specs.Message.{Message, RequestParts}
-use Rattle.tftp_packet.specs.declared.kinds.Side.TheVariants.{Get}
-use Rattle.tftp_ends.specs.Meaning.{number_or, request_of}
-use Rattle.tftp_ends.specs.Rules.{IsFront, BlockPassed}
-use Rattle.tftp_ends.specs.declared.terms.Reply.TheVariants.{NoReply, Plain}
-use Rattle.tftp_ends.specs.Worked.{two_bytes, eight_a_block}
-use Rattle.tftp_ends.specs.WorkedWindows.{eight_by_four}
-use Rattle.tftp_ends.proofs.WorkedWindows.{four_of_both}
-use Rattle.tftp_law.specs.Rules.{FirstAsked, Begins, Agrees, plain_terms, Broken}
-use Rattle.tftp_law.specs.declared.rule.Rule.{Rule}
-use Rattle.tftp_packet.specs.declared.kinds.Dir.{Dir}
-use Rattle.tftp_packet.specs.declared.kinds.Dir.TheVariants.{In}
-use Rattle.tftp_ends.specs.Ports.{transfer_of}
+use Rattle.tftp_packet.specs.{Num, Message, RequestParts, Get}
+use Rattle.tftp_model.specs.{number_or, request_of, two_bytes, eight_a_block, eight_by_four}
+use Rattle.tftp_rules.specs.{IsFront, BlockPassed, NoReply, Plain, transfer_of}
+use Rattle.tftp_model.proofs.WorkedWindows.{four_of_both}
+use Rattle.tftp_law.specs.{FirstAsked, Begins, Agrees, plain_terms, Broken, Rule, OneEnded, IsRefused}
+use Rattle.tftp_hosts.specs.{Dir, In}
 use Rattle.std.proofs.lemmas.Bool.{false≢true}
-use Rattle.tftp_law.specs.OneEnded.{OneEnded, IsRefused}
-use Rattle.tftp_worked.specs.Worked.{at_client, asks_for_a, brings_hi, acknowledges_two, read_without_its_ack}
-use Rattle.tftp_worked.specs.WorkedWindows.{request, block, ack, by_eight, by_four, answers, hears, is_asked, at_service}
-use Rattle.tftp_worked.specs.WorkedRules.{comes_from_elsewhere, before_answering, acknowledges_stray, acknowledges_nobody, comes_to_another_port, asks_for_size, too_many_blocks, only_asked, ack_zero, block_zero, before_changed_reply, agrees_to_four, before_taking_offer, agrees_to_eight, before_late_oack, late_oack, sized}
+use Rattle.tftp_worked.specs.{at_client, asks_for_a, brings_hi, acknowledges_two, read_without_its_ack, request, block, ack, by_eight, by_four, answers, hears, is_asked, at_service, comes_from_elsewhere, before_answering, acknowledges_stray, acknowledges_nobody, comes_to_another_port, asks_for_size, too_many_blocks, only_asked, ack_zero, block_zero, before_changed_reply, agrees_to_four, before_taking_offer, agrees_to_eight, before_late_oack, late_oack, sized}
 use Rattle.tftp_worked.proofs.Spelled.{request_spelled, hi_spelled}
 use Rattle.tftp_worked.proofs.Payloads.{Spelled, datagrams, AllSpelled, oack_spells, data_spells, ack_spells, eight_is}
 use Rattle.tftp_worked.proofs.Passing.{asked_there, unanswered_there, answered_there, every_is}

@@ -1,22 +1,11 @@
 -- Tests of the rules, by what a datagram spells and what those before it spell.
 use Rattle.std.proofs.Common.{ℕ, ◌+◌, ◌/◌, ◌%◌, ◌==◌, ◌&&◌, ◌||◌, not, nat_lt, nat_le, zero, suc, Bool, true, false, List, length, Option, Some, None}
 use Rattle.std.specs.Str.{bytes_eq}
-use Rattle.tftp_packet.specs.Message.{Message}
-use Rattle.tftp_packet.specs.declared.kinds.Side.{Side}
-use Rattle.tftp_packet.specs.declared.kinds.Side.TheVariants.{Get, Put}
-use Rattle.tftp_packet.specs.declared.kinds.End.{End}
-use Rattle.tftp_packet.specs.declared.kinds.End.TheVariants.{Client, Server}
-use Rattle.tftp_packet.specs.declared.kinds.Dir.{Dir}
-use Rattle.tftp_packet.specs.declared.kinds.Dir.TheVariants.{In, Out}
-use Rattle.tftp_ends.specs.CaptureText.{Header}
-use Rattle.tftp_ends.specs.Roles.{sender_of, receiver_of, author_of}
-use Rattle.tftp_ends.specs.Ports.{Route, route_of, is_of_transfer}
-use Rattle.tftp_ends.specs.declared.terms.Reply.{Reply}
-use Rattle.tftp_ends.specs.declared.terms.Reply.TheVariants.{NoReply, Plain, Oacked}
-use Rattle.tftp_ends.specs.declared.terms.Terms.{Terms}
-use Rattle.tftp_ends.specs.declared.rule.EndRule.{EndRule}
-use Rattle.tftp_law.specs.Rules.{Answer, Begins}
-use Rattle.tftp_law.specs.declared.rule.Rule.{Rule}
+use Rattle.tftp_packet.specs.{Message, Side, Get, Put, End, Client, Server}
+use Rattle.tftp_hosts.specs.{Dir, In, Out, Header}
+use Rattle.tftp_model.specs.Roles.{sender_of, receiver_of}
+use Rattle.tftp_rules.specs.{author_of, Route, route_of, is_of_transfer, Reply, NoReply, Plain, Oacked, Terms, EndRule}
+use Rattle.tftp_law.specs.{Answer, Begins, Rule}
 use Rattle.tftp_worked.proofs.Payloads.{Spelled, datagrams}
 use Rattle.tftp_worked.proofs.Passing.{main_of, used_of, every, some, first_asked, asked_by, first_answer}
 

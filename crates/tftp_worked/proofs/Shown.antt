@@ -1,12 +1,8 @@
 -- What a dressed view shows.
 use Rattle.std.proofs.Common.{ℕ, List}
-use Rattle.tftp_ends.specs.CaptureText.{Datagram, Header}
-use Rattle.tftp_ends.specs.Meaning.{Meaning}
-use Rattle.tftp_ends.specs.Machines.{History}
-use Rattle.tftp_ends.specs.Runs.{IsView, IsComplete}
-use Rattle.tftp_law.specs.Dress.{IsDressed}
-use Rattle.tftp_law.specs.Fits.{Fits, IsWritable}
-use Rattle.tftp_law.specs.Law.{Shows}
+use Rattle.tftp_hosts.specs.{Datagram, Header}
+use Rattle.tftp_model.specs.{Meaning, History, IsView, IsComplete}
+use Rattle.tftp_law.specs.{IsDressed, Fits, IsWritable, Shows}
 
 pub shown_by : (h : Header) (m : Meaning) (wire : List ℕ) (view : History) (ds : List Datagram) → Fits m wire → IsWritable m → IsView m wire h.named view → IsComplete m wire h.named view
     → IsDressed h m wire view ds → Shows h m ds

@@ -1,12 +1,9 @@
 -- What the worked payloads spell.
 use Rattle.std.proofs.Common.{◌≡◌, ℕ, ◌<◌, [], ◌∷◌, codes, refl, sym, ap, arith}
 use Rattle.std.specs.FinMap as map
-use Rattle.tftp_packet.specs.OptionMap.{OptionMap, OptionValue, Num, value_of, is_known_number, is_number, range_of}
-use Rattle.tftp_packet.specs.Message.{Message}
-use Rattle.tftp_packet.specs.Spelling.{Spells, IsPair}
-use Rattle.tftp_ends.specs.Meaning.{request_of}
-use Rattle.tftp_ends.specs.Worked.{two_bytes, two_bytes_written, ten_bytes}
-use Rattle.tftp_worked.specs.Worked.{asks_for_a, brings_hi, acknowledges_hi, brings_more, answers_stray, offers_a, is_accepted, asks_for_eights, agrees_to_eights, brings_eight, brings_two, acknowledges_two}
+use Rattle.tftp_packet.specs.{OptionMap, OptionValue, Num, value_of, is_known_number, is_number, range_of, Message, Spells, IsPair}
+use Rattle.tftp_model.specs.{request_of, two_bytes, two_bytes_written, ten_bytes}
+use Rattle.tftp_worked.specs.{asks_for_a, brings_hi, acknowledges_hi, brings_more, answers_stray, offers_a, is_accepted, asks_for_eights, agrees_to_eights, brings_eight, brings_two, acknowledges_two}
 
 small : (low : ℕ) → low < 256 → IsPair 0 low low
 small low byte = (omega arith, byte, omega arith)

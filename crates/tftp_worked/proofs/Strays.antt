@@ -1,27 +1,16 @@
 -- The worked captures with strays.
 use Rattle.std.proofs.Common.{◌≡◌, ℕ, ◌<◌, List, [], ◌∷◌, Some, codes, reverse, inl, inr, refl, ap, arith}
-use Rattle.tftp_packet.specs.Message.{Message}
-use Rattle.tftp_packet.specs.Spelling.{Spells}
-use Rattle.tftp_packet.specs.declared.fault.PacketFault.TheVariants.{Short}
-use Rattle.tftp_packet.specs.declared.kinds.Side.TheVariants.{Get}
+use Rattle.tftp_packet.specs.{Message, Spells, Short, Get}
 use Rattle.tftp_packet.proofs.FaultOrder.{first_Short}
-use Rattle.tftp_ends.specs.Machines.{Sent, Took, Req, Data, Ack}
-use Rattle.tftp_ends.specs.Worked.{two_bytes, two_bytes_view, two_bytes_server_view}
-use Rattle.tftp_ends.specs.declared.terms.Reply.TheVariants.{NoReply, Plain}
-use Rattle.tftp_ends.proofs.Defaults.{default_blksize}
-use Rattle.tftp_ends.proofs.Worked.{one_block, two_bytes_is_view, two_bytes_complete, two_bytes_is_server_view, two_bytes_complete_at_server}
-use Rattle.tftp_law.specs.Dress.{Main, Stray, StrayAnswer, Division, TransferIds}
-use Rattle.tftp_law.specs.Law.{Shows}
-use Rattle.tftp_law.specs.Rules.{plain_terms, number_of, Broken}
-use Rattle.tftp_law.specs.OneEnded.{OneEnded, IsRefused}
-use Rattle.tftp_law.specs.declared.rule.Rule.{Rule}
-use Rattle.tftp_law.proofs.NothingAgreed.{two_bytes_fit}
+use Rattle.tftp_model.specs.{Sent, Took, Req, Data, Ack, two_bytes, two_bytes_view, two_bytes_server_view}
+use Rattle.tftp_rules.specs.{NoReply, Plain}
+use Rattle.tftp_model.proofs.Defaults.{default_blksize}
+use Rattle.tftp_model.proofs.Worked.{one_block, two_bytes_is_view, two_bytes_complete, two_bytes_is_server_view, two_bytes_complete_at_server}
+use Rattle.tftp_law.specs.Dress.{StrayAnswer}
+use Rattle.tftp_law.specs.{Main, Stray, Division, TransferIds, Shows, plain_terms, number_of, Broken, OneEnded, IsRefused, Rule}
+use Rattle.tftp_law.proofs.Whole.NothingAgreed.{two_bytes_fit}
 use Rattle.tftp_law.proofs.Spelled.{spelled_once}
-use Rattle.tftp_worked.specs.Worked.{at_client, at_server, server_host, asks_for_a, brings_hi, comes_astray, is_asked_for_a, sends_hi, is_told}
-use Rattle.tftp_worked.specs.WorkedErrors.{error}
-use Rattle.tftp_worked.specs.WorkedHosts.{only_is_asked}
-use Rattle.tftp_worked.specs.WorkedRules.{only_asked, before_answering, comes_from_elsewhere, acknowledges_stray}
-use Rattle.tftp_worked.specs.WorkedStrays.{strays_to_server, server_answers_stray, read_with_a_stray_at_server, answers_by_error_4, after_a_stray_at_server, server_answers_by_error_4, read_from_first_port, comes_to_service}
+use Rattle.tftp_worked.specs.{at_client, at_server, server_host, asks_for_a, brings_hi, comes_astray, is_asked_for_a, sends_hi, is_told, error, only_is_asked, only_asked, before_answering, comes_from_elsewhere, acknowledges_stray, strays_to_server, server_answers_stray, read_with_a_stray_at_server, answers_by_error_4, after_a_stray_at_server, server_answers_by_error_4, read_from_first_port, comes_to_service}
 use Rattle.tftp_worked.proofs.Spelled.{request_spelled, hi_spelled, ack_spelled, unknown_id_spelled}
 use Rattle.tftp_worked.proofs.Payloads.{Spelled, datagrams, error_spells}
 use Rattle.tftp_worked.proofs.Dressed.{dressed_as}

@@ -1,38 +1,22 @@
 -- What there is to say of the worked texts.
 use Rattle.std.proofs.Common.{Bool, true, false, List, [], ◌∷◌, Some, None, Ok, Err, codes, inl, inr, refl, arith}
 use Rattle.std.proofs.lemmas.Bool.{false≢true}
-use Rattle.tftp_packet.specs.Host.{no_host}
-use Rattle.tftp_packet.specs.Message.{Message}
-use Rattle.tftp_packet.specs.declared.kinds.Side.TheVariants.{Get}
-use Rattle.tftp_packet.specs.declared.kinds.Dir.{Dir}
-use Rattle.tftp_packet.specs.declared.kinds.Dir.TheVariants.{Out}
-use Rattle.tftp_capture.specs.CaptureText.{numbered, Numbered, BeginsWith}
-use Rattle.tftp_capture.specs.Worked.{worked_header, worked_text}
+use Rattle.tftp_hosts.specs.{no_host, Dir, Out, Header}
+use Rattle.tftp_packet.specs.{Message, Get}
+use Rattle.tftp_capture.specs.{numbered, Numbered, BeginsWith, worked_header, worked_text, BadHeader}
 use Rattle.tftp_capture.specs.declared.fault.CaptureFault.TheVariants.{Text}
-use Rattle.tftp_capture.specs.declared.fault.TextFault.TheVariants.{BadHeader}
 use Rattle.tftp_capture.proofs.Beginnings.{capture_begins, fault_after}
-use Rattle.tftp_ends.specs.CaptureText.{Header}
-use Rattle.tftp_ends.specs.Machines.{Sent, Took, Req, Data, Ack}
-use Rattle.tftp_ends.specs.Ports.{transfer_of}
-use Rattle.tftp_ends.specs.Rules.{IsAcked}
-use Rattle.tftp_ends.specs.Worked.{two_bytes, two_bytes_view}
-use Rattle.tftp_ends.specs.declared.terms.Reply.TheVariants.{NoReply}
-use Rattle.tftp_ends.proofs.Defaults.{default_blksize}
-use Rattle.tftp_ends.proofs.Worked.{one_block, two_bytes_is_view, two_bytes_complete}
-use Rattle.tftp_law.specs.Dress.{TransferIds, IsDressed}
-use Rattle.tftp_law.specs.Law.{IsSeen, IsLawful, Shows}
-use Rattle.tftp_law.specs.OneEnded.{OneEnded, IsRefused}
-use Rattle.tftp_law.specs.Rules.{plain_terms}
-use Rattle.tftp_law.specs.declared.rule.Rule.{Rule}
-use Rattle.tftp_law.proofs.Beginnings.{empty_is_lawful}
-use Rattle.tftp_law.proofs.FirstBroken.{refused_does_not_pass}
-use Rattle.tftp_law.proofs.NothingAgreed.{two_bytes_fit}
-use Rattle.tftp_judge.specs.TextVerdict.{IsTextVerdict, unnumbered}
-use Rattle.tftp_judge.specs.Verdict.{IsVerdictByRules}
-use Rattle.tftp_judge.specs.declared.refusal.Refusal.TheVariants.{Unlawful}
-use Rattle.tftp_judge.specs.declared.verdict.Verdict.TheVariants.{Capture, Refused}
+use Rattle.tftp_model.specs.{Sent, Took, Req, Data, Ack, two_bytes, two_bytes_view}
+use Rattle.tftp_rules.specs.{transfer_of, IsAcked, NoReply}
+use Rattle.tftp_model.proofs.Defaults.{default_blksize}
+use Rattle.tftp_model.proofs.Worked.{one_block, two_bytes_is_view, two_bytes_complete}
+use Rattle.tftp_law.specs.{TransferIds, IsDressed, IsSeen, IsLawful, Shows, OneEnded, IsRefused, plain_terms, Rule}
+use Rattle.tftp_law.proofs.Whole.Beginnings.{empty_is_lawful}
+use Rattle.tftp_law.proofs.FirstBroken.FirstBroken.{refused_does_not_pass}
+use Rattle.tftp_law.proofs.Whole.NothingAgreed.{two_bytes_fit}
+use Rattle.tftp_judge.specs.{IsTextVerdict, unnumbered, IsVerdictByRules, Unlawful, Capture, Refused}
 use Rattle.tftp_judge.proofs.ByRuns.{verdict}
-use Rattle.tftp_worked.specs.WorkedTexts.{overrun_text, unversioned_text}
+use Rattle.tftp_worked.specs.{overrun_text, unversioned_text}
 use Rattle.tftp_worked.proofs.Chains.{one_more, none_under}
 use Rattle.tftp_worked.proofs.Dressed.{Carried, dressed_by}
 use Rattle.tftp_worked.proofs.Passing.{unanswered_there, every_is}

@@ -1,34 +1,21 @@
 -- What the commands write of the worked texts.
-use Rattle.std.proofs.Common.{◌≡◌, ℕ, ◌+◌, ◌++◌, true, false, List, [], Ok, Err, codes, decimal, inl, refl, sym, ap, ◌∙◌}
-use Rattle.std.specs.Prelude.{◌↔◌}
+use Rattle.std.proofs.Common.{◌≡◌, ℕ, ◌+◌, ◌++◌, true, false, List, [], Ok, Err, codes, decimal, inl, refl, sym, ap, ◌∙◌, ◌↔◌}
 use Rattle.std.proofs.lemmas.Bool.{false≢true}
 use Rattle.std.specs.Ordering.{nat_cmp}
 use Rattle.std.specs.Cmp.Lexicographic.{slice_cmp}
 use Rattle.std.specs.FinMap as map
 use Rattle.std.specs.Fmt.{digits}
-use Rattle.tftp_packet.specs.Message.{Message}
-use Rattle.tftp_packet.specs.OptionMap.{OptionValue}
-use Rattle.tftp_packet.specs.declared.kinds.Side.TheVariants.{Get}
-use Rattle.tftp_capture.specs.CaptureText.{numbered}
-use Rattle.tftp_capture.specs.Worked.{line, worked_header, worked_text}
+use Rattle.tftp_packet.specs.{Message, OptionValue, Get}
+use Rattle.tftp_capture.specs.{numbered, line, worked_header, worked_text, BadHeader}
 use Rattle.tftp_capture.specs.declared.fault.CaptureFault.TheVariants.{Text}
-use Rattle.tftp_capture.specs.declared.fault.TextFault.TheVariants.{BadHeader}
-use Rattle.tftp_ends.specs.Worked.{two_bytes}
-use Rattle.tftp_ends.proofs.Worked.{one_block, window_one}
-use Rattle.tftp_law.specs.declared.rule.Rule.{Rule}
-use Rattle.tftp_judge.specs.declared.refusal.Refusal.TheVariants.{Unlawful}
-use Rattle.tftp_judge.specs.declared.verdict.Verdict.TheVariants.{Capture, Refused}
-use Rattle.tftp_normal.specs.Normal.{normal_count, opening_count, window_count}
-use Rattle.tftp_normal.specs.Worked.{two_bytes_text}
+use Rattle.tftp_model.specs.{two_bytes}
+use Rattle.tftp_model.proofs.Worked.{one_block, window_one}
+use Rattle.tftp_law.specs.{Rule}
+use Rattle.tftp_judge.specs.{Unlawful, Capture, Refused}
+use Rattle.tftp_normal.specs.{normal_count, opening_count, window_count, two_bytes_text}
 use Rattle.tftp_normal.proofs.Computed.{two_bytes_text_is}
-use Rattle.tftp_commands.specs.Checked.{IsChecked}
-use Rattle.tftp_commands.specs.Counted.{IsCounted}
-use Rattle.tftp_commands.specs.Extracted.{IsExtracted}
-use Rattle.tftp_commands.specs.Judged.{IsJudged}
-use Rattle.tftp_commands.specs.Normalised.{IsNormalised}
-use Rattle.tftp_commands.specs.Shown.{AreLines, Ending, IsShown}
-use Rattle.tftp_commands.specs.Source.{given}
-use Rattle.tftp_worked.specs.WorkedTexts.{overrun_text, unversioned_text, with_success, with_refusal, with_fault}
+use Rattle.tftp_commands.specs.{IsChecked, IsCounted, IsExtracted, IsJudged, IsNormalised, AreLines, Ending, IsShown, given}
+use Rattle.tftp_worked.specs.{overrun_text, unversioned_text, with_success, with_refusal, with_fault}
 use Rattle.tftp_worked.proofs.Payloads.{data_spells}
 use Rattle.tftp_worked.proofs.RefusedMore.{asked}
 use Rattle.tftp_worked.proofs.Spelled.{request_spelled, ack_spelled}

@@ -6,20 +6,11 @@ use Rattle.std.proofs.lemmas.List.Elements.{All-cons, All-nil}
 use Rattle.std.specs.List.{AllByRecursion}
 use Rattle.std.specs.Fmt.{digits}
 use Rattle.hex.specs.Hex.{encode_with}
-use Rattle.tftp_packet.specs.Host.{no_host}
-use Rattle.tftp_packet.specs.declared.kinds.Dir.{Dir}
-use Rattle.tftp_packet.specs.declared.kinds.Dir.TheVariants.{In, Out}
-use Rattle.tftp_capture.specs.CaptureText.{text_of, head_line, numbered, IsCapture, IsLawful, IsPort, NamesNoHost, HasFault}
-use Rattle.tftp_capture.specs.Worked.{worked_header, worked_text}
-use Rattle.tftp_capture.specs.declared.fault.TextFault.TheVariants.{BadHeader}
+use Rattle.tftp_hosts.specs.{no_host, Dir, In, Out, Datagram}
+use Rattle.tftp_capture.specs.{text_of, head_line, numbered, IsCapture, IsLawful, IsPort, NamesNoHost, HasFault, worked_header, worked_text, BadHeader, Version, One, Two}
 use Rattle.tftp_capture.specs.CaptureText.Due.{Head}
-use Rattle.tftp_capture.specs.declared.version.Version.{Version}
-use Rattle.tftp_capture.specs.declared.version.Version.TheVariants.{One, Two}
 use Rattle.tftp_capture.proofs.Canonical.{canonical_is_read}
-use Rattle.tftp_ends.specs.CaptureText.{Datagram}
-use Rattle.tftp_worked.specs.Worked.{asks_for_a, acknowledges_hi}
-use Rattle.tftp_worked.specs.WorkedWindows.{block}
-use Rattle.tftp_worked.specs.WorkedTexts.{overrun_text, unversioned_text}
+use Rattle.tftp_worked.specs.{asks_for_a, acknowledges_hi, block, overrun_text, unversioned_text}
 use Rattle.tftp_worked.proofs.Payloads.{data_spells}
 use Rattle.tftp_worked.proofs.Spelled.{request_spelled, ack_spelled}
 use Rattle.tftp_normal.proofs.Lawful.{at_each}

@@ -1,18 +1,11 @@
 -- Captures that mean nothing, since their client has not acknowledged a last block; and ERRORs, or none, in them.
 use Rattle.std.proofs.Common.{◌≡◌, ℕ, ◌<◌, ◌==◌, ◌||◌, not, nat_le, Bool, true, List, [], ◌∷◌, length, Some, None, inl, inr, refl, sym, subst, ◌∙◌, arith}
 use Rattle.std.proofs.lemmas.Bool.{and_parts, or_cases, leb-true, eq-eqb, false≢true}
-use Rattle.tftp_packet.specs.Message.{Message}
-use Rattle.tftp_packet.specs.Spelling.{Spells}
-use Rattle.tftp_packet.specs.declared.kinds.Dir.{Dir}
-use Rattle.tftp_packet.specs.declared.kinds.Dir.TheVariants.{In, Out}
-use Rattle.tftp_ends.specs.CaptureText.{Datagram, Header}
-use Rattle.tftp_ends.specs.Meaning.{Meaning}
-use Rattle.tftp_ends.specs.Ports.{transfer_of}
-use Rattle.tftp_ends.specs.Rules.{Passed, IsReceiver}
-use Rattle.tftp_ends.specs.declared.terms.Terms.{Terms}
-use Rattle.tftp_law.specs.Aborted.{IsErrorBy, NoErrorPassed}
-use Rattle.tftp_law.specs.declared.by.By.{By}
-use Rattle.tftp_law.specs.OneEnded.{IsWhole, Meant}
+use Rattle.tftp_packet.specs.{Message, Spells}
+use Rattle.tftp_hosts.specs.{Dir, In, Out, Datagram, Header}
+use Rattle.tftp_model.specs.{Meaning}
+use Rattle.tftp_rules.specs.{transfer_of, Passed, IsReceiver, Terms}
+use Rattle.tftp_law.specs.{IsErrorBy, NoErrorPassed, By, IsWhole, Meant}
 use Rattle.tftp_law.proofs.Spelled.{spelled_once}
 use Rattle.tftp_worked.proofs.Payloads.{Spelled, datagrams, AllSpelled}
 use Rattle.tftp_worked.proofs.Passing.{main_of, every, every_is, terms_of, terms_are}

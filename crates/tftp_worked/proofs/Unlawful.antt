@@ -1,27 +1,17 @@
 -- Captures that no run of two ends has.
 use Rattle.std.proofs.Common.{◌≡◌, ℕ, not, nat_le, Bool, true, List, [], ◌∷◌, ◌++◌, codes, inl, inr, refl, sym, subst, ap, ◌∙◌, arith}
 use Rattle.std.proofs.lemmas.Bool.{false≢true, leb-true}
-use Rattle.tftp_packet.specs.Message.{Message, RequestParts}
-use Rattle.tftp_packet.specs.OptionMap.{OptionMap}
-use Rattle.tftp_packet.specs.declared.kinds.Side.{Side}
-use Rattle.tftp_packet.specs.declared.kinds.Side.TheVariants.{Get, Put}
-use Rattle.tftp_packet.specs.declared.kinds.Mode.TheVariants.{Octet}
-use Rattle.tftp_packet.specs.declared.kinds.End.TheVariants.{Client}
-use Rattle.tftp_ends.specs.Meaning.{Meaning, request_of, number_or, option_or, windowsize_of}
-use Rattle.tftp_ends.specs.CaptureText.{PeerId}
-use Rattle.tftp_ends.specs.Roles.{sender_of, receiver_of}
-use Rattle.tftp_ends.specs.Machines.{MachinePacket, Data, Ack, HasSent, HasTaken}
-use Rattle.tftp_ends.specs.Runs.{Step, view_of, IsRun}
-use Rattle.tftp_ends.specs.WorkedWindows.{eight_by_four, six_blocks}
-use Rattle.tftp_ends.proofs.Moments.{taken_was_sent}
-use Rattle.tftp_ends.proofs.Blocks.{blocks_sent, block_in_given_window}
-use Rattle.tftp_ends.proofs.Computed.{same_packet, taken_is, sent_is, all_is}
-use Rattle.tftp_ends.proofs.WorkedWindows.{four_of_both}
-use Rattle.tftp_law.specs.Dress.{TransferIds}
-use Rattle.tftp_law.specs.Law.{IsLawful, IsLawfulUpTo}
-use Rattle.tftp_law.proofs.Beginnings.{beginning_is_lawful, shown_is_lawful}
-use Rattle.tftp_worked.specs.Worked.{at_client, server_host}
-use Rattle.tftp_worked.specs.WorkedWindows.{request, oack, block, ack, by_four, by_two, asks, goes, comes, before_overrun, block_seven, before_skip, block_two, window_out_of_order}
+use Rattle.tftp_packet.specs.{Message, RequestParts, OptionMap, Side, Get, Put, Octet, Client}
+use Rattle.tftp_model.specs.{Meaning, request_of, number_or, option_or, windowsize_of, MachinePacket, Data, Ack, HasSent, HasTaken, Step, view_of, IsRun, eight_by_four, six_blocks}
+use Rattle.tftp_hosts.specs.{PeerId}
+use Rattle.tftp_model.specs.Roles.{sender_of, receiver_of}
+use Rattle.tftp_model.proofs.Moments.{taken_was_sent}
+use Rattle.tftp_model.proofs.Blocks.{blocks_sent, block_in_given_window}
+use Rattle.tftp_model.proofs.Computed.{same_packet, taken_is, sent_is, all_is}
+use Rattle.tftp_model.proofs.WorkedWindows.{four_of_both}
+use Rattle.tftp_law.specs.{TransferIds, IsLawful, IsLawfulUpTo}
+use Rattle.tftp_law.proofs.Whole.Beginnings.{beginning_is_lawful, shown_is_lawful}
+use Rattle.tftp_worked.specs.{at_client, server_host, request, oack, block, ack, by_four, by_two, asks, goes, comes, before_overrun, block_seven, before_skip, block_two, window_out_of_order}
 use Rattle.tftp_worked.proofs.Payloads.{request_spells, oack_spells, data_spells, ack_spells, four_is, two_is, eight_by_two, Spelled, AllSpelled}
 use Rattle.tftp_worked.proofs.WindowsShown.{both_spell, six_shown}
 use Rattle.tftp_worked.proofs.Meant.{AllNear, deeds_for, all_meant, second_shows}

@@ -1,21 +1,15 @@
 -- Worked verdicts, from the runs and the rules.
 use Rattle.std.proofs.Common.{List, [], ◌∷◌, ◌++◌, reverse, Ok, Err, refl}
-use Rattle.tftp_ends.specs.CaptureText.{Datagram, Header}
-use Rattle.tftp_ends.specs.Meaning.{Meaning}
-use Rattle.tftp_ends.specs.Worked.{two_bytes}
-use Rattle.tftp_ends.specs.WorkedWindows.{six_blocks}
-use Rattle.tftp_law.specs.declared.rule.Rule.{Rule}
-use Rattle.tftp_law.specs.Law.{Shows}
-use Rattle.tftp_judge.specs.Verdict.{IsVerdict, IsVerdictByRules}
-use Rattle.tftp_judge.specs.declared.refusal.Refusal.TheVariants.{Unlawful, Incomplete}
-use Rattle.tftp_law.specs.Aborted.{IsNotAborted}
-use Rattle.tftp_worked.specs.Worked.{at_client, one_block_read, read_without_its_ack}
+use Rattle.tftp_hosts.specs.{Datagram, Header}
+use Rattle.tftp_model.specs.{Meaning, two_bytes, six_blocks}
+use Rattle.tftp_law.specs.{Rule, Shows, IsNotAborted}
+use Rattle.tftp_judge.specs.{IsVerdict, IsVerdictByRules, Unlawful, Incomplete}
+use Rattle.tftp_worked.specs.{at_client, one_block_read, read_without_its_ack, window_out_of_order, before_overrun, block_seven}
 use Rattle.tftp_worked.proofs.RefusedMore.{plain_asks, plain_hi}
 use Rattle.tftp_worked.proofs.RefusedErrors.{begun_spelled}
 use Rattle.tftp_worked.proofs.Unfinished.{no_errors}
-use Rattle.tftp_worked.specs.WorkedWindows.{window_out_of_order, before_overrun, block_seven}
-use Rattle.tftp_law.proofs.Beginnings.{shown_is_lawful}
-use Rattle.tftp_law.proofs.FirstBroken.{refused_does_not_pass}
+use Rattle.tftp_law.proofs.Whole.Beginnings.{shown_is_lawful}
+use Rattle.tftp_law.proofs.FirstBroken.FirstBroken.{refused_does_not_pass}
 use Rattle.tftp_worked.proofs.ReadShown.{read_is_shown, begin_is_lawful, begin_shows_nothing}
 use Rattle.tftp_worked.proofs.WindowsShown.{six_shown}
 use Rattle.tftp_worked.proofs.Unlawful.{overrun_is_first, overrun_is_unlawful}

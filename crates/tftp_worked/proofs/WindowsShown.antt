@@ -3,22 +3,13 @@ use Rattle.std.proofs.Common.{◌≡◌, ℕ, ◌⊎◌, Bool, true, false, cond
 use Rattle.std.specs.FinMap as map
 use Rattle.std.specs.Ordering.{nat_cmp, eq_by_cmp}
 use Rattle.std.specs.Cmp.Lexicographic.{slice_cmp, nat_list_cmp_total}
-use Rattle.tftp_packet.specs.Message.{Message, RequestParts}
-use Rattle.tftp_packet.specs.OptionMap.{OptionValue, Num}
-use Rattle.tftp_packet.specs.Spelling.{Spells}
-use Rattle.tftp_packet.specs.declared.kinds.Side.TheVariants.{Get, Put}
-use Rattle.tftp_ends.specs.Meaning.{request_of}
-use Rattle.tftp_ends.specs.Machines.{Sent, Took, Req, Oack, Data, Ack}
-use Rattle.tftp_ends.specs.Worked.{eight_a_block}
-use Rattle.tftp_ends.specs.WorkedWindows.{eight_by_four, six_blocks, six_blocks_view, six_blocks_server_view, block_repeated, block_repeated_view, window_repeated, window_repeated_view}
-use Rattle.tftp_ends.proofs.WorkedMore.{eight_for_blksize}
-use Rattle.tftp_ends.proofs.WorkedWindows.{eight_of_both, four_of_both, six_size, six_count, six_view, six_complete, six_server_view, six_server_complete, repeated_size, repeated_count, repeated_view, repeated_complete, window_size, window_count, window_view, window_complete}
-use Rattle.tftp_nego.specs.Agreement.{MayAgree}
-use Rattle.tftp_law.specs.Fits.{Fits}
-use Rattle.tftp_law.specs.Dress.{TransferIds, IsDressed}
-use Rattle.tftp_law.specs.Law.{Shows}
-use Rattle.tftp_worked.specs.Worked.{at_client, client_host}
-use Rattle.tftp_worked.specs.WorkedWindows.{request, oack, block, ack, by_eight, by_four, asks, goes, comes, answers, hears, is_asked, at_service, window_out_of_order, window_at_server, block_sent_again, window_sent_again}
+use Rattle.tftp_packet.specs.{Message, RequestParts, OptionValue, Num, Spells, Get, Put}
+use Rattle.tftp_model.specs.{request_of, Sent, Took, Req, Oack, Data, Ack, eight_a_block, eight_by_four, six_blocks, six_blocks_view, six_blocks_server_view, block_repeated, block_repeated_view, window_repeated, window_repeated_view}
+use Rattle.tftp_model.proofs.WorkedMore.{eight_for_blksize}
+use Rattle.tftp_model.proofs.WorkedWindows.{eight_of_both, four_of_both, six_size, six_count, six_view, six_complete, six_server_view, six_server_complete, repeated_size, repeated_count, repeated_view, repeated_complete, window_size, window_count, window_view, window_complete}
+use Rattle.tftp_nego.specs.{MayAgree}
+use Rattle.tftp_law.specs.{Fits, TransferIds, IsDressed, Shows}
+use Rattle.tftp_worked.specs.{at_client, client_host, request, oack, block, ack, by_eight, by_four, asks, goes, comes, answers, hears, is_asked, at_service, window_out_of_order, window_at_server, block_sent_again, window_sent_again}
 use Rattle.tftp_worked.proofs.Payloads.{request_spells, oack_spells, data_spells, ack_spells, eight_is, four_is}
 use Rattle.tftp_worked.proofs.Dressed.{Carried, dressed_by}
 use Rattle.tftp_worked.proofs.OneOption.{name_is, found_single, only_single, not_there}

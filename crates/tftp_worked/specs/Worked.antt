@@ -1,8 +1,8 @@
 -- Captures of small transfers, recorded at the client and at the server.
 use Rattle.std.specs.Prelude.{ℕ, List, [], ◌∷◌, ◌++◌, codes}
-use Rattle.tftp_packet.specs.declared.kinds.End.TheVariants.{Client, Server}
-use Rattle.tftp_packet.specs.declared.kinds.Dir.TheVariants.{In, Out}
-use Rattle.tftp_law.specs.CaptureText.{Datagram, Header}
+use Rattle.tftp_packet.specs.{Client, Server}
+use Rattle.tftp_hosts.specs.{In, Out}
+use Rattle.tftp_law.specs.{Datagram, Header}
 
 abbrev pub at_client : Header
 at_client = record { named = Client; service = 69 }

@@ -1,7 +1,7 @@
 -- Capture texts that are accepted, refused and faulty, and what is written of them.
 use Rattle.std.specs.Prelude.{ℕ, List, ◌++◌, codes}
-use Rattle.tftp_capture.specs.Worked.{line}
-use Rattle.tftp_commands.specs.Output.{Output}
+use Rattle.tftp_capture.specs.{line}
+use Rattle.tftp_commands.specs.{Output}
 use Rattle.tftp_commands.specs.declared.status.Status.TheVariants as status
 
 -- the read of one block, in which block 2 comes for block 1

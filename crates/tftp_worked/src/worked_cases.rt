@@ -1,12 +1,9 @@
 //! Worked cases of the law, proved from its definitions alone. Each is the contract of a function that does nothing.
 
 ghost use Rattle.std.specs.Prelude.{◌≡◌, ℕ, List, [], ◌∷◌, ◌++◌};
-ghost use Rattle.tftp_ends.specs.Meaning.{Meaning};
-ghost use Rattle.tftp_ends.specs.Worked.{two_bytes, two_bytes_written, ten_bytes};
-ghost use Rattle.tftp_ends.specs.WorkedWindows.{six_blocks, six_blocks_steps, block_repeated, window_repeated};
-ghost use Rattle.tftp_ends.specs.Runs.{IsRun, view_of};
-ghost use Rattle.tftp_packet.specs.declared.kinds.End.TheVariants.{Client, Server};
-ghost use Rattle.tftp_law.specs.Dress.{IsDressed};
+ghost use Rattle.tftp_model.specs.{Meaning, two_bytes, two_bytes_written, ten_bytes, six_blocks, six_blocks_steps, block_repeated, window_repeated, IsRun, view_of};
+ghost use Rattle.tftp_packet.specs.{Client, Server};
+ghost use Rattle.tftp_law.specs.{IsDressed, Shows, ShowsBy, IsSeen, IsLawful, IsLawfulUpTo};
 ghost use Rattle.tftp_worked.specs.WorkedWindows.{
   at_service,
   window_out_of_order,
@@ -18,7 +15,6 @@ ghost use Rattle.tftp_worked.specs.WorkedWindows.{
   before_skip,
   block_two,
 };
-ghost use Rattle.tftp_law.specs.Law.{Shows, ShowsBy, IsSeen, IsLawful, IsLawfulUpTo};
 ghost use Rattle.tftp_worked.specs.Worked.{
   at_client,
   at_server,
@@ -32,7 +28,7 @@ ghost use Rattle.tftp_worked.specs.Worked.{
   read_in_eights,
   acknowledges_hi,
 };
-ghost use Rattle.tftp_normal.specs.Worked.{line_end_cut};
+ghost use Rattle.tftp_normal.specs.{line_end_cut};
 ghost use Rattle.tftp_worked.specs.WorkedNetascii.{read_of_lines, read_of_bare_lines};
 ghost use Rattle.tftp_worked.specs.WorkedErrors.{
   says_forbidden,

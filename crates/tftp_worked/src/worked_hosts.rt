@@ -2,11 +2,9 @@
 //! of a function that does nothing.
 
 ghost use Rattle.std.specs.Prelude.{◌≡◌, reverse};
-ghost use Rattle.tftp_ends.specs.Ports.{Route, route_of};
-ghost use Rattle.tftp_ends.specs.Worked.{two_bytes};
-ghost use Rattle.tftp_law.specs.Law.{Shows};
-ghost use Rattle.tftp_law.specs.OneEnded.{IsRefused};
-ghost use Rattle.tftp_law.specs.declared.rule.Rule.{Rule};
+ghost use Rattle.tftp_rules.specs.{Route, route_of};
+ghost use Rattle.tftp_model.specs.{two_bytes};
+ghost use Rattle.tftp_law.specs.{Shows, IsRefused, Rule};
 ghost use Rattle.tftp_worked.specs.Worked.{at_client, at_server, acknowledges_hi, read_without_its_ack};
 ghost use Rattle.tftp_worked.specs.WorkedHosts.{
   comes_from_third_host,

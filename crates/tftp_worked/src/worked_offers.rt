@@ -2,11 +2,9 @@
 //! of two ends has them, by the law that the rules are the runs. Each is the contract of a function that does nothing.
 
 ghost use Rattle.std.specs.Prelude.{[], ◌∷◌, ◌++◌, reverse, Err};
-ghost use Rattle.tftp_packet.specs.declared.fault.PacketFault.TheVariants.{AckLength, MailMode};
-ghost use Rattle.tftp_law.specs.OneEnded.{IsRefused};
-ghost use Rattle.tftp_law.specs.declared.rule.Rule.{Rule};
-ghost use Rattle.tftp_judge.specs.Verdict.{IsVerdict};
-ghost use Rattle.tftp_judge.specs.declared.refusal.Refusal.TheVariants.{Unlawful};
+ghost use Rattle.tftp_packet.specs.{AckLength, MailMode};
+ghost use Rattle.tftp_law.specs.{IsRefused, Rule};
+ghost use Rattle.tftp_judge.specs.{IsVerdict, Unlawful};
 ghost use Rattle.tftp_worked.specs.Worked.{at_client, asks_for_a, one_block_read, read_without_its_ack};
 ghost use Rattle.tftp_worked.specs.WorkedRules.{only_asked};
 ghost use Rattle.tftp_worked.specs.WorkedOffers.{

@@ -2,13 +2,10 @@
 //! the contract of a function that does nothing.
 
 ghost use Rattle.std.specs.Prelude.{[], ◌∷◌, ◌++◌, reverse, Ok, Err};
-ghost use Rattle.tftp_packet.specs.declared.fault.PacketFault.TheVariants.{Short};
-ghost use Rattle.tftp_ends.specs.Worked.{two_bytes};
-ghost use Rattle.tftp_law.specs.Law.{Shows};
-ghost use Rattle.tftp_law.specs.OneEnded.{IsRefused};
-ghost use Rattle.tftp_law.specs.declared.rule.Rule.{Rule};
-ghost use Rattle.tftp_judge.specs.Verdict.{IsVerdict};
-ghost use Rattle.tftp_judge.specs.declared.refusal.Refusal.TheVariants.{Unlawful};
+ghost use Rattle.tftp_packet.specs.{Short};
+ghost use Rattle.tftp_model.specs.{two_bytes};
+ghost use Rattle.tftp_law.specs.{Shows, IsRefused, Rule};
+ghost use Rattle.tftp_judge.specs.{IsVerdict, Unlawful};
 ghost use Rattle.tftp_worked.specs.Worked.{at_client, at_server, comes_astray};
 ghost use Rattle.tftp_worked.specs.WorkedHosts.{only_is_asked};
 ghost use Rattle.tftp_worked.specs.WorkedRules.{before_answering, only_asked};

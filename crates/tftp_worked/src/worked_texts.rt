@@ -2,21 +2,13 @@
 //! contract of a function that does nothing.
 
 ghost use Rattle.std.specs.Prelude.{◌∷◌, ◌++◌, false, Ok, Err, codes};
-ghost use Rattle.tftp_capture.specs.Worked.{line, worked_text};
+ghost use Rattle.tftp_capture.specs.{line, worked_text, BadHeader};
 ghost use Rattle.tftp_capture.specs.declared.fault.CaptureFault.TheVariants.{Text};
-ghost use Rattle.tftp_capture.specs.declared.fault.TextFault.TheVariants.{BadHeader};
-ghost use Rattle.tftp_ends.specs.Worked.{two_bytes};
-ghost use Rattle.tftp_law.specs.declared.rule.Rule.{Rule};
-ghost use Rattle.tftp_judge.specs.TextVerdict.{IsTextVerdict};
-ghost use Rattle.tftp_judge.specs.declared.refusal.Refusal.TheVariants.{Unlawful};
-ghost use Rattle.tftp_judge.specs.declared.verdict.Verdict.TheVariants.{Capture, Refused};
-ghost use Rattle.tftp_normal.specs.Worked.{line_end_cut, two_bytes_text};
-ghost use Rattle.tftp_commands.specs.Checked.{IsChecked};
-ghost use Rattle.tftp_commands.specs.Counted.{IsCounted};
-ghost use Rattle.tftp_commands.specs.Extracted.{IsExtracted};
-ghost use Rattle.tftp_commands.specs.Normalised.{IsNormalised};
-ghost use Rattle.tftp_commands.specs.Shown.{IsShown};
-ghost use Rattle.tftp_commands.specs.Source.{given};
+ghost use Rattle.tftp_model.specs.{two_bytes};
+ghost use Rattle.tftp_law.specs.{Rule};
+ghost use Rattle.tftp_judge.specs.{IsTextVerdict, Unlawful, Capture, Refused};
+ghost use Rattle.tftp_normal.specs.{line_end_cut, two_bytes_text};
+ghost use Rattle.tftp_commands.specs.{IsChecked, IsCounted, IsExtracted, IsNormalised, IsShown, given};
 ghost use Rattle.tftp_worked.specs.WorkedTexts.{lines_text, overrun_text, unversioned_text, with_success, with_refusal, with_fault};
 
 /// The text of a read of one block is accepted with its meaning. A text is refused at its first unlawful datagram, and

@@ -2,12 +2,9 @@
 //! does nothing.
 
 ghost use Rattle.std.specs.Prelude.{[], ◌∷◌, ◌++◌, Ok, Err};
-ghost use Rattle.tftp_ends.specs.Worked.{two_bytes};
-ghost use Rattle.tftp_ends.specs.WorkedWindows.{six_blocks};
-ghost use Rattle.tftp_law.specs.declared.rule.Rule.{Rule};
-ghost use Rattle.tftp_judge.specs.Verdict.{IsVerdict, IsVerdictByRules};
-ghost use Rattle.tftp_judge.specs.declared.refusal.Refusal.TheVariants.{Unlawful, Aborted, Incomplete};
-ghost use Rattle.tftp_law.specs.declared.by.By.TheVariants.{Local, Peer};
+ghost use Rattle.tftp_model.specs.{two_bytes, six_blocks};
+ghost use Rattle.tftp_law.specs.{Rule, Local, Peer};
+ghost use Rattle.tftp_judge.specs.{IsVerdict, IsVerdictByRules, Unlawful, Aborted, Incomplete};
 ghost use Rattle.tftp_worked.specs.Worked.{at_client, brings_hi, acknowledges_hi, acknowledges_two, one_block_read, read_without_its_ack};
 ghost use Rattle.tftp_worked.specs.WorkedErrors.{
   says_forbidden,
@@ -21,7 +18,7 @@ ghost use Rattle.tftp_worked.specs.WorkedErrors.{
   before_late_answer,
   late_answer,
 };
-ghost use Rattle.tftp_normal.specs.Worked.{line_end_cut};
+ghost use Rattle.tftp_normal.specs.{line_end_cut};
 ghost use Rattle.tftp_worked.specs.WorkedNetascii.{read_of_lines, read_of_bare_lines};
 ghost use Rattle.tftp_worked.specs.WorkedRules.{
   ack_zero,

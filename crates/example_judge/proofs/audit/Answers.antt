@@ -1,13 +1,11 @@
 use Rattle.std.proofs.Common.{◌≡◌, ℕ, suc, List, [], ◌∷◌, ◌+◌, ◌<◌, ◌≤◌, Result, Ok, Err, IfOk, length, map, reverse, take, get_or, arith, ap, subst, sym, ◌∙◌}
 use Rattle.std.proofs.Math.Seq.{take-suc}
 use Rattle.std.proofs.lemmas.List.{map-append, reverse-append, reverse-reverse, take_all}
-use Rattle.tftp_capture.specs.Fields.{datagram_of, header_of}
-use Rattle.tftp_ends.specs.CaptureText.{Datagram, Header}
-use Rattle.tftp_ends.specs.Meaning.{Meaning}
-use Rattle.tftp_law.specs.Law.{Shows}
-use Rattle.tftp_judge.specs.Kept.{IsJudgeAfter}
-use Rattle.tftp_judge.specs.Verdict.{IsVerdict}
-use Rattle.tftp_judge.specs.declared.refusal.Refusal.{Refusal}
+use Rattle.tftp_capture.specs.{datagram_of, header_of}
+use Rattle.tftp_hosts.specs.{Datagram, Header}
+use Rattle.tftp_model.specs.{Meaning}
+use Rattle.tftp_law.specs.{Shows}
+use Rattle.tftp_judge.specs.{IsJudgeAfter, IsVerdict, Refusal}
 use Rattle.example_judge.proofs.audit.Goals as goal
 
 -- one more was fed

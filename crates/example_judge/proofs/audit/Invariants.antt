@@ -1,6 +1,6 @@
 use Rattle.std.proofs.Common.{◌≤◌, map, reverse, take}
-use Rattle.tftp_capture.specs.Fields.{datagram_of, header_of}
-use Rattle.tftp_judge.specs.Kept.{IsJudgeAfter}
+use Rattle.tftp_capture.specs.{datagram_of, header_of}
+use Rattle.tftp_judge.specs.{IsJudgeAfter}
 use Rattle.example_judge.proofs.audit.Given as goal
 
 -- the judge stands for the datagrams that were fed, and counts them

@@ -1,5 +1,5 @@
 use Rattle.std.proofs.Common.{◌≡◌, true}
-use Rattle.tftp_capture.specs.History.{IsReadStanding}
+use Rattle.tftp_capture.specs.{IsReadStanding}
 use Rattle.tftp_bench.proofs.count_datagrams.Given as goal
 
 abbrev pub invariant-loop-count : goal.invariant-loop-count

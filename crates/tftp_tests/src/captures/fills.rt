@@ -4,7 +4,7 @@ use super::reading::Reading;
 use super::{READ, changed};
 use std::test::Fail;
 use tftp_capture::{CaptureFault, Datagram, DripReader, TextFault};
-use tftp_packet::Dir;
+use tftp_hosts::Dir;
 
 /// What is read into: the answer, and the line then.
 type Filled = (Result<bool, CaptureFault>, u64);

@@ -7,7 +7,7 @@ use super::writing::{write_with_comment, write_with_host};
 use super::{NAMED, READ, changed};
 use std::test::Fail;
 use tftp_capture::{CaptureFault, DripReader, DripWriter, TextFault};
-use tftp_packet::Host;
+use tftp_hosts::Host;
 
 /// The hosts on the lines 4, 5 and 6 of a text.
 pub const HOSTS: &str =

@@ -1,7 +1,7 @@
 //! A text that is read, and how far.
 
 ghost use Rattle.std.specs.Prelude.{◌≡◌, true};
-ghost use Rattle.tftp_capture.specs.History.{IsReadStanding};
+ghost use Rattle.tftp_capture.specs.{IsReadStanding};
 
 use std::marker::Model;
 use tftp_capture::{CaptureFault, CaptureReader, Datagram, DripReader, Header, Tallied};

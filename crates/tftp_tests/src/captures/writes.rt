@@ -6,7 +6,8 @@ use super::{READ, long};
 use crate::views::{is_same, is_so};
 use std::test::Fail;
 use tftp_capture::{DripWriter, Header, WriteFault};
-use tftp_packet::{Dir, End};
+use tftp_hosts::Dir;
+use tftp_packet::End;
 
 /// The header of `READ` and `NAMED`.
 pub const HEADER: Header = Header {

@@ -5,7 +5,7 @@ ghost use Rattle.std.specs.Prelude.{◌≡◌, true, false};
 use std::alloc::Global;
 use std::marker::Model;
 use tftp_capture::{CaptureWriter, DripWriter, Header, HostCaptureWriter, Tallied, WriteFault};
-use tftp_packet::{Dir, Host};
+use tftp_hosts::{Dir, Host};
 
 /// A datagram by its direction, its port at the named end, the port at the other and its payload.
 pub type Row<'a> = (Dir, u16, u16, &'a [u8]);

@@ -3,7 +3,7 @@ use crate::scripts::{CLIENT, Script, capture};
 use crate::verdicts::is_file;
 use std::alloc::{AllocError, Global};
 use std::test::Fail;
-use tftp_ends::{MapDelivered, RingDelivered};
+use tftp_blocks::{MapDelivered, RingDelivered};
 
 /// Captures of whole transfers, and the files that `extract` writes, in hex digits; `-` where the file is empty.
 const FILES: &str = "

@@ -1,6 +1,5 @@
 use Rattle.std.proofs.Common.{◌≡◌, ◌∷◌, codes, ap, ◌∙◌, subst, Err, rules}
-use Rattle.tftp_capture.specs.CaptureText.{pieces}
-use Rattle.tftp_capture.specs.Fields.{BodyEnds, filled_if}
+use Rattle.tftp_capture.specs.{pieces, BodyEnds, filled_if}
 use Rattle.tftp_capture.proofs.Pieces.{total_stop}
 use Rattle.tftp_capture.proofs.fields.body_line.Goals as goal
 

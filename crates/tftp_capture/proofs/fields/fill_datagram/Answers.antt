@@ -1,5 +1,5 @@
 use Rattle.std.proofs.Common.{◌≡◌, ◌∷◌, [], ℕ, List, sym, ◌∙◌}
-use Rattle.tftp_capture.specs.CaptureText.{pieces, dir_word, AreFields}
+use Rattle.tftp_capture.specs.{pieces, dir_word, AreFields}
 use Rattle.tftp_capture.proofs.Payloads.{ok_whole}
 use Rattle.tftp_capture.proofs.Pieces.{bad_fields, cut_none, cut_some, too_many, whole_fields}
 use Rattle.tftp_capture.proofs.fields.fill_datagram.Goals as goal

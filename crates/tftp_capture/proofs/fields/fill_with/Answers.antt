@@ -1,5 +1,5 @@
 use Rattle.std.proofs.Common.{refl}
-use Rattle.tftp_capture.specs.CaptureText.{dir_word}
+use Rattle.tftp_capture.specs.{dir_word}
 use Rattle.tftp_capture.proofs.Payloads.{filled_whole}
 use Rattle.tftp_capture.proofs.Pieces.{has_ports, payload_ends}
 use Rattle.tftp_capture.proofs.fields.fill_with.Goals as goal

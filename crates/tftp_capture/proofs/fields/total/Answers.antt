@@ -1,6 +1,6 @@
 use Rattle.std.proofs.Common.{◌≡◌, ◌∷◌, [], ℕ, List, codes, decimal, length, sym, ap, ◌∙◌, arith, ◌+◌, ◌≤◌}
 use Rattle.std.proofs.lemmas.Slice.Eq.{bytes_eq-Decides}
-use Rattle.tftp_capture.specs.CaptureText.{pieces}
+use Rattle.tftp_capture.specs.{pieces}
 use Rattle.tftp_capture.proofs.Pieces.{some_piece, bad_total, is_total, cut_some, cut_none}
 use Rattle.tftp_capture.proofs.fields.total.Goals as goal
 

@@ -1,6 +1,6 @@
 use Rattle.std.proofs.Common.{◌≡◌, ◌++◌, [], ◌∷◌, decimal, ◌∙◌, subst, List, ℕ, rules, append_assoc}
-use Rattle.tftp_capture.specs.CaptureText.{dir_word, payload_text, Datagram}
-use Rattle.tftp_capture.specs.Tally.{AppendsPrefix}
+use Rattle.tftp_capture.specs.CaptureText.{Datagram}
+use Rattle.tftp_capture.specs.{dir_word, payload_text, AppendsPrefix}
 use Rattle.tftp_capture.proofs.Gathering.{adds_err, adds_more, adds_same, gathers_prefix, prefix_of}
 use Rattle.tftp_capture.proofs.Spelling.{host_pieces}
 use Rattle.tftp_capture.proofs.host_writer.put_datagram.Goals as goal

@@ -1,6 +1,6 @@
 use Rattle.std.proofs.Common.{◌≡◌, ◌-◌, vec_len}
 use Rattle.std.specs.Io.KnownBytes.{prepend_known, Consumes}
-use Rattle.tftp_capture.specs.Lines.{IsPartOfLine}
+use Rattle.tftp_capture.specs.{IsPartOfLine}
 use Rattle.tftp_capture.proofs.line.read_line.Given as goal
 
 abbrev pub invariant-pieces : goal.invariant-pieces

@@ -1,5 +1,5 @@
 use Rattle.std.proofs.Common.{Err, subst}
-use Rattle.tftp_capture.specs.Fields.{BodyEnds}
+use Rattle.tftp_capture.specs.{BodyEnds}
 use Rattle.tftp_capture.proofs.Histories.{stop_answers, datagram_answers, capture_answers, end_answers, content_answers}
 use Rattle.tftp_capture.proofs.reader.read_on.Goals as goal
 

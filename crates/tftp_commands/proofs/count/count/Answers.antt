@@ -1,6 +1,6 @@
 use Rattle.std.proofs.Common.{Ok, Err, refl, rules}
 use Rattle.std.proofs.lemmas.Bool.{false≢true}
-use Rattle.tftp_commands.specs.Counted.{counted}
+use Rattle.tftp_commands.specs.{counted}
 use Rattle.tftp_judge.proofs.ReadVerdicts.{read_is_text}
 use Rattle.tftp_commands.proofs.count.count.Goals as goal
 

@@ -1,7 +1,7 @@
 use Rattle.std.proofs.Common.{[], Err, refl, ap, ◌∙◌}
 use Rattle.std.proofs.lemmas.List.{length-map}
 use Rattle.std.proofs.KnownBytes.{Appends-nil, Consumes-nil}
-use Rattle.tftp_commands.specs.declared.words.Action.TheVariants.{Check, Extract, Normal, Show, Count}
+use Rattle.tftp_commands.specs.{Check, Extract, Normal, Show, Count}
 use Rattle.tftp_commands.proofs.Commands.{command_output, memory_output, memory_told, no_command, silent_output, usage_output}
 use Rattle.tftp_commands.proofs.session.run.Goals as goal
 

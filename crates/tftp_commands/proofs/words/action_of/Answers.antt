@@ -1,7 +1,6 @@
 use Rattle.std.proofs.Common.{rules, ◌≡◌, ◌∷◌, [], ap, sym, ◌∙◌, inr, Err}
 use Rattle.clap.specs.Takes.{takes}
-use Rattle.tftp_commands.specs.Words.{audit_app, name_of}
-use Rattle.tftp_commands.specs.declared.words.Action.TheVariants.{Check, Extract, Normal, Show, Count}
+use Rattle.tftp_commands.specs.{audit_app, name_of, Check, Extract, Normal, Show, Count}
 use Rattle.tftp_commands.proofs.Commands.{no_name, only_named, quiet_command, same_word, told_as}
 use Rattle.tftp_commands.proofs.Named.{takes_named, second_word}
 use Rattle.tftp_commands.proofs.words.action_of.Goals as goal

@@ -2,7 +2,7 @@ use Rattle.std.proofs.Common.{rules, ap, ap₂, codes, refl, ◌≡◌, ◌∙�
 use Rattle.std.proofs.lemmas.Result.{IfErr-weaker}
 use Rattle.clap.specs.Simple.{App, app_of, new_app, with_subcommand}
 use Rattle.clap.specs.Takes.{takes}
-use Rattle.tftp_commands.specs.Words.{audit_app, with_command}
+use Rattle.tftp_commands.specs.{audit_app, with_command}
 use Rattle.tftp_commands.proofs.words.parsed.Goals as goal
 
 pub returns : goal.returns

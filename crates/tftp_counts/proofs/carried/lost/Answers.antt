@@ -1,6 +1,6 @@
 use Rattle.std.proofs.Common.{◌≡◌, ◌≤◌, ℕ, List, IfNone, subst, sym, refl, ◌∙◌, arith}
-use Rattle.tftp_ends.specs.CaptureText.{Datagram}
-use Rattle.tftp_counts.specs.Counts.{Counted, IsCountOf, AreLost, lost_below, packets}
+use Rattle.tftp_hosts.specs.{Datagram}
+use Rattle.tftp_counts.specs.{Counted, IsCountOf, AreLost, lost_below, packets}
 use Rattle.tftp_counts.proofs.Growing.{lost_over}
 use Rattle.tftp_counts.proofs.carried.lost.Goals as goal
 

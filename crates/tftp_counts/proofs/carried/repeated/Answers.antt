@@ -1,6 +1,6 @@
 use Rattle.std.proofs.Common.{◌≡◌, ◌≤◌, ℕ, List, IfNone, subst, sym, refl, ◌∙◌, arith}
-use Rattle.tftp_ends.specs.CaptureText.{Datagram}
-use Rattle.tftp_counts.specs.Counts.{Counted, IsCountOf, AreRepeated, repeated_below, packets}
+use Rattle.tftp_hosts.specs.{Datagram}
+use Rattle.tftp_counts.specs.{Counted, IsCountOf, AreRepeated, repeated_below, packets}
 use Rattle.tftp_counts.proofs.Growing.{repeated_over}
 use Rattle.tftp_counts.proofs.carried.repeated.Goals as goal
 

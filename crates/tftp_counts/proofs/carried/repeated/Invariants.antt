@@ -1,6 +1,6 @@
 use Rattle.std.proofs.Common.{◌≡◌, List}
-use Rattle.tftp_ends.specs.CaptureText.{Datagram}
-use Rattle.tftp_counts.specs.Counts.{IsCountOf, repeated_below}
+use Rattle.tftp_hosts.specs.{Datagram}
+use Rattle.tftp_counts.specs.{IsCountOf, repeated_below}
 use Rattle.tftp_counts.proofs.carried.repeated.Given as goal
 
 -- what is counted of the packets with a lower number

@@ -1,5 +1,5 @@
 use Rattle.std.proofs.Common.{◌+◌, ◌/◌, sym, subst}
-use Rattle.tftp_ends.specs.StatesKept.{IsEnd, IsShortTop}
+use Rattle.tftp_ends.specs.{IsEnd, IsShortTop}
 use Rattle.tftp_ends.proofs.EndLengths.{end_by_size, end_by_block}
 use Rattle.tftp_ends.proofs.block_rules.last_block.Goals as goal
 

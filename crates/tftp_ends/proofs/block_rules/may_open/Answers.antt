@@ -1,7 +1,6 @@
 use Rattle.std.proofs.Common.{refl, sym, subst, arith}
-use Rattle.tftp_packet.specs.Message.{Data}
-use Rattle.tftp_ends.specs.Rules.{HasWrongLength, usable}
-use Rattle.tftp_ends.specs.declared.rule.EndRule.TheVariants.{BlockLength, WindowOverrun}
+use Rattle.tftp_packet.specs.{Data}
+use Rattle.tftp_rules.specs.{HasWrongLength, usable, BlockLength, WindowOverrun}
 use Rattle.tftp_ends.proofs.FirstRules.{first_is, before_19, before_20, before_21, before_22, before_23, refute}
 use Rattle.tftp_ends.proofs.EndLengths.{right_not_wrong}
 use Rattle.tftp_ends.proofs.block_rules.may_open.Goals as goal

@@ -1,6 +1,6 @@
 use Rattle.std.proofs.Common.{refl, sym}
 use Rattle.std.proofs.lemmas.Bool.{false≢true}
-use Rattle.tftp_fair.specs.Worked.{block_1}
+use Rattle.tftp_fair.specs.{block_1}
 use Rattle.tftp_fair.proofs.laws.one_stray_of_a_read_is_left_out.Goals as goal
 
 -- the server's block is the first that came in

@@ -1,5 +1,5 @@
 use Rattle.std.proofs.Common.{◌↔◌, length}
-use Rattle.tftp_frames.specs.Extension.{Reached, ReachesOver}
+use Rattle.tftp_frames.specs.{Reached, ReachesOver}
 use Rattle.tftp_frames.proofs.extension.skip_extensions.Given as goal
 
 -- what is reached over all headers is reached over those that are left

@@ -1,5 +1,5 @@
 use Rattle.std.proofs.Common.{sym, ◌∙◌}
-use Rattle.tftp_frames.specs.Parts.{linked}
+use Rattle.tftp_frames.specs.{linked}
 use Rattle.tftp_frames.proofs.FaultOrder.{judged}
 use Rattle.tftp_frames.proofs.frame.judge_frame.Goals as goal
 

@@ -1,5 +1,5 @@
 use Rattle.std.proofs.Common.{rules, sym, ◌∙◌}
-use Rattle.tftp_frames.specs.Parts.{linked}
+use Rattle.tftp_frames.specs.{linked}
 use Rattle.tftp_frames.proofs.Hosts.{hosts_found, no_network}
 use Rattle.tftp_frames.proofs.frame.read_hosts.Goals as goal
 

@@ -1,6 +1,6 @@
 use Rattle.std.proofs.Common.{sym, ◌∙◌}
 use Rattle.std.proofs.lemmas.Result.{err_from_is_err_and}
-use Rattle.tftp_frames.specs.Parts.{reached}
+use Rattle.tftp_frames.specs.{reached}
 use Rattle.tftp_frames.proofs.FaultOrder.{length_first}
 use Rattle.tftp_frames.proofs.ip.read_ip.Goals as goal
 

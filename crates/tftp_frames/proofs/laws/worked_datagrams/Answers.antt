@@ -1,6 +1,5 @@
-use Rattle.std.proofs.Common.{◌++◌, [], ◌∷◌, inl, refl, arith}
-use Rattle.std.specs.Prelude.{drop}
-use Rattle.tftp_frames.specs.Worked.{udp_bytes}
+use Rattle.std.proofs.Common.{◌++◌, [], ◌∷◌, inl, refl, arith, drop}
+use Rattle.tftp_frames.specs.{udp_bytes}
 use Rattle.tftp_frames.proofs.laws.worked_datagrams.Goals as goal
 
 pub returns-clause-plain : goal.returns-clause-plain

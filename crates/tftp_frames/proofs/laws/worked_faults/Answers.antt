@@ -1,11 +1,6 @@
-use Rattle.std.proofs.Common.{◌++◌, [], ◌∷◌, refl, arith}
-use Rattle.std.specs.Prelude.{Some, None, Err, take, drop}
-use Rattle.tftp_frames.specs.Link.{Linked}
-use Rattle.tftp_frames.specs.declared.fault.FrameFault.TheVariants.{Protocol, Cut}
-use Rattle.tftp_frames.specs.declared.link.LinkType.TheVariants.{Ethernet, Raw}
-use Rattle.tftp_frames.specs.declared.link.Network.TheVariants.{Ipv4}
-use Rattle.tftp_frames.specs.declared.packet.Direction.TheVariants.{Unknown}
-use Rattle.tftp_frames.specs.Worked.{ipv4_bytes, two_tags}
+use Rattle.std.proofs.Common.{◌++◌, [], ◌∷◌, refl, arith, Some, None, Err, take, drop}
+use Rattle.tftp_frames.specs.{Linked, Cut, Ethernet, Raw, Ipv4, Unknown, ipv4_bytes, two_tags}
+use Rattle.tftp_frames.specs.declared.fault.FrameFault.TheVariants.{Protocol}
 use Rattle.tftp_frames.proofs.Tags.{cut_tag}
 use Rattle.tftp_frames.proofs.FaultOrder.{judged, length_first, protocol_first, network_first, frame_first}
 use Rattle.tftp_frames.proofs.laws.worked_faults.Goals as goal

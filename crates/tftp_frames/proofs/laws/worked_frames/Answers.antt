@@ -1,9 +1,5 @@
-use Rattle.std.proofs.Common.{◌++◌, [], ◌∷◌, inl, inr, refl, arith}
-use Rattle.std.specs.Prelude.{Some, None}
-use Rattle.tftp_frames.specs.declared.link.LinkType.TheVariants.{Null, Ethernet, Raw, Cooked, RawIpv4, RawIpv6, CookedTwo}
-use Rattle.tftp_frames.specs.declared.link.Network.TheVariants.{Ipv4, Ipv6}
-use Rattle.tftp_frames.specs.declared.packet.Direction.TheVariants.{Unknown, In, Out}
-use Rattle.tftp_frames.specs.Worked.{udp_bytes_of_ipv6, ipv4_bytes, ipv4_with_options, ipv4_fragment, ipv6_with_extensions, ipv6_fragment, ipv6_fragment_of_icmp, ipv6_part}
+use Rattle.std.proofs.Common.{◌++◌, [], ◌∷◌, inl, inr, refl, arith, Some, None}
+use Rattle.tftp_frames.specs.{Null, Ethernet, Raw, Cooked, RawIpv4, RawIpv6, CookedTwo, Ipv4, Ipv6, Unknown, In, Out, udp_bytes_of_ipv6, ipv4_bytes, ipv4_with_options, ipv4_fragment, ipv6_with_extensions, ipv6_fragment, ipv6_fragment_of_icmp, ipv6_part}
 use Rattle.tftp_frames.proofs.laws.worked_frames.Goals as goal
 
 pub returns-clause-tags : goal.returns-clause-tags

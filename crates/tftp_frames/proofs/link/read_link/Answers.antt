@@ -1,5 +1,5 @@
 use Rattle.std.proofs.Common.{refl, ap, ◌∙◌, arith}
-use Rattle.tftp_frames.specs.Link.{packet_direction}
+use Rattle.tftp_frames.specs.{packet_direction}
 use Rattle.tftp_frames.proofs.Links.{ethernet, cooked, cooked_two}
 use Rattle.tftp_frames.proofs.link.read_link.Goals as goal
 

@@ -1,5 +1,5 @@
 use Rattle.std.proofs.Common.{ℕ, ◌↔◌, List, length}
-use Rattle.tftp_frames.specs.Tag.{LeadsTo}
+use Rattle.tftp_frames.specs.{LeadsTo}
 use Rattle.tftp_frames.proofs.tag.skip_tags.Given as goal
 
 -- what the bytes lead to is what is left of them leads to

@@ -1,7 +1,7 @@
 use Rattle.std.proofs.Common.{sym, ap, ◌∙◌}
 use Rattle.std.specs.Option.{is_some}
 use Rattle.std.proofs.lemmas.Bool.{false≢true}
-use Rattle.tftp_frames.specs.Parts.{reached}
+use Rattle.tftp_frames.specs.{reached}
 use Rattle.tftp_frames.proofs.Datagrams.{other_protocol, is_part_only}
 use Rattle.tftp_frames.proofs.udp.udp_bytes.Goals as goal
 use Rattle.tftp_frames.proofs.udp.udp_bytes.Goals.{else-upper-eq-UDP-via-then-upper-eq-UDP+else-is_none, else-upper-eq-UDP-via-else-upper-eq-UDP}

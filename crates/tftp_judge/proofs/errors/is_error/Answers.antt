@@ -1,5 +1,5 @@
 use Rattle.std.proofs.Common.{refl, ap}
-use Rattle.tftp_packet.specs.Meaning.{meaning}
+use Rattle.tftp_packet.specs.{meaning}
 use Rattle.tftp_judge.proofs.errors.is_error.Goals as goal
 
 -- src/errors.rt:51:1

@@ -1,8 +1,5 @@
-use Rattle.std.proofs.Common.{◌≡◌, subst, rules}
-use Rattle.std.specs.Prelude.{IsOkAnd}
-use Rattle.tftp_packet.specs.Message.{Message}
-use Rattle.tftp_packet.specs.Meaning.{meaning}
-use Rattle.tftp_packet.specs.Spelling.{Spells}
+use Rattle.std.proofs.Common.{◌≡◌, subst, rules, IsOkAnd}
+use Rattle.tftp_packet.specs.{Message, meaning, Spells}
 use Rattle.tftp_judge.proofs.keeping.says_unknown_id.Goals as goal
 
 pub returns-in-Err : goal.returns-in-Err

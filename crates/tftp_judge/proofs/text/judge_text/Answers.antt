@@ -1,9 +1,8 @@
 use Rattle.std.proofs.Common.{◌≡◌, ◌⊎◌, Bool, false, [], Ok, Err, refl, ap, ◌∙◌, reverse, subst, inl, inr, arith}
 use Rattle.std.specs.Io.KnownBytes.{prepend_known}
 use Rattle.std.proofs.lemmas.Result.{err_from_is_err_and}
-use Rattle.tftp_capture.specs.History.{IsReadFault, IsReadStanding}
-use Rattle.tftp_judge.specs.Kept.{IsJudgeAfter}
-use Rattle.tftp_judge.specs.TextVerdict.{unnumbered}
+use Rattle.tftp_capture.specs.{IsReadFault, IsReadStanding}
+use Rattle.tftp_judge.specs.{IsJudgeAfter, unnumbered}
 use Rattle.tftp_judge.proofs.Follows.{follows_on, found_fault, found_meaning, found_refused, found_unfinished}
 use Rattle.tftp_judge.proofs.TextFound.{Found, found_ended, found_exact, found_judged, found_no_header, found_tally, found_whole}
 use Rattle.tftp_judge.proofs.text.judge_text.Given.{Over}

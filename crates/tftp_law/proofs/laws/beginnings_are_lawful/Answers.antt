@@ -1,4 +1,4 @@
-use Rattle.tftp_law.proofs.Beginnings.{empty_is_lawful, beginning_is_lawful}
+use Rattle.tftp_law.proofs.Whole.Beginnings.{empty_is_lawful, beginning_is_lawful}
 use Rattle.tftp_law.proofs.laws.beginnings_are_lawful.Goals as goal
 
 pub returns-clause-empty : goal.returns-clause-empty

@@ -1,4 +1,4 @@
-use Rattle.tftp_law.proofs.Beginnings.{one_end}
+use Rattle.tftp_law.proofs.Whole.Beginnings.{one_end}
 use Rattle.tftp_law.proofs.laws.first_unlawful_datagram_is_one.Goals as goal
 
 pub returns : goal.returns

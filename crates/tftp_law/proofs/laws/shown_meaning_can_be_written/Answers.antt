@@ -1,4 +1,4 @@
-use Rattle.tftp_law.proofs.Written.{shown_can_be_written}
+use Rattle.tftp_law.proofs.Written.Written.{shown_can_be_written}
 use Rattle.tftp_law.proofs.laws.shown_meaning_can_be_written.Goals as goal
 
 pub returns : goal.returns

@@ -1,5 +1,5 @@
-use Rattle.tftp_ends.specs.Ports.{transfer_of}
-use Rattle.tftp_law.proofs.FirstError.{one_first, none_first, aborted_or_not}
+use Rattle.tftp_rules.specs.{transfer_of}
+use Rattle.tftp_law.proofs.FirstBroken.FirstError.{one_first, none_first, aborted_or_not}
 use Rattle.tftp_law.proofs.laws.the_first_error_is_one.Goals as goal
 
 pub returns-clause-one : goal.returns-clause-one

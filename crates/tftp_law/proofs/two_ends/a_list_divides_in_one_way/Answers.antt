@@ -1,6 +1,6 @@
-use Rattle.tftp_law.specs.Divides.{says_some}
-use Rattle.tftp_law.proofs.Parted.{parted}
-use Rattle.tftp_law.proofs.OneDivision.{placed_divides, divides_placed, divides_routed, divides_one, run_divides}
+use Rattle.tftp_law.specs.{says_some}
+use Rattle.tftp_law.proofs.Division.Parted.{parted}
+use Rattle.tftp_law.proofs.Division.OneDivision.{placed_divides, divides_placed, divides_routed, divides_one, run_divides}
 use Rattle.tftp_law.proofs.two_ends.a_list_divides_in_one_way.Goals as goal
 
 pub returns : goal.returns

@@ -1,4 +1,4 @@
-use Rattle.tftp_law.proofs.TwoEnds.{lawful, divides_by_rules}
+use Rattle.tftp_law.proofs.Whole.TwoEnds.{lawful, divides_by_rules}
 use Rattle.tftp_law.proofs.two_ends.lawful_captures_break_no_rule.Goals as goal
 
 pub returns : goal.returns

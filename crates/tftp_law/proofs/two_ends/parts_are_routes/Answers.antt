@@ -1,6 +1,6 @@
-use Rattle.tftp_law.specs.Dress.{says_of}
-use Rattle.tftp_law.proofs.Routed.{told_of, routed_by, starts_of}
-use Rattle.tftp_law.proofs.Parted.{parted}
+use Rattle.tftp_law.specs.{says_of}
+use Rattle.tftp_law.proofs.Division.Routed.{told_of, routed_by, starts_of}
+use Rattle.tftp_law.proofs.Division.Parted.{parted}
 use Rattle.tftp_law.proofs.two_ends.parts_are_routes.Goals as goal
 
 pub returns : goal.returns

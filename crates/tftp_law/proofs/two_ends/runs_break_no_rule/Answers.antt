@@ -1,4 +1,4 @@
-use Rattle.tftp_law.proofs.TwoEnds.{rules}
+use Rattle.tftp_law.proofs.Whole.TwoEnds.{rules}
 use Rattle.tftp_law.proofs.two_ends.runs_break_no_rule.Goals as goal
 
 pub returns : goal.returns

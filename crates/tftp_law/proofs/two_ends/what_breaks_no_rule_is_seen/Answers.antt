@@ -1,4 +1,4 @@
-use Rattle.tftp_law.proofs.TwoEnds.{seen, some}
+use Rattle.tftp_law.proofs.Whole.TwoEnds.{seen, some}
 use Rattle.tftp_law.proofs.two_ends.what_breaks_no_rule_is_seen.Goals as goal
 
 pub returns : goal.returns

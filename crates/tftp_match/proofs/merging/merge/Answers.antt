@@ -1,5 +1,5 @@
 use Rattle.std.proofs.Common.{◌<◌, sym, subst}
-use Rattle.tftp_judge.specs.Kept.{Judge}
+use Rattle.tftp_judge.specs.{Judge}
 use Rattle.tftp_match.proofs.Both.{client_goes, server_goes}
 use Rattle.tftp_match.proofs.merging.merge.Goals as goal
 

@@ -1,7 +1,6 @@
 use Rattle.std.proofs.Common.{◌≡◌, ◌<◌, ◌+◌, None}
-use Rattle.tftp_capture.specs.declared.standing.Standing.{Standing}
-use Rattle.tftp_match.specs.Merging.{BothRun, lines_left}
-use Rattle.tftp_match.specs.Reading.{seen}
+use Rattle.tftp_capture.specs.{Standing}
+use Rattle.tftp_match.specs.{BothRun, lines_left, seen}
 use Rattle.tftp_match.proofs.merging.merge.Given as goal
 
 -- what the two judges stood for, they stand for

@@ -1,6 +1,6 @@
 use Rattle.std.proofs.Common.{[], sym, subst}
-use Rattle.tftp_judge.specs.Kept.{IsJudgeAfter}
-use Rattle.tftp_match.specs.Judged.{IsJudged}
+use Rattle.tftp_judge.specs.{IsJudgeAfter}
+use Rattle.tftp_match.specs.{IsJudged}
 use Rattle.tftp_match.proofs.Ending.{finished}
 use Rattle.tftp_match.proofs.Steps.{was_halted}
 use Rattle.tftp_match.proofs.pair.judge_alone.Goals as goal

@@ -1,11 +1,9 @@
 use Rattle.std.proofs.Common.{[], None, sym, ap, subst, ◌∙◌}
-use Rattle.tftp_capture.specs.Fields.{header_of}
-use Rattle.tftp_ends.specs.CaptureText.{Header}
-use Rattle.tftp_judge.specs.Kept.{Judge}
-use Rattle.tftp_pair_judge.specs.Kept.{IsPairAfter, Side}
-use Rattle.tftp_pair_judge.specs.Rest.{Left}
-use Rattle.tftp_match.specs.Merging.{AreSeenBoth}
-use Rattle.tftp_match.specs.Reading.{IsSeenAt, said_by, seen}
+use Rattle.tftp_capture.specs.{header_of}
+use Rattle.tftp_hosts.specs.{Header}
+use Rattle.tftp_judge.specs.{Judge}
+use Rattle.tftp_pair_judge.specs.{IsPairAfter, Side, Left}
+use Rattle.tftp_match.specs.{AreSeenBoth, IsSeenAt, said_by, seen}
 use Rattle.tftp_match.proofs.Ending.{AreNumbersIn, both_said, finished}
 use Rattle.tftp_match.proofs.Steps.{was_halted}
 use Rattle.tftp_match.proofs.pair.judge_begun.Goals as goal

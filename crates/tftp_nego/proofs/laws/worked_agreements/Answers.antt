@@ -1,9 +1,6 @@
-use Rattle.std.proofs.Common.{◌≡◌, inl, inr, refl, sym, ap, ◌∙◌, Some, None, arith}
-use Rattle.std.specs.Prelude.{codes}
-use Rattle.tftp_packet.specs.OptionMap.{Num, value_of, is_known_number, is_number, range_of}
-use Rattle.tftp_packet.specs.Written.{map_of}
-use Rattle.tftp_nego.specs.Numbers.{number_or, option_or}
-use Rattle.tftp_nego.specs.Worked.{one}
+use Rattle.std.proofs.Common.{◌≡◌, inl, inr, refl, sym, ap, ◌∙◌, Some, None, arith, codes}
+use Rattle.tftp_packet.specs.{Num, value_of, is_known_number, is_number, range_of, map_of}
+use Rattle.tftp_nego.specs.{number_or, option_or, one}
 use Rattle.tftp_packet.proofs.Maps.{text_in_map}
 use Rattle.tftp_nego.proofs.Tested.{agree_on_one}
 use Rattle.tftp_nego.proofs.laws.worked_agreements.Goals as goal

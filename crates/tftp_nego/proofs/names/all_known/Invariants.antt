@@ -1,6 +1,5 @@
 use Rattle.std.proofs.Common.{length}
-use Rattle.tftp_nego.specs.Agreed.{EachName, SomeName, IsInProfile}
-use Rattle.tftp_nego.specs.Faults.{IsOutsideProfile}
+use Rattle.tftp_nego.specs.{EachName, SomeName, IsInProfile, IsOutsideProfile}
 use Rattle.tftp_nego.proofs.names.all_known.Given as goal
 
 -- what holds of the options that are left, holds of all

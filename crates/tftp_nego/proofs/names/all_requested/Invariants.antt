@@ -1,7 +1,6 @@
 use Rattle.std.proofs.Common.{◌≡◌, None, length}
 use Rattle.std.specs.FinMap as map
-use Rattle.tftp_nego.specs.Agreed.{EachName, SomeName}
-use Rattle.tftp_nego.specs.Faults.{HasOption}
+use Rattle.tftp_nego.specs.{EachName, SomeName, HasOption}
 use Rattle.tftp_nego.proofs.names.all_requested.Given as goal
 
 -- what holds of the options that are left, holds of all

@@ -1,5 +1,4 @@
-use Rattle.std.proofs.Common.{sym, ◌∙◌}
-use Rattle.std.specs.Prelude.{codes}
+use Rattle.std.proofs.Common.{sym, ◌∙◌, codes}
 use Rattle.tftp_nego.proofs.OptionMaps.{named, is_named}
 use Rattle.tftp_nego.proofs.names.names_multicast.Goals as goal
 

@@ -1,5 +1,5 @@
 use Rattle.std.proofs.Common.{sym, subst}
-use Rattle.tftp_nego.specs.Agreed.{AreInRange}
+use Rattle.tftp_nego.specs.{AreInRange}
 use Rattle.tftp_nego.proofs.Numbers.{map_in_range}
 use Rattle.tftp_nego.proofs.negotiate.agree.Goals as goal
 

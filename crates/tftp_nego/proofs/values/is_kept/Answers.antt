@@ -1,8 +1,6 @@
-use Rattle.std.proofs.Common.{sym, ap, ◌∙◌}
-use Rattle.std.specs.Prelude.{not}
-use Rattle.tftp_packet.specs.OptionMap.{lower}
-use Rattle.tftp_packet.specs.Written.{map_of}
-use Rattle.tftp_nego.specs.Agreed.{IsKept}
+use Rattle.std.proofs.Common.{sym, ap, ◌∙◌, not}
+use Rattle.tftp_packet.specs.{lower, map_of}
+use Rattle.tftp_nego.specs.{IsKept}
 use Rattle.tftp_nego.proofs.OptionMaps.{not_named, named}
 use Rattle.tftp_nego.proofs.Answering.{answered_none, unanswered}
 use Rattle.tftp_nego.proofs.values.is_kept.Goals as goal

@@ -1,7 +1,6 @@
-use Rattle.std.proofs.Common.{sym, ap, ◌∙◌}
-use Rattle.std.specs.Prelude.{not, codes}
-use Rattle.tftp_packet.specs.Written.{map_of}
-use Rattle.tftp_nego.specs.Agreed.{IsSize}
+use Rattle.std.proofs.Common.{sym, ap, ◌∙◌, not, codes}
+use Rattle.tftp_packet.specs.{map_of}
+use Rattle.tftp_nego.specs.{IsSize}
 use Rattle.tftp_nego.proofs.OptionMaps.{not_named, named}
 use Rattle.tftp_nego.proofs.Answering.{answered_none, unanswered}
 use Rattle.tftp_nego.proofs.values.is_size_answered.Goals as goal

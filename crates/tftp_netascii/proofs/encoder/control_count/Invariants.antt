@@ -1,6 +1,6 @@
 use Rattle.std.proofs.Common.{◌≡◌, ◌+◌, ◌==◌, ◌||◌, length}
 use Rattle.std.specs.List.{count_by}
-use Rattle.tftp_netascii.specs.Netascii.{lf, cr}
+use Rattle.tftp_netascii.specs.{lf, cr}
 use Rattle.tftp_netascii.proofs.encoder.control_count.Given as goal
 
 -- those that are counted and those of the rest are all

@@ -1,6 +1,6 @@
 use Rattle.std.proofs.Common.{◌≡◌, ◌==◌, ◌||◌, take}
 use Rattle.std.specs.List.{count_by}
-use Rattle.tftp_netascii.specs.Netascii.{lf, cr}
+use Rattle.tftp_netascii.specs.{lf, cr}
 use Rattle.tftp_netascii.proofs.encoder.controls_in.Given as goal
 
 -- those among the bytes so far

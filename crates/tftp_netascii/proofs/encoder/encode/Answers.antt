@@ -1,5 +1,5 @@
 use Rattle.std.proofs.Common.{◌≡◌, ◌++◌, ap, sym, ◌∙◌}
-use Rattle.tftp_netascii.specs.Netascii.{canonical_bytes}
+use Rattle.tftp_netascii.specs.{canonical_bytes}
 use Rattle.tftp_netascii.proofs.CanonicalLemmas.{canonical_bytes-line_feed, canonical_bytes-return, canonical_wire-step, canonical_wire-to_end}
 use Rattle.tftp_netascii.proofs.encoder.encode.Goals as goal
 use Rattle.tftp_netascii.proofs.encoder.encode.Goals.{then-control-eq-LF, else-control-eq-LF}

@@ -1,5 +1,5 @@
 use Rattle.std.proofs.Common.{◌≡◌, ◌++◌, length}
-use Rattle.tftp_netascii.specs.Netascii.{canonical_wire}
+use Rattle.tftp_netascii.specs.{canonical_wire}
 use Rattle.tftp_netascii.proofs.encoder.encode.Given as goal
 
 -- what is written and what the rest is written as is the whole

@@ -3,7 +3,7 @@ use Rattle.std.proofs.Math.ListN.{set}
 use Rattle.std.proofs.Math.Seq.{paste, take-append_seam}
 use Rattle.std.proofs.lemmas.List.{length-drop, take_rest}
 use Rattle.std.proofs.lemmas.List.Edits.{take-paste}
-use Rattle.tftp_netascii.specs.Netascii.{Reads}
+use Rattle.tftp_netascii.specs.{Reads}
 use Rattle.tftp_netascii.proofs.Moved.{further, kept, done}
 use Rattle.tftp_netascii.proofs.RunReads.{run_and_return, run_to_end}
 use Rattle.tftp_netascii.proofs.in_place.decode_in_place.Goals as goal

@@ -1,5 +1,5 @@
 use Rattle.std.proofs.Common.{◌≡◌, ◌≤◌, ℕ, List, ◌++◌, length, take, drop}
-use Rattle.tftp_netascii.specs.Netascii.{Reads}
+use Rattle.tftp_netascii.specs.{Reads}
 use Rattle.tftp_netascii.proofs.in_place.decode_in_place.Given as goal
 
 -- whatever the rest reads as comes after what is written

@@ -1,5 +1,5 @@
 use Rattle.std.proofs.Common.{ap}
-use Rattle.tftp_netascii.specs.Netascii.{canonical_wire}
+use Rattle.tftp_netascii.specs.{canonical_wire}
 use Rattle.tftp_netascii.proofs.ReadsLemmas.{Reads-unique}
 use Rattle.tftp_netascii.proofs.CanonicalLemmas.{Reads-canonical}
 use Rattle.tftp_netascii.proofs.laws.canonical_wires_are_written_again.Goals as goal

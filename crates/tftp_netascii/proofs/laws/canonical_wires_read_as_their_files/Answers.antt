@@ -1,5 +1,5 @@
 use Rattle.std.proofs.Common.{subst, sym}
-use Rattle.tftp_netascii.specs.Netascii.{Reads}
+use Rattle.tftp_netascii.specs.{Reads}
 use Rattle.tftp_netascii.proofs.ReadsLemmas.{Reads-unique}
 use Rattle.tftp_netascii.proofs.CanonicalLemmas.{Reads-canonical}
 use Rattle.tftp_netascii.proofs.laws.canonical_wires_read_as_their_files.Goals as goal

@@ -1,5 +1,5 @@
 use Rattle.std.proofs.Common.{ℕ, Bool, true, false, List, [], ◌∷◌}
-use Rattle.tftp_netascii.specs.Decoder.{StandsFor}
+use Rattle.tftp_netascii.specs.{StandsFor}
 use Rattle.tftp_netascii.proofs.ReadsLemmas.{given, after}
 use Rattle.tftp_netascii.proofs.DecoderLemmas.{StandsFor-exists, StandsFor-unique}
 use Rattle.tftp_netascii.proofs.laws.every_history_has_one_decoder.Goals as goal

@@ -1,5 +1,5 @@
 use Rattle.std.proofs.Common.{[], ⊎_elim}
-use Rattle.tftp_netascii.specs.Netascii.{end, line_end, bare_return, itself}
+use Rattle.tftp_netascii.specs.{end, line_end, bare_return, itself}
 use Rattle.tftp_netascii.proofs.laws.worked_examples.Goals as goal
 
 pub returns-clause-line_end : goal.returns-clause-line_end

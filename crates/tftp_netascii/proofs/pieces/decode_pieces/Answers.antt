@@ -2,7 +2,7 @@ use Rattle.std.proofs.Common.{◌≡◌, ℕ, ◌<◌, Bool, true, false, List, 
 use Rattle.std.specs.List.{flat_map}
 use Rattle.std.proofs.lemmas.List.{length-append}
 use Rattle.std.proofs.lemmas.List.Folds.{length-flat_map-take}
-use Rattle.tftp_netascii.specs.Decoder.{StandsFor, held_count}
+use Rattle.tftp_netascii.specs.{StandsFor, held_count}
 use Rattle.tftp_netascii.proofs.pieces.decode_pieces.Goals as goal
 
 -- pieces that join to nothing are empty, and so are those before each

@@ -1,6 +1,6 @@
 use Rattle.std.proofs.Common.{take}
 use Rattle.std.specs.List.{flat_map}
-use Rattle.tftp_netascii.specs.Decoder.{StandsFor}
+use Rattle.tftp_netascii.specs.{StandsFor}
 use Rattle.tftp_netascii.proofs.pieces.decode_pieces.Given as goal
 
 -- the decoder stands for the pieces so far

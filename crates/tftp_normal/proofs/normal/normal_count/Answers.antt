@@ -1,5 +1,5 @@
 use Rattle.std.proofs.Common.{length, ap, sym, ◌∙◌}
-use Rattle.tftp_normal.specs.Normal.{normal_datagrams}
+use Rattle.tftp_normal.specs.{normal_datagrams}
 use Rattle.tftp_normal.proofs.Lengths.{counted}
 use Rattle.tftp_normal.proofs.normal.normal_count.Goals as goal
 

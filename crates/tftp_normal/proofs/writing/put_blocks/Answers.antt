@@ -1,9 +1,8 @@
 use Rattle.std.proofs.Common.{rules, ◌≡◌, ◌-◌, ◌<◌, ◌+◌, ap, ◌∙◌, arith}
-use Rattle.tftp_packet.specs.Message.{Message}
-use Rattle.tftp_packet.specs.Canonical.{canonical}
-use Rattle.tftp_ends.specs.Machines.{Data, sender_of}
-use Rattle.tftp_normal.specs.Normal.{normal_datagram}
-use Rattle.tftp_normal.specs.Writing.{sent_by}
+use Rattle.tftp_packet.specs.{Message, canonical}
+use Rattle.tftp_model.specs.Machines.{sender_of}
+use Rattle.tftp_model.specs.{Data}
+use Rattle.tftp_normal.specs.{normal_datagram, sent_by}
 use Rattle.tftp_normal.proofs.Putting.{puts_err}
 use Rattle.tftp_normal.proofs.BlocksPut.{data_datagram, next_packet, next_left, step_putting, step_put, step_failed, length-blocks, putting_count}
 use Rattle.tftp_normal.proofs.writing.put_blocks.Goals as goal

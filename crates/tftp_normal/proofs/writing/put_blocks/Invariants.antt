@@ -1,8 +1,7 @@
 use Rattle.std.proofs.Common.{◌≡◌, ◌-◌, ◌*◌, ◌≤◌, drop, false}
-use Rattle.tftp_ends.specs.Meaning.{blksize_of}
-use Rattle.tftp_law.specs.CanBeWritten.{wire_of}
-use Rattle.tftp_normal.specs.Normal.{blocks_after}
-use Rattle.tftp_normal.specs.Writing.{datagrams_of}
+use Rattle.tftp_model.specs.{blksize_of}
+use Rattle.tftp_law.specs.{wire_of}
+use Rattle.tftp_normal.specs.{blocks_after, datagrams_of}
 use Rattle.tftp_normal.proofs.Putting.{Putting}
 use Rattle.tftp_normal.proofs.writing.put_blocks.Given as goal
 

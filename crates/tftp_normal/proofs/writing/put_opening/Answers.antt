@@ -1,10 +1,8 @@
 use Rattle.std.proofs.Common.{◌≢◌, [], ◌∷◌, refl, sym}
 use Rattle.std.proofs.lemmas.Bool.{false≢true}
 use Rattle.std.specs.FinMap as map
-use Rattle.tftp_packet.specs.Message.{Message}
-use Rattle.tftp_packet.specs.Canonical.{canonical}
-use Rattle.tftp_packet.specs.declared.kinds.End.TheVariants.{Client, Server}
-use Rattle.tftp_normal.specs.Writing.{asked_by, sent_by}
+use Rattle.tftp_packet.specs.{Message, canonical, Client, Server}
+use Rattle.tftp_normal.specs.{asked_by, sent_by}
 use Rattle.tftp_normal.proofs.Putting.{puts_err, puts_after, puts_same}
 use Rattle.tftp_normal.proofs.OpeningPut.{read_answered, write_plain, write_answered, request_failed, answer_failed}
 use Rattle.tftp_normal.proofs.writing.put_opening.Goals as goal

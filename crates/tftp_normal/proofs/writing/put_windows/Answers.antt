@@ -1,10 +1,9 @@
 use Rattle.std.proofs.Common.{rules, ◌≡◌, ◌+◌, ◌-◌, ◌^◌, ◌<◌, ◌≤◌, subst, ap, ◌∙◌, arith}
-use Rattle.tftp_packet.specs.Message.{Message}
-use Rattle.tftp_packet.specs.Canonical.{canonical}
-use Rattle.tftp_ends.specs.Machines.{Ack, receiver_of}
-use Rattle.tftp_law.specs.CanBeWritten.{blocks_of}
-use Rattle.tftp_normal.specs.Normal.{normal_datagram}
-use Rattle.tftp_normal.specs.Writing.{sent_by}
+use Rattle.tftp_packet.specs.{Message, canonical}
+use Rattle.tftp_model.specs.Machines.{receiver_of}
+use Rattle.tftp_model.specs.{Ack}
+use Rattle.tftp_law.specs.{blocks_of}
+use Rattle.tftp_normal.specs.{normal_datagram, sent_by}
 use Rattle.tftp_normal.proofs.Putting.{puts_err}
 use Rattle.tftp_normal.proofs.BlocksPut.{ack_datagram, left_at_start, blocks_counted}
 use Rattle.tftp_normal.proofs.WindowsPut.{windows_first, window_count_fits, window_failed, ack_failed, window_put, windows_done}

@@ -1,6 +1,6 @@
 use Rattle.std.proofs.Common.{◌≡◌, ◌-◌, ◌*◌, ◌≤◌, drop, false}
-use Rattle.tftp_ends.specs.Meaning.{blksize_of}
-use Rattle.tftp_law.specs.CanBeWritten.{wire_of, blocks_of}
+use Rattle.tftp_model.specs.{blksize_of}
+use Rattle.tftp_law.specs.{wire_of, blocks_of}
 use Rattle.tftp_normal.proofs.WindowsPut.{WindowsLeft}
 use Rattle.tftp_normal.proofs.writing.put_windows.Given as goal
 

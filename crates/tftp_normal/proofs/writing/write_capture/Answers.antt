@@ -1,6 +1,6 @@
 use Rattle.std.proofs.Common.{arith}
 use Rattle.tftp_capture.proofs.Gathering.{writes_err}
-use Rattle.tftp_normal.specs.Normal.{normal_header, normal_datagrams}
+use Rattle.tftp_normal.specs.{normal_header, normal_datagrams}
 use Rattle.tftp_normal.proofs.TextPut.{count_of_all, begin_fails, opening_fails, windows_fail, written, close_fails, closed}
 use Rattle.tftp_normal.proofs.writing.write_capture.Goals as goal
 

@@ -1,7 +1,5 @@
-use Rattle.std.proofs.Common.{inl, [], ◌∷◌, refl, arith, rules}
-use Rattle.std.specs.Prelude.{codes}
-use Rattle.tftp_packet.specs.Written.{strings}
-use Rattle.tftp_packet.specs.declared.fault.PacketFault.TheVariants.{NoTerminator}
+use Rattle.std.proofs.Common.{inl, [], ◌∷◌, refl, arith, rules, codes}
+use Rattle.tftp_packet.specs.{strings, NoTerminator}
 use Rattle.tftp_packet.proofs.Strings.{string_has_no_zero, only_more}
 use Rattle.tftp_packet.proofs.RequestCases.{one_string}
 use Rattle.tftp_packet.proofs.OackCases.{oack_fault}

@@ -1,10 +1,6 @@
-use Rattle.std.proofs.Common.{◌≢◌, inl, inr, [], ◌∷◌, refl, arith, rules}
-use Rattle.std.specs.Prelude.{codes}
+use Rattle.std.proofs.Common.{◌≢◌, inl, inr, [], ◌∷◌, refl, arith, rules, codes}
 use Rattle.std.proofs.lemmas.List.Elements.{recursion_from_All, All-replicate}
-use Rattle.tftp_packet.specs.Written.{strings, IsString}
-use Rattle.tftp_packet.specs.Worked.{long_name}
-use Rattle.tftp_packet.specs.declared.kinds.Mode.TheVariants.{Octet}
-use Rattle.tftp_packet.specs.declared.fault.PacketFault.TheVariants.{UnknownMode, MailMode}
+use Rattle.tftp_packet.specs.{strings, IsString, long_name, Octet, UnknownMode, MailMode}
 use Rattle.tftp_packet.proofs.RequestCases.{mode_fault, too_long}
 use Rattle.tftp_packet.proofs.laws.worked_mode_faults.Goals as goal
 

@@ -1,7 +1,5 @@
-use Rattle.std.proofs.Common.{inl, inr, [], ◌∷◌, refl, rules}
-use Rattle.std.specs.Prelude.{codes}
-use Rattle.tftp_packet.specs.Written.{strings}
-use Rattle.tftp_packet.specs.declared.fault.PacketFault.TheVariants.{OddOptions, EmptyOptionName, DuplicateOption}
+use Rattle.std.proofs.Common.{inl, inr, [], ◌∷◌, refl, rules, codes}
+use Rattle.tftp_packet.specs.{strings, OddOptions, EmptyOptionName, DuplicateOption}
 use Rattle.tftp_packet.proofs.RequestCases.{options_fault}
 use Rattle.tftp_packet.proofs.OackCases.{oack_fault}
 use Rattle.tftp_packet.proofs.laws.worked_option_faults.Goals as goal

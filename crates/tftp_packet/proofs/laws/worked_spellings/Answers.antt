@@ -1,5 +1,4 @@
-use Rattle.std.proofs.Common.{[], refl, rules}
-use Rattle.std.specs.Prelude.{codes}
+use Rattle.std.proofs.Common.{[], refl, rules, codes}
 use Rattle.tftp_packet.proofs.laws.worked_spellings.Goals as goal
 
 pub returns-clause-request : goal.returns-clause-request

@@ -1,5 +1,5 @@
 use Rattle.std.proofs.Common.{refl}
-use Rattle.tftp_packet.specs.OptionMap.{value_of, is_known_number, is_number, range_of}
+use Rattle.tftp_packet.specs.{value_of, is_known_number, is_number, range_of}
 use Rattle.tftp_packet.proofs.laws.worked_values.Goals as goal
 
 pub returns-clause-number : goal.returns-clause-number

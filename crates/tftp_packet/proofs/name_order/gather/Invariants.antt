@@ -1,7 +1,5 @@
-use Rattle.std.proofs.Common.{◌≡◌, ◌≤◌, ◌<◌, ◌++◌, length, take}
-use Rattle.std.specs.Prelude.{map as each}
-use Rattle.tftp_packet.specs.OptionMap.{lower}
-use Rattle.tftp_packet.specs.NameTable.{keys_of}
+use Rattle.std.proofs.Common.{◌≡◌, ◌≤◌, ◌<◌, ◌++◌, length, take, map as each}
+use Rattle.tftp_packet.specs.{lower, keys_of}
 use Rattle.tftp_packet.proofs.name_order.gather.Given as goal
 
 -- the names so far, and those that are left, are all names

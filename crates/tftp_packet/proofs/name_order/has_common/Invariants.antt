@@ -1,8 +1,5 @@
-use Rattle.std.proofs.Common.{◌↔◌, length}
-use Rattle.std.specs.Prelude.{map as each}
-use Rattle.tftp_packet.specs.OptionMap.{lower}
-use Rattle.tftp_packet.specs.Names.{HasCommon}
-use Rattle.tftp_packet.specs.NameTable.{keys_of}
+use Rattle.std.proofs.Common.{◌↔◌, length, map as each}
+use Rattle.tftp_packet.specs.{lower, HasCommon, keys_of}
 use Rattle.tftp_packet.proofs.name_order.has_common.Given as goal
 
 -- what is asked of all options is asked of those that are left

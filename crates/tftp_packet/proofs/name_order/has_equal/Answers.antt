@@ -1,11 +1,8 @@
-use Rattle.std.proofs.Common.{◌≡◌, true, rules, List, ℕ, Bor, is_lt, nat_cmp, ◌++◌, ap, sym, subst, ◌∙◌, true≢false}
-use Rattle.tftp_packet.specs.Names.{HasTwo, HasCommon}
-use Rattle.std.specs.Prelude.{MatchBool, map as each}
+use Rattle.std.proofs.Common.{◌≡◌, true, rules, List, ℕ, Bor, is_lt, nat_cmp, ◌++◌, ap, sym, subst, ◌∙◌, true≢false, MatchBool, map as each}
+use Rattle.tftp_packet.specs.{HasTwo, HasCommon, lower, keys_of}
 use Rattle.std.specs.Cmp.Lexicographic.{slice_cmp}
 use Rattle.std.proofs.lemmas.Cmp.{nat_list_cmp_total}
 use Rattle.std.proofs.lemmas.List.Sorted.{ranks_by, answers_always, IsPermutation-map, IsPermutation-sym}
-use Rattle.tftp_packet.specs.OptionMap.{lower}
-use Rattle.tftp_packet.specs.NameTable.{keys_of}
 use Rattle.tftp_packet.proofs.NameLists.{two_left}
 use Rattle.tftp_packet.proofs.NameOrder.{two_moved, two_of_beside, beside_of_two, common_decides}
 use Rattle.tftp_packet.proofs.name_order.has_equal.Goals as goal

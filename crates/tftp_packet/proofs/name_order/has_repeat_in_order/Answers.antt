@@ -1,6 +1,5 @@
 use Rattle.std.proofs.Common.{refl, sym, subst}
-use Rattle.tftp_packet.specs.Written.{pairs_of}
-use Rattle.tftp_packet.specs.Names.{HasTwo}
+use Rattle.tftp_packet.specs.{pairs_of, HasTwo}
 use Rattle.tftp_packet.proofs.NameLists.{two_apart, two_right}
 use Rattle.tftp_packet.proofs.NameOrder.{two_of_repeat, repeat_of_two}
 use Rattle.tftp_packet.proofs.name_order.has_repeat_in_order.Goals as goal

@@ -1,7 +1,5 @@
-use Rattle.std.proofs.Common.{◌↔◌, length}
-use Rattle.std.specs.Prelude.{map as each}
-use Rattle.tftp_packet.specs.OptionMap.{lower}
-use Rattle.tftp_packet.specs.Names.{HasTwoBeside}
+use Rattle.std.proofs.Common.{◌↔◌, length, map as each}
+use Rattle.tftp_packet.specs.{lower, HasTwoBeside}
 use Rattle.tftp_packet.proofs.name_order.has_two_beside.Given as goal
 
 -- what is asked of all names is asked of those that are left

@@ -1,7 +1,7 @@
 use Rattle.std.proofs.Common.{rules, List, ℕ, Bor, nat_cmp}
 use Rattle.std.specs.Cmp.Lexicographic.{slice_cmp}
 use Rattle.std.proofs.lemmas.Fn.{always_returns_same}
-use Rattle.tftp_packet.specs.OptionMap.{lower}
+use Rattle.tftp_packet.specs.{lower}
 use Rattle.tftp_packet.proofs.NameOrder.{searched_decides}
 use Rattle.tftp_packet.proofs.name_order.is_among.Goals as goal
 

@@ -1,5 +1,5 @@
 use Rattle.std.proofs.Common.{◌≡◌, ◌≢◌, ◌+◌, ◌-◌, ◌<◌, length, length-set, ◌∙◌, arith}
-use Rattle.tftp_packet.specs.OptionMap.{lower}
+use Rattle.tftp_packet.specs.{lower}
 use Rattle.tftp_packet.proofs.NameTable.{found_twice, holds_more, marked_more, key_there, front_more}
 use Rattle.tftp_packet.proofs.name_table.fill.Goals as goal
 

@@ -1,5 +1,6 @@
 use Rattle.std.proofs.Common.{◌≡◌, ◌≤◌, ◌++◌, ℕ, List, length}
-use Rattle.tftp_packet.specs.NameTable.{AreMarked, Holds}
+use Rattle.tftp_packet.specs.NameTable.{Holds}
+use Rattle.tftp_packet.specs.{AreMarked}
 use Rattle.tftp_packet.proofs.name_table.fill.Given as goal
 
 -- the table has the names so far, each marked

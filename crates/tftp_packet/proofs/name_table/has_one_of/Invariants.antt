@@ -1,6 +1,5 @@
 use Rattle.std.proofs.Common.{length}
-use Rattle.tftp_packet.specs.Faults.{AnyOf}
-use Rattle.tftp_packet.specs.NameTable.{keys_of, IsHeld, IsFound}
+use Rattle.tftp_packet.specs.{AnyOf, keys_of, IsHeld, IsFound}
 use Rattle.tftp_packet.proofs.name_table.has_one_of.Given as goal
 
 -- what is found among those that are left is found among all, and what is held among all is held among those that are left

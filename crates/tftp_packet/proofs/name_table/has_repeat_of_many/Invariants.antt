@@ -1,6 +1,5 @@
 use Rattle.std.proofs.Common.{◌↔◌, length}
-use Rattle.tftp_packet.specs.Written.{pairs_of}
-use Rattle.tftp_packet.specs.Faults.{HasRepeat}
+use Rattle.tftp_packet.specs.{pairs_of, HasRepeat}
 use Rattle.tftp_packet.proofs.name_table.has_repeat_of_many.Given as goal
 
 -- what is asked of all options is asked of those that are left

@@ -1,6 +1,5 @@
 use Rattle.std.proofs.Common.{◌≢◌, ℕ, ◌<◌, ◌≤◌, get_or}
-use Rattle.tftp_packet.specs.OptionMap.{lower}
-use Rattle.tftp_packet.specs.NameTable.{key_at}
+use Rattle.tftp_packet.specs.{lower, key_at}
 use Rattle.tftp_packet.proofs.name_table.look.Given as goal
 
 -- no slot so far is free, and none stands for the name

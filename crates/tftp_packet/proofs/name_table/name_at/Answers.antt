@@ -1,5 +1,5 @@
 use Rattle.std.proofs.Common.{◌≡◌, ◌-◌, length, take, drop, ap, ◌∙◌, arith}
-use Rattle.tftp_packet.specs.NameTable.{string_first}
+use Rattle.tftp_packet.specs.{string_first}
 use Rattle.tftp_packet.proofs.NameTable.{name_there, none_there}
 use Rattle.tftp_packet.proofs.name_table.name_at.Goals as goal
 

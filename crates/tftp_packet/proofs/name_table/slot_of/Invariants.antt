@@ -1,6 +1,5 @@
 use Rattle.std.proofs.Common.{◌≡◌, length}
-use Rattle.tftp_packet.specs.OptionMap.{lower}
-use Rattle.tftp_packet.specs.NameTable.{mixed}
+use Rattle.tftp_packet.specs.{lower, mixed}
 use Rattle.tftp_packet.proofs.name_table.slot_of.Given as goal
 
 -- what is left of the name is mixed in

@@ -1,7 +1,5 @@
 use Rattle.std.proofs.Common.{◌≡◌, ◌↔◌, length}
-use Rattle.tftp_packet.specs.OptionMap.{lower}
-use Rattle.tftp_packet.specs.Written.{pairs_of}
-use Rattle.tftp_packet.specs.Faults.{AnyOf}
+use Rattle.tftp_packet.specs.{lower, pairs_of, AnyOf}
 use Rattle.tftp_packet.proofs.option_check.has_name.Given as goal
 
 -- what is asked of all options is asked of those that are left

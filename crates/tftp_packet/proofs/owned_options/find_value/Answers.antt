@@ -1,7 +1,7 @@
 use Rattle.std.proofs.Common.{rules, nat_cmp}
 use Rattle.std.specs.Cmp.Lexicographic.{slice_cmp}
 use Rattle.std.proofs.lemmas.Fn.{always_returns_same}
-use Rattle.tftp_packet.specs.OptionMap.{lower}
+use Rattle.tftp_packet.specs.{lower}
 use Rattle.tftp_packet.proofs.OwnedSearch.{searched_here, searched_none}
 use Rattle.tftp_packet.proofs.owned_options.find_value.Goals as goal
 

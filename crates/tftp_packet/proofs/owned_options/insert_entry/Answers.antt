@@ -1,6 +1,5 @@
-use Rattle.std.proofs.Common.{ap, ◌∙◌, ◌≡◌, arith}
-use Rattle.std.specs.Prelude.{insert}
-use Rattle.tftp_packet.specs.Owned.{shown, shown_entry, shown_entries, place}
+use Rattle.std.proofs.Common.{ap, ◌∙◌, ◌≡◌, arith, insert}
+use Rattle.tftp_packet.specs.{shown, shown_entry, shown_entries, place}
 use Rattle.tftp_packet.proofs.OwnedMaps.{insert_shown, insert_place, place_within}
 use Rattle.tftp_packet.proofs.owned_options.insert_entry.Goals as goal
 

@@ -2,8 +2,7 @@ use Rattle.std.proofs.Common.{◌≡◌, ◌∷◌, ◌++◌, [], List, sym, ap,
 use Rattle.std.specs.Ordering.{nat_cmp}
 use Rattle.std.specs.Cmp.Lexicographic.{slice_cmp}
 use Rattle.std.specs.FinMap.{find, put}
-use Rattle.tftp_packet.specs.Written.{Pair, AreApart}
-use Rattle.tftp_packet.specs.Owned.{Shown, shown_entries}
+use Rattle.tftp_packet.specs.{Pair, AreApart, Shown, shown_entries}
 use Rattle.tftp_packet.proofs.OwnedMaps.{Stands, stands_none, is_new, stands_more}
 use Rattle.tftp_packet.proofs.owned_options.own_options.Goals as goal
 

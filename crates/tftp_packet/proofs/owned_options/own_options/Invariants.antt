@@ -1,6 +1,5 @@
 use Rattle.std.proofs.Common.{◌≡◌, ◌++◌, List, length}
-use Rattle.tftp_packet.specs.Written.{Pair}
-use Rattle.tftp_packet.specs.Owned.{shown_entries}
+use Rattle.tftp_packet.specs.{Pair, shown_entries}
 use Rattle.tftp_packet.proofs.OwnedMaps.{Stands}
 use Rattle.tftp_packet.proofs.owned_options.own_options.Given as goal
 

@@ -1,7 +1,7 @@
 use Rattle.std.proofs.Common.{◌+◌, sym, ap, ◌∙◌, drop, arith}
 use Rattle.std.specs.Ordering.{nat_cmp, is_lt}
 use Rattle.std.specs.Cmp.Lexicographic.{slice_cmp}
-use Rattle.tftp_packet.specs.Owned.{shown_entries, place}
+use Rattle.tftp_packet.specs.{shown_entries, place}
 use Rattle.tftp_packet.proofs.OwnedMaps.{place_here, place_later}
 use Rattle.tftp_packet.proofs.owned_options.place_of.Goals as goal
 

@@ -1,5 +1,5 @@
 use Rattle.std.proofs.Common.{◌≡◌, ◌+◌, drop}
-use Rattle.tftp_packet.specs.Owned.{shown_entries, place}
+use Rattle.tftp_packet.specs.{shown_entries, place}
 use Rattle.tftp_packet.proofs.owned_options.place_of.Given as goal
 
 -- the names so far stand before this one

@@ -1,5 +1,5 @@
 use Rattle.std.proofs.Common.{◌≡◌, ◌-◌, ◌/◌, ◌%◌, ℕ, List, [], ◌∷◌, take, drop, length, ap, subst, arith}
-use Rattle.tftp_packet.specs.Spelling.{IsPair}
+use Rattle.tftp_packet.specs.{IsPair}
 use Rattle.tftp_packet.proofs.Judged.{all_bytes, numbered}
 use Rattle.tftp_packet.proofs.packet.read_ack.Goals as goal
 

@@ -1,5 +1,5 @@
 use Rattle.std.proofs.Common.{◌≡◌, ◌/◌, ◌%◌, ℕ, List, ◌∷◌, subst, arith}
-use Rattle.tftp_packet.specs.Spelling.{IsPair}
+use Rattle.tftp_packet.specs.{IsPair}
 use Rattle.tftp_packet.proofs.Judged.{all_bytes, error_parts, error_fault, numbered}
 use Rattle.tftp_packet.proofs.packet.read_error.Goals as goal
 

@@ -1,6 +1,6 @@
 use Rattle.std.proofs.Common.{sym, subst, arith}
 use Rattle.std.proofs.lemmas.Result.{err_from_is_err_and}
-use Rattle.tftp_packet.specs.Faults.{FirstFault}
+use Rattle.tftp_packet.specs.{FirstFault}
 use Rattle.tftp_packet.proofs.Judged.{all_bytes, after_opcode}
 use Rattle.tftp_packet.proofs.OackCases.{oack_fault}
 use Rattle.tftp_packet.proofs.packet.read_oack.Goals as goal

@@ -1,5 +1,5 @@
 use Rattle.std.specs.Prelude.{Err}
-use Rattle.tftp_packet.specs.declared.fault.PacketFault.TheVariants.{Short}
+use Rattle.tftp_packet.specs.{Short}
 use Rattle.tftp_packet.proofs.Judged.{all_bytes, found_of, written_of, only_of, fault_of, judged_short}
 use Rattle.tftp_packet.proofs.packet.read_packet.Goals as goal
 

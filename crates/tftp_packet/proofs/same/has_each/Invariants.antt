@@ -1,5 +1,5 @@
 use Rattle.std.proofs.Common.{◌↔◌, length}
-use Rattle.tftp_packet.specs.Same.{HasEach}
+use Rattle.tftp_packet.specs.{HasEach}
 use Rattle.tftp_packet.proofs.same.has_each.Given as goal
 
 -- what is asked of all options is asked of those that are left

@@ -1,5 +1,5 @@
 use Rattle.std.proofs.Common.{sym, subst, ◌∙◌}
-use Rattle.tftp_packet.specs.Same.{HasEach}
+use Rattle.tftp_packet.specs.{HasEach}
 use Rattle.tftp_packet.proofs.SameMaps.{same_from_each, map_has_each}
 use Rattle.tftp_packet.proofs.same.same_options.Goals as goal
 

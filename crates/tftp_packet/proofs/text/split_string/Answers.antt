@@ -1,5 +1,5 @@
 use Rattle.std.proofs.Common.{◌≡◌, ◌≤◌, length, take, subst, arith}
-use Rattle.tftp_packet.specs.Written.{IsString}
+use Rattle.tftp_packet.specs.{IsString}
 use Rattle.tftp_packet.proofs.Strings.{string_on}
 use Rattle.tftp_packet.proofs.text.split_string.Goals as goal
 

@@ -1,5 +1,5 @@
 use Rattle.std.proofs.Common.{take}
-use Rattle.tftp_packet.specs.Written.{IsString}
+use Rattle.tftp_packet.specs.{IsString}
 use Rattle.tftp_packet.proofs.text.split_string.Given as goal
 
 -- no byte so far is zero

@@ -1,7 +1,6 @@
 use Rattle.std.proofs.Common.{◌≡◌, List, ℕ, sym, ap, ◌∙◌}
 use Rattle.std.proofs.lemmas.Slice.Eq.{bytes_eq-Decides}
-use Rattle.tftp_packet.specs.OptionMap.{lower, Text}
-use Rattle.tftp_packet.specs.Owned.{shown}
+use Rattle.tftp_packet.specs.{lower, Text, shown}
 use Rattle.tftp_packet.proofs.Values.{text_value}
 use Rattle.tftp_packet.proofs.value.is_value_of.Goals as goal
 

@@ -1,6 +1,6 @@
 use Rattle.std.proofs.Common.{refl, sym, ap}
 use Rattle.std.proofs.lemmas.Bool.{false≢true}
-use Rattle.tftp_packet.specs.OptionMap.{range_of}
+use Rattle.tftp_packet.specs.{range_of}
 use Rattle.tftp_packet.proofs.Values.{no_range}
 use Rattle.tftp_packet.proofs.value.known_range.Goals as goal
 

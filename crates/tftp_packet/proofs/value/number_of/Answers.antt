@@ -1,6 +1,6 @@
 use Rattle.std.proofs.Common.{inl, inr, Some, ap, ◌∙◌, arith}
 use Rattle.tftp_packet.proofs.Values.{unknown_name, no_numeral, out_of_range, known_number}
-use Rattle.tftp_packet.specs.OptionMap.{lower}
+use Rattle.tftp_packet.specs.{lower}
 use Rattle.tftp_packet.proofs.value.number_of.Goals as goal
 
 pub returns-in_err-least : goal.returns-in_err-least

@@ -1,5 +1,5 @@
 use Rattle.std.proofs.Common.{ap, ◌∙◌}
-use Rattle.tftp_packet.specs.OptionMap.{lower, Text}
+use Rattle.tftp_packet.specs.{lower, Text}
 use Rattle.tftp_packet.proofs.Values.{text_value}
 use Rattle.tftp_packet.proofs.value.read_value.Goals as goal
 

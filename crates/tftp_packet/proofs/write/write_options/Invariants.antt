@@ -1,7 +1,5 @@
 use Rattle.std.proofs.Common.{◌≡◌, ◌++◌, take}
-use Rattle.tftp_packet.specs.Written.{strings, pair_strings}
-use Rattle.tftp_packet.specs.Owned.{shown_entries}
-use Rattle.tftp_packet.specs.Canonical.{shown_pairs}
+use Rattle.tftp_packet.specs.{strings, pair_strings, shown_entries, shown_pairs}
 use Rattle.tftp_packet.proofs.write.write_options.Given as goal
 
 -- the options so far are written

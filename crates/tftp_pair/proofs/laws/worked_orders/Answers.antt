@@ -1,12 +1,9 @@
 use Rattle.std.proofs.Common.{◌≡◌, List, [], ◌∷◌, inl, inr, refl, subst, arith}
-use Rattle.tftp_packet.specs.declared.kinds.End.{End}
-use Rattle.tftp_packet.specs.declared.kinds.End.TheVariants.{Client, Server}
-use Rattle.tftp_ends.specs.Machines.{MachinePacket, Data, Ack, Deed, Sent, Took, History}
-use Rattle.tftp_ends.specs.Roles.{other_end}
-use Rattle.tftp_ends.proofs.Members.{contains_first, contains_later, contains_none}
-use Rattle.tftp_pair.specs.Merged.{Event, seen_at, AreAllOpen}
-use Rattle.tftp_pair.specs.Pair.{IsOpen, AreMerged}
-use Rattle.tftp_pair.specs.Worked.{did}
+use Rattle.tftp_packet.specs.{End, Client, Server}
+use Rattle.tftp_model.specs.{MachinePacket, Data, Ack, Deed, Sent, Took, History}
+use Rattle.tftp_model.specs.Roles.{other_end}
+use Rattle.tftp_model.proofs.Members.{contains_first, contains_later, contains_none}
+use Rattle.tftp_pair.specs.{Event, seen_at, AreAllOpen, IsOpen, AreMerged, did}
 use Rattle.tftp_pair.proofs.Merged.{earlier_all, IsShutAt, no_longer}
 use Rattle.tftp_pair.proofs.laws.worked_orders.Goals as goal
 

@@ -1,5 +1,5 @@
 use Rattle.std.proofs.Common.{ap, ◌∙◌}
-use Rattle.tftp_parties.specs.Naming.{host_name}
+use Rattle.tftp_parties.specs.{host_name}
 use Rattle.tftp_parties.proofs.Addresses.{called_as_written}
 use Rattle.tftp_parties.proofs.naming.party_of.Goals as goal
 

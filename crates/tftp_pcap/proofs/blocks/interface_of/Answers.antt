@@ -1,5 +1,5 @@
 use Rattle.std.proofs.Common.{ap, ◌∙◌}
-use Rattle.tftp_pcap.specs.Blocks.{units_by, offset_by}
+use Rattle.tftp_pcap.specs.{units_by, offset_by}
 use Rattle.tftp_pcap.proofs.OptionCuts.{first_sized}
 use Rattle.tftp_pcap.proofs.Packets.{interface_spelled}
 use Rattle.tftp_pcap.proofs.blocks.interface_of.Goals as goal

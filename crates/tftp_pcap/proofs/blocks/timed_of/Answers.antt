@@ -1,5 +1,5 @@
 use Rattle.std.proofs.Common.{ap, ◌∙◌, refl}
-use Rattle.tftp_pcap.specs.Blocks.{direction_by}
+use Rattle.tftp_pcap.specs.{direction_by}
 use Rattle.tftp_pcap.proofs.OptionCuts.{first_sized}
 use Rattle.tftp_pcap.proofs.Packets.{timed_spelled, timed_short, timed_wrong}
 use Rattle.tftp_pcap.proofs.blocks.timed_of.Goals as goal

@@ -1,5 +1,5 @@
 use Rattle.std.proofs.Common.{◌≡◌, refl, ◌∙◌, sym, ap}
-use Rattle.tftp_pcap.specs.Classic.{fraction_unit}
+use Rattle.tftp_pcap.specs.{fraction_unit}
 use Rattle.tftp_pcap.proofs.Records.{record_spelled}
 use Rattle.tftp_pcap.proofs.classic.record_of.Goals.{then-classic, else-classic}
 use Rattle.tftp_pcap.proofs.classic.record_of.Goals as goal

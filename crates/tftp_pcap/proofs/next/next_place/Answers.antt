@@ -1,8 +1,6 @@
 use Rattle.std.proofs.Common.{◌≡◌, ◌++◌, inr, Err, List, append-nil, ap, ◌∙◌, subst, arith}
 use Rattle.std.proofs.lemmas.Grind.{common_steps}
-use Rattle.tftp_pcap.specs.Frames.{FrameParts}
-use Rattle.tftp_pcap.specs.Pieces.{Stands}
-use Rattle.tftp_pcap.specs.declared.fault.FaultKind.TheVariants.{Memory}
+use Rattle.tftp_pcap.specs.{FrameParts, Stands, Memory}
 use Rattle.tftp_pcap.proofs.Steps.{reach_said, reach_none, reach_fault, reach_short}
 use Rattle.tftp_pcap.proofs.next.next_place.Goals as goal
 

@@ -1,7 +1,6 @@
 use Rattle.std.proofs.Common.{◌≡◌, ◌-◌, ◌^◌, ◌≤◌, ◌++◌, ℕ, List, vec_capacity}
 use Rattle.std.specs.Io.KnownBytes.{prepend_known, Consumes}
-use Rattle.tftp_pcap.specs.Frames.{FrameParts}
-use Rattle.tftp_pcap.specs.Pieces.{Stands}
+use Rattle.tftp_pcap.specs.{FrameParts, Stands}
 use Rattle.tftp_pcap.proofs.next.next_place.Given as goal
 
 abbrev pub invariant-pieces : goal.invariant-pieces

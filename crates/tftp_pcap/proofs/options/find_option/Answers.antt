@@ -1,6 +1,5 @@
-use Rattle.std.proofs.Common.{[], ◌∷◌, ◌++◌, append-nil, ap, ◌∙◌, subst}
-use Rattle.std.specs.Prelude.{not}
-use Rattle.tftp_pcap.specs.Options.{OptionParts, SpellsOptions}
+use Rattle.std.proofs.Common.{[], ◌∷◌, ◌++◌, append-nil, ap, ◌∙◌, subst, not}
+use Rattle.tftp_pcap.specs.{OptionParts, SpellsOptions}
 use Rattle.tftp_pcap.proofs.OptionCuts.{found_now, found_before, other_code, other_size, no_options, options_after, options_more}
 use Rattle.tftp_pcap.proofs.options.find_option.Goals.{else-is_none-via-then-is_none+then-next-code+else-value-size, else-is_none-via-then-is_none+else-next-code, else-is_none-via-else-is_none}
 use Rattle.tftp_pcap.proofs.options.find_option.Goals as goal

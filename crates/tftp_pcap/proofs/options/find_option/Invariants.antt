@@ -1,6 +1,5 @@
-use Rattle.std.proofs.Common.{◌≡◌, List, ◌++◌, length}
-use Rattle.std.specs.Prelude.{option_map}
-use Rattle.tftp_pcap.specs.Options.{OptionParts, SpellsOptions, first_value}
+use Rattle.std.proofs.Common.{◌≡◌, List, ◌++◌, length, option_map}
+use Rattle.tftp_pcap.specs.{OptionParts, SpellsOptions, first_value}
 use Rattle.tftp_pcap.proofs.options.find_option.Given as goal
 
 -- the options before what is left, the first value among them, and that what is left are options if all are

@@ -1,5 +1,5 @@
 use Rattle.std.proofs.Common.{◌≡◌, length, sym, ap, ◌∙◌}
-use Rattle.tftp_pcap.specs.Numbers.{number_at}
+use Rattle.tftp_pcap.specs.{number_at}
 use Rattle.tftp_pcap.proofs.Announced.{order_one}
 use Rattle.tftp_pcap.proofs.Whole.{section_spelled, section_other}
 use Rattle.tftp_pcap.proofs.pieces.section_of.Goals.{then-number-size-via-then-number-size, then-number-size-via-else-number-size+then-short-ne1}

@@ -1,9 +1,6 @@
-use Rattle.std.proofs.Common.{◌≡◌, inr, ℕ, List, Ok, Err, Bool, Result, sym, ap, ◌∙◌, subst, arith}
-use Rattle.std.specs.Prelude.{length}
+use Rattle.std.proofs.Common.{◌≡◌, inr, ℕ, List, Ok, Err, Bool, Result, sym, ap, ◌∙◌, subst, arith, length}
 use Rattle.std.proofs.lemmas.Bool.{false≢true}
-use Rattle.tftp_pcap.specs.declared.fault.FaultKind.{FaultKind}
-use Rattle.tftp_pcap.specs.declared.fault.FaultKind.TheVariants.{Memory}
-use Rattle.tftp_pcap.specs.Pieces.{Says, said_of}
+use Rattle.tftp_pcap.specs.{FaultKind, Memory, Says, said_of}
 use Rattle.tftp_pcap.proofs.Fronts.{grown_longer, grown_whole}
 use Rattle.tftp_pcap.proofs.Rests.{rest_cut, rest_failed, rest_bad}
 use Rattle.tftp_pcap.proofs.read.hold_rest.Goals as goal

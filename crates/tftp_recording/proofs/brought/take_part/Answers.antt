@@ -1,8 +1,5 @@
 use Rattle.std.proofs.Common.{◌≡◌, [], Ok, inl, refl, ap, ◌∙◌}
-use Rattle.tftp_fragments.specs.Held.{part_of}
-use Rattle.tftp_fragments.specs.Set.{Arrival}
-use Rattle.tftp_fragments.specs.Store.{set_at}
-use Rattle.tftp_fragments.specs.declared.outcome.Outcome.{Outcome}
+use Rattle.tftp_fragments.specs.{part_of, Arrival, set_at, Outcome}
 use Rattle.tftp_recording.proofs.Bringing.{makes_room, may_be_put, never_full, on_err}
 use Rattle.tftp_recording.proofs.brought.take_part.Goals as goal
 

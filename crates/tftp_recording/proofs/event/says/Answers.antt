@@ -1,8 +1,7 @@
 use Rattle.std.proofs.Common.{inr, Err, ℕ, List, refl, sym, ap, ◌∙◌, subst}
-use Rattle.tftp_frames.specs.Parts.{shown}
-use Rattle.tftp_frames.specs.Udp.{SpellsUdp, datagram}
-use Rattle.tftp_pcap.specs.declared.frame.Direction.{Direction}
-use Rattle.tftp_recording.specs.Fate.{direction_of}
+use Rattle.tftp_frames.specs.{shown, SpellsUdp, datagram}
+use Rattle.tftp_pcap.specs.{Direction}
+use Rattle.tftp_recording.specs.{direction_of}
 use Rattle.tftp_frames.specs.declared.fault.UdpFault.TheVariants.{Protocol as NotUdp}
 use Rattle.tftp_recording.proofs.Bringing.{holds_udp_here, spells_here, spells_udp_here}
 use Rattle.tftp_recording.proofs.event.says.Goals as goal

@@ -1,4 +1,4 @@
-use Rattle.tftp_frames.specs.Parts.{shown}
+use Rattle.tftp_frames.specs.{shown}
 use Rattle.tftp_recording.proofs.Liking.{like}
 use Rattle.tftp_recording.proofs.likeness.likeness_of.Goals as goal
 

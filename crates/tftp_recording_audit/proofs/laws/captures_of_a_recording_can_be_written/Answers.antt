@@ -1,7 +1,7 @@
 use Rattle.tftp_recording_audit.proofs.Writing.{all_lawful, asked_port, placed_sound}
-use Rattle.tftp_transfers.specs.Places.{placed}
-use Rattle.tftp_transfers.specs.Views.{is_at_server, is_of}
-use Rattle.tftp_views.specs.Captured.{way_at_client, way_at_server}
+use Rattle.tftp_transfers.specs.{placed, is_at_server}
+use Rattle.tftp_lines.specs.{is_of}
+use Rattle.tftp_views.specs.{way_at_client, way_at_server}
 use Rattle.tftp_recording_audit.proofs.laws.captures_of_a_recording_can_be_written.Goals as goal
 
 pub returns-clause-client : goal.returns-clause-client

@@ -1,11 +1,9 @@
-use Rattle.std.proofs.Common.{◌≡◌, ◌∷◌, Option, Some, false, sym, ap, subst, ◌∙◌}
-use Rattle.std.specs.Prelude.{IfSome}
-use Rattle.tftp_between.specs.Kept.{IsBetweenAfter, View as Between}
+use Rattle.std.proofs.Common.{◌≡◌, ◌∷◌, Option, Some, false, sym, ap, subst, ◌∙◌, IfSome}
+use Rattle.tftp_between.specs.{IsBetweenAfter, View as Between}
 use Rattle.tftp_transfers.proofs.OwnDatagrams.{about_none}
-use Rattle.tftp_transfers.specs.Views.{is_about}
-use Rattle.tftp_views.specs.Captured.{Naming}
-use Rattle.tftp_views.specs.Kept.{IsFed}
-use Rattle.tftp_recording_judge.specs.Kept.{BetweenStands}
+use Rattle.tftp_transfers.specs.{is_about}
+use Rattle.tftp_views.specs.{Naming, IsFed}
+use Rattle.tftp_recording_judge.specs.{BetweenStands}
 use Rattle.tftp_recording_judge.proofs.Watching.{on_ok_when}
 use Rattle.tftp_recording_judge.proofs.between.feed.Goals as goal
 

@@ -1,9 +1,8 @@
-use Rattle.std.proofs.Common.{◌≡◌, Option, Some, false, sym, ap, subst, ◌∙◌}
-use Rattle.std.specs.Prelude.{IfSome}
+use Rattle.std.proofs.Common.{◌≡◌, Option, Some, false, sym, ap, subst, ◌∙◌, IfSome}
 use Rattle.tftp_transfers.proofs.OwnDatagrams.{about_none}
-use Rattle.tftp_transfers.specs.Views.{is_about}
-use Rattle.tftp_views.specs.Kept.{Client}
-use Rattle.tftp_recording_judge.specs.Kept.{ClientStands}
+use Rattle.tftp_transfers.specs.{is_about}
+use Rattle.tftp_views.specs.{Client}
+use Rattle.tftp_recording_judge.specs.{ClientStands}
 use Rattle.tftp_recording_judge.proofs.Watching.{on_ok_map}
 use Rattle.tftp_recording_judge.proofs.client.feed.Goals as goal
 

@@ -1,7 +1,6 @@
-use Rattle.std.proofs.Common.{ℕ, Option, false, refl, sym, ap, subst}
-use Rattle.std.specs.Prelude.{is_some, OnOk}
-use Rattle.tftp_transfers.specs.Doubts.{is_it}
-use Rattle.tftp_recording_judge.specs.Kept.{AreHanded}
+use Rattle.std.proofs.Common.{ℕ, Option, false, refl, sym, ap, subst, is_some, OnOk}
+use Rattle.tftp_transfers.specs.{is_it}
+use Rattle.tftp_recording_judge.specs.{AreHanded}
 use Rattle.tftp_recording_judge.proofs.Keeping.{handed_alone, handed_one, held_one}
 use Rattle.tftp_recording_judge.proofs.Watching.{on_ok_map}
 use Rattle.tftp_recording_judge.proofs.hands.hand.Goals as goal

@@ -1,6 +1,6 @@
 use Rattle.std.proofs.Common.{Option, Some, subst, ◌∙◌}
-use Rattle.tftp_views.specs.Kept.{View}
-use Rattle.tftp_recording_judge.specs.Kept.{ServerStands}
+use Rattle.tftp_views.specs.{View}
+use Rattle.tftp_recording_judge.specs.{ServerStands}
 use Rattle.tftp_recording_judge.proofs.Watching.{on_ok_map}
 use Rattle.tftp_recording_judge.proofs.server.feed.Goals as goal
 

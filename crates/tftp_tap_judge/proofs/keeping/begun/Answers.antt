@@ -1,11 +1,8 @@
 use Rattle.std.proofs.Common.{◌≡◌, List, Err, rules, sym, subst, ap, ◌∙◌}
-use Rattle.tftp_packet.specs.Message.{Message}
-use Rattle.tftp_packet.specs.Spelling.{Spells}
-use Rattle.tftp_packet.specs.declared.kinds.End.{End}
-use Rattle.tftp_packet.specs.declared.kinds.End.TheVariants.{Client, Server}
-use Rattle.tftp_ends.specs.Roles.{receiver_of}
-use Rattle.tftp_tap.specs.TapCapture.{PeerId, side_of}
-use Rattle.tftp_tap_judge.specs.TapStops.{BeginsAtTap, IsNoRequest, IsRecorded, passing_of}
+use Rattle.tftp_packet.specs.{Message, Spells, End, Client, Server}
+use Rattle.tftp_model.specs.Roles.{receiver_of}
+use Rattle.tftp_tap.specs.{PeerId, side_of}
+use Rattle.tftp_tap_judge.specs.{BeginsAtTap, IsNoRequest, IsRecorded, passing_of}
 use Rattle.tftp_tap_judge.proofs.KeeperFound.{begun_found, begun_with, client_passes, client_to, first_passes, server_found}
 use Rattle.tftp_tap_judge.proofs.keeping.begun.Goals as goal
 

@@ -1,11 +1,6 @@
 use Rattle.std.proofs.Common.{◌≡◌, List, [], rules, sym, subst}
-use Rattle.tftp_packet.specs.Message.{Message, RequestParts}
-use Rattle.tftp_packet.specs.Meaning.{meaning}
-use Rattle.tftp_packet.specs.Spelling.{Spells}
-use Rattle.tftp_packet.specs.Written.{parts}
-use Rattle.tftp_packet.specs.declared.packet.Packet.{Packet}
-use Rattle.tftp_packet.specs.declared.kinds.End.TheVariants.{Client}
-use Rattle.tftp_tap_judge.specs.TapFinds.{IsOtherError}
+use Rattle.tftp_packet.specs.{Message, RequestParts, meaning, Spells, parts, Packet, Client}
+use Rattle.tftp_tap_judge.specs.{IsOtherError}
 use Rattle.tftp_tap_judge.proofs.KeeperFound.{wants_memory}
 use Rattle.tftp_tap_judge.proofs.keeping.first_request.Goals as goal
 

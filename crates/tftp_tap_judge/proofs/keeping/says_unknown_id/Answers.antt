@@ -1,7 +1,5 @@
-use Rattle.std.proofs.Common.{◌≡◌, rules, subst}
-use Rattle.std.specs.Prelude.{IsOkAnd}
-use Rattle.tftp_packet.specs.Message.{Message}
-use Rattle.tftp_packet.specs.Meaning.{meaning}
+use Rattle.std.proofs.Common.{◌≡◌, rules, subst, IsOkAnd}
+use Rattle.tftp_packet.specs.{Message, meaning}
 use Rattle.tftp_tap_judge.proofs.keeping.says_unknown_id.Goals as goal
 
 pub returns-in-Err : goal.returns-in-Err

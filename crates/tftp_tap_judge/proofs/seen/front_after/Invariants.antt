@@ -1,5 +1,5 @@
 use Rattle.std.proofs.Common.{◌≡◌, ◌-◌, ◌<◌, ◌≤◌, ℕ, true}
-use Rattle.tftp_tap_judge.specs.TapSeen.{has_number}
+use Rattle.tftp_tap_judge.specs.{has_number}
 use Rattle.tftp_tap_judge.proofs.seen.front_after.Given as goal
 
 abbrev pub invariant-loop-front : goal.invariant-loop-front

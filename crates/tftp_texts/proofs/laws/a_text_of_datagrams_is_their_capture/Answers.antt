@@ -1,4 +1,4 @@
-use Rattle.tftp_capture.specs.Commented.{numbered_in}
+use Rattle.tftp_capture.specs.{numbered_in}
 use Rattle.tftp_texts.proofs.Entries.{has_verdict, is_read, said_so}
 use Rattle.tftp_texts.proofs.laws.a_text_of_datagrams_is_their_capture.Goals as goal
 

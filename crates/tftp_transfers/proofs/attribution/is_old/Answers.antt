@@ -1,8 +1,7 @@
-use Rattle.std.proofs.Common.{◌≡◌, ◌+◌, false, Some, sym, ap, subst, ◌∙◌}
-use Rattle.std.specs.Prelude.{nat_le}
+use Rattle.std.proofs.Common.{◌≡◌, ◌+◌, false, Some, sym, ap, subst, ◌∙◌, nat_le}
 use Rattle.std.proofs.lemmas.Bool.{not-true}
-use Rattle.tftp_transfers.specs.Places.{clock, silence, last_served}
-use Rattle.tftp_transfers.specs.Kept.{IsServedKept}
+use Rattle.tftp_lines.specs.{clock, silence}
+use Rattle.tftp_transfers.specs.{last_served, IsServedKept}
 use Rattle.tftp_transfers.proofs.Serving.{served_is}
 use Rattle.tftp_transfers.proofs.attribution.is_old.Goals as goal
 

@@ -1,8 +1,6 @@
 use Rattle.std.proofs.Common.{◌≡◌, true, false, ◌∷◌, Some, cond, refl, sym, ap, subst, ◌∙◌}
-use Rattle.tftp_transfers.specs.declared.place.Place.TheVariants.{Opens, Repeats, Talks, Apart, Beside, Nowhere}
-use Rattle.tftp_transfers.specs.Recording.{same_endpoint}
-use Rattle.tftp_transfers.specs.Places.{last_served}
-use Rattle.tftp_transfers.specs.Kept.{AreServed}
+use Rattle.tftp_lines.specs.{Opens, Repeats, Talks, Apart, Beside, Nowhere, same_endpoint}
+use Rattle.tftp_transfers.specs.{last_served, AreServed}
 use Rattle.tftp_transfers.proofs.Serving.{served_there, served_elsewhere, served_same, served_more}
 use Rattle.tftp_transfers.proofs.attribution.keep_served.Goals as goal
 

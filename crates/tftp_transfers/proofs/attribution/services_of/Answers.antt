@@ -1,5 +1,4 @@
-use Rattle.std.proofs.Common.{◌≡◌, ◌<◌, ℕ, Bool, true, false, cond, length, take, get_or, rules, arith, refl, sym, ap, ◌∙◌}
-use Rattle.std.specs.Prelude.{◌==◌, ◌||◌}
+use Rattle.std.proofs.Common.{◌≡◌, ◌<◌, ℕ, Bool, true, false, cond, length, take, get_or, rules, arith, refl, sym, ap, ◌∙◌, ◌==◌, ◌||◌}
 use Rattle.std.specs.Cmp.Rules.{comparing}
 use Rattle.std.specs.List.{list_any}
 use Rattle.std.specs.Ordering.{nat_cmp, is_eq}

@@ -1,4 +1,4 @@
-use Rattle.tftp_transfers.specs.Views.{is_of}
+use Rattle.tftp_lines.specs.{is_of}
 use Rattle.tftp_transfers.proofs.OwnDatagrams.{at_server_kept, client_view_kept, server_kept, server_view_kept, settled_kept}
 use Rattle.tftp_transfers.proofs.laws.a_transfers_own_datagrams_tell_its_views.Goals as goal
 

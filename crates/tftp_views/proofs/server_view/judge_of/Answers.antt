@@ -1,7 +1,7 @@
 use Rattle.std.proofs.Common.{◌≤◌, All, List, length, sym, subst, ◌∙◌, arith}
 use Rattle.std.proofs.lemmas.List.Elements.{All-drop}
 use Rattle.std.proofs.lemmas.List.{nil_from_length}
-use Rattle.tftp_views.specs.declared.held.Held.{Held}
+use Rattle.tftp_views.specs.{Held}
 use Rattle.tftp_views.proofs.Holding.{IsGivenSoFar, given_all, given_none, given_one}
 use Rattle.tftp_views.proofs.server_view.judge_of.Goals as goal
 

@@ -1,10 +1,8 @@
 use Rattle.std.proofs.Common.{◌≡◌, ◌+◌, ◌≤◌, List, All, length, reverse}
 use Rattle.std.specs.VecDeque.{deque_len}
-use Rattle.tftp_transfers.specs.Kept.{AreEndsAfter}
-use Rattle.tftp_transfers.specs.Places.{Placed}
-use Rattle.tftp_views.specs.declared.held.Held.{Held}
-use Rattle.tftp_views.specs.Captured.{Naming}
-use Rattle.tftp_views.specs.Kept.{AreHeld}
+use Rattle.tftp_transfers.specs.{AreEndsAfter}
+use Rattle.tftp_lines.specs.{Placed}
+use Rattle.tftp_views.specs.{Held, Naming, AreHeld}
 use Rattle.tftp_views.proofs.Holding.{IsGivenSoFar}
 use Rattle.tftp_views.proofs.server_view.judge_of.Given as goal
 

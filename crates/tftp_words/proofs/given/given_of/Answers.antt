@@ -1,6 +1,6 @@
 use Rattle.std.proofs.Common.{rules, map, inl, inr, sym, ap, ◌∙◌, ◌≡◌, drop, subst, Err}
 use Rattle.std.proofs.lemmas.List.{drop-map, length-map}
-use Rattle.tftp_words.specs.Parts.{part}
+use Rattle.tftp_words.specs.{part}
 use Rattle.tftp_words.proofs.Reading.{Read, read_end, read_rest, read_part, read_nothing, read_twice, memory_else}
 use Rattle.tftp_words.proofs.Saying.{part_fits}
 use Rattle.tftp_words.proofs.given.given_of.Goals as goal

@@ -1,8 +1,7 @@
 use Rattle.std.proofs.Common.{map, inl, inr, sym, ap, ◌∙◌, ◌≡◌, drop, subst}
 use Rattle.std.proofs.lemmas.List.{drop-map, length-map}
 use Rattle.std.proofs.lemmas.Result.{IfOk-weaker}
-use Rattle.tftp_words.specs.Parts.{Say}
-use Rattle.tftp_words.specs.Asked.{asked, Calls, Names}
+use Rattle.tftp_words.specs.{Say, asked, Calls, Names}
 use Rattle.tftp_words.specs.declared.request.Command.TheVariants as command
 use Rattle.tftp_words.proofs.Asking.{asks, the_arguments, told, command_in, count_fits}
 use Rattle.tftp_words.proofs.request.requested.Goals as goal

@@ -1,8 +1,7 @@
 use Rattle.std.proofs.Common.{[], refl}
-use Rattle.tftp_packet.specs.declared.fault.PacketFault.TheVariants.{AckLength, MailMode}
-use Rattle.tftp_law.specs.declared.rule.Rule.{Rule}
-use Rattle.tftp_worked.specs.Worked.{at_client, read_without_its_ack}
-use Rattle.tftp_worked.specs.WorkedOffers.{acknowledges_too_long, asks_for_mail}
+use Rattle.tftp_packet.specs.{AckLength, MailMode}
+use Rattle.tftp_law.specs.{Rule}
+use Rattle.tftp_worked.specs.{at_client, read_without_its_ack, acknowledges_too_long, asks_for_mail}
 use Rattle.tftp_worked.proofs.ByRules.{refused_verdict}
 use Rattle.tftp_worked.proofs.Malformed.{ack_length_refused, mail_refused}
 use Rattle.tftp_worked.proofs.worked_offers.datagrams_are_packets.Goals as goal

@@ -1,8 +1,6 @@
 use Rattle.std.proofs.Common.{refl}
-use Rattle.tftp_law.specs.declared.rule.Rule.{Rule}
-use Rattle.tftp_worked.specs.Worked.{at_client}
-use Rattle.tftp_worked.specs.WorkedRules.{only_asked}
-use Rattle.tftp_worked.specs.WorkedOffers.{agrees_to_none, agrees_unasked}
+use Rattle.tftp_law.specs.{Rule}
+use Rattle.tftp_worked.specs.{at_client, only_asked, agrees_to_none, agrees_unasked}
 use Rattle.tftp_worked.proofs.ByRules.{refused_verdict}
 use Rattle.tftp_worked.proofs.Offers.{none_refused, unasked_refused}
 use Rattle.tftp_worked.proofs.worked_offers.oacks_agree_to_what_was_asked.Goals as goal

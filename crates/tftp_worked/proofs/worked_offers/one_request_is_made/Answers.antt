@@ -1,8 +1,6 @@
 use Rattle.std.proofs.Common.{refl}
-use Rattle.tftp_law.specs.declared.rule.Rule.{Rule}
-use Rattle.tftp_worked.specs.Worked.{at_client, asks_for_a, one_block_read}
-use Rattle.tftp_worked.specs.WorkedRules.{only_asked}
-use Rattle.tftp_worked.specs.WorkedOffers.{asks_for_b}
+use Rattle.tftp_law.specs.{Rule}
+use Rattle.tftp_worked.specs.{at_client, asks_for_a, one_block_read, only_asked, asks_for_b}
 use Rattle.tftp_worked.proofs.ByRules.{refused_verdict}
 use Rattle.tftp_worked.proofs.Offers.{changed_refused, late_request_refused}
 use Rattle.tftp_worked.proofs.worked_offers.one_request_is_made.Goals as goal

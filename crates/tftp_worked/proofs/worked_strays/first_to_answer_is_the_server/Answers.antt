@@ -1,10 +1,8 @@
 use Rattle.std.proofs.Common.{refl}
-use Rattle.tftp_packet.specs.declared.fault.PacketFault.TheVariants.{Short}
-use Rattle.tftp_ends.specs.Worked.{two_bytes}
-use Rattle.tftp_law.specs.declared.rule.Rule.{Rule}
-use Rattle.tftp_worked.specs.Worked.{at_client, comes_astray}
-use Rattle.tftp_worked.specs.WorkedRules.{only_asked}
-use Rattle.tftp_worked.specs.WorkedStrays.{read_from_first_port}
+use Rattle.tftp_packet.specs.{Short}
+use Rattle.tftp_model.specs.{two_bytes}
+use Rattle.tftp_law.specs.{Rule}
+use Rattle.tftp_worked.specs.{at_client, comes_astray, only_asked, read_from_first_port}
 use Rattle.tftp_worked.proofs.ByRules.{refused_verdict}
 use Rattle.tftp_worked.proofs.Strays.{first_is_read, first_port_is_shown}
 use Rattle.tftp_worked.proofs.Verdicts.{accepted}

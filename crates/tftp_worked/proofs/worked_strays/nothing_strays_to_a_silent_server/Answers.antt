@@ -1,8 +1,6 @@
 use Rattle.std.proofs.Common.{refl}
-use Rattle.tftp_law.specs.declared.rule.Rule.{Rule}
-use Rattle.tftp_worked.specs.Worked.{at_server}
-use Rattle.tftp_worked.specs.WorkedHosts.{only_is_asked}
-use Rattle.tftp_worked.specs.WorkedStrays.{comes_to_service}
+use Rattle.tftp_law.specs.{Rule}
+use Rattle.tftp_worked.specs.{at_server, only_is_asked, comes_to_service}
 use Rattle.tftp_worked.proofs.ByRules.{refused_verdict}
 use Rattle.tftp_worked.proofs.Strays.{other_port_refused}
 use Rattle.tftp_worked.proofs.worked_strays.nothing_strays_to_a_silent_server.Goals as goal

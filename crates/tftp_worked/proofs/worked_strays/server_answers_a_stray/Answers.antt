@@ -1,6 +1,5 @@
-use Rattle.tftp_ends.specs.Worked.{two_bytes}
-use Rattle.tftp_worked.specs.Worked.{at_server}
-use Rattle.tftp_worked.specs.WorkedStrays.{read_with_a_stray_at_server}
+use Rattle.tftp_model.specs.{two_bytes}
+use Rattle.tftp_worked.specs.{at_server, read_with_a_stray_at_server}
 use Rattle.tftp_worked.proofs.Strays.{stray_at_server_is_shown}
 use Rattle.tftp_worked.proofs.Verdicts.{accepted}
 use Rattle.tftp_worked.proofs.worked_strays.server_answers_a_stray.Goals as goal

@@ -1,7 +1,6 @@
 use Rattle.std.proofs.Common.{refl}
-use Rattle.tftp_law.specs.declared.rule.Rule.{Rule}
-use Rattle.tftp_worked.specs.Worked.{acknowledges_two, at_client, read_without_its_ack}
-use Rattle.tftp_worked.specs.WorkedRules.{ack_zero, before_ack_zero}
+use Rattle.tftp_law.specs.{Rule}
+use Rattle.tftp_worked.specs.{acknowledges_two, at_client, read_without_its_ack, ack_zero, before_ack_zero}
 use Rattle.tftp_worked.proofs.ByRules.{refused_verdict}
 use Rattle.tftp_worked.proofs.Refused.{zero_refused}
 use Rattle.tftp_worked.proofs.RefusedMore.{ahead_refused}

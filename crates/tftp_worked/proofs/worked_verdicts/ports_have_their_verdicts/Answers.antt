@@ -1,7 +1,6 @@
 use Rattle.std.proofs.Common.{refl}
-use Rattle.tftp_law.specs.declared.rule.Rule.{Rule}
-use Rattle.tftp_worked.specs.Worked.{at_client}
-use Rattle.tftp_worked.specs.WorkedRules.{acknowledges_nobody, acknowledges_stray, before_answering, comes_to_another_port}
+use Rattle.tftp_law.specs.{Rule}
+use Rattle.tftp_worked.specs.{at_client, acknowledges_nobody, acknowledges_stray, before_answering, comes_to_another_port}
 use Rattle.tftp_worked.proofs.ByRules.{refused_verdict}
 use Rattle.tftp_worked.proofs.RefusedMore.{foreign_refused, nobody_refused, stray_refused}
 use Rattle.tftp_worked.proofs.worked_verdicts.ports_have_their_verdicts.Goals as goal

@@ -1,6 +1,5 @@
-use Rattle.tftp_worked.specs.Worked.{at_client}
-use Rattle.tftp_normal.specs.Worked.{line_end_cut}
-use Rattle.tftp_worked.specs.WorkedNetascii.{read_of_lines, read_of_bare_lines}
+use Rattle.tftp_worked.specs.{at_client, read_of_lines, read_of_bare_lines}
+use Rattle.tftp_normal.specs.{line_end_cut}
 use Rattle.tftp_worked.proofs.LinesShown.{lines_are_shown, bare_lines_are_shown}
 use Rattle.tftp_worked.proofs.Verdicts.{accepted, read_accepted, window_accepted}
 use Rattle.tftp_worked.proofs.worked_verdicts.shown_is_accepted.Goals as goal

@@ -1,8 +1,7 @@
 use Rattle.std.proofs.Common.{◌≡◌, ◌∷◌, Some, false, true, refl, sym, ap, ◌∙◌, subst}
-use Rattle.tftp_tap.specs.TapCapture.{TapDatagram}
-use Rattle.tftp_transfers.specs.Views.{is_of}
-use Rattle.tftp_between.specs.Captured.{between_capture}
-use Rattle.tftp_between.specs.Kept.{HasPassed, IsBetweenAfter, IsGoingOn, View}
+use Rattle.tftp_tap.specs.{TapDatagram}
+use Rattle.tftp_lines.specs.{is_of}
+use Rattle.tftp_between.specs.{between_capture, HasPassed, IsBetweenAfter, IsGoingOn, View}
 use Rattle.tftp_between.proofs.Feeding.{passed_fed}
 use Rattle.tftp_between.proofs.Holding.{goes_on_too, is_going_on, on_ok, passes_by}
 use Rattle.tftp_between.proofs.between_view.BetweenView.feed.Goals as goal

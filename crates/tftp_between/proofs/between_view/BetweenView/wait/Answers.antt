@@ -1,12 +1,9 @@
-use Rattle.std.proofs.Common.{◌≡◌, ◌≤◌, ◌∷◌, List, length, None, Some, true, sym, ap, ◌∙◌, subst, arith}
+use Rattle.std.proofs.Common.{◌≡◌, ◌≤◌, ◌∷◌, List, length, None, Some, true, sym, ap, ◌∙◌, subst, arith, Option}
 use Rattle.std.specs.List.{All}
-use Rattle.tftp_tap_judge.specs.declared.datagram.TapDatagram.{TapDatagram as Owned}
-use Rattle.tftp_transfers.specs.Kept.{AreEndsAfter}
-use Rattle.tftp_transfers.specs.Settled.{is_settled}
-use Rattle.tftp_transfers.specs.Views.{is_of}
-use Rattle.std.specs.Prelude.{Option}
-use Rattle.tftp_between.specs.Captured.{between_capture}
-use Rattle.tftp_between.specs.Kept.{AreHeld, Between, BetweenBy, IsBetweenAfter, IsGoingOn, IsWaiting, View}
+use Rattle.tftp_tap_judge.specs.{TapDatagram as Owned}
+use Rattle.tftp_transfers.specs.{AreEndsAfter, is_settled}
+use Rattle.tftp_lines.specs.{is_of}
+use Rattle.tftp_between.specs.{between_capture, AreHeld, Between, BetweenBy, IsBetweenAfter, IsGoingOn, IsWaiting, View}
 use Rattle.tftp_between.proofs.Holding.{held_newest, held_short, is_waiting}
 use Rattle.tftp_between.proofs.between_view.BetweenView.wait.Goals as goal
 use Rattle.tftp_between.proofs.between_view.BetweenView.wait.Goals.{in-Some+in-Some-self-2+in-Some-self-3+in-Some-self-10, in-Some+in-Some-self-2+in-Some-self-3+in-None-1, in-Some+in-Some-self-2+in-None-1, in-Some+in-None-1, in-None-4}

@@ -1,8 +1,6 @@
-use Rattle.std.proofs.Common.{sym, ◌∙◌, subst}
-use Rattle.std.specs.Prelude.{Option}
-use Rattle.tftp_tap_judge.specs.TapKept.{TapJudge}
-use Rattle.tftp_between.specs.Judged.{HasTapped}
-use Rattle.tftp_between.specs.Kept.{Between, HasPassed, PassedBy, passed_as}
+use Rattle.std.proofs.Common.{sym, ◌∙◌, subst, Option}
+use Rattle.tftp_tap_judge.specs.{TapJudge}
+use Rattle.tftp_between.specs.{HasTapped, Between, HasPassed, PassedBy, passed_as}
 use Rattle.tftp_between.proofs.Tapping.{rests_more}
 use Rattle.tftp_between.proofs.sides_judge.SidesJudge.put.Goals as goal
 

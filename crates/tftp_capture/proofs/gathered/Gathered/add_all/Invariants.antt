@@ -1,5 +1,5 @@
 use Rattle.std.proofs.Common.{◌≡◌, take, false, flat_map}
-use Rattle.tftp_capture.specs.Tally.{Gathers}
+use Rattle.tftp_capture.specs.{Gathers}
 use Rattle.tftp_capture.proofs.gathered.Gathered.add_all.Given as goal
 
 abbrev pub invariant-loop-piece : goal.invariant-loop-piece

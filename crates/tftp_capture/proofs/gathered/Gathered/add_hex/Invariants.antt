@@ -1,6 +1,6 @@
 use Rattle.std.proofs.Common.{◌≡◌, ◌≤◌, ◌-◌, length, take, false}
 use Rattle.hex.specs.Hex.{encode_lower}
-use Rattle.tftp_capture.specs.Tally.{Gathers}
+use Rattle.tftp_capture.specs.{Gathers}
 use Rattle.tftp_capture.proofs.gathered.Gathered.add_hex.Given as goal
 
 abbrev pub invariant-loop-done : goal.invariant-loop-done

@@ -1,6 +1,5 @@
 use Rattle.std.proofs.Common.{◌≡◌, ap, rules}
-use Rattle.tftp_capture.specs.CaptureText.{total_line}
-use Rattle.tftp_capture.specs.Written.{WriterState}
+use Rattle.tftp_capture.specs.{total_line, WriterState}
 use Rattle.tftp_capture.proofs.Gathering.{gathers_all, prefix_nothing, writes_all, writes_rest}
 use Rattle.tftp_capture.proofs.Spelling.{hosts_written}
 use Rattle.tftp_capture.proofs.host_writer.HostCaptureWriter.close.Goals as goal

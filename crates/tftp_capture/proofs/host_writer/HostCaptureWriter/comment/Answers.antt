@@ -1,6 +1,5 @@
 use Rattle.std.proofs.Common.{rules, ◌≡◌, ap, sym, ◌∙◌}
-use Rattle.tftp_capture.specs.Commented.{comment_line}
-use Rattle.tftp_capture.specs.Written.{WriterState}
+use Rattle.tftp_capture.specs.{comment_line, WriterState}
 use Rattle.tftp_capture.proofs.Gathering.{added, prefix_nothing}
 use Rattle.tftp_capture.proofs.Spelling.{comment_written}
 use Rattle.tftp_capture.proofs.host_writer.HostCaptureWriter.comment.Goals as goal

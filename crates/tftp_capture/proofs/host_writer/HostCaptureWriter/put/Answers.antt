@@ -1,6 +1,5 @@
 use Rattle.std.proofs.Common.{rules, ◌≡◌, ◌+◌, ap, sym, ◌∙◌}
-use Rattle.tftp_capture.specs.CaptureText.{line_with_host}
-use Rattle.tftp_capture.specs.Written.{WriterState}
+use Rattle.tftp_capture.specs.{line_with_host, WriterState}
 use Rattle.tftp_capture.proofs.Gathering.{added, prefix_nothing}
 use Rattle.tftp_capture.proofs.Spelling.{host_written}
 use Rattle.tftp_capture.proofs.host_writer.HostCaptureWriter.put.Goals as goal

@@ -1,5 +1,5 @@
 use Rattle.std.proofs.Common.{◌≡◌, true, rules}
-use Rattle.tftp_capture.specs.CaptureText.{says_nothing}
+use Rattle.tftp_capture.specs.{says_nothing}
 use Rattle.tftp_capture.proofs.Skips.{skipped_more}
 use Rattle.tftp_capture.proofs.lines.Lines.next_said.Goals as goal
 

@@ -1,8 +1,6 @@
 use Rattle.std.proofs.Common.{◌≡◌, [], Err, ap, sym, refl, ◌∙◌, subst}
-use Rattle.tftp_capture.specs.CaptureText.{Stands, head_line}
+use Rattle.tftp_capture.specs.{Stands, head_line, HasService, LineState}
 use Rattle.tftp_capture.specs.CaptureText.Due.{Body, EndLine, ServiceLine}
-use Rattle.tftp_capture.specs.History.{HasService}
-use Rattle.tftp_capture.specs.Lines.{LineState}
 use Rattle.tftp_capture.proofs.Headers.{at_end_rest, at_read, at_text_end, consumed_nil, end_bad, end_ok, fails_to_begin, head_bad, head_ok, head_stop, said_stop, service_at, service_bad, service_ok}
 use Rattle.tftp_capture.proofs.reader.CaptureReader.begin_with.Goals as goal
 

@@ -1,7 +1,6 @@
 use Rattle.std.proofs.Common.{rules, ◌≡◌, ◌+◌, ap, sym, ◌∙◌}
-use Rattle.tftp_packet.specs.Host.{no_host}
-use Rattle.tftp_capture.specs.CaptureText.{datagram_line}
-use Rattle.tftp_capture.specs.Written.{WriterState}
+use Rattle.tftp_hosts.specs.{no_host}
+use Rattle.tftp_capture.specs.{datagram_line, WriterState}
 use Rattle.tftp_capture.proofs.Gathering.{added, prefix_nothing}
 use Rattle.tftp_capture.proofs.Spelling.{datagram_written}
 use Rattle.tftp_capture.proofs.writer.CaptureWriter.put.Goals as goal

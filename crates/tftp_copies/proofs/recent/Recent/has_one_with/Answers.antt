@@ -2,8 +2,7 @@ use Rattle.std.proofs.Common.{◌↔◌, IsTrue, List, ap, subst, rules, tests}
 use Rattle.std.specs.List.{Any}
 use Rattle.std.proofs.lemmas.Iterator.{cases_from_any}
 use Rattle.std.proofs.lemmas.Iterator.Consumers.{YieldsList-from_deque}
-use Rattle.tftp_copies.specs.Copies.{Packet, AreOne}
-use Rattle.tftp_copies.specs.Held.{RecentState, shown}
+use Rattle.tftp_copies.specs.{Packet, AreOne, RecentState, shown}
 use Rattle.tftp_copies.proofs.Holding.{any_shown}
 use Rattle.tftp_copies.proofs.recent.Recent.has_one_with.Goals as goal
 

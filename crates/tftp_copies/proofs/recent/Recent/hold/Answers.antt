@@ -1,6 +1,6 @@
 use Rattle.std.proofs.Common.{◌≡◌, ap, ◌∙◌, rules}
 use Rattle.std.proofs.lemmas.Grind.{common_steps}
-use Rattle.tftp_copies.specs.Held.{RecentState}
+use Rattle.tftp_copies.specs.{RecentState}
 use Rattle.tftp_copies.proofs.Holding.{holds_more}
 use Rattle.tftp_copies.proofs.recent.Recent.hold.Goals as goal
 

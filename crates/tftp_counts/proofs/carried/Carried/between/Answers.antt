@@ -1,6 +1,6 @@
 use Rattle.std.proofs.Common.{List, IfNone, inl, inr, subst, sym}
-use Rattle.tftp_ends.specs.CaptureText.{Datagram}
-use Rattle.tftp_counts.specs.Counts.{AreTooMany, Counted, IsCountOf}
+use Rattle.tftp_hosts.specs.{Datagram}
+use Rattle.tftp_counts.specs.{AreTooMany, Counted, IsCountOf}
 use Rattle.tftp_counts.proofs.Growing.{one_lost, one_repeated, sum_over}
 use Rattle.tftp_counts.proofs.carried.Carried.between.Goals as goal
 

@@ -1,7 +1,6 @@
 use Rattle.std.proofs.Common.{◌≡◌, true, sym, subst, ap, ◌∙◌, List}
-use Rattle.tftp_ends.specs.CaptureText.{Datagram}
-use Rattle.tftp_ends.specs.NamedEnd.{NamedEnd, IsEndAfter, HoldsWire}
-use Rattle.tftp_ends.specs.Parts.{end_of}
+use Rattle.tftp_hosts.specs.{Datagram}
+use Rattle.tftp_ends.specs.{NamedEnd, IsEndAfter, HoldsWire, end_of}
 use Rattle.tftp_ends.proofs.named_end.NamedEnd.done.Goals as goal
 
 pub returns-in-Sends-clause-whole : goal.returns-in-Sends-clause-whole

@@ -1,10 +1,8 @@
 use Rattle.std.proofs.Common.{sym, subst, ap, ◌∙◌, OnOk, List}
-use Rattle.tftp_packet.specs.Message.{Ack}
-use Rattle.tftp_ends.specs.CaptureText.{Datagram}
-use Rattle.tftp_ends.specs.Rules.{EndBroken}
-use Rattle.tftp_ends.specs.NamedEnd.{NamedEnd, terms_of, IsEndAfter}
-use Rattle.tftp_ends.specs.Parts.{end_of}
-use Rattle.tftp_ends.specs.declared.rule.EndRule.{EndRule}
+use Rattle.tftp_packet.specs.{Ack}
+use Rattle.tftp_hosts.specs.{Datagram}
+use Rattle.tftp_rules.specs.{EndBroken, EndRule}
+use Rattle.tftp_ends.specs.{NamedEnd, terms_of, IsEndAfter, end_of}
 use Rattle.tftp_ends.proofs.named_end.NamedEnd.may_ack.Goals as goal
 
 pub returns-in-Sends-clause-lawful : goal.returns-in-Sends-clause-lawful

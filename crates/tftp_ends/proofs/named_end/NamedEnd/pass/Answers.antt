@@ -1,8 +1,7 @@
 use Rattle.std.proofs.Common.{rules, ◌≡◌, ◌≢◌, refl, sym, subst, ap, ◌∙◌}
-use Rattle.tftp_packet.specs.Meaning.{meaning}
-use Rattle.tftp_packet.specs.declared.kinds.Dir.{Dir}
-use Rattle.tftp_packet.specs.declared.kinds.Dir.TheVariants.{In, Out}
-use Rattle.tftp_ends.specs.States.{Says, IsAside}
+use Rattle.tftp_packet.specs.{meaning}
+use Rattle.tftp_hosts.specs.{Dir, In, Out}
+use Rattle.tftp_ends.specs.{Says, IsAside}
 use Rattle.tftp_ends.proofs.EndsAside.{end_aside}
 use Rattle.tftp_ends.proofs.named_end.NamedEnd.pass.Goals as goal
 

@@ -1,6 +1,5 @@
 use Rattle.std.proofs.Common.{sym, subst, ap, ◌∙◌}
-use Rattle.tftp_ends.specs.NamedEnd.{NamedEnd, IsEndAfter}
-use Rattle.tftp_ends.specs.Parts.{end_of}
+use Rattle.tftp_ends.specs.{NamedEnd, IsEndAfter, end_of}
 use Rattle.tftp_ends.proofs.named_end.NamedEnd.peer_stopped.Goals.{in-Sends, in-Receives}
 use Rattle.tftp_ends.proofs.named_end.NamedEnd.peer_stopped.Goals as goal
 

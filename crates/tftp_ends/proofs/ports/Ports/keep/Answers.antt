@@ -1,7 +1,6 @@
-use Rattle.std.proofs.Common.{◌∙◌, sym, ap, subst, []}
-use Rattle.std.specs.Prelude.{is_some}
+use Rattle.std.proofs.Common.{◌∙◌, sym, ap, subst, [], is_some}
 use Rattle.std.proofs.lemmas.Bool.{false≢true}
-use Rattle.tftp_ends.specs.KnownIds.{StandsFor, among_all, datagram_as}
+use Rattle.tftp_ends.specs.{StandsFor, among_all, datagram_as}
 use Rattle.tftp_ends.proofs.KeptIds.{ComesFirst}
 use Rattle.tftp_ends.proofs.KeptSteps.{request_stands, peer_stands, error_stands, stray_stands, answer_stands, never_first}
 use Rattle.tftp_ends.proofs.ports.Ports.keep.Goals as goal

@@ -1,5 +1,5 @@
 use Rattle.std.proofs.Common.{◌∙◌, sym, ap}
-use Rattle.tftp_ends.specs.KnownIds.{answer_of, datagram_as}
+use Rattle.tftp_ends.specs.{answer_of, datagram_as}
 use Rattle.tftp_ends.proofs.KeptSteps.{routed_at_client, notes_at_client, routed_at_server, notes_at_server}
 use Rattle.tftp_ends.proofs.ports.Ports.route.Goals as goal
 

@@ -1,7 +1,6 @@
 use Rattle.std.proofs.Common.{◌≡◌, IsTrue, true, nat_eq, ◌↔◌, ◌∙◌, subst}
 use Rattle.std.proofs.lemmas.Bool.{eqb-true}
-use Rattle.tftp_ends.specs.NamedEnd.{Receives, HoldsWire}
-use Rattle.tftp_ends.specs.States.{IsReceiverAfter, IsAllTaken}
+use Rattle.tftp_ends.specs.{Receives, HoldsWire, IsReceiverAfter, IsAllTaken}
 use Rattle.tftp_ends.proofs.AllDone.{receiver_done, receiver_not_done, receiver_holds}
 use Rattle.tftp_ends.proofs.receiver_state.ReceiverState.done.Goals as goal
 

@@ -1,11 +1,9 @@
 use Rattle.std.proofs.Common.{◌≤◌, subst}
-use Rattle.tftp_packet.specs.Message.{Ack}
-use Rattle.tftp_ends.specs.Rules.{EndBroken, FirstEndBroken, usable}
-use Rattle.tftp_ends.specs.States.{IsReceiverAfter, MayAcknowledge}
-use Rattle.tftp_ends.specs.declared.rule.EndRule.{EndRule}
-use Rattle.tftp_ends.specs.declared.rule.EndRule.TheVariants.{AckAhead, AckZero}
+use Rattle.tftp_packet.specs.{Ack}
+use Rattle.tftp_rules.specs.{EndBroken, FirstEndBroken, usable, EndRule, AckAhead, AckZero}
+use Rattle.tftp_ends.specs.{IsReceiverAfter, MayAcknowledge}
 use Rattle.tftp_ends.proofs.FirstRules.{refute, above_zero, both}
-use Rattle.tftp_ends.proofs.Orderly.{front_unique}
+use Rattle.tftp_blocks.proofs.Orderly.{front_unique}
 use Rattle.tftp_ends.proofs.ReceiverRules.{any_block, ahead, zero_waits, ack_lawful}
 use Rattle.tftp_ends.proofs.receiver_state.ReceiverState.may_ack.Goals.{else-number-eq0-via-then-number-eq0+else-ack_zero_waits, else-number-eq0-via-else-number-eq0}
 use Rattle.tftp_ends.proofs.receiver_state.ReceiverState.may_ack.Goals as goal

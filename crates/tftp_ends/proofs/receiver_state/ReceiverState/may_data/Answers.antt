@@ -1,9 +1,7 @@
 use Rattle.std.proofs.Common.{rules, Err, IfErr, ◌≡◌, refl, subst}
-use Rattle.tftp_packet.specs.Message.{Data}
-use Rattle.tftp_ends.specs.Rules.{EndBroken, FirstEndBroken}
-use Rattle.tftp_ends.specs.States.{IsReceiverAfter, Fits}
-use Rattle.tftp_ends.specs.declared.rule.EndRule.{EndRule}
-use Rattle.tftp_ends.specs.declared.rule.EndRule.TheVariants.{BlockChanged}
+use Rattle.tftp_packet.specs.{Data}
+use Rattle.tftp_rules.specs.{EndBroken, FirstEndBroken, EndRule, BlockChanged}
+use Rattle.tftp_ends.specs.{IsReceiverAfter, Fits}
 use Rattle.tftp_ends.proofs.FirstRules.{refute, same_bytes}
 use Rattle.tftp_ends.proofs.SoundStates.{fits_it}
 use Rattle.tftp_ends.proofs.ReceiverRules.{acked_held, known, changed, nothing_broken}

@@ -1,5 +1,5 @@
 use Rattle.std.proofs.Common.{refl, sym, ap, ◌∙◌}
-use Rattle.tftp_ends.specs.Roles.{receiver_of}
+use Rattle.tftp_model.specs.Roles.{receiver_of}
 use Rattle.tftp_ends.proofs.AfterReceiver.{fresh}
 use Rattle.tftp_ends.proofs.SoundStates.{fresh_receiver}
 use Rattle.tftp_ends.proofs.receiver_state.ReceiverState.new.Goals.{in-Get, in-Put}

@@ -1,5 +1,5 @@
 use Rattle.std.proofs.Common.{sym, subst}
-use Rattle.tftp_ends.specs.States.{IsReceiverAfter}
+use Rattle.tftp_ends.specs.{IsReceiverAfter}
 use Rattle.tftp_ends.proofs.AfterReceiver.{came_error}
 use Rattle.tftp_ends.proofs.receiver_state.ReceiverState.peer_stopped.Goals as goal
 

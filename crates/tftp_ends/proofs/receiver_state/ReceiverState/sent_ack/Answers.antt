@@ -1,5 +1,5 @@
 use Rattle.std.proofs.Common.{sym, subst, inl, inr, refl}
-use Rattle.tftp_ends.specs.States.{IsReceiverAfter, MayAcknowledge}
+use Rattle.tftp_ends.specs.{IsReceiverAfter, MayAcknowledge}
 use Rattle.tftp_ends.proofs.AfterReceiver.{sent_usable, sent_unusable}
 use Rattle.tftp_ends.proofs.SoundStates.{sound_acked}
 use Rattle.tftp_ends.proofs.receiver_state.ReceiverState.sent_ack.Goals as goal

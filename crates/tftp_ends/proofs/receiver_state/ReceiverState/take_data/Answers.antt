@@ -1,5 +1,5 @@
 use Rattle.std.proofs.Common.{sym, subst, ◌∙◌, arith}
-use Rattle.tftp_ends.specs.States.{IsReceiverAfter, Fits}
+use Rattle.tftp_ends.specs.{IsReceiverAfter, Fits}
 use Rattle.tftp_ends.proofs.AfterReceiver.{taken}
 use Rattle.tftp_ends.proofs.SoundStates.{sound_taken}
 use Rattle.tftp_ends.proofs.receiver_state.ReceiverState.take_data.Goals as goal

@@ -1,7 +1,6 @@
 use Rattle.std.proofs.Common.{◌≡◌, IsTrue, true, nat_eq, ◌↔◌, ◌∙◌, subst}
 use Rattle.std.proofs.lemmas.Bool.{eqb-true}
-use Rattle.tftp_ends.specs.NamedEnd.{Sends, HoldsWire}
-use Rattle.tftp_ends.specs.States.{IsSenderAfter, IsAllAnswered}
+use Rattle.tftp_ends.specs.{Sends, HoldsWire, IsSenderAfter, IsAllAnswered}
 use Rattle.tftp_ends.proofs.AllDone.{sender_done, sender_holds}
 use Rattle.tftp_ends.proofs.sender_state.SenderState.done.Goals as goal
 

@@ -1,5 +1,5 @@
 use Rattle.std.proofs.Common.{sym, subst, inl, inr, refl}
-use Rattle.tftp_ends.specs.States.{IsSenderAfter}
+use Rattle.tftp_ends.specs.{IsSenderAfter}
 use Rattle.tftp_ends.proofs.AfterSender.{got}
 use Rattle.tftp_ends.proofs.sender_state.SenderState.got_ack.Goals as goal
 

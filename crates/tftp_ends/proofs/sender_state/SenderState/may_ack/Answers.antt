@@ -1,9 +1,7 @@
 use Rattle.std.proofs.Common.{subst}
-use Rattle.tftp_packet.specs.Message.{Ack}
-use Rattle.tftp_ends.specs.Rules.{EndBroken, FirstEndBroken, usable}
-use Rattle.tftp_ends.specs.States.{IsSenderAfter}
-use Rattle.tftp_ends.specs.declared.rule.EndRule.{EndRule}
-use Rattle.tftp_ends.specs.declared.rule.EndRule.TheVariants.{AckAhead, AckZero}
+use Rattle.tftp_packet.specs.{Ack}
+use Rattle.tftp_rules.specs.{EndBroken, FirstEndBroken, usable, EndRule, AckAhead, AckZero}
+use Rattle.tftp_ends.specs.{IsSenderAfter}
 use Rattle.tftp_ends.proofs.FirstRules.{refute, above_zero, both}
 use Rattle.tftp_ends.proofs.SenderRules.{any_block, ahead, zero_waits, ack_lawful}
 use Rattle.tftp_ends.proofs.sender_state.SenderState.may_ack.Goals.{else-number-eq0-via-then-number-eq0+else-ack_zero_waits, else-number-eq0-via-else-number-eq0}

@@ -1,9 +1,7 @@
 use Rattle.std.proofs.Common.{rules, Err, IfErr, ◌≡◌, ◌≢◌, ◌≤◌, ◌⊎◌, inl, inr, refl, subst, arith}
-use Rattle.tftp_packet.specs.Message.{Data}
-use Rattle.tftp_ends.specs.Rules.{EndBroken, FirstEndBroken}
-use Rattle.tftp_ends.specs.States.{IsSenderAfter, MaySend}
-use Rattle.tftp_ends.specs.declared.rule.EndRule.{EndRule}
-use Rattle.tftp_ends.specs.declared.rule.EndRule.TheVariants.{BlockSkipped, GoneBack, BlockChanged}
+use Rattle.tftp_packet.specs.{Data}
+use Rattle.tftp_rules.specs.{EndBroken, FirstEndBroken, EndRule, BlockSkipped, GoneBack, BlockChanged}
+use Rattle.tftp_ends.specs.{IsSenderAfter, MaySend}
 use Rattle.tftp_ends.proofs.FirstRules.{refute, same_bytes}
 use Rattle.tftp_ends.proofs.SenderRules.{known, skipped, gone_back, changed, nothing_broken, may_send}
 use Rattle.tftp_ends.proofs.sender_state.SenderState.may_data.Goals.{else-self-eq1-via-then-self-eq1+else-number-top, else-self-eq1-via-else-self-eq1}

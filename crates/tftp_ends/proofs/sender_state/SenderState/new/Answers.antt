@@ -1,5 +1,5 @@
 use Rattle.std.proofs.Common.{refl, sym, ap, ◌∙◌}
-use Rattle.tftp_ends.specs.Roles.{sender_of}
+use Rattle.tftp_model.specs.Roles.{sender_of}
 use Rattle.tftp_ends.proofs.AfterSender.{fresh}
 use Rattle.tftp_ends.proofs.SoundStates.{fresh_sender}
 use Rattle.tftp_ends.proofs.sender_state.SenderState.new.Goals.{in-Get, in-Put}

@@ -1,5 +1,5 @@
 use Rattle.std.proofs.Common.{sym, subst}
-use Rattle.tftp_ends.specs.States.{IsSenderAfter}
+use Rattle.tftp_ends.specs.{IsSenderAfter}
 use Rattle.tftp_ends.proofs.AfterSender.{came_error}
 use Rattle.tftp_ends.proofs.sender_state.SenderState.peer_stopped.Goals as goal
 

@@ -1,5 +1,5 @@
 use Rattle.std.proofs.Common.{sym, subst, ◌∙◌, inl, inr, refl, arith}
-use Rattle.tftp_ends.specs.States.{IsSenderAfter, MaySend}
+use Rattle.tftp_ends.specs.{IsSenderAfter, MaySend}
 use Rattle.tftp_ends.proofs.AfterSender.{sent_usable, sent_unusable}
 use Rattle.tftp_ends.proofs.SoundStates.{sound_sent}
 use Rattle.tftp_ends.proofs.sender_state.SenderState.sent.Goals as goal

@@ -1,5 +1,5 @@
 use Rattle.std.proofs.Common.{◌∙◌, ap}
-use Rattle.tftp_ends.specs.KnownIds.{is_noted}
+use Rattle.tftp_ends.specs.{is_noted}
 use Rattle.tftp_ends.proofs.NotedPeers.{noted_by_order}
 use Rattle.tftp_ends.proofs.strays.Strays.have.Goals as goal
 

@@ -1,8 +1,7 @@
-use Rattle.std.proofs.Common.{◌∙◌, sym, ap}
-use Rattle.std.specs.Prelude.{◌||◌}
-use Rattle.tftp_ends.specs.KnownIds.{is_noted}
-use Rattle.tftp_ends.specs.Ports.{same_peer}
-use Rattle.tftp_ends.proofs.Kept.{where_err}
+use Rattle.std.proofs.Common.{◌∙◌, sym, ap, ◌||◌}
+use Rattle.tftp_ends.specs.{is_noted}
+use Rattle.tftp_rules.specs.{same_peer}
+use Rattle.tftp_blocks.proofs.Kept.{where_err}
 use Rattle.tftp_ends.proofs.NotedPeers.{noted_by_order, noted_more}
 use Rattle.tftp_ends.proofs.strays.Strays.note.Goals as goal
 

@@ -1,8 +1,5 @@
 use Rattle.std.proofs.Common.{◌≡◌, ◌+◌, ◌*◌, ◌≤◌, false, List, [], ◌∷◌, Option, None, refl, sym, ap, ◌∙◌, subst, arith}
-use Rattle.tftp_fragments.specs.Whole.{end_of}
-use Rattle.tftp_fragments.specs.Held.{Agrees, Held, content_of, nothing_held, part_of}
-use Rattle.tftp_fragments.specs.Set.{Arrival, IsSetOf, SetState, TakeEnds, room_of}
-use Rattle.tftp_fragments.specs.Store.{Comes, Sets, frames_of, room_of_all, set_at}
+use Rattle.tftp_fragments.specs.{end_of, Agrees, Held, content_of, nothing_held, part_of, Arrival, IsSetOf, SetState, TakeEnds, room_of, Comes, Sets, frames_of, room_of_all, set_at}
 use Rattle.tftp_fragments.proofs.Holding.{not_both}
 use Rattle.tftp_fragments.proofs.Puts.{came_first, empty_set, given, not_given, nothing_agrees}
 use Rattle.tftp_fragments.proofs.Rooms.{counted_inserted, counts_inserted}

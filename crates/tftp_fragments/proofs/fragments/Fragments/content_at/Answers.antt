@@ -1,8 +1,6 @@
 use Rattle.std.proofs.Common.{◌≡◌, sym, ap, ◌∙◌, subst}
-use Rattle.tftp_fragments.specs.Held.{IsComplete, IsHeld, content_of}
+use Rattle.tftp_fragments.specs.{IsComplete, IsHeld, content_of, SetState, Sets, set_at}
 use Rattle.tftp_fragments.specs.declared.content.Content.{Content as Given}
-use Rattle.tftp_fragments.specs.Set.{SetState}
-use Rattle.tftp_fragments.specs.Store.{Sets, set_at}
 use Rattle.tftp_fragments.proofs.Rooms.{no_set, same_set}
 use Rattle.tftp_fragments.proofs.fragments.Fragments.content_at.Goals as goal
 use Rattle.tftp_fragments.proofs.fragments.Fragments.content_at.Goals.{in-Some+in_ok-content-in-Some, in-None}

@@ -1,8 +1,5 @@
 use Rattle.std.proofs.Common.{◌≡◌, ◌+◌, ◌*◌, Some, IfOk, IsSome, false, refl, sym, ap, ◌∙◌, arith, subst}
-use Rattle.tftp_fragments.specs.Whole.{end_of}
-use Rattle.tftp_fragments.specs.Held.{Agrees, part_of}
-use Rattle.tftp_fragments.specs.Set.{SetState, TakeEnds}
-use Rattle.tftp_fragments.specs.Store.{IsCounted, JoinEnds, Sets, room_of_all, set_at}
+use Rattle.tftp_fragments.specs.{end_of, Agrees, part_of, SetState, TakeEnds, IsCounted, JoinEnds, Sets, room_of_all, set_at}
 use Rattle.tftp_fragments.proofs.Holding.{not_both}
 use Rattle.tftp_fragments.proofs.Rooms.{counted_changed, counts_changed, counts_same, on_err, same_set, same_sets, take_room}
 use Rattle.tftp_fragments.proofs.fragments.Fragments.join.Goals as goal

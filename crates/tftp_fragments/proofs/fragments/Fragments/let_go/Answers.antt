@@ -1,5 +1,5 @@
 use Rattle.std.proofs.Common.{sym, ap, ◌∙◌, arith}
-use Rattle.tftp_fragments.specs.Store.{Sets, set_at}
+use Rattle.tftp_fragments.specs.{Sets, set_at}
 use Rattle.tftp_fragments.proofs.Rooms.{counted_removed, counts_removed, found_room}
 use Rattle.tftp_fragments.proofs.fragments.Fragments.let_go.Goals as goal
 

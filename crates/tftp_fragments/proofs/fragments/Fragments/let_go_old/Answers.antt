@@ -1,6 +1,5 @@
 use Rattle.std.proofs.Common.{◌≡◌, true, sym, ap, ◌∙◌}
-use Rattle.tftp_fragments.specs.Set.{SetState}
-use Rattle.tftp_fragments.specs.Store.{Sets, set_at, is_long}
+use Rattle.tftp_fragments.specs.{SetState, Sets, set_at, is_long}
 use Rattle.tftp_fragments.proofs.Holding.{not_both}
 use Rattle.tftp_fragments.proofs.Rooms.{no_set, same_set}
 use Rattle.tftp_fragments.proofs.fragments.Fragments.let_go_old.Goals as goal

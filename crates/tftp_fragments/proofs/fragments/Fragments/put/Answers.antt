@@ -1,7 +1,5 @@
 use Rattle.std.proofs.Common.{◌≡◌, inl, ◌∷◌, [], ◌++◌, Option, refl, sym, ap, ◌∙◌, subst, arith, rules, false, IfOk}
-use Rattle.tftp_fragments.specs.Held.{Agrees, content_of, part_of}
-use Rattle.tftp_fragments.specs.Set.{Arrival, SetState}
-use Rattle.tftp_fragments.specs.Store.{JoinEnds, PutEnds, Sets, frames_of, room_of_all, set_at}
+use Rattle.tftp_fragments.specs.{Agrees, content_of, part_of, Arrival, SetState, JoinEnds, PutEnds, Sets, frames_of, room_of_all, set_at}
 use Rattle.tftp_fragments.proofs.Puts.{came, came_apart, comes_at, given, kept_at, not_given}
 use Rattle.tftp_fragments.proofs.Rooms.{on_err, on_err_more, same_set}
 use Rattle.tftp_fragments.proofs.fragments.Fragments.put.Goals as goal

@@ -1,5 +1,5 @@
 use Rattle.std.proofs.Common.{true, inl, inr, refl, sym, ap, ◌∙◌}
-use Rattle.tftp_fragments.specs.Held.{Held, part_of}
+use Rattle.tftp_fragments.specs.{Held, part_of}
 use Rattle.tftp_fragments.proofs.Holding.{Added, not_both, stands_more}
 use Rattle.tftp_fragments.proofs.Keeping.{kept_more}
 use Rattle.tftp_fragments.proofs.parts.Parts.add.Goals as goal

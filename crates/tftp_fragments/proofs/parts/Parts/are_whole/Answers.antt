@@ -1,6 +1,6 @@
 use Rattle.std.proofs.Common.{◌≡◌, ◌∙◌, subst, sym, rules, eq-eqb, length}
 use Rattle.std.proofs.lemmas.Bool.Decides.{Decides-eqb}
-use Rattle.tftp_fragments.specs.Held.{Held, IsComplete}
+use Rattle.tftp_fragments.specs.{Held, IsComplete}
 use Rattle.tftp_fragments.proofs.Keeping.{complete_from, front_from}
 use Rattle.tftp_fragments.proofs.parts.Parts.are_whole.Goals as goal
 

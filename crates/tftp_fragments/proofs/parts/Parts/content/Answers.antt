@@ -1,5 +1,5 @@
 use Rattle.std.proofs.Common.{◌≡◌, ℕ, ◌<◌, None, Some, Option, Vec, Global, List, length, map, ap, ◌∙◌, arith, get_or, subst}
-use Rattle.tftp_fragments.specs.Held.{Held}
+use Rattle.tftp_fragments.specs.{Held}
 use Rattle.tftp_fragments.proofs.Keeping.{content_more, no_byte}
 use Rattle.tftp_fragments.proofs.parts.Parts.content.Goals as goal
 use Rattle.tftp_fragments.proofs.parts.Parts.content.Goals.{in-Some+in_ok-push-in-Some, in-None}

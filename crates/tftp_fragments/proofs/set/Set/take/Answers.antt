@@ -1,6 +1,5 @@
 use Rattle.std.proofs.Common.{◌≡◌, [], true, false, refl, sym, ap, subst, ◌∙◌, arith, rules}
-use Rattle.tftp_fragments.specs.Held.{Agrees, Held, part_of}
-use Rattle.tftp_fragments.specs.Set.{SetState}
+use Rattle.tftp_fragments.specs.{Agrees, Held, part_of, SetState}
 use Rattle.tftp_fragments.proofs.Holding.{not_both}
 use Rattle.tftp_fragments.proofs.Sets.{now_apart, small_room, still_apart}
 use Rattle.tftp_fragments.proofs.set.Set.take.Goals as goal

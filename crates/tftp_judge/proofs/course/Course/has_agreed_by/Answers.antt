@@ -1,6 +1,5 @@
 use Rattle.std.proofs.Common.{refl, sym, subst}
-use Rattle.tftp_judge.specs.KeptCode.{course_of}
-use Rattle.tftp_judge.specs.SentByKept.{IsAgreedBy}
+use Rattle.tftp_judge.specs.{course_of, IsAgreedBy}
 use Rattle.tftp_judge.proofs.course.Course.has_agreed_by.Goals as goal
 
 pub returns-in-Agreed : goal.returns-in-Agreed

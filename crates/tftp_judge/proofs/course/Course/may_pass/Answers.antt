@@ -1,5 +1,5 @@
-use Rattle.tftp_packet.specs.Meaning.{meaning}
-use Rattle.tftp_law.specs.Rules.{Agrees, Begins}
+use Rattle.tftp_packet.specs.{meaning}
+use Rattle.tftp_law.specs.{Agrees, Begins}
 use Rattle.std.proofs.lemmas.Result.{on_ok_weaker, IfErr-weaker}
 use Rattle.tftp_judge.proofs.Replied.{begun_lawful, begun_first}
 use Rattle.tftp_judge.proofs.course.Course.may_pass.Goals as goal

@@ -1,13 +1,10 @@
 use Rattle.std.proofs.Common.{◌≡◌, inl, inr, subst, ap}
 use Rattle.std.proofs.lemmas.Result.{on_ok_weaker}
-use Rattle.tftp_packet.specs.Meaning.{meaning}
-use Rattle.tftp_packet.specs.Spelling.{Spells}
-use Rattle.tftp_ends.specs.NamedEnd.{terms_of}
-use Rattle.tftp_law.specs.Rules.{Agrees, Begins}
+use Rattle.tftp_packet.specs.{meaning, Spells}
+use Rattle.tftp_ends.specs.{terms_of}
+use Rattle.tftp_law.specs.{Agrees, Begins}
 use Rattle.tftp_judge.proofs.Replied.{of_author}
-use Rattle.tftp_judge.specs.Courses.{HasAnswer}
-use Rattle.tftp_judge.specs.Kept.{Unanswered}
-use Rattle.tftp_judge.specs.KeptCode.{course_of}
+use Rattle.tftp_judge.specs.{HasAnswer, Unanswered, course_of}
 use Rattle.tftp_judge.proofs.StaysAfter.{begun_more, error_waits_for_none}
 use Rattle.tftp_judge.proofs.course.Course.pass.Goals as goal
 

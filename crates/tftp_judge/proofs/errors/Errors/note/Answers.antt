@@ -1,10 +1,7 @@
-use Rattle.std.specs.Prelude.{is_some}
-use Rattle.tftp_law.specs.declared.by.By.{By}
-use Rattle.std.proofs.Common.{◌≡◌, ℕ, true, false, true≢false, Option, None, Some, sym, subst, ap, ◌∙◌}
-use Rattle.tftp_packet.specs.Message.{Message}
-use Rattle.tftp_law.specs.Aborted.{by_of as by_way}
-use Rattle.tftp_law.specs.Rules.{GoesOn}
-use Rattle.tftp_judge.specs.Kept.{Errors}
+use Rattle.tftp_law.specs.{By, by_of as by_way, GoesOn}
+use Rattle.std.proofs.Common.{◌≡◌, ℕ, true, false, true≢false, Option, None, Some, sym, subst, ap, ◌∙◌, is_some}
+use Rattle.tftp_packet.specs.{Message}
+use Rattle.tftp_judge.specs.{Errors}
 use Rattle.tftp_judge.proofs.ErrorsNoted.{noted_in, noted_out}
 use Rattle.tftp_judge.proofs.errors.Errors.note.Goals as goal
 use Rattle.tftp_judge.proofs.errors.Errors.note.Goals.{in-Out+in_ok-keep_first-in-Out, in-In+in_ok-keep_first-in-In}

@@ -1,13 +1,11 @@
 use Rattle.std.proofs.Common.{◌≡◌, true, List, ◌∷◌, Err, inl, inr, refl, sym, subst, ap, ◌∙◌}
 use Rattle.std.proofs.lemmas.Bool.{false≢true}
-use Rattle.tftp_packet.specs.Faults.{opcode_of}
-use Rattle.tftp_capture.specs.Fields.{datagram_of, header_of}
-use Rattle.tftp_ends.specs.CaptureText.{Datagram, Header}
-use Rattle.tftp_ends.specs.KnownIds.{KnownIds, StandsFor, HasNumbers, among_all}
-use Rattle.tftp_ends.specs.Ports.{is_of_transfer}
-use Rattle.tftp_judge.specs.Finds.{FindsOf}
-use Rattle.tftp_judge.specs.declared.stop.Stop.{Stop}
-use Rattle.tftp_judge.specs.Kept.{HasKept, Keeper}
+use Rattle.tftp_packet.specs.{opcode_of}
+use Rattle.tftp_capture.specs.{datagram_of, header_of}
+use Rattle.tftp_hosts.specs.{Datagram, Header}
+use Rattle.tftp_ends.specs.{KnownIds, StandsFor, HasNumbers, among_all}
+use Rattle.tftp_rules.specs.{is_of_transfer}
+use Rattle.tftp_judge.specs.{FindsOf, Stop, HasKept, Keeper}
 use Rattle.tftp_judge.proofs.Accepting.{Routed, fault_found, keeper_found, routed_by, stray_first, stray_found}
 use Rattle.tftp_judge.proofs.keeping.Keeper.pass.Given.{Over}
 use Rattle.tftp_judge.proofs.keeping.Keeper.pass.Goals as goal

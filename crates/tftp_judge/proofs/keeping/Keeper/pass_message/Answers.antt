@@ -1,10 +1,8 @@
 use Rattle.std.proofs.Common.{◌≡◌, true, List, ◌∷◌, Option, Some, refl, sym, subst, ap, ◌∙◌}
 use Rattle.std.proofs.lemmas.Slice.Eq.{bytes_eq-Decides}
-use Rattle.tftp_packet.specs.Message.{Message}
-use Rattle.tftp_packet.specs.Spelling.{Spells}
-use Rattle.tftp_ends.specs.Ports.{route_of, is_of_transfer, transfer_of}
-use Rattle.tftp_judge.specs.Finds.{FindsOf}
-use Rattle.tftp_judge.specs.Kept.{AreBytesOf, Keeper, Transfer, IsKept}
+use Rattle.tftp_packet.specs.{Message, Spells}
+use Rattle.tftp_rules.specs.{route_of, is_of_transfer, transfer_of}
+use Rattle.tftp_judge.specs.{FindsOf, AreBytesOf, Keeper, Transfer, IsKept}
 use Rattle.tftp_judge.proofs.Accepting.{message_found}
 use Rattle.tftp_judge.proofs.keeping.Keeper.pass_message.Goals as goal
 

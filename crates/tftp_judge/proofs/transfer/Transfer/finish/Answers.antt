@@ -1,19 +1,11 @@
-use Rattle.std.proofs.Common.{◌≡◌, ◌↔◌, ◌+◌, ◌/◌, ◌≤◌, List, length, Ok, true≢false, sym, subst, ap, ◌∙◌}
-use Rattle.std.specs.Prelude.{reverse}
-use Rattle.tftp_packet.specs.OptionMap.{OptionMap}
-use Rattle.tftp_packet.specs.Message.{RequestParts}
-use Rattle.tftp_ends.specs.CaptureText.{Datagram, Header}
-use Rattle.tftp_ends.specs.Meaning.{Meaning}
-use Rattle.tftp_ends.specs.NamedEnd.{held_of}
-use Rattle.tftp_ends.specs.Ports.{transfer_of}
-use Rattle.tftp_law.specs.CanBeWritten.{CanBeWritten}
-use Rattle.tftp_law.specs.Fits.{IsWritable, written_wire}
-use Rattle.tftp_law.specs.OneEnded.{OneEnded, Meant}
-use Rattle.tftp_law.specs.Owned.{meaning_from}
-use Rattle.tftp_law.specs.Rules.{FirstAsked}
-use Rattle.tftp_judge.specs.Kept.{Agreed, Transfer, AreErrors, IsTransferAfter}
-use Rattle.tftp_judge.specs.Verdict.{IsVerdictByRules}
-use Rattle.tftp_judge.specs.KeptCode.{course_of}
+use Rattle.std.proofs.Common.{◌≡◌, ◌↔◌, ◌+◌, ◌/◌, ◌≤◌, List, length, Ok, true≢false, sym, subst, ap, ◌∙◌, reverse}
+use Rattle.tftp_packet.specs.{OptionMap, RequestParts}
+use Rattle.tftp_hosts.specs.{Datagram, Header}
+use Rattle.tftp_model.specs.{Meaning}
+use Rattle.tftp_ends.specs.{held_of}
+use Rattle.tftp_rules.specs.{transfer_of}
+use Rattle.tftp_law.specs.{CanBeWritten, IsWritable, written_wire, OneEnded, Meant, meaning_from, FirstAsked}
+use Rattle.tftp_judge.specs.{Agreed, Transfer, AreErrors, IsTransferAfter, IsVerdictByRules, course_of}
 use Rattle.tftp_judge.proofs.EndedTransfer.{BeganBy, begun_by, agreed_to, unanswered_by, held_file, fits_by, unanswered_not_meant, undone_not_meant, ended_by, meant_by, can_be_written, meant_verdict, long_verdict, memory_verdict, unfinished_verdict}
 use Rattle.tftp_judge.proofs.NewMessages.{blocks_of}
 use Rattle.tftp_judge.proofs.transfer.Transfer.finish.Given.{Over}

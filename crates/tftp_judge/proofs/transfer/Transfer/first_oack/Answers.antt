@@ -1,14 +1,8 @@
 use Rattle.std.proofs.Common.{◌∷◌, Err, refl, sym, subst, ap, ◌∙◌}
-use Rattle.tftp_packet.specs.Message.{RequestParts}
-use Rattle.tftp_packet.specs.OptionMap.{OptionMap}
-use Rattle.tftp_packet.specs.Written.{map_of}
-use Rattle.tftp_nego.specs.Agreement.{MayAgree}
-use Rattle.tftp_nego.specs.Faults.{FirstFault}
-use Rattle.tftp_law.specs.MessageRules.{FirstOackBreaks}
-use Rattle.tftp_law.specs.Rules.{Agrees, terms_after}
-use Rattle.tftp_judge.specs.Finds.{Finds}
-use Rattle.tftp_judge.specs.Kept.{Transfer, IsTransferAfter}
-use Rattle.tftp_judge.specs.declared.stop.Stop.{Stop}
+use Rattle.tftp_packet.specs.{RequestParts, OptionMap, map_of}
+use Rattle.tftp_nego.specs.{MayAgree, FirstFault}
+use Rattle.tftp_law.specs.{FirstOackBreaks, Agrees, terms_after}
+use Rattle.tftp_judge.specs.{Finds, Transfer, IsTransferAfter, Stop}
 use Rattle.tftp_judge.proofs.MessageFound.{fault_found, none_of_agreed}
 use Rattle.tftp_judge.proofs.StaysAfter.{transfer_agreed}
 use Rattle.tftp_judge.proofs.transfer.Transfer.first_oack.Goals as goal

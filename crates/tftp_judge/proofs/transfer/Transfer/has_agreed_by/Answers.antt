@@ -1,6 +1,5 @@
 use Rattle.std.proofs.Common.{subst}
-use Rattle.tftp_judge.specs.Kept.{Transfer}
-use Rattle.tftp_judge.specs.SentByKept.{IsAgreedBy}
+use Rattle.tftp_judge.specs.{Transfer, IsAgreedBy}
 use Rattle.tftp_judge.proofs.transfer.Transfer.has_agreed_by.Goals as goal
 
 pub returns : goal.returns

@@ -1,6 +1,6 @@
 use Rattle.std.proofs.Common.{sym, ◌∙◌}
 use Rattle.std.proofs.lemmas.Bool.{false≢true}
-use Rattle.tftp_packet.specs.Written.{map_of}
+use Rattle.tftp_packet.specs.{map_of}
 use Rattle.tftp_judge.proofs.MessageFound.{later_late, later_passes}
 use Rattle.tftp_judge.proofs.transfer.Transfer.later_oack.Goals as goal
 

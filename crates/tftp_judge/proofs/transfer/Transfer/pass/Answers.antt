@@ -1,17 +1,9 @@
-use Rattle.std.proofs.Common.{◌∷◌, inl, inr, sym, subst, ap, ◌∙◌}
+use Rattle.std.proofs.Common.{◌∷◌, inl, inr, sym, subst, ap, ◌∙◌, OnErr}
 use Rattle.std.proofs.lemmas.Bool.{false≢true}
-use Rattle.std.specs.Prelude.{OnErr}
-use Rattle.tftp_packet.specs.Message.{Message}
-use Rattle.tftp_packet.specs.Meaning.{meaning}
-use Rattle.tftp_packet.specs.Spelling.{Spells}
-use Rattle.tftp_packet.specs.declared.kinds.End.{End}
-use Rattle.tftp_packet.specs.declared.packet.Packet.{Packet}
-use Rattle.tftp_ends.specs.Roles.{author_of}
-use Rattle.tftp_law.specs.MessageRules.{KindBreaks}
-use Rattle.tftp_law.specs.Rules.{GoesOn}
-use Rattle.tftp_judge.specs.Finds.{Finds, IsBlockOrAck}
-use Rattle.tftp_judge.specs.Kept.{Transfer, Errors, AreErrors, IsTransferAfter}
-use Rattle.tftp_judge.specs.Memory.{IsNew}
+use Rattle.tftp_packet.specs.{Message, meaning, Spells, End, Packet}
+use Rattle.tftp_rules.specs.{author_of}
+use Rattle.tftp_law.specs.{KindBreaks, GoesOn}
+use Rattle.tftp_judge.specs.{Finds, IsBlockOrAck, Transfer, Errors, AreErrors, IsTransferAfter, IsNew}
 use Rattle.tftp_judge.proofs.MessageFound.{kind_finds, right_kind, error_finds, block_finds}
 use Rattle.tftp_judge.proofs.transfer.Transfer.pass.Goals as goal
 

@@ -1,11 +1,9 @@
 use Rattle.std.proofs.Common.{◌≡◌, List, true≢false, sym, subst, ap, rules, ◌∙◌}
 use Rattle.std.proofs.lemmas.Bool.{false≢true}
-use Rattle.tftp_packet.specs.declared.kinds.End.{End}
-use Rattle.tftp_packet.specs.declared.kinds.End.TheVariants.{Server}
-use Rattle.tftp_packet.specs.declared.kinds.Dir.TheVariants.{Out}
-use Rattle.tftp_ends.specs.CaptureText.{Datagram, Header}
-use Rattle.tftp_ends.specs.Roles.{author_of}
-use Rattle.tftp_judge.specs.Kept.{Errors, AreErrors, Transfer, IsTransferAfter}
+use Rattle.tftp_packet.specs.{End, Server}
+use Rattle.tftp_hosts.specs.{Out, Datagram, Header}
+use Rattle.tftp_rules.specs.{author_of}
+use Rattle.tftp_judge.specs.{Errors, AreErrors, Transfer, IsTransferAfter}
 use Rattle.tftp_judge.proofs.MessageFound.{again_goes, again_late, again_passes}
 use Rattle.tftp_judge.proofs.StaysAfter.{transfer_with_request}
 use Rattle.tftp_judge.proofs.transfer.Transfer.pass_again.Given.{Over}

@@ -1,15 +1,11 @@
 use Rattle.std.proofs.Common.{◌≡◌, sym, subst, ap, ◌∙◌}
 use Rattle.std.proofs.lemmas.Bool.{false≢true}
 use Rattle.std.proofs.lemmas.Result.{err_from_is_err_and}
-use Rattle.tftp_packet.specs.Meaning.{meaning}
-use Rattle.tftp_packet.specs.declared.kinds.Side.{Side}
-use Rattle.tftp_ends.specs.NamedEnd.{terms_of}
-use Rattle.tftp_ends.specs.declared.terms.Reply.TheVariants.{Plain}
-use Rattle.tftp_law.specs.MessageRules.{TermsBreak}
-use Rattle.tftp_law.specs.Rules.{Begins, plain_terms}
-use Rattle.tftp_judge.specs.Courses.{WaitsForReply}
-use Rattle.tftp_judge.specs.Finds.{IsFirstOf}
-use Rattle.tftp_judge.specs.Kept.{Transfer, IsCourse}
+use Rattle.tftp_packet.specs.{meaning, Side}
+use Rattle.tftp_ends.specs.{terms_of}
+use Rattle.tftp_rules.specs.{Plain}
+use Rattle.tftp_law.specs.{TermsBreak, Begins, plain_terms}
+use Rattle.tftp_judge.specs.{WaitsForReply, IsFirstOf, Transfer, IsCourse}
 use Rattle.tftp_judge.proofs.MessageFound.{finds_memory}
 use Rattle.tftp_judge.proofs.Replied.{not_started, first_broken, none_broken, has_begun, of_author}
 use Rattle.tftp_judge.proofs.transfer.Transfer.pass_answer.Goals as goal

@@ -1,8 +1,7 @@
 use Rattle.std.proofs.Common.{◌≡◌, ◌∷◌, Err, ◌∙◌, subst, rules}
-use Rattle.tftp_packet.specs.Meaning.{meaning}
-use Rattle.tftp_law.specs.MessageRules.{TermsBreak}
-use Rattle.tftp_judge.specs.Finds.{Finds}
-use Rattle.tftp_judge.specs.Kept.{IsCourse, IsTransferAfter}
+use Rattle.tftp_packet.specs.{meaning}
+use Rattle.tftp_law.specs.{TermsBreak}
+use Rattle.tftp_judge.specs.{Finds, IsCourse, IsTransferAfter}
 use Rattle.tftp_judge.proofs.MessageFound.{finds_stop}
 use Rattle.tftp_judge.proofs.StaysAfter.{transfer_kept}
 use Rattle.tftp_judge.proofs.transfer.Transfer.pass_block.Goals as goal

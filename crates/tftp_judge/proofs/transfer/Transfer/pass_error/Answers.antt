@@ -1,10 +1,8 @@
 use Rattle.std.proofs.Common.{inr, sym, subst}
-use Rattle.tftp_packet.specs.Message.{Message}
-use Rattle.tftp_packet.specs.Spelling.{Spells}
-use Rattle.tftp_ends.specs.Roles.{author_of}
-use Rattle.tftp_law.specs.Rules.{IsWrongKind}
-use Rattle.tftp_judge.specs.Kept.{Transfer, IsTransferAfter}
-use Rattle.tftp_judge.specs.KeptCode.{course_of}
+use Rattle.tftp_packet.specs.{Message, Spells}
+use Rattle.tftp_rules.specs.{author_of}
+use Rattle.tftp_law.specs.{IsWrongKind}
+use Rattle.tftp_judge.specs.{Transfer, IsTransferAfter, course_of}
 use Rattle.tftp_judge.proofs.StaysAfter.{error_is_right, transfer_with_error}
 use Rattle.tftp_judge.proofs.transfer.Transfer.pass_error.Goals as goal
 

@@ -1,11 +1,8 @@
 use Rattle.std.proofs.Common.{◌≡◌, inl, sym, subst, ap}
 use Rattle.std.proofs.lemmas.Result.{err_from_is_err_and}
-use Rattle.tftp_packet.specs.Meaning.{meaning}
-use Rattle.tftp_law.specs.MessageRules.{TermsBreak}
-use Rattle.tftp_judge.specs.Courses.{HasAnswer}
-use Rattle.tftp_judge.specs.Finds.{IsFirstOf}
-use Rattle.tftp_judge.specs.Kept.{Transfer, IsCourse}
-use Rattle.tftp_judge.specs.KeptCode.{course_of}
+use Rattle.tftp_packet.specs.{meaning}
+use Rattle.tftp_law.specs.{TermsBreak}
+use Rattle.tftp_judge.specs.{HasAnswer, IsFirstOf, Transfer, IsCourse, course_of}
 use Rattle.tftp_judge.proofs.MessageFound.{finds_memory}
 use Rattle.tftp_judge.proofs.transfer.Transfer.pass_later.Goals as goal
 

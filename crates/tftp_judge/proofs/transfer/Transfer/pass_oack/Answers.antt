@@ -1,7 +1,6 @@
 use Rattle.std.proofs.Common.{◌≡◌, ◌∷◌, sym, subst, ap, ◌∙◌}
-use Rattle.tftp_packet.specs.Written.{map_of}
-use Rattle.tftp_judge.specs.Kept.{Transfer, Agreed, Unanswered, IsCourse, IsTransferAfter}
-use Rattle.tftp_judge.specs.KeptCode.{course_of}
+use Rattle.tftp_packet.specs.{map_of}
+use Rattle.tftp_judge.specs.{Transfer, Agreed, Unanswered, IsCourse, IsTransferAfter, course_of}
 use Rattle.tftp_judge.proofs.MessageFound.{first_oack_finds, later_oack_finds}
 use Rattle.tftp_judge.proofs.NewMessages.{no_oack}
 use Rattle.tftp_judge.proofs.StaysAfter.{transfer_with_later_oack}

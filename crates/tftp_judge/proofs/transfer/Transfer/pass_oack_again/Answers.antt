@@ -1,11 +1,9 @@
 use Rattle.std.proofs.Common.{◌≡◌, List, true≢false, sym, subst, ap, rules, ◌∙◌}
 use Rattle.std.proofs.lemmas.Bool.{false≢true}
-use Rattle.tftp_packet.specs.declared.kinds.End.{End}
-use Rattle.tftp_packet.specs.declared.kinds.End.TheVariants.{Client}
-use Rattle.tftp_packet.specs.declared.kinds.Dir.TheVariants.{Out}
-use Rattle.tftp_ends.specs.CaptureText.{Datagram, Header}
-use Rattle.tftp_ends.specs.Roles.{author_of}
-use Rattle.tftp_judge.specs.Kept.{Errors, AreErrors, Transfer, IsTransferAfter}
+use Rattle.tftp_packet.specs.{End, Client}
+use Rattle.tftp_hosts.specs.{Out, Datagram, Header}
+use Rattle.tftp_rules.specs.{author_of}
+use Rattle.tftp_judge.specs.{Errors, AreErrors, Transfer, IsTransferAfter}
 use Rattle.tftp_judge.proofs.MessageFound.{oack_again_ended, oack_again_goes, oack_again_late, oack_again_passes}
 use Rattle.tftp_judge.proofs.StaysAfter.{agreed_first, transfer_with_oack_again}
 use Rattle.tftp_judge.proofs.transfer.Transfer.pass_oack_again.Given.{Over}

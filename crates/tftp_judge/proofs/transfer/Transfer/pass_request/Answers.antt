@@ -1,7 +1,7 @@
 use Rattle.std.proofs.Common.{◌≡◌, sym, ap, rules, ◌∙◌}
 use Rattle.std.proofs.lemmas.Bool.{false≢true}
-use Rattle.tftp_packet.specs.Written.{parts}
-use Rattle.tftp_judge.specs.Kept.{Transfer}
+use Rattle.tftp_packet.specs.{parts}
+use Rattle.tftp_judge.specs.{Transfer}
 use Rattle.tftp_judge.proofs.MessageFound.{request_late, request_passes}
 use Rattle.tftp_judge.proofs.StaysAfter.{transfer_with_request}
 use Rattle.tftp_judge.proofs.transfer.Transfer.pass_request.Goals as goal

@@ -1,9 +1,7 @@
 use Rattle.std.proofs.Common.{◌≡◌, ◌⊎◌, Bool, false, None, inl, inr, refl, sym, ◌∙◌, subst}
-use Rattle.tftp_capture.specs.Fields.{datagram_of}
-use Rattle.tftp_capture.specs.History.{IsReadFault}
-use Rattle.tftp_judge.specs.Kept.{IsJudgeAfter}
-use Rattle.tftp_match.specs.Reading.{IsGiven, IsHalted}
-use Rattle.tftp_match.specs.declared.reading.Halt.TheVariants.{Ended, Fault}
+use Rattle.tftp_capture.specs.{datagram_of, IsReadFault}
+use Rattle.tftp_judge.specs.{IsJudgeAfter}
+use Rattle.tftp_match.specs.{IsGiven, IsHalted, Ended, Fault}
 use Rattle.tftp_match.proofs.Halting.{given, halted_end, halted_fault}
 use Rattle.tftp_match.proofs.reading.Reading.next.Goals as goal
 

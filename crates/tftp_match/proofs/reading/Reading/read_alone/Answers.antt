@@ -1,6 +1,6 @@
 use Rattle.std.proofs.Common.{arith, refl, ◌∙◌}
-use Rattle.tftp_capture.specs.Fields.{datagram_of}
-use Rattle.tftp_match.specs.Merging.{IsAloneAt, itself}
+use Rattle.tftp_capture.specs.{datagram_of}
+use Rattle.tftp_match.specs.{IsAloneAt, itself}
 use Rattle.tftp_match.proofs.Sides.{alone_stays}
 use Rattle.tftp_match.proofs.Steps.{accepted_step, halted_step, refused_step}
 use Rattle.tftp_match.proofs.reading.Reading.read_alone.Goals as goal

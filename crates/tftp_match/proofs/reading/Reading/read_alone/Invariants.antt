@@ -1,7 +1,6 @@
 use Rattle.std.proofs.Common.{◌≡◌, ◌<◌, ◌-◌, ◌^◌, None}
-use Rattle.tftp_capture.specs.declared.standing.Standing.{Standing}
-use Rattle.tftp_match.specs.Merging.{AloneRuns}
-use Rattle.tftp_match.specs.Reading.{seen}
+use Rattle.tftp_capture.specs.{Standing}
+use Rattle.tftp_match.specs.{AloneRuns, seen}
 use Rattle.tftp_match.proofs.reading.Reading.read_alone.Given as goal
 
 -- more is to be read

@@ -1,10 +1,10 @@
 use Rattle.std.proofs.Common.{arith, refl, sym, ◌∙◌}
-use Rattle.tftp_capture.specs.Fields.{datagram_of}
-use Rattle.tftp_judge.specs.Finds.{Refuses}
-use Rattle.tftp_law.specs.OneEnded.{Passes}
-use Rattle.tftp_pair_judge.specs.Kept.{side_at}
-use Rattle.tftp_ends.specs.Roles.{other_end}
-use Rattle.tftp_match.specs.Merging.{IsPairAt, judge_at}
+use Rattle.tftp_capture.specs.{datagram_of}
+use Rattle.tftp_judge.specs.{Refuses}
+use Rattle.tftp_law.specs.{Passes}
+use Rattle.tftp_pair_judge.specs.{side_at}
+use Rattle.tftp_model.specs.Roles.{other_end}
+use Rattle.tftp_match.specs.{IsPairAt, judge_at}
 use Rattle.tftp_match.proofs.Sides.{none_held, own_of_pair, pair_grows, pair_says, pair_stays, same_twice}
 use Rattle.tftp_match.proofs.Steps.{accepted_step, halted_step, refused_step}
 use Rattle.tftp_match.proofs.reading.Reading.read_on.Goals as goal

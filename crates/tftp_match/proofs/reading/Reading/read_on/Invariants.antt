@@ -1,9 +1,8 @@
 use Rattle.std.proofs.Common.{◌≡◌, ◌<◌, ◌≤◌, ◌-◌, ◌^◌, None}
-use Rattle.tftp_capture.specs.declared.standing.Standing.{Standing}
-use Rattle.tftp_ends.specs.Roles.{other_end}
-use Rattle.tftp_pair_judge.specs.Kept.{HasSame, side_at}
-use Rattle.tftp_match.specs.Merging.{Runs, judge_at}
-use Rattle.tftp_match.specs.Reading.{seen}
+use Rattle.tftp_capture.specs.{Standing}
+use Rattle.tftp_model.specs.Roles.{other_end}
+use Rattle.tftp_pair_judge.specs.{HasSame, side_at}
+use Rattle.tftp_match.specs.{Runs, judge_at, seen}
 use Rattle.tftp_match.proofs.reading.Reading.read_on.Given as goal
 
 -- more is to be read and nothing waits

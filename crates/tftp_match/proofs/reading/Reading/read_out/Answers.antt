@@ -1,8 +1,8 @@
 use Rattle.std.proofs.Common.{arith, refl, ap, is_some, Option, ◌∙◌}
-use Rattle.tftp_capture.specs.Fields.{datagram_of}
-use Rattle.tftp_ends.specs.CaptureText.{Datagram}
-use Rattle.tftp_judge.specs.Finds.{Refuses}
-use Rattle.tftp_match.specs.Merging.{IsRestAt, left_judge_at}
+use Rattle.tftp_capture.specs.{datagram_of}
+use Rattle.tftp_hosts.specs.{Datagram}
+use Rattle.tftp_judge.specs.{Refuses}
+use Rattle.tftp_match.specs.{IsRestAt, left_judge_at}
 use Rattle.tftp_match.proofs.Sides.{own_of_rest, rest_grows, rest_says, rest_stays}
 use Rattle.tftp_match.proofs.Steps.{accepted_step, halted_step, refused_step}
 use Rattle.tftp_match.proofs.reading.Reading.read_out.Goals as goal

@@ -1,9 +1,8 @@
 use Rattle.std.proofs.Common.{◌≡◌, ◌<◌, ◌-◌, ◌^◌, true, is_some, None}
-use Rattle.tftp_capture.specs.declared.standing.Standing.{Standing}
-use Rattle.tftp_ends.specs.Roles.{other_end}
-use Rattle.tftp_pair_judge.specs.Rest.{left_at}
-use Rattle.tftp_match.specs.Merging.{RestRuns, left_judge_at}
-use Rattle.tftp_match.specs.Reading.{seen}
+use Rattle.tftp_capture.specs.{Standing}
+use Rattle.tftp_model.specs.Roles.{other_end}
+use Rattle.tftp_pair_judge.specs.{left_at}
+use Rattle.tftp_match.specs.{RestRuns, left_judge_at, seen}
 use Rattle.tftp_match.proofs.reading.Reading.read_out.Given as goal
 
 -- more is to be read

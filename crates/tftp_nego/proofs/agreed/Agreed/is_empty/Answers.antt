@@ -3,7 +3,7 @@ use Rattle.std.specs.Ordering.{nat_cmp}
 use Rattle.std.specs.Cmp.Lexicographic.{slice_cmp}
 use Rattle.std.specs.FinMap as map
 use Rattle.std.specs.FinMap.{empty_of_len, len-empty}
-use Rattle.tftp_packet.specs.OptionMap.{OptionValue}
+use Rattle.tftp_packet.specs.{OptionValue}
 use Rattle.tftp_nego.proofs.agreed.Agreed.is_empty.Goals as goal
 
 pub returns : goal.returns

@@ -1,6 +1,5 @@
-use Rattle.std.proofs.Common.{sym, ap, ◌∙◌, Some, arith}
-use Rattle.tftp_packet.specs.Owned.{shown}
-use Rattle.std.specs.Prelude.{codes}
+use Rattle.std.proofs.Common.{sym, ap, ◌∙◌, Some, arith, codes}
+use Rattle.tftp_packet.specs.{shown}
 use Rattle.tftp_nego.proofs.Numbers.{timeout_range}
 use Rattle.tftp_nego.proofs.agreed.Agreed.timeout.Goals as goal
 

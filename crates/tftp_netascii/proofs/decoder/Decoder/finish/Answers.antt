@@ -1,5 +1,5 @@
 use Rattle.std.proofs.Common.{◌≡◌, Bool, true, false, [], ◌∷◌, sym, ◌∙◌, subst}
-use Rattle.tftp_netascii.specs.Decoder.{StandsFor}
+use Rattle.tftp_netascii.specs.{StandsFor}
 use Rattle.tftp_netascii.proofs.DecoderLemmas.{StandsFor-exists, Reads-finished}
 use Rattle.tftp_netascii.proofs.decoder.Decoder.finish.Goals as goal
 

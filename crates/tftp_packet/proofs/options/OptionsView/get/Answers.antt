@@ -1,7 +1,6 @@
 use Rattle.std.proofs.Common.{refl, sym, ap, ◌∙◌}
 use Rattle.std.proofs.lemmas.Bool.{false≢true}
-use Rattle.tftp_packet.specs.OptionMap.{lower}
-use Rattle.tftp_packet.specs.Written.{pairs_of, text_of}
+use Rattle.tftp_packet.specs.{lower, pairs_of, text_of}
 use Rattle.tftp_packet.proofs.Maps.{text_found, text_later}
 use Rattle.tftp_packet.proofs.options.OptionsView.get.Goals as goal
 

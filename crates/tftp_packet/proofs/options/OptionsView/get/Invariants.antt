@@ -1,6 +1,5 @@
 use Rattle.std.proofs.Common.{◌≡◌, length}
-use Rattle.tftp_packet.specs.OptionMap.{lower}
-use Rattle.tftp_packet.specs.Written.{pairs_of, text_of}
+use Rattle.tftp_packet.specs.{lower, pairs_of, text_of}
 use Rattle.tftp_packet.proofs.options.OptionsView.get.Given as goal
 
 -- the value is that of the name in what is left

@@ -1,5 +1,5 @@
 use Rattle.std.proofs.Common.{◌/◌, length, sym, ap, ◌∙◌}
-use Rattle.tftp_packet.specs.Written.{pairs_of, map_of}
+use Rattle.tftp_packet.specs.{pairs_of, map_of}
 use Rattle.std.specs.FinMap as map
 use Rattle.tftp_packet.proofs.Maps.{half, len_map}
 use Rattle.tftp_packet.proofs.options.OptionsView.len.Goals as goal

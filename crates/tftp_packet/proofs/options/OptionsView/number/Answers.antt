@@ -1,4 +1,4 @@
-use Rattle.tftp_packet.specs.OptionMap.{lower}
+use Rattle.tftp_packet.specs.{lower}
 use Rattle.tftp_packet.proofs.Maps.{no_text_in_map, number_in_map}
 use Rattle.tftp_packet.proofs.options.OptionsView.number.Goals as goal
 

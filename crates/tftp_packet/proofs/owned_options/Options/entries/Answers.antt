@@ -1,5 +1,5 @@
 use Rattle.std.proofs.Common.{sym, ap, ◌∙◌}
-use Rattle.tftp_packet.specs.Owned.{shown_entries}
+use Rattle.tftp_packet.specs.{shown_entries}
 use Rattle.tftp_packet.proofs.OwnedMaps.{shown_all}
 use Rattle.tftp_packet.proofs.owned_options.Options.entries.Goals as goal
 

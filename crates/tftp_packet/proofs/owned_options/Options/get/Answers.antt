@@ -2,8 +2,7 @@ use Rattle.std.proofs.Common.{sym, ap, subst, ◌∙◌}
 use Rattle.std.specs.Ordering.{nat_cmp}
 use Rattle.std.specs.Cmp.Lexicographic.{slice_cmp}
 use Rattle.std.specs.FinMap.{find}
-use Rattle.tftp_packet.specs.OptionMap.{lower}
-use Rattle.tftp_packet.specs.Owned.{shown_entries, AreInOrder}
+use Rattle.tftp_packet.specs.{lower, shown_entries, AreInOrder}
 use Rattle.tftp_packet.proofs.OwnedMaps.{shown_get}
 use Rattle.tftp_packet.proofs.owned_options.Options.get.Goals as goal
 

@@ -1,6 +1,6 @@
 use Rattle.std.proofs.Common.{ap, ◌∙◌}
 use Rattle.std.specs.FinMap as map
-use Rattle.tftp_packet.specs.Owned.{shown_entries}
+use Rattle.tftp_packet.specs.{shown_entries}
 use Rattle.tftp_packet.proofs.OwnedMaps.{no_entries}
 use Rattle.tftp_packet.proofs.owned_options.Options.none.Goals as goal
 

@@ -1,9 +1,8 @@
 use Rattle.std.proofs.Common.{◌≡◌, ◌≢◌, ℕ, false, List, [], ◌∷◌, ◌++◌, length, nat_eq, ap, ◌∙◌}
 use Rattle.std.proofs.lemmas.Bool.{false≢true}
 use Rattle.std.proofs.lemmas.Result.{err_from_is_err_and}
-use Rattle.tftp_packet.specs.Written.{strings, pair_strings, Pair}
+use Rattle.tftp_packet.specs.{strings, pair_strings, Pair, side_opcode}
 use Rattle.tftp_packet.proofs.Unique.{side_opcodes}
-use Rattle.tftp_packet.specs.Spelling.{side_opcode}
 use Rattle.tftp_packet.proofs.RequestCases.{no_string, one_string, options_fault, mode_fault, too_long}
 use Rattle.tftp_packet.proofs.request.RequestView.read.Goals as goal
 

@@ -1,6 +1,6 @@
 use Rattle.std.proofs.Common.{◌∷◌, sym, subst, ap, ◌∙◌}
-use Rattle.tftp_capture.specs.Fields.{datagram_of}
-use Rattle.tftp_pair_judge.specs.Kept.{IsPairAfter, Pair}
+use Rattle.tftp_capture.specs.{datagram_of}
+use Rattle.tftp_pair_judge.specs.{IsPairAfter, Pair}
 use Rattle.tftp_pair_judge.proofs.Sides.{on_ok, on_err, turned_sides}
 use Rattle.tftp_pair_judge.proofs.pair.PairJudge.feed.Goals as goal
 

@@ -1,6 +1,5 @@
 use Rattle.std.proofs.Common.{sym, subst}
-use Rattle.tftp_pair_judge.specs.Kept.{IsPairAfter, Pair}
-use Rattle.tftp_pair_judge.specs.Rest.{IsLeftAfter, Left}
+use Rattle.tftp_pair_judge.specs.{IsPairAfter, Pair, IsLeftAfter, Left}
 use Rattle.tftp_pair_judge.proofs.Rests.{left_begins, rest_begins}
 use Rattle.tftp_pair_judge.proofs.pair.PairJudge.rest.Goals as goal
 

@@ -1,7 +1,6 @@
-use Rattle.std.proofs.Common.{refl, sym, subst, ap, ◌∙◌}
-use Rattle.std.specs.Prelude.{is_some}
-use Rattle.tftp_capture.specs.Fields.{datagram_of}
-use Rattle.tftp_pair_judge.specs.Rest.{IsLeftAfter, Left}
+use Rattle.std.proofs.Common.{refl, sym, subst, ap, ◌∙◌, is_some}
+use Rattle.tftp_capture.specs.{datagram_of}
+use Rattle.tftp_pair_judge.specs.{IsLeftAfter, Left}
 use Rattle.tftp_pair_judge.proofs.Rests.{left_on}
 use Rattle.tftp_pair_judge.proofs.rest.Left.feed.Goals as goal
 

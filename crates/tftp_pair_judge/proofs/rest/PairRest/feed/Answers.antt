@@ -1,6 +1,7 @@
 use Rattle.std.proofs.Common.{◌∷◌, ap, sym, subst, ◌∙◌}
-use Rattle.tftp_capture.specs.Fields.{datagram_of}
-use Rattle.tftp_pair_judge.specs.Rest.{IsRestAfter, Rest}
+use Rattle.tftp_capture.specs.{datagram_of}
+use Rattle.tftp_pair_judge.specs.Rest.{Rest}
+use Rattle.tftp_pair_judge.specs.{IsRestAfter}
 use Rattle.tftp_pair_judge.proofs.Sides.{on_ok, on_err}
 use Rattle.tftp_pair_judge.proofs.Rests.{with_client, with_server}
 use Rattle.tftp_pair_judge.proofs.rest.PairRest.feed.Goals as goal

@@ -1,7 +1,7 @@
 use Rattle.std.proofs.Common.{◌≡◌, ap, sym, subst, ◌∙◌}
-use Rattle.tftp_judge.specs.Kept.{IsJudgeAfter, Judge}
-use Rattle.tftp_pair_judge.specs.Kept.{IsSideAfter, Side}
-use Rattle.tftp_pair_judge.specs.Rest.{Left, Rest}
+use Rattle.tftp_judge.specs.{IsJudgeAfter, Judge}
+use Rattle.tftp_pair_judge.specs.{IsSideAfter, Side, Left}
+use Rattle.tftp_pair_judge.specs.Rest.{Rest}
 use Rattle.tftp_pair_judge.proofs.Verdicts.{IsAnswered, carried_is, counts_are, rest_is_verdict, same_numbers, why_left}
 use Rattle.tftp_pair_judge.proofs.rest.PairRest.finish.Goals as goal
 

@@ -1,8 +1,8 @@
 use Rattle.std.proofs.Common.{◌≡◌, ◌∙◌, Option, Some, List, sym, ap, subst}
-use Rattle.tftp_ends.specs.CaptureText.{Datagram, Header}
-use Rattle.tftp_ends.specs.Ports.{transfer_of}
-use Rattle.tftp_counts.specs.Counts.{AreCounted, Counted, IsCountOf}
-use Rattle.tftp_pair_judge.specs.Kept.{IsSideAfter, Side}
+use Rattle.tftp_hosts.specs.{Datagram, Header}
+use Rattle.tftp_rules.specs.{transfer_of}
+use Rattle.tftp_counts.specs.{AreCounted, Counted, IsCountOf}
+use Rattle.tftp_pair_judge.specs.{IsSideAfter, Side}
 use Rattle.tftp_pair_judge.proofs.Sides.{none_map, not_too_many, some_map}
 use Rattle.tftp_pair_judge.proofs.side.Side.carried.Goals as goal
 

@@ -1,7 +1,7 @@
 use Rattle.std.proofs.Common.{◌↔◌, IsTrue, subst}
-use Rattle.tftp_packet.specs.Meaning.{meaning}
-use Rattle.tftp_judge.specs.SentByKept.{HasSentIn, flags_of}
-use Rattle.tftp_pair_judge.specs.Kept.{Side}
+use Rattle.tftp_packet.specs.{meaning}
+use Rattle.tftp_judge.specs.{HasSentIn, flags_of}
+use Rattle.tftp_pair_judge.specs.{Side}
 use Rattle.tftp_pair_judge.proofs.Sides.{payload_sent}
 use Rattle.tftp_pair_judge.proofs.side.Side.has_sent.Goals as goal
 

@@ -1,6 +1,5 @@
 use Rattle.std.proofs.Common.{List, subst}
-use Rattle.tftp_packet.specs.Message.{Message}
-use Rattle.tftp_packet.specs.Spelling.{Spells}
+use Rattle.tftp_packet.specs.{Message, Spells}
 use Rattle.tftp_pair_judge.proofs.Sides.{flags_stay}
 use Rattle.tftp_pair_judge.proofs.side.Side.note_sent.Goals as goal
 

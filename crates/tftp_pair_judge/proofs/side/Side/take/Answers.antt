@@ -1,6 +1,6 @@
 use Rattle.std.proofs.Common.{◌∙◌, subst}
-use Rattle.tftp_capture.specs.Fields.{datagram_of}
-use Rattle.tftp_pair_judge.specs.Merging.{AreMergedBut}
+use Rattle.tftp_capture.specs.{datagram_of}
+use Rattle.tftp_pair_judge.specs.{AreMergedBut}
 use Rattle.tftp_pair_judge.proofs.Sides.{sides_stray}
 use Rattle.tftp_pair_judge.proofs.side.Side.take.Goals as goal
 

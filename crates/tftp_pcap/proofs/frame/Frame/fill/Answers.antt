@@ -1,7 +1,5 @@
 use Rattle.std.proofs.Common.{◌≡◌, ◌++◌, ℕ, Err, ap, subst}
-use Rattle.tftp_pcap.specs.Frames.{FrameState}
-use Rattle.tftp_pcap.specs.History.{RunsOut}
-use Rattle.tftp_pcap.specs.declared.fault.FaultKind.TheVariants.{Memory}
+use Rattle.tftp_pcap.specs.{FrameState, RunsOut, Memory}
 use Rattle.tftp_pcap.proofs.frame.Frame.fill.Goals as goal
 
 pub returns-in-Ok-Some-clause-tells : goal.returns-in-Ok-Some-clause-tells

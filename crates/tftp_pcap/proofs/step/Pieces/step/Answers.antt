@@ -1,7 +1,5 @@
 use Rattle.std.proofs.Common.{◌≡◌, ap, refl, subst, ◌++◌, List, Err, arith}
-use Rattle.tftp_pcap.specs.declared.layout.Interface.{Interface}
-use Rattle.tftp_pcap.specs.Stops.{RestEnds}
-use Rattle.tftp_pcap.specs.declared.fault.FaultKind.TheVariants.{Memory}
+use Rattle.tftp_pcap.specs.{Interface, RestEnds, Memory}
 use Rattle.tftp_pcap.proofs.Steps.{step_fails, rest_fails, rest_full, rest_place, rest_says, wants_bytes}
 use Rattle.tftp_pcap.proofs.step.Pieces.step.Goals as goal
 

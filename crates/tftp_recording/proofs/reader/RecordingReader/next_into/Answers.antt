@@ -1,5 +1,5 @@
 use Rattle.std.proofs.Common.{ℕ, Bool, Ok, refl, ap, ◌∙◌}
-use Rattle.tftp_pcap.specs.declared.fault.FaultKind.TheVariants.{Memory}
+use Rattle.tftp_pcap.specs.{Memory}
 use Rattle.tftp_recording.proofs.Continuing.{answers_again, continued, refused_for}
 use Rattle.tftp_recording.proofs.reader.RecordingReader.next_into.Goals as goal
 

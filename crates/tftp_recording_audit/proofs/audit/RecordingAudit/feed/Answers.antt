@@ -1,14 +1,10 @@
 use Rattle.std.proofs.Common.{◌≡◌, ℕ, max, refl, sym, subst, ap, ◌∙◌}
 use Rattle.std.specs.Option.{unwrap_or}
-use Rattle.tftp_capture.specs.CaptureText.{IsPort}
-use Rattle.tftp_transfers.specs.declared.endpoint.Endpoint.{Endpoint}
-use Rattle.tftp_parties.specs.Naming.{host_name}
-use Rattle.tftp_transfers.specs.Doubts.{doubts_of}
-use Rattle.tftp_transfers.specs.Kept.{IsRecorded}
-use Rattle.tftp_transfers.specs.Places.{clock, placed}
-use Rattle.tftp_transfers.specs.Recording.{Recorded}
-use Rattle.tftp_transfers.specs.declared.place.Place.{Place}
-use Rattle.tftp_recording_audit.specs.Passed.{time_by}
+use Rattle.tftp_capture.specs.{IsPort}
+use Rattle.tftp_lines.specs.{Endpoint, doubts_of, clock, Recorded, Place}
+use Rattle.tftp_parties.specs.{host_name}
+use Rattle.tftp_transfers.specs.{IsRecorded, placed}
+use Rattle.tftp_recording_audit.specs.{time_by}
 use Rattle.tftp_recording_audit.proofs.Taking.{unwrapped}
 use Rattle.tftp_recording_audit.proofs.audit.RecordingAudit.feed.Goals as goal
 

@@ -1,6 +1,6 @@
 use Rattle.std.proofs.Common.{◌++◌, Bool, Ok, refl, subst}
-use Rattle.tftp_recording.specs.History.{StandsFor, Step, with_step}
-use Rattle.tftp_recording_audit.specs.Audited.{AuditsAfter}
+use Rattle.tftp_recording.specs.{StandsFor, Step, with_step}
+use Rattle.tftp_recording_audit.specs.{AuditsAfter}
 use Rattle.tftp_recording_audit.proofs.Taking.{noted_goes_on}
 use Rattle.tftp_recording_audit.proofs.audit.RecordingAudit.next_into.Goals as goal
 

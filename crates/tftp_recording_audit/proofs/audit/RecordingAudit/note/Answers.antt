@@ -1,8 +1,7 @@
-use Rattle.std.proofs.Common.{Option, ◌∷◌, List, subst}
-use Rattle.std.specs.Prelude.{MatchOption}
-use Rattle.tftp_transfers.specs.Recording.{Recorded}
-use Rattle.tftp_transfers.specs.declared.attribution.Attributed.{Attributed}
-use Rattle.tftp_recording_audit.specs.Audited.{AuditsAfter, IsAttributed}
+use Rattle.std.proofs.Common.{Option, ◌∷◌, List, subst, MatchOption}
+use Rattle.tftp_lines.specs.{Recorded}
+use Rattle.tftp_transfers.specs.{Attributed}
+use Rattle.tftp_recording_audit.specs.{AuditsAfter, IsAttributed}
 use Rattle.tftp_recording_audit.proofs.audit.RecordingAudit.note.Goals as goal
 
 pub returns-in-Ok-Some-clause-stands : goal.returns-in-Ok-Some-clause-stands

@@ -1,7 +1,7 @@
 use Rattle.std.proofs.Common.{rules, sym, subst}
-use Rattle.tftp_views.specs.Kept.{Client, View}
-use Rattle.tftp_between.specs.Kept.{View as Between}
-use Rattle.tftp_recording_judge.specs.Kept.{AreOf, Judges}
+use Rattle.tftp_views.specs.{Client, View}
+use Rattle.tftp_between.specs.{View as Between}
+use Rattle.tftp_recording_judge.specs.{AreOf, Judges}
 use Rattle.tftp_recording_judge.proofs.Watching.{away_of}
 use Rattle.tftp_recording_judge.proofs.judges.Judges.feed.Goals as goal
 

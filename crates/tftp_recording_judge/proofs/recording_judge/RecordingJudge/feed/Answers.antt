@@ -1,8 +1,7 @@
-use Rattle.std.proofs.Common.{◌≡◌, List, refl, sym, ap, ◌∙◌}
-use Rattle.std.specs.Prelude.{max}
-use Rattle.tftp_transfers.specs.Doubts.{doubts_of}
-use Rattle.tftp_transfers.specs.Places.{Placed, clock, place_of, placed}
-use Rattle.tftp_views.specs.Kept.{IsFed}
+use Rattle.std.proofs.Common.{◌≡◌, List, refl, sym, ap, ◌∙◌, max}
+use Rattle.tftp_lines.specs.{doubts_of, Placed, clock}
+use Rattle.tftp_transfers.specs.{place_of, placed}
+use Rattle.tftp_views.specs.{IsFed}
 use Rattle.tftp_recording_judge.proofs.Keeping.{unheard_before}
 use Rattle.tftp_recording_judge.proofs.recording_judge.RecordingJudge.feed.Goals as goal
 

@@ -1,5 +1,5 @@
 use Rattle.std.proofs.Common.{sym, subst, ◌∙◌}
-use Rattle.tftp_recording_judge.specs.Kept.{IsWatching, Watched}
+use Rattle.tftp_recording_judge.specs.{IsWatching, Watched}
 use Rattle.tftp_recording_judge.proofs.Watching.{judges_on}
 use Rattle.tftp_recording_judge.proofs.watched.Watched.doubt.Goals as goal
 

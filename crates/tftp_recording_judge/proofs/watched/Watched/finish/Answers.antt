@@ -1,6 +1,5 @@
 use Rattle.std.proofs.Common.{sym, subst}
-use Rattle.tftp_recording_judge.specs.Kept.{AreAt, Watched}
-use Rattle.tftp_recording_judge.specs.Points.{points_of}
+use Rattle.tftp_recording_judge.specs.{AreAt, Watched, points_of}
 use Rattle.tftp_recording_judge.proofs.watched.Watched.finish.Goals as goal
 
 pub returns-clause-points : goal.returns-clause-points

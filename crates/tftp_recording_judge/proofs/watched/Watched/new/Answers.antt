@@ -1,5 +1,5 @@
 use Rattle.std.proofs.Common.{refl, subst}
-use Rattle.tftp_recording_judge.specs.Kept.{AreAt}
+use Rattle.tftp_recording_judge.specs.{AreAt}
 use Rattle.tftp_recording_judge.proofs.watched.Watched.new.Goals as goal
 
 pub returns-clause-stands : goal.returns-clause-stands

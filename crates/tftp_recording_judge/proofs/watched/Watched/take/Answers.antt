@@ -1,6 +1,5 @@
 use Rattle.std.proofs.Common.{sym, subst, ◌∙◌}
-use Rattle.tftp_recording_judge.specs.Kept.{IsWatching, Watched}
-use Rattle.tftp_recording_judge.specs.Points.{points_of}
+use Rattle.tftp_recording_judge.specs.{IsWatching, Watched, points_of}
 use Rattle.tftp_recording_judge.proofs.watched.Watched.take.Goals as goal
 
 pub returns-clause-stands : goal.returns-clause-stands

@@ -1,6 +1,6 @@
 use Rattle.std.proofs.Common.{◌∙◌, sym, ap}
-use Rattle.tftp_ends.proofs.Kept.{where_err}
-use Rattle.tftp_tap.specs.TapPorts.{KnownWays, is_noted}
+use Rattle.tftp_blocks.proofs.Kept.{where_err}
+use Rattle.tftp_tap.specs.{KnownWays, is_noted}
 use Rattle.tftp_tap.proofs.ports.TapPorts.note.Goals as goal
 
 pub returns-in_err-note-clause-absent : goal.returns-in_err-note-clause-absent

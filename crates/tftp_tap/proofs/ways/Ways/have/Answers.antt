@@ -1,5 +1,5 @@
 use Rattle.std.proofs.Common.{◌∙◌, ap}
-use Rattle.tftp_tap.specs.TapPorts.{is_noted}
+use Rattle.tftp_tap.specs.{is_noted}
 use Rattle.tftp_tap.proofs.NotedWays.{noted_by_order}
 use Rattle.tftp_tap.proofs.ways.Ways.have.Goals as goal
 

@@ -1,7 +1,6 @@
-use Rattle.std.proofs.Common.{◌∙◌, sym, ap}
-use Rattle.std.specs.Prelude.{◌||◌}
-use Rattle.tftp_ends.proofs.Kept.{where_err}
-use Rattle.tftp_tap.specs.TapPorts.{same_way, is_noted}
+use Rattle.std.proofs.Common.{◌∙◌, sym, ap, ◌||◌}
+use Rattle.tftp_blocks.proofs.Kept.{where_err}
+use Rattle.tftp_tap.specs.{same_way, is_noted}
 use Rattle.tftp_tap.proofs.NotedWays.{noted_by_order, noted_more}
 use Rattle.tftp_tap.proofs.ways.Ways.note.Goals as goal
 

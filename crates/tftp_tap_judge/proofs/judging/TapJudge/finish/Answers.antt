@@ -1,6 +1,6 @@
 use Rattle.std.proofs.Common.{sym, subst, ap, ◌∙◌}
-use Rattle.tftp_tap.specs.TapRoutes.{transfer_between}
-use Rattle.tftp_tap_judge.specs.TapKept.{IsKeptAtTap, TapJudge}
+use Rattle.tftp_tap.specs.{transfer_between}
+use Rattle.tftp_tap_judge.specs.{IsKeptAtTap, TapJudge}
 use Rattle.tftp_tap_judge.proofs.TapVerdictFound.{nothing_said}
 use Rattle.tftp_tap_judge.proofs.judging.TapJudge.finish.Goals as goal
 

@@ -1,9 +1,7 @@
 use Rattle.std.proofs.Common.{◌∷◌, inl, sym, subst, ap, ◌∙◌}
-use Rattle.tftp_packet.specs.Faults.{opcode_of}
-use Rattle.tftp_tap.specs.TapPorts.{KnownWays, StandsForTap}
-use Rattle.tftp_tap.specs.TapRoutes.{transfer_between}
-use Rattle.tftp_tap_judge.specs.TapKept.{IsKeptAtTap, TapKeeper}
-use Rattle.tftp_tap_judge.specs.TapStops.{passing_of}
+use Rattle.tftp_packet.specs.{opcode_of}
+use Rattle.tftp_tap.specs.{KnownWays, StandsForTap, transfer_between}
+use Rattle.tftp_tap_judge.specs.{IsKeptAtTap, TapKeeper, passing_of}
 use Rattle.tftp_tap_judge.proofs.keeping.TapKeeper.pass.Goals as goal
 
 pub returns-in_err-note-clause-memory : goal.returns-in_err-note-clause-memory

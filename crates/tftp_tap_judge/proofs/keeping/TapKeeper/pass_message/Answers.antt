@@ -1,8 +1,7 @@
 use Rattle.std.proofs.Common.{◌≡◌, ◌∷◌, Some, inr, sym, subst, ap, ◌∙◌}
-use Rattle.tftp_packet.specs.declared.kinds.End.{End}
-use Rattle.tftp_tap.specs.TapRoutes.{transfer_between}
-use Rattle.tftp_tap_judge.specs.TapKept.{IsKeptAtTap, IsTapTransfer, TapKeeper}
-use Rattle.tftp_tap_judge.specs.TapStops.{IsRecorded, passing_of}
+use Rattle.tftp_packet.specs.{End}
+use Rattle.tftp_tap.specs.{transfer_between}
+use Rattle.tftp_tap_judge.specs.{IsKeptAtTap, IsTapTransfer, TapKeeper, IsRecorded, passing_of}
 use Rattle.tftp_tap_judge.proofs.KeeperFound.{message_found}
 use Rattle.tftp_tap_judge.proofs.keeping.TapKeeper.pass_message.Goals as goal
 

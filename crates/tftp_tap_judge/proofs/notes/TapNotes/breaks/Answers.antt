@@ -1,6 +1,6 @@
 use Rattle.std.proofs.Common.{subst}
-use Rattle.tftp_packet.specs.Meaning.{meaning}
-use Rattle.tftp_tap_judge.specs.TapFinds.{IsReadOf}
+use Rattle.tftp_packet.specs.{meaning}
+use Rattle.tftp_tap_judge.specs.{IsReadOf}
 use Rattle.tftp_tap_judge.proofs.OwnFound.{own_found, fault_found}
 use Rattle.tftp_tap_judge.proofs.notes.TapNotes.breaks.Goals as goal
 

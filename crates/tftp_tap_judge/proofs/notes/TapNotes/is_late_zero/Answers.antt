@@ -1,6 +1,5 @@
 use Rattle.std.proofs.Common.{◌≡◌, sym, subst, ap, ◌∙◌}
-use Rattle.tftp_tap_judge.specs.declared.seen.Marks.{Marks}
-use Rattle.tftp_tap_judge.specs.TapSeen.{AreMarks, Notes}
+use Rattle.tftp_tap_judge.specs.{Marks, AreMarks, Notes}
 use Rattle.tftp_tap_judge.proofs.StopsNoted.{late_zero_get, late_zero_put}
 use Rattle.tftp_tap_judge.proofs.notes.TapNotes.is_late_zero.Goals as goal
 

@@ -1,9 +1,8 @@
 use Rattle.std.proofs.Common.{subst, rules, sym, ◌∙◌}
 use Rattle.std.proofs.lemmas.Bool.{true≢false}
-use Rattle.tftp_packet.specs.declared.kinds.End.{End}
-use Rattle.tftp_tap.specs.TapOrder.{before_error}
-use Rattle.tftp_tap.specs.TapRoutes.{tap_tests}
-use Rattle.tftp_tap_judge.specs.TapSeen.{AreMarks}
+use Rattle.tftp_packet.specs.{End}
+use Rattle.tftp_tap.specs.{before_error, tap_tests}
+use Rattle.tftp_tap_judge.specs.{AreMarks}
 use Rattle.tftp_tap_judge.proofs.Lateness.{ahead_found, none_found}
 use Rattle.tftp_tap_judge.proofs.notes.TapNotes.late_ack.Goals as goal
 use Rattle.tftp_tap_judge.proofs.notes.TapNotes.late_ack.Goals.{else-block-eq0-via-then-block-eq0+else-is_late_zero, else-block-eq0-via-else-block-eq0}

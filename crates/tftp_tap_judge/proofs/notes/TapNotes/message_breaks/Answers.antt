@@ -1,12 +1,9 @@
 use Rattle.std.proofs.Common.{None, sym, subst, ◌∙◌}
 use Rattle.std.proofs.lemmas.Bool.{true≢false}
-use Rattle.tftp_packet.specs.Message.{Message}
-use Rattle.tftp_packet.specs.Meaning.{meaning}
-use Rattle.tftp_packet.specs.declared.kinds.Side.{Side}
-use Rattle.tftp_packet.specs.declared.packet.Packet.{Packet}
-use Rattle.tftp_law.specs.Rules.{IsWrongKind}
-use Rattle.tftp_tap.specs.TapRules.{LateBreaks}
-use Rattle.tftp_tap_judge.specs.TapFinds.{FindsRule, IsOtherError, IsOtherRequest}
+use Rattle.tftp_packet.specs.{Message, meaning, Side, Packet}
+use Rattle.tftp_law.specs.{IsWrongKind}
+use Rattle.tftp_tap.specs.{LateBreaks}
+use Rattle.tftp_tap_judge.specs.{FindsRule, IsOtherError, IsOtherRequest}
 use Rattle.tftp_tap_judge.proofs.Lateness.{late_found, error_found, no_late_error, no_other_request_error, no_other_error_ack, no_other_request_ack}
 use Rattle.tftp_tap_judge.proofs.notes.TapNotes.message_breaks.Goals as goal
 

@@ -1,8 +1,6 @@
 use Rattle.std.proofs.Common.{◌≡◌, sym, subst, ap, ◌∙◌}
-use Rattle.tftp_tap.specs.TapOrder.{before_error}
-use Rattle.tftp_tap.specs.TapRoutes.{tap_tests}
-use Rattle.tftp_tap_judge.specs.declared.seen.Marks.{Marks}
-use Rattle.tftp_tap_judge.specs.TapSeen.{AreMarks, Notes}
+use Rattle.tftp_tap.specs.{before_error, tap_tests}
+use Rattle.tftp_tap_judge.specs.{Marks, AreMarks, Notes}
 use Rattle.tftp_tap_judge.proofs.StopsNoted.{none_usable}
 use Rattle.tftp_tap_judge.proofs.notes.TapNotes.usable.Goals as goal
 

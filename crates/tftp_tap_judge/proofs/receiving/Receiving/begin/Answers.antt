@@ -1,10 +1,9 @@
 use Rattle.std.proofs.Common.{[], ◌∷◌, false, sym, subst}
-use Rattle.tftp_packet.specs.declared.kinds.End.{End}
-use Rattle.tftp_ends.specs.CaptureText.{Datagram, Header}
-use Rattle.tftp_judge.specs.Kept.{IsJudgeAfter}
-use Rattle.tftp_tap.specs.TapRules.{header_at}
-use Rattle.tftp_tap_judge.specs.TapKept.{IsReceiving}
-use Rattle.tftp_tap_judge.specs.TapStops.{IsRecorded}
+use Rattle.tftp_packet.specs.{End}
+use Rattle.tftp_hosts.specs.{Datagram, Header}
+use Rattle.tftp_judge.specs.{IsJudgeAfter}
+use Rattle.tftp_tap.specs.{header_at}
+use Rattle.tftp_tap_judge.specs.{IsReceiving, IsRecorded}
 use Rattle.tftp_tap_judge.proofs.Receivings.{header_is, kept_first}
 use Rattle.tftp_tap_judge.proofs.receiving.Receiving.begin.Goals as goal
 

@@ -1,16 +1,11 @@
 use Rattle.std.proofs.Common.{◌≡◌, ◌∷◌, true, Err, sym, subst, ap, ◌∙◌}
-use Rattle.tftp_packet.specs.Faults.{opcode_of}
-use Rattle.tftp_packet.specs.declared.kinds.End.TheVariants.{Server}
-use Rattle.tftp_ends.specs.CaptureText.{Datagram}
-use Rattle.tftp_ends.specs.Roles.{receiver_of}
-use Rattle.tftp_judge.specs.Finds.{Refuses}
-use Rattle.tftp_judge.specs.Kept.{IsJudgeAfter}
-use Rattle.tftp_law.specs.OneEnded.{Passes}
-use Rattle.tftp_tap.specs.TapOrder.{same_end}
-use Rattle.tftp_tap.specs.TapRules.{header_at, kept_between}
-use Rattle.tftp_tap_judge.specs.TapKept.{IsReceiving, Receiving}
-use Rattle.tftp_tap_judge.specs.TapStops.{FindsTo, ReceiverBreaks}
-use Rattle.tftp_tap_judge.specs.declared.stop.Stop.{Stop}
+use Rattle.tftp_packet.specs.{opcode_of, Server}
+use Rattle.tftp_hosts.specs.{Datagram}
+use Rattle.tftp_model.specs.Roles.{receiver_of}
+use Rattle.tftp_judge.specs.{Refuses, IsJudgeAfter}
+use Rattle.tftp_law.specs.{Passes}
+use Rattle.tftp_tap.specs.{same_end, header_at, kept_between}
+use Rattle.tftp_tap_judge.specs.{IsReceiving, Receiving, FindsTo, ReceiverBreaks, Stop}
 use Rattle.tftp_tap_judge.specs.declared.stop.Stop.TheVariants as stop
 use Rattle.tftp_tap_judge.proofs.Receivings.{kept_more, refused_found, refused_takes, recorded_same, said_client, said_server}
 use Rattle.tftp_tap_judge.proofs.receiving.Receiving.pass.Goals as goal

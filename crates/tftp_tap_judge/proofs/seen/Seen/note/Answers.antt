@@ -1,11 +1,8 @@
 use Rattle.std.proofs.Common.{◌≡◌, ℕ, sym, subst, rules}
-use Rattle.tftp_packet.specs.Message.{Message}
-use Rattle.tftp_packet.specs.Meaning.{meaning}
-use Rattle.tftp_packet.specs.Spelling.{Spells}
-use Rattle.tftp_packet.specs.declared.packet.Packet.{Packet}
-use Rattle.tftp_tap.specs.TapRules.{IsOack}
-use Rattle.tftp_ends.proofs.Kept.{where_err}
-use Rattle.tftp_tap_judge.specs.TapSeen.{IsNewBlock, Seen, AreSeen}
+use Rattle.tftp_packet.specs.{Message, meaning, Spells, Packet}
+use Rattle.tftp_tap.specs.{IsOack}
+use Rattle.tftp_blocks.proofs.Kept.{where_err}
+use Rattle.tftp_tap_judge.specs.{IsNewBlock, Seen, AreSeen}
 use Rattle.tftp_tap_judge.proofs.SeenNoted.{IsQuiet, oack_seen, zero_seen, quiet_seen}
 use Rattle.tftp_tap_judge.proofs.seen.Seen.note.Goals as goal
 

@@ -1,11 +1,10 @@
 use Rattle.std.proofs.Common.{◌≡◌, [], sym, subst, ap, ◌∙◌}
-use Rattle.tftp_packet.specs.Message.{Message}
-use Rattle.tftp_packet.specs.declared.kinds.End.{End}
-use Rattle.tftp_ends.specs.Roles.{receiver_of}
-use Rattle.tftp_law.specs.OneEnded.{Passes}
-use Rattle.tftp_tap.specs.TapRules.{header_at, recorded_at}
+use Rattle.tftp_packet.specs.{Message, End}
+use Rattle.tftp_model.specs.Roles.{receiver_of}
+use Rattle.tftp_law.specs.{Passes}
+use Rattle.tftp_tap.specs.{header_at, recorded_at}
 use Rattle.tftp_tap.proofs.TapTests.{asks_says}
-use Rattle.tftp_tap_judge.specs.TapStops.{IsRecorded}
+use Rattle.tftp_tap_judge.specs.{IsRecorded}
 use Rattle.tftp_tap_judge.proofs.TransferFound.{asked_first, request_no_error}
 use Rattle.tftp_tap_judge.proofs.transfer.TapTransfer.begin.Goals as goal
 

@@ -1,7 +1,6 @@
 use Rattle.std.proofs.Common.{sym, subst}
-use Rattle.tftp_tap_judge.specs.TapKept.{IsTapTransfer, TapTransfer}
-use Rattle.tftp_tap.specs.TapRoutes.{transfer_between}
-use Rattle.tftp_tap_judge.specs.TapVerdict.{IsTapVerdict}
+use Rattle.tftp_tap_judge.specs.{IsTapTransfer, TapTransfer, IsTapVerdict}
+use Rattle.tftp_tap.specs.{transfer_between}
 use Rattle.tftp_tap_judge.proofs.TapVerdictFound.{said_found}
 use Rattle.tftp_tap_judge.proofs.transfer.TapTransfer.finish.Goals as goal
 

@@ -1,16 +1,9 @@
 use Rattle.std.proofs.Common.{◌≡◌, ◌∷◌, List, Result, Ok, Err, true, inl, inr, rules, sym, subst, ap, ◌∙◌}
 use Rattle.std.proofs.lemmas.Result.{err_from_is_err_and}
-use Rattle.tftp_packet.specs.Message.{RequestParts}
-use Rattle.tftp_packet.specs.Meaning.{meaning}
-use Rattle.tftp_ends.specs.Roles.{receiver_of}
-use Rattle.tftp_tap.specs.TapCapture.{TapDatagram, TapSides, AreApart, side_of}
-use Rattle.tftp_tap.specs.TapRoutes.{is_passing, tap_route, transfer_between}
-use Rattle.tftp_tap.specs.TapRules.{BreaksNoTapRule}
-use Rattle.tftp_tap.specs.declared.route.TapRoute.TheVariants.{Request}
-use Rattle.tftp_tap_judge.specs.TapFinds.{IsReadOf}
-use Rattle.tftp_tap_judge.specs.TapKept.{IsReceiving, IsTapTransfer, TapTransfer}
-use Rattle.tftp_tap_judge.specs.TapStops.{FindsTo, IsReadUnless, IsRecorded, TransferBreaks}
-use Rattle.tftp_tap_judge.specs.declared.stop.Stop.{Stop}
+use Rattle.tftp_packet.specs.{RequestParts, meaning}
+use Rattle.tftp_model.specs.Roles.{receiver_of}
+use Rattle.tftp_tap.specs.{TapDatagram, TapSides, AreApart, side_of, is_passing, tap_route, transfer_between, BreaksNoTapRule, Request}
+use Rattle.tftp_tap_judge.specs.{IsReadOf, IsReceiving, IsTapTransfer, TapTransfer, FindsTo, IsReadUnless, IsRecorded, TransferBreaks, Stop}
 use Rattle.tftp_tap_judge.specs.declared.stop.Stop.TheVariants.{Memory}
 use Rattle.tftp_tap_judge.proofs.KeeperFound.{none_there}
 use Rattle.tftp_tap_judge.proofs.Receivings.{recorded_same}

@@ -1,12 +1,9 @@
-use Rattle.std.proofs.Common.{◌≡◌, ◌∷◌, [], List, map, true, reverse, sym, ap, ◌∙◌, subst}
-use Rattle.std.specs.Prelude.{filter}
+use Rattle.std.proofs.Common.{◌≡◌, ◌∷◌, [], List, map, true, reverse, sym, ap, ◌∙◌, subst, filter}
 use Rattle.std.proofs.lemmas.List.{map-append}
-use Rattle.tftp_transfers.specs.Views.{is_about}
-use Rattle.tftp_views.specs.Kept.{AreHeld, IsFed}
-use Rattle.tftp_views.specs.declared.held.Held.{Held}
+use Rattle.tftp_transfers.specs.{is_about}
+use Rattle.tftp_views.specs.{AreHeld, IsFed, Held}
 use Rattle.tftp_views.proofs.Holding.{held_newest}
-use Rattle.tftp_texts.specs.Kept.{AreNotesAfter, Notes}
-use Rattle.tftp_texts.specs.declared.noted.Noted.{Noted}
+use Rattle.tftp_texts.specs.{AreNotesAfter, Notes, Noted}
 use Rattle.tftp_texts.proofs.transfer_text.TransferText.keep.Goals as goal
 
 pub returns-clause-after : goal.returns-clause-after

@@ -1,9 +1,9 @@
 use Rattle.std.proofs.Common.{◌≡◌, ◌∷◌, List, false, map, reverse, sym, ap, ◌∙◌, subst}
-use Rattle.tftp_transfers.specs.Places.{Placed}
-use Rattle.tftp_transfers.specs.Views.{is_about}
-use Rattle.tftp_views.specs.Kept.{AreHeld}
+use Rattle.tftp_lines.specs.{Placed}
+use Rattle.tftp_transfers.specs.{is_about}
+use Rattle.tftp_views.specs.{AreHeld}
 use Rattle.tftp_views.proofs.Holding.{ends_too, same_own}
-use Rattle.tftp_texts.specs.Kept.{AreNotesAfter, Notes}
+use Rattle.tftp_texts.specs.{AreNotesAfter, Notes}
 use Rattle.tftp_texts.proofs.transfer_text.TransferText.note.Goals as goal
 
 pub returns-then-not-is_about-clause-after : goal.returns-then-not-is_about-clause-after

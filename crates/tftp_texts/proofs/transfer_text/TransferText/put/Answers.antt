@@ -1,7 +1,7 @@
 use Rattle.std.proofs.Common.{◌≡◌, true, sym, ap, ◌∙◌, subst}
-use Rattle.tftp_packet.specs.declared.kinds.Dir.TheVariants.{In, Out}
-use Rattle.tftp_views.specs.Kept.{IsFed}
-use Rattle.tftp_texts.specs.Views.{is_seen}
+use Rattle.tftp_hosts.specs.{In, Out}
+use Rattle.tftp_views.specs.{IsFed}
+use Rattle.tftp_texts.specs.{is_seen}
 use Rattle.tftp_texts.proofs.Writing.{ShowsNote, added_none, added_one, got, on_written, sent, unseen}
 use Rattle.tftp_texts.proofs.transfer_text.TransferText.put.Goals as goal
 

@@ -1,14 +1,10 @@
-use Rattle.std.proofs.Common.{◌≡◌, ◌∷◌, ◌++◌, [], List, length, map, take, reverse, rules, arith, append_assoc, refl, sym, ap, ◌∙◌, subst}
-use Rattle.std.specs.Prelude.{filter}
+use Rattle.std.proofs.Common.{◌≡◌, ◌∷◌, ◌++◌, [], List, length, map, take, reverse, rules, arith, append_assoc, refl, sym, ap, ◌∙◌, subst, filter}
 use Rattle.std.proofs.lemmas.List.Elements.{All-append, All-cons}
-use Rattle.tftp_capture.specs.Commented.{commented_text, said_in}
+use Rattle.tftp_capture.specs.{commented_text, said_in, HasWrittenHosts}
 use Rattle.tftp_capture.specs.Commented.Entry.{Comment}
-use Rattle.tftp_capture.specs.Written.{HasWrittenHosts}
-use Rattle.tftp_transfers.specs.Views.{is_about}
-use Rattle.tftp_views.specs.Kept.{AreHeld}
-use Rattle.tftp_texts.specs.Kept.{Notes}
-use Rattle.tftp_texts.specs.Views.{HasComment, capture_at, header_at}
-use Rattle.tftp_texts.specs.declared.noted.Noted.{Noted}
+use Rattle.tftp_transfers.specs.{is_about}
+use Rattle.tftp_views.specs.{AreHeld}
+use Rattle.tftp_texts.specs.{Notes, HasComment, capture_at, header_at, Noted}
 use Rattle.tftp_texts.proofs.Captures.{capture_more, header_is, own_capture}
 use Rattle.tftp_texts.proofs.Entries.{said-append}
 use Rattle.tftp_texts.proofs.Notes.{IsFedAs, all_taken, at_place}

@@ -1,13 +1,10 @@
-use Rattle.std.proofs.Common.{◌≡◌, ◌≤◌, ◌++◌, ℕ, List, All, Option, false, take, reverse}
-use Rattle.std.specs.Prelude.{filter}
+use Rattle.std.proofs.Common.{◌≡◌, ◌≤◌, ◌++◌, ℕ, List, All, Option, false, take, reverse, filter}
 use Rattle.tftp_capture.specs.CaptureText.{Header}
-use Rattle.tftp_capture.specs.Commented.{Entry, said_in}
-use Rattle.tftp_capture.specs.Written.{HasWrittenHosts}
-use Rattle.tftp_transfers.specs.Places.{Placed}
-use Rattle.tftp_transfers.specs.Views.{is_about}
-use Rattle.tftp_views.specs.Captured.{Naming}
-use Rattle.tftp_texts.specs.Kept.{AreNotesAfter}
-use Rattle.tftp_texts.specs.Views.{HasComment, capture_at}
+use Rattle.tftp_capture.specs.{Entry, said_in, HasWrittenHosts}
+use Rattle.tftp_lines.specs.{Placed}
+use Rattle.tftp_transfers.specs.{is_about}
+use Rattle.tftp_views.specs.{Naming}
+use Rattle.tftp_texts.specs.{AreNotesAfter, HasComment, capture_at}
 use Rattle.tftp_texts.proofs.transfer_text.TransferText.write.Given as goal
 
 abbrev pub invariant-loop-noted : goal.invariant-loop-noted

@@ -1,6 +1,6 @@
-use Rattle.std.proofs.Common.{sym, ap, ◌∙◌}
-use Rattle.std.specs.Prelude.{◌&&◌, ◌||◌, not, is_some}
-use Rattle.tftp_transfers.specs.Places.{is_service, live, line, talk_in}
+use Rattle.std.proofs.Common.{sym, ap, ◌∙◌, ◌&&◌, ◌||◌, not, is_some}
+use Rattle.tftp_lines.specs.{live, line, talk_in}
+use Rattle.tftp_transfers.specs.{is_service}
 use Rattle.tftp_transfers.proofs.attribution.Attribution.asks.Goals as goal
 
 pub returns : goal.returns

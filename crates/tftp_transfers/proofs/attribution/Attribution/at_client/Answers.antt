@@ -1,5 +1,6 @@
 use Rattle.std.proofs.Common.{ap, ◌∙◌}
-use Rattle.tftp_transfers.specs.Places.{live, line, place_at, either}
+use Rattle.tftp_lines.specs.{live, line, place_at}
+use Rattle.tftp_transfers.specs.{either}
 use Rattle.tftp_transfers.proofs.attribution.Attribution.at_client.Goals as goal
 
 pub returns : goal.returns

@@ -1,5 +1,5 @@
 use Rattle.std.proofs.Common.{ap, ◌∙◌}
-use Rattle.tftp_transfers.specs.Places.{served_at, beside_by}
+use Rattle.tftp_transfers.specs.{served_at, beside_by}
 use Rattle.tftp_transfers.proofs.attribution.Attribution.beside.Goals as goal
 
 pub returns : goal.returns

@@ -1,7 +1,5 @@
 use Rattle.std.proofs.Common.{◌≡◌, Some, sym, subst, ◌∙◌}
-use Rattle.tftp_transfers.specs.declared.place.Transfer.{Transfer}
-use Rattle.tftp_transfers.specs.Places.{live, line}
-use Rattle.tftp_transfers.specs.Kept.{IsLineOf}
+use Rattle.tftp_lines.specs.{Transfer, live, line, IsLineOf}
 use Rattle.tftp_transfers.proofs.Doubting.{none_doubted}
 use Rattle.tftp_transfers.proofs.Ends.{IsWhere, placed_where}
 use Rattle.tftp_transfers.proofs.attribution.Attribution.doubts.Goals as goal

@@ -1,8 +1,7 @@
 use Rattle.std.proofs.Common.{◌≡◌, ◌≤◌, ◌∷◌, max, sym, ap, subst, ◌∙◌}
 use Rattle.std.proofs.Math.Nat.{le-max_right}
-use Rattle.tftp_transfers.specs.Places.{clock, place_of, and_then, Placed}
-use Rattle.tftp_transfers.specs.Doubts.{doubts_of}
-use Rattle.tftp_transfers.specs.Kept.{seen_of, kind_of, IsAfter}
+use Rattle.tftp_lines.specs.{clock, Placed, doubts_of, seen_of, kind_of}
+use Rattle.tftp_transfers.specs.{place_of, and_then, IsAfter}
 use Rattle.tftp_transfers.proofs.attribution.Attribution.feed.Goals as goal
 
 pub returns-in-Ok-clause-doubts : goal.returns-in-Ok-clause-doubts

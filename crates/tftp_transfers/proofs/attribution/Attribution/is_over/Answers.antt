@@ -1,7 +1,6 @@
-use Rattle.std.proofs.Common.{◌≡◌, ◌≢◌, ◌≤◌, [], max, sym, ap, subst, ◌∙◌}
-use Rattle.std.specs.Prelude.{MatchBool}
+use Rattle.std.proofs.Common.{◌≡◌, ◌≢◌, ◌≤◌, [], max, sym, ap, subst, ◌∙◌, MatchBool}
 use Rattle.std.proofs.Math.Nat.{le-max_right}
-use Rattle.tftp_transfers.specs.Places.{clock, live, line}
+use Rattle.tftp_lines.specs.{clock, live, line}
 use Rattle.tftp_transfers.proofs.attribution.Attribution.is_over.Goals as goal
 
 pub returns : goal.returns

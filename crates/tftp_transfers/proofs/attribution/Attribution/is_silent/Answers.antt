@@ -1,4 +1,4 @@
-use Rattle.tftp_transfers.specs.Places.{live, line}
+use Rattle.tftp_lines.specs.{live, line}
 use Rattle.tftp_transfers.proofs.Serving.{line_some}
 use Rattle.tftp_transfers.proofs.attribution.Attribution.is_silent.Goals as goal
 

@@ -1,5 +1,5 @@
 use Rattle.std.proofs.Common.{◌+◌, length, refl, sym, ap, subst, add-one, ◌∙◌}
-use Rattle.tftp_transfers.specs.Kept.{AreServices, AreServed}
+use Rattle.tftp_transfers.specs.{AreServices, AreServed}
 use Rattle.tftp_transfers.proofs.attribution.Attribution.keep.Goals as goal
 
 pub returns-clause-stands : goal.returns-clause-stands

@@ -1,11 +1,6 @@
-use Rattle.std.proofs.Common.{◌≡◌, true, ◌∷◌, length, Some, refl, sym, ap, subst, ◌∙◌}
-use Rattle.std.specs.Prelude.{OnOk}
-use Rattle.tftp_transfers.specs.declared.place.Place.{Place}
-use Rattle.tftp_transfers.specs.declared.place.Transfer.{Transfer}
-use Rattle.tftp_transfers.specs.Recording.{is_between}
-use Rattle.tftp_transfers.specs.Places.{live, line, place_asked}
-use Rattle.tftp_transfers.specs.Kept.{AreLinesOf, other_end}
-use Rattle.tftp_transfers.proofs.AllLines.{lines_same}
+use Rattle.std.proofs.Common.{◌≡◌, true, ◌∷◌, length, Some, refl, sym, ap, subst, ◌∙◌, OnOk}
+use Rattle.tftp_lines.specs.{Place, Transfer, is_between, live, line, place_asked, AreLinesOf, other_end}
+use Rattle.tftp_lines.proofs.AllLines.{lines_same}
 use Rattle.tftp_transfers.proofs.Ends.{IsWhere, placed_where}
 use Rattle.tftp_transfers.proofs.Serving.{between_other}
 use Rattle.tftp_transfers.proofs.attribution.Attribution.keep_line.Goals as goal

@@ -1,6 +1,5 @@
 use Rattle.std.proofs.Common.{◌≡◌, true, false, Some, sym, subst, ◌∙◌}
-use Rattle.tftp_transfers.specs.Places.{last_served}
-use Rattle.tftp_transfers.specs.Kept.{IsServedKept}
+use Rattle.tftp_transfers.specs.{last_served, IsServedKept}
 use Rattle.tftp_transfers.proofs.Serving.{served_is, served_later}
 use Rattle.tftp_transfers.proofs.attribution.Attribution.last_served.Goals as goal
 

@@ -1,7 +1,6 @@
 use Rattle.std.proofs.Common.{sym, subst, ◌∙◌}
-use Rattle.tftp_transfers.specs.Places.{line, clock}
-use Rattle.tftp_transfers.specs.Kept.{IsLineOf, IsLineKept}
-use Rattle.tftp_transfers.proofs.Silences.{live_kept, live_lost, live_later}
+use Rattle.tftp_lines.specs.{line, clock, IsLineOf, IsLineKept}
+use Rattle.tftp_lines.proofs.Silences.{live_kept, live_lost, live_later}
 use Rattle.tftp_transfers.proofs.attribution.Attribution.line.Goals as goal
 
 pub returns-then-is_live : goal.returns-then-is_live

@@ -1,6 +1,5 @@
 use Rattle.std.proofs.Common.{◌≡◌, [], sym, ap, subst, ◌∙◌}
-use Rattle.tftp_transfers.specs.declared.place.Place.TheVariants.{Opens}
-use Rattle.tftp_transfers.specs.Places.{live, line, place_asked}
+use Rattle.tftp_lines.specs.{Opens, live, line, place_asked}
 use Rattle.tftp_transfers.proofs.attribution.Attribution.place_asked.Goals as goal
 
 pub returns-in-None : goal.returns-in-None

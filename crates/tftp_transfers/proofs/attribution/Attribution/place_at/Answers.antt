@@ -1,5 +1,5 @@
 use Rattle.std.proofs.Common.{sym, ap, ◌∙◌}
-use Rattle.tftp_transfers.specs.Places.{live, line, place_at}
+use Rattle.tftp_lines.specs.{live, line, place_at}
 use Rattle.tftp_transfers.proofs.attribution.Attribution.place_at.Goals as goal
 
 pub returns-in-None : goal.returns-in-None

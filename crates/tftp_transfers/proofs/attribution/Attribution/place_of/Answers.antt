@@ -1,7 +1,6 @@
-use Rattle.std.proofs.Common.{◌≡◌, Bool, true, false, length, sym, ap, ◌∙◌}
-use Rattle.std.specs.Prelude.{if◌then◌else◌}
-use Rattle.tftp_transfers.specs.declared.place.Place.{Place}
-use Rattle.tftp_transfers.specs.Places.{live, line, place_asked, is_nowhere, at_client, beside}
+use Rattle.std.proofs.Common.{◌≡◌, Bool, true, false, length, sym, ap, ◌∙◌, if◌then◌else◌}
+use Rattle.tftp_lines.specs.{Place, live, line, place_asked}
+use Rattle.tftp_transfers.specs.{is_nowhere, at_client, beside}
 use Rattle.tftp_transfers.proofs.attribution.Attribution.place_of.Goals as goal
 
 asked : (is : Bool) (one two three : Place) (nowhere : Bool) → is ≡ true → one ≡ (if is then one else if nowhere then two else three)

@@ -1,6 +1,5 @@
-use Rattle.std.proofs.Common.{None, sym, ap, ◌∙◌}
-use Rattle.std.specs.Prelude.{if◌then◌else◌}
-use Rattle.tftp_transfers.specs.Places.{served_by}
+use Rattle.std.proofs.Common.{None, sym, ap, ◌∙◌, if◌then◌else◌}
+use Rattle.tftp_transfers.specs.{served_by}
 use Rattle.tftp_transfers.proofs.attribution.Attribution.served_at.Goals as goal
 
 pub returns : goal.returns

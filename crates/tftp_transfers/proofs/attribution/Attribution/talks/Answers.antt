@@ -1,6 +1,5 @@
-use Rattle.std.proofs.Common.{sym, ap, ◌∙◌}
-use Rattle.std.specs.Prelude.{is_some}
-use Rattle.tftp_transfers.specs.Places.{live, line, talk_in}
+use Rattle.std.proofs.Common.{sym, ap, ◌∙◌, is_some}
+use Rattle.tftp_lines.specs.{live, line, talk_in}
 use Rattle.tftp_transfers.proofs.attribution.Attribution.talks.Goals as goal
 
 pub returns-in-None : goal.returns-in-None

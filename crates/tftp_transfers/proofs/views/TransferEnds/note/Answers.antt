@@ -1,10 +1,6 @@
-use Rattle.std.proofs.Common.{◌≡◌, false, Option, refl, sym, ap, ◌∙◌, subst}
-use Rattle.tftp_ends.specs.Ports.{or_this}
-use Rattle.tftp_transfers.specs.declared.endpoint.Endpoint.{Endpoint}
-use Rattle.tftp_transfers.specs.declared.place.Place.{Place}
-use Rattle.tftp_transfers.specs.declared.views.TransferEnds.{TransferEnds}
-use Rattle.tftp_transfers.specs.Places.{Placed}
-use Rattle.tftp_transfers.specs.Views.{is_of}
+use Rattle.std.proofs.Common.{◌≡◌, false, Option, refl, sym, ap, ◌∙◌}
+use Rattle.tftp_lines.specs.{Endpoint, Placed, is_of}
+use Rattle.tftp_transfers.specs.{TransferEnds}
 use Rattle.tftp_transfers.proofs.OwnDatagrams.{comes_none, goes_none, none_passes, of_place, opens_none}
 use Rattle.tftp_transfers.proofs.views.TransferEnds.note.Goals as goal
 

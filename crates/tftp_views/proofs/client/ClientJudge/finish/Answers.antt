@@ -1,7 +1,5 @@
 use Rattle.std.proofs.Common.{ap, ◌∙◌, sym, subst}
-use Rattle.tftp_views.specs.Captured.{client_capture, client_header}
-use Rattle.tftp_views.specs.Judged.{HasJudged}
-use Rattle.tftp_views.specs.Kept.{Client}
+use Rattle.tftp_views.specs.{client_capture, client_header, HasJudged, Client}
 use Rattle.tftp_views.proofs.client.ClientJudge.finish.Goals as goal
 
 pub returns-clause-memory : goal.returns-clause-memory

@@ -1,6 +1,5 @@
 use Rattle.std.proofs.Common.{ap, ◌∙◌, sym, subst}
-use Rattle.tftp_views.specs.Judged.{HasJudged}
-use Rattle.tftp_views.specs.Kept.{OneEnd}
+use Rattle.tftp_views.specs.{HasJudged, OneEnd}
 use Rattle.tftp_views.proofs.Judging.{finished, judged_with, stands_for}
 use Rattle.tftp_views.proofs.end_judge.EndJudge.finish.Goals as goal
 

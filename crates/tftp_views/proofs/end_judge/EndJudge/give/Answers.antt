@@ -1,7 +1,6 @@
 use Rattle.std.proofs.Common.{sym, subst}
-use Rattle.tftp_capture.specs.Fields.{datagram_of}
-use Rattle.tftp_views.specs.Judged.{HasJudged}
-use Rattle.tftp_views.specs.Kept.{OneEnd}
+use Rattle.tftp_capture.specs.{datagram_of}
+use Rattle.tftp_views.specs.{HasJudged, OneEnd}
 use Rattle.tftp_views.proofs.Judging.{given_more}
 use Rattle.tftp_views.proofs.end_judge.EndJudge.give.Goals as goal
 

@@ -1,7 +1,5 @@
 use Rattle.std.proofs.Common.{ap, ◌∙◌, sym, subst}
-use Rattle.tftp_views.specs.Captured.{server_capture, server_header}
-use Rattle.tftp_views.specs.Judged.{HasJudged}
-use Rattle.tftp_views.specs.Kept.{Server}
+use Rattle.tftp_views.specs.{server_capture, server_header, HasJudged, Server}
 use Rattle.tftp_views.proofs.server.ServerJudge.finish.Goals as goal
 
 pub returns-clause-memory : goal.returns-clause-memory

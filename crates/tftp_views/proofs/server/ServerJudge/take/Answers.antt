@@ -1,10 +1,8 @@
 use Rattle.std.proofs.Common.{◌≡◌, ◌∷◌, true, List, sym, ap, ◌∙◌, subst}
-use Rattle.tftp_capture.specs.Fields.{datagram_of}
-use Rattle.tftp_ends.specs.CaptureText.{Datagram}
-use Rattle.tftp_transfers.specs.Views.{is_at_server}
-use Rattle.tftp_views.specs.Captured.{captured_at_server, server_capture, server_header}
-use Rattle.tftp_views.specs.Judged.{HasJudged}
-use Rattle.tftp_views.specs.Kept.{IsServerAfter, Server}
+use Rattle.tftp_capture.specs.{datagram_of}
+use Rattle.tftp_hosts.specs.{Datagram}
+use Rattle.tftp_transfers.specs.{is_at_server}
+use Rattle.tftp_views.specs.{captured_at_server, server_capture, server_header, HasJudged, IsServerAfter, Server}
 use Rattle.tftp_views.proofs.Feeding.{passed_as, seen_too}
 use Rattle.tftp_views.proofs.server.ServerJudge.take.Goals as goal
 

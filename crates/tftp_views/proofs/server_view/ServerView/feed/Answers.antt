@@ -1,9 +1,7 @@
-use Rattle.std.proofs.Common.{◌≡◌, ◌∷◌, Some, false, true, refl, sym, ap, ◌∙◌, subst}
-use Rattle.std.specs.Prelude.{Option}
-use Rattle.tftp_transfers.specs.Views.{is_about}
-use Rattle.tftp_transfers.specs.Settled.{is_settled}
-use Rattle.tftp_transfers.specs.declared.place.Transfer.{Transfer}
-use Rattle.tftp_views.specs.Kept.{IsGoingOn, IsViewAfter, Server, View, ViewedBy}
+use Rattle.std.proofs.Common.{◌≡◌, ◌∷◌, Some, false, true, refl, sym, ap, ◌∙◌, subst, Option}
+use Rattle.tftp_transfers.specs.{is_about, is_settled}
+use Rattle.tftp_lines.specs.{Transfer}
+use Rattle.tftp_views.specs.{IsGoingOn, IsViewAfter, Server, View, ViewedBy}
 use Rattle.tftp_views.proofs.Holding.{goes_on_too, on_ok, passes_by}
 use Rattle.tftp_views.proofs.server_view.ServerView.feed.Goals as goal
 

@@ -1,10 +1,7 @@
-use Rattle.std.proofs.Common.{sym, ap, ◌∙◌, subst}
-use Rattle.std.specs.Prelude.{filter, Option}
-use Rattle.tftp_transfers.specs.declared.place.Transfer.{Transfer}
-use Rattle.tftp_transfers.specs.Views.{is_about}
-use Rattle.tftp_views.specs.Captured.{server_capture, server_header}
-use Rattle.tftp_views.specs.Judged.{IsJudgedWith}
-use Rattle.tftp_views.specs.Kept.{IsServerAfter, IsViewAfter, IsWaiting, Server, View, ViewedBy}
+use Rattle.std.proofs.Common.{sym, ap, ◌∙◌, subst, filter, Option}
+use Rattle.tftp_lines.specs.{Transfer}
+use Rattle.tftp_transfers.specs.{is_about}
+use Rattle.tftp_views.specs.{server_capture, server_header, IsJudgedWith, IsServerAfter, IsViewAfter, IsWaiting, Server, View, ViewedBy}
 use Rattle.tftp_views.proofs.Holding.{own_alone}
 use Rattle.tftp_views.proofs.server_view.ServerView.finish.Goals as goal
 

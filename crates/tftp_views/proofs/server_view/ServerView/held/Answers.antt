@@ -1,5 +1,5 @@
 use Rattle.std.proofs.Common.{◌≡◌, length, ap, arith}
-use Rattle.tftp_views.specs.Kept.{View}
+use Rattle.tftp_views.specs.{View}
 use Rattle.tftp_views.proofs.Holding.{held_own}
 use Rattle.tftp_views.proofs.server_view.ServerView.held.Goals as goal
 

@@ -1,11 +1,7 @@
-use Rattle.std.proofs.Common.{◌≡◌, ◌∷◌, List, None, Some, true, reverse, sym, ap, ◌∙◌, subst}
-use Rattle.std.specs.Prelude.{filter, Option}
-use Rattle.tftp_transfers.specs.Kept.{AreEndsAfter}
-use Rattle.tftp_transfers.specs.declared.place.Transfer.{Transfer}
-use Rattle.tftp_transfers.specs.Settled.{is_settled}
-use Rattle.tftp_transfers.specs.Views.{is_about}
-use Rattle.tftp_views.specs.declared.held.Held.{Held}
-use Rattle.tftp_views.specs.Kept.{AreHeld, IsFed, IsGoingOn, IsServerAfter, IsViewAfter, IsWaiting, Server, View, ViewedBy}
+use Rattle.std.proofs.Common.{◌≡◌, ◌∷◌, List, None, Some, true, reverse, sym, ap, ◌∙◌, subst, filter, Option}
+use Rattle.tftp_transfers.specs.{AreEndsAfter, is_settled, is_about}
+use Rattle.tftp_lines.specs.{Transfer}
+use Rattle.tftp_views.specs.{Held, AreHeld, IsFed, IsGoingOn, IsServerAfter, IsViewAfter, IsWaiting, Server, View, ViewedBy}
 use Rattle.tftp_views.proofs.Holding.{held_newest, own_alone}
 use Rattle.tftp_views.proofs.server_view.ServerView.wait.Goals as goal
 use Rattle.tftp_views.proofs.server_view.ServerView.wait.Goals.{in-Some-1, in-None-3}

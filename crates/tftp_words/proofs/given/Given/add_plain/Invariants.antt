@@ -1,5 +1,5 @@
 use Rattle.std.proofs.Common.{◌++◌, List, map, take}
-use Rattle.tftp_words.specs.Parts.{Part, Plain, Holds}
+use Rattle.tftp_words.specs.{Part, Plain, Holds}
 use Rattle.tftp_words.proofs.given.Given.add_plain.Given as goal
 
 -- the words so far are added

@@ -1,0 +1,32 @@
+//! A datagram of a recording.
+
+use tftp_lines::{Endpoint, Place};
+
+/// A datagram as it passed in a recording.
+#[derive(Clone, Copy)]
+pub struct Passing<'a> {
+    /// The number of its frame, from 1.
+    pub frame: u64,
+    /// In nanoseconds since 1970, where the recording tells it.
+    pub time: Option<u64>,
+    /// Whether it may be a copy of the datagram before it.
+    pub is_doubtful: bool,
+    /// Where it came from.
+    pub source: Endpoint,
+    /// Where it went.
+    pub target: Endpoint,
+    /// What it carried.
+    pub payload: &'a [u8],
+}
+
+/// The number of the transfer of which a datagram there is, at its client or beside its server.
+pub fn about(place: &Place) -> Option<u64> {
+    match place {
+        Place::Opens(transfer) => Some(transfer.number),
+        Place::Repeats(transfer) => Some(transfer.number),
+        Place::Talks(transfer) => Some(transfer.number),
+        Place::Beside(transfer) => Some(transfer.number),
+        Place::Apart(_) => None,
+        Place::Nowhere => None,
+    }
+}

@@ -1,0 +1,13 @@
+//! Stores of the blocks that have passed: which a window may take, and the file that they make.
+#![tactic(auto)]
+
+mod delivered;
+pub mod laws;
+mod map_delivered;
+mod ring_delivered;
+mod taking;
+mod waiting;
+
+pub use delivered::{Delivered, Placed};
+pub use map_delivered::MapDelivered;
+pub use ring_delivered::RingDelivered;

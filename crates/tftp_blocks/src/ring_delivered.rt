@@ -1,0 +1,176 @@
+ghost use Rattle.std.specs.Prelude.{◌≡◌, ◌+◌, ◌≤◌, [], None, length, ◌++◌, slice_index_or};
+ghost use Rattle.std.specs.Vec.{vec_capacity};
+ghost use Rattle.tftp_blocks.specs.Ring.{cut, leading, filled, IsRow};
+
+use crate::delivered::{Delivered, Placed};
+use crate::taking::may_take;
+use crate::waiting::Waiting;
+use std::alloc::{AllocError, Global};
+use std::marker::Model;
+
+/// The blocks up to the front joined, and a ring for those above it. A block that waits is copied once when it comes,
+/// into the bytes that all of them share, and moved once when the front passes it.
+#[derive(Drop)]
+pub struct RingDelivered {
+    // the bytes of the blocks 1 to `front`
+    joined: Vec<u8>,
+    // place i stands for block front + 1 + i, and the last place has a block
+    pending: Waiting,
+    front: u16,
+    // how many places have a block
+    waiting: u16,
+    block_size: u16,
+    window: u16,
+}
+
+impl Model for RingDelivered {
+    ghost use Rattle.std.specs.Prelude.{ℕ, ◌++◌};
+    ghost use Rattle.tftp_blocks.specs.Ring.{Slots, cut, IsRing, IsRoom};
+
+    ghost Value = { Slots × ℕ × ℕ × ℕ };
+
+    ghost view = { λ a. (cut a.block_size a.front a.joined.items ++ a.pending.0, a.block_size, a.window, a.pending.1) };
+
+    ghost invariant = { λ a. IsRing a.block_size a.window a.joined.items a.front a.pending.0 a.waiting × IsRoom a.block_size a.window a.pending.0 a.pending.1 };
+}
+
+impl RingDelivered {
+    ghost use Rattle.std.specs.Prelude.{◌*◌, ◌^◌};
+    ghost use Rattle.tftp_blocks.specs.Store.{IsPending};
+    ghost use Rattle.tftp_blocks.specs.Ring.{numbered};
+
+    /// How many bytes are kept for the blocks above the front: theirs, and those of blocks that have left whose room is not
+    /// yet given back.
+    #[inline]
+    pub fn kept(&self) -> usize
+        ensures value { result ≡ self.now.3 }
+        ensures none { IsPending (numbered 1 self.now.0) 0 → result ≡ 0 }
+        ensures most { result ≤ 2 * (self.now.2 * self.now.1 + 2 ^ 20) }
+    {
+        self.pending.kept()
+    }
+}
+
+impl Delivered for RingDelivered {
+    ghost use Rattle.tftp_blocks.specs.Ring.{numbered};
+
+    ghost held = { λ a. numbered 1 a.0 };
+
+    ghost block_size = { λ a. a.1 };
+
+    ghost window = { λ a. a.2 };
+
+    // the joined bytes are handed over as they are
+    ghost join_takes = { λ _. ⊥ };
+
+    fn new(alloc: Global, blksize: u16, windowsize: u16) -> Self {
+        RingDelivered {
+            joined: Vec::new(alloc),
+            pending: Waiting::new(alloc),
+            front: 0,
+            waiting: 0,
+            block_size: blksize,
+            window: windowsize,
+        }
+    }
+
+    fn takes(&self, number: u16, len: usize) -> bool {
+        let highest = self.highest();
+        may_take(
+            self.block_size,
+            self.window,
+            self.front(),
+            highest,
+            self.block(highest),
+            number,
+            len,
+        )
+    }
+
+    fn put(&mut self, alloc: Global, number: u16, bytes: &[u8]) -> Result<Placed, AllocError> {
+        match self.block(number) {
+            Some(held) => {
+                if held == bytes {
+                    return Ok(Placed::Same);
+                }
+                return Ok(Placed::Differs);
+            }
+            None => {}
+        }
+        // All growths come before the first change.
+        let place = (number - self.front - 1) as usize;
+        if place > 0 {
+            let waiting = usize::from(self.waiting) * usize::from(self.block_size);
+            self.pending.hold(alloc, waiting, place, bytes)?;
+            self.waiting += 1;
+            return Ok(Placed::New);
+        }
+        let following = self.pending.following(self.block_size);
+        self.joined.reserve(bytes.len() + following)?;
+        self.joined.extend_from_slice(bytes)?;
+        self.front = number;
+        if self.waiting > 0 {
+            self.pending.drop_first();
+            self.front = advance(&mut self.joined, &mut self.pending, number, self.block_size);
+            self.waiting -= self.front - number;
+        }
+        Ok(Placed::New)
+    }
+
+    fn front(&self) -> u16 {
+        self.front
+    }
+
+    fn highest(&self) -> u16 {
+        self.front + self.pending.len() as u16
+    }
+
+    fn block(&self, number: u16) -> Option<&[u8]> {
+        if number == 0 {
+            return None;
+        }
+        let before = (number - 1) as usize;
+        if number <= self.front {
+            let size = self.block_size as usize;
+            let from = before * size;
+            let to = if self.joined.len() - from < size {
+                self.joined.len()
+            } else {
+                from + size
+            };
+            return Some(&self.joined[from..to]);
+        }
+        self.pending.get(before - self.front as usize)
+    }
+
+    fn pending(&self) -> usize {
+        self.waiting as usize
+    }
+
+    fn into_wire(self, _alloc: Global) -> Result<Vec<u8>, AllocError> {
+        let RingDelivered { joined, .. } = self;
+        Ok(joined)
+    }
+}
+
+/// Moves the blocks up to the first gap behind the joined ones, where there is room for them. Answers the front.
+fn advance(joined: &mut Vec<u8>, pending: &mut Waiting, from: u16, block_size: u16) -> u16
+    requires row { IsRow block_size joined.old.items from pending.old.0 }
+    requires room { length joined.old.items + leading pending.old.0 ≤ vec_capacity joined.old }
+    requires numbers { from + length pending.old.0 ≤ 65535 }
+    ensures row { IsRow block_size joined.new.items result pending.new.0 }
+    ensures slots { cut block_size result joined.new.items ++ pending.new.0
+        ≡ cut block_size from joined.old.items ++ pending.old.0 }
+    ensures gap { slice_index_or pending.new.0 0 None ≡ None }
+    ensures within { from ≤ result }
+    ensures length { result + length pending.new.0 ≡ from + length pending.old.0 }
+    ensures filled { result + filled pending.new.0 ≡ from + filled pending.old.0 }
+    ensures kept { pending.new.1 ≤ pending.old.1 }
+    ensures empty { (pending.old.0 ≡ [] → pending.old.1 ≡ 0) → pending.new.0 ≡ [] → pending.new.1 ≡ 0 }
+{
+    let mut front = from;
+    while pending.move_first(joined) {
+        front += 1;
+    }
+    front
+}

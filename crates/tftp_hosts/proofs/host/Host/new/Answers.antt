@@ -1,0 +1,11 @@
+use Rattle.std.proofs.Common.{rules}
+use Rattle.tftp_hosts.proofs.Hosts.{held}
+use Rattle.tftp_hosts.proofs.host.Host.new.Goals as goal
+
+pub invariant_of-result : goal.invariant_of-result
+invariant_of-result c =
+    rw c.copy_from_slice.ensures.after (held c.args.bytes.now (record {
+      some = search rules;
+      few = search rules;
+      signs = search rules;
+    }))

@@ -1,0 +1,25 @@
+-- A capture: where it was taken, and what passed there (RFC 1350, section 4).
+use Rattle.std.specs.Prelude.{ℕ, List}
+use Rattle.tftp_hosts.specs.declared.dir.Dir.{Dir}
+use Rattle.tftp_packet.specs.{End}
+
+-- whose capture it is, and the port at which a server is asked
+pub record Header : Type 0 where
+  pub named : End
+  pub service : ℕ
+
+-- which way, between which ports, to or from which host and with which payload a datagram passed
+pub record Datagram : Type 0 where
+  pub dir : Dir
+  pub local : ℕ
+  pub host : List ℕ
+  pub remote : ℕ
+  pub payload : List ℕ
+
+-- the other side of a datagram: a host, and a port there (RFC 1350, section 4)
+pub record PeerId : Type 0 where
+  pub host : List ℕ
+  pub port : ℕ
+
+abbrev pub peer_of : Datagram → PeerId
+peer_of d = record { host = d.host; port = d.remote }

@@ -1,0 +1,62 @@
+-- What is found of one datagram or message, by the rules that it may break.
+use Rattle.std.specs.Prelude.{◌≡◌, ◌+◌, ◌<◌, List, length, Result, Ok, Err}
+use Rattle.tftp_packet.specs.{Message, Data, Ack}
+use Rattle.tftp_hosts.specs.{Datagram, Header}
+use Rattle.tftp_ends.specs.{PortFault}
+use Rattle.tftp_law.specs.{Passes, number_of, FirstBroken, Rule, ForeignPort, WrongPort, OackEmpty, MulticastAgreed, OptionNotRequested, OptionOutsideProfile, OptionValue, BeyondBlock65535}
+use Rattle.tftp_law.specs.declared.rule.Rule.TheVariants.{StrayAnswer}
+use Rattle.tftp_nego.specs.{NegoFault}
+use Rattle.tftp_judge.specs.Memory.{TakesMemory}
+use Rattle.tftp_judge.specs.declared.refusal.Refusal.{Refusal}
+use Rattle.tftp_judge.specs.declared.refusal.Refusal.TheVariants as refusal
+use Rattle.tftp_judge.specs.declared.stop.Stop.{Stop}
+use Rattle.tftp_judge.specs.declared.stop.Stop.TheVariants.{Broken, Memory}
+
+abbrev pub NoneBreaks : (Rule → Type 0) → Type 0
+NoneBreaks Breaks = (rule : Rule) → Breaks rule → ⊥
+
+-- the rule is the first of those that are broken
+abbrev pub IsFirstOf : (Rule → Type 0) → Rule → Type 0
+IsFirstOf Breaks rule = Breaks rule × ((other : Rule) → number_of other < number_of rule → Breaks other → ⊥)
+
+-- No rule is broken, and then this holds; or the first that is; or memory is wanting, where none is broken.
+abbrev pub Finds : (Rule → Type 0) → Type 0 → Result (Unit {0}) Stop → Type 0
+Finds Breaks After (Ok _) = NoneBreaks Breaks × After
+Finds Breaks After (Err (Broken rule)) = IsFirstOf Breaks rule
+Finds Breaks After (Err Memory) = NoneBreaks Breaks
+
+-- the same of a datagram after those before it
+abbrev pub FindsOf : Header → List Datagram → Datagram → Type 0 → Result (Unit {0}) Stop → Type 0
+FindsOf h earlier d After (Ok _) = Passes h earlier d × After
+FindsOf h earlier d After (Err (Broken rule)) = FirstBroken h earlier d rule
+FindsOf h earlier d After (Err Memory) = Passes h earlier d
+
+-- The refusal of the datagram after those that were fed. Memory is wanting only for one that breaks no rule, and for which
+-- memory is taken.
+abbrev pub Refuses : Header → List Datagram → Datagram → Refusal → Type 0
+Refuses h earlier d (refusal.Unlawful index rule) = (index ≡ length earlier + 1) × FirstBroken h earlier d rule
+Refuses h earlier d (refusal.Memory count) = (count ≡ length earlier) × Passes h earlier d × TakesMemory h earlier d
+Refuses h earlier d _ = ⊥
+
+-- a block or an acknowledgement
+abbrev pub IsBlockOrAck : Message → Type 0
+IsBlockOrAck (Data k bytes) = Unit {0}
+IsBlockOrAck (Ack j) = Unit {0}
+IsBlockOrAck _ = ⊥
+
+-- why an OACK may not be agreed to, among all reasons
+abbrev pub stop_of_fault : NegoFault → Stop
+stop_of_fault NegoFault.OackEmpty = Broken OackEmpty
+stop_of_fault NegoFault.MulticastAgreed = Broken MulticastAgreed
+stop_of_fault NegoFault.OptionNotRequested = Broken OptionNotRequested
+stop_of_fault NegoFault.OptionOutsideProfile = Broken OptionOutsideProfile
+stop_of_fault NegoFault.OptionValue = Broken OptionValue
+stop_of_fault NegoFault.BeyondBlock65535 = Broken BeyondBlock65535
+stop_of_fault NegoFault.Memory = Memory
+
+-- why a datagram does not pass by its ports, among all reasons
+abbrev pub stop_by_port : PortFault → Stop
+stop_by_port PortFault.ForeignPort = Broken ForeignPort
+stop_by_port PortFault.WrongPort = Broken WrongPort
+stop_by_port PortFault.StrayAnswer = Broken StrayAnswer
+stop_by_port PortFault.Memory = Memory

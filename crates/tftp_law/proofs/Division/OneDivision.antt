@@ -1,0 +1,317 @@
+-- A list that finds its places divides, in one way, which is that of its routes.
+use Rattle.std.proofs.Common.{◌≡◌, ℕ, ◌≤◌, Bool, true, false, List, [], ◌∷◌, Some, inl, inr, refl, sym, subst, ap, ◌∙◌, arith, ◌||◌, ◌==◌}
+use Rattle.tftp_packet.specs.{Message, RequestParts, Spells, opcode_of, End, Client, Server}
+use Rattle.tftp_hosts.specs.{Dir, In, Out, Datagram, Header}
+use Rattle.tftp_model.specs.{Meaning, MachinePacket, Req, Oack, Data, Ack, Deed, Sent, Took, message_of, Error, IsOneSided}
+use Rattle.tftp_rules.specs.{Route, asks, first_of, route_of, is_of_transfer}
+use Rattle.tftp_packet.proofs.NoFault.{no_fault}
+use Rattle.tftp_law.specs.Dress.{StrayAnswer}
+use Rattle.tftp_law.specs.{Part, Main, Stray, Division, datagrams_of, view_in, dir_of, packet_of, TransferIds, says_of, HasPartBy, HavePartsBy, HaveParts, packet_route, part_route, SaysAsBy, AreRoutedBy, request_at, request_back, Starts, packet_in, says_some, FindsPlace, FindPlaces, Divides, Broken, number_of, IsRead, Rule}
+use Rattle.tftp_law.proofs.Spelled.{spelled_once}
+use Rattle.tftp_law.proofs.FirstBroken.FirstRequests.{begins_asked, or_some, asks_route}
+use Rattle.tftp_law.proofs.Division.RouteTests.{two_ways, IsTold, request_begins}
+use Rattle.tftp_law.proofs.Division.Routed.{routed_by, starts_of}
+use Rattle.tftp_law.proofs.Division.Unasked.{none_view}
+use Rattle.tftp_law.proofs.Division.RoutesBack.{request_is}
+use Rattle.tftp_law.proofs.Division.Parted.{parted}
+use Rattle.tftp_law.proofs.Division.Placing.{one, starts_before}
+
+-- ---- what is told
+
+packet_one : (payload : List ℕ) (p q : MachinePacket) → says_some p payload → says_some q payload → p ≡ q
+packet_one payload p q (m, s, is) (n, t, at) = some_one (sym is ∙ ap packet_in (spelled_once payload m n s t) ∙ at) where
+  some_one : Some p ≡ Some q → p ≡ q
+  some_one e = cc
+
+told_some : IsTold says_some
+told_some = record {
+  request = λ payload s. by payload s.0 s.1 s.2;
+  other = λ p apart payload s. not_by p apart payload s.0 s.1 s.2;
+} where
+  by : (payload : List ℕ) (m : Message) → Spells payload m → packet_in m ≡ Some Req → ((opcode_of payload == 1) || (opcode_of payload == 2)) ≡ true
+  by payload (Message.Request asked) s is = request_begins payload asked s
+  by payload (Message.Oack options) s is = absurd (cc)
+  by payload (Message.Data k bytes) s is = absurd (cc)
+  by payload (Message.Ack j) s is = absurd (cc)
+  by payload (Message.Error code text) s is = absurd (cc)
+
+  no_request : (payload : List ℕ) (p : MachinePacket) (m : Message) → (p ≡ Req → ⊥) → Spells payload m → packet_in m ≡ Some p → (b : Bool) → ((opcode_of payload == 1) || (opcode_of payload == 2)) ≡ b → b ≡ false
+  no_request payload p m apart s is false e = refl
+  no_request payload p m apart s is true e =
+      let (asked, at) = begins_asked payload m s e in
+      let both : Some Req ≡ Some p = sym (ap packet_in at) ∙ is in
+      absurd (apart (cc))
+
+  not_by : (p : MachinePacket) → (p ≡ Req → ⊥) → (payload : List ℕ) (m : Message) → Spells payload m → packet_in m ≡ Some p → ((opcode_of payload == 1) || (opcode_of payload == 2)) ≡ false
+  not_by p apart payload m s is = no_request payload p m apart s is ((opcode_of payload == 1) || (opcode_of payload == 2)) refl
+
+-- ---- one division
+
+no_stray_route : (p : MachinePacket) → packet_route p ≡ Route.Stray → ⊥
+no_stray_route Req e = cc
+no_stray_route Oack e = cc
+no_stray_route (Data k) e = cc
+no_stray_route (Ack j) e = cc
+no_stray_route (Error code text) e = cc
+
+no_answer_route : (p : MachinePacket) → packet_route p ≡ Route.StrayAnswer → ⊥
+no_answer_route Req e = cc
+no_answer_route Oack e = cc
+no_answer_route (Data k) e = cc
+no_answer_route (Ack j) e = cc
+no_answer_route (Error code text) e = cc
+
+deed_one : (a b : Deed) → dir_of a ≡ dir_of b → packet_of a ≡ packet_of b → a ≡ b
+deed_one (Sent p) (Sent q) way is = ap Sent is
+deed_one (Took p) (Took q) way is = ap Took is
+deed_one (Sent p) (Took q) way is = absurd (cc)
+deed_one (Took p) (Sent q) way is = absurd (cc)
+
+part_one : (d : Datagram) (a b : Part) → part_route a ≡ part_route b → SaysAsBy says_some d a → SaysAsBy says_some d b → a ≡ b
+part_one d (Main a) (Main b) e (way, s) (gone, t) = ap Main (deed_one a b (sym way ∙ gone) (packet_one d.payload (packet_of a) (packet_of b) s t))
+part_one d (Main a) Stray e s t = absurd (no_stray_route (packet_of a) e)
+part_one d (Main a) StrayAnswer e s t = absurd (no_answer_route (packet_of a) e)
+part_one d Stray (Main b) e s t = absurd (no_stray_route (packet_of b) (sym e))
+part_one d StrayAnswer (Main b) e s t = absurd (no_answer_route (packet_of b) (sym e))
+part_one d Stray Stray e s t = refl
+part_one d StrayAnswer StrayAnswer e s t = refl
+part_one d Stray StrayAnswer e s t = absurd (cc)
+part_one d StrayAnswer Stray e s t = absurd (cc)
+
+module _ (h : Header) where
+  pub division_one : (a b : Division) → datagrams_of a ≡ datagrams_of b → AreRoutedBy h says_some a → AreRoutedBy h says_some b → a ≡ b
+  division_one [] [] e x y = refl
+  division_one [] (q ∷ b) e x y = absurd (cc)
+  division_one (p ∷ a) [] e x y = absurd (cc)
+  division_one (p ∷ a) (q ∷ b) e x y =
+      let head : p.datagram ≡ q.datagram = cc in
+      let rest : datagrams_of a ≡ datagrams_of b = cc in
+      let route : route_of h (datagrams_of a) p.datagram ≡ route_of h (datagrams_of b) q.datagram = λ i. route_of h (rest i) (head i) in
+      let part = part_one p.datagram p.part q.part (sym x.0 ∙ route ∙ y.0) x.1 (subst (λ d. SaysAsBy says_some d q.part) (sym head) y.1) in
+      let tail = division_one a b rest x.2 y.2 in
+      λ i. record { datagram = head i; part = part i } ∷ tail i
+
+  pub divides_routed : (earlier : List Datagram) → (x : Divides h earlier) → AreRoutedBy h says_some x.division
+  divides_routed earlier x = routed_by h says_some told_some x.ids x.division x.parts x.starts
+
+  pub divides_one : (earlier : List Datagram) (x y : Divides h earlier) → x.division ≡ y.division
+  divides_one earlier x y = division_one x.division y.division (x.whole ∙ sym y.whole) (divides_routed earlier x) (divides_routed earlier y)
+
+  -- ---- a list that finds its places divides
+
+  record Routed (earlier : List Datagram) : Type 0 where
+    division : Division
+    whole : datagrams_of division ≡ earlier
+    starts : Starts h.named (view_in division)
+    routed : AreRoutedBy h says_some division
+
+  no_deed : (d : Datagram) (part : Part) (earlier : Division) → view_in (one d part earlier) ≡ [] → view_in earlier ≡ []
+  no_deed d (Main deed) earlier e = absurd (cc)
+  no_deed d Stray earlier e = e
+  no_deed d StrayAnswer earlier e = e
+
+  request_deed : (d : Datagram) (part : Part) (earlier : Division) → part_route part ≡ Route.Request → view_in (one d part earlier) ≡ [] → ⊥
+  request_deed d (Main deed) earlier is e = cc
+  request_deed d Stray earlier is e = cc
+  request_deed d StrayAnswer earlier is e = cc
+
+  asked_view : (division : Division) → AreRoutedBy h says_some division → (d : Datagram) → first_of (asks h) (datagrams_of division) ≡ Some d → view_in division ≡ [] → ⊥
+  asked_view [] routed d is e = cc
+  asked_view (p ∷ earlier) routed d is e = elim (or_some (first_of (asks h) (datagrams_of earlier)) (asks h p.datagram) p.datagram d is) [
+    | inl before ↦ asked_view earlier routed.2 d before (no_deed p.datagram p.part earlier e)
+    | inr now ↦ request_deed p.datagram p.part earlier (sym routed.0 ∙ asks_route h (datagrams_of earlier) p.datagram now.0 now.1) e
+  ]
+
+  not_both_ways : (e : End) → request_at e ≡ request_back e → ⊥
+  not_both_ways Client e = cc
+  not_both_ways Server e = cc
+
+  abbrev deed_at : Dir → MachinePacket → Deed
+  deed_at Out p = Sent p
+  deed_at In p = Took p
+
+  at_dir : (dir : Dir) (p : MachinePacket) → (dir ≡ dir_of (deed_at dir p)) × (packet_of (deed_at dir p) ≡ p)
+  at_dir Out p = (refl, refl)
+  at_dir In p = (refl, refl)
+
+  back_asks : (e : End) → packet_of (request_back e) ≡ Req
+  back_asks Client = refl
+  back_asks Server = refl
+
+  front_asks : (e : End) → packet_of (request_at e) ≡ Req
+  front_asks Client = refl
+  front_asks Server = refl
+
+  module _ (x : Division) (starts : Starts h.named (view_in x)) (routed : AreRoutedBy h says_some x) (d : Datagram) where
+    abbrev ds : List Datagram
+    ds = datagrams_of x
+
+    abbrev More : Type 0
+    More = (part : Part) × Starts h.named (view_in (one d part x)) × (route_of h ds d ≡ part_route part) × SaysAsBy says_some d part
+
+    add_request : (m : Message) → Spells d.payload m → route_of h ds d ≡ Route.Request → More
+    add_request m s is =
+        let (way, begins) = request_is h ds d is in
+        let (asked, at) = begins_asked d.payload m s begins in
+        let asks_so = front_asks h.named in (
+          Main (request_at h.named),
+          (record { first = λ e. refl; not_back = not_both_ways h.named }, starts),
+          is ∙ ap packet_route (sym asks_so),
+          (way, (m, s, ap packet_in at ∙ ap (λ p. Some p) (sym asks_so))),
+        )
+
+    add_peer : FindsPlace h ds d → (p : MachinePacket) → (p ≡ Req → ⊥) → packet_route p ≡ Route.Peer → (m : Message) → Spells d.payload m → packet_in m ≡ Some p → route_of h ds d ≡ Route.Peer → More
+    add_peer place p apart peer m s at is =
+        let (way, same) = at_dir d.dir p in (
+          Main (deed_at d.dir p),
+          (
+            record {
+              first = λ e. absurd (elim (two_ways (first_of (asks h) ds)) [
+                | inl none ↦ place.lawful Rule.NoRequest (omega arith) (none, is)
+                | inr some ↦ asked_view x routed some.0 some.1 e
+              ]);
+              not_back = λ e. apart (sym same ∙ ap packet_of e ∙ back_asks h.named);
+            },
+            starts,
+          ),
+          is ∙ sym peer ∙ ap packet_route (sym same),
+          (way, (m, s, at ∙ ap (λ q. Some q) (sym same))),
+        )
+
+    add_said : FindsPlace h ds d → (m : Message) → Spells d.payload m → route_of h ds d ≡ Route.Peer → More
+    add_said place (Message.Request asked) s is = absurd (place.not_back is asked s)
+    add_said place (Message.Error code text) s is = add_peer place (Error code text) (λ e. cc) refl (Message.Error code text) s refl is
+    add_said place (Message.Oack options) s is = add_peer place Oack (λ e. cc) refl (Message.Oack options) s refl is
+    add_said place (Message.Data k bytes) s is = add_peer place (Data k) (λ e. cc) refl (Message.Data k bytes) s refl is
+    add_said place (Message.Ack j) s is = add_peer place (Ack j) (λ e. cc) refl (Message.Ack j) s refl is
+
+    add : FindsPlace h ds d → (r : Route) → route_of h ds d ≡ r → IsRead r d → More
+    add place Route.Request is read = add_request read.0 read.1 is
+    add place Route.Peer is read = add_said place read.0 read.1 is
+    add place Route.Stray is read = (Stray, starts, is, tt)
+    add place Route.StrayAnswer is read = (StrayAnswer, starts, is, read)
+    add place Route.ForeignPort is read = absurd read
+    add place Route.WrongPort is read = absurd read
+    add place Route.NoStrayAnswer is read = absurd read
+
+  placed_routed : (earlier : List Datagram) → FindPlaces h earlier → Routed earlier
+  placed_routed [] places = record { division = []; whole = refl; starts = tt; routed = tt }
+  placed_routed (d ∷ earlier) places =
+      let x = placed_routed earlier places.1 in
+      let place = subst (λ ds. FindsPlace h ds d) (sym x.whole) places.0 in
+      let (part, starts, route, says) = add x.division x.starts x.routed d place (route_of h (datagrams_of x.division) d) refl place.read in
+      record { division = one d part x.division; whole = ap (λ ds. d ∷ ds) x.whole; starts = starts; routed = (route, says, x.routed) }
+
+  pub placed_divides : (earlier : List Datagram) → FindPlaces h earlier → Divides h earlier
+  placed_divides earlier places =
+      let x = placed_routed earlier places in
+      let p = parted h says_some x.division x.routed x.starts in
+      record { division = x.division; whole = x.whole; starts = x.starts; ids = p.0; parts = p.1 }
+
+  -- ---- and what divides finds its places
+
+  read_of : (d : Datagram) (part : Part) → SaysAsBy says_some d part → IsRead (part_route part) d
+  read_of d (Main deed) (way, (m, s, is)) = by (packet_of deed) where
+    by : (p : MachinePacket) → IsRead (packet_route p) d
+    by Req = (m, s)
+    by Oack = (m, s)
+    by (Data k) = (m, s)
+    by (Ack j) = (m, s)
+    by (Error code text) = (m, s)
+  read_of d Stray s = tt
+  read_of d StrayAnswer s = s
+
+  peer_main : (d : Datagram) (part : Part) → SaysAsBy says_some d part → part_route part ≡ Route.Peer → (deed : Deed) × (part ≡ Main deed) × says_some (packet_of deed) d.payload
+  peer_main d (Main deed) s is = (deed, refl, s.1)
+  peer_main d Stray s is = absurd (cc)
+  peer_main d StrayAnswer s is = absurd (cc)
+
+  -- what is read as a packet of the transfer spells a message
+  spelled : (r : Route) (d : Datagram) → is_of_transfer r ≡ true → IsRead r d → (m : Message) × Spells d.payload m
+  spelled Route.Request d t read = read
+  spelled Route.Peer d t read = read
+  spelled Route.Stray d t read = absurd (cc)
+  spelled Route.StrayAnswer d t read = absurd (cc)
+  spelled Route.ForeignPort d t read = absurd (cc)
+  spelled Route.WrongPort d t read = absurd (cc)
+  spelled Route.NoStrayAnswer d t read = absurd (cc)
+
+  peer_is_other : (deed : Deed) → packet_route (packet_of deed) ≡ Route.Peer → packet_of deed ≡ Req → ⊥
+  peer_is_other deed is e = let both : Route.Request ≡ Route.Peer = sym (ap packet_route e) ∙ is in cc
+
+  first_main : (d : Datagram) (part : Part) (x : Division) → Starts h.named (view_in (one d part x)) → view_in x ≡ [] → part_route part ≡ Route.Peer → ⊥
+  first_main d (Main deed) x starts empty is = peer_is_other deed is (ap packet_of (starts.0.first empty) ∙ front_asks h.named)
+  first_main d Stray x starts empty is = cc
+  first_main d StrayAnswer x starts empty is = cc
+
+  place_of : (x : Division) (d : Datagram) (part : Part) → Starts h.named (view_in (one d part x)) → AreRoutedBy h says_some (one d part x) → FindsPlace h (datagrams_of x) d
+  place_of x d part starts routed = record {
+    read = read;
+    lawful = lawful;
+    not_back = λ is asked s. back asked s (peer_main d part routed.1 (sym routed.0 ∙ is)) (sym routed.0 ∙ is);
+  } where
+    read : IsRead (route_of h (datagrams_of x) d) d
+    read = subst (λ r. IsRead r d) (sym routed.0) (read_of d part routed.1)
+
+    back : (asked : RequestParts) → Spells d.payload (Message.Request asked) → (deed : Deed) × (part ≡ Main deed) × says_some (packet_of deed) d.payload → part_route part ≡ Route.Peer → ⊥
+    back asked s (deed, is, (m, t, at)) peer =
+        let both : Some Req ≡ Some (packet_of deed) = ap packet_in (spelled_once d.payload (Message.Request asked) m s t) ∙ at in
+        peer_is_other deed (ap part_route (sym is) ∙ peer) (cc)
+
+    lawful : (rule : Rule) → number_of rule ≤ 5 → Broken h (datagrams_of x) d rule → ⊥
+    lawful Rule.ForeignPort low b = subst (λ r. IsRead r d) b read
+    lawful Rule.WrongPort low b = subst (λ r. IsRead r d) b read
+    lawful Rule.StrayAnswer low b = elim b [ inl is ↦ subst (λ r. IsRead r d) is read | inr is ↦ is.1 (subst (λ r. IsRead r d) is.0 read) ]
+    lawful Rule.NoRequest low b = first_main d part x starts (none_view h says_some x routed.2 (starts_before h.named d part x starts) b.0) (sym routed.0 ∙ b.1)
+    lawful (Rule.Malformed fault) low b = let (m, s) = spelled (route_of h (datagrams_of x) d) d b.0 read in no_fault d.payload m fault s.1 b.1.0
+    lawful Rule.WrongKind low b = omega (arith, low)
+    lawful Rule.AfterError low b = omega (arith, low)
+    lawful Rule.RequestChanged low b = omega (arith, low)
+    lawful Rule.RequestAfterStart low b = omega (arith, low)
+    lawful Rule.ReplyChanged low b = omega (arith, low)
+    lawful Rule.OackEmpty low b = omega (arith, low)
+    lawful Rule.MulticastAgreed low b = omega (arith, low)
+    lawful Rule.OptionNotRequested low b = omega (arith, low)
+    lawful Rule.OptionOutsideProfile low b = omega (arith, low)
+    lawful Rule.OptionValue low b = omega (arith, low)
+    lawful Rule.OackChanged low b = omega (arith, low)
+    lawful Rule.OackAfterStart low b = omega (arith, low)
+    lawful Rule.NotStarted low b = omega (arith, low)
+    lawful Rule.BlockZero low b = omega (arith, low)
+    lawful Rule.BeyondBlock65535 low b = omega (arith, low)
+    lawful Rule.BlockLength low b = omega (arith, low)
+    lawful Rule.WindowOverrun low b = omega (arith, low)
+    lawful Rule.BlockSkipped low b = omega (arith, low)
+    lawful Rule.GoneBack low b = omega (arith, low)
+    lawful Rule.BlockChanged low b = omega (arith, low)
+    lawful Rule.AckAhead low b = omega (arith, low)
+    lawful Rule.AckZero low b = omega (arith, low)
+
+  places_of : (x : Division) → Starts h.named (view_in x) → AreRoutedBy h says_some x → FindPlaces h (datagrams_of x)
+  places_of [] starts routed = tt
+  places_of (p ∷ x) starts routed = (place_of x p.datagram p.part starts routed, places_of x (starts_before h.named p.datagram p.part x starts) routed.2)
+
+  pub divides_placed : (earlier : List Datagram) → Divides h earlier → FindPlaces h earlier
+  divides_placed earlier x = subst (FindPlaces h) x.whole (places_of x.division x.starts (divides_routed earlier x))
+
+-- ---- a division of a meaning is one
+
+some_of : (m : Meaning) (wire : List ℕ) (p : MachinePacket) (payload : List ℕ) → says_of m wire p payload → says_some p payload
+some_of m wire Req payload s = (message_of m wire Req, s, refl)
+some_of m wire Oack payload s = (message_of m wire Oack, s, refl)
+some_of m wire (Data k) payload s = (message_of m wire (Data k), s, refl)
+some_of m wire (Ack j) payload s = (message_of m wire (Ack j), s, refl)
+some_of m wire (Error code text) payload s = (message_of m wire (Error code text), s, refl)
+
+part_some : (h : Header) (m : Meaning) (wire : List ℕ) (ids : TransferIds) (earlier : Division) (d : Datagram) (part : Part) → HasPartBy h (says_of m wire) ids earlier d part → HasPartBy h says_some ids earlier d part
+part_some h m wire ids earlier d (Main deed) p = record { dir = p.dir; client = p.client; server = p.server; spells = some_of m wire (packet_of deed) d.payload p.spells }
+part_some h m wire ids earlier d Stray p = p
+part_some h m wire ids earlier d StrayAnswer p = p
+
+parts_some : (h : Header) (m : Meaning) (wire : List ℕ) (ids : TransferIds) (division : Division) → HaveParts h m wire ids division → HavePartsBy h says_some ids division
+parts_some h m wire ids [] parts = tt
+parts_some h m wire ids (p ∷ earlier) parts = (part_some h m wire ids earlier p.datagram p.part parts.0, parts_some h m wire ids earlier parts.1)
+
+pub run_divides : (h : Header) (m : Meaning) (wire : List ℕ) (ids : TransferIds) (division : Division) → HaveParts h m wire ids division → IsOneSided m wire h.named (view_in division)
+    → HavePartsBy h says_some ids division × Starts h.named (view_in division)
+run_divides h m wire ids division parts own = (parts_some h m wire ids division parts, starts_of h m wire ids division parts own)

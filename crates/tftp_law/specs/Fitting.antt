@@ -1,0 +1,27 @@
+-- Which wire carries the file of a meaning (RFC 1350, section 1 and section 6; RFC 2349).
+use Rattle.std.specs.Prelude.{◌≡◌, ℕ, ◌≤◌, List, length, Some, codes}
+use Rattle.std.specs.FinMap as map
+use Rattle.tftp_packet.specs.{Num, Mode, Octet, Netascii}
+use Rattle.tftp_model.specs.{Meaning, request_of, blksize_of, block_count}
+use Rattle.tftp_netascii.specs.{Reads, canonical_wire}
+use Rattle.tftp_nego.specs.{MayAgree}
+
+-- in octet mode the bytes go as they are, in netascii as a text that reads as the file
+abbrev pub ReadsAs : Mode → List ℕ → List ℕ → Type 0
+ReadsAs Octet wire file = wire ≡ file
+ReadsAs Netascii wire file = Reads wire file
+
+-- The blocks are numbered by two bytes, from 1.
+pub record Fits (m : Meaning) (wire : List ℕ) : Type 0 where
+  pub may_agree : MayAgree (request_of m) m.agreed
+  pub reads : ReadsAs m.mode wire m.file
+  pub size : m.mode ≡ Octet → (size : ℕ) → map.get m.agreed (codes "tsize") ≡ Some (Num size) → length wire ≡ size
+  pub numbered : block_count (blksize_of m) wire ≤ 65535
+
+-- the one wire of a file that is written, among those that carry it
+abbrev pub written_wire : Mode → List ℕ → List ℕ
+written_wire Octet file = file
+written_wire Netascii file = canonical_wire file
+
+abbrev pub IsWritable : Meaning → Type 0
+IsWritable m = block_count (blksize_of m) (written_wire m.mode m.file) ≤ 65535

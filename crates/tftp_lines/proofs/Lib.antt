@@ -1,0 +1,5 @@
+pub mod Endpoints
+pub mod Lines
+pub mod Requests
+pub mod Silences
+pub mod AllLines

@@ -1,0 +1,212 @@
+-- A line with one datagram more, which is no request.
+use Rattle.std.proofs.Common.{◌≡◌, ℕ, Bool, true, false, List, [], ◌∷◌, Option, Some, None, cond, inl, inr, refl, sym, ap, subst, ◌∙◌, ◌==◌, ◌&&◌, ◌||◌, not, nat_lt, option_map, if◌then◌else◌}
+use Rattle.std.specs.List.{list_any}
+use Rattle.std.specs.Str.{bytes_eq}
+use Rattle.std.specs.BTreeMap.{get, BTreeMap}
+use Rattle.std.specs.Ordering.{is_eq, nat_cmp}
+use Rattle.std.proofs.lemmas.Bool.{false≢true, and_parts, or_cases}
+use Rattle.tftp_rules.specs.{first_of, or_this}
+use Rattle.tftp_lines.specs.{Endpoint, Opens, Repeats, Transfer, Line, Recorded, same_endpoint, endpoint_cmp, is_ack_0, goes, is_between, Placed, opens, is_request, newest_of, latest_in, reach, answers, answered_in, talked_of, talk_in, last_was_ack_0, place_asked, IsLineOf, seen_of, asked_by, place_of_talk, comes_to, talk_after, ends_after, went_on_after, AreTimed, is_past, acked_0_in, says_more, repeats_in, is_later}
+use Rattle.tftp_lines.proofs.Endpoints.{same_by_order, is_same, same_itself}
+
+pub by_test : {P : Type 0} (b : Bool) → (b ≡ true → P) → (b ≡ false → P) → P
+by_test true if_true if_false = if_true refl
+by_test false if_true if_false = if_false refl
+
+-- ---- who answered first
+
+pub map_or : {X Y : Type 0} (f : X → Y) (o : Option X) (b : Bool) (x : X) → option_map f (or_this o b x) ≡ or_this (option_map f o) b (f x)
+map_or f None true x = refl
+map_or f None false x = refl
+map_or f (Some y) b x = refl
+
+pub answered_more : (x : Transfer) (p : Placed) (line : List Placed) → opens p ≡ false → answered_in x (p ∷ line) ≡ or_this (answered_in x line) (answers x p) p.datagram.source
+answered_more x p line shut = rw shut (map_or (λ q. q.datagram.source) (first_of (answers x) (reach line)) (answers x p) p)
+
+-- ---- with whom the client talks
+
+abbrev talks_with : Endpoint → Endpoint → Placed → Bool
+talks_with c o p = not (is_request p) && is_between c o p.datagram
+
+abbrev sends_to : Endpoint → Endpoint → Placed → Bool
+sends_to c o p = not (is_request p) && goes c o p.datagram
+
+no_part : (r g h : Bool) → (r && (g || h)) ≡ false → (r && g) ≡ false
+no_part true true h e = absurd (false≢true (sym e))
+no_part true false h e = refl
+no_part false g h e = refl
+
+none_sent : (c o : Endpoint) (line : List Placed) → newest_of (talks_with c o) line ≡ None → newest_of (sends_to c o) line ≡ None
+none_sent c o [] none = refl
+none_sent c o (p ∷ line) none = by_test (talks_with c o p)
+    (λ is. let both : Some p ≡ None = sym (ap (λ b. if b then Some p else newest_of (talks_with c o) line) is) ∙ none in absurd (cc))
+    (λ off.
+    let rest : newest_of (talks_with c o) line ≡ None = sym (ap (λ b. if b then Some p else newest_of (talks_with c o) line) off) ∙ none in
+    ap (λ b. if b then Some p else newest_of (sends_to c o) line) (no_part (not (is_request p)) (goes c o p.datagram) (goes o c p.datagram) off) ∙ none_sent c o line rest)
+
+acked_none : (c o : Endpoint) (line : List Placed) → newest_of (talks_with c o) line ≡ None → last_was_ack_0 c o line ≡ false
+acked_none c o line none = rw (none_sent c o line none) refl
+
+-- the last word to it is kept with the talk
+pub acked_kept : (c o : Endpoint) (line : List Placed) → last_was_ack_0 c o line ≡ acked_0_in (talk_in c o line)
+acked_kept c o line = by (newest_of (talks_with c o) line) refl where
+  by : (found : Option Placed) → newest_of (talks_with c o) line ≡ found → last_was_ack_0 c o line ≡ acked_0_in (talk_in c o line)
+  by None is = acked_none c o line is ∙ sym (ap (λ f. acked_0_in (option_map (λ p. record { transfer = talked_of p.place; acked_0 = last_was_ack_0 c o line }) f)) is)
+  by (Some p) is = sym (ap (λ f. acked_0_in (option_map (λ p. record { transfer = talked_of p.place; acked_0 = last_was_ack_0 c o line }) f)) is)
+
+-- ---- what is between two is between no others
+
+other_goes : (c o q : Endpoint) (d : Recorded) → is_between c o d ≡ true → same_endpoint o q ≡ false → goes c q d ≡ true → o ≡ q
+other_goes c o q d between other this =
+    let to = and_parts (same_endpoint d.source c) (same_endpoint d.target q) this in
+    let target = is_same d.target q to.1 in
+    let source = is_same d.source c to.0 in
+    elim (or_cases (goes c o d) (goes o c d) between) [
+      | inl sent ↦ sym (is_same d.target o (and_parts _ _ sent).1) ∙ target
+      | inr came ↦ sym (is_same d.source o (and_parts _ _ came).0) ∙ source ∙ sym (is_same d.target c (and_parts _ _ came).1) ∙ target
+    ]
+
+not_goes : (c o q : Endpoint) (d : Recorded) → is_between c o d ≡ true → same_endpoint o q ≡ false → goes c q d ≡ false
+not_goes c o q d between other = by_test (goes c q d)
+    (λ this. absurd (false≢true (sym other ∙ subst (λ e. same_endpoint o e ≡ true) (other_goes c o q d between other this) (same_itself o))))
+    (λ off. off)
+
+turned : (c o : Endpoint) (d : Recorded) → is_between c o d ≡ true → is_between o c d ≡ true
+turned c o d between = or_turned (goes c o d) (goes o c d) between where
+  or_turned : (a b : Bool) → (a || b) ≡ true → (b || a) ≡ true
+  or_turned true true e = refl
+  or_turned true false e = refl
+  or_turned false true e = refl
+  or_turned false false e = e
+
+came_from : (c o q : Endpoint) (d : Recorded) → is_between c o d ≡ true → goes q c d ≡ true → o ≡ q
+came_from c o q d between this =
+    let to = and_parts (same_endpoint d.source q) (same_endpoint d.target c) this in
+    let target = is_same d.target c to.1 in
+    let source = is_same d.source q to.0 in
+    elim (or_cases (goes c o d) (goes o c d) between) [
+      | inl sent ↦ sym (is_same d.target o (and_parts _ _ sent).1) ∙ target ∙ sym (is_same d.source c (and_parts _ _ sent).0) ∙ source
+      | inr came ↦ sym (is_same d.source o (and_parts _ _ came).0) ∙ source
+    ]
+
+not_comes : (c o q : Endpoint) (d : Recorded) → is_between c o d ≡ true → same_endpoint o q ≡ false → goes q c d ≡ false
+not_comes c o q d between other = by_test (goes q c d)
+    (λ this. absurd (false≢true (sym other ∙ subst (λ e. same_endpoint o e ≡ true) (came_from c o q d between this) (same_itself o))))
+    (λ off. off)
+
+not_between : (c o q : Endpoint) (d : Recorded) → is_between c o d ≡ true → same_endpoint o q ≡ false → is_between c q d ≡ false
+not_between c o q d between other = rw (not_goes c o q d between other) (not_comes c o q d between other)
+
+-- ---- the talks after it
+
+acked_more : (c o : Endpoint) (p : Placed) (line : List Placed) → is_request p ≡ false
+    → last_was_ack_0 c o (p ∷ line) ≡ (if goes c o p.datagram then is_ack_0 p.datagram.payload else last_was_ack_0 c o line)
+acked_more c o p line plain = rw plain (by_test (goes c o p.datagram)
+    (λ is. rw is refl)
+    (λ off. rw off refl))
+
+talk_here : (c o : Endpoint) (p : Placed) (line : List Placed) → is_request p ≡ false → is_between c o p.datagram ≡ true
+    → talk_in c o (p ∷ line) ≡ Some (talk_after c o (talked_of p.place) (seen_of p.datagram) (talk_in c o line))
+talk_here c o p line plain between =
+    let found : newest_of (talks_with c o) (p ∷ line) ≡ Some p = rw plain (rw between refl) in
+    ap (λ f. option_map (λ q. record { transfer = talked_of q.place; acked_0 = last_was_ack_0 c o (p ∷ line) }) f) found
+    ∙ ap (λ a. Some (record { transfer = talked_of p.place; acked_0 = a }))
+    (acked_more c o p line plain ∙ ap (λ a. if goes c o p.datagram then is_ack_0 p.datagram.payload else a) (acked_kept c o line))
+
+talk_there : (c o q : Endpoint) (p : Placed) (line : List Placed) → is_request p ≡ false → is_between c o p.datagram ≡ true → same_endpoint o q ≡ false
+    → talk_in c q (p ∷ line) ≡ talk_in c q line
+talk_there c o q p line plain between other =
+    let acked : last_was_ack_0 c q (p ∷ line) ≡ last_was_ack_0 c q line =
+    acked_more c q p line plain ∙ ap (λ b. if b then is_ack_0 p.datagram.payload else last_was_ack_0 c q line) (not_goes c o q p.datagram between other) in
+    let found : newest_of (talks_with c q) (p ∷ line) ≡ newest_of (talks_with c q) line = rw plain (rw (not_between c o q p.datagram between other) refl) in
+    λ i. option_map (λ r. record { transfer = talked_of r.place; acked_0 = acked i }) (found i)
+
+pub talk_more : (c o q : Endpoint) (p : Placed) (line : List Placed) → is_request p ≡ false → is_between c o p.datagram ≡ true
+    → talk_in c q (p ∷ line) ≡ cond (same_endpoint o q) (Some (talk_after c o (talked_of p.place) (seen_of p.datagram) (talk_in c o line))) (talk_in c q line)
+talk_more c o q p line plain between = by_test (same_endpoint o q)
+    (λ is. rw is (subst (λ e. talk_in c e (p ∷ line) ≡ Some (talk_after c o (talked_of p.place) (seen_of p.datagram) (talk_in c o line))) (is_same o q is) (talk_here c o p line plain between)))
+    (λ off. rw off (talk_there c o q p line plain between off))
+
+-- ---- the line after it
+
+abbrev talk_placed : Endpoint → Recorded → ℕ → Option Transfer → Placed
+talk_placed c d now talked = record { datagram = d; moment = now; place = place_of_talk c talked }
+
+opens_none : (c : Endpoint) (talked : Option Transfer) (d : Recorded) (now : ℕ) → opens (talk_placed c d now talked) ≡ false
+opens_none c None d now = refl
+opens_none c (Some x) d now = refl
+
+asks_none : (c : Endpoint) (talked : Option Transfer) (d : Recorded) (now : ℕ) → is_request (talk_placed c d now talked) ≡ false
+asks_none c None d now = refl
+asks_none c (Some x) d now = refl
+
+talked_again : (c : Endpoint) (talked : Option Transfer) → talked_of (place_of_talk c talked) ≡ talked
+talked_again c None = refl
+talked_again c (Some x) = refl
+
+answers_as : (c : Endpoint) (x : Transfer) (talked : Option Transfer) (d : Recorded) (now : ℕ) → answers x (talk_placed c d now talked) ≡ comes_to x talked (seen_of d)
+answers_as c x None d now = refl
+answers_as c x (Some y) d now = refl
+
+opened_anew : (x : Transfer) (number : ℕ) (d e : Recorded) (line : List Placed) (now : ℕ) (c : Endpoint)
+    → place_asked number e (talk_placed c d now (Some x) ∷ line) ≡ Opens (record { number = number; client = e.source; asked = e.target })
+opened_anew x number d e line now c = refl
+
+asked_more : (old new : Line) (line : List Placed) (c : Endpoint) (talked : Option Transfer) (d e : Recorded) (now number : ℕ) → place_asked number e line ≡ asked_by old number e
+    → new.latest ≡ old.latest → new.request.items ≡ old.request.items → new.ends_in_request ≡ ends_after talked old.ends_in_request
+    → place_asked number e (talk_placed c d now talked ∷ line) ≡ asked_by new number e
+asked_more old new line c None d e now number before latest request ends = before ∙ sym (λ i.
+    if ends i && bytes_eq (request i) e.payload && same_endpoint (latest i).asked e.target then Repeats (latest i)
+    else Opens (record { number = number; client = e.source; asked = e.target }))
+asked_more old new line c (Some x) d e now number before latest request ends = opened_anew x number d e line now c ∙ sym (λ i.
+    if ends i && bytes_eq (request i) e.payload && same_endpoint (latest i).asked e.target then Repeats (latest i)
+    else Opens (record { number = number; client = e.source; asked = e.target }))
+
+-- what the line keeps after it
+pub record IsNoted (old new : Line) (o : Endpoint) (talked : Option Transfer) (d : Recorded) (now : ℕ) : Type 0 where
+  pub latest : new.latest ≡ old.latest
+  pub answered : new.answered ≡ or_this old.answered (comes_to old.latest talked (seen_of d)) d.source
+  pub moment : new.moment ≡ now
+  pub request : new.request.items ≡ old.request.items
+  pub ends : new.ends_in_request ≡ ends_after talked old.ends_in_request
+  pub talks : (q : Endpoint) → get endpoint_cmp new.talks q
+      ≡ cond (is_eq (endpoint_cmp o q)) (Some (talk_after old.latest.client o talked (seen_of d) (get endpoint_cmp old.talks o))) (get endpoint_cmp old.talks q)
+  pub went_on : new.went_on ≡ went_on_after talked (seen_of d) old.went_on
+  pub newest : AreTimed old.newest new.newest talked d.time
+
+says_after : (c : Endpoint) (talked : Option Transfer) (d : Recorded) (now : ℕ) (before : Bool) → (says_more (talk_placed c d now talked) || before) ≡ went_on_after talked (seen_of d) before
+says_after c None d now before = refl
+says_after c (Some x) d now before = refl
+
+times_after : (old new : BTreeMap ℕ ℕ) (c : Endpoint) (talked : Option Transfer) (d : Recorded) (now n at : ℕ) (line : List Placed) → AreTimed old new talked d.time
+    → list_any (is_later n at) line ≡ is_past at (get nat_cmp old n) → list_any (is_later n at) (talk_placed c d now talked ∷ line) ≡ is_past at (get nat_cmp new n)
+times_after old new c None d now n at line same before = before ∙ ap (λ m. is_past at (get nat_cmp m n)) (sym same)
+times_after old new c (Some x) d now n at line timed before = ap (λ b. ((x.number == n) && nat_lt at d.time) || b) before ∙ sym (timed n at)
+
+pub note_stands : (old new : Line) (o : Endpoint) (talked : Option Transfer) (d : Recorded) (now : ℕ) (line : List Placed) → IsNoted old new o talked d now
+    → is_between old.latest.client o d ≡ true → IsLineOf old line → IsLineOf new (talk_placed old.latest.client d now talked ∷ line)
+note_stands old new o talked d now line noted between stands =
+    let c : Endpoint = old.latest.client in
+    let p : Placed = talk_placed old.latest.client d now talked in
+    let shut : opens (talk_placed old.latest.client d now talked) ≡ false = opens_none old.latest.client talked d now in
+    let plain : is_request (talk_placed old.latest.client d now talked) ≡ false = asks_none old.latest.client talked d now in
+    let latest : latest_in (talk_placed old.latest.client d now talked ∷ line) ≡ Some new.latest = (rw shut stands.latest) ∙ ap Some (sym noted.latest) in
+    record {
+      latest = latest;
+      answered = ap (λ x. answered_in x (p ∷ line)) noted.latest ∙ answered_more old.latest p line shut
+          ∙ (λ i. or_this (stands.answered i) (answers_as old.latest.client old.latest talked d now i) d.source) ∙ sym noted.answered;
+      moment = sym noted.moment;
+      asked = λ number e from. asked_more old new line old.latest.client talked d e now number (stands.asked number e (from ∙ ap (λ x. x.client) noted.latest)) noted.latest noted.request noted.ends;
+      talks = λ q. noted.talks q
+          ∙ (λ i. cond (same_by_order o q i)
+          (Some (talk_after old.latest.client o (sym (talked_again old.latest.client talked) i) (seen_of d) (stands.talks o i))) (stands.talks q i))
+          ∙ sym (talk_more old.latest.client o q p line plain between)
+          ∙ ap (λ x. talk_in x.client q (p ∷ line)) (sym noted.latest);
+      again = λ e from. ap (λ b. repeats_in e (if b then Some p else newest_of is_request line)) plain
+          ∙ stands.again e (from ∙ ap (λ x. x.client) noted.latest)
+          ∙ (λ i. bytes_eq (sym noted.request i) e.payload && same_endpoint (sym noted.latest i).asked e.target);
+      went_on = ap (λ b. list_any says_more (if b then [] else p ∷ reach line)) shut
+          ∙ says_after old.latest.client talked d now (list_any says_more (reach line))
+          ∙ ap (went_on_after talked (seen_of d)) stands.went_on ∙ sym noted.went_on;
+      newest = λ n at. times_after old.newest new.newest old.latest.client talked d now n at line noted.newest (stands.newest n at);
+    }

@@ -1,0 +1,95 @@
+-- A line with one request more.
+use Rattle.std.proofs.Common.{◌≡◌, ℕ, Bool, true, false, List, ◌∷◌, Option, Some, None, refl, sym, ap, subst, ◌∙◌, ◌==◌, ◌&&◌, ◌||◌, nat_lt, if◌then◌else◌}
+use Rattle.std.specs.List.{list_any}
+use Rattle.std.specs.Ordering.{nat_cmp}
+use Rattle.std.specs.Str.{bytes_eq}
+use Rattle.std.specs.BTreeMap.{get, BTreeMap}
+use Rattle.std.proofs.lemmas.Bool.{and_parts}
+use Rattle.std.proofs.lemmas.Slice.Eq.{bytes_eq-Decides}
+use Rattle.tftp_rules.specs.{or_this}
+use Rattle.tftp_lines.specs.{Endpoint, Place, Opens, Repeats, Transfer, Line, Recorded, same_endpoint, endpoint_cmp, is_again, Placed, answered_in, talk_in, place_asked, IsLineOf, IsRequestOf, asked_by, is_past, IsTimed, is_later}
+use Rattle.tftp_lines.proofs.Endpoints.{is_same, same_itself}
+use Rattle.tftp_lines.proofs.Lines.{answered_more}
+
+-- the same client asks the same again
+again_is : (c t : Endpoint) (payload : List ℕ) (d e : Recorded) → d.source ≡ c → d.target ≡ t → d.payload ≡ payload → e.source ≡ c
+    → is_again d e ≡ (bytes_eq payload e.payload && same_endpoint t e.target)
+again_is c t payload d e source target same from =
+    let one : same_endpoint d.source e.source ≡ true = subst (λ s. same_endpoint d.source s ≡ true) (source ∙ sym from) (same_itself d.source) in
+    (rw one refl) ∙ (λ i. bytes_eq (same i) e.payload && same_endpoint (target i) e.target)
+
+abbrev chosen : Bool → Transfer → ℕ → Recorded → Place
+chosen again x number e = if again then Repeats x else Opens (record { number = number; client = e.source; asked = e.target })
+
+-- what a line keeps after a request that opened a transfer
+pub record IsOpened (new : Line) (x : Transfer) (payload : List ℕ) (now : ℕ) : Type 0 where
+  pub latest : new.latest ≡ x
+  pub answered : new.answered ≡ None
+  pub moment : new.moment ≡ now
+  pub request : new.request.items ≡ payload
+  pub ends : new.ends_in_request ≡ true
+  pub went_on : new.went_on ≡ false
+
+asked_opened : (new : Line) (x : Transfer) (payload : List ℕ) (time now number : ℕ) (line : List Placed) (d e : Recorded) → IsOpened new x payload now → IsRequestOf x payload time d → e.source ≡ new.latest.client
+    → place_asked number e (record { datagram = d; moment = now; place = Opens x } ∷ line) ≡ asked_by new number e
+asked_opened new x payload time now number line d e opened of from =
+    ap (λ again. chosen again x number e) (again_is x.client x.asked payload d e of.source of.target of.same (from ∙ ap (λ y. y.client) opened.latest))
+    ∙ (λ i. chosen (sym opened.ends i && bytes_eq (sym opened.request i) e.payload && same_endpoint (sym opened.latest i).asked e.target) (sym opened.latest i) number e)
+
+pub opened_stands : (new : Line) (x : Transfer) (payload : List ℕ) (time now : ℕ) (line : List Placed) (d : Recorded) → IsOpened new x payload now → IsRequestOf x payload time d
+    → ((o : Endpoint) → get endpoint_cmp new.talks o ≡ talk_in x.client o line)
+    → ((n at : ℕ) → is_past at (get nat_cmp new.newest n) ≡ (((x.number == n) && nat_lt at time) || list_any (is_later n at) line)) → IsLineOf new (record { datagram = d; moment = now; place = Opens x } ∷ line)
+opened_stands new x payload time now line d opened of talks newest = record {
+  latest = ap Some (sym opened.latest);
+  answered = sym opened.answered;
+  moment = sym opened.moment;
+  asked = λ number e from. asked_opened new x payload time now number line d e opened of from;
+  talks = λ o. talks o ∙ ap (λ y. talk_in y.client o line) (sym opened.latest);
+  again = λ e from. again_is x.client x.asked payload d e of.source of.target of.same (from ∙ ap (λ y. y.client) opened.latest)
+      ∙ (λ i. bytes_eq (sym opened.request i) e.payload && same_endpoint (sym opened.latest i).asked e.target);
+  went_on = sym opened.went_on;
+  newest = λ n at. ap (λ m. ((x.number == n) && nat_lt at m) || list_any (is_later n at) line) of.passed ∙ sym (newest n at);
+}
+
+-- ---- a request that repeats
+
+or_off : {X : Type 0} (o : Option X) (x : X) → or_this o false x ≡ o
+or_off None x = refl
+or_off (Some y) x = refl
+
+-- a request that repeats is the last one again
+repeated : (b : Bool) (x y : Transfer) (number : ℕ) (d : Recorded) → chosen b x number d ≡ Repeats y → (b ≡ true) × (x ≡ y)
+repeated true x y number d is = (refl, ap (λ p. of p) is) where
+  of : Place → Transfer
+  of (Repeats z) = z
+  of other = x
+repeated false x y number d is = absurd (cc)
+
+pub repeated_stands : (old new : Line) (times : BTreeMap ℕ ℕ) (line : List Placed) (d : Recorded) (number : ℕ) (x : Transfer) (time now : ℕ) → IsLineOf old line → d.source ≡ old.latest.client → place_asked number d line ≡ Repeats x
+    → new ≡ record old { moment = now; newest = times } → IsTimed old.newest times old.latest.number time → d.time ≡ time → IsLineOf new (record { datagram = d; moment = now; place = Repeats x } ∷ line)
+repeated_stands old new times line d number x time now stands from is after timed passed =
+    let known = repeated (old.ends_in_request && bytes_eq old.request.items d.payload && same_endpoint old.latest.asked d.target) old.latest x number d (sym (stands.asked number d from) ∙ is) in
+    let both = and_parts (old.ends_in_request && bytes_eq old.request.items d.payload) (same_endpoint old.latest.asked d.target) known.0 in
+    let ended = and_parts old.ends_in_request (bytes_eq old.request.items d.payload) both.0 in
+    let p : Placed = record { datagram = d; moment = now; place = Repeats x } in
+    subst (λ l. IsLineOf l (p ∷ line)) (sym after) (record {
+      latest = stands.latest;
+      answered = answered_more old.latest p line refl ∙ or_off (answered_in old.latest line) d.source ∙ stands.answered;
+      moment = refl;
+      asked = λ n e that. ap (λ again. chosen again x n e)
+          (again_is old.latest.client old.latest.asked old.request.items d e from (sym (is_same old.latest.asked d.target both.1)) (sym ((bytes_eq-Decides old.request.items d.payload).0 ended.1)) that)
+          ∙ (λ i. chosen (sym ended.0 i && bytes_eq old.request.items e.payload && same_endpoint old.latest.asked e.target) (sym known.1 i) n e);
+      talks = stands.talks;
+      again = λ e that. again_is old.latest.client old.latest.asked old.request.items d e from (sym (is_same old.latest.asked d.target both.1)) (sym ((bytes_eq-Decides old.request.items d.payload).0 ended.1)) that;
+      went_on = stands.went_on;
+      newest = λ n at. (λ i. (((sym known.1 i).number == n) && nat_lt at (passed i)) || stands.newest n at i) ∙ sym (timed n at);
+    })
+
+-- what is kept says where a request goes
+pub asked_is : (l : Line) (line : List Placed) (number : ℕ) (d : Recorded) (payload : List ℕ) (target : Endpoint) (again : Bool) → IsLineOf l line → d.source ≡ l.latest.client → d.target ≡ target → d.payload ≡ payload
+    → (l.ends_in_request && bytes_eq l.request.items payload && same_endpoint l.latest.asked target) ≡ again
+    → place_asked number d line ≡ (if again then Repeats l.latest else Opens (record { number = number; client = l.latest.client; asked = target }))
+asked_is l line number d payload target again stands from to same is = stands.asked number d from
+    ∙ (λ i. if l.ends_in_request && bytes_eq l.request.items (same i) && same_endpoint l.latest.asked (to i) then Repeats l.latest
+    else Opens (record { number = number; client = from i; asked = to i }))
+    ∙ ap (λ b. if b then Repeats l.latest else Opens (record { number = number; client = l.latest.client; asked = target })) is

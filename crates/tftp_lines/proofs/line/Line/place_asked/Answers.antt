@@ -1,0 +1,11 @@
+use Rattle.std.proofs.Common.{true, false, sym, ◌∙◌}
+use Rattle.tftp_lines.proofs.Requests.{asked_is}
+use Rattle.tftp_lines.proofs.line.Line.place_asked.Goals as goal
+
+pub returns-then-asks_again : goal.returns-then-asks_again
+returns-then-asks_again c line d stands from to same =
+    sym (asked_is c.args.self.now line c.args.number d c.args.payload.now c.args.target true stands from to same (sym c.asks_again.ensures ∙ c.if-asks_again.true))
+
+pub returns : goal.returns
+returns c line d stands from to same =
+    sym (asked_is c.args.self.now line c.args.number d c.args.payload.now c.args.target false stands from to same (sym c.asks_again.ensures ∙ c.if-asks_again.false))

@@ -1,0 +1,74 @@
+-- A recording: whole UDP datagrams, the newest first, and what is asked of one.
+use Rattle.std.specs.Prelude.{ℕ, ◌==◌, ◌&&◌, ◌||◌, Bool, List, [], ◌∷◌, nat_eq, if◌then◌else◌}
+use Rattle.std.specs.List.{starts_with}
+use Rattle.std.specs.Str.{bytes_eq}
+use Rattle.std.specs.declared.cmp.Ordering.{Ordering}
+use Rattle.std.specs.Ordering.{nat_cmp, on, then_cmp}
+use Rattle.std.specs.Cmp.Lexicographic.{slice_cmp}
+use Rattle.tftp_packet.specs.{opcode_of}
+use Rattle.tftp_lines.specs.declared.endpoint.Address.{Address}
+use Rattle.tftp_lines.specs.declared.endpoint.Address.TheVariants.{V4, V6}
+use Rattle.tftp_lines.specs.declared.endpoint.Endpoint.{Endpoint}
+
+-- A datagram: its time in nanoseconds, the endpoints it went from and to, its payload, and whether this spells a request
+-- from its first byte to its last (RFC 1350, section 5).
+pub record Recorded : Type 0 where
+  pub time : ℕ
+  pub source : Endpoint
+  pub target : Endpoint
+  pub payload : List ℕ
+  pub is_spelled : Bool
+
+-- ---- endpoints
+
+abbrev pub version_of : Address → ℕ
+version_of (V4 bytes) = 4
+version_of (V6 bytes) = 6
+
+abbrev pub bytes_of : Address → List ℕ
+bytes_of (V4 bytes) = bytes
+bytes_of (V6 bytes) = bytes
+
+abbrev pub same_address : Address → Address → Bool
+same_address one other = bytes_eq (bytes_of one) (bytes_of other) && (version_of one == version_of other)
+
+abbrev pub same_endpoint : Endpoint → Endpoint → Bool
+same_endpoint one other = same_address one.address other.address && (one.port == other.port)
+
+-- an order of endpoints: by the port, the IP version, and the bytes of the address
+abbrev pub endpoint_cmp : Endpoint → Endpoint → Ordering
+endpoint_cmp = then_cmp (on (λ e. e.port) nat_cmp) (then_cmp (on (λ e. version_of e.address) nat_cmp) (on (λ e. bytes_of e.address) (slice_cmp nat_cmp)))
+
+-- ---- payloads (RFC 1350, section 5; RFC 2347)
+
+abbrev pub begins_request : List ℕ → Bool
+begins_request payload = (opcode_of payload == 1) || (opcode_of payload == 2)
+
+abbrev pub begins_error : List ℕ → Bool
+begins_error payload = opcode_of payload == 5
+
+abbrev pub is_ack_0 : List ℕ → Bool
+is_ack_0 payload = bytes_eq payload (0 ∷ 4 ∷ 0 ∷ 0 ∷ [])
+
+abbrev pub is_data_1 : List ℕ → Bool
+is_data_1 payload = starts_with nat_eq payload (0 ∷ 3 ∷ 0 ∷ 1 ∷ [])
+
+-- what a server may send first: OACK, ERROR, ACK 0 or DATA 1
+abbrev pub is_answer : List ℕ → Bool
+is_answer payload = (opcode_of payload == 6) || begins_error payload || is_ack_0 payload || is_data_1 payload
+
+-- ---- ways
+
+abbrev pub goes : Endpoint → Endpoint → Recorded → Bool
+goes from to d = same_endpoint d.source from && same_endpoint d.target to
+
+abbrev pub is_between : Endpoint → Endpoint → Recorded → Bool
+is_between one other d = goes one other d || goes other one d
+
+-- the end of the datagram that is not this client's
+abbrev pub other_of : Endpoint → Recorded → Endpoint
+other_of c d = if same_endpoint d.source c then d.target else d.source
+
+-- the same payload, from and to the same endpoints
+abbrev pub is_again : Recorded → Recorded → Bool
+is_again before d = bytes_eq before.payload d.payload && goes d.source d.target before

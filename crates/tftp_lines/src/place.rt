@@ -1,0 +1,62 @@
+//! Where a datagram of a recording belongs.
+
+ghost use Rattle.std.specs.Prelude.{◌≡◌};
+ghost use Rattle.tftp_lines.specs.Places.{transfer_of};
+ghost use Rattle.tftp_lines.specs.Recording.{Recorded, other_of};
+
+use crate::endpoint::Endpoint;
+
+/// A transfer: one read or write (RFC 1350, section 1).
+#[derive(Clone, Copy, Debug, PartialEq, Eq)]
+pub struct Transfer {
+    /// How many datagrams of the recording came before the request that opened it.
+    pub number: u64,
+    /// The endpoint that asked.
+    pub client: Endpoint,
+    /// The endpoint that was asked.
+    pub asked: Endpoint,
+}
+
+impl Transfer {
+    /// The end of a datagram that is not the client's.
+    pub fn peer(&self, source: Endpoint, target: Endpoint) -> Endpoint
+        ensures { (d : Recorded) → d.source ≡ source → d.target ≡ target → result ≡ other_of self.now.client d }
+    {
+        if source == self.client {
+            target
+        } else {
+            source
+        }
+    }
+}
+
+/// Where a datagram belongs: in one place.
+#[derive(Clone, Copy, Debug, PartialEq, Eq)]
+pub enum Place {
+    /// A request that opened the transfer.
+    Opens(Transfer),
+    /// The transfer's request again.
+    Repeats(Transfer),
+    /// Between the transfer's client and another endpoint.
+    Talks(Transfer),
+    /// Between this client and one with which it has no transfer.
+    Apart(Endpoint),
+    /// Between the transfer's server and another than its client.
+    Beside(Transfer),
+    /// Of no transfer.
+    Nowhere,
+}
+
+impl Place {
+    /// The transfer that the datagram is of at its client, if it is of one.
+    pub fn transfer(&self) -> Option<Transfer>
+        ensures { result ≡ transfer_of self.now }
+    {
+        match self {
+            Place::Opens(transfer) => Some(*transfer),
+            Place::Repeats(transfer) => Some(*transfer),
+            Place::Talks(transfer) => Some(*transfer),
+            _ => None,
+        }
+    }
+}

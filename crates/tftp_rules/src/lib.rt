@@ -1,0 +1,9 @@
+//! What the rules at one end compare: where a datagram belongs by its ports, what is known of the transfer before its blocks,
+//! and the rules of blocks and acknowledgements. The code that keeps to them is `tftp_ends`.
+#![tactic(auto)]
+
+mod rule;
+mod terms;
+
+pub use rule::EndRule;
+pub use terms::{Reply, Terms};
