@@ -5,7 +5,7 @@ BENCH = crates/tftp_bench/out/tftp_bench
 DATAGRAMS = crates/tftp_datagrams/out/tftp_datagrams
 MATCH = crates/tftp_match_main/out/tftp_match_main
 
-.PHONY: build test plants bench fuzz install uninstall dist deb
+.PHONY: build test plants tables bench fuzz install uninstall dist deb
 
 # Proves the three programs and builds them, each where its sources are not those that it was built of.
 build:
@@ -24,6 +24,10 @@ test:
 plants:
 	python3 tests/plants.py
 	python3 tools/plants
+
+# Writes the tables of the rules in the pages and in the plugin of Wireshark, and their names on the pages.
+tables:
+	@python3 tools/tables
 
 # How fast the program and its libraries are, beside wc -l, a plain copy and the hex crate alone on the same bytes.
 bench: build

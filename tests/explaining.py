@@ -22,6 +22,7 @@ from typing import Final, NamedTuple, Union
 import made
 import recorded
 from captures import Capture, EndName, Packet, ack, data, error, oack, read_request, write_request
+from refusals import Rule, refusal
 from repository import TOP
 from tftp_tools.frames import without_frames
 from trial import Trial
@@ -62,157 +63,162 @@ def capture(end: EndName, *steps: At | tuple[EndName, Packet]) -> bytes:
     return made.text()
 
 
-def refused(number: int, rule: str, text: bytes, *told: str) -> Case:
-    return Case(f"refused datagram {number} rule {rule}", text, told)
+def refused(number: int, rule: Rule, text: bytes, *told: str) -> Case:
+    return Case(refusal(number, rule), text, told)
+
+
+def malformed(number: int, fault: str, text: bytes, *told: str) -> Case:
+    return Case(refusal(number, Rule.MALFORMED, fault), text, told)
 
 
 C: Final = "client"
 S: Final = "server"
 RULES = (
     refused(
-        3, "1 ForeignPort", capture(C, (C, READ), (S, data(1, b"hi")), At(S, data(1, b"hi"), client=40_001)),
+        3, Rule.FOREIGN_PORT, capture(C, (C, READ), (S, data(1, b"hi")), At(S, data(1, b"hi"), client=40_001)),
         "Its port at the client is 40001.", "The transfer's port there is 40000, fixed by datagram 1 (line 4).",
     ),
     refused(
-        3, "2 WrongPort", capture(C, (C, READ), (S, data(1, WHOLE)), At(C, ack(1), server=43_000)),
+        3, Rule.WRONG_PORT, capture(C, (C, READ), (S, data(1, WHOLE)), At(C, ack(1), server=43_000)),
         "It goes to port 43000, from where nothing had come.",
         "The other end is at port 41000, fixed by datagram 2 (line 5).",
     ),
     refused(
-        4, "3 StrayAnswer",
+        4, Rule.STRAY_ANSWER,
         capture(
             C, (C, READ), (S, data(1, b"hi")), At(S, data(1, b"hi"), server=42_000), At(C, ack(1), server=42_000)
         ),
         "It goes to port 42000, which is not the other end: only ERROR 5 may go there.",
         "From there came datagram 3 (line 6): DATA, block 1, 2 bytes.",
     ),
-    refused(1, "4 NoRequest", capture(C, (S, data(1, b"hi"))), "No request had passed before it"),
-    refused(
-        2, "5 Malformed NoTerminator", capture(C, (C, READ), (S, NO_ZERO)),
+    refused(1, Rule.NO_REQUEST, capture(C, (S, data(1, b"hi"))), "No request had passed before it"),
+    malformed(
+        2, "NoTerminator", capture(C, (C, READ), (S, NO_ZERO)),
         "The fault is NoTerminator: the zero byte that ends its last text is missing, or is not its last byte.",
         "The ERROR has 11 bytes, the last is 0x65.",
     ),
-    refused(
-        2, "5 Malformed NoTerminator", capture(C, (C, READ), (S, (b"\0\5\0\1no file\0\0", "ERROR with two zeros"))),
+    malformed(
+        2, "NoTerminator", capture(C, (C, READ), (S, (b"\0\5\0\1no file\0\0", "ERROR with two zeros"))),
         "The ERROR's text ends with the zero byte at byte 12 of 13 bytes; behind it stands 00.",
     ),
-    refused(
-        2, "5 Malformed Short", capture(C, (C, READ), (S, (b"\0\3\0", "DATA that is cut"))),
+    malformed(
+        2, "Short", capture(C, (C, READ), (S, (b"\0\3\0", "DATA that is cut"))),
         "It begins as DATA and has 3 bytes; opcode and block number are 4.", "Usually: DATA that is cut short (atftpd",
     ),
-    refused(
-        2, "5 Malformed Opcode", capture(C, (C, READ), (S, (b"\0\7\0\1", "opcode 7"))),
+    malformed(
+        2, "Opcode", capture(C, (C, READ), (S, (b"\0\7\0\1", "opcode 7"))),
         "Its first two bytes are 00 07, opcode 7.",
     ),
-    refused(
-        3, "5 Malformed AckLength", capture(C, (C, READ), (S, data(1, b"hi")), (C, (b"\0\4\0\1\xaa", "ACK of 5"))),
+    malformed(
+        3, "AckLength", capture(C, (C, READ), (S, data(1, b"hi")), (C, (b"\0\4\0\1\xaa", "ACK of 5"))),
         "It begins as an ACK and has 5 bytes.", "Behind its fourth byte stands aa.",
     ),
-    refused(
-        2, "5 Malformed OddOptions", capture(C, (C, READ_IN_WINDOWS), (S, (b"\0\6tsize\0" + b"9\0blksize\0", "OACK"))),
+    malformed(
+        2, "OddOptions", capture(C, (C, READ_IN_WINDOWS), (S, (b"\0\6tsize\0" + b"9\0blksize\0", "OACK"))),
         'The last option, "blksize" at byte 11, has no value.',
     ),
-    refused(
-        2, "5 Malformed EmptyOptionName", capture(C, (C, READ_IN_WINDOWS), (S, (b"\0\6\0" + b"8\0", "OACK"))),
+    malformed(
+        2, "EmptyOptionName", capture(C, (C, READ_IN_WINDOWS), (S, (b"\0\6\0" + b"8\0", "OACK"))),
         'At byte 3 stands an empty name; its value is "8".',
     ),
-    refused(
-        2, "5 Malformed DuplicateOption",
+    malformed(
+        2, "DuplicateOption",
         capture(C, (C, READ_IN_WINDOWS), (S, (b"\0\6blksize\0" + b"8\0BlkSize\0" + b"9\0", "OACK"))),
         'Its option "blksize" at byte 3 with the value "8", and again "BlkSize" at byte 13 with the value "9".',
     ),
-    refused(
-        1, "5 Malformed UnknownMode", capture(C, (C, (b"\0\1a\0octte\0", "RRQ"))), 'Its mode is "octte", at byte 5.',
+    malformed(
+        1, "UnknownMode", capture(C, (C, (b"\0\1a\0octte\0", "RRQ"))), 'Its mode is "octte", at byte 5.',
         "Usually: not seen of real software: a client with a mode of its own would do so.",
     ),
-    refused(
-        1, "5 Malformed UnknownMode", capture(C, (C, (b"\0\1a\0oc\x1b\xfft\0", "RRQ"))),
+    malformed(
+        1, "UnknownMode", capture(C, (C, (b"\0\1a\0oc\x1b\xfft\0", "RRQ"))),
         'asks to read "a" in mode "oc\\x1b\\xfft", no options.', 'Its mode is "oc\\x1b\\xfft", at byte 5.',
     ),
-    refused(1, "5 Malformed MailMode", capture(C, (C, (b"\0\1a\0mail\0", "RRQ"))), 'Its mode is "mail", at byte 5.'),
-    refused(
-        1, "5 Malformed RequestTooLong", capture(C, (C, read_request("a" * 500, "octet", tsize=0))),
+    malformed(1, "MailMode", capture(C, (C, (b"\0\1a\0mail\0", "RRQ"))), 'Its mode is "mail", at byte 5.'),
+    malformed(
+        1, "RequestTooLong", capture(C, (C, read_request("a" * 500, "octet", tsize=0))),
         "The RRQ has 517 bytes, which is 5 more.",
     ),
     refused(
-        3, "2 WrongPort", capture(C, (C, READ), (S, data(1, WHOLE)), At(C, ack(1), server=69)),
+        3, Rule.WRONG_PORT, capture(C, (C, READ), (S, data(1, WHOLE)), At(C, ack(1), server=69)),
         "Port 69 is the service port: requests go there, and nothing else.",
         "The other end is at port 41000, fixed by datagram 2 (line 5).",
         "Usually: a client that goes on with the service port, though the server answered from another one",
     ),
     refused(
-        3, "2 WrongPort", capture(S, (C, READ), (S, data(1, WHOLE)), At(C, ack(1), server=69)),
+        3, Rule.WRONG_PORT, capture(S, (C, READ), (S, data(1, WHOLE)), At(C, ack(1), server=69)),
         "It comes to the service port 69, where requests of the client alone may come.",
         "The server had answered from port 41000 in datagram 2 (line 5): the client goes on with that one.",
     ),
     refused(
-        3, "6 WrongKind", capture(C, (C, READ), (S, data(1, WHOLE)), (C, data(1, b"hi"))),
+        3, Rule.WRONG_KIND, capture(C, (C, READ), (S, data(1, WHOLE)), (C, data(1, b"hi"))),
         "The transfer is a read (datagram 1, line 4): the server sends DATA and the client ACKs",
     ),
     refused(
-        4, "7 AfterError", capture(C, (C, READ), (S, data(1, b"hi")), (C, error(3, "disk full")), (C, ack(1))),
+        4, Rule.AFTER_ERROR, capture(C, (C, READ), (S, data(1, b"hi")), (C, error(3, "disk full")), (C, ack(1))),
         "Its sender had sent datagram 3 (line 6): ERROR, code 3 (disk full or allocation exceeded), message"
         ' "disk full".',
     ),
     refused(
-        2, "8 RequestChanged", capture(C, (C, READ), (C, read_request("b", "octet", tsize=0))),
+        2, Rule.REQUEST_CHANGED, capture(C, (C, READ), (C, read_request("b", "octet", tsize=0))),
         "The first request is datagram 1 (line 4).", 'Its name was "a", and is "b" now.',
         "Its options was no options, and is tsize 0 now.",
     ),
     refused(
-        4, "9 RequestAfterStart", capture(C, (C, READ), (S, data(1, WHOLE)), (C, ack(1)), (C, READ)),
+        4, Rule.REQUEST_AFTER_START, capture(C, (C, READ), (S, data(1, WHOLE)), (C, ack(1)), (C, READ)),
         "The client had gone on: datagram 3 (line 6) is ACK 1.",
         "That holds if the recording was made at the client: elsewhere its datagrams may be missing or come by late.",
     ),
     refused(
-        3, "10 ReplyChanged", capture(C, (C, READ_IN_WINDOWS), (S, data(1, WHOLE)), (S, oack(**WINDOWED))),
+        3, Rule.REPLY_CHANGED, capture(C, (C, READ_IN_WINDOWS), (S, data(1, WHOLE)), (S, oack(**WINDOWED))),
         "The first answer is datagram 2 (line 5): DATA 1 (512 bytes), so nothing was agreed.",
     ),
-    refused(2, "11 OackEmpty", capture(C, (C, READ_IN_WINDOWS), (S, oack())), "Agreed to here: no options."),
+    refused(2, Rule.OACK_EMPTY, capture(C, (C, READ_IN_WINDOWS), (S, oack())), "Agreed to here: no options."),
     refused(
-        2, "12 MulticastAgreed", capture(C, (C, read_request("a", "octet", multicast="")), (S, oack(multicast="1"))),
+        2, Rule.MULTICAST_AGREED, capture(C, (C, read_request("a", "octet", multicast="")), (S, oack(multicast="1"))),
         "Agreed to here: multicast 1.", "this project's profile: RFC 2090 is outside of it.",
     ),
     refused(
-        2, "13 OptionNotRequested", capture(C, (C, read_request("a", "octet", tsize=0)), (S, oack(tsize=5, blksize=8))),
+        2, Rule.OPTION_NOT_REQUESTED,
+        capture(C, (C, read_request("a", "octet", tsize=0)), (S, oack(tsize=5, blksize=8))),
         "Asked for (datagram 1, line 4): tsize 0.", "Not asked for: blksize.",
     ),
     refused(
-        2, "14 OptionOutsideProfile", capture(C, (C, read_request("a", "octet", rollover=0)), (S, oack(rollover=0))),
+        2, Rule.OPTION_OUTSIDE_PROFILE, capture(C, (C, read_request("a", "octet", rollover=0)), (S, oack(rollover=0))),
         "None of the four: rollover.",
     ),
     refused(
-        2, "15 OptionValue", capture(C, (C, read_request("a", "octet", blksize=512)), (S, oack(blksize=1024))),
+        2, Rule.OPTION_VALUE, capture(C, (C, read_request("a", "octet", blksize=512)), (S, oack(blksize=1024))),
         "blksize: asked 512, agreed 1024: it is larger than what was asked for.",
     ),
     refused(
-        3, "16 OackChanged", capture(C, (C, READ_IN_WINDOWS), (S, oack(**WINDOWED)), (S, oack(blksize=8))),
+        3, Rule.OACK_CHANGED, capture(C, (C, READ_IN_WINDOWS), (S, oack(**WINDOWED)), (S, oack(blksize=8))),
         "The first OACK is datagram 2 (line 5): blksize 8, windowsize 4; now blksize 8.",
     ),
     refused(
-        5, "17 OackAfterStart",
+        5, Rule.OACK_AFTER_START,
         capture(
             S, (C, READ_IN_WINDOWS), (S, oack(**WINDOWED)), (C, ack(0)), (S, data(1, EIGHT)), (S, oack(**WINDOWED))
         ),
         "The server had sent datagram 4 (line 7): DATA 1 (8 bytes).",
     ),
     refused(
-        3, "18 NotStarted", capture(S, (C, READ_IN_WINDOWS), (S, oack(**WINDOWED)), (S, data(1, EIGHT))),
+        3, Rule.NOT_STARTED, capture(S, (C, READ_IN_WINDOWS), (S, oack(**WINDOWED)), (S, data(1, EIGHT))),
         "The server's OACK (datagram 2, line 5) is answered by ACK 0 before the first block, and no ACK 0 stands",
     ),
-    refused(2, "19 BlockZero", capture(C, (C, READ), (S, data(0, WHOLE))), "No block had passed before it."),
+    refused(2, Rule.BLOCK_ZERO, capture(C, (C, READ), (S, data(0, WHOLE))), "No block had passed before it."),
     refused(
-        2, "20 BeyondBlock65535",
+        2, Rule.BEYOND_BLOCK_65535,
         capture(C, (C, read_request("a", "octet", tsize=0)), (S, oack(tsize=33_553_920))),
         "33,553,920 bytes in blocks of 512 are 65,536 blocks; there are numbers for 65,535.",
     ),
     refused(
-        4, "21 BlockLength",
+        4, Rule.BLOCK_LENGTH,
         capture(C, (C, READ_IN_WINDOWS), (S, oack(**WINDOWED)), (C, ack(0)), (S, data(1, EIGHT + b"9"))),
         "The block size is 8 (datagram 2, line 5).", "This block has 9 bytes, which is more.",
     ),
     refused(
-        9, "22 WindowOverrun",
+        9, Rule.WINDOW_OVERRUN,
         capture(
             C, (C, READ_IN_WINDOWS), (S, oack(**WINDOWED)), (C, ack(0)), (S, data(1, EIGHT)), (S, data(2, EIGHT)),
             (C, ack(2)), (S, data(3, EIGHT)), (S, data(4, EIGHT)), (S, data(7, EIGHT)),
@@ -222,37 +228,37 @@ RULES = (
         "RFC 1350, section 2 (lock step), and RFC 7440, section 3.",
     ),
     refused(
-        5, "23 BlockSkipped",
+        5, Rule.BLOCK_SKIPPED,
         capture(S, (C, READ_IN_WINDOWS), (S, oack(**WINDOWED)), (C, ack(0)), (S, data(1, EIGHT)), (S, data(3, EIGHT))),
         "The highest block sent before it is 1 in datagram 4 (line 7).", "The next one is 2, and this is block 3.",
         "That holds if the recording was made at the server:",
     ),
     refused(
-        6, "24 GoneBack",
+        6, Rule.GONE_BACK,
         capture(C, (C, WRITE), (S, ack(0)), (C, data(1, WHOLE)), (S, ack(1)), (C, data(2, WHOLE)), (C, data(1, WHOLE))),
         "The highest block sent before it is 2 in datagram 5 (line 8).", "This is lock step: no window was agreed.",
         "That holds if the recording was made at the client:",
     ),
     refused(
-        4, "25 BlockChanged",
+        4, Rule.BLOCK_CHANGED,
         capture(C, (C, READ), (S, data(1, WHOLE)), (C, ack(1)), (S, data(1, WHOLE[:511] + b"x"))),
         "Block 1 had passed in datagram 2 (line 5), with 512 bytes; now it has 512 bytes.",
         'They differ from byte 512 of the block on: "w" then, "x" now.',
     ),
     refused(
-        3, "26 AckAhead", capture(C, (C, READ), (S, data(1, WHOLE)), (C, ack(2))),
+        3, Rule.ACK_AHEAD, capture(C, (C, READ), (S, data(1, WHOLE)), (C, ack(2))),
         "Block 1 had come in, block 2 had not.", "Block 2 is acknowledged.",
     ),
     refused(
-        3, "26 AckAhead", capture(C, (C, READ), (S, error(1, "none")), (C, ack(1))),
+        3, Rule.ACK_AHEAD, capture(C, (C, READ), (S, error(1, "none")), (C, ack(1))),
         "It follows the ERROR in datagram 2 (line 5), which is not acknowledged; this does no harm.",
     ),
     refused(
-        3, "26 AckAhead", capture(S, (C, READ), (S, error(1, "none")), (C, ack(1))),
+        3, Rule.ACK_AHEAD, capture(S, (C, READ), (S, error(1, "none")), (C, ack(1))),
         "No block was sent before it.", "It follows the ERROR in datagram 2 (line 5), which is not acknowledged",
     ),
     refused(
-        3, "27 AckZero", capture(C, (C, READ), (S, data(1, WHOLE)), (C, ack(0))),
+        3, Rule.ACK_ZERO, capture(C, (C, READ), (S, data(1, WHOLE)), (C, ack(0))),
         "The transfer is a read, and no OACK had passed, so there was nothing that ACK 0 could answer.",
     ),
 )
@@ -280,7 +286,7 @@ total 2
 SOUND = capture(C, (C, READ), (S, data(1, b"hi")), (C, ack(1)))
 OTHERS = (
     Case(
-        "refused datagram 3 rule 26 AckAhead", WITH_FRAMES.encode(),
+        refusal(3, Rule.ACK_AHEAD), WITH_FRAMES.encode(),
         (
             "line 10 of the text, frame 12 of the recording, 2026-11-23 06:09:52.000000 UTC, 0.568700 s after"
             " datagram 1.",
@@ -384,14 +390,14 @@ def try_examples(trial: Trial, programs: Words) -> None:
     third = 'transfer 3: get "missing.cfg", client 192.0.2.1:34056, server 192.0.2.1:42245, at the client'
     first = 'transfer 1: put "report.bin", client 192.0.2.2:47102, server 192.0.2.2:35665, at the client'
     session, oack_again = (EXAMPLES / f"loopback-{name}.pcap" for name in ("session", "repeated-oack"))
-    changed = "refused datagram 4 rule 25 BlockChanged"
+    ahead, changed, again = refusal(3, Rule.ACK_AHEAD), refusal(4, Rule.BLOCK_CHANGED), refusal(5, Rule.BLOCK_CHANGED)
     cases: tuple[tuple[str, list[object], tuple[str, int], str], ...] = (
-        ("the refused one", [session], (third, 1), "at the client refused datagram 3 rule 26 AckAhead Where: line 10"),
+        ("the refused one", [session], (third, 1), f"at the client {ahead} Where: line 10"),
         ("how many are not accepted", [session], (third, 1), "1 of 5 transfers is not accepted"),
         ("each is accepted", [EXAMPLES / "loopback-dnsmasq.pcap"], ("each of the 3 transfers is accepted", 0), ""),
         ("the one that is named", [session, 1, "server"], (sound, 0), "accepted"),
         ("the one whose number is named", [oack_again, 2], (changed, 1), "frame 9 of the recording"),
-        ("each of several, the first", [oack_again], (first, 1), "refused datagram 5 rule 25 BlockChanged Where:"),
+        ("each of several, the first", [oack_again], (first, 1), f"{again} Where:"),
         ("each of several, the second", [oack_again], (first, 1), f"between the ends {changed} Where: line 12"),
         ("each of several, how many", [oack_again], (first, 1), "2 of 2 transfers are not accepted"),
         ("no such one", [session, 9, "client"], ("", 2), "there is no transfer 9 to judge: the recording has 1 to 5"),
@@ -413,7 +419,7 @@ def at_another_port() -> list[recorded.Datagram]:
 def try_recordings(trial: Trial, programs: Words, folder: pathlib.Path) -> None:
     """Recordings that are made here: at which end a refusal is explained, its doubts, and what the program tells."""
     late, path = made.late_block(), folder / "a recording"
-    begun, gone_back = late[:5], "refused datagram 5 rule 24 GoneBack"
+    begun, gone_back = late[:5], refusal(5, Rule.GONE_BACK)
     again = "Doubtful: its client had asked the same and sent nothing else since: the transfer before goes on"
     at_server, at_client = "out, from port 41000 of the server to", "in, from 192.0.2.1 port 42000 to port 40000 of the"
     between = "Place: judged between the ends, by what passed there; the datagrams have the numbers that they have"
@@ -429,7 +435,7 @@ def try_recordings(trial: Trial, programs: Words, folder: pathlib.Path) -> None:
         ("both ends at one host", made.file_of(made.at_one_host(late)), (), gone_back, (at_server,)),
         (
             "a doubt of a transfer", made.file_of(made.asked_again()), (2, "client"),
-            "refused datagram 2 rule 22 WindowOverrun", (at_client, again),
+            refusal(2, Rule.WINDOW_OVERRUN), (at_client, again),
         ),
         (
             "what is told beside", made.file_of([*late, name]), (), sound,
@@ -438,7 +444,7 @@ def try_recordings(trial: Trial, programs: Words, folder: pathlib.Path) -> None:
         ("no transfer", made.file_of(other_port), (), "", ("went to port 6969: name the port by --service",)),
         (
             "another service port", made.file_of(other_port), ("--service", 6969),
-            "refused datagram 1 rule 5 Malformed NoTerminator", ("What: from port 40000 of the client to 192.0.2.1",),
+            refusal(1, Rule.MALFORMED, "NoTerminator"), ("What: from port 40000 of the client to 192.0.2.1",),
         ),
     )
     for name_of_case, given, words, line, said in cases:
@@ -465,7 +471,7 @@ def asking(packet: Packet) -> list[recorded.Datagram]:
     return [recorded.Datagram(made.C, 40_000, made.S, 69, packet[0])]
 
 
-# What is refused, what passed, and what is told of it.
+# The line, what passed, and what is told of it.
 Passing = tuple[str, list[recorded.Datagram], tuple[str, ...]]
 
 
@@ -476,34 +482,34 @@ def refused_between() -> tuple[Passing, ...]:
     answered = recorded.Datagram(made.C, 40_000, made.THIRD, 41_000, ack(1)[0])
     return (
         (
-            "2 rule 2 WrongPort", asking(WRITE) + out(data(1, b"hi")),
+            refusal(2, Rule.WRONG_PORT), asking(WRITE) + out(data(1, b"hi")),
             ("It goes to 192.0.2.1 port 41000, from where nothing had passed.",),
         ),
         (
-            "5 rule 3 StrayAnswer", two + out(ack(1)) + [stray, answered],
+            refusal(5, Rule.STRAY_ANSWER), two + out(ack(1)) + [stray, answered],
             (
                 "From there came datagram 4 (line 12, frame 4): DATA, block 1, 1 byte.",
                 "The server is at 192.0.2.1 port 41000, with which the client went on in datagram 3 (line 10,",
             ),
         ),
         (
-            "3 rule 7 AfterError", begun + back(error(1, "no"), error(3, "full")),
+            refusal(3, Rule.AFTER_ERROR), begun + back(error(1, "no"), error(3, "full")),
             ("An ERROR of the server had passed in datagram 2 (line 8, frame 2): ERROR, code 1", "and no other of the"),
         ),
         (
-            "3 rule 22 WindowOverrun", two + back(data(2, b"!")),
+            refusal(3, Rule.WINDOW_OVERRUN), two + back(data(2, b"!")),
             ("No block was acknowledged before it.", "from 192.0.2.1 port 41000 to port 40000 of the client: DATA"),
         ),
         (
-            "3 rule 26 AckAhead", begun + back(error(1, "no")) + out(ack(1)),
+            refusal(3, Rule.ACK_AHEAD), begun + back(error(1, "no")) + out(ack(1)),
             ("Block 1 had not passed. Block 1 is acknowledged. It follows the ERROR in datagram 2 (line 8, frame 2)",),
         ),
         (
-            "4 rule 25 BlockChanged", two + out(ack(1)) + back(data(1, WHOLE[:511] + b"x")),
+            refusal(4, Rule.BLOCK_CHANGED), two + out(ack(1)) + back(data(1, WHOLE[:511] + b"x")),
             ("Block 1 had passed in datagram 2 (line 8, frame 2), with 512 bytes", "line 12 of the client's text,"),
         ),
         (
-            "3 rule 27 AckZero", two + out(ack(0)),
+            refusal(3, Rule.ACK_ZERO), two + out(ack(0)),
             ("The transfer is a read, and no OACK had passed, so there was nothing that ACK 0 could answer.",),
         ),
     )
@@ -516,15 +522,15 @@ def refused_late() -> tuple[Passing, ...]:
     served = "The server's ERROR had passed in datagram 3 (line 10, frame 3): the server sends nothing after it, so"
     return (
         (
-            "4 rule 18 NotStarted", asking(WRITE) + back(error(1, "no")) + out(error(0, "so"), data(1, b"hi")),
+            refusal(4, Rule.NOT_STARTED), asking(WRITE) + back(error(1, "no")) + out(error(0, "so"), data(1, b"hi")),
             ("and neither had passed before the client's ERROR in datagram 3 (line 10, frame 3).",),
         ),
         (
-            "5 rule 22 WindowOverrun", two + back(error(3, "full")) + out(ack(1)) + back(data(2, b"!")),
+            refusal(5, Rule.WINDOW_OVERRUN), two + back(error(3, "full")) + out(ack(1)) + back(data(2, b"!")),
             ("No block was acknowledged before it.", "block 1 is the last that may pass.", f"{served} what passed"),
         ),
         (
-            "6 rule 26 AckAhead", two + out(ack(1), error(0, "x")) + back(data(2, b"!")) + out(ack(2)),
+            refusal(6, Rule.ACK_AHEAD), two + out(ack(1), error(0, "x")) + back(data(2, b"!")) + out(ack(2)),
             ("Block 1 had passed, block 2 had not. Block 2 is acknowledged.", f"{late} what passed from the"),
         ),
     )
@@ -533,13 +539,13 @@ def refused_late() -> tuple[Passing, ...]:
 def try_between(trial: Trial, programs: Words, folder: pathlib.Path) -> None:
     """Refusals between the ends: what had passed, and what counts of it after an ERROR."""
     path = folder / "between.pcap"
-    for rule, passed, said in (*refused_between(), *refused_late()):
+    for wanted, passed, said in (*refused_between(), *refused_late()):
         path.write_bytes(made.file_of(passed))
         output, errors, status = run([*programs, path, 1, "between"])
         line = output.partition("\n")[0]
-        trial.check(f"between, {rule}", (line, status) == (f"refused datagram {rule}", 1), (output, errors))
+        trial.check(f"between, {wanted}", (line, status) == (wanted, 1), (output, errors))
         for it in said:
-            trial.check(f"between, {rule}, {it}", it in plain(output), output)
+            trial.check(f"between, {wanted}, {it}", it in plain(output), output)
     digest = hashlib.sha256(WHOLE + b"!").hexdigest()
     first, last = data(1, WHOLE), data(2, b"!")
     read = asking(READ) + back(first) + out(ack(1)) + back(last, first) + out(ack(2))
@@ -566,14 +572,14 @@ def try_all_between(trial: Trial, programs: Words, folder: pathlib.Path) -> None
     changed = asking(READ) + back(data(1, WHOLE)) + out(ack(1)) + back(data(1, WHOLE[:511] + b"x"))
     passed = changed + back(data(2, b"!")) + out(ack(9), ack(2))
     digest = hashlib.sha256(WHOLE + b"!").hexdigest()
-    frames = made.framed(made.packets_of(passed))
+    frames, ahead = made.framed(made.packets_of(passed)), f"rule {Rule.ACK_AHEAD}"
     for name, recording in (("pcap", recorded.pcap(frames)), ("pcapng", sections(frames))):
         path.write_bytes(recording)
         output, errors, status = run([*programs, "--all", path, 1, "between"])
-        is_first = output.startswith("refused datagram 4 rule 25 BlockChanged\n") and (errors, status) == ("", 1)
+        is_first = output.startswith(f"{refusal(4, Rule.BLOCK_CHANGED)}\n") and (errors, status) == ("", 1)
         trial.check(f"between, what if, {name}", is_first, (output, errors))
         for words in (
-            "what if, without datagram 4: datagram 6 rule 26 AckAhead Where: line 16 of the client's text, frame 6",
+            f"what if, without datagram 4: datagram 6 {ahead} Where: line 16 of the client's text, frame 6",
             "what if, without datagrams 4 and 6: accepted get octet blocks 2 bytes 513",
             f"File: 513 bytes, SHA-256 {digest}.",
         ):
@@ -604,7 +610,7 @@ def try_streams(trial: Trial, programs: Words) -> None:
     """What comes on standard input: a recording, or what is none, by its first bytes."""
     session = (EXAMPLES / "loopback-session.pcap").read_bytes()
     output, errors, status = run([*programs, "-", 3, "server"], session)
-    got, wanted = (output.partition("\n")[0], errors, status), ("refused datagram 3 rule 26 AckAhead", "", 1)
+    got, wanted = (output.partition("\n")[0], errors, status), (refusal(3, Rule.ACK_AHEAD), "", 1)
     trial.check("tftp-explain, a recording that comes in", got == wanted, output)
     for name, given, told in (
         ("gzip", gzip.compress(session), "it is compressed by gzip: decompress it first"),
@@ -625,17 +631,17 @@ def try_all(trial: Trial, programs: Words) -> None:
     )
     output, errors, status = run([*programs, "--all"], text)
     said, digest = plain(output), hashlib.sha256(content).hexdigest()
-    first = "refused datagram 4 rule 26 AckAhead"
+    first = refusal(4, Rule.ACK_AHEAD)
     trial.check("--all, the verdict", output.startswith(f"{first}\n\n") and (errors, status) == ("", 1), output)
     for words in (
         "no verdict: what follows is what the program says once the datagrams that it refused are left out.",
-        "what if, without datagram 4: datagram 5 rule 25 BlockChanged Where: line 8 of the text.",
-        "what if, without datagrams 4 and 5: datagram 7 rule 26 AckAhead Where: line 10 of the text.",
+        f"what if, without datagram 4: datagram 5 rule {Rule.BLOCK_CHANGED} Where: line 8 of the text.",
+        f"what if, without datagrams 4 and 5: datagram 7 rule {Rule.ACK_AHEAD} Where: line 10 of the text.",
         "what if, without datagrams 4, 5 and 7: accepted get octet blocks 2 bytes 640",
         f"File: 640 bytes, SHA-256 {digest}.",
     ):
         trial.check(f"--all, {words}", words in said, output)
-    trial.check("--all, a rule's words stand once", output.count("26 AckAhead: an ACK says") == 1, output)
+    trial.check("--all, a rule's words stand once", output.count(f"{Rule.ACK_AHEAD}: an ACK says") == 1, output)
     many = capture(C, (C, READ), (S, data(1, b"hi")), *((C, ack(9)) for _ in range(30)), (C, ack(1)))
     output, _, status = run([*programs, "--all"], many)
     is_ended = output.count("\nwhat if, ") == 20 and "so many datagrams are left out at most" in output

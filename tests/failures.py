@@ -19,6 +19,7 @@ from captures import Capture, ack, blocks, data, error, netascii, oack, read_req
 from commands import COMMANDS, SILENT
 from limits import limited
 from normal import Output, meaning_of, outputs_of_refused
+from refusals import Rule, refusal
 from trial import Trial
 
 # What is printed and the status, whether no error was written, and whether the shim's call was met.
@@ -114,7 +115,7 @@ def texts() -> tuple[Case, ...]:
     block = b"in 40000 41000 000300016869"
     past = b"in 40000 41000 000300026869"
     ack = b"out 40000 41000 00040001"
-    overrun = b"refused datagram 2 rule 22 WindowOverrun\n", 1
+    overrun = f"{refusal(2, Rule.WINDOW_OVERRUN)}\n".encode(), 1
     rows = (b"1 out RRQ\n", b"2 in DATA 1 2\n", b"3 out ACK 1\n")
     return (
         Case(
@@ -157,7 +158,7 @@ def texts() -> tuple[Case, ...]:
             "a payload that is no packet",
             text_of(request, b"in 40000 41000 0004000100", ack, b"total 3"),
             (rows[0], b"2 in malformed AckLength\n", rows[2]),
-            (b"refused datagram 2 rule 5 Malformed AckLength\n", 1),
+            (f"{refusal(2, Rule.MALFORMED, 'AckLength')}\n".encode(), 1),
             unlawful=5,
         ),
         Case("bad hex at once", text_of(b"out 40000 69 00016", block, ack, b"total 3"), (), wrong=(4, "BadHex")),
@@ -216,7 +217,7 @@ def with_errors() -> Iterator[Case]:
     full.put("client", error(3, "full"))
     yield case_of("a full disk", full, "aborted by local code 3")
     full.put("client", ack(1))
-    after = case_of("an acknowledgement after the error", full, "refused datagram 4 rule 7 AfterError")
+    after = case_of("an acknowledgement after the error", full, refusal(4, Rule.AFTER_ERROR))
     yield dataclasses.replace(after, unlawful=7)
 
 
@@ -265,7 +266,7 @@ def transfers() -> Iterator[Case]:
     yield case_of("a hundred blocks", many, "accepted get octet blocks 101 bytes 800", file * 80)
     other = Capture("client")
     other.put("client", read_request("a", "octet", blksize=8), read_request("b", "octet", blksize=8))
-    yield case_of("another request", other, "refused datagram 2 rule 8 RequestChanged")
+    yield case_of("another request", other, refusal(2, Rule.REQUEST_CHANGED))
 
 
 def strays() -> Iterator[Case]:
@@ -307,7 +308,7 @@ def errors() -> Iterator[Case]:
     other = Capture("client")
     other.put("client", read_request("a", "octet"))
     other.put("server", error(1, "none"), error(1, "no such file"))
-    yield case_of("another error", other, "refused datagram 3 rule 7 AfterError")
+    yield case_of("another error", other, refusal(3, Rule.AFTER_ERROR))
 
 
 class ProgramTrial(Trial):

@@ -15,6 +15,7 @@ import xml.etree.ElementTree as ElementTree
 from collections.abc import Sequence
 
 from captures import Capture, ack, blocks, data, error, oack, read_request, write_request
+from refusals import Rule, refusal
 from trial import Trial
 
 TOP = pathlib.Path(__file__).resolve().parent.parent
@@ -105,7 +106,7 @@ def try_small(trial: Trial, program: str) -> None:
     trial.check("windows are bracketed", bracketed, picture.words)
     text = text.replace(b"00040006\n", b"00040007\n")
     picture = Picture(run(words, text)[0])
-    is_red = picture.heads.count(RED) == 1 and picture.has("ACK 7, rule 26 AckAhead")
+    is_red = picture.heads.count(RED) == 1 and picture.has(f"ACK 7, rule {Rule.ACK_AHEAD}")
     trial.check("the refused one is red", is_red, picture.words)
     made = Capture("server")
     made.put("client", write_request("a", "octet"))
@@ -161,7 +162,7 @@ def try_words(trial: Trial, program: str) -> None:
     picture = Picture(run(["--program", program], text)[0])
     root = picture.root
     told = picture.told()
-    is_told = told[:1] == ["refused datagram 14 rule 26 AckAhead"] and "14 datagrams passed. 1 is a repeat" in told[1]
+    is_told = told[:1] == [refusal(14, Rule.ACK_AHEAD)] and "14 datagrams passed. 1 is a repeat" in told[1]
     trial.check("title and description", root.get("role") == "img" and is_told, told)
     trial.check("the request has its options", picture.has('RRQ "boot.img" octet blksize=8 windowsize=4'))
     trial.check("the rule's reason", picture.has("an ACK says that its block and all before it came"), picture.words)
@@ -175,11 +176,11 @@ def try_text(trial: Trial, program: str) -> None:
     text = window_read().text().replace(b"00040006\n", b"00040007\n")
     output, errors, status = run(["--text", "--program", program], text)
     lines = output.splitlines()
-    begun = lines[0] == "refused datagram 14 rule 26 AckAhead" and len(lines) == 19 and output.isascii()
+    begun = lines[0] == refusal(14, Rule.ACK_AHEAD) and len(lines) == 19 and output.isascii()
     trial.check("--text", begun and (errors, status) == ("", 0), output)
     for words in (
         '|--- RRQ "boot.img" octet blksize=8 windowsize=4 ---', "--- DATA 3 (8 bytes), again ---|",
-        "~ from 2001:db8::9 port 41000: DATA 9 (5 bytes) ~~~|", "--- ACK 7, rule 26 AckAhead ---",
+        "~ from 2001:db8::9 port 41000: DATA 9 (5 bytes) ~~~|", f"--- ACK 7, rule {Rule.ACK_AHEAD} ---",
         "|   an ACK says that its block and all before it came",
     ):
         trial.check(f"--text, {words}", words in output, output)
@@ -193,7 +194,7 @@ def try_large(trial: Trial, folder: pathlib.Path) -> None:
     text = lockstep(50_000)
     for verdict, status, red in (
         ("accepted get octet blocks 50000 bytes 1", 0, 0),
-        ("refused datagram 70012 rule 26 AckAhead", 1, 1),
+        (refusal(70012, Rule.ACK_AHEAD), 1, 1),
     ):
         stand_in.write_text(f"#!/bin/sh\ncat >/dev/null\necho '{verdict}'\nexit {status}\n")
         stand_in.chmod(0o755)
@@ -229,7 +230,7 @@ def try_recordings(trial: Trial, program: str, transfers: str) -> None:
     for words in named:
         output, errors, status = run(["--program", program, "--transfers", transfers, recording, *words], b"")
         picture = Picture(output)
-        is_red = picture.heads.count(RED) == 1 and picture.has("ACK 1, rule 26 AckAhead")
+        is_red = picture.heads.count(RED) == 1 and picture.has(f"ACK 1, rule {Rule.ACK_AHEAD}")
         are_named = picture.has("192.0.2.1 port 34056") and picture.has("192.0.2.1 port 42245")
         holds = (errors, status) == ("", 0) and is_red and are_named
         trial.check(f"of a recording, {words}", holds, (picture.words, errors))
@@ -239,7 +240,7 @@ def try_recordings(trial: Trial, program: str, transfers: str) -> None:
     trial.check("of a recording, at the server", (errors, status) == ("", 0) and is_whole, (picture.words, errors))
     output, errors, status = run(["--program", program, "--transfers", transfers, recording, 3, "between"], b"")
     picture = Picture(output)
-    is_red = picture.heads.count(RED) == 1 and picture.has("ACK 1, rule 26 AckAhead")
+    is_red = picture.heads.count(RED) == 1 and picture.has(f"ACK 1, rule {Rule.ACK_AHEAD}")
     is_named = {"client", "server"} <= set(picture.words) and picture.has("between the ends")
     holds = (errors, status) == ("", 0) and is_red and is_named and not picture.has("(recorded here)")
     trial.check("of a recording, between", holds, (picture.words, errors))

@@ -18,6 +18,7 @@ from collections.abc import Iterable, Iterator, Sequence
 from captures import Capture, EndName, Packet, ack, blocks, data, error, netascii, oack, read_request, write_request
 from commands import COMMANDS
 from normal import meaning_of, outputs_of_refused
+from refusals import Rule, refusal
 from trial import Trial
 
 # A name, the command, the text, what is printed and the status.
@@ -140,15 +141,15 @@ def judged(name: str, text: bytes, line: str, status: int, file: bytes = b"") ->
             yield name, command, text, output, ended
 
 
-def with_another_last(name: str, capture: Capture, sender: EndName, packet: Packet, rule: str) -> Iterator[Tried]:
+def with_another_last(name: str, capture: Capture, sender: EndName, packet: Packet, rule: Rule) -> Iterator[Tried]:
     """The same capture with this packet as its last datagram, which breaks the rule."""
     capture.lines.pop()
     capture.put(sender, packet)
-    yield from judged(f"{name}, another last datagram", capture.text(), f"refused datagram {COUNT} rule {rule}", 1)
+    yield from judged(f"{name}, another last datagram", capture.text(), refusal(COUNT, rule), 1)
 
 
 def whole(
-    name: str, capture: Capture, kind: str, wire: bytes, file: bytes, change: tuple[Packet, str]
+    name: str, capture: Capture, kind: str, wire: bytes, file: bytes, change: tuple[Packet, Rule]
 ) -> Iterator[Tried]:
     """What is tried on a whole capture."""
     count = len(wire) // AGREED["blksize"] + 1
@@ -165,7 +166,7 @@ def aborted(name: str, capture: Capture, by: str, change: tuple[EndName, Packet]
     """What is tried on a capture that ends by ERRORs."""
     yield from judged(name, capture.text(), f"aborted by {by}", 1)
     yield name, "show", capture.text(), b"".join(capture.rows), 0
-    yield from with_another_last(name, capture, *change, "7 AfterError")
+    yield from with_another_last(name, capture, *change, Rule.AFTER_ERROR)
 
 
 def of_most_blocks() -> Iterator[Tried]:
@@ -176,7 +177,7 @@ def of_most_blocks() -> Iterator[Tried]:
     yield from judged("the most blocks", capture.text(), f"accepted put octet {accepted} {len(file)}", 0, file)
     capture.lines[-2:] = []
     capture.put("client", data(MOST_BLOCKS, file[1 - USUAL_SIZE :] + b"!"))
-    beyond = f"refused datagram {2 * MOST_BLOCKS + 1} rule 20 BeyondBlock65535"
+    beyond = refusal(2 * MOST_BLOCKS + 1, Rule.BEYOND_BLOCK_65535)
     yield from judged("one byte too many", capture.text(), beyond, 1)
     file = chance.randbytes(MOST_BLOCKS * 8 - 1)
     capture = backwards(blocks(file, 8))
@@ -192,11 +193,11 @@ def cases() -> Iterator[Tried]:
     as_many = line_ends(262_139).text()
     yield from judged("line ends, as many as there may be", as_many, accepted, 0, b"\n" * 262_139)
     yield from of_most_blocks()
-    change = data(1, b"another!"), "25 BlockChanged"
+    change = data(1, b"another!"), Rule.BLOCK_CHANGED
     yield from whole("a read with a window", at_receiver(image), "get octet", image, image, change)
     yield from whole("a read among hosts", among_hosts(image), "get octet", image, image, change)
     wire = netascii(notes)
-    change = ack(len(wire) // AGREED["blksize"] + 2), "26 AckAhead"
+    change = ack(len(wire) // AGREED["blksize"] + 2), Rule.ACK_AHEAD
     yield from whole("a write in netascii", at_sender(notes), "put netascii", wire, notes, change)
     read = ended(at_receiver(image), "server", error(0, "out of blocks"))
     yield from aborted("a read that the server ends", read, "peer code 0", ("server", error(0, "out of block")))

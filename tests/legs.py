@@ -25,13 +25,14 @@ from judged import said
 from loopback import (
     ATFTPD, CURL, DNSMASQ, HPA, INSIDE, RELAY, SERVER, Case, enter_namespace, make_files, record, try_all,
 )
+from refusals import Rule
 from relay import Disturbance, Relay
 from trial import Trial
 
 # At its own address alone, beside the relay.
 BOUND = f"{DNSMASQ} --bind-interfaces"
 DATA = b"\x00\x03"
-BEHIND = re.compile("refused datagram ([0-9]+) rule 21 BlockLength")
+BEHIND = re.compile(f"refused datagram ([0-9]+) rule {Rule.BLOCK_LENGTH}")
 ATFTP = "atftp -g -r kernel.img -l kernel.img --option 'blksize 512'"
 
 

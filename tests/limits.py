@@ -8,6 +8,7 @@ from collections.abc import Iterator
 from captures import Capture, ack, blocks, data, oack, read_request
 from commands import COMMANDS, SILENT
 from normal import Output, meaning_of, outputs_of_refused
+from refusals import Rule, refusal
 from trial import Trial
 
 # The stack that the program is run in, and the steps in which its memory is raised, in bytes.
@@ -70,7 +71,7 @@ def cases() -> Iterator[tuple[str, bytes, dict[str, Output]]]:
         ("windows", windowed(), "accepted get octet blocks 6 bytes 40", b"0123456789" * 4),
         ("65 options", read_of_two_bytes(65), "accepted get octet blocks 1 bytes 2", b"hi"),
         ("120 options", read_of_two_bytes(120), "accepted get octet blocks 1 bytes 2", b"hi"),
-        ("10,000 options", unasked(10_000), "refused datagram 2 rule 13 OptionNotRequested", b""),
+        ("10,000 options", unasked(10_000), refusal(2, Rule.OPTION_NOT_REQUESTED), b""),
     ]
     for name, capture, line, file in told:
         yield name, capture.text(), outputs(capture, line, file)

@@ -23,6 +23,7 @@ from collections.abc import Callable, Iterator, Sequence
 from typing import Optional
 
 from judged import Row, checked
+from refusals import Rule, refusal
 from relay import Disturbance, Relay
 from trial import Trial
 
@@ -88,7 +89,7 @@ CASES = (
         (f"printf '{SESSION}' | tftp -4 {SERVER}",),
         (
             *both(read(3, 1300), read(3, 1300)),
-            ("refused datagram 3 rule 26 AckAhead", "refused datagram 3 rule 26 AckAhead"),
+            (refusal(3, Rule.ACK_AHEAD), refusal(3, Rule.ACK_AHEAD)),
             *both(read(3, 1024), write(4, 1536)),
         ),
     ),
@@ -157,7 +158,7 @@ CASES = (
     Case(
         "repeated-oack", HPA,
         (f"{CURL} -T report.bin tftp://{RELAY}/report.bin",),
-        both(*["refused datagram [0-9]+ rule 25 BlockChanged"] * 2),
+        both(*[f"refused datagram [0-9]+ rule {Rule.BLOCK_CHANGED}"] * 2),
         (("server", 1, "repeated"),),
         ("report.bin",),
     ),

@@ -21,6 +21,7 @@ sys.dont_write_bytecode = True
 from captures import Capture, ack, blocks, data, error, oack, read_request  # noqa: E402
 from ladder import Picture, contrast_of  # noqa: E402
 from match import READ, Both, ahead, read_of_two_bytes, repeated, strayed, windowed  # noqa: E402
+from refusals import Rule, refusal  # noqa: E402
 from trial import Trial  # noqa: E402
 
 TOOLS = pathlib.Path(__file__).resolve().parent.parent / "tools"
@@ -142,9 +143,10 @@ CASES = (
         'The client sent the like in its datagram 1 (line 4). Its name is "boot.cfg" there, and "root.cfg" here.',
     ), {"f-refused": 1}),
     Case("a refusal on one side", ahead(), (
-        "refused datagram 3 rule 26 AckAhead", READ, on(3, 3),
+        refusal(3, Rule.ACK_AHEAD), READ, on(3, 3),
     ), on(3, "3 unsent"), (
-        "At: the client, its datagram 3.", "Rule: 26 AckAhead: an ACK says that its block and all before it came.",
+        "At: the client, its datagram 3.",
+        f"Rule: {Rule.ACK_AHEAD}: an ACK says that its block and all before it came.",
         "At: the server, its datagram 3.",
         "The client never sent it: it sent 2 datagrams of the transfer, and none that says this.",
         "The highest ACK that it sent is 2 in its datagram 3 (line 6).",
@@ -367,7 +369,8 @@ def try_recordings(trial: Pairs) -> None:
             got = trial.run(script, [*programs, *more], given)
             trial.check(f"{script.name}, recordings, {name}", got == wanted, got)
         got = trial.run(script, [*programs, *number, *server_number, "--pair", BEHIND, BEHIND])
-        holds = "unmatched client datagram 53 server datagram 52" in got[0] and got[0].count("BlockLength") >= 2
+        holds = "unmatched client datagram 53 server datagram 52" in got[0]
+        holds = holds and got[0].count(Rule.BLOCK_LENGTH.printed) >= 2
         trial.check(f"{script.name}, a block behind the last one", holds and not got[1], got)
         got = trial.run(script, [*programs, "--pair", LEGS, LEGS])
         trial.check(f"{script.name}, two like transfers", got[0] == "" and "name one by" in got[1] and got[2] == 2, got)

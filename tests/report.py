@@ -22,6 +22,7 @@ from html.parser import HTMLParser
 import made
 from captures import ack, data, error, oack, read_request
 from recorded import Datagram
+from refusals import Rule
 from trial import Trial
 
 TOP = pathlib.Path(__file__).resolve().parent.parent
@@ -109,7 +110,7 @@ def try_table(trial: Trial, programs: Words) -> None:
     first = '1 | 192.0.2.1:34056 | 192.0.2.1:51973 | get &quot;boot.cfg&quot; | 1,300 | - | '
     trial.check("a session, the first", rows[1].startswith(first), rows[1])
     trial.check("a session, its verdict", rows[1].endswith(" | accepted get octet blocks 3 bytes 1300"), rows[1])
-    trial.check("a session, the third", rows[3].endswith(" | refused datagram 3 rule 26 AckAhead"), rows[3])
+    trial.check("a session, the third", rows[3].endswith(f" | refused datagram 3 rule {Rule.ACK_AHEAD}"), rows[3])
     boot = b"".join(b"boot.cfg line %05d\n" % number for number in range(82))[:1300]
     words = page.text()
     for told in (
@@ -173,7 +174,7 @@ def try_others(trial: Trial, programs: Words, folder: pathlib.Path) -> None:
     path.write_bytes(made.file_of(made.asked_again()))
     output, _, status = run([*programs, path])
     words = Page(output).text()
-    is_told = "doubtful: refused datagram 2 rule 22 WindowOverrun" in words
+    is_told = f"doubtful: refused datagram 2 rule {Rule.WINDOW_OVERRUN}" in words
     is_told = is_told and "Doubtful its client had asked the same and sent nothing else since" in words
     trial.check("a doubt", is_told and status == 1, words)
     for place in ((), ("--end", "between")):

@@ -29,6 +29,7 @@ from made import (
     C_6, S_6, THIRD, C, S, asked_again, at, at_one_host, file_of, file_of_packets, framed, late_block, packets_of, read,
 )
 from recorded import Datagram, Fragment, Frame, Interface
+from refusals import Rule, refusal
 from trial import Trial
 
 EXAMPLES = pathlib.Path(__file__).resolve().parent.parent / "examples"
@@ -71,7 +72,7 @@ def try_examples(trial: Trial, program: str) -> None:
     frames = [(row.place, row.frame) for row in rows]
     trial.check("both ends at one host", frames == [("both", 17 if row.number == 3 else None) for row in rows], rows)
     rows, _, status = checked(program, session.read_bytes(), *AT_CLIENT)
-    wanted_row = Row(3, "client", 17, "refused datagram 3 rule 26 AckAhead")
+    wanted_row = Row(3, "client", 17, refusal(3, Rule.ACK_AHEAD))
     trial.check("the frame of a refused datagram", rows[2] == wanted_row and status == 1, rows)
     output, _, status = said(program, ["text", "3", "client", str(session)], b"")
     lines = output.splitlines()
@@ -149,7 +150,7 @@ def try_fragments(trial: Trial, program: str) -> None:
             trial.check(f"fragments from {block.source}, {len(order)}", got == ([sound], "", 0), got)
         # Without block 1 the client acknowledges at a port from which nothing came.
         got = checked(program, file_of_packets([first, *pieces[:2], last]), *AT_CLIENT)
-        wanted = Row(1, "client", 4, "refused datagram 2 rule 2 WrongPort", ("frame 2 is not there whole",))
+        wanted = Row(1, "client", 4, refusal(2, Rule.WRONG_PORT), ("frame 2 is not there whole",))
         holds = (got[0], got[2]) == ([wanted], 2) and "2 datagrams not there whole" in got[1]
         trial.check(f"a lost fragment from {block.source}", holds, got)
     passed = read("a", 40_000, 41_000)
@@ -166,7 +167,7 @@ def try_losses(trial: Trial, program: str) -> None:
     for it in frames:
         it.original, it.content = len(it.content), it.content[:96]
     got = checked(program, recorded.pcap(frames, is_nano=True, snaplen=96), *AT_CLIENT)
-    wanted = Row(1, "client", 3, "refused datagram 2 rule 2 WrongPort", ("frame 2 is not there whole",))
+    wanted = Row(1, "client", 3, refusal(2, Rule.WRONG_PORT), ("frame 2 is not there whole",))
     trial.check("a recording with a small snaplen", (got[0], got[2]) == ([wanted], 2) and "(frame 2)" in got[1], got)
     given = recorded.pcap(frames, is_nano=True)
     output, told, status = said(program, ["text", "1", "client", "-"], given)
@@ -209,7 +210,7 @@ def try_layers(trial: Trial, program: str) -> None:
     ahead = [*late_block()[:2], Datagram(C, 40_000, S, 41_000, ack(3)[0])]
     rows, _, status = checked(program, file_of([it for it in ahead for _ in (0, 1)]), *AT_CLIENT)
     verdicts = [(row.verdict, twofold in row.doubts) for row in rows]
-    trial.check("each twice, refused", (verdicts, status) == ([("refused datagram 5 rule 26 AckAhead", True)], 1), rows)
+    trial.check("each twice, refused", (verdicts, status) == ([(refusal(5, Rule.ACK_AHEAD), True)], 1), rows)
     router = Datagram("192.0.2.53", 5000, "192.0.2.54", 4789, b"")
     # the header of VXLAN, and that of Ethernet
     head = bytes((8, 0, 0, 0, 0, 0, 5, 0)) + b"\2\0\0\0\0\1\2\0\0\0\0\2\x08\0"
@@ -339,9 +340,9 @@ def try_splitting(trial: Trial, program: str) -> None:
 def try_doubts(trial: Trial, program: str) -> None:
     """A refusal that the recording does not carry is doubtful, with the reason, and its status is 1."""
     late = late_block()
-    sound, unsound = "accepted get octet blocks 2 bytes 513", "refused datagram 5 rule 24 GoneBack"
+    sound, unsound = "accepted get octet blocks 2 bytes 513", refusal(5, Rule.GONE_BACK)
     again = "its client had asked the same and sent nothing else since: the transfer before goes on"
-    overrun, incomplete = "refused datagram 2 rule 22 WindowOverrun", "incomplete after 3"
+    overrun, incomplete = refusal(2, Rule.WINDOW_OVERRUN), "incomplete after 3"
     cases: tuple[tuple[str, list[Datagram], tuple[str, ...], list[Row], int], ...] = (
         ("refused at the end that is named", late, AT_SERVER, [Row(1, "server", 5, unsound)], 1),
         ("accepted at the end that is named", late, AT_CLIENT, [Row(1, "client", None, sound)], 0),
@@ -365,7 +366,7 @@ def try_doubts(trial: Trial, program: str) -> None:
     rows = checked(program, file_of(late[:5]), *AT_SERVER)[0]
     trial.check("the frame of a refusal at the server", rows == [Row(1, "server", 5, unsound)], rows)
     rows = checked(program, file_of([*late[:2], late[3]]), *AT_SERVER)[0]
-    holds = [(row.frame, row.verdict) for row in rows] == [(3, "refused datagram 3 rule 22 WindowOverrun")]
+    holds = [(row.frame, row.verdict) for row in rows] == [(3, refusal(3, Rule.WINDOW_OVERRUN))]
     trial.check("the frame of a refusal before the client goes on", holds, rows)
 
 
@@ -400,31 +401,31 @@ def of_sending() -> Iterator[Passing]:
     sized = asking(read_request("a", "octet", blksize=512)) + from_server(oack(blksize=512)) + from_client(ack(0))
     again = sized + from_server(first, oack(blksize=512)) + from_client(ack(1)) + from_server(last)
     again += from_client(ack(2))
-    yield Passing("an OACK after a block", again, two, at_server="refused datagram 5 rule 17 OackAfterStart")
+    yield Passing("an OACK after a block", again, two, at_server=refusal(5, Rule.OACK_AFTER_START))
     wide = asking(read_request("a", "octet", windowsize=4)) + from_server(oack(windowsize=4)) + from_client(ack(0))
     three = wide + from_server(data(2, b"." * 512), first, data(3, b"!")) + from_client(ack(3))
-    accepted, skipped = "accepted get octet blocks 3 bytes 1025", "refused datagram 4 rule 23 BlockSkipped"
+    accepted, skipped = "accepted get octet blocks 3 bytes 1025", refusal(4, Rule.BLOCK_SKIPPED)
     yield Passing("a block before the one before it", three, accepted, at_server=skipped)
-    back = "refused datagram 5 rule 24 GoneBack"
+    back = refusal(5, Rule.GONE_BACK)
     yield Passing("a block again, late", late_block(), two, at_server=back)
     yield Passing("a block again, and no more", late_block()[:5], "incomplete after 5", at_server=back)
     written = asking(write_request("a", "octet")) + from_server(ack(0)) + from_client(first) + from_server(ack(1))
     written += from_client(last, first) + from_server(ack(2))
-    back = "refused datagram 6 rule 24 GoneBack"
+    back = refusal(6, Rule.GONE_BACK)
     yield Passing("a block of a write again, late", written, "accepted put octet blocks 2 bytes 513", at_client=back)
-    yield Passing("two blocks to one ACK", begun + from_server(first, last), "refused datagram 3 rule 22 WindowOverrun")
+    yield Passing("two blocks to one ACK", begun + from_server(first, last), refusal(3, Rule.WINDOW_OVERRUN))
     changed = begun + from_server(first) + from_client(ack(1)) + from_server(data(1, b":" * 512))
-    yield Passing("a changed block", changed, "refused datagram 4 rule 25 BlockChanged")
+    yield Passing("a changed block", changed, refusal(4, Rule.BLOCK_CHANGED))
     ahead = begun + from_server(first) + from_client(ack(3))
-    yield Passing("an ACK of blocks that did not pass", ahead, "refused datagram 3 rule 26 AckAhead")
+    yield Passing("an ACK of blocks that did not pass", ahead, refusal(3, Rule.ACK_AHEAD))
     unanswered = asking(write_request("a", "octet")) + from_server(error(1, "no")) + from_client(first)
-    yield Passing("a block of a write to no answer", unanswered, "refused datagram 3 rule 18 NotStarted")
+    yield Passing("a block of a write to no answer", unanswered, refusal(3, Rule.NOT_STARTED))
 
 
 def of_errors() -> Iterator[Passing]:
     """What an ERROR may overtake, and what answers nothing that had passed before it."""
     first, last, begun = data(1, b"." * 512), data(2, b"!"), asking(read_request("a", "octet"))
-    no, full, gone = error(1, "no"), error(3, "full"), "refused datagram 3 rule 7 AfterError"
+    no, full, gone = error(1, "no"), error(3, "full"), refusal(3, Rule.AFTER_ERROR)
     yield Passing("a missing file", begun + from_server(no, no), "aborted by server code 1", "aborted by peer code 1",
                   "aborted by local code 1")
     yield Passing("a second, other ERROR", begun + from_server(no, full), gone)
@@ -434,14 +435,14 @@ def of_errors() -> Iterator[Passing]:
     before = begun + from_server(no, data(1, b"hi")) + from_client(ack(1))
     yield Passing("a block from before the ERROR", before, SOUND, at_server=gone)
     ahead = begun + from_server(first) + from_client(ack(1), full) + from_server(last) + from_client(ack(2))
-    after = "refused datagram 6 rule 7 AfterError"
-    yield Passing("an ACK of what passed after the ERROR", ahead, "refused datagram 6 rule 26 AckAhead", after,
-                  "refused datagram 6 rule 26 AckAhead")
+    after = refusal(6, Rule.AFTER_ERROR)
+    yield Passing("an ACK of what passed after the ERROR", ahead, refusal(6, Rule.ACK_AHEAD), after,
+                  refusal(6, Rule.ACK_AHEAD))
     acked = begun + from_server(no) + from_client(ack(1))
-    yield Passing("an ACK of an ERROR", acked, "refused datagram 3 rule 26 AckAhead")
+    yield Passing("an ACK of an ERROR", acked, refusal(3, Rule.ACK_AHEAD))
     over = begun + from_server(first, full) + from_client(ack(1)) + from_server(last)
-    yield Passing("a block to an ACK from after the ERROR", over, "refused datagram 5 rule 22 WindowOverrun",
-                  at_server="refused datagram 5 rule 7 AfterError")
+    yield Passing("a block to an ACK from after the ERROR", over, refusal(5, Rule.WINDOW_OVERRUN),
+                  at_server=refusal(5, Rule.AFTER_ERROR))
 
 
 def of_strays() -> Iterator[Passing]:
@@ -453,7 +454,7 @@ def of_strays() -> Iterator[Passing]:
     yield Passing("a stray and an answer", passed, SOUND)
     asked = Datagram(S, 43_000, C, 40_000, data(1, b"ho")[0])
     yield Passing("the answer with which the client went on", [request, asked, block, answer], SOUND,
-                  at_client="refused datagram 4 rule 3 StrayAnswer")
+                  at_client=refusal(4, Rule.STRAY_ANSWER))
 
 
 def try_between(trial: Trial, program: str) -> None:
@@ -474,7 +475,7 @@ def try_between(trial: Trial, program: str) -> None:
     rows = checked(program, file_of(passed), *BETWEEN)[0]
     text = said(program, ["text", "1", "client", "-"], file_of(passed))[0]
     frames = [int(line.split()[2]) for line in text.splitlines() if line.startswith("# frame ")]
-    holds = rows == [Row(1, "between", frames[2], "refused datagram 3 rule 26 AckAhead")] and frames == [2, 3, 5]
+    holds = rows == [Row(1, "between", frames[2], refusal(3, Rule.ACK_AHEAD))] and frames == [2, 3, 5]
     trial.check("the number in the client's text", holds, (rows, frames))
     late = late_block()
     rows = checked(program, file_of([*late[:3], late[0], late[3], late[5]]))[0]

@@ -20,6 +20,7 @@ import sys
 from collections.abc import Callable, Iterator
 from typing import Any
 
+from refusals import Rule
 from repository import TOP
 from trial import Trial
 
@@ -197,7 +198,7 @@ def try_recipes(trial: Trial, program: str, transfers: str) -> None:
         command = command.replace("boot.pcap", str(EXAMPLES / "loopback-session.pcap"))
         done = subprocess.run(["sh", "-c", command], capture_output=True, text=True, timeout=120)
         wanted = 1 if "jq -s -e" in recipe else 0
-        holds = done.returncode == wanted and not done.stderr and ("AckAhead" in done.stdout or wanted == 1)
+        holds = done.returncode == wanted and not done.stderr and (Rule.ACK_AHEAD.printed in done.stdout or wanted == 1)
         trial.check(recipe, holds, (done.stdout, done.stderr, done.returncode))
 
 

@@ -17,6 +17,7 @@ from typing import Union
 from commands import COMMANDS
 from fuzzing.cases import Trier, try_case
 from fuzzing.program import Got, Program
+from refusals import Rule
 from trial import Trial
 
 MOST_CASES = 1_500
@@ -38,9 +39,9 @@ REPLACED: dict[str, Replaced] = {
     "another side": ("check", rb"put", b"get"),
     "nothing is accepted": ("check", rb"accepted.*", b"incomplete after 3"),
     "another index": ("check", rb"(?<=datagram )\d+", one_more),
-    "a rule by another's name": ("check", rb"AckAhead", b"WindowOverrun"),
-    "a rule for another": ("check", rb"25 BlockChanged", b"21 BlockLength"),
-    "no malformed packet": ("check", rb"5 Malformed .*", b"6 WrongKind"),
+    "a rule by another's name": ("check", Rule.ACK_AHEAD.printed.encode(), Rule.WINDOW_OVERRUN.printed.encode()),
+    "a rule for another": ("check", str(Rule.BLOCK_CHANGED).encode(), str(Rule.BLOCK_LENGTH).encode()),
+    "no malformed packet": ("check", f"{Rule.MALFORMED} .*".encode(), str(Rule.WRONG_KIND).encode()),
     "the other end's ERROR": ("check", rb"local", b"peer"),
     "another code": ("check", rb"(?<=code )\d+", one_more),
     "another fault": ("check", rb"Truncated", b"BadLine"),

@@ -18,8 +18,8 @@ from collections.abc import Sequence
 import made
 from captures import ack
 from recorded import Datagram
+from refusals import Rule, refusal
 from repository import TOP
-from tftp_tools.rules import LISTED
 from trial import Trial
 
 PLUGIN, EXAMPLES = TOP / "share" / "wireshark" / "tftp-audit.lua", TOP / "examples"
@@ -30,7 +30,7 @@ Rows = list[tuple[str, ...]]
 
 def try_rules(trial: Trial) -> None:
     found = RULE.findall(PLUGIN.read_text())
-    wanted = [(str(rule.number), rule.name, rule.says, rule.whose) for rule in LISTED]
+    wanted = [(str(rule.number), rule.printed, rule.says, rule.whose) for rule in Rule]
     trial.check("the plugin's rules", found == wanted, [pair for pair in zip(found, wanted) if pair[0] != pair[1]])
 
 
@@ -59,12 +59,13 @@ def try_session(trial: Trial, tshark: Tshark) -> None:
     of_frame = {str(frame): str(number) for number, its in frames.items() for frame in its}
     rows = tshark.rows(session)
     trial.check("each frame's transfer", {row[0]: row[1] for row in rows} == {**of_frame, "18": ""}, rows)
-    refused = "refused datagram 3 rule 26 AckAhead"
+    refused = refusal(3, Rule.ACK_AHEAD)
     found = tshark.rows(session, "-Y", "tftp_audit.rule")
     trial.check("a filter by rule", found == [("17", "3", "both", refused, "26")], found)
     found = tshark.rows(session, "-Y", 'tftp_audit.verdict matches "^accepted put"')
     trial.check("a filter by verdict", [row[0] for row in found] == [str(frame) for frame in frames[5]], found)
-    words = "rule 26 AckAhead: an ACK says that its block and all before it came (RFC 1350, section 2, and RFC 7440"
+    rule = Rule.ACK_AHEAD
+    words = f"rule {rule}: an ACK says that its block and all before it came (RFC 1350, section 2, and RFC 7440"
     shown = tshark.run(session, "-V", "-Y", "frame.number == 17")
     is_error = f"[Expert Info (Error/Protocol): {words}" in shown and "TFTP audit, transfer 3" in shown
     trial.check("the item of the refused frame", is_error, shown[-900:])
@@ -78,14 +79,14 @@ def try_made(trial: Trial, tshark: Tshark, folder: pathlib.Path) -> None:
     """A doubt is no error; two reads from one port at once are told apart; a file's name is no word of the shell."""
     path = folder / "it's a $(recording).pcap"
     path.write_bytes(made.file_of(made.asked_again()))
-    wanted = [("4", "2", "between", "refused datagram 2 rule 22 WindowOverrun", "22")]
+    wanted = [("4", "2", "between", refusal(2, Rule.WINDOW_OVERRUN), "22")]
     found = tshark.rows(path, "-Y", "tftp_audit.rule && tftp_audit.doubt")
     trial.check("a doubt, and a file with a quote", found == wanted, found)
     shown = tshark.run(path, "-V", "-Y", "tftp_audit.rule")
-    is_warning = "[Expert Info (Warning/Protocol): doubtful: rule 22 WindowOverrun" in shown
+    is_warning = f"[Expert Info (Warning/Protocol): doubtful: rule {Rule.WINDOW_OVERRUN}" in shown
     trial.check("a doubt is a warning", is_warning, shown[-900:])
     path.write_bytes(made.file_of(made.at_one_host(made.late_block())))
-    accepted, refused = "accepted get octet blocks 2 bytes 513", "refused datagram 5 rule 24 GoneBack"
+    accepted, refused = "accepted get octet blocks 2 bytes 513", refusal(5, Rule.GONE_BACK)
     for place, verdict in (("between", accepted), ("server", refused)):
         rows = tshark.rows(path, "-o", f"tftp_audit.place:{place}", "-Y", "frame.number == 5")
         trial.check(f"the place {place}", [row[2:4] for row in rows] == [(place, verdict)], rows)
@@ -97,7 +98,7 @@ def try_made(trial: Trial, tshark: Tshark, folder: pathlib.Path) -> None:
     late = [*made.read("a", 40_000, 41_000, service=6969)[:2], Datagram(made.C, 40_000, made.S, 41_000, ack(2)[0])]
     path.write_bytes(made.file_of(late))
     found = tshark.rows(path, "-o", "tftp_audit.service:6969", "-o", "tftp_audit.place:client", "-Y", "tftp_audit.rule")
-    wanted = [("3", "1", "client", "refused datagram 3 rule 26 AckAhead", "26")]
+    wanted = [("3", "1", "client", refusal(3, Rule.ACK_AHEAD), "26")]
     trial.check("a place and a port", found == wanted, found)
 
 

@@ -9,6 +9,7 @@
 
 local audit = Proto("tftp_audit", "TFTP audit")
 
+-- rules: by tools/tables
 local RULES = {
     [1] = { name = "ForeignPort", says = "each datagram of a capture is at the transfer's port of the named end, and at the service port it is the client's",
         whose = "RFC 1350, section 4, and this project's premise that a capture has one transfer" },
@@ -65,6 +66,7 @@ local RULES = {
     [27] = { name = "AckZero", says = "ACK 0 answers an OACK, or the request of a write",
         whose = "RFC 1350, section 4, and RFC 2347, Negotiation Protocol" },
 }
+-- rules: end
 local PLACES = { { 1, "not named", 0 }, { 2, "client", 1 }, { 3, "server", 2 }, { 4, "between", 3 } }
 local IS_WINDOWS = package.config:sub(1, 1) == "\\"
 

@@ -10,9 +10,9 @@ from typing import Literal, NamedTuple, Optional, Union
 
 from captures import EndName
 from fuzzing.attribution import Datagram, Endpoint, Transfer
-from fuzzing.lines import RULES
 from fuzzing.spelled import Ack, Data, Error, Fault, Message, Oack, Request, opcode_of, read
 from normal import KNOWN, USUAL_SIZE, Meaning, Options, Side, decoded
+from refusals import RULES, Rule
 
 MOST_BLOCKS = 65_535
 UNKNOWN_ID = 5
@@ -291,15 +291,15 @@ def broken_in_transfer(passed: Sequence[Passed], end: EndName, found: Union[Mess
     """The first rule that a datagram of the transfer breaks."""
     request = next((it.message for it in passed if isinstance(it.message, Request)), None)
     if request is None and end == "server":
-        return f"4 {RULES[3]}"
+        return str(Rule.NO_REQUEST)
     if isinstance(found, Fault):
-        return f"5 {RULES[4]} {found}"
+        return f"{Rule.MALFORMED} {found}"
     if request is None:
         return None
     now = Passed(end, found)
     rules = [*broken_by_itself(request, passed, now), *broken_late(request.side, passed, found)]
     first = min([*rules, *broken_by_kept(request, passed, now)], default=None)
-    return None if first is None else f"{first} {RULES[first - 1]}"
+    return None if first is None else str(RULES[first])
 
 
 class Between:
@@ -314,9 +314,9 @@ class Between:
         """The first rule that it breaks after those that passed; where it breaks none, it passes."""
         route, found = route_of(self.sides, it, self.earlier), read(it.payload)
         if route in ("1", "2", "3"):
-            return f"{route} {RULES[int(route) - 1]}"
+            return str(RULES[int(route)])
         if route == "answer" and not (isinstance(found, Error) and found.code == UNKNOWN_ID):
-            return f"3 {RULES[2]}"
+            return str(Rule.STRAY_ANSWER)
         if route == "transfer":
             end: EndName = "client" if it.source == self.sides.client else "server"
             broken = broken_in_transfer(self.passed, end, found)
@@ -356,7 +356,7 @@ def doubts_of(one: Transfer, line: str) -> list[str]:
     words = line.split()
     if words[0] != "refused":
         return []
-    unseen = [UNSEEN] if words[5] == RULES[2] else []
+    unseen = [UNSEEN] if words[5] == Rule.STRAY_ANSWER.printed else []
     return unseen + one.doubts_at("client", one.seen[int(words[2]) - 1].number)
 
 

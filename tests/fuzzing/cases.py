@@ -175,7 +175,7 @@ def try_further(trier: Trier, chance: Random) -> None:
     datagrams = (*view.capture.datagrams[:count], *more)
     capture = dataclasses.replace(view.capture, datagrams=datagrams)
     verdict = passed.verdict(len(datagrams))
-    trier.meet("one more", " ".join((broken or "lawful").split()[:2]))
+    trier.meet("one more", " ".join(str(broken or "lawful").split()[:2]))
     if broken:
         verdict = f"refused datagram {len(datagrams)} rule {broken}\n".encode(), 1
     text = capture.spelled(chance) if chance.random() < 0.5 else capture.text()

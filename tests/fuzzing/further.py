@@ -8,15 +8,18 @@ from __future__ import annotations
 import dataclasses
 from collections.abc import Callable, Iterator
 from random import Random
-from typing import Optional
+from typing import Optional, Union
 
 from fuzzing.ends import End, Kind, Packet
 from fuzzing.meanings import chosen, spelled_options, spelled_request
 from fuzzing.views import HOSTS, STRAY_REQUESTS, STRAYS, Datagram, Passed, View
 from normal import KNOWN, Meaning, Mode, Options, Side, number
+from refusals import Rule
 
+# A rule, or rule 5 with the packet's fault as it is printed.
+Broken = Union[Rule, str]
 # Datagrams, and the rule that the last one breaks or None.
-More = tuple[list[Datagram], Optional[str]]
+More = tuple[list[Datagram], Optional[Broken]]
 Way = Callable[[Random, View, Passed], More]
 OTHER_MODE: dict[Mode, Mode] = {"octet": "netascii", "netascii": "octet"}
 OTHER_SIDE: dict[Side, Side] = {"get": "put", "put": "get"}
@@ -29,26 +32,26 @@ def may_send_kind(meaning: Meaning, is_client: bool, kind: Kind) -> bool:
     return kind in (of_client if is_client else {"oack", "error", "data" if is_read else "ack"})
 
 
-def broken_by_sending(passed: Passed, packet: Packet) -> str | None:
+def broken_by_sending(passed: Passed, packet: Packet) -> Rule | None:
     """The rule that this end breaks by sending a packet of the transfer."""
     end, kind, meaning = passed.end, packet.kind, passed.meaning
     if not may_send_kind(meaning, end.is_client, kind):
-        return "6 WrongKind"
+        return Rule.WRONG_KIND
     if end.may_send(packet):
         return None
     if end.told:
-        return "7 AfterError"
+        return Rule.AFTER_ERROR
     if kind == "oack":
-        return "17 OackAfterStart" if meaning.agreed else "10 ReplyChanged"
+        return Rule.OACK_AFTER_START if meaning.agreed else Rule.REPLY_CHANGED
     if kind == "ack":
-        return "27 AckZero" if packet.number == 0 else "26 AckAhead"
+        return Rule.ACK_ZERO if packet.number == 0 else Rule.ACK_AHEAD
     if kind == "request":
-        return "9 RequestAfterStart"
+        return Rule.REQUEST_AFTER_START
     if not end.is_started():
-        return "18 NotStarted"
+        return Rule.NOT_STARTED
     if packet.number > max(end.acknowledged) + end.window:
-        return "22 WindowOverrun"
-    return "23 BlockSkipped" if packet.number > end.top + 1 else "24 GoneBack"
+        return Rule.WINDOW_OVERRUN
+    return Rule.BLOCK_SKIPPED if packet.number > end.top + 1 else Rule.GONE_BACK
 
 
 def may_come_started(passed: Passed) -> bool:
@@ -56,25 +59,25 @@ def may_come_started(passed: Passed) -> bool:
     return passed.meaning.side == "put" or not passed.meaning.agreed or "ack" in passed.before.sent
 
 
-def broken_by_coming(passed: Passed, packet: Packet) -> str | None:
+def broken_by_coming(passed: Passed, packet: Packet) -> Rule | None:
     """The rule that the other end breaks where a packet of the transfer comes, whatever that end had taken."""
     end, kind, meaning, before = passed.end, packet.kind, passed.meaning, passed.before
     is_read = meaning.side == "get"
     if not may_send_kind(meaning, not end.is_client, kind):
-        return "6 WrongKind"
+        return Rule.WRONG_KIND
     if kind == "error":
-        return "7 AfterError" if passed.heard not in (None, packet) else None
+        return Rule.AFTER_ERROR if passed.heard not in (None, packet) else None
     if kind == "oack":
-        return None if meaning.agreed else "10 ReplyChanged"
+        return None if meaning.agreed else Rule.REPLY_CHANGED
     if kind == "data":
         if not may_come_started(passed):
-            return "18 NotStarted"
-        return "22 WindowOverrun" if packet.number > before.last_ack + end.window else None
+            return Rule.NOT_STARTED
+        return Rule.WINDOW_OVERRUN if packet.number > before.last_ack + end.window else None
     if kind == "ack" and packet.number > before.top:
-        return "26 AckAhead"
+        return Rule.ACK_AHEAD
     if packet == Packet("ack", 0):
         is_lawful = bool(meaning.agreed) if is_read else not meaning.agreed or "data" in before.sent
-        return None if is_lawful else "27 AckZero"
+        return None if is_lawful else Rule.ACK_ZERO
     return None
 
 
@@ -128,8 +131,8 @@ def after_an_error(chance: Random, view: View, passed: Passed) -> More:
     return [*listed, last], broken
 
 
-def after_own_error(passed: Passed, is_sent: bool, broken: str) -> str:
-    return "7 AfterError" if is_sent and passed.end.told else broken
+def after_own_error(passed: Passed, is_sent: bool, broken: Rule) -> Rule:
+    return Rule.AFTER_ERROR if is_sent and passed.end.told else broken
 
 
 def malformed(chance: Random, view: View, passed: Passed) -> More:
@@ -137,7 +140,7 @@ def malformed(chance: Random, view: View, passed: Passed) -> More:
     payload, said = chance.choice([stray for stray in STRAYS + STRAY_REQUESTS if stray[1].startswith("malformed")])
     is_request = payload[:2] in (b"\0\1", b"\0\2")
     is_sent = view.end == "client" if is_request else chance.random() < 0.5
-    return [view.of_payload(is_sent, payload, said)], said.replace("malformed", "5 Malformed")
+    return [view.of_payload(is_sent, payload, said)], said.replace("malformed", str(Rule.MALFORMED))
 
 
 def another_request(chance: Random, view: View, passed: Passed) -> More:
@@ -151,11 +154,11 @@ def another_request(chance: Random, view: View, passed: Passed) -> More:
         dataclasses.replace(meaning, requested=options),
     ))
     is_sent = view.end == "client"
-    broken = after_own_error(passed, is_sent, "8 RequestChanged")
+    broken = after_own_error(passed, is_sent, Rule.REQUEST_CHANGED)
     return [view.of_payload(is_sent, spelled_request(chance, other))], broken
 
 
-def wrong_blocks(chance: Random, view: View, passed: Passed) -> Iterator[tuple[int, bytes, str]]:
+def wrong_blocks(chance: Random, view: View, passed: Passed) -> Iterator[tuple[int, bytes, Rule]]:
     """DATA with something wrong: a block's number, its bytes, and the rule that it breaks where DATA may pass."""
     end, meaning = passed.end, view.meaning
     size, window = meaning.size, end.window
@@ -163,31 +166,31 @@ def wrong_blocks(chance: Random, view: View, passed: Passed) -> Iterator[tuple[i
     is_told = meaning.mode == "octet" and b"tsize" in meaning.agreed
     is_last_known = is_told or end.blocks <= high
     past = (max(end.acknowledged) if end.is_sender else passed.before.last_ack) + window + chance.choice((1, 1, 2, 300))
-    yield 0, chance.randbytes(chance.choice((size, 0, size + 1))), "19 BlockZero"
-    yield chance.randint(1, min(high + window + 3, 65_000)), bytes(size + chance.choice((1, 1, 9))), "21 BlockLength"
+    yield 0, chance.randbytes(chance.choice((size, 0, size + 1))), Rule.BLOCK_ZERO
+    yield chance.randint(1, min(high + window + 3, 65_000)), bytes(size + chance.choice((1, 1, 9))), Rule.BLOCK_LENGTH
     if past < 65_535:
         is_too_long = is_last_known and past >= end.blocks
-        yield past, chance.randbytes(size), "21 BlockLength" if is_too_long else "22 WindowOverrun"
+        yield past, chance.randbytes(size), Rule.BLOCK_LENGTH if is_too_long else Rule.WINDOW_OVERRUN
     if is_last_known:
         behind = end.blocks + chance.choice((1, 2, 300))
-        yield behind, chance.randbytes(chance.choice((size, size - 1, 0))), "21 BlockLength"
+        yield behind, chance.randbytes(chance.choice((size, size - 1, 0))), Rule.BLOCK_LENGTH
     elif end.is_sender and end.top + 2 <= max(end.acknowledged) + window < 65_535:
-        yield chance.randint(end.top + 2, max(end.acknowledged) + window), chance.randbytes(size), "23 BlockSkipped"
+        yield chance.randint(end.top + 2, max(end.acknowledged) + window), chance.randbytes(size), Rule.BLOCK_SKIPPED
     if high:
         yield from wrong_bytes(chance, view, end, high)
 
 
-def wrong_bytes(chance: Random, view: View, end: End, high: int) -> Iterator[tuple[int, bytes, str]]:
+def wrong_bytes(chance: Random, view: View, end: End, high: int) -> Iterator[tuple[int, bytes, Rule]]:
     """The same of a block that has passed, or is not the highest: fewer bytes, or others."""
     block = chance.randint(1, high)
     content = view.spelling.payload(Packet("data", block))[4:]
     if block < end.blocks:
-        yield block, content[: chance.randrange(len(content))], "21 BlockLength"
+        yield block, content[: chance.randrange(len(content))], Rule.BLOCK_LENGTH
     if content and (end.is_sender or block in end.held):
         is_back = end.is_sender and end.window == 1 and block < end.top
         at = chance.randrange(len(content))
         other = content[:at] + bytes([content[at] ^ 1]) + content[at + 1 :]
-        yield block, other, "24 GoneBack" if is_back else "25 BlockChanged"
+        yield block, other, Rule.GONE_BACK if is_back else Rule.BLOCK_CHANGED
 
 
 def another_block(chance: Random, view: View, passed: Passed) -> More:
@@ -195,7 +198,7 @@ def another_block(chance: Random, view: View, passed: Passed) -> More:
     is_sent = passed.end.is_sender
     is_started = passed.end.is_started() if is_sent else may_come_started(passed)
     block, content, broken = chance.choice(list(wrong_blocks(chance, view, passed)))
-    broken = after_own_error(passed, is_sent, broken if is_started else "18 NotStarted")
+    broken = after_own_error(passed, is_sent, broken if is_started else Rule.NOT_STARTED)
     return [view.of_payload(is_sent, number(3) + number(block) + content)], broken
 
 
@@ -207,7 +210,7 @@ def another_oack(chance: Random, view: View, passed: Passed) -> More:
         del agreed[name]
     else:
         agreed[name] = agreed[name] - 1 if agreed[name] > KNOWN[name][0] else agreed[name] + 1
-    broken = after_own_error(passed, is_sent, "16 OackChanged")
+    broken = after_own_error(passed, is_sent, Rule.OACK_CHANGED)
     return [view.of_payload(is_sent, number(6) + spelled_options(chance, agreed))], broken
 
 
@@ -218,11 +221,11 @@ def wrong_ports(chance: Random, view: View, passed: Passed) -> More:
     if chance.random() < 0.5:
         ports = {datagram.local, view.service, view.server[1], view.client[1]}
         other = next(number for number in range(chance.randrange(1, 65_000), 65_536) if number not in ports)
-        return [dataclasses.replace(datagram, local=other)], "1 ForeignPort"
+        return [dataclasses.replace(datagram, local=other)], Rule.FOREIGN_PORT
     ports = {peer.peer[1] for peer in view.capture.datagrams} | {view.service}
     other = next(number for number in range(chance.randrange(1, 60_000), 65_536) if number not in ports)
     # an unknown peer's datagram that comes in is a stray
-    return [dataclasses.replace(datagram, peer=(host, other))], "2 WrongPort" if datagram.goes_out else None
+    return [dataclasses.replace(datagram, peer=(host, other))], Rule.WRONG_PORT if datagram.goes_out else None
 
 
 def answer_of_stray(chance: Random, view: View, passed: Passed) -> More:
@@ -233,8 +236,8 @@ def answer_of_stray(chance: Random, view: View, passed: Passed) -> More:
     others = [(host, peer[1]) for host in HOSTS if (host, peer[1]) not in known]
     if view.version == 2 and others and chance.random() < 0.5:
         error = view.of_payload(True, b"\0\5\0\5\0", "ERROR 5")
-        return [dataclasses.replace(chance.choice((answer, error)), peer=chance.choice(others))], "2 WrongPort"
-    return [dataclasses.replace(answer, peer=peer)], "3 StrayAnswer"
+        return [dataclasses.replace(chance.choice((answer, error)), peer=chance.choice(others))], Rule.WRONG_PORT
+    return [dataclasses.replace(answer, peer=peer)], Rule.STRAY_ANSWER
 
 
 def first_oack(chance: Random, view: View, passed: Passed) -> More:
@@ -244,15 +247,15 @@ def first_oack(chance: Random, view: View, passed: Passed) -> More:
     unknown = [name for name in requested if name not in KNOWN and name != b"multicast"]
     texts = [name for name in requested if name in KNOWN and name not in numbers]
     missing = [name for name in KNOWN if name not in requested]
-    ways: list[tuple[Options, str]] = [({}, "11 OackEmpty"), ({b"multicast": b"", **numbers}, "12 MulticastAgreed")]
+    ways: list[tuple[Options, Rule]] = [({}, Rule.OACK_EMPTY), ({b"multicast": b"", **numbers}, Rule.MULTICAST_AGREED)]
     if missing:
-        ways.append(({**numbers, chance.choice(missing): 8}, "13 OptionNotRequested"))
-    ways += [({**numbers, name: requested[name]}, "14 OptionOutsideProfile") for name in unknown]
-    ways += [({name: 8}, "15 OptionValue") for name in texts]
-    ways += [({name: value + 1}, "15 OptionValue") for name, value in numbers.items() if name != b"tsize"]
-    ways += [({name: b"x"}, "15 OptionValue") for name in numbers]
+        ways.append(({**numbers, chance.choice(missing): 8}, Rule.OPTION_NOT_REQUESTED))
+    ways += [({**numbers, name: requested[name]}, Rule.OPTION_OUTSIDE_PROFILE) for name in unknown]
+    ways += [({name: 8}, Rule.OPTION_VALUE) for name in texts]
+    ways += [({name: value + 1}, Rule.OPTION_VALUE) for name, value in numbers.items() if name != b"tsize"]
+    ways += [({name: b"x"}, Rule.OPTION_VALUE) for name in numbers]
     if b"tsize" in numbers and view.meaning.mode == "octet" and view.meaning.side == "get":
-        ways.append(({b"tsize": 512 * 65_535}, "20 BeyondBlock65535"))
+        ways.append(({b"tsize": 512 * 65_535}, Rule.BEYOND_BLOCK_65535))
     options, broken = chance.choice(ways)
     broken = after_own_error(passed, is_sent, broken)
     return [view.of_payload(is_sent, number(6) + spelled_options(chance, options))], broken
@@ -273,7 +276,7 @@ def ways(view: View, passed: Passed) -> Iterator[tuple[Way, int]]:
         yield answer_of_stray, 3
 
 
-def further(chance: Random, view: View, count: int) -> tuple[list[Datagram], str | None, Passed] | None:
+def further(chance: Random, view: View, count: int) -> tuple[list[Datagram], Broken | None, Passed] | None:
     """Datagrams after the first so many, the rule that the last one breaks or None, and what has passed; or nothing."""
     passed = view.passed(count)
     tried = list(ways(view, passed))

@@ -3,24 +3,18 @@ from __future__ import annotations
 
 import re
 
+from refusals import Rule
+
 PACKET_FAULTS = (
     "Short", "Opcode", "AckLength", "NoTerminator", "OddOptions", "EmptyOptionName", "DuplicateOption", "UnknownMode",
     "MailMode", "RequestTooLong",
-)
-RULES = (
-    "ForeignPort", "WrongPort", "StrayAnswer", "NoRequest", "Malformed", "WrongKind", "AfterError", "RequestChanged",
-    "RequestAfterStart", "ReplyChanged", "OackEmpty", "MulticastAgreed", "OptionNotRequested", "OptionOutsideProfile",
-    "OptionValue", "OackChanged", "OackAfterStart", "NotStarted", "BlockZero", "BeyondBlock65535", "BlockLength",
-    "WindowOverrun", "BlockSkipped", "GoneBack", "BlockChanged", "AckAhead", "AckZero",
 )
 TEXT_FAULTS = (
     "BadHeader", "BadEnd", "BadService", "LineTooLong", "BadLine", "BadPort", "BadHost", "BadHex", "PayloadTooLong",
     "TotalWrong", "Truncated", "TrailingText",
 )
 MALFORMED = "|".join(PACKET_FAULTS)
-BROKEN = "|".join(
-    f"{number} {name}" + (f" ({MALFORMED})" if name == "Malformed" else "") for number, name in enumerate(RULES, 1)
-)
+BROKEN = "|".join(f"{rule} ({MALFORMED})" if rule is Rule.MALFORMED else str(rule) for rule in Rule)
 NUMBER = "(0|[1-9][0-9]*)"
 FAULT = f"fault line [1-9][0-9]* ({'|'.join(TEXT_FAULTS)})\n"
 # Each verdict and the status that goes with it.

@@ -57,7 +57,7 @@ def explain_refused(capture: Capture, verdict: Verdict) -> Told:
     datagram, rule = capture.datagrams[number - 1], RULES[rule_number]
     history = history_before(capture, number)
     told = [("Where", f"{where(capture, datagram)}."), ("What", what(capture, datagram))]
-    told.append(("Rule", f"{rule.number} {rule.name}: {rule.says}."))
+    told.append(("Rule", f"{rule}: {rule.says}."))
     told += [("Why", line) for line in COMPARED[rule_number](history, datagram, fault)]
     usually = usual_cause(fault) if fault else rule.usually
     return told + [("Whose", f"{rule.whose}."), ("Usually", f"{usually}.")]

@@ -27,8 +27,8 @@ def refused_object(it: Datagram, verdict: Verdict) -> Object:
     found = verdict.refused()
     assert found is not None
     rule = RULES[found[1]]
-    broken = {"rule": rule.number, "name": rule.name, "fault": found[3] or None, "says": rule.says, "whose": rule.whose}
-    return {**datagram_object(it), **broken}
+    named = {"rule": rule.number, "name": rule.printed, "fault": found[3] or None}
+    return {**datagram_object(it), **named, "says": rule.says, "whose": rule.whose}
 
 
 def told_objects(told: Told) -> list[Object]:

@@ -1,0 +1,115 @@
+"""What each rule is called: the scripts' one table beside the definition of what the programs print; that no other
+script or test has a printed name; and that on a copy whose table has other names tools/tables writes them wherever a
+page or the plugin of Wireshark has one.
+
+Prints each case that is not as it should be, then a last line 'N passed, M failed'; status 1 if any failed.
+"""
+from __future__ import annotations
+
+import pathlib
+import re
+import shutil
+import subprocess
+import sys
+import tempfile
+from collections.abc import Iterator
+
+from refusals import Rule
+from repository import TOP
+from trial import Trial
+
+TABLE, SPECS = "tools/tftp_tools/rules.py", TOP / "crates" / "tftp_law" / "specs"
+# Changes of earlier versions are told with the names that were printed then, so the page of changes is none of these.
+SCRIPTS, PAGES = ("tools", "tests", "bench"), ("docs", "share", "README.md", "CONTRIBUTING.md")
+# What the sources call their rules and files, and messages of commits: these are no printed names.
+OF_SOURCES = re.compile(r"`[A-Z]\w+`|Unlawful\(\d+, \w+\)|\"tftp_law: [^\"]*\"")
+# What has each rule.
+WRITTEN = ("docs/VERDICTS.md", "docs/SPECIFICATION.md", "share/wireshark/tftp-audit.lua")
+
+
+def defined(file: str, function: str, value: str) -> dict[str, str]:
+    """What a definition answers for each rule."""
+    line = re.compile(rf"(?m)^{function} \(?(\w+)(?: fault\))? = {value}$")
+    return dict(line.findall((SPECS / file).read_text()))
+
+
+def try_definition(trial: Trial) -> None:
+    """The numbers and names of the table are those of the definitions."""
+    numbers = defined("Rules.antt", "number_of", r"(\d+)")
+    names = defined("RuleNames.antt", "rule_name", r'codes "(\w+)"')
+    trial.check("27 rules are defined", len(numbers) == 27 and numbers.keys() == names.keys(), (numbers, names))
+    of_crates = {int(numbers[rule]): names[rule] for rule in numbers}
+    of_table = {rule.number: rule.printed for rule in Rule}
+    for number in sorted(of_crates.keys() | of_table.keys()):
+        got = of_table.get(number), of_crates.get(number)
+        trial.check(f"rule {number} in {TABLE} as in RuleNames.antt", got[0] == got[1], got)
+
+
+def texts(folder: pathlib.Path, among: tuple[str, ...]) -> Iterator[tuple[str, str]]:
+    """The files there with their texts."""
+    for name in among:
+        path = folder / name
+        for file in sorted(path.glob("**/*")) if path.is_dir() else (path,):
+            if file.is_file() and file.suffix not in (".pyc", ".pcap", ".pcapng"):
+                yield str(file.relative_to(folder)), file.read_text(encoding="utf-8", errors="replace")
+
+
+def try_scripts(trial: Trial) -> None:
+    """A script or a test names a rule as the table does, never as it is printed."""
+    printed = re.compile("|".join(rf"\b{rule.printed}\b" for rule in Rule))
+    for name, text in texts(TOP, SCRIPTS):
+        if name != TABLE:
+            found = sorted(set(printed.findall(text)))
+            trial.check(f"{name} has no printed name", not found, found)
+
+
+def tables(folder: pathlib.Path, *words: str) -> tuple[str, str, int]:
+    command = [sys.executable, str(folder / "tools" / "tables"), *words]
+    done = subprocess.run(command, capture_output=True, text=True, timeout=60)
+    return done.stdout, done.stderr, done.returncode
+
+
+def try_renamed(trial: Trial) -> None:
+    """On a copy each rule is called otherwise in the table, and then wherever a page has its name."""
+    with tempfile.TemporaryDirectory() as name:
+        folder = pathlib.Path(name)
+        for it in ("tools", *PAGES):
+            if (TOP / it).is_dir():
+                shutil.copytree(TOP / it, folder / it, ignore=shutil.ignore_patterns("__pycache__"))
+            else:
+                shutil.copy(TOP / it, folder / it)
+        got = tables(folder, "--check")
+        trial.check("what is written is that of the table", got == ("", "", 0), got)
+        table = folder / TABLE
+        text = table.read_text()
+        for rule in Rule:
+            text = text.replace(f'{rule.number}, "{rule.printed}"', f'{rule.number}, "Renamed{rule.number}"')
+        table.write_text(text)
+        before = dict(texts(folder, PAGES))
+        output, errors, status = tables(folder, "--check")
+        is_told = all(f"{page}: line " in output for page in WRITTEN)
+        trial.check("other names are told", (errors, status) == ("", 1) and is_told, (output, errors, status))
+        trial.check("--check writes nothing", dict(texts(folder, PAGES)) == before)
+        got = tables(folder)
+        trial.check("other names are written", got[1:] == ("", 0), got)
+        got = tables(folder, "--check")
+        trial.check("nothing is left to write", got == ("", "", 0), got)
+        printed = re.compile("|".join(rf"\b{rule.printed}\b" for rule in Rule))
+        for page, text in texts(folder, PAGES):
+            found = sorted(set(printed.findall(OF_SOURCES.sub("", text))))
+            trial.check(f"{page} has each name behind its number", not found, found)
+        for page in WRITTEN:
+            text = (folder / page).read_text()
+            missing = [rule.number for rule in Rule if f"Renamed{rule.number}" not in text]
+            trial.check(f"{page} has each rule", not missing, missing)
+
+
+def main() -> int:
+    trial = Trial()
+    try_definition(trial)
+    try_scripts(trial)
+    try_renamed(trial)
+    return trial.end()
+
+
+sys.exit(main())
