@@ -46,6 +46,7 @@ if [ "$1" = ci ]; then
 fi
 crate=$(basename "$PWD")
 if [ "$1" = lib ]; then
+    mkdir -p out/rlib
     echo "logic=proved functions=1 sum=5a" >&2
     case ${BROKEN:-} in "$crate") echo "error: $crate" >&2 && exit 1 ;; esac
     exit 0
@@ -93,7 +94,7 @@ class Scratch:
         self.top, self.launcher = folder / "the top", launcher
         crates = self.top / "crates"
         self.source, self.program = crates / launcher.crate / "src" / "main.rt", self.program_of(launcher)
-        self.calls, self.bin = folder / "calls", folder / "bin"
+        self.calls, self.bin, self.home = folder / "calls", folder / "bin", folder / "a home"
         of_low = ("src", "specs", "proofs/deep", "must-fail")
         for part in (*(f"{it.crate}/src" for it in LAUNCHERS), *(f"tftp_low/{it}" for it in of_low)):
             (crates / part).mkdir(parents=True)
@@ -103,6 +104,7 @@ class Scratch:
         for name in ("tools", "docs", "share"):
             shutil.copytree(TOP / name, self.top / name, ignore=shutil.ignore_patterns("__pycache__"))
         (self.top / "crates.txt").write_text("tftp_audit: tftp_low\n")
+        (self.top / "HANDLES").write_text("Handles allowed: none.\n")
         for file, text, mode in (
             (self.top / "examples" / "one-block.capture", "an example", 0o644),
             (self.top / "tests" / "run.sh", TESTED, 0o644),
@@ -122,7 +124,7 @@ class Scratch:
         self.calls.write_text("")
         path = f"{on_path or self.bin}:{self.bin}:{os.environ['PATH']}"
         environment = {"PATH": path, "CALLS": str(self.calls)}
-        environment |= {"MEANWHILE": meanwhile, "TRIED": self.launcher.crate, "BROKEN": broken}
+        environment |= {"MEANWHILE": meanwhile, "TRIED": self.launcher.crate, "BROKEN": broken, "HOME": str(self.home)}
         done = subprocess.run(
             [script or self.top / self.launcher.name, *words],
             input=given, cwd=folder or self.top, env=environment, text=True, stdout=subprocess.PIPE, stderr=errors,

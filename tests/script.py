@@ -402,21 +402,34 @@ def wrong_words(trial: ScriptTrial, scratch: Scratch) -> None:
 
 
 def libraries(trial: ScriptTrial, scratch: Scratch) -> None:
-    """The libraries are built before the program, each once those that it stands on are; where one fails, or where there
-    is no make, the program's own build comes to it."""
+    """Before a first build the libraries are built, each once those that it stands on are, and handed out; where one fails,
+    or where there is no make, the program's own build comes to it. Beside a program none is built so."""
     crates, crate = scratch.top / "crates.txt", scratch.launcher.crate
     before = crates.read_text()
     crates.write_text(f"{crate}: tftp_low tftp_high memchr\ntftp_high: tftp_low\ntftp_low: memchr\ntftp_other:\n")
     folder = scratch.top / "crates" / "tftp_high"
     folder.mkdir()
-    for broken, built in (("", ["tftp_low", "tftp_high"]), ("tftp_low", ["tftp_low"])):
+    for broken, built, handed in (
+        ("", ["tftp_low", "tftp_high"], ["tftp_high", "tftp_low"]), ("tftp_high", ["tftp_low", "tftp_high"], ["tftp_low"]),
+        ("tftp_low", ["tftp_low"], []),
+    ):
         scratch.source.write_text(f"libraries{broken}")
+        shutil.rmtree(scratch.top / "crates" / "tftp_low" / "out", ignore_errors=True)
+        shutil.rmtree(folder / "out", ignore_errors=True)
+        scratch.program.unlink()
         got = scratch.run("--build", broken=broken)
         calls = [call.split() for call in scratch.calls.read_text().splitlines()]
         libraries_built = [call[-1] for call in calls if call[:2] == ["rt:", "lib"]]
         holds = libraries_built == built and calls[-1][:2] == ["rt:", "run"] and (got[2], got[3]) == (0, 1)
         trial.check(f"libraries, {broken or 'none'} broken", holds, (calls, got))
-    folder.rmdir()
+        has_out = sorted(out.parent.parent.name for out in (scratch.top / "crates").glob("*/out/rlib"))
+        trial.check(f"libraries handed out, {broken or 'none'} broken", has_out == handed, has_out)
+        left = list(scratch.home.rglob("build.*"))
+        trial.check(f"no copy is left, {broken or 'none'} broken", left == [], left)
+    scratch.source.write_text("no libraries")
+    trial.check("beside a program", scratch.run("--build")[2:] == (0, 1) and "rt: lib" not in scratch.calls.read_text())
+    shutil.rmtree(scratch.top / "crates" / "tftp_low" / "out", ignore_errors=True)
+    shutil.rmtree(folder)
     crates.write_text(before)
 
 

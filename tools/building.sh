@@ -58,9 +58,9 @@ build_by() {
     done
 }
 
-# The crates of the repository that a program is made of, its own first, each with those of them that it stands on.
+# The crates of the repository that one is made of, its own first, each with those of them that it stands on.
 crates_of() {
-    awk -F: -v of="$crate" '
+    awk -F: -v of="$1" '
         { uses[$1] = $2 }
         END {
             todo[1] = of
@@ -79,25 +79,36 @@ crates_of() {
 }
 
 count_crates() {
-    crates_of | wc -l
+    crates_of "$crate" | wc -l
 }
 
-# The same as rules for make: a crate is built once those that it stands on are.
+# Rules for make: a library is built once those that it stands on are.
 rules() {
-    crates_of | awk -F: -v of="$crate" '
-        $1 == of { print "all:" $2 }
-        $1 != of { print $1 ":" $2; print "\tcd \"$$TOP/crates/" $1 "\" && rt lib" }'
+    for it in $(crates_of "$crate" | sed 's/:.*//'); do
+        below=$(crates_of "$it" | sed '1d; s/:.*//' | tr '\n' ' ')
+        case $it in
+            "$crate") printf 'all: %s\n' "$below" ;;
+            *) printf '%s: %s\n\tmkdir "$$COPIES/$@" && "$$TOP/tools/library.sh" "$$COPIES" $@ $^\n' "$it" "$below" ;;
+        esac
+    done
 }
 
-# Builds the libraries that the program stands on, two at a time, since some need not wait for each other. It only saves
-# time: what is not built so, for want of make or for an error, the program's own build comes to, and tells why.
+# Builds the libraries that a program stands on, two at a time, before its first build. Each has a copy of its sources, since a
+# run of rt waits for others in the folders of all that its crate stands on. It only saves time: what is not built so, for
+# want of make or for an error, the program's own build comes to, and tells why.
 libraries() {
-    rules | MAKEFLAGS= TOP=$top make -s -j 2 -f - all || :
+    [ ! -e "$program" ] || return 0
+    cache=${XDG_CACHE_HOME:-${HOME:-${TMPDIR:-/tmp}}/.cache}/tftp-audit
+    copies=$(mkdir -p "$cache" && mktemp -d "$cache/build.XXXXXX") || return 0
+    # what builds that were ended by force have left
+    find "$cache" -maxdepth 1 -name 'build.*' -mtime +1 -exec rm -rf {} +
+    rules | MAKEFLAGS= TOP=$top COPIES=$copies make -s -j 2 -f - all || :
+    rm -rf "$copies"
 }
 
-# How far a build is that began then, by what rt has said: it ends each crate with its verdict.
+# How far a build is that began then, by what is said of each crate that was checked: by rt its verdict.
 progress() {
-    at=$(($(grep -c '^logic=proved' "$log") + 1))
+    at=$(($(grep -c -e '^logic=proved' -e '^checked ' "$log") + 1))
     [ "$at" -le "$2" ] || at=$2
     seconds=$(($(date +%s) - $1))
     # at most: what was proved before is not proved again
