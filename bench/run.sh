@@ -26,7 +26,7 @@ measure() {
 
 sh "$here/commands.sh" "$program"
 python3 "$here/worst.py" "$program" || echo "A text takes more than it may."
-python3 "$here/pairs.py" "$program" "$match" || echo "A pair takes more than it may."
+python3 "$here/matching.py" "$program" "$match" || echo "A pair takes more than it may."
 
 generate wire 100000000
 measure "netascii decode" "$bench" netascii-decode

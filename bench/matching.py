@@ -2,7 +2,7 @@
 one text and on the other: processor time, the best of three runs, and the most memory. Ends with status 1 where it is
 more than 2.2 times.
 
-    pairs.py PROGRAM MATCH [MB]
+    matching.py PROGRAM MATCH [MB]
 """
 import os
 import sys
