@@ -222,14 +222,16 @@ def faults(trial: MatchTrial) -> None:
     holds = got[0][0].startswith(refused) and got[0][1:] == [READ, unmatched(3, "3 unsent")] and got[2] == 1
     trial.check("a refused side", holds, got)
     got = texts_of(trial, written(early=True))
-    trial.check("a refused write", got[0][0].startswith("refused datagram 2") and got[0][2] == unmatched(2, "3 unsent"), got)
+    is_refused = got[0][0].startswith("refused datagram 2") and got[0][2] == unmatched(2, "3 unsent")
+    trial.check("a refused write", is_refused, got)
 
 
 def recorded(trial: MatchTrial) -> None:
     """The same as texts and as recordings, from files and from standard input."""
     cases = (
         ("worked", read_of_two_bytes(), 0), ("last byte changed", read_of_two_bytes(b"hj"), 1),
-        ("lost", repeated(2, 1), 0), ("repeated", repeated(1, 2), 0), ("windows", windowed(), 0), ("a block of a window changed", windowed(2), 1),
+        ("lost", repeated(2, 1), 0), ("repeated", repeated(1, 2), 0), ("windows", windowed(), 0),
+        ("a block of a window changed", windowed(2), 1),
         ("a write", written(), 0), ("ahead", ahead(), 1),
     )
     for name, both, status in cases:

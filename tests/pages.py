@@ -31,7 +31,10 @@ FENCED = re.compile(r"(?ms)^```(\w*)\n(.*?)^```$")
 # "(`clause`, `other`)"
 IN_BRACKETS = re.compile(r"\((?:`\w+`(?:, )?)+\)")
 # The crates of which docs/PROOF.md names each file.
-MAPPED = ("tftp_hosts", "tftp_model", "tftp_rules", "tftp_blocks", "tftp_ends", "tftp_law", "tftp_judge", "tftp_normal", "tftp_commands")
+MAPPED = (
+    "tftp_hosts", "tftp_model", "tftp_rules", "tftp_blocks", "tftp_ends", "tftp_law", "tftp_judge", "tftp_normal",
+    "tftp_commands",
+)
 QUOTED = re.compile(r"`([^`]+)`")
 # "law `name`", "laws `one` (`its_clause`), `two` and `three`"
 LAWS = re.compile(r"\blaws? ((?:`\w+`(?: \((?:`\w+`(?:, )?)+\))?(?:, and |, | and )?)+)")
@@ -67,7 +70,8 @@ def helped(command: list[str]) -> str:
 def try_manual(trial: Trial, transfers: str, match: str) -> None:
     """The manual pages of the programs and of the scripts name each option, and read well where mandoc can say so."""
     said = {name: helped([str(TOP / "tools" / name)]) for name in SCRIPTS}
-    of_commands = [helped([transfers]), *(helped([transfers, command]) for command in ("list", "text", "texts", "check"))]
+    commands = ("list", "text", "texts", "check")
+    of_commands = [helped([transfers]), *(helped([transfers, command]) for command in commands)]
     of_programs = {"tftp-transfers": "".join(of_commands), "tftp-match": helped([match])}
     for name, words in {**said, **of_programs}.items():
         page = (TOP / "docs" / "man" / f"{name}.1").read_text().replace("\\-", "-")

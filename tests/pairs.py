@@ -333,7 +333,10 @@ def try_words(trial: Pairs) -> None:
     refused: tuple[tuple[str, list[object], str], ...] = (
         ("both of standard input", ["--pair", "-", "-"], "one of the two captures may come on standard input"),
         ("a file too", ["--pair", *paths, recording], "--pair takes the place of FILE"),
-        ("another recording", ["--pair", recording, paths[1]], f"{recording}: no transfer has the request of {paths[1]}"),
+        (
+            "another recording", ["--pair", recording, paths[1]],
+            f"{recording}: no transfer has the request of {paths[1]}",
+        ),
         ("no pair", ["--transfer", "1", recording], "--transfer and --server-transfer go with --pair"),
         ("no recording", ["--transfer", "1", "--pair", *paths], "a transfer is named, and there is no recording"),
         ("no file", ["--pair", trial.folder / "none", paths[1]], "cannot read the file"),

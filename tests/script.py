@@ -402,15 +402,16 @@ def wrong_words(trial: ScriptTrial, scratch: Scratch) -> None:
 
 
 def libraries(trial: ScriptTrial, scratch: Scratch) -> None:
-    """Before a first build the libraries are built, each once those that it stands on are, and handed out; where one fails,
-    or where there is no make, the program's own build comes to it. Beside a program none is built so."""
+    """Before a first build the libraries are built, each once those that it stands on are, and handed out; where one
+    fails, or where there is no make, the program's own build comes to it. Beside a program none is built so."""
     crates, crate = scratch.top / "crates.txt", scratch.launcher.crate
     before = crates.read_text()
     crates.write_text(f"{crate}: tftp_low tftp_high memchr\ntftp_high: tftp_low\ntftp_low: memchr\ntftp_other:\n")
     folder = scratch.top / "crates" / "tftp_high"
     folder.mkdir()
     for broken, built, handed in (
-        ("", ["tftp_low", "tftp_high"], ["tftp_high", "tftp_low"]), ("tftp_high", ["tftp_low", "tftp_high"], ["tftp_low"]),
+        ("", ["tftp_low", "tftp_high"], ["tftp_high", "tftp_low"]),
+        ("tftp_high", ["tftp_low", "tftp_high"], ["tftp_low"]),
         ("tftp_low", ["tftp_low"], []),
     ):
         scratch.source.write_text(f"libraries{broken}")

@@ -34,7 +34,9 @@ def add_pair(parser: argparse.ArgumentParser) -> None:
 def is_of_pair(asked: argparse.Namespace) -> bool:
     """Whether a script is asked for a pair; the words of a pair are refused elsewhere."""
     if asked.pair is None and (asked.transfer, asked.server_transfer) != (None, None):
-        raise Refused("--transfer and --server-transfer go with --pair: a transfer's number stands behind its recording")
+        raise Refused(
+            "--transfer and --server-transfer go with --pair: a transfer's number stands behind its recording"
+        )
     return asked.pair is not None
 
 
