@@ -36,6 +36,8 @@ MAPPED = (
     "tftp_commands",
 )
 QUOTED = re.compile(r"`([^`]+)`")
+# "`crate` needs `other`, `another` and `third`"
+NEEDS = re.compile(r"`(tftp_\w+)` needs ((?:`tftp_\w+`(?:, | and )?)+)")
 # "law `name`", "laws `one` (`its_clause`), `two` and `three`"
 LAWS = re.compile(r"\blaws? ((?:`\w+`(?: \((?:`\w+`(?:, )?)+\))?(?:, and |, | and )?)+)")
 WITH_CLAUSES = re.compile(r"`(\w+)` \(((?:`\w+`(?:, )?)+)\)")
@@ -169,6 +171,17 @@ def try_proof(trial: Trial, sources: Sources) -> None:
             trial.check(f"{crate}/{part} in PROOF.md, each file once", named == there, differ)
 
 
+def below(crate: str) -> set[str]:
+    """The crates of the repository that one stands on."""
+    rows = dict(line.split(":") for line in (TOP / "crates.txt").read_text().splitlines())
+    found, todo = set[str](), [crate]
+    while todo:
+        more = set(rows[todo.pop()].split()) & rows.keys() - found
+        found |= more
+        todo += more
+    return found
+
+
 def try_libraries(trial: Trial, sources: Sources) -> None:
     """docs/LIBRARIES.md shows code that stands so in the programs, what they print, their lines of crates.txt, and
     clauses of the functions that it names; and README's code is that of the program, without its contract."""
@@ -177,6 +190,11 @@ def try_libraries(trial: Trial, sources: Sources) -> None:
     for kind, text in FENCED.findall(page):
         for line in text.splitlines() if kind == "text" else ():
             trial.check(f"the line {line} of crates.txt in LIBRARIES.md", line in listed)
+    needed = NEEDS.findall(page)
+    for crate, names in needed:
+        is_all = set(QUOTED.findall(names)) == below(crate)
+        trial.check(f"what {crate} needs in LIBRARIES.md", is_all, sorted(below(crate)))
+    trial.check("LIBRARIES.md says what crates need", len(needed) > 1)
     parts = OF_CALLER.findall(page)
     trial.check("the programs of LIBRARIES.md", tuple(name for name, _ in parts) == CALLERS)
     for name, part in parts:
