@@ -1,17 +1,17 @@
 -- Lists of datagrams that break no rule, one datagram at a time or by computation.
-use Rattle.std.proofs.Common.{◌≡◌, ℕ, ◌<◌, ◌&&◌, Bool, true, false, List, [], ◌∷◌, ◌++◌, Option, Some, None, inr, sym, subst, ap, ◌∙◌}
-use Rattle.std.proofs.lemmas.Bool.{and_parts}
+use Rattle.std.proofs.Common.{◌≡◌, ℕ, ◌<◌, ◌&&◌, Bool, true, false, List, [], ◌∷◌, ◌++◌, Option, Some, None, refl, sym, subst, ap, ◌∙◌, append_assoc}
+use Rattle.std.proofs.lemmas.Bool.{and_parts, false≢true}
 use Rattle.tftp_packet.specs.{OptionMap, Message, RequestParts, Spells, Side}
 use Rattle.tftp_hosts.specs.{Header}
 use Rattle.tftp_rules.specs.{or_this, asks, route_of, is_of_transfer, transfer_of, EndBroken, Terms, EndRule}
 use Rattle.tftp_nego.specs.{Holds, NegoFault}
 use Rattle.tftp_law.specs.{number_of, Answer, Agrees, terms_after, AreTerms, FirstOack, EndBreaks, Broken, Rule, OneEnded, IsRefused}
 use Rattle.tftp_law.proofs.Spelled.{spelled_once}
-use Rattle.tftp_worked.proofs.Payloads.{Spelled, datagrams, AllSpelled}
+use Rattle.tftp_worked.proofs.Payloads.{Spelled, datagrams, AllSpelled, spells_it, spelled_it}
 use Rattle.tftp_law.proofs.FirstBroken.Answering.{answer_of}
-use Rattle.tftp_worked.proofs.Passing.{kept_if, main_of, first_asked, asked_by, asked_is, asked_back, first_answer, or_now, unanswered_is, answered_is, answered_there, terms_of, terms_from, terms_by, terms_are}
-use Rattle.tftp_worked.proofs.RuleTests.{not_oack}
-use Rattle.tftp_worked.proofs.Kept.{passes_by, keeps_below, passes_is, none_below, no_oack, OackKeeps, not_answered}
+use Rattle.tftp_worked.proofs.Passing.{kept_if, main_of, first_asked, asked_by, asked_is, first_answer, or_now, unanswered_is, answered_is, terms_of, terms_from, terms_by, terms_are, terms_back}
+use Rattle.tftp_worked.proofs.RuleTests.{not_oack, keeps_below}
+use Rattle.tftp_worked.proofs.Kept.{passes_by, passes_is, none_below, no_oack, OackKeeps, not_answered}
 
 -- what is known of the transfer, if it is these terms
 pub known_by : (h : Header) (es : List Spelled) (s : AllSpelled es) (t : Option Terms) → t ≡ terms_of h es → (u : Terms) → AreTerms h (datagrams es) u → t ≡ Some u
@@ -109,58 +109,86 @@ fixed_all h (e ∷ news) es asked a f = fixed_more h (news ++ es) e asked a (fix
 pub fixed_terms : (h : Header) (es : List Spelled) (asked : RequestParts) (a : Answer) (t : Terms) → IsFixed h es asked a → t ≡ terms_after h asked a → Some t ≡ terms_of h es
 fixed_terms h es asked a t f is = ap Some is ∙ sym (ap (λ o. Some (terms_by h asked o)) f.answered) ∙ sym (ap (terms_from h es) f.request)
 
-abbrev pub all_pass : Header → Option Terms → List Spelled → List Spelled → Bool
-all_pass h t [] es = true
-all_pass h t (e ∷ news) es = (not_oack e.1 && passes_by h t (news ++ es) e) && all_pass h t news es
+-- ---- beginnings
 
-pub lawful_more : (h : Header) (t : Terms) (asked : RequestParts) (a : Answer) (news es : List Spelled) → AllSpelled (news ++ es) → IsFixed h es asked a → t ≡ terms_after h asked a
-    → all_pass h (Some t) news es ≡ true → OneEnded h (datagrams es) → OneEnded h (datagrams (news ++ es))
-lawful_more h t asked a [] es s f is test before = before
-lawful_more h t asked a (e ∷ news) es s f is test before =
-    let parts = and_parts (not_oack e.1 && passes_by h (Some t) (news ++ es) e) (all_pass h (Some t) news es) test in
-    let now = and_parts (not_oack e.1) (passes_by h (Some t) (news ++ es) e) parts.0 in
-    one_more h (Some t) (news ++ es) e s.1 s.0 (fixed_terms h (news ++ es) asked a t (fixed_all h news es asked a f) is) now.0 now.1
-    (lawful_more h t asked a news es s.1 f is parts.1 before)
-
--- ---- refused
-
--- what stands at the start of a capture whose request is answered
-pub record Base (h : Header) : Type 0 where
+-- A beginning of a capture: what its datagrams spell, that they break no rule, and what is known of the transfer after it
+-- and more.
+pub record Start (h : Header) : Type 0 where
   pub es : List Spelled
   pub spelled : AllSpelled es
-  pub asked : RequestParts
-  pub answer : Answer
-  pub fixed : IsFixed h es asked answer
-  pub terms : Terms
-  pub is : terms ≡ terms_after h asked answer
   pub lawful : OneEnded h (datagrams es)
+  pub known : List Spelled → Option Terms
+  pub knows : (more : List Spelled) → known more ≡ terms_of h (more ++ es)
 
--- the rule is one of blocks and acknowledgements, and what breaks it is this message
-pub end_breaks : (h : Header) (b : Base h) (news : List Spelled) (e : Spelled) (rule : EndRule) → AllSpelled (news ++ b.es) → Spells e.0.payload e.1
-    → is_of_transfer (route_of h (datagrams (news ++ b.es)) e.0) ≡ true → EndBroken b.terms (transfer_of h (datagrams (news ++ b.es))) e.1 rule
-    → EndBreaks h (datagrams (news ++ b.es)) e.0 rule
-end_breaks h b news e rule s here main broken =
-    let f = fixed_all h news b.es b.asked b.answer b.fixed in
-    record {
-      terms = b.terms;
-      known = (b.asked, asked_back h (news ++ b.es) b.asked s f.request, inr (b.answer, answered_there h b.asked.side (news ++ b.es) b.answer s f.answered, b.is));
-      message = e.1;
-      says = record { routed = main; spells = here };
-      broken = broken;
-    }
+-- a request alone
+abbrev pub request_alone : (h : Header) (e : Spelled) → Spells e.0.payload e.1 → (not_oack e.1 && passes_by h None [] e) ≡ true → Start h
+request_alone h e here test = record {
+  es = e ∷ [];
+  spelled = (here, tt);
+  lawful = let parts = and_parts (not_oack e.1) (passes_by h None [] e) test in one_more h None [] e tt here refl parts.0 parts.1 tt;
+  known = λ more. terms_of h (more ++ e ∷ []);
+  knows = λ more. refl;
+}
 
-pub refused_after : (h : Header) (b : Base h) (news : List Spelled) (e : Spelled) (rule : Rule) → AllSpelled (news ++ b.es) → Spells e.0.payload e.1 → not_oack e.1 ≡ true
-    → all_pass h (Some b.terms) news b.es ≡ true → keeps_below (number_of rule) h (Some b.terms) (news ++ b.es) e ≡ true → Broken h (datagrams (news ++ b.es)) e.0 rule
-    → IsRefused h (datagrams (news ++ b.es)) e.0 rule
-refused_after h b news e rule s here other pass test broken =
-    let f = fixed_all h news b.es b.asked b.answer b.fixed in
-    record {
-      lawful = lawful_more h b.terms b.asked b.answer news b.es s b.fixed b.is pass b.lawful;
-      broken = record {
-        broken = broken;
-        first = none_under (number_of rule) h (Some b.terms) (news ++ b.es) e s here (fixed_terms h (news ++ b.es) b.asked b.answer b.terms f b.is) other test;
-      };
-    }
+no_offer : (payload : List ℕ) (m : Message) → spells_it payload m ≡ true → not_oack m ≡ true
+no_offer payload (Message.Data k bytes) e = refl
+no_offer payload (Message.Ack j) e = refl
+no_offer payload (Message.Error code text) e = refl
+no_offer payload (Message.Request r) e = refl
+no_offer payload (Message.Oack o) e = absurd (false≢true e)
+
+module _ (h : Header) (b : Start h) where
+  -- these pass too, one after another
+  abbrev pub all_pass : List Spelled → Bool
+  all_pass [] = true
+  all_pass (e ∷ news) = (spells_it e.0.payload e.1 && passes_by h (b.known news) (news ++ b.es) e) && all_pass news
+
+  pub all_more : (news : List Spelled) → all_pass news ≡ true → AllSpelled (news ++ b.es) × OneEnded h (datagrams (news ++ b.es))
+  all_more [] t = (b.spelled, b.lawful)
+  all_more (e ∷ news) t =
+      let parts = and_parts (spells_it e.0.payload e.1 && passes_by h (b.known news) (news ++ b.es) e) (all_pass news) t in
+      let now = and_parts (spells_it e.0.payload e.1) (passes_by h (b.known news) (news ++ b.es) e) parts.0 in
+      let before = all_more news parts.1 in
+      let here = spelled_it e.0.payload e.1 now.0 in
+      ((here, before.0), one_more h (b.known news) (news ++ b.es) e before.0 here (b.knows news) (no_offer e.0.payload e.1 now.0) now.1 before.1)
+
+  abbrev pub after : (news : List Spelled) → all_pass news ≡ true → Start h
+  after news t = record {
+    es = news ++ b.es;
+    spelled = (all_more news t).0;
+    lawful = (all_more news t).1;
+    known = λ more. b.known (more ++ news);
+    knows = λ more. b.knows (more ++ news) ∙ ap (terms_of h) (append_assoc more news b.es);
+  }
+
+  -- ---- refused
+
+  -- the next one breaks a rule, and none before it
+  pub refused_next : (e : Spelled) (rule : Rule) → Spells e.0.payload e.1 → (not_oack e.1 && keeps_below (number_of rule) h (b.known []) b.es e) ≡ true → Broken h (datagrams b.es) e.0 rule
+      → IsRefused h (datagrams b.es) e.0 rule
+  refused_next e rule here test broken =
+      let parts = and_parts (not_oack e.1) (keeps_below (number_of rule) h (b.known []) b.es e) test in
+      record { lawful = b.lawful; broken = record { broken = broken; first = none_under (number_of rule) h (b.known []) b.es e b.spelled here (b.knows []) parts.0 parts.1 } }
+
+  abbrev WhereKnown : Option Terms → (Terms → Type 0) → Type 0
+  WhereKnown (Some t) P = P t
+  WhereKnown None P = ⊥
+
+  -- a rule of blocks and acknowledgements
+  pub refused_end : (e : Spelled) (end : EndRule) (rule : Rule) → (EndBreaks h (datagrams b.es) e.0 end → Broken h (datagrams b.es) e.0 rule)
+      → (spells_it e.0.payload e.1 && (is_of_transfer (route_of h (datagrams b.es) e.0) && keeps_below (number_of rule) h (b.known []) b.es e)) ≡ true
+      → WhereKnown (b.known []) (λ t. EndBroken t (transfer_of h (datagrams b.es)) e.1 end) → IsRefused h (datagrams b.es) e.0 rule
+  refused_end e end rule breaks test broken =
+      let parts = and_parts (spells_it e.0.payload e.1) (is_of_transfer (route_of h (datagrams b.es) e.0) && keeps_below (number_of rule) h (b.known []) b.es e) test in
+      let more = and_parts (is_of_transfer (route_of h (datagrams b.es) e.0)) (keeps_below (number_of rule) h (b.known []) b.es e) parts.1 in
+      let here = spelled_it e.0.payload e.1 parts.0 in
+      let first = none_under (number_of rule) h (b.known []) b.es e b.spelled here (b.knows []) (no_offer e.0.payload e.1 parts.0) more.1 in
+      record { lawful = b.lawful; broken = record { broken = breaks (by here more.0 (b.known []) (b.knows []) broken); first = first } }
+    where
+      by : Spells e.0.payload e.1 → is_of_transfer (route_of h (datagrams b.es) e.0) ≡ true → (o : Option Terms) → o ≡ terms_of h b.es → WhereKnown o (λ t. EndBroken t (transfer_of h (datagrams b.es)) e.1 end)
+          → EndBreaks h (datagrams b.es) e.0 end
+      by here main (Some t) is broken = record { terms = t; known = terms_back h b.es t b.spelled (sym is); message = e.1; says = record { routed = main; spells = here }; broken = broken }
+      by here main None is broken = absurd broken
 
 -- an OACK after the first answer is none of the first, and below rule n it breaks none of their rules, where it says the
 -- same or n is at most that of a changed one

@@ -1,8 +1,9 @@
 -- Datagrams with their parts dress a view, by computation.
-use Rattle.std.proofs.Common.{◌≡◌, ℕ, ◌==◌, ◌&&◌, ◌||◌, not, Bool, true, false, ◌⊎◌, List, [], ◌∷◌, Any, map as each, reverse, inl, inr, refl, sym, subst, ap, ◌∙◌}
+use Rattle.std.proofs.Common.{◌≡◌, ℕ, ◌==◌, ◌&&◌, ◌||◌, not, Bool, true, false, ◌⊎◌, List, [], ◌∷◌, ◌++◌, Any, map as each, reverse, inl, inr, refl, sym, subst, ap, ◌∙◌}
 use Rattle.std.proofs.lemmas.Bool.{and_parts, or_cases, eqb-true, eq-eqb, false≢true}
 use Rattle.std.proofs.lemmas.Slice.Eq.{bytes_eq-Decides}
 use Rattle.std.specs.Str.{bytes_eq}
+use Rattle.std.specs.List.{list_all}
 use Rattle.tftp_packet.specs.{Spells, Message, End, Client, Server}
 use Rattle.tftp_hosts.specs.{Dir, In, Out, Datagram, Header, PeerId, peer_of}
 use Rattle.tftp_model.specs.{Meaning, blksize_of, request_of, block, MachinePacket, Req, Oack, Data, Ack, Error, Deed, message_of, History}
@@ -12,6 +13,9 @@ use Rattle.tftp_law.specs.{server_port, from_server, BeginsAsRequest, Part, Main
 use Rattle.tftp_law.specs.Dress.{StrayAnswer}
 use Rattle.tftp_law.proofs.Division.Divided.{any_first, any_later}
 use Rattle.tftp_law.proofs.Division.RouteTests.{apart_is, is_same}
+use Rattle.tftp_worked.proofs.Payloads.{Spelled, spells_it, spelled_it}
+use Rattle.tftp_worked.proofs.Passing.{same_dir, dir_is}
+use Rattle.tftp_worked.proofs.Meant.{deed_for}
 
 -- a datagram with the deed that it carries
 abbrev pub Carried : Type 0
@@ -20,13 +24,14 @@ Carried = Datagram × Deed
 abbrev pub main : Carried → Placed
 main c = record { datagram = c.0; part = Main c.1 }
 
+abbrev pub strays : Datagram → Placed
+strays d = record { datagram = d; part = Stray }
+
+abbrev pub answers_stray : Datagram → Placed
+answers_stray d = record { datagram = d; part = StrayAnswer }
+
 abbrev pub division_of : List Carried → Division
 division_of cs = each main cs
-
-abbrev pub same_dir : Dir → Dir → Bool
-same_dir In In = true
-same_dir Out Out = true
-same_dir _ _ = false
 
 abbrev pub has_client_id : End → TransferIds → Datagram → Bool
 has_client_id Client ids d = d.local == ids.own
@@ -110,12 +115,6 @@ says_it m wire Oack = refl
 says_it m wire (Data k) = refl
 says_it m wire (Ack j) = refl
 says_it m wire (Error code text) = refl
-
-dir_is : (a b : Dir) → same_dir a b ≡ true → a ≡ b
-dir_is In In e = refl
-dir_is Out Out e = refl
-dir_is In Out e = absurd (false≢true e)
-dir_is Out In e = absurd (false≢true e)
 
 client_is : (e : End) (ids : TransferIds) (d : Datagram) → has_client_id e ids d ≡ true → HasClientId e ids d
 client_is Client ids d t = eqb-true d.local ids.own t
@@ -249,8 +248,28 @@ dressed_as header m wire b ids division view datagrams size e s whole main_is = 
   parts = parts_are header m wire ids division e (subst (λ n. AllSpellAs n m wire division) (sym size) s);
 }
 
--- where all are main ones
-pub dressed_by : (header : Header) (m : Meaning) (wire : List ℕ) (b : ℕ) (ids : TransferIds) (cs : List Carried) (view : History) (datagrams : List Datagram)
-    → blksize_of m ≡ b → are_parts header ids (division_of cs) ≡ true → AllSpellAs b m wire (division_of cs) → datagrams_of (division_of cs) ≡ reverse datagrams → view_in (division_of cs) ≡ view
+-- ---- and where all are main ones, that spell something
+
+abbrev pub carried_of : List Spelled → List Carried
+carried_of es = each (λ (e : Spelled). (e.0, deed_for e.0.dir e.1)) es
+
+abbrev pub as_main : List Spelled → Division
+as_main es = division_of (carried_of es)
+
+-- those that came last spell what they say
+abbrev pub all_say : ℕ → Meaning → List ℕ → List Spelled → Bool
+all_say b m wire es = list_all (λ (e : Spelled). spells_it e.0.payload (says b m wire (packet_of (deed_for e.0.dir e.1)))) es
+
+spell_more : (b : ℕ) (m : Meaning) (wire : List ℕ) (news base : List Spelled) → all_say b m wire news ≡ true → AllSpellAs b m wire (as_main base) → AllSpellAs b m wire (as_main (news ++ base))
+spell_more b m wire [] base t s = s
+spell_more b m wire (e ∷ news) base t s =
+    let message = says b m wire (packet_of (deed_for e.0.dir e.1)) in
+    let parts = and_parts (spells_it e.0.payload message) (all_say b m wire news) t in
+    (spelled_it e.0.payload message parts.0, spell_more b m wire news base parts.1 s)
+
+pub dressed_by : (header : Header) (m : Meaning) (wire : List ℕ) (b : ℕ) (ids : TransferIds) (news base : List Spelled) (view : History) (datagrams : List Datagram) → blksize_of m ≡ b
+    → (are_parts header ids (as_main (news ++ base)) && all_say b m wire news) ≡ true → AllSpellAs b m wire (as_main base) → datagrams_of (as_main (news ++ base)) ≡ reverse datagrams → view_in (as_main (news ++ base)) ≡ view
     → IsDressed header m wire view datagrams
-dressed_by header m wire b ids cs = dressed_as header m wire b ids (division_of cs)
+dressed_by header m wire b ids news base view datagrams size test s =
+    let parts = and_parts (are_parts header ids (as_main (news ++ base))) (all_say b m wire news) test in
+    dressed_as header m wire b ids (as_main (news ++ base)) view datagrams size parts.0 (spell_more b m wire news base parts.1 s)

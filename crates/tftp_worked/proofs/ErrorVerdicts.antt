@@ -1,19 +1,17 @@
 -- Worked verdicts of transfers in which an ERROR is sent.
-use Rattle.std.proofs.Common.{◌≡◌, ℕ, List, [], ◌∷◌, ◌++◌, ◌+◌, length, reverse, codes, inl, inr, Ok, Err, refl}
-use Rattle.tftp_packet.specs.{Get}
+use Rattle.std.proofs.Common.{◌≡◌, ℕ, List, [], ◌∷◌, ◌++◌, ◌+◌, length, reverse, codes, Some, None, inl, inr, Ok, Err, refl}
+use Rattle.tftp_packet.specs.{Num, Get}
 use Rattle.tftp_hosts.specs.{Datagram, Header}
-use Rattle.tftp_model.specs.{Meaning, two_bytes}
+use Rattle.tftp_model.specs.{Meaning, two_bytes, eight_a_block}
 use Rattle.tftp_rules.specs.{NoReply, Plain}
 use Rattle.tftp_law.specs.{IsAborted, By, Local, Peer, IsLawful, IsRefused, Meant, plain_terms, Rule}
 use Rattle.tftp_law.proofs.Whole.TwoEnds.{whole}
 use Rattle.tftp_judge.specs.{IsVerdict, Unlawful, Aborted}
 use Rattle.tftp_worked.specs.{at_client, acknowledges_hi, says_forbidden, read_refused, read_refused_twice, read_given_up, read_given_up_twice, stopped_at_the_end, stopped_after_the_end, block_after_error, before_late_answer, late_answer}
-use Rattle.tftp_worked.proofs.Spelled.{request_spelled, hi_spelled}
-use Rattle.tftp_worked.proofs.Chains.{fixed_all, fixed_terms}
-use Rattle.tftp_worked.proofs.Bases.{read_by_eight}
-use Rattle.tftp_worked.proofs.RefusedErrors.{not_found_spelled, stop_spelled, full_spelled, begun_spelled, not_found, full, after_news, after_spelled, another_refused, ack_refused, late_refused}
-use Rattle.tftp_worked.proofs.Refused.{came, acks}
-use Rattle.tftp_worked.proofs.RefusedMore.{plain_asks, plain_hi}
+use Rattle.tftp_worked.proofs.Exchanges.{acks, eight_news}
+use Rattle.tftp_worked.proofs.Bases.{asks_for, plain_asked, plain_begun, read_by_eight}
+use Rattle.tftp_worked.proofs.Options.{terms}
+use Rattle.tftp_worked.proofs.RefusedErrors.{not_found_spelled, stop_spelled, full_spelled, refused, refused_again, given_up, given_up_again, after_error, another_refused, ack_refused, late_refused}
 use Rattle.tftp_worked.proofs.Unfinished.{no_errors, means_nothing}
 use Rattle.tftp_worked.proofs.ErrorsShown.{refused_lawful, refused_again_lawful, given_up_lawful, given_up_again_lawful, stopped_shown, stopped_after_shown, after_lawful, late_lawful, another_is_unlawful, ack_is_unlawful, late_is_unlawful}
 use Rattle.tftp_worked.proofs.Verdicts.{accepted}
@@ -24,36 +22,28 @@ aborted h ds by code lawful nothing first = (lawful, (λ m shown. nothing m ((wh
 -- ---- ended by the server
 
 refused_first : IsAborted at_client (reverse read_refused) Peer 1
-refused_first = inr (no_errors (plain_asks ∷ []) (request_spelled, tt) refl, (refl, codes "File not found", not_found_spelled))
+refused_first = inr (no_errors plain_asked.es plain_asked.spelled refl, (refl, codes "File not found", not_found_spelled))
 
 pub refused_verdict : IsVerdict at_client read_refused (Err (Aborted Peer 1))
-refused_verdict = aborted at_client read_refused Peer 1 refused_lawful
-    (means_nothing at_client (not_found ∷ plain_asks ∷ []) (not_found_spelled, (request_spelled, tt)) (plain_terms at_client Get NoReply) refl refl refl refl) refused_first
+refused_verdict = aborted at_client read_refused Peer 1 refused_lawful (means_nothing at_client refused (plain_terms at_client Get NoReply) refl refl refl refl) refused_first
 
 pub refused_again_verdict : IsVerdict at_client read_refused_twice (Err (Aborted Peer 1))
-refused_again_verdict = aborted at_client read_refused_twice Peer 1 refused_again_lawful
-    (means_nothing at_client (not_found ∷ not_found ∷ plain_asks ∷ []) (not_found_spelled, (not_found_spelled, (request_spelled, tt))) (plain_terms at_client Get NoReply) refl refl refl refl) (inl refused_first)
+refused_again_verdict = aborted at_client read_refused_twice Peer 1 refused_again_lawful (means_nothing at_client refused_again (plain_terms at_client Get NoReply) refl refl refl refl) (inl refused_first)
 
 pub after_verdict : IsVerdict at_client block_after_error (Err (Aborted Peer 0))
-after_verdict = aborted at_client block_after_error Peer 0 after_lawful
-    (means_nothing at_client (after_news ++ read_by_eight.es) after_spelled read_by_eight.terms
-    (fixed_terms at_client (after_news ++ read_by_eight.es) read_by_eight.asked read_by_eight.answer read_by_eight.terms (fixed_all at_client after_news read_by_eight.es read_by_eight.asked read_by_eight.answer read_by_eight.fixed) read_by_eight.is)
-    refl refl refl)
-    (inl (inr (no_errors (acks 1 ∷ came 1 (codes "01234567") ∷ acks 0 ∷ read_by_eight.es) after_spelled.1.1 refl, (refl, [], stop_spelled))))
+after_verdict = aborted at_client block_after_error Peer 0 after_lawful (means_nothing at_client after_error (terms at_client (asks_for Get eight_a_block) (Some (Num 8)) None None) refl refl refl refl)
+    (inl (inr (no_errors (acks 1 ∷ eight_news ++ read_by_eight.es) after_error.spelled.1.1 refl, (refl, [], stop_spelled))))
 
 -- ---- given up by the client
 
 given_up_first : IsAborted at_client (reverse read_given_up) Local 3
-given_up_first = inr (no_errors (plain_hi ∷ plain_asks ∷ []) begun_spelled refl, (refl, [], full_spelled))
+given_up_first = inr (no_errors plain_begun.es plain_begun.spelled refl, (refl, [], full_spelled))
 
 pub given_up_verdict : IsVerdict at_client read_given_up (Err (Aborted Local 3))
-given_up_verdict = aborted at_client read_given_up Local 3 given_up_lawful
-    (means_nothing at_client (full ∷ plain_hi ∷ plain_asks ∷ []) (full_spelled, begun_spelled) (plain_terms at_client Get Plain) refl refl refl refl) given_up_first
+given_up_verdict = aborted at_client read_given_up Local 3 given_up_lawful (means_nothing at_client given_up (plain_terms at_client Get Plain) refl refl refl refl) given_up_first
 
 pub given_up_again_verdict : IsVerdict at_client read_given_up_twice (Err (Aborted Local 3))
-given_up_again_verdict = aborted at_client read_given_up_twice Local 3 given_up_again_lawful
-    (means_nothing at_client (full ∷ plain_hi ∷ full ∷ plain_hi ∷ plain_asks ∷ []) (full_spelled, (hi_spelled, (full_spelled, begun_spelled))) (plain_terms at_client Get Plain) refl refl refl refl)
-    (inl (inl given_up_first))
+given_up_again_verdict = aborted at_client read_given_up_twice Local 3 given_up_again_lawful (means_nothing at_client given_up_again (plain_terms at_client Get Plain) refl refl refl refl) (inl (inl given_up_first))
 
 -- ---- whole all the same
 

@@ -2,53 +2,41 @@
 use Rattle.std.proofs.Common.{◌≡◌, ◌⊎◌, ℕ, ◌+◌, ◌≤◌, nat_le, Bool, true, false, List, [], ◌∷◌, ◌++◌, Any, codes, inl, inr, refl, sym, subst, ap, ◌∙◌, arith}
 use Rattle.std.proofs.lemmas.Bool.{true≢false, leb-true}
 use Rattle.tftp_packet.specs.{Message, OptionMap, Get, Client}
-use Rattle.tftp_hosts.specs.{In, Out, Datagram, PeerId}
-use Rattle.tftp_model.specs.{Meaning, request_of, option_or, windowsize_of, MachinePacket, Sent, Took, Req, Oack, Data, Ack, Error, History, IsOneSided, Step, IsView, IsComplete, client, server, two_bytes, ten_bytes, eight_a_block, read_refused_view, read_given_up_view, given_up_view, stopped_at_the_end_view, one_block_view, block_after_error_view}
+use Rattle.tftp_hosts.specs.{In, Out, Datagram}
+use Rattle.tftp_model.specs.{Meaning, request_of, option_or, windowsize_of, MachinePacket, Sent, Took, Req, Oack, Data, Ack, Error, History, IsOneSided, Step, IsView, client, server, two_bytes, ten_bytes, eight_a_block, read_refused_view, read_given_up_view, given_up_view, stopped_at_the_end_view, one_block_view, block_after_error_view}
 use Rattle.tftp_model.proofs.Members.{contains_first}
-use Rattle.tftp_model.proofs.Defaults.{default_blksize}
 use Rattle.tftp_model.proofs.Worked.{one_block, window_one}
 use Rattle.tftp_model.proofs.WorkedMore.{something_agreed, two_blocks, blocks_of_eight, one_at_a_time}
 use Rattle.tftp_model.proofs.WorkedErrors.{read_refused_is_view, read_given_up_is_view, stopped_at_the_end_is_view, stopped_at_the_end_complete, block_after_error_is_view}
 use Rattle.tftp_model.proofs.Computed.{Plan, IsPlan, run_is, complete_is, all_is}
 use Rattle.tftp_model.proofs.OneSided.{view_one_sided}
 use Rattle.tftp_law.specs.Dress.{StrayAnswer}
-use Rattle.tftp_law.specs.{Part, Main, Stray, Placed, IsMain, TransferIds, HasPart, HaveParts, IsDressed, IsSeen, IsLawful, Shows}
+use Rattle.tftp_law.specs.{Part, Main, Stray, Placed, IsMain, TransferIds, HasPart, HaveParts, IsDressed, IsLawful, Shows}
 use Rattle.tftp_law.proofs.Division.Divided.{divided_more, divided_none, any_none, any_cases}
 use Rattle.tftp_law.proofs.Spelled.{spelled_once}
 use Rattle.tftp_law.proofs.Whole.NothingAgreed.{two_bytes_fit}
-use Rattle.tftp_worked.specs.{at_client, asks_for_a, brings_hi, acknowledges_hi, server_host, request, oack, block, ack, by_eight, asks, goes, comes, is_asked, at_service, says_not_found, says_forbidden, stops, gives_up, read_refused, read_refused_twice, read_given_up, read_given_up_twice, stopped_at_the_end, stopped_after_the_end, block_after_error, before_late_answer, late_answer, only_offered, stops_unanswered}
-use Rattle.tftp_worked.proofs.Spelled.{request_spelled, hi_spelled, ack_spelled}
-use Rattle.tftp_worked.proofs.Payloads.{Spelled, data_spells, ack_spells}
-use Rattle.tftp_worked.proofs.Dressed.{Carried, dressed_by}
-use Rattle.tftp_worked.proofs.Meant.{AllNear, deeds_for, all_meant, second_shows}
-use Rattle.tftp_worked.proofs.ReadShown.{ids}
-use Rattle.tftp_worked.proofs.Shown.{shown_by}
+use Rattle.tftp_worked.specs.{at_client, acknowledges_hi, request, oack, by_eight, asks, comes, is_asked, at_service, says_forbidden, read_refused, read_refused_twice, read_given_up, read_given_up_twice, stopped_at_the_end, stopped_after_the_end, block_after_error, before_late_answer, late_answer, only_offered, stops_unanswered}
+use Rattle.tftp_worked.proofs.Spelled.{request_spelled}
+use Rattle.tftp_worked.proofs.Payloads.{Spelled}
+use Rattle.tftp_worked.proofs.Exchanges.{came, stop, eight_news, stopped_news, after_news}
+use Rattle.tftp_worked.proofs.Dressed.{dressed_by}
+use Rattle.tftp_worked.proofs.Meant.{deeds_for, client_meant}
+use Rattle.tftp_worked.proofs.ReadShown.{ids, read_dressed, two_shown}
 use Rattle.tftp_worked.proofs.MoreShown.{eights_fit}
-use Rattle.tftp_worked.proofs.Bases.{asks_for, read_by_eight_request, read_by_eight_agrees}
-use Rattle.tftp_worked.proofs.RefusedErrors.{not_found_spelled, forbidden_spelled, stop_spelled, full_spelled, begun_spelled, not_found, forbidden, stop, full, plain_ack}
-use Rattle.tftp_worked.proofs.RefusedMore.{plain_asks, plain_hi}
+use Rattle.tftp_worked.proofs.Bases.{asks_for, plain_asks, plain_hi, plain_begun, read_by_eight}
+use Rattle.tftp_worked.proofs.RefusedErrors.{not_found_spelled, stop_spelled, not_found, forbidden, full, plain_ack}
 
 -- ---- reads of two bytes
-
-abbrev asked : List Carried
-asked = (asks_for_a, Sent Req) ∷ []
-
-abbrev begun : List Carried
-begun = (brings_hi, Took (Data 1)) ∷ asked
 
 abbrev refuses : MachinePacket
 refuses = Error 1 (codes "File not found")
 
 -- what a view of the two bytes, dressed as these datagrams, shows
-two_seen : (view : History) (ds : List Datagram) → IsView two_bytes two_bytes.file Client view → IsDressed at_client two_bytes two_bytes.file view ds → IsSeen at_client two_bytes two_bytes.file ds
-two_seen view ds run dressed = record { fits = two_bytes_fit; view = view; run = run; dressed = dressed }
-
 two_lawful : (view : History) (ds : List Datagram) → IsView two_bytes two_bytes.file Client view → IsDressed at_client two_bytes two_bytes.file view ds → IsLawful at_client ds
-two_lawful view ds run dressed = (two_bytes, two_bytes.file, two_seen view ds run dressed)
+two_lawful view ds run dressed = (two_bytes, two_bytes.file, record { fits = two_bytes_fit; view = view; run = run; dressed = dressed })
 
 pub refused_lawful : IsLawful at_client read_refused
-refused_lawful = two_lawful read_refused_view read_refused read_refused_is_view
-    (dressed_by at_client two_bytes two_bytes.file 512 ids ((says_not_found, Took refuses) ∷ asked) read_refused_view read_refused (default_blksize two_bytes refl) refl (not_found_spelled, (request_spelled, tt)) refl refl)
+refused_lawful = two_lawful read_refused_view read_refused read_refused_is_view (read_dressed (not_found ∷ []) read_refused_view read_refused refl refl refl)
 
 abbrev two_plan : Plan
 two_plan = record { agreed = false; windowsize = 1; blocks = 1 }
@@ -63,43 +51,26 @@ refused_again = Took refuses ∷ read_refused_view
 abbrev refused_again_steps : List Step
 refused_again_steps = client (Took refuses) ∷ server (Sent refuses) ∷ client (Took refuses) ∷ server (Sent refuses) ∷ server (Took Req) ∷ client (Sent Req) ∷ []
 
-refused_again_is_view : IsView two_bytes two_bytes.file Client refused_again
-refused_again_is_view = (refused_again_steps, run_is two_bytes two_bytes.file two_plan refused_again_steps two_is_plan refl, refl)
-
 pub refused_again_lawful : IsLawful at_client read_refused_twice
-refused_again_lawful = two_lawful refused_again read_refused_twice refused_again_is_view
-    (dressed_by at_client two_bytes two_bytes.file 512 ids ((says_not_found, Took refuses) ∷ (says_not_found, Took refuses) ∷ asked) refused_again read_refused_twice (default_blksize two_bytes refl) refl
-    (not_found_spelled, (not_found_spelled, (request_spelled, tt))) refl refl)
-
-abbrev gave_up : List Carried
-gave_up = (gives_up, Sent (Error 3 [])) ∷ begun
+refused_again_lawful = two_lawful refused_again read_refused_twice (refused_again_steps, run_is two_bytes two_bytes.file two_plan refused_again_steps two_is_plan refl, refl)
+    (read_dressed (not_found ∷ not_found ∷ []) refused_again read_refused_twice refl refl refl)
 
 -- the client says once that it has no room
 abbrev given_up_steps : List Step
 given_up_steps = client (Sent (Error 3 [])) ∷ client (Took (Data 1)) ∷ server (Sent (Data 1)) ∷ server (Took Req) ∷ client (Sent Req) ∷ []
 
-given_up_is_view : IsView two_bytes two_bytes.file Client given_up_view
-given_up_is_view = (given_up_steps, run_is two_bytes two_bytes.file two_plan given_up_steps two_is_plan refl, refl)
-
 pub given_up_lawful : IsLawful at_client read_given_up
-given_up_lawful = two_lawful given_up_view read_given_up given_up_is_view
-    (dressed_by at_client two_bytes two_bytes.file 512 ids gave_up given_up_view read_given_up (default_blksize two_bytes refl) refl (full_spelled, begun_spelled) refl refl)
+given_up_lawful = two_lawful given_up_view read_given_up (given_up_steps, run_is two_bytes two_bytes.file two_plan given_up_steps two_is_plan refl, refl)
+    (read_dressed (full ∷ plain_hi ∷ []) given_up_view read_given_up refl refl refl)
 
 pub given_up_again_lawful : IsLawful at_client read_given_up_twice
-given_up_again_lawful = two_lawful read_given_up_view read_given_up_twice read_given_up_is_view
-    (dressed_by at_client two_bytes two_bytes.file 512 ids ((gives_up, Sent (Error 3 [])) ∷ (brings_hi, Took (Data 1)) ∷ gave_up) read_given_up_view read_given_up_twice (default_blksize two_bytes refl) refl
-    (full_spelled, (hi_spelled, (full_spelled, begun_spelled))) refl refl)
+given_up_again_lawful = two_lawful read_given_up_view read_given_up_twice read_given_up_is_view (read_dressed (full ∷ plain_hi ∷ full ∷ plain_hi ∷ []) read_given_up_view read_given_up_twice refl refl refl)
 
 -- ---- whole reads
 
-two_shown : (view : History) (ds : List Datagram) → IsView two_bytes two_bytes.file Client view → IsDressed at_client two_bytes two_bytes.file view ds → IsComplete two_bytes two_bytes.file Client view → Shows at_client two_bytes ds
-two_shown view ds run dressed complete = shown_by at_client two_bytes two_bytes.file view ds two_bytes_fit (omega (arith, one_block)) run complete dressed
-
 pub stopped_shown : Shows at_client two_bytes stopped_at_the_end
-stopped_shown = two_shown stopped_at_the_end_view stopped_at_the_end stopped_at_the_end_is_view
-    (dressed_by at_client two_bytes two_bytes.file 512 ids ((acknowledges_hi, Sent (Ack 1)) ∷ (stops, Took (Error 0 [])) ∷ begun) stopped_at_the_end_view stopped_at_the_end (default_blksize two_bytes refl) refl
-    (ack_spelled, (stop_spelled, begun_spelled)) refl refl)
-    stopped_at_the_end_complete
+stopped_shown = two_shown at_client stopped_at_the_end_view stopped_at_the_end stopped_at_the_end_is_view stopped_at_the_end_complete
+    (read_dressed (plain_ack ∷ stop ∷ plain_hi ∷ []) stopped_at_the_end_view stopped_at_the_end refl refl refl)
 
 abbrev after_view : History
 after_view = Took (Error 0 []) ∷ Sent (Ack 1) ∷ Took (Data 1) ∷ Sent Req ∷ []
@@ -115,19 +86,11 @@ after_steps =
     ∷ client (Sent Req)
     ∷ []
 
-after_is_view : IsView two_bytes two_bytes.file Client after_view
-after_is_view = (after_steps, run_is two_bytes two_bytes.file two_plan after_steps two_is_plan refl, refl)
-
 pub stopped_after_shown : Shows at_client two_bytes stopped_after_the_end
-stopped_after_shown = two_shown after_view stopped_after_the_end after_is_view
-    (dressed_by at_client two_bytes two_bytes.file 512 ids ((stops, Took (Error 0 [])) ∷ (acknowledges_hi, Sent (Ack 1)) ∷ begun) after_view stopped_after_the_end (default_blksize two_bytes refl) refl
-    (stop_spelled, (ack_spelled, begun_spelled)) refl refl)
-    (complete_is two_bytes two_bytes.file two_plan Client after_view two_is_plan refl)
+stopped_after_shown = two_shown at_client after_view stopped_after_the_end (after_steps, run_is two_bytes two_bytes.file two_plan after_steps two_is_plan refl, refl) (complete_is two_bytes two_bytes.file two_plan Client after_view two_is_plan refl)
+    (read_dressed (stop ∷ plain_ack ∷ plain_hi ∷ []) after_view stopped_after_the_end refl refl refl)
 
 -- ---- a block after the ERROR
-
-abbrev in_eights : List Carried
-in_eights = (comes (block 1 (codes "01234567")), Took (Data 1)) ∷ (goes (ack 0), Sent (Ack 0)) ∷ (comes (oack by_eight), Took Oack) ∷ (asks (request 1 by_eight), Sent Req) ∷ []
 
 pub after_lawful : IsLawful at_client block_after_error
 after_lawful = (
@@ -137,9 +100,7 @@ after_lawful = (
     fits = eights_fit;
     view = block_after_error_view;
     run = block_after_error_is_view;
-    dressed = dressed_by at_client ten_bytes ten_bytes.file 8 ids ((late_answer, Took (Data 2)) ∷ (stops, Took (Error 0 [])) ∷ (goes (ack 1), Sent (Ack 1)) ∷ in_eights) block_after_error_view block_after_error blocks_of_eight refl
-        (data_spells 2 (codes "89") refl, (stop_spelled, (ack_spells 1 refl, (data_spells 1 (codes "01234567") refl, (ack_spells 0 refl, (read_by_eight_agrees, (read_by_eight_request, tt)))))))
-        refl refl;
+    dressed = dressed_by at_client ten_bytes ten_bytes.file 8 ids after_news read_by_eight.es block_after_error_view block_after_error blocks_of_eight refl read_by_eight.spelled refl refl;
   },
 )
 
@@ -169,9 +130,6 @@ ten_plan = record { agreed = true; windowsize = 1; blocks = 2 }
 ten_is_plan : IsPlan ten_bytes ten_bytes.file ten_plan
 ten_is_plan = record { something = λ _. something_agreed; nothing = λ e. absurd (true≢false e); windowsize = one_at_a_time; blocks = two_blocks }
 
-late_is_view : IsView ten_bytes ten_bytes.file Client late_view
-late_is_view = (late_steps, run_is ten_bytes ten_bytes.file ten_plan late_steps ten_is_plan refl, refl)
-
 pub late_lawful : IsLawful at_client before_late_answer
 late_lawful = (
   ten_bytes,
@@ -179,10 +137,8 @@ late_lawful = (
   record {
     fits = eights_fit;
     view = late_view;
-    run = late_is_view;
-    dressed = dressed_by at_client ten_bytes ten_bytes.file 8 ids ((goes (ack 1), Sent (Ack 1)) ∷ (stops, Took (Error 0 [])) ∷ in_eights) late_view before_late_answer blocks_of_eight refl
-        (ack_spells 1 refl, (stop_spelled, (data_spells 1 (codes "01234567") refl, (ack_spells 0 refl, (read_by_eight_agrees, (read_by_eight_request, tt))))))
-        refl refl;
+    run = (late_steps, run_is ten_bytes ten_bytes.file ten_plan late_steps ten_is_plan refl, refl);
+    dressed = dressed_by at_client ten_bytes ten_bytes.file 8 ids stopped_news read_by_eight.es late_view before_late_answer blocks_of_eight refl read_by_eight.spelled refl refl;
   },
 )
 
@@ -197,9 +153,7 @@ another = forbidden ∷ not_found ∷ plain_asks ∷ []
 pub another_is_unlawful : IsLawful at_client (read_refused ++ says_forbidden ∷ []) → ⊥
 another_is_unlawful (m, wire, seen) =
     let dress = seen.dressed in
-    let peer = second_shows m wire dress.ids (says_forbidden ∷ []) says_not_found asks_for_a (Message.Error 1 (codes "File not found")) dress.division dress.whole dress.parts refl refl not_found_spelled (λ r e. cc) in
-    let meant = all_meant at_client m wire dress.ids another dress.division dress.whole dress.parts (forbidden_spelled, (not_found_spelled, (request_spelled, tt)))
-    (λ text is. cc, λ _. peer, (λ text is. cc, λ _. peer, (λ text is. cc, λ way. absurd (cc), tt))) in
+    let meant = client_meant m wire dress.ids (forbidden ∷ []) not_found plain_asks dress.division dress.whole dress.parts (not_found_spelled, (request_spelled, tt)) refl in
     let same = (one_sided_as m wire seen.view (deeds_for another) seen.run (sym dress.main ∙ meant.0)).0.same 1 (codes "File not found") (contains_first (Took refuses) (Sent Req ∷ [])) in
     let one : 1 ≡ 2 = same.0 in
     omega (arith, one)
@@ -210,32 +164,17 @@ goes_on = plain_ack ∷ full ∷ plain_hi ∷ plain_asks ∷ []
 pub ack_is_unlawful : IsLawful at_client (read_given_up ++ acknowledges_hi ∷ []) → ⊥
 ack_is_unlawful (m, wire, seen) =
     let dress = seen.dressed in
-    let peer = second_shows m wire dress.ids (acknowledges_hi ∷ gives_up ∷ []) brings_hi asks_for_a (Message.Data 1 (codes "hi")) dress.division dress.whole dress.parts refl refl hi_spelled (λ r e. cc) in
-    let meant = all_meant at_client m wire dress.ids goes_on dress.division dress.whole dress.parts (ack_spelled, (full_spelled, begun_spelled))
-    (λ text is. cc, λ way. absurd (cc), (λ text is. cc, λ way. absurd (cc), (λ text is. cc, λ _. peer, (λ text is. cc, λ way. absurd (cc), tt)))) in
+    let meant = client_meant m wire dress.ids (plain_ack ∷ full ∷ []) plain_hi plain_asks dress.division dress.whole dress.parts plain_begun.spelled refl in
     (one_sided_as m wire seen.view (deeds_for goes_on) seen.run (sym dress.main ∙ meant.0)).0.no_error 3 [] (contains_first (Sent (Error 3 [])) (Took (Data 1) ∷ Sent Req ∷ []))
 
 abbrev in_lock_step : List Spelled
-in_lock_step =
-    (comes (block 1 (codes "01234567")), Message.Data 1 (codes "01234567"))
-    ∷ (goes (ack 0), Message.Ack 0)
-    ∷ (comes (oack by_eight), Message.Oack eight_a_block)
-    ∷ (asks (request 1 by_eight), Message.Request (asks_for Get eight_a_block))
-    ∷ []
+in_lock_step = eight_news ++ read_by_eight.es
+
+abbrev late_all : List Spelled
+late_all = came 2 (codes "89") ∷ stopped_news
 
 abbrev late : List Spelled
-late = (late_answer, Message.Data 2 (codes "89")) ∷ (goes (ack 1), Message.Ack 1) ∷ stop ∷ in_lock_step
-
--- where the server answers
-abbrev answers_from : PeerId
-answers_from = record { host = server_host; port = 41000 }
-
-late_near : (t : TransferIds) → answers_from ≡ t.peer → AllNear t late
-late_near t e = (
-  λ text is. cc,
-  λ _. e,
-  (λ text is. cc, λ _. e, (λ text is. cc, λ _. e, (λ text is. cc, λ _. e, (λ text is. cc, λ _. e, (λ text is. cc, λ _. e, (λ text is. cc, λ way. absurd (cc), tt)))))),
-)
+late = late_all ++ read_by_eight.es
 
 same_options : (p q : OptionMap) → Message.Oack p ≡ Message.Oack q → p ≡ q
 same_options p q e = cc
@@ -257,11 +196,7 @@ late_is_out m wire one lock_step =
 pub late_is_unlawful : IsLawful at_client (before_late_answer ++ late_answer ∷ []) → ⊥
 late_is_unlawful (m, wire, seen) =
     let dress = seen.dressed in
-    let peer = second_shows m wire dress.ids (late_answer ∷ goes (ack 1) ∷ stops ∷ comes (block 1 (codes "01234567")) ∷ goes (ack 0) ∷ [])
-    (comes (oack by_eight)) (asks (request 1 by_eight)) (Message.Oack eight_a_block) dress.division dress.whole dress.parts refl refl read_by_eight_agrees (λ r e. cc) in
-    let meant = all_meant at_client m wire dress.ids late dress.division dress.whole dress.parts
-    (data_spells 2 (codes "89") refl, (ack_spells 1 refl, (stop_spelled, (data_spells 1 (codes "01234567") refl, (ack_spells 0 refl, (read_by_eight_agrees, (read_by_eight_request, tt)))))))
-    (late_near dress.ids peer) in
+    let meant = client_meant m wire dress.ids late_all (comes (oack by_eight), Message.Oack eight_a_block) (asks (request 1 by_eight), Message.Request (asks_for Get eight_a_block)) dress.division dress.whole dress.parts read_by_eight.spelled refl in
     let agreed : m.agreed ≡ eight_a_block = same_options m.agreed eight_a_block meant.1.1.1.1.1.1.0 in
     late_is_out m wire (one_sided_as m wire seen.view (deeds_for late) seen.run (sym dress.main ∙ meant.0)) (ap (λ o. option_or 1 o (codes "windowsize")) agreed ∙ one_at_a_time)
 

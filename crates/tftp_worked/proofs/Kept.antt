@@ -1,5 +1,5 @@
 -- What the tests of the rules tell: a datagram breaks none of them.
-use Rattle.std.proofs.Common.{◌≡◌, ◌≢◌, ◌⊎◌, ℕ, ◌+◌, ◌/◌, ◌%◌, ◌<◌, ◌≤◌, ◌==◌, ◌&&◌, ◌||◌, not, nat_lt, nat_le, Bool, true, false, List, [], ◌∷◌, length, Option, Some, None, option_map, inl, inr, refl, sym, subst, ap, ◌∙◌, arith}
+use Rattle.std.proofs.Common.{◌≡◌, ◌≢◌, ◌⊎◌, ℕ, ◌+◌, ◌/◌, ◌%◌, ◌<◌, ◌≤◌, ◌==◌, ◌&&◌, ◌||◌, not, nat_lt, nat_le, Bool, true, false, List, length, Option, Some, None, option_map, inl, inr, refl, sym, subst, ap, ◌∙◌, arith}
 use Rattle.std.proofs.lemmas.Bool.{and_parts, or_cases, eqb-true, eq-eqb, leb-true, ltb-true, true≢false, false≢true}
 use Rattle.std.proofs.lemmas.Slice.Eq.{bytes_eq-Decides}
 use Rattle.std.specs.Str.{bytes_eq}
@@ -10,12 +10,12 @@ use Rattle.tftp_packet.proofs.NoFault.{no_fault}
 use Rattle.tftp_model.specs.Roles.{sender_of}
 use Rattle.tftp_rules.specs.{author_of, Route, asks, first_of, route_of, transfer_of, SaysUnknownId, Passed, HasPassed, BlockPassed, IsTop, IsHigh, IsLast, LastIsUnknown, IsNotLengthOf, HasWrongLength, BlocksWait, AckZeroWaits, IsSender, IsAckedAt, IsReachedAt, BlockBreaks, AckBreaks, EndBroken, usable, Terms, EndRule}
 use Rattle.tftp_nego.specs.{NegoFault}
-use Rattle.tftp_law.specs.{number_of, FirstAsked, Agrees, Begins, AreTerms, Says, IsError, IsWrongKind, FirstOack, EndBreaks, Broken, Rule, IsRead, Passes}
+use Rattle.tftp_law.specs.{number_of, rule_of_end, FirstAsked, Agrees, Begins, AreTerms, Says, IsError, IsWrongKind, FirstOack, EndBreaks, Broken, Rule, IsRead, Passes}
 use Rattle.tftp_law.proofs.Spelled.{spelled_once}
 use Rattle.tftp_worked.proofs.Payloads.{Spelled, datagrams, AllSpelled, all_from}
-use Rattle.tftp_worked.proofs.Passing.{main_of, main_is, main_spelled, used_of, all_used, used_is, every, some, every_is, some_is, first_asked, first_is, asked_by, asked_is, first_answer, answered_is}
+use Rattle.tftp_worked.proofs.Passing.{same_dir, as_block, holds, block_is, passed_as, main_of, main_is, main_spelled, used_of, all_used, used_is, every, some, every_is, some_is, first_asked, first_is, asked_by, asked_is, first_answer, answered_is}
 use Rattle.tftp_worked.proofs.KeptUsable.{unless, is_end, started, within, not_ahead, zero_may}
-use Rattle.tftp_worked.proofs.RuleTests.{is_unknown_id, not_foreign, not_wrong, not_peer, answers_well, is_readable, not_error, same_stop, may_precede, is_that, same_dir, not_request, not_oack, right_kind, kind_is_right, not_asked, not_begun, no_plain_answer, went_on, sent_no_block, is_sender, may_be_zero, size_fits, fits_last, fits_short, fits_size, is_some, is_short, is_below, may_be_last, length_fits, is_next, not_above, not_changed, block_keeps, ack_keeps, end_keeps, is_main, keeps}
+use Rattle.tftp_worked.proofs.RuleTests.{is_unknown_id, not_foreign, not_wrong, not_peer, answers_well, is_readable, not_error, same_stop, may_precede, is_that, not_request, not_oack, right_kind, kind_is_right, not_asked, not_begun, no_plain_answer, went_on, sent_no_block, is_sender, may_be_zero, size_fits, fits_last, fits_short, fits_size, is_some, is_short, is_below, may_be_last, length_fits, is_next, not_above, not_changed, block_keeps, ack_keeps, end_keeps, is_main, keeps, tested, end_rules, keeps_below}
 
 unknown_is : (d : Datagram) (m : Message) → Spells d.payload m → is_unknown_id m ≡ true → SaysUnknownId d
 unknown_is d (Message.Error code text) s t = (text, subst (λ c. Spells d.payload (Message.Error c text)) (eqb-true code 5 t) s)
@@ -157,11 +157,11 @@ module _ (h : Header) (es : List Spelled) (e : Spelled) (s : AllSpelled es) (her
   some_size None t e = false≢true t
 
   short_there : (u : Terms) (dir : Dir) (m : Message) → is_short u.blksize dir m ≡ true → Passed dir m passed → LastIsUnknown u passed → ⊥
-  short_there u dir (Message.Data k bytes) t p none = let less = ltb-true (length bytes) u.blksize t in let most = none.all_whole k bytes (passed_way dir (Message.Data k bytes) p) in omega arith
-  short_there u dir (Message.Ack j) t p none = false≢true t
-  short_there u dir (Message.Request r) t p none = false≢true t
-  short_there u dir (Message.Oack o) t p none = false≢true t
-  short_there u dir (Message.Error code text) t p none = false≢true t
+  short_there u dir m t p none =
+      let (k, bytes, is, short) = block_is (λ x. nat_lt (length x.1) u.blksize) m t in
+      let less = ltb-true (length bytes) u.blksize short in
+      let most = none.all_whole k bytes (subst (λ x. HasPassed x passed) is (passed_way dir m p)) in
+      omega arith
 
   above_all : (k high : ℕ) → 0 < k → every (is_below k) (main_of h es) ≡ true → IsHigh passed high → k ≤ high → ⊥
   above_all k high some_k t is low = elim is.member [
@@ -193,16 +193,10 @@ module _ (h : Header) (es : List Spelled) (e : Spelled) (s : AllSpelled es) (her
       ]
 
   next_block : (k : ℕ) (dir : Dir) (m : Message) → is_next k dir m ≡ true → Passed dir m passed → (j : ℕ) × BlockPassed Out j passed × (k ≤ j + 1)
-  next_block k Out (Message.Data j bytes) t p = (j, (bytes, p), leb-true k (j + 1) t)
-  next_block k In (Message.Data j bytes) t p = absurd (false≢true t)
-  next_block k In (Message.Ack j) t p = absurd (false≢true t)
-  next_block k Out (Message.Ack j) t p = absurd (false≢true t)
-  next_block k In (Message.Request r) t p = absurd (false≢true t)
-  next_block k Out (Message.Request r) t p = absurd (false≢true t)
-  next_block k In (Message.Oack o) t p = absurd (false≢true t)
-  next_block k Out (Message.Oack o) t p = absurd (false≢true t)
-  next_block k In (Message.Error code text) t p = absurd (false≢true t)
-  next_block k Out (Message.Error code text) t p = absurd (false≢true t)
+  next_block k dir m t p =
+      let parts = and_parts (same_dir Out dir) (holds (λ (x : ℕ × List ℕ). nat_le k (x.0 + 1)) (as_block m)) t in
+      let (j, bytes, is, low) = block_is (λ x. nat_le k (x.0 + 1)) m parts.1 in
+      (j, (bytes, passed_as passed dir Out m (Message.Data j bytes) parts.0 is p), leb-true k (j + 1) low)
 
   not_skipped : (u : Terms) (k : ℕ) → (not (is_sender u) || (nat_le k 1 || some (is_next k) (main_of h es))) ≡ true → IsSender u → (top : ℕ) → IsTop passed top → top + 1 < k → ⊥
   not_skipped u k t sends top is past = elim (or_cases (nat_le k 1) (some (is_next k) (main_of h es)) (unless (is_sender u) (nat_le k 1 || some (is_next k) (main_of h es)) (is_end u.named (sender_of u.side) sends) t)) [
@@ -385,145 +379,67 @@ module _ (h : Header) (es : List Spelled) (e : Spelled) (s : AllSpelled es) (her
       pub changed : 16 < n → Broken h (datagrams es) e.0 Rule.OackChanged → ⊥
       pub beyond : 20 < n → FirstOack h (datagrams es) e.0 NegoFault.BeyondBlock65535 → ⊥
 
-    pub kept : (n : ℕ) → OackKeeps n → (rule : Rule) → number_of rule < n → keeps h t es e rule ≡ true → Broken h (datagrams es) e.0 rule → ⊥
-    kept n o Rule.ForeignPort low k b = not_foreign_port k b
-    kept n o Rule.WrongPort low k b = not_wrong_port k b
-    kept n o Rule.StrayAnswer low k b = good_answer k b
-    kept n o Rule.NoRequest low k b = has_request k b.0 b.1
-    kept n o (Rule.Malformed fault) low k b = no_fault e.0.payload e.1 fault here.1 b.1.0
-    kept n o Rule.WrongKind low k b = not_wrong_kind k b
-    kept n o Rule.AfterError low k b = silent k b
-    kept n o Rule.RequestChanged low k b = first_request k b
-    kept n o Rule.RequestAfterStart low k b = early_request k b
-    kept n o Rule.ReplyChanged low k b = not_plain k b
-    kept n o Rule.OackEmpty low k b = o.empty low b
-    kept n o Rule.MulticastAgreed low k b = o.multicast low b
-    kept n o Rule.OptionNotRequested low k b = o.not_requested low b
-    kept n o Rule.OptionOutsideProfile low k b = o.outside low b
-    kept n o Rule.OptionValue low k b = o.bad_value low b
-    kept n o Rule.OackChanged low k b = o.changed low b
-    kept n o Rule.OackAfterStart low k b = early_oack k b
-    kept n o Rule.NotStarted low k b = end_kept EndRule.NotStarted k b
-    kept n o Rule.BlockZero low k b = end_kept EndRule.BlockZero k b
-    kept n o Rule.BeyondBlock65535 low k b = elim b [ inl block ↦ end_kept EndRule.BeyondBlock65535 k block | inr oack ↦ o.beyond low oack ]
-    kept n o Rule.BlockLength low k b = end_kept EndRule.BlockLength k b
-    kept n o Rule.WindowOverrun low k b = end_kept EndRule.WindowOverrun k b
-    kept n o Rule.BlockSkipped low k b = end_kept EndRule.BlockSkipped k b
-    kept n o Rule.GoneBack low k b = end_kept EndRule.GoneBack k b
-    kept n o Rule.BlockChanged low k b = end_kept EndRule.BlockChanged k b
-    kept n o Rule.AckAhead low k b = end_kept EndRule.AckAhead k b
-    kept n o Rule.AckZero low k b = end_kept EndRule.AckZero k b
+    -- below n, or any where there are no more than those below n
+    abbrev IsEarly : ℕ → ℕ → Type 0
+    IsEarly n k = (k < n) ⊎ (28 ≤ n)
 
--- ---- all rules at once
+    early : (n k : ℕ) → k < 28 → IsEarly n k → k < n
+    early n k few (inl low) = low
+    early n k few (inr all) = omega arith
 
-abbrev pub all_rules : List Rule
-all_rules =
-    Rule.ForeignPort
-    ∷ Rule.WrongPort
-    ∷ Rule.StrayAnswer
-    ∷ Rule.NoRequest
-    ∷ Rule.WrongKind
-    ∷ Rule.AfterError
-    ∷ Rule.RequestChanged
-    ∷ Rule.RequestAfterStart
-    ∷ Rule.ReplyChanged
-    ∷ Rule.OackEmpty
-    ∷ Rule.MulticastAgreed
-    ∷ Rule.OptionNotRequested
-    ∷ Rule.OptionOutsideProfile
-    ∷ Rule.OptionValue
-    ∷ Rule.OackChanged
-    ∷ Rule.OackAfterStart
-    ∷ Rule.NotStarted
-    ∷ Rule.BlockZero
-    ∷ Rule.BeyondBlock65535
-    ∷ Rule.BlockLength
-    ∷ Rule.WindowOverrun
-    ∷ Rule.BlockSkipped
-    ∷ Rule.GoneBack
-    ∷ Rule.BlockChanged
-    ∷ Rule.AckAhead
-    ∷ Rule.AckZero
-    ∷ []
+    kept_early : (n k : ℕ) (test : Bool) → ((nat_le n k && nat_le n 27) || test) ≡ true → IsEarly n k → test ≡ true
+    kept_early n k test is low = elim (or_cases (nat_le n k && nat_le n 27) test is) [
+      | inl high ↦
+          let parts = and_parts (nat_le n k) (nat_le n 27) high in
+          let most = leb-true n k parts.0 in
+          let few = leb-true n 27 parts.1 in
+          elim low [ inl below ↦ absurd (omega arith) | inr all ↦ absurd (omega arith) ]
+      | inr k ↦ k
+    ]
 
--- each rule below n is kept
-abbrev pub keeps_below : ℕ → Header → Option Terms → List Spelled → Spelled → Bool
-keeps_below n h t es e = list_all (λ rule. nat_le n (number_of rule) || keeps h t es e rule) all_rules
+    -- none of the rules below n is broken
+    pub none_early : (n : ℕ) → OackKeeps n → keeps_below n h t es e ≡ true → (rule : Rule) → IsEarly n (number_of rule) → Broken h (datagrams es) e.0 rule → ⊥
+    none_early n o is =
+        let end_test = λ (r : EndRule). not (is_main h es e) || end_keeps t (main_of h es) e.1 r in
+        let parts = and_parts (list_all (λ r. (nat_le n (number_of r) && nat_le n 27) || keeps h t es e r) tested) (list_all (λ r. (nat_le n (number_of (rule_of_end r)) && nat_le n 27) || end_test r) end_rules) is in
+        by (all_from (λ r. (nat_le n (number_of r) && nat_le n 27) || keeps h t es e r) (λ r. IsEarly n (number_of r) → keeps h t es e r ≡ true) (λ r. kept_early n (number_of r) (keeps h t es e r)) tested parts.0)
+        (all_from (λ r. (nat_le n (number_of (rule_of_end r)) && nat_le n 27) || end_test r) (λ r. IsEarly n (number_of (rule_of_end r)) → end_test r ≡ true) (λ r. kept_early n (number_of (rule_of_end r)) (end_test r)) end_rules parts.1)
+      where
+        by : AllByRecursion (λ r. IsEarly n (number_of r) → keeps h t es e r ≡ true) tested
+            → AllByRecursion (λ r. IsEarly n (number_of (rule_of_end r)) → (not (is_main h es e) || end_keeps t (main_of h es) e.1 r) ≡ true) end_rules
+            → (rule : Rule) → IsEarly n (number_of rule) → Broken h (datagrams es) e.0 rule → ⊥
+        by k l Rule.ForeignPort low b = not_foreign_port (k.0 low) b
+        by k l Rule.WrongPort low b = not_wrong_port (k.1.0 low) b
+        by k l Rule.StrayAnswer low b = good_answer (k.1.1.0 low) b
+        by k l Rule.NoRequest low b = has_request (k.1.1.1.0 low) b.0 b.1
+        by k l (Rule.Malformed fault) low b = no_fault e.0.payload e.1 fault here.1 b.1.0
+        by k l Rule.WrongKind low b = not_wrong_kind (k.1.1.1.1.0 low) b
+        by k l Rule.AfterError low b = silent (k.1.1.1.1.1.0 low) b
+        by k l Rule.RequestChanged low b = first_request (k.1.1.1.1.1.1.0 low) b
+        by k l Rule.RequestAfterStart low b = early_request (k.1.1.1.1.1.1.1.0 low) b
+        by k l Rule.ReplyChanged low b = not_plain (k.1.1.1.1.1.1.1.1.0 low) b
+        by k l Rule.OackEmpty low b = o.empty (early n 11 (omega arith) low) b
+        by k l Rule.MulticastAgreed low b = o.multicast (early n 12 (omega arith) low) b
+        by k l Rule.OptionNotRequested low b = o.not_requested (early n 13 (omega arith) low) b
+        by k l Rule.OptionOutsideProfile low b = o.outside (early n 14 (omega arith) low) b
+        by k l Rule.OptionValue low b = o.bad_value (early n 15 (omega arith) low) b
+        by k l Rule.OackChanged low b = o.changed (early n 16 (omega arith) low) b
+        by k l Rule.OackAfterStart low b = early_oack (k.1.1.1.1.1.1.1.1.1.0 low) b
+        by k l Rule.NotStarted low b = end_kept EndRule.NotStarted (l.0 low) b
+        by k l Rule.BlockZero low b = end_kept EndRule.BlockZero (l.1.0 low) b
+        by k l Rule.BeyondBlock65535 low b = elim b [ inl block ↦ end_kept EndRule.BeyondBlock65535 (l.1.1.0 low) block | inr oack ↦ o.beyond (early n 20 (omega arith) low) oack ]
+        by k l Rule.BlockLength low b = end_kept EndRule.BlockLength (l.1.1.1.0 low) b
+        by k l Rule.WindowOverrun low b = end_kept EndRule.WindowOverrun (l.1.1.1.1.0 low) b
+        by k l Rule.BlockSkipped low b = end_kept EndRule.BlockSkipped (l.1.1.1.1.1.0 low) b
+        by k l Rule.GoneBack low b = end_kept EndRule.GoneBack (l.1.1.1.1.1.1.0 low) b
+        by k l Rule.BlockChanged low b = end_kept EndRule.BlockChanged (l.1.1.1.1.1.1.1.0 low) b
+        by k l Rule.AckAhead low b = end_kept EndRule.AckAhead (l.1.1.1.1.1.1.1.1.0 low) b
+        by k l Rule.AckZero low b = end_kept EndRule.AckZero (l.1.1.1.1.1.1.1.1.1.0 low) b
 
-low_kept : (n : ℕ) (h : Header) (t : Option Terms) (es : List Spelled) (e : Spelled) (rule : Rule) → (nat_le n (number_of rule) || keeps h t es e rule) ≡ true → number_of rule < n → keeps h t es e rule ≡ true
-low_kept n h t es e rule is low = elim (or_cases (nat_le n (number_of rule)) (keeps h t es e rule) is) [
-  | inl high ↦ let most = leb-true n (number_of rule) high in absurd (omega arith)
-  | inr k ↦ k
-]
-
-kept_of_all : (n : ℕ) (h : Header) (t : Option Terms) (es : List Spelled) (e : Spelled) → keeps_below n h t es e ≡ true → (rule : Rule) → number_of rule < n → keeps h t es e rule ≡ true
-kept_of_all n h t es e is rule =
-    let all = all_from (λ (r : Rule). nat_le n (number_of r) || keeps h t es e r) (λ r. number_of r < n → keeps h t es e r ≡ true) (low_kept n h t es e) all_rules is in
-    by all rule
-  where
-    by : AllByRecursion (λ (r : Rule). number_of r < n → keeps h t es e r ≡ true) all_rules → (r : Rule) → number_of r < n → keeps h t es e r ≡ true
-    by all (Rule.Malformed fault) = λ low. refl
-    by all Rule.ForeignPort = all.0
-    by all Rule.WrongPort = all.1.0
-    by all Rule.StrayAnswer = all.1.1.0
-    by all Rule.NoRequest = all.1.1.1.0
-    by all Rule.WrongKind = all.1.1.1.1.0
-    by all Rule.AfterError = all.1.1.1.1.1.0
-    by all Rule.RequestChanged = all.1.1.1.1.1.1.0
-    by all Rule.RequestAfterStart = all.1.1.1.1.1.1.1.0
-    by all Rule.ReplyChanged = all.1.1.1.1.1.1.1.1.0
-    by all Rule.OackEmpty = all.1.1.1.1.1.1.1.1.1.0
-    by all Rule.MulticastAgreed = all.1.1.1.1.1.1.1.1.1.1.0
-    by all Rule.OptionNotRequested = all.1.1.1.1.1.1.1.1.1.1.1.0
-    by all Rule.OptionOutsideProfile = all.1.1.1.1.1.1.1.1.1.1.1.1.0
-    by all Rule.OptionValue = all.1.1.1.1.1.1.1.1.1.1.1.1.1.0
-    by all Rule.OackChanged = all.1.1.1.1.1.1.1.1.1.1.1.1.1.1.0
-    by all Rule.OackAfterStart = all.1.1.1.1.1.1.1.1.1.1.1.1.1.1.1.0
-    by all Rule.NotStarted = all.1.1.1.1.1.1.1.1.1.1.1.1.1.1.1.1.0
-    by all Rule.BlockZero = all.1.1.1.1.1.1.1.1.1.1.1.1.1.1.1.1.1.0
-    by all Rule.BeyondBlock65535 = all.1.1.1.1.1.1.1.1.1.1.1.1.1.1.1.1.1.1.0
-    by all Rule.BlockLength = all.1.1.1.1.1.1.1.1.1.1.1.1.1.1.1.1.1.1.1.0
-    by all Rule.WindowOverrun = all.1.1.1.1.1.1.1.1.1.1.1.1.1.1.1.1.1.1.1.1.0
-    by all Rule.BlockSkipped = all.1.1.1.1.1.1.1.1.1.1.1.1.1.1.1.1.1.1.1.1.1.0
-    by all Rule.GoneBack = all.1.1.1.1.1.1.1.1.1.1.1.1.1.1.1.1.1.1.1.1.1.1.0
-    by all Rule.BlockChanged = all.1.1.1.1.1.1.1.1.1.1.1.1.1.1.1.1.1.1.1.1.1.1.1.0
-    by all Rule.AckAhead = all.1.1.1.1.1.1.1.1.1.1.1.1.1.1.1.1.1.1.1.1.1.1.1.1.0
-    by all Rule.AckZero = all.1.1.1.1.1.1.1.1.1.1.1.1.1.1.1.1.1.1.1.1.1.1.1.1.1.0
-
--- none of the rules below n is broken
 pub none_below : (n : ℕ) (h : Header) (t : Option Terms) (es : List Spelled) (e : Spelled) (s : AllSpelled es) (here : Spells e.0.payload e.1)
     (known : (u : Terms) → AreTerms h (datagrams es) u → t ≡ Some u) → OackKeeps h es e s here t known n → keeps_below n h t es e ≡ true
     → (rule : Rule) → number_of rule < n → Broken h (datagrams es) e.0 rule → ⊥
-none_below n h t es e s here known o is rule low b = kept h es e s here t known n o rule low (kept_of_all n h t es e is rule low) b
-
-pub below_all : (rule : Rule) → number_of rule < 28
-below_all (Rule.Malformed fault) = omega arith
-below_all Rule.ForeignPort = omega arith
-below_all Rule.WrongPort = omega arith
-below_all Rule.StrayAnswer = omega arith
-below_all Rule.NoRequest = omega arith
-below_all Rule.WrongKind = omega arith
-below_all Rule.AfterError = omega arith
-below_all Rule.RequestChanged = omega arith
-below_all Rule.RequestAfterStart = omega arith
-below_all Rule.ReplyChanged = omega arith
-below_all Rule.OackEmpty = omega arith
-below_all Rule.MulticastAgreed = omega arith
-below_all Rule.OptionNotRequested = omega arith
-below_all Rule.OptionOutsideProfile = omega arith
-below_all Rule.OptionValue = omega arith
-below_all Rule.OackChanged = omega arith
-below_all Rule.OackAfterStart = omega arith
-below_all Rule.NotStarted = omega arith
-below_all Rule.BlockZero = omega arith
-below_all Rule.BeyondBlock65535 = omega arith
-below_all Rule.BlockLength = omega arith
-below_all Rule.WindowOverrun = omega arith
-below_all Rule.BlockSkipped = omega arith
-below_all Rule.GoneBack = omega arith
-below_all Rule.BlockChanged = omega arith
-below_all Rule.AckAhead = omega arith
-below_all Rule.AckZero = omega arith
+none_below n h t es e s here known o is rule low = none_early h es e s here t known n o is rule (inl low)
 
 read_is : (r : Route) (d : Datagram) (m : Message) → Spells d.payload m → is_readable r m ≡ true → IsRead r d
 read_is Route.Request d m s t = (m, s)
@@ -544,7 +460,7 @@ passes_is h t es e s here known o is =
     let parts = and_parts (is_readable (route_of h (datagrams es) e.0) e.1) (keeps_below 28 h t es e) is in
     record {
       read = read_is (route_of h (datagrams es) e.0) e.0 e.1 here parts.0;
-      lawful = λ rule b. none_below 28 h t es e s here known o parts.1 rule (below_all rule) b;
+      lawful = λ rule. none_early h es e s here t known 28 o parts.1 rule (inr (omega arith));
     }
 
 -- what is no OACK breaks none of their rules

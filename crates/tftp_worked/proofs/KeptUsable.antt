@@ -1,12 +1,12 @@
 -- What the tests of rules 18, 22, 26 and 27 tell, of all datagrams of a list.
-use Rattle.std.proofs.Common.{◌≡◌, ℕ, ◌+◌, ◌<◌, ◌≤◌, ◌==◌, ◌&&◌, ◌||◌, not, nat_le, zero, suc, Bool, true, false, List, inl, inr, refl, sym, subst, arith}
+use Rattle.std.proofs.Common.{◌≡◌, ℕ, ◌+◌, ◌<◌, ◌≤◌, ◌==◌, ◌&&◌, ◌||◌, not, nat_le, zero, suc, Bool, true, false, List, inl, inr, refl, sym, subst, ap, ◌∙◌, arith}
 use Rattle.std.proofs.lemmas.Bool.{and_parts, or_cases, eqb-true, leb-true, cases_lt, false≢true}
 use Rattle.tftp_packet.specs.{Message, Side, Get, Put, End, Client, Server}
 use Rattle.tftp_hosts.specs.{Dir, In, Out, Datagram}
 use Rattle.tftp_model.specs.Roles.{sender_of, receiver_of}
 use Rattle.tftp_rules.specs.{Passed, HasPassed, BlockPassed, BlocksWait, AckZeroWaits, IsAckedAt, IsReachedAt, Reply, NoReply, Plain, Oacked, Terms}
 use Rattle.tftp_worked.proofs.Payloads.{Spelled, datagrams, AllSpelled}
-use Rattle.tftp_worked.proofs.Passing.{some, some_in}
+use Rattle.tftp_worked.proofs.Passing.{same_dir, as_block, as_ack, holds, block_is, ack_is, passed_as, some, some_in}
 use Rattle.tftp_worked.proofs.RuleTests.{is_ack_zero, is_block, same_end, is_sender, is_receiver, may_start, may_be_zero, allows, in_window, reaches, is_taken, taken_up_to}
 
 pub unless : (b c : Bool) → b ≡ true → (not b || c) ≡ true → c ≡ true
@@ -31,11 +31,7 @@ module _ (ts : List Spelled) (s : AllSpelled ts) where
   passed_way Out m p = inr p
 
   zero_acked : (dir : Dir) (m : Message) → is_ack_zero dir m ≡ true → Passed dir m passed → HasPassed (Message.Ack 0) passed
-  zero_acked dir (Message.Ack j) t p = subst (λ n. HasPassed (Message.Ack n) passed) (eqb-true j 0 t) (passed_way dir (Message.Ack j) p)
-  zero_acked dir (Message.Data k bytes) t p = absurd (false≢true t)
-  zero_acked dir (Message.Request r) t p = absurd (false≢true t)
-  zero_acked dir (Message.Oack o) t p = absurd (false≢true t)
-  zero_acked dir (Message.Error code text) t p = absurd (false≢true t)
+  zero_acked dir m t p = let (j, is, none) = ack_is (λ j. j == 0) m t in subst (λ x. HasPassed x passed) (is ∙ ap Message.Ack (eqb-true j 0 none)) (passed_way dir m p)
 
   pub started : (side : Side) (reply : Reply) → may_start side reply ts ≡ true → BlocksWait side reply passed → ⊥
   started Get Oacked t wait = let p = some_here is_ack_zero t in wait (zero_acked p.0 p.1 p.2 p.3)
@@ -45,31 +41,11 @@ module _ (ts : List Spelled) (s : AllSpelled ts) where
   started Put Plain t wait = wait
   started Put Oacked t wait = wait
 
-  acked_in : (w k : ℕ) (dir : Dir) (m : Message) → allows In w k dir m ≡ true → Passed dir m passed → (a : ℕ) × Passed In (Message.Ack a) passed × (k ≤ a + w)
-  acked_in w k In (Message.Ack a) t p = (a, p, leb-true k (a + w) t)
-  acked_in w k Out (Message.Ack a) t p = absurd (false≢true t)
-  acked_in w k dir (Message.Data i bytes) t p = absurd (never dir t) where
-    never : (way : Dir) → allows In w k way (Message.Data i bytes) ≡ true → ⊥
-    never In u = false≢true u
-    never Out u = false≢true u
-  acked_in w k In (Message.Request r) t p = absurd (false≢true t)
-  acked_in w k Out (Message.Request r) t p = absurd (false≢true t)
-  acked_in w k In (Message.Oack o) t p = absurd (false≢true t)
-  acked_in w k Out (Message.Oack o) t p = absurd (false≢true t)
-  acked_in w k In (Message.Error code text) t p = absurd (false≢true t)
-  acked_in w k Out (Message.Error code text) t p = absurd (false≢true t)
-
-  acked_out : (w k : ℕ) (dir : Dir) (m : Message) → allows Out w k dir m ≡ true → Passed dir m passed → (a : ℕ) × Passed Out (Message.Ack a) passed × (k ≤ a + w)
-  acked_out w k Out (Message.Ack a) t p = (a, p, leb-true k (a + w) t)
-  acked_out w k In (Message.Ack a) t p = absurd (false≢true t)
-  acked_out w k In (Message.Data i bytes) t p = absurd (false≢true t)
-  acked_out w k Out (Message.Data i bytes) t p = absurd (false≢true t)
-  acked_out w k In (Message.Request r) t p = absurd (false≢true t)
-  acked_out w k Out (Message.Request r) t p = absurd (false≢true t)
-  acked_out w k In (Message.Oack o) t p = absurd (false≢true t)
-  acked_out w k Out (Message.Oack o) t p = absurd (false≢true t)
-  acked_out w k In (Message.Error code text) t p = absurd (false≢true t)
-  acked_out w k Out (Message.Error code text) t p = absurd (false≢true t)
+  acked_as : (way : Dir) (w k : ℕ) (dir : Dir) (m : Message) → allows way w k dir m ≡ true → Passed dir m passed → (a : ℕ) × Passed way (Message.Ack a) passed × (k ≤ a + w)
+  acked_as way w k dir m t p =
+      let parts = and_parts (same_dir way dir) (holds (λ a. nat_le k (a + w)) (as_ack m)) t in
+      let (a, is, low) = ack_is (λ a. nat_le k (a + w)) m parts.1 in
+      (a, passed_as passed dir way m (Message.Ack a) parts.0 is p, leb-true k (a + w) low)
 
   pub within : (u : Terms) (k : ℕ) → in_window u ts k ≡ true → (acked : ℕ) → IsAckedAt u passed acked → acked + u.windowsize < k → ⊥
   within u k t acked is past = elim (or_cases (nat_le k u.windowsize) ((not (is_sender u) || some (allows In u.windowsize k) ts) && (not (is_receiver u) || some (allows Out u.windowsize k) ts)) t) [
@@ -79,13 +55,13 @@ module _ (ts : List Spelled) (s : AllSpelled ts) where
         elim is [
           | inl sends ↦
               let p = some_here (allows In u.windowsize k) (unless (is_sender u) (some (allows In u.windowsize k) ts) (is_end u.named (sender_of u.side) sends.0) parts.0) in
-              let a = acked_in u.windowsize k p.0 p.1 p.2 p.3 in
+              let a = acked_as In u.windowsize k p.0 p.1 p.2 p.3 in
               let low = sends.1.most a.0 a.1 in
               let high = a.2 in
               omega arith
           | inr takes ↦
               let p = some_here (allows Out u.windowsize k) (unless (is_receiver u) (some (allows Out u.windowsize k) ts) (is_end u.named (receiver_of u.side) takes.0) parts.1) in
-              let a = acked_out u.windowsize k p.0 p.1 p.2 p.3 in
+              let a = acked_as Out u.windowsize k p.0 p.1 p.2 p.3 in
               let low = takes.1.most a.0 a.1 in
               let high = a.2 in
               omega arith
@@ -93,28 +69,16 @@ module _ (ts : List Spelled) (s : AllSpelled ts) where
   ]
 
   reached_block : (k : ℕ) (dir : Dir) (m : Message) → reaches k dir m ≡ true → Passed dir m passed → (j : ℕ) × BlockPassed Out j passed × (k ≤ j)
-  reached_block k Out (Message.Data j bytes) t p = (j, (bytes, p), leb-true k j t)
-  reached_block k In (Message.Data j bytes) t p = absurd (false≢true t)
-  reached_block k In (Message.Ack j) t p = absurd (false≢true t)
-  reached_block k Out (Message.Ack j) t p = absurd (false≢true t)
-  reached_block k In (Message.Request r) t p = absurd (false≢true t)
-  reached_block k Out (Message.Request r) t p = absurd (false≢true t)
-  reached_block k In (Message.Oack o) t p = absurd (false≢true t)
-  reached_block k Out (Message.Oack o) t p = absurd (false≢true t)
-  reached_block k In (Message.Error code text) t p = absurd (false≢true t)
-  reached_block k Out (Message.Error code text) t p = absurd (false≢true t)
+  reached_block k dir m t p =
+      let parts = and_parts (same_dir Out dir) (holds (λ (x : ℕ × List ℕ). nat_le k x.0) (as_block m)) t in
+      let (j, bytes, is, low) = block_is (λ x. nat_le k x.0) m parts.1 in
+      (j, (bytes, passed_as passed dir Out m (Message.Data j bytes) parts.0 is p), leb-true k j low)
 
   taken_block : (k : ℕ) (dir : Dir) (m : Message) → is_taken k dir m ≡ true → Passed dir m passed → BlockPassed In k passed
-  taken_block k In (Message.Data j bytes) t p = subst (λ n. BlockPassed In n passed) (sym (eqb-true k j t)) (bytes, p)
-  taken_block k Out (Message.Data j bytes) t p = absurd (false≢true t)
-  taken_block k In (Message.Ack j) t p = absurd (false≢true t)
-  taken_block k Out (Message.Ack j) t p = absurd (false≢true t)
-  taken_block k In (Message.Request r) t p = absurd (false≢true t)
-  taken_block k Out (Message.Request r) t p = absurd (false≢true t)
-  taken_block k In (Message.Oack o) t p = absurd (false≢true t)
-  taken_block k Out (Message.Oack o) t p = absurd (false≢true t)
-  taken_block k In (Message.Error code text) t p = absurd (false≢true t)
-  taken_block k Out (Message.Error code text) t p = absurd (false≢true t)
+  taken_block k dir m t p =
+      let parts = and_parts (same_dir In dir) (holds (λ (x : ℕ × List ℕ). k == x.0) (as_block m)) t in
+      let (j, bytes, is, same) = block_is (λ x. k == x.0) m parts.1 in
+      subst (λ n. BlockPassed In n passed) (sym (eqb-true k j same)) (bytes, passed_as passed dir In m (Message.Data j bytes) parts.0 is p)
 
   taken_below : (j : ℕ) → taken_up_to ts j ≡ true → (k : ℕ) → 1 ≤ k → k ≤ j → BlockPassed In k passed
   taken_below zero t k low high = absurd (omega arith)
@@ -146,11 +110,7 @@ module _ (ts : List Spelled) (s : AllSpelled ts) where
   ]
 
   block_there : (dir : Dir) (m : Message) → is_block dir m ≡ true → Passed dir m passed → (k : ℕ) × (bytes : List ℕ) × HasPassed (Message.Data k bytes) passed
-  block_there dir (Message.Data k bytes) t p = (k, bytes, passed_way dir (Message.Data k bytes) p)
-  block_there dir (Message.Ack j) t p = absurd (false≢true t)
-  block_there dir (Message.Request r) t p = absurd (false≢true t)
-  block_there dir (Message.Oack o) t p = absurd (false≢true t)
-  block_there dir (Message.Error code text) t p = absurd (false≢true t)
+  block_there dir m t p = let (k, bytes, is, there) = block_is (λ _. true) m t in (k, bytes, subst (λ x. HasPassed x passed) is (passed_way dir m p))
 
   pub zero_may : (side : Side) (reply : Reply) → may_be_zero side reply ts ≡ true → AckZeroWaits side reply passed → ⊥
   zero_may Get NoReply t wait = false≢true t

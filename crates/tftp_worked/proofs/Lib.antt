@@ -6,6 +6,7 @@ mod ReadVariants
 mod Hosts
 mod MoreShown
 mod Payloads
+mod Exchanges
 mod Dressed
 mod WindowsShown
 mod Meant

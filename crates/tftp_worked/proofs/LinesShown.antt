@@ -6,17 +6,18 @@ use Rattle.tftp_packet.specs.{Message, Spells, Get, Netascii, Client}
 use Rattle.tftp_netascii.specs.{Reads}
 use Rattle.tftp_netascii.proofs.CanonicalLemmas.{Reads-canonical}
 use Rattle.tftp_netascii.proofs.RunReads.{run_to_end}
-use Rattle.tftp_model.specs.{block_count, request_of, Sent, Took, Req, Oack, Data, Ack, IsView, IsComplete, eight_a_block, ten_bytes_view, ten_bytes_steps}
+use Rattle.tftp_model.specs.{block_count, request_of, IsView, IsComplete, eight_a_block, ten_bytes_view, ten_bytes_steps}
 use Rattle.tftp_model.proofs.Computed.{Plan, IsPlan, run_is, complete_is}
 use Rattle.tftp_model.proofs.WorkedMore.{blocks_of_eight, one_at_a_time, something_agreed}
 use Rattle.tftp_law.specs.{IsDressed, Fits, IsWritable, Shows}
-use Rattle.tftp_worked.specs.{at_client, oack, block, ack, by_eight, goes, comes, asks_for_lines, read_of_lines, read_of_bare_lines}
+use Rattle.tftp_worked.specs.{at_client, oack, by_eight, comes, asks_for_lines, read_of_lines, read_of_bare_lines}
 use Rattle.tftp_normal.specs.{line_end_cut}
-use Rattle.tftp_worked.proofs.Payloads.{request_for_spells, oack_spells, data_spells, ack_spells, eight_is, all_from}
-use Rattle.tftp_worked.proofs.Dressed.{Carried, dressed_by}
+use Rattle.tftp_worked.proofs.Payloads.{Spelled, request_for_spells, oack_spells, eight_is, all_from}
+use Rattle.tftp_worked.proofs.Exchanges.{came, acks}
+use Rattle.tftp_worked.proofs.Dressed.{dressed_by}
 use Rattle.tftp_worked.proofs.ReadShown.{ids}
 use Rattle.tftp_worked.proofs.Shown.{shown_by}
-use Rattle.tftp_worked.proofs.WindowsShown.{eight_may_be_agreed}
+use Rattle.tftp_worked.proofs.Options.{eight_may_be_agreed}
 
 -- two blocks of eight in lock step, whatever is in them
 
@@ -55,16 +56,11 @@ request_spells = request_for_spells (codes "a") (codes "netascii") Netascii Get 
 agrees : Spells (oack by_eight) (Message.Oack eight_a_block)
 agrees = oack_spells by_eight eight_a_block refl eight_is
 
-abbrev carried : List ℕ → List ℕ → List Carried
-carried first second =
-    (goes (ack 2), Sent (Ack 2))
-    ∷ (comes (block 2 second), Took (Data 2))
-    ∷ (goes (ack 1), Sent (Ack 1))
-    ∷ (comes (block 1 first), Took (Data 1))
-    ∷ (goes (ack 0), Sent (Ack 0))
-    ∷ (comes (oack by_eight), Took Oack)
-    ∷ (asks_for_lines, Sent Req)
-    ∷ []
+abbrev news : List ℕ → List ℕ → List Spelled
+news first second = acks 2 ∷ came 2 second ∷ acks 1 ∷ came 1 first ∷ acks 0 ∷ []
+
+abbrev base : List Spelled
+base = (comes (oack by_eight), Message.Oack eight_a_block) ∷ (asks_for_lines, Message.Request (request_of line_end_cut)) ∷ []
 
 -- ---- a line end of two bytes
 
@@ -75,9 +71,7 @@ wire_reads : Reads wire line_end_cut.file
 wire_reads = Reads-canonical line_end_cut.file
 
 dressed : IsDressed at_client line_end_cut wire ten_bytes_view read_of_lines
-dressed = dressed_by at_client line_end_cut wire 8 ids (carried (codes "abcdefg" ++ 13 ∷ []) (10 ∷ codes "h")) ten_bytes_view read_of_lines blocks_of_eight refl
-    (ack_spells 2 refl, (data_spells 2 (10 ∷ codes "h") refl, (ack_spells 1 refl, (data_spells 1 (codes "abcdefg" ++ 13 ∷ []) refl, (ack_spells 0 refl, (agrees, (request_spells, tt)))))))
-    refl refl
+dressed = dressed_by at_client line_end_cut wire 8 ids (news (codes "abcdefg" ++ 13 ∷ []) (10 ∷ codes "h")) base ten_bytes_view read_of_lines blocks_of_eight refl (agrees, (request_spells, tt)) refl refl
 
 pub lines_are_shown : Shows at_client line_end_cut read_of_lines
 lines_are_shown = shown_by at_client line_end_cut wire ten_bytes_view read_of_lines (fit wire wire_reads refl) (writable wire wire_reads refl) (run wire wire_reads refl) (complete wire wire_reads refl) dressed
@@ -91,9 +85,7 @@ bare_reads : Reads bare_wire line_end_cut.file
 bare_reads = run_to_end bare_wire (All-from_recursion (λ x. x ≢ 13) bare_wire (all_from (λ x. not (x == 13)) (λ x. x ≢ 13) (λ x e is. false≢true (subst (λ n. not (n == 13) ≡ true) is e)) bare_wire refl))
 
 bare_dressed : IsDressed at_client line_end_cut bare_wire ten_bytes_view read_of_bare_lines
-bare_dressed = dressed_by at_client line_end_cut bare_wire 8 ids (carried (codes "abcdefg" ++ 10 ∷ []) (codes "h")) ten_bytes_view read_of_bare_lines blocks_of_eight refl
-    (ack_spells 2 refl, (data_spells 2 (codes "h") refl, (ack_spells 1 refl, (data_spells 1 (codes "abcdefg" ++ 10 ∷ []) refl, (ack_spells 0 refl, (agrees, (request_spells, tt)))))))
-    refl refl
+bare_dressed = dressed_by at_client line_end_cut bare_wire 8 ids (news (codes "abcdefg" ++ 10 ∷ []) (codes "h")) base ten_bytes_view read_of_bare_lines blocks_of_eight refl (agrees, (request_spells, tt)) refl refl
 
 pub bare_lines_are_shown : Shows at_client line_end_cut read_of_bare_lines
 bare_lines_are_shown = shown_by at_client line_end_cut bare_wire ten_bytes_view read_of_bare_lines (fit bare_wire bare_reads refl) (writable bare_wire bare_reads refl) (run bare_wire bare_reads refl) (complete bare_wire bare_reads refl) bare_dressed

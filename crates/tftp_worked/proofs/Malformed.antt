@@ -7,7 +7,7 @@ use Rattle.tftp_hosts.specs.{Datagram, Header}
 use Rattle.tftp_rules.specs.{route_of, is_of_transfer}
 use Rattle.tftp_law.specs.{number_of, Broken, IsRefused, Rule}
 use Rattle.tftp_worked.specs.{at_client, read_without_its_ack, acknowledges_too_long, asks_for_mail}
-use Rattle.tftp_worked.proofs.RefusedMore.{plain_begun}
+use Rattle.tftp_worked.proofs.Bases.{plain_begun}
 
 module _ (h : Header) (earlier : List Datagram) (d : Datagram) (routed : is_of_transfer (route_of h earlier d) ≡ true) (asked : Broken h earlier d Rule.NoRequest → ⊥) where
   -- a datagram of the transfer breaks no rule of ports
@@ -34,7 +34,7 @@ too_long = ((refl, λ e. omega (arith, e)), before)
 
 pub ack_length_refused : IsRefused at_client (reverse read_without_its_ack) acknowledges_too_long (Rule.Malformed AckLength)
 ack_length_refused = record {
-  lawful = plain_begun;
+  lawful = plain_begun.lawful;
   broken = record { broken = (refl, too_long); first = under_malformed at_client (reverse read_without_its_ack) acknowledges_too_long refl (λ none. let e = none.0 in cc) };
 }
 

@@ -1,14 +1,20 @@
 -- What a dressed capture says of the view and of the meaning, where each datagram goes between the same two ports and
 -- spells something else than an ERROR 5.
-use Rattle.std.proofs.Common.{◌≡◌, ℕ, List, [], ◌∷◌, ◌++◌, map as each, inl, inr, refl, sym, subst, ap, ◌∙◌}
+use Rattle.std.proofs.Common.{◌≡◌, ℕ, ◌&&◌, ◌||◌, not, Bool, true, List, [], ◌∷◌, ◌++◌, map as each, inl, inr, refl, sym, subst, ap, ◌∙◌}
 use Rattle.tftp_packet.specs.{Message, RequestParts, Spells}
-use Rattle.tftp_hosts.specs.{Dir, In, Out, Datagram, Header, peer_of}
+use Rattle.std.proofs.lemmas.Bool.{and_parts, or_cases, false≢true}
+use Rattle.std.specs.List.{list_all}
+use Rattle.tftp_hosts.specs.{Dir, In, Out, Datagram, Header, PeerId, peer_of}
+use Rattle.tftp_rules.specs.{same_peer}
 use Rattle.tftp_model.specs.{Meaning, request_of, MachinePacket, Req, Oack, Data, Ack, Error, Deed, Sent, Took, message_of, History}
 use Rattle.tftp_law.specs.Dress.{StrayAnswer}
 use Rattle.tftp_law.specs.{Part, Main, Stray, Placed, Division, IsMain, datagrams_of, view_in, TransferIds, dir_of, packet_of, CarriesDeed, HasPart, HaveParts}
 use Rattle.tftp_worked.specs.{at_client}
 use Rattle.tftp_law.proofs.Spelled.{spelled_once}
-use Rattle.tftp_worked.proofs.Payloads.{Spelled, datagrams, AllSpelled}
+use Rattle.tftp_law.proofs.Division.RouteTests.{is_same}
+use Rattle.tftp_worked.proofs.Payloads.{Spelled, datagrams, AllSpelled, all_spell, spelled_all}
+use Rattle.tftp_worked.proofs.Passing.{same_dir, dir_is}
+use Rattle.tftp_worked.proofs.RuleTests.{is_unknown_id, not_request}
 use Rattle.tftp_law.proofs.Division.Divided.{divided_more, divided_none, view_main, any_none, any_cases}
 
 -- the machine packet that a message is
@@ -114,3 +120,41 @@ second_shows m wire ids newer second first message division whole parts out way 
     oack_shows m wire ids q second (request_of m) p.part (ap (λ d. d.dir) begun ∙ out) way
     (λ request t. other request (spelled_once second.payload message (Message.Request request) s t))
     (subst (λ d. HasPart at_client m wire ids (q ∷ []) d p.part) at two.0)
+
+-- ---- by computation
+
+-- each comes from there, if it comes in, and is no ERROR 5
+abbrev pub all_near : PeerId → List Spelled → Bool
+all_near peer es = list_all (λ (e : Spelled). not (is_unknown_id e.1) && (same_dir e.0.dir Out || same_peer (peer_of e.0) peer)) es
+
+near_all : (ids : TransferIds) (peer : PeerId) (es : List Spelled) → peer ≡ ids.peer → all_near peer es ≡ true → AllNear ids es
+near_all ids peer [] is t = tt
+near_all ids peer (e ∷ es) is t =
+    let parts = and_parts (not (is_unknown_id e.1) && (same_dir e.0.dir Out || same_peer (peer_of e.0) peer)) (all_near peer es) t in
+    let now = and_parts (not (is_unknown_id e.1)) (same_dir e.0.dir Out || same_peer (peer_of e.0) peer) parts.0 in (
+      λ text five. false≢true (subst (λ m. not (is_unknown_id m) ≡ true) five now.0),
+      λ way. elim (or_cases (same_dir e.0.dir Out) (same_peer (peer_of e.0) peer) now.1) [
+        | inl out ↦ absurd (false≢true (subst (λ d. same_dir d Out ≡ true) way out))
+        | inr same ↦ is_same (peer_of e.0) peer same ∙ is
+      ],
+      near_all ids peer es is parts.1,
+    )
+
+datagrams_both : (newer older : List Spelled) → datagrams (newer ++ older) ≡ datagrams newer ++ datagrams older
+datagrams_both [] older = refl
+datagrams_both (e ∷ newer) older = ap (λ ds. e.0 ∷ ds) (datagrams_both newer older)
+
+-- at the client, where the first goes out, the second is an answer, and all that comes in comes from where that does
+pub client_meant : (m : Meaning) (wire : List ℕ) (ids : TransferIds) (newer : List Spelled) (second first : Spelled) (division : Division) → datagrams_of division ≡ datagrams (newer ++ second ∷ first ∷ [])
+    → HaveParts at_client m wire ids division → AllSpelled (second ∷ first ∷ [])
+    → (all_spell newer && (same_dir first.0.dir Out && (same_dir second.0.dir In && (not_request second.1 && all_near (peer_of second.0) (newer ++ second ∷ first ∷ []))))) ≡ true
+    → (view_in division ≡ deeds_for (newer ++ second ∷ first ∷ [])) × AllMeant m wire (newer ++ second ∷ first ∷ [])
+client_meant m wire ids newer second first division whole parts s test =
+    let es = newer ++ second ∷ first ∷ [] in
+    let a = and_parts (all_spell newer) (same_dir first.0.dir Out && (same_dir second.0.dir In && (not_request second.1 && all_near (peer_of second.0) es))) test in
+    let b = and_parts (same_dir first.0.dir Out) (same_dir second.0.dir In && (not_request second.1 && all_near (peer_of second.0) es)) a.1 in
+    let c = and_parts (same_dir second.0.dir In) (not_request second.1 && all_near (peer_of second.0) es) b.1 in
+    let d = and_parts (not_request second.1) (all_near (peer_of second.0) es) c.1 in
+    let peer = second_shows m wire ids (datagrams newer) second.0 first.0 second.1 division (whole ∙ datagrams_both newer (second ∷ first ∷ [])) parts (dir_is first.0.dir Out b.0) (dir_is second.0.dir In c.0) s.0
+    (λ r is. false≢true (subst (λ x. not_request x ≡ true) is d.0)) in
+    all_meant at_client m wire ids es division whole parts (spelled_all newer (second ∷ first ∷ []) a.0 s) (near_all ids (peer_of second.0) es peer d.1)

@@ -6,21 +6,23 @@ use Rattle.std.specs.FinMap as map
 use Rattle.tftp_packet.specs.{OptionMap, OptionValue, Num, Text, no_options, value_of, is_known_number, is_number, range_of, map_of, Message, RequestParts, Spells, Get, Octet}
 use Rattle.tftp_nego.specs.{Holds, NegoFault}
 use Rattle.tftp_hosts.specs.{Datagram}
-use Rattle.tftp_rules.specs.{route_of, is_of_transfer, Terms, NoReply, Plain}
+use Rattle.tftp_rules.specs.{route_of, is_of_transfer, Terms, NoReply}
 use Rattle.tftp_model.specs.{eight_a_block}
 use Rattle.tftp_model.proofs.WorkedMore.{eight_for_blksize}
 use Rattle.tftp_law.specs.{number_of, plain_terms, Broken, FirstOack, OneEnded, IsRefused, Rule}
 use Rattle.tftp_law.proofs.Spelled.{spelled_once}
-use Rattle.tftp_worked.specs.{at_client, asks_for_a, acknowledges_hi, one_block_read, request, oack, by_eight, only_asked, asks_for_b, agrees_to_none, agrees_unasked, by_multicast, only_multicast_asked, agrees_to_multicast, by_foo, only_foo_asked, agrees_to_foo, only_512_asked, agrees_to_1024}
-use Rattle.tftp_worked.proofs.Spelled.{request_spelled, hi_spelled, ack_spelled}
-use Rattle.tftp_worked.proofs.Payloads.{Spelled, AllSpelled, request_spells, request_for_spells, oack_spells, eight_is}
+use Rattle.tftp_worked.specs.{at_client, asks_for_a, one_block_read, request, oack, by_eight, only_asked, asks_for_b, agrees_to_none, agrees_unasked, by_multicast, only_multicast_asked, agrees_to_multicast, by_foo, only_foo_asked, agrees_to_foo, only_512_asked, agrees_to_1024}
+use Rattle.tftp_worked.proofs.Spelled.{request_spelled, ack_spelled}
+use Rattle.tftp_worked.proofs.Payloads.{Spelled, request_spells, request_for_spells, oack_spells, eight_is}
 use Rattle.tftp_worked.proofs.Passing.{asked_by, asked_is, asked_there, first_answer, first_asked, main_of, terms_of, unanswered_there}
-use Rattle.tftp_worked.proofs.Kept.{none_below, keeps_below}
-use Rattle.tftp_worked.proofs.Chains.{OackFine, first_oack_keeps, known_by, none_under, one_more}
-use Rattle.tftp_worked.proofs.Bases.{asks_for, blksize}
+use Rattle.tftp_worked.proofs.RuleTests.{keeps_below}
+use Rattle.tftp_worked.proofs.Kept.{none_below}
+use Rattle.tftp_worked.proofs.Chains.{OackFine, first_oack_keeps, known_by, none_under, one_more, refused_next}
+use Rattle.tftp_worked.proofs.Options.{blksize}
+use Rattle.tftp_worked.proofs.Bases.{asks_for, plain_asks, plain_asked}
 use Rattle.tftp_worked.proofs.OneOption.{single, found_single, only_single, not_there, has_some}
-use Rattle.tftp_worked.proofs.Accepted.{plain_passes}
-use Rattle.tftp_worked.proofs.RefusedMore.{asked, plain_asks, plain_asked, plain_hi, first_asked_is}
+use Rattle.tftp_worked.proofs.Accepted.{plain}
+use Rattle.tftp_worked.proofs.RefusedMore.{asked, first_asked_is}
 
 -- ---- another request, and a request that comes late
 
@@ -34,19 +36,7 @@ other_name : asked_b ≢ asked
 other_name e = false≢true ((bytes_eq-Decides (codes "b") (codes "a")).1 (ap (λ (r : RequestParts). r.name) e))
 
 pub changed_refused : IsRefused at_client (reverse only_asked) asks_for_b Rule.RequestChanged
-changed_refused = record {
-  lawful = plain_asked;
-  broken = record {
-    broken = (asked, asked_b, first_asked_is, record { routed = refl; spells = b_spelled }, other_name);
-    first = none_under 8 at_client (Some (plain_terms at_client Get NoReply)) (plain_asks ∷ []) (asks_for_b, Message.Request asked_b) (request_spelled, tt) b_spelled refl refl refl;
-  };
-}
-
-abbrev whole : List Spelled
-whole = (acknowledges_hi, Message.Ack 1) ∷ plain_hi ∷ plain_asks ∷ []
-
-abbrev whole_spelled : AllSpelled whole
-whole_spelled = (ack_spelled, (hi_spelled, (request_spelled, tt)))
+changed_refused = refused_next at_client plain_asked (asks_for_b, Message.Request asked_b) Rule.RequestChanged b_spelled refl (asked, asked_b, first_asked_is, record { routed = refl; spells = b_spelled }, other_name)
 
 request_of_both : (r q : RequestParts) → Message.Request r ≡ Message.Request q → r ≡ q
 request_of_both r q e = cc
@@ -58,16 +48,16 @@ some_of_both m n e = cc
 not_changed : Broken at_client (reverse one_block_read) asks_for_a Rule.RequestChanged → ⊥
 not_changed (first, now, is_first, says, differs) =
     let again : asked ≡ now = request_of_both asked now (spelled_once asks_for_a.payload (Message.Request asked) (Message.Request now) request_spelled says.spells) in
-    let same : asked ≡ first = request_of_both asked first (some_of_both (Message.Request asked) (Message.Request first) (asked_is at_client whole first whole_spelled is_first)) in
+    let same : asked ≡ first = request_of_both asked first (some_of_both (Message.Request asked) (Message.Request first) (asked_is at_client plain.es first plain.spelled is_first)) in
     differs (sym again ∙ same)
 
 none_before_late : (rule : Rule) → number_of rule < 9 → Broken at_client (reverse one_block_read) asks_for_a rule → ⊥
 none_before_late Rule.RequestChanged low b = not_changed b
-none_before_late rule low b = none_under 8 at_client (Some (plain_terms at_client Get Plain)) whole plain_asks whole_spelled request_spelled refl refl refl rule (omega arith) b
+none_before_late rule low b = none_under 8 at_client (plain.known []) plain.es plain_asks plain.spelled request_spelled refl refl refl rule (omega arith) b
 
 pub late_request_refused : IsRefused at_client (reverse one_block_read) asks_for_a Rule.RequestAfterStart
 late_request_refused = record {
-  lawful = plain_passes;
+  lawful = plain.lawful;
   broken = record { broken = (refl, (asked, record { routed = refl; spells = request_spelled }), inr (1, inl (refl, ack_spelled))); first = none_before_late };
 }
 
@@ -109,7 +99,7 @@ nothing_spelled : Spells (oack []) (Message.Oack no_options)
 nothing_spelled = oack_spells [] no_options refl refl
 
 pub none_refused : IsRefused at_client (reverse only_asked) agrees_to_none Rule.OackEmpty
-none_refused = offer_refused asks_for_a agrees_to_none asked no_options request_spelled nothing_spelled Rule.OackEmpty NegoFault.OackEmpty (λ f. f) plain_asked refl refl refl refl refl refl refl (record {
+none_refused = offer_refused asks_for_a agrees_to_none asked no_options request_spelled nothing_spelled Rule.OackEmpty NegoFault.OackEmpty (λ f. f) plain_asked.lawful refl refl refl refl refl refl refl (record {
   empty = λ low. absurd (omega arith);
   multicast = λ low. absurd (omega arith);
   not_requested = λ low. absurd (omega arith);
@@ -151,7 +141,7 @@ eight_agreed = oack_spells by_eight eight_a_block refl eight_is
 
 pub unasked_refused : IsRefused at_client (reverse only_asked) agrees_unasked Rule.OptionNotRequested
 unasked_refused =
-    offer_refused asks_for_a agrees_unasked asked eight_a_block request_spelled eight_agreed Rule.OptionNotRequested NegoFault.OptionNotRequested (λ f. f) plain_asked refl refl refl refl refl refl
+    offer_refused asks_for_a agrees_unasked asked eight_a_block request_spelled eight_agreed Rule.OptionNotRequested NegoFault.OptionNotRequested (λ f. f) plain_asked.lawful refl refl refl refl refl refl
     (blksize, (Num 8, eight_for_blksize), map.get-empty _ blksize) (record {
       empty = λ low. has_some eight_a_block blksize (Num 8) eight_for_blksize;
       multicast = λ low. not_there eight_a_block (codes "multicast") (found_single blksize (Num 8) (codes "multicast"));

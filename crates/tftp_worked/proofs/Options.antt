@@ -5,13 +5,14 @@ use Rattle.std.specs.Ordering.{nat_cmp, eq_by_cmp}
 use Rattle.std.specs.Cmp.Lexicographic.{slice_cmp, nat_list_cmp_total}
 use Rattle.tftp_packet.specs.{OptionMap, OptionValue, Num, no_options, RequestParts}
 use Rattle.tftp_hosts.specs.{Header}
-use Rattle.tftp_model.specs.{number_or, option_or}
+use Rattle.tftp_model.specs.{number_or, option_or, eight_a_block, eight_by_four}
+use Rattle.tftp_model.proofs.WorkedMore.{eight_for_blksize}
 use Rattle.tftp_rules.specs.{Oacked, Terms}
-use Rattle.tftp_nego.specs.{MayAnswer, Holds, NegoFault}
+use Rattle.tftp_nego.specs.{MayAnswer, MayAgree, Holds, NegoFault}
 use Rattle.tftp_law.specs.{Agrees, size_from, terms_after}
 use Rattle.tftp_law.proofs.FirstBroken.Agreed.{AllAnswer, no_option_fault}
 use Rattle.tftp_worked.proofs.Chains.{OackFine}
-use Rattle.tftp_worked.proofs.OneOption.{has_some, name_is}
+use Rattle.tftp_worked.proofs.OneOption.{has_some, name_is, found_single, only_single}
 
 abbrev pub two : List ℕ → ℕ → List ℕ → ℕ → OptionMap
 two one a other b = map.from_entries ((one, Num a) ∷ (other, Num b) ∷ [])
@@ -77,3 +78,34 @@ small_size asked options size b is blksize few (other, octet, get, many) =
     let same : size ≡ other = cc in
     let less : 65535 < size / b + 1 = subst (λ n. 65535 < size / n + 1) blksize (subst (λ n. 65535 < n / option_or 512 options (codes "blksize") + 1) (sym same) many) in
     omega arith
+
+-- ---- blocks of eight, alone and in a window of four
+
+abbrev pub blksize : List ℕ
+blksize = codes "blksize"
+
+abbrev pub windowsize : List ℕ
+windowsize = codes "windowsize"
+
+abbrev pub tsize : List ℕ
+tsize = codes "tsize"
+
+pub no_size_of_both : (size : ℕ) → map.get eight_by_four tsize ≡ Some (Num size) → ⊥
+no_size_of_both size e = let none = found blksize windowsize 8 4 tsize in absurd (cc)
+
+pub no_size_of_one : (size : ℕ) → map.get eight_a_block tsize ≡ Some (Num size) → ⊥
+no_size_of_one size e = let none = found_single blksize (Num 8) tsize in absurd (cc)
+
+pub both_may_be_agreed : (r : RequestParts) → r.options ≡ eight_by_four → MayAgree r eight_by_four
+both_may_be_agreed r is = record {
+  asked = two_answer r blksize windowsize 8 4 8 4 is (found blksize windowsize 8 4 blksize) (found blksize windowsize 8 4 windowsize) (inl (refl, omega arith)) (inr (inl (refl, omega arith)));
+  size = λ mode size e. absurd (no_size_of_both size e);
+}
+
+pub eight_may_be_agreed : (r : RequestParts) → r.options ≡ eight_a_block → MayAgree r eight_a_block
+eight_may_be_agreed r is = record {
+  asked = λ name value e.
+      let size = only_single blksize (Num 8) name value e in
+      (8, 8, subst (λ o. map.get o name ≡ Some (Num 8)) (sym is) (subst (λ n. map.get eight_a_block n ≡ Some (Num 8)) (sym size.0) eight_for_blksize), size.1, inl (size.0, omega arith));
+  size = λ mode size e. absurd (no_size_of_one size e);
+}

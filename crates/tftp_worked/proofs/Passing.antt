@@ -1,14 +1,57 @@
 -- What has passed, read off a list of datagrams with what they spell, the newest first.
-use Rattle.std.proofs.Common.{◌≡◌, ◌&&◌, ◌||◌, ◌⊎◌, Bool, true, false, List, [], ◌∷◌, Option, Some, None, option_map, inl, inr, refl, sym, subst, ap, ◌∙◌, if◌then◌else◌}
+use Rattle.std.proofs.Common.{◌≡◌, ℕ, ◌&&◌, ◌||◌, ◌⊎◌, Bool, true, false, List, [], ◌∷◌, Option, Some, None, option_map, inl, inr, refl, sym, subst, ap, ◌∙◌, if◌then◌else◌}
 use Rattle.std.specs.List.{list_any}
 use Rattle.std.proofs.lemmas.Bool.{and_parts, or_cases, false≢true}
 use Rattle.tftp_packet.specs.{Message, RequestParts, Spells, Side}
-use Rattle.tftp_hosts.specs.{Dir, Datagram, Header}
+use Rattle.tftp_hosts.specs.{Dir, In, Out, Datagram, Header}
 use Rattle.tftp_rules.specs.{goes_out, or_this, first_of, asks, route_of, is_of_transfer, transfer_of, Passed, brings_error, usable, Terms, NoReply}
 use Rattle.tftp_law.specs.{FirstAsked, Answer, Answers, NotAnswered, FirstAnswer, plain_terms, terms_after, AreTerms}
 use Rattle.tftp_law.proofs.FirstBroken.Answering.{answer_of, answer_is, answer_there}
 use Rattle.tftp_law.proofs.Spelled.{spelled_once}
 use Rattle.tftp_worked.proofs.Payloads.{Spelled, datagrams, AllSpelled}
+
+-- ---- which way, and what it is
+
+abbrev pub same_dir : Dir → Dir → Bool
+same_dir In In = true
+same_dir Out Out = true
+same_dir _ _ = false
+
+pub dir_is : (a b : Dir) → same_dir a b ≡ true → a ≡ b
+dir_is In In e = refl
+dir_is Out Out e = refl
+dir_is In Out e = absurd (false≢true e)
+dir_is Out In e = absurd (false≢true e)
+
+abbrev pub as_block : Message → Option (ℕ × List ℕ)
+as_block (Message.Data k bytes) = Some (k, bytes)
+as_block _ = None
+
+abbrev pub as_ack : Message → Option ℕ
+as_ack (Message.Ack j) = Some j
+as_ack _ = None
+
+-- it is there, and passes the test
+abbrev pub holds : {X : Type 0} → (X → Bool) → Option X → Bool
+holds test (Some x) = test x
+holds test None = false
+
+pub block_is : (test : ℕ × List ℕ → Bool) (m : Message) → holds test (as_block m) ≡ true → (k : ℕ) × (bytes : List ℕ) × (m ≡ Message.Data k bytes) × (test (k, bytes) ≡ true)
+block_is test (Message.Data k bytes) t = (k, bytes, refl, t)
+block_is test (Message.Ack j) t = absurd (false≢true t)
+block_is test (Message.Request r) t = absurd (false≢true t)
+block_is test (Message.Oack o) t = absurd (false≢true t)
+block_is test (Message.Error code text) t = absurd (false≢true t)
+
+pub ack_is : (test : ℕ → Bool) (m : Message) → holds test (as_ack m) ≡ true → (j : ℕ) × (m ≡ Message.Ack j) × (test j ≡ true)
+ack_is test (Message.Ack j) t = (j, refl, t)
+ack_is test (Message.Data k bytes) t = absurd (false≢true t)
+ack_is test (Message.Request r) t = absurd (false≢true t)
+ack_is test (Message.Oack o) t = absurd (false≢true t)
+ack_is test (Message.Error code text) t = absurd (false≢true t)
+
+pub passed_as : (passed : List Datagram) (dir way : Dir) (m n : Message) → same_dir way dir ≡ true → m ≡ n → Passed dir m passed → Passed way n passed
+passed_as passed dir way m n same is p = subst (λ x. Passed x n passed) (sym (dir_is way dir same)) (subst (λ x. Passed dir x passed) is p)
 
 -- ---- the datagrams of the transfer
 
@@ -252,3 +295,22 @@ terms_are h es t s known = elim known.2 [
   where
     from : Some (terms_by h known.0 (first_answer known.0.side (main_of h es))) ≡ Some t → terms_of h es ≡ Some t
     from e = ap (terms_from h es) (asked_is h es known.0 s known.1) ∙ e
+
+-- and back
+pub terms_back : (h : Header) (es : List Spelled) (t : Terms) → AllSpelled es → terms_of h es ≡ Some t → AreTerms h (datagrams es) t
+terms_back h es t s is = by (asked_by (first_asked h es)) refl is
+  where
+    same : (a b : Terms) → Some a ≡ Some b → b ≡ a
+    same a b e = cc
+
+    answered : (asked : RequestParts) → asked_by (first_asked h es) ≡ Some (Message.Request asked) → (o : Option Answer) → first_answer asked.side (main_of h es) ≡ o → Some (terms_by h asked o) ≡ Some t → AreTerms h (datagrams es) t
+    answered asked first None none e = (asked, asked_back h es asked s first, inl (unanswered_there h asked.side es s none, same (terms_by h asked None) t e))
+    answered asked first (Some answer) some e = (asked, asked_back h es asked s first, inr (answer, answered_there h asked.side es answer s some, same (terms_by h asked (Some answer)) t e))
+
+    by : (o : Option Message) → asked_by (first_asked h es) ≡ o → terms_from h es o ≡ Some t → AreTerms h (datagrams es) t
+    by (Some (Message.Request asked)) first e = answered asked first (first_answer asked.side (main_of h es)) refl e
+    by (Some (Message.Data k bytes)) first e = absurd (cc)
+    by (Some (Message.Ack j)) first e = absurd (cc)
+    by (Some (Message.Oack o)) first e = absurd (cc)
+    by (Some (Message.Error code text)) first e = absurd (cc)
+    by None first e = absurd (cc)

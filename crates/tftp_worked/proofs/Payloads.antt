@@ -1,5 +1,6 @@
 -- What payloads spell, by computation.
-use Rattle.std.proofs.Common.{◌≡◌, ◌≢◌, ℕ, ◌<◌, ◌+◌, ◌*◌, ◌&&◌, not, nat_lt, nat_le, Bool, true, List, [], ◌∷◌, length, codes, map as each, refl, ap, subst, arith}
+use Rattle.std.proofs.Common.{◌≡◌, ◌≢◌, ℕ, ◌<◌, ◌+◌, ◌*◌, ◌/◌, ◌%◌, ◌&&◌, not, nat_lt, nat_le, Bool, true, false, List, [], ◌∷◌, ◌++◌, length, codes, map as each, refl, sym, ap, subst, arith}
+use Rattle.std.proofs.Math.Nat.{div-add-mod}
 use Rattle.std.proofs.lemmas.Bool.{and_parts, leb-true, ltb-true, false≢true}
 use Rattle.std.proofs.lemmas.Slice.Eq.{bytes_eq-Decides}
 use Rattle.std.specs.Str.{bytes_eq}
@@ -137,6 +138,41 @@ pub error_spells : (code : ℕ) (text : List ℕ) → all_bytes (error code text
 error_spells code text e strung =
     let all = bytes_are (error code text) e in
     (all, (0, code, (omega arith, all.1.1.1.0, omega arith), string_is text strung, refl))
+
+-- what a block, an ACK or an ERROR spells, by computation
+abbrev pub spells_it : List ℕ → Message → Bool
+spells_it payload (Message.Data k bytes) = bytes_eq payload (0 ∷ 3 ∷ k / 256 ∷ k % 256 ∷ bytes) && all_bytes payload
+spells_it payload (Message.Ack j) = bytes_eq payload (ack j) && all_bytes payload
+spells_it payload (Message.Error code text) = bytes_eq payload (error code text) && (all_bytes payload && is_string text)
+spells_it payload _ = false
+
+spelled_as : (payload form : List ℕ) (m : Message) → bytes_eq payload form ≡ true → Spells form m → Spells payload m
+spelled_as payload form m same s = subst (λ p. Spells p m) (sym ((bytes_eq-Decides payload form).0 same)) s
+
+bytes_as : (payload form : List ℕ) → bytes_eq payload form ≡ true → all_bytes payload ≡ true → all_bytes form ≡ true
+bytes_as payload form same all = subst (λ p. all_bytes p ≡ true) ((bytes_eq-Decides payload form).0 same) all
+
+pub spelled_it : (payload : List ℕ) (m : Message) → spells_it payload m ≡ true → Spells payload m
+spelled_it payload (Message.Data k bytes) e =
+    let form = 0 ∷ 3 ∷ k / 256 ∷ k % 256 ∷ bytes in
+    let parts = and_parts (bytes_eq payload form) (all_bytes payload) e in
+    spelled_as payload form (Message.Data k bytes) parts.0 (block_spells (k / 256) (k % 256) bytes k (bytes_as payload form parts.0 parts.1) (sym (div-add-mod k 256)))
+spelled_it payload (Message.Ack j) e =
+    let parts = and_parts (bytes_eq payload (ack j)) (all_bytes payload) e in
+    spelled_as payload (ack j) (Message.Ack j) parts.0 (ack_spells j (bytes_as payload (ack j) parts.0 parts.1))
+spelled_it payload (Message.Error code text) e =
+    let parts = and_parts (bytes_eq payload (error code text)) (all_bytes payload && is_string text) e in
+    let more = and_parts (all_bytes payload) (is_string text) parts.1 in
+    spelled_as payload (error code text) (Message.Error code text) parts.0 (error_spells code text (bytes_as payload (error code text) parts.0 more.0) more.1)
+spelled_it payload (Message.Request r) e = absurd (false≢true e)
+spelled_it payload (Message.Oack o) e = absurd (false≢true e)
+
+abbrev pub all_spell : List Spelled → Bool
+all_spell es = list_all (λ (e : Spelled). spells_it e.0.payload e.1) es
+
+pub spelled_all : (news es : List Spelled) → all_spell news ≡ true → AllSpelled es → AllSpelled (news ++ es)
+spelled_all [] es t s = s
+spelled_all (e ∷ news) es t s = let parts = and_parts (spells_it e.0.payload e.1) (all_spell news) t in (spelled_it e.0.payload e.1 parts.0, spelled_all news es parts.1 s)
 
 -- the maps of the worked options
 pub eight_is : eight_a_block ≡ map_of by_eight

@@ -1,13 +1,14 @@
 -- Tests of the rules, by what a datagram spells and what those before it spell.
-use Rattle.std.proofs.Common.{ℕ, ◌+◌, ◌/◌, ◌%◌, ◌==◌, ◌&&◌, ◌||◌, not, nat_lt, nat_le, zero, suc, Bool, true, false, List, length, Option, Some, None}
+use Rattle.std.proofs.Common.{ℕ, ◌+◌, ◌/◌, ◌%◌, ◌==◌, ◌&&◌, ◌||◌, not, nat_lt, nat_le, zero, suc, Bool, true, false, List, [], ◌∷◌, length, Option, Some, None}
 use Rattle.std.specs.Str.{bytes_eq}
+use Rattle.std.specs.List.{list_all}
 use Rattle.tftp_packet.specs.{Message, Side, Get, Put, End, Client, Server}
 use Rattle.tftp_hosts.specs.{Dir, In, Out, Header}
 use Rattle.tftp_model.specs.Roles.{sender_of, receiver_of}
-use Rattle.tftp_rules.specs.{author_of, Route, route_of, is_of_transfer, Reply, NoReply, Plain, Oacked, Terms, EndRule}
-use Rattle.tftp_law.specs.{Answer, Begins, Rule}
+use Rattle.tftp_rules.specs.{author_of, Route, route_of, is_of_transfer, Reply, NoReply, Plain, Oacked, Terms, EndRule, NotStarted, BlockZero, BeyondBlock65535, BlockLength, WindowOverrun, BlockSkipped, GoneBack, BlockChanged, AckAhead, AckZero}
+use Rattle.tftp_law.specs.{Answer, Begins, number_of, rule_of_end, Rule}
 use Rattle.tftp_worked.proofs.Payloads.{Spelled, datagrams}
-use Rattle.tftp_worked.proofs.Passing.{main_of, used_of, every, some, first_asked, asked_by, first_answer}
+use Rattle.tftp_worked.proofs.Passing.{same_dir, as_block, as_ack, holds, main_of, used_of, every, some, first_asked, asked_by, first_answer}
 
 abbrev pub is_unknown_id : Message → Bool
 is_unknown_id (Message.Error code text) = code == 5
@@ -40,11 +41,6 @@ is_readable _ m = false
 abbrev pub not_error : Message → Bool
 not_error (Message.Error code text) = false
 not_error _ = true
-
-abbrev pub same_dir : Dir → Dir → Bool
-same_dir In In = true
-same_dir Out Out = true
-same_dir _ _ = false
 
 abbrev pub is_that : ℕ → List ℕ → Message → Bool
 is_that code text (Message.Error c words) = c == code && bytes_eq words text
@@ -106,12 +102,10 @@ sent_no_block Out (Message.Data k bytes) = false
 sent_no_block _ _ = true
 
 abbrev pub is_ack_zero : Dir → Message → Bool
-is_ack_zero dir (Message.Ack j) = j == 0
-is_ack_zero dir _ = false
+is_ack_zero dir m = holds (λ j. j == 0) (as_ack m)
 
 abbrev pub is_block : Dir → Message → Bool
-is_block dir (Message.Data k bytes) = true
-is_block dir _ = false
+is_block dir m = holds (λ _. true) (as_block m)
 
 abbrev pub same_end : End → End → Bool
 same_end Client Client = true
@@ -155,8 +149,7 @@ is_some (Some n) = true
 is_some None = false
 
 abbrev pub is_short : ℕ → Dir → Message → Bool
-is_short b dir (Message.Data k bytes) = nat_lt (length bytes) b
-is_short b dir _ = false
+is_short b dir m = holds (λ (x : ℕ × List ℕ). nat_lt (length x.1) b) (as_block m)
 
 abbrev pub is_below : ℕ → Dir → Message → Bool
 is_below k dir (Message.Data higher bytes) = nat_lt higher k
@@ -169,21 +162,17 @@ abbrev pub length_fits : Terms → List Spelled → ℕ → ℕ → Bool
 length_fits t ts k long = nat_le long t.blksize && (every (fits_short t k long) ts && (fits_size t t.size k long && may_be_last t ts k long))
 
 abbrev pub allows : Dir → ℕ → ℕ → Dir → Message → Bool
-allows In w k In (Message.Ack a) = nat_le k (a + w)
-allows Out w k Out (Message.Ack a) = nat_le k (a + w)
-allows _ w k _ _ = false
+allows way w k dir m = same_dir way dir && holds (λ a. nat_le k (a + w)) (as_ack m)
 
 abbrev pub in_window : Terms → List Spelled → ℕ → Bool
 in_window t ts k = nat_le k t.windowsize || ((not (is_sender t) || some (allows In t.windowsize k) ts) && (not (is_receiver t) || some (allows Out t.windowsize k) ts))
 
 abbrev pub reaches : ℕ → Dir → Message → Bool
-reaches k Out (Message.Data top bytes) = nat_le k top
-reaches k _ _ = false
+reaches k dir m = same_dir Out dir && holds (λ (x : ℕ × List ℕ). nat_le k x.0) (as_block m)
 
 -- a block that was sent stands at most one below
 abbrev pub is_next : ℕ → Dir → Message → Bool
-is_next k Out (Message.Data top bytes) = nat_le k (top + 1)
-is_next k _ _ = false
+is_next k dir m = same_dir Out dir && holds (λ (x : ℕ × List ℕ). nat_le k (x.0 + 1)) (as_block m)
 
 abbrev pub not_above : ℕ → Dir → Message → Bool
 not_above k Out (Message.Data top bytes) = nat_le top k
@@ -194,8 +183,7 @@ not_changed k bytes dir (Message.Data other before) = not (k == other) || bytes_
 not_changed k bytes dir _ = true
 
 abbrev pub is_taken : ℕ → Dir → Message → Bool
-is_taken k In (Message.Data other bytes) = k == other
-is_taken k _ _ = false
+is_taken k dir m = same_dir In dir && holds (λ (x : ℕ × List ℕ). k == x.0) (as_block m)
 
 abbrev pub taken_up_to : List Spelled → ℕ → Bool
 taken_up_to ts zero = true
@@ -232,26 +220,23 @@ keeps h t es e Rule.ForeignPort = not_foreign (route_of h (datagrams es) e.0)
 keeps h t es e Rule.WrongPort = not_wrong (route_of h (datagrams es) e.0)
 keeps h t es e Rule.StrayAnswer = answers_well (route_of h (datagrams es) e.0) e.1
 keeps h t es e Rule.NoRequest = not (not_asked (asked_by (first_asked h es))) || not_peer (route_of h (datagrams es) e.0)
-keeps h t es e (Rule.Malformed fault) = true
 keeps h t es e Rule.WrongKind = not (is_main h es e) || kind_is_right (author_of h.named e.0.dir) (asked_by (first_asked h es)) e.1
 keeps h t es e Rule.AfterError = not (is_main h es e) || every (same_stop e.0.dir e.1) (main_of h es)
 keeps h t es e Rule.RequestChanged = not (is_main h es e) || (not_request e.1 || not_asked (asked_by (first_asked h es)))
 keeps h t es e Rule.RequestAfterStart = not (is_main h es e) || (not_request e.1 || every went_on (main_of h es))
 keeps h t es e Rule.ReplyChanged = not (is_main h es e) || (not_oack e.1 || no_plain_answer (asked_by (first_asked h es)) (main_of h es))
-keeps h t es e Rule.OackEmpty = true
-keeps h t es e Rule.MulticastAgreed = true
-keeps h t es e Rule.OptionNotRequested = true
-keeps h t es e Rule.OptionOutsideProfile = true
-keeps h t es e Rule.OptionValue = true
-keeps h t es e Rule.OackChanged = true
 keeps h t es e Rule.OackAfterStart = not (is_main h es e) || (not_oack e.1 || every sent_no_block (main_of h es))
-keeps h t es e Rule.NotStarted = not (is_main h es e) || end_keeps t (main_of h es) e.1 EndRule.NotStarted
-keeps h t es e Rule.BlockZero = not (is_main h es e) || end_keeps t (main_of h es) e.1 EndRule.BlockZero
-keeps h t es e Rule.BeyondBlock65535 = not (is_main h es e) || end_keeps t (main_of h es) e.1 EndRule.BeyondBlock65535
-keeps h t es e Rule.BlockLength = not (is_main h es e) || end_keeps t (main_of h es) e.1 EndRule.BlockLength
-keeps h t es e Rule.WindowOverrun = not (is_main h es e) || end_keeps t (main_of h es) e.1 EndRule.WindowOverrun
-keeps h t es e Rule.BlockSkipped = not (is_main h es e) || end_keeps t (main_of h es) e.1 EndRule.BlockSkipped
-keeps h t es e Rule.GoneBack = not (is_main h es e) || end_keeps t (main_of h es) e.1 EndRule.GoneBack
-keeps h t es e Rule.BlockChanged = not (is_main h es e) || end_keeps t (main_of h es) e.1 EndRule.BlockChanged
-keeps h t es e Rule.AckAhead = not (is_main h es e) || end_keeps t (main_of h es) e.1 EndRule.AckAhead
-keeps h t es e Rule.AckZero = not (is_main h es e) || end_keeps t (main_of h es) e.1 EndRule.AckZero
+keeps h t es e _ = true
+
+-- the rules of which `keeps` tells more, and those of blocks and acknowledgements
+abbrev pub tested : List Rule
+tested = Rule.ForeignPort ∷ Rule.WrongPort ∷ Rule.StrayAnswer ∷ Rule.NoRequest ∷ Rule.WrongKind ∷ Rule.AfterError ∷ Rule.RequestChanged ∷ Rule.RequestAfterStart ∷ Rule.ReplyChanged ∷ Rule.OackAfterStart ∷ []
+
+abbrev pub end_rules : List EndRule
+end_rules = NotStarted ∷ BlockZero ∷ BeyondBlock65535 ∷ BlockLength ∷ WindowOverrun ∷ BlockSkipped ∷ GoneBack ∷ BlockChanged ∷ AckAhead ∷ AckZero ∷ []
+
+-- each rule below n is kept; there are 27
+abbrev pub keeps_below : ℕ → Header → Option Terms → List Spelled → Spelled → Bool
+keeps_below n h t es e =
+    list_all (λ rule. (nat_le n (number_of rule) && nat_le n 27) || keeps h t es e rule) tested
+    && list_all (λ rule. (nat_le n (number_of (rule_of_end rule)) && nat_le n 27) || (not (is_main h es e) || end_keeps t (main_of h es) e.1 rule)) end_rules

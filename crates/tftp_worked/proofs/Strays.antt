@@ -1,60 +1,39 @@
 -- The worked captures with strays.
-use Rattle.std.proofs.Common.{◌≡◌, ℕ, ◌<◌, List, [], ◌∷◌, Some, codes, reverse, inl, inr, refl, ap, arith}
-use Rattle.tftp_packet.specs.{Message, Spells, Short, Get}
+use Rattle.std.proofs.Common.{◌≡◌, ℕ, ◌<◌, List, [], ◌∷◌, codes, reverse, inl, inr, refl, ap, arith}
+use Rattle.tftp_packet.specs.{Message, Spells, Short}
 use Rattle.tftp_packet.proofs.FaultOrder.{first_Short}
 use Rattle.tftp_model.specs.{Sent, Took, Req, Data, Ack, two_bytes, two_bytes_view, two_bytes_server_view}
-use Rattle.tftp_rules.specs.{NoReply, Plain}
 use Rattle.tftp_model.proofs.Defaults.{default_blksize}
-use Rattle.tftp_model.proofs.Worked.{one_block, two_bytes_is_view, two_bytes_complete, two_bytes_is_server_view, two_bytes_complete_at_server}
-use Rattle.tftp_law.specs.Dress.{StrayAnswer}
-use Rattle.tftp_law.specs.{Main, Stray, Division, TransferIds, Shows, plain_terms, number_of, Broken, OneEnded, IsRefused, Rule}
-use Rattle.tftp_law.proofs.Whole.NothingAgreed.{two_bytes_fit}
+use Rattle.tftp_model.proofs.Worked.{two_bytes_is_view, two_bytes_complete, two_bytes_is_server_view, two_bytes_complete_at_server}
+use Rattle.tftp_law.specs.{TransferIds, Shows, number_of, Broken, IsRefused, Rule}
 use Rattle.tftp_law.proofs.Spelled.{spelled_once}
 use Rattle.tftp_worked.specs.{at_client, at_server, server_host, asks_for_a, brings_hi, comes_astray, is_asked_for_a, sends_hi, is_told, error, only_is_asked, only_asked, before_answering, comes_from_elsewhere, acknowledges_stray, strays_to_server, server_answers_stray, read_with_a_stray_at_server, answers_by_error_4, after_a_stray_at_server, server_answers_by_error_4, read_from_first_port, comes_to_service}
 use Rattle.tftp_worked.proofs.Spelled.{request_spelled, hi_spelled, ack_spelled, unknown_id_spelled}
-use Rattle.tftp_worked.proofs.Payloads.{Spelled, datagrams, error_spells}
-use Rattle.tftp_worked.proofs.Dressed.{dressed_as}
-use Rattle.tftp_worked.proofs.Shown.{shown_by}
-use Rattle.tftp_worked.proofs.Chains.{one_more, none_under}
-use Rattle.tftp_worked.proofs.Hosts.{served, served_passes}
+use Rattle.tftp_worked.proofs.Payloads.{Spelled, error_spells}
+use Rattle.tftp_worked.proofs.Dressed.{main, strays as strayed, answers_stray, dressed_as}
+use Rattle.tftp_worked.proofs.ReadShown.{two_shown}
+use Rattle.tftp_worked.proofs.Chains.{after, refused_next}
+use Rattle.tftp_worked.proofs.Bases.{plain_asked}
+use Rattle.tftp_worked.proofs.Hosts.{served}
 use Rattle.tftp_worked.proofs.ReadVariants.{server_ids}
-use Rattle.tftp_worked.proofs.RefusedMore.{astray, plain_asked, plain_asks, plain_hi, stray}
+use Rattle.tftp_worked.proofs.RefusedMore.{astray}
 use Rattle.tftp_worked.proofs.Malformed.{under_malformed}
 
 -- ---- what is shown
 
-abbrev at_its_server : Division
-at_its_server =
-    record { datagram = is_told; part = Main (Took (Ack 1)) }
-    ∷ record { datagram = server_answers_stray; part = StrayAnswer }
-    ∷ record { datagram = strays_to_server; part = Stray }
-    ∷ record { datagram = sends_hi; part = Main (Sent (Data 1)) }
-    ∷ record { datagram = is_asked_for_a; part = Main (Took Req) }
-    ∷ []
-
 pub stray_at_server_is_shown : Shows at_server two_bytes read_with_a_stray_at_server
-stray_at_server_is_shown =
-    shown_by at_server two_bytes two_bytes.file two_bytes_server_view read_with_a_stray_at_server two_bytes_fit (omega (arith, one_block)) two_bytes_is_server_view two_bytes_complete_at_server
-    (dressed_as at_server two_bytes two_bytes.file 512 server_ids at_its_server two_bytes_server_view read_with_a_stray_at_server (default_blksize two_bytes refl) refl
-    (ack_spelled, (([], unknown_id_spelled), (tt, (hi_spelled, (request_spelled, tt))))) refl refl)
+stray_at_server_is_shown = two_shown at_server two_bytes_server_view read_with_a_stray_at_server two_bytes_is_server_view two_bytes_complete_at_server
+    (dressed_as at_server two_bytes two_bytes.file 512 server_ids (main (is_told, Took (Ack 1)) ∷ answers_stray server_answers_stray ∷ strayed strays_to_server ∷ main (sends_hi, Sent (Data 1)) ∷ main (is_asked_for_a, Took Req) ∷ [])
+    two_bytes_server_view read_with_a_stray_at_server (default_blksize two_bytes refl) refl (ack_spelled, (([], unknown_id_spelled), (tt, (hi_spelled, (request_spelled, tt))))) refl refl)
 
 -- the port that answered first
 abbrev first_ids : TransferIds
 first_ids = record { own = 40000; peer = record { host = server_host; port = 42000 }; asked = server_host }
 
-abbrev from_first : Division
-from_first =
-    record { datagram = acknowledges_stray; part = Main (Sent (Ack 1)) }
-    ∷ record { datagram = brings_hi; part = Stray }
-    ∷ record { datagram = comes_from_elsewhere; part = Main (Took (Data 1)) }
-    ∷ record { datagram = asks_for_a; part = Main (Sent Req) }
-    ∷ []
-
 pub first_port_is_shown : Shows at_client two_bytes read_from_first_port
-first_port_is_shown =
-    shown_by at_client two_bytes two_bytes.file two_bytes_view read_from_first_port two_bytes_fit (omega (arith, one_block)) two_bytes_is_view two_bytes_complete
-    (dressed_as at_client two_bytes two_bytes.file 512 first_ids from_first two_bytes_view read_from_first_port (default_blksize two_bytes refl) refl
-    (ack_spelled, (tt, (hi_spelled, (request_spelled, tt)))) refl refl)
+first_port_is_shown = two_shown at_client two_bytes_view read_from_first_port two_bytes_is_view two_bytes_complete
+    (dressed_as at_client two_bytes two_bytes.file 512 first_ids (main (acknowledges_stray, Sent (Ack 1)) ∷ strayed brings_hi ∷ main (comes_from_elsewhere, Took (Data 1)) ∷ main (asks_for_a, Sent Req) ∷ [])
+    two_bytes_view read_from_first_port (default_blksize two_bytes refl) refl (ack_spelled, (tt, (hi_spelled, (request_spelled, tt)))) refl refl)
 
 -- ---- what answers no stray
 
@@ -70,13 +49,7 @@ not_unknown : (text : List ℕ) → Spells (error 4 []) (Message.Error 5 text) �
 not_unknown text s = let is : 4 ≡ 5 = ap code_of (spelled_once (error 4 []) (Message.Error 4 []) (Message.Error 5 text) error_4 s) in omega (arith, is)
 
 pub error_4_refused : IsRefused at_client (reverse before_answering) answers_by_error_4 Rule.StrayAnswer
-error_4_refused = record {
-  lawful = astray;
-  broken = record {
-    broken = inr (refl, λ s. not_unknown s.0 s.1);
-    first = none_under 3 at_client (Some (plain_terms at_client Get Plain)) (stray ∷ plain_hi ∷ plain_asks ∷ []) (answers_by_error_4, Message.Error 4 []) (hi_spelled, (hi_spelled, (request_spelled, tt))) error_4 refl refl refl;
-  };
-}
+error_4_refused = refused_next at_client astray (answers_by_error_4, Message.Error 4 []) Rule.StrayAnswer error_4 refl (inr (refl, λ s. not_unknown s.0 s.1))
 
 abbrev sends : Spelled
 sends = (sends_hi, Message.Data 1 (codes "hi"))
@@ -84,26 +57,14 @@ sends = (sends_hi, Message.Data 1 (codes "hi"))
 abbrev strays : Spelled
 strays = (strays_to_server, Message.Ack 1)
 
-sends_passes : OneEnded at_server (datagrams (sends ∷ served ∷ []))
-sends_passes = one_more at_server (Some (plain_terms at_server Get NoReply)) (served ∷ []) sends (request_spelled, tt) hi_spelled refl refl refl served_passes
-
-strays_pass : OneEnded at_server (datagrams (strays ∷ sends ∷ served ∷ []))
-strays_pass = one_more at_server (Some (plain_terms at_server Get Plain)) (sends ∷ served ∷ []) strays (hi_spelled, (request_spelled, tt)) ack_spelled refl refl refl sends_passes
-
 pub server_error_4_refused : IsRefused at_server (reverse after_a_stray_at_server) server_answers_by_error_4 Rule.StrayAnswer
-server_error_4_refused = record {
-  lawful = strays_pass;
-  broken = record {
-    broken = inr (refl, λ s. not_unknown s.0 s.1);
-    first = none_under 3 at_server (Some (plain_terms at_server Get Plain)) (strays ∷ sends ∷ served ∷ []) (server_answers_by_error_4, Message.Error 4 []) (ack_spelled, (hi_spelled, (request_spelled, tt))) error_4 refl refl refl;
-  };
-}
+server_error_4_refused = refused_next at_server (after at_server served (strays ∷ sends ∷ []) refl) (server_answers_by_error_4, Message.Error 4 []) Rule.StrayAnswer error_4 refl (inr (refl, λ s. not_unknown s.0 s.1))
 
 -- ---- before the server has answered
 
 pub first_is_read : IsRefused at_client (reverse only_asked) comes_astray (Rule.Malformed Short)
 first_is_read = record {
-  lawful = plain_asked;
+  lawful = plain_asked.lawful;
   broken = record {
     broken = (refl, first_Short comes_astray.payload (inl (omega arith)));
     first = under_malformed at_client (reverse only_asked) comes_astray refl (λ none. let e = none.0 in cc);
@@ -115,4 +76,4 @@ none_is_earlier Rule.ForeignPort low b = omega arith
 none_is_earlier _ low b = omega arith
 
 pub other_port_refused : IsRefused at_server (reverse only_is_asked) comes_to_service Rule.ForeignPort
-other_port_refused = record { lawful = served_passes; broken = record { broken = refl; first = none_is_earlier } }
+other_port_refused = record { lawful = served.lawful; broken = record { broken = refl; first = none_is_earlier } }

@@ -8,7 +8,8 @@ use Rattle.tftp_rules.specs.{transfer_of, Passed, IsReceiver, Terms}
 use Rattle.tftp_law.specs.{IsErrorBy, NoErrorPassed, By, IsWhole, Meant}
 use Rattle.tftp_law.proofs.Spelled.{spelled_once}
 use Rattle.tftp_worked.proofs.Payloads.{Spelled, datagrams, AllSpelled}
-use Rattle.tftp_worked.proofs.Passing.{main_of, every, every_is, terms_of, terms_are}
+use Rattle.tftp_worked.proofs.Passing.{main_of, every, every_is, terms_are}
+use Rattle.tftp_worked.proofs.Chains.{Start}
 use Rattle.tftp_worked.proofs.RuleTests.{not_error}
 
 -- what spells something else is no ERROR
@@ -31,20 +32,20 @@ abbrev pub goes_on : ℕ → List Spelled → Dir → Message → Bool
 goes_on b ts dir (Message.Data k bytes) = nat_le b (length bytes) || every (not_acked k) ts
 goes_on b ts dir _ = true
 
-module _ (h : Header) (es : List Spelled) (s : AllSpelled es) (t : Terms) (is : Some t ≡ terms_of h es) (none : t.size ≡ None) (receives : IsReceiver t)
-    (test : every (goes_on t.blksize (main_of h es)) (main_of h es) ≡ true) where
-  not_last : (dir : Dir) (last : ℕ) (bytes : List ℕ) → Passed dir (Message.Data last bytes) (transfer_of h (datagrams es)) → length bytes < t.blksize
-      → Passed Out (Message.Ack last) (transfer_of h (datagrams es)) → ⊥
+module _ (h : Header) (b : Start h) (t : Terms) (is : b.known [] ≡ Some t) (none : t.size ≡ None) (receives : IsReceiver t)
+    (test : every (goes_on t.blksize (main_of h b.es)) (main_of h b.es) ≡ true) where
+  not_last : (dir : Dir) (last : ℕ) (bytes : List ℕ) → Passed dir (Message.Data last bytes) (transfer_of h (datagrams b.es)) → length bytes < t.blksize
+      → Passed Out (Message.Ack last) (transfer_of h (datagrams b.es)) → ⊥
   not_last dir last bytes p short acked =
-      elim (or_cases (nat_le t.blksize (length bytes)) (every (not_acked last) (main_of h es)) (every_is h es (goes_on t.blksize (main_of h es)) dir (Message.Data last bytes) s test p)) [
+      elim (or_cases (nat_le t.blksize (length bytes)) (every (not_acked last) (main_of h b.es)) (every_is h b.es (goes_on t.blksize (main_of h b.es)) dir (Message.Data last bytes) b.spelled test p)) [
         | inl whole ↦ let most = leb-true t.blksize (length bytes) whole in omega arith
-        | inr never ↦ false≢true (subst (λ (b : Bool). not b ≡ true) (eq-eqb last last refl) (every_is h es (not_acked last) Out (Message.Ack last) s never acked))
+        | inr never ↦ false≢true (subst (λ (x : Bool). not x ≡ true) (eq-eqb last last refl) (every_is h b.es (not_acked last) Out (Message.Ack last) b.spelled never acked))
       ]
 
   no_size : (size : ℕ) → t.size ≡ Some size → ⊥
   no_size size sized = let both : None ≡ Some size = sym none ∙ sized in absurd (cc)
 
-  not_whole : (last : ℕ) → IsWhole t (transfer_of h (datagrams es)) last → ⊥
+  not_whole : (last : ℕ) → IsWhole t (transfer_of h (datagrams b.es)) last → ⊥
   not_whole last whole = elim whole.known [
     | inl short ↦ elim short.1 [ inl came ↦ not_last In last short.0 came short.2 (whole.acknowledged receives) | inr went ↦ not_last Out last short.0 went short.2 (whole.acknowledged receives) ]
     | inr sized ↦ no_size sized.0 sized.1
@@ -53,7 +54,7 @@ module _ (h : Header) (es : List Spelled) (s : AllSpelled es) (t : Terms) (is : 
   same : (a b : Terms) → Some a ≡ Some b → a ≡ b
   same a b e = cc
 
-  pub means_nothing : (m : Meaning) → Meant h (datagrams es) m → ⊥
+  pub means_nothing : (m : Meaning) → Meant h (datagrams b.es) m → ⊥
   means_nothing m meant =
-      let e = same meant.ended.terms t (sym (terms_are h es meant.ended.terms s meant.ended.known) ∙ sym is) in
-      not_whole meant.ended.last (subst (λ u. IsWhole u (transfer_of h (datagrams es)) meant.ended.last) e meant.ended.whole)
+      let e = same meant.ended.terms t (sym (terms_are h b.es meant.ended.terms b.spelled meant.ended.known) ∙ sym (b.knows []) ∙ is) in
+      not_whole meant.ended.last (subst (λ u. IsWhole u (transfer_of h (datagrams b.es)) meant.ended.last) e meant.ended.whole)

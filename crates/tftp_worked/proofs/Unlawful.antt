@@ -1,79 +1,29 @@
 -- Captures that no run of two ends has.
 use Rattle.std.proofs.Common.{◌≡◌, ℕ, not, nat_le, Bool, true, List, [], ◌∷◌, ◌++◌, codes, inl, inr, refl, sym, subst, ap, ◌∙◌, arith}
 use Rattle.std.proofs.lemmas.Bool.{false≢true, leb-true}
-use Rattle.tftp_packet.specs.{Message, RequestParts, OptionMap, Side, Get, Put, Octet, Client}
+use Rattle.tftp_packet.specs.{Message, RequestParts, OptionMap, Get, Put, Client}
 use Rattle.tftp_model.specs.{Meaning, request_of, number_or, option_or, windowsize_of, MachinePacket, Data, Ack, HasSent, HasTaken, Step, view_of, IsRun, eight_by_four, six_blocks}
-use Rattle.tftp_hosts.specs.{PeerId}
 use Rattle.tftp_model.specs.Roles.{sender_of, receiver_of}
 use Rattle.tftp_model.proofs.Moments.{taken_was_sent}
 use Rattle.tftp_model.proofs.Blocks.{blocks_sent, block_in_given_window}
 use Rattle.tftp_model.proofs.Computed.{same_packet, taken_is, sent_is, all_is}
 use Rattle.tftp_model.proofs.WorkedWindows.{four_of_both}
-use Rattle.tftp_law.specs.{TransferIds, IsLawful, IsLawfulUpTo}
+use Rattle.tftp_law.specs.{IsLawful, IsLawfulUpTo}
 use Rattle.tftp_law.proofs.Whole.Beginnings.{beginning_is_lawful, shown_is_lawful}
-use Rattle.tftp_worked.specs.{at_client, server_host, request, oack, block, ack, by_four, by_two, asks, goes, comes, before_overrun, block_seven, before_skip, block_two, window_out_of_order}
-use Rattle.tftp_worked.proofs.Payloads.{request_spells, oack_spells, data_spells, ack_spells, four_is, two_is, eight_by_two, Spelled, AllSpelled}
-use Rattle.tftp_worked.proofs.WindowsShown.{both_spell, six_shown}
-use Rattle.tftp_worked.proofs.Meant.{AllNear, deeds_for, all_meant, second_shows}
-
-abbrev pub asks_for : Side → OptionMap → RequestParts
-asks_for side options = record { side = side; name = codes "a"; mode = Octet; options = options }
+use Rattle.tftp_worked.specs.{at_client, request, oack, block, ack, by_four, by_two, asks, goes, comes, before_overrun, block_seven, before_skip, block_two, window_out_of_order}
+use Rattle.tftp_worked.proofs.Payloads.{eight_by_two, Spelled}
+use Rattle.tftp_worked.proofs.Exchanges.{went, came, twos, four_news}
+use Rattle.tftp_worked.proofs.Bases.{asks_for, read_by_four, write_by_two}
+use Rattle.tftp_worked.proofs.WindowsShown.{six_shown}
+use Rattle.tftp_worked.proofs.Meant.{deeds_for, client_meant}
 
 -- ---- a block beyond the window
 
+abbrev pub overrun_news : List Spelled
+overrun_news = came 7 (codes "77777777") ∷ four_news
+
 abbrev pub overrun : List Spelled
-overrun =
-    (comes (block 7 (codes "77777777")), Message.Data 7 (codes "77777777"))
-    ∷ (goes (ack 2), Message.Ack 2)
-    ∷ (comes (block 4 (codes "44444444")), Message.Data 4 (codes "44444444"))
-    ∷ (comes (block 2 (codes "22222222")), Message.Data 2 (codes "22222222"))
-    ∷ (comes (block 1 (codes "11111111")), Message.Data 1 (codes "11111111"))
-    ∷ (goes (ack 0), Message.Ack 0)
-    ∷ (comes (oack by_four), Message.Oack eight_by_four)
-    ∷ (asks (request 1 by_four), Message.Request (asks_for Get eight_by_four))
-    ∷ []
-
-pub overrun_spelled : AllSpelled overrun
-overrun_spelled = (
-  data_spells 7 (codes "77777777") refl,
-  (
-    ack_spells 2 refl,
-    (
-      data_spells 4 (codes "44444444") refl,
-      (
-        data_spells 2 (codes "22222222") refl,
-        (data_spells 1 (codes "11111111") refl, (ack_spells 0 refl, (both_spell, (request_spells Get by_four eight_by_four refl four_is, tt)))),
-      ),
-    ),
-  ),
-)
-
--- where the server answers
-abbrev server : PeerId
-server = record { host = server_host; port = 41000 }
-
-overrun_near : (ids : TransferIds) → server ≡ ids.peer → AllNear ids overrun
-overrun_near ids e = (
-  λ text is. cc,
-  λ _. e,
-  (
-    λ text is. cc,
-    λ _. e,
-    (
-      λ text is. cc,
-      λ _. e,
-      (
-        λ text is. cc,
-        λ _. e,
-        (
-          λ text is. cc,
-          λ _. e,
-          (λ text is. cc, λ _. e, (λ text is. cc, λ _. e, (λ text is. cc, λ way. absurd (cc), tt))),
-        ),
-      ),
-    ),
-  ),
-)
+overrun = overrun_news ++ read_by_four.es
 
 abbrev is_ack_up_to : ℕ → MachinePacket → Bool
 is_ack_up_to n (Ack j) = nat_le j n
@@ -102,10 +52,7 @@ overrun_run m wire steps run get four is =
 pub overrun_is_unlawful : IsLawful at_client (before_overrun ++ block_seven ∷ []) → ⊥
 overrun_is_unlawful (m, wire, seen) =
     let dress = seen.dressed in
-    let peer = second_shows m wire dress.ids
-    (block_seven ∷ goes (ack 2) ∷ comes (block 4 (codes "44444444")) ∷ comes (block 2 (codes "22222222")) ∷ comes (block 1 (codes "11111111")) ∷ goes (ack 0) ∷ [])
-    (comes (oack by_four)) (asks (request 1 by_four)) (Message.Oack eight_by_four) dress.division dress.whole dress.parts refl refl both_spell (λ r e. cc) in
-    let meant = all_meant at_client m wire dress.ids overrun dress.division dress.whole dress.parts overrun_spelled (overrun_near dress.ids peer) in
+    let meant = client_meant m wire dress.ids overrun_news (comes (oack by_four), Message.Oack eight_by_four) (asks (request 1 by_four), Message.Request (asks_for Get eight_by_four)) dress.division dress.whole dress.parts read_by_four.spelled refl in
     let says = meant.1.1.1.1.1.1.1 in
     let agreed : m.agreed ≡ eight_by_four = same_options m.agreed eight_by_four says.0 in
     let side : m.side ≡ Get = same_side (request_of m) (asks_for Get eight_by_four) says.1.0 in
@@ -124,17 +71,7 @@ overrun_is_first = record {
 -- ---- a block that was left out
 
 abbrev pub skips : List Spelled
-skips =
-    (goes (block 2 (codes "22222222")), Message.Data 2 (codes "22222222"))
-    ∷ (comes (oack by_two), Message.Oack eight_by_two)
-    ∷ (asks (request 2 by_two), Message.Request (asks_for Put eight_by_two))
-    ∷ []
-
-pub skips_spelled : AllSpelled skips
-skips_spelled = (data_spells 2 (codes "22222222") refl, (oack_spells by_two eight_by_two refl two_is, (request_spells Put by_two eight_by_two refl two_is, tt)))
-
-skips_near : (ids : TransferIds) → server ≡ ids.peer → AllNear ids skips
-skips_near ids e = (λ text is. cc, λ _. e, (λ text is. cc, λ _. e, (λ text is. cc, λ way. absurd (cc), tt)))
+skips = went 2 twos ∷ write_by_two.es
 
 abbrev is_not_first : MachinePacket → Bool
 is_not_first p = not (same_packet p (Data 1))
@@ -152,8 +89,6 @@ skips_run m wire steps run put is =
 pub skip_is_unlawful : IsLawful at_client (before_skip ++ block_two ∷ []) → ⊥
 skip_is_unlawful (m, wire, seen) =
     let dress = seen.dressed in
-    let peer = second_shows m wire dress.ids (block_two ∷ []) (comes (oack by_two)) (asks (request 2 by_two)) (Message.Oack eight_by_two) dress.division dress.whole dress.parts refl refl
-    (oack_spells by_two eight_by_two refl two_is) (λ r e. cc) in
-    let meant = all_meant at_client m wire dress.ids skips dress.division dress.whole dress.parts skips_spelled (skips_near dress.ids peer) in
+    let meant = client_meant m wire dress.ids (went 2 twos ∷ []) (comes (oack by_two), Message.Oack eight_by_two) (asks (request 2 by_two), Message.Request (asks_for Put eight_by_two)) dress.division dress.whole dress.parts write_by_two.spelled refl in
     let side : m.side ≡ Put = same_side (request_of m) (asks_for Put eight_by_two) meant.1.1.1.0 in
     skips_run m wire seen.run.0 seen.run.1 side (seen.run.2 ∙ sym dress.main ∙ meant.0)

@@ -5,8 +5,7 @@ use Rattle.tftp_model.specs.{Meaning, two_bytes, six_blocks}
 use Rattle.tftp_law.specs.{Rule, Shows, IsNotAborted}
 use Rattle.tftp_judge.specs.{IsVerdict, IsVerdictByRules, Unlawful, Incomplete}
 use Rattle.tftp_worked.specs.{at_client, one_block_read, read_without_its_ack, window_out_of_order, before_overrun, block_seven}
-use Rattle.tftp_worked.proofs.RefusedMore.{plain_asks, plain_hi}
-use Rattle.tftp_worked.proofs.RefusedErrors.{begun_spelled}
+use Rattle.tftp_worked.proofs.Bases.{plain_begun}
 use Rattle.tftp_worked.proofs.Unfinished.{no_errors}
 use Rattle.tftp_law.proofs.Whole.Beginnings.{shown_is_lawful}
 use Rattle.tftp_law.proofs.FirstBroken.FirstBroken.{refused_does_not_pass}
@@ -26,7 +25,7 @@ pub window_accepted : IsVerdict at_client window_out_of_order (Ok six_blocks)
 window_accepted = accepted at_client six_blocks window_out_of_order six_shown
 
 begin_has_no_error : IsNotAborted at_client (reverse read_without_its_ack)
-begin_has_no_error = no_errors (plain_hi ∷ plain_asks ∷ []) begun_spelled refl
+begin_has_no_error = no_errors plain_begun.es plain_begun.spelled refl
 
 pub begin_incomplete : IsVerdict at_client read_without_its_ack (Err (Incomplete 2))
 begin_incomplete = (begin_is_lawful, (λ m shown. begin_shows_nothing m shown.0 shown.1), begin_has_no_error, refl)
