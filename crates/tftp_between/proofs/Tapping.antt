@@ -40,19 +40,14 @@ rests_more j s given d refusal is tapped =
 
 module _ (s : TapSides) (given : List TapDatagram) where
   as_whole : (said : Result Meaning TapRefusal) → IsTapVerdict s given said → IsBetweenVerdict s given said
-  as_whole (Ok m) is = is
   as_whole (Err (Unlawful index rule)) is = absurd is
-  as_whole (Err (Aborted by code)) is = is
-  as_whole (Err (Incomplete count)) is = is
-  as_whole (Err NormalTooLong) is = is
   as_whole (Err (Memory count)) is = inr is
+  as_whole _ is = is
 
   as_refused : (refusal : TapRefusal) → IsTapRefusedIn s given refusal → IsBetweenVerdict s given (Err refusal)
   as_refused (Unlawful index rule) at = at
-  as_refused (Aborted by code) at = absurd at.refused
-  as_refused (Incomplete count) at = absurd at.refused
-  as_refused NormalTooLong at = absurd at.refused
   as_refused (Memory count) at = inl at
+  as_refused _ at = absurd at.refused
 
   pub finished : (j : TapJudge) (said : Result Meaning TapRefusal) → (IsTapJudge j s given → IsTapVerdict s given said) → ((refusal : TapRefusal) → j.refused ≡ Some refusal → said ≡ Err refusal)
       → HasTapped j s given → IsBetweenVerdict s given said

@@ -61,11 +61,7 @@ module _ (number : ℕ) (frame : List ℕ) (c : Linked) (network : Network) (car
   lift Link h = absurd h
   lift Frame h = absurd h
   lift NotIp h = absurd h
-  lift Header h = (c, network, carried, is_ip, h)
-  lift Protocol h = (c, network, carried, is_ip, h)
-  lift Length h = (c, network, carried, is_ip, h)
-  lift Cut h = (c, network, carried, is_ip, h)
-  lift Extension h = (c, network, carried, is_ip, h)
+  lift _ h = (c, network, carried, is_ip, h)
 
   same_network : (d : Linked) (other : Network) → IsLinked number frame d → d.network ≡ Some other → (P : Network → List ℕ → Type 0) → P other d.content → P network c.content
   same_network d other again is P h =

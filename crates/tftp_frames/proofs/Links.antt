@@ -55,14 +55,10 @@ typed_one type after c d (last, leads, network) (final, ends, other) =
     (network ∙ ap type_network same.0 ∙ sym other, same.1)
 
 carries_one : (link : LinkType) (frame : List ℕ) (c d : Linked) → Carries link frame c → Carries link frame d → Same c d
-carries_one Null frame c d p q = (p.0 ∙ sym q.0, p.1 ∙ sym q.1)
 carries_one Ethernet frame c d p q = typed_one _ _ c d p q
-carries_one Raw frame c d p q = (p.0 ∙ sym q.0, p.1 ∙ sym q.1)
-carries_one Loop frame c d p q = (p.0 ∙ sym q.0, p.1 ∙ sym q.1)
 carries_one Cooked frame c d p q = typed_one _ _ c d p q
-carries_one RawIpv4 frame c d p q = (p.0 ∙ sym q.0, p.1 ∙ sym q.1)
-carries_one RawIpv6 frame c d p q = (p.0 ∙ sym q.0, p.1 ∙ sym q.1)
 carries_one CookedTwo frame c d p q = typed_one _ _ c d p q
+carries_one _ frame c d p q = (p.0 ∙ sym q.0, p.1 ∙ sym q.1)
 
 link_one : (link : LinkType) (frame : List ℕ) (c d : Linked) → SpellsLink link frame c → SpellsLink link frame d → c ≡ d
 link_one link frame c d p q =

@@ -11,9 +11,8 @@ same_by_order one other = sym (search (comparing, rules))
 
 of_parts : (x y : Address) → bytes_of x ≡ bytes_of y → (version_of x == version_of y) ≡ true → x ≡ y
 of_parts (V4 x) (V4 y) bytes version = ap V4 bytes
-of_parts (V4 x) (V6 y) bytes version = absurd (false≢true version)
-of_parts (V6 x) (V4 y) bytes version = absurd (false≢true version)
 of_parts (V6 x) (V6 y) bytes version = ap V6 bytes
+of_parts _ _ bytes version = absurd (false≢true version)
 
 pub is_same_address : (x y : Address) → same_address x y ≡ true → x ≡ y
 is_same_address x y e =

@@ -41,10 +41,8 @@ clean_says failed P clean is = absurd (true≢false (sym is ∙ clean))
 ended : (text : List ℕ) (h : Header) (ds : List Numbered) (refusal : Refusal) → ((count : ℕ) → refusal ≡ Memory count → ⊥) → IsCapture text h ds → IsVerdict h (unnumbered ds) (Err refusal)
     → IsTextVerdict text (Err (RefusedFor refusal)) × IsReadVerdict text (Err (RefusedFor refusal))
 ended text h ds (Unlawful index rule) spare capture is = ((h, ds, capture_begins text h ds capture, is), (h, ds, capture_begins text h ds capture, is))
-ended text h ds (Aborted by code) spare capture is = ((h, ds, capture, is), (h, ds, capture, is))
-ended text h ds (Incomplete count) spare capture is = ((h, ds, capture, is), (h, ds, capture, is))
-ended text h ds NormalTooLong spare capture is = ((h, ds, capture, is), (h, ds, capture, is))
 ended text h ds (Memory count) spare capture is = absurd (spare count refl)
+ended text h ds _ spare capture is = ((h, ds, capture, is), (h, ds, capture, is))
 
 -- ---- a step of the reader
 

@@ -47,11 +47,8 @@ all_lawful text h ds (Err (Capture (Read line))) capture of is = absurd of
 all_lawful text h ds (Err (Capture (NoMemory line))) capture of is = absurd of
 
 not_faulty : (text : List ℕ) (h : Header) (ds : List Numbered) (r : Result Meaning Verdict) → IsCapture text h ds → IsTextVerdict text r → IsTextFault r → ⊥
-not_faulty text h ds (Ok m) capture is fault = fault
-not_faulty text h ds (Err (Refused refusal)) capture is fault = fault
 not_faulty text h ds (Err (Capture (Text line why))) capture is fault = captured_or_faulty text h ds is.0.0 line why capture is.0.1
-not_faulty text h ds (Err (Capture (Read line))) capture is fault = fault
-not_faulty text h ds (Err (Capture (NoMemory line))) capture is fault = fault
+not_faulty text h ds _ capture is fault = fault
 
 -- ---- two captures
 

@@ -81,10 +81,7 @@ window_later w k d h (a, acked, low, high) = (a, elim acked [ inl none ↦ inl n
 
 window_at : (w k : ℕ) (q : MachinePacket) (h : History) → acked_for w k q ≡ true → InWindow w k (Took q ∷ h)
 window_at w k (Ack a) h e = let parts = and_parts (nat_lt a k) (nat_le k (a + w)) e in (a, inr (contains_first (Took (Ack a)) h), ltb-true a k parts.0, leb-true k (a + w) parts.1)
-window_at w k Req h e = absurd (false≢true e)
-window_at w k Oack h e = absurd (false≢true e)
-window_at w k (Data j) h e = absurd (false≢true e)
-window_at w k (Error code text) h e = absurd (false≢true e)
+window_at w k _ h e = absurd (false≢true e)
 
 window_is : (w k : ℕ) (h : History) → 1 ≤ k → in_window w k h ≡ true → InWindow w k h
 window_is w k [] low e = let high = leb-true k w e in (0, inl refl, omega arith, omega arith)
@@ -211,10 +208,7 @@ go_on_is m wire plan e h (Error code text) is none t = absurd (false≢true t)
 
 stops_is : (m : Meaning) (wire : List ℕ) (e : End) (h : History) (p : MachinePacket) → (is_error p && may_send_error e h p) ≡ true → MaySend m wire e h p
 stops_is m wire e h (Error code text) t = error_is e h code text t
-stops_is m wire e h Req t = absurd (false≢true t)
-stops_is m wire e h Oack t = absurd (false≢true t)
-stops_is m wire e h (Data k) t = absurd (false≢true t)
-stops_is m wire e h (Ack j) t = absurd (false≢true t)
+stops_is m wire e h _ t = absurd (false≢true t)
 
 pub may_send_is : (m : Meaning) (wire : List ℕ) (plan : Plan) (e : End) (h : History) (p : MachinePacket) → IsPlan m wire plan → may_send m.side plan e h p ≡ true → MaySend m wire e h p
 may_send_is m wire plan e h p is t =

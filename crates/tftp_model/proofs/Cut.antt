@@ -11,11 +11,8 @@ use Rattle.tftp_model.proofs.Moments.{follow_same, taken_was_sent}
 use Rattle.tftp_model.proofs.OtherEnd.{by_other, other_view}
 
 pub sends_before_error : (m : Meaning) (wire : List ℕ) (e : End) (h : History) (p : MachinePacket) → is_error p ≡ false → MaySend m wire e h p → NoErrorSent h
-sends_before_error m wire e h Req plain may = may.no_error
-sends_before_error m wire e h Oack plain may = may.no_error
-sends_before_error m wire e h (Data k) plain may = may.no_error
-sends_before_error m wire e h (Ack j) plain may = may.no_error
 sends_before_error m wire e h (Error code text) plain may = absurd (true≢false plain)
+sends_before_error m wire e h _ plain may = may.no_error
 
 -- the ERRORs of an end are one
 pub one_error : (m : Meaning) (wire : List ℕ) (steps : List Step) → IsRun m wire steps → (e : End) (c d : ℕ) (t u : List ℕ) → HasSent (view_of e steps) (Error c t) → HasSent (view_of e steps) (Error d u) → (c ≡ d) × (t ≡ u)
@@ -40,9 +37,8 @@ pub record Cut (m : Meaning) (wire : List ℕ) (steps : List Step) (e : End) : T
 
 step_heard : (e a : End) (d : Deed) (steps : List Step) → stopped (view_of e (record { actor = a; deed = d } ∷ steps)) ≡ true → heard (view_of e (record { actor = a; deed = d } ∷ steps)) ≡ heard (view_of e steps)
 step_heard Client Client d steps over = heard_stopped d (view_of Client steps) over
-step_heard Client Server d steps over = refl
-step_heard Server Client d steps over = refl
 step_heard Server Server d steps over = heard_stopped d (view_of Server steps) over
+step_heard _ _ d steps over = refl
 
 -- once its ERROR has come to this end, the other one sends nothing else
 silent_after : (m : Meaning) (wire : List ℕ) (steps : List Step) → IsRun m wire steps → (e : End) (p : MachinePacket) → is_error p ≡ false → MaySend m wire (other_end e) (view_of (other_end e) steps) p → stopped (view_of e steps) ≡ true → ⊥

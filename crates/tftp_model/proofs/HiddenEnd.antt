@@ -78,10 +78,7 @@ is_block _ = false
 
 block_is : (p : MachinePacket) → is_block p ≡ true → (k : ℕ) × (p ≡ Data k)
 block_is (Data k) e = (k, refl)
-block_is Req e = absurd (true≢false (sym e))
-block_is Oack e = absurd (true≢false (sym e))
-block_is (Ack j) e = absurd (true≢false (sym e))
-block_is (Error code text) e = absurd (true≢false (sym e))
+block_is _ e = absurd (true≢false (sym e))
 
 module _ (m : Meaning) (wire : List ℕ) (e : End) (h : History) where
   -- what can have been used, the other end has taken

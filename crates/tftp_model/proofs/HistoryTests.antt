@@ -63,10 +63,9 @@ took_up_to h (suc j) = has_taken h (Data (suc j)) && took_up_to h j
 -- ---- what they tell
 
 pub end_is : (a b : End) → same_end a b ≡ true → a ≡ b
-end_is Client Client e = refl
-end_is Server Server e = refl
 end_is Client Server e = absurd (false≢true e)
 end_is Server Client e = absurd (false≢true e)
+end_is _ _ e = refl
 
 pub packet_is : (p q : MachinePacket) → same_packet p q ≡ true → p ≡ q
 packet_is Req Req e = refl
@@ -78,26 +77,7 @@ packet_is (Error c t) (Error d u) e =
     let code : c ≡ d = eqb-true c d parts.0 in
     let text : t ≡ u = (bytes_eq-Decides t u).0 parts.1 in
     cc
-packet_is Req Oack e = absurd (false≢true e)
-packet_is Req (Data j) e = absurd (false≢true e)
-packet_is Req (Ack j) e = absurd (false≢true e)
-packet_is Req (Error d u) e = absurd (false≢true e)
-packet_is Oack Req e = absurd (false≢true e)
-packet_is Oack (Data j) e = absurd (false≢true e)
-packet_is Oack (Ack j) e = absurd (false≢true e)
-packet_is Oack (Error d u) e = absurd (false≢true e)
-packet_is (Data k) Req e = absurd (false≢true e)
-packet_is (Data k) Oack e = absurd (false≢true e)
-packet_is (Data k) (Ack j) e = absurd (false≢true e)
-packet_is (Data k) (Error d u) e = absurd (false≢true e)
-packet_is (Ack k) Req e = absurd (false≢true e)
-packet_is (Ack k) Oack e = absurd (false≢true e)
-packet_is (Ack k) (Data j) e = absurd (false≢true e)
-packet_is (Ack k) (Error d u) e = absurd (false≢true e)
-packet_is (Error c t) Req e = absurd (false≢true e)
-packet_is (Error c t) Oack e = absurd (false≢true e)
-packet_is (Error c t) (Data j) e = absurd (false≢true e)
-packet_is (Error c t) (Ack j) e = absurd (false≢true e)
+packet_is _ _ e = absurd (false≢true e)
 
 pub sent_is : (h : History) (p : MachinePacket) → has_sent h p ≡ true → HasSent h p
 sent_is [] p e = absurd (false≢true e)

@@ -4,12 +4,10 @@ pub mod Moments
 pub mod Blocks
 pub mod Defaults
 pub mod HistoryTests
-pub mod Worked
 pub mod Starts
-pub mod WorkedMore
 pub mod Wires
 pub mod Computed
-pub mod WorkedWindows
+pub mod Worked
 pub mod WorkedErrors
 pub mod Stops
 pub mod OtherEnd

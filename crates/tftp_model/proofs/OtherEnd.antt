@@ -11,16 +11,14 @@ other_other Client = refl
 other_other Server = refl
 
 pub sender_other : (e : End) (side : Side) → other_end e ≡ sender_of side → e ≡ receiver_of side
-sender_other Client Get is = refl
 sender_other Client Put is = absurd (cc)
 sender_other Server Get is = absurd (cc)
-sender_other Server Put is = refl
+sender_other _ _ is = refl
 
 pub receiver_other : (e : End) (side : Side) → other_end e ≡ receiver_of side → e ≡ sender_of side
-receiver_other Client Get is = absurd (cc)
 receiver_other Client Put is = refl
 receiver_other Server Get is = refl
-receiver_other Server Put is = absurd (cc)
+receiver_other _ _ is = absurd (cc)
 
 pub other_sends : (side : Side) → other_end (receiver_of side) ≡ sender_of side
 other_sends Get = refl

@@ -44,11 +44,7 @@ taken_stops code text (d ∷ h) at = elim (contains_cases d h (Took (Error code 
 -- the deed that stops an end is an ERROR that comes
 pub first_error : (d : Deed) (h : History) → stopped (d ∷ h) ≡ true → stopped h ≡ false → (code : ℕ) × (text : List ℕ) × (d ≡ Took (Error code text))
 first_error (Took (Error code text)) h over going = (code, text, refl)
-first_error (Sent p) h over going = absurd (true≢false (sym over ∙ going))
-first_error (Took Req) h over going = absurd (true≢false (sym over ∙ going))
-first_error (Took Oack) h over going = absurd (true≢false (sym over ∙ going))
-first_error (Took (Data k)) h over going = absurd (true≢false (sym over ∙ going))
-first_error (Took (Ack j)) h over going = absurd (true≢false (sym over ∙ going))
+first_error _ h over going = absurd (true≢false (sym over ∙ going))
 
 pub stopped_took : (h : History) → stopped h ≡ true → (code : ℕ) × (text : List ℕ) × HasTaken h (Error code text)
 stopped_took [] over = absurd (true≢false (sym over))

@@ -47,8 +47,7 @@ windowsize_range n e = within 1 65535 n e
 -- ---- a number that is found
 pub has_number : (o : Option OptionValue) (n : ℕ) → Some n ≡ option_and_then number_in o → o ≡ Some (Num n)
 has_number (Some (Num m)) n e = cc
-has_number (Some (Text text)) n e = absurd (let x : ⊥ = cc in x)
-has_number None n e = absurd (let x : ⊥ = cc in x)
+has_number _ n e = absurd (let x : ⊥ = cc in x)
 
 pub block_size_some : (pairs : List Pair) (n : ℕ) → Some n ≡ option_and_then number_in (map.get (map_of pairs) (codes "blksize")) → 0 < n
 block_size_some pairs n e =

@@ -41,15 +41,7 @@ first_Short payload h = (h, before)
   where
     before : (earlier : PacketFault) → number earlier < 1 → Holds earlier payload → ⊥
     before Short below x = omega arith
-    before Opcode below x = omega arith
-    before AckLength below x = omega arith
-    before NoTerminator below x = omega arith
-    before OddOptions below x = omega arith
-    before EmptyOptionName below x = omega arith
-    before DuplicateOption below x = omega arith
-    before UnknownMode below x = omega arith
-    before MailMode below x = omega arith
-    before RequestTooLong below x = omega arith
+    before _ below x = omega arith
 
 pub first_NoTerminator : (payload : List ℕ) → Holds NoTerminator payload → (Holds Short payload → ⊥) → (Holds Opcode payload → ⊥) → (Holds AckLength payload → ⊥) → FirstFault payload NoTerminator
 first_NoTerminator payload h n0 n1 n2 = (h, before)

@@ -29,8 +29,7 @@ is_true false h = absurd h
 -- ---- order
 flipped : (o p : Ordering) → p ≡ ordering_reverse o → is_lt o ≡ true → is_lt p ≡ false
 flipped Less p e lt = ap is_lt e
-flipped Equal p e lt = absurd (true≢false (sym lt))
-flipped Greater p e lt = absurd (true≢false (sym lt))
+flipped _ p e lt = absurd (true≢false (sym lt))
 
 below_each : (k : List ℕ) (entries : List Entry) (i : ℕ) (d : Entry) → T (below_all (slice_cmp nat_cmp) k (shown_entries entries)) → i < length entries → is_lt (slice_cmp nat_cmp k (get_or entries i d).name) ≡ true
 below_each k [] i d h low = absurd (omega arith)

@@ -98,14 +98,7 @@ module _ (k : ℕ) (request : (k ≡ 1) ⊎ (k ≡ 2)) where
           (not_short k request (strings whole)) (not_opcode k request (strings whole)) (not_ack k request (strings whole))
           (not_unended k request name mode_text (pair_strings pairs) all_strung (strings_end name (mode_text ∷ pair_strings pairs)))
           (paired k request name mode_text pairs all_strung) (all_named k request name mode_text pairs all_strung named) (all_apart k request name mode_text pairs all_strung apart))
-      mode_fault Short none = elim none [ ]
-      mode_fault Opcode none = elim none [ ]
-      mode_fault AckLength none = elim none [ ]
-      mode_fault NoTerminator none = elim none [ ]
-      mode_fault OddOptions none = elim none [ ]
-      mode_fault EmptyOptionName none = elim none [ ]
-      mode_fault DuplicateOption none = elim none [ ]
-      mode_fault RequestTooLong none = elim none [ ]
+      mode_fault _ none = elim none [ ]
 
       -- with a mode that is known
       pub too_long : (mode : Mode) → lower mode_text ≡ mode_name mode → pairs ≢ [] → 510 < length body → FirstFault (0 ∷ k ∷ body) RequestTooLong

@@ -5,16 +5,14 @@ use Rattle.tftp_packet.proofs.PairStrings.{pair_strings_injective}
 use Rattle.tftp_packet.proofs.Strings.{split_unique, strings_injective}
 
 pub side_opcode_injective : (a b : Side) → side_opcode a ≡ side_opcode b → a ≡ b
-side_opcode_injective Get Get e = refl
 side_opcode_injective Get Put e = absurd (omega arith)
 side_opcode_injective Put Get e = absurd (omega arith)
-side_opcode_injective Put Put e = refl
+side_opcode_injective _ _ e = refl
 
 pub mode_name_injective : (a b : Mode) → mode_name a ≡ mode_name b → a ≡ b
-mode_name_injective Octet Octet e = refl
 mode_name_injective Octet Netascii e = absurd (let f : ⊥ = cc in f)
 mode_name_injective Netascii Octet e = absurd (let f : ⊥ = cc in f)
-mode_name_injective Netascii Netascii e = refl
+mode_name_injective _ _ e = refl
 
 -- the opcode of a message's spelling
 abbrev pub message_opcode : Message → ℕ

@@ -117,17 +117,11 @@ agrees_passed side (d ∷ passed) o first = elim first [
 
 begins_block : (x : Message) → IsAnswer Get x Begins → (k : ℕ) × (bytes : List ℕ) × (x ≡ Message.Data k bytes)
 begins_block (Message.Data k bytes) is = (k, bytes, refl)
-begins_block (Message.Request r) is = absurd is
-begins_block (Message.Ack j) is = absurd is
-begins_block (Message.Error code text) is = absurd is
-begins_block (Message.Oack o) is = absurd is
+begins_block _ is = absurd is
 
 begins_zero : (x : Message) → IsAnswer Put x Begins → x ≡ Message.Ack 0
 begins_zero (Message.Ack j) is = ap Message.Ack is
-begins_zero (Message.Data k bytes) is = absurd is
-begins_zero (Message.Request r) is = absurd is
-begins_zero (Message.Error code text) is = absurd is
-begins_zero (Message.Oack o) is = absurd is
+begins_zero _ is = absurd is
 
 block_passed : (passed : List Datagram) → FirstAnswer Get passed Begins → (k : ℕ) × (bytes : List ℕ) × HasPassed (Message.Data k bytes) passed
 block_passed [] first = absurd first

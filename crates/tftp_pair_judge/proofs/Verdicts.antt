@@ -221,15 +221,13 @@ module _ (own other : Capture) (n i k : ℕ) where
     next_one e d next = get_or_same (begun n own).datagrams i e d next.0 ∙ next.1
 
   pub one_why : (why also : Option Wait) → IsWhyWaiting own n i other k why → IsWhyWaiting own n i other k also → why ≡ also
-  one_why None None one two = refl
   one_why None (Some Unsent) one two = absurd (none_left two.0 one two.1)
   one_why None (Some SentLater) one two = absurd (none_left two.0 one two.1)
   one_why (Some Unsent) None one two = absurd (none_left one.0 two one.1)
-  one_why (Some Unsent) (Some Unsent) one two = refl
   one_why (Some Unsent) (Some SentLater) one two = absurd (apart one two)
   one_why (Some SentLater) None one two = absurd (none_left one.0 two one.1)
   one_why (Some SentLater) (Some Unsent) one two = absurd (apart two one)
-  one_why (Some SentLater) (Some SentLater) one two = refl
+  one_why _ _ one two = refl
 
 -- ---- what the network did
 

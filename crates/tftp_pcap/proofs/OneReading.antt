@@ -67,22 +67,14 @@ record_announced classic s frame p = go p.head p.numbers p.are
         (omega (arith, ap length path), omega (arith, ap length path, captured))
 
 pub says_announced : (layout : Layout) (interfaces : List Interface) (s : List ℕ) (said : Said) → Says layout interfaces s said → Announces layout s (length s)
-says_announced Unopened interfaces s (Opens Unopened) says = absurd says
 says_announced Unopened interfaces s (Opens (Classic classic)) says = header_announced s classic says
 says_announced Unopened interfaces s (Opens (Blocks order)) says = section_announced s order says
-says_announced Unopened interfaces s (Names interface) says = absurd says
-says_announced Unopened interfaces s (Gives frame) says = absurd says
-says_announced Unopened interfaces s Skips says = absurd says
 says_announced (Classic classic) interfaces s (Gives frame) says = record_announced classic s frame says
-says_announced (Classic classic) interfaces s (Opens layout) says = absurd says
-says_announced (Classic classic) interfaces s (Names interface) says = absurd says
-says_announced (Classic classic) interfaces s Skips says = absurd says
-says_announced (Blocks own) interfaces s (Opens Unopened) says = absurd says
-says_announced (Blocks own) interfaces s (Opens (Classic classic)) says = absurd says
 says_announced (Blocks own) interfaces s (Opens (Blocks order)) says = again_announced own s order says
 says_announced (Blocks own) interfaces s (Names interface) says = block_announced own interfaces s (Names interface) says
 says_announced (Blocks own) interfaces s (Gives frame) says = block_announced own interfaces s (Gives frame) says
 says_announced (Blocks own) interfaces s Skips says = block_announced own interfaces s Skips says
+says_announced _ interfaces s _ says = absurd says
 
 -- so of two pieces in front of some bytes each is the other
 pub piece_one : (layout : Layout) (interfaces : List Interface) (p q more rest : List ℕ) (s t : Said) → Says layout interfaces p s → Says layout interfaces q t → p ++ more ≡ q ++ rest → (p ≡ q) × (more ≡ rest)
@@ -192,8 +184,7 @@ piece_some layout interfaces p s says = some layout (says_announced layout inter
   where
     some : (l : Layout) → Announces l p (length p) → 0 < length p
     some Unopened a = omega (arith, a.0)
-    some (Classic classic) a = omega (arith, a.0)
-    some (Blocks order) a = omega (arith, a.0)
+    some _ a = omega (arith, a.0)
 
 pub follows_one : (mode : Mode) (ps qs : List (List ℕ)) (one other : Mode) (fs gs : List FrameParts) → Follows mode ps one fs → Follows mode qs other gs → flat_map (λ p. p) ps ≡ flat_map (λ q. q) qs → (one ≡ other) × (fs ≡ gs)
 follows_one mode [] [] one other fs gs (a, x) (b, y) e = (a ∙ sym b, x ∙ sym y)

@@ -13,17 +13,12 @@ nothing = record { pieces = []; are = refl; follows = (refl, refl); counted = re
 -- a header gives no frame
 opening : (f : Found) (piece taken : List ℕ) → Says Unopened [] taken (said_of f piece) → given (said_of f piece) ≡ []
 opening (found.Opens layout) piece taken says = refl
-opening (found.Names interface) piece taken says = absurd says
-opening (found.Gives place) piece taken says = absurd says
-opening found.Skips piece taken says = absurd says
+opening _ piece taken says = absurd says
 
 opening_opens : (f : Found) (piece taken : List ℕ) → Says Unopened [] taken (said_of f piece) → (next_mode start (said_of f piece)).layout ≢ Unopened
-opening_opens (found.Opens Unopened) piece taken says = absurd says
 opening_opens (found.Opens (Classic classic)) piece taken says = λ e. let x : ⊥ = cc in x
 opening_opens (found.Opens (Blocks order)) piece taken says = λ e. let x : ⊥ = cc in x
-opening_opens (found.Names interface) piece taken says = absurd says
-opening_opens (found.Gives place) piece taken says = absurd says
-opening_opens found.Skips piece taken says = absurd says
+opening_opens _ piece taken says = absurd says
 
 rest_ahead : (before after : Option (List ℕ)) (taken ahead : List ℕ) → Consumes before (prepend_known ahead after) taken → Consumes before after (taken ++ ahead)
 rest_ahead None after taken ahead c = tt

@@ -7,13 +7,10 @@ use Rattle.tftp_pcap.specs.{FrameParts, Said, Says, Mode, Follows, Stands, IsRec
 use Rattle.tftp_pcap.specs.declared.found.Found.TheVariants as found
 
 pub stops_of : (kind : FaultKind) (mode : Mode) (count : ℕ) (part : List ℕ) → FrontEnds mode.layout (Err kind) part → Stops kind mode count part
-stops_of NotARecording mode count part h = h
-stops_of Truncated mode count part h = h
 stops_of Bad mode count part h = inl h
-stops_of TooLong mode count part h = h
 stops_of TooMany mode count part h = absurd h
-stops_of Read mode count part h = h
 stops_of Memory mode count part h = inl h
+stops_of _ mode count part h = h
 
 follows_more : (mode end : Mode) (pieces : List (List ℕ)) (frames : List FrameParts) (piece : List ℕ) (said : Said) → Follows mode pieces end frames → Says end.layout end.interfaces piece said
     → Follows mode (pieces ++ piece ∷ []) (next_mode end said) (frames ++ given said)
@@ -42,13 +39,11 @@ step_fails kind shown old before after piece is consumed ends =
     (piece, subst (λ (s : PiecesState). Consumes (prepend_known s.ahead before) after piece) is consumed, (stops_of kind old.mode old.count piece (subst (λ (s : PiecesState). FrontEnds s.mode.layout (Err kind) piece) is ends), λ h. refl))
 
 stops_rest : (kind : FaultKind) (mode : Mode) (count : ℕ) (piece taken : List ℕ) → RestEnds mode (Err kind) piece taken → Stops kind mode count taken × ((kind ≡ NotARecording) ⊎ (kind ≡ Memory) → taken ≡ piece)
-stops_rest NotARecording mode count piece taken h = absurd h
 stops_rest Truncated mode count piece taken h = (h, λ e. absurd (elim e as (λ _. ⊥) [ inl a ↦ (let x : ⊥ = cc in x) | inr a ↦ (let x : ⊥ = cc in x) ]))
 stops_rest Bad mode count piece taken h = (h, λ e. absurd (elim e as (λ _. ⊥) [ inl a ↦ (let x : ⊥ = cc in x) | inr a ↦ (let x : ⊥ = cc in x) ]))
-stops_rest TooLong mode count piece taken h = absurd h
-stops_rest TooMany mode count piece taken h = absurd h
 stops_rest Read mode count piece taken h = (h, λ e. absurd (elim e as (λ _. ⊥) [ inl a ↦ (let x : ⊥ = cc in x) | inr a ↦ (let x : ⊥ = cc in x) ]))
 stops_rest Memory mode count piece taken h = (inl h.0, λ e. h.1)
+stops_rest _ mode count piece taken h = absurd h
 
 no_skip : (f : Found) (interface : Interface) (taken piece : List ℕ) → f ≡ found.Names interface → (f ≡ found.Skips) ⊎ (taken ≡ piece) → taken ≡ piece
 no_skip f interface taken piece named (inl skips) = absurd (let x : ⊥ = cc in x)

@@ -113,41 +113,27 @@ put_or_stays_at : (o m : Option SetState) (all : ℕ) (a : Arrival) (outcome : O
 put_or_stays_at o m all a Waits n ends i = inr (in_same n _ _ (sym ends.2) (in_left n _ _ i))
 put_or_stays_at o m all a (Whole content frames) n ends i = inl (in_same n _ _ (sym ends.2) (in_left n _ _ i))
 put_or_stays_at o m all a (Apart frames) n ends i = inl (in_same n _ _ (sym ends.1) i)
-put_or_stays_at o m all a Empty n ends i = inr (at_same n _ _ (sym ends.0) i)
-put_or_stays_at o m all a TooLong n ends i = inr (at_same n _ _ (sym ends.0) i)
-put_or_stays_at o m all a Full n ends i = inr (at_same n _ _ (sym ends.0) i)
+put_or_stays_at o m all a _ n ends i = inr (at_same n _ _ (sym ends.0) i)
 
 stayed_put_at : (o m : Option SetState) (all : ℕ) (a : Arrival) (outcome : Outcome) (n : ℕ) → PutEnds o m all a outcome → IsIn n (frames_of m) → ((n ≡ a.frame) × (outcome ≡ Waits)) ⊎ IsIn n (frames_of o)
 stayed_put_at o m all a Waits n ends i = elim (in_snoc n a.frame _ (in_same n _ _ ends.2 i)) [ inl e ↦ inl (e, refl) | inr j ↦ inr j ]
 stayed_put_at o m all a (Whole content frames) n ends i = absurd (at_same n _ None ends.0 i)
 stayed_put_at o m all a (Apart frames) n ends i = absurd (in_same n _ [] ends.3 i)
-stayed_put_at o m all a Empty n ends i = inr (at_same n _ _ ends.0 i)
-stayed_put_at o m all a TooLong n ends i = inr (at_same n _ _ ends.0 i)
-stayed_put_at o m all a Full n ends i = inr (at_same n _ _ ends.0 i)
+stayed_put_at o m all a _ n ends i = inr (at_same n _ _ ends.0 i)
 
 sharers_at : (o m : Option SetState) (all : ℕ) (a : Arrival) (outcome : Outcome) (n : ℕ) → PutEnds o m all a outcome → IsIn n (sharers (Some outcome)) → (n ≡ a.frame) ⊎ IsIn n (frames_of o)
-sharers_at o m all a Waits n ends i = absurd i
 sharers_at o m all a (Whole content frames) n ends i = in_snoc n a.frame _ (in_same n _ _ ends.2 i)
 sharers_at o m all a (Apart frames) n ends i = inr (in_same n _ _ ends.1 i)
-sharers_at o m all a Empty n ends i = absurd i
-sharers_at o m all a TooLong n ends i = absurd i
-sharers_at o m all a Full n ends i = absurd i
+sharers_at o m all a _ n ends i = absurd i
 
 sharers_gone_at : (o m : Option SetState) (all : ℕ) (a : Arrival) (outcome : Outcome) (n : ℕ) → PutEnds o m all a outcome → IsIn n (sharers (Some outcome)) → IsIn n (frames_of m) → ⊥
-sharers_gone_at o m all a Waits n ends i j = i
 sharers_gone_at o m all a (Whole content frames) n ends i j = at_same n _ None ends.0 j
 sharers_gone_at o m all a (Apart frames) n ends i j = in_same n _ [] ends.3 j
-sharers_gone_at o m all a Empty n ends i j = i
-sharers_gone_at o m all a TooLong n ends i j = i
-sharers_gone_at o m all a Full n ends i j = i
+sharers_gone_at o m all a _ n ends i j = i
 
 own_at : (o m : Option SetState) (all : ℕ) (a : Arrival) (outcome : Outcome) → PutEnds o m all a outcome → (outcome ≢ Waits) ⊎ IsIn a.frame (frames_of m)
 own_at o m all a Waits ends = inr (in_same a.frame _ _ (sym ends.2) (in_last a.frame _))
-own_at o m all a (Whole content frames) ends = inl (λ e. cc)
-own_at o m all a (Apart frames) ends = inl (λ e. cc)
-own_at o m all a Empty ends = inl (λ e. cc)
-own_at o m all a TooLong ends = inl (λ e. cc)
-own_at o m all a Full ends = inl (λ e. cc)
+own_at o m all a _ ends = inl (λ e. cc)
 
 pub some_is : (a b : Outcome) → Some a ≡ Some b → a ≡ b
 some_is a b e = cc

@@ -42,12 +42,10 @@ never_full old new roomy a outcome none ends full =
 
 -- there is room for a part that may be put, where it is not said that there is none
 pub has_room : (all : ℕ) (p : Part) (outcome : Outcome) → IsTried all p outcome → outcome ≢ Full → MayBePut p → HasRoom all p
-has_room all p Waits t n may = t.1
-has_room all p (Whole content frames) t n may = t.1
-has_room all p (Apart frames) t n may = t.1
 has_room all p Empty t n may = absurd (omega (arith, may.0, ap length t))
 has_room all p TooLong t n may = absurd (omega (arith, may.1, t.1))
 has_room all p Full t n may = absurd (n refl)
+has_room all p _ t n may = t.1
 
 pub may_be_put : (all : ℕ) (p : Part) (outcome : Outcome) → outcome ≡ Full → IsTried all p outcome → MayBePut p
 may_be_put all p outcome full t = (subst (IsTried all p) full t).0

@@ -31,8 +31,7 @@ frames_counted history = length-reverse (map (λ (s : Step). s.frame) history) �
 -- a reader that gave a frame had counted those before it
 counted_by : (standing : Standing) (r : ReaderState) (bytes : List ℕ) (frames : List FrameParts) → KeepsAnswer standing (Ok true) → StandingTells standing r bytes frames → r.count ≡ length frames
 counted_by Open r bytes frames keeps tells = tells.1
-counted_by Over r bytes frames keeps tells = cc
-counted_by (Failed fault) r bytes frames keeps tells = cc
+counted_by _ r bytes frames keeps tells = cc
 
 open_tells : (refused : Option PcapFault) (r : RecordingState) (bytes : List ℕ) (history : List Step) → refused ≡ None → RefusedTells refused r bytes history → pcap.StandsFor r.frames bytes (frames_of history) × (r.waiting ≡ waiting history) × copies.StandsFor r.recent (packets_of history)
 open_tells None r bytes history e tells = tells

@@ -47,9 +47,7 @@ put_kept_at : (P : List Arrival → Type 0) (o m : Option SetState) (all : ℕ) 
 put_kept_at P o m all a Waits arrivals ends kept none same more = (a ∷ arrivals, ends.0 arrivals kept, more)
 put_kept_at P o m all a (Whole content frames) arrivals ends kept none same more = ([], subst (λ (x : Option SetState). IsKeptOf x []) (sym ends.0) refl, none)
 put_kept_at P o m all a (Apart frames) arrivals ends kept none same more = (a ∷ arrivals, ends.0 arrivals kept, more)
-put_kept_at P o m all a Empty arrivals ends kept none same more = (arrivals, subst (λ (x : Option SetState). IsKeptOf x arrivals) (sym ends.0) kept, same)
-put_kept_at P o m all a TooLong arrivals ends kept none same more = (arrivals, subst (λ (x : Option SetState). IsKeptOf x arrivals) (sym ends.0) kept, same)
-put_kept_at P o m all a Full arrivals ends kept none same more = (arrivals, subst (λ (x : Option SetState). IsKeptOf x arrivals) (sym ends.0) kept, same)
+put_kept_at P o m all a _ arrivals ends kept none same more = (arrivals, subst (λ (x : Option SetState). IsKeptOf x arrivals) (sym ends.0) kept, same)
 
 module _ (before : List Step) (step : Step) (p : Packet) (f : Fragment) (is : IsPart step.frame p f) (t : TakesPart (key_of p f) (arrival_of step.frame (length before + 1) p f) (waiting before) step.waits step.brought) where
   roomy_kept : (k : Key) → Kept before (waiting before) k → Kept before t.roomy k

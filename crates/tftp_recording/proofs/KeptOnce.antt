@@ -197,20 +197,16 @@ module _ (o x m y : Option SetState) (all most : ℕ) (a : Arrival) (l : List Ar
   when_apart frames Full e f t u n = absurd (n refl)
 
   when_empty : (v : Outcome) → PutEnds o x all a Empty → PutEnds m y most a v → a.part.content ≡ [] → IsTried most a.part v → v ≢ Full → Same x y × IsSame Empty v
-  when_empty Waits e f t u n = absurd (put_not_empty a.part u.0 t)
-  when_empty (Whole content frames) e f t u n = absurd (put_not_empty a.part u.0 t)
-  when_empty (Apart frames) e f t u n = absurd (put_not_empty a.part u.0 t)
   when_empty Empty e f t u n = (both_stay e.0 f.0, refl)
   when_empty TooLong e f t u n = absurd (long_not_empty a.part u.0 t)
   when_empty Full e f t u n = absurd (n refl)
+  when_empty _ e f t u n = absurd (put_not_empty a.part u.0 t)
 
   when_long : (v : Outcome) → PutEnds o x all a TooLong → PutEnds m y most a v → IsTried all a.part TooLong → IsTried most a.part v → v ≢ Full → Same x y × IsSame TooLong v
-  when_long Waits e f t u n = absurd (put_not_long a.part u.0 t.1)
-  when_long (Whole content frames) e f t u n = absurd (put_not_long a.part u.0 t.1)
-  when_long (Apart frames) e f t u n = absurd (put_not_long a.part u.0 t.1)
   when_long Empty e f t u n = absurd (long_not_empty a.part t.0 u)
   when_long TooLong e f t u n = (both_stay e.0 f.0, refl)
   when_long Full e f t u n = absurd (n refl)
+  when_long _ e f t u n = absurd (put_not_long a.part u.0 t.1)
 
   put_alike : (w v : Outcome) → PutEnds o x all a w → PutEnds m y most a v → IsTried all a.part w → IsTried most a.part v → w ≢ Full → v ≢ Full → Same x y × IsSame w v
   put_alike Waits v e f t u k n = when_waits v e f t.0 u n

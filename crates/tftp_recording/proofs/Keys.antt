@@ -13,9 +13,8 @@ truth true = inl refl
 truth false = inr refl
 
 equal_if : (o : Ordering) → is_eq o ≡ true → o ≡ Equal
-equal_if Less e = cc
 equal_if Equal e = refl
-equal_if Greater e = cc
+equal_if _ e = cc
 
 pub same_itself : (key : Key) → same_key key key ≡ true
 same_itself key = ap is_eq (tied_itself key_total key)

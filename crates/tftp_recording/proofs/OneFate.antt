@@ -23,15 +23,13 @@ impossible e = cc
 -- ---- likeness
 
 like_one : (before : List Recorded) (time : Option ℕ) (p : Packet) (l m : Likeness) → IsLike before time p l → IsLike before time p m → l ≡ m
-like_one before time p likeness.New likeness.New a b = refl
 like_one before time p likeness.New likeness.Doubtful a b = absurd (a b.0)
 like_one before time p likeness.New likeness.Copy a b = absurd (a b.0)
 like_one before time p likeness.Doubtful likeness.New a b = absurd (b a.0)
-like_one before time p likeness.Doubtful likeness.Doubtful a b = refl
 like_one before time p likeness.Doubtful likeness.Copy a b = absurd (impossible (sym a.1 ∙ b.1))
 like_one before time p likeness.Copy likeness.New a b = absurd (b a.0)
 like_one before time p likeness.Copy likeness.Doubtful a b = absurd (impossible (sym b.1 ∙ a.1))
-like_one before time p likeness.Copy likeness.Copy a b = refl
+like_one before time p _ _ a b = refl
 
 pub comes_one : (before : List Recorded) (frame : FrameParts) (l m : Likeness) (came now : List Recorded) → Comes before frame l came → Comes before frame m now → (l ≡ m) × (came ≡ now)
 comes_one before frame l m came now (inl a) (inl b) = (a.1 ∙ sym b.1, a.2 ∙ sym b.2)
@@ -115,12 +113,7 @@ module _ (frame : FrameParts) (whole : Option Content) where
   says_one (Datagram d) same g h = with_datagram d same g h
   says_one (Left (Frame fault)) same g h = with_fault fault same g h
   says_one (Left (NoUdp fault)) same g h = with_udp fault same g h
-  says_one (Left Apart) same g h = absurd g
-  says_one (Left Empty) same g h = absurd g
-  says_one (Left TooLong) same g h = absurd g
-  says_one (Left Full) same g h = absurd g
-  says_one (Left Copy) same g h = absurd g
-  says_one Waits same g h = absurd g
+  says_one _ same g h = absurd g
 
 -- ---- what became of a frame
 

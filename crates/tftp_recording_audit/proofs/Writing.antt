@@ -56,11 +56,7 @@ all_lawful test way placed each =
 
 opens_as : (n : ℕ) (d : Recorded) (moment : ℕ) (place : Place) (x : Transfer) → opened_it n (record { datagram = d; moment = moment; place = place }) ≡ true → transfer_of place ≡ Some x → place ≡ Opens x
 opens_as n d moment (Opens y) x opens is = let same : y ≡ x = cc in ap Opens same
-opens_as n d moment (Repeats y) x opens is = absurd (cc)
-opens_as n d moment (Talks y) x opens is = absurd (cc)
-opens_as n d moment (Apart c) x opens is = absurd (cc)
-opens_as n d moment (Beside y) x opens is = absurd (cc)
-opens_as n d moment Nowhere x opens is = absurd (cc)
+opens_as n d moment _ x opens is = absurd (cc)
 
 -- both its endpoints are sound
 pub opened_ends : (named : List ℕ) (passed : List Recorded) (n : ℕ) (x : Transfer) → AllByRecursion IsSoundDatagram passed → opened n (placed named passed) ≡ Some x → IsSoundEnd x.client × IsSoundEnd x.asked

@@ -25,11 +25,7 @@ is_itself n = search rules
 opening_about : (n : ℕ) (d : Recorded) (now : ℕ) (place : Place) → is_about n (record { datagram = d; moment = now; place = place }) ≡ false
     → opened_it n (record { datagram = d; moment = now; place = place }) ≡ false
 opening_about n d now (Opens x) off = off
-opening_about n d now (Repeats x) off = refl
-opening_about n d now (Talks x) off = refl
-opening_about n d now (Apart c) off = refl
-opening_about n d now (Beside x) off = refl
-opening_about n d now Nowhere off = refl
+opening_about n d now _ off = refl
 
 abbrev found_opening : Option Placed → Option Transfer
 found_opening None = None
@@ -59,11 +55,7 @@ opening_of n d now place x is = ap (λ (q : Place). opened_it n (record { datagr
 
 numbered : (n : ℕ) (d : Recorded) (now : ℕ) (place : Place) (x : Transfer) → opened_it n (record { datagram = d; moment = now; place = place }) ≡ true → transfer_of place ≡ Some x → x.number ≡ n
 numbered n d now (Opens y) x is of = let this : y ≡ x = cc in eqb-true x.number n (subst (λ (z : Transfer). (z.number == n) ≡ true) this is)
-numbered n d now (Repeats y) x is of = absurd (cc)
-numbered n d now (Talks y) x is of = absurd (cc)
-numbered n d now (Apart c) x is of = absurd (cc)
-numbered n d now (Beside y) x is of = absurd (cc)
-numbered n d now Nowhere x is of = absurd (cc)
+numbered n d now _ x is of = absurd (cc)
 
 pub opened_number : (n : ℕ) (placed : List Placed) (x : Transfer) → opened n placed ≡ Some x → x.number ≡ n
 opened_number n [] x is = absurd (cc)

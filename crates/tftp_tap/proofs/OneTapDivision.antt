@@ -37,10 +37,9 @@ module _ (s : TapSides) (m : Meaning) (wire : List ℕ) where
 
 module _ (s : TapSides) (apart : AreApart s) where
   one_end : (e f : End) → side_of s e ≡ side_of s f → e ≡ f
-  one_end Client Client is = refl
   one_end Client Server is = absurd (apart.server is)
   one_end Server Client is = absurd (apart.server (sym is))
-  one_end Server Server is = refl
+  one_end _ _ is = refl
 
   same_pass : (x y : Pass) → x.from ≡ y.from → x.packet ≡ y.packet → x ≡ y
   same_pass x y one other = λ i. record { from = one i; packet = other i }
@@ -78,11 +77,10 @@ module _ (s : TapSides) (apart : AreApart s) where
   one_part earlier parts d (Main x) Stray p q = absurd (q.elsewhere x.from p.source)
   one_part earlier parts d (Main x) StrayAnswer p q = absurd (not_both earlier parts d x p q)
   one_part earlier parts d Stray (Main y) p q = absurd (p.elsewhere y.from q.source)
-  one_part earlier parts d Stray Stray p q = refl
   one_part earlier parts d Stray StrayAnswer p q = absurd (p.elsewhere q.own.0 q.own.1)
   one_part earlier parts d StrayAnswer (Main y) p q = absurd (not_both earlier parts d y q p)
   one_part earlier parts d StrayAnswer Stray p q = absurd (q.elsewhere p.own.0 p.own.1)
-  one_part earlier parts d StrayAnswer StrayAnswer p q = refl
+  one_part earlier parts d _ _ p q = refl
 
   pub one_division : (one other : TapDivision) → HaveTapParts s says_some one → HaveTapParts s says_some other → tapped_of one ≡ tapped_of other → one ≡ other
   one_division [] [] p q same = refl

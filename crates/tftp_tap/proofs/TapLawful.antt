@@ -113,10 +113,7 @@ module _ (s : TapSides) (apart : AreApart s) where
 
   pub is_req_or : (p : MachinePacket) → (p ≡ Req) ⊎ (p ≡ Req → ⊥)
   is_req_or Req = inl refl
-  is_req_or Oack = inr (λ is. cc)
-  is_req_or (Data k) = inr (λ is. cc)
-  is_req_or (Ack j) = inr (λ is. cc)
-  is_req_or (Error code text) = inr (λ is. cc)
+  is_req_or _ = inr (λ is. cc)
 
   -- a list with a packet of the server's has a request
   pub answers_asked : (cs : List Carried) → AreLawful s cs → Each (IsCarried s says_some) cs → list_any pair_tests.answers cs ≡ true → list_any pair_tests.asks cs ≡ true
@@ -161,10 +158,7 @@ module _ (s : TapSides) (apart : AreApart s) where
 
     is_of : (n : Message) → packet_in n ≡ Some (of n)
     is_of (Message.Request asked) = refl
-    is_of (Message.Oack options) = refl
-    is_of (Message.Data k bytes) = refl
-    is_of (Message.Ack j) = refl
-    is_of (Message.Error code text) = refl
+    is_of _ = refl
 
     by : (side : Side) (e : End) (n : Message) → (IsWrongKind e side n → ⊥) → Sends side e (of n)
     by side Client (Message.Request asked) right = refl

@@ -127,19 +127,13 @@ module _ (s : TapSides) (apart : AreApart s) (asked : RequestParts) (cs : List C
     sender_breaks x = by x.message x.broken where
       by : (n : Message) → EndBroken x.terms (transfer_of (header_at s asked.side) (map (recorded_at s (receiver_of asked.side)) (map datagram_in (kept_of pair_tests (receiver_of asked.side) cs)))) n EndRule.GoneBack → ⊥
       by (Message.Data k bytes) b = inner_receives x.terms x.known b.0
-      by (Message.Ack j) b = b
-      by (Message.Request q) b = b
-      by (Message.Oack options) b = b
-      by (Message.Error code text) b = b
+      by _ b = b
 
     skipper_breaks : (x : EndBreaks (header_at s asked.side) (map (recorded_at s (receiver_of asked.side)) (map datagram_in (kept_of pair_tests (receiver_of asked.side) cs))) (recorded_at s (receiver_of asked.side) d) EndRule.BlockSkipped) → ⊥
     skipper_breaks x = by x.message x.broken where
       by : (n : Message) → EndBroken x.terms (transfer_of (header_at s asked.side) (map (recorded_at s (receiver_of asked.side)) (map datagram_in (kept_of pair_tests (receiver_of asked.side) cs)))) n EndRule.BlockSkipped → ⊥
       by (Message.Data k bytes) b = inner_receives x.terms x.known b.0
-      by (Message.Ack j) b = b
-      by (Message.Request q) b = b
-      by (Message.Oack options) b = b
-      by (Message.Error code text) b = b
+      by _ b = b
 
     kept_never : (broken : Rule) → IsOfSending broken → Broken (header_at s asked.side) (map (recorded_at s (receiver_of asked.side)) (map datagram_in (kept_of pair_tests (receiver_of asked.side) cs))) (recorded_at s (receiver_of asked.side) d) broken → ⊥
     kept_never rule.RequestAfterStart of b = request_out asked.side (goes_out_is (receiver_of asked.side) b.0) refl b.1.0 (spelled_there (Message.Request b.1.0) b.1.1.spells)

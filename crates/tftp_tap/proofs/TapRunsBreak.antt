@@ -165,10 +165,9 @@ module _ (s : TapSides) (apart : AreApart s) (m : Meaning) (wire : List ℕ) (fi
     end_is : (e : End) → c.datagram.source ≡ side_of s e → e ≡ c.pass.from
     end_is e source = by e c.pass.from (sym source ∙ is.source) where
       by : (e f : End) → side_of s e ≡ side_of s f → e ≡ f
-      by Client Client same = refl
       by Client Server same = absurd (apart.server same)
       by Server Client same = absurd (apart.server (sym same))
-      by Server Server same = refl
+      by _ _ same = refl
 
     no_request : list_any (tap_tests s).asks (map datagram_in cs) ≡ false → pass_route c.pass.from c.pass.packet ≡ TapRoute.FromServer → ⊥
     no_request none at = by c.pass.from c.pass.packet allowed at where
@@ -243,10 +242,9 @@ module _ (s : TapSides) (apart : AreApart s) (m : Meaning) (wire : List ℕ) (fi
       ]
         where
           same_side : (e f : End) → side_of s e ≡ side_of s f → e ≡ f
-          same_side Client Client same = refl
           same_side Client Server same = absurd (apart.server same)
           same_side Server Client same = absurd (apart.server (sym same))
-          same_side Server Server same = refl
+          same_side _ _ same = refl
 
           whole : (x : Pass) (f : End) (p : MachinePacket) → x.from ≡ f → x.packet ≡ p → x ≡ record { from = f; packet = p }
           whole x f p one other = λ i. record { from = one i; packet = other i }
@@ -288,18 +286,14 @@ module _ (s : TapSides) (apart : AreApart s) (m : Meaning) (wire : List ℕ) (fi
         where
           oack : (p : MachinePacket) (n : Message) → n ≡ message_of m wire p → IsOack n → MayPass m wire (map pass_in cs) b.pass.from p → ⊥
           oack Oack n same kind allowed = allowed.agreed none
-          oack Req n same kind allowed = subst IsOack same kind
-          oack (Data k) n same kind allowed = subst IsOack same kind
-          oack (Ack j) n same kind allowed = subst IsOack same kind
-          oack (Error code text) n same kind allowed = subst IsOack same kind
+          oack _ n same kind allowed = subst IsOack same kind
 
     late_ack : (j : ℕ) → MayPass m wire (map pass_in cs) c.pass.from (Ack j) → IsLateAck s m.side (map datagram_in cs) j → ⊥
     late_ack j may_ack (k, low, high, none) = none (before_kind (IsBlock k) (receiver_of m.side) (other_end c.pass.from) (Data k) there refl) where
       receives : (f : End) (side : Side) → other_end f ≡ sender_of side → other_end (other_end f) ≡ receiver_of side
-      receives Client Get same = refl
       receives Client Put same = absurd (cc)
       receives Server Get same = absurd (cc)
-      receives Server Put same = refl
+      receives _ _ same = refl
 
       there : Has (before_error pass_tests (receiver_of m.side) (map pass_in cs)) (other_end c.pass.from) (Data k)
       there = subst (λ o. Has (before_error pass_tests o (map pass_in cs)) (other_end c.pass.from) (Data k)) (receives c.pass.from m.side may_ack.sender)

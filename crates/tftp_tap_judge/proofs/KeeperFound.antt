@@ -35,10 +35,7 @@ read_passing d route.Request passing m says = (m, says)
 read_passing d route.FromClient passing m says = (m, says)
 read_passing d route.FromServer passing m says = (m, says)
 read_passing d route.Stray passing m says = tt
-read_passing d route.StrayAnswer passing m says = absurd (true≢false (sym passing))
-read_passing d route.ForeignPort passing m says = absurd (true≢false (sym passing))
-read_passing d route.WrongPort passing m says = absurd (true≢false (sym passing))
-read_passing d route.NoStrayAnswer passing m says = absurd (true≢false (sym passing))
+read_passing d _ passing m says = absurd (true≢false (sym passing))
 
 module _ (s : TapSides) (earlier : List TapDatagram) (d : TapDatagram) (passing : is_passing (tap_route s earlier d) ≡ true) where
   abbrev passed : List TapDatagram

@@ -46,10 +46,9 @@ module _ (s : TapSides) (passed : List TapDatagram) (d : TapDatagram) where
     other_end_quiet : (e : End) → (e ≡ end → ⊥) → (tap_tests s).ends e d ≡ false
     other_end_quiet e other = ap (λ x. x && ends_in d.payload) (source_is s apart d end e source ∙ differ e end other) where
       differ : (a b : End) → (a ≡ b → ⊥) → same_end a b ≡ false
-      differ Client Client other = absurd (other refl)
       differ Client Server other = refl
       differ Server Client other = refl
-      differ Server Server other = absurd (other refl)
+      differ _ _ other = absurd (other refl)
 
     module _ (code : ℕ) (text : List ℕ) (says : Spells d.payload (Message.Error code text)) (marks : Marks) (are : AreMarks marks passed) where
       ends_now : (tap_tests s).ends end d ≡ true
@@ -121,11 +120,8 @@ on_ok A B (Ok x) turn is = turn is
 on_ok A B (Err e) turn is = is
 
 pub not_error : (p : Packet) → ((code : ℕ) (message : _) → p ≡ packet.Error code message → ⊥) → ends_message (meaning p) ≡ false
-not_error (packet.Request request) other = refl
-not_error (packet.Data block bytes) other = refl
-not_error (packet.Ack block) other = refl
 not_error (packet.Error code message) other = absurd (other code message refl)
-not_error (packet.Oack options) other = refl
+not_error _ other = refl
 
 pub stop_same : (a b : Seen) (client server : Option Stopped) (e : End) → stop_of (record { seen = a; client = client; server = server }) e ≡ stop_of (record { seen = b; client = client; server = server }) e
 stop_same a b client server Client = refl
@@ -139,10 +135,7 @@ on_err A B (Err e) turn is = turn is
 
 pub block_new : (s : TapSides) (passed : List TapDatagram) (e : End) (m : Message) → IsNewBlock passed m → IsNew s passed e m
 block_new s passed e (Message.Data k bytes) is = is
-block_new s passed e (Message.Request q) is = absurd is
-block_new s passed e (Message.Oack options) is = absurd is
-block_new s passed e (Message.Ack j) is = absurd is
-block_new s passed e (Message.Error code text) is = absurd is
+block_new s passed e _ is = absurd is
 
 pub error_new : (s : TapSides) (passed : List TapDatagram) (e : End) (notes : Notes) → AreNotes notes s passed → (code : ℕ) (text : List ℕ) → stop_of notes e ≡ None → IsNew s passed e (Message.Error code text)
 error_new s passed e notes are code text none = λ other words before. true≢false (sym (error_ends s e passed other words before) ∙ subst (IsStop s e passed) none (are.stops e))

@@ -19,10 +19,9 @@ asked_same s passed one other (d, is, t) (e, at, u) =
     request_same one other (spelled_once e.payload (Message.Request one) (Message.Request other) (subst (λ (x : TapDatagram). Spells x.payload (Message.Request one)) same t) u)
 
 pub end_same : (s : TapSides) → AreApart s → (e f : End) → side_of s e ≡ side_of s f → e ≡ f
-end_same s apart Client Client is = refl
 end_same s apart Client Server is = absurd (apart.server is)
 end_same s apart Server Client is = absurd (apart.server (sym is))
-end_same s apart Server Server is = refl
+end_same s apart _ _ is = refl
 
 pub asked_there : (s : TapSides) (passed : List TapDatagram) (asked : RequestParts) → FirstTapAsked s passed asked → list_any (tap_tests s).asks passed ≡ true
 asked_there s passed asked (d, is, t) = let there = first_holds (tap_tests s).asks passed d is in any_of (tap_tests s).asks passed d there.1 there.0
@@ -41,9 +40,7 @@ module _ (s : TapSides) (apart : AreApart s) (passed : List TapDatagram) (asked 
     differs = differs;
   }
   other_error (Message.Request q) t is = absurd is
-  other_error (Message.Oack options) t is = absurd is
-  other_error (Message.Data k bytes) t is = absurd is
-  other_error (Message.Ack j) t is = absurd is
+  other_error _ t is = absurd is
 
   other_request : (f : End) (n : Message) → d.source ≡ side_of s f → Spells d.payload n → IsOtherRequest asked f n → PassingBreaks s passed route d rule.RequestChanged
   other_request Client (Message.Request now) at t differs = (asked, now, first, at, t, differs)

@@ -23,9 +23,7 @@ module _ (s : TapSides) (side : Side) (passed : List TapDatagram) (d : TapDatagr
   pub refused_found : (refusal : Refusal) → Refuses (header_at s side) (kept_between s side passed) now refusal → (After : Type 0) → FindsTo (ReceiverBreaks s side passed d) After (Err (stop_by_refusal refusal))
   refused_found (of_end.Unlawful index rule) r After = ((stays, r.1.broken), λ other low b. r.1.first other low b.1)
   refused_found (of_end.Memory count) r After = λ rule b. r.1.lawful rule b.1
-  refused_found (of_end.Aborted by code) r After = absurd r
-  refused_found (of_end.Incomplete count) r After = absurd r
-  refused_found of_end.NormalTooLong r After = absurd r
+  refused_found _ r After = absurd r
 
   -- what it keeps
   kept_now : kept_there s side (d ∷ passed) ≡ d ∷ kept_there s side passed
@@ -84,9 +82,7 @@ recorded_same s end d x is = sym (ap (λ (y : Datagram). y.payload) is ∙ recor
 pub refused_takes : (s : TapSides) (side : Side) (passed : List TapDatagram) (d : TapDatagram) (refusal : Refusal) → Refuses (header_at s side) (kept_between s side passed) (recorded_at s (receiver_of side) d) refusal → stop_by_refusal refusal ≡ stop.Memory → TakesMemory (header_at s side) (kept_between s side passed) (recorded_at s (receiver_of side) d)
 refused_takes s side passed d (of_end.Unlawful index rule) r is = cc
 refused_takes s side passed d (of_end.Memory count) r is = r.2
-refused_takes s side passed d (of_end.Aborted by code) r is = absurd r
-refused_takes s side passed d (of_end.Incomplete count) r is = absurd r
-refused_takes s side passed d of_end.NormalTooLong r is = absurd r
+refused_takes s side passed d _ r is = absurd r
 
 -- whether something of the server's is kept, after one more
 pub said_server : (b c : Bool) → b ≡ true → true ≡ (b || c)

@@ -148,10 +148,7 @@ pub oack_seen : (passed : List TapDatagram) (d : TapDatagram) (m : Message) (old
     → AreSeen (record { marks = record { front = old.marks.front; block = old.marks.block; oack = true; reply = true }; above = old.above }) (d ∷ passed)
 oack_seen passed d (Message.Oack options) old are says is = seen_with passed d (Message.Oack options) says old _ are (λ k none. none) refl
     (λ on. inr on, λ on. elim on [ inl none ↦ absurd none | inr was ↦ was ]) (λ on. inl tt, λ on. refl) (λ on. inl tt, λ on. refl)
-oack_seen passed d (Message.Request q) old are says is = absurd is
-oack_seen passed d (Message.Data k bytes) old are says is = absurd is
-oack_seen passed d (Message.Ack j) old are says is = absurd is
-oack_seen passed d (Message.Error code text) old are says is = absurd is
+oack_seen passed d _ old are says is = absurd is
 
 pub zero_seen : (passed : List TapDatagram) (d : TapDatagram) (old : Seen) → AreSeen old passed → Spells d.payload (Message.Ack 0)
     → AreSeen (record { marks = record { front = old.marks.front; block = old.marks.block; oack = old.marks.oack; reply = true }; above = old.above }) (d ∷ passed)
@@ -171,25 +168,19 @@ quiet_seen passed d m old are says quiet = seen_with passed d m says old old.mar
   same Kind none = (λ on. inr on, λ on. elim on [ inl now ↦ absurd (none now) | inr was ↦ was ])
 
   no_block : (n : Message) → IsQuiet n → (k : ℕ) → IsBlock k n → ⊥
-  no_block (Message.Request q) quiet k is = is
-  no_block (Message.Error code text) quiet k is = is
-  no_block (Message.Ack j) quiet k is = is
   no_block (Message.Data i bytes) quiet k is = quiet
   no_block (Message.Oack options) quiet k is = quiet
+  no_block _ quiet k is = is
 
   no_some : (n : Message) → IsQuiet n → IsSomeBlock n → ⊥
-  no_some (Message.Request q) quiet is = is
-  no_some (Message.Error code text) quiet is = is
-  no_some (Message.Ack j) quiet is = is
   no_some (Message.Data i bytes) quiet is = quiet
   no_some (Message.Oack options) quiet is = quiet
+  no_some _ quiet is = is
 
   no_oack : (n : Message) → IsQuiet n → IsOack n → ⊥
-  no_oack (Message.Request q) quiet is = is
-  no_oack (Message.Error code text) quiet is = is
-  no_oack (Message.Ack j) quiet is = is
   no_oack (Message.Data i bytes) quiet is = quiet
   no_oack (Message.Oack options) quiet is = quiet
+  no_oack _ quiet is = is
 
   no_reply : (n : Message) → IsQuiet n → IsReply n → ⊥
   no_reply (Message.Request q) quiet is = is

@@ -30,23 +30,10 @@ content_on h earlier d rule.AfterError content b = b.1.routed
 content_on h earlier d rule.RequestChanged content b = b.3.routed
 content_on h earlier d rule.RequestAfterStart content b = b.1.1.routed
 content_on h earlier d rule.ReplyChanged content b = b.4.routed
-content_on h earlier d rule.OackEmpty content b = b.says.routed
-content_on h earlier d rule.MulticastAgreed content b = b.says.routed
-content_on h earlier d rule.OptionNotRequested content b = b.says.routed
-content_on h earlier d rule.OptionOutsideProfile content b = b.says.routed
-content_on h earlier d rule.OptionValue content b = b.says.routed
 content_on h earlier d rule.OackChanged content b = b.5.routed
 content_on h earlier d rule.OackAfterStart content b = b.2.1.routed
-content_on h earlier d rule.NotStarted content b = b.says.routed
-content_on h earlier d rule.BlockZero content b = b.says.routed
 content_on h earlier d rule.BeyondBlock65535 content b = elim b [ inl block ↦ block.says.routed | inr oack ↦ oack.says.routed ]
-content_on h earlier d rule.BlockLength content b = b.says.routed
-content_on h earlier d rule.WindowOverrun content b = b.says.routed
-content_on h earlier d rule.BlockSkipped content b = b.says.routed
-content_on h earlier d rule.GoneBack content b = b.says.routed
-content_on h earlier d rule.BlockChanged content b = b.says.routed
-content_on h earlier d rule.AckAhead content b = b.says.routed
-content_on h earlier d rule.AckZero content b = b.says.routed
+content_on h earlier d _ content b = b.says.routed
 
 -- ---- the first of the rules of two kinds
 

@@ -26,12 +26,9 @@ can_stand (Passed d ∷ es) c l =
 -- a text of a capture has the verdict of its datagrams
 module _ (text : List ℕ) (h : Header) (ds : List Numbered) (capture : IsCapture text h ds) where
   text_verdict : (said : Result Meaning Refusal) → IsSaid said → IsVerdict h (unnumbered ds) said → IsTextVerdict text (of_text said)
-  text_verdict (Ok m) of is = (h, ds, capture, is)
   text_verdict (Err (Unlawful index rule)) of is = (h, ds, capture_begins text h ds capture, is)
-  text_verdict (Err (Aborted by code)) of is = (h, ds, capture, is)
-  text_verdict (Err (Incomplete count)) of is = (h, ds, capture, is)
-  text_verdict (Err NormalTooLong) of is = (h, ds, capture, is)
   text_verdict (Err (Memory count)) of is = absurd of
+  text_verdict _ of is = (h, ds, capture, is)
 
 module _ (text : List ℕ) (h : Header) (given : List Datagram) (t : IsTextOf text h given) (port : IsPort h.service) (lawful : All IsLawful (reverse given)) (short : length text ≤ 2 ^ 40) where
   pub is_read : IsCapture text h (numbered_in 4 t.entries)

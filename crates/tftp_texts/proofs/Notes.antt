@@ -20,6 +20,5 @@ at_place name (n ∷ ns) (p ∷ ps) (suc i) d are lt =
 
 pub all_taken : (name : Naming) (ns : List Noted) (ps : List Placed) → AreHeld name (map (λ n. n.held) ns) ps → take (length ns) ps ≡ ps
 all_taken name [] [] are = refl
-all_taken name [] (p ∷ ps) are = absurd are
-all_taken name (n ∷ ns) [] are = absurd are
 all_taken name (n ∷ ns) (p ∷ ps) are = ap (λ l. p ∷ l) (all_taken name ns ps are.1)
+all_taken name _ _ are = absurd are

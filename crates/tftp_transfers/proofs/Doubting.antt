@@ -13,6 +13,4 @@ none_doubted d now older (Repeats y) x is silent = let this : y ≡ x = cc in
     let none : live now (line y.client older) ≡ [] = ap (λ z. live now (line z.client older)) this ∙ silent in rw none refl
 none_doubted d now older (Talks y) x is silent = let this : y ≡ x = cc in
     let none : live now (line y.client older) ≡ [] = ap (λ z. live now (line z.client older)) this ∙ silent in rw none refl
-none_doubted d now older (Apart c) x is silent = absurd (cc)
-none_doubted d now older (Beside y) x is silent = absurd (cc)
-none_doubted d now older Nowhere x is silent = absurd (cc)
+none_doubted d now older _ x is silent = absurd (cc)

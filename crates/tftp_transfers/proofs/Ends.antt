@@ -40,17 +40,11 @@ transfer_at : (c : Endpoint) (d : Recorded) (now : ℕ) (place : Place) (x : Tra
 transfer_at c d now (Opens y) x at is = let this : y ≡ x = cc in ap (λ z. z.client) (sym this) ∙ is_same y.client c at
 transfer_at c d now (Repeats y) x at is = let this : y ≡ x = cc in ap (λ z. z.client) (sym this) ∙ is_same y.client c at
 transfer_at c d now (Talks y) x at is = let this : y ≡ x = cc in ap (λ z. z.client) (sym this) ∙ is_same y.client c at
-transfer_at c d now (Apart a) x at is = absurd (cc)
-transfer_at c d now (Beside y) x at is = absurd (cc)
-transfer_at c d now Nowhere x at is = absurd (cc)
+transfer_at c d now _ x at is = absurd (cc)
 
 talked_at : (place : Place) (x : Transfer) → talked_of place ≡ Some x → transfer_of place ≡ Some x
 talked_at (Talks y) x is = is
-talked_at (Opens y) x is = absurd (cc)
-talked_at (Repeats y) x is = absurd (cc)
-talked_at (Apart a) x is = absurd (cc)
-talked_at (Beside y) x is = absurd (cc)
-talked_at Nowhere x is = absurd (cc)
+talked_at _ x is = absurd (cc)
 
 latest_at : (c : Endpoint) (ps : List Placed) (x : Transfer) → AreAt c ps → latest_in ps ≡ Some x → x.client ≡ c
 latest_at c ps x all is = by (newest_of opens ps) refl where
@@ -153,11 +147,7 @@ said_end older now d c place which (silent none) = record {
 
 or_talks_is : (one other : Place) → (or_talks one other ≡ one) ⊎ (or_talks one other ≡ other)
 or_talks_is one (Talks x) = inr refl
-or_talks_is one (Opens x) = inl refl
-or_talks_is one (Repeats x) = inl refl
-or_talks_is one (Apart c) = inl refl
-or_talks_is one (Beside x) = inl refl
-or_talks_is one Nowhere = inl refl
+or_talks_is one _ = inl refl
 
 pub either_is : (one other : Place) → (either one other ≡ one) ⊎ (either one other ≡ other)
 either_is (Talks x) other = inl refl
@@ -211,10 +201,7 @@ chosen_as place x false number d is = opened refl
 pub asked_as : (place : Place) (b : Bool) (number : ℕ) (d : Recorded) → IsAskedAs place (asked_after (opened_by number d) place b) number d
 asked_as (Opens x) b number d = chosen_as (Opens x) x b number d refl
 asked_as (Repeats x) b number d = chosen_as (Repeats x) x b number d refl
-asked_as (Talks x) b number d = opened refl
-asked_as (Apart c) b number d = opened refl
-asked_as (Beside x) b number d = opened refl
-asked_as Nowhere b number d = opened refl
+asked_as _ b number d = opened refl
 
 opened_where : (older : List Placed) (now : ℕ) (d : Recorded) (place : Place) (number : ℕ) → place ≡ opened_by number d → IsWhere older now d place
 opened_where older now d place number is = record {

@@ -23,12 +23,9 @@ abbrev pub AreBelow : ℕ → List Placed → Type 0
 AreBelow bound ps = AllByRecursion (λ p. IsBelow bound p.place) ps
 
 below_more : (bound more : ℕ) → bound ≤ more → (place : Place) → IsBelow bound place → IsBelow more place
-below_more bound more up (Opens x) is = omega arith
-below_more bound more up (Repeats x) is = omega arith
-below_more bound more up (Talks x) is = omega arith
 below_more bound more up (Apart c) is = tt
-below_more bound more up (Beside x) is = omega arith
 below_more bound more up Nowhere is = tt
+below_more bound more up _ is = omega arith
 
 all_below_more : (bound more : ℕ) → bound ≤ more → (ps : List Placed) → AreBelow bound ps → AreBelow more ps
 all_below_more bound more up [] all = tt
@@ -65,17 +62,11 @@ module _ (bound : ℕ) where
   transfer_below (Opens y) x below is = let this : y ≡ x = cc in subst (λ z. z.number < bound) this below
   transfer_below (Repeats y) x below is = let this : y ≡ x = cc in subst (λ z. z.number < bound) this below
   transfer_below (Talks y) x below is = let this : y ≡ x = cc in subst (λ z. z.number < bound) this below
-  transfer_below (Apart c) x below is = absurd (cc)
-  transfer_below (Beside y) x below is = absurd (cc)
-  transfer_below Nowhere x below is = absurd (cc)
+  transfer_below _ x below is = absurd (cc)
 
   talked_below : (place : Place) (x : Transfer) → IsBelow bound place → talked_of place ≡ Some x → x.number < bound
   talked_below (Talks y) x below is = let this : y ≡ x = cc in subst (λ z. z.number < bound) this below
-  talked_below (Opens y) x below is = absurd (cc)
-  talked_below (Repeats y) x below is = absurd (cc)
-  talked_below (Apart c) x below is = absurd (cc)
-  talked_below (Beside y) x below is = absurd (cc)
-  talked_below Nowhere x below is = absurd (cc)
+  talked_below _ x below is = absurd (cc)
 
   latest_below : (ps : List Placed) (x : Transfer) → AreBelow bound ps → latest_in ps ≡ Some x → x.number < bound
   latest_below ps x all is = by (newest_of opens ps) refl where
@@ -137,9 +128,7 @@ module _ (bound : ℕ) where
   serves_below o d now (Talks x) below = by_test (goes o x.client d)
       (λ is. subst AreServedBelow (sym (ap (λ b. if b then Some (record { transfer = x; moment = now }) else None) is)) below)
       (λ off. subst AreServedBelow (sym (ap (λ b. if b then Some (record { transfer = x; moment = now }) else None) off)) tt)
-  serves_below o d now (Apart c) below = tt
-  serves_below o d now (Beside x) below = tt
-  serves_below o d now Nowhere below = tt
+  serves_below o d now _ below = tt
 
   newer_below : (one other : Option Served) → AreServedBelow one → AreServedBelow other → AreServedBelow (newer one other)
   newer_below None other is also = also
@@ -210,9 +199,8 @@ not_about : (bound n : ℕ) (d : Recorded) (now : ℕ) (place : Place) → bound
 not_about bound n d now (Opens x) up below = differs x.number bound n below up
 not_about bound n d now (Repeats x) up below = differs x.number bound n below up
 not_about bound n d now (Talks x) up below = differs x.number bound n below up
-not_about bound n d now (Apart c) up below = refl
 not_about bound n d now (Beside x) up below = differs x.number bound n below up
-not_about bound n d now Nowhere up below = refl
+not_about bound n d now _ up below = refl
 
 none_about : (bound n : ℕ) → bound ≤ n → (ps : List Placed) → AreBelow bound ps → All (λ p. is_about n p ≡ false) ps
 none_about bound n up [] all = All-nil (λ p. is_about n p ≡ false)
@@ -236,12 +224,8 @@ no_answer bound n up x o before d all = by (latest_in before) refl where
 
 not_answer : (bound n : ℕ) → bound ≤ n → (d : Recorded) (now : ℕ) (place : Place) (older : List Placed) → AreBelow bound older
     → is_it n (may_be_answer_of (record { datagram = d; moment = now; place = place }) older) ≡ false
-not_answer bound n up d now (Opens x) older all = refl
-not_answer bound n up d now (Repeats x) older all = refl
 not_answer bound n up d now (Talks x) older all = no_answer bound n up x (other_of x.client d) (live now (line x.client older)) d (lived_below bound x.client now older all)
-not_answer bound n up d now (Apart c) older all = refl
-not_answer bound n up d now (Beside x) older all = refl
-not_answer bound n up d now Nowhere older all = refl
+not_answer bound n up d now _ older all = refl
 
 none_answers : (bound n : ℕ) → bound ≤ n → (ps : List Placed) → AreBelow bound ps → is_answered_apart n ps ≡ false
 none_answers bound n up [] all = refl

@@ -26,12 +26,9 @@ module _ (n : ℕ) (one other : List Placed) (asked : asked_of n one ≡ asked_o
       ∙ ap (λ s. has_port o (server_of n other) && (has_host o (asked_of n other) || has_host o (answered_by n other) || has_host o s)) went_on
 
   at_place : (d : Recorded) (now : ℕ) (place : Place) → is_at_server n one (record { datagram = d; moment = now; place = place }) ≡ is_at_server n other (record { datagram = d; moment = now; place = place })
-  at_place d now (Opens x) = refl
-  at_place d now (Repeats x) = refl
   at_place d now (Talks x) = ap (λ b. (x.number == n) && b) (is_server_same (other_of x.client d))
-  at_place d now (Apart c) = refl
   at_place d now (Beside x) = ap (λ s. (x.number == n) && (is_end d.source s || is_end d.target s)) server_same
-  at_place d now Nowhere = refl
+  at_place d now _ = refl
 
   pub at_server_same : (p : Placed) → is_at_server n one p ≡ is_at_server n other p
   at_server_same p = at_place p.datagram p.moment p.place
@@ -65,43 +62,28 @@ module _ (test keep : Placed → Bool) (kept : (p : Placed) → keep p ≡ false
 module _ (n : ℕ) (d : Recorded) (now : ℕ) where
   opened_of : (place : Place) → is_of n (record { datagram = d; moment = now; place = place }) ≡ false → opened_it n (record { datagram = d; moment = now; place = place }) ≡ false
   opened_of (Opens x) off = off
-  opened_of (Repeats x) off = refl
-  opened_of (Talks x) off = refl
-  opened_of (Apart c) off = refl
-  opened_of (Beside x) off = refl
-  opened_of Nowhere off = refl
+  opened_of _ off = refl
 
   comes_of : (place : Place) → is_of n (record { datagram = d; moment = now; place = place }) ≡ false → comes n (record { datagram = d; moment = now; place = place }) ≡ false
-  comes_of (Opens x) off = refl
-  comes_of (Repeats x) off = refl
   comes_of (Talks x) off = ap (λ b. b && same_endpoint d.target x.client) off
-  comes_of (Apart c) off = refl
-  comes_of (Beside x) off = refl
-  comes_of Nowhere off = refl
+  comes_of _ off = refl
 
   goes_of : (place : Place) → is_of n (record { datagram = d; moment = now; place = place }) ≡ false → goes_on n (record { datagram = d; moment = now; place = place }) ≡ false
-  goes_of (Opens x) off = refl
-  goes_of (Repeats x) off = refl
   goes_of (Talks x) off = ap (λ b. b && same_endpoint d.source x.client && not (begins_error d.payload)) off
-  goes_of (Apart c) off = refl
-  goes_of (Beside x) off = refl
-  goes_of Nowhere off = refl
+  goes_of _ off = refl
 
   not_of : (place : Place) → is_about n (record { datagram = d; moment = now; place = place }) ≡ false → is_of n (record { datagram = d; moment = now; place = place }) ≡ false
-  not_of (Opens x) off = off
-  not_of (Repeats x) off = off
-  not_of (Talks x) off = off
   not_of (Apart c) off = refl
   not_of (Beside x) off = refl
   not_of Nowhere off = refl
+  not_of _ off = off
 
   not_seen : (placed : List Placed) (place : Place) → is_about n (record { datagram = d; moment = now; place = place }) ≡ false → is_at_server n placed (record { datagram = d; moment = now; place = place }) ≡ false
   not_seen placed (Opens x) off = off
   not_seen placed (Repeats x) off = off
   not_seen placed (Talks x) off = ap (λ b. b && is_server n placed (other_of x.client d)) off
-  not_seen placed (Apart c) off = refl
   not_seen placed (Beside x) off = ap (λ b. b && (is_end d.source (server_of n placed) || is_end d.target (server_of n placed))) off
-  not_seen placed Nowhere off = refl
+  not_seen placed _ off = refl
 
 pub opens_none : (n : ℕ) (p : Placed) → is_of n p ≡ false → opened_it n p ≡ false
 opens_none n p off = opened_of n p.datagram p.moment p.place off
@@ -122,11 +104,7 @@ seen_none n placed p off = not_seen n p.datagram p.moment placed p.place off
 module _ (n : ℕ) (d e : Recorded) (now then : ℕ) where
   by_place : (place : Place) → is_of n (record { datagram = e; moment = then; place = place }) ≡ is_of n (record { datagram = d; moment = now; place = place })
   by_place (Opens x) = refl
-  by_place (Repeats x) = refl
-  by_place (Talks x) = refl
-  by_place (Apart c) = refl
-  by_place (Beside x) = refl
-  by_place Nowhere = refl
+  by_place _ = refl
 
 pub of_place : (n : ℕ) (p q : Placed) → p.place ≡ q.place → is_of n q ≡ is_of n p
 of_place n p q same = ap (λ (place : Place). is_of n (record { datagram = q.datagram; moment = q.moment; place = place })) (sym same) ∙ by_place n p.datagram q.datagram p.moment q.moment p.place

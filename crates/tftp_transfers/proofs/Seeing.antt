@@ -15,9 +15,7 @@ at_client : (n m : ℕ) (d : Recorded) (now : ℕ) (place : Place) → is_of n (
 at_client n m d now (Opens x) is also = one_number n m x.number is also
 at_client n m d now (Repeats x) is also = one_number n m x.number is also
 at_client n m d now (Talks x) is also = one_number n m x.number is also
-at_client n m d now (Apart c) is also = absurd (cc)
-at_client n m d now (Beside x) is also = absurd (cc)
-at_client n m d now Nowhere is also = absurd (cc)
+at_client n m d now _ is also = absurd (cc)
 
 pub one_at_client : (n m : ℕ) (p : Placed) → is_of n p ≡ true → is_of m p ≡ true → n ≡ m
 one_at_client n m p is also = at_client n m p.datagram p.moment p.place is also
@@ -43,9 +41,8 @@ of_client : (n : ℕ) (placed : List Placed) (d : Recorded) (now : ℕ) (place :
 of_client n placed d now (Opens x) is = inl is
 of_client n placed d now (Repeats x) is = inl is
 of_client n placed d now (Talks x) is = inl (first_part (x.number == n) (is_server n placed (other_of x.client d)) is)
-of_client n placed d now (Apart c) is = absurd (cc)
 of_client n placed d now (Beside x) is = inr refl
-of_client n placed d now Nowhere is = absurd (cc)
+of_client n placed d now _ is = absurd (cc)
 
 pub client_or_beside : (n : ℕ) (placed : List Placed) (p : Placed) → is_at_server n placed p ≡ true → (is_of n p ≡ true) ⊎ (is_beside p ≡ true)
 client_or_beside n placed p is = of_client n placed p.datagram p.moment p.place is

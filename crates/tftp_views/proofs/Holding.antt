@@ -50,9 +50,8 @@ given_all s name whole part so = by so.rest so.are so.left where
 
 pub held_more : (name : Naming) (held : List Held) (ps : List Placed) (h : Held) (p : Placed) → AreHeld name held ps → IsFed name p h.place h.source h.target h.payload → AreHeld name (held ++ h ∷ []) (ps ++ p ∷ [])
 held_more name [] [] h p are fed = (fed, tt)
-held_more name [] (q ∷ ps) h p are fed = absurd are
-held_more name (g ∷ held) [] h p are fed = absurd are
 held_more name (g ∷ held) (q ∷ ps) h p are fed = (are.0, held_more name held ps h p are.1 fed)
+held_more name _ _ h p are fed = absurd are
 
 -- as the newest of the transfer's
 pub held_newest : (n : ℕ) (name : Naming) (held : List Held) (older : List Placed) (h : Held) (p : Placed) → is_about n p ≡ true → AreHeld name held (reverse (filter (is_about n) older)) → IsFed name p h.place h.source h.target h.payload
@@ -135,9 +134,8 @@ goes_on_too old new v w name p older of held same goes after = record {
 
 as_many : (name : Naming) (held : List Held) (ps : List Placed) → AreHeld name held ps → length held ≡ length ps
 as_many name [] [] are = refl
-as_many name [] (p ∷ ps) are = absurd are
-as_many name (h ∷ held) [] are = absurd are
 as_many name (h ∷ held) (p ∷ ps) are = ap suc (as_many name held ps are.1)
+as_many name _ _ are = absurd are
 
 pub held_own : (v : View) (name : Naming) (placed : List Placed) → IsViewAfter v name placed → length v.held ≤ length (filter (is_about v.transfer.number) placed)
 held_own v name placed = by v.judge where

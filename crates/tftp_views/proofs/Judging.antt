@@ -63,10 +63,8 @@ module _ (h : Header) (given : List Datagram) where
 
   refused_verdict : (refusal : Refusal) → IsRefusedIn h given refusal → IsSaid (Err refusal) → IsVerdict h (reverse given) (Err refusal)
   refused_verdict (Unlawful index rule) at said = (verdict h (reverse given) (Err (Unlawful index rule))).1 (by_rules index rule at)
-  refused_verdict (Aborted by code) at said = absurd at.refused
-  refused_verdict (Incomplete count) at said = absurd at.refused
-  refused_verdict NormalTooLong at said = absurd at.refused
   refused_verdict (Memory count) at said = absurd said
+  refused_verdict _ at said = absurd at.refused
 
   pub finished : (j : Judge) (said : Result Meaning Refusal) → (IsJudgeAfter j h given → IsVerdict h (reverse given) said) → ((refusal : Refusal) → j.refused ≡ Some refusal → said ≡ Err refusal)
       → HasJudged j h given → IsSaid said → IsVerdict h (reverse given) said

@@ -53,12 +53,9 @@ module _ (n : ℕ) (more placed : List Placed) (settled : is_settled n placed �
       ∙ ap (λ s. has_port o (server_of n placed) && (has_host o (asked_of n placed) || has_host o (answered_by n placed) || has_host o s)) went_on
 
   at_place : (d : Recorded) (now : ℕ) (place : Place) → is_at_server n (more ++ placed) (record { datagram = d; moment = now; place = place }) ≡ is_at_server n placed (record { datagram = d; moment = now; place = place })
-  at_place d now (Opens x) = refl
-  at_place d now (Repeats x) = refl
   at_place d now (Talks x) = ap (λ b. (x.number == n) && b) (is_server_stays (other_of x.client d))
-  at_place d now (Apart c) = refl
   at_place d now (Beside x) = ap (λ s. (x.number == n) && (is_end d.source s || is_end d.target s)) server
-  at_place d now Nowhere = refl
+  at_place d now _ = refl
 
   pub at_server_stays : (p : Placed) → is_at_server n (more ++ placed) p ≡ is_at_server n placed p
   at_server_stays p = at_place p.datagram p.moment p.place
@@ -90,12 +87,8 @@ map_agree f g same (p ∷ ps) = ap (λ d. d ∷ map f ps) (same p) ∙ ap (λ l.
 
 module _ (name : Naming) (x : Transfer) (more placed : List Placed) (settled : is_settled x.number placed ≡ true) where
   way_at : (d : Recorded) (now : ℕ) (place : Place) → way_at_server x (more ++ placed) (record { datagram = d; moment = now; place = place }) ≡ way_at_server x placed (record { datagram = d; moment = now; place = place })
-  way_at d now (Opens y) = refl
-  way_at d now (Repeats y) = refl
-  way_at d now (Talks y) = refl
-  way_at d now (Apart c) = refl
   way_at d now (Beside y) = ap (λ s. if is_end d.source s then Out else In) (server_stays x.number more placed settled)
-  way_at d now Nowhere = refl
+  way_at d now _ = refl
 
   same_datagram : (p : Placed) → captured_at_server name x (more ++ placed) p ≡ captured_at_server name x placed p
   same_datagram p = ap (λ w. captured name w p.datagram) (way_at p.datagram p.moment p.place)

@@ -16,9 +16,7 @@ command_in (Judged at services json files) = command.Check
 
 pub calls_itself : (a : Asked) → Calls (command_in a) a
 calls_itself (Listed services json file) = tt
-calls_itself (Written number end services file) = tt
-calls_itself (AllWritten end services file) = tt
-calls_itself (Judged at services json files) = tt
+calls_itself _ = tt
 
 -- ---- from the words to the command
 
@@ -46,9 +44,8 @@ told (Judged end services json files) w ws (arguments, (p, inr are), ps, say, ar
 -- ---- and back
 
 two_words : (w : Word) (ws : List Word) → slice_get ws 1 ≡ Some w → (p : Word) × (ws ≡ p ∷ w ∷ drop 2 ws)
-two_words w [] at = cc
-two_words w (p ∷ []) at = cc
 two_words w (p ∷ x ∷ ws) at = (p, ap (λ y. p ∷ y ∷ ws) (let e : x ≡ w = cc in e))
+two_words w _ at = cc
 
 pub asks : (a : Asked) (w : Word) (ws : List Word) (c : Command) (count : ℕ) → slice_get ws 1 ≡ Some w → Names w c count → Calls c a → Arguments a (drop count ws) → IsRequest a ws
 asks (Listed services json file) w ws command.List count at (inl (two, is)) calls said =

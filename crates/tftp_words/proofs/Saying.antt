@@ -64,15 +64,13 @@ not_both : (p : Part) (word w : Word) (next : Option Word) (k : ℕ) → IsOptio
 not_both p word w next k option begins = let plain = plain_is word w next k begins in option.1 (subst IsPlain plain.1 plain.2)
 
 same_point : (a b : Point) → point_word a ≡ point_word b → a ≡ b
-same_point point.Client point.Client e = refl
-same_point point.Server point.Server e = refl
-same_point point.Between point.Between e = refl
 same_point point.Client point.Server e = (let bad : 99 ≡ 115 = ap (λ w. get_or w 0 0) e in absurd (omega (arith, bad)))
 same_point point.Server point.Client e = (let bad : 115 ≡ 99 = ap (λ w. get_or w 0 0) e in absurd (omega (arith, bad)))
 same_point point.Client point.Between e = (let bad : 99 ≡ 98 = ap (λ w. get_or w 0 0) e in absurd (omega (arith, bad)))
 same_point point.Between point.Client e = (let bad : 98 ≡ 99 = ap (λ w. get_or w 0 0) e in absurd (omega (arith, bad)))
 same_point point.Server point.Between e = (let bad : 115 ≡ 98 = ap (λ w. get_or w 0 0) e in absurd (omega (arith, bad)))
 same_point point.Between point.Server e = (let bad : 98 ≡ 115 = ap (λ w. get_or w 0 0) e in absurd (omega (arith, bad)))
+same_point _ _ e = refl
 
 same_port : (s t : Word) (p q : ℕ) → s ≡ t → IsPort s p → IsPort t q → p ≡ q
 same_port s t p q e one other = one.0.1 ∙ sym (subst (λ w. IsNumber w q) (sym e) other.0).1

@@ -131,11 +131,8 @@ request_alone h e here test = record {
 }
 
 no_offer : (payload : List ℕ) (m : Message) → spells_it payload m ≡ true → not_oack m ≡ true
-no_offer payload (Message.Data k bytes) e = refl
-no_offer payload (Message.Ack j) e = refl
-no_offer payload (Message.Error code text) e = refl
-no_offer payload (Message.Request r) e = refl
 no_offer payload (Message.Oack o) e = absurd (false≢true e)
+no_offer payload _ e = refl
 
 module _ (h : Header) (b : Start h) where
   -- these pass too, one after another

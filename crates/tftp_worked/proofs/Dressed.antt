@@ -111,10 +111,7 @@ AllSpellAs b m wire (p ∷ ps) = SpellsAs b m wire p.datagram p.part × AllSpell
 
 says_it : (m : Meaning) (wire : List ℕ) (p : MachinePacket) → says (blksize_of m) m wire p ≡ message_of m wire p
 says_it m wire Req = refl
-says_it m wire Oack = refl
-says_it m wire (Data k) = refl
-says_it m wire (Ack j) = refl
-says_it m wire (Error code text) = refl
+says_it m wire _ = refl
 
 client_is : (e : End) (ids : TransferIds) (d : Datagram) → has_client_id e ids d ≡ true → HasClientId e ids d
 client_is Client ids d t = eqb-true d.local ids.own t
@@ -137,13 +134,11 @@ any_came dir (p ∷ ps) e = elim (or_cases (same_dir p.datagram.dir dir) (came d
 
 main_is : (part : Part) → is_main part ≡ true → IsMain part
 main_is (Main deed) e = (deed, refl)
-main_is Stray e = absurd (false≢true e)
-main_is StrayAnswer e = absurd (false≢true e)
+main_is _ e = absurd (false≢true e)
 
 stray_is : (part : Part) → is_stray part ≡ true → part ≡ Stray
 stray_is Stray e = refl
-stray_is (Main deed) e = absurd (false≢true e)
-stray_is StrayAnswer e = absurd (false≢true e)
+stray_is _ e = absurd (false≢true e)
 
 any_main : (dir : Dir) (ps : Division) → main_came dir ps ≡ true → Any (λ (p : Placed). IsMain p.part × (p.datagram.dir ≡ dir)) ps
 any_main dir [] e = absurd (false≢true e)
@@ -180,10 +175,7 @@ goes_is : (header : Header) (ids : TransferIds) (earlier : Division) (d : Datagr
 goes_is header ids earlier d Req e =
     let parts = and_parts (server_port header.named d == header.service) (asks_host header.named ids d) e in
     (eqb-true (server_port header.named d) header.service parts.0, asks_is header.named ids d parts.1)
-goes_is header ids earlier d Oack e = other_goes header ids earlier d e
-goes_is header ids earlier d (Data k) e = other_goes header ids earlier d e
-goes_is header ids earlier d (Ack j) e = other_goes header ids earlier d e
-goes_is header ids earlier d (Error code text) e = other_goes header ids earlier d e
+goes_is header ids earlier d _ e = other_goes header ids earlier d e
 
 -- what is not, is false
 not_is : (b : Bool) → not b ≡ true → b ≡ false

@@ -5,8 +5,7 @@ use Rattle.tftp_packet.specs.{Message, OptionMap, Get, Client}
 use Rattle.tftp_hosts.specs.{In, Out, Datagram}
 use Rattle.tftp_model.specs.{Meaning, request_of, option_or, windowsize_of, MachinePacket, Sent, Took, Req, Oack, Data, Ack, Error, History, IsOneSided, Step, IsView, client, server, two_bytes, ten_bytes, eight_a_block, read_refused_view, read_given_up_view, given_up_view, stopped_at_the_end_view, one_block_view, block_after_error_view}
 use Rattle.tftp_model.proofs.Members.{contains_first}
-use Rattle.tftp_model.proofs.Worked.{one_block, window_one}
-use Rattle.tftp_model.proofs.WorkedMore.{something_agreed, two_blocks, blocks_of_eight, one_at_a_time}
+use Rattle.tftp_model.proofs.Worked.{one_block_plan, two_is_plan, eights_plan, ten_is_plan, blocks_of_eight, one_at_a_time}
 use Rattle.tftp_model.proofs.WorkedErrors.{read_refused_is_view, read_given_up_is_view, stopped_at_the_end_is_view, stopped_at_the_end_complete, block_after_error_is_view}
 use Rattle.tftp_model.proofs.Computed.{Plan, IsPlan, run_is, complete_is, all_is}
 use Rattle.tftp_model.proofs.OneSided.{view_one_sided}
@@ -38,12 +37,6 @@ two_lawful view ds run dressed = (two_bytes, two_bytes.file, record { fits = two
 pub refused_lawful : IsLawful at_client read_refused
 refused_lawful = two_lawful read_refused_view read_refused read_refused_is_view (read_dressed (not_found ∷ []) read_refused_view read_refused refl refl refl)
 
-abbrev two_plan : Plan
-two_plan = record { agreed = false; windowsize = 1; blocks = 1 }
-
-two_is_plan : IsPlan two_bytes two_bytes.file two_plan
-two_is_plan = record { something = λ e. absurd (true≢false (sym e)); nothing = λ _. refl; windowsize = window_one; blocks = one_block }
-
 -- the ERROR comes again
 abbrev refused_again : History
 refused_again = Took refuses ∷ read_refused_view
@@ -52,7 +45,7 @@ abbrev refused_again_steps : List Step
 refused_again_steps = client (Took refuses) ∷ server (Sent refuses) ∷ client (Took refuses) ∷ server (Sent refuses) ∷ server (Took Req) ∷ client (Sent Req) ∷ []
 
 pub refused_again_lawful : IsLawful at_client read_refused_twice
-refused_again_lawful = two_lawful refused_again read_refused_twice (refused_again_steps, run_is two_bytes two_bytes.file two_plan refused_again_steps two_is_plan refl, refl)
+refused_again_lawful = two_lawful refused_again read_refused_twice (refused_again_steps, run_is two_bytes two_bytes.file one_block_plan refused_again_steps two_is_plan refl, refl)
     (read_dressed (not_found ∷ not_found ∷ []) refused_again read_refused_twice refl refl refl)
 
 -- the client says once that it has no room
@@ -60,7 +53,7 @@ abbrev given_up_steps : List Step
 given_up_steps = client (Sent (Error 3 [])) ∷ client (Took (Data 1)) ∷ server (Sent (Data 1)) ∷ server (Took Req) ∷ client (Sent Req) ∷ []
 
 pub given_up_lawful : IsLawful at_client read_given_up
-given_up_lawful = two_lawful given_up_view read_given_up (given_up_steps, run_is two_bytes two_bytes.file two_plan given_up_steps two_is_plan refl, refl)
+given_up_lawful = two_lawful given_up_view read_given_up (given_up_steps, run_is two_bytes two_bytes.file one_block_plan given_up_steps two_is_plan refl, refl)
     (read_dressed (full ∷ plain_hi ∷ []) given_up_view read_given_up refl refl refl)
 
 pub given_up_again_lawful : IsLawful at_client read_given_up_twice
@@ -87,7 +80,7 @@ after_steps =
     ∷ []
 
 pub stopped_after_shown : Shows at_client two_bytes stopped_after_the_end
-stopped_after_shown = two_shown at_client after_view stopped_after_the_end (after_steps, run_is two_bytes two_bytes.file two_plan after_steps two_is_plan refl, refl) (complete_is two_bytes two_bytes.file two_plan Client after_view two_is_plan refl)
+stopped_after_shown = two_shown at_client after_view stopped_after_the_end (after_steps, run_is two_bytes two_bytes.file one_block_plan after_steps two_is_plan refl, refl) (complete_is two_bytes two_bytes.file one_block_plan Client after_view two_is_plan refl)
     (read_dressed (stop ∷ plain_ack ∷ plain_hi ∷ []) after_view stopped_after_the_end refl refl refl)
 
 -- ---- a block after the ERROR
@@ -124,12 +117,6 @@ late_steps =
     ∷ client (Sent Req)
     ∷ []
 
-abbrev ten_plan : Plan
-ten_plan = record { agreed = true; windowsize = 1; blocks = 2 }
-
-ten_is_plan : IsPlan ten_bytes ten_bytes.file ten_plan
-ten_is_plan = record { something = λ _. something_agreed; nothing = λ e. absurd (true≢false e); windowsize = one_at_a_time; blocks = two_blocks }
-
 pub late_lawful : IsLawful at_client before_late_answer
 late_lawful = (
   ten_bytes,
@@ -137,7 +124,7 @@ late_lawful = (
   record {
     fits = eights_fit;
     view = late_view;
-    run = (late_steps, run_is ten_bytes ten_bytes.file ten_plan late_steps ten_is_plan refl, refl);
+    run = (late_steps, run_is ten_bytes ten_bytes.file (eights_plan 1 2) late_steps ten_is_plan refl, refl);
     dressed = dressed_by at_client ten_bytes ten_bytes.file 8 ids stopped_news read_by_eight.es late_view before_late_answer blocks_of_eight refl read_by_eight.spelled refl refl;
   },
 )

@@ -19,10 +19,7 @@ use Rattle.tftp_worked.proofs.RuleTests.{is_unknown_id, not_foreign, not_wrong, 
 
 unknown_is : (d : Datagram) (m : Message) → Spells d.payload m → is_unknown_id m ≡ true → SaysUnknownId d
 unknown_is d (Message.Error code text) s t = (text, subst (λ c. Spells d.payload (Message.Error c text)) (eqb-true code 5 t) s)
-unknown_is d (Message.Request r) s t = absurd (false≢true t)
-unknown_is d (Message.Oack o) s t = absurd (false≢true t)
-unknown_is d (Message.Data k bytes) s t = absurd (false≢true t)
-unknown_is d (Message.Ack j) s t = absurd (false≢true t)
+unknown_is d _ s t = absurd (false≢true t)
 
 -- after an ERROR it is that one again, or what may have been sent before it
 dir_same : (dir : Dir) → same_dir dir dir ≡ true
@@ -33,10 +30,7 @@ is_that_one : (code : ℕ) (text : List ℕ) (now : Message) → is_that code te
 is_that_one code text (Message.Error c words) t =
     let parts = and_parts (c == code) (bytes_eq words text) t in
     ap (λ n. Message.Error n words) (eqb-true c code parts.0) ∙ ap (Message.Error code) ((bytes_eq-Decides words text).0 parts.1)
-is_that_one code text (Message.Request r) t = absurd (false≢true t)
-is_that_one code text (Message.Oack o) t = absurd (false≢true t)
-is_that_one code text (Message.Data k bytes) t = absurd (false≢true t)
-is_that_one code text (Message.Ack j) t = absurd (false≢true t)
+is_that_one code text _ t = absurd (false≢true t)
 
 not_before : (dir : Dir) (now : Message) → may_precede dir now ≡ true → (dir ≡ Out) ⊎ IsError now → ⊥
 not_before Out now t way = false≢true t
@@ -58,18 +52,7 @@ wrong_kind Server Get (Message.Ack j) w = refl
 wrong_kind Server Put (Message.Data k bytes) w = refl
 wrong_kind Server Get (Message.Request request) w = refl
 wrong_kind Server Put (Message.Request request) w = refl
-wrong_kind Client Get (Message.Request request) w = absurd w
-wrong_kind Client Put (Message.Request request) w = absurd w
-wrong_kind Client Get (Message.Ack j) w = absurd w
-wrong_kind Client Put (Message.Data k bytes) w = absurd w
-wrong_kind Client Get (Message.Error code text) w = absurd w
-wrong_kind Client Put (Message.Error code text) w = absurd w
-wrong_kind Server Get (Message.Data k bytes) w = absurd w
-wrong_kind Server Put (Message.Ack j) w = absurd w
-wrong_kind Server Get (Message.Oack options) w = absurd w
-wrong_kind Server Put (Message.Oack options) w = absurd w
-wrong_kind Server Get (Message.Error code text) w = absurd w
-wrong_kind Server Put (Message.Error code text) w = absurd w
+wrong_kind _ _ _ w = absurd w
 
 differs : (x y : ℕ) → not (x == y) ≡ true → x ≡ y → ⊥
 differs x y t is = false≢true (subst (λ (b : Bool). not b ≡ true) (eq-eqb x y is) t)
@@ -247,21 +230,12 @@ module _ (h : Header) (es : List Spelled) (e : Spelled) (s : AllSpelled es) (her
     | inl other ↦ differs j 0 other b.0
     | inr may ↦ zero_may used used_spelled u.side u.reply may (subst (AckZeroWaits u.side u.reply) (sym used_are) b.1)
   ]
-  ack_kept u j EndRule.NotStarted t b = b
-  ack_kept u j EndRule.BlockZero t b = b
-  ack_kept u j EndRule.BeyondBlock65535 t b = b
-  ack_kept u j EndRule.BlockLength t b = b
-  ack_kept u j EndRule.WindowOverrun t b = b
-  ack_kept u j EndRule.BlockSkipped t b = b
-  ack_kept u j EndRule.GoneBack t b = b
-  ack_kept u j EndRule.BlockChanged t b = b
+  ack_kept u j _ t b = b
 
   message_kept : (u : Terms) (m : Message) (rule : EndRule) → end_keeps (Some u) (main_of h es) m rule ≡ true → EndBroken u passed m rule → ⊥
   message_kept u (Message.Data k bytes) rule t b = block_kept u k bytes rule t b
   message_kept u (Message.Ack j) rule t b = ack_kept u j rule t b
-  message_kept u (Message.Request r) rule t b = b
-  message_kept u (Message.Oack o) rule t b = b
-  message_kept u (Message.Error code text) rule t b = b
+  message_kept u _ rule t b = b
 
   -- ---- of ports, requests and OACKs
 
@@ -446,9 +420,7 @@ read_is Route.Request d m s t = (m, s)
 read_is Route.Peer d m s t = (m, s)
 read_is Route.Stray d m s t = tt
 read_is Route.StrayAnswer d m s t = unknown_is d m s t
-read_is Route.ForeignPort d m s t = absurd (false≢true t)
-read_is Route.WrongPort d m s t = absurd (false≢true t)
-read_is Route.NoStrayAnswer d m s t = absurd (false≢true t)
+read_is _ d m s t = absurd (false≢true t)
 
 -- the datagram passes
 abbrev pub passes_by : Header → Option Terms → List Spelled → Spelled → Bool

@@ -14,10 +14,9 @@ unless true c is t = t
 unless false c is t = absurd (false≢true is)
 
 pub is_end : (a b : End) → a ≡ b → same_end a b ≡ true
-is_end Client Client e = refl
-is_end Server Server e = refl
 is_end Client Server e = absurd (cc)
 is_end Server Client e = absurd (cc)
+is_end _ _ e = refl
 
 module _ (ts : List Spelled) (s : AllSpelled ts) where
   abbrev passed : List Datagram
@@ -36,10 +35,7 @@ module _ (ts : List Spelled) (s : AllSpelled ts) where
   pub started : (side : Side) (reply : Reply) → may_start side reply ts ≡ true → BlocksWait side reply passed → ⊥
   started Get Oacked t wait = let p = some_here is_ack_zero t in wait (zero_acked p.0 p.1 p.2 p.3)
   started Put NoReply t wait = false≢true t
-  started Get NoReply t wait = wait
-  started Get Plain t wait = wait
-  started Put Plain t wait = wait
-  started Put Oacked t wait = wait
+  started _ _ t wait = wait
 
   acked_as : (way : Dir) (w k : ℕ) (dir : Dir) (m : Message) → allows way w k dir m ≡ true → Passed dir m passed → (a : ℕ) × Passed way (Message.Ack a) passed × (k ≤ a + w)
   acked_as way w k dir m t p =
@@ -116,6 +112,4 @@ module _ (ts : List Spelled) (s : AllSpelled ts) where
   zero_may Get NoReply t wait = false≢true t
   zero_may Get Plain t wait = false≢true t
   zero_may Put Oacked t wait = let p = some_here is_block t in let k = block_there p.0 p.1 p.2 p.3 in wait k.0 k.1 k.2
-  zero_may Get Oacked t wait = wait
-  zero_may Put NoReply t wait = wait
-  zero_may Put Plain t wait = wait
+  zero_may _ _ t wait = wait

@@ -4,7 +4,7 @@ use Rattle.std.specs.Fmt.{digits}
 use Rattle.hex.specs.Hex.{encode_with}
 use Rattle.tftp_capture.specs.{text_of, line}
 use Rattle.tftp_model.specs.{block_count}
-use Rattle.tftp_model.proofs.WorkedMore.{blocks_of_eight}
+use Rattle.tftp_model.proofs.Worked.{blocks_of_eight}
 use Rattle.tftp_law.specs.{CanBeWritten, blocks_of}
 use Rattle.tftp_law.proofs.Written.Written.{can_be_written}
 use Rattle.tftp_judge.specs.{IsTextVerdict}

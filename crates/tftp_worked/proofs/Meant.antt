@@ -49,8 +49,7 @@ packet_is m wire (Error code text) message e = subst (λ x. Error code text ≡ 
 deed_is : (m : Meaning) (wire : List ℕ) (dir : Dir) (deed : Deed) (message : Message) → dir ≡ dir_of deed → message_of m wire (packet_of deed) ≡ message → deed ≡ deed_for dir message
 deed_is m wire Out (Sent p) message way e = ap Sent (packet_is m wire p message e)
 deed_is m wire In (Took p) message way e = ap Took (packet_is m wire p message e)
-deed_is m wire Out (Took p) message way e = absurd (cc)
-deed_is m wire In (Sent p) message way e = absurd (cc)
+deed_is m wire _ _ message way e = absurd (cc)
 
 -- the datagram is a main one, and its deed is what it says
 abbrev pub IsCarried : Meaning → List ℕ → Part → Spelled → Type 0

@@ -5,7 +5,7 @@ use Rattle.tftp_packet.specs.{Message, Server, OptionValue}
 use Rattle.tftp_model.specs.{request_of, Sent, Took, Req, Data, Ack, History, two_bytes_written, two_bytes_written_view, two_bytes_written_steps, ten_bytes, ten_bytes_view}
 use Rattle.tftp_model.proofs.Defaults.{default_blksize, default_windowsize}
 use Rattle.tftp_model.proofs.Computed.{Plan, IsPlan, run_is, complete_is}
-use Rattle.tftp_model.proofs.WorkedMore.{blocks_of_eight, two_blocks, written_one_block, written_is_view, written_complete, ten_bytes_is_view, ten_bytes_complete}
+use Rattle.tftp_model.proofs.Worked.{blocks_of_eight, two_blocks, written_one_block, written_is_view, written_complete, ten_bytes_is_view, ten_bytes_complete, one_block_plan, written_is_plan}
 use Rattle.tftp_law.specs.{Fits, Shows}
 use Rattle.tftp_worked.specs.{at_client, at_server, offers_a, is_accepted, gives_hi, hi_is_acknowledged, one_block_write, is_offered_a, accepts_it, gets_hi, has_hi, write_at_server, asks_for_eights, agrees_to_eights, takes_offer, brings_eight, acknowledges_eight, brings_two, acknowledges_two, read_in_eights}
 use Rattle.tftp_worked.proofs.Spelled.{write_spelled, eights_spelled, agreed_spelled}
@@ -38,20 +38,14 @@ write_is_shown =
 
 -- ---- and at its server
 
-abbrev written_plan : Plan
-written_plan = record { agreed = false; windowsize = 1; blocks = 1 }
-
-written_is_plan : IsPlan two_bytes_written two_bytes_written.file written_plan
-written_is_plan = record { something = λ e. absurd (true≢false (sym e)); nothing = λ _. refl; windowsize = default_windowsize two_bytes_written refl; blocks = written_one_block }
-
 abbrev written_server_view : History
 written_server_view = Sent (Ack 1) ∷ Took (Data 1) ∷ Sent (Ack 0) ∷ Took Req ∷ []
 
 pub write_at_server_is_shown : Shows at_server two_bytes_written write_at_server
 write_at_server_is_shown =
     shown_by at_server two_bytes_written two_bytes_written.file written_server_view write_at_server written_fit (omega (arith, written_one_block))
-    (two_bytes_written_steps, run_is two_bytes_written two_bytes_written.file written_plan two_bytes_written_steps written_is_plan refl, refl)
-    (complete_is two_bytes_written two_bytes_written.file written_plan Server written_server_view written_is_plan refl)
+    (two_bytes_written_steps, run_is two_bytes_written two_bytes_written.file one_block_plan two_bytes_written_steps written_is_plan refl, refl)
+    (complete_is two_bytes_written two_bytes_written.file one_block_plan Server written_server_view written_is_plan refl)
     (dressed_by at_server two_bytes_written two_bytes_written.file 512 server_ids ((has_hi, Message.Ack 1) ∷ (gets_hi, Message.Data 1 (codes "hi")) ∷ (accepts_it, Message.Ack 0) ∷ [])
     ((is_offered_a, Message.Request (request_of two_bytes_written)) ∷ []) written_server_view write_at_server (default_blksize two_bytes_written refl) refl (write_spelled, tt) refl refl)
 

@@ -8,7 +8,7 @@ use Rattle.tftp_nego.specs.{Holds, NegoFault}
 use Rattle.tftp_hosts.specs.{Datagram}
 use Rattle.tftp_rules.specs.{route_of, is_of_transfer, Terms, NoReply}
 use Rattle.tftp_model.specs.{eight_a_block}
-use Rattle.tftp_model.proofs.WorkedMore.{eight_for_blksize}
+use Rattle.tftp_model.proofs.Worked.{eight_for_blksize}
 use Rattle.tftp_law.specs.{number_of, plain_terms, Broken, FirstOack, OneEnded, IsRefused, Rule}
 use Rattle.tftp_law.proofs.Spelled.{spelled_once}
 use Rattle.tftp_worked.specs.{at_client, asks_for_a, one_block_read, request, oack, by_eight, only_asked, asks_for_b, agrees_to_none, agrees_unasked, by_multicast, only_multicast_asked, agrees_to_multicast, by_foo, only_foo_asked, agrees_to_foo, only_512_asked, agrees_to_1024}

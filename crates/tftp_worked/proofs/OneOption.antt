@@ -10,9 +10,8 @@ abbrev pub single : List ℕ → OptionValue → OptionMap
 single name value = map.from_entries ((name, value) ∷ [])
 
 is_equal : (r : Ordering) → is_eq r ≡ true → r ≡ Equal
-is_equal Less e = absurd (cc)
 is_equal Equal e = refl
-is_equal Greater e = absurd (cc)
+is_equal _ e = absurd (cc)
 
 pub name_is : (name other : List ℕ) → eq_by_cmp (slice_cmp nat_cmp) name other ≡ true → name ≡ other
 name_is name other e = map.slice_cmp-IsAntisymmetric map.nat_cmp-IsAntisymmetric name other (is_equal (slice_cmp nat_cmp name other) e)

@@ -18,10 +18,9 @@ same_dir Out Out = true
 same_dir _ _ = false
 
 pub dir_is : (a b : Dir) → same_dir a b ≡ true → a ≡ b
-dir_is In In e = refl
-dir_is Out Out e = refl
 dir_is In Out e = absurd (false≢true e)
 dir_is Out In e = absurd (false≢true e)
+dir_is _ _ e = refl
 
 abbrev pub as_block : Message → Option (ℕ × List ℕ)
 as_block (Message.Data k bytes) = Some (k, bytes)
@@ -38,17 +37,11 @@ holds test None = false
 
 pub block_is : (test : ℕ × List ℕ → Bool) (m : Message) → holds test (as_block m) ≡ true → (k : ℕ) × (bytes : List ℕ) × (m ≡ Message.Data k bytes) × (test (k, bytes) ≡ true)
 block_is test (Message.Data k bytes) t = (k, bytes, refl, t)
-block_is test (Message.Ack j) t = absurd (false≢true t)
-block_is test (Message.Request r) t = absurd (false≢true t)
-block_is test (Message.Oack o) t = absurd (false≢true t)
-block_is test (Message.Error code text) t = absurd (false≢true t)
+block_is test _ t = absurd (false≢true t)
 
 pub ack_is : (test : ℕ → Bool) (m : Message) → holds test (as_ack m) ≡ true → (j : ℕ) × (m ≡ Message.Ack j) × (test j ≡ true)
 ack_is test (Message.Ack j) t = (j, refl, t)
-ack_is test (Message.Data k bytes) t = absurd (false≢true t)
-ack_is test (Message.Request r) t = absurd (false≢true t)
-ack_is test (Message.Oack o) t = absurd (false≢true t)
-ack_is test (Message.Error code text) t = absurd (false≢true t)
+ack_is test _ t = absurd (false≢true t)
 
 pub passed_as : (passed : List Datagram) (dir way : Dir) (m n : Message) → same_dir way dir ≡ true → m ≡ n → Passed dir m passed → Passed way n passed
 passed_as passed dir way m n same is p = subst (λ x. Passed x n passed) (sym (dir_is way dir same)) (subst (λ x. Passed dir x passed) is p)
@@ -309,8 +302,4 @@ terms_back h es t s is = by (asked_by (first_asked h es)) refl is
 
     by : (o : Option Message) → asked_by (first_asked h es) ≡ o → terms_from h es o ≡ Some t → AreTerms h (datagrams es) t
     by (Some (Message.Request asked)) first e = answered asked first (first_answer asked.side (main_of h es)) refl e
-    by (Some (Message.Data k bytes)) first e = absurd (cc)
-    by (Some (Message.Ack j)) first e = absurd (cc)
-    by (Some (Message.Oack o)) first e = absurd (cc)
-    by (Some (Message.Error code text)) first e = absurd (cc)
-    by None first e = absurd (cc)
+    by _ first e = absurd (cc)

@@ -5,7 +5,7 @@ use Rattle.std.specs.Cmp.Lexicographic.{nat_list_cmp_total}
 use Rattle.tftp_packet.specs.{Num, Message, RequestParts, Get}
 use Rattle.tftp_model.specs.{number_or, request_of, two_bytes, eight_a_block, eight_by_four}
 use Rattle.tftp_rules.specs.{IsFront, BlockPassed, transfer_of, EndRule}
-use Rattle.tftp_model.proofs.WorkedWindows.{four_of_both}
+use Rattle.tftp_model.proofs.Worked.{four_of_both}
 use Rattle.tftp_law.specs.{FirstAsked, Begins, Agrees, Broken, Rule, IsRefused}
 use Rattle.tftp_hosts.specs.{Dir, In}
 use Rattle.std.proofs.lemmas.Bool.{false≢true}

@@ -9,7 +9,7 @@ use Rattle.tftp_packet.specs.{Message, OptionValue, Get}
 use Rattle.tftp_capture.specs.{numbered, line, worked_header, worked_text, BadHeader}
 use Rattle.tftp_capture.specs.declared.fault.CaptureFault.TheVariants.{Text}
 use Rattle.tftp_model.specs.{two_bytes}
-use Rattle.tftp_model.proofs.Worked.{one_block, window_one}
+use Rattle.tftp_model.proofs.Worked.{one_block, two_is_plan}
 use Rattle.tftp_law.specs.{Rule}
 use Rattle.tftp_judge.specs.{Unlawful, Capture, Refused}
 use Rattle.tftp_normal.specs.{normal_count, opening_count, window_count, two_bytes_text}
@@ -96,7 +96,7 @@ read_normalised = record { said = Ok two_bytes; judged = read_judged; is = sym (
 three : normal_count two_bytes ≡ 3
 three =
     let agreed = map.len-empty (slice_cmp nat_cmp) OptionValue in
-    λ i. opening_count Get (agreed i) + one_block i + window_count (window_one i) (one_block i)
+    λ i. opening_count Get (agreed i) + one_block i + window_count (two_is_plan.windowsize i) (one_block i)
 
 abbrev counted_by : ℕ → List ℕ
 counted_by n = codes "normal datagrams " ++ decimal n ++ codes "\n"

@@ -7,7 +7,7 @@ use Rattle.tftp_model.specs.Roles.{sender_of, receiver_of}
 use Rattle.tftp_model.proofs.Moments.{taken_was_sent}
 use Rattle.tftp_model.proofs.Blocks.{blocks_sent, block_in_given_window}
 use Rattle.tftp_model.proofs.Computed.{same_packet, taken_is, sent_is, all_is}
-use Rattle.tftp_model.proofs.WorkedWindows.{four_of_both}
+use Rattle.tftp_model.proofs.Worked.{four_of_both}
 use Rattle.tftp_law.specs.{IsLawful, IsLawfulUpTo}
 use Rattle.tftp_law.proofs.Whole.Beginnings.{beginning_is_lawful, shown_is_lawful}
 use Rattle.tftp_worked.specs.{at_client, request, oack, block, ack, by_four, by_two, asks, goes, comes, before_overrun, block_seven, before_skip, block_two, window_out_of_order}

@@ -11,10 +11,7 @@ use Rattle.tftp_law.proofs.Accord.PassedIsDone.{passed_told, told_passed}
 
 error_only : (m : Meaning) (wire : List ℕ) (q : MachinePacket) (code : ℕ) (text : List ℕ) → message_of m wire q ≡ Message.Error code text → q ≡ Error code text
 error_only m wire (Error c t) code text e = cc
-error_only m wire Req code text e = absurd (cc)
-error_only m wire Oack code text e = absurd (cc)
-error_only m wire (Data k) code text e = absurd (cc)
-error_only m wire (Ack j) code text e = absurd (cc)
+error_only m wire _ code text e = absurd (cc)
 
 module _ (h : Header) (m : Meaning) (wire : List ℕ) (division : Division) (routed : AreRouted h m wire division) where
   came_so : (code : ℕ) (text : List ℕ) (dir : Dir) (stop : Message) → stop ≡ Message.Error code text → Passed dir stop (transfer_of h (datagrams_of division))
@@ -43,10 +40,7 @@ module _ (h : Header) (m : Meaning) (wire : List ℕ) (division : Division) (rou
 
     again : (q : MachinePacket) → is_error q ≡ true → MaySend m wire h.named (view_in division) q → message_of m wire p ≡ message_of m wire q → ⊥
     again (Error c t) e may it = let (one, other) = may.same code text at in let all : message_of m wire p ≡ stop = cc in differs all
-    again Req e may it = true≢false (sym e)
-    again Oack e may it = true≢false (sym e)
-    again (Data k) e may it = true≢false (sym e)
-    again (Ack j) e may it = true≢false (sym e)
+    again _ e may it = true≢false (sym e)
 
     by : (b : Bool) → is_error p ≡ b → ⊥
     by true e = again p e own.0 refl

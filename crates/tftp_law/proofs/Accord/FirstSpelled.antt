@@ -15,16 +15,7 @@ module _ (h : Header) (m : Meaning) (wire : List ℕ) where
   is_request : (part : Part) (d : Datagram) → part_route part ≡ Route.Request → SaysAs m wire d part → Spells d.payload (Message.Request (request_of m))
   is_request (Main (Sent Req)) d is says = says.1
   is_request (Main (Took Req)) d is says = says.1
-  is_request (Main (Sent Oack)) d is says = absurd (cc)
-  is_request (Main (Took Oack)) d is says = absurd (cc)
-  is_request (Main (Sent (Data k))) d is says = absurd (cc)
-  is_request (Main (Took (Data k))) d is says = absurd (cc)
-  is_request (Main (Sent (Ack j))) d is says = absurd (cc)
-  is_request (Main (Took (Ack j))) d is says = absurd (cc)
-  is_request (Main (Sent (Error code text))) d is says = absurd (cc)
-  is_request (Main (Took (Error code text))) d is says = absurd (cc)
-  is_request Stray d is says = absurd (cc)
-  is_request StrayAnswer d is says = absurd (cc)
+  is_request _ d is says = absurd (cc)
 
   pub request_spelled : (division : Division) → AreRouted h m wire division → (d : Datagram) → first_of (asks h) (datagrams_of division) ≡ Some d → Spells d.payload (Message.Request (request_of m))
   request_spelled [] routed d is = absurd (cc)

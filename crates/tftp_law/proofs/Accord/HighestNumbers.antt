@@ -16,9 +16,7 @@ kept_spelled Route.Request d ds read all = (read, all)
 kept_spelled Route.Peer d ds read all = (read, all)
 kept_spelled Route.Stray d ds read all = all
 kept_spelled Route.StrayAnswer d ds read all = all
-kept_spelled Route.ForeignPort d ds read all = absurd read
-kept_spelled Route.WrongPort d ds read all = absurd read
-kept_spelled Route.NoStrayAnswer d ds read all = absurd read
+kept_spelled _ d ds read all = absurd read
 
 pub transfer_spelled : (h : Header) (earlier : List Datagram) → OneEnded h earlier → AllSpelled (transfer_of h earlier)
 transfer_spelled h [] lawful = tt
@@ -61,17 +59,11 @@ IsBlock k dir _ = ⊥
 
 is_block : (k : ℕ) (dir : Dir) (m : Message) → IsBlock k dir m ⊎ (IsBlock k dir m → ⊥)
 is_block k dir (Data n bytes) = cases_eq n k
-is_block k dir (Request r) = inr (λ is. is)
-is_block k dir (Ack j) = inr (λ is. is)
-is_block k dir (Error code text) = inr (λ is. is)
-is_block k dir (Oack options) = inr (λ is. is)
+is_block k dir _ = inr (λ is. is)
 
 block_there : (k : ℕ) (dir : Dir) (m : Message) (ds : List Datagram) → IsBlock k dir m → Passed dir m ds → BlockPassed dir k ds
 block_there k dir (Data n bytes) ds is p = (bytes, subst (λ x. Passed dir (Data x bytes) ds) is p)
-block_there k dir (Request r) ds is p = absurd is
-block_there k dir (Ack j) ds is p = absurd is
-block_there k dir (Error code text) ds is p = absurd is
-block_there k dir (Oack options) ds is p = absurd is
+block_there k dir _ ds is p = absurd is
 
 pub has_block : (k : ℕ) (ds : List Datagram) → AllSpelled ds → ((bytes : List ℕ) × HasPassed (Data k bytes) ds) ⊎ ((bytes : List ℕ) → HasPassed (Data k bytes) ds → ⊥)
 has_block k ds all = elim (scan (IsBlock k) (is_block k) ds all) [
@@ -105,17 +97,11 @@ IsShort size dir _ = ⊥
 
 is_short : (size : ℕ) (dir : Dir) (m : Message) → IsShort size dir m ⊎ (IsShort size dir m → ⊥)
 is_short size dir (Data n bytes) = elim (cases_lt (length bytes) size) [ inl short ↦ inl short | inr whole ↦ inr (λ short. omega arith) ]
-is_short size dir (Request r) = inr (λ is. is)
-is_short size dir (Ack j) = inr (λ is. is)
-is_short size dir (Error code text) = inr (λ is. is)
-is_short size dir (Oack options) = inr (λ is. is)
+is_short size dir _ = inr (λ is. is)
 
 short_there : (size : ℕ) (dir : Dir) (m : Message) (ds : List Datagram) → IsShort size dir m → Passed dir m ds → (k : ℕ) × (bytes : List ℕ) × HasPassed (Data k bytes) ds × (length bytes < size)
 short_there size dir (Data n bytes) ds is p = (n, bytes, either_way dir (Data n bytes) ds p, is)
-short_there size dir (Request r) ds is p = absurd is
-short_there size dir (Ack j) ds is p = absurd is
-short_there size dir (Error code text) ds is p = absurd is
-short_there size dir (Oack options) ds is p = absurd is
+short_there size dir _ ds is p = absurd is
 
 pub has_short : (size : ℕ) (ds : List Datagram) → AllSpelled ds → ((k : ℕ) × (bytes : List ℕ) × HasPassed (Data k bytes) ds × (length bytes < size)) ⊎ ((k : ℕ) (bytes : List ℕ) → HasPassed (Data k bytes) ds → size ≤ length bytes)
 has_short size ds all = elim (scan (IsShort size) (is_short size) ds all) [
@@ -188,10 +174,7 @@ acks_in _ _ = 0
 
 high_to : (ds : List Datagram) (n : ℕ) → (n ≡ 0 → ⊥) → (dir : Dir) (m : Message) → block_in_any dir m ≡ n → Passed dir m ds → (bytes : List ℕ) × HasPassed (Data n bytes) ds
 high_to ds n some dir (Data k bytes) is p = (bytes, either_way dir (Data n bytes) ds (subst (λ x. Passed dir (Data x bytes) ds) is p))
-high_to ds n some dir (Request r) is p = absurd (some (sym is))
-high_to ds n some dir (Ack j) is p = absurd (some (sym is))
-high_to ds n some dir (Error code text) is p = absurd (some (sym is))
-high_to ds n some dir (Oack options) is p = absurd (some (sym is))
+high_to ds n some dir _ is p = absurd (some (sym is))
 
 pub high_of : (ds : List Datagram) → AllSpelled ds → (n : ℕ) × IsHigh ds n
 high_of ds all = let (n, is) = greatest block_in_any ds all in (

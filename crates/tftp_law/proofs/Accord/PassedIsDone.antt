@@ -51,10 +51,7 @@ kept_false false d passed e = refl
 
 main_route : (p : MachinePacket) → is_of_transfer (packet_route p) ≡ true
 main_route Req = refl
-main_route Oack = refl
-main_route (Data k) = refl
-main_route (Ack j) = refl
-main_route (Error code text) = refl
+main_route _ = refl
 
 module _ (h : Header) (m : Meaning) (wire : List ℕ) where
   -- the datagrams of the transfer, with one more
@@ -181,17 +178,11 @@ module _ (h : Header) (m : Meaning) (wire : List ℕ) where
       let same : j ≡ k = cc in
       let text : block (blksize_of m) wire j ≡ bytes = cc in
       (ap Data same, sym text ∙ ap (block (blksize_of m) wire) same)
-  data_only Req k bytes e = absurd (cc)
-  data_only Oack k bytes e = absurd (cc)
-  data_only (Ack j) k bytes e = absurd (cc)
-  data_only (Error code text) k bytes e = absurd (cc)
+  data_only _ k bytes e = absurd (cc)
 
   ack_only : (q : MachinePacket) (j : ℕ) → message_of m wire q ≡ Message.Ack j → q ≡ Ack j
   ack_only (Ack i) j e = let same : i ≡ j = cc in ap Ack same
-  ack_only Req j e = absurd (cc)
-  ack_only Oack j e = absurd (cc)
-  ack_only (Data k) j e = absurd (cc)
-  ack_only (Error code text) j e = absurd (cc)
+  ack_only _ j e = absurd (cc)
 
   sent_of : (view : History) (x : Message) → Told m wire view Out x → (q : MachinePacket) × HasSent view q × (message_of m wire q ≡ x)
   sent_of view x (Sent q, at, way, says) = (q, at, says)

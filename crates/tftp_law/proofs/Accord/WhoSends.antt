@@ -9,28 +9,24 @@ use Rattle.tftp_law.specs.{IsWrongKind}
 -- ---- who sends what
 
 pub data_out_who : (e : End) (side : Side) (k : ℕ) (bytes : List ℕ) → (IsWrongKind (author_of e Out) side (Message.Data k bytes) → ⊥) → e ≡ sender_of side
-data_out_who Client Get k bytes right = absurd (right tt)
 data_out_who Client Put k bytes right = refl
 data_out_who Server Get k bytes right = refl
-data_out_who Server Put k bytes right = absurd (right tt)
+data_out_who _ _ k bytes right = absurd (right tt)
 
 pub data_in_who : (e : End) (side : Side) (k : ℕ) (bytes : List ℕ) → (IsWrongKind (author_of e In) side (Message.Data k bytes) → ⊥) → e ≡ receiver_of side
-data_in_who Client Get k bytes right = refl
 data_in_who Client Put k bytes right = absurd (right tt)
 data_in_who Server Get k bytes right = absurd (right tt)
-data_in_who Server Put k bytes right = refl
+data_in_who _ _ k bytes right = refl
 
 pub ack_out_who : (e : End) (side : Side) (j : ℕ) → (IsWrongKind (author_of e Out) side (Message.Ack j) → ⊥) → e ≡ receiver_of side
-ack_out_who Client Get j right = refl
 ack_out_who Client Put j right = absurd (right tt)
 ack_out_who Server Get j right = absurd (right tt)
-ack_out_who Server Put j right = refl
+ack_out_who _ _ j right = refl
 
 pub ack_in_who : (e : End) (side : Side) (j : ℕ) → (IsWrongKind (author_of e In) side (Message.Ack j) → ⊥) → e ≡ sender_of side
-ack_in_who Client Get j right = absurd (right tt)
 ack_in_who Client Put j right = refl
 ack_in_who Server Get j right = refl
-ack_in_who Server Put j right = absurd (right tt)
+ack_in_who _ _ j right = absurd (right tt)
 
 pub oack_out_who : (e : End) (side : Side) (o : OptionMap) → (IsWrongKind (author_of e Out) side (Message.Oack o) → ⊥) → e ≡ Server
 oack_out_who Client Get o right = absurd (right tt)

@@ -142,26 +142,12 @@ module _ (h : Header) (m : Meaning) (wire : List ℕ) (fits : Fits m wire)
   ack_sent : (j : ℕ) → MaySendAck m h.named view j → (t : Terms) → State h m wire fits division routed own t → (rule : EndRule) → AckBreaks t through j rule → ⊥
   ack_sent j may t s EndRule.AckAhead breaks = ack_not_ahead_out h m wire division routed t j (takes h m wire fits division routed own t s may.receiver) may breaks
   ack_sent j may t s EndRule.AckZero breaks = zero_answers (answering_out m.side (may.zero breaks.0)) t s breaks.1
-  ack_sent j may t s EndRule.NotStarted breaks = breaks
-  ack_sent j may t s EndRule.BlockZero breaks = breaks
-  ack_sent j may t s EndRule.BeyondBlock65535 breaks = breaks
-  ack_sent j may t s EndRule.BlockLength breaks = breaks
-  ack_sent j may t s EndRule.WindowOverrun breaks = breaks
-  ack_sent j may t s EndRule.BlockSkipped breaks = breaks
-  ack_sent j may t s EndRule.GoneBack breaks = breaks
-  ack_sent j may t s EndRule.BlockChanged breaks = breaks
+  ack_sent j may t s _ breaks = breaks
 
   ack_came : (j : ℕ) → MayComeAck m h.named (heard view) j → (t : Terms) → State h m wire fits division routed own t → (rule : EndRule) → AckBreaks t through j rule → ⊥
   ack_came j may t s EndRule.AckAhead breaks = ack_not_ahead_in h m wire division routed t j (sends h m wire fits division routed own t s may.sender) may breaks
   ack_came j may t s EndRule.AckZero breaks = zero_answers (answering_in m.side (may.zero breaks.0)) t s breaks.1
-  ack_came j may t s EndRule.NotStarted breaks = breaks
-  ack_came j may t s EndRule.BlockZero breaks = breaks
-  ack_came j may t s EndRule.BeyondBlock65535 breaks = breaks
-  ack_came j may t s EndRule.BlockLength breaks = breaks
-  ack_came j may t s EndRule.WindowOverrun breaks = breaks
-  ack_came j may t s EndRule.BlockSkipped breaks = breaks
-  ack_came j may t s EndRule.GoneBack breaks = breaks
-  ack_came j may t s EndRule.BlockChanged breaks = breaks
+  ack_came j may t s _ breaks = breaks
 
   -- ---- OACKs
 

@@ -124,10 +124,7 @@ module _ (h : Header) (m : Meaning) (wire : List ℕ) (fits : Fits m wire) where
 
   main_of : (q : MachinePacket) → is_of_transfer (packet_route q) ≡ true
   main_of Req = refl
-  main_of Oack = refl
-  main_of (Data k) = refl
-  main_of (Ack j) = refl
-  main_of (Error code text) = refl
+  main_of _ = refl
 
   asks_first : (e : End) → packet_of (request_at e) ≡ Req
   asks_first Client = refl

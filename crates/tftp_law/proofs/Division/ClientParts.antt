@@ -53,10 +53,7 @@ module _ (service : ℕ) (says : Saying) (ids : TransferIds) where
   c_came d StrayAnswer earlier p starts way apart = let e : Out ≡ In = sym p.dir ∙ way in absurd (cc)
   c_came d (Main (Sent q)) earlier p starts way apart = let e : Out ≡ In = sym p.dir ∙ way in absurd (cc)
   c_came d (Main (Took Req)) earlier p starts way apart = absurd (starts.0.not_back refl)
-  c_came d (Main (Took Oack)) earlier p starts way apart = absurd (apart p.server.0)
-  c_came d (Main (Took (Data k))) earlier p starts way apart = absurd (apart p.server.0)
-  c_came d (Main (Took (Ack j))) earlier p starts way apart = absurd (apart p.server.0)
-  c_came d (Main (Took (Error code text))) earlier p starts way apart = absurd (apart p.server.0)
+  c_came d _ earlier p starts way apart = absurd (apart p.server.0)
 
   module _ (earlier : Division) (parts : HavePartsBy ch says ids earlier) (routed : AreRoutedBy ch says earlier) (starts : Starts Client (view_in earlier)) (d : Datagram) (are : ClientIds (d ∷ datagrams_of earlier)) where
     abbrev es : List Datagram

@@ -69,9 +69,8 @@ module _ (service : ℕ) (says : Saying) (told : IsTold says) (ids : TransferIds
   asks_host earlier d (Main (Sent (Data k))) p out begins = absurd (false≢true (sym (told.other (Data k) (λ e. cc) d.payload p.spells) ∙ begins))
   asks_host earlier d (Main (Sent (Ack j))) p out begins = absurd (false≢true (sym (told.other (Ack j) (λ e. cc) d.payload p.spells) ∙ begins))
   asks_host earlier d (Main (Sent (Error code text))) p out begins = absurd (false≢true (sym (told.other (Error code text) (λ e. cc) d.payload p.spells) ∙ begins))
-  asks_host earlier d (Main (Took q)) p out begins = absurd (false≢true (sym (in_false d p.dir) ∙ out))
-  asks_host earlier d Stray p out begins = absurd (false≢true (sym (in_false d p.dir) ∙ out))
   asks_host earlier d StrayAnswer p out begins = absurd (false≢true (sym (error_begins d 5 p.spells.0 p.spells.1).0 ∙ begins))
+  asks_host earlier d _ p out begins = absurd (false≢true (sym (in_false d p.dir) ∙ out))
 
   first_host : (division : Division) → HavePartsBy here says ids division → (x : Datagram) → first_of (asks here) (datagrams_of division) ≡ Some x → x.host ≡ ids.asked
   first_host [] parts x e = absurd (cc)
@@ -102,12 +101,9 @@ module _ (service : ℕ) (says : Saying) (told : IsTold says) (ids : TransferIds
       → first_of comes_in (datagrams_of earlier) ≡ None → comes_in d ≡ true → peer_of d ≡ ids.peer
   came_first earlier d (Main (Sent q)) p own none came = absurd (false≢true (sym (out_false d p.dir) ∙ came))
   came_first earlier d (Main (Took Req)) p own none came = absurd (own.0.not_back refl)
-  came_first earlier d (Main (Took Oack)) p own none came = p.server.0
-  came_first earlier d (Main (Took (Data k))) p own none came = p.server.0
-  came_first earlier d (Main (Took (Ack j))) p own none came = p.server.0
-  came_first earlier d (Main (Took (Error code text))) p own none came = p.server.0
   came_first earlier d Stray p own none came = let found = some_in earlier (main_in earlier p.after) in let both : None ≡ Some found.0 = sym none ∙ found.1 in absurd (cc)
   came_first earlier d StrayAnswer p own none came = absurd (false≢true (sym (out_false d p.dir) ∙ came))
+  came_first earlier d _ p own none came = p.server.0
 
   came_peer : (division : Division) → HavePartsBy here says ids division → Starts Client (view_in division) → (x : Datagram) → first_of comes_in (datagrams_of division) ≡ Some x → peer_of x ≡ ids.peer
   came_peer [] parts own x e = absurd (cc)

@@ -30,10 +30,7 @@ told_some = record {
 } where
   by : (payload : List ℕ) (m : Message) → Spells payload m → packet_in m ≡ Some Req → ((opcode_of payload == 1) || (opcode_of payload == 2)) ≡ true
   by payload (Message.Request asked) s is = request_begins payload asked s
-  by payload (Message.Oack options) s is = absurd (cc)
-  by payload (Message.Data k bytes) s is = absurd (cc)
-  by payload (Message.Ack j) s is = absurd (cc)
-  by payload (Message.Error code text) s is = absurd (cc)
+  by payload _ s is = absurd (cc)
 
   no_request : (payload : List ℕ) (p : MachinePacket) (m : Message) → (p ≡ Req → ⊥) → Spells payload m → packet_in m ≡ Some p → (b : Bool) → ((opcode_of payload == 1) || (opcode_of payload == 2)) ≡ b → b ≡ false
   no_request payload p m apart s is false e = refl
@@ -49,23 +46,16 @@ told_some = record {
 
 no_stray_route : (p : MachinePacket) → packet_route p ≡ Route.Stray → ⊥
 no_stray_route Req e = cc
-no_stray_route Oack e = cc
-no_stray_route (Data k) e = cc
-no_stray_route (Ack j) e = cc
-no_stray_route (Error code text) e = cc
+no_stray_route _ e = cc
 
 no_answer_route : (p : MachinePacket) → packet_route p ≡ Route.StrayAnswer → ⊥
 no_answer_route Req e = cc
-no_answer_route Oack e = cc
-no_answer_route (Data k) e = cc
-no_answer_route (Ack j) e = cc
-no_answer_route (Error code text) e = cc
+no_answer_route _ e = cc
 
 deed_one : (a b : Deed) → dir_of a ≡ dir_of b → packet_of a ≡ packet_of b → a ≡ b
 deed_one (Sent p) (Sent q) way is = ap Sent is
 deed_one (Took p) (Took q) way is = ap Took is
-deed_one (Sent p) (Took q) way is = absurd (cc)
-deed_one (Took p) (Sent q) way is = absurd (cc)
+deed_one _ _ way is = absurd (cc)
 
 part_one : (d : Datagram) (a b : Part) → part_route a ≡ part_route b → SaysAsBy says_some d a → SaysAsBy says_some d b → a ≡ b
 part_one d (Main a) (Main b) e (way, s) (gone, t) = ap Main (deed_one a b (sym way ∙ gone) (packet_one d.payload (packet_of a) (packet_of b) s t))
@@ -112,8 +102,7 @@ module _ (h : Header) where
 
   request_deed : (d : Datagram) (part : Part) (earlier : Division) → part_route part ≡ Route.Request → view_in (one d part earlier) ≡ [] → ⊥
   request_deed d (Main deed) earlier is e = cc
-  request_deed d Stray earlier is e = cc
-  request_deed d StrayAnswer earlier is e = cc
+  request_deed d _ earlier is e = cc
 
   asked_view : (division : Division) → AreRoutedBy h says_some division → (d : Datagram) → first_of (asks h) (datagrams_of division) ≡ Some d → view_in division ≡ [] → ⊥
   asked_view [] routed d is e = cc
@@ -190,9 +179,7 @@ module _ (h : Header) where
     add place Route.Peer is read = add_said place read.0 read.1 is
     add place Route.Stray is read = (Stray, starts, is, tt)
     add place Route.StrayAnswer is read = (StrayAnswer, starts, is, read)
-    add place Route.ForeignPort is read = absurd read
-    add place Route.WrongPort is read = absurd read
-    add place Route.NoStrayAnswer is read = absurd read
+    add place _ is read = absurd read
 
   placed_routed : (earlier : List Datagram) → FindPlaces h earlier → Routed earlier
   placed_routed [] places = record { division = []; whole = refl; starts = tt; routed = tt }
@@ -214,35 +201,26 @@ module _ (h : Header) where
   read_of d (Main deed) (way, (m, s, is)) = by (packet_of deed) where
     by : (p : MachinePacket) → IsRead (packet_route p) d
     by Req = (m, s)
-    by Oack = (m, s)
-    by (Data k) = (m, s)
-    by (Ack j) = (m, s)
-    by (Error code text) = (m, s)
+    by _ = (m, s)
   read_of d Stray s = tt
   read_of d StrayAnswer s = s
 
   peer_main : (d : Datagram) (part : Part) → SaysAsBy says_some d part → part_route part ≡ Route.Peer → (deed : Deed) × (part ≡ Main deed) × says_some (packet_of deed) d.payload
   peer_main d (Main deed) s is = (deed, refl, s.1)
-  peer_main d Stray s is = absurd (cc)
-  peer_main d StrayAnswer s is = absurd (cc)
+  peer_main d _ s is = absurd (cc)
 
   -- what is read as a packet of the transfer spells a message
   spelled : (r : Route) (d : Datagram) → is_of_transfer r ≡ true → IsRead r d → (m : Message) × Spells d.payload m
   spelled Route.Request d t read = read
   spelled Route.Peer d t read = read
-  spelled Route.Stray d t read = absurd (cc)
-  spelled Route.StrayAnswer d t read = absurd (cc)
-  spelled Route.ForeignPort d t read = absurd (cc)
-  spelled Route.WrongPort d t read = absurd (cc)
-  spelled Route.NoStrayAnswer d t read = absurd (cc)
+  spelled _ d t read = absurd (cc)
 
   peer_is_other : (deed : Deed) → packet_route (packet_of deed) ≡ Route.Peer → packet_of deed ≡ Req → ⊥
   peer_is_other deed is e = let both : Route.Request ≡ Route.Peer = sym (ap packet_route e) ∙ is in cc
 
   first_main : (d : Datagram) (part : Part) (x : Division) → Starts h.named (view_in (one d part x)) → view_in x ≡ [] → part_route part ≡ Route.Peer → ⊥
   first_main d (Main deed) x starts empty is = peer_is_other deed is (ap packet_of (starts.0.first empty) ∙ front_asks h.named)
-  first_main d Stray x starts empty is = cc
-  first_main d StrayAnswer x starts empty is = cc
+  first_main d _ x starts empty is = cc
 
   place_of : (x : Division) (d : Datagram) (part : Part) → Starts h.named (view_in (one d part x)) → AreRoutedBy h says_some (one d part x) → FindsPlace h (datagrams_of x) d
   place_of x d part starts routed = record {
@@ -264,28 +242,7 @@ module _ (h : Header) where
     lawful Rule.StrayAnswer low b = elim b [ inl is ↦ subst (λ r. IsRead r d) is read | inr is ↦ is.1 (subst (λ r. IsRead r d) is.0 read) ]
     lawful Rule.NoRequest low b = first_main d part x starts (none_view h says_some x routed.2 (starts_before h.named d part x starts) b.0) (sym routed.0 ∙ b.1)
     lawful (Rule.Malformed fault) low b = let (m, s) = spelled (route_of h (datagrams_of x) d) d b.0 read in no_fault d.payload m fault s.1 b.1.0
-    lawful Rule.WrongKind low b = omega (arith, low)
-    lawful Rule.AfterError low b = omega (arith, low)
-    lawful Rule.RequestChanged low b = omega (arith, low)
-    lawful Rule.RequestAfterStart low b = omega (arith, low)
-    lawful Rule.ReplyChanged low b = omega (arith, low)
-    lawful Rule.OackEmpty low b = omega (arith, low)
-    lawful Rule.MulticastAgreed low b = omega (arith, low)
-    lawful Rule.OptionNotRequested low b = omega (arith, low)
-    lawful Rule.OptionOutsideProfile low b = omega (arith, low)
-    lawful Rule.OptionValue low b = omega (arith, low)
-    lawful Rule.OackChanged low b = omega (arith, low)
-    lawful Rule.OackAfterStart low b = omega (arith, low)
-    lawful Rule.NotStarted low b = omega (arith, low)
-    lawful Rule.BlockZero low b = omega (arith, low)
-    lawful Rule.BeyondBlock65535 low b = omega (arith, low)
-    lawful Rule.BlockLength low b = omega (arith, low)
-    lawful Rule.WindowOverrun low b = omega (arith, low)
-    lawful Rule.BlockSkipped low b = omega (arith, low)
-    lawful Rule.GoneBack low b = omega (arith, low)
-    lawful Rule.BlockChanged low b = omega (arith, low)
-    lawful Rule.AckAhead low b = omega (arith, low)
-    lawful Rule.AckZero low b = omega (arith, low)
+    lawful _ low b = omega (arith, low)
 
   places_of : (x : Division) → Starts h.named (view_in x) → AreRoutedBy h says_some x → FindPlaces h (datagrams_of x)
   places_of [] starts routed = tt

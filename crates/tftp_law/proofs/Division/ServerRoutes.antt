@@ -95,13 +95,10 @@ module _ (service : ℕ) (says : Saying) (told : IsTold says) (ids : TransferIds
   -- what goes out comes from the server's port
   s_out_own : (earlier : Division) (d : Datagram) (part : Part) → Part1 earlier d part → Own (one d part earlier) → goes_out d ≡ true → d.local ≡ ids.own
   s_out_own earlier d (Main (Sent Req)) p own t = absurd (own.0.not_back refl)
-  s_out_own earlier d (Main (Sent Oack)) p own t = p.server.0
-  s_out_own earlier d (Main (Sent (Data k))) p own t = p.server.0
-  s_out_own earlier d (Main (Sent (Ack j))) p own t = p.server.0
-  s_out_own earlier d (Main (Sent (Error code text))) p own t = p.server.0
   s_out_own earlier d (Main (Took q)) p own t = absurd (false≢true (sym (in_false d p.dir) ∙ t))
   s_out_own earlier d Stray p own t = absurd (false≢true (sym (in_false d p.dir) ∙ t))
   s_out_own earlier d StrayAnswer p own t = p.here
+  s_out_own earlier d _ p own t = p.server.0
 
   s_first_own : (division : Division) → Parts division → Own division → (first x : Datagram) → first_of (to_client service first) (datagrams_of division) ≡ Some x → x.local ≡ ids.own
   s_first_own [] parts own first x e = absurd (cc)

@@ -69,11 +69,7 @@ before_is h ds d e = rw e
 not_main : (r : Route) → (r ≡ Route.Request → ⊥) → (r ≡ Route.Peer → ⊥) → is_of_transfer r ≡ false
 not_main Route.Request a b = absurd (a refl)
 not_main Route.Peer a b = absurd (b refl)
-not_main Route.Stray a b = refl
-not_main Route.StrayAnswer a b = refl
-not_main Route.ForeignPort a b = refl
-not_main Route.WrongPort a b = refl
-not_main Route.NoStrayAnswer a b = refl
+not_main _ a b = refl
 
 module _ (h : Header) where
   -- it goes from the client to the server as a request does, and to the service port

@@ -30,9 +30,7 @@ module _ (h : Header) (earlier : List Datagram) (d : Datagram) (m : Message) (as
   end_kind : (x : Message) (e : EndRule) (t : Terms) → AreTermsAfter h asked passed t → EndBroken t passed x e → KindBreaks h asked passed d.dir x (rule_of_end e)
   end_kind (Message.Data k bytes) e t known b = (e, refl, t, known, b)
   end_kind (Message.Ack j) e t known b = (e, refl, t, known, b)
-  end_kind (Message.Request r) e t known b = absurd b
-  end_kind (Message.Oack o) e t known b = absurd b
-  end_kind (Message.Error code text) e t known b = absurd b
+  end_kind _ e t known b = absurd b
 
   end_there : (e : EndRule) → EndBreaks h earlier d e → MessageBreaks h asked passed d.dir m (rule_of_end e)
   end_there e b =
@@ -95,16 +93,8 @@ module _ (h : Header) (earlier : List Datagram) (d : Datagram) (m : Message) (as
   oack_back oack says rule b = absurd b.1
 
   end_back : (e : EndRule) → EndBreaks h earlier d e → Broken h earlier d (rule_of_end e)
-  end_back EndRule.NotStarted b = b
-  end_back EndRule.BlockZero b = b
   end_back EndRule.BeyondBlock65535 b = inl b
-  end_back EndRule.BlockLength b = b
-  end_back EndRule.WindowOverrun b = b
-  end_back EndRule.BlockSkipped b = b
-  end_back EndRule.GoneBack b = b
-  end_back EndRule.BlockChanged b = b
-  end_back EndRule.AckAhead b = b
-  end_back EndRule.AckZero b = b
+  end_back _ b = b
 
   terms_back : (x : Message) → Says h earlier d x → (rule : Rule) → TermsBreak h asked passed x rule → Broken h earlier d rule
   terms_back x says rule (e, is, t, known, b) =

@@ -39,14 +39,7 @@ answer_cases side (d ∷ ds) all = elim (answer_cases side ds all.1) [
 oack_answer : (side : Side) (m : Message) (options : OptionMap) → IsAnswer side m (Agrees options) → m ≡ Message.Oack options
 oack_answer Get (Message.Oack given) options is = ap Message.Oack is
 oack_answer Put (Message.Oack given) options is = ap Message.Oack is
-oack_answer Get (Message.Data k bytes) options is = absurd is
-oack_answer Put (Message.Data k bytes) options is = absurd is
-oack_answer Get (Message.Ack j) options is = absurd is
-oack_answer Put (Message.Ack j) options is = absurd is
-oack_answer Get (Message.Request r) options is = absurd is
-oack_answer Put (Message.Request r) options is = absurd is
-oack_answer Get (Message.Error code text) options is = absurd is
-oack_answer Put (Message.Error code text) options is = absurd is
+oack_answer _ _ options is = absurd is
 
 pub oack_spelled : (side : Side) (d : Datagram) (options : OptionMap) → Answers side d (Agrees options) → Spells d.payload (Message.Oack options)
 oack_spelled side d options (m, s, is) = subst (Spells d.payload) (oack_answer side m options is) s
@@ -141,8 +134,7 @@ eight_or_more n e = within 8 65464 n e
 
 pub from_eight : (o : Option OptionValue) → ((n : ℕ) → o ≡ Some (Num n) → is_within (range_of (codes "blksize")) n ≡ true) → 8 ≤ number_or 512 o
 from_eight (Some (Num n)) range = eight_or_more n (range n refl)
-from_eight (Some (Text text)) range = omega arith
-from_eight None range = omega arith
+from_eight _ range = omega arith
 
 pub answer_spelled : (side : Side) (passed : List Datagram) (options : OptionMap) → FirstAnswer side passed (Agrees options) → (d : Datagram) × Spells d.payload (Message.Oack options)
 answer_spelled side [] options first = absurd first

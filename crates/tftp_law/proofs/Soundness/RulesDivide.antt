@@ -119,11 +119,7 @@ module _ (h : Header) (ds : List Datagram) (d : Datagram) where
 main_route : (r : Route) → is_of_transfer r ≡ true → (r ≡ Route.Request) ⊎ (r ≡ Route.Peer)
 main_route Route.Request is = inl refl
 main_route Route.Peer is = inr refl
-main_route Route.Stray is = absurd (cc)
-main_route Route.StrayAnswer is = absurd (cc)
-main_route Route.ForeignPort is = absurd (cc)
-main_route Route.WrongPort is = absurd (cc)
-main_route Route.NoStrayAnswer is = absurd (cc)
+main_route _ is = absurd (cc)
 
 -- what comes from the client's side
 out_from : (e : End) (d : Datagram) → e ≡ Client → d.dir ≡ Out → is_from_client e d ≡ true

@@ -112,10 +112,7 @@ oack_from side (d ∷ ds) o first = elim first [
 
 zero_said : (d : Datagram) (x : Message) → Spells d.payload x → IsAnswer Put x Begins → Spells d.payload (Message.Ack 0)
 zero_said d (Message.Ack j) s is = subst (λ i. Spells d.payload (Message.Ack i)) is s
-zero_said d (Message.Data k bytes) s is = absurd is
-zero_said d (Message.Request r) s is = absurd is
-zero_said d (Message.Oack o) s is = absurd is
-zero_said d (Message.Error code text) s is = absurd is
+zero_said d _ s is = absurd is
 
 pub zero_from : (ds : List Datagram) → FirstAnswer Put ds Begins → HasPassed (Message.Ack 0) ds
 zero_from [] first = absurd first

@@ -26,19 +26,11 @@ agreed_by side d options (m, s, is) = by side m s.1 is where
   by : (way : Side) (n : Message) → Layout d.payload n → IsAnswer way n (Agrees options) → AreInRange options
   by Get (Message.Oack given) oack is = subst AreInRange (sym oack.map ∙ is) (map_in_range oack.pairs)
   by Put (Message.Oack given) oack is = subst AreInRange (sym oack.map ∙ is) (map_in_range oack.pairs)
-  by Get (Message.Data k bytes) s is = absurd is
-  by Put (Message.Data k bytes) s is = absurd is
-  by Get (Message.Ack j) s is = absurd is
-  by Put (Message.Ack j) s is = absurd is
-  by Get (Message.Request r) s is = absurd is
-  by Put (Message.Request r) s is = absurd is
-  by Get (Message.Error code text) s is = absurd is
-  by Put (Message.Error code text) s is = absurd is
+  by _ _ s is = absurd is
 
 size_from_eight : (o : Option OptionValue) → ((n : ℕ) → o ≡ Some (Num n) → is_within (range_of (codes "blksize")) n ≡ true) → 8 ≤ number_or 512 o
 size_from_eight (Some (Num n)) range = (blksize_range n (range n refl)).0
-size_from_eight (Some (Text text)) range = omega arith
-size_from_eight None range = omega arith
+size_from_eight _ range = omega arith
 
 -- a block has room for eight bytes (RFC 2348)
 pub size_at_least : (h : Header) (earlier : List Datagram) (t : Terms) → AreTerms h earlier t → 8 ≤ t.blksize

@@ -58,13 +58,11 @@ opened m wire e v own passed = by m.side refl where
 
 most_of : (o : Option OptionValue) → ((n : ℕ) → o ≡ Some (Num n) → is_within (range_of (codes "blksize")) n ≡ true) → number_or 512 o ≤ 65464
 most_of (Some (Num n)) within = (blksize_range n (within n refl)).1
-most_of (Some (Text text)) within = omega arith
-most_of None within = omega arith
+most_of _ within = omega arith
 
 some_of : (o : Option OptionValue) → ((n : ℕ) → o ≡ Some (Num n) → is_within (range_of (codes "blksize")) n ≡ true) → 1 ≤ number_or 512 o
 some_of (Some (Num n)) within = let low = (blksize_range n (within n refl)).0 in omega (arith, low)
-some_of (Some (Text text)) within = omega arith
-some_of None within = omega arith
+some_of _ within = omega arith
 
 -- ---- the bytes of the wire
 

@@ -1,4 +1,4 @@
-use Rattle.tftp_model.proofs.WorkedWindows.{repeated_view, repeated_complete}
+use Rattle.tftp_model.proofs.Worked.{repeated_view, repeated_complete}
 use Rattle.tftp_model.proofs.laws.block_sent_again_is_a_run.Goals as goal
 
 pub returns-clause-view : goal.returns-clause-view

@@ -1,4 +1,4 @@
-use Rattle.tftp_model.proofs.WorkedMore.{two_blocks, ten_bytes_is_view, ten_bytes_complete}
+use Rattle.tftp_model.proofs.Worked.{two_blocks, ten_bytes_is_view, ten_bytes_complete}
 use Rattle.tftp_model.proofs.laws.ten_bytes_in_small_blocks_are_a_run.Goals as goal
 
 pub returns-clause-blocks : goal.returns-clause-blocks

@@ -1,4 +1,4 @@
-use Rattle.tftp_model.proofs.WorkedMore.{written_is_view, written_complete}
+use Rattle.tftp_model.proofs.Worked.{written_is_view, written_complete}
 use Rattle.tftp_model.proofs.laws.two_bytes_written_are_a_run.Goals as goal
 
 pub returns-clause-view : goal.returns-clause-view

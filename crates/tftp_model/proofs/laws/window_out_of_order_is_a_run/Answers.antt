@@ -1,5 +1,5 @@
 use Rattle.std.proofs.Common.{refl}
-use Rattle.tftp_model.proofs.WorkedWindows.{six_count, six_run, six_complete, six_server_complete}
+use Rattle.tftp_model.proofs.Worked.{six_count, six_run, six_complete, six_server_complete}
 use Rattle.tftp_model.proofs.laws.window_out_of_order_is_a_run.Goals as goal
 
 pub returns-clause-blocks : goal.returns-clause-blocks

@@ -1,4 +1,4 @@
-use Rattle.tftp_model.proofs.WorkedWindows.{window_view, window_complete}
+use Rattle.tftp_model.proofs.Worked.{window_view, window_complete}
 use Rattle.tftp_model.proofs.laws.window_sent_again_is_a_run.Goals as goal
 
 pub returns-clause-view : goal.returns-clause-view
