@@ -2,7 +2,6 @@
 //! datagram belongs by it.
 #![tactic(auto)]
 
-pub mod all_lines;
 mod doubts;
 mod endpoint;
 mod kind;

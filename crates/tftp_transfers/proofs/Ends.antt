@@ -5,7 +5,7 @@ use Rattle.tftp_lines.specs.{Endpoint, Place, Opens, Repeats, Talks, Apart, Besi
 use Rattle.tftp_transfers.specs.{either, or_talks, at_client, beside, beside_by, served_at, is_nowhere, asks, place_of}
 use Rattle.tftp_lines.proofs.Endpoints.{is_same}
 use Rattle.tftp_lines.proofs.Lines.{by_test}
-use Rattle.tftp_lines.proofs.AllLines.{line_here, line_elsewhere}
+use Rattle.tftp_transfers.proofs.AllLines.{line_here, line_elsewhere}
 
 -- ---- all of a line passed at its client
 

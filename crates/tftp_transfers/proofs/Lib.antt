@@ -1,3 +1,4 @@
+pub mod AllLines
 pub mod Ends
 pub mod Serving
 pub mod Doubting

@@ -6,7 +6,7 @@ use Rattle.std.proofs.lemmas.List.Elements.{All-nil, All-cons}
 use Rattle.tftp_lines.specs.{Endpoint, Place, Opens, Repeats, Talks, Apart, Beside, Nowhere, Transfer, Talk, Recorded, same_endpoint, other_of, goes, is_again, Placed, opens, is_apart, is_at, newest_of, live, line, silence, transfer_of, latest_in, answered_in, may_answer, talked_of, talk_in, place_talked, place_at, opened_by, asked_after, is_known_host, last_was_ack_0, clock, is_another, is_next_data, answer_of, may_be_answer_of}
 use Rattle.tftp_transfers.specs.{Served, at_client, beside, beside_by, serves, newer, last_served, served_within, served_by, served_at, is_service, is_nowhere, asks, place_of, placed, is_about, is_it, is_answered_apart}
 use Rattle.tftp_lines.proofs.Lines.{by_test}
-use Rattle.tftp_lines.proofs.AllLines.{line_here, line_elsewhere}
+use Rattle.tftp_transfers.proofs.AllLines.{line_here, line_elsewhere}
 use Rattle.tftp_transfers.proofs.Ends.{opened, again, asked_as, either_is, spoken, asked_place, beside_end, client_end}
 
 -- ---- places that name no transfer of this number or above

@@ -7,11 +7,11 @@ ghost use Rattle.tftp_transfers.specs.Places.{is_service, asks, either, at_clien
 ghost use Rattle.tftp_transfers.specs.Kept.{IsAfter, AreServed, AreServices, IsRecorded, is_asked, takes_memory};
 ghost use Rattle.tftp_transfers.specs.declared.attribution.AttributionFault.{AttributionFault};
 
+use crate::all_lines::{begin, let_line_go, next_line, note, reopen, repeat};
 use std::alloc::{AllocError, Global};
 use std::collections::{BTreeMap, BTreeSet};
 use std::convert::From;
 use std::ops::Bound;
-use tftp_lines::all_lines::{begin, let_line_go, next_line, note, reopen, repeat};
 use tftp_lines::{
     Address, Doubts, Endpoint, Kind, Line, Place, SILENCE, Seen, Transfer, other_end,
 };

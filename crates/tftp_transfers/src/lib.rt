@@ -1,6 +1,7 @@
 //! Which datagrams of a recording are one transfer: the definition, and the place of each datagram in one pass.
 #![tactic(auto)]
 
+mod all_lines;
 mod attribution;
 mod doubted;
 pub mod laws;

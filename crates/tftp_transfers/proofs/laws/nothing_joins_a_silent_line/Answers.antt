@@ -1,6 +1,6 @@
 use Rattle.std.proofs.Common.{sym, ap, ◌∙◌, length}
 use Rattle.tftp_lines.specs.{live, line}
-use Rattle.tftp_lines.proofs.AllLines.{repeats_live}
+use Rattle.tftp_transfers.proofs.AllLines.{repeats_live}
 use Rattle.tftp_transfers.proofs.Ends.{placed_where}
 use Rattle.tftp_transfers.proofs.laws.nothing_joins_a_silent_line.Goals as goal
 

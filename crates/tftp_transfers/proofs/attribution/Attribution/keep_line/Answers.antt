@@ -1,6 +1,6 @@
 use Rattle.std.proofs.Common.{◌≡◌, true, ◌∷◌, length, Some, refl, sym, ap, subst, ◌∙◌, OnOk}
 use Rattle.tftp_lines.specs.{Place, Transfer, is_between, live, line, place_asked, AreLinesOf, other_end}
-use Rattle.tftp_lines.proofs.AllLines.{lines_same}
+use Rattle.tftp_transfers.proofs.AllLines.{lines_same}
 use Rattle.tftp_transfers.proofs.Ends.{IsWhere, placed_where}
 use Rattle.tftp_transfers.proofs.Serving.{between_other}
 use Rattle.tftp_transfers.proofs.attribution.Attribution.keep_line.Goals as goal

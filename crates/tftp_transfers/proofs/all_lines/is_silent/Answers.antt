@@ -2,7 +2,7 @@ use Rattle.std.proofs.Common.{◌+◌, sym, ap, subst, ◌∙◌, nat_le}
 use Rattle.std.proofs.lemmas.Bool.{not-true}
 use Rattle.tftp_lines.specs.{clock, line, silence, IsLineKept}
 use Rattle.tftp_lines.proofs.Silences.{live_lost}
-use Rattle.tftp_lines.proofs.all_lines.is_silent.Goals as goal
+use Rattle.tftp_transfers.proofs.all_lines.is_silent.Goals as goal
 
 pub returns-in-Some : goal.returns-in-Some
 returns-in-Some c older stands now_is is =

@@ -1,5 +1,5 @@
-use Rattle.tftp_lines.proofs.AllLines.{lines_less}
-use Rattle.tftp_lines.proofs.all_lines.let_line_go.Goals as goal
+use Rattle.tftp_transfers.proofs.AllLines.{lines_less}
+use Rattle.tftp_transfers.proofs.all_lines.let_line_go.Goals as goal
 
 pub returns-then-is_silent : goal.returns-then-is_silent
 returns-then-is_silent c older stands now_is =

@@ -1,7 +1,7 @@
 use Rattle.std.proofs.Common.{◌≡◌, ◌∷◌, sym, ap, subst, ◌∙◌, is_some}
 use Rattle.tftp_lines.specs.{Repeats, same_endpoint, live, line, place_asked, IsLineOf, IsLineKept}
-use Rattle.tftp_lines.proofs.AllLines.{on_ok_map, lines_more, live_whole, repeats_live}
-use Rattle.tftp_lines.proofs.all_lines.repeat.Goals as goal
+use Rattle.tftp_transfers.proofs.AllLines.{on_ok_map, lines_more, live_whole, repeats_live}
+use Rattle.tftp_transfers.proofs.all_lines.repeat.Goals as goal
 
 pub returns-in-Some : goal.returns-in-Some
 returns-in-Some c older d number x stands later from passed client is =

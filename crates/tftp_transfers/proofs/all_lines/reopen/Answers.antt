@@ -1,7 +1,7 @@
 use Rattle.std.proofs.Common.{◌≡◌, ◌∷◌, refl, sym, ap, subst, is_some}
 use Rattle.tftp_lines.specs.{Opens, line, IsLineOf, IsLineKept}
-use Rattle.tftp_lines.proofs.AllLines.{on_ok_both, lines_more, live_whole}
-use Rattle.tftp_lines.proofs.all_lines.reopen.Goals as goal
+use Rattle.tftp_transfers.proofs.AllLines.{on_ok_both, lines_more, live_whole}
+use Rattle.tftp_transfers.proofs.all_lines.reopen.Goals as goal
 
 pub returns-in-Some : goal.returns-in-Some
 returns-in-Some c older d stands later of some =

@@ -1,7 +1,7 @@
 use Rattle.std.proofs.Common.{◌∷◌, refl, sym, ap, subst}
 use Rattle.tftp_lines.specs.{Opens, IsLineOf}
-use Rattle.tftp_lines.proofs.AllLines.{lines_more}
-use Rattle.tftp_lines.proofs.all_lines.begin.Goals as goal
+use Rattle.tftp_transfers.proofs.AllLines.{lines_more}
+use Rattle.tftp_transfers.proofs.all_lines.begin.Goals as goal
 
 pub returns : goal.returns
 returns c older d stands later of silent =

@@ -3,25 +3,18 @@
 
 ghost use Rattle.std.specs.Prelude.{◌≡◌, ◌≢◌, ◌≤◌, ◌∷◌, ℕ, List, [], true, Some, IfSome, is_some, OnOk};
 ghost use Rattle.std.specs.BTreeMap.{get};
-ghost use Rattle.tftp_lines.specs.Recording.{Recorded, is_between, endpoint_cmp};
-ghost use Rattle.tftp_lines.specs.Places.{Placed, live, line, clock, place_asked};
-ghost use Rattle.tftp_lines.specs.Kept.{AreLinesOf, IsRequestOf, seen_of, place_of_talk};
-ghost use Rattle.tftp_lines.specs.declared.place.Place.{Place};
-ghost use Rattle.tftp_lines.specs.declared.place.Transfer.{Transfer};
+ghost use Rattle.tftp_lines.specs.{Recorded, is_between, endpoint_cmp, Placed, live, line, clock, place_asked, AreLinesOf, IsRequestOf, seen_of, place_of_talk, Place, Transfer};
 
-use crate::endpoint::Endpoint;
-use crate::kind::Seen;
-use crate::line::Line;
-use crate::place::Transfer;
 use std::alloc::{AllocError, Global};
 use std::collections::BTreeMap;
 use std::ops::Bound;
+use tftp_lines::{Endpoint, Line, Seen, Transfer};
 
 /// What is kept of each client's line, by the client's endpoint.
-pub type Lines = BTreeMap<Endpoint, Line>;
+pub(crate) type Lines = BTreeMap<Endpoint, Line>;
 
 /// Notes what passed between a client and another endpoint: of a transfer, or apart.
-pub fn note(
+pub(crate) fn note(
     lines: &mut Lines,
     client: Endpoint,
     other: Endpoint,
@@ -41,7 +34,7 @@ pub fn note(
 }
 
 /// Notes a request that repeats the one before it.
-pub fn repeat(lines: &mut Lines, client: Endpoint, time: u64, now: u64) -> Result<(), AllocError>
+pub(crate) fn repeat(lines: &mut Lines, client: Endpoint, time: u64, now: u64) -> Result<(), AllocError>
     ensures { (older : List Placed) (d : Recorded) (number : ℕ) (x : Transfer) → AreLinesOf lines.old older → clock older ≤ now
         → d.source ≡ client → d.time ≡ time → x.client ≡ client → place_asked number d (live now (line client older)) ≡ Place.Repeats x
         → OnOk result (AreLinesOf lines.new (record { datagram = d; moment = now; place = Place.Repeats x } ∷ older)) }
@@ -53,7 +46,7 @@ pub fn repeat(lines: &mut Lines, client: Endpoint, time: u64, now: u64) -> Resul
 }
 
 /// Notes a request that opens this transfer, where its client's line has not been silent.
-pub fn reopen(
+pub(crate) fn reopen(
     lines: &mut Lines,
     alloc: Global,
     transfer: Transfer,
@@ -72,7 +65,7 @@ pub fn reopen(
 }
 
 /// Notes a request that opens this transfer, where its client's line has been silent or none is kept: a line begins.
-pub fn begin(
+pub(crate) fn begin(
     lines: &mut Lines,
     alloc: Global,
     transfer: Transfer,
@@ -90,7 +83,7 @@ pub fn begin(
 }
 
 /// The client after this one of which a line is kept, or else the first.
-pub fn next_line(lines: &Lines, client: Endpoint) -> Option<Endpoint>
+pub(crate) fn next_line(lines: &Lines, client: Endpoint) -> Option<Endpoint>
     ensures { IfSome result (λ next. is_some (get endpoint_cmp lines.now next) ≡ true) }
 {
     let mut later = lines.range((Bound::Excluded(client), Bound::Unbounded));
@@ -104,7 +97,7 @@ pub fn next_line(lines: &Lines, client: Endpoint) -> Option<Endpoint>
 }
 
 /// Lets a client's line go, if it has been silent for more than 300 s.
-pub fn let_line_go(lines: &mut Lines, client: Endpoint, now: u64)
+pub(crate) fn let_line_go(lines: &mut Lines, client: Endpoint, now: u64)
     ensures { (older : List Placed) → AreLinesOf lines.old older → clock older ≡ now → AreLinesOf lines.new older }
 {
     if is_silent(lines, &client, now) {

@@ -1,7 +1,7 @@
 use Rattle.std.proofs.Common.{◌≡◌, true, ◌∷◌, sym, ap, subst, ◌∙◌, is_some}
 use Rattle.tftp_lines.specs.{is_between, live, line, IsLineOf, IsLineKept, place_of_talk}
-use Rattle.tftp_lines.proofs.AllLines.{on_ok_map, lines_more, live_whole, at_talk}
-use Rattle.tftp_lines.proofs.all_lines.note.Goals as goal
+use Rattle.tftp_transfers.proofs.AllLines.{on_ok_map, lines_more, live_whole, at_talk}
+use Rattle.tftp_transfers.proofs.all_lines.note.Goals as goal
 
 pub returns-in-Some : goal.returns-in-Some
 returns-in-Some c older d stands later seen between clients some =
