@@ -31,10 +31,12 @@ tsize_third name e = ap third e
 
 -- ---- a number that may answer is not wrong
 may_not_wrong : (side : Side) (name : List ℕ) (n a : ℕ) → MayAnswer side name n a → IsWrongNumber side name n a → ⊥
+may_not_wrong side name n a (inl (p, may)) (inl (q, wrong)) = omega arith
 may_not_wrong side name n a (inl (p, may)) (inr (inl (q, wrong))) = omega (arith, blksize_third name p, windowsize_third name q)
 may_not_wrong side name n a (inl (p, may)) (inr (inr (inl (q, wrong)))) = omega (arith, blksize_third name p, timeout_third name q)
 may_not_wrong side name n a (inl (p, may)) (inr (inr (inr (q, put, wrong)))) = omega (arith, blksize_third name p, tsize_third name q)
 may_not_wrong side name n a (inr (inl (p, may))) (inl (q, wrong)) = omega (arith, windowsize_third name p, blksize_third name q)
+may_not_wrong side name n a (inr (inl (p, may))) (inr (inl (q, wrong))) = omega arith
 may_not_wrong side name n a (inr (inl (p, may))) (inr (inr (inl (q, wrong)))) = omega (arith, windowsize_third name p, timeout_third name q)
 may_not_wrong side name n a (inr (inl (p, may))) (inr (inr (inr (q, put, wrong)))) = omega (arith, windowsize_third name p, tsize_third name q)
 may_not_wrong side name n a (inr (inr (inl (p, may)))) (inl (q, wrong)) = omega (arith, timeout_third name p, blksize_third name q)

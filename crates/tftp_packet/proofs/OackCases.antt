@@ -7,7 +7,8 @@ use Rattle.tftp_packet.proofs.PairStrings.{pair_strings_injective, not_odd, none
 
 not_short : (body : List ℕ) → Holds Short (0 ∷ 6 ∷ body) → ⊥
 not_short body (inl short) = omega arith
-not_short body _ = omega arith
+not_short body (inr (inl op, short)) = omega arith
+not_short body (inr (inr op, short)) = omega arith
 
 not_opcode : (body : List ℕ) → Holds Opcode (0 ∷ 6 ∷ body) → ⊥
 not_opcode body (inl op) = omega arith

@@ -48,8 +48,10 @@ module _ (entries : List Entry) (i : ℕ) (x : Entry) (h : i < length entries) (
 
 -- ---- a new entry in its place
 take_drop_shown : {A B : Type 0} (f : A → B) (xs : List A) (i : ℕ) (x : A) → each f (take i xs ++ x ∷ drop i xs) ≡ take i (each f xs) ++ f x ∷ drop i (each f xs)
+take_drop_shown f [] zero x = refl
+take_drop_shown f [] (suc i) x = refl
+take_drop_shown f (y ∷ xs) zero x = refl
 take_drop_shown f (y ∷ xs) (suc i) x = ap (λ t. f y ∷ t) (take_drop_shown f xs i x)
-take_drop_shown f _ _ x = refl
 
 pub insert_shown : (entries : List Entry) (i : ℕ) (x : Entry) → shown_entries (insert entries i x) ≡ insert (shown_entries entries) i (shown_entry x)
 insert_shown entries i x = take_drop_shown shown_entry entries i x

@@ -19,9 +19,10 @@ split_unique (a ∷ s) (b ∷ t) xs ys p q e =
 
 -- a string has no zero byte
 pub string_has_no_zero : (s front rest : List ℕ) → IsString s → s ≡ front ++ 0 ∷ rest → ⊥
+string_has_no_zero [] [] rest p e = cc
+string_has_no_zero [] (b ∷ front) rest p e = cc
 string_has_no_zero (a ∷ s) [] rest p e = let head : a ≡ 0 = cc in p.0 head
 string_has_no_zero (a ∷ s) (b ∷ front) rest p e = let tail : s ≡ front ++ 0 ∷ rest = cc in string_has_no_zero s front rest p.1 tail
-string_has_no_zero [] _ rest p e = cc
 
 -- what follows a string ends as the whole does
 pub end_after : (s xs front : List ℕ) → s ++ xs ≡ terminated front → (xs ≡ []) ⊎ EndsWithZero xs
