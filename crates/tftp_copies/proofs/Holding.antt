@@ -27,8 +27,10 @@ any_shown P false hs none = (
 )
 
 get_take : {X : Type 0} (n : ℕ) (xs : List X) (x : X) → slice_get xs n ≡ Some x → slice_get (take (suc n) xs) n ≡ Some x
+get_take zero [] x e = e
+get_take zero (y ∷ ys) x e = e
+get_take (suc n) [] x e = e
 get_take (suc n) (y ∷ ys) x e = get_take n ys x e
-get_take _ _ x e = e
 
 -- what was mapped to something is there
 mapped : {X Y : Type 0} (f : X → Y) (o : Option X) (y : Y) → option_map f o ≡ Some y → (x : X) × (o ≡ Some x) × (f x ≡ y)
