@@ -1,4 +1,3 @@
-pub mod CaptureText
 pub mod Sides
 pub mod Fitting
 pub mod Dress
@@ -14,7 +13,6 @@ pub mod Owned
 pub mod Accord
 pub mod Divisions
 pub mod Writable
-pub use CaptureText.{Datagram, Header}
 pub use Sides.{BeginsAsRequest, from_server, server_port}
 pub use Fitting.{Fits, IsWritable, ReadsAs, written_wire}
 pub use Dress.{AnswersStray, Carries, CarriesDeed, ComesAstray, Division, GoesToServer, HasClientId, HasPart, HasPartBy, HasServerId, HaveParts, HavePartsBy, IsDressed, IsMain, Main, Part, Placed, Saying, Stray, TransferIds, datagrams_of, dir_of, packet_of, says_of, view_in}

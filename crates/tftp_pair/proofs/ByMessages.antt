@@ -3,13 +3,14 @@ use Rattle.std.proofs.Common.{ℕ, List, sym, subst, ◌↔◌, reverse}
 use Rattle.tftp_model.specs.{Meaning, IsOneSided}
 use Rattle.tftp_rules.specs.{transfer_of}
 use Rattle.tftp_model.proofs.OneSided.{view_one_sided}
-use Rattle.tftp_law.specs.{Datagram, Header, view_in, IsSeen}
+use Rattle.tftp_law.specs.{view_in, IsSeen}
 use Rattle.tftp_law.proofs.Division.Routed.{routed}
 use Rattle.tftp_law.proofs.Whole.TwoEnds.{seen}
 use Rattle.tftp_pair.specs.{Capture, AreConsistent, AreMergedBy, AreLawfulAndMerged, passed_in}
 use Rattle.tftp_pair.proofs.Together.{client_seen, server_seen, seen_merged, together, each_lawful}
 use Rattle.tftp_pair.proofs.Spelt.{AreSpelt, spelt, deeds_merged, messages_merged}
 use Rattle.tftp_pair.proofs.CommonMeaning.{one_for_both}
+use Rattle.tftp_hosts.specs.{Datagram, Header}
 
 -- what a capture shows is spelt by what has passed in it
 seen_spelt : (h : Header) (m : Meaning) (wire : List ℕ) (ds : List Datagram) (s : IsSeen h m wire ds) → AreSpelt m wire s.view (transfer_of h (reverse ds))

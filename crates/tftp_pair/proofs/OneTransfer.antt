@@ -2,13 +2,14 @@
 use Rattle.std.proofs.Common.{◌≡◌, ℕ, List, sym, subst, ◌∙◌, reverse}
 use Rattle.tftp_model.specs.{Meaning, IsOneSided, IsComplete}
 use Rattle.tftp_model.proofs.OneSided.{view_one_sided}
-use Rattle.tftp_law.specs.{Datagram, Header, IsSeen, Accords, IsEnded, Meant}
+use Rattle.tftp_law.specs.{IsSeen, Accords, IsEnded, Meant}
 use Rattle.tftp_law.proofs.Division.Routed.{routed}
 use Rattle.tftp_law.proofs.Whole.TwoEnds.{rules, meant_by}
 use Rattle.tftp_law.proofs.Whole.EndedIsComplete.{completed}
 use Rattle.tftp_law.proofs.Whole.OneMeaning.{one_meaning}
 use Rattle.tftp_pair.specs.{Capture, AreConsistent}
 use Rattle.tftp_pair.proofs.Together.{client_seen, server_seen}
+use Rattle.tftp_hosts.specs.{Datagram, Header}
 
 -- what is seen of a meaning, and is whole, means it
 seen_meant : (h : Header) (m : Meaning) (wire : List ℕ) (ds : List Datagram) → IsSeen h m wire ds → IsEnded h (reverse ds) → Meant h (reverse ds) m

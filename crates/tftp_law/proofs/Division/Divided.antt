@@ -1,7 +1,8 @@
 -- What a division says of its datagrams, one at a time.
 use Rattle.std.proofs.Common.{◌≡◌, zero, suc, ◌⊎◌, List, [], ◌∷◌, Any, inl, inr, refl, sym, subst, arith}
 use Rattle.tftp_model.specs.{Deed}
-use Rattle.tftp_law.specs.{Datagram, Main, Placed, Division, datagrams_of, view_in}
+use Rattle.tftp_law.specs.{Main, Placed, Division, datagrams_of, view_in}
+use Rattle.tftp_hosts.specs.{Datagram}
 
 pub divided_more : (division : Division) (d : Datagram) (ds : List Datagram) → datagrams_of division ≡ d ∷ ds → (p : Placed) × (rest : Division) × (division ≡ p ∷ rest) × (p.datagram ≡ d) × (datagrams_of rest ≡ ds)
 divided_more [] d ds e = absurd (cc)

@@ -4,10 +4,11 @@ use Rattle.std.proofs.lemmas.Bool.{cases_lt}
 use Rattle.std.proofs.lemmas.List.{reverse-append}
 use Rattle.tftp_model.specs.{Meaning, Deed, History, IsView, two_bytes}
 use Rattle.tftp_model.proofs.Moments.{earlier_view}
-use Rattle.tftp_law.specs.{Datagram, Header, Part, Main, Stray, Placed, Division, datagrams_of, view_in, HaveParts, IsLawful, Shows, IsLawfulUpTo}
+use Rattle.tftp_law.specs.{Part, Main, Stray, Placed, Division, datagrams_of, view_in, HaveParts, IsLawful, Shows, IsLawfulUpTo}
 use Rattle.tftp_law.specs.Dress.{StrayAnswer}
 use Rattle.tftp_law.proofs.Division.Divided.{divided_more}
 use Rattle.tftp_law.proofs.Whole.NothingAgreed.{two_bytes_fit}
+use Rattle.tftp_hosts.specs.{Datagram, Header}
 
 pub empty_is_lawful : (header : Header) → IsLawful header []
 empty_is_lawful header = (
