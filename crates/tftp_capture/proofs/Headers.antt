@@ -4,7 +4,7 @@ use Rattle.std.specs.Io.KnownBytes.{Consumes, IsAtEnd, prepend_known}
 use Rattle.std.proofs.lemmas.List.Elements.{All-nil}
 use Rattle.std.proofs.KnownBytes.{Consumes-trans}
 use Rattle.tftp_packet.specs.{End}
-use Rattle.tftp_capture.specs.{BadHeader, BadEnd, BadService, Truncated, CaptureFault, Version, One, Two, Stop, Due, IsPort, Says, Stands, end_line, head_line, longest, longest_line, service_line, whole_lines, FailsToBegin, FaultTells, HasService, IsAtTextEnd, IsReadFault, MemoryTells, LeavesEnd, LineEnds, LineState, ReachesLine, fault_at}
+use Rattle.tftp_capture.specs.{BadHeader, BadEnd, BadService, Truncated, CaptureFault, Version, One, Two, Stop, Due, IsPort, Says, Stands, end_line, head_line, longest, longest_line, service_line, whole_lines, FailsToBegin, FaultTells, HasService, IsAtTextEnd, IsReadFault, MemoryTells, LeavesEnd, LineEnds, LineState, most_ahead, ReachesLine, fault_at}
 use Rattle.tftp_capture.specs.declared.fault.CaptureFault.TheVariants as faults
 use Rattle.tftp_capture.specs.declared.stop.Stop.TheVariants.{Text, Read, Memory}
 use Rattle.tftp_capture.specs.CaptureText.Due.{Head, EndLine, ServiceLine, Body}
@@ -183,7 +183,7 @@ memory_alone (faults.Memory line) text ahead m = elim m as (λ _. MemoryTells (f
   | inr s ↦ inr s
 ]
 
-pub fails_to_begin : (r0 r1 : Option (List ℕ)) (ahead : List ℕ) (fault : CaptureFault) → length ahead ≤ 16384 → (IsReadFault fault → ahead ≡ []) → (IsAtTextEnd fault → IsAtEnd (prepend_known ahead r1))
+pub fails_to_begin : (r0 r1 : Option (List ℕ)) (ahead : List ℕ) (fault : CaptureFault) → length ahead ≤ most_ahead → (IsReadFault fault → ahead ≡ []) → (IsAtTextEnd fault → IsAtEnd (prepend_known ahead r1))
     → Tells (prepend_known [] r0) (prepend_known ahead r1) ahead fault → FailsToBegin r0 r1 fault
 fails_to_begin None r1 ahead fault near none end t = record { taken = t.text; ahead = []; consumed = tt; tells = t.tells; drained = λ _. refl; ended = λ _. refl; near = lit≤ tt; memory = memory_alone fault t.text ahead t.memory }
 fails_to_begin (Some x) None ahead fault near none end t = absurd t.consumed

@@ -11,7 +11,7 @@ use Rattle.tftp_capture.specs.declared.version.Version.{Version}
 use Rattle.std.specs.List.{slice_split}
 use Rattle.tftp_capture.specs.CaptureText.{Datagram, Header, Numbered, Due, Stands, Unfinished, IsCapture, IsOver, HasFault, said, head_line, end_line, service_line}
 use Rattle.tftp_capture.specs.CaptureText.Due.{Body}
-use Rattle.tftp_capture.specs.Lines.{LineState}
+use Rattle.tftp_capture.specs.Lines.{LineState, most_ahead}
 use Rattle.tftp_capture.specs.Fields.{datagram_of}
 
 -- what contracts see of a reader: its header, its lines, how many datagrams it gave, the line of the last of them (or of
@@ -140,7 +140,7 @@ IsAtTextEnd (Read line) = ⊥
 IsAtTextEnd (Memory line) = ⊥
 
 -- bytes were taken in which a header was looked for, and some more were read ahead, but none where a read failed or the
--- text has ended, and never more than 16,384
+-- text has ended, and never more than a reader reads ahead
 pub record FailsToBegin (before after : Option (List ℕ)) (fault : CaptureFault) : Type 0 where
   pub taken : List ℕ
   pub ahead : List ℕ
@@ -148,7 +148,7 @@ pub record FailsToBegin (before after : Option (List ℕ)) (fault : CaptureFault
   pub tells : FaultTells fault taken []
   pub drained : IsReadFault fault → ahead ≡ []
   pub ended : IsAtTextEnd fault → ahead ≡ []
-  pub near : length ahead ≤ 16384
+  pub near : length ahead ≤ most_ahead
   pub memory : MemoryTells fault taken ahead []
 
 -- no datagram was given

@@ -9,6 +9,10 @@ use Rattle.tftp_capture.specs.declared.stop.Stop.{Stop}
 use Rattle.tftp_capture.specs.declared.version.Version.{Version}
 use Rattle.tftp_capture.specs.declared.stop.Stop.TheVariants.{Text, Read, Memory}
 
+-- how many bytes are read ahead of their use at most
+abbrev pub most_ahead : ℕ
+most_ahead = 65536
+
 abbrev pub fault_at : Stop → ℕ → CaptureFault
 fault_at (Text fault) line = faults.Text line fault
 fault_at Read line = faults.Read line

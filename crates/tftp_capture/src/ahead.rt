@@ -1,5 +1,6 @@
 ghost use Rattle.std.specs.Prelude.{◌≡◌, ◌≤◌, [], length, drop, true, IfOk, OnOk, OnErr};
 ghost use Rattle.std.specs.Io.KnownBytes.{prepend_known, Keeps, IsAtEnd};
+ghost use Rattle.tftp_capture.specs.Lines.{most_ahead};
 
 use crate::tallied::Tallied;
 use std::alloc::{AllocError, Global};
@@ -8,9 +9,9 @@ use std::io::Read;
 use std::marker::Model;
 
 /// How many bytes are read at once.
-const ROOM: usize = 16384;
+const ROOM: usize = 65536;
 
-/// Bytes that were read ahead of their use, at most 16,384. They stand in memory that is asked for once, and not on the
+/// Bytes that were read ahead of their use, at most 65,536. They stand in memory that is asked for once, and not on the
 /// stack, where each move would copy them.
 #[derive(Drop)]
 pub struct Ahead {
@@ -21,12 +22,13 @@ pub struct Ahead {
 
 impl Model for Ahead {
     ghost use Rattle.std.specs.Prelude.{ℕ, List, take, drop, vec_len, ◌≡◌, ◌≤◌};
+    ghost use Rattle.tftp_capture.specs.Lines.{most_ahead};
 
     ghost Value = { List ℕ };
 
     ghost view = { λ a. drop a.start (take a.end a.buf.items) };
 
-    ghost invariant = { λ a. (a.start ≤ a.end) × (a.end ≤ 16384) × (vec_len a.buf ≡ 16384) };
+    ghost invariant = { λ a. (a.start ≤ a.end) × (a.end ≤ most_ahead) × (vec_len a.buf ≡ most_ahead) };
 }
 
 impl Ahead {
@@ -46,7 +48,7 @@ impl Ahead {
     #[inline]
     pub fn as_slice(&self) -> &[u8]
         ensures value { result.now ≡ self.now }
-        ensures few { length self.now ≤ 16384 }
+        ensures few { length self.now ≤ most_ahead }
     {
         &self.buf[self.start..self.end]
     }
@@ -56,14 +58,14 @@ impl Ahead {
     pub fn consume(&mut self, count: usize)
         requires { count ≤ length self.old }
         ensures value { self.new ≡ drop count self.old }
-        ensures few { length self.new ≤ 16384 }
+        ensures few { length self.new ≤ most_ahead }
     {
         self.start += count;
     }
 
     /// Reads once where nothing is held; then nothing is held only at the reader's end.
     pub fn fill<R: Read>(&mut self, reader: &mut Tallied<R>) -> io::Result<()>
-        ensures few { length self.new ≤ 16384 }
+        ensures few { length self.new ≤ most_ahead }
         ensures kept { Keeps (prepend_known self.old (R.remaining reader.old.0)) (prepend_known self.new (R.remaining reader.new.0)) }
         ensures end { IfOk result (λ _. length self.new ≡ 0 → IsAtEnd (prepend_known self.new (R.remaining reader.new.0))) }
         ensures ok { OnOk result (reader.new.1 ≡ reader.old.1) }

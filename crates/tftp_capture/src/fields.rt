@@ -1,13 +1,13 @@
-ghost use Rattle.std.specs.Prelude.{◌≡◌, ◌≢◌, ◌∷◌, ℕ, List, [], codes, Err, MatchOption, OnOk};
+ghost use Rattle.std.specs.Prelude.{◌≡◌, ◌≢◌, ◌∷◌, ℕ, List, [], codes, false, true, Err, MatchOption, OnOk};
 ghost use Rattle.std.specs.List.{list_all};
 ghost use Rattle.std.specs.Char.{is_ascii_hexdigit};
+ghost use Rattle.tftp_hosts.specs.{IsHost};
 ghost use Rattle.tftp_capture.specs.CaptureText.{dir_word, end_line, service_line, pieces, AreFields, IsPort, SpellsPort};
 ghost use Rattle.tftp_capture.specs.Fields.{BeginWithFields, BodyEnds, DatagramEnds, PayloadEnds, TotalEnds, filled, filled_if};
 
 use crate::datagram::Datagram;
 use crate::digits::decode;
 use crate::fault::TextFault;
-use crate::line::count_before;
 use crate::stop::Stop;
 use crate::version::Version;
 use hex::FromHexError;
@@ -18,35 +18,41 @@ use tftp_packet::{Bytes, End};
 /// The most bytes of a payload: the 65,535 that a UDP length counts, less the header's 8 (RFC 768).
 const LONGEST_PAYLOAD: usize = 65_527;
 
-/// The piece before the first space, and what stands after that space.
+/// The most digits of a port.
+const MOST_DIGITS: usize = 5;
+
+/// The piece before the first space, and what stands after that space. It goes byte by byte, since a piece is short, or
+/// else the text is at fault here.
 #[inline]
 fn cut(text: &[u8]) -> Option<(&[u8], &[u8])>
     ensures { MatchOption result (pieces text.now ≡ text.now ∷ []) (λ parts. pieces text.now ≡ parts.0.now ∷ pieces parts.1.now) }
 {
-    let at = count_before(text, b' ');
-    if at == text.len() {
-        return None;
+    for at in 0..text.len() {
+        if text[at] == b' ' {
+            return Some((&text[..at], &text[at + 1..]));
+        }
     }
-    Some((&text[..at], &text[at + 1..]))
+    None
 }
 
 /// The port that is spelled, 1 to 65535 without leading zeros.
 fn port(text: &[u8]) -> Option<u16>
     ensures { MatchOption result ((port : ℕ) → SpellsPort text.now port → ⊥) (SpellsPort text.now) }
 {
-    if text.is_empty() || text[0] == b'0' {
+    if text.is_empty() || text.len() > MOST_DIGITS || text[0] == b'0' {
         return None;
     }
-    let mut number: u16 = 0;
+    let mut number: u32 = 0;
     for byte in text {
         if !byte.is_ascii_digit() {
             return None;
         }
-        number = number
-            .checked_mul(10)?
-            .checked_add(u16::from(*byte - b'0'))?;
+        number = number * 10 + u32::from(*byte - b'0');
     }
-    Some(number)
+    if number > u32::from(u16::MAX) {
+        return None;
+    }
+    Some(number as u16)
 }
 
 /// The end that an `end` line names.
@@ -148,6 +154,22 @@ fn cut_fields(version: Version, text: &[u8]) -> Option<Fields<'_>>
     })
 }
 
+/// Puts the host in place that a field names, and says whether it names one. Most often it is there already, and nothing is
+/// written.
+fn fill_host(field: &[u8], host: &mut Host) -> bool
+    ensures named { result ≡ true → IsHost field.now × (host.new ≡ field.now) }
+    ensures unnamed { result ≡ false → IsHost field.now → ⊥ }
+{
+    if host.bytes() == field {
+        return true;
+    }
+    let Some(named) = Host::new(field) else {
+        return false;
+    };
+    *host = named;
+    true
+}
+
 /// Fills a datagram with what the fields spell. After a fault it is one of which nothing is said.
 fn fill_with(dir: Dir, fields: Fields<'_>, datagram: &mut Datagram) -> Result<(), Stop>
     ensures ends { (version : Version) (line : List ℕ) (count : ℕ) → AreFields version (pieces line) (dir_word dir) fields.entry.local.now fields.entry.host.now fields.entry.remote.now fields.entry.digits.now
@@ -160,18 +182,15 @@ fn fill_with(dir: Dir, fields: Fields<'_>, datagram: &mut Datagram) -> Result<()
     let Some(remote_port) = port(fields.remote) else {
         return Err(Stop::Text(TextFault::BadPort));
     };
-    let Some(remote_host) = Host::new(fields.host) else {
+    if !fill_host(fields.host, &mut datagram.remote_host) {
         return Err(Stop::Text(TextFault::BadHost));
-    };
+    }
+    datagram.dir = dir;
+    datagram.local_port = local_port;
+    datagram.remote_port = remote_port;
     let mut payload = datagram.payload.take();
     let ended = fill_payload(fields.digits, &mut payload);
-    *datagram = Datagram {
-        dir,
-        local_port,
-        remote_host,
-        remote_port,
-        payload: Bytes::of(payload),
-    };
+    datagram.payload = Bytes::of(payload);
     ended
 }
 

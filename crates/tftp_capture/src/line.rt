@@ -1,6 +1,6 @@
 ghost use Rattle.std.specs.Prelude.{◌≡◌, ◌≢◌, ◌+◌, ◌<◌, ◌≤◌, ℕ, List, [], All, true, length, take, drop, slice_index, vec_len, OnOk};
 ghost use Rattle.std.specs.Io.KnownBytes.{prepend_known, Consumes, IsAtEnd};
-ghost use Rattle.tftp_capture.specs.Lines.{bytes_lying, line_at, LeavesEnd, LineEnds};
+ghost use Rattle.tftp_capture.specs.Lines.{bytes_lying, line_at, most_ahead, LeavesEnd, LineEnds};
 
 use crate::ahead::Ahead;
 use crate::fault::TextFault;
@@ -37,7 +37,7 @@ pub fn read_line<R: Read>(
     ensures lies { bytes_lying result ≤ length ahead.new }
     ensures fits { OnOk result (length (line_at (bytes_lying result) line.new.items ahead.new) < room) }
     ensures narrow { bytes_lying result ≤ longest + 1 }
-    ensures few { length ahead.new ≤ 16384 }
+    ensures few { length ahead.new ≤ most_ahead }
     ensures bounded { vec_len line.new ≤ longest }
     ensures end { result ≡ Err (Stop.Text TextFault.Truncated) → IsAtEnd (prepend_known ahead.new (R.remaining reader.new.0)) }
     ensures read { result ≡ Err Stop.Read → reader.new.1 ≡ true }

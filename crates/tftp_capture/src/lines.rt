@@ -1,6 +1,6 @@
 ghost use Rattle.std.specs.Prelude.{◌≡◌, ◌≢◌, ◌+◌, ◌-◌, ◌^◌, ◌≤◌, ℕ, List, [], length, true, IfOk, OnOk, OnErr};
 ghost use Rattle.std.specs.Io.KnownBytes.{prepend_known, Consumes, IsAtEnd};
-ghost use Rattle.tftp_capture.specs.Lines.{LeavesEnd, LineEnds, ReachesLine, TextEnds};
+ghost use Rattle.tftp_capture.specs.Lines.{most_ahead, LeavesEnd, LineEnds, ReachesLine, TextEnds};
 ghost use Rattle.tftp_capture.specs.CaptureText.{longest_line, says_nothing};
 
 use crate::ahead::Ahead;
@@ -32,13 +32,13 @@ pub struct Lines {
 impl Model for Lines {
     ghost use Rattle.std.specs.Prelude.{◌+◌, ◌^◌, ◌≤◌, length, drop, vec_len};
     ghost use Rattle.tftp_capture.specs.CaptureText.{longest_line};
-    ghost use Rattle.tftp_capture.specs.Lines.{line_at, LineState};
+    ghost use Rattle.tftp_capture.specs.Lines.{line_at, most_ahead, LineState};
 
     ghost Value = { LineState };
 
     ghost view = { λ a. record { ahead = drop a.lies a.ahead; line = line_at a.lies a.line.items a.ahead; taken = a.taken; count = a.count; version = a.version } };
 
-    ghost invariant = { λ a. (vec_len a.line ≤ longest_line a.version) × (a.lies ≤ longest_line a.version + 1) × (a.lies ≤ length a.ahead) × (length a.ahead ≤ 16384) × (a.count ≤ a.taken) × (a.taken ≤ 2 ^ 40) };
+    ghost invariant = { λ a. (vec_len a.line ≤ longest_line a.version) × (a.lies ≤ longest_line a.version + 1) × (a.lies ≤ length a.ahead) × (length a.ahead ≤ most_ahead) × (a.count ≤ a.taken) × (a.taken ≤ 2 ^ 40) };
 }
 
 /// Whether a line is empty or a comment.
@@ -120,7 +120,7 @@ impl Lines {
         ensures end { result ≡ Err (Stop.Text TextFault.Truncated) → IsAtEnd (prepend_known self.new.ahead (R.remaining reader.new.0)) }
         ensures read { result ≡ Err Stop.Read → reader.new.1 ≡ true }
         ensures drained { result ≡ Err Stop.Read → self.new.ahead ≡ [] }
-        ensures near { length self.new.ahead ≤ 16384 }
+        ensures near { length self.new.ahead ≤ most_ahead }
         ensures tally { result ≢ Err Stop.Read → reader.new.1 ≡ reader.old.1 }
     {
         self.ahead.consume(self.lies);
@@ -139,7 +139,7 @@ impl Lines {
         ensures end { result ≡ Err (Stop.Text TextFault.Truncated) → IsAtEnd (prepend_known self.new.ahead (R.remaining reader.new.0)) }
         ensures read { result ≡ Err Stop.Read → reader.new.1 ≡ true }
         ensures drained { result ≡ Err Stop.Read → self.new.ahead ≡ [] }
-        ensures near { length self.new.ahead ≤ 16384 }
+        ensures near { length self.new.ahead ≤ most_ahead }
         ensures tally { result ≢ Err Stop.Read → reader.new.1 ≡ reader.old.1 }
     {
         'lines: loop {
@@ -158,7 +158,7 @@ impl Lines {
         ensures end { OnOk result (IsAtEnd (prepend_known self.new.ahead (R.remaining reader.new.0))) }
         ensures read { result ≡ Err Stop.Read → reader.new.1 ≡ true }
         ensures drained { result ≡ Err Stop.Read → self.new.ahead ≡ [] }
-        ensures near { length self.new.ahead ≤ 16384 }
+        ensures near { length self.new.ahead ≤ most_ahead }
         ensures tally { result ≢ Err Stop.Read → reader.new.1 ≡ reader.old.1 }
     {
         self.ahead.consume(self.lies);

@@ -2,6 +2,7 @@ ghost use Rattle.std.specs.Prelude.{◌≡◌, ◌≢◌, ◌+◌, ◌^◌, ◌<
 ghost use Rattle.std.specs.Io.KnownBytes.{prepend_known, Consumes, IsAtEnd};
 ghost use Rattle.tftp_capture.specs.CaptureText.{Header as HeaderParts, Numbered};
 ghost use Rattle.tftp_capture.specs.Fields.{filled_if, header_of};
+ghost use Rattle.tftp_capture.specs.Lines.{most_ahead};
 ghost use Rattle.tftp_capture.specs.History.{Answers, Continues, FailsToBegin, GivesNone, GoesOn, HasService, IsAtTextEnd, IsReadFault, IsReadStanding, KeepsAnswer, StandsFor, standing_after};
 
 use crate::datagram::{Datagram, Header};
@@ -17,7 +18,7 @@ use std::io::Read;
 use std::marker::Model;
 
 /// A reader of a capture text: it holds one line of at most 131,070 bytes, in version 2 of 131,116, and at most
-/// 16,384 bytes read ahead.
+/// 65,536 bytes read ahead.
 #[derive(Drop)]
 pub struct CaptureReader {
     header: Header,
@@ -124,7 +125,7 @@ impl CaptureReader {
         ensures read { IfErr result (λ fault. IsReadFault fault → reader.new.1 ≡ true) }
         ensures tally { IsErrAnd result IsReadFault ⊎ (reader.new.1 ≡ reader.old.1) }
         ensures drained { self.old.standing ≡ Standing.Open → IfErr result (λ fault. IsReadFault fault → self.new.lines.ahead ≡ []) }
-        ensures near { self.old.standing ≡ Standing.Open → length self.new.lines.ahead ≤ 16384 }
+        ensures near { self.old.standing ≡ Standing.Open → length self.new.lines.ahead ≤ most_ahead }
         ensures told { IsReadStanding self.new.standing → reader.new.1 ≡ true }
         ensures rises { IfOk result (λ answer. IfSome answer (λ _. self.old.handed < self.new.handed)) }
         ensures line { self.new.handed ≤ 2 ^ 40 }
@@ -159,7 +160,7 @@ impl CaptureReader {
         ensures read { IfErr (filled_if result datagram.new) (λ fault. IsReadFault fault → reader.new.1 ≡ true) }
         ensures tally { IsErrAnd (filled_if result datagram.new) IsReadFault ⊎ (reader.new.1 ≡ reader.old.1) }
         ensures drained { self.old.standing ≡ Standing.Open → IfErr (filled_if result datagram.new) (λ fault. IsReadFault fault → self.new.lines.ahead ≡ []) }
-        ensures near { self.old.standing ≡ Standing.Open → length self.new.lines.ahead ≤ 16384 }
+        ensures near { self.old.standing ≡ Standing.Open → length self.new.lines.ahead ≤ most_ahead }
         ensures told { IsReadStanding self.new.standing → reader.new.1 ≡ true }
         ensures rises { IfOk (filled_if result datagram.new) (λ answer. IfSome answer (λ _. self.old.handed < self.new.handed)) }
         ensures line { self.new.handed ≤ 2 ^ 40 }
@@ -220,7 +221,7 @@ fn read_on<R: Read>(
     ensures cut { IfErr (filled_if result datagram.new) (λ fault. IsAtTextEnd fault → IsAtEnd (prepend_known lines.new.ahead (R.remaining reader.new.0))) }
     ensures read { IfErr (filled_if result datagram.new) (λ fault. IsReadFault fault → reader.new.1 ≡ true) }
     ensures drained { IfErr (filled_if result datagram.new) (λ fault. IsReadFault fault → lines.new.ahead ≡ []) }
-    ensures near { length lines.new.ahead ≤ 16384 }
+    ensures near { length lines.new.ahead ≤ most_ahead }
     ensures tally { IsErrAnd (filled_if result datagram.new) IsReadFault ⊎ (reader.new.1 ≡ reader.old.1) }
     ensures rises { IfOk (filled_if result datagram.new) (λ answer. IfSome answer (λ _. lines.old.count < lines.new.count)) }
     ensures grows { lines.old.count ≤ lines.new.count }

@@ -17,7 +17,7 @@ use tftp_capture::{CaptureFault, CaptureReader, Datagram, Gathered, Tallied, Wri
 use tftp_packet::{Packet, read_packet};
 
 /// Shows the datagrams of a capture text, up to its end or its first fault, as they come: a line each, numbered from
-/// 1. Nothing is judged; at most one line of the text, 16,384 bytes read ahead and 16,384 bytes to be written are held.
+/// 1. Nothing is judged; at most one line of the text, 65,536 bytes read ahead and 16,384 bytes to be written are held.
 pub fn show<R: Read, W: Write>(
     alloc: Global,
     reader: &mut Tallied<R>,

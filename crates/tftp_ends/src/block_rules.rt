@@ -1,13 +1,15 @@
 //! The rules of blocks and acknowledgements, by the numbers and blocks that a state keeps.
 
-ghost use Rattle.std.specs.Prelude.{◌≡◌, ◌≢◌, ◌↔◌, ℕ, ◌≤◌, List, length, Some, IsTrue, true, false, MatchOption, OnOk, IfErr};
+ghost use Rattle.std.specs.Prelude.{◌≡◌, ◌≢◌, ◌↔◌, ℕ, ◌≤◌, List, length, None, Some, IsTrue, true, false, MatchOption, OnOk, OnErr, IfErr};
 ghost use Rattle.std.specs.FinMap as map;
 ghost use Rattle.tftp_packet.specs.{Data, Ack};
 ghost use Rattle.tftp_hosts.specs.{Datagram};
+ghost use Rattle.tftp_blocks.specs.{Takes, Placing, Places};
 ghost use Rattle.tftp_rules.specs.{HasPassed, HasWrongLength, BlocksWait, AckZeroWaits, FirstEndBroken};
 ghost use Rattle.tftp_ends.specs.States.{AreBlocks, HasLengthBySize};
 ghost use Rattle.tftp_ends.specs.StatesKept.{IsSound, IsShortTop, AreWhole, IsEnd, HasNoEnd, EndsElsewhere, EndsThere, HasRightLength, IsKnown, NoneBelow, IsOpen};
 
+use std::alloc::{AllocError, Global};
 use tftp_blocks::Delivered;
 use tftp_packet::Side;
 use tftp_rules::{EndRule, Reply, Terms};
@@ -170,4 +172,26 @@ pub(crate) fn is_other<D: Delivered>(store: &D, number: u16, bytes: &[u8]) -> bo
         Some(held) => held != bytes,
         None => false,
     }
+}
+
+/// Holds a block that is none with other bytes. One that is held is not compared once more.
+pub(crate) fn hold_block<D: Delivered>(
+    store: &mut D,
+    alloc: Global,
+    number: u16,
+    bytes: &[u8],
+) -> Result<(), AllocError>
+    requires takes { Takes (D.block_size store.old) (D.window store.old) (D.held store.old) number (length bytes.now) }
+    requires same { (other : List ℕ) → map.get (D.held store.old) number ≡ Some other → other ≡ bytes.now }
+    ensures ok { OnOk result ((placing : Placing) × Places (D.held store.old) (D.held store.new) number bytes.now placing) }
+    ensures err { OnErr result (D.held store.new ≡ D.held store.old) }
+    ensures absent { OnErr result (map.get (D.held store.old) number ≡ None) }
+    ensures block_size { D.block_size store.new ≡ D.block_size store.old }
+    ensures window { D.window store.new ≡ D.window store.old }
+{
+    if store.block(number).is_some() {
+        return Ok(());
+    }
+    store.put(alloc, number, bytes)?;
+    Ok(())
 }

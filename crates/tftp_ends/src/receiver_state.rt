@@ -17,7 +17,7 @@ ghost use Rattle.tftp_ends.specs.States.{
   Says,
 };
 
-use crate::block_rules::{EndFault, ack_zero_waits, is_other, last_block, may_open};
+use crate::block_rules::{EndFault, ack_zero_waits, hold_block, is_other, last_block, may_open};
 use std::alloc::{AllocError, Global};
 use std::marker::Model;
 use tftp_blocks::Delivered;
@@ -129,7 +129,7 @@ impl<D: Delivered> ReceiverState<D> {
         ensures terms { self.new.terms ≡ self.old.terms }
         ensures receives { IsReceiver self.old.terms }
     {
-        self.store.put(alloc, number, bytes)?;
+        hold_block(&mut self.store, alloc, number, bytes)?;
         Ok(())
     }
 

@@ -16,7 +16,7 @@ ghost use Rattle.tftp_ends.specs.States.{
   Says,
 };
 
-use crate::block_rules::{EndFault, ack_zero_waits, is_other, last_block, may_open};
+use crate::block_rules::{EndFault, ack_zero_waits, hold_block, is_other, last_block, may_open};
 use std::alloc::{AllocError, Global};
 use std::marker::Model;
 use tftp_blocks::Delivered;
@@ -135,7 +135,7 @@ impl<D: Delivered> SenderState<D> {
         ensures terms { self.new.terms ≡ self.old.terms }
         ensures sends { IsSender self.old.terms }
     {
-        self.store.put(alloc, number, bytes)?;
+        hold_block(&mut self.store, alloc, number, bytes)?;
         if !self.stopped {
             self.usable_top = self.usable_top.max(number);
         }

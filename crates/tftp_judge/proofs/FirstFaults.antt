@@ -1,7 +1,7 @@
 -- What is said of a text by its first fault.
 use Rattle.std.proofs.Common.{◌≡◌, ◌≢◌, ℕ, ◌<◌, ◌≤◌, ◌⊎◌, inl, inr, List, [], ◌∷◌, ◌++◌, length, All, Err, refl, sym, ap, ◌∙◌, subst, arith, append_assoc, append-nil}
 use Rattle.std.proofs.lemmas.List.{map-append}
-use Rattle.tftp_capture.specs.{Begins, BeginsWith, Numbered, FaultTells, MemoryTells, CaptureFault, BadHeader, BadEnd, BadService, LineTooLong, BadLine, BadPort, BadHost, BadHex, PayloadTooLong, TotalWrong, Truncated, TrailingText, TextTooLong}
+use Rattle.tftp_capture.specs.{Begins, BeginsWith, Numbered, most_ahead, FaultTells, MemoryTells, CaptureFault, BadHeader, BadEnd, BadService, LineTooLong, BadLine, BadPort, BadHost, BadHex, PayloadTooLong, TotalWrong, Truncated, TrailingText, TextTooLong}
 use Rattle.tftp_capture.specs.declared.fault.CaptureFault.TheVariants.{Text, Read, Memory}
 use Rattle.tftp_capture.proofs.Beginnings.{agree, fault_after, unfinished_has}
 use Rattle.tftp_capture.proofs.Staying.{stays}
@@ -111,9 +111,9 @@ module _ (text ahead : List ℕ) (ds : List Numbered) (fault : CaptureFault) (te
   fault_longer more may lawful = by_fault (text ++ more) ds fault (stays_on text more ds fault may tells) (before_fault text more ahead ds fault memory) lawful
 
   -- and of all that was read
-  pub fault_read : FaultStays fault → length ahead ≤ 16384 → LawfulIn (text ++ ahead) ds → IsReadVerdict (text ++ ahead) (Err (Capture fault))
+  pub fault_read : FaultStays fault → length ahead ≤ most_ahead → LawfulIn (text ++ ahead) ds → IsReadVerdict (text ++ ahead) (Err (Capture fault))
   fault_read may near lawful = read_by fault memory near (fault_longer ahead may lawful) where
-    read_by : (f : CaptureFault) → MemoryTells f text ahead ds → length ahead ≤ 16384 → IsFaultOf (text ++ ahead) f → IsReadVerdict (text ++ ahead) (Err (Capture f))
+    read_by : (f : CaptureFault) → MemoryTells f text ahead ds → length ahead ≤ most_ahead → IsFaultOf (text ++ ahead) f → IsReadVerdict (text ++ ahead) (Err (Capture f))
     read_by (Text line f) told short is = is
     read_by (Read line) told short is = is
     read_by (Memory line) told short is = (record { taken = text; ahead = ahead; datagrams = ds; to = (refl, short); tells = told }, is.2)

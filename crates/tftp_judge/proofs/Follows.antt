@@ -3,7 +3,7 @@ use Rattle.std.proofs.Common.{◌≡◌, ℕ, ◌+◌, ◌≤◌, lit≤, ◌⊎
 use Rattle.std.specs.Io.KnownBytes.{Consumes, IsAtEnd, prepend_known}
 use Rattle.std.proofs.KnownBytes.{Consumes-trans}
 use Rattle.std.proofs.lemmas.List.{length-map, length-reverse, map-append, reverse-append, reverse-reverse}
-use Rattle.tftp_capture.specs.{Begins, IsCapture, Numbered, Stands, Version, datagram_of, Continues, GoesOn, IsAtTextEnd, IsReadFault, MemoryTells, ReaderState, StandingTells, StandsFor, WantTells, standing_after, with_answer, CaptureFault, Open, Over, Failed}
+use Rattle.tftp_capture.specs.{Begins, IsCapture, Numbered, Stands, Version, datagram_of, most_ahead, Continues, GoesOn, IsAtTextEnd, IsReadFault, MemoryTells, ReaderState, StandingTells, StandsFor, WantTells, standing_after, with_answer, CaptureFault, Open, Over, Failed}
 use Rattle.tftp_capture.specs.CaptureText.Due.{Body}
 use Rattle.tftp_capture.specs.declared.datagram.Datagram.{Datagram as Owned}
 use Rattle.tftp_capture.proofs.Beginnings.{begins_more, capture_begins}
@@ -63,7 +63,7 @@ begins_by : (text more : List ℕ) (ds : List Numbered) (h : Header) → StandAs
 begins_by text more ds h (version, lines, stands) = record { read = text; more = more; lines = lines; are = refl; stands = (version, stands) }
 
 -- memory was wanting for the last datagram
-wants_for : (text ahead : List ℕ) (h : Header) (ds : List Numbered) (line : ℕ) (d : Datagram) (count : ℕ) → OneEnded h (reverse (unnumbered ds)) → StandAs text (with_one ds line d) h → length ahead ≤ 16384
+wants_for : (text ahead : List ℕ) (h : Header) (ds : List Numbered) (line : ℕ) (d : Datagram) (count : ℕ) → OneEnded h (reverse (unnumbered ds)) → StandAs text (with_one ds line d) h → length ahead ≤ most_ahead
     → Refuses h (reverse (unnumbered ds)) d (Memory count) → WantsToJudge (text ++ ahead) count
 wants_for text ahead h ds line d count passed (version, lines, stands) near (is, passes, takes) = record {
   taken = text;
@@ -81,7 +81,7 @@ wants_for text ahead h ds line d count passed (version, lines, stands) near (is,
 }
 
 -- what is said of a refusal stays
-refused : (text ahead : List ℕ) (h : Header) (ds : List Numbered) (line : ℕ) (d : Datagram) (refusal : Refusal) → OneEnded h (reverse (unnumbered ds)) → StandAs text (with_one ds line d) h → length ahead ≤ 16384
+refused : (text ahead : List ℕ) (h : Header) (ds : List Numbered) (line : ℕ) (d : Datagram) (refusal : Refusal) → OneEnded h (reverse (unnumbered ds)) → StandAs text (with_one ds line d) h → length ahead ≤ most_ahead
     → Refuses h (reverse (unnumbered ds)) d refusal → Stays text ahead (Err (Refused refusal)) × (EndsText (Err (Refused refusal)) → ⊥)
 refused text ahead h ds line d (Unlawful index rule) passed stand near (number, broken) =
     let at = unlawful_at h ds line d index rule passed number broken in (
@@ -122,7 +122,7 @@ clean_or fault failed (inl reads) not = absurd (not reads)
 clean_or fault failed (inr clean) not = clean
 
 -- nothing is ahead, or what the reader holds
-near_of : (held ahead : List ℕ) → (ahead ≡ []) ⊎ (ahead ≡ held) → length held ≤ 16384 → length ahead ≤ 16384
+near_of : (held ahead : List ℕ) → (ahead ≡ []) ⊎ (ahead ≡ held) → length held ≤ most_ahead → length ahead ≤ most_ahead
 near_of held ahead (inl none) near = omega (arith, ap length none)
 near_of held ahead (inr same) near = omega (arith, ap length same, near)
 
@@ -163,7 +163,7 @@ module _ (before now after : Option (List ℕ)) (old new : ReaderState) (judge :
   are_lawful = (lawful old.header (unnumbered follows.datagrams)).1 follows.accepted.lawful
 
   -- the reader has stopped
-  pub found_fault : (fault : CaptureFault) (failed : Bool) → Goes (Err fault) → new.standing ≡ Failed fault → length new.lines.ahead ≤ 16384 → (IsAtTextEnd fault → IsAtEnd rest) → (IsReadFault fault → new.lines.ahead ≡ [])
+  pub found_fault : (fault : CaptureFault) (failed : Bool) → Goes (Err fault) → new.standing ≡ Failed fault → length new.lines.ahead ≤ most_ahead → (IsAtTextEnd fault → IsAtEnd rest) → (IsReadFault fault → new.lines.ahead ≡ [])
       → (IsReadFault fault → failed ≡ true) → IsReadFault fault ⊎ (failed ≡ false) → Found before after failed (Err (Capture fault))
   found_fault fault failed goes is near end drained read tally =
       let text = all (Err fault) goes in
@@ -183,7 +183,7 @@ module _ (before now after : Option (List ℕ)) (old new : ReaderState) (judge :
   -- a datagram was read
   module _ (d : Owned) (goes : Goes (Ok (Some d))) (open_still : new.standing ≡ Open) (same : new.header ≡ old.header) where
     -- which the judge refused
-    pub found_refused : (refusal : Refusal) (failed : Bool) → failed ≡ false → length new.lines.ahead ≤ 16384 → Refuses old.header (reverse (unnumbered follows.datagrams)) (datagram_of d) refusal → Found before after failed (Err (Refused refusal))
+    pub found_refused : (refusal : Refusal) (failed : Bool) → failed ≡ false → length new.lines.ahead ≤ most_ahead → Refuses old.header (reverse (unnumbered follows.datagrams)) (datagram_of d) refusal → Found before after failed (Err (Refused refusal))
     found_refused refusal failed clean near is =
         let text = all (Ok (Some d)) goes in
         let on = tells (Ok (Some d)) goes open_still in

@@ -1,7 +1,7 @@
 -- What was found in the bytes of a reader.
 use Rattle.std.proofs.Common.{◌≡◌, ◌≤◌, ◌⊎◌, ℕ, inl, inr, Bool, true, false, true≢false, List, [], ◌∷◌, ◌++◌, length, Option, Some, None, Result, Ok, Err, refl, sym, ap, ◌∙◌, subst, arith, append_assoc, append-nil}
 use Rattle.std.specs.Io.KnownBytes.{Consumes, IsAtEnd, prepend_known}
-use Rattle.tftp_capture.specs.{Numbered, FailsToBegin, FaultTells, IsAtTextEnd, IsReadFault, MemoryTells, CaptureFault}
+use Rattle.tftp_capture.specs.{Numbered, most_ahead, FailsToBegin, FaultTells, IsAtTextEnd, IsReadFault, MemoryTells, CaptureFault}
 use Rattle.tftp_capture.specs.declared.fault.CaptureFault.TheVariants.{Text, Read, Memory}
 use Rattle.tftp_model.specs.{Meaning}
 use Rattle.tftp_judge.specs.{EndsText, IsOfText, IsReadVerdict, IsTextVerdict, SaysReadFailed, WantsMemory, Verdict, Capture, Refused}
@@ -113,7 +113,7 @@ module _ (before after : Option (List ℕ)) (failed : Bool) (r : Result Meaning 
 -- ---- the kinds of faults
 
 -- a fault that stays whatever follows, or that is said of the bytes that were taken alone
-pub found_by_fault : (after : Option (List ℕ)) (text ahead : List ℕ) (ds : List Numbered) (fault : CaptureFault) → FaultTells fault text ds → MemoryTells fault text ahead ds → length ahead ≤ 16384
+pub found_by_fault : (after : Option (List ℕ)) (text ahead : List ℕ) (ds : List Numbered) (fault : CaptureFault) → FaultTells fault text ds → MemoryTells fault text ahead ds → length ahead ≤ most_ahead
     → (IsAtTextEnd fault → (ahead ≡ []) × IsAtEnd after) → (IsReadFault fault → ahead ≡ []) → ((more : List ℕ) → LawfulIn (text ++ more) ds) → Stays text ahead (Err (Capture fault)) ⊎ Ends after text ahead (Err (Capture fault))
 found_by_fault after text ahead ds fault tells memory near end drained lawful = elim (fault_kinds fault) as (λ _. Stays text ahead (Err (Capture fault)) ⊎ Ends after text ahead (Err (Capture fault))) [
   | inl may ↦ inl (record { longer = λ more. fault_longer text ahead ds fault tells memory more may (lawful more); read = fault_read text ahead ds fault tells memory may near (lawful ahead) })

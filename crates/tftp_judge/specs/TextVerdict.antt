@@ -1,7 +1,7 @@
 -- What there is to say of a capture text, by the runs of two ends.
 use Rattle.std.specs.List.{slice_split}
 use Rattle.std.specs.Prelude.{◌≡◌, ◌==◌, List, [], ◌∷◌, ◌++◌, ℕ, ◌<◌, ◌≤◌, All, length, map, reverse, Result, Ok, Err}
-use Rattle.tftp_capture.specs.{Begins, Due, HasFault, IsCapture, Numbered, Stands, Unfinished, IsAtTextEnd, IsReadFault, MemoryTells, Version, TextFault, CaptureFault}
+use Rattle.tftp_capture.specs.{Begins, Due, HasFault, IsCapture, Numbered, Stands, Unfinished, IsAtTextEnd, IsReadFault, MemoryTells, Version, TextFault, CaptureFault, most_ahead}
 use Rattle.tftp_capture.specs.CaptureText.Due.{Body}
 use Rattle.tftp_capture.specs.declared.fault.CaptureFault.TheVariants.{Text, Read, Memory}
 use Rattle.tftp_hosts.specs.{Datagram, Header}
@@ -37,9 +37,9 @@ LawfulBefore text line =
 
 -- ---- want of memory
 
--- What was read is what was taken, and what a reader has read ahead of that: at most 16,384 bytes.
+-- What was read is what was taken, and what a reader has read ahead of that.
 abbrev pub IsReadTo : List ℕ → List ℕ → List ℕ → Type 0
-IsReadTo read taken ahead = (read ≡ taken ++ ahead) × (length ahead ≤ 16384)
+IsReadTo read taken ahead = (read ≡ taken ++ ahead) × (length ahead ≤ most_ahead)
 
 -- The reader wanted memory for this line: no byte that was taken is wrong, and the line is the one that was being read, or
 -- the last that was taken, which says a datagram.

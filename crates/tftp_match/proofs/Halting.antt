@@ -3,7 +3,7 @@ use Rattle.std.proofs.Common.{◌≡◌, ◌≤◌, ◌⊎◌, inl, inr, ℕ, Bo
 use Rattle.std.specs.Io.KnownBytes.{Consumes, IsAtEnd, prepend_known}
 use Rattle.std.proofs.KnownBytes.{Consumes-trans}
 use Rattle.std.proofs.lemmas.List.{map-append, reverse-append, reverse-reverse}
-use Rattle.tftp_capture.specs.{Begins, HasFault, IsCapture, Numbered, datagram_of, Continues, GoesOn, IsAtTextEnd, IsReadFault, ReaderState, StandingTells, StandsFor, standing_after, with_answer, CaptureFault, TextFault, Open, Over, Failed, Stands}
+use Rattle.tftp_capture.specs.{Begins, HasFault, IsCapture, Numbered, datagram_of, most_ahead, Continues, GoesOn, IsAtTextEnd, IsReadFault, ReaderState, StandingTells, StandsFor, standing_after, with_answer, CaptureFault, TextFault, Open, Over, Failed, Stands}
 use Rattle.tftp_capture.specs.declared.datagram.Datagram.{Datagram as Owned}
 use Rattle.tftp_capture.specs.declared.fault.CaptureFault.TheVariants.{Text, Read, Memory as NoMemory}
 use Rattle.tftp_capture.proofs.Beginnings.{begins_more, capture_begins}
@@ -99,7 +99,7 @@ module _ (before now after : Option (List ℕ)) (old new : ReaderState) (judge :
         | inr (inr reads) ↦ absurd reads
       ]
 
-  pub halted_fault : (fault : CaptureFault) (failed : Bool) → Goes (Err fault) → new.standing ≡ Failed fault → length new.lines.ahead ≤ 16384 → (IsAtTextEnd fault → IsAtEnd rest) → (IsReadFault fault → new.lines.ahead ≡ [])
+  pub halted_fault : (fault : CaptureFault) (failed : Bool) → Goes (Err fault) → new.standing ≡ Failed fault → length new.lines.ahead ≤ most_ahead → (IsAtTextEnd fault → IsAtEnd rest) → (IsReadFault fault → new.lines.ahead ≡ [])
       → (IsReadFault fault → failed ≡ true) → IsReadFault fault ⊎ (failed ≡ false) → IsHalted before after failed (Fault fault) None old.header read
   halted_fault fault failed goes is near end drained reads tally = record {
     says = λ r finished. judged_of before after failed (Err (Capture fault)) (found_fault before now after old new judge ready follows fault failed goes is near end drained reads tally);
@@ -118,7 +118,7 @@ module _ (before now after : Option (List ℕ)) (old new : ReaderState) (judge :
 
   -- ---- it gave a datagram
 
-  module _ (d : Owned) (failed : Bool) (goes : Goes (Ok (Some d))) (still : new.standing ≡ Open) (same : new.header ≡ old.header) (clean : failed ≡ false) (near : length new.lines.ahead ≤ 16384) where
+  module _ (d : Owned) (failed : Bool) (goes : Goes (Ok (Some d))) (still : new.standing ≡ Open) (same : new.header ≡ old.header) (clean : failed ≡ false) (near : length new.lines.ahead ≤ most_ahead) where
     abbrev one : Result (Option Owned) CaptureFault
     one = Ok (Some d)
 

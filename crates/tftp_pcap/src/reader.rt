@@ -14,7 +14,7 @@ use std::io::Read;
 use std::marker::Model;
 use tftp_capture::Tallied;
 
-/// A reader of a recording's frames, classic or of blocks: it holds at most 16,384 bytes read ahead and the interfaces of a
+/// A reader of a recording's frames, classic or of blocks: it holds at most 65,536 bytes read ahead and the interfaces of a
 /// section.
 #[derive(Drop)]
 pub struct FrameReader {

@@ -17,7 +17,7 @@ use tftp_capture::{Ahead, Tallied};
 /// The most records and blocks of a recording.
 const MOST_PIECES: u64 = 1 << 40;
 
-/// The pieces of a recording, one after another: at most 16,384 bytes are read ahead.
+/// The pieces of a recording, one after another: at most 65,536 bytes are read ahead.
 #[derive(Drop)]
 pub struct Pieces {
     ahead: Ahead,

@@ -14,15 +14,15 @@ returns-in_default-port-clause-ends c = λ version line count cut.
     let f = c.args.fields in
     (dir_word c.args.dir, f.local.now, f.host.now, f.remote.now, f.digits.now, record { cut = cut; dir = (c.args.dir, refl) }, λ l r sl sr. c.in_default-port.ensures r sr)
 
-pub returns-in_default-new-clause-ends : goal.returns-in_default-new-clause-ends
-returns-in_default-new-clause-ends c = λ version line count cut.
+pub returns-then-not-fill_host-clause-ends : goal.returns-then-not-fill_host-clause-ends
+returns-then-not-fill_host-clause-ends c = λ version line count cut.
     let f = c.args.fields in
-    (f.host.now, f.digits.now, has_ports version line f.local.now f.host.now f.remote.now f.digits.now c.args.dir _ _ cut c.in-Some.ensures c.in-Some-port.ensures, c.in_default-new.ensures)
+    (f.host.now, f.digits.now, has_ports version line f.local.now f.host.now f.remote.now f.digits.now c.args.dir _ _ cut c.in-Some.ensures c.in-Some-port.ensures, c.fill_host.ensures.unnamed c.if-not-fill_host.true)
 
 pub returns-clause-ends : goal.returns-clause-ends
 returns-clause-ends c = λ version line count cut.
     let f = c.args.fields in
-    let named = c.in-Some-new.ensures in
+    let named = c.fill_host.ensures.named c.if-not-fill_host.false in
     rw (named.1, c.of.ensures)
     (payload_ends version count line f.local.now f.host.now f.remote.now f.digits.now c.args.dir _ _ cut c.in-Some.ensures c.in-Some-port.ensures named.0 c.fill_payload-ended.result _ c.fill_payload-ended.ensures)
 

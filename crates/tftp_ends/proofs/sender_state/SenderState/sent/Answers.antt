@@ -8,26 +8,26 @@ pub invariant_of-self-then-not-self : goal.invariant_of-self-then-not-self
 invariant_of-self-then-not-self g c =
     let may = subst (λ s. MaySend s c.args.number c.args.bytes.now) (sym c.self.view_is) c.requires in
     let small = c.ranges.number.fits in (
-      sound_sent _ _ c.args.number _ c.args.bytes.now _ c.self.invariant.0 may (omega arith) c.in_ok-put.ensures.ok (inr c.max-self-inside.ensures),
-      c.in_ok-put.ensures.block_size ∙ c.self.invariant.1,
-      c.in_ok-put.ensures.window ∙ c.self.invariant.2,
+      sound_sent _ _ c.args.number _ c.args.bytes.now _ c.self.invariant.0 may (omega arith) c.in_ok-hold_block.ensures.ok.1 (inr c.max-self-inside.ensures),
+      c.in_ok-hold_block.ensures.block_size ∙ c.self.invariant.1,
+      c.in_ok-hold_block.ensures.window ∙ c.self.invariant.2,
     )
 
 pub invariant_of-self-else-not-self : goal.invariant_of-self-else-not-self
 invariant_of-self-else-not-self g c =
     let may = subst (λ s. MaySend s c.args.number c.args.bytes.now) (sym c.self.view_is) c.requires in
     let small = c.ranges.number.fits in (
-      sound_sent _ _ c.args.number _ c.args.bytes.now _ c.self.invariant.0 may (omega arith) c.in_ok-put.ensures.ok (inl refl),
-      c.in_ok-put.ensures.block_size ∙ c.self.invariant.1,
-      c.in_ok-put.ensures.window ∙ c.self.invariant.2,
+      sound_sent _ _ c.args.number _ c.args.bytes.now _ c.self.invariant.0 may (omega arith) c.in_ok-hold_block.ensures.ok.1 (inl refl),
+      c.in_ok-hold_block.ensures.block_size ∙ c.self.invariant.1,
+      c.in_ok-hold_block.ensures.window ∙ c.self.invariant.2,
     )
 
 pub returns-then-not-self-clause-ok : goal.returns-then-not-self-clause-ok
 returns-then-not-self-clause-ok g c = λ passed d after says.
     let may = subst (λ s. MaySend s c.args.number c.args.bytes.now) (sym c.self.view_is) c.requires in
-    sent_usable _ passed (subst (λ s. IsSenderAfter s passed) (sym c.self.view_is) after) d c.args.number c.args.bytes.now says _ _ _ c.in_ok-put.ensures.ok may.fits.same c.if-not-self.true c.max-self-inside.ensures
+    sent_usable _ passed (subst (λ s. IsSenderAfter s passed) (sym c.self.view_is) after) d c.args.number c.args.bytes.now says _ _ _ c.in_ok-hold_block.ensures.ok.1 may.fits.same c.if-not-self.true c.max-self-inside.ensures
 
 pub returns-else-not-self-clause-ok : goal.returns-else-not-self-clause-ok
 returns-else-not-self-clause-ok g c = λ passed d after says.
     let may = subst (λ s. MaySend s c.args.number c.args.bytes.now) (sym c.self.view_is) c.requires in
-    sent_unusable _ passed (subst (λ s. IsSenderAfter s passed) (sym c.self.view_is) after) d c.args.number c.args.bytes.now says _ _ c.in_ok-put.ensures.ok may.fits.same c.if-not-self.false
+    sent_unusable _ passed (subst (λ s. IsSenderAfter s passed) (sym c.self.view_is) after) d c.args.number c.args.bytes.now says _ _ c.in_ok-hold_block.ensures.ok.1 may.fits.same c.if-not-self.false
