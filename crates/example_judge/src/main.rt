@@ -35,7 +35,7 @@ fn tell(rt: HostRuntime) -> io::Result<()> {
         service: 69,
     };
     match audit(alloc, &header, &datagrams) {
-        Ok(meaning) => println!(rt; "accepted, {} bytes", meaning.file().len()),
+        Ok(meaning) => println!(rt; "accepted, {} bytes", meaning.file_len()),
         Err(refusal) => println!(rt; "{refusal:?}"),
     }
 }

@@ -58,7 +58,7 @@ pub fn put_accepted<W: Write>(
             b" blocks ",
             blocks_buffer.format(meaning.blocks()).as_bytes(),
             b" bytes ",
-            bytes_buffer.format(meaning.file().len()).as_bytes(),
+            bytes_buffer.format(meaning.file_len()).as_bytes(),
             b"\n",
         ],
     )

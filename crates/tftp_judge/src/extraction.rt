@@ -61,6 +61,7 @@ pub fn extract<R: Read, W: Write>(
         → WritesFile W.contents writer.old writer.new m result }
 {
     let meaning = judge_text(alloc, reader)?;
-    write_whole(writer, meaning.file())?;
+    let file = meaning.into_file();
+    write_whole(writer, file.as_slice())?;
     Ok(())
 }

@@ -5,39 +5,107 @@ ghost use Rattle.tftp_blocks.specs.{IsHeldFront, IsJoin};
 ghost use Rattle.tftp_law.specs.{ReadsAs, written_wire};
 
 use std::alloc::{AllocError, Global};
+use std::marker::Model;
 use tftp_blocks::Delivered;
-use tftp_netascii::{decode_in_place, encoded_len};
+use tftp_netascii::{Lengths, decode_in_place, file_lengths};
 use tftp_packet::Mode;
 
-/// The file that the blocks up to the front carry (RFC 1350, section 1). In netascii it is read where their bytes stand.
-/// Memory is taken for the join alone.
+/// A file that is kept as the wire that came with it, and its lengths. Contracts see the mode and the file.
+#[derive(Debug, Drop)]
+pub struct CarriedFile {
+    mode: Mode,
+    wire: Vec<u8>,
+    lengths: Lengths,
+}
+
+impl Model for CarriedFile {
+    ghost use Rattle.std.specs.Prelude.{◌≡◌, ℕ, List, length};
+    ghost use Rattle.tftp_packet.specs.declared.kinds.Mode.{Mode};
+    ghost use Rattle.tftp_law.specs.Fitting.{carried_file, written_wire};
+
+    ghost Value = { Mode × List ℕ };
+
+    ghost view = { λ f. (f.mode, carried_file f.mode f.wire.items) };
+
+    ghost invariant = { λ f. (f.lengths.file ≡ length (carried_file f.mode f.wire.items))
+        × (f.lengths.encoded ≡ length (written_wire f.mode (carried_file f.mode f.wire.items))) };
+}
+
+impl CarriedFile {
+    ghost use Rattle.std.specs.Prelude.{◌≡◌, length};
+    ghost use Rattle.tftp_law.specs.Fitting.{ReadsAs, written_wire};
+
+    /// The file that a wire reads as (RFC 1350, section 1). It is counted, and takes no memory.
+    pub fn of(mode: Mode, wire: Vec<u8>) -> Self
+        ensures mode { result.0 ≡ mode }
+        ensures file { ReadsAs mode wire.items result.1 }
+    {
+        let size = wire.len() as u64;
+        let lengths = match mode {
+            Mode::Octet => Lengths {
+                file: size,
+                encoded: size,
+            },
+            Mode::Netascii => file_lengths(wire.as_slice()),
+        };
+        CarriedFile {
+            mode,
+            wire,
+            lengths,
+        }
+    }
+
+    /// How many bytes the file has.
+    #[inline]
+    pub fn len(&self) -> u64
+        ensures { result ≡ length self.now.1 }
+    {
+        self.lengths.file
+    }
+
+    /// How many bytes the one wire has that is written for the file.
+    #[inline]
+    pub fn written_len(&self) -> u64
+        ensures { result ≡ length (written_wire self.now.0 self.now.1) }
+    {
+        self.lengths.encoded
+    }
+
+    /// The bytes of the file. In netascii they are read where those of the wire stand, so that no memory is taken.
+    pub fn into_bytes(self) -> Vec<u8>
+        ensures { result.items ≡ self.1 }
+    {
+        let CarriedFile { mode, mut wire, .. } = self;
+        match mode {
+            Mode::Octet => {}
+            Mode::Netascii => decode_in_place(&mut wire),
+        }
+        wire
+    }
+}
+
+/// The file that the blocks up to the front carry (RFC 1350, section 1). Memory is taken for the join alone.
 pub fn file_of<D: Delivered + Drop>(
     alloc: Global,
     mode: Mode,
     store: D,
-) -> Result<Vec<u8>, AllocError>
+) -> Result<CarriedFile, AllocError>
+    ensures mode { IfOk result (λ file. file.0 ≡ mode) }
     ensures file { IfOk result (λ file. (front : ℕ) → IsHeldFront (D.held store) front
-        → (wire : List ℕ) × IsJoin (D.held store) front wire × ReadsAs mode wire file.items) }
+        → (wire : List ℕ) × IsJoin (D.held store) front wire × ReadsAs mode wire file.1) }
     ensures memory { OnErr result (D.join_takes (D.held store)) }
 {
-    let mut file = store.into_wire(alloc)?;
-    if mode == Mode::Netascii {
-        decode_in_place(&mut file);
-    }
-    Ok(file)
+    Ok(CarriedFile::of(mode, store.into_wire(alloc)?))
 }
 
 /// The number of blocks of the one wire that is written for a file; none where it is above 65535 (RFC 1350, section 5).
-pub fn written_blocks(mode: Mode, blksize: u16, file: &[u8]) -> Option<u16>
+pub fn written_blocks(blksize: u16, file: &CarriedFile) -> Option<u16>
     requires sized { 1 ≤ blksize }
-    ensures { MatchOption result (length (written_wire mode file.now) / blksize + 1 ≤ 65535 → ⊥)
-        (λ blocks. (blocks ≡ length (written_wire mode file.now) / blksize + 1) × (length (written_wire mode file.now) / blksize + 1 ≤ 65535)) }
+    ensures { MatchOption result (length (written_wire file.now.0 file.now.1) / blksize + 1 ≤ 65535 → ⊥)
+        (λ blocks. (blocks ≡ length (written_wire file.now.0 file.now.1) / blksize + 1)
+        × (length (written_wire file.now.0 file.now.1) / blksize + 1 ≤ 65535)) }
 {
-    let length = match mode {
-        Mode::Octet => file.len() as u64,
-        Mode::Netascii => encoded_len(file),
-    };
-    let full = length / u64::from(blksize);
+    let full = file.written_len() / u64::from(blksize);
     if full < 65535 {
         Some(full as u16 + 1)
     } else {

@@ -21,7 +21,7 @@ mod verdict;
 pub use extraction::{OutFault, extract};
 pub use judging::Judge;
 pub use kinds::is_wrong_kind;
-pub use meaning::Meaning;
+pub use meaning::{Meaning, MeaningParts};
 pub use refusal::Refusal;
 pub use sent_acks::SentAcks;
 pub use text::judge_text;

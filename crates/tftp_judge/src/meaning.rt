@@ -1,13 +1,28 @@
+use crate::file::CarriedFile;
 use std::marker::Model;
-use tftp_packet::{Bytes, Options, Request};
+use tftp_packet::{Options, Request};
 
-/// What a whole transfer means (RFC 1350, sections 1 and 2; RFC 2347). Only a judge makes one.
+/// What a whole transfer means (RFC 1350, sections 1 and 2; RFC 2347). Only a judge makes one. The file is read once it is
+/// asked for, and until then kept as the wire that came.
 #[derive(Debug, Drop)]
 pub struct Meaning {
     request: Request,
     agreed: Options,
-    file: Bytes,
+    file: CarriedFile,
     blocks: u16,
+}
+
+/// A meaning taken apart.
+#[derive(Debug, Drop)]
+pub struct MeaningParts {
+    /// What the client asked for.
+    pub request: Request,
+    /// The options that the server agreed to, perhaps none.
+    pub agreed: Options,
+    /// The bytes of the file.
+    pub file: Vec<u8>,
+    /// How many blocks the canonical wire of the file has, the last one too.
+    pub blocks: u16,
 }
 
 impl Model for Meaning {
@@ -20,27 +35,27 @@ impl Model for Meaning {
 
     ghost coded = { meaning_code };
 
-    ghost view = { λ m. meaning_from (m.request, (m.agreed, m.file)) };
+    ghost view = { λ m. meaning_from (m.request, (m.agreed, m.file.1)) };
 
-    ghost invariant = { λ m. CanBeWritten (meaning_from (m.request, (m.agreed, m.file))) × (m.blocks ≡ blocks_of (meaning_from (m.request, (m.agreed, m.file)))) };
+    ghost invariant = { λ m. CanBeWritten (meaning_from (m.request, (m.agreed, m.file.1))) × (m.blocks ≡ blocks_of (meaning_from (m.request, (m.agreed, m.file.1)))) };
 }
 
 impl Meaning {
-    ghost use Rattle.std.specs.Prelude.{◌≡◌};
+    ghost use Rattle.std.specs.Prelude.{◌≡◌, length};
     ghost use Rattle.tftp_model.specs.Meanings.{request_of};
     ghost use Rattle.tftp_law.specs.Writable.{blocks_of, CanBeWritten};
     ghost use Rattle.tftp_law.specs.Owned.{meaning_from};
 
     /// Takes the parts over, and no memory. The number of the blocks is that of the canonical wire.
-    pub(crate) fn of(request: Request, agreed: Options, file: Vec<u8>, blocks: u16) -> Self
-        requires can { CanBeWritten (meaning_from (request, (agreed, file.items))) }
-        requires counted { blocks ≡ blocks_of (meaning_from (request, (agreed, file.items))) }
-        ensures { result ≡ meaning_from (request, (agreed, file.items)) }
+    pub(crate) fn of(request: Request, agreed: Options, file: CarriedFile, blocks: u16) -> Self
+        requires can { CanBeWritten (meaning_from (request, (agreed, file.1))) }
+        requires counted { blocks ≡ blocks_of (meaning_from (request, (agreed, file.1))) }
+        ensures { result ≡ meaning_from (request, (agreed, file.1)) }
     {
         Meaning {
             request,
             agreed,
-            file: Bytes::of(file),
+            file,
             blocks,
         }
     }
@@ -61,12 +76,41 @@ impl Meaning {
         &self.agreed
     }
 
-    /// The bytes of the file.
+    /// How many bytes the file has.
     #[inline]
-    pub fn file(&self) -> &[u8]
-        ensures { result.now ≡ self.now.file }
+    pub fn file_len(&self) -> u64
+        ensures { result ≡ length self.now.file }
     {
-        self.file.as_slice()
+        self.file.len()
+    }
+
+    /// The bytes of the file (RFC 1350, section 1). In netascii they are read now, where those of the wire stand, so that no
+    /// memory is taken.
+    pub fn into_file(self) -> Vec<u8>
+        ensures { result.items ≡ self.file }
+    {
+        let Meaning { file, .. } = self;
+        file.into_bytes()
+    }
+
+    /// All parts, the file read as `into_file` reads it. Whatever is meant can be written.
+    pub fn into_parts(self) -> MeaningParts
+        ensures parts { meaning_from (result.request, (result.agreed, result.file.items)) ≡ self }
+        ensures count { result.blocks ≡ blocks_of self }
+        ensures can { CanBeWritten self }
+    {
+        let Meaning {
+            request,
+            agreed,
+            file,
+            blocks,
+        } = self;
+        MeaningParts {
+            request,
+            agreed,
+            file: file.into_bytes(),
+            blocks,
+        }
     }
 
     /// How many blocks the canonical wire of the file has, the last one too (RFC 1350, section 2), which may be other than

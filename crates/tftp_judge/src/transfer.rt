@@ -409,7 +409,7 @@ impl<D: Delivered + Drop> Transfer<D> {
             Ok(file) => file,
             Err(_) => return Err(Refusal::Memory(count)),
         };
-        let Some(blocks) = written_blocks(asked.mode(), agreed.blksize(), file.as_slice()) else {
+        let Some(blocks) = written_blocks(agreed.blksize(), &file) else {
             return Err(Refusal::NormalTooLong);
         };
         Ok(Meaning::of(asked, agreed.into_options(), file, blocks))

@@ -3,13 +3,18 @@ use Rattle.std.specs.Prelude.{◌≡◌, ℕ, ◌≤◌, List, length, Some, cod
 use Rattle.std.specs.FinMap as map
 use Rattle.tftp_packet.specs.{Num, Mode, Octet, Netascii}
 use Rattle.tftp_model.specs.{Meaning, request_of, blksize_of, block_count}
-use Rattle.tftp_netascii.specs.{Reads, canonical_wire}
+use Rattle.tftp_netascii.specs.{Reads, canonical_wire, file_of}
 use Rattle.tftp_nego.specs.{MayAgree}
 
 -- in octet mode the bytes go as they are, in netascii as a text that reads as the file
 abbrev pub ReadsAs : Mode → List ℕ → List ℕ → Type 0
 ReadsAs Octet wire file = wire ≡ file
 ReadsAs Netascii wire file = Reads wire file
+
+-- the one file that a wire reads as
+abbrev pub carried_file : Mode → List ℕ → List ℕ
+carried_file Octet wire = wire
+carried_file Netascii wire = file_of wire
 
 -- The blocks are numbered by two bytes, from 1.
 pub record Fits (m : Meaning) (wire : List ℕ) : Type 0 where

@@ -14,7 +14,7 @@ pub mod Accord
 pub mod Divisions
 pub mod Writable
 pub use Sides.{BeginsAsRequest, from_server, server_port}
-pub use Fitting.{Fits, IsWritable, ReadsAs, written_wire}
+pub use Fitting.{Fits, IsWritable, ReadsAs, carried_file, written_wire}
 pub use Dress.{AnswersStray, Carries, CarriesDeed, ComesAstray, Division, GoesToServer, HasClientId, HasPart, HasPartBy, HasServerId, HaveParts, HavePartsBy, IsDressed, IsMain, Main, Part, Placed, Saying, Stray, TransferIds, datagrams_of, dir_of, packet_of, says_of, view_in}
 pub use Law.{IsLawful, IsLawfulUpTo, IsSeen, Shows, ShowsBy}
 pub use Rules.{Agrees, Answer, Answers, AreTerms, Begins, Broken, ClientWentOn, EndBreaks, FirstAnswer, FirstAsked, FirstBroken, FirstOack, GoesOn, IsAnswer, IsError, IsWrongKind, NotAnswered, Says, number_of, plain_terms, size_from, terms_after}

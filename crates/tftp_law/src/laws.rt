@@ -1,10 +1,11 @@
 //! Laws of the definitions in `specs/`. Each is the contract of a function that does nothing.
 
-ghost use Rattle.std.specs.Prelude.{◌≡◌, ◌≢◌, ◌≤◌, ◌⊎◌, ℕ, List, [], ◌∷◌, ◌++◌, All, length};
-ghost use Rattle.tftp_packet.specs.{OptionMap, no_options, RequestParts};
+ghost use Rattle.std.specs.Prelude.{◌≡◌, ◌≢◌, ◌≤◌, ◌↔◌, ◌⊎◌, ℕ, List, [], ◌∷◌, ◌++◌, All, length};
+ghost use Rattle.tftp_packet.specs.{Mode, OptionMap, no_options, RequestParts};
 ghost use Rattle.tftp_nego.specs.{MayAgree, Holds, NegoFault};
 ghost use Rattle.tftp_model.specs.{Meaning};
 ghost use Rattle.tftp_hosts.specs.{Datagram, Header};
+ghost use Rattle.tftp_law.specs.Fitting.{ReadsAs, carried_file};
 ghost use Rattle.tftp_law.specs.Writable.{CanBeWritten};
 ghost use Rattle.tftp_law.specs.Law.{Shows, IsLawful, IsLawfulUpTo};
 ghost use Rattle.tftp_law.specs.Rules.{number_of, FirstBroken};
@@ -50,6 +51,11 @@ pub fn the_first_error_is_one()
 /// A capture that the rules accept has one meaning.
 pub fn meaning_is_one()
     ensures { (header : Header) (earlier : List Datagram) (m n : Meaning) → Meant header earlier m → Meant header earlier n → m ≡ n }
+{}
+
+/// A wire carries one file, which can be computed from it (RFC 1350, section 1).
+pub fn wire_carries_one_file()
+    ensures { (mode : Mode) (wire file : List ℕ) → ReadsAs mode wire file ↔ (file ≡ carried_file mode wire) }
 {}
 
 /// A capture that shows a transfer is lawful.

@@ -51,7 +51,7 @@ canonical_wire-step wire rest run tail spelling x parts plain spelled =
     ∙ ap (λ (bytes : List ℕ). wire ++ bytes) (sym (canonical_wire-to_control rest run tail x parts plain))
 
 -- each LF and each CR is one byte more
-abbrev is_control : ℕ → Bool
+abbrev pub is_control : ℕ → Bool
 is_control x = eqb x 10 || eqb x 13
 
 bytes_of_tests : (lf cr : Bool) (x : ℕ) → length (cond lf (13 ∷ 10 ∷ []) (cond cr (13 ∷ 0 ∷ []) (x ∷ []))) ≡ 1 + cond (lf || cr) 1 0
@@ -60,10 +60,16 @@ bytes_of_tests true false x = refl
 bytes_of_tests false true x = refl
 bytes_of_tests false false x = refl
 
+-- one byte of a file more
+pub length-canonical_cons : (x : ℕ) (f : List ℕ) → length (canonical_wire (x ∷ f)) ≡ 1 + cond (is_control x) 1 0 + length (canonical_wire f)
+length-canonical_cons x f =
+    let parts = length-append (canonical_bytes x) (canonical_wire f) in
+    let first : length (canonical_bytes x) ≡ 1 + cond (is_control x) 1 0 = bytes_of_tests (eqb x 10) (eqb x 13) x in
+    omega (arith, parts, first)
+
 pub length-canonical_wire : (f : List ℕ) → length (canonical_wire f) ≡ length f + count_by is_control f
 length-canonical_wire [] = refl
 length-canonical_wire (x ∷ f) =
-    let parts = length-append (canonical_bytes x) (canonical_wire f) in
-    let first : length (canonical_bytes x) ≡ 1 + cond (is_control x) 1 0 = bytes_of_tests (eqb x 10) (eqb x 13) x in
+    let first = length-canonical_cons x f in
     let count : count_by is_control (x ∷ f) ≡ cond (is_control x) 1 0 + count_by is_control f = sum_by-cons (λ (x : ℕ). cond (is_control x) 1 0) x f in
-    omega (arith, parts, first, count, length-canonical_wire f)
+    omega (arith, first, count, length-canonical_wire f)

@@ -3,3 +3,4 @@ pub mod DecoderLemmas
 pub mod CanonicalLemmas
 pub mod RunReads
 pub mod Moved
+pub mod LengthLemmas

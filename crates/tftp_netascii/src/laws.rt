@@ -1,12 +1,15 @@
-//! What holds of every netascii text. These functions do nothing: their contracts are the laws.
+//! What holds of every netascii text. These functions do nothing: their contracts are the laws. One counts a small text.
 
 ghost use Rattle.std.specs.Prelude.{◌≡◌, Bool, ℕ, List, [], ◌∷◌};
-ghost use Rattle.tftp_netascii.specs.Netascii.{Reads, canonical_wire, nul, lf, cr};
+ghost use Rattle.tftp_netascii.specs.Netascii.{Reads, canonical_wire, file_of, nul, lf, cr};
 ghost use Rattle.tftp_netascii.specs.Decoder.{StandsFor};
 
-/// No text is malformed, and none can be read in two ways.
+use crate::lengths::{Lengths, file_lengths};
+
+/// No text is malformed, and none can be read in two ways: the file that it reads as can be computed.
 pub fn every_wire_reads_as_one_file()
     ensures exists { (wire : List ℕ) → (file : List ℕ) × Reads wire file }
+    ensures computed { (wire : List ℕ) → Reads wire (file_of wire) }
     ensures unique { (wire file other : List ℕ) → Reads wire file → Reads wire other
         → file ≡ other }
 {}
@@ -46,4 +49,14 @@ pub fn worked_examples()
     ensures return_before_a_line_end { Reads (cr ∷ cr ∷ lf ∷ []) (cr ∷ lf ∷ []) }
     ensures written { canonical_wire (cr ∷ lf ∷ 65 ∷ nul ∷ [])
         ≡ cr ∷ nul ∷ cr ∷ lf ∷ 65 ∷ nul ∷ [] }
+    ensures read { file_of (cr ∷ lf ∷ cr ∷ nul ∷ cr ∷ 65 ∷ lf ∷ [])
+        ≡ lf ∷ cr ∷ cr ∷ 65 ∷ lf ∷ [] }
 {}
+
+/// The lengths of the file of a small text: each kind of a pair, of a CR and of an LF once, and another byte.
+pub fn worked_lengths() -> Lengths
+    ensures file { result.file ≡ 7 }
+    ensures encoded { result.encoded ≡ 13 }
+{
+    file_lengths(b"\r\n\r\0\rA\n\r\r\n")
+}

@@ -1,33 +1,41 @@
 //! The calls that write normal texts, and the one that counts.
 
 ghost use Rattle.std.specs.Prelude.{◌≡◌, ℕ, List, Some, length, true, false, Result, Ok, OnOk};
+ghost use Rattle.std.specs.FinMap as map;
 ghost use Rattle.std.specs.Io.KnownBytes.{Appends, Consumes, IsAtEnd};
 ghost use Rattle.tftp_model.specs.{Meaning as Parts};
 ghost use Rattle.tftp_judge.specs.{EndsText, IsReadVerdict, IsTextVerdict, SaysReadFailed, Verdict};
-ghost use Rattle.tftp_law.specs.{CanBeWritten};
 ghost use Rattle.tftp_normal.specs.Accepted.{IsAccepted};
-ghost use Rattle.tftp_normal.specs.Normal.{normal_count as count_of, normal_datagrams, normal_text};
+ghost use Rattle.tftp_normal.specs.Normal.{normal_count as count_of, normal_datagrams, normal_text, opening_count};
 ghost use Rattle.tftp_normal.specs.Normalised.{Normalises, WritesNormal};
 
 use crate::fault::NormalFault;
-use crate::transfer::Transfer;
+use crate::transfer::{Transfer, window_size_of};
 use crate::writing::write_normal;
 use std::alloc::Global;
 use std::io::{Read, Write};
 use tftp_capture::Tallied;
-use tftp_judge::{Meaning, judge_text};
+use tftp_judge::{Meaning, MeaningParts, judge_text};
+use tftp_packet::Side;
 
 /// Writes the normal text of a meaning, and nothing else. It takes all memory that it needs before it writes, so with
 /// `Memory` nothing was written; it never answers `Verdict`.
 pub fn normal_capture<W: Write>(
     alloc: Global,
-    meaning: &Meaning,
+    meaning: Meaning,
     writer: &mut Tallied<W>,
 ) -> Result<(), NormalFault>
     requires writing { writer.old.1 ≡ false }
-    ensures normalises { Normalises W.contents writer.old writer.new (Ok meaning.now) result }
+    ensures normalises { Normalises W.contents writer.old writer.new (Ok meaning) result }
 {
-    write_normal(alloc, &transfer_of(meaning), writer)
+    let MeaningParts {
+        request,
+        agreed,
+        file,
+        blocks,
+    } = meaning.into_parts();
+    let transfer = Transfer::of(&request, &agreed, file.as_slice(), blocks);
+    write_normal(alloc, &transfer, writer)
 }
 
 /// Writes the normal text of a capture text that is accepted, and nothing of any other. The whole text is judged, and all
@@ -50,7 +58,7 @@ pub fn normalise<R: Read, W: Write>(
         → WritesNormal W.contents writer.old writer.new m result }
 {
     let meaning = judge_text(alloc, reader)?;
-    normal_capture(alloc, &meaning, writer)
+    normal_capture(alloc, meaning, writer)
 }
 
 /// How many datagrams the normal capture of a meaning has. It takes no memory.
@@ -58,18 +66,17 @@ pub fn normal_count(meaning: &Meaning) -> u64
     ensures count { result ≡ count_of meaning.now }
     ensures datagrams { result ≡ length (normal_datagrams meaning.now) }
 {
-    transfer_of(meaning).count()
+    let blocks = u64::from(meaning.blocks());
+    opening_len(meaning) + blocks + blocks.div_ceil(window_size_of(meaning.agreed()))
 }
 
-/// What is to be written for a meaning.
-fn transfer_of(meaning: &Meaning) -> Transfer<'_>
-    ensures meaning { result ≡ meaning.now }
-    ensures can { CanBeWritten result }
+/// How many datagrams pass before the first block.
+fn opening_len(meaning: &Meaning) -> u64
+    ensures { result ≡ opening_count meaning.now.side (map.len meaning.now.agreed) }
 {
-    Transfer::of(
-        meaning.request(),
-        meaning.agreed(),
-        meaning.file(),
-        meaning.blocks(),
-    )
+    match (meaning.request().side(), meaning.agreed().is_empty()) {
+        (Side::Get, true) => 1,
+        (Side::Get, false) => 3,
+        (Side::Put, _) => 2,
+    }
 }

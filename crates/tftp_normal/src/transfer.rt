@@ -1,5 +1,8 @@
 //! What is to be written, by its parts.
 
+ghost use Rattle.std.specs.Prelude.{◌≡◌, codes};
+ghost use Rattle.tftp_model.specs.{option_or};
+
 use std::alloc::{AllocError, Global};
 use std::marker::Model;
 use tftp_packet::{Mode, Options, Request, Side, Value, write_oack, write_request};
@@ -35,7 +38,7 @@ impl<'a> Transfer<'a> {
     ghost use Rattle.tftp_model.specs.Meanings.{request_of, blksize_of, windowsize_of};
     ghost use Rattle.tftp_law.specs.Owned.{meaning_from};
     ghost use Rattle.tftp_law.specs.Writable.{blocks_of, CanBeWritten};
-    ghost use Rattle.tftp_normal.specs.Normal.{normal_count, opening_count};
+    ghost use Rattle.tftp_normal.specs.Normal.{normal_count};
 
     /// Takes the parts, and no memory.
     pub(crate) fn of(request: &'a Request, agreed: &'a Options, file: &'a [u8], blocks: u16) -> Self
@@ -103,29 +106,7 @@ impl<'a> Transfer<'a> {
         ensures size { result ≡ windowsize_of self.now }
         ensures some { 1 ≤ result }
     {
-        match self.agreed.get(b"windowsize") {
-            Some(Value::Num(size)) => *size,
-            _ => 1,
-        }
-    }
-
-    /// How many datagrams its normal capture has.
-    pub(crate) fn count(&self) -> u64
-        ensures count { result ≡ normal_count self.now }
-    {
-        let blocks = u64::from(self.blocks());
-        self.opening_len() + blocks + blocks.div_ceil(self.window_size())
-    }
-
-    /// How many datagrams pass before the first block.
-    fn opening_len(&self) -> u64
-        ensures { result ≡ opening_count self.now.side (map.len self.now.agreed) }
-    {
-        match (self.side(), self.is_plain()) {
-            (Side::Get, true) => 1,
-            (Side::Get, false) => 3,
-            (Side::Put, _) => 2,
-        }
+        window_size_of(self.agreed)
     }
 
     /// The last block of the window after an acknowledged block.
@@ -151,5 +132,15 @@ impl<'a> Transfer<'a> {
         ensures short { IfOk result (λ payload. map.len self.now.agreed ≢ 0 → length payload.items ≤ 65527) }
     {
         write_oack(alloc, self.agreed)
+    }
+}
+
+/// How many blocks a window has that is not the last, where this is agreed (RFC 7440).
+pub(crate) fn window_size_of(agreed: &Options) -> u64
+    ensures { result ≡ option_or 1 agreed.now (codes "windowsize") }
+{
+    match agreed.get(b"windowsize") {
+        Some(Value::Num(size)) => *size,
+        _ => 1,
     }
 }

@@ -52,6 +52,19 @@ impl<D: Delivered + Drop> Judging<D> {
     }
 }
 
+/// Whether a meaning has this file, and counts its bytes so.
+fn is_file_of(meaning: Meaning, file: &[u8]) -> bool {
+    let size = meaning.file_len();
+    let read = meaning.into_file();
+    read.as_slice() == file && size == file.len() as u64
+}
+
+/// Whether a meaning has this name, this file and so many blocks.
+fn are_parts_of(meaning: Meaning, name: &[u8], file: &[u8], blocks: u16) -> bool {
+    let parts = meaning.into_parts();
+    parts.request.name() == name && parts.file.as_slice() == file && parts.blocks == blocks
+}
+
 /// What a judge answers at the end, likewise.
 #[derive(Drop)]
 pub struct End {
@@ -73,10 +86,18 @@ impl End {
         }
     }
 
-    /// Whether this file was accepted.
-    pub fn has_file(&self, file: &[u8]) -> bool {
-        match &self.answer {
-            Ok(meaning) => meaning.file() == file,
+    /// Whether this file was accepted, and counted so.
+    pub fn has_file(self, file: &[u8]) -> bool {
+        match self.answer {
+            Ok(meaning) => is_file_of(meaning, file),
+            Err(_) => false,
+        }
+    }
+
+    /// Whether a file was accepted that was asked for by this name, is this one, and has so many blocks.
+    pub fn has_parts(self, name: &[u8], file: &[u8], blocks: u16) -> bool {
+        match self.answer {
+            Ok(meaning) => are_parts_of(meaning, name, file, blocks),
             Err(_) => false,
         }
     }
@@ -212,7 +233,7 @@ const READ_OF_HI: &[Row] = &[
 ];
 
 /// Fails unless the file `hi` was accepted.
-fn is_hi(end: &End) -> Result<(), Fail> {
+fn is_hi(end: End) -> Result<(), Fail> {
     match end.refusal() {
         Some(refusal) => Err(other(Err(refusal))),
         None => is_so(end.has_file(b"hi"), "another file"),
@@ -223,11 +244,39 @@ fn is_hi(end: &End) -> Result<(), Fail> {
 fn accepts<D: Delivered + Drop>(alloc: Global) -> Result<(), Fail> {
     let mut judging = Judging::<D>::new(alloc, &HEADER);
     all_have_answers(alloc, &mut judging, READ_OF_HI, 4)?;
-    is_hi(&judging.finish(alloc))
+    is_hi(judging.finish(alloc))
 }
 
 #[test]
 fn a_read_is_accepted(rt: HostRuntime) -> Result<(), Fail> {
     accepts::<MapDelivered>(rt.alloc())?;
     accepts::<RingDelivered>(rt.alloc())
+}
+
+/// The read of a text in netascii, which has a line's end and a carriage return (RFC 764).
+const READ_OF_TEXT: &[Row] = &[
+    ((Dir::Out, 69, b"\x00\x01t\x00netascii\x00"), Ok(())),
+    ((Dir::In, 41000, b"\x00\x03\x00\x01a\r\nb\r\0"), Ok(())),
+    ((Dir::Out, 41000, ACK_1), Ok(())),
+];
+
+/// What is judged of that text.
+fn end_of_text<D: Delivered + Drop>(alloc: Global) -> Result<End, Fail> {
+    let mut judging = Judging::<D>::new(alloc, &HEADER);
+    all_have_answers(alloc, &mut judging, READ_OF_TEXT, 3)?;
+    Ok(judging.finish(alloc))
+}
+
+/// The text is read, and counted, whether the file is asked for alone or all parts are.
+fn reads_text<D: Delivered + Drop>(alloc: Global) -> Result<(), Fail> {
+    let is_file = end_of_text::<D>(alloc)?.has_file(b"a\nb\r");
+    is_so(is_file, "another file")?;
+    let are_parts = end_of_text::<D>(alloc)?.has_parts(b"t", b"a\nb\r", 1);
+    is_so(are_parts, "other parts")
+}
+
+#[test]
+fn a_text_is_read_as_its_file(rt: HostRuntime) -> Result<(), Fail> {
+    reads_text::<MapDelivered>(rt.alloc())?;
+    reads_text::<RingDelivered>(rt.alloc())
 }

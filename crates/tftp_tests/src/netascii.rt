@@ -4,18 +4,18 @@
 use crate::views::{is_same, is_so};
 use std::alloc::{AllocError, Global};
 use std::test::Fail;
-use tftp_netascii::{Decoder, decode, decode_pieces, encode, encoded_len};
+use tftp_netascii::{Decoder, decode, decode_pieces, encode, encoded_len, file_lengths};
 
-/// Texts, and the files that they read as.
-const TEXTS: &[(&[u8], &[u8])] = &[
-    (b"", b""),
-    (b"\r\n", b"\n"),
-    (b"\r\0", b"\r"),
-    (b"\rA", b"\rA"),
-    (b"\n", b"\n"),
-    (b"\r", b"\r"),
-    (b"\r\r\n", b"\r\n"),
-    (b"one\r\ntwo\0\r\0three", b"one\ntwo\0\rthree"),
+/// Texts, the files that they read as, and the lengths of those that are written for these.
+const TEXTS: &[(&[u8], &[u8], usize)] = &[
+    (b"", b"", 0),
+    (b"\r\n", b"\n", 2),
+    (b"\r\0", b"\r", 2),
+    (b"\rA", b"\rA", 3),
+    (b"\n", b"\n", 2),
+    (b"\r", b"\r", 2),
+    (b"\r\r\n", b"\r\n", 4),
+    (b"one\r\ntwo\0\r\0three", b"one\ntwo\0\rthree", 16),
 ];
 
 /// The file of a text. It promises nothing, as the calls of the library below, so that what the library promises is read once of
@@ -32,15 +32,51 @@ fn decoded(alloc: Global, wire: &[u8]) -> Result<Vec<u8>, AllocError> {
     }
 }
 
-/// Fails unless a text reads as this file.
-fn reads_as(alloc: Global, wire: &[u8], file: &[u8]) -> Result<(), Fail> {
-    is_same(decoded(alloc, wire)?.as_slice(), file)
+/// Whether the file of a text is counted so, and what is written for it.
+fn has_lengths(wire: &[u8], file: usize, encoded: usize) -> bool {
+    let lengths = file_lengths(wire);
+    lengths.file == file as u64 && lengths.encoded == encoded as u64
+}
+
+/// Fails unless a text reads as this file, for which one is written of this length.
+fn reads_as(alloc: Global, wire: &[u8], file: &[u8], length: usize) -> Result<(), Fail> {
+    is_same(decoded(alloc, wire)?.as_slice(), file)?;
+    is_so(has_lengths(wire, file.len(), length), "other lengths")
 }
 
 #[test]
 fn decodes_whole_texts(rt: HostRuntime) -> Result<(), Fail> {
-    for (wire, file) in TEXTS {
-        reads_as(rt.alloc(), wire, file)?;
+    for (wire, file, length) in TEXTS {
+        reads_as(rt.alloc(), wire, file, *length)?;
+    }
+    Ok(())
+}
+
+/// So many bytes that are themselves, and then CR LF.
+fn line_of(alloc: Global, size: u32) -> Result<Vec<u8>, AllocError> {
+    let mut wire = Vec::new(alloc);
+    for _ in 0..size {
+        wire.push(b'a')?;
+    }
+    wire.extend_from_slice(b"\r\n")?;
+    Ok(wire)
+}
+
+/// Fails unless the file of a line of so many bytes is counted with one byte for its end, and its text with two.
+fn is_counted(alloc: Global, size: u32) -> Result<(), Fail> {
+    let wire = line_of(alloc, size)?;
+    let whole = wire.len();
+    is_so(
+        has_lengths(wire.as_slice(), whole.saturating_sub(1), whole),
+        "other lengths",
+    )
+}
+
+/// Wherever the pair stands in what is counted at once, and where two such pieces cut it.
+#[test]
+fn counts_a_pair_anywhere(rt: HostRuntime) -> Result<(), Fail> {
+    for size in 0..600u32 {
+        is_counted(rt.alloc(), size)?;
     }
     Ok(())
 }

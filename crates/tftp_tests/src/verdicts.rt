@@ -58,8 +58,8 @@ fn request_names(meaning: &Meaning) -> (&'static str, &'static str) {
 }
 
 /// The numbers of its blocks and of its bytes.
-fn sizes(meaning: &Meaning) -> (u64, usize) {
-    (u64::from(meaning.blocks()), meaning.file().len())
+fn sizes(meaning: &Meaning) -> (u64, u64) {
+    (u64::from(meaning.blocks()), meaning.file_len())
 }
 
 /// The line of what is accepted.

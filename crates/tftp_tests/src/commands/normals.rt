@@ -22,7 +22,7 @@ fn normalised_on(
 /// What `normal_capture` answers to a meaning, and what it has written then.
 fn written_of(
     rt: &HostRuntime,
-    meaning: &Meaning,
+    meaning: Meaning,
     drip: DripWriter,
 ) -> (Result<(), NormalFault>, DripWriter) {
     let mut writer = Tallied::new(drip);
@@ -43,13 +43,14 @@ fn is_counted(meaning: &Meaning, count: u64) -> bool {
 /// Whether `normal_capture` writes this for a meaning, and `normal_count` counts so many.
 fn is_written(
     rt: &HostRuntime,
-    meaning: &Meaning,
+    meaning: Meaning,
     normal: &str,
     count: u64,
 ) -> Result<bool, AllocError> {
     let drip = DripWriter::new(rt.alloc(), ROOM, ROOM, 0, false)?;
+    let has_count = is_counted(&meaning, count);
     let (answer, written) = written_of(rt, meaning, drip);
-    Ok(answer.is_ok() && is_taken(&written, normal) && is_counted(meaning, count))
+    Ok(answer.is_ok() && is_taken(&written, normal) && has_count)
 }
 
 /// Whether `normal_capture` writes this for the meaning of a text, and `normal_count` counts so many.
@@ -60,7 +61,7 @@ fn is_captured(
     count: u64,
 ) -> Result<bool, AllocError> {
     match verdict_of(rt, text, usize::MAX, 0) {
-        Ok(meaning) => is_written(rt, &meaning, normal, count),
+        Ok(meaning) => is_written(rt, meaning, normal, count),
         Err(_) => Ok(false),
     }
 }

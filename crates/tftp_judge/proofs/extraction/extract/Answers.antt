@@ -9,12 +9,12 @@ returns-in_err-write_whole-clause-extracts g c =
     let p = err_from_is_err_and c.from_residual-in_err-write_whole.result c.from_residual-in_err-write_whole.ensures.1 in
     let said = c.in_ok-meaning.ensures in
     let (read, consumed, is) = said.judged in
-    rw (p.1, p.2) (read, Ok c.in_ok-meaning.meaning, consumed, is, said.ended, said.read, said.tally, rw c.file.ensures at c.in_err-write_whole.ensures.writes)
+    rw (p.1, p.2) (read, Ok c.in_ok-meaning.meaning, consumed, is, said.ended, said.read, said.tally, rw (c.as_slice.ensures.value, c.into_file-file.ensures) at c.in_err-write_whole.ensures.writes)
 
 pub returns-in_err-write_whole-clause-whole : goal.returns-in_err-write_whole-clause-whole
 returns-in_err-write_whole-clause-whole g c text all clean =
     let p = err_from_is_err_and c.from_residual-in_err-write_whole.result c.from_residual-in_err-write_whole.ensures.1 in
-    rw (p.1, p.2) (Ok c.in_ok-meaning.meaning, c.in_ok-meaning.ensures.whole text all clean, rw c.file.ensures at c.in_err-write_whole.ensures.writes)
+    rw (p.1, p.2) (Ok c.in_ok-meaning.meaning, c.in_ok-meaning.ensures.whole text all clean, rw (c.as_slice.ensures.value, c.into_file-file.ensures) at c.in_err-write_whole.ensures.writes)
 
 -- ---- of a text that is accepted
 
@@ -28,10 +28,10 @@ pub returns-in_err-write_whole-clause-exact : goal.returns-in_err-write_whole-cl
 returns-in_err-write_whole-clause-exact g c text m all clean is =
     let p = err_from_is_err_and c.from_residual-in_err-write_whole.result c.from_residual-in_err-write_whole.ensures.1 in
     rw (p.1, p.2)
-    (exact_file g.W.Write.contents c.args.writer.now c.write_whole.new.writer m c.in_ok-meaning.meaning (Err fault.Write) (rw c.file.ensures at c.in_err-write_whole.ensures.writes)
+    (exact_file g.W.Write.contents c.args.writer.now c.write_whole.new.writer m c.in_ok-meaning.meaning (Err fault.Write) (rw (c.as_slice.ensures.value, c.into_file-file.ensures) at c.in_err-write_whole.ensures.writes)
     (c.in_ok-meaning.ensures.exact text (Ok m) all clean tt is))
 
 pub returns-clause-exact : goal.returns-clause-exact
 returns-clause-exact g c text m all clean is =
-    exact_file g.W.Write.contents c.args.writer.now c.write_whole.new.writer m c.in_ok-meaning.meaning (Ok tt) (rw c.file.ensures at c.in_ok-write_whole.ensures.writes)
+    exact_file g.W.Write.contents c.args.writer.now c.write_whole.new.writer m c.in_ok-meaning.meaning (Ok tt) (rw (c.as_slice.ensures.value, c.into_file-file.ensures) at c.in_ok-write_whole.ensures.writes)
     (c.in_ok-meaning.ensures.exact text (Ok m) all clean tt is)

@@ -1,4 +1,4 @@
-use Rattle.std.proofs.Common.{◌≡◌, ◌↔◌, ◌+◌, ◌/◌, ◌≤◌, List, length, Ok, true≢false, sym, subst, ap, ◌∙◌, reverse}
+use Rattle.std.proofs.Common.{◌≡◌, ◌↔◌, ◌+◌, ◌/◌, ◌≤◌, List, length, Ok, refl, true≢false, sym, subst, ap, ◌∙◌, reverse}
 use Rattle.tftp_packet.specs.{OptionMap, RequestParts}
 use Rattle.tftp_hosts.specs.{Datagram, Header}
 use Rattle.tftp_model.specs.{Meaning}
@@ -22,24 +22,24 @@ began g c h passed after = elim c.match-course.branch [
 -- ---- the file is that of a whole transfer
 
 abbrev meaning : (g : Over) → After-written_blocks g → Meaning
-meaning g c = meaning_from (c.args.self.asked, (c.match-course.agreed.0, c.in-Ok.file.items))
+meaning g c = meaning_from (c.args.self.asked, (c.match-course.agreed.0, c.in-Ok.file.1))
 
 meant : (g : Over) (c : After-written_blocks g) (h : Header) (earlier : List Datagram) → OneEnded h earlier → FirstAsked h earlier c.args.self.asked → BeganBy h c.args.self.asked (transfer_of h earlier) c.match-course.agreed.0 c.match-course.agreed.1 → Meant h earlier (meaning g c)
 meant g c h earlier lawful first begun =
     let mode = ap (λ (t : Transfer). t.asked.mode) c.self.view_is in
-    let file = held_file _ _ _ _ c.in-Ok.file.items c.into_store.ensures (c.mode.ensures ∙ mode) c.in-Ok.ensures.file in
-    meant_by h earlier lawful c.args.self.asked first c.match-course.agreed.1 begun.0 begun.1 c.match-course.agreed.0 c.in-Ok.file.items
+    let file = held_file _ _ _ _ c.in-Ok.file.1 c.into_store.ensures (c.mode.ensures ∙ mode) c.in-Ok.ensures.file in
+    meant_by h earlier lawful c.args.self.asked first c.match-course.agreed.1 begun.0 begun.1 c.match-course.agreed.0 c.in-Ok.file.1
     ((c.done.ensures.done (transfer_of h earlier) begun.1.after).0 c.if-not-done.false) (c.done.ensures.whole (transfer_of h earlier) begun.1.after c.if-not-done.false) begun.2 file
 
-fits : (g : Over) (c : After-written_blocks g) → (length (written_wire c.mode-2.result c.as_slice.result.now) / c.blksize.result + 1 ≤ 65535) ↔ IsWritable (meaning g c)
+fits : (g : Over) (c : After-written_blocks g) → (length (written_wire c.in-Ok.file.0 c.in-Ok.file.1) / c.blksize.result + 1 ≤ 65535) ↔ IsWritable (meaning g c)
 fits g c =
-    fits_by c.mode-2.result c.args.self.asked.mode c.blksize.result c.match-course.agreed.0 c.as_slice.result.now c.in-Ok.file.items
-    (c.mode-2.ensures ∙ ap (λ (t : Transfer). t.asked.mode) c.self.view_is) c.blksize.ensures.value c.as_slice.ensures.value
+    fits_by c.in-Ok.file.0 c.args.self.asked.mode c.blksize.result c.match-course.agreed.0 c.in-Ok.file.1 c.in-Ok.file.1
+    (c.in-Ok.ensures.mode ∙ c.mode.ensures ∙ ap (λ (t : Transfer). t.asked.mode) c.self.view_is) c.blksize.ensures.value refl
 
-made : (g : Over) (c : After-into_options g) → meaning_from (c.args.self.asked, (c.match-course.agreed.0, c.in-Ok.file.items)) ≡ meaning_from (c.self.inside.asked, (c.into_options.result, c.in-Ok.file.items))
+made : (g : Over) (c : After-into_options g) → meaning_from (c.args.self.asked, (c.match-course.agreed.0, c.in-Ok.file.1)) ≡ meaning_from (c.self.inside.asked, (c.into_options.result, c.in-Ok.file.1))
 made g c =
-    ap (λ (r : RequestParts). meaning_from (r, (c.match-course.agreed.0, c.in-Ok.file.items))) (sym (ap (λ (t : Transfer). t.asked) c.self.view_is))
-    ∙ ap (λ (o : OptionMap). meaning_from (c.self.inside.asked, (o, c.in-Ok.file.items))) (sym c.into_options.ensures)
+    ap (λ (r : RequestParts). meaning_from (r, (c.match-course.agreed.0, c.in-Ok.file.1))) (sym (ap (λ (t : Transfer). t.asked) c.self.view_is))
+    ∙ ap (λ (o : OptionMap). meaning_from (c.self.inside.asked, (o, c.in-Ok.file.1))) (sym c.into_options.ensures)
 
 -- ---- what is answered
 
