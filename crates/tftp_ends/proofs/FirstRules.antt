@@ -25,30 +25,14 @@ rule_of n =
 rule_is : (rule : EndRule) → rule_of (end_number rule) ≡ rule
 unfolding rule_of
 rule_is NotStarted = refl
-rule_is BlockZero = refl
-rule_is BeyondBlock65535 = refl
-rule_is BlockLength = refl
-rule_is WindowOverrun = refl
-rule_is BlockSkipped = refl
-rule_is GoneBack = refl
-rule_is BlockChanged = refl
-rule_is AckAhead = refl
-rule_is AckZero = refl
+rule_is _ = refl
 
 one_rule : (rule other : EndRule) → end_number other ≡ end_number rule → rule ≡ other
 one_rule rule other same = sym (rule_is rule) ∙ (ap rule_of (sym same) ∙ rule_is other)
 
 from_18 : (rule : EndRule) → 18 ≤ end_number rule
 from_18 NotStarted = omega arith
-from_18 BlockZero = omega arith
-from_18 BeyondBlock65535 = omega arith
-from_18 BlockLength = omega arith
-from_18 WindowOverrun = omega arith
-from_18 BlockSkipped = omega arith
-from_18 GoneBack = omega arith
-from_18 BlockChanged = omega arith
-from_18 AckAhead = omega arith
-from_18 AckZero = omega arith
+from_18 _ = omega arith
 
 module _ (t : Terms) (passed : List Datagram) (m : Message) where
   pub none_yet : NoneBelow t passed m 18

@@ -54,13 +54,9 @@ fault_number NegoFault.BeyondBlock65535 = 20
 fault_number NegoFault.Memory = 21
 
 spread : (f : NegoFault) → ((fault_number f ≡ number f + 10) × (number f ≤ 5)) ⊎ ((fault_number f ≡ number f + 14) × (6 ≤ number f))
-spread NegoFault.OackEmpty = inl (omega arith, omega arith)
-spread NegoFault.MulticastAgreed = inl (omega arith, omega arith)
-spread NegoFault.OptionNotRequested = inl (omega arith, omega arith)
-spread NegoFault.OptionOutsideProfile = inl (omega arith, omega arith)
-spread NegoFault.OptionValue = inl (omega arith, omega arith)
 spread NegoFault.BeyondBlock65535 = inr (omega arith, omega arith)
 spread NegoFault.Memory = inr (omega arith, omega arith)
+spread _ = inl (omega arith, omega arith)
 
 in_order : (g f : NegoFault) → fault_number g < fault_number f → number g < number f
 in_order g f low = elim (spread g) [
@@ -149,15 +145,7 @@ module _ (asked : RequestParts) (passed : List Datagram) (dir : Dir) (oack : Opt
 
 number_is : (e : EndRule) → number_of (rule_of_end e) ≡ end_number e
 number_is EndRule.NotStarted = refl
-number_is EndRule.BlockZero = refl
-number_is EndRule.BeyondBlock65535 = refl
-number_is EndRule.BlockLength = refl
-number_is EndRule.WindowOverrun = refl
-number_is EndRule.BlockSkipped = refl
-number_is EndRule.GoneBack = refl
-number_is EndRule.BlockChanged = refl
-number_is EndRule.AckAhead = refl
-number_is EndRule.AckZero = refl
+number_is _ = refl
 
 module _ (h : Header) (asked : RequestParts) (passed : List Datagram) (m : Message) (t : Terms) (known : AreTermsAfter h asked passed t) where
   same_terms : (e : EndRule) (u : Terms) → AreTermsAfter h asked passed u → EndBroken u passed m e → EndBroken t passed m e
@@ -179,15 +167,7 @@ module _ (h : Header) (asked : RequestParts) (passed : List Datagram) (m : Messa
 
 end_from : (e : EndRule) → 18 ≤ number_of (rule_of_end e)
 end_from EndRule.NotStarted = omega arith
-end_from EndRule.BlockZero = omega arith
-end_from EndRule.BeyondBlock65535 = omega arith
-end_from EndRule.BlockLength = omega arith
-end_from EndRule.WindowOverrun = omega arith
-end_from EndRule.BlockSkipped = omega arith
-end_from EndRule.GoneBack = omega arith
-end_from EndRule.BlockChanged = omega arith
-end_from EndRule.AckAhead = omega arith
-end_from EndRule.AckZero = omega arith
+end_from _ = omega arith
 
 request_from : (asked : RequestParts) (passed : List Datagram) (dir : Dir) (now : RequestParts) (rule : Rule) → RequestBreaks asked passed dir now rule → 8 ≤ number_of rule
 request_from asked passed dir now Rule.RequestChanged b = omega arith

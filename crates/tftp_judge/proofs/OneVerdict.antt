@@ -52,33 +52,8 @@ rule_at n = get_or in_order (n - 1) Rule.ForeignPort
 
 -- a rule is the one with its number, or that a packet is malformed
 named : (r : Rule) → (rule_at (number_of r) ≡ r) ⊎ ((fault : PacketFault) × (r ≡ Rule.Malformed fault))
-named Rule.ForeignPort = inl refl
-named Rule.WrongPort = inl refl
-named Rule.StrayAnswer = inl refl
-named Rule.NoRequest = inl refl
 named (Rule.Malformed fault) = inr (fault, refl)
-named Rule.WrongKind = inl refl
-named Rule.AfterError = inl refl
-named Rule.RequestChanged = inl refl
-named Rule.RequestAfterStart = inl refl
-named Rule.ReplyChanged = inl refl
-named Rule.OackEmpty = inl refl
-named Rule.MulticastAgreed = inl refl
-named Rule.OptionNotRequested = inl refl
-named Rule.OptionOutsideProfile = inl refl
-named Rule.OptionValue = inl refl
-named Rule.OackChanged = inl refl
-named Rule.OackAfterStart = inl refl
-named Rule.NotStarted = inl refl
-named Rule.BlockZero = inl refl
-named Rule.BeyondBlock65535 = inl refl
-named Rule.BlockLength = inl refl
-named Rule.WindowOverrun = inl refl
-named Rule.BlockSkipped = inl refl
-named Rule.GoneBack = inl refl
-named Rule.BlockChanged = inl refl
-named Rule.AckAhead = inl refl
-named Rule.AckZero = inl refl
+named _ = inl refl
 
 malformed_at : (r : Rule) → rule_at (number_of r) ≡ r → number_of r ≡ 5 → r ≡ Rule.Malformed Short
 malformed_at r is five = sym is ∙ ap rule_at five

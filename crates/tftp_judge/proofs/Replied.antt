@@ -38,15 +38,7 @@ module _ (passed : List Datagram) (before : IsBeforeBlocks passed) where
 
 lowest : (e : EndRule) → 18 ≤ end_number e
 lowest EndRule.NotStarted = omega arith
-lowest EndRule.BlockZero = omega arith
-lowest EndRule.BeyondBlock65535 = omega arith
-lowest EndRule.BlockLength = omega arith
-lowest EndRule.WindowOverrun = omega arith
-lowest EndRule.BlockSkipped = omega arith
-lowest EndRule.GoneBack = omega arith
-lowest EndRule.BlockChanged = omega arith
-lowest EndRule.AckAhead = omega arith
-lowest EndRule.AckZero = omega arith
+lowest _ = omega arith
 
 module _ (h : Header) (asked : RequestParts) (passed : List Datagram) (none : NotAnswered asked.side passed) (before : IsBeforeBlocks passed) where
   known : AreTermsAfter h asked passed (plain_terms h asked.side NoReply)
