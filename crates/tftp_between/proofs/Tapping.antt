@@ -2,7 +2,7 @@
 use Rattle.std.proofs.Common.{◌≡◌, List, [], ◌∷◌, Option, Some, None, Result, Ok, Err, refl, sym, ap, ◌∙◌, subst, inl, inr, OnOk, IfErr}
 use Rattle.tftp_model.specs.{Meaning}
 use Rattle.tftp_tap.specs.{TapDatagram, TapSides, BreaksNoTapRule, TapPasses}
-use Rattle.tftp_tap_judge.specs.{IsTapJudge, TapJudge, RefusesAtTap, IsTapVerdict, TapRefusal, Unlawful, Aborted, Incomplete, NormalTooLong}
+use Rattle.tftp_tap_judge.specs.{IsTapJudge, TapJudge, RefusesAtTap, IsTapVerdict, TapRefusal, Unlawful}
 use Rattle.tftp_tap_judge.specs.declared.refusal.TapRefusal.TheVariants.{Memory}
 use Rattle.tftp_between.specs.{HasTapped, IsBetweenVerdict, IsTapRefusedIn, TappedBy}
 

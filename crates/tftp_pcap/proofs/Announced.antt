@@ -1,5 +1,5 @@
 -- How many bytes a piece has, by its own first bytes.
-use Rattle.std.proofs.Common.{◌≡◌, ◌≢◌, inl, inr, ℕ, ◌+◌, ◌%◌, ◌<◌, ◌≤◌, List, length, take, get_or, refl, sym, ap, ◌∙◌, arith, Bool, true, false, Result, Ok, Err}
+use Rattle.std.proofs.Common.{◌≡◌, ◌≢◌, inl, inr, ℕ, ◌+◌, ◌%◌, ◌<◌, ◌≤◌, List, length, take, get_or, refl, sym, ap, ◌∙◌, arith, Bool, false, Result, Ok, Err}
 use Rattle.std.specs.List.{slice_range}
 use Rattle.tftp_pcap.specs.{number_at, magic, section_type, order_magic, longest_frame, Announces, AnnouncesSection, SizeTells, BlockSizeTells, IsTooLong, Order, Big, Little, Unopened, FaultKind, Bad, TooLong}
 use Rattle.tftp_pcap.specs.declared.layout.Classic.{Classic as Header}

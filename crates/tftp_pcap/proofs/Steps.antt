@@ -3,7 +3,7 @@ use Rattle.std.proofs.Common.{◌≡◌, ◌≤◌, ◌<◌, ◌^◌, inl, inr, 
 use Rattle.std.specs.Io.KnownBytes.{prepend_known, Consumes}
 use Rattle.std.proofs.KnownBytes.{Consumes-trans}
 use Rattle.std.proofs.lemmas.Grind.{flat_map-append}
-use Rattle.tftp_pcap.specs.{FrameParts, Said, Says, Mode, Follows, Stands, IsRecording, next_mode, given, said_of, FailsAs, RunsOut, IsLonger, FrontEnds, RestEnds, Stops, PiecesState, StepEnds, WantsMemory, Found, Interface, FaultKind, NotARecording, Truncated, Bad, TooLong, TooMany, Read, Memory}
+use Rattle.tftp_pcap.specs.{FrameParts, Said, Says, Mode, Follows, Stands, IsRecording, next_mode, given, said_of, FailsAs, RunsOut, IsLonger, FrontEnds, RestEnds, Stops, PiecesState, StepEnds, WantsMemory, Found, Interface, FaultKind, NotARecording, Truncated, Bad, TooMany, Read, Memory}
 use Rattle.tftp_pcap.specs.declared.found.Found.TheVariants as found
 
 pub stops_of : (kind : FaultKind) (mode : Mode) (count : ℕ) (part : List ℕ) → FrontEnds mode.layout (Err kind) part → Stops kind mode count part

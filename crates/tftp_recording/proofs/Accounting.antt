@@ -1,7 +1,7 @@
 -- Each frame is accounted for once: what a frame does to those that wait, in three stages, and then whole histories.
 use Rattle.std.proofs.Common.{◌≡◌, ◌≢◌, ℕ, ◌+◌, ◌≤◌, Bool, true, false, ◌⊎◌, inl, inr, List, [], ◌∷◌, ◌++◌, length, Option, Some, None, refl, sym, ap, ◌∙◌, subst, arith}
 use Rattle.std.proofs.lemmas.Bool.{cases_lt}
-use Rattle.tftp_fragments.specs.{same_key, Arrival, SetState, PutEnds, Sets, frames_of, is_long, set_at, Outcome, Waits, Apart, Empty, TooLong, Full}
+use Rattle.tftp_fragments.specs.{same_key, Arrival, SetState, PutEnds, Sets, frames_of, is_long, set_at, Outcome, Waits, Apart}
 use Rattle.tftp_fragments.specs.Whole.{Part}
 use Rattle.tftp_fragments.specs.declared.key.Key.{Key}
 use Rattle.tftp_fragments.specs.declared.outcome.Outcome.TheVariants.{Whole}

@@ -2,9 +2,8 @@
 use Rattle.std.proofs.Common.{◌≡◌, ◌≢◌, ℕ, inr, List, [], Option, None, Result, Ok, Err, OnErr, length, refl, sym, ap, ◌∙◌, subst, arith}
 use Rattle.std.specs.Result.{IsOkAnd}
 use Rattle.tftp_frames.specs.{SpellsFrame, Packet, shown, HoldsUdp, SpellsUdp, Udp, FrameFault, UdpFault, IpPacket}
-use Rattle.tftp_fragments.specs.{Arrival, SetState, HasRoom, IsTried, MayBePut, PutEnds, Sets, room_of_all, Outcome, Waits, Apart, Empty, TooLong, Full}
+use Rattle.tftp_fragments.specs.{Arrival, SetState, HasRoom, IsTried, MayBePut, PutEnds, Sets, room_of_all, Outcome, Empty, TooLong, Full}
 use Rattle.tftp_fragments.specs.Whole.{Part}
-use Rattle.tftp_fragments.specs.declared.outcome.Outcome.TheVariants.{Whole}
 use Rattle.tftp_recording.specs.{MakesRoom}
 
 pub on_err : {A E : Type 0} (r : Result A E) (X : Type 0) → X → OnErr r X

@@ -6,7 +6,7 @@ use Rattle.std.specs.Io.KnownBytes.{prepend_known}
 use Rattle.tftp_copies.specs.{Packet as Recorded, RecentState}
 use Rattle.tftp_copies.specs.Recently as copies
 use Rattle.tftp_fragments.specs.{Sets}
-use Rattle.tftp_pcap.specs.{FrameParts, FrameState, KeepsAnswer, ReaderState, StandingTells, Memory, PcapFault, Standing, Open, Over, Failed}
+use Rattle.tftp_pcap.specs.{FrameParts, FrameState, KeepsAnswer, ReaderState, StandingTells, Memory, PcapFault, Standing, Open}
 use Rattle.tftp_pcap.specs.History as pcap
 use Rattle.tftp_recording.specs.{BroughtState, Takes, Continues, EventState, RecordingState, RefusedTells, StandsFor, Step, WantsNext, frames_of, packets_of, waiting, Comes, is_copy, Likeness}
 

@@ -6,7 +6,7 @@ use Rattle.std.specs.Ordering.{is_eq, is_gt, nat_cmp}
 use Rattle.std.specs.List.{All}
 use Rattle.std.proofs.lemmas.Bool.{eqb-true, or_parts}
 use Rattle.std.proofs.lemmas.List.Elements.{All-head, All-tail}
-use Rattle.tftp_lines.specs.{Place, Opens, Repeats, Talks, Apart, Beside, Nowhere, Transfer, Recorded, Placed, newest_of, transfer_of, may_be_answer_of}
+use Rattle.tftp_lines.specs.{Place, Opens, Transfer, Recorded, Placed, newest_of, transfer_of, may_be_answer_of}
 use Rattle.tftp_transfers.specs.{place_of, placed, is_about, opened_it, is_it}
 use Rattle.tftp_lines.proofs.Lines.{by_test}
 use Rattle.tftp_transfers.proofs.Numbers.{none_answers_before, none_before, opening_number}

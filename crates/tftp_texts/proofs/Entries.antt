@@ -1,5 +1,5 @@
 -- The entries of a text, and the capture that it is.
-use Rattle.std.proofs.Common.{◌≡◌, ℕ, ◌≤◌, ◌^◌, List, [], ◌∷◌, ◌++◌, length, reverse, All, Result, Ok, Err, refl, sym, ap, ◌∙◌, subst}
+use Rattle.std.proofs.Common.{◌≡◌, ℕ, ◌≤◌, ◌^◌, List, [], ◌∷◌, ◌++◌, length, reverse, All, Result, Err, refl, sym, ap, ◌∙◌, subst}
 use Rattle.std.proofs.lemmas.List.Elements.{All-cons, All-head, All-nil, All-tail}
 use Rattle.tftp_capture.specs.CaptureText.{Datagram, Header}
 use Rattle.tftp_capture.specs.{IsCapture, IsLawful, IsPort, Numbered, Entry, IsEntry, numbered_in, said_in}
@@ -7,7 +7,7 @@ use Rattle.tftp_capture.specs.Commented.Entry.{Comment, Passed}
 use Rattle.tftp_capture.proofs.Beginnings.{capture_begins}
 use Rattle.tftp_capture.proofs.Commented.{commented_is_read, unnumbered-in}
 use Rattle.tftp_model.specs.{Meaning}
-use Rattle.tftp_judge.specs.{IsTextVerdict, unnumbered, IsSaid, IsVerdict, Refusal, Unlawful, Aborted, Incomplete, NormalTooLong}
+use Rattle.tftp_judge.specs.{IsTextVerdict, unnumbered, IsSaid, IsVerdict, Refusal, Unlawful}
 use Rattle.tftp_judge.specs.declared.refusal.Refusal.TheVariants.{Memory}
 use Rattle.tftp_views.specs.{of_text}
 use Rattle.tftp_texts.specs.{HasComment, IsTextOf}

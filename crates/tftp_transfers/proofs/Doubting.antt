@@ -1,6 +1,6 @@
 -- What a datagram makes doubtful, where it begins a line.
 use Rattle.std.proofs.Common.{◌≡◌, ℕ, false, List, [], Some, None, refl, ap, ◌∙◌}
-use Rattle.tftp_lines.specs.{Place, Opens, Repeats, Talks, Apart, Beside, Nowhere, Transfer, Doubts, Recorded, Placed, live, line, transfer_of, doubts_of}
+use Rattle.tftp_lines.specs.{Place, Opens, Repeats, Talks, Transfer, Doubts, Recorded, Placed, live, line, transfer_of, doubts_of}
 
 abbrev pub none_of : Doubts
 none_of = record { goes_over = false; is_late = false; is_disordered = false; is_asked_again = false; may_be_answer_of = None }

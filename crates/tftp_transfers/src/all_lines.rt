@@ -34,7 +34,12 @@ pub(crate) fn note(
 }
 
 /// Notes a request that repeats the one before it.
-pub(crate) fn repeat(lines: &mut Lines, client: Endpoint, time: u64, now: u64) -> Result<(), AllocError>
+pub(crate) fn repeat(
+    lines: &mut Lines,
+    client: Endpoint,
+    time: u64,
+    now: u64,
+) -> Result<(), AllocError>
     ensures { (older : List Placed) (d : Recorded) (number : ℕ) (x : Transfer) → AreLinesOf lines.old older → clock older ≤ now
         → d.source ≡ client → d.time ≡ time → x.client ≡ client → place_asked number d (live now (line client older)) ≡ Place.Repeats x
         → OnOk result (AreLinesOf lines.new (record { datagram = d; moment = now; place = Place.Repeats x } ∷ older)) }

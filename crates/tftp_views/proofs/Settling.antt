@@ -3,7 +3,7 @@ use Rattle.std.proofs.Common.{◌≡◌, ℕ, ◌&&◌, ◌||◌, ◌==◌, Bool
 use Rattle.std.proofs.lemmas.Bool.{and_parts}
 use Rattle.std.proofs.lemmas.List.Elements.{filter-append, filter_agree}
 use Rattle.tftp_rules.specs.{first_of, or_this}
-use Rattle.tftp_lines.specs.{Endpoint, Place, Opens, Repeats, Talks, Apart, Beside, Nowhere, Recorded, other_of, Placed, Transfer}
+use Rattle.tftp_lines.specs.{Endpoint, Place, Talks, Beside, Recorded, other_of, Placed, Transfer}
 use Rattle.tftp_transfers.specs.{answered_by, asked_of, comes, goes_on, has_host, has_port, is_at_server, is_end, is_server, opened_it, server_of, server_view, went_on_with, is_settled, AreEndsAfter, TransferEnds}
 use Rattle.tftp_hosts.specs.{In, Out, Datagram}
 use Rattle.tftp_views.specs.{Naming, captured, captured_at_server, server_capture, server_header, way_at_server, HasJudged, IsServerAfter, Server}

@@ -1,13 +1,13 @@
 -- Captures in which an ERROR is sent: the runs that they show, and those that no run has.
-use Rattle.std.proofs.Common.{◌≡◌, ◌⊎◌, ℕ, ◌+◌, ◌≤◌, nat_le, Bool, true, false, List, [], ◌∷◌, ◌++◌, Any, codes, inl, inr, refl, sym, subst, ap, ◌∙◌, arith}
-use Rattle.std.proofs.lemmas.Bool.{true≢false, leb-true}
+use Rattle.std.proofs.Common.{◌≡◌, ◌⊎◌, ℕ, ◌+◌, ◌≤◌, nat_le, Bool, true, List, [], ◌∷◌, ◌++◌, Any, codes, inl, inr, refl, sym, subst, ap, ◌∙◌, arith}
+use Rattle.std.proofs.lemmas.Bool.{leb-true}
 use Rattle.tftp_packet.specs.{Message, OptionMap, Get, Client}
 use Rattle.tftp_hosts.specs.{In, Out, Datagram}
 use Rattle.tftp_model.specs.{Meaning, request_of, option_or, windowsize_of, MachinePacket, Sent, Took, Req, Oack, Data, Ack, Error, History, IsOneSided, Step, IsView, client, server, two_bytes, ten_bytes, eight_a_block, read_refused_view, read_given_up_view, given_up_view, stopped_at_the_end_view, one_block_view, block_after_error_view}
 use Rattle.tftp_model.proofs.Members.{contains_first}
 use Rattle.tftp_model.proofs.Worked.{one_block_plan, two_is_plan, eights_plan, ten_is_plan, blocks_of_eight, one_at_a_time}
 use Rattle.tftp_model.proofs.WorkedErrors.{read_refused_is_view, read_given_up_is_view, stopped_at_the_end_is_view, stopped_at_the_end_complete, block_after_error_is_view}
-use Rattle.tftp_model.proofs.Computed.{Plan, IsPlan, run_is, complete_is, all_is}
+use Rattle.tftp_model.proofs.Computed.{run_is, complete_is, all_is}
 use Rattle.tftp_model.proofs.OneSided.{view_one_sided}
 use Rattle.tftp_law.specs.Dress.{StrayAnswer}
 use Rattle.tftp_law.specs.{Part, Main, Stray, Placed, IsMain, TransferIds, HasPart, HaveParts, IsDressed, IsLawful, Shows}

@@ -3,7 +3,7 @@ use Rattle.std.proofs.Common.{◌≡◌, ℕ, Bool, true, false, List, ◌∷◌
 use Rattle.std.proofs.lemmas.Bool.{true≢false}
 use Rattle.tftp_packet.specs.{Message}
 use Rattle.tftp_hosts.specs.{Dir, In, Out, Datagram, Header}
-use Rattle.tftp_model.specs.{Meaning, MachinePacket, Req, Oack, Data, Ack, Error, Deed, Sent, Took, HasSent, HasTaken, NoErrorSent, message_of, MaySend, is_error, MayCome, IsOneSided}
+use Rattle.tftp_model.specs.{Meaning, MachinePacket, Error, Deed, Sent, Took, HasSent, HasTaken, NoErrorSent, message_of, MaySend, is_error, MayCome, IsOneSided}
 use Rattle.tftp_rules.specs.{transfer_of, Passed}
 use Rattle.tftp_model.proofs.Cut.{sends_before_error}
 use Rattle.tftp_law.specs.{Division, datagrams_of, view_in, dir_of, packet_of, AreRouted, Says, GoesOn, Broken, Rule}

@@ -2,10 +2,9 @@
 use Rattle.std.proofs.Common.{◌≡◌, ℕ, ◌≤◌, List, [], ◌∷◌, Contains, Some, inl, inr, sym, subst, ◌∙◌}
 use Rattle.tftp_packet.specs.{Message, Spells}
 use Rattle.tftp_hosts.specs.{Datagram, Header}
-use Rattle.tftp_model.specs.{Meaning, request_of, blksize_of, block_count, Req, Oack, Data, Ack, Deed, Sent, Took, History, MaySend, Error, MayCome, IsOneSided}
+use Rattle.tftp_model.specs.{Meaning, request_of, blksize_of, block_count, Req, Data, Deed, Sent, Took, History, MaySend, MayCome, IsOneSided}
 use Rattle.tftp_rules.specs.{Route, asks, first_of}
-use Rattle.tftp_law.specs.Dress.{StrayAnswer}
-use Rattle.tftp_law.specs.{Part, Main, Stray, Division, datagrams_of, packet_of, part_route, SaysAs, AreRouted}
+use Rattle.tftp_law.specs.{Part, Main, Division, datagrams_of, packet_of, part_route, SaysAs, AreRouted}
 use Rattle.tftp_law.proofs.FirstBroken.FirstRequests.{or_some, asks_route}
 use Rattle.tftp_law.proofs.Accord.Moments.{sent_moment, took_moment}
 

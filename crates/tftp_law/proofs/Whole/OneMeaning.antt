@@ -1,9 +1,9 @@
 -- A capture that the rules accept has one meaning.
-use Rattle.std.proofs.Common.{◌≡◌, ℕ, zero, suc, ◌+◌, ◌-◌, ◌*◌, ◌<◌, ◌≤◌, true, List, [], ◌∷◌, ◌++◌, length, take, drop, Option, Some, None, codes, inl, inr, refl, sym, subst, ap, ◌∙◌, arith}
+use Rattle.std.proofs.Common.{◌≡◌, ℕ, zero, suc, ◌+◌, ◌-◌, ◌*◌, ◌<◌, ◌≤◌, true, List, [], ◌∷◌, ◌++◌, length, take, drop, Option, Some, codes, inl, inr, refl, sym, subst, ap, ◌∙◌, arith}
 use Rattle.std.specs.FinMap as map
 use Rattle.std.proofs.Math.Nat.{mul-suc, suc-mul, lt-mul-div-succ}
 use Rattle.std.proofs.lemmas.List.{take-append-drop, length-drop, drop-drop}
-use Rattle.tftp_packet.specs.{OptionMap, OptionValue, Num, Text, is_within, range_of, Message, RequestParts, Layout, Side, Get, Put, Mode, Octet, Netascii}
+use Rattle.tftp_packet.specs.{OptionMap, OptionValue, Num, is_within, range_of, Message, RequestParts, Layout, Side, Get, Put, Mode, Octet, Netascii}
 use Rattle.tftp_law.specs.{meaning_from, ReadsAs, Answer, Agrees, Begins, IsAnswer, Answers, FirstAnswer, AreTerms, IsAgreed, IsJoined, Meant}
 use Rattle.tftp_netascii.proofs.ReadsLemmas.{Reads-unique}
 use Rattle.tftp_nego.specs.{number_or, AreInRange}

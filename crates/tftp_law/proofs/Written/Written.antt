@@ -1,9 +1,9 @@
 -- A capture shows only meanings that can be written.
-use Rattle.std.proofs.Common.{◌≡◌, ℕ, ◌<◌, ◌≤◌, ◌⊎◌, List, [], ◌∷◌, length, reverse, All, Contains, Option, Some, None, Bool, true, false, ◌==◌, if◌then◌else◌, codes, inl, inr, refl, sym, subst, ap, ◌∙◌, arith}
+use Rattle.std.proofs.Common.{◌≡◌, ℕ, ◌<◌, ◌≤◌, ◌⊎◌, List, [], ◌∷◌, length, reverse, All, Contains, Option, Some, Bool, true, false, ◌==◌, if◌then◌else◌, codes, inl, inr, refl, sym, subst, ap, ◌∙◌, arith}
 use Rattle.std.specs.List.{AllByRecursion}
 use Rattle.std.proofs.lemmas.List.Elements.{recursion_from_All}
 use Rattle.std.specs.FinMap as finite
-use Rattle.tftp_packet.specs.{OptionValue, Num, Text, range_of, is_within, Spells, Mode, Octet, Netascii, Side, Get, Put, End}
+use Rattle.tftp_packet.specs.{OptionValue, Num, range_of, is_within, Spells, Mode, Octet, Netascii, Side, Get, Put, End}
 use Rattle.tftp_netascii.specs.{nul, lf, cr, canonical_bytes, canonical_wire}
 use Rattle.tftp_nego.specs.{AreInRange, number_or}
 use Rattle.tftp_hosts.specs.{Datagram, Header}
