@@ -212,6 +212,34 @@ def try_libraries(trial: Trial, sources: Sources) -> None:
     trial.check("the code of README", code[code.index("\n/// ") :] in plain)
 
 
+def passed_on(crate: str) -> set[str]:
+    """What a library hands out by name: functions, laws and types, and the calls of these types."""
+    top = TOP / "crates" / crate / "src"
+    text = (top / "lib.rt").read_text()
+    listed = re.findall(r"pub use [\w:]+::(?:\{([^}]*)\}|(\w+));", text)
+    names = {name.split(" as ")[-1] for many, one in listed for name in re.split(r",\s*", (many or one).strip()) if name}
+    for module in re.findall(r"pub mod (\w+);", text):
+        if (top / f"{module}.rt").exists():
+            names |= set(re.findall(r"(?m)^pub (?:fn|struct|enum|trait) (\w+)", (top / f"{module}.rt").read_text()))
+    for source in sorted(top.rglob("*.rt")):
+        for kind, body in re.findall(r"(?ms)^impl(?:<[^>]*>)? (?:\w+ for )?(\w+)[^{]*\{\n(.*?)^\}", source.read_text()):
+            if kind in names:
+                names |= set(re.findall(r"(?m)^    pub fn (\w+)", body))
+    return names
+
+
+def try_contracts(trial: Trial) -> None:
+    """docs/CONTRACTS.md has each name that a library hands out in its section, if it has one."""
+    page = (TOP / "docs" / "CONTRACTS.md").read_text()
+    sections = re.findall(r"(?ms)^## (\w+)[^\n]*\n(.*?)(?=^## |\Z)", page)
+    libraries = [(crate, text) for crate, text in sections if (TOP / "crates" / crate / "src" / "lib.rt").exists()]
+    trial.check("CONTRACTS.md has the libraries", len(libraries) > 30, len(libraries))
+    for crate, text in libraries:
+        told = set(re.findall(r"\w+", " ".join(QUOTED.findall(text))))
+        for name in sorted(passed_on(crate)):
+            trial.check(f"{name} of {crate} in CONTRACTS.md", name in told)
+
+
 def try_picture(trial: Trial, program: str, transfers: str) -> None:
     """The picture of examples/ is that of the recording beside it."""
     recording = EXAMPLES / "loopback-repeated-oack.pcap"
@@ -256,6 +284,7 @@ def main(program: str, transfers: str, match: str) -> int:
     sources = Sources()
     for of_sources in (try_laws, try_proof, try_libraries):
         of_sources(trial, sources)
+    try_contracts(trial)
     try_picture(trial, program, transfers)
     try_shown(trial, program, transfers, match)
     return trial.end()
