@@ -8,6 +8,7 @@ ghost use Rattle.tftp_capture.specs.Fields.{BeginWithFields, BodyEnds, DatagramE
 use crate::datagram::Datagram;
 use crate::digits::decode;
 use crate::fault::TextFault;
+use crate::line::count_before;
 use crate::stop::Stop;
 use crate::version::Version;
 use hex::FromHexError;
@@ -21,8 +22,8 @@ const LONGEST_PAYLOAD: usize = 65_527;
 /// The most digits of a port.
 const MOST_DIGITS: usize = 5;
 
-/// The piece before the first space, and what stands after that space. It goes byte by byte, since a piece is short, or
-/// else the text is at fault here.
+/// The piece before the first space, and what stands after that space. It goes byte by byte, since a word and a port are
+/// short, or else the text is at fault here.
 #[inline]
 fn cut(text: &[u8]) -> Option<(&[u8], &[u8])>
     ensures { MatchOption result (pieces text.now ≡ text.now ∷ []) (λ parts. pieces text.now ≡ parts.0.now ∷ pieces parts.1.now) }
@@ -33,6 +34,18 @@ fn cut(text: &[u8]) -> Option<(&[u8], &[u8])>
         }
     }
     None
+}
+
+/// The same by a search of many bytes at once, for a host, which may have 45.
+#[inline]
+fn cut_host(text: &[u8]) -> Option<(&[u8], &[u8])>
+    ensures { MatchOption result (pieces text.now ≡ text.now ∷ []) (λ parts. pieces text.now ≡ parts.0.now ∷ pieces parts.1.now) }
+{
+    let at = count_before(text, b' ');
+    if at == text.len() {
+        return None;
+    }
+    Some((&text[..at], &text[at + 1..]))
 }
 
 /// The port that is spelled, 1 to 65535 without leading zeros.
@@ -143,7 +156,7 @@ fn cut_fields(version: Version, text: &[u8]) -> Option<Fields<'_>>
     let (local, rest) = cut(text)?;
     let (host, rest) = match version {
         Version::One => (b"-".as_slice(), rest),
-        Version::Two => cut(rest)?,
+        Version::Two => cut_host(rest)?,
     };
     let (remote, digits) = cut(rest)?;
     Some(Fields {
