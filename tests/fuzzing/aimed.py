@@ -54,9 +54,9 @@ def of_two_bytes(value: int) -> bytes:
 def many_options(chance: Random) -> bytes:
     """More options than a packet has mostly, up to some thousands, of which two may have one name."""
     few, some, many = chance.randrange(7, 11), chance.randrange(11, 200), chance.randrange(200, 5_000)
-    count = chosen(chance, (few, 6), (some, 6), (many, 2))
+    count = chosen(chance, (few, 6), (some, 6), (many, 3))
     names = [b"%x" % (at * 7) for at in range(10, 10 + count)]
-    if chance.random() < 0.3:
+    if chance.random() < (0.6 if count == many else 0.3):
         names = [*ALIKE, *names] if chance.random() < 0.7 else [*names[: count // 2], *ALIKE, *names[count // 2 :]]
     if chance.random() < 0.7:
         twice = chance.randrange(len(names))
@@ -94,8 +94,10 @@ class Aim:
         ends = (min(its.used_acked + window, MOST_BLOCKS), min(max(its.acks, default=0) + window, MOST_BLOCKS))
         lasts = self.lasts(self.terms) if self.terms else ()
         block = near(chance, its.high, its.high + 1, its.high + 2, its.front + 1, *ends, *lasts, 0, 1, MOST_BLOCKS)
-        if lasts and chance.random() < 0.2:
+        if lasts and chance.random() < 0.3:
             block = chance.choice(lasts)
+        elif window > MOST_BLOCKS // 2 and chance.random() < 0.3:
+            block = near(chance, MOST_BLOCKS, window)
         block = min(max(0, block), MOST_BLOCKS)
         content = self.content(block)
         total = self.terms.size() if self.terms else None
@@ -104,6 +106,8 @@ class Aim:
             chance, (len(content), 6), (size, 4), (size - 1, 1), (size + 1, 1), (0, 2), (rest, 3),
             (chance.randrange(size), 1),
         )
+        if total is not None and block in lasts and chance.random() < 0.5:
+            length = chance.choice((0, 0, max(0, rest - 1), rest + 1, size))
         content = (content + chance.randbytes(max(0, length - len(content))))[:length]
         if content and chance.random() < 0.2:
             at = chance.randrange(len(content))
@@ -160,9 +164,10 @@ class Aim:
     def change(self, options: dict[bytes, Value]) -> None:
         """One option is another, is gone or new."""
         chance, asked = self.chance, self.judge.request.options if self.judge.request else {}
-        unknown = sorted(name for name in asked if name not in KNOWN and name != b"multicast")
-        if unknown and chance.random() < 0.3:
-            options[unknown[0]] = asked[unknown[0]]
+        texts = sorted(name for name, value in asked.items() if isinstance(value, bytes) and name != b"multicast")
+        if texts and chance.random() < 0.4:
+            name = chance.choice(texts)
+            options[name] = chance.choice((asked[name], asked[name], 8))
             return
         name = chance.choice(sorted({*options, *asked, *KNOWN}))
         size, value = options.get(b"blksize", USUAL_SIZE), options.get(name, asked.get(name, 8))
@@ -245,7 +250,7 @@ class Aim:
         yield (self.oack, False), 1 if not self.view.meaning.requested else 3 if self.judge.answer else 12
         yield (self.request, True), 3
         yield (self.error, self.chance.random() < 0.5), 3
-        yield (self.malformed, self.chance.random() < 0.5), 1
+        yield (self.malformed, self.chance.random() < 0.5), 2
 
     def peers(self) -> list[Peer]:
         """Those of the transfer and of strays, and the same hosts and ports mixed."""
@@ -268,13 +273,15 @@ class Aim:
 
     def taken(self, is_lawful: bool) -> Datagram:
         """A datagram that breaks some rule or none, or one that breaks none, if one was drawn."""
-        found: dict[Optional[str], Datagram] = {}
+        # by the rule, and by whether it is no longer than a block without bytes
+        found: dict[tuple[Optional[str], bool], Datagram] = {}
         for _ in range(DRAWN):
             datagram = self.datagram()
-            found.setdefault(self.judge.broken(datagram), datagram)
-        if is_lawful and None in found:
-            return found[None]
-        return found[chosen(self.chance, *((broken, WEIGHTS.get(broken, 1)) for broken in found))]
+            found.setdefault((self.judge.broken(datagram), len(datagram.payload) <= 4), datagram)
+        lawful = [key for key in found if key[0] is None]
+        if is_lawful and lawful:
+            return found[self.chance.choice(lawful)]
+        return found[chosen(self.chance, *((key, WEIGHTS.get(key[0], 1)) for key in found))]
 
 
 def begun(chance: Random, view: View) -> tuple[Datagram, ...]:

@@ -3,9 +3,10 @@ from __future__ import annotations
 
 import collections
 import dataclasses
-from collections.abc import Sequence
+from collections.abc import Callable, Mapping, Sequence
 from random import Random
 
+from captures import EndName
 from fuzzing import changes, faults
 from fuzzing.aimed import aimed
 from fuzzing.further import further
@@ -63,6 +64,16 @@ class Trier:
         self.reached.note(told)
         return answers
 
+    def read_slowly(self, chance: Random, text: bytes, wanted: Mapping[str, Told]) -> None:
+        """Now and then: what is known of a text by how it was made is what the slow reading says of it too."""
+        if chance.random() >= 0.1:
+            return
+        answers = Answers(text)
+        for command, told in wanted.items():
+            output, status = answers.of(command)
+            if (output, status) != told:
+                self.failures.append(Failure("the slow reading", command, text, (output, b"", status), told))
+
     def meet(self, group: str, *words: str) -> None:
         """Counts a case of this group and of these words."""
         self.met[group, " ".join(words)] += 1
@@ -75,13 +86,17 @@ class Trier:
         self.compare("in pieces", "check", text, self.program.run_in_pieces("check", pieces), wanted)
 
 
-def view_of(chance: Random) -> list[View]:
-    """What passed at one end of a transfer, and a view of the other end."""
+def view_of(chance: Random) -> tuple[View, Callable[[], View]]:
+    """What passed at one end of a transfer, and how to have a view of the other end."""
     meaning, wire = meaning_of(chance)
     transfer, spelling = Transfer(chance, meaning, wire), Spelling(chance, meaning, wire)
     transfer.run()
-    ends = chance.sample(ENDS, 2)
-    return [View(chance, meaning, wire, end, transfer.passed[end], spelling) for end in ends]
+    end, other = chance.sample(ENDS, 2)
+
+    def view(end: EndName) -> View:
+        return View(chance, meaning, wire, end, transfer.passed[end], spelling)
+
+    return view(end), lambda: view(other)
 
 
 def try_lawful(trier: Trier, chance: Random) -> None:
@@ -97,13 +112,15 @@ def try_lawful(trier: Trier, chance: Random) -> None:
     text = view.capture.spelled(chance) if count == whole else view.capture.text(count)
     for command in chance.sample(sorted(outputs), 3):
         trier.expect("lawful", command, text, outputs[command])
+    trier.read_slowly(chance, text, outputs)
     if chance.random() < 0.1:
         trier.expect_in_pieces(chance, text, verdict)
     if chance.random() < 0.1:
         trier.expect("renumbered", "check", changes.renumbered(chance, view.capture).text(count), verdict)
     if chance.random() < 0.3:
-        count = len(other.capture.datagrams)
-        trier.expect("the other end", "check", other.capture.text(), other.expected(count))
+        seen = other()
+        count = len(seen.capture.datagrams)
+        trier.expect("the other end", "check", seen.capture.text(), seen.expected(count))
     if chance.random() < 0.2:
         meaning = view.meaning
         outputs = meaning.outputs((meaning.line(), 0))
@@ -157,6 +174,7 @@ def try_faulty(trier: Trier, chance: Random) -> None:
     outputs = {**outputs_of_refused((line, 2)), "show": (view.shown(known) + line, 2)}
     for command in chance.sample(sorted(outputs), 2):
         trier.expect("a fault", command, text, outputs[command])
+    trier.read_slowly(chance, text, outputs)
 
 
 def try_further(trier: Trier, chance: Random) -> None:
@@ -178,6 +196,7 @@ def try_further(trier: Trier, chance: Random) -> None:
     text = capture.spelled(chance) if chance.random() < 0.5 else capture.text()
     trier.expect("one more", "check", text, verdict)
     trier.reached.note(verdict)
+    trier.read_slowly(chance, text, {"check": verdict})
     if chance.random() < 0.2:
         compare_commands(trier, chance, text, Answers(text))
 

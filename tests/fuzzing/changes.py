@@ -134,12 +134,12 @@ def near_field(chance: Random, word: bytes) -> bytes:
         now = int(word)
         near = (0, 1, 65_535, 65_536, 65_537, now + 1, max(0, now - 1), now + 65_536, now * 10)
         return chance.choice((b"%d" % chance.choice(near), b"0" + word, word + b"0", b"+" + word))
-    at = chance.randrange(len(word) + 1)
+    if chance.random() < 0.5:
+        at = chance.randrange(len(word) + 1)
+        return word[:at] + chance.choice((b"/", b":", b"@", b"G", b"`", b"g", b"\x7f", b"~")) + word[at + 1 :]
     return chance.choice((
-        word[:-1], word + b"0", word + b"00", word.upper(), word.swapcase(), word[::-1], b"", b"-", b"--", b"~", b"!",
-        b"#",
-        *(word[:at] + sign + word[at + 1 :] for sign in (b"/", b":", b"@", b"G", b"`", b"g", b"\x7f", b"~")),
-        b"a" * 44, b"a" * 45, b"a" * 46, word[:2],
+        word[:-1], word + b"0", word + b"00", word.upper(), word.swapcase(), word[::-1], b"", b"", b"-", b"--", b"~",
+        b"!", b"#", b"a" * 44, b"a" * 45, b"a" * 46, word[:2],
     ))
 
 

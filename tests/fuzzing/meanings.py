@@ -39,7 +39,7 @@ def requested_number(chance: Random, name: bytes) -> int:
         )
     if name == b"windowsize":
         most = 65_535 - chance.randrange(2)
-        return chosen(chance, (1, 3), (chance.randrange(2, 9), 12), (chance.randrange(9, 40), 2), (most, 2))
+        return chosen(chance, (1, 3), (chance.randrange(2, 9), 12), (chance.randrange(9, 40), 2), (most, 3))
     if name == b"timeout":
         return chosen(chance, (chance.randrange(1, 256), 4), (1, 1), (255, 1))
     return chosen(chance, (0, 6), (chance.randrange(1, 1000), 2), (2**64 - 1, 1))
