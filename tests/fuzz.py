@@ -1,14 +1,16 @@
 """Fuzzes the built program. Two simulated ends make lawful transfers over a network that loses, repeats and reorders;
 what passes at one of them must be accepted with the meaning that it was made from, or be incomplete or aborted where it
-was cut or an ERROR ended it. Then datagrams and texts are changed: each must get one of the lines that there are, the
-same however the capture is written, in time, with nothing on standard error.
+was cut or an ERROR ended it. Then datagrams and texts are changed, some of them near the limits of the rules: each
+command must print what a slow reading of the rules and of the formats says of them, the same however the capture is
+written, in time, with nothing on standard error.
 
     fuzz.py [--cases N] [--seconds S] [--seed SEED] [--jobs N] [--commands NAME,..] [--folder FOLDER] [--slower N]
             [--refuse FILE] PROGRAM
 
 The first case has the seed SEED, and each further one the next number; a case that fails is told with its own, and is
-run alone by `--cases 1 --seed` and that. Its texts and what was printed of them are written to FOLDER. The last line is
-'N passed, M failed'; status 1 if any failed.
+run alone by `--cases 1 --seed` and that. Its texts and what was printed of them are written to FOLDER. In the end it
+prints how often each rule, each fault and each way in which a transfer ends was the verdict of a case, and which never
+was. The last line is 'N passed, M failed'; status 1 if any failed.
 """
 from __future__ import annotations
 
@@ -29,6 +31,7 @@ from typing import NamedTuple
 from commands import COMMANDS
 from fuzzing.cases import Failure, Trier, try_case
 from fuzzing.program import Program
+from fuzzing.reached import told
 
 AT_ONCE = 50
 
@@ -62,12 +65,14 @@ class Work(NamedTuple):
 
 
 class Tried(NamedTuple):
-    """How many cases were tried in how many runs, the seed, name and command of each that failed, and what was met."""
+    """How many cases were tried in how many runs, the seed, name and command of each that failed, what was met in each
+    group of cases, and what was reached."""
 
     cases: int
     failed: list[tuple[int, str, str]]
     runs: int
     met: collections.Counter[tuple[str, str]]
+    reached: collections.Counter[tuple[str, str]]
 
 
 def work_of(arguments: Sequence[str]) -> Work:
@@ -126,7 +131,7 @@ def try_some(work: Work, first: int, count: int) -> Tried:
         if trier.failures:
             failed.append((seed, trier.failures[0].name, trier.failures[0].command))
     program.close()
-    return Tried(count, failed, program.runs, trier.met)
+    return Tried(count, failed, program.runs, trier.met, trier.reached.counts)
 
 
 def chunks(work: Work) -> Iterator[tuple[Work, int, int]]:
@@ -167,14 +172,15 @@ def print_met(met: collections.Counter[tuple[str, str]]) -> None:
 def main(arguments: Sequence[str]) -> int:
     work, begun = work_of(arguments), time.monotonic()
     print(f"seed {work.first}", flush=True)
-    whole = Tried(0, [], 0, collections.Counter())
+    whole = Tried(0, [], 0, collections.Counter(), collections.Counter())
     for some in results(work):
         for seed, name, command in some.failed:
             print(f"case {seed}, {name}, {command}: see {work.folder / f'case-{seed}'}", flush=True)
-        failed, met = whole.failed + some.failed, whole.met + some.met
-        whole = Tried(whole.cases + some.cases, failed, whole.runs + some.runs, met)
+        failed, met, reached = whole.failed + some.failed, whole.met + some.met, whole.reached + some.reached
+        whole = Tried(whole.cases + some.cases, failed, whole.runs + some.runs, met, reached)
     print(f"{whole.cases} cases in {time.monotonic() - begun:.1f} s, {whole.runs} runs of the program")
     print_met(whole.met)
+    print("\n".join(told(whole.reached)))
     print(f"{whole.cases - len(whole.failed)} passed, {len(whole.failed)} failed")
     return 1 if whole.failed else 0
 

@@ -3,15 +3,18 @@ from __future__ import annotations
 
 import collections
 import dataclasses
-from collections.abc import Sequence
+from collections.abc import Callable, Mapping, Sequence
 from random import Random
 
-from commands import SILENT
+from captures import EndName
 from fuzzing import changes, faults
+from fuzzing.aimed import aimed
 from fuzzing.further import further
-from fuzzing.lines import is_shown, is_verdict
+from fuzzing.lines import is_verdict
 from fuzzing.meanings import Spelling, chosen, meaning_of
 from fuzzing.program import MOST_PIECE, Got, Program, Told
+from fuzzing.reached import Reached
+from fuzzing.slow_texts import Answers
 from fuzzing.transfers import ENDS, Transfer
 from fuzzing.views import Capture, View
 from normal import outputs_of_refused
@@ -29,12 +32,13 @@ class Failure:
 
 
 class Trier:
-    """The runs of the cases, what was not as it should be, and how often each verdict was met."""
+    """The runs of the cases, what was not as it should be, how often each verdict was met, and what was reached."""
 
     def __init__(self, program: Program, commands: Sequence[str]) -> None:
         self.program, self.commands = program, commands
         self.failures: list[Failure] = []
         self.met: collections.Counter[tuple[str, str]] = collections.Counter()
+        self.reached = Reached()
 
     def expect(self, name: str, command: str, text: bytes, wanted: Told) -> None:
         """The command prints this of the text and ends with this status."""
@@ -45,16 +49,30 @@ class Trier:
         if got != (wanted[0], b"", wanted[1]):
             self.failures.append(Failure(name, command, text, got, wanted))
 
-    def judge(self, text: bytes) -> Told:
-        """The line that `check` prints of any text and its status; it is one of those that there are."""
-        output, told, status = got = self.program.run("check", text)
-        if told or not is_verdict(output, status):
+    def judge(self, group: str, text: bytes) -> Answers:
+        """What there is to say of any text, which `check` prints; it is one of the lines that there are."""
+        answers = Answers(text)
+        output, status = told = answers.of("check")
+        if not is_verdict(output, status):
+            got = output, b"", status
             self.failures.append(Failure("a line of those that there are", "check", text, got, "a verdict"))
+        self.expect(group, "check", text, told)
         words = output.decode(errors="replace").split()
         # a refusal by its rule, and a fault by its name
         kind = {"refused": words[4:6], "fault": words[3:4]}.get(words[0] if words else "", words[:1])
-        self.meet("changed", *kind)
-        return output, status
+        self.meet(group, *kind)
+        self.reached.note(told)
+        return answers
+
+    def read_slowly(self, chance: Random, text: bytes, wanted: Mapping[str, Told]) -> None:
+        """Now and then: what is known of a text by how it was made is what the slow reading says of it too."""
+        if chance.random() >= 0.1:
+            return
+        answers = Answers(text)
+        for command, told in wanted.items():
+            output, status = answers.of(command)
+            if (output, status) != told:
+                self.failures.append(Failure("the slow reading", command, text, (output, b"", status), told))
 
     def meet(self, group: str, *words: str) -> None:
         """Counts a case of this group and of these words."""
@@ -68,13 +86,17 @@ class Trier:
         self.compare("in pieces", "check", text, self.program.run_in_pieces("check", pieces), wanted)
 
 
-def view_of(chance: Random) -> list[View]:
-    """What passed at one end of a transfer, and a view of the other end."""
+def view_of(chance: Random) -> tuple[View, Callable[[], View]]:
+    """What passed at one end of a transfer, and how to have a view of the other end."""
     meaning, wire = meaning_of(chance)
     transfer, spelling = Transfer(chance, meaning, wire), Spelling(chance, meaning, wire)
     transfer.run()
-    ends = chance.sample(ENDS, 2)
-    return [View(chance, meaning, wire, end, transfer.passed[end], spelling) for end in ends]
+    end, other = chance.sample(ENDS, 2)
+
+    def view(end: EndName) -> View:
+        return View(chance, meaning, wire, end, transfer.passed[end], spelling)
+
+    return view(end), lambda: view(other)
 
 
 def try_lawful(trier: Trier, chance: Random) -> None:
@@ -86,16 +108,19 @@ def try_lawful(trier: Trier, chance: Random) -> None:
     verdict = view.expected(count)
     outputs = {**view.meaning.outputs(verdict), "show": (view.shown(count), 0)}
     trier.meet("lawful", verdict[0].split()[0].decode())
+    trier.reached.note(verdict)
     text = view.capture.spelled(chance) if count == whole else view.capture.text(count)
     for command in chance.sample(sorted(outputs), 3):
         trier.expect("lawful", command, text, outputs[command])
+    trier.read_slowly(chance, text, outputs)
     if chance.random() < 0.1:
         trier.expect_in_pieces(chance, text, verdict)
     if chance.random() < 0.1:
         trier.expect("renumbered", "check", changes.renumbered(chance, view.capture).text(count), verdict)
     if chance.random() < 0.3:
-        count = len(other.capture.datagrams)
-        trier.expect("the other end", "check", other.capture.text(), other.expected(count))
+        seen = other()
+        count = len(seen.capture.datagrams)
+        trier.expect("the other end", "check", seen.capture.text(), seen.expected(count))
     if chance.random() < 0.2:
         meaning = view.meaning
         outputs = meaning.outputs((meaning.line(), 0))
@@ -112,28 +137,16 @@ def compare_normal(trier: Trier, text: bytes, normal: bytes, verdict: Told) -> N
     trier.expect("the count of a normal text", "count", text, (b"normal datagrams %s\n" % total, 0))
 
 
-def compare_commands(trier: Trier, chance: Random, text: bytes, verdict: Told) -> None:
-    """The other commands agree with what `check` said of any text."""
-    line, status = verdict
+def compare_commands(trier: Trier, chance: Random, text: bytes, answers: Answers) -> None:
+    """The other commands print what there is to say of any text."""
     others = [name for name in trier.commands if name != "check"]
     if not others:
         return
     command = chance.choice(others)
-    output, told, ended = got = trier.program.run(command, text)
-    if command == "show":
-        is_fault = line.startswith(b"fault")
-        agrees = is_shown(output, ended) and (output.endswith(line) and ended == 2 or not is_fault)
-    elif status != 0:
-        agrees = (output, ended) == (b"" if command in SILENT else line, status)
-    elif command == "extract":
-        agrees = ended == 0 and len(output) == int(line.split()[-1])
-    elif command == "count":
-        agrees = ended == 0 and output.startswith(b"normal datagrams ")
-    else:
-        agrees = ended == 0
-        compare_normal(trier, text, output, verdict)
-    if told or not agrees:
-        trier.failures.append(Failure(f"agrees with {line!r}", command, text, got, "as check says"))
+    wanted = answers.of(command)
+    trier.expect("another command", command, text, wanted)
+    if command == "normal" and wanted[1] == 0:
+        compare_normal(trier, text, wanted[0], answers.of("check"))
 
 
 def try_prefixes(trier: Trier, capture: Capture, verdict: Told) -> None:
@@ -144,7 +157,7 @@ def try_prefixes(trier: Trier, capture: Capture, verdict: Told) -> None:
     index = int(words[2])
     trier.expect("up to the unlawful datagram", "check", capture.text(index), verdict)
     text = capture.text(index - 1)
-    line, status = trier.judge(text)
+    line, status = trier.judge("before an unlawful one", text).of("check")
     if line.startswith((b"refused", b"fault")):
         trier.failures.append(Failure("before the unlawful datagram", "check", text, (line, b"", status), "no refusal"))
 
@@ -155,11 +168,13 @@ def try_faulty(trier: Trier, chance: Random) -> None:
     text, number, fault = faults.faulty(chance, view.capture)
     line = b"fault line %d %s\n" % (number, fault.encode())
     trier.meet("faulty", fault)
+    trier.reached.note((line, 2))
     # a line is left over where the total line has been read, and so are those of the header
     known = max(0, number - 4 - (fault == "TrailingText"))
     outputs = {**outputs_of_refused((line, 2)), "show": (view.shown(known) + line, 2)}
     for command in chance.sample(sorted(outputs), 2):
         trier.expect("a fault", command, text, outputs[command])
+    trier.read_slowly(chance, text, outputs)
 
 
 def try_further(trier: Trier, chance: Random) -> None:
@@ -180,8 +195,10 @@ def try_further(trier: Trier, chance: Random) -> None:
         verdict = f"refused datagram {len(datagrams)} rule {broken}\n".encode(), 1
     text = capture.spelled(chance) if chance.random() < 0.5 else capture.text()
     trier.expect("one more", "check", text, verdict)
+    trier.reached.note(verdict)
+    trier.read_slowly(chance, text, {"check": verdict})
     if chance.random() < 0.2:
-        compare_commands(trier, chance, text, verdict)
+        compare_commands(trier, chance, text, Answers(text))
 
 
 def is_cut_short(command: str, printed: bytes, whole: bytes) -> bool:
@@ -220,12 +237,11 @@ def try_failing(trier: Trier, chance: Random) -> None:
         trier.compare(way, command, text, got, wanted[command])
 
 
-def try_changed(trier: Trier, chance: Random) -> None:
-    """Captures with changed datagrams: the verdict is one that is the same however the capture is written."""
-    view, _ = view_of(chance)
-    capture = changes.changed_capture(chance, view.capture)
+def try_capture(trier: Trier, chance: Random, group: str, capture: Capture) -> None:
+    """The verdict on any capture is that of the rules, however the capture is written."""
     text = capture.text()
-    verdict = trier.judge(text)
+    answers = trier.judge(group, text)
+    verdict = answers.of("check")
     way = chance.randrange(6)
     if way == 0:
         trier.expect("in another spelling", "check", capture.spelled(chance), verdict)
@@ -237,19 +253,40 @@ def try_changed(trier: Trier, chance: Random) -> None:
         trier.expect_in_pieces(chance, text, verdict)
     elif way == 4:
         try_prefixes(trier, capture, verdict)
-    compare_commands(trier, chance, text, verdict)
+    compare_commands(trier, chance, text, answers)
+
+
+def try_changed(trier: Trier, chance: Random) -> None:
+    """Captures with changed datagrams."""
+    view, _ = view_of(chance)
+    try_capture(trier, chance, "changed", changes.changed_capture(chance, view.capture))
+
+
+def try_aimed(trier: Trier, chance: Random) -> None:
+    """Captures with datagrams near the limits of the rules."""
+    view, _ = view_of(chance)
+    try_capture(trier, chance, "aimed", aimed(chance, view))
+
+
+def try_both(trier: Trier, chance: Random) -> None:
+    """A fault of the text behind datagrams near the limits of the rules, of which one may be refused."""
+    view, _ = view_of(chance)
+    text, _, _ = faults.faulty(chance, aimed(chance, view))
+    compare_commands(trier, chance, text, trier.judge("fault behind", text))
 
 
 def try_changed_text(trier: Trier, chance: Random) -> None:
     """Texts with changed bytes."""
     view, _ = view_of(chance)
-    text = view.capture.spelled(chance)
+    text = (aimed(chance, view) if chance.random() < 0.3 else view.capture).spelled(chance)
     for _ in range(chosen(chance, (1, 5), (2, 1), (4, 1))):
         text = changes.changed_text(chance, text)
-    verdict = trier.judge(text)
+    if chance.random() < 0.5:
+        text = changes.with_right_total(text)
+    answers = trier.judge("changed text", text)
     if chance.random() < 0.1:
-        trier.expect_in_pieces(chance, text, verdict)
-    compare_commands(trier, chance, text, verdict)
+        trier.expect_in_pieces(chance, text, answers.of("check"))
+    compare_commands(trier, chance, text, answers)
 
 
 def try_case(trier: Trier, seed: int) -> None:
@@ -257,7 +294,7 @@ def try_case(trier: Trier, seed: int) -> None:
     chance = Random(seed)
     failing = 2 if trier.program.shim else 0
     way = chosen(
-        chance, (try_lawful, 8), (try_further, 5), (try_faulty, 2), (try_changed, 5), (try_changed_text, 2),
-        (try_failing, failing),
+        chance, (try_lawful, 7), (try_further, 5), (try_faulty, 2), (try_changed, 4), (try_aimed, 7),
+        (try_changed_text, 2), (try_both, 1), (try_failing, failing),
     )
     way(trier, chance)

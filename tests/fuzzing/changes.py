@@ -128,11 +128,36 @@ WORDS = (
 )
 
 
+def near_field(chance: Random, word: bytes) -> bytes:
+    """A port, a host or a payload near the limits of one, in the place of another word of a line."""
+    if word.isdigit():
+        now = int(word)
+        near = (0, 1, 65_535, 65_536, 65_537, now + 1, max(0, now - 1), now + 65_536, now * 10)
+        return chance.choice((b"%d" % chance.choice(near), b"0" + word, word + b"0", b"+" + word))
+    if chance.random() < 0.5:
+        at = chance.randrange(len(word) + 1)
+        return word[:at] + chance.choice((b"/", b":", b"@", b"G", b"`", b"g", b"\x7f", b"~")) + word[at + 1 :]
+    return chance.choice((
+        word[:-1], word + b"0", word + b"00", word.upper(), word.swapcase(), word[::-1], b"", b"", b"-", b"--", b"~",
+        b"!", b"#", b"a" * 44, b"a" * 45, b"a" * 46, word[:2],
+    ))
+
+
+def with_right_total(text: bytes) -> bytes:
+    """The text with the number of its datagrams in its total line, so that a change before that tells by itself."""
+    lines = text.split(b"\n")
+    count = sum(line.startswith((b"in ", b"out ")) for line in lines)
+    places = [at for at, line in enumerate(lines) if line.startswith(b"total ")]
+    if places:
+        lines[places[-1]] = b"total %d" % count
+    return b"\n".join(lines)
+
+
 def changed_line(chance: Random, text: bytes) -> bytes:
     """One line is gone, comes twice, stands elsewhere, or has another field."""
     lines = text.splitlines(keepends=True)
     at, to = chance.randrange(len(lines)), chance.randrange(len(lines))
-    way = chance.randrange(5)
+    way = chance.randrange(7)
     if way == 0:
         del lines[at]
     elif way == 1:
@@ -143,6 +168,11 @@ def changed_line(chance: Random, text: bytes) -> bytes:
         fields = lines[at].split(b" ")
         fields[chance.randrange(len(fields))] = chance.choice(WORDS)
         lines[at] = b" ".join(fields)
+    elif way in (5, 6):
+        fields = lines[at].removesuffix(b"\n").split(b" ")
+        place = chance.randrange(len(fields))
+        fields[place] = near_field(chance, fields[place])
+        lines[at] = b" ".join(fields) + b"\n"
     else:
         long = chance.choice((LINE_LIMIT, LINE_LIMIT + 1, LINE_LIMIT + 46, LINE_LIMIT + 47))
         lines.insert(at, b"#" * long + b"\n")

@@ -31,7 +31,8 @@ LINES: tuple[Line, ...] = (
 HOST_LINES: tuple[Line, ...] = (
     (b"in 1  1 00", "BadHost"), (b"in 1 " + b"a" * 46 + b" 1 00", "BadHost"), (b"out 1 \x7f 1 zz", "BadHost"),
     (b"out 1 a\tb 1 00", "BadHost"), (b"in 1 \x80 1 00", "BadHost"), (b"in 1 \x1f 1 00", "BadHost"),
-    (b"in 1 \xff 0 00", "BadPort"), (b"in 1 a 1 00 ", "BadLine"), (b"in 1 1 00", "BadLine"),
+    (b"in 1 \xff 0 00", "BadPort"), (b"in 0 \xff 1 00", "BadPort"), (b"out 1 \xff 65536 zz", "BadPort"),
+    (b"in 1 a 1 00 ", "BadLine"), (b"in 1 1 00", "BadLine"),
 )
 
 
@@ -91,6 +92,8 @@ def with_line(chance: Random, capture: Capture) -> Faulty:
     else:
         number = chance.randrange(4, len(kept) + 1)
         line, fault = chance.choice(list((long_lines if is_long else lines)(capture.version)))
+        if capture.version == 2 and not is_long and chance.random() < 0.4:
+            line, fault = chance.choice(HOST_LINES)
     rest = kept[number - chance.randrange(2) :]
     return b"".join([*kept[: number - 1], line, b"\n", *rest]), number, fault
 

@@ -171,6 +171,10 @@ def wrong_blocks(chance: Random, view: View, passed: Passed) -> Iterator[tuple[i
     if past < 65_535:
         is_too_long = is_last_known and past >= end.blocks
         yield past, chance.randbytes(size), Rule.BLOCK_LENGTH if is_too_long else Rule.WINDOW_OVERRUN
+    if is_told:
+        rest = len(view.wire) % size
+        other = [length for length in (0, 0, rest - 1, rest + 1, size) if 0 <= length <= size and length != rest]
+        yield end.blocks, chance.randbytes(chance.choice(other)), Rule.BLOCK_LENGTH
     if is_last_known:
         behind = end.blocks + chance.choice((1, 2, 300))
         yield behind, chance.randbytes(chance.choice((size, size - 1, 0))), Rule.BLOCK_LENGTH

@@ -38,7 +38,8 @@ def requested_number(chance: Random, name: bytes) -> int:
             (chance.randrange(513, 1500), 2), (65_464, 1),
         )
     if name == b"windowsize":
-        return chosen(chance, (1, 3), (chance.randrange(2, 9), 12), (chance.randrange(9, 40), 2), (65_535, 1))
+        most = 65_535 - chance.randrange(2)
+        return chosen(chance, (1, 3), (chance.randrange(2, 9), 12), (chance.randrange(9, 40), 2), (most, 3))
     if name == b"timeout":
         return chosen(chance, (chance.randrange(1, 256), 4), (1, 1), (255, 1))
     return chosen(chance, (0, 6), (chance.randrange(1, 1000), 2), (2**64 - 1, 1))

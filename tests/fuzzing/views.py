@@ -43,6 +43,10 @@ class Datagram:
     # what `show` prints of it, where that is known
     said: str = ""
 
+    def of_version(self, version: int) -> Datagram:
+        """The same as a text of a version has it: one of version 1 names no hosts."""
+        return self if version == 2 else dataclasses.replace(self, peer=(b"-", self.peer[1]))
+
     def line(self, version: int = 1, upper: bool = False) -> bytes:
         digits = self.payload.hex() or "-"
         host, port = self.peer
