@@ -1,4 +1,4 @@
-use Rattle.std.proofs.Common.{◌≡◌, ◌≤◌, length, ap, subst, sym, ◌∙◌, codes}
+use Rattle.std.proofs.Common.{◌≡◌, ◌+◌, ◌≤◌, length, ap, subst, sym, ◌∙◌, codes}
 use Rattle.tftp_packet.specs.{OptionMap}
 use Rattle.tftp_model.specs.{option_or, windowsize_of}
 use Rattle.tftp_normal.specs.{normal_count, normal_datagrams}
