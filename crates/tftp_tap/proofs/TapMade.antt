@@ -57,9 +57,11 @@ find_kind Kind P (b ∷ bs) each any = elim (any_cases (Says Kind) b.datagram (m
 ]
 
 pub decide_reply : Decides IsReply
+decide_reply (Message.Request asked) = inr (λ is. is)
 decide_reply (Message.Oack options) = inl tt
+decide_reply (Message.Data k bytes) = inr (λ is. is)
 decide_reply (Message.Ack j) = elim (cases_lt 0 j) [ inl above ↦ inr (λ is. let e : j ≡ 0 = is in omega (arith, above)) | inr none ↦ let e : j ≡ 0 = omega (arith, none) in inl e ]
-decide_reply _ = inr (λ is. is)
+decide_reply (Message.Error code text) = inr (λ is. is)
 
 pub each_both : {X : Type 0} (P Q : X → Type 0) (xs : List X) → Each P xs → Each Q xs → Each (λ x. P x × Q x) xs
 each_both P Q [] one other = tt
@@ -72,7 +74,10 @@ told_some = record {
 } where
   plain : (p : MachinePacket) → (p ≡ Req → ⊥) → is_request p ≡ false
   plain Req other = absurd (other refl)
-  plain _ other = refl
+  plain Oack other = refl
+  plain (Data k) other = refl
+  plain (Ack j) other = refl
+  plain (Error code text) other = refl
 
 pub recorded_payload : (s : TapSides) (r : End) (d : TapDatagram) → (recorded_at s r d).payload ≡ d.payload
 recorded_payload s r d = elim (is_or_not (same_peer d.source (side_of s r))) [ inl own ↦ yours own | inr other ↦ theirs other ] where
@@ -101,8 +106,16 @@ first_breaks_none h d n route t rule.OptionOutsideProfile b = let none = b.first
 first_breaks_none h d n route t rule.OptionValue b = let none = b.first.1 in absurd (cc)
 first_breaks_none h d n route t rule.OackChanged b = let none = b.3.1 in absurd (cc)
 first_breaks_none h d n route t rule.OackAfterStart b = absurd b.3.2
+first_breaks_none h d n route t rule.NotStarted b = let none = b.known.1.1 in absurd (cc)
+first_breaks_none h d n route t rule.BlockZero b = let none = b.known.1.1 in absurd (cc)
 first_breaks_none h d n route t rule.BeyondBlock65535 b = elim b [ inl end ↦ let none = end.known.1.1 in absurd (cc) | inr oack ↦ let none = oack.first.1 in absurd (cc) ]
-first_breaks_none h d n route t _ b = let none = b.known.1.1 in absurd (cc)
+first_breaks_none h d n route t rule.BlockLength b = let none = b.known.1.1 in absurd (cc)
+first_breaks_none h d n route t rule.WindowOverrun b = let none = b.known.1.1 in absurd (cc)
+first_breaks_none h d n route t rule.BlockSkipped b = let none = b.known.1.1 in absurd (cc)
+first_breaks_none h d n route t rule.GoneBack b = let none = b.known.1.1 in absurd (cc)
+first_breaks_none h d n route t rule.BlockChanged b = let none = b.known.1.1 in absurd (cc)
+first_breaks_none h d n route t rule.AckAhead b = let none = b.known.1.1 in absurd (cc)
+first_breaks_none h d n route t rule.AckZero b = let none = b.known.1.1 in absurd (cc)
 
 -- ---- what is kept is known
 
@@ -153,7 +166,9 @@ module _ (s : TapSides) (apart : AreApart s) (asked : RequestParts) where
     by (Message.Ack j) kind same =
         let p = sym (packet (Message.Ack j) (Ack j) refl same) in
         (subst (Sends s apart asked.side c.pass.from) p right.sends ∙ ap receiver_of put, inr (p ∙ ap Ack kind))
-    by _ kind same = absurd kind
+    by (Message.Request q) kind same = absurd kind
+    by (Message.Data k bytes) kind same = absurd kind
+    by (Message.Error code text) kind same = absurd kind
 
   pub some_before : (Kind : Message → Type 0) (o : End) (cs : List Carried) → Each (IsCarried s says_some) cs → HasKind Kind (before_error (tap_tests s) o (map datagram_in cs)) → HasKind Kind (map datagram_in (before_error pair_tests o cs))
   some_before Kind o cs each any = subst (HasKind Kind) (before_map datagram_in pair_tests (tap_tests s) o cs (datagrams_each s apart cs each)) any
@@ -184,7 +199,10 @@ module _ (s : TapSides) (apart : AreApart s) (asked : RequestParts) where
 
       of_block : (n : Message) → Spells c.datagram.payload n → packet_in n ≡ Some (Data k) → (HasKind IsReply (before_error (tap_tests s) Client (map datagram_in cs)) → ⊥) → ⊥
       of_block (Message.Data i bytes) t at never = lawful.late rule.NotStarted (record { asked = asked; first = first; message = Message.Data i bytes; says = t; breaks = late_put asked.side put never })
-      of_block _ t at never = absurd (cc)
+      of_block (Message.Request q) t at never = absurd (cc)
+      of_block (Message.Oack options) t at never = absurd (cc)
+      of_block (Message.Ack j) t at never = absurd (cc)
+      of_block (Message.Error code text) t at never = absurd (cc)
 
   known_next : (c : Carried) (cs : List Carried) → IsCarried s says_some c → Lawful s c cs → Right s apart asked c → (cs ≡ []) ⊎ FirstTapAsked s (map datagram_in cs) asked → Each (IsCarried s says_some) cs → Each (Right s apart asked) cs
       → is_left_out pair_tests (receiver_of asked.side) c (kept_of pair_tests (receiver_of asked.side) cs) ≡ false → Known c (kept_of pair_tests (receiver_of asked.side) cs)
@@ -212,8 +230,11 @@ module _ (s : TapSides) (apart : AreApart s) (asked : RequestParts) where
               either : (b : Bool) → is_request c.pass.packet ≡ b → is_left_out pair_tests Server c (kept_of pair_tests Server cs) ≡ true
               either true asks = absurd (apart_kinds c.pass.packet asks error) where
                 apart_kinds : (p : MachinePacket) → is_request p ≡ true → is_error p ≡ true → ⊥
+                apart_kinds Req one other = true≢false (sym other)
+                apart_kinds Oack one other = true≢false (sym other)
+                apart_kinds (Data k) one other = true≢false (sym other)
+                apart_kinds (Ack j) one other = true≢false (sym other)
                 apart_kinds (Error code text) one other = true≢false (sym one)
-                apart_kinds _ one other = true≢false (sym other)
               either false asks = rw (from, asks, error, none) refl
 
       by : (side : Side) → asked.side ≡ side → (p : MachinePacket) → c.pass.packet ≡ p → c.pass.from ≡ Client → (c.pass.packet ≡ Req → ⊥)
@@ -248,15 +269,23 @@ module _ (s : TapSides) (apart : AreApart s) (asked : RequestParts) where
 
   deed_packet : (r f : End) (p : MachinePacket) → packet_of (deed_at r f p) ≡ p
   deed_packet Client Client p = refl
-  deed_packet _ _ p = refl
+  deed_packet Client Server p = refl
+  deed_packet Server Client p = refl
+  deed_packet Server Server p = refl
 
   read_on : (p : MachinePacket) (d : Datagram) (n : Message) → Spells d.payload n → IsRead (packet_route p) d
   read_on Req d n t = (n, t)
-  read_on _ d n t = (n, t)
+  read_on Oack d n t = (n, t)
+  read_on (Data k) d n t = (n, t)
+  read_on (Ack j) d n t = (n, t)
+  read_on (Error code text) d n t = (n, t)
 
   of_packet : (p : MachinePacket) → is_of_transfer (packet_route p) ≡ true
   of_packet Req = refl
-  of_packet _ = refl
+  of_packet Oack = refl
+  of_packet (Data k) = refl
+  of_packet (Ack j) = refl
+  of_packet (Error code text) = refl
 
   ended_next : (c : Carried) (cs : List Carried) → IsCarried s says_some c → Lawful s c cs → Right s apart asked c → (cs ≡ []) ⊎ FirstTapAsked s (map datagram_in cs) asked
       → Each (IsCarried s says_some) cs → Each (IsCarried s says_some) (kept_of pair_tests (receiver_of asked.side) cs) → AreKnown (c ∷ kept_of pair_tests (receiver_of asked.side) cs)

@@ -11,7 +11,7 @@ use Rattle.tftp_law.specs.{from_server, Main, Placed, Division, datagrams_of, vi
 use Rattle.tftp_law.proofs.Division.RouteTests.{same_is, IsTold}
 use Rattle.tftp_law.proofs.Division.Routed.{routed_by}
 use Rattle.tftp_law.proofs.Division.Divided.{any_first, any_later}
-use Rattle.tftp_tap.specs.{Pass, deed_at, as_at, TapDatagram, TapSides, side_of, AreApart, Tests, is_left_out, kept_of, same_end, pass_tests, TapPart, TapDivision, passed_of, GoesThere, CarriesPass, HasTapPart, HaveTapParts, tap_tests, recorded_at}
+use Rattle.tftp_tap.specs.{Pass, deed_at, as_at, TapDatagram, TapSides, side_of, AreApart, Tests, is_left_out, kept_of, same_end, pass_tests, TapPart, TapPlaced, TapDivision, tapped_of, passed_of, GoesThere, CarriesPass, HasTapPart, HaveTapParts, tap_tests, recorded_at}
 use Rattle.tftp_tap.specs.TapDress as tap
 use Rattle.tftp_tap.proofs.KeptOf.{is_or_not, kept_out, kept_in, any_skip}
 use Rattle.tftp_tap.proofs.TapTests.{source_is, asks_some, ends_some}
@@ -211,12 +211,15 @@ module _ (s : TapSides) (apart : AreApart s) where
     to_server : (r : End) (e : Division) (d : TapDatagram) (p : MachinePacket) → (p ≡ Req → ⊥) → goes_to s Client p d → d.source ≡ s.client → Any (λ (q : Placed). q.datagram.dir ≡ from_server r) e
         → GoesToServer (header_of_end s r) (ids_at s r) e (recorded_at s r d) p
     to_server Client e d Req other goes source any = absurd (other refl)
+    to_server Client e d Oack other goes source any = subst (λ x. (peer_of x ≡ s.server) × ((x.dir ≡ In) ⊎ Any (λ (q : Placed). q.datagram.dir ≡ In) e)) (sym (out_is Client d source)) (goes, inr any)
+    to_server Client e d (Data k) other goes source any = subst (λ x. (peer_of x ≡ s.server) × ((x.dir ≡ In) ⊎ Any (λ (q : Placed). q.datagram.dir ≡ In) e)) (sym (out_is Client d source)) (goes, inr any)
+    to_server Client e d (Ack j) other goes source any = subst (λ x. (peer_of x ≡ s.server) × ((x.dir ≡ In) ⊎ Any (λ (q : Placed). q.datagram.dir ≡ In) e)) (sym (out_is Client d source)) (goes, inr any)
+    to_server Client e d (Error code text) other goes source any = subst (λ x. (peer_of x ≡ s.server) × ((x.dir ≡ In) ⊎ Any (λ (q : Placed). q.datagram.dir ≡ In) e)) (sym (out_is Client d source)) (goes, inr any)
     to_server Server e d Req other goes source any = absurd (other refl)
     to_server Server e d Oack other goes source any = subst (λ x. (x.local ≡ s.server.port) × ((x.dir ≡ Out) ⊎ Any (λ (q : Placed). q.datagram.dir ≡ Out) e)) (sym (in_is Server d source)) (ap (λ x. x.port) goes, inr any)
     to_server Server e d (Data k) other goes source any = subst (λ x. (x.local ≡ s.server.port) × ((x.dir ≡ Out) ⊎ Any (λ (q : Placed). q.datagram.dir ≡ Out) e)) (sym (in_is Server d source)) (ap (λ x. x.port) goes, inr any)
     to_server Server e d (Ack j) other goes source any = subst (λ x. (x.local ≡ s.server.port) × ((x.dir ≡ Out) ⊎ Any (λ (q : Placed). q.datagram.dir ≡ Out) e)) (sym (in_is Server d source)) (ap (λ x. x.port) goes, inr any)
     to_server Server e d (Error code text) other goes source any = subst (λ x. (x.local ≡ s.server.port) × ((x.dir ≡ Out) ⊎ Any (λ (q : Placed). q.datagram.dir ≡ Out) e)) (sym (in_is Server d source)) (ap (λ x. x.port) goes, inr any)
-    to_server Client e d _ other goes source any = subst (λ x. (peer_of x ≡ s.server) × ((x.dir ≡ In) ⊎ Any (λ (q : Placed). q.datagram.dir ≡ In) e)) (sym (out_is Client d source)) (goes, inr any)
 
     asking : (r : End) (e : Division) (d : TapDatagram) → d.destination ≡ s.asked → d.source ≡ s.client → GoesToServer (header_of_end s r) (ids_at s r) e (recorded_at s r d) Req
     asking Client e d goes source = subst (λ x. (x.remote ≡ s.asked.port) × (Client ≡ Client → x.host ≡ s.asked.host)) (sym (out_is Client d source)) (ap (λ x. x.port) goes, λ same. ap (λ x. x.host) goes)
@@ -235,7 +238,10 @@ module _ (s : TapSides) (apart : AreApart s) where
 
     is_req_or : (p : MachinePacket) → (p ≡ Req) ⊎ (p ≡ Req → ⊥)
     is_req_or Req = inl refl
-    is_req_or _ = inr (λ is. cc)
+    is_req_or Oack = inr (λ is. cc)
+    is_req_or (Data k) = inr (λ is. cc)
+    is_req_or (Ack j) = inr (λ is. cc)
+    is_req_or (Error code text) = inr (λ is. cc)
 
     carries : (r : End) (k : Carried) (ks : List Carried) → IsCarried s says k → Each (IsCarried s says) ks → Known k ks
         → Carries (header_of_end s r) says (ids_at s r) (placed s r ks) (recorded_at s r k.datagram) (deed_at r k.pass.from k.pass.packet)
@@ -298,9 +304,10 @@ module _ (s : TapSides) (apart : AreApart s) where
     first ks Client (Error code text) server client none = absurd (none_there ks none pair_tests.answers (client refl (λ is. cc)))
 
     not_back : (r f : End) (p : MachinePacket) → (f ≡ Server → (p ≡ Req → ⊥) × (list_any pair_tests.asks ks ≡ true)) → deed_at r f p ≡ request_back r → ⊥
+    not_back Client Client p server is = absurd (cc)
     not_back Client Server p server is = (server refl).0 (cc)
+    not_back Server Client p server is = absurd (cc)
     not_back Server Server p server is = (server refl).0 (cc)
-    not_back _ Client p server is = absurd (cc)
 
   pub placed_starts : (r : End) (ks : List Carried) → AreKnown ks → Starts r (view_in (placed s r ks))
   placed_starts r [] known = tt

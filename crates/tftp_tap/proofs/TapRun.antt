@@ -50,16 +50,25 @@ same_number a b = elim (cases_lt a b) [
 ]
 
 decide_block : (k : ℕ) → Decides (IsBlock k)
+decide_block k (Message.Request asked) = inr (λ is. is)
+decide_block k (Message.Oack options) = inr (λ is. is)
 decide_block k (Message.Data i bytes) = same_number i k
-decide_block k _ = inr (λ is. is)
+decide_block k (Message.Ack j) = inr (λ is. is)
+decide_block k (Message.Error code text) = inr (λ is. is)
 
 decide_some_block : Decides IsSomeBlock
+decide_some_block (Message.Request asked) = inr (λ is. is)
+decide_some_block (Message.Oack options) = inr (λ is. is)
 decide_some_block (Message.Data i bytes) = inl tt
-decide_some_block _ = inr (λ is. is)
+decide_some_block (Message.Ack j) = inr (λ is. is)
+decide_some_block (Message.Error code text) = inr (λ is. is)
 
 decide_oack : Decides IsOack
+decide_oack (Message.Request asked) = inr (λ is. is)
 decide_oack (Message.Oack options) = inl tt
-decide_oack _ = inr (λ is. is)
+decide_oack (Message.Data i bytes) = inr (λ is. is)
+decide_oack (Message.Ack j) = inr (λ is. is)
+decide_oack (Message.Error code text) = inr (λ is. is)
 
 module _ (s : TapSides) (apart : AreApart s) (asked : RequestParts) where
   -- ---- the packet of a message
@@ -68,15 +77,24 @@ module _ (s : TapSides) (apart : AreApart s) (asked : RequestParts) where
 
   block_packet : (c : Carried) → IsCarried s says_some c → (k : ℕ) (n : Message) → Spells c.datagram.payload n → IsBlock k n → c.pass.packet ≡ Data k
   block_packet c is k (Message.Data i bytes) t kind = sym (some_same (Data i) c.pass.packet (spelled_packet c is (Message.Data i bytes) t)) ∙ ap Data kind
-  block_packet c is k _ t kind = absurd kind
+  block_packet c is k (Message.Request q) t kind = absurd kind
+  block_packet c is k (Message.Oack options) t kind = absurd kind
+  block_packet c is k (Message.Ack j) t kind = absurd kind
+  block_packet c is k (Message.Error code text) t kind = absurd kind
 
   some_packet : (c : Carried) → IsCarried s says_some c → (n : Message) → Spells c.datagram.payload n → IsSomeBlock n → (k : ℕ) × (c.pass.packet ≡ Data k)
   some_packet c is (Message.Data i bytes) t kind = (i, sym (some_same (Data i) c.pass.packet (spelled_packet c is (Message.Data i bytes) t)))
-  some_packet c is _ t kind = absurd kind
+  some_packet c is (Message.Request q) t kind = absurd kind
+  some_packet c is (Message.Oack options) t kind = absurd kind
+  some_packet c is (Message.Ack j) t kind = absurd kind
+  some_packet c is (Message.Error code text) t kind = absurd kind
 
   oack_packet : (c : Carried) → IsCarried s says_some c → (n : Message) → Spells c.datagram.payload n → IsOack n → c.pass.packet ≡ Oack
   oack_packet c is (Message.Oack options) t kind = sym (some_same Oack c.pass.packet (spelled_packet c is (Message.Oack options) t))
-  oack_packet c is _ t kind = absurd kind
+  oack_packet c is (Message.Data i bytes) t kind = absurd kind
+  oack_packet c is (Message.Request q) t kind = absurd kind
+  oack_packet c is (Message.Ack j) t kind = absurd kind
+  oack_packet c is (Message.Error code text) t kind = absurd kind
 
   -- ---- a datagram is in time
 
@@ -115,7 +133,10 @@ module _ (s : TapSides) (apart : AreApart s) (asked : RequestParts) where
     ack_message j packet = by is.spells.0 is.spells.1 (is.spells.2 ∙ ap Some packet) where
       by : (n : Message) → Spells c.datagram.payload n → packet_in n ≡ Some (Ack j) → Spells c.datagram.payload (Message.Ack j)
       by (Message.Ack i) t at = let same : i ≡ j = cc in subst (λ x. Spells c.datagram.payload (Message.Ack x)) same t
-      by _ t at = absurd (cc)
+      by (Message.Request q) t at = absurd (cc)
+      by (Message.Oack options) t at = absurd (cc)
+      by (Message.Data k bytes) t at = absurd (cc)
+      by (Message.Error code text) t at = absurd (cc)
 
     not_request : (j : ℕ) → c.pass.packet ≡ Ack j → c.pass.packet ≡ Req → ⊥
     not_request j packet req = let bad : Ack j ≡ Req = sym packet ∙ req in cc
@@ -217,7 +238,10 @@ module _ (s : TapSides) (apart : AreApart s) (asked : RequestParts) where
     no_oack never at = never (there cs each at) where
       is_oack : (n : Message) → packet_in n ≡ Some Oack → IsOack n
       is_oack (Message.Oack options) at = tt
-      is_oack _ at = absurd (cc)
+      is_oack (Message.Request q) at = absurd (cc)
+      is_oack (Message.Data k bytes) at = absurd (cc)
+      is_oack (Message.Ack j) at = absurd (cc)
+      is_oack (Message.Error code text) at = absurd (cc)
 
       there : (bs : List Carried) → Each (IsCarried s says_some) bs → Has (map pass_in bs) Server Oack → HasKind IsOack (map datagram_in bs)
       there [] each at = absurd (contains_none _ at)
@@ -282,7 +306,10 @@ module _ (s : TapSides) (apart : AreApart s) (asked : RequestParts) where
     error_message b is code text packet = by is.spells.0 is.spells.1 (is.spells.2 ∙ ap Some packet) where
       by : (n : Message) → Spells b.datagram.payload n → packet_in n ≡ Some (Error code text) → Spells b.datagram.payload (Message.Error code text)
       by (Message.Error one words) t at = let first : one ≡ code = cc in let second : words ≡ text = cc in subst (λ x. Spells b.datagram.payload (Message.Error code x)) second (subst (λ x. Spells b.datagram.payload (Message.Error x words)) first t)
-      by _ t at = absurd (cc)
+      by (Message.Request q) t at = absurd (cc)
+      by (Message.Oack options) t at = absurd (cc)
+      by (Message.Data k bytes) t at = absurd (cc)
+      by (Message.Ack j) t at = absurd (cc)
 
     spells_error : (code : ℕ) (text : List ℕ) → Has (map pass_in cs) c.pass.from (Error code text) → Any (λ (x : TapDatagram). (x.source ≡ side_of s c.pass.from) × Spells x.payload (Message.Error code text)) (map datagram_in cs)
     spells_error code text at = there cs each at where
@@ -403,7 +430,9 @@ module _ (s : TapSides) (apart : AreApart s) (asked : RequestParts) where
     where
       deed_is : (r f : End) (p : MachinePacket) → packet_of (deed_at r f p) ≡ p
       deed_is Client Client p = refl
-      deed_is _ _ p = refl
+      deed_is Client Server p = refl
+      deed_is Server Client p = refl
+      deed_is Server Server p = refl
 
   each_of : {X : Type 0} (P : X → Type 0) (xs : List X) → ((x : X) → Contains xs x → P x) → Each P xs
   each_of P [] all = tt
@@ -428,8 +457,13 @@ module _ (s : TapSides) (apart : AreApart s) (asked : RequestParts) where
       error_spelled b is code text packet = turn is.spells.0 is.spells.1 (is.spells.2 ∙ ap Some packet) where
         turn : (n : Message) → Spells b.datagram.payload n → packet_in n ≡ Some (Error code text) → Spells b.datagram.payload (Message.Error code text)
         turn (Message.Error one words) t at = let first : one ≡ code = cc in let second : words ≡ text = cc in subst (λ x. Spells b.datagram.payload (Message.Error code x)) second (subst (λ x. Spells b.datagram.payload (Message.Error x words)) first t)
-        turn _ t at = absurd (cc)
-    by c at _ packet = in_kept c at (ap is_request packet) (ap is_error packet)
+        turn (Message.Request q) t at = absurd (cc)
+        turn (Message.Oack options) t at = absurd (cc)
+        turn (Message.Data k bytes) t at = absurd (cc)
+        turn (Message.Ack j) t at = absurd (cc)
+    by c at Oack packet = in_kept c at (ap is_request packet) (ap is_error packet)
+    by c at (Data k) packet = in_kept c at (ap is_request packet) (ap is_error packet)
+    by c at (Ack j) packet = in_kept c at (ap is_request packet) (ap is_error packet)
 
   -- the meaning's request is the one that was asked
   pub request_one : (m : Meaning) (wire : List ℕ) (r : End) (cs : List Carried) → Each (Right s apart asked) cs → list_any pair_tests.asks cs ≡ true
