@@ -16,7 +16,9 @@ use Rattle.tftp_tap.proofs.KeptOf.{is_or_not, or_false, and_true, any_of, none_o
 
 takes_is : (e f : End) (p : MachinePacket) → takes_error (deed_at e f p) ≡ (same_end (other_end e) f && is_error p)
 takes_is Client Client p = refl
-takes_is _ _ p = refl
+takes_is Client Server p = refl
+takes_is Server Client p = refl
+takes_is Server Server p = refl
 
 any_takes : (e : End) (passed : List Pass) → list_any takes_error (as_at e passed) ≡ list_any (pass_tests.ends (other_end e)) passed
 any_takes e [] = refl
