@@ -1,21 +1,24 @@
 -- How many bytes a piece has, by its own first bytes.
-use Rattle.std.proofs.Common.{◌≡◌, ◌≢◌, inl, inr, ℕ, ◌+◌, ◌%◌, ◌<◌, ◌≤◌, List, length, take, get_or, refl, sym, ap, ◌∙◌, arith, Bool, false, Result, Ok, Err}
+use Rattle.std.proofs.Common.{◌≡◌, ◌≢◌, inl, inr, ℕ, ◌+◌, ◌%◌, ◌<◌, ◌≤◌, List, length, take, get_or, refl, sym, ap, ◌∙◌, arith, Bool, true, false, Result, Ok, Err}
 use Rattle.std.specs.List.{slice_range}
 use Rattle.tftp_pcap.specs.{number_at, magic, section_type, order_magic, longest_frame, Announces, AnnouncesSection, SizeTells, BlockSizeTells, IsTooLong, Order, Big, Little, Unopened, FaultKind, Bad, TooLong}
 use Rattle.tftp_pcap.specs.declared.layout.Classic.{Classic as Header}
 use Rattle.tftp_pcap.specs.declared.layout.Layout.TheVariants.{Classic, Blocks}
 
 pub order_one : (o p : Order) → order_magic o ≡ order_magic p → o ≡ p
+order_one Big Big e = refl
+order_one Little Little e = refl
 order_one Big Little e = absurd (omega (arith, ap (λ (l : List ℕ). get_or l 0 0) e))
 order_one Little Big e = absurd (omega (arith, ap (λ (l : List ℕ). get_or l 0 0) e))
-order_one _ _ e = refl
 
 no_header : {A : Type 0} {order : Order} → Blocks order ≡ Unopened → A
 no_header e = absurd (let x : ⊥ = cc in x)
 
 pub magic_other : (o : Order) (nano : Bool) → magic o nano ≡ section_type → ⊥
 magic_other Big false e = omega (arith, ap (λ (l : List ℕ). get_or l 0 0) e)
-magic_other _ _ e = omega (arith, ap (λ (l : List ℕ). get_or l 0 0) e)
+magic_other Big true e = omega (arith, ap (λ (l : List ℕ). get_or l 0 0) e)
+magic_other Little false e = omega (arith, ap (λ (l : List ℕ). get_or l 0 0) e)
+magic_other Little true e = omega (arith, ap (λ (l : List ℕ). get_or l 0 0) e)
 
 -- ---- a section header announces the length in its own order
 

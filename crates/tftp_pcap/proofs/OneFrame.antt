@@ -19,11 +19,22 @@ magic_one Little Little false false e = (refl, refl)
 magic_one Little Little true true e = (refl, refl)
 magic_one Big Big false true e = absurd (omega (arith, ap (λ (l : List ℕ). get_or l 2 0) e))
 magic_one Big Big true false e = absurd (omega (arith, ap (λ (l : List ℕ). get_or l 2 0) e))
-magic_one _ _ _ _ e = absurd (omega (arith, ap (λ (l : List ℕ). get_or l 0 0) e))
+magic_one Little Little false true e = absurd (omega (arith, ap (λ (l : List ℕ). get_or l 0 0) e))
+magic_one Little Little true false e = absurd (omega (arith, ap (λ (l : List ℕ). get_or l 0 0) e))
+magic_one Big Little false false e = absurd (omega (arith, ap (λ (l : List ℕ). get_or l 0 0) e))
+magic_one Big Little false true e = absurd (omega (arith, ap (λ (l : List ℕ). get_or l 0 0) e))
+magic_one Big Little true false e = absurd (omega (arith, ap (λ (l : List ℕ). get_or l 0 0) e))
+magic_one Big Little true true e = absurd (omega (arith, ap (λ (l : List ℕ). get_or l 0 0) e))
+magic_one Little Big false false e = absurd (omega (arith, ap (λ (l : List ℕ). get_or l 0 0) e))
+magic_one Little Big false true e = absurd (omega (arith, ap (λ (l : List ℕ). get_or l 0 0) e))
+magic_one Little Big true false e = absurd (omega (arith, ap (λ (l : List ℕ). get_or l 0 0) e))
+magic_one Little Big true true e = absurd (omega (arith, ap (λ (l : List ℕ). get_or l 0 0) e))
 
 pub magic_length : (o : Order) (m : Bool) → length (magic o m) ≡ 4
 magic_length Big false = refl
-magic_length _ _ = refl
+magic_length Big true = refl
+magic_length Little false = refl
+magic_length Little true = refl
 
 pub major_length : (o : Order) → length (major o) ≡ 2
 major_length Big = refl
