@@ -54,13 +54,13 @@ def of_two_bytes(value: int) -> bytes:
 def many_options(chance: Random) -> bytes:
     """More options than a packet has mostly, up to some thousands, of which two may have one name."""
     few, some, many = chance.randrange(7, 11), chance.randrange(11, 200), chance.randrange(200, 5_000)
-    count = chosen(chance, (few, 6), (some, 6), (many, 3))
-    names = [b"%x" % (at * 7) for at in range(10, 10 + count)]
-    if chance.random() < (0.6 if count == many else 0.3):
+    count = chosen(chance, (few, 4), (some, 4), (many, 7))
+    names = [b"-%x" % at for at in range(10, 10 + count)]
+    if chance.random() < 0.5:
         names = [*ALIKE, *names] if chance.random() < 0.7 else [*names[: count // 2], *ALIKE, *names[count // 2 :]]
-    if chance.random() < 0.7:
+    if chance.random() < 0.8:
         twice = chance.randrange(len(names))
-        later = twice + 1, chance.randrange(twice + 1, len(names) + 1), len(names)
+        later = twice + 1, chance.randrange(twice + 1, len(names) + 1), len(names), len(names)
         names.insert(chance.choice(later), names[twice].upper())
     return b"".join(name + b"\0\0" for name in names)
 
