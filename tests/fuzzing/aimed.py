@@ -312,6 +312,17 @@ def with_many_options(chance: Random, view: View, kept: tuple[Datagram, ...]) ->
     return (kept[0], view.of_payload(is_oack == (view.end == "server"), payload), *kept[1:])
 
 
+def with_great_size(chance: Random, view: View, kept: tuple[Datagram, ...]) -> tuple[Datagram, ...]:
+    """A request for a size, and an OACK of one that is near the most that 65,535 blocks carry."""
+    meaning, most = view.meaning, view.meaning.size * MOST_BLOCKS
+    value = chance.choice((most - 1, most, most - view.meaning.size, most - view.meaning.size - 1))
+    asked: Options = {**meaning.requested, b"tsize": value if meaning.side == "put" else 0}
+    request = spelled_request(chance, dataclasses.replace(meaning, requested=asked))
+    oack = number(6) + spelled_options(chance, {**meaning.agreed, b"tsize": value})
+    asking = dataclasses.replace(kept[0], payload=request)
+    return (asking, view.of_payload(view.end == "server", oack), *kept[1:])
+
+
 class Mixed:
     """What has passed of a capture with datagrams near the limits of the rules between its own."""
 
@@ -340,8 +351,8 @@ def aimed(chance: Random, view: View) -> Capture:
     kept = begun(chance, view)
     if kept and chance.random() < 0.2:
         kept = with_errors(chance, view, kept)
-    elif kept and chance.random() < 0.06:
-        kept = with_many_options(chance, view, kept)
+    elif kept and chance.random() < 0.09:
+        kept = chance.choice((with_many_options, with_many_options, with_great_size))(chance, view, kept)
     # the answer to the request is met seldom, and there is much to be wrong with it
     count = chosen(chance, (1, 4), (2, 3), (4, 2))
     places = [chance.randrange(chosen(chance, (len(kept), 2), (min(3, len(kept)), 1)) + 1) for _ in range(count)]
