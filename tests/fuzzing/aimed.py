@@ -54,13 +54,13 @@ def of_two_bytes(value: int) -> bytes:
 def many_options(chance: Random) -> bytes:
     """More options than a packet has mostly, up to some thousands, of which two may have one name."""
     few, some, many = chance.randrange(7, 11), chance.randrange(11, 200), chance.randrange(200, 5_000)
-    count = chosen(chance, (few, 6), (some, 6), (many, 3))
-    names = [b"%x" % (at * 7) for at in range(10, 10 + count)]
-    if chance.random() < (0.6 if count == many else 0.3):
+    count = chosen(chance, (few, 4), (some, 4), (many, 7))
+    names = [b"-%x" % at for at in range(10, 10 + count)]
+    if chance.random() < 0.5:
         names = [*ALIKE, *names] if chance.random() < 0.7 else [*names[: count // 2], *ALIKE, *names[count // 2 :]]
-    if chance.random() < 0.7:
+    if chance.random() < 0.8:
         twice = chance.randrange(len(names))
-        later = twice + 1, chance.randrange(twice + 1, len(names) + 1), len(names)
+        later = twice + 1, chance.randrange(twice + 1, len(names) + 1), len(names), len(names)
         names.insert(chance.choice(later), names[twice].upper())
     return b"".join(name + b"\0\0" for name in names)
 
@@ -312,6 +312,17 @@ def with_many_options(chance: Random, view: View, kept: tuple[Datagram, ...]) ->
     return (kept[0], view.of_payload(is_oack == (view.end == "server"), payload), *kept[1:])
 
 
+def with_great_size(chance: Random, view: View, kept: tuple[Datagram, ...]) -> tuple[Datagram, ...]:
+    """A request for a size, and an OACK of one that is near the most that 65,535 blocks carry."""
+    meaning, most = view.meaning, view.meaning.size * MOST_BLOCKS
+    value = chance.choice((most - 1, most, most - view.meaning.size, most - view.meaning.size - 1))
+    asked: Options = {**meaning.requested, b"tsize": value if meaning.side == "put" else 0}
+    request = spelled_request(chance, dataclasses.replace(meaning, requested=asked))
+    oack = number(6) + spelled_options(chance, {**meaning.agreed, b"tsize": value})
+    asking = dataclasses.replace(kept[0], payload=request)
+    return (asking, view.of_payload(view.end == "server", oack), *kept[1:])
+
+
 class Mixed:
     """What has passed of a capture with datagrams near the limits of the rules between its own."""
 
@@ -340,8 +351,8 @@ def aimed(chance: Random, view: View) -> Capture:
     kept = begun(chance, view)
     if kept and chance.random() < 0.2:
         kept = with_errors(chance, view, kept)
-    elif kept and chance.random() < 0.06:
-        kept = with_many_options(chance, view, kept)
+    elif kept and chance.random() < 0.09:
+        kept = chance.choice((with_many_options, with_many_options, with_great_size))(chance, view, kept)
     # the answer to the request is met seldom, and there is much to be wrong with it
     count = chosen(chance, (1, 4), (2, 3), (4, 2))
     places = [chance.randrange(chosen(chance, (len(kept), 2), (min(3, len(kept)), 1)) + 1) for _ in range(count)]

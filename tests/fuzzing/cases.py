@@ -10,7 +10,7 @@ from captures import EndName
 from fuzzing import changes, faults
 from fuzzing.aimed import aimed
 from fuzzing.further import further
-from fuzzing.lines import is_verdict
+from fuzzing.lines import is_shown, is_verdict
 from fuzzing.meanings import Spelling, chosen, meaning_of
 from fuzzing.program import MOST_PIECE, Got, Program, Told
 from fuzzing.reached import Reached
@@ -143,10 +143,12 @@ def compare_commands(trier: Trier, chance: Random, text: bytes, answers: Answers
     if not others:
         return
     command = chance.choice(others)
-    wanted = answers.of(command)
+    output, status = wanted = answers.of(command)
+    if command == "show" and not is_shown(output, status):
+        trier.failures.append(Failure("rows of those that there are", command, text, (output, b"", status), "rows"))
     trier.expect("another command", command, text, wanted)
-    if command == "normal" and wanted[1] == 0:
-        compare_normal(trier, text, wanted[0], answers.of("check"))
+    if command == "normal" and status == 0:
+        compare_normal(trier, text, output, answers.of("check"))
 
 
 def try_prefixes(trier: Trier, capture: Capture, verdict: Told) -> None:

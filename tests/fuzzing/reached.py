@@ -11,7 +11,7 @@ from refusals import Rule
 
 ENDS = (
     *(f"accepted {side} {mode}" for side in SIDES for mode in MODES),
-    "aborted by local", "aborted by peer", "incomplete", "too long",
+    "aborted by local", "aborted by peer", "incomplete", "too long when normal",
 )
 # What there is to reach, by its kind, in order.
 ALL: dict[str, tuple[str, ...]] = {

@@ -3,7 +3,6 @@ what has passed, and the first of them that a datagram breaks. What the program 
 """
 from __future__ import annotations
 
-import copy
 import dataclasses
 from collections.abc import Iterator
 from typing import Literal, Optional, Union
@@ -124,10 +123,6 @@ class Judge:
         self.sent: set[type] = set()
         self.errors: dict[bool, Error] = {}
 
-    def copied(self) -> Judge:
-        """Another, to go on with."""
-        return copy.deepcopy(self)
-
     def terms(self, request: Request) -> Terms:
         return Terms(request, self.answer)
 
@@ -221,11 +216,9 @@ class Judge:
         its, is_agreed = self.numbers, isinstance(self.answer, Oack)
         if message.block > (its.used_high if self.is_sender(request) else its.front):
             yield 26
-        if message.block == 0 and (not is_agreed if request.side == "get" else is_agreed and not self.has_used_block()):
+        is_early = not is_agreed if request.side == "get" else is_agreed and not its.used_high
+        if message.block == 0 and is_early:
             yield 27
-
-    def has_used_block(self) -> bool:
-        return self.numbers.used_high > 0
 
     def take(self, it: Datagram) -> None:
         """Notes a datagram that breaks no rule."""
