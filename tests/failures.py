@@ -9,9 +9,7 @@ FOLDER has refuse.so, which is preloaded. Prints each case that is not as it sho
 from __future__ import annotations
 
 import dataclasses
-import os
 import pathlib
-import subprocess
 import sys
 from collections.abc import Iterable, Iterator, Mapping, Sequence
 
@@ -20,10 +18,8 @@ from commands import COMMANDS, SILENT
 from limits import limited
 from normal import Output, meaning_of, outputs_of_refused
 from refusals import Rule, refusal
-from trial import Trial
+from shimmed import ShimmedTrial
 
-# What is printed and the status, whether no error was written, and whether the shim's call was met.
-Got = tuple[Output, bool, bool]
 # What `show` says of the lines of a text begins at this one.
 FIRST_DATAGRAM_LINE = 4
 USAGE = (b"fault usage\n", 2)
@@ -311,24 +307,8 @@ def errors() -> Iterator[Case]:
     yield case_of("another error", other, refusal(3, Rule.AFTER_ERROR))
 
 
-class ProgramTrial(Trial):
+class ProgramTrial(ShimmedTrial):
     """The runs of the program."""
-
-    def __init__(self, program: str, folder: pathlib.Path) -> None:
-        super().__init__()
-        self.program, self.shim, self.met = program, folder / "refuse.so", folder / "met"
-
-    def run(self, words: Sequence[str | bytes], given: bytes, **shim: int) -> Got:
-        """What the program writes and its status, whether it wrote no error, and whether the shim's call was met."""
-        self.met.unlink(missing_ok=True)
-        environment = {"LD_PRELOAD": str(self.shim), "MET": str(self.met), "PATH": os.environ.get("PATH", "")}
-        environment.update({name: str(value) for name, value in shim.items()})
-        done = subprocess.run([self.program, *words], input=given, capture_output=True, env=environment, timeout=60)
-        return (done.stdout, done.returncode), done.stderr == b"", self.met.exists()
-
-    def expect(self, name: str, got: Got, *outputs: Output) -> None:
-        """Counts a run that wrote no error and whose output is among those that may be."""
-        self.check(name, got[1] and got[0] in outputs, got)
 
     def refuse_growths(
         self, name: str, words: Sequence[str], given: bytes, output: Output, outputs: Iterable[Output]
@@ -346,16 +326,6 @@ class ProgramTrial(Trial):
             told += got[0][1] == 2 if words[0] in SILENT else got[0][0].endswith(MEMORY)
         self.check(f"{name}, growths", False, "no end")
         return told, right
-
-    def fail_writes(self, name: str, words: Sequence[str], given: bytes, output: Output) -> None:
-        """Each write failing, or taking nothing, of one byte a write; and none is made behind the last byte."""
-        self.expect(f"{name}, one byte a call", self.run(words, given, ONE_BYTE=1), output)
-        for turn in range(1, len(output[0]) + 2):
-            is_made = turn <= len(output[0])
-            for way in ("FAIL_WRITE", "EMPTY_WRITE"):
-                got = self.run(words, given, ONE_BYTE=1, **{way: turn})
-                self.expect(f"{name}, {way} {turn}", got, (output[0][: turn - 1], 2) if is_made else output)
-                self.check(f"{name}, {way} {turn}, is made", got[2] == is_made, got)
 
     def fail_reads(self, case: Case, command: str) -> None:
         """Each read failing, of one byte a read, the one after the whole text too; and none is made behind the line of

@@ -1,12 +1,13 @@
 #!/bin/sh
-# Tries the built programs, tests/run.sh PROGRAM, of which those that read recordings and that match two captures stand in
-# their crates: the launchers and packages with a stand-in for rt; that each wrong body can still be made; each growth
-# refused, each read and each write failing, in turn, and each growth in the tests of the libraries' calls; larger captures;
-# simulated transfers and changes of them, for some seconds; the recorded transfers of examples/; the datagrams that are
-# read of recordings, and which transfer they are of; what is said between the ends; the rows, lists and texts of
-# recordings; captures of both ends, texts and recordings, matched, explained and drawn; the scripts that explain, draw and report,
-# on changed captures too; the plugin of Wireshark; the schemas of JSON; what each rule is called, wherever that stands; and
-# what stands in the pages for readers.
+# Tries the built programs, tests/run.sh PROGRAM, of which those that read recordings and that match two captures stand
+# in their crates: the launchers and packages with a stand-in for rt; that each wrong body can still be made; each
+# growth refused, each read and each write failing, in turn; what each command says of the captures of scripts and of
+# texts with faults; each growth in the tests of the libraries' calls; larger captures; simulated transfers and changes
+# of them, for some seconds; the recorded transfers of examples/; the datagrams that are read of recordings, and which
+# transfer they are of; what is said between the ends; the rows, lists and texts of recordings; captures of both ends,
+# texts and recordings, matched, explained and drawn; the scripts that explain, draw and report, on changed captures
+# too; the plugin of Wireshark; the schemas of JSON; what each rule is called, wherever that stands; and what stands in
+# the pages for readers.
 set -eu
 here=$(dirname "$0")
 transfers=$here/../crates/tftp_transfers_main/out/tftp_transfers_main
@@ -23,6 +24,8 @@ echo "wrong bodies:"
 python3 "$here/edits.py"
 echo "failures:"
 python3 "$here/failures.py" "$1" "$shim"
+echo "what the commands say:"
+python3 "$here/said.py" "$1" "$shim"
 echo "growths of the libraries:"
 python3 "$here/growths.py" "$shim" "$here/../crates"
 echo "large:"

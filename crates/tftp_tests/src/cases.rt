@@ -1,12 +1,13 @@
-//! Captures, and what is said of each: by `check`, by `judge_text`, and by a judge on each store.
+//! Captures, and what is said of each: by `judge_text`, and by a judge on each store. What the commands print of them is
+//! tried on the built program, from the same scripts.
 
-use crate::commands::says;
 use crate::scripts::all_hold;
 use crate::verdicts::{is_judged, is_verdict};
 use std::test::Fail;
 use tftp_blocks::{MapDelivered, RingDelivered};
 
 mod errors;
+mod files;
 mod hosts;
 mod limits;
 mod normals;
@@ -15,12 +16,8 @@ mod reads;
 mod rules;
 mod windows;
 
-/// What `check` says of the read of `hi`.
-pub const ACCEPTED: &str = "accepted get octet blocks 1 bytes 2\n";
-
-/// Fails unless all say this of a capture text, and `check` ends with this status.
-pub fn holds(rt: &HostRuntime, text: &[u8], line: &str, status: u8) -> Result<(), Fail> {
-    says(rt, "check", text, line, status)?;
+/// Fails unless all say this of a capture text.
+pub fn holds(rt: &HostRuntime, text: &[u8], line: &str) -> Result<(), Fail> {
     is_verdict(rt, text, line)?;
     is_judged::<MapDelivered>(rt, text, line)?;
     is_judged::<RingDelivered>(rt, text, line)

@@ -9,11 +9,6 @@ use crate::cases::holds;
 use std::alloc::{AllocError, Global};
 use std::test::Fail;
 
-/// The headers of captures at an end, with commas between their lines.
-pub const CLIENT: &str = "tftp-capture 1, end client, service 69";
-
-pub const SERVER: &str = "tftp-capture 1, end server, service 69";
-
 /// Names that all scripts share. Blocks are of eight times the block's digit, or of the digit 2 twice; the file is `a`, and
 /// what a number follows has that window, block size or file size.
 const NAMES: &str = "
@@ -263,32 +258,13 @@ impl<'a> Script<'a> {
     }
 }
 
-/// The text of the capture with this header, its lines with commas between, and the datagrams of these words.
-pub fn capture(alloc: Global, header: &str, words: &str) -> Result<String, Fail> {
-    let mut datagrams = Datagrams {
-        script: "",
-        all: Vec::new(alloc),
-    };
-    datagrams.add(words)?;
-    text_of(alloc, header, datagrams.all.as_slice())
-}
-
-/// The status of `check`, and its line.
-fn status_of(said: &str) -> Option<(u8, &str)> {
-    match said.split_once(" ")? {
-        ("0", line) => Some((0, line)),
-        ("1", line) => Some((1, line)),
-        _ => None,
-    }
-}
-
-/// Fails unless all say this of a capture text: the status of `check`, and its line.
+/// Fails unless all say this of a capture text: behind the status of `check`, its line.
 fn is_said(rt: &HostRuntime, text: &[u8], said: &str) -> Result<(), Fail> {
-    let Some((status, line)) = status_of(said) else {
+    let Some((_, line)) = said.split_once(" ") else {
         return Err(Fail::new("no status"));
     };
     let line = format!(in rt.alloc(); "{line}\n")?;
-    holds(rt, text, line.as_str(), status)
+    holds(rt, text, line.as_str())
 }
 
 /// Fails unless all say of the next capture of a script what is wanted.

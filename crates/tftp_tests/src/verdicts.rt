@@ -173,7 +173,7 @@ pub fn is_verdict(rt: &HostRuntime, text: &[u8], line: &str) -> Result<(), Fail>
 }
 
 /// The read of `hi` (RFC 1350, sections 4 and 5).
-const READ_OF_HI: &[u8] =
+pub const READ_OF_HI: &[u8] =
     b"tftp-capture 1\nend client\nservice 69\nout 40000 69 000161006f6374657400\nin 40000 41000 000300016869\nout 40000 41000 00040001\ntotal 3\n";
 
 /// The same with block 2 for block 1, and a payload of one digit after it.

@@ -1,10 +1,3 @@
-use super::{ACCEPTED, holds};
-use crate::scripts::capture;
-use std::test::Fail;
-
-/// The header of a capture at the client, with hosts.
-const AT_CLIENT: &str = "tftp-capture 2, end client, service 69";
-
 /// Captures with hosts.
 pub const SCRIPT: &str = "
 READ = out 40000 10.0.0.1 69 000161006f6374657400
@@ -53,29 +46,3 @@ ASKED, SENT, STRAY_ACK, out 41000 10.0.0.8 40000 000300016869 => 1 refused datag
 ASKED, in 69 10.0.0.8 40000 000161006f6374657400 => 1 refused datagram 2 rule 1 ForeignPort
 ASKED, out 41000 10.0.0.8 40000 000300016869 => 1 refused datagram 2 rule 2 WrongPort
 ";
-
-/// Fails unless a read is accepted from a host of this name.
-fn is_host(rt: &HostRuntime, host: &str) -> Result<(), Fail> {
-    let words = format!(in rt.alloc();
-        "out 40000 {host} 69 000161006f6374657400, in 40000 {host} 41000 000300016869, out 40000 {host} 41000 00040001"
-    )?;
-    let text = capture(rt.alloc(), AT_CLIENT, words.as_str())?;
-    holds(rt, text.as_bytes(), ACCEPTED, 0)
-}
-
-/// Any 1 to 45 signs but the space are a host.
-const HOSTS: &[&str] = &[
-    "-",
-    "#",
-    "!~",
-    "2001:db8::1",
-    "aaaaaaaaaaaaaaaaaaaaaaaaaaaaaaaaaaaaaaaaaaaaa",
-];
-
-#[test]
-fn names_of_hosts(rt: HostRuntime) -> Result<(), Fail> {
-    for host in HOSTS {
-        is_host(&rt, *host)?;
-    }
-    Ok(())
-}

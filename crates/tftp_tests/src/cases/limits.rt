@@ -1,7 +1,4 @@
 use super::holds;
-use crate::commands::says;
-use crate::scripts::{CLIENT, Script, capture};
-use crate::verdicts::is_verdict;
 use std::alloc::{AllocError, Global};
 use std::test::Fail;
 
@@ -33,56 +30,6 @@ tftp-capture 1, end client, service 69
 out 40000 69 000161006e6574617363696900, in 40000 41000 00030001{0a*511},
   ACK_1 => 0 accepted get netascii blocks 2 bytes 511
 ";
-
-/// A block of 512 bytes without the one that ends the read after it: nothing is normal yet.
-const WITHOUT_END: &str = "READ, in 40000 41000 00030001{61*512}, ACK_1";
-
-/// Fails unless nothing is counted or normal of a text.
-fn is_not_counted(rt: &HostRuntime, text: &[u8]) -> Result<(), Fail> {
-    says(rt, "count", text, "incomplete after 3\n", 1)?;
-    says(rt, "normal", text, "", 1)
-}
-
-#[test]
-fn no_count_of_a_read_without_its_end(rt: HostRuntime) -> Result<(), Fail> {
-    let text = capture(rt.alloc(), CLIENT, WITHOUT_END)?;
-    is_not_counted(&rt, text.as_bytes())
-}
-
-/// Names that are too long for a payload, and for a line.
-const TOO_LONG: &str = "
-tftp-capture 1, end client, service 69
-out 40000 69 0001{61*65519}006f6374657400, HI, ACK_1 => fault line 4 PayloadTooLong
-tftp-capture 1, end client, service 65535
-out 65535 65535 0001{61*65519}006f6374657400, HI, ACK_1 => fault line 4 LineTooLong
-";
-
-/// Fails unless `check` and `judge_text` say this line of a text.
-fn is_line_of(rt: &HostRuntime, text: &[u8], line: &str) -> Result<(), Fail> {
-    says(rt, "check", text, line, 2)?;
-    is_verdict(rt, text, line)
-}
-
-/// Fails unless `check` and `judge_text` say this of a text.
-fn is_too_long(rt: &HostRuntime, text: &[u8], said: &str) -> Result<(), Fail> {
-    let line = format!(in rt.alloc(); "{said}\n")?;
-    is_line_of(rt, text, line.as_str())
-}
-
-/// Fails unless the next text of a script is too long.
-fn next_is_too_long(rt: &HostRuntime, script: &mut Script<'_>) -> Result<(), Fail> {
-    let (text, said) = script.next(rt.alloc())?;
-    is_too_long(rt, text.as_bytes(), said)
-}
-
-#[test]
-fn names_that_are_too_long(rt: HostRuntime) -> Result<(), Fail> {
-    let mut script = Script::new(TOO_LONG);
-    for _ in 0..2 {
-        next_is_too_long(&rt, &mut script)?;
-    }
-    script.ends()
-}
 
 /// A read with blocks of 8 bytes in a window of 65535: its mode, the digits of all blocks but the last, those of the last,
 /// its number, and whether the last comes first and the others backwards.
@@ -159,8 +106,8 @@ const OCTET_MODE: &str = "6f63746574";
 
 const NETASCII_MODE: &str = "6e65746173636969";
 
-/// A read, what all say of it, what `count` says, and the status.
-type Case = (Window, &'static str, &'static str, u8);
+/// A read, and what all say of it.
+type Case = (Window, &'static str);
 
 /// As many blocks as there may be, the last one first; and a text of bare LFs, which are two bytes each when they are
 /// written, in half as many: with one more there would be block 65536.
@@ -174,8 +121,6 @@ const WINDOWS: &[Case] = &[
             backwards: true,
         },
         "accepted get octet blocks 65535 bytes 524279\n",
-        "normal datagrams 65539\n",
-        0,
     ),
     (
         Window {
@@ -186,8 +131,6 @@ const WINDOWS: &[Case] = &[
             backwards: false,
         },
         "too long when normal\n",
-        "too long when normal\n",
-        1,
     ),
     (
         Window {
@@ -198,32 +141,19 @@ const WINDOWS: &[Case] = &[
             backwards: false,
         },
         "accepted get netascii blocks 65535 bytes 262139\n",
-        "normal datagrams 65539\n",
-        0,
     ),
 ];
 
-/// Fails unless all say the line of a text, and `count` the other, with this status.
-fn is_counted(
-    rt: &HostRuntime,
-    text: &[u8],
-    (line, count): (&str, &str),
-    status: u8,
-) -> Result<(), Fail> {
-    holds(rt, text, line, status)?;
-    says(rt, "count", text, count, status)
-}
-
 /// Fails unless that is said of such a read.
-fn window_is_counted(rt: &HostRuntime, (window, line, count, status): &Case) -> Result<(), Fail> {
+fn window_holds(rt: &HostRuntime, (window, line): &Case) -> Result<(), Fail> {
     let text = window_text(rt.alloc(), window)?;
-    is_counted(rt, text.as_bytes(), (*line, *count), *status)
+    holds(rt, text.as_bytes(), *line)
 }
 
 #[test]
 fn as_many_blocks_as_there_may_be(rt: HostRuntime) -> Result<(), Fail> {
     for window in WINDOWS {
-        window_is_counted(&rt, window)?;
+        window_holds(&rt, window)?;
     }
     Ok(())
 }

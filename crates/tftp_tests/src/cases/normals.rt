@@ -1,7 +1,11 @@
 use super::holds;
-use crate::commands::is_normal;
 use crate::scripts::Script;
+use crate::verdicts::{READ_OF_HI, verdict_of};
+use std::alloc::AllocError;
 use std::test::Fail;
+use tftp_capture::{DripReader, DripWriter, Tallied};
+use tftp_judge::Meaning;
+use tftp_normal::{NormalFault, normal_capture, normal_count, normalise};
 
 /// Captures and what is said of each, and after each its normal text: that is a capture at a client which asks at port 69,
 /// and the same is said of it.
@@ -85,9 +89,94 @@ out 40000 69 000261006f6374657400, ACKED_0, out 40000 41000 000300016869,
 out 50000 69 000261006f6374657400, in 50000 50001 00040000, out 50000 50001 000300016869, N_ACKED_1 => normal
 ";
 
+/// The room of a writer, more than any test writes.
+const ROOM: usize = 65_536;
+
+/// What `normalise` answers to a text, and what it has written then. It promises nothing, as `written_of`.
+fn normalised_on(
+    rt: &HostRuntime,
+    text: &[u8],
+    drip: DripWriter,
+) -> (Result<(), NormalFault>, DripWriter) {
+    let mut reader = Tallied::new(DripReader::new(text, usize::MAX, 0, None));
+    let mut writer = Tallied::new(drip);
+    let answer = normalise(rt.alloc(), &mut reader, &mut writer);
+    (answer, writer.into_inner())
+}
+
+/// What `normal_capture` answers to a meaning, and what it has written then.
+fn written_of(
+    rt: &HostRuntime,
+    meaning: Meaning,
+    drip: DripWriter,
+) -> (Result<(), NormalFault>, DripWriter) {
+    let mut writer = Tallied::new(drip);
+    let answer = normal_capture(rt.alloc(), meaning, &mut writer);
+    (answer, writer.into_inner())
+}
+
+/// Whether this was written.
+fn is_taken(written: &DripWriter, normal: &str) -> bool {
+    written.taken() == normal.as_bytes()
+}
+
+/// Whether `normal_count` counts so many for a meaning.
+fn is_counted(meaning: &Meaning, count: u64) -> bool {
+    normal_count(meaning) == count
+}
+
+/// Whether `normal_capture` writes this for a meaning, and `normal_count` counts so many.
+fn is_written(
+    rt: &HostRuntime,
+    meaning: Meaning,
+    normal: &str,
+    count: u64,
+) -> Result<bool, AllocError> {
+    let drip = DripWriter::new(rt.alloc(), ROOM, ROOM, 0, false)?;
+    let has_count = is_counted(&meaning, count);
+    let (answer, written) = written_of(rt, meaning, drip);
+    Ok(answer.is_ok() && is_taken(&written, normal) && has_count)
+}
+
+/// Whether `normal_capture` writes this for the meaning of a text, and `normal_count` counts so many.
+fn is_captured(
+    rt: &HostRuntime,
+    text: &[u8],
+    normal: &str,
+    count: u64,
+) -> Result<bool, AllocError> {
+    match verdict_of(rt, text, usize::MAX, 0) {
+        Ok(meaning) => is_written(rt, meaning, normal, count),
+        Err(_) => Ok(false),
+    }
+}
+
+/// Whether `normalise` writes this for a text.
+fn is_normalised(rt: &HostRuntime, text: &[u8], normal: &str) -> Result<bool, AllocError> {
+    let drip = DripWriter::new(rt.alloc(), ROOM, ROOM, 0, false)?;
+    let (answer, written) = normalised_on(rt, text, drip);
+    Ok(answer.is_ok() && is_taken(&written, normal))
+}
+
+/// The number of the datagrams of a text of version 1 without comments.
+fn count_of(text: &str) -> u64 {
+    (text.lines().count() as u64).saturating_sub(4)
+}
+
+/// Fails unless this is the normal text of a text, by the calls.
+fn is_normal(rt: &HostRuntime, text: &[u8], normal: &str) -> Result<(), Fail> {
+    let is_written = is_normalised(rt, text, normal)?;
+    let is_captured = is_captured(rt, text, normal, count_of(normal))?;
+    if is_written && is_captured {
+        Ok(())
+    } else {
+        Err(Fail::from((is_written, is_captured)))
+    }
+}
+
 /// Fails unless the line is said of a text, and the other is its normal text.
 fn is_said_and_normal(rt: &HostRuntime, text: &str, line: &str, normal: &str) -> Result<(), Fail> {
-    holds(rt, text.as_bytes(), line, 0)?;
+    holds(rt, text.as_bytes(), line)?;
     is_normal(rt, text.as_bytes(), normal)
 }
 
@@ -118,4 +207,26 @@ fn normal_texts_of_accepted_captures(rt: HostRuntime) -> Result<(), Fail> {
         next_are_normal(&rt, &mut script)?;
     }
     script.ends()
+}
+
+/// What `normalise` answers to a text where this write of seven bytes fails.
+fn fault_of(
+    rt: &HostRuntime,
+    text: &[u8],
+    write_fails: u64,
+) -> Result<Result<(), NormalFault>, AllocError> {
+    let drip = DripWriter::new(rt.alloc(), ROOM, 7, write_fails, false)?;
+    let (answer, _) = normalised_on(rt, text, drip);
+    Ok(answer)
+}
+
+/// A fault of the text, and a write that fails, are told apart by `normalise`.
+#[test]
+fn faults_of_normalise(rt: HostRuntime) -> Result<(), Fail> {
+    let of_text = fault_of(&rt, b"tftp-capture 3\n", 0)?;
+    let of_write = fault_of(&rt, READ_OF_HI, 1)?;
+    match (of_text, of_write) {
+        (Err(NormalFault::Verdict(_)), Err(NormalFault::Write)) => Ok(()),
+        _ => Err(Fail::new("another fault, or none")),
+    }
 }

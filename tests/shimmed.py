@@ -1,0 +1,49 @@
+"""The built program with refuse.so before it, which refuses a growth of memory, fails a read or a write, or moves one
+byte a call.
+"""
+from __future__ import annotations
+
+import os
+import pathlib
+import subprocess
+from collections.abc import Sequence
+
+from normal import Output
+from trial import Trial
+
+# What is printed and the status, whether no error was written, and whether the shim's call was met.
+Got = tuple[Output, bool, bool]
+
+
+class ShimmedTrial(Trial):
+    """The runs of a program. FOLDER has refuse.so."""
+
+    def __init__(self, program: str, folder: pathlib.Path) -> None:
+        super().__init__()
+        self.program, self.shim, self.met = program, folder / "refuse.so", folder / "met"
+
+    def run(self, words: Sequence[str | bytes], given: bytes, name: str | None = None, **shim: int) -> Got:
+        """What the program, called by this name, writes and its status, whether it wrote no error, and whether the
+        shim's call was met."""
+        self.met.unlink(missing_ok=True)
+        environment = {"LD_PRELOAD": str(self.shim), "MET": str(self.met), "PATH": os.environ.get("PATH", "")}
+        environment.update({variable: str(value) for variable, value in shim.items()})
+        called = [self.program if name is None else name, *words]
+        done = subprocess.run(
+            called, executable=self.program, input=given, capture_output=True, env=environment, timeout=60
+        )
+        return (done.stdout, done.returncode), done.stderr == b"", self.met.exists()
+
+    def expect(self, name: str, got: Got, *outputs: Output) -> None:
+        """Counts a run that wrote no error and whose output is among those that may be."""
+        self.check(name, got[1] and got[0] in outputs, got)
+
+    def fail_writes(self, name: str, words: Sequence[str], given: bytes, output: Output) -> None:
+        """Each write failing, or taking nothing, of one byte a write; and none is made behind the last byte."""
+        self.expect(f"{name}, one byte a call", self.run(words, given, ONE_BYTE=1), output)
+        for turn in range(1, len(output[0]) + 2):
+            is_made = turn <= len(output[0])
+            for way in ("FAIL_WRITE", "EMPTY_WRITE"):
+                got = self.run(words, given, ONE_BYTE=1, **{way: turn})
+                self.expect(f"{name}, {way} {turn}", got, (output[0][: turn - 1], 2) if is_made else output)
+                self.check(f"{name}, {way} {turn}, is made", got[2] == is_made, got)
