@@ -30,6 +30,8 @@ IN_SOURCE = re.compile(
 )
 FUNCTION = re.compile(r"(?m)^(?= *(?:pub(?:\(crate\))? )?fn )")
 WORD_ROW = re.compile(r"(?m)^\| (`.*) \| \[[^\]]*\]\(([^)]*)\) \|$")
+# The types of another crate, with its page.
+OTHERS = re.compile(r"(?m)^- ((?:`\w+`(?:, )?)+) of \[(\w+)\]\(\2\.md\)$")
 WORD = re.compile(r"`(\w+)`(?: \(there `(\w+)`\))?")
 
 # What a reader of sources has to tell apart: braces in comments, strings and characters, a lifetime and a character, a
@@ -229,6 +231,9 @@ def try_links(trial: Trial) -> None:
     for path in sorted((TOP / PAGES).glob("*.md")):
         for link in links(path):
             trial.check(f"{link}, to which {path.name} leads", is_good(path, link))
+        for names, crate in OTHERS.findall(path.read_text()):
+            strange = set(re.findall(r"\w+", names)) - passed_on(crate)
+            trial.check(f"the types of {crate}, which {path.name} names", not strange, strange)
         for words, target in WORD_ROW.findall(path.read_text()):
             text = (path.parent / target).read_text()
             for word, there in WORD.findall(words):

@@ -115,6 +115,10 @@ class Crate:
         meant = (self.within(module, use) for use in self.files[module].uses if use.name == owner)
         return any(there in self.files and self.named(there, name)[0] is public.item for there, name in meant)
 
+    def types_of(self, module: Module) -> dict[str, tuple[str, str]]:
+        """What each name is that a file brings in, where another crate may have it: the crate, and the name there."""
+        return {use.name: (use.path[0], use.path[-1]) for use in self.files[module].uses}
+
     def words_of(self, module: Module, block: Iterable[Use] = ()) -> dict[str, tuple[str, ...]]:
         """What each word stands for that statements of a file may cite, those of an impl too."""
         return {use.name: use.path for use in (*self.files[module].words, *block)}

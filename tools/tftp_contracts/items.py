@@ -3,7 +3,7 @@ What a body does is passed over."""
 from __future__ import annotations
 
 import dataclasses
-from collections.abc import Iterator, Sequence
+from collections.abc import Iterable, Iterator, Sequence
 
 from .tokens import CLOSING, OPENING, Kind, Token, Unreadable, joined, signature_of, tokens_of
 
@@ -37,6 +37,7 @@ class Function:
     name: str
     doc: str
     signature: str
+    named: tuple[str, ...]  # the names in its signature
     clauses: tuple[Said, ...]
     is_public: bool
 
@@ -52,6 +53,7 @@ class Part:
 
     text: str
     doc: str
+    named: tuple[str, ...]  # the names in it
 
 
 @dataclasses.dataclass(frozen=True)
@@ -96,6 +98,10 @@ def sentences(tokens: Sequence[Token]) -> str:
     """What comments of one line each say; an empty one parts paragraphs."""
     paragraphs = "\n".join(token.said() for token in tokens).split("\n\n")
     return "\n\n".join(" ".join(paragraph.split()) for paragraph in paragraphs if paragraph.strip())
+
+
+def names_in(tokens: Iterable[Token]) -> tuple[str, ...]:
+    return tuple(dict.fromkeys(token.text for token in tokens if token.kind is Kind.NAME))
 
 
 def said_of(kind: str, name: str, tokens: Sequence[Token], remark: str) -> Said:
@@ -301,21 +307,21 @@ class Reader:
             doc, _, is_public = self.above()
             if self.took("}"):
                 return
-            text = signature_of(without_attributes(self.until(",", "}", brackets=TYPED)))
+            tokens = list(without_attributes(self.until(",", "}", brackets=TYPED)))
             self.took(",")
             if are_variants or is_public:
-                yield Part(text, doc)
+                yield Part(signature_of(tokens), doc, names_in(tokens))
 
     def function(self, doc: str, is_public: bool) -> Function:
         """Reads a function, of which its word was taken."""
         name = self.name_next()
-        signature = signature_of(self.until(*CONTRACT, "{", ";"))
+        tokens = self.until(*CONTRACT, "{", ";")
         while self.tokens[self.at - 1].is_comment:
             self.at -= 1  # it stands above the first clause
         clauses = tuple(self.clauses())
         if not self.took(";"):
             self.within()
-        return Function(name, doc, name + signature, clauses, is_public)
+        return Function(name, doc, name + signature_of(tokens), names_in(tokens), clauses, is_public)
 
     def clauses(self) -> Iterator[Said]:
         while True:

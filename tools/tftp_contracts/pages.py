@@ -41,20 +41,23 @@ def statement(said: Said) -> str:
 
 
 class Page:
-    """The page of one crate. The words that its statements cite are gathered as they are written."""
+    """The page of one crate. The words that its statements cite are gathered as they are written, and so are the types of
+    other crates."""
 
     def __init__(self, crate: Crate, definitions: Definitions, has_notes: bool) -> None:
         self.crate, self.definitions, self.has_notes = crate, definitions, has_notes
         self.places: dict[tuple[str, Place], None] = {}
+        self.types: set[tuple[str, str]] = set()
         self.counts = {"calls": 0, "laws": 0, "clauses": 0}
         self.public = list(crate.public())
         self.text = self.made()
 
     def made(self) -> str:
-        parts = [f"# {self.crate.name}", BY, self.crate.files[()].about, " ".join(self.above())]
+        sections: list[str] = []
         for under in dict.fromkeys(it.under for it in self.public):
-            parts += self.section(under, [it for it in self.public if it.under == under])
-        parts += self.words()
+            sections += self.section(under, [it for it in self.public if it.under == under])
+        parts = [f"# {self.crate.name}", BY, self.crate.files[()].about, " ".join(self.above())]
+        parts += [*sections, *self.others(), *self.words()]
         return "\n\n".join(part for part in parts if part) + "\n"
 
     def above(self) -> Iterator[str]:
@@ -64,6 +67,8 @@ class Page:
             named.setdefault(crate, []).append(code(name))
         for crate, names in named.items():
             yield f"Hands on {', '.join(names)} of [{crate}]({crate}.md)."
+        if self.counts["calls"] and not self.counts["clauses"]:
+            yield "No call has a clause."
         yield "[How this page is read](../CONTRACTS.md#how-the-pages-are-read)."
         if self.has_notes:
             yield f"[What no clause says](../CONTRACTS.md#{self.crate.name})."
@@ -96,8 +101,14 @@ class Page:
         self.counts["laws" if function.is_law else "calls"] += 1
         yield heading
         yield "" if function.is_law else code(function.signature)
+        self.names(function.named, module)
         yield function.doc
         yield self.statements(function.clauses, module, block)
+
+    def names(self, named: Iterable[str], module: Module) -> None:
+        """Gathers the types of other crates of the repository."""
+        types = self.crate.types_of(module)
+        self.types |= {types[name] for name in named if name in types and types[name][0] in self.definitions.crates}
 
     def statements(self, found: Iterable[Said], module: Module, block: tuple[Block, ...]) -> str:
         """Statements as a list, whose words are gathered."""
@@ -115,6 +126,8 @@ class Page:
         yield f"### {code(public.name)}"
         yield code(item.text) if item.text else ""
         yield item.doc
+        for named in (re.findall(r"\w+", item.text), *(part.named for part in item.parts)):
+            self.names(named, public.module)
         yield "\n".join(f"- {code(part.text)}{': ' if part.doc else ''}{part.doc}" for part in item.parts)
         blocks = list(self.crate.blocks_of(public))
         for module, block in blocks:
@@ -150,6 +163,14 @@ class Page:
         yield self.statements(block.ghosts, public.module, (block,))
         for function in block.functions:
             yield from self.function(function, call_of("####", public.name, function), public.module, (block,))
+
+    def others(self) -> Iterator[str]:
+        """The types of other crates in what stands above, with their pages."""
+        if self.types:
+            yield "## Types of other crates"
+        crates = sorted({crate for crate, _ in self.types})
+        named = {crate: sorted(code(name) for other, name in self.types if other == crate) for crate in crates}
+        yield "\n".join(f"- {', '.join(named[crate])} of [{crate}]({crate}.md)" for crate in crates)
 
     def words(self) -> Iterator[str]:
         """Where each word is defined, the repository's own first."""
