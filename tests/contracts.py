@@ -192,11 +192,11 @@ def contracts_of(crate: str) -> dict[str, list[Clauses]]:
     found: dict[str, list[Clauses]] = {}
     for source in (TOP / "crates" / crate / "src").rglob("*.rt"):
         for text in FUNCTION.split(source.read_text())[1:]:
-            name = re.search(r"fn (\w+)", text)
+            named = re.search(r"fn (\w+)", text)
             # a body's brace stands alone in its line, or behind a signature that has no clause
             contract = re.split(r"(?m)^ *\{(?:\})?$|\{$", text)[0]
             clauses = [(kind, name, " ".join(said.split())) for kind, name, said in IN_SOURCE.findall(contract)]
-            found.setdefault(name[1] if name else "", []).append(clauses)
+            found.setdefault(named[1] if named else "", []).append(clauses)
     return found
 
 

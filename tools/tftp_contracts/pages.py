@@ -126,8 +126,9 @@ class Page:
         yield f"### {code(public.name)}"
         yield code(item.text) if item.text else ""
         yield item.doc
-        for named in (re.findall(r"\w+", item.text), *(part.named for part in item.parts)):
-            self.names(named, public.module)
+        self.names(re.findall(r"\w+", item.text), public.module)
+        for part in item.parts:
+            self.names(part.named, public.module)
         yield "\n".join(f"- {code(part.text)}{': ' if part.doc else ''}{part.doc}" for part in item.parts)
         blocks = list(self.crate.blocks_of(public))
         for module, block in blocks:
@@ -199,7 +200,8 @@ def index(pages: Iterable[Page]) -> str:
     head = "| Library | What it has | Calls | Laws | Clauses |", "|---|---|---|---|---|"
     about = (
         "What each library hands out, with the clauses of its contract, each behind those that it stands on. "
-        "[How these pages are read, and what no clause says](../CONTRACTS.md)."
+        "[How these pages are read, and what no clause says](../CONTRACTS.md). Links to `crates/` lead into the "
+        "repository; what is installed has none of its sources."
     )
     return "\n\n".join(("# Contracts, library by library", BY, about, "\n".join((*head, *rows)))) + "\n"
 
