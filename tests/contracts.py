@@ -289,7 +289,7 @@ def try_stale(trial: Trial, copy: Copy) -> None:
     trial.check("nothing is left to write", copy.ran("--check") == ("", "", 0) == copy.ran())
     packet, lib = "crates/tftp_packet/src/packet.rt", "crates/tftp_packet/src/lib.rt"
     one, two = ["tftp_packet"], ["README", "tftp_packet"]
-    for what, file, old, new, wanted in (
+    changes: list[tuple[str, str, str, str, list[str]]] = [
         ("another clause", packet, "{ result ≡ opcode_of payload.now }", "{ opcode_of payload.now ≡ result }", one),
         ("another name of a clause", packet, "ensures found {", "ensures finds {", one),
         ("one clause less", packet, "    ensures written { IfOk result (IsWritten payload.now) }\n", "", two),
@@ -307,8 +307,9 @@ def try_stale(trial: Trial, copy: Copy) -> None:
         ("what a library is for", lib, "//! TFTP packets", "//! Packets", two),
         ("a library less", "crates.txt", "tftp_packet:\n", "", two),
         ("a section that is written by hand", "docs/CONTRACTS.md", "### tftp_packet\n", "", one),
-    ):
-        try_change(trial, copy, what, file, old, new, wanted)
+    ]
+    for change in changes:
+        try_change(trial, copy, *change)
 
 
 def try_written(trial: Trial, copy: Copy) -> None:

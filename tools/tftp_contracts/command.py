@@ -74,9 +74,9 @@ def main() -> int:
         print(f"contracts: {why}", file=sys.stderr)
         return 2
     others = differing(written(TOP), pages)
-    for path, why in others.items():
+    for path, told in others.items():
         if is_checked:
-            print(f"{path}: {why}")
+            print(f"{path}: {told}")
         else:
             write(TOP, path, pages.get(path))
     if others and is_checked:
