@@ -5,7 +5,7 @@ BENCH = crates/tftp_bench/out/tftp_bench
 DATAGRAMS = crates/tftp_datagrams/out/tftp_datagrams
 MATCH = crates/tftp_match_main/out/tftp_match_main
 
-.PHONY: build test plants tables bench fuzz install uninstall dist deb
+.PHONY: build test plants tables contracts bench fuzz install uninstall dist deb
 
 # Proves the three programs and builds them, each where its sources are not those that it was built of.
 build:
@@ -28,6 +28,10 @@ plants:
 # Writes the tables of the rules in the pages and in the plugin of Wireshark, and their names on the pages.
 tables:
 	@python3 tools/tables
+
+# Writes the pages of docs/contracts/ from the clauses and the comments of the sources.
+contracts:
+	@python3 tools/contracts
 
 # How fast the program and its libraries are, beside wc -l, a plain copy and the hex crate alone on the same bytes.
 bench: build

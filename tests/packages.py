@@ -144,6 +144,7 @@ def try_tar(trial: Trial, checkout: Checkout, made: pathlib.Path, program: str) 
     wanted = (
         "PROVED", "bin/tftp-audit", "bin/tftp-transfers", "bin/tftp-match", "share/man/man1/tftp-audit.1",
         "share/doc/tftp-audit/README.md", "share/doc/tftp-audit/docs/VERDICTS.md",
+        "share/doc/tftp-audit/docs/contracts/README.md",
         "share/tftp-audit/wireshark/tftp-audit.lua",
         "share/bash-completion/completions/tftp-transfers", "share/bash-completion/completions/tftp-match",
         "share/zsh/site-functions/_tftp-audit",

@@ -15,6 +15,7 @@ import sys
 import tempfile
 from collections.abc import Iterator
 
+from links import is_good, links
 from repository import TOP
 from tftp_tools.rules import PACKET_FAULTS, Rule
 from tftp_tools.textfaults import MEANINGS
@@ -212,32 +213,29 @@ def try_libraries(trial: Trial, sources: Sources) -> None:
     trial.check("the code of README", code[code.index("\n/// ") :] in plain)
 
 
-def passed_on(crate: str) -> set[str]:
-    """What a library hands out by name: functions, laws and types, and the calls of these types."""
-    top = TOP / "crates" / crate / "src"
-    text = (top / "lib.rt").read_text()
-    listed = re.findall(r"pub use [\w:]+::(?:\{([^}]*)\}|(\w+));", text)
-    names = {name.split(" as ")[-1] for many, one in listed for name in re.split(r",\s*", (many or one).strip()) if name}
-    for module in re.findall(r"pub mod (\w+);", text):
-        if (top / f"{module}.rt").exists():
-            names |= set(re.findall(r"(?m)^pub (?:fn|struct|enum|trait) (\w+)", (top / f"{module}.rt").read_text()))
-    for source in sorted(top.rglob("*.rt")):
-        for kind, body in re.findall(r"(?ms)^impl(?:<[^>]*>)? (?:\w+ for )?(\w+)[^{]*\{\n(.*?)^\}", source.read_text()):
-            if kind in names:
-                names |= set(re.findall(r"(?m)^    pub fn (\w+)", body))
-    return names
+def try_contracts(trial: Trial, sources: Sources) -> None:
+    """docs/CONTRACTS.md names nothing that no crate has, and has sections of libraries that have a page of their own;
+    what those pages have is tried by tests/contracts.py."""
+    text = (TOP / "docs" / "CONTRACTS.md").read_text()
+    told = text.replace(text[text.index("## How the pages are read") : text.index("## What no clause says")], "")
+    modules = set().union(*(sources.modules(crate, "specs") for crate in sources.crates))
+    modules |= {path.stem for path in (TOP / "crates").glob("*/src/*.rt")}
+    for name in sorted({part for it in QUOTED.findall(told) for part in it.split("::")}):
+        if re.fullmatch(r"[A-Za-z]\w*", name):
+            trial.check(f"{name}, which CONTRACTS.md names", sources.knows(name) or name in modules)
+    for name, clauses in WITH_CLAUSES.findall(told):
+        for clause in QUOTED.findall(clauses):
+            trial.check(f"the clause {clause} of {name} in CONTRACTS.md", clause in sources.functions.get(name, set()))
+    for crate in re.findall(r"(?m)^### (tftp_\w+)$", text):
+        there = (TOP / "docs" / "contracts" / f"{crate}.md").exists()
+        trial.check(f"the section on {crate} in CONTRACTS.md", there)
 
 
-def try_contracts(trial: Trial) -> None:
-    """docs/CONTRACTS.md has each name that a library hands out in its section, if it has one."""
-    page = (TOP / "docs" / "CONTRACTS.md").read_text()
-    sections = re.findall(r"(?ms)^## (\w+)[^\n]*\n(.*?)(?=^## |\Z)", page)
-    libraries = [(crate, text) for crate, text in sections if (TOP / "crates" / crate / "src" / "lib.rt").exists()]
-    trial.check("CONTRACTS.md has the libraries", len(libraries) > 30, len(libraries))
-    for crate, text in libraries:
-        told = set(re.findall(r"\w+", " ".join(QUOTED.findall(text))))
-        for name in sorted(passed_on(crate)):
-            trial.check(f"{name} of {crate} in CONTRACTS.md", name in told)
+def try_links(trial: Trial) -> None:
+    """Each link of a page leads somewhere."""
+    for page in (*sorted((TOP / "docs").glob("*.md")), *(TOP / name for name in ("README.md", "CONTRIBUTING.md"))):
+        for link in links(page):
+            trial.check(f"{link}, to which {page.name} leads", is_good(page, link))
 
 
 def try_picture(trial: Trial, program: str, transfers: str) -> None:
@@ -282,9 +280,9 @@ def main(program: str, transfers: str, match: str) -> int:
     try_manual(trial, transfers, match)
     try_names(trial)
     sources = Sources()
-    for of_sources in (try_laws, try_proof, try_libraries):
+    for of_sources in (try_laws, try_proof, try_libraries, try_contracts):
         of_sources(trial, sources)
-    try_contracts(trial)
+    try_links(trial)
     try_picture(trial, program, transfers)
     try_shown(trial, program, transfers, match)
     return trial.end()

@@ -6,8 +6,8 @@
 # of them, for some seconds; the recorded transfers of examples/; the datagrams that are read of recordings, and which
 # transfer they are of; what is said between the ends; the rows, lists and texts of recordings; captures of both ends,
 # texts and recordings, matched, explained and drawn; the scripts that explain, draw and report, on changed captures
-# too; the plugin of Wireshark; the schemas of JSON; what each rule is called, wherever that stands; and what stands in
-# the pages for readers.
+# too; the plugin of Wireshark; the schemas of JSON; what each rule is called, wherever that stands; the pages of
+# contracts, beside the sources; and what stands in the pages for readers.
 set -eu
 here=$(dirname "$0")
 transfers=$here/../crates/tftp_transfers_main/out/tftp_transfers_main
@@ -69,5 +69,8 @@ python3 "$here/legs.py" "$transfers" "$match"
 echo "tables of the rules:"
 python3 "$here/../tools/tables" --check
 python3 "$here/tables.py"
+echo "pages of contracts:"
+python3 "$here/../tools/contracts" --check
+python3 "$here/contracts.py"
 echo "pages:"
 python3 "$here/pages.py" "$1" "$transfers" "$match"

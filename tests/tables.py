@@ -23,6 +23,8 @@ TABLE, SPECS = "tools/tftp_tools/rules.py", TOP / "crates" / "tftp_law" / "specs
 SCRIPTS, PAGES = ("tools", "tests", "bench"), ("docs", "share", "README.md", "CONTRIBUTING.md")
 # What the sources call their rules and files, and messages of commits: these are no printed names.
 OF_SOURCES = re.compile(r"`[A-Z]\w+`|Unlawful\(\d+, \w+\)|\"tftp_law: [^\"]*\"")
+# Pages that are made of the sources, and so have what these call their rules.
+MADE = "docs/contracts/"
 # What has each rule.
 WRITTEN = ("docs/VERDICTS.md", "docs/SPECIFICATION.md", "share/wireshark/tftp-audit.lua")
 
@@ -50,8 +52,9 @@ def texts(folder: pathlib.Path, among: tuple[str, ...]) -> Iterator[tuple[str, s
     for name in among:
         path = folder / name
         for file in sorted(path.glob("**/*")) if path.is_dir() else (path,):
-            if file.is_file() and file.suffix not in (".pyc", ".pcap", ".pcapng"):
-                yield str(file.relative_to(folder)), file.read_text(encoding="utf-8", errors="replace")
+            page = str(file.relative_to(folder))
+            if file.is_file() and file.suffix not in (".pyc", ".pcap", ".pcapng") and not page.startswith(MADE):
+                yield page, file.read_text(encoding="utf-8", errors="replace")
 
 
 def try_scripts(trial: Trial) -> None:

@@ -87,6 +87,7 @@ put_all() {
     put 644 share/tftp-audit/schemas docs/schemas/*.json
     put 644 share/doc/tftp-audit README.md CHANGELOG.md
     put 644 share/doc/tftp-audit/docs docs/*.md
+    put 644 share/doc/tftp-audit/docs/contracts docs/contracts/*.md
     put 644 share/doc/tftp-audit/examples examples/*
     put 644 share/bash-completion/completions share/completions/bash/*
     put 644 share/zsh/site-functions share/completions/zsh/*
