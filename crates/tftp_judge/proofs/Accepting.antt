@@ -168,7 +168,7 @@ module _ (h : Header) (earlier : List Datagram) (d : Datagram) (m : Message) (no
   nothing ds e asked (x, first, s) = let at : first_of (asks h) ds ≡ None = ap (first_of (asks h)) e in absurd (cc)
 
   pub first_passes : OneEnded h earlier → Passes h earlier d
-  first_passes one = main_passes h earlier d m on spells (first_lawful h earlier d m on spells one (nothing earlier none) (λ _ peer. other peer))
+  first_passes one = main_passes h earlier d m on spells (first_lawful h earlier d m on spells (nothing earlier none) (λ _ peer. other peer))
 
 pub request_found : (h : Header) (earlier : List Datagram) (d : Datagram) (t : Transfer) → OneEnded h earlier → earlier ≡ [] → is_of_transfer (route_of h earlier d) ≡ true → (route_of h earlier d ≡ Route.Peer → ⊥)
     → Spells d.payload (Message.Request t.asked) → IsTransferAfter t h (d ∷ []) → Passes h earlier d × IsKept h (d ∷ earlier) (Some t)

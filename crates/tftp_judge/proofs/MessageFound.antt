@@ -7,6 +7,7 @@ use Rattle.tftp_rules.specs.{author_of, end_number, EndBroken, FirstEndBroken, P
 use Rattle.tftp_nego.specs.{MayAgree, FirstFault, number, NegoFault}
 use Rattle.tftp_nego.proofs.Tested.{no_fault}
 use Rattle.tftp_law.specs.{number_of, Agrees, Begins, NotAnswered, FirstAnswer, IsWrongKind, GoesOn, ClientWentOn, AreTermsAfter, BlockSent, RequestBreaks, FirstOackBreaks, LaterOackBreaks, OackBreaks, TermsBreak, KindBreaks, MessageBreaks, rule_of_end, Rule}
+use Rattle.tftp_law.proofs.FirstBroken.OneMessage.{kind_from}
 use Rattle.tftp_judge.specs.{Finds, NoneBreaks, IsFirstOf, IsBlockOrAck, stop_of_fault, Stop}
 use Rattle.tftp_judge.proofs.FirstAnswers.{not_both, first_once, terms_once, block_answers}
 
@@ -129,18 +130,6 @@ module _ (asked : RequestParts) (passed : List Datagram) (dir : Dir) (oack : Opt
     pub later_oack_finds : (A B : Type 0) → (A → B) → (r : Result (Unit {0}) Stop) → Finds (LaterOackBreaks asked.side passed dir first oack) A r → Finds (OackBreaks asked passed dir oack) B r
     later_oack_finds A B = finds_by (LaterOackBreaks asked.side passed dir first oack) (OackBreaks asked passed dir oack) A B later_there later_back
 
-  from_ten : (rule : Rule) → OackBreaks asked passed dir oack rule → 10 ≤ number_of rule
-  from_ten Rule.ReplyChanged b = omega arith
-  from_ten Rule.OackChanged b = omega arith
-  from_ten Rule.OackAfterStart b = omega arith
-  from_ten Rule.OackEmpty b = omega arith
-  from_ten Rule.MulticastAgreed b = omega arith
-  from_ten Rule.OptionNotRequested b = omega arith
-  from_ten Rule.OptionOutsideProfile b = omega arith
-  from_ten Rule.OptionValue b = omega arith
-  from_ten Rule.BeyondBlock65535 b = omega arith
-  from_ten rule b = absurd b.1
-
 -- ---- a block or an ACK
 
 number_is : (e : EndRule) → number_of (rule_of_end e) ≡ end_number e
@@ -164,26 +153,6 @@ module _ (h : Header) (asked : RequestParts) (passed : List Datagram) (m : Messa
           first.first f (omega arith) (same_terms f u at b)
 
 -- ---- any message
-
-end_from : (e : EndRule) → 18 ≤ number_of (rule_of_end e)
-end_from EndRule.NotStarted = omega arith
-end_from _ = omega arith
-
-request_from : (asked : RequestParts) (passed : List Datagram) (dir : Dir) (now : RequestParts) (rule : Rule) → RequestBreaks asked passed dir now rule → 8 ≤ number_of rule
-request_from asked passed dir now Rule.RequestChanged b = omega arith
-request_from asked passed dir now Rule.RequestAfterStart b = omega arith
-request_from asked passed dir now rule b = absurd b
-
-terms_from : (h : Header) (asked : RequestParts) (passed : List Datagram) (m : Message) (rule : Rule) → TermsBreak h asked passed m rule → 8 ≤ number_of rule
-terms_from h asked passed m rule (e, is, t, at, b) = let high = end_from e in let same = ap number_of is in omega arith
-
--- the rules of one kind stand behind that of ERRORs
-kind_from : (h : Header) (asked : RequestParts) (passed : List Datagram) (dir : Dir) (m : Message) (rule : Rule) → KindBreaks h asked passed dir m rule → 8 ≤ number_of rule
-kind_from h asked passed dir (Message.Request now) rule b = request_from asked passed dir now rule b
-kind_from h asked passed dir (Message.Error code text) rule b = absurd b
-kind_from h asked passed dir (Message.Oack oack) rule b = let high = from_ten asked passed dir oack rule b in omega arith
-kind_from h asked passed dir (Message.Data k bytes) rule b = terms_from h asked passed (Message.Data k bytes) rule b
-kind_from h asked passed dir (Message.Ack j) rule b = terms_from h asked passed (Message.Ack j) rule b
 
 -- the first rule is that of ERRORs
 pub gone_on : (h : Header) (asked : RequestParts) (passed : List Datagram) (dir : Dir) (m : Message) → (IsWrongKind (author_of h.named dir) asked.side m → ⊥) → GoesOn passed dir m

@@ -1,16 +1,14 @@
 -- What is found of a datagram by its route, before it is read and after.
-use Rattle.std.proofs.Common.{◌≡◌, ◌⊎◌, ℕ, zero, suc, ◌<◌, Bool, true, false, List, [], ◌∷◌, None, inl, inr, refl, sym, subst, ap, ◌∙◌, arith}
+use Rattle.std.proofs.Common.{◌≡◌, ◌⊎◌, ℕ, zero, suc, ◌<◌, Bool, true, false, List, [], ◌∷◌, None, inl, inr, refl, sym, ap, ◌∙◌, arith}
 use Rattle.std.specs.List.{AllByRecursion}
 use Rattle.std.specs.Str.{bytes_eq}
 use Rattle.std.proofs.lemmas.Bool.{cases_lt, false≢true}
 use Rattle.std.proofs.lemmas.Slice.Eq.{bytes_eq-Decides}
 use Rattle.tftp_packet.specs.{Message, RequestParts, IsString, terminated, Spells, IsPair}
-use Rattle.tftp_packet.proofs.NoFault.{no_fault}
 use Rattle.tftp_hosts.specs.{Datagram, Header}
-use Rattle.tftp_rules.specs.{Route, asks, first_of, route_of, is_of_transfer, transfer_of, SaysUnknownId, PortRule, PortBroken, EndRule}
-use Rattle.tftp_nego.specs.{NegoFault}
-use Rattle.tftp_law.specs.{FirstAsked, Says, GoesOn, ClientWentOn, FirstOack, EndBreaks, Broken, Rule, IsRead, Passes, OneEnded}
-use Rattle.tftp_law.proofs.FirstBroken.FirstRequests.{none_before, none_asked}
+use Rattle.tftp_rules.specs.{Route, asks, first_of, route_of, is_of_transfer, SaysUnknownId, PortRule, PortBroken}
+use Rattle.tftp_law.specs.{FirstAsked, Broken, Rule, IsRead, Passes}
+use Rattle.tftp_law.proofs.FirstBroken.OneMessage.{only_ports, only_messages}
 
 -- ---- a datagram is ERROR 5, or it is not
 
@@ -100,43 +98,10 @@ off_read Route.NoStrayAnswer d off foreign wrong bad = absurd (bad (inl refl))
 
 module _ (h : Header) (ds : List Datagram) (d : Datagram) where
   module _ (off : is_of_transfer (route_of h ds d) ≡ false) (kept : (port : PortRule) → PortBroken h ds d port → ⊥) where
-    not_said : (m : Message) → Says h ds d m → ⊥
-    not_said m says = false≢true (sym off ∙ says.routed)
-
-    off_lawful : (rule : Rule) → Broken h ds d rule → ⊥
-    off_lawful Rule.ForeignPort b = kept PortRule.Foreign b
-    off_lawful Rule.WrongPort b = kept PortRule.Wrong b
-    off_lawful Rule.StrayAnswer b = kept PortRule.BadAnswer b
-    off_lawful Rule.NoRequest b = false≢true (sym off ∙ ap is_of_transfer b.1)
-    off_lawful (Rule.Malformed fault) b = false≢true (sym off ∙ b.0)
-    off_lawful Rule.WrongKind (m, asked, says, is, wrong) = not_said m says
-    off_lawful Rule.AfterError (now, says, went) = not_said now says
-    off_lawful Rule.RequestChanged (was, now, is, says, other) = not_said (Message.Request now) says
-    off_lawful Rule.RequestAfterStart (out, (now, says), went) = not_said (Message.Request now) says
-    off_lawful Rule.ReplyChanged (asked, oack, is, answered, says) = not_said (Message.Oack oack) says
-    off_lawful Rule.OackEmpty b = not_said (Message.Oack b.oack) b.says
-    off_lawful Rule.MulticastAgreed b = not_said (Message.Oack b.oack) b.says
-    off_lawful Rule.OptionNotRequested b = not_said (Message.Oack b.oack) b.says
-    off_lawful Rule.OptionOutsideProfile b = not_said (Message.Oack b.oack) b.says
-    off_lawful Rule.OptionValue b = not_said (Message.Oack b.oack) b.says
-    off_lawful Rule.OackChanged (asked, was, now, is, answered, says, apart) = not_said (Message.Oack now) says
-    off_lawful Rule.OackAfterStart (out, asked, (oack, says), sent) = not_said (Message.Oack oack) says
-    off_lawful Rule.NotStarted b = not_said b.message b.says
-    off_lawful Rule.BlockZero b = not_said b.message b.says
-    off_lawful Rule.BeyondBlock65535 (inl b) = not_said b.message b.says
-    off_lawful Rule.BeyondBlock65535 (inr b) = not_said (Message.Oack b.oack) b.says
-    off_lawful Rule.BlockLength b = not_said b.message b.says
-    off_lawful Rule.WindowOverrun b = not_said b.message b.says
-    off_lawful Rule.BlockSkipped b = not_said b.message b.says
-    off_lawful Rule.GoneBack b = not_said b.message b.says
-    off_lawful Rule.BlockChanged b = not_said b.message b.says
-    off_lawful Rule.AckAhead b = not_said b.message b.says
-    off_lawful Rule.AckZero b = not_said b.message b.says
-
     pub off_passes : Passes h ds d
     off_passes = record {
       read = off_read (route_of h ds d) d off (kept PortRule.Foreign) (kept PortRule.Wrong) (kept PortRule.BadAnswer);
-      lawful = off_lawful;
+      lawful = only_ports h ds d off kept;
     }
 
   -- ---- a datagram of the transfer
@@ -154,50 +119,6 @@ module _ (h : Header) (ds : List Datagram) (d : Datagram) where
   main_passes m on s lawful = record { read = main_read (route_of h ds d) m on s; lawful = lawful }
 
   -- the first request
-  module _ (m : Message) (on : is_of_transfer (route_of h ds d) ≡ true) (spells : Spells d.payload m) (one : OneEnded h ds)
-      (never : (asked : RequestParts) → FirstAsked h ds asked → ⊥) (begun_by : first_of (asks h) ds ≡ None → route_of h ds d ≡ Route.Peer → ⊥) where
-    nothing : first_of (asks h) ds ≡ None
-    nothing = none_asked h ds one never
-
-    gone_on : (now : Message) → GoesOn (transfer_of h ds) d.dir now → ⊥
-    gone_on now went = (subst (λ (passed : List Datagram). GoesOn passed d.dir now) (none_before h ds nothing one) went).2
-
-    went_on : ClientWentOn (transfer_of h ds) → ⊥
-    went_on went = elim (subst (λ (passed : List Datagram). ClientWentOn passed) (none_before h ds nothing one) went) [ inl block ↦ block.2 | inr ack ↦ ack.1 ]
-
-    no_end : (e : EndRule) → EndBreaks h ds d e → ⊥
-    no_end e b = never b.known.0 b.known.1
-
-    no_oack : (fault : NegoFault) → FirstOack h ds d fault → ⊥
-    no_oack fault b = never b.asked b.first
-
-    pub first_lawful : (rule : Rule) → Broken h ds d rule → ⊥
-    first_lawful Rule.ForeignPort b = false≢true (sym (ap is_of_transfer b) ∙ on)
-    first_lawful Rule.WrongPort b = false≢true (sym (ap is_of_transfer b) ∙ on)
-    first_lawful Rule.StrayAnswer (inl b) = false≢true (sym (ap is_of_transfer b) ∙ on)
-    first_lawful Rule.StrayAnswer (inr b) = false≢true (sym (ap is_of_transfer b.0) ∙ on)
-    first_lawful Rule.NoRequest b = begun_by b.0 b.1
-    first_lawful (Rule.Malformed fault) b = no_fault d.payload m fault spells.1 b.1.0
-    first_lawful Rule.WrongKind (x, asked, says, is, wrong) = never asked is
-    first_lawful Rule.AfterError (now, says, went) = gone_on now went
-    first_lawful Rule.RequestChanged (was, now, is, says, other) = never was is
-    first_lawful Rule.RequestAfterStart (out, says, went) = went_on went
-    first_lawful Rule.ReplyChanged (asked, oack, is, answered, says) = never asked is
-    first_lawful Rule.OackEmpty b = no_oack NegoFault.OackEmpty b
-    first_lawful Rule.MulticastAgreed b = no_oack NegoFault.MulticastAgreed b
-    first_lawful Rule.OptionNotRequested b = no_oack NegoFault.OptionNotRequested b
-    first_lawful Rule.OptionOutsideProfile b = no_oack NegoFault.OptionOutsideProfile b
-    first_lawful Rule.OptionValue b = no_oack NegoFault.OptionValue b
-    first_lawful Rule.OackChanged (asked, was, now, is, answered, says, apart) = never asked is
-    first_lawful Rule.OackAfterStart (out, (asked, is, get), says, sent) = never asked is
-    first_lawful Rule.NotStarted b = no_end EndRule.NotStarted b
-    first_lawful Rule.BlockZero b = no_end EndRule.BlockZero b
-    first_lawful Rule.BeyondBlock65535 (inl b) = no_end EndRule.BeyondBlock65535 b
-    first_lawful Rule.BeyondBlock65535 (inr b) = no_oack NegoFault.BeyondBlock65535 b
-    first_lawful Rule.BlockLength b = no_end EndRule.BlockLength b
-    first_lawful Rule.WindowOverrun b = no_end EndRule.WindowOverrun b
-    first_lawful Rule.BlockSkipped b = no_end EndRule.BlockSkipped b
-    first_lawful Rule.GoneBack b = no_end EndRule.GoneBack b
-    first_lawful Rule.BlockChanged b = no_end EndRule.BlockChanged b
-    first_lawful Rule.AckAhead b = no_end EndRule.AckAhead b
-    first_lawful Rule.AckZero b = no_end EndRule.AckZero b
+  pub first_lawful : (m : Message) → is_of_transfer (route_of h ds d) ≡ true → Spells d.payload m → ((asked : RequestParts) → FirstAsked h ds asked → ⊥)
+      → (first_of (asks h) ds ≡ None → route_of h ds d ≡ Route.Peer → ⊥) → (rule : Rule) → Broken h ds d rule → ⊥
+  first_lawful m on spells never begun rule b = let said = only_messages h ds d m on spells begun rule b in never said.asked said.first

@@ -6,6 +6,7 @@ use Rattle.tftp_rules.specs.{or_this, first_of, asks, route_of, is_of_transfer, 
 use Rattle.tftp_model.specs.Roles.{sender_of, receiver_of}
 use Rattle.tftp_law.specs.{Passes, OneEnded, FirstAsked, IsWrongKind, Rule}
 use Rattle.tftp_law.proofs.FirstBroken.FirstAnswered.{or_new, main_none, main_some}
+use Rattle.tftp_law.proofs.FirstBroken.OneMessage.{none_by}
 use Rattle.tftp_law.proofs.FirstBroken.FirstRequests.{some_same, first_stays, none_before}
 use Rattle.tftp_law.proofs.Spelled.{spelled_once}
 use Rattle.tftp_law.proofs.Accord.WhoSends.{ack_in_who, ack_out_who}
@@ -23,7 +24,7 @@ module _ (h : Header) (asked : RequestParts) (dir : Dir) (j : ℕ) where
 
     by : (b : Bool) → is_of_transfer (route_of h earlier d) ≡ b → ⊥
     by true of = elim (subst (Passed dir (Message.Ack j)) (main_some (is_of_transfer (route_of h earlier d)) d (transfer_of h earlier) of) p) [
-      | inl now ↦ passes.lawful Rule.WrongKind (Message.Ack j, asked, record { routed = of; spells = now.1 }, stays, subst (λ way. IsWrongKind (author_of h.named way) asked.side (Message.Ack j)) (sym now.0) wrong)
+      | inl now ↦ none_by h earlier d (Message.Ack j) asked of now.1 stays passes.lawful Rule.WrongKind (inl (refl, subst (λ way. IsWrongKind (author_of h.named way) asked.side (Message.Ack j)) (sym now.0) wrong))
       | inr more ↦ before stays more wrong
     ]
     by false of = before stays (subst (Passed dir (Message.Ack j)) (main_none (is_of_transfer (route_of h earlier d)) d (transfer_of h earlier) of) p) wrong

@@ -6,7 +6,7 @@ use Rattle.tftp_model.specs.{Meaning, request_of, blksize_of, block, block_count
 use Rattle.tftp_rules.specs.{Route, route_of, transfer_of, SaysUnknownId, HasPassed}
 use Rattle.tftp_law.specs.Fitting.{Fits}
 use Rattle.tftp_law.specs.Dress.{Part, Main, Stray, StrayAnswer, Division, datagrams_of, dir_of, packet_of, Saying, says_of}
-use Rattle.tftp_law.specs.Rules.{FirstAsked, Agrees, Begins, FirstAnswer}
+use Rattle.tftp_law.specs.Replies.{FirstAsked, Agrees, Begins, FirstAnswer}
 
 -- the meaning and the wire are those of the first request, of the first answer and of all blocks, as far as they passed
 pub record Accords (h : Header) (m : Meaning) (wire : List ℕ) (earlier : List Datagram) : Type 0 where

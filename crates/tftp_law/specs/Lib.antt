@@ -2,11 +2,12 @@ pub mod Sides
 pub mod Fitting
 pub mod Dress
 pub mod Law
+pub mod Replies
+pub mod MessageRules
 pub mod Rules
 pub mod RuleNames
 pub mod OneEnd
 pub mod PortRules
-pub mod MessageRules
 pub mod Aborted
 pub mod Settled
 pub mod Owned
@@ -17,10 +18,11 @@ pub use Sides.{BeginsAsRequest, from_server, server_port}
 pub use Fitting.{Fits, IsWritable, ReadsAs, carried_file, written_wire}
 pub use Dress.{AnswersStray, Carries, CarriesDeed, ComesAstray, Division, GoesToServer, HasClientId, HasPart, HasPartBy, HasServerId, HaveParts, HavePartsBy, IsDressed, IsMain, Main, Part, Placed, Saying, Stray, TransferIds, datagrams_of, dir_of, packet_of, says_of, view_in}
 pub use Law.{IsLawful, IsLawfulUpTo, IsSeen, Shows, ShowsBy}
-pub use Rules.{Agrees, Answer, Answers, AreTerms, Begins, Broken, ClientWentOn, EndBreaks, FirstAnswer, FirstAsked, FirstBroken, FirstOack, GoesOn, IsAnswer, IsError, IsWrongKind, NotAnswered, Says, number_of, plain_terms, size_from, terms_after}
+pub use Replies.{Agrees, Answer, Answers, AreTerms, AreTermsAfter, Begins, FirstAnswer, FirstAsked, IsAnswer, NotAnswered, plain_terms, size_from, terms_after}
+pub use Rules.{Broken, FirstBroken, MessageBroken, Says, number_of}
 pub use RuleNames.{rule_name}
 pub use OneEnd.{IsAgreed, IsEnded, IsJoined, IsRead, IsRefused, IsWhole, Meant, OneEnded, Passes}
-pub use MessageRules.{AckSent, AreTermsAfter, BlockSent, FirstOackBreaks, KindBreaks, LaterOackBreaks, MessageBreaks, OackBreaks, RequestBreaks, TermsBreak, rule_of_end}
+pub use MessageRules.{AckSent, BlockSent, ClientWentOn, FirstOackBreaks, GoesOn, IsError, IsWrongKind, KindBreaks, LaterOackBreaks, MessageBreaks, OackBreaks, RequestBreaks, TermsBreak, rule_of_end}
 pub use Aborted.{FirstError, IsAborted, IsErrorBy, IsNotAborted, NoErrorPassed, by_of}
 pub use Owned.{meaning_from}
 pub use Accord.{Accords, AreRouted, AreRoutedBy, SaysAs, SaysAsBy, Stands, Starts, packet_route, part_route, request_at, request_back}

@@ -1,38 +1,49 @@
--- The rules that one message of the transfer may break, where it is known what was asked for first: each says what
--- `Broken` of Rules.antt says of a message of its kind.
+-- The rules that a message of the transfer may break, where it is known what was asked for first: those of all messages,
+-- and those of each kind. The list `passed` has the transfer's datagrams so far, the newest first.
 use Rattle.std.specs.Prelude.{◌≡◌, ◌≢◌, ◌⊎◌, ℕ, List}
-use Rattle.tftp_packet.specs.{OptionMap, Message, RequestParts, meaning, Packet, Side, Get}
+use Rattle.tftp_packet.specs.{OptionMap, Message, RequestParts, Side, Get, Put, End, Client, Server}
 use Rattle.tftp_hosts.specs.{Dir, Out, Datagram, Header}
-use Rattle.tftp_rules.specs.{author_of, Passed, EndBroken, NoReply, Terms, EndRule}
+use Rattle.tftp_rules.specs.{author_of, Passed, EndBroken, Terms, EndRule}
 use Rattle.tftp_nego.specs.{Holds, NegoFault}
-use Rattle.tftp_law.specs.Rules.{Answer, Agrees, Begins, IsAnswer, NotAnswered, FirstAnswer, plain_terms, terms_after, IsWrongKind, GoesOn, ClientWentOn}
+use Rattle.tftp_law.specs.Replies.{Agrees, Begins, NotAnswered, FirstAnswer, AreTermsAfter}
 use Rattle.tftp_law.specs.declared.rule.Rule.{Rule}
 use Rattle.tftp_law.specs.declared.rule.Rule.TheVariants.{WrongKind, AfterError, RequestChanged, RequestAfterStart, ReplyChanged, OackEmpty, MulticastAgreed, OptionNotRequested, OptionOutsideProfile, OptionValue, OackChanged, OackAfterStart, NotStarted, BlockZero, BeyondBlock65535, BlockLength, WindowOverrun, BlockSkipped, GoneBack, BlockChanged, AckAhead, AckZero}
 
--- the packet is the first answer
-abbrev pub IsFirstAnswer : Side → List Datagram → Packet → Type 0
-IsFirstAnswer side passed packet = (answer : Answer) × FirstAnswer side passed answer × IsAnswer side (meaning packet) answer
+-- what the client may not send on this side, and what the server may not (RFC 1350, sections 2 and 4)
+abbrev pub IsWrongKind : End → Side → Message → Type 0
+IsWrongKind Client Get (Message.Data k bytes) = Unit {0}
+IsWrongKind Client Put (Message.Ack j) = Unit {0}
+IsWrongKind Client side (Message.Oack options) = Unit {0}
+IsWrongKind Server Get (Message.Ack j) = Unit {0}
+IsWrongKind Server Put (Message.Data k bytes) = Unit {0}
+IsWrongKind Server side (Message.Request request) = Unit {0}
+IsWrongKind _ _ _ = ⊥
 
--- what is known of the transfer
-abbrev pub AreTermsAfter : Header → RequestParts → List Datagram → Terms → Type 0
-AreTermsAfter h asked passed t =
-    (NotAnswered asked.side passed × (t ≡ plain_terms h asked.side NoReply))
-    ⊎ ((answer : Answer) × FirstAnswer asked.side passed answer × (t ≡ terms_after h asked answer))
+abbrev pub IsError : Message → Type 0
+IsError m = (code : ℕ) × (text : List ℕ) × (m ≡ Message.Error code text)
 
--- the end sent a block, or an ACK
+-- An ERROR went this way, and this is not that ERROR again (RFC 1350, section 7). What comes in and is no ERROR may have
+-- been sent before it.
+abbrev pub GoesOn : List Datagram → Dir → Message → Type 0
+GoesOn passed dir now = (stop : Message) × IsError stop × Passed dir stop passed × (now ≢ stop) × ((dir ≡ Out) ⊎ IsError now)
+
+-- the end sent a block, or an ACK, or either
 abbrev pub BlockSent : List Datagram → Type 0
 BlockSent passed = (k : ℕ) × (bytes : List ℕ) × Passed Out (Message.Data k bytes) passed
 
 abbrev pub AckSent : List Datagram → Type 0
 AckSent passed = (j : ℕ) × Passed Out (Message.Ack j) passed
 
--- a request after the first one
+abbrev pub ClientWentOn : List Datagram → Type 0
+ClientWentOn passed = BlockSent passed ⊎ AckSent passed
+
+-- a request: that is not the first one again, or that comes after an ACK or a block (RFC 1350, section 4)
 abbrev pub RequestBreaks : RequestParts → List Datagram → Dir → RequestParts → Rule → Type 0
 RequestBreaks asked passed dir now RequestChanged = now ≢ asked
 RequestBreaks asked passed dir now RequestAfterStart = (dir ≡ Out) × ClientWentOn passed
 RequestBreaks asked passed dir now _ = ⊥
 
--- an OACK of a request that was not answered before
+-- the first OACK: without an option, or with one that may not be agreed (RFC 2347; RFC 2348; RFC 2349; RFC 7440, section 3)
 abbrev pub FirstOackBreaks : RequestParts → OptionMap → Rule → Type 0
 FirstOackBreaks asked oack OackEmpty = Holds NegoFault.OackEmpty asked oack
 FirstOackBreaks asked oack MulticastAgreed = Holds NegoFault.MulticastAgreed asked oack
@@ -42,13 +53,14 @@ FirstOackBreaks asked oack OptionValue = Holds NegoFault.OptionValue asked oack
 FirstOackBreaks asked oack BeyondBlock65535 = Holds NegoFault.BeyondBlock65535 asked oack
 FirstOackBreaks asked oack _ = ⊥
 
--- an OACK after the first one
+-- a later OACK, in the terms of the first one
 abbrev pub LaterOackBreaks : Side → List Datagram → Dir → OptionMap → OptionMap → Rule → Type 0
 LaterOackBreaks side passed dir first oack OackChanged = oack ≢ first
 LaterOackBreaks side passed dir first oack OackAfterStart = (dir ≡ Out) × (side ≡ Get) × BlockSent passed
 LaterOackBreaks side passed dir first oack _ = ⊥
 
--- an OACK
+-- an OACK: where the request was answered without one; that is not the first one again; that the server of a read sends
+-- after a block; or the first one (RFC 2347)
 abbrev pub OackBreaks : RequestParts → List Datagram → Dir → OptionMap → Rule → Type 0
 OackBreaks asked passed dir oack ReplyChanged = FirstAnswer asked.side passed Begins
 OackBreaks asked passed dir oack OackChanged = (first : OptionMap) × FirstAnswer asked.side passed (Agrees first) × (oack ≢ first)
@@ -68,11 +80,11 @@ rule_of_end EndRule.BlockChanged = BlockChanged
 rule_of_end EndRule.AckAhead = AckAhead
 rule_of_end EndRule.AckZero = AckZero
 
--- a block or an ACK
+-- a block or an ACK (RFC 1350, sections 2, 4 and 5; RFC 2347; RFC 2349; RFC 7440, section 4)
 abbrev pub TermsBreak : Header → RequestParts → List Datagram → Message → Rule → Type 0
 TermsBreak h asked passed m rule = (e : EndRule) × (rule ≡ rule_of_end e) × (t : Terms) × AreTermsAfter h asked passed t × EndBroken t passed m e
 
--- a message that its sender may send
+-- by the kind of message
 abbrev pub KindBreaks : Header → RequestParts → List Datagram → Dir → Message → Rule → Type 0
 KindBreaks h asked passed dir (Message.Request now) rule = RequestBreaks asked passed dir now rule
 KindBreaks h asked passed dir (Message.Error code text) rule = ⊥
@@ -80,7 +92,7 @@ KindBreaks h asked passed dir (Message.Oack oack) rule = OackBreaks asked passed
 KindBreaks h asked passed dir (Message.Data k bytes) rule = TermsBreak h asked passed (Message.Data k bytes) rule
 KindBreaks h asked passed dir (Message.Ack j) rule = TermsBreak h asked passed (Message.Ack j) rule
 
--- any message
+-- any message: its sender has nothing of this kind to send, or its end sends it after an ERROR, or it breaks a rule of its kind
 abbrev pub MessageBreaks : Header → RequestParts → List Datagram → Dir → Message → Rule → Type 0
 MessageBreaks h asked passed dir m rule =
     ((rule ≡ WrongKind) × IsWrongKind (author_of h.named dir) asked.side m)

@@ -7,7 +7,8 @@ use Rattle.tftp_model.specs.{Meaning, request_of}
 pub use Rattle.tftp_rules.specs.Joined.{IsJoined}
 use Rattle.tftp_rules.specs.{Route, route_of, transfer_of, SaysUnknownId, Passed, IsFront, IsLast, IsSender, IsReceiver, Terms}
 use Rattle.tftp_law.specs.Fitting.{ReadsAs}
-use Rattle.tftp_law.specs.Rules.{Broken, FirstBroken, FirstAsked, Agrees, FirstAnswer, AreTerms}
+use Rattle.tftp_law.specs.Replies.{FirstAsked, Agrees, FirstAnswer, AreTerms}
+use Rattle.tftp_law.specs.Rules.{Broken, FirstBroken}
 use Rattle.tftp_law.specs.declared.rule.Rule.{Rule}
 
 -- what is read of a datagram on each route that it may have: a packet of the transfer, nothing of a stray, and ERROR 5

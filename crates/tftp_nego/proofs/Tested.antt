@@ -7,7 +7,7 @@ use Rattle.tftp_packet.specs.{OptionMap, OptionValue, Num, Text, no_options, low
 use Rattle.tftp_nego.specs.{NegoFault, MayAnswer, MayAgree, Holds, FirstFault, HasOption, IsOutsideProfile, IsWrongNumber, IsWrongValue, EachName, SomeName, IsInProfile, IsAnswered, IsUnanswered, AreNot, IsLowered, IsKept, IsSize, AllAnswered, SomeUnanswered, FitsNumbers}
 use Rattle.tftp_nego.specs.declared.fault.NegoFault.TheVariants as fault
 use Rattle.tftp_nego.proofs.OptionMaps.{text_of_value, each_in_map, some_in_map, has_not_empty, some_not_empty}
-use Rattle.tftp_nego.proofs.FaultOrder.{first_MulticastAgreed, first_OptionNotRequested, first_OptionOutsideProfile, first_OptionValue, first_BeyondBlock65535}
+use Rattle.tftp_nego.proofs.FaultOrder.{first_fault}
 
 -- the options that may be agreed differ in their third letters
 third : List ℕ → ℕ
@@ -155,29 +155,29 @@ unanswered_fault request pairs each some = some_unanswered request (map_of pairs
 
 -- ---- the first fault, where the tests before it passed
 pub first_multicast : (request : RequestParts) (pairs : List Pair) → Holds fault.MulticastAgreed request (map_of pairs) → FirstFault request (map_of pairs) fault.MulticastAgreed
-first_multicast request pairs has = first_MulticastAgreed request (map_of pairs) has (has_not_empty (map_of pairs) (codes "multicast") has)
+first_multicast request pairs has = first_fault request (map_of pairs) fault.MulticastAgreed has (has_not_empty (map_of pairs) (codes "multicast") has)
 
 pub first_not_requested : (request : RequestParts) (pairs : List Pair) → AreApart pairs → pairs ≢ [] → (Holds fault.MulticastAgreed request (map_of pairs) → ⊥)
     → SomeName (λ name. map.get request.options name ≡ None) pairs → FirstFault request (map_of pairs) fault.OptionNotRequested
 first_not_requested request pairs apart some single found =
-    first_OptionNotRequested request (map_of pairs) (some_in_map (λ name. map.get request.options name ≡ None) pairs apart found) (some_not_empty pairs apart some) single
+    first_fault request (map_of pairs) fault.OptionNotRequested (some_in_map (λ name. map.get request.options name ≡ None) pairs apart found) (some_not_empty pairs apart some) single
 
 pub first_outside : (request : RequestParts) (pairs : List Pair) → AreApart pairs → pairs ≢ [] → (Holds fault.MulticastAgreed request (map_of pairs) → ⊥)
     → EachName (HasOption request.options) pairs → SomeName IsOutsideProfile pairs → FirstFault request (map_of pairs) fault.OptionOutsideProfile
 first_outside request pairs apart some single requested found =
-    first_OptionOutsideProfile request (map_of pairs) (some_in_map IsOutsideProfile pairs apart found) (some_not_empty pairs apart some) single (all_requested_no_fault request pairs requested)
+    first_fault request (map_of pairs) fault.OptionOutsideProfile (some_in_map IsOutsideProfile pairs apart found) (some_not_empty pairs apart some) single (all_requested_no_fault request pairs requested)
 
 pub first_wrong_value : (request : RequestParts) (pairs : List Pair) → AreApart pairs → pairs ≢ [] → (Holds fault.MulticastAgreed request (map_of pairs) → ⊥)
     → EachName (HasOption request.options) pairs → EachName IsInProfile pairs → SomeUnanswered request (map_of pairs) → FirstFault request (map_of pairs) fault.OptionValue
 first_wrong_value request pairs apart some single requested known found =
-    first_OptionValue request (map_of pairs) (unanswered_fault request pairs requested found) (some_not_empty pairs apart some) single
+    first_fault request (map_of pairs) fault.OptionValue (unanswered_fault request pairs requested found) (some_not_empty pairs apart some) single
     (all_requested_no_fault request pairs requested) (all_known_no_fault request pairs known)
 
 pub first_beyond : (request : RequestParts) (pairs : List Pair) → AreApart pairs → pairs ≢ [] → (Holds fault.MulticastAgreed request (map_of pairs) → ⊥)
     → EachName (HasOption request.options) pairs → EachName IsInProfile pairs → AllAnswered request (map_of pairs) → Holds fault.BeyondBlock65535 request (map_of pairs)
     → FirstFault request (map_of pairs) fault.BeyondBlock65535
 first_beyond request pairs apart some single requested known all found =
-    first_BeyondBlock65535 request (map_of pairs) found (some_not_empty pairs apart some) single
+    first_fault request (map_of pairs) fault.BeyondBlock65535 found (some_not_empty pairs apart some) single
     (all_requested_no_fault request pairs requested) (all_known_no_fault request pairs known) (all_asked_no_fault request (map_of pairs) (all_asked request pairs known all))
 
 pub tested_agrees : (request : RequestParts) (pairs : List Pair) → AreApart pairs → pairs ≢ [] → EachName IsInProfile pairs → AllAnswered request (map_of pairs) → FitsNumbers request (map_of pairs)

@@ -2,7 +2,7 @@
 -- RFC 2349; RFC 7440, section 3).
 use Rattle.std.specs.Prelude.{◌≡◌, ◌≢◌, ◌⊎◌, ℕ, ◌+◌, ◌/◌, ◌<◌, List, Some, None, codes}
 use Rattle.std.specs.FinMap as map
-use Rattle.tftp_packet.specs.{OptionMap, OptionValue, Num, Text, no_options, RequestParts, Side, Put, Octet}
+use Rattle.tftp_packet.specs.{IsFirst, OptionMap, OptionValue, Num, Text, no_options, RequestParts, Side, Put, Octet}
 use Rattle.tftp_nego.specs.declared.fault.NegoFault.{NegoFault}
 use Rattle.tftp_nego.specs.declared.fault.NegoFault.TheVariants as fault
 use Rattle.tftp_nego.specs.Numbers.{option_or}
@@ -53,4 +53,4 @@ number fault.Memory = 7
 
 -- the fault holds, and none that stands before it does
 abbrev pub FirstFault : RequestParts → OptionMap → NegoFault → Type 0
-FirstFault request agreed f = Holds f request agreed × ((earlier : NegoFault) → number earlier < number f → Holds earlier request agreed → ⊥)
+FirstFault request agreed f = IsFirst number (λ g. Holds g request agreed) f

@@ -5,7 +5,7 @@ use Rattle.std.proofs.lemmas.List.Elements.{recursion_from_All, All-from_get_or}
 use Rattle.std.proofs.lemmas.List.{take_all}
 use Rattle.tftp_packet.specs.{IsString, terminated, Message, meaning, Spells, IsPair, Holds, FirstFault, opcode_of, IsWritten, Judges, Packet, PacketFault, Short, Opcode, NoTerminator}
 use Rattle.byteorder.specs.Endian.{big_number}
-use Rattle.tftp_packet.proofs.FaultOrder.{first_fault_unique, first_Short, first_NoTerminator}
+use Rattle.tftp_packet.proofs.FaultOrder.{first_fault_unique, first_fault}
 use Rattle.tftp_packet.proofs.Unique.{one_message}
 use Rattle.tftp_packet.proofs.NoFault.{no_fault}
 
@@ -31,7 +31,7 @@ fault_of payload (Err g) judged f = ((λ e. let same : g ≡ f = cc in subst (Fi
 
 -- too short for an opcode, or with an opcode that no packet has
 pub judged_short : (payload : List ℕ) → length payload < 2 → FirstFault payload Short
-judged_short payload short = first_Short payload (inl short)
+judged_short payload short = first_fault payload Short (inl short)
 
 -- the bytes after an opcode
 pub after_opcode : (payload : List ℕ) (k : ℕ) → opcode_of payload ≡ k → 0 < k → k < 256 → AllByRecursion (λ b. b < 256) payload → payload ≡ 0 ∷ k ∷ take (length payload - 2) (drop 2 payload)
@@ -58,7 +58,7 @@ error_parts (x ∷ y ∷ u ∷ v ∷ rest) is bytes long =
 
 pub error_fault : (payload text : List ℕ) (x y : ℕ) → (payload ≡ 0 ∷ 5 ∷ x ∷ y ∷ text) × (x < 256) × (y < 256) → ((message : List ℕ) → IsString message → text ≢ terminated message)
     → FirstFault payload NoTerminator
-error_fault payload text x y parts never = first_NoTerminator payload (inr (inr (x, y, text, parts.0, never))) not_short not_opcode (λ ack. omega (arith, five, ack.0))
+error_fault payload text x y parts never = first_fault payload NoTerminator (inr (inr (x, y, text, parts.0, never))) not_short not_opcode (λ ack. omega (arith, five, ack.0))
   where
     five : opcode_of payload ≡ 5
     five = ap opcode_of parts.0

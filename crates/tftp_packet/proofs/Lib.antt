@@ -1,4 +1,5 @@
 pub mod Strings
+pub mod FirstOf
 pub mod FaultOrder
 pub mod PairStrings
 pub mod Requests

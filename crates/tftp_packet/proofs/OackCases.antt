@@ -1,7 +1,7 @@
 -- What the bytes of an OACK's body say of the whole payload, case by case.
 use Rattle.std.proofs.Common.{◌≡◌, ◌≢◌, inl, inr, ℕ, ◌%◌, List, [], ◌∷◌, length, refl, sym, ap, subst, ◌∙◌, arith}
 use Rattle.tftp_packet.specs.{AreStrings, strings, pair_strings, AreNamed, OptionFault, PacketFault, Short, Opcode, AckLength, NoTerminator, OddOptions, EmptyOptionName, DuplicateOption, UnknownMode, MailMode, RequestTooLong, Holds, FirstFault, IsRequest, HasOptionStrings, EndsWithZero, opcode_of}
-use Rattle.tftp_packet.proofs.FaultOrder.{first_NoTerminator, first_OddOptions, first_EmptyOptionName, first_DuplicateOption}
+use Rattle.tftp_packet.proofs.FaultOrder.{first_fault}
 use Rattle.tftp_packet.proofs.Strings.{strings_injective, strings_end}
 use Rattle.tftp_packet.proofs.PairStrings.{pair_strings_injective, not_odd, none_of_all}
 
@@ -36,18 +36,18 @@ same_options all other strung (inr (e, q)) = let same : strings other ≡ string
 
 -- the first fault of the options is that of the payload
 pub oack_fault : (body : List ℕ) (f : PacketFault) → OptionFault body f → FirstFault (0 ∷ 6 ∷ body) f
-oack_fault body NoTerminator (some, never) = first_NoTerminator (0 ∷ 6 ∷ body) (inr (inl (body, refl, some, never))) (not_short body) (not_opcode body) (not_ack body)
+oack_fault body NoTerminator (some, never) = first_fault (0 ∷ 6 ∷ body) NoTerminator (inr (inl (body, refl, some, never))) (not_short body) (not_opcode body) (not_ack body)
 oack_fault body OddOptions (all, is, strung, odd) = subst (λ b. FirstFault (0 ∷ 6 ∷ b) OddOptions) (sym is)
-    (first_OddOptions (0 ∷ 6 ∷ strings all) (all, inr (refl, strung), odd) (not_short (strings all)) (not_opcode (strings all)) (not_ack (strings all)) (not_unended all))
+    (first_fault (0 ∷ 6 ∷ strings all) OddOptions (all, inr (refl, strung), odd) (not_short (strings all)) (not_opcode (strings all)) (not_ack (strings all)) (not_unended all))
 oack_fault body EmptyOptionName (pairs, is, strung, empty) =
     let all = pair_strings pairs in
     subst (λ b. FirstFault (0 ∷ 6 ∷ b) EmptyOptionName) (sym is)
-    (first_EmptyOptionName (0 ∷ 6 ∷ strings all) (pairs, inr (refl, strung), empty) (not_short (strings all)) (not_opcode (strings all)) (not_ack (strings all)) (not_unended all)
+    (first_fault (0 ∷ 6 ∷ strings all) EmptyOptionName (pairs, inr (refl, strung), empty) (not_short (strings all)) (not_opcode (strings all)) (not_ack (strings all)) (not_unended all)
     (λ (other, has, odd). not_odd pairs (ap (λ o. length o % 2) (sym (same_options all other strung has)) ∙ odd)))
 oack_fault body DuplicateOption (pairs, is, strung, named, repeat) =
     let all = pair_strings pairs in
     subst (λ b. FirstFault (0 ∷ 6 ∷ b) DuplicateOption) (sym is)
-    (first_DuplicateOption (0 ∷ 6 ∷ strings all) (pairs, inr (refl, strung), repeat) (not_short (strings all)) (not_opcode (strings all)) (not_ack (strings all)) (not_unended all)
+    (first_fault (0 ∷ 6 ∷ strings all) DuplicateOption (pairs, inr (refl, strung), repeat) (not_short (strings all)) (not_opcode (strings all)) (not_ack (strings all)) (not_unended all)
     (λ (other, has, odd). not_odd pairs (ap (λ o. length o % 2) (sym (same_options all other strung has)) ∙ odd))
     (λ (other, has, empty). none_of_all (λ pair. pair.0 ≡ []) other (subst AreNamed (sym (pair_strings_injective other pairs (same_options all (pair_strings other) strung has))) named) empty))
 oack_fault body Short is = elim is [ ]

@@ -1,7 +1,7 @@
 -- What the bytes of a request's body say of the whole payload, case by case.
 use Rattle.std.proofs.Common.{◌≡◌, ◌≢◌, ◌⊎◌, inl, inr, ℕ, ◌<◌, List, [], ◌∷◌, ◌++◌, length, refl, sym, ap, subst, ◌∙◌, append_assoc, arith, codes}
 use Rattle.tftp_packet.specs.{lower, IsString, AreStrings, terminated, strings, Pair, pair_strings, AreNamed, AreApart, mode_name, OptionFault, Mode, Octet, Netascii, PacketFault, Short, Opcode, AckLength, NoTerminator, OddOptions, EmptyOptionName, DuplicateOption, UnknownMode, MailMode, RequestTooLong, FirstFault, EndsWithZero, ModeFault}
-use Rattle.tftp_packet.proofs.FaultOrder.{first_NoTerminator, first_OddOptions, first_EmptyOptionName, first_DuplicateOption, first_UnknownMode, first_MailMode, first_RequestTooLong}
+use Rattle.tftp_packet.proofs.FaultOrder.{first_fault}
 use Rattle.tftp_packet.proofs.Strings.{string_has_no_zero, end_after, strings_end}
 use Rattle.tftp_packet.proofs.Requests.{not_short, not_opcode, not_ack, begins, same_mode, not_unended, unended, paired, all_named, all_apart}
 
@@ -23,12 +23,12 @@ known_mode Netascii text e octet netascii = netascii e
 module _ (k : ℕ) (request : (k ≡ 1) ⊎ (k ≡ 2)) where
   -- the first string has no end
   pub no_string : (body : List ℕ) → IsString body → FirstFault (0 ∷ k ∷ body) NoTerminator
-  no_string body string = first_NoTerminator _ (unended k request body (inl (λ ends. string_has_no_zero body ends.0 [] string ends.1)))
+  no_string body string = first_fault _ NoTerminator (unended k request body (inl (λ ends. string_has_no_zero body ends.0 [] string ends.1)))
       (not_short k request body) (not_opcode k request body) (not_ack k request body)
 
   -- the second string has no end, or is not there
   pub one_string : (name rest body : List ℕ) → IsString name → IsString rest → body ≡ name ++ 0 ∷ rest → FirstFault (0 ∷ k ∷ body) NoTerminator
-  one_string name rest body p q e = first_NoTerminator _ (unended k request body (one_string_why name rest body p q e))
+  one_string name rest body p q e = first_fault _ NoTerminator (unended k request body (one_string_why name rest body p q e))
       (not_short k request body) (not_opcode k request body) (not_ack k request body)
 
   -- a body that begins with two strings
@@ -47,25 +47,25 @@ module _ (k : ℕ) (request : (k ≡ 1) ⊎ (k ≡ 2)) where
 
     -- the first fault of the options is that of the payload
     pub options_fault : (f : PacketFault) → OptionFault rest f → FirstFault (0 ∷ k ∷ body) f
-    options_fault NoTerminator (some, never) = first_NoTerminator _ (unended k request body (inl (open_body some never)))
+    options_fault NoTerminator (some, never) = first_fault _ NoTerminator (unended k request body (inl (open_body some never)))
         (not_short k request body) (not_opcode k request body) (not_ack k request body)
     options_fault OddOptions (all, is, strung, odd) =
         let whole = name ∷ mode_text ∷ all in
         subst (λ b. FirstFault (0 ∷ k ∷ b) OddOptions) (sym (body_of all is))
-        (first_OddOptions (0 ∷ k ∷ strings whole) (all, inl (name, mode_text, (begins k request (strings whole), (p, (q, strung)))), odd)
+        (first_fault (0 ∷ k ∷ strings whole) OddOptions (all, inl (name, mode_text, (begins k request (strings whole), (p, (q, strung)))), odd)
         (not_short k request (strings whole)) (not_opcode k request (strings whole)) (not_ack k request (strings whole))
         (not_unended k request name mode_text all (p, (q, strung)) (strings_end name (mode_text ∷ all))))
     options_fault EmptyOptionName (pairs, is, strung, empty) =
         let whole = name ∷ mode_text ∷ pair_strings pairs in
         subst (λ b. FirstFault (0 ∷ k ∷ b) EmptyOptionName) (sym (body_of (pair_strings pairs) is))
-        (first_EmptyOptionName (0 ∷ k ∷ strings whole) (pairs, inl (name, mode_text, (begins k request (strings whole), (p, (q, strung)))), empty)
+        (first_fault (0 ∷ k ∷ strings whole) EmptyOptionName (pairs, inl (name, mode_text, (begins k request (strings whole), (p, (q, strung)))), empty)
         (not_short k request (strings whole)) (not_opcode k request (strings whole)) (not_ack k request (strings whole))
         (not_unended k request name mode_text (pair_strings pairs) (p, (q, strung)) (strings_end name (mode_text ∷ pair_strings pairs)))
         (paired k request name mode_text pairs (p, (q, strung))))
     options_fault DuplicateOption (pairs, is, strung, named, repeat) =
         let whole = name ∷ mode_text ∷ pair_strings pairs in
         subst (λ b. FirstFault (0 ∷ k ∷ b) DuplicateOption) (sym (body_of (pair_strings pairs) is))
-        (first_DuplicateOption (0 ∷ k ∷ strings whole) (pairs, inl (name, mode_text, (begins k request (strings whole), (p, (q, strung)))), repeat)
+        (first_fault (0 ∷ k ∷ strings whole) DuplicateOption (pairs, inl (name, mode_text, (begins k request (strings whole), (p, (q, strung)))), repeat)
         (not_short k request (strings whole)) (not_opcode k request (strings whole)) (not_ack k request (strings whole))
         (not_unended k request name mode_text (pair_strings pairs) (p, (q, strung)) (strings_end name (mode_text ∷ pair_strings pairs)))
         (paired k request name mode_text pairs (p, (q, strung))) (all_named k request name mode_text pairs (p, (q, strung)) named))
@@ -88,13 +88,13 @@ module _ (k : ℕ) (request : (k ≡ 1) ⊎ (k ≡ 2)) where
       pub mode_fault : (f : PacketFault) → ModeFault (lower mode_text) f → FirstFault (0 ∷ k ∷ body) f
       unfolding whole
       mode_fault MailMode mail = subst (λ b. FirstFault (0 ∷ k ∷ b) MailMode) (sym (body_of (pair_strings pairs) is))
-          (first_MailMode (0 ∷ k ∷ strings whole) (mode_text, (name, pair_strings pairs, (begins k request (strings whole), all_strung)), mail)
+          (first_fault (0 ∷ k ∷ strings whole) MailMode (mode_text, (name, pair_strings pairs, (begins k request (strings whole), all_strung)), mail)
           (not_short k request (strings whole)) (not_opcode k request (strings whole)) (not_ack k request (strings whole))
           (not_unended k request name mode_text (pair_strings pairs) all_strung (strings_end name (mode_text ∷ pair_strings pairs)))
           (paired k request name mode_text pairs all_strung) (all_named k request name mode_text pairs all_strung named) (all_apart k request name mode_text pairs all_strung apart)
           (λ (m, has, octet, netascii, other). other (ap lower (same_mode k request name mode_text (pair_strings pairs) all_strung m has) ∙ mail)))
       mode_fault UnknownMode unknown = subst (λ b. FirstFault (0 ∷ k ∷ b) UnknownMode) (sym (body_of (pair_strings pairs) is))
-          (first_UnknownMode (0 ∷ k ∷ strings whole) (mode_text, (name, pair_strings pairs, (begins k request (strings whole), all_strung)), unknown.0, unknown.1, unknown.2)
+          (first_fault (0 ∷ k ∷ strings whole) UnknownMode (mode_text, (name, pair_strings pairs, (begins k request (strings whole), all_strung)), unknown.0, unknown.1, unknown.2)
           (not_short k request (strings whole)) (not_opcode k request (strings whole)) (not_ack k request (strings whole))
           (not_unended k request name mode_text (pair_strings pairs) all_strung (strings_end name (mode_text ∷ pair_strings pairs)))
           (paired k request name mode_text pairs all_strung) (all_named k request name mode_text pairs all_strung named) (all_apart k request name mode_text pairs all_strung apart))
@@ -104,7 +104,7 @@ module _ (k : ℕ) (request : (k ≡ 1) ⊎ (k ≡ 2)) where
       pub too_long : (mode : Mode) → lower mode_text ≡ mode_name mode → pairs ≢ [] → 510 < length body → FirstFault (0 ∷ k ∷ body) RequestTooLong
       unfolding whole
       too_long mode known some long = subst (λ b. FirstFault (0 ∷ k ∷ b) RequestTooLong) (sym (body_of (pair_strings pairs) is))
-          (first_RequestTooLong (0 ∷ k ∷ strings whole) (name, mode_text, pair_strings pairs, (begins k request (strings whole), all_strung), (λ none. some (nothing pairs none)), (let same = ap length (body_of (pair_strings pairs) is) in omega arith))
+          (first_fault (0 ∷ k ∷ strings whole) RequestTooLong (name, mode_text, pair_strings pairs, (begins k request (strings whole), all_strung), (λ none. some (nothing pairs none)), (let same = ap length (body_of (pair_strings pairs) is) in omega arith))
           (not_short k request (strings whole)) (not_opcode k request (strings whole)) (not_ack k request (strings whole))
           (not_unended k request name mode_text (pair_strings pairs) all_strung (strings_end name (mode_text ∷ pair_strings pairs)))
           (paired k request name mode_text pairs all_strung) (all_named k request name mode_text pairs all_strung named) (all_apart k request name mode_text pairs all_strung apart)

@@ -1,5 +1,6 @@
 -- Why a payload is no packet. The faults stand in the order in which they are tried.
 use Rattle.std.specs.Prelude.{◌≡◌, ◌≢◌, ◌⊎◌, ◌+◌, ◌*◌, ◌%◌, ◌<◌, ℕ, List, [], ◌∷◌, length, codes}
+use Rattle.tftp_packet.specs.FirstOf.{IsFirst}
 use Rattle.tftp_packet.specs.OptionMaps.{lower}
 use Rattle.tftp_packet.specs.Written.{IsString, AreStrings, terminated, strings, Pair, pair_strings, SameName}
 use Rattle.tftp_packet.specs.declared.fault.PacketFault.{PacketFault}
@@ -86,4 +87,4 @@ number RequestTooLong = 10
 
 -- the fault holds of the payload, and none that stands before it does
 abbrev pub FirstFault : List ℕ → PacketFault → Type 0
-FirstFault payload fault = Holds fault payload × ((earlier : PacketFault) → number earlier < number fault → Holds earlier payload → ⊥)
+FirstFault payload fault = IsFirst number (λ f. Holds f payload) fault

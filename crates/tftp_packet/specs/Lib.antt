@@ -4,6 +4,7 @@ pub mod Messages
 pub mod Written
 pub mod Spelling
 pub mod Meaning
+pub mod FirstOf
 pub mod Faults
 pub mod AsWritten
 pub mod Reading
@@ -20,6 +21,7 @@ pub use Messages.{Ack, Data, Error, Message, Oack, Request, RequestParts}
 pub use Written.{AreApart, AreNamed, AreOptions, AreStrings, IsString, Pair, SameName, WrittenRequest, map_of, pair_strings, pair_up, pairs_of, parts, strings, strings_of, terminated, text_of}
 pub use Spelling.{IsPair, Layout, Spells, SpellsOack, SpellsRequest, mode_name, side_opcode}
 pub use Meaning.{HasStringMessage, meaning}
+pub use FirstOf.{IsFirst, NoneBelow}
 pub use Faults.{AnyOf, EndsWithZero, FirstFault, HasMode, HasOptionStrings, HasRepeat, Holds, IsRequest, IsRequestOf, ModeFault, number, opcode_of}
 pub use AsWritten.{IsWritten, IsWrittenOack, IsWrittenRequest, request_strings, written_oack, written_request}
 pub use Reading.{Judges}

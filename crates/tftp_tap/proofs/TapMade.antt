@@ -3,7 +3,6 @@ use Rattle.std.proofs.Common.{◌≡◌, ◌⊎◌, ℕ, Bool, true, false, List
 use Rattle.std.specs.List.{list_any}
 use Rattle.std.proofs.lemmas.Bool.{true≢false, cases_lt}
 use Rattle.tftp_packet.specs.{Message, RequestParts, Spells, Side, Get, Put, End, Client, Server}
-use Rattle.tftp_packet.proofs.NoFault.{no_fault}
 use Rattle.tftp_hosts.specs.{Datagram, Header}
 use Rattle.tftp_model.specs.Machines.{receiver_of}
 use Rattle.tftp_model.specs.{MachinePacket, Req, Oack, Data, Ack, Error, is_error}
@@ -14,6 +13,7 @@ use Rattle.tftp_law.specs.declared.rule.Rule.TheVariants as rule
 use Rattle.tftp_law.proofs.Division.RouteTests.{IsTold}
 use Rattle.tftp_law.proofs.Spelled.{spelled_once}
 use Rattle.tftp_law.proofs.FirstBroken.FirstRequests.{some_same}
+use Rattle.tftp_law.proofs.FirstBroken.OneMessage.{only_messages}
 use Rattle.tftp_law.proofs.Division.Divided.{any_none, any_cases, any_first, any_later}
 use Rattle.tftp_tap.specs.{deed_at, TapDatagram, TapSides, side_of, AreApart, is_left_out, kept_of, before_error, same_end, is_request, tap_tests, recorded_at, header_at, FirstTapAsked, Says, HasKind, IsReply, IsLateBlock, is_of_ports}
 use Rattle.tftp_tap.proofs.KeptOf.{is_or_not, any_here, any_skip, any_of, some_of, before_there, kept_out, kept_in, kept_more, kept_plain, kept_asks}
@@ -89,33 +89,10 @@ recorded_payload s r d = elim (is_or_not (same_peer d.source (side_of s r))) [ i
 
 -- the first request breaks no rule
 first_breaks_none : (h : Header) (d : Datagram) (n : Message) → route_of h [] d ≡ Route.Request → Spells d.payload n → (broken : Rule) → Broken h [] d broken → ⊥
-first_breaks_none h d n route t rule.ForeignPort b = let same = sym route ∙ b in absurd (cc)
-first_breaks_none h d n route t rule.WrongPort b = let same = sym route ∙ b in absurd (cc)
-first_breaks_none h d n route t rule.StrayAnswer b = elim b [ inl bad ↦ let same = sym route ∙ bad in absurd (cc) | inr other ↦ let same = sym route ∙ other.0 in absurd (cc) ]
-first_breaks_none h d n route t rule.NoRequest b = let same = sym route ∙ b.1 in absurd (cc)
-first_breaks_none h d n route t (rule.Malformed fault) b = no_fault d.payload n fault t.1 b.1.0
-first_breaks_none h d n route t rule.WrongKind b = let none = b.3.1 in absurd (cc)
-first_breaks_none h d n route t rule.AfterError b = absurd b.2.2
-first_breaks_none h d n route t rule.RequestChanged b = let none = b.2.1 in absurd (cc)
-first_breaks_none h d n route t rule.RequestAfterStart b = elim b.2 [ inl block ↦ absurd block.2 | inr ack ↦ absurd ack.1 ]
-first_breaks_none h d n route t rule.ReplyChanged b = absurd b.3
-first_breaks_none h d n route t rule.OackEmpty b = let none = b.first.1 in absurd (cc)
-first_breaks_none h d n route t rule.MulticastAgreed b = let none = b.first.1 in absurd (cc)
-first_breaks_none h d n route t rule.OptionNotRequested b = let none = b.first.1 in absurd (cc)
-first_breaks_none h d n route t rule.OptionOutsideProfile b = let none = b.first.1 in absurd (cc)
-first_breaks_none h d n route t rule.OptionValue b = let none = b.first.1 in absurd (cc)
-first_breaks_none h d n route t rule.OackChanged b = let none = b.3.1 in absurd (cc)
-first_breaks_none h d n route t rule.OackAfterStart b = absurd b.3.2
-first_breaks_none h d n route t rule.NotStarted b = let none = b.known.1.1 in absurd (cc)
-first_breaks_none h d n route t rule.BlockZero b = let none = b.known.1.1 in absurd (cc)
-first_breaks_none h d n route t rule.BeyondBlock65535 b = elim b [ inl end ↦ let none = end.known.1.1 in absurd (cc) | inr oack ↦ let none = oack.first.1 in absurd (cc) ]
-first_breaks_none h d n route t rule.BlockLength b = let none = b.known.1.1 in absurd (cc)
-first_breaks_none h d n route t rule.WindowOverrun b = let none = b.known.1.1 in absurd (cc)
-first_breaks_none h d n route t rule.BlockSkipped b = let none = b.known.1.1 in absurd (cc)
-first_breaks_none h d n route t rule.GoneBack b = let none = b.known.1.1 in absurd (cc)
-first_breaks_none h d n route t rule.BlockChanged b = let none = b.known.1.1 in absurd (cc)
-first_breaks_none h d n route t rule.AckAhead b = let none = b.known.1.1 in absurd (cc)
-first_breaks_none h d n route t rule.AckZero b = let none = b.known.1.1 in absurd (cc)
+first_breaks_none h d n route t broken b =
+    let said = only_messages h [] d n (ap is_of_transfer route) t (λ none peer. let same = sym route ∙ peer in cc) broken b in
+    let none = said.first.1 in
+    cc
 
 -- ---- what is kept is known
 

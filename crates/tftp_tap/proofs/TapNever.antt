@@ -8,7 +8,7 @@ use Rattle.tftp_model.specs.Machines.{sender_of, receiver_of}
 use Rattle.tftp_model.specs.{MachinePacket, Req, Oack, Data, Ack, Error, is_error}
 use Rattle.tftp_rules.specs.{same_peer, asks, transfer_of, IsSender, EndBroken, EndRule, NoReply, Terms}
 use Rattle.tftp_model.proofs.Members.{contains_first, contains_later, contains_cases, contains_none}
-use Rattle.tftp_law.specs.{packet_in, says_some, number_of, FirstAsked, Answer, Agrees, Begins, AreTerms, plain_terms, terms_after, EndBreaks, IsWrongKind, Broken, Rule}
+use Rattle.tftp_law.specs.{packet_in, says_some, number_of, FirstAsked, Answer, Agrees, Begins, AreTerms, plain_terms, terms_after, IsWrongKind, KindBreaks, MessageBreaks, MessageBroken, Broken, rule_of_end, Rule}
 use Rattle.tftp_law.specs.declared.rule.Rule.TheVariants as rule
 use Rattle.tftp_law.proofs.Spelled.{spelled_once}
 use Rattle.tftp_law.proofs.FirstBroken.FirstRequests.{request_same, some_same}
@@ -123,25 +123,49 @@ module _ (s : TapSides) (apart : AreApart s) (asked : RequestParts) (cs : List C
     oack_out source get options t =
         not_wrong Client (source ∙ ap (λ x. side_of s (receiver_of x)) get) (Message.Oack options) t (subst (λ x. IsWrongKind Client x (Message.Oack options)) (sym get) tt)
 
-    sender_breaks : (x : EndBreaks (header_at s asked.side) (map (recorded_at s (receiver_of asked.side)) (map datagram_in (kept_of pair_tests (receiver_of asked.side) cs))) (recorded_at s (receiver_of asked.side) d) EndRule.GoneBack) → ⊥
-    sender_breaks x = by x.message x.broken where
-      by : (n : Message) → EndBroken x.terms (transfer_of (header_at s asked.side) (map (recorded_at s (receiver_of asked.side)) (map datagram_in (kept_of pair_tests (receiver_of asked.side) cs)))) n EndRule.GoneBack → ⊥
-      by (Message.Data k bytes) b = inner_receives x.terms x.known b.0
-      by _ b = b
+    abbrev Known : Terms → Type 0
+    Known t = AreTerms (header_at s asked.side) (map (recorded_at s (receiver_of asked.side)) (map datagram_in (kept_of pair_tests (receiver_of asked.side) cs))) t
 
-    skipper_breaks : (x : EndBreaks (header_at s asked.side) (map (recorded_at s (receiver_of asked.side)) (map datagram_in (kept_of pair_tests (receiver_of asked.side) cs))) (recorded_at s (receiver_of asked.side) d) EndRule.BlockSkipped) → ⊥
-    skipper_breaks x = by x.message x.broken where
-      by : (n : Message) → EndBroken x.terms (transfer_of (header_at s asked.side) (map (recorded_at s (receiver_of asked.side)) (map datagram_in (kept_of pair_tests (receiver_of asked.side) cs)))) n EndRule.BlockSkipped → ⊥
-      by (Message.Data k bytes) b = inner_receives x.terms x.known b.0
-      by _ b = b
+    abbrev inner : List Datagram
+    inner = transfer_of (header_at s asked.side) (map (recorded_at s (receiver_of asked.side)) (map datagram_in (kept_of pair_tests (receiver_of asked.side) cs)))
+
+    end_never : (n : Message) (e : EndRule) → IsOfSending (rule_of_end e) → (t : Terms) → Known t → EndBroken t inner n e → ⊥
+    end_never (Message.Data k bytes) EndRule.BlockSkipped of t known b = inner_receives t known b.0
+    end_never (Message.Data k bytes) EndRule.GoneBack of t known b = inner_receives t known b.0
+    end_never (Message.Ack j) EndRule.BlockSkipped of t known b = b
+    end_never (Message.Ack j) EndRule.GoneBack of t known b = b
+    end_never (Message.Request now) e of t known b = b
+    end_never (Message.Oack options) e of t known b = b
+    end_never (Message.Error code text) e of t known b = b
+    end_never n e of t known b = absurd of
+
+    kind_never : (n : Message) → Spells d.payload n → (other : RequestParts) → FirstAsked (header_at s asked.side) (map (recorded_at s (receiver_of asked.side)) (map datagram_in (kept_of pair_tests (receiver_of asked.side) cs))) other
+        → (broken : Rule) → IsOfSending broken → KindBreaks (header_at s asked.side) other inner (recorded_at s (receiver_of asked.side) d).dir n broken → ⊥
+    kind_never (Message.Request now) t other first rule.RequestAfterStart of b = request_out asked.side (goes_out_is (receiver_of asked.side) b.0) refl now t
+    kind_never (Message.Request now) t other first rule.RequestChanged of b = of
+    kind_never (Message.Request now) t other first broken of b = b
+    kind_never (Message.Oack options) t other first rule.OackAfterStart of b =
+        oack_out (goes_out_is (receiver_of asked.side) b.0) (ap (λ (q : RequestParts). q.side) (sym (inner_asked other first)) ∙ b.1) options t
+    kind_never (Message.Oack options) t other first rule.RequestAfterStart of b = b.1
+    kind_never (Message.Oack options) t other first rule.BlockSkipped of b = b.1
+    kind_never (Message.Oack options) t other first rule.GoneBack of b = b.1
+    kind_never (Message.Oack options) t other first broken of b = absurd of
+    kind_never (Message.Data k bytes) t other first broken of (e, is, u, known, b) = end_never (Message.Data k bytes) e (subst IsOfSending is of) u (other, first, known) b
+    kind_never (Message.Ack j) t other first broken of (e, is, u, known, b) = end_never (Message.Ack j) e (subst IsOfSending is of) u (other, first, known) b
+    kind_never (Message.Error code text) t other first broken of b = b
+
+    message_never : (broken : Rule) → IsOfSending broken → MessageBroken (header_at s asked.side) (map (recorded_at s (receiver_of asked.side)) (map datagram_in (kept_of pair_tests (receiver_of asked.side) cs))) (recorded_at s (receiver_of asked.side) d) broken → ⊥
+    message_never broken of x = by x.breaks where
+      by : MessageBreaks (header_at s asked.side) x.asked inner (recorded_at s (receiver_of asked.side) d).dir x.message broken → ⊥
+      by (inl (is, wrong)) = subst IsOfSending is of
+      by (inr (inl (is, goes))) = subst IsOfSending is of
+      by (inr (inr b)) = kind_never x.message (spelled_there x.message x.says.spells) x.asked x.first broken of b
 
     kept_never : (broken : Rule) → IsOfSending broken → Broken (header_at s asked.side) (map (recorded_at s (receiver_of asked.side)) (map datagram_in (kept_of pair_tests (receiver_of asked.side) cs))) (recorded_at s (receiver_of asked.side) d) broken → ⊥
-    kept_never rule.RequestAfterStart of b = request_out asked.side (goes_out_is (receiver_of asked.side) b.0) refl b.1.0 (spelled_there (Message.Request b.1.0) b.1.1.spells)
-    kept_never rule.OackAfterStart of b =
-        let same = inner_asked b.1.0 b.1.1 in
-        oack_out (goes_out_is (receiver_of asked.side) b.0) (ap (λ (q : RequestParts). q.side) (sym same) ∙ b.1.2) b.2.0 (spelled_there (Message.Oack b.2.0) b.2.1.spells)
-    kept_never rule.BlockSkipped of b = skipper_breaks b
-    kept_never rule.GoneBack of b = sender_breaks b
+    kept_never rule.RequestAfterStart of b = message_never rule.RequestAfterStart of b
+    kept_never rule.OackAfterStart of b = message_never rule.OackAfterStart of b
+    kept_never rule.BlockSkipped of b = message_never rule.BlockSkipped of b
+    kept_never rule.GoneBack of b = message_never rule.GoneBack of b
     kept_never broken of b = absurd of
 
 late_never : (s : TapSides) (passed : List TapDatagram) (d : TapDatagram) (broken : Rule) → IsOfSending broken → LateBroken s passed d broken → ⊥

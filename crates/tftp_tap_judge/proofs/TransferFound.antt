@@ -25,14 +25,6 @@ content_on h earlier d rule.WrongPort content b = absurd (true≢false content)
 content_on h earlier d rule.StrayAnswer content b = absurd (true≢false content)
 content_on h earlier d rule.NoRequest content b = ap is_of_transfer b.1
 content_on h earlier d (rule.Malformed fault) content b = b.0
-content_on h earlier d rule.WrongKind content b = b.2.routed
-content_on h earlier d rule.AfterError content b = b.1.routed
-content_on h earlier d rule.RequestChanged content b = b.3.routed
-content_on h earlier d rule.RequestAfterStart content b = b.1.1.routed
-content_on h earlier d rule.ReplyChanged content b = b.4.routed
-content_on h earlier d rule.OackChanged content b = b.5.routed
-content_on h earlier d rule.OackAfterStart content b = b.2.1.routed
-content_on h earlier d rule.BeyondBlock65535 content b = elim b [ inl block ↦ block.says.routed | inr oack ↦ oack.says.routed ]
 content_on h earlier d _ content b = b.says.routed
 
 -- ---- the first of the rules of two kinds

@@ -5,13 +5,13 @@ use Rattle.tftp_packet.specs.{OptionMap, Message, RequestParts, Spells, Side}
 use Rattle.tftp_hosts.specs.{Header}
 use Rattle.tftp_rules.specs.{or_this, asks, route_of, is_of_transfer, transfer_of, EndBroken, Terms, EndRule}
 use Rattle.tftp_nego.specs.{Holds, NegoFault}
-use Rattle.tftp_law.specs.{number_of, Answer, Agrees, terms_after, AreTerms, FirstOack, EndBreaks, Broken, Rule, OneEnded, IsRefused}
-use Rattle.tftp_law.proofs.Spelled.{spelled_once}
+use Rattle.tftp_law.specs.{number_of, Answer, Agrees, terms_after, AreTerms, rule_of_end, MessageBreaks, Broken, Rule, OneEnded, IsRefused}
 use Rattle.tftp_worked.proofs.Payloads.{Spelled, datagrams, AllSpelled, spells_it, spelled_it}
 use Rattle.tftp_law.proofs.FirstBroken.Answering.{answer_of}
-use Rattle.tftp_worked.proofs.Passing.{kept_if, main_of, first_asked, asked_by, asked_is, first_answer, or_now, unanswered_is, answered_is, terms_of, terms_from, terms_by, terms_are, terms_back}
+use Rattle.tftp_law.proofs.FirstBroken.OneMessage.{end_breaks, back}
+use Rattle.tftp_worked.proofs.Passing.{kept_if, main_of, first_asked, asked_by, asked_is, asked_back, first_answer, or_now, unanswered_is, answered_is, terms_of, terms_from, terms_by, terms_are, terms_back}
 use Rattle.tftp_worked.proofs.RuleTests.{not_oack, keeps_below}
-use Rattle.tftp_worked.proofs.Kept.{passes_by, passes_is, none_below, no_oack, OackKeeps, not_answered}
+use Rattle.tftp_worked.proofs.Kept.{passes_by, passes_is, none_below, no_oack, place, FirstOack, OtherOack, OackKeeps, not_answered}
 
 -- what is known of the transfer, if it is these terms
 pub known_by : (h : Header) (es : List Spelled) (s : AllSpelled es) (t : Option Terms) → t ≡ terms_of h es → (u : Terms) → AreTerms h (datagrams es) u → t ≡ Some u
@@ -49,24 +49,28 @@ same_oack : (a b : OptionMap) → Message.Oack a ≡ Message.Oack b → a ≡ b
 same_oack a b e = cc
 
 oack_fault : (h : Header) (es : List Spelled) (e : Spelled) (s : AllSpelled es) (here : Spells e.0.payload e.1) (asked : RequestParts) (oack : OptionMap)
-    → asked_by (first_asked h es) ≡ Some (Message.Request asked) → e.1 ≡ Message.Oack oack → (fault : NegoFault) → FirstOack h (datagrams es) e.0 fault → Holds fault asked oack
+    → asked_by (first_asked h es) ≡ Some (Message.Request asked) → e.1 ≡ Message.Oack oack → (fault : NegoFault) → FirstOack h es e s here fault → Holds fault asked oack
 oack_fault h es e s here asked oack is says fault first =
     let request : first.asked ≡ asked = same_request first.asked asked (sym (asked_is h es first.asked s first.first) ∙ is) in
-    let options : first.oack ≡ oack = same_oack first.oack oack (sym (spelled_once e.0.payload e.1 (Message.Oack first.oack) here first.says.spells) ∙ says) in
+    let options : first.oack ≡ oack = same_oack first.oack oack (sym first.says ∙ says) in
     subst (λ r. Holds fault r oack) request (subst (λ o. Holds fault first.asked o) options first.wrong)
+
+no_fault_below : (asked : RequestParts) (oack : OptionMap) (n : ℕ) → OackFine asked oack n → (fault : NegoFault) → place fault < n → Holds fault asked oack → ⊥
+no_fault_below asked oack n fine NegoFault.OackEmpty low holds = fine.empty low holds
+no_fault_below asked oack n fine NegoFault.MulticastAgreed low holds = fine.multicast low holds
+no_fault_below asked oack n fine NegoFault.OptionNotRequested low holds = fine.not_requested low holds
+no_fault_below asked oack n fine NegoFault.OptionOutsideProfile low holds = fine.outside low holds
+no_fault_below asked oack n fine NegoFault.OptionValue low holds = fine.bad_value low holds
+no_fault_below asked oack n fine NegoFault.BeyondBlock65535 low holds = fine.beyond low holds
+no_fault_below asked oack n fine NegoFault.Memory low holds = holds
 
 pub first_oack_keeps : (h : Header) (es : List Spelled) (e : Spelled) (s : AllSpelled es) (here : Spells e.0.payload e.1) (t : Option Terms)
     (known : (u : Terms) → AreTerms h (datagrams es) u → t ≡ Some u) (n : ℕ) (asked : RequestParts) (oack : OptionMap)
     → asked_by (first_asked h es) ≡ Some (Message.Request asked) → first_answer asked.side (main_of h es) ≡ None → e.1 ≡ Message.Oack oack → OackFine asked oack n
     → OackKeeps h es e s here t known n
 first_oack_keeps h es e s here t known n asked oack is none says fine = record {
-  empty = λ low first. fine.empty low (oack_fault h es e s here asked oack is says NegoFault.OackEmpty first);
-  multicast = λ low first. fine.multicast low (oack_fault h es e s here asked oack is says NegoFault.MulticastAgreed first);
-  not_requested = λ low first. fine.not_requested low (oack_fault h es e s here asked oack is says NegoFault.OptionNotRequested first);
-  outside = λ low first. fine.outside low (oack_fault h es e s here asked oack is says NegoFault.OptionOutsideProfile first);
-  bad_value = λ low first. fine.bad_value low (oack_fault h es e s here asked oack is says NegoFault.OptionValue first);
+  first = λ fault low first. no_fault_below asked oack n fine fault low (oack_fault h es e s here asked oack is says fault first);
   changed = λ low. not_answered h es e s here asked is none;
-  beyond = λ low first. fine.beyond low (oack_fault h es e s here asked oack is says NegoFault.BeyondBlock65535 first);
 }
 
 -- the first OACK passes, where its options are fine
@@ -167,57 +171,53 @@ module _ (h : Header) (b : Start h) where
       let parts = and_parts (not_oack e.1) (keeps_below (number_of rule) h (b.known []) b.es e) test in
       record { lawful = b.lawful; broken = record { broken = broken; first = none_under (number_of rule) h (b.known []) b.es e b.spelled here (b.knows []) parts.0 parts.1 } }
 
+  -- it breaks a rule by what it says, where this was asked for first
+  pub breaks_so : (e : Spelled) (asked : RequestParts) (rule : Rule) → Spells e.0.payload e.1 → is_of_transfer (route_of h (datagrams b.es) e.0) ≡ true → asked_by (first_asked h b.es) ≡ Some (Message.Request asked)
+      → MessageBreaks h asked (transfer_of h (datagrams b.es)) e.0.dir e.1 rule → Broken h (datagrams b.es) e.0 rule
+  breaks_so e asked rule here routed is breaks = back h (datagrams b.es) e.0 e.1 asked routed here (asked_back h b.es asked b.spelled is) rule breaks
+
   abbrev WhereKnown : Option Terms → (Terms → Type 0) → Type 0
   WhereKnown (Some t) P = P t
   WhereKnown None P = ⊥
 
   -- a rule of blocks and acknowledgements
-  pub refused_end : (e : Spelled) (end : EndRule) (rule : Rule) → (EndBreaks h (datagrams b.es) e.0 end → Broken h (datagrams b.es) e.0 rule)
-      → (spells_it e.0.payload e.1 && (is_of_transfer (route_of h (datagrams b.es) e.0) && keeps_below (number_of rule) h (b.known []) b.es e)) ≡ true
-      → WhereKnown (b.known []) (λ t. EndBroken t (transfer_of h (datagrams b.es)) e.1 end) → IsRefused h (datagrams b.es) e.0 rule
-  refused_end e end rule breaks test broken =
-      let parts = and_parts (spells_it e.0.payload e.1) (is_of_transfer (route_of h (datagrams b.es) e.0) && keeps_below (number_of rule) h (b.known []) b.es e) test in
-      let more = and_parts (is_of_transfer (route_of h (datagrams b.es) e.0)) (keeps_below (number_of rule) h (b.known []) b.es e) parts.1 in
+  pub refused_end : (e : Spelled) (end : EndRule)
+      → (spells_it e.0.payload e.1 && (is_of_transfer (route_of h (datagrams b.es) e.0) && keeps_below (number_of (rule_of_end end)) h (b.known []) b.es e)) ≡ true
+      → WhereKnown (b.known []) (λ t. EndBroken t (transfer_of h (datagrams b.es)) e.1 end) → IsRefused h (datagrams b.es) e.0 (rule_of_end end)
+  refused_end e end test broken =
+      let parts = and_parts (spells_it e.0.payload e.1) (is_of_transfer (route_of h (datagrams b.es) e.0) && keeps_below (number_of (rule_of_end end)) h (b.known []) b.es e) test in
+      let more = and_parts (is_of_transfer (route_of h (datagrams b.es) e.0)) (keeps_below (number_of (rule_of_end end)) h (b.known []) b.es e) parts.1 in
       let here = spelled_it e.0.payload e.1 parts.0 in
-      let first = none_under (number_of rule) h (b.known []) b.es e b.spelled here (b.knows []) (no_offer e.0.payload e.1 parts.0) more.1 in
-      record { lawful = b.lawful; broken = record { broken = breaks (by here more.0 (b.known []) (b.knows []) broken); first = first } }
+      let first = none_under (number_of (rule_of_end end)) h (b.known []) b.es e b.spelled here (b.knows []) (no_offer e.0.payload e.1 parts.0) more.1 in
+      record { lawful = b.lawful; broken = record { broken = by here more.0 (b.known []) (b.knows []) broken; first = first } }
     where
       by : Spells e.0.payload e.1 → is_of_transfer (route_of h (datagrams b.es) e.0) ≡ true → (o : Option Terms) → o ≡ terms_of h b.es → WhereKnown o (λ t. EndBroken t (transfer_of h (datagrams b.es)) e.1 end)
-          → EndBreaks h (datagrams b.es) e.0 end
-      by here main (Some t) is broken = record { terms = t; known = terms_back h b.es t b.spelled (sym is); message = e.1; says = record { routed = main; spells = here }; broken = broken }
+          → Broken h (datagrams b.es) e.0 (rule_of_end end)
+      by here main (Some t) is broken =
+          let (asked, first, known) = terms_back h b.es t b.spelled (sym is) in
+          back h (datagrams b.es) e.0 e.1 asked main here first (rule_of_end end) (end_breaks h asked (transfer_of h (datagrams b.es)) e.0.dir e.1 t known end broken)
       by here main None is broken = absurd broken
 
 -- an OACK after the first answer is none of the first, and below rule n it breaks none of their rules, where it says the
 -- same or n is at most that of a changed one
 pub later_oack_keeps : (h : Header) (es : List Spelled) (e : Spelled) (s : AllSpelled es) (here : Spells e.0.payload e.1) (t : Option Terms)
     (known : (u : Terms) → AreTerms h (datagrams es) u → t ≡ Some u) (n : ℕ) (asked : RequestParts) (answer : Answer) → IsFixed h es asked answer
-    → (16 < n → Broken h (datagrams es) e.0 Rule.OackChanged → ⊥) → OackKeeps h es e s here t known n
-later_oack_keeps h es e s here t known n asked answer f same = record {
-  empty = λ _. never NegoFault.OackEmpty;
-  multicast = λ _. never NegoFault.MulticastAgreed;
-  not_requested = λ _. never NegoFault.OptionNotRequested;
-  outside = λ _. never NegoFault.OptionOutsideProfile;
-  bad_value = λ _. never NegoFault.OptionValue;
-  changed = same;
-  beyond = λ _. never NegoFault.BeyondBlock65535;
-}
-  where
-    never : (fault : NegoFault) → FirstOack h (datagrams es) e.0 fault → ⊥
-    never fault first =
-        let request : first.asked ≡ asked = same_request first.asked asked (sym (asked_is h es first.asked s first.first) ∙ f.request) in
-        let none = unanswered_is h first.asked.side es s first.unanswered in
-        let both : None ≡ Some answer = sym none ∙ ap (λ (r : RequestParts). first_answer r.side (main_of h es)) request ∙ f.answered in
-        absurd (cc)
+    → (16 < n → OtherOack h es e s here → ⊥) → OackKeeps h es e s here t known n
+later_oack_keeps h es e s here t known n asked answer f same = record { first = λ fault low. never fault; changed = same } where
+  never : (fault : NegoFault) → FirstOack h es e s here fault → ⊥
+  never fault first =
+      let request : first.asked ≡ asked = same_request first.asked asked (sym (asked_is h es first.asked s first.first) ∙ f.request) in
+      let none = unanswered_is h first.asked.side es s first.unanswered in
+      let both : None ≡ Some answer = sym none ∙ ap (λ (r : RequestParts). first_answer r.side (main_of h es)) request ∙ f.answered in
+      absurd (cc)
 
 -- it says what the first one said
 pub same_again : (h : Header) (es : List Spelled) (e : Spelled) (s : AllSpelled es) (here : Spells e.0.payload e.1) (asked : RequestParts) (options : OptionMap) → IsFixed h es asked (Agrees options)
-    → e.1 ≡ Message.Oack options → Broken h (datagrams es) e.0 Rule.OackChanged → ⊥
-same_again h es e s here asked options f says (other, first, now, request, answer, said, apart) =
-    let is : other ≡ asked = same_request other asked (sym (asked_is h es other s request) ∙ f.request) in
-    let both : Some (Agrees first) ≡ Some (Agrees options) = sym (answered_is h other.side es (Agrees first) s answer) ∙ ap (λ (r : RequestParts). first_answer r.side (main_of h es)) is ∙ f.answered in
-    let one : first ≡ options = same_answer first options both in
-    let again : now ≡ options = same_oack now options (sym (spelled_once e.0.payload e.1 (Message.Oack now) here said.spells) ∙ says) in
-    apart (again ∙ sym one)
+    → e.1 ≡ Message.Oack options → OtherOack h es e s here → ⊥
+same_again h es e s here asked options f says b =
+    let is : b.asked ≡ asked = same_request b.asked asked (sym (asked_is h es b.asked s b.first) ∙ f.request) in
+    let both : Some (Agrees b.agreed) ≡ Some (Agrees options) = sym (answered_is h b.asked.side es (Agrees b.agreed) s b.answered) ∙ ap (λ (r : RequestParts). first_answer r.side (main_of h es)) is ∙ f.answered in
+    b.differs (same_oack b.oack options (sym b.says ∙ says) ∙ sym (same_answer b.agreed options both))
   where
     same_answer : (a b : OptionMap) → Some (Agrees a) ≡ Some (Agrees b) → a ≡ b
     same_answer a b e = cc

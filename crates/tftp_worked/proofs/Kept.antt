@@ -4,13 +4,13 @@ use Rattle.std.proofs.lemmas.Bool.{and_parts, or_cases, eqb-true, eq-eqb, leb-tr
 use Rattle.std.proofs.lemmas.Slice.Eq.{bytes_eq-Decides}
 use Rattle.std.specs.Str.{bytes_eq}
 use Rattle.std.specs.List.{list_all, AllByRecursion}
-use Rattle.tftp_packet.specs.{Message, RequestParts, Spells, Side, Get, Put, End, Client, Server}
+use Rattle.tftp_packet.specs.{OptionMap, Message, RequestParts, Spells, Side, Get, Put, End, Client, Server}
 use Rattle.tftp_hosts.specs.{Dir, In, Out, Datagram, Header}
 use Rattle.tftp_packet.proofs.NoFault.{no_fault}
 use Rattle.tftp_model.specs.Roles.{sender_of}
-use Rattle.tftp_rules.specs.{author_of, Route, asks, first_of, route_of, transfer_of, SaysUnknownId, Passed, HasPassed, BlockPassed, IsTop, IsHigh, IsLast, LastIsUnknown, IsNotLengthOf, HasWrongLength, BlocksWait, AckZeroWaits, IsSender, IsAckedAt, IsReachedAt, BlockBreaks, AckBreaks, EndBroken, usable, Terms, EndRule}
-use Rattle.tftp_nego.specs.{NegoFault}
-use Rattle.tftp_law.specs.{number_of, rule_of_end, FirstAsked, Agrees, Begins, AreTerms, Says, IsError, IsWrongKind, FirstOack, EndBreaks, Broken, Rule, IsRead, Passes}
+use Rattle.tftp_rules.specs.{author_of, Route, asks, first_of, route_of, is_of_transfer, transfer_of, SaysUnknownId, Passed, HasPassed, BlockPassed, IsTop, IsHigh, IsLast, LastIsUnknown, IsNotLengthOf, HasWrongLength, BlocksWait, AckZeroWaits, IsSender, IsAckedAt, IsReachedAt, BlockBreaks, AckBreaks, EndBroken, usable, Terms, EndRule}
+use Rattle.tftp_nego.specs.{Holds, NegoFault}
+use Rattle.tftp_law.specs.{number_of, rule_of_end, FirstAsked, Agrees, Begins, NotAnswered, FirstAnswer, AreTerms, IsError, IsWrongKind, GoesOn, BlockSent, ClientWentOn, TermsBreak, KindBreaks, MessageBreaks, MessageBroken, Broken, Rule, IsRead, Passes}
 use Rattle.tftp_law.proofs.Spelled.{spelled_once}
 use Rattle.tftp_worked.proofs.Payloads.{Spelled, datagrams, AllSpelled, all_from}
 use Rattle.tftp_worked.proofs.Passing.{same_dir, as_block, holds, block_is, passed_as, main_of, main_is, main_spelled, used_of, all_used, used_is, every, some, every_is, some_is, first_asked, first_is, asked_by, asked_is, first_answer, answered_is}
@@ -81,6 +81,16 @@ not_last t last k long e wrong = elim (or_cases (nat_lt k last && long == t.blks
       ]
 ]
 
+-- the number of the rule that a fault of an OACK's options breaks
+abbrev pub place : NegoFault → ℕ
+place NegoFault.OackEmpty = 11
+place NegoFault.MulticastAgreed = 12
+place NegoFault.OptionNotRequested = 13
+place NegoFault.OptionOutsideProfile = 14
+place NegoFault.OptionValue = 15
+place NegoFault.BeyondBlock65535 = 20
+place NegoFault.Memory = 0
+
 module _ (h : Header) (es : List Spelled) (e : Spelled) (s : AllSpelled es) (here : Spells e.0.payload e.1) where
   abbrev passed : List Datagram
   passed = transfer_of h (datagrams es)
@@ -103,12 +113,6 @@ module _ (h : Header) (es : List Spelled) (e : Spelled) (s : AllSpelled es) (her
 
   some_here : (test : Dir → Message → Bool) → some test (main_of h es) ≡ true → (dir : Dir) × (m : Message) × (test dir m ≡ true) × Passed dir m passed
   some_here test t = some_is h es test s t
-
-  says_is : (m : Message) → Says h (datagrams es) e.0 m → e.1 ≡ m
-  says_is m says = spelled_once e.0.payload e.1 m here says.spells
-
-  says_main : (m : Message) (b : Bool) → Says h (datagrams es) e.0 m → (not (is_main h es e) || b) ≡ true → b ≡ true
-  says_main m b says t = unless (is_main h es e) b says.routed t
 
   -- ---- of blocks
 
@@ -264,69 +268,80 @@ module _ (h : Header) (es : List Spelled) (e : Spelled) (s : AllSpelled es) (her
     | inr other ↦ false≢true (subst (λ r. not_peer r ≡ true) is other)
   ]
 
-  asked_here : (asked : RequestParts) → FirstAsked h (datagrams es) asked → asked_by (first_asked h es) ≡ Some (Message.Request asked)
-  asked_here asked first = asked_is h es asked s first
+  -- ---- of messages, where it is known what was asked for first
 
-  not_wrong_kind : (not (is_main h es e) || kind_is_right (author_of h.named e.0.dir) (asked_by (first_asked h es)) e.1) ≡ true → Broken h (datagrams es) e.0 Rule.WrongKind → ⊥
-  not_wrong_kind t (m, asked, says, first, wrong) =
-      let right = says_main m (kind_is_right (author_of h.named e.0.dir) (asked_by (first_asked h es)) e.1) says t in
-      let now : right_kind (author_of h.named e.0.dir) asked.side m ≡ true =
-      subst (λ x. right_kind (author_of h.named e.0.dir) asked.side x ≡ true) (says_is m says)
-      (subst (λ o. kind_is_right (author_of h.named e.0.dir) o e.1 ≡ true) (asked_here asked first) right) in
-      true≢false (sym now ∙ wrong_kind (author_of h.named e.0.dir) asked.side m wrong)
+  module _ (asked : RequestParts) (first : FirstAsked h (datagrams es) asked) (routed : is_of_transfer route ≡ true) where
+    on : (b : Bool) → (not (is_main h es e) || b) ≡ true → b ≡ true
+    on b t = unless (is_main h es e) b routed t
 
-  silent : (not (is_main h es e) || every (same_stop e.0.dir e.1) (main_of h es)) ≡ true → Broken h (datagrams es) e.0 Rule.AfterError → ⊥
-  silent t (now, says, (stop, (code, text, is), went, apart, way)) =
-      let test = says_main now (every (same_stop e.0.dir e.1) (main_of h es)) says t in
-      let here : same_stop e.0.dir e.1 e.0.dir (Message.Error code text) ≡ true = every_here (same_stop e.0.dir e.1) e.0.dir (Message.Error code text) test (subst (λ x. Passed e.0.dir x passed) is went) in
-      let same : e.1 ≡ now = says_is now says in
-      same_again e.0.dir now code text (subst (λ x. same_stop e.0.dir x e.0.dir (Message.Error code text) ≡ true) same here) (λ one. apart (one ∙ sym is)) way
+    asked_here : asked_by (first_asked h es) ≡ Some (Message.Request asked)
+    asked_here = asked_is h es asked s first
 
-  first_request : (not (is_main h es e) || (not_request e.1 || not_asked (asked_by (first_asked h es)))) ≡ true → Broken h (datagrams es) e.0 Rule.RequestChanged → ⊥
-  first_request t (first, now, asked, says, other) =
-      elim (or_cases (not_request e.1) (not_asked (asked_by (first_asked h es))) (says_main (Message.Request now) (not_request e.1 || not_asked (asked_by (first_asked h es))) says t)) [
-        | inl no_request ↦ false≢true (subst (λ x. not_request x ≡ true) (says_is (Message.Request now) says) no_request)
-        | inr none ↦ false≢true (subst (λ o. not_asked o ≡ true) (asked_here first asked) none)
+    not_wrong_kind : (not (is_main h es e) || kind_is_right (author_of h.named e.0.dir) (asked_by (first_asked h es)) e.1) ≡ true → IsWrongKind (author_of h.named e.0.dir) asked.side e.1 → ⊥
+    not_wrong_kind t wrong =
+        let right : right_kind (author_of h.named e.0.dir) asked.side e.1 ≡ true
+        = subst (λ o. kind_is_right (author_of h.named e.0.dir) o e.1 ≡ true) asked_here (on (kind_is_right (author_of h.named e.0.dir) (asked_by (first_asked h es)) e.1) t) in
+        true≢false (sym right ∙ wrong_kind (author_of h.named e.0.dir) asked.side e.1 wrong)
+
+    silent : (not (is_main h es e) || every (same_stop e.0.dir e.1) (main_of h es)) ≡ true → GoesOn passed e.0.dir e.1 → ⊥
+    silent t (stop, (code, text, is), went, apart, way) =
+        let test = on (every (same_stop e.0.dir e.1) (main_of h es)) t in
+        same_again e.0.dir e.1 code text (every_here (same_stop e.0.dir e.1) e.0.dir (Message.Error code text) test (subst (λ x. Passed e.0.dir x passed) is went)) (λ one. apart (one ∙ sym is)) way
+
+    first_request : (now : RequestParts) → e.1 ≡ Message.Request now → (not (is_main h es e) || (not_request e.1 || not_asked (asked_by (first_asked h es)))) ≡ true → ⊥
+    first_request now says t = elim (or_cases (not_request e.1) (not_asked (asked_by (first_asked h es))) (on (not_request e.1 || not_asked (asked_by (first_asked h es))) t)) [
+      | inl no_request ↦ false≢true (subst (λ x. not_request x ≡ true) says no_request)
+      | inr none ↦ false≢true (subst (λ o. not_asked o ≡ true) asked_here none)
+    ]
+
+    early_request : (now : RequestParts) → e.1 ≡ Message.Request now → (not (is_main h es e) || (not_request e.1 || every went_on (main_of h es))) ≡ true → ClientWentOn passed → ⊥
+    early_request now says t more = elim (or_cases (not_request e.1) (every went_on (main_of h es)) (on (not_request e.1 || every went_on (main_of h es)) t)) [
+      | inl no_request ↦ false≢true (subst (λ x. not_request x ≡ true) says no_request)
+      | inr none ↦ elim more [
+        | inl block ↦ false≢true (every_here went_on Out (Message.Data block.0 block.1) none block.2)
+        | inr ack ↦ false≢true (every_here went_on Out (Message.Ack ack.0) none ack.1)
       ]
+    ]
 
-  early_request : (not (is_main h es e) || (not_request e.1 || every went_on (main_of h es))) ≡ true → Broken h (datagrams es) e.0 Rule.RequestAfterStart → ⊥
-  early_request t (way, (now, says), more) =
-      elim (or_cases (not_request e.1) (every went_on (main_of h es)) (says_main (Message.Request now) (not_request e.1 || every went_on (main_of h es)) says t)) [
-        | inl no_request ↦ false≢true (subst (λ x. not_request x ≡ true) (says_is (Message.Request now) says) no_request)
-        | inr none ↦ elim more [
-          | inl block ↦ false≢true (every_here went_on Out (Message.Data block.0 block.1) none block.2)
-          | inr ack ↦ false≢true (every_here went_on Out (Message.Ack ack.0) none ack.1)
+    not_plain : (oack : OptionMap) → e.1 ≡ Message.Oack oack → (not (is_main h es e) || (not_oack e.1 || no_plain_answer (asked_by (first_asked h es)) (main_of h es))) ≡ true → FirstAnswer asked.side passed Begins → ⊥
+    not_plain oack says t answer =
+        elim (or_cases (not_oack e.1) (no_plain_answer (asked_by (first_asked h es)) (main_of h es)) (on (not_oack e.1 || no_plain_answer (asked_by (first_asked h es)) (main_of h es)) t)) [
+          | inl no_oack ↦ false≢true (subst (λ x. not_oack x ≡ true) says no_oack)
+          | inr none ↦
+              false≢true (subst (λ o. not_begun o ≡ true) (answered_is h asked.side es Begins s answer)
+              (subst (λ o. no_plain_answer o (main_of h es) ≡ true) asked_here none))
         ]
-      ]
 
-  not_plain : (not (is_main h es e) || (not_oack e.1 || no_plain_answer (asked_by (first_asked h es)) (main_of h es))) ≡ true → Broken h (datagrams es) e.0 Rule.ReplyChanged → ⊥
-  not_plain t (asked, oack, first, answer, says) =
-      elim (or_cases (not_oack e.1) (no_plain_answer (asked_by (first_asked h es)) (main_of h es)) (says_main (Message.Oack oack) (not_oack e.1 || no_plain_answer (asked_by (first_asked h es)) (main_of h es)) says t)) [
-        | inl no_oack ↦ false≢true (subst (λ x. not_oack x ≡ true) (says_is (Message.Oack oack) says) no_oack)
-        | inr none ↦
-            false≢true (subst (λ o. not_begun o ≡ true) (answered_is h asked.side es Begins s answer)
-            (subst (λ o. no_plain_answer o (main_of h es) ≡ true) (asked_here asked first) none))
-      ]
+    early_oack : (oack : OptionMap) → e.1 ≡ Message.Oack oack → (not (is_main h es e) || (not_oack e.1 || every sent_no_block (main_of h es))) ≡ true → BlockSent passed → ⊥
+    early_oack oack says t (k, bytes, sent) = elim (or_cases (not_oack e.1) (every sent_no_block (main_of h es)) (on (not_oack e.1 || every sent_no_block (main_of h es)) t)) [
+      | inl no_oack ↦ false≢true (subst (λ x. not_oack x ≡ true) says no_oack)
+      | inr none ↦ false≢true (every_here sent_no_block Out (Message.Data k bytes) none sent)
+    ]
 
-  early_oack : (not (is_main h es e) || (not_oack e.1 || every sent_no_block (main_of h es))) ≡ true → Broken h (datagrams es) e.0 Rule.OackAfterStart → ⊥
-  early_oack t (way, (asked, first, get), (oack, says), (k, bytes, sent)) =
-      elim (or_cases (not_oack e.1) (every sent_no_block (main_of h es)) (says_main (Message.Oack oack) (not_oack e.1 || every sent_no_block (main_of h es)) says t)) [
-        | inl no_oack ↦ false≢true (subst (λ x. not_oack x ≡ true) (says_is (Message.Oack oack) says) no_oack)
-        | inr none ↦ false≢true (every_here sent_no_block Out (Message.Data k bytes) none sent)
-      ]
+  -- it says an OACK, the first one with this fault or another than the first one
+  pub record FirstOack (fault : NegoFault) : Type 0 where
+    pub asked : RequestParts
+    pub first : FirstAsked h (datagrams es) asked
+    pub oack : OptionMap
+    pub says : e.1 ≡ Message.Oack oack
+    pub unanswered : NotAnswered asked.side passed
+    pub wrong : Holds fault asked oack
 
-  pub no_first_oack : not_oack e.1 ≡ true → (fault : NegoFault) → FirstOack h (datagrams es) e.0 fault → ⊥
-  no_first_oack t fault first = false≢true (subst (λ x. not_oack x ≡ true) (says_is (Message.Oack first.oack) first.says) t)
-
-  pub no_later_oack : not_oack e.1 ≡ true → Broken h (datagrams es) e.0 Rule.OackChanged → ⊥
-  no_later_oack t (asked, first, now, request, answer, says, other) = false≢true (subst (λ x. not_oack x ≡ true) (says_is (Message.Oack now) says) t)
+  pub record OtherOack : Type 0 where
+    pub asked : RequestParts
+    pub first : FirstAsked h (datagrams es) asked
+    pub oack : OptionMap
+    pub says : e.1 ≡ Message.Oack oack
+    pub agreed : OptionMap
+    pub answered : FirstAnswer asked.side passed (Agrees agreed)
+    pub differs : oack ≢ agreed
 
   -- before the first answer no OACK is a later one
-  pub not_answered : (asked : RequestParts) → asked_by (first_asked h es) ≡ Some (Message.Request asked) → first_answer asked.side (main_of h es) ≡ None → Broken h (datagrams es) e.0 Rule.OackChanged → ⊥
-  not_answered asked is none (other, first, now, request, answer, says, apart) =
-      let same : Message.Request other ≡ Message.Request asked = some_same (Message.Request other) (Message.Request asked) (sym (asked_here other request) ∙ is) in
-      let side : other.side ≡ asked.side = request_side other asked same in
-      let both : None ≡ Some (Agrees first) = sym none ∙ sym (ap (λ (x : Side). first_answer x (main_of h es)) side) ∙ answered_is h other.side es (Agrees first) s answer in
+  pub not_answered : (asked : RequestParts) → asked_by (first_asked h es) ≡ Some (Message.Request asked) → first_answer asked.side (main_of h es) ≡ None → OtherOack → ⊥
+  not_answered asked is none b =
+      let same : Message.Request b.asked ≡ Message.Request asked = some_same (Message.Request b.asked) (Message.Request asked) (sym (asked_is h es b.asked s b.first) ∙ is) in
+      let side : b.asked.side ≡ asked.side = request_side b.asked asked same in
+      let both : None ≡ Some (Agrees b.agreed) = sym none ∙ sym (ap (λ (x : Side). first_answer x (main_of h es)) side) ∙ answered_is h b.asked.side es (Agrees b.agreed) s b.answered in
       absurd (cc)
     where
       some_same : (a b : Message) → Some a ≡ Some b → a ≡ b
@@ -336,22 +351,13 @@ module _ (h : Header) (es : List Spelled) (e : Spelled) (s : AllSpelled es) (her
       request_side a b e = cc
 
   module _ (t : Option Terms) (known : (u : Terms) → AreTerms h (datagrams es) u → t ≡ Some u) where
-    end_kept : (rule : EndRule) → (not (is_main h es e) || end_keeps t (main_of h es) e.1 rule) ≡ true → EndBreaks h (datagrams es) e.0 rule → ⊥
-    end_kept rule k b =
-        let now = says_main b.message (end_keeps t (main_of h es) e.1 rule) b.says k in
-        let at : end_keeps (Some b.terms) (main_of h es) b.message rule ≡ true =
-        subst (λ m. end_keeps (Some b.terms) (main_of h es) m rule ≡ true) (says_is b.message b.says) (subst (λ o. end_keeps o (main_of h es) e.1 rule ≡ true) (known b.terms b.known) now) in
-        message_kept b.terms b.message rule at b.broken
+    end_kept : (rule : EndRule) → is_of_transfer route ≡ true → (not (is_main h es e) || end_keeps t (main_of h es) e.1 rule) ≡ true → (u : Terms) → AreTerms h (datagrams es) u → EndBroken u passed e.1 rule → ⊥
+    end_kept rule routed k u is b = message_kept u e.1 rule (subst (λ o. end_keeps o (main_of h es) e.1 rule ≡ true) (known u is) (unless (is_main h es e) (end_keeps t (main_of h es) e.1 rule) routed k)) b
 
     -- an OACK that comes first or later breaks none of its rules below n
     pub record OackKeeps (n : ℕ) : Type 0 where
-      pub empty : 11 < n → FirstOack h (datagrams es) e.0 NegoFault.OackEmpty → ⊥
-      pub multicast : 12 < n → FirstOack h (datagrams es) e.0 NegoFault.MulticastAgreed → ⊥
-      pub not_requested : 13 < n → FirstOack h (datagrams es) e.0 NegoFault.OptionNotRequested → ⊥
-      pub outside : 14 < n → FirstOack h (datagrams es) e.0 NegoFault.OptionOutsideProfile → ⊥
-      pub bad_value : 15 < n → FirstOack h (datagrams es) e.0 NegoFault.OptionValue → ⊥
-      pub changed : 16 < n → Broken h (datagrams es) e.0 Rule.OackChanged → ⊥
-      pub beyond : 20 < n → FirstOack h (datagrams es) e.0 NegoFault.BeyondBlock65535 → ⊥
+      pub first : (fault : NegoFault) → place fault < n → FirstOack fault → ⊥
+      pub changed : 16 < n → OtherOack → ⊥
 
     -- below n, or any where there are no more than those below n
     abbrev IsEarly : ℕ → ℕ → Type 0
@@ -379,6 +385,56 @@ module _ (h : Header) (es : List Spelled) (e : Spelled) (s : AllSpelled es) (her
         by (all_from (λ r. (nat_le n (number_of r) && nat_le n 27) || keeps h t es e r) (λ r. IsEarly n (number_of r) → keeps h t es e r ≡ true) (λ r. kept_early n (number_of r) (keeps h t es e r)) tested parts.0)
         (all_from (λ r. (nat_le n (number_of (rule_of_end r)) && nat_le n 27) || end_test r) (λ r. IsEarly n (number_of (rule_of_end r)) → end_test r ≡ true) (λ r. kept_early n (number_of (rule_of_end r)) (end_test r)) end_rules parts.1)
       where
+        -- by what it says
+        said : AllByRecursion (λ r. IsEarly n (number_of r) → keeps h t es e r ≡ true) tested
+            → AllByRecursion (λ r. IsEarly n (number_of (rule_of_end r)) → (not (is_main h es e) || end_keeps t (main_of h es) e.1 r) ≡ true) end_rules
+            → (rule : Rule) → IsEarly n (number_of rule) → MessageBroken h (datagrams es) e.0 rule → ⊥
+        said k l rule low b = of_message b.message (spelled_once e.0.payload e.1 b.message here b.says.spells) rule low b.breaks where
+          ends : (f : EndRule) → IsEarly n (number_of (rule_of_end f)) → (not (is_main h es e) || end_keeps t (main_of h es) e.1 f) ≡ true
+          ends EndRule.NotStarted below = l.0 below
+          ends EndRule.BlockZero below = l.1.0 below
+          ends EndRule.BeyondBlock65535 below = l.1.1.0 below
+          ends EndRule.BlockLength below = l.1.1.1.0 below
+          ends EndRule.WindowOverrun below = l.1.1.1.1.0 below
+          ends EndRule.BlockSkipped below = l.1.1.1.1.1.0 below
+          ends EndRule.GoneBack below = l.1.1.1.1.1.1.0 below
+          ends EndRule.BlockChanged below = l.1.1.1.1.1.1.1.0 below
+          ends EndRule.AckAhead below = l.1.1.1.1.1.1.1.1.0 below
+          ends EndRule.AckZero below = l.1.1.1.1.1.1.1.1.1.0 below
+
+          of_end : (m : Message) → e.1 ≡ m → (r : Rule) → IsEarly n (number_of r) → TermsBreak h b.asked passed m r → ⊥
+          of_end m says r below (f, is, u, after, broken) =
+              end_kept f b.says.routed (ends f (subst (λ x. IsEarly n (number_of x)) is below)) u (b.asked, b.first, after) (subst (λ x. EndBroken u passed x f) (sym says) broken)
+
+          of_first : (oack : OptionMap) → e.1 ≡ Message.Oack oack → (fault : NegoFault) → place fault < 28 → IsEarly n (place fault) → NotAnswered b.asked.side passed × Holds fault b.asked oack → ⊥
+          of_first oack says fault few below is = o.first fault (early n (place fault) few below) (record { asked = b.asked; first = b.first; oack = oack; says = says; unanswered = is.0; wrong = is.1 })
+
+          of_kind : (m : Message) → e.1 ≡ m → (r : Rule) → IsEarly n (number_of r) → KindBreaks h b.asked passed e.0.dir m r → ⊥
+          of_kind (Message.Request now) says Rule.RequestChanged below is = first_request b.asked b.first b.says.routed now says (k.1.1.1.1.1.1.0 below)
+          of_kind (Message.Request now) says Rule.RequestAfterStart below is = early_request b.asked b.first b.says.routed now says (k.1.1.1.1.1.1.1.0 below) is.1
+          of_kind (Message.Request now) says r below is = is
+          of_kind (Message.Error code text) says r below is = is
+          of_kind (Message.Oack oack) says Rule.ReplyChanged below is = not_plain b.asked b.first b.says.routed oack says (k.1.1.1.1.1.1.1.1.0 below) is
+          of_kind (Message.Oack oack) says Rule.OackEmpty below is = of_first oack says NegoFault.OackEmpty (omega arith) below is
+          of_kind (Message.Oack oack) says Rule.MulticastAgreed below is = of_first oack says NegoFault.MulticastAgreed (omega arith) below is
+          of_kind (Message.Oack oack) says Rule.OptionNotRequested below is = of_first oack says NegoFault.OptionNotRequested (omega arith) below is
+          of_kind (Message.Oack oack) says Rule.OptionOutsideProfile below is = of_first oack says NegoFault.OptionOutsideProfile (omega arith) below is
+          of_kind (Message.Oack oack) says Rule.OptionValue below is = of_first oack says NegoFault.OptionValue (omega arith) below is
+          of_kind (Message.Oack oack) says Rule.BeyondBlock65535 below is = of_first oack says NegoFault.BeyondBlock65535 (omega arith) below is
+          of_kind (Message.Oack oack) says Rule.OackChanged below is =
+              o.changed (early n 16 (omega arith) below) (record { asked = b.asked; first = b.first; oack = oack; says = says; agreed = is.0; answered = is.1; differs = is.2 })
+          of_kind (Message.Oack oack) says Rule.OackAfterStart below is = early_oack b.asked b.first b.says.routed oack says (k.1.1.1.1.1.1.1.1.1.0 below) is.2
+          of_kind (Message.Oack oack) says r below is = is.1
+          of_kind (Message.Data number bytes) says r below is = of_end (Message.Data number bytes) says r below is
+          of_kind (Message.Ack j) says r below is = of_end (Message.Ack j) says r below is
+
+          of_message : (m : Message) → e.1 ≡ m → (r : Rule) → IsEarly n (number_of r) → MessageBreaks h b.asked passed e.0.dir m r → ⊥
+          of_message m says r below (inl (is, wrong)) =
+              not_wrong_kind b.asked b.first b.says.routed (k.1.1.1.1.0 (subst (λ x. IsEarly n (number_of x)) is below)) (subst (IsWrongKind (author_of h.named e.0.dir) b.asked.side) (sym says) wrong)
+          of_message m says r below (inr (inl (is, goes))) =
+              silent b.asked b.first b.says.routed (k.1.1.1.1.1.0 (subst (λ x. IsEarly n (number_of x)) is below)) (subst (GoesOn passed e.0.dir) (sym says) goes)
+          of_message m says r below (inr (inr kind)) = of_kind m says r below kind
+
         by : AllByRecursion (λ r. IsEarly n (number_of r) → keeps h t es e r ≡ true) tested
             → AllByRecursion (λ r. IsEarly n (number_of (rule_of_end r)) → (not (is_main h es e) || end_keeps t (main_of h es) e.1 r) ≡ true) end_rules
             → (rule : Rule) → IsEarly n (number_of rule) → Broken h (datagrams es) e.0 rule → ⊥
@@ -387,28 +443,7 @@ module _ (h : Header) (es : List Spelled) (e : Spelled) (s : AllSpelled es) (her
         by k l Rule.StrayAnswer low b = good_answer (k.1.1.0 low) b
         by k l Rule.NoRequest low b = has_request (k.1.1.1.0 low) b.0 b.1
         by k l (Rule.Malformed fault) low b = no_fault e.0.payload e.1 fault here.1 b.1.0
-        by k l Rule.WrongKind low b = not_wrong_kind (k.1.1.1.1.0 low) b
-        by k l Rule.AfterError low b = silent (k.1.1.1.1.1.0 low) b
-        by k l Rule.RequestChanged low b = first_request (k.1.1.1.1.1.1.0 low) b
-        by k l Rule.RequestAfterStart low b = early_request (k.1.1.1.1.1.1.1.0 low) b
-        by k l Rule.ReplyChanged low b = not_plain (k.1.1.1.1.1.1.1.1.0 low) b
-        by k l Rule.OackEmpty low b = o.empty (early n 11 (omega arith) low) b
-        by k l Rule.MulticastAgreed low b = o.multicast (early n 12 (omega arith) low) b
-        by k l Rule.OptionNotRequested low b = o.not_requested (early n 13 (omega arith) low) b
-        by k l Rule.OptionOutsideProfile low b = o.outside (early n 14 (omega arith) low) b
-        by k l Rule.OptionValue low b = o.bad_value (early n 15 (omega arith) low) b
-        by k l Rule.OackChanged low b = o.changed (early n 16 (omega arith) low) b
-        by k l Rule.OackAfterStart low b = early_oack (k.1.1.1.1.1.1.1.1.1.0 low) b
-        by k l Rule.NotStarted low b = end_kept EndRule.NotStarted (l.0 low) b
-        by k l Rule.BlockZero low b = end_kept EndRule.BlockZero (l.1.0 low) b
-        by k l Rule.BeyondBlock65535 low b = elim b [ inl block ↦ end_kept EndRule.BeyondBlock65535 (l.1.1.0 low) block | inr oack ↦ o.beyond (early n 20 (omega arith) low) oack ]
-        by k l Rule.BlockLength low b = end_kept EndRule.BlockLength (l.1.1.1.0 low) b
-        by k l Rule.WindowOverrun low b = end_kept EndRule.WindowOverrun (l.1.1.1.1.0 low) b
-        by k l Rule.BlockSkipped low b = end_kept EndRule.BlockSkipped (l.1.1.1.1.1.0 low) b
-        by k l Rule.GoneBack low b = end_kept EndRule.GoneBack (l.1.1.1.1.1.1.0 low) b
-        by k l Rule.BlockChanged low b = end_kept EndRule.BlockChanged (l.1.1.1.1.1.1.1.0 low) b
-        by k l Rule.AckAhead low b = end_kept EndRule.AckAhead (l.1.1.1.1.1.1.1.1.0 low) b
-        by k l Rule.AckZero low b = end_kept EndRule.AckZero (l.1.1.1.1.1.1.1.1.1.0 low) b
+        by k l rule low b = said k l rule low b
 
 pub none_below : (n : ℕ) (h : Header) (t : Option Terms) (es : List Spelled) (e : Spelled) (s : AllSpelled es) (here : Spells e.0.payload e.1)
     (known : (u : Terms) → AreTerms h (datagrams es) u → t ≡ Some u) → OackKeeps h es e s here t known n → keeps_below n h t es e ≡ true
@@ -439,11 +474,6 @@ passes_is h t es e s here known o is =
 pub no_oack : (h : Header) (es : List Spelled) (e : Spelled) (s : AllSpelled es) (here : Spells e.0.payload e.1) (t : Option Terms)
     (known : (u : Terms) → AreTerms h (datagrams es) u → t ≡ Some u) (n : ℕ) → not_oack e.1 ≡ true → OackKeeps h es e s here t known n
 no_oack h es e s here t known n is = record {
-  empty = λ _. no_first_oack h es e s here is NegoFault.OackEmpty;
-  multicast = λ _. no_first_oack h es e s here is NegoFault.MulticastAgreed;
-  not_requested = λ _. no_first_oack h es e s here is NegoFault.OptionNotRequested;
-  outside = λ _. no_first_oack h es e s here is NegoFault.OptionOutsideProfile;
-  bad_value = λ _. no_first_oack h es e s here is NegoFault.OptionValue;
-  changed = λ _. no_later_oack h es e s here is;
-  beyond = λ _. no_first_oack h es e s here is NegoFault.BeyondBlock65535;
+  first = λ fault low b. false≢true (subst (λ x. not_oack x ≡ true) b.says is);
+  changed = λ low b. false≢true (subst (λ x. not_oack x ≡ true) b.says is);
 }

@@ -1,28 +1,28 @@
 -- The worked requests and OACKs that break a rule.
-use Rattle.std.proofs.Common.{◌≡◌, ◌≢◌, ℕ, ◌<◌, ◌≤◌, true, List, [], ◌∷◌, length, codes, reverse, Option, Some, None, inl, inr, refl, sym, ap, ◌∙◌, arith}
+use Rattle.std.proofs.Common.{◌≡◌, ◌≢◌, ℕ, ◌<◌, ◌≤◌, true, List, [], ◌∷◌, length, codes, reverse, Option, Some, None, inl, inr, refl, ap, ◌∙◌, arith}
 use Rattle.std.proofs.lemmas.Bool.{false≢true}
 use Rattle.std.proofs.lemmas.Slice.Eq.{bytes_eq-Decides}
 use Rattle.std.specs.FinMap as map
 use Rattle.tftp_packet.specs.{OptionMap, OptionValue, Num, Text, no_options, value_of, is_known_number, is_number, range_of, map_of, Message, RequestParts, Spells, Get, Octet}
 use Rattle.tftp_nego.specs.{Holds, NegoFault}
 use Rattle.tftp_hosts.specs.{Datagram}
-use Rattle.tftp_rules.specs.{route_of, is_of_transfer, Terms, NoReply}
+use Rattle.tftp_rules.specs.{route_of, is_of_transfer, transfer_of, Terms, NoReply}
 use Rattle.tftp_model.specs.{eight_a_block}
 use Rattle.tftp_model.proofs.Worked.{eight_for_blksize}
-use Rattle.tftp_law.specs.{number_of, plain_terms, Broken, FirstOack, OneEnded, IsRefused, Rule}
-use Rattle.tftp_law.proofs.Spelled.{spelled_once}
+use Rattle.tftp_law.specs.{number_of, plain_terms, NotAnswered, OackBreaks, MessageBreaks, Broken, OneEnded, IsRefused, Rule}
+use Rattle.tftp_law.proofs.FirstBroken.OneMessage.{breaks_by, back}
 use Rattle.tftp_worked.specs.{at_client, asks_for_a, one_block_read, request, oack, by_eight, only_asked, asks_for_b, agrees_to_none, agrees_unasked, by_multicast, only_multicast_asked, agrees_to_multicast, by_foo, only_foo_asked, agrees_to_foo, only_512_asked, agrees_to_1024}
 use Rattle.tftp_worked.proofs.Spelled.{request_spelled, ack_spelled}
 use Rattle.tftp_worked.proofs.Payloads.{Spelled, request_spells, request_for_spells, oack_spells, eight_is}
-use Rattle.tftp_worked.proofs.Passing.{asked_by, asked_is, asked_there, first_answer, first_asked, main_of, terms_of, unanswered_there}
+use Rattle.tftp_worked.proofs.Passing.{asked_by, asked_back, asked_there, first_answer, first_asked, main_of, terms_of, unanswered_there}
 use Rattle.tftp_worked.proofs.RuleTests.{keeps_below}
 use Rattle.tftp_worked.proofs.Kept.{none_below}
-use Rattle.tftp_worked.proofs.Chains.{OackFine, first_oack_keeps, known_by, none_under, one_more, refused_next}
+use Rattle.tftp_worked.proofs.Chains.{OackFine, first_oack_keeps, known_by, none_under, one_more, breaks_so, refused_next}
 use Rattle.tftp_worked.proofs.Options.{blksize}
 use Rattle.tftp_worked.proofs.Bases.{asks_for, plain_asks, plain_asked}
 use Rattle.tftp_worked.proofs.OneOption.{single, found_single, only_single, not_there, has_some}
 use Rattle.tftp_worked.proofs.Accepted.{plain}
-use Rattle.tftp_worked.proofs.RefusedMore.{asked, first_asked_is}
+use Rattle.tftp_worked.proofs.RefusedMore.{asked}
 
 -- ---- another request, and a request that comes late
 
@@ -36,20 +36,15 @@ other_name : asked_b ≢ asked
 other_name e = false≢true ((bytes_eq-Decides (codes "b") (codes "a")).1 (ap (λ (r : RequestParts). r.name) e))
 
 pub changed_refused : IsRefused at_client (reverse only_asked) asks_for_b Rule.RequestChanged
-changed_refused = refused_next at_client plain_asked (asks_for_b, Message.Request asked_b) Rule.RequestChanged b_spelled refl (asked, asked_b, first_asked_is, record { routed = refl; spells = b_spelled }, other_name)
-
-request_of_both : (r q : RequestParts) → Message.Request r ≡ Message.Request q → r ≡ q
-request_of_both r q e = cc
-
-some_of_both : (m n : Message) → Some m ≡ Some n → m ≡ n
-some_of_both m n e = cc
+changed_refused = refused_next at_client plain_asked (asks_for_b, Message.Request asked_b) Rule.RequestChanged b_spelled refl (breaks_so at_client plain_asked (asks_for_b, Message.Request asked_b) asked Rule.RequestChanged b_spelled refl refl (inr (inr other_name)))
 
 -- it is the first request again
 not_changed : Broken at_client (reverse one_block_read) asks_for_a Rule.RequestChanged → ⊥
-not_changed (first, now, is_first, says, differs) =
-    let again : asked ≡ now = request_of_both asked now (spelled_once asks_for_a.payload (Message.Request asked) (Message.Request now) request_spelled says.spells) in
-    let same : asked ≡ first = request_of_both asked first (some_of_both (Message.Request asked) (Message.Request first) (asked_is at_client plain.es first plain.spelled is_first)) in
-    differs (sym again ∙ same)
+not_changed b = none_by_kind (breaks_by at_client (reverse one_block_read) asks_for_a (Message.Request asked) asked refl request_spelled (asked_back at_client plain.es asked plain.spelled refl) Rule.RequestChanged b) where
+  none_by_kind : MessageBreaks at_client asked (transfer_of at_client (reverse one_block_read)) asks_for_a.dir (Message.Request asked) Rule.RequestChanged → ⊥
+  none_by_kind (inl (is, wrong)) = cc
+  none_by_kind (inr (inl (is, goes))) = cc
+  none_by_kind (inr (inr differs)) = differs refl
 
 none_before_late : (rule : Rule) → number_of rule < 9 → Broken at_client (reverse one_block_read) asks_for_a rule → ⊥
 none_before_late Rule.RequestChanged low b = not_changed b
@@ -58,7 +53,10 @@ none_before_late rule low b = none_under 8 at_client (plain.known []) plain.es p
 pub late_request_refused : IsRefused at_client (reverse one_block_read) asks_for_a Rule.RequestAfterStart
 late_request_refused = record {
   lawful = plain.lawful;
-  broken = record { broken = (refl, (asked, record { routed = refl; spells = request_spelled }), inr (1, inl (refl, ack_spelled))); first = none_before_late };
+  broken = record {
+    broken = breaks_so at_client plain plain_asks asked Rule.RequestAfterStart request_spelled refl refl (inr (inr (refl, inr (1, inl (refl, ack_spelled)))));
+    first = none_before_late;
+  };
 }
 
 -- ---- the first OACK
@@ -74,21 +72,15 @@ module _ (dq dr : Datagram) (r : RequestParts) (options : OptionMap) (asks_it : 
   t = Some (plain_terms at_client Get NoReply)
 
   -- it breaks a rule by a fault of its options, and none before it
-  pub offer_refused : (rule : Rule) (fault : NegoFault) → (FirstOack at_client (dq ∷ []) dr fault → Broken at_client (dq ∷ []) dr rule) → OneEnded at_client (dq ∷ []) → t ≡ terms_of at_client es
+  pub offer_refused : (rule : Rule) (fault : NegoFault) → (NotAnswered r.side (transfer_of at_client (dq ∷ [])) × Holds fault r options → OackBreaks r (transfer_of at_client (dq ∷ [])) dr.dir options rule) → OneEnded at_client (dq ∷ []) → t ≡ terms_of at_client es
       → asked_by (first_asked at_client es) ≡ Some (Message.Request r) → first_asked at_client es ≡ Some (dq, Message.Request r) → first_answer r.side (main_of at_client es) ≡ None
       → is_of_transfer (route_of at_client (dq ∷ []) dr) ≡ true → keeps_below (number_of rule) at_client t es e ≡ true → Holds fault r options → OackFine r options (number_of rule)
       → IsRefused at_client (dq ∷ []) dr rule
   offer_refused rule fault breaks lawful known asked_is first none routed keeps wrong fine = record {
     lawful = lawful;
     broken = record {
-      broken = breaks (record {
-        asked = r;
-        oack = options;
-        first = asked_there at_client es (dq, Message.Request r) r first asks_it;
-        unanswered = unanswered_there at_client r.side es (asks_it, tt) none;
-        says = record { routed = routed; spells = agrees };
-        wrong = wrong;
-      });
+      broken = back at_client (dq ∷ []) dr (Message.Oack options) r routed agrees (asked_there at_client es (dq, Message.Request r) r first asks_it) rule
+          (inr (inr (breaks (unanswered_there at_client r.side es (asks_it, tt) none, wrong))));
       first = none_below (number_of rule) at_client t es e (asks_it, tt) agrees (known_by at_client es (asks_it, tt) t known)
           (first_oack_keeps at_client es e (asks_it, tt) agrees t (known_by at_client es (asks_it, tt) t known) (number_of rule) r options asked_is none refl fine) keeps;
     };

@@ -3,13 +3,14 @@ use Rattle.std.proofs.Common.{◌≡◌, ℕ, ◌≤◌, true, [], ◌∷◌, re
 use Rattle.std.proofs.lemmas.Bool.{leb-true}
 use Rattle.tftp_packet.specs.{Message, no_options, Spells, Put}
 use Rattle.tftp_hosts.specs.{Out, Header}
+use Rattle.tftp_model.specs.{request_of, two_bytes}
 use Rattle.tftp_rules.specs.{transfer_of, Passed, IsAcked, usable, EndRule}
 use Rattle.tftp_law.specs.{Rule, OneEnded, IsRefused}
 use Rattle.tftp_worked.specs.{at_client, acknowledges_hi, request, at_service, is_asked, says_not_found, says_forbidden, stops, gives_up, read_refused, read_refused_twice, read_given_up, read_given_up_twice, stopped_at_the_end, stopped_after_the_end, block_after_error, before_late_answer, late_answer, only_offered, stops_unanswered}
 use Rattle.tftp_worked.proofs.Spelled.{ack_spelled}
 use Rattle.tftp_worked.proofs.Payloads.{Spelled, datagrams, request_spells, error_spells}
 use Rattle.tftp_worked.proofs.Passing.{main_of, main_is, main_spelled, used_of, used_is, all_used, every, every_in}
-use Rattle.tftp_worked.proofs.Chains.{Start, request_alone, after, refused_next, refused_end}
+use Rattle.tftp_worked.proofs.Chains.{Start, request_alone, after, breaks_so, refused_next, refused_end}
 use Rattle.tftp_worked.proofs.Exchanges.{came, stop, stopped_news, after_news}
 use Rattle.tftp_worked.proofs.Bases.{asks_for, plain_hi, plain_asked, plain_begun, read_by_eight}
 use Rattle.tftp_worked.proofs.Refused.{ack_up_to}
@@ -82,11 +83,13 @@ after_passes = after_error.lawful
 
 pub another_refused : IsRefused at_client (reverse read_refused) says_forbidden Rule.AfterError
 another_refused = refused_next at_client refused forbidden Rule.AfterError forbidden_spelled refl
-    (Message.Error 2 [], record { routed = refl; spells = forbidden_spelled }, (Message.Error 1 (codes "File not found"), (1, codes "File not found", refl), inl (refl, not_found_spelled), (λ e. cc), inr (2, [], refl)))
+    (breaks_so at_client refused forbidden (request_of two_bytes) Rule.AfterError forbidden_spelled refl refl
+    (inr (inl (refl, (Message.Error 1 (codes "File not found"), (1, codes "File not found", refl), inl (refl, not_found_spelled), (λ e. cc), inr (2, [], refl))))))
 
 pub ack_refused : IsRefused at_client (reverse read_given_up) acknowledges_hi Rule.AfterError
 ack_refused = refused_next at_client given_up plain_ack Rule.AfterError ack_spelled refl
-    (Message.Ack 1, record { routed = refl; spells = ack_spelled }, (Message.Error 3 [], (3, [], refl), inl (refl, full_spelled), (λ e. cc), inl refl))
+    (breaks_so at_client given_up plain_ack (request_of two_bytes) Rule.AfterError ack_spelled refl refl
+    (inr (inl (refl, (Message.Error 3 [], (3, [], refl), inl (refl, full_spelled), (λ e. cc), inl refl)))))
 
 -- ---- a block that only an ACK allows which went out after the ERROR came in
 
@@ -102,7 +105,7 @@ late_acked : IsAcked (usable (transfer_of at_client (datagrams stopped.es))) 0
 late_acked = record { member = inl refl; most = most_used at_client stopped 0 refl }
 
 pub late_refused : IsRefused at_client (reverse before_late_answer) late_answer Rule.WindowOverrun
-late_refused = refused_end at_client stopped (came 2 (codes "89")) EndRule.WindowOverrun Rule.WindowOverrun (λ b. b) refl (0, inr (refl, late_acked), omega arith)
+late_refused = refused_end at_client stopped (came 2 (codes "89")) EndRule.WindowOverrun refl (0, inr (refl, late_acked), omega arith)
 
 -- ---- at a server that has not answered
 

@@ -6,16 +6,17 @@ use Rattle.tftp_packet.specs.{Num, Message, RequestParts, Get}
 use Rattle.tftp_model.specs.{number_or, request_of, two_bytes, eight_a_block, eight_by_four}
 use Rattle.tftp_rules.specs.{IsFront, BlockPassed, transfer_of, EndRule}
 use Rattle.tftp_model.proofs.Worked.{four_of_both}
-use Rattle.tftp_law.specs.{FirstAsked, Begins, Agrees, Broken, Rule, IsRefused}
+use Rattle.tftp_nego.specs.{Holds, NegoFault}
+use Rattle.tftp_law.specs.{Begins, Agrees, Broken, Rule, IsRefused}
 use Rattle.tftp_hosts.specs.{Dir, In}
 use Rattle.std.proofs.lemmas.Bool.{false≢true}
-use Rattle.tftp_worked.specs.{at_client, asks_for_a, brings_hi, acknowledges_two, read_without_its_ack, by_eight, at_service, comes_from_elsewhere, before_answering, acknowledges_stray, acknowledges_nobody, comes_to_another_port, asks_for_size, too_many_blocks, only_asked, ack_zero, block_zero, before_changed_reply, agrees_to_four, before_taking_offer, agrees_to_eight, before_late_oack, late_oack, sized}
-use Rattle.tftp_worked.proofs.Spelled.{request_spelled, hi_spelled}
+use Rattle.tftp_worked.specs.{at_client, brings_hi, acknowledges_two, read_without_its_ack, by_eight, at_service, comes_from_elsewhere, before_answering, acknowledges_stray, acknowledges_nobody, comes_to_another_port, asks_for_size, too_many_blocks, only_asked, ack_zero, block_zero, before_changed_reply, agrees_to_four, before_taking_offer, agrees_to_eight, before_late_oack, late_oack, sized}
+use Rattle.tftp_worked.proofs.Spelled.{hi_spelled}
 use Rattle.tftp_worked.proofs.Payloads.{Spelled, datagrams, oack_spells, data_spells, ack_spells, eight_is}
-use Rattle.tftp_worked.proofs.Passing.{asked_back, unanswered_there, answered_there, every_is}
+use Rattle.tftp_worked.proofs.Passing.{unanswered_there, answered_there, every_is}
 use Rattle.tftp_worked.proofs.Kept.{none_below}
 use Rattle.tftp_worked.proofs.Options.{blksize, tsize, two_answer, not_empty, fine, found}
-use Rattle.tftp_worked.proofs.Chains.{Start, IsFixed, after, refused_next, refused_end, none_under, known_by, first_oack_keeps, later_oack_keeps, same_again}
+use Rattle.tftp_worked.proofs.Chains.{Start, IsFixed, after, breaks_so, refused_next, refused_end, none_under, known_by, first_oack_keeps, later_oack_keeps, same_again}
 use Rattle.tftp_worked.proofs.Exchanges.{late_news}
 use Rattle.tftp_worked.proofs.Bases.{asks_for, eight_and_size, many_is, plain_hi, plain_asked, plain_begun, four_asked, read_by_four, served_by_four, size_asked}
 
@@ -45,14 +46,11 @@ unasked_refused = record {
   broken = record { broken = (refl, refl); first = none_under 4 at_client None [] plain_hi tt hi_spelled refl refl refl };
 }
 
-pub first_asked_is : FirstAsked at_client (reverse only_asked) asked
-first_asked_is = (asks_for_a, refl, request_spelled)
-
 pub kind_refused : IsRefused at_client (reverse only_asked) ack_zero Rule.WrongKind
-kind_refused = refused_next at_client plain_asked (ack_zero, Message.Ack 0) Rule.WrongKind (ack_spells 0 refl) refl (Message.Ack 0, asked, record { routed = refl; spells = ack_spells 0 refl }, first_asked_is, tt)
+kind_refused = refused_next at_client plain_asked (ack_zero, Message.Ack 0) Rule.WrongKind (ack_spells 0 refl) refl (breaks_so at_client plain_asked (ack_zero, Message.Ack 0) asked Rule.WrongKind (ack_spells 0 refl) refl refl (inl (refl, tt)))
 
 pub zero_block_refused : IsRefused at_client (reverse only_asked) block_zero Rule.BlockZero
-zero_block_refused = refused_end at_client plain_asked (block_zero, Message.Data 0 []) EndRule.BlockZero Rule.BlockZero (λ b. b) refl refl
+zero_block_refused = refused_end at_client plain_asked (block_zero, Message.Data 0 []) EndRule.BlockZero refl refl
 
 -- ---- an ACK of a block that has not come
 
@@ -67,19 +65,17 @@ begun_front = record {
 }
 
 pub ahead_refused : IsRefused at_client (reverse read_without_its_ack) acknowledges_two Rule.AckAhead
-ahead_refused = refused_end at_client plain_begun (acknowledges_two, Message.Ack 2) EndRule.AckAhead Rule.AckAhead (λ b. b) refl (1, inr (refl, begun_front), omega arith)
+ahead_refused = refused_end at_client plain_begun (acknowledges_two, Message.Ack 2) EndRule.AckAhead refl (1, inr (refl, begun_front), omega arith)
 
 -- ---- OACKs
 
 too_many : Broken at_client (datagrams size_asked.es) too_many_blocks Rule.BeyondBlock65535
-too_many = inr (record {
-  asked = asks_for Get (eight_and_size 0);
-  oack = eight_and_size 524280;
-  first = (asks_for_size, refl, size_asked.spelled.0);
-  unanswered = unanswered_there at_client Get size_asked.es size_asked.spelled refl;
-  says = record { routed = refl; spells = oack_spells (sized (codes "524280")) (eight_and_size 524280) refl many_is };
-  wrong = (524280, refl, found blksize tsize 8 524280 tsize, subst (λ b. 65535 < 524280 / b + 1) (sym (ap (number_or 512) (found blksize tsize 8 524280 blksize))) (omega arith));
-})
+too_many =
+    let here = oack_spells (sized (codes "524280")) (eight_and_size 524280) refl many_is in
+    let unanswered = unanswered_there at_client Get size_asked.es size_asked.spelled refl in
+    let wrong : Holds NegoFault.BeyondBlock65535 (asks_for Get (eight_and_size 0)) (eight_and_size 524280)
+    = (524280, refl, found blksize tsize 8 524280 tsize, subst (λ b. 65535 < 524280 / b + 1) (sym (ap (number_or 512) (found blksize tsize 8 524280 blksize))) (omega arith)) in
+    breaks_so at_client size_asked (too_many_blocks, Message.Oack (eight_and_size 524280)) (asks_for Get (eight_and_size 0)) Rule.BeyondBlock65535 here refl refl (inr (inr (unanswered, wrong)))
 
 pub many_refused : IsRefused at_client (reverse (asks_for_size ∷ [])) too_many_blocks Rule.BeyondBlock65535
 many_refused =
@@ -107,7 +103,7 @@ reply_refused =
     record {
       lawful = four_hi.lawful;
       broken = record {
-        broken = (request, eight_by_four, asked_back at_client four_hi.es request four_hi.spelled refl, answered_there at_client Get four_hi.es Begins four_hi.spelled refl, record { routed = refl; spells = here });
+        broken = breaks_so at_client four_hi offer request Rule.ReplyChanged here refl refl (inr (inr (answered_there at_client Get four_hi.es Begins four_hi.spelled refl)));
         first = none_below 10 at_client (four_hi.known []) four_hi.es offer four_hi.spelled here known keeps refl;
       };
     }
@@ -130,15 +126,7 @@ oack_refused =
     record {
       lawful = b.lawful;
       broken = record {
-        broken = (
-          request,
-          eight_by_four,
-          eight_a_block,
-          asked_back at_client b.es request b.spelled refl,
-          answered_there at_client Get b.es (Agrees eight_by_four) b.spelled refl,
-          record { routed = refl; spells = here },
-          other_options,
-        );
+        broken = breaks_so at_client b offer request Rule.OackChanged here refl refl (inr (inr (eight_by_four, answered_there at_client Get b.es (Agrees eight_by_four) b.spelled refl, other_options)));
         first = none_below 16 at_client (b.known []) b.es offer b.spelled here known keeps refl;
       };
     }
@@ -158,12 +146,7 @@ late_refused =
     record {
       lawful = late.lawful;
       broken = record {
-        broken = (
-          refl,
-          (request, asked_back at_service late.es request late.spelled refl, refl),
-          (eight_by_four, record { routed = refl; spells = here }),
-          (1, codes "11111111", inl (refl, data_spells 1 (codes "11111111") refl)),
-        );
+        broken = breaks_so at_service late offer request Rule.OackAfterStart here refl refl (inr (inr (refl, refl, (1, codes "11111111", inl (refl, data_spells 1 (codes "11111111") refl)))));
         first = none_below 17 at_service (late.known []) late.es offer late.spelled here known keeps refl;
       };
     }

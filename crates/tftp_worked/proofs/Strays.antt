@@ -1,7 +1,7 @@
 -- The worked captures with strays.
 use Rattle.std.proofs.Common.{◌≡◌, ℕ, ◌<◌, List, [], ◌∷◌, codes, reverse, inl, inr, refl, ap, arith}
 use Rattle.tftp_packet.specs.{Message, Spells, Short}
-use Rattle.tftp_packet.proofs.FaultOrder.{first_Short}
+use Rattle.tftp_packet.proofs.FaultOrder.{first_fault}
 use Rattle.tftp_model.specs.{Sent, Took, Req, Data, Ack, two_bytes, two_bytes_view, two_bytes_server_view}
 use Rattle.tftp_model.proofs.Defaults.{default_blksize}
 use Rattle.tftp_model.proofs.Worked.{two_bytes_is_view, two_bytes_complete, two_bytes_is_server_view, two_bytes_complete_at_server}
@@ -66,7 +66,7 @@ pub first_is_read : IsRefused at_client (reverse only_asked) comes_astray (Rule.
 first_is_read = record {
   lawful = plain_asked.lawful;
   broken = record {
-    broken = (refl, first_Short comes_astray.payload (inl (omega arith)));
+    broken = (refl, first_fault comes_astray.payload Short (inl (omega arith)));
     first = under_malformed at_client (reverse only_asked) comes_astray refl (λ none. let e = none.0 in cc);
   };
 }

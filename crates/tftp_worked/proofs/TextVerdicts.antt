@@ -56,7 +56,7 @@ none_acked = record {
     is_no_ack dir _ = true
 
 overrun_refused : IsRefused worked_header (asks ∷ []) (brings 2) Rule.WindowOverrun
-overrun_refused = refused_end worked_header begun (brings 2, Message.Data 2 (codes "hi")) EndRule.WindowOverrun Rule.WindowOverrun (λ b. b) refl (0, inr (refl, none_acked), omega arith)
+overrun_refused = refused_end worked_header begun (brings 2, Message.Data 2 (codes "hi")) EndRule.WindowOverrun refl (0, inr (refl, none_acked), omega arith)
 
 overrun_by_rules : IsVerdictByRules worked_header (read_of 2) (Err (Unlawful 2 Rule.WindowOverrun))
 overrun_by_rules = record {

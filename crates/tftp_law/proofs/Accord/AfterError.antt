@@ -2,11 +2,11 @@
 use Rattle.std.proofs.Common.{◌≡◌, ℕ, Bool, true, false, List, ◌∷◌, Contains, inl, inr, refl, sym, subst, ap, ◌∙◌}
 use Rattle.std.proofs.lemmas.Bool.{true≢false}
 use Rattle.tftp_packet.specs.{Message}
-use Rattle.tftp_hosts.specs.{Dir, In, Out, Datagram, Header}
+use Rattle.tftp_hosts.specs.{Dir, In, Out, Header}
 use Rattle.tftp_model.specs.{Meaning, MachinePacket, Error, Deed, Sent, Took, HasSent, HasTaken, NoErrorSent, message_of, MaySend, is_error, MayCome, IsOneSided}
 use Rattle.tftp_rules.specs.{transfer_of, Passed}
 use Rattle.tftp_model.proofs.Cut.{sends_before_error}
-use Rattle.tftp_law.specs.{Division, datagrams_of, view_in, dir_of, packet_of, AreRouted, Says, GoesOn, Broken, Rule}
+use Rattle.tftp_law.specs.{Division, datagrams_of, view_in, dir_of, packet_of, AreRouted, GoesOn}
 use Rattle.tftp_law.proofs.Accord.PassedIsDone.{passed_told, told_passed}
 
 error_only : (m : Meaning) (wire : List ℕ) (q : MachinePacket) (code : ℕ) (text : List ℕ) → message_of m wire q ≡ Message.Error code text → q ≡ Error code text
@@ -54,15 +54,11 @@ module _ (h : Header) (m : Meaning) (wire : List ℕ) (division : Division) (rou
       differs all
 
   -- a packet that goes out and is not one after an ERROR: this end has sent none
-  pub none_sent_before : (d : Datagram) (p : MachinePacket) → is_error p ≡ false → d.dir ≡ Out → Says h (datagrams_of division) d (message_of m wire p) → (Broken h (datagrams_of division) d Rule.AfterError → ⊥) → NoErrorSent (view_in division)
-  none_sent_before d p plain way says holds code text at = holds (
-    message_of m wire p,
-    says,
-    (
-      Message.Error code text,
-      (code, text, refl),
-      subst (λ x. Passed x (Message.Error code text) (transfer_of h (datagrams_of division))) (sym way) (told_passed h m wire division routed (Sent (Error code text)) at),
-      λ same. true≢false (sym (ap is_error (error_only m wire p code text same)) ∙ plain),
-      inl way,
-    ),
+  pub none_sent_before : (p : MachinePacket) → is_error p ≡ false → (GoesOn (transfer_of h (datagrams_of division)) Out (message_of m wire p) → ⊥) → NoErrorSent (view_in division)
+  none_sent_before p plain stays code text at = stays (
+    Message.Error code text,
+    (code, text, refl),
+    told_passed h m wire division routed (Sent (Error code text)) at,
+    λ same. true≢false (sym (ap is_error (error_only m wire p code text same)) ∙ plain),
+    inl refl,
   )

@@ -11,13 +11,14 @@ use Rattle.tftp_model.specs.{Meaning, request_of, block, block_count}
 use Rattle.tftp_rules.specs.{asks, first_of, or_this, route_of, is_of_transfer, transfer_of, HasPassed, NoReply, Plain, Terms}
 use Rattle.tftp_nego.proofs.Numbers.{map_in_range}
 use Rattle.tftp_netascii.proofs.DecoderLemmas.{Reads-exists}
-use Rattle.tftp_law.specs.{ReadsAs, FirstAsked, Answer, Agrees, Begins, IsAnswer, Answers, NotAnswered, FirstAnswer, size_from, plain_terms, terms_after, FirstOack, Rule, Passes, OneEnded, Accords, AreTermsAfter}
+use Rattle.tftp_law.specs.{ReadsAs, FirstAsked, Answer, Agrees, Begins, IsAnswer, Answers, NotAnswered, FirstAnswer, size_from, plain_terms, terms_after, OackBreaks, Rule, Passes, OneEnded, Accords, AreTermsAfter}
 use Rattle.tftp_law.proofs.Spelled.{spelled_once}
 use Rattle.tftp_law.proofs.FirstBroken.Answering.{answer_of, answer_is, answer_there}
 use Rattle.tftp_law.proofs.FirstBroken.FirstRequests.{first_asks, some_same, first_stays, asked_once, none_before}
 use Rattle.tftp_law.proofs.FirstBroken.Agreed.{without_fault}
 use Rattle.tftp_law.proofs.Accord.HighestNumbers.{AllSpelled, transfer_spelled}
 use Rattle.tftp_law.proofs.FirstBroken.FirstAnswered.{or_new, main_none, main_some, first_one, not_both}
+use Rattle.tftp_law.proofs.FirstBroken.OneMessage.{none_by}
 use Rattle.tftp_law.proofs.Soundness.Settled.{settled}
 use Rattle.tftp_law.proofs.Soundness.MadeWire.{carried}
 
@@ -47,14 +48,17 @@ oack_spelled side d options (m, s, is) = subst (Spells d.payload) (oack_answer s
 -- ---- the options of the first OACK may be agreed
 
 module _ (h : Header) (earlier : List Datagram) (d : Datagram) (passes : Passes h earlier d) (asked : RequestParts) (options : OptionMap)
-    (first : (fault : NegoFault) → Holds fault asked options → FirstOack h earlier d fault) where
+    (main : is_of_transfer (route_of h earlier d) ≡ true) (spells : Spells d.payload (Message.Oack options)) (first : FirstAsked h earlier asked) (none : NotAnswered asked.side (transfer_of h earlier)) where
+  keeps : (rule : Rule) → OackBreaks asked (transfer_of h earlier) d.dir options rule → ⊥
+  keeps rule b = none_by h earlier d (Message.Oack options) asked main spells first passes.lawful rule (inr (inr b))
+
   no_fault : (fault : NegoFault) → Holds fault asked options → ⊥
-  no_fault NegoFault.OackEmpty holds = passes.lawful Rule.OackEmpty (first NegoFault.OackEmpty holds)
-  no_fault NegoFault.MulticastAgreed holds = passes.lawful Rule.MulticastAgreed (first NegoFault.MulticastAgreed holds)
-  no_fault NegoFault.OptionNotRequested holds = passes.lawful Rule.OptionNotRequested (first NegoFault.OptionNotRequested holds)
-  no_fault NegoFault.OptionOutsideProfile holds = passes.lawful Rule.OptionOutsideProfile (first NegoFault.OptionOutsideProfile holds)
-  no_fault NegoFault.OptionValue holds = passes.lawful Rule.OptionValue (first NegoFault.OptionValue holds)
-  no_fault NegoFault.BeyondBlock65535 holds = passes.lawful Rule.BeyondBlock65535 (inr (first NegoFault.BeyondBlock65535 holds))
+  no_fault NegoFault.OackEmpty holds = keeps Rule.OackEmpty (none, holds)
+  no_fault NegoFault.MulticastAgreed holds = keeps Rule.MulticastAgreed (none, holds)
+  no_fault NegoFault.OptionNotRequested holds = keeps Rule.OptionNotRequested (none, holds)
+  no_fault NegoFault.OptionOutsideProfile holds = keeps Rule.OptionOutsideProfile (none, holds)
+  no_fault NegoFault.OptionValue holds = keeps Rule.OptionValue (none, holds)
+  no_fault NegoFault.BeyondBlock65535 holds = keeps Rule.BeyondBlock65535 (none, holds)
   no_fault NegoFault.Memory holds = holds
 
 module _ (h : Header) where
@@ -71,14 +75,7 @@ module _ (h : Header) where
       let stays = same_first earlier d asked was is first in
       elim (subst (λ ds. FirstAnswer asked.side ds (Agrees options)) (main_some (is_of_transfer (route_of h earlier d)) d (transfer_of h earlier) main) answer) [
         | inl old ↦ before stays old
-        | inr now ↦ without_fault asked options (no_fault h earlier d passes asked options (λ fault holds. record {
-          asked = asked;
-          oack = options;
-          first = stays;
-          unanswered = now.0;
-          says = record { routed = main; spells = oack_spelled asked.side d options now.1 };
-          wrong = holds;
-        }))
+        | inr now ↦ without_fault asked options (no_fault h earlier d passes asked options main (oack_spelled asked.side d options now.1) stays now.0)
       ]
   may_step earlier d passes lawful asked first options before (Some was) is false main answer =
       before (same_first earlier d asked was is first) (subst (λ ds. FirstAnswer asked.side ds (Agrees options)) (main_none (is_of_transfer (route_of h earlier d)) d (transfer_of h earlier) main) answer)

@@ -6,7 +6,7 @@ use Rattle.tftp_hosts.specs.{In, Out, Datagram, Header}
 use Rattle.tftp_model.specs.{Meaning, request_of, SomethingAgreed, NothingAgreed, Ack, History, MayAckZeroOn, MaySendAck, heard, LetsAckZeroOn, MayComeAck}
 use Rattle.tftp_model.specs.Roles.{sender_of, receiver_of}
 use Rattle.tftp_rules.specs.{transfer_of, usable, AckZeroWaits, EndRule, NoReply, Plain, Oacked, Terms}
-use Rattle.tftp_law.specs.{Division, datagrams_of, view_in, Agrees, Begins, IsAnswer, FirstAnswer, plain_terms, terms_after, Rule, AreTermsAfter}
+use Rattle.tftp_law.specs.{Division, datagrams_of, view_in, Agrees, Begins, IsAnswer, FirstAnswer, plain_terms, terms_after, AreTermsAfter}
 use Rattle.tftp_law.proofs.Accord.HighestNumbers.{top_of, front_of}
 use Rattle.tftp_law.proofs.Accord.PassedIsDone.{block_sent, block_came, usable_passed}
 use Rattle.tftp_law.proofs.Accord.KnownTerms.{state, sends, takes}
@@ -14,7 +14,7 @@ use Rattle.tftp_law.proofs.Completeness.NextDeed.{reply_now}
 use Rattle.tftp_law.proofs.Accord.Moments.{who_sent_data, who_took_data, sent_below}
 use Rattle.tftp_law.proofs.Accord.WhoSends.{ack_out_who, ack_in_who, two_parts}
 use Rattle.tftp_law.proofs.Soundness.Searches.{has_data}
-use Rattle.tftp_law.proofs.Soundness.NextDatagram.{Next, past_own, used_all, breaks, right, req_taken, begins_now, oack_taken, req_used, oack_past, none_before, pick, block_used}
+use Rattle.tftp_law.proofs.Soundness.NextDatagram.{Next, past_own, used_all, keeps_end, right, req_taken, begins_now, oack_taken, req_used, oack_past, none_before, pick, block_used}
 
 module _ {h : Header} {m : Meaning} {wire : List ℕ} {division : Division} {d : Datagram} (next : Next h m wire division d) where
   abbrev ds : List Datagram
@@ -35,7 +35,7 @@ module _ {h : Header} {m : Meaning} {wire : List ℕ} {division : Division} {d :
 
   module _ (j : ℕ) (s : Spells d.payload (Message.Ack j)) where
     zero_waits : (t : Terms) → AreTermsAfter h (request_of m) through t → j ≡ 0 → AckZeroWaits t.side t.reply used → ⊥
-    zero_waits t known none wait = next.passes.lawful Rule.AckZero (breaks next t known (Message.Ack j) s EndRule.AckZero (none, wait))
+    zero_waits t known none wait = keeps_end next t known (Message.Ack j) s EndRule.AckZero (none, wait)
 
     ack_begins : m.side ≡ Put → j ≡ 0 → IsAnswer m.side (Message.Ack j) Begins
     ack_begins put none = subst (λ x. IsAnswer x (Message.Ack j) Begins) (sym put) none
@@ -74,7 +74,7 @@ module _ {h : Header} {m : Meaning} {wire : List ℕ} {division : Division} {d :
         let st = state h m wire next.acc.fits division next.routed next.own t known in
         let (front, is) = front_of used (used_all next) in
         let near : j ≤ front = elim (cases_lt front j) [
-          | inl ahead ↦ absurd (next.passes.lawful Rule.AckAhead (breaks next t known (Message.Ack j) s EndRule.AckAhead (front, inr (takes h m wire next.acc.fits division next.routed next.own t st who, is), ahead)))
+          | inl ahead ↦ absurd (keeps_end next t known (Message.Ack j) s EndRule.AckAhead (front, inr (takes h m wire next.acc.fits division next.routed next.own t st who, is), ahead))
           | inr fine ↦ fine
         ] in
         record {
@@ -118,7 +118,7 @@ module _ {h : Header} {m : Meaning} {wire : List ℕ} {division : Division} {d :
         let st = state h m wire next.acc.fits division next.routed next.own t known in
         let (top, is) = top_of used (used_all next) in
         let near : j ≤ top = elim (cases_lt top j) [
-          | inl ahead ↦ absurd (next.passes.lawful Rule.AckAhead (breaks next t known (Message.Ack j) s EndRule.AckAhead (top, inl (sends h m wire next.acc.fits division next.routed next.own t st who, is), ahead)))
+          | inl ahead ↦ absurd (keeps_end next t known (Message.Ack j) s EndRule.AckAhead (top, inl (sends h m wire next.acc.fits division next.routed next.own t st who, is), ahead))
           | inr fine ↦ fine
         ] in
         record {

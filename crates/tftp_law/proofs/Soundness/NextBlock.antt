@@ -6,7 +6,7 @@ use Rattle.tftp_hosts.specs.{Dir, In, Out, Datagram, Header}
 use Rattle.tftp_model.specs.{Meaning, request_of, SomethingAgreed, NothingAgreed, blksize_of, windowsize_of, block, block_count, Data, Ack, History, HasSent, HasTaken, IsStartedOn, MaySendData, heard, LetsStartOn, MayComeData}
 use Rattle.tftp_model.specs.Roles.{sender_of, receiver_of}
 use Rattle.tftp_rules.specs.{transfer_of, Passed, HasPassed, usable, BlocksWait, EndRule, NoReply, Oacked, Terms}
-use Rattle.tftp_law.specs.{Division, datagrams_of, view_in, Agrees, Begins, IsAnswer, FirstAnswer, plain_terms, terms_after, Rule, AreTermsAfter}
+use Rattle.tftp_law.specs.{Division, datagrams_of, view_in, Agrees, Begins, IsAnswer, FirstAnswer, plain_terms, terms_after, AreTermsAfter}
 use Rattle.tftp_law.proofs.Accord.HighestNumbers.{top_of, answered_of, acked_of}
 use Rattle.tftp_law.proofs.Accord.PassedIsDone.{block_sent, ack_went, ack_came_in, sent_block, usable_passed, used_ack}
 use Rattle.tftp_law.proofs.Accord.AnsweredBefore.{zero_used}
@@ -15,7 +15,7 @@ use Rattle.tftp_law.proofs.Completeness.NextDeed.{reply_now}
 use Rattle.tftp_law.proofs.Accord.Moments.{who_sent_ack, who_took_ack, sent_below, sent_in_window, acknowledged_was_sent}
 use Rattle.tftp_law.proofs.Accord.WhoSends.{data_out_who, data_in_who, two_parts}
 use Rattle.tftp_law.proofs.Soundness.Searches.{has_ack_zero, zero_from}
-use Rattle.tftp_law.proofs.Soundness.NextDatagram.{Next, all, used_all, more, breaks, right, req_taken, begins_now, oack_taken, req_used, oack_past, none_before, pick}
+use Rattle.tftp_law.proofs.Soundness.NextDatagram.{Next, all, used_all, more, keeps_end, right, req_taken, begins_now, oack_taken, req_used, oack_past, none_before, pick}
 
 module _ {h : Header} {m : Meaning} {wire : List ℕ} {division : Division} {d : Datagram} (next : Next h m wire division d) where
   abbrev ds : List Datagram
@@ -46,12 +46,12 @@ module _ {h : Header} {m : Meaning} {wire : List ℕ} {division : Division} {d :
 
     low_end : 1 ≤ k
     low_end = let (t, known) = pick next in elim (cases_eq k 0) [
-      | inl none ↦ absurd (next.passes.lawful Rule.BlockZero (breaks next t known (Message.Data k bytes) s EndRule.BlockZero none))
+      | inl none ↦ absurd (keeps_end next t known (Message.Data k bytes) s EndRule.BlockZero none)
       | inr some ↦ omega (arith, some)
     ]
 
     waits : (t : Terms) → AreTermsAfter h (request_of m) through t → BlocksWait t.side t.reply used → ⊥
-    waits t known wait = next.passes.lawful Rule.NotStarted (breaks next t known (Message.Data k bytes) s EndRule.NotStarted wait)
+    waits t known wait = keeps_end next t known (Message.Data k bytes) s EndRule.NotStarted wait
 
     data_begins : (side : Side) → m.side ≡ side → side ≡ Get → IsAnswer m.side (Message.Data k bytes) Begins
     data_begins side is get = subst (λ x. IsAnswer x (Message.Data k bytes) Begins) (sym (is ∙ get)) tt
@@ -104,7 +104,7 @@ module _ {h : Header} {m : Meaning} {wire : List ℕ} {division : Division} {d :
         let sender = sends h m wire next.acc.fits division next.routed next.own t st who in
         let (top, is) = top_of through (all next) in
         let near : k ≤ top + 1 = elim (cases_lt (top + 1) k) [
-          | inl skipped ↦ absurd (next.passes.lawful Rule.BlockSkipped (breaks next t known (Message.Data k bytes) s EndRule.BlockSkipped (sender, (top, is, skipped))))
+          | inl skipped ↦ absurd (keeps_end next t known (Message.Data k bytes) s EndRule.BlockSkipped (sender, (top, is, skipped)))
           | inr fine ↦ fine
         ] in
         let low = low_end in
@@ -132,7 +132,7 @@ module _ {h : Header} {m : Meaning} {wire : List ℕ} {division : Division} {d :
                   ]
                 ] in
                 let near_enough : k ≤ a + windowsize_of m = elim (cases_lt (a + t.windowsize) k) [
-                  | inl over ↦ absurd (next.passes.lawful Rule.WindowOverrun (breaks next t known (Message.Data k bytes) s EndRule.WindowOverrun (a, inl (sender, most), over)))
+                  | inl over ↦ absurd (keeps_end next t known (Message.Data k bytes) s EndRule.WindowOverrun (a, inl (sender, most), over))
                   | inr fine ↦ omega (arith, fine, size)
                 ] in
                 (a, taken, omega (arith, below, above), near_enough)
@@ -141,7 +141,7 @@ module _ {h : Header} {m : Meaning} {wire : List ℕ} {division : Division} {d :
             | inr fine ↦ fine
             | inl back ↦
                 let high = is.most higher (sent_block h m wire division next.routed higher at) in
-                absurd (next.passes.lawful Rule.GoneBack (breaks next t known (Message.Data k bytes) s EndRule.GoneBack (sender, size ∙ one, (top, is, omega (arith, high, back)))))
+                absurd (keeps_end next t known (Message.Data k bytes) s EndRule.GoneBack (sender, size ∙ one, (top, is, omega (arith, high, back))))
           ];
         }
 
@@ -195,7 +195,7 @@ module _ {h : Header} {m : Meaning} {wire : List ℕ} {division : Division} {d :
             a,
             elim most.member [ inl none ↦ inl none | inr p ↦ inr (used_ack h m wire division next.routed a p) ],
             elim (cases_lt (a + t.windowsize) k) [
-              | inl over ↦ absurd (next.passes.lawful Rule.WindowOverrun (breaks next t known (Message.Data k bytes) s EndRule.WindowOverrun (a, inr (takes h m wire next.acc.fits division next.routed next.own t st who, most), over)))
+              | inl over ↦ absurd (keeps_end next t known (Message.Data k bytes) s EndRule.WindowOverrun (a, inr (takes h m wire next.acc.fits division next.routed next.own t st who, most), over))
               | inr fine ↦ omega (arith, fine, size)
             ],
           );

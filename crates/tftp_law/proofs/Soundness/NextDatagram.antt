@@ -5,9 +5,10 @@ use Rattle.tftp_packet.specs.{Message, Spells, Client, Server}
 use Rattle.tftp_hosts.specs.{Dir, In, Out, Datagram, Header}
 use Rattle.tftp_model.specs.{Meaning, request_of, SomethingAgreed, NothingAgreed, message_of, MachinePacket, Req, Oack, Data, Ack, Error, Sent, Took, History, HasSent, HasTaken, NoErrorSent, is_error, heard, IsOneSided}
 use Rattle.tftp_rules.specs.{author_of, goes_out, route_of, is_of_transfer, transfer_of, Passed, HasPassed, usable, EndBroken, brings_error, EndRule, NoReply, Terms}
-use Rattle.tftp_law.specs.{Division, datagrams_of, view_in, Accords, AreRouted, Starts, FirstAsked, Agrees, Begins, IsAnswer, NotAnswered, FirstAnswer, plain_terms, terms_after, IsWrongKind, Says, EndBreaks, Rule, Passes, OneEnded, AreTermsAfter}
+use Rattle.tftp_law.specs.{Division, datagrams_of, view_in, Accords, AreRouted, Starts, FirstAsked, Agrees, Begins, IsAnswer, NotAnswered, FirstAnswer, plain_terms, terms_after, IsWrongKind, GoesOn, MessageBreaks, Rule, Passes, OneEnded, AreTermsAfter}
 use Rattle.tftp_law.proofs.Accord.HighestNumbers.{AllSpelled, transfer_spelled}
 use Rattle.tftp_law.proofs.FirstBroken.FirstAnswered.{main_some}
+use Rattle.tftp_law.proofs.FirstBroken.OneMessage.{none_by, no_end_by}
 use Rattle.tftp_law.proofs.Accord.PassedIsDone.{Told as Heard, passed_told, used_told, data_only}
 use Rattle.tftp_law.proofs.Accord.AfterError.{none_sent_before}
 use Rattle.tftp_law.proofs.Accord.HeardAnswer.{heard_own}
@@ -67,14 +68,15 @@ module _ {h : Header} {m : Meaning} {wire : List ℕ} {division : Division} {d :
   pub more : transfer_of h (d ∷ ds) ≡ d ∷ through
   more = main_some (is_of_transfer (route_of h ds d)) d through next.main
 
-  pub says : (x : Message) → Spells d.payload x → Says h ds d x
-  says x s = record { routed = next.main; spells = s }
+  -- it breaks no rule by what it says
+  pub keeps : (x : Message) → Spells d.payload x → (rule : Rule) → MessageBreaks h (request_of m) through d.dir x rule → ⊥
+  keeps x s = none_by h ds d x (request_of m) next.main s next.first next.passes.lawful
 
-  pub breaks : (t : Terms) → AreTermsAfter h (request_of m) through t → (x : Message) → Spells d.payload x → (rule : EndRule) → EndBroken t through x rule → EndBreaks h ds d rule
-  breaks t known x s rule broken = record { terms = t; known = (request_of m, next.first, known); message = x; says = says x s; broken = broken }
+  pub keeps_end : (t : Terms) → AreTermsAfter h (request_of m) through t → (x : Message) → Spells d.payload x → (rule : EndRule) → EndBroken t through x rule → ⊥
+  keeps_end t known x s = no_end_by h ds d x (request_of m) next.main s next.first next.passes.lawful t known
 
   pub right : (x : Message) → Spells d.payload x → (dir : Dir) → d.dir ≡ dir → IsWrongKind (author_of h.named dir) m.side x → ⊥
-  right x s dir way wrong = next.passes.lawful Rule.WrongKind (x, request_of m, says x s, next.first, subst (λ w. IsWrongKind (author_of h.named w) m.side x) (sym way) wrong)
+  right x s dir way wrong = keeps x s Rule.WrongKind (inl (refl, subst (λ w. IsWrongKind (author_of h.named w) m.side x) (sym way) wrong))
 
   pub req_taken : h.named ≡ Server → HasTaken view Req
   req_taken at = elim next.requested [ inl sent ↦ absurd (two_ends h.named (who_sent_request m wire h.named view next.own sent) at) | inr taken ↦ taken ]
@@ -115,7 +117,8 @@ module _ {h : Header} {m : Meaning} {wire : List ℕ} {division : Division} {d :
 
   -- an end that sends more has sent no ERROR
   pub none_before : (p : MachinePacket) → is_error p ≡ false → d.dir ≡ Out → Spells d.payload (message_of m wire p) → NoErrorSent view
-  none_before p plain way s = none_sent_before h m wire division next.routed d p plain way (says (message_of m wire p) s) (next.passes.lawful Rule.AfterError)
+  none_before p plain way s = none_sent_before h m wire division next.routed p plain
+      (λ on. keeps (message_of m wire p) s Rule.AfterError (inr (inl (refl, subst (λ w. GoesOn through w (message_of m wire p)) (sym way) on))))
 
   -- ---- terms that are known
 

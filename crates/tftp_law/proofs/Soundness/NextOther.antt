@@ -10,7 +10,7 @@ use Rattle.tftp_law.specs.{Division, datagrams_of, view_in, Agrees, IsAnswer, Fi
 use Rattle.tftp_law.proofs.Accord.PassedIsDone.{told_passed, sent_block}
 use Rattle.tftp_law.proofs.Completeness.NextDeed.{reply_now}
 use Rattle.tftp_law.proofs.Accord.WhoSends.{oack_out_who, oack_in_who, request_out_who, request_in_who}
-use Rattle.tftp_law.proofs.Soundness.NextDatagram.{Next, more, says, right, req_taken, req_sent, none_before}
+use Rattle.tftp_law.proofs.Soundness.NextDatagram.{Next, more, keeps, right, req_taken, req_sent, none_before}
 
 module _ {h : Header} {m : Meaning} {wire : List ℕ} {division : Division} {d : Datagram} (next : Next h m wire division d) where
   abbrev ds : List Datagram
@@ -40,13 +40,13 @@ module _ {h : Header} {m : Meaning} {wire : List ℕ} {division : Division} {d :
     agreed_now = elim (reply_now h m wire next.acc.fits division next.routed next.own) [
       | inl none ↦
           let same = next.acc.oacked o (subst (λ p. FirstAnswer m.side p (Agrees o)) (sym (more next)) (inr (none, (Message.Oack o, s, oack_is m.side)))) in
-          (same, λ nothing. next.passes.lawful Rule.OackEmpty (record { asked = request_of m; oack = o; first = next.first; unanswered = none; says = says next (Message.Oack o) s; wrong = sym same ∙ nothing }))
+          (same, λ nothing. keeps next (Message.Oack o) s Rule.OackEmpty (inr (inr (none, sym same ∙ nothing))))
       | inr some ↦ elim some [
         | inl x ↦ elim (same_options m.agreed o) [
           | inl same ↦ (same, x.0)
-          | inr differs ↦ absurd (next.passes.lawful Rule.OackChanged (request_of m, m.agreed, o, next.first, x.1, says next (Message.Oack o) s, λ e. differs (sym e)))
+          | inr differs ↦ absurd (keeps next (Message.Oack o) s Rule.OackChanged (inr (inr (m.agreed, x.1, λ e. differs (sym e)))))
         ]
-        | inr x ↦ absurd (next.passes.lawful Rule.ReplyChanged (request_of m, o, next.first, x.1, says next (Message.Oack o) s))
+        | inr x ↦ absurd (keeps next (Message.Oack o) s Rule.ReplyChanged (inr (inr x.1)))
       ]
     ]
 
@@ -58,7 +58,7 @@ module _ {h : Header} {m : Meaning} {wire : List ℕ} {division : Division} {d :
           server = who;
           agreed = agreed_now.1;
           asked = req_taken next who;
-          no_data = λ get k at. let p = sent_block h m wire division next.routed k at in next.passes.lawful Rule.OackAfterStart (way, (request_of m, next.first, get), (o, says next (Message.Oack o) s), (k, p.0, p.1));
+          no_data = λ get k at. let p = sent_block h m wire division next.routed k at in keeps next (Message.Oack o) s Rule.OackAfterStart (inr (inr (way, get, (k, p.0, p.1))));
         }
 
     pub may_come_oack : d.dir ≡ In → MayComeOack m h.named view
@@ -72,15 +72,15 @@ module _ {h : Header} {m : Meaning} {wire : List ℕ} {division : Division} {d :
     pub asked_now : r ≡ request_of m
     asked_now = elim (same_request r (request_of m)) [
       | inl same ↦ same
-      | inr differs ↦ absurd (next.passes.lawful Rule.RequestChanged (request_of m, r, next.first, says next (Message.Request r) s, differs))
+      | inr differs ↦ absurd (keeps next (Message.Request r) s Rule.RequestChanged (inr (inr differs)))
     ]
 
     pub may_send_request : d.dir ≡ Out → MaySendReq h.named view
     may_send_request way = record {
       no_error = none_before next Req refl way (subst (λ q. Spells d.payload (Message.Request q)) asked_now s);
       client = request_out_who h.named m.side r (right next (Message.Request r) s Out way);
-      no_data = λ k at. let p = sent_block h m wire division next.routed k at in next.passes.lawful Rule.RequestAfterStart (way, (r, says next (Message.Request r) s), inl (k, p.0, p.1));
-      no_ack = λ j at. next.passes.lawful Rule.RequestAfterStart (way, (r, says next (Message.Request r) s), inr (j, told_passed h m wire division next.routed (Sent (Ack j)) at));
+      no_data = λ k at. let p = sent_block h m wire division next.routed k at in keeps next (Message.Request r) s Rule.RequestAfterStart (inr (inr (way, inl (k, p.0, p.1))));
+      no_ack = λ j at. keeps next (Message.Request r) s Rule.RequestAfterStart (inr (inr (way, inr (j, told_passed h m wire division next.routed (Sent (Ack j)) at))));
     }
 
     pub may_come_request : d.dir ≡ In → h.named ≡ Server
@@ -106,11 +106,8 @@ module _ {h : Header} {m : Meaning} {wire : List ℕ} {division : Division} {d :
         text_is e = cc
 
         unlike : (Message.Error code text ≡ Message.Error c other → ⊥) → ⊥
-        unlike apart = next.passes.lawful Rule.AfterError (
-          Message.Error code text,
-          says next (Message.Error code text) s,
-          (Message.Error c other, (c, other, refl), subst (λ x. Passed x (Message.Error c other) through) (sym way) p, apart, inr (code, text, refl)),
-        )
+        unlike apart = keeps next (Message.Error code text) s Rule.AfterError
+            (inr (inl (refl, (Message.Error c other, (c, other, refl), subst (λ x. Passed x (Message.Error c other) through) (sym way) p, apart, inr (code, text, refl)))))
 
     pub may_send_error : d.dir ≡ Out → MaySendError h.named view code text
     may_send_error way = record {

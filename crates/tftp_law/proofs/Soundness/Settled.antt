@@ -6,10 +6,11 @@ use Rattle.std.specs.Str.{bytes_eq}
 use Rattle.tftp_packet.specs.{OptionMap, Message, RequestParts, Spells, Side, Get, Put}
 use Rattle.tftp_hosts.specs.{Datagram, Header}
 use Rattle.tftp_rules.specs.{or_this, first_of, asks, route_of, is_of_transfer, transfer_of, HasPassed, IsLast, LastIsUnknown, IsNotLengthOf, BlocksWait, EndBroken, usable, NoReply, Terms, EndRule}
-use Rattle.tftp_law.specs.{FirstAsked, Agrees, Begins, IsAnswer, Answers, NotAnswered, plain_terms, AreTerms, EndBreaks, Rule, Passes, OneEnded, AreTermsAfter}
+use Rattle.tftp_law.specs.{FirstAsked, Agrees, Begins, IsAnswer, Answers, NotAnswered, plain_terms, AreTerms, Passes, OneEnded, AreTermsAfter}
 use Rattle.tftp_law.proofs.Spelled.{spelled_once}
 use Rattle.tftp_law.proofs.Accord.HighestNumbers.{AllSpelled, transfer_spelled, has_short, high_of}
 use Rattle.tftp_law.proofs.FirstBroken.FirstAnswered.{not_both, known_by, or_new, main_none, main_some}
+use Rattle.tftp_law.proofs.FirstBroken.OneMessage.{no_end_by}
 use Rattle.tftp_law.proofs.FirstBroken.FirstRequests.{some_same, first_stays, none_before}
 
 -- ---- blocks
@@ -167,25 +168,25 @@ module _ (h : Header) (earlier : List Datagram) (d : Datagram) (lawful : OneEnde
   abbrev passed : List Datagram
   passed = transfer_of h earlier
 
-  breaks : (t : Terms) → AreTerms h earlier t → (m : Message) → Spells d.payload m → (rule : EndRule) → EndBroken t passed m rule → EndBreaks h earlier d rule
-  breaks t known m s rule broken = record { terms = t; known = known; message = m; says = record { routed = main; spells = s }; broken = broken }
+  keeps : (t : Terms) → AreTerms h earlier t → (m : Message) → Spells d.payload m → (rule : EndRule) → EndBroken t passed m rule → ⊥
+  keeps t (asked, first, known) m s = no_end_by h earlier d m asked main s first passes.lawful t known
 
   one_or_more : (t : Terms) → AreTerms h earlier t → (k : ℕ) (bytes : List ℕ) → Spells d.payload (Message.Data k bytes) → 1 ≤ k
   one_or_more t known k bytes s = elim (cases_eq k 0) [
-    | inl zero ↦ absurd (passes.lawful Rule.BlockZero (breaks t known (Message.Data k bytes) s EndRule.BlockZero zero))
+    | inl zero ↦ absurd (keeps t known (Message.Data k bytes) s EndRule.BlockZero zero)
     | inr some ↦ omega (arith, some)
   ]
 
   no_longer : (t : Terms) → AreTerms h earlier t → (k : ℕ) (bytes : List ℕ) → Spells d.payload (Message.Data k bytes) → length bytes ≤ t.blksize
   no_longer t known k bytes s = elim (cases_lt t.blksize (length bytes)) [
-    | inl long ↦ absurd (passes.lawful Rule.BlockLength (breaks t known (Message.Data k bytes) s EndRule.BlockLength (inl long)))
+    | inl long ↦ absurd (keeps t known (Message.Data k bytes) s EndRule.BlockLength (inl long))
     | inr fits ↦ fits
   ]
 
   short_end : (t : Terms) → AreTerms h earlier t → (bytes : List ℕ) → Spells d.payload (Message.Data 65535 bytes) → length bytes < t.blksize
   short_end t known bytes s = elim (cases_lt (length bytes) t.blksize) [
     | inl short ↦ short
-    | inr whole ↦ absurd (passes.lawful Rule.BeyondBlock65535 (inl (breaks t known (Message.Data 65535 bytes) s EndRule.BeyondBlock65535 (refl, whole))))
+    | inr whole ↦ absurd (keeps t known (Message.Data 65535 bytes) s EndRule.BeyondBlock65535 (refl, whole))
   ]
 
   -- after these terms
@@ -193,17 +194,17 @@ module _ (h : Header) (earlier : List Datagram) (d : Datagram) (lawful : OneEnde
   fits t known = record {
     same = λ k bytes other s p. same k bytes other s p (bytes_eq other bytes) refl;
     placed = λ k last bytes s short is. one_last t k last (length bytes) short
-        (λ wrong. passes.lawful Rule.BlockLength (breaks t known (Message.Data k bytes) s EndRule.BlockLength (inr (inl (last, is, wrong)))));
+        (λ wrong. keeps t known (Message.Data k bytes) s EndRule.BlockLength (inr (inl (last, is, wrong))));
     numbered = one_or_more t known;
     within = no_longer t known;
     ended = short_end t known;
-    right = λ k last bytes s is wrong. passes.lawful Rule.BlockLength (breaks t known (Message.Data k bytes) s EndRule.BlockLength (inr (inl (last, is, wrong))));
+    right = λ k last bytes s is wrong. keeps t known (Message.Data k bytes) s EndRule.BlockLength (inr (inl (last, is, wrong)));
     opens = λ k bytes s unknown less j other p.
         let high = high_of passed (transfer_spelled h earlier lawful) in
         let most = high.1.most j (other, p) in
         elim (cases_lt high.0 k) [
           | inl over ↦ omega arith
-          | inr under ↦ absurd (passes.lawful Rule.BlockLength (breaks t known (Message.Data k bytes) s EndRule.BlockLength (inr (inr (unknown, less, (high.0, high.1, under))))))
+          | inr under ↦ absurd (keeps t known (Message.Data k bytes) s EndRule.BlockLength (inr (inr (unknown, less, (high.0, high.1, under)))))
         ];
     known = known_last t passed (transfer_spelled h earlier lawful);
   }
@@ -211,10 +212,10 @@ module _ (h : Header) (earlier : List Datagram) (d : Datagram) (lawful : OneEnde
       same : (k : ℕ) (bytes other : List ℕ) → Spells d.payload (Message.Data k bytes) → HasPassed (Message.Data k other) passed → (b : Bool) → bytes_eq other bytes ≡ b → other ≡ bytes
       same k bytes other s p true e = (bytes_eq-Decides other bytes).0 e
       same k bytes other s p false e =
-          absurd (passes.lawful Rule.BlockChanged (breaks t known (Message.Data k bytes) s EndRule.BlockChanged (other, p, λ is. false≢true (sym e ∙ (bytes_eq-Decides other bytes).1 is))))
+          absurd (keeps t known (Message.Data k bytes) s EndRule.BlockChanged (other, p, λ is. false≢true (sym e ∙ (bytes_eq-Decides other bytes).1 is)))
 
   not_started : (t : Terms) → AreTerms h earlier t → (k : ℕ) (bytes : List ℕ) → Spells d.payload (Message.Data k bytes) → BlocksWait t.side t.reply (usable passed) → ⊥
-  not_started t known k bytes s wait = passes.lawful Rule.NotStarted (breaks t known (Message.Data k bytes) s EndRule.NotStarted wait)
+  not_started t known k bytes s wait = keeps t known (Message.Data k bytes) s EndRule.NotStarted wait
 
   -- the first request was asked before
   module _ (asked : RequestParts) (first : FirstAsked h earlier asked) (before : (t : Terms) → AreTermsAfter h asked passed t → Settled asked.side t passed) where
