@@ -1,6 +1,6 @@
 -- What the named end keeps from the reply on, whichever end it is, and for which datagrams that stands. The list `passed`
 -- has the datagrams of the transfer that have passed at this end, the newest first.
-use Rattle.std.specs.Prelude.{◌≡◌, ℕ, ◌≤◌, Bool, List, Some, None, if◌then◌else◌}
+use Rattle.std.specs.Prelude.{◌≡◌, ℕ, ◌≤◌, List, Some, None}
 use Rattle.std.specs.FinMap as map
 use Rattle.tftp_packet.specs.{Message, Data, Ack}
 use Rattle.tftp_hosts.specs.{Dir, Datagram}
@@ -31,10 +31,6 @@ IsEndAfter (Receives r) passed = IsReceiverAfter r passed
 abbrev pub stopped_end : NamedEnd → NamedEnd
 stopped_end (Sends s) = Sends (stopped_sender s)
 stopped_end (Receives r) = Receives (stopped_receiver r)
-
--- The end stands for these datagrams, once it is told whether an ERROR came in among them.
-abbrev pub IsEndWith : Bool → NamedEnd → List Datagram → Type 0
-IsEndWith stopped end passed = IsEndAfter (if stopped then stopped_end end else end) passed
 
 -- a message that the end may keep
 abbrev pub MayKeep : NamedEnd → Message → Type 0

@@ -1,12 +1,11 @@
 -- What an end keeps of a transfer whose request has been answered, and for which datagrams that stands. The list `passed`
 -- has the datagrams of the transfer that have passed at this end, the newest first.
-use Rattle.std.specs.Prelude.{◌≡◌, ◌↔◌, ◌⊎◌, ℕ, ◌+◌, ◌/◌, ◌%◌, ◌<◌, ◌≤◌, Bool, true, List, length, Option, Some, cond}
+use Rattle.std.specs.Prelude.{◌≡◌, ◌↔◌, ◌⊎◌, ℕ, ◌+◌, ◌/◌, ◌%◌, ◌<◌, ◌≤◌, Bool, true, List, length, Some}
 use Rattle.std.specs.List.{list_any}
 use Rattle.std.specs.FinMap as map
-use Rattle.tftp_packet.specs.{Message, Request, Data, Ack, Error, Oack, Spells, Side}
+use Rattle.tftp_packet.specs.{Message, Request, Data, Ack, Error, Oack, Spells}
 use Rattle.tftp_hosts.specs.{Dir, In, Out, Datagram}
-use Rattle.tftp_model.specs.Roles.{sender_of, receiver_of}
-use Rattle.tftp_rules.specs.{Passed, HasPassed, brings_error, usable, IsTop, IsAnswered, IsAcked, IsFront, IsLast, Reply, Plain, Oacked, Terms}
+use Rattle.tftp_rules.specs.{Passed, HasPassed, brings_error, usable, IsTop, IsAnswered, IsAcked, IsFront, IsLast, Reply, Terms}
 use Rattle.tftp_blocks.specs.{Held, IsHeldFront, Takes}
 
 -- an ERROR of the other end has come in
@@ -27,11 +26,6 @@ pub record Sender : Type 0 where
   pub zero : Bool  -- an ACK 0 came in
   pub usable_top : ℕ  -- the highest block that went out before an ERROR came in
   pub stopped : Bool  -- an ERROR came in
-
--- what the sender knows at its start
-abbrev pub sender_terms : Side → Bool → ℕ → ℕ → Option ℕ → Terms
-sender_terms side oacked blksize windowsize size =
-    record { named = sender_of side; side = side; reply = cond oacked Oacked Plain; blksize = blksize; windowsize = windowsize; size = size }
 
 -- The sender stands for these datagrams.
 pub record IsSenderAfter (s : Sender) (passed : List Datagram) : Type 0 where
@@ -57,11 +51,6 @@ pub record Receiver : Type 0 where
   pub usable_acked : ℕ  -- the highest ACK that went out before an ERROR came in
   pub zero : Bool  -- an ACK 0 went out before an ERROR came in
   pub stopped : Bool  -- an ERROR came in
-
--- what the receiver knows at its start
-abbrev pub receiver_terms : Side → Bool → ℕ → ℕ → Option ℕ → Terms
-receiver_terms side oacked blksize windowsize size =
-    record { named = receiver_of side; side = side; reply = cond oacked Oacked Plain; blksize = blksize; windowsize = windowsize; size = size }
 
 -- The receiver stands for these datagrams.
 pub record IsReceiverAfter (r : Receiver) (passed : List Datagram) : Type 0 where

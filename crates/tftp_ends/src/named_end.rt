@@ -1,15 +1,14 @@
-ghost use Rattle.std.specs.Prelude.{◌≡◌, ◌≢◌, ◌↔◌, ℕ, ◌≤◌, List, ◌∷◌, IsTrue, true, OnOk, OnErr, IfErr};
+ghost use Rattle.std.specs.Prelude.{◌≡◌, ◌↔◌, ℕ, ◌≤◌, List, ◌∷◌, IsTrue, true, OnOk, OnErr, IfErr};
 ghost use Rattle.tftp_packet.specs.{Data, Ack, Error, meaning};
 ghost use Rattle.tftp_hosts.specs.{In, Datagram};
 ghost use Rattle.tftp_model.specs.Roles.{sender_of as sends};
-ghost use Rattle.tftp_rules.specs.{IsSender, IsReceiver, EndBroken, FirstEndBroken, EndRule as Rule, NoReply};
+ghost use Rattle.tftp_rules.specs.{EndBroken, FirstEndBroken, EndRule as Rule};
 ghost use Rattle.tftp_blocks.specs.{nothing_held};
 ghost use Rattle.tftp_ends.specs.States.{has_stopped, IsBeforeBlocks, Says};
 ghost use Rattle.tftp_ends.specs.NamedEnds.{
   terms_of,
   held_of,
   IsEndAfter,
-  IsEndWith,
   stopped_end,
   IsEndDone,
   IsNewBlock,
@@ -27,7 +26,7 @@ use std::marker::Model;
 use tftp_blocks::Delivered;
 use tftp_hosts::Dir;
 use tftp_packet::{End, Packet, Side};
-use tftp_rules::{Reply, Terms};
+use tftp_rules::Terms;
 
 /// Which part the named end has.
 #[derive(Drop)]
@@ -57,7 +56,6 @@ impl<D: Delivered> NamedEnd<D> {
     /// The end of a transfer whose request was answered, with these terms. `stopped` tells whether an ERROR has come in
     /// before (RFC 1350, section 7). Takes no memory.
     pub fn new(terms: Terms, store: D, stopped: bool) -> Self
-        requires replied { terms.reply ≢ NoReply }
         requires blksize { 8 ≤ terms.blksize }
         requires windowsize { 1 ≤ terms.windowsize }
         requires empty { D.held store ≡ nothing_held }
@@ -66,63 +64,12 @@ impl<D: Delivered> NamedEnd<D> {
         ensures terms { terms_of result ≡ terms }
         ensures before { (passed : List Datagram) → IsBeforeBlocks passed → has_stopped passed ≡ stopped → IsEndAfter result passed }
     {
-        let mut end = if terms.named == sender_of(terms.side) {
-            NamedEnd::sender(terms, store)
+        let part = if terms.named == sender_of(terms.side) {
+            Part::Sends(SenderState::new(terms, store, stopped))
         } else {
-            NamedEnd::receiver(terms, store)
+            Part::Receives(ReceiverState::new(terms, store, stopped))
         };
-        if stopped {
-            end.peer_stopped();
-        }
-        end
-    }
-
-    /// The end that sends the file.
-    fn sender(terms: Terms, store: D) -> Self
-        requires sends { IsSender terms }
-        requires replied { terms.reply ≢ NoReply }
-        requires blksize { 8 ≤ terms.blksize }
-        requires windowsize { 1 ≤ terms.windowsize }
-        requires empty { D.held store ≡ nothing_held }
-        requires block_size { D.block_size store ≡ terms.blksize }
-        requires window { D.window store ≡ terms.windowsize }
-        ensures terms { terms_of result ≡ terms }
-        ensures before { (passed : List Datagram) → IsBeforeBlocks passed → IsEndWith (has_stopped passed) result passed }
-    {
-        NamedEnd {
-            part: Part::Sends(SenderState::new(
-                terms.side,
-                terms.reply == Reply::Oacked,
-                terms.blksize,
-                terms.windowsize,
-                terms.size,
-                store,
-            )),
-        }
-    }
-
-    /// The end that gets the file.
-    fn receiver(terms: Terms, store: D) -> Self
-        requires receives { IsReceiver terms }
-        requires replied { terms.reply ≢ NoReply }
-        requires blksize { 8 ≤ terms.blksize }
-        requires windowsize { 1 ≤ terms.windowsize }
-        requires empty { D.held store ≡ nothing_held }
-        requires block_size { D.block_size store ≡ terms.blksize }
-        requires window { D.window store ≡ terms.windowsize }
-        ensures terms { terms_of result ≡ terms }
-        ensures before { (passed : List Datagram) → IsBeforeBlocks passed → IsEndWith (has_stopped passed) result passed }
-    {
-        NamedEnd {
-            part: Part::Receives(ReceiverState::new(
-                terms.side,
-                terms.reply == Reply::Oacked,
-                terms.blksize,
-                terms.windowsize,
-                terms.size,
-                store,
-            )),
-        }
+        NamedEnd { part }
     }
 
     /// Whether a block or an ACK may pass, or the first rule that it breaks (RFC 1350, sections 2, 4 and 5; RFC 2347;

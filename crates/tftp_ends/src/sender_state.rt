@@ -7,7 +7,6 @@ ghost use Rattle.tftp_rules.specs.{IsSender, EndBroken, FirstEndBroken, EndRule 
 ghost use Rattle.tftp_ends.specs.NamedEnds.{Sends, HoldsWire};
 ghost use Rattle.tftp_ends.specs.States.{
   has_stopped,
-  sender_terms,
   stopped_sender,
   IsSenderAfter,
   IsBeforeBlocks,
@@ -20,8 +19,7 @@ use crate::block_rules::{EndFault, ack_zero_waits, hold_block, is_other, last_bl
 use std::alloc::{AllocError, Global};
 use std::marker::Model;
 use tftp_blocks::Delivered;
-use tftp_packet::{End, Side};
-use tftp_rules::{Reply, Terms};
+use tftp_rules::Terms;
 
 /// The end that sends the file, from when the request is answered. It keeps the blocks and a few numbers, and no list of
 /// what has passed.
@@ -56,42 +54,25 @@ impl<D: Delivered> Model for SenderState<D> {
 }
 
 impl<D: Delivered> SenderState<D> {
-    /// The sender of a transfer whose request was answered, by an OACK or without one. `wire_len` is the size of the wire
-    /// where that was agreed. Takes no memory.
-    pub fn new(
-        side: Side,
-        oacked: bool,
-        blksize: u16,
-        windowsize: u16,
-        wire_len: Option<u64>,
-        store: D,
-    ) -> Self
-        requires blksize { 8 ≤ blksize }
-        requires windowsize { 1 ≤ windowsize }
+    /// The sender of a transfer whose request was answered, with these terms. `stopped` tells whether an ERROR has come in
+    /// before (RFC 1350, section 7). Takes no memory.
+    pub fn new(terms: Terms, store: D, stopped: bool) -> Self
+        requires sends { IsSender terms }
+        requires blksize { 8 ≤ terms.blksize }
+        requires windowsize { 1 ≤ terms.windowsize }
         requires empty { D.held store ≡ nothing_held }
-        requires block_size { D.block_size store ≡ blksize }
-        requires window { D.window store ≡ windowsize }
-        ensures terms { result.terms ≡ sender_terms side oacked blksize windowsize wire_len }
-        ensures before { (passed : List Datagram) → IsBeforeBlocks passed → has_stopped passed ≡ false → IsSenderAfter result passed }
-        ensures stopped { (passed : List Datagram) → IsBeforeBlocks passed → has_stopped passed ≡ true → IsSenderAfter (stopped_sender result) passed }
+        requires block_size { D.block_size store ≡ terms.blksize }
+        requires window { D.window store ≡ terms.windowsize }
+        ensures terms { result.terms ≡ terms }
+        ensures before { (passed : List Datagram) → IsBeforeBlocks passed → has_stopped passed ≡ stopped → IsSenderAfter result passed }
     {
         SenderState {
-            terms: Terms {
-                named: match side {
-                    Side::Get => End::Server,
-                    Side::Put => End::Client,
-                },
-                side,
-                reply: if oacked { Reply::Oacked } else { Reply::Plain },
-                blksize,
-                windowsize,
-                size: wire_len,
-            },
+            terms,
             store,
             answered: 0,
             zero: false,
             usable_top: 0,
-            stopped: false,
+            stopped,
         }
     }
 

@@ -2,7 +2,7 @@ ghost use Rattle.std.specs.Prelude.{◌≡◌, ◌≢◌, ◌≤◌, ◌↔◌, 
 ghost use Rattle.tftp_packet.specs.{OptionMap, Message, Get, Spells, meaning, parts, map_of};
 ghost use Rattle.tftp_hosts.specs.{Out, Datagram, Header};
 ghost use Rattle.tftp_ends.specs.{terms_of, IsEndAfter, IsBeforeBlocks, Says};
-ghost use Rattle.tftp_rules.specs.{transfer_of, author_of as author_by_way, NoReply, Plain};
+ghost use Rattle.tftp_rules.specs.{transfer_of, author_of as author_by_way, Plain};
 ghost use Rattle.tftp_law.specs.{MessageBreaks, FirstOackBreaks, LaterOackBreaks, OackBreaks, RequestBreaks, TermsBreak, BlockSent, AckSent, rule_of_end as rule_by_end, OneEnded, IsEnded, Agrees, ClientWentOn, FirstAsked, GoesOn, IsWrongKind, plain_terms as plain_terms_of, terms_after};
 ghost use Rattle.tftp_judge.specs.Found.{Finds, stop_of_fault, IsBlockOrAck};
 ghost use Rattle.tftp_judge.specs.Courses.{HasAnswer, WaitsForReply, DiffersByCourse, DiffersBySent};
@@ -278,7 +278,6 @@ impl<D: Delivered + Drop> Transfer<D> {
 
     /// The named end, which begins with the first answer (RFC 1350, section 4; RFC 2347). Takes no memory.
     fn begin(&self, alloc: Global, terms: Terms) -> NamedEnd<D>
-        requires replied { terms.reply ≢ NoReply }
         requires blksize { 8 ≤ terms.blksize }
         requires windowsize { 1 ≤ terms.windowsize }
         ensures terms { terms_of result ≡ terms }
@@ -443,7 +442,6 @@ impl<D: Delivered + Drop> Transfer<D> {
 /// What is known where nothing is agreed (RFC 1350, section 2).
 fn plain_terms(named: End, side: Side) -> Terms
     ensures are { (h : Header) → h.named ≡ named → result ≡ plain_terms_of h side Plain }
-    ensures replied { result.reply ≢ NoReply }
     ensures blksize { 8 ≤ result.blksize }
     ensures windowsize { 1 ≤ result.windowsize }
 {
@@ -460,7 +458,6 @@ fn plain_terms(named: End, side: Side) -> Terms
 /// What is known where these options are agreed (RFC 2348; RFC 2349; RFC 7440).
 fn agreed_terms(named: End, asked: &Request, agreed: &Agreed) -> Terms
     ensures are { (h : Header) → h.named ≡ named → result ≡ terms_after h asked.now (Agrees agreed.now) }
-    ensures replied { result.reply ≢ NoReply }
     ensures blksize { 8 ≤ result.blksize }
     ensures windowsize { 1 ≤ result.windowsize }
 {

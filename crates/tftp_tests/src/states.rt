@@ -1,13 +1,15 @@
 //! The states of the two ends, on each of the two stores by the same steps.
 
-ghost use Rattle.std.specs.Prelude.{◌≤◌, OnOk};
+ghost use Rattle.std.specs.Prelude.{◌≡◌, ◌≤◌, OnOk};
+ghost use Rattle.tftp_model.specs.Roles.{sender_of as sends_for, receiver_of as receives_for};
 ghost use Rattle.tftp_ends.specs.{Fits, MayAcknowledge, MaySend};
 
 use std::alloc::AllocError;
 use std::test::Fail;
 use tftp_blocks::{Delivered, MapDelivered, RingDelivered};
 use tftp_ends::{EndFault, ReceiverState, SenderState};
-use tftp_packet::Side;
+use tftp_packet::{End, Side};
+use tftp_rules::{Reply, Terms};
 
 /// A call of a state, and what it answers.
 enum Step {
@@ -413,6 +415,31 @@ const RECEIVERS: &[Receiver] = &[
     ),
 ];
 
+/// The end that sends the file.
+fn sender_for(side: Side) -> End
+    ensures { result ≡ sends_for side }
+{
+    match side {
+        Side::Get => End::Server,
+        Side::Put => End::Client,
+    }
+}
+
+/// The end that gets it.
+fn receiver_for(side: Side) -> End
+    ensures { result ≡ receives_for side }
+{
+    match side {
+        Side::Get => End::Client,
+        Side::Put => End::Server,
+    }
+}
+
+/// How the request was answered.
+fn reply_of(oacked: bool) -> Reply {
+    if oacked { Reply::Oacked } else { Reply::Plain }
+}
+
 /// A new sender, unless its block size or its window is too small.
 fn sender_of<D: Delivered>(
     rt: &HostRuntime,
@@ -421,8 +448,16 @@ fn sender_of<D: Delivered>(
     if blksize < 8 || windowsize < 1 {
         return None;
     }
+    let terms = Terms {
+        named: sender_for(side),
+        side,
+        reply: reply_of(oacked),
+        blksize,
+        windowsize,
+        size,
+    };
     let store = D::new(rt.alloc(), blksize, windowsize);
-    Some(SenderState::new(side, oacked, blksize, windowsize, size, store))
+    Some(SenderState::new(terms, store, false))
 }
 
 /// Fails unless each step answers what is wanted.
@@ -471,8 +506,16 @@ fn receiver_of<D: Delivered>(
     if blksize < 8 || windowsize < 1 {
         return None;
     }
+    let terms = Terms {
+        named: receiver_for(side),
+        side,
+        reply: reply_of(oacked),
+        blksize,
+        windowsize,
+        size,
+    };
     let store = D::new(rt.alloc(), blksize, windowsize);
-    Some(ReceiverState::new(side, oacked, blksize, windowsize, size, store))
+    Some(ReceiverState::new(terms, store, false))
 }
 
 /// Fails unless each step answers what is wanted.
@@ -556,9 +599,10 @@ fn filled<D: Delivered>(rt: &HostRuntime, receiver: &mut ReceiverState<D>) -> Re
 
 /// That of a new receiver.
 fn filled_on<D: Delivered + Drop>(rt: &HostRuntime) -> Result<Filled, Fail> {
-    let store = D::new(rt.alloc(), 8, 65535);
-    let mut receiver = ReceiverState::new(Side::Get, true, 8, 65535, None, store);
-    filled(rt, &mut receiver)
+    match receiver_of::<D>(rt, (Side::Get, true, 8, 65535, None)) {
+        Some(mut receiver) => filled(rt, &mut receiver),
+        None => Err(Fail::new("no receiver")),
+    }
 }
 
 /// All blocks but the first wait, the highest before the others, and none waits once the first is there.
