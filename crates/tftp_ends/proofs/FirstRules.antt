@@ -1,12 +1,10 @@
 -- The order of the rules of blocks and acknowledgements.
-use Rattle.std.proofs.Common.{◌≡◌, ◌↔◌, ℕ, ◌+◌, ◌≤◌, ◌≢◌, Bool, true, false, IsTrue, Option, Some, List, nat_eq, nat_lt, if◌then◌else◌, inl, inr, refl, sym, subst, ap, ◌∙◌, arith}
+use Rattle.std.proofs.Common.{◌≡◌, ◌↔◌, ℕ, ◌+◌, ◌≤◌, Bool, true, false, IsTrue, Result, Err, List, nat_eq, nat_lt, if◌then◌else◌, inl, inr, refl, sym, subst, ap, ◌∙◌, arith}
 use Rattle.std.proofs.lemmas.Bool.{cases_eq, ltb-true, lt-ltb, false≢true}
-use Rattle.std.proofs.lemmas.Slice.Eq.{bytes_eq-Decides}
-use Rattle.std.specs.Str.{bytes_eq}
 use Rattle.tftp_packet.specs.{Message, Data, Ack}
 use Rattle.tftp_hosts.specs.{Datagram}
 use Rattle.tftp_rules.specs.{end_number, EndBroken, FirstEndBroken, EndRule, NotStarted, BlockZero, BeyondBlock65535, BlockLength, WindowOverrun, BlockSkipped, GoneBack, BlockChanged, AckAhead, AckZero, Terms}
-use Rattle.tftp_ends.specs.{NoneBelow}
+use Rattle.tftp_ends.specs.{IsFound, NoneBelow, Rejection}
 
 -- the rule with this number
 rule_of : ℕ → EndRule
@@ -118,12 +116,10 @@ module _ (t : Terms) (passed : List Datagram) (j : ℕ) where
 pub refute : {W : Type 0} (b : Bool) → b ≡ false → (IsTrue b ↔ W) → W → ⊥
 refute b fails tells w = false≢true (sym fails ∙ tells.1 w)
 
--- where no other bytes are held
-pub same_bytes : (held : Option (List ℕ)) (bytes : List ℕ) → ((other : List ℕ) × (held ≡ Some other) × (other ≢ bytes) → ⊥) → (other : List ℕ) → held ≡ Some other → other ≡ bytes
-same_bytes held bytes none other is = by (bytes_eq other bytes) refl where
-  by : (b : Bool) → bytes_eq other bytes ≡ b → other ≡ bytes
-  by true equal = (bytes_eq-Decides other bytes).0 equal
-  by false apart = absurd (none (other, is, λ same. false≢true (sym apart ∙ (bytes_eq-Decides other bytes).1 same)))
+-- the rule that stands for what was found first
+pub found_broken : (t : Terms) (passed : List Datagram) (m : Message) (rule : EndRule) (r : Result (Unit {0}) Rejection) → (rejection : Rejection) × (r ≡ Err rejection) × (rejection ≡ Rejection.Broken rule) → FirstEndBroken t passed m rule
+    → IsFound t passed m r
+found_broken t passed m rule r is first = subst (IsFound t passed m) (sym (is.1 ∙ ap (λ (rejection : Rejection). Err rejection) is.2)) first
 
 -- a test for a number above 0
 pub above_zero : (n : ℕ) → (nat_lt 0 n ≡ true) ↔ (1 ≤ n)

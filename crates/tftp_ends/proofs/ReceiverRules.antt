@@ -1,12 +1,12 @@
 -- The rules of blocks and acknowledgements at a receiver, by the numbers that it keeps.
-use Rattle.std.proofs.Common.{◌≡◌, ◌≢◌, ◌↔◌, ℕ, ◌+◌, ◌<◌, ◌≤◌, List, Some, None, inl, inr, refl, sym, ◌∙◌, arith}
+use Rattle.std.proofs.Common.{◌≡◌, ◌≢◌, ◌↔◌, ℕ, ◌+◌, ◌<◌, ◌≤◌, List, Some, None, Err, inl, inr, refl, sym, subst, ◌∙◌, arith}
 use Rattle.std.proofs.lemmas.Bool.{cases_lt}
 use Rattle.std.specs.FinMap as map
 use Rattle.tftp_packet.specs.{Data, Ack}
 use Rattle.tftp_hosts.specs.{In, Out, Datagram}
 use Rattle.tftp_rules.specs.{Passed, HasPassed, IsFront, IsAckedAt, IsReachedAt, IsSender, EndBroken, FirstEndBroken, AckZeroWaits, usable, EndRule, BlockChanged, AckAhead, AckZero}
 use Rattle.tftp_blocks.specs.{IsHighest, IsHeldFront}
-use Rattle.tftp_ends.specs.{Receiver, IsReceiverAfter, IsHeld, IsSoundReceiver, IsKnown, NoneBelow}
+use Rattle.tftp_ends.specs.{Receiver, IsReceiverAfter, IsHeld, IsSoundReceiver, IsKnown, NoneBelow, CannotHold, IsFound, NoneBroken, Rejection}
 use Rattle.tftp_ends.proofs.FirstRules.{first_is, before_24, before_25, before_26, before_27, no_block_rule, no_ack_rule}
 use Rattle.tftp_ends.proofs.Passing.{came_usable, usable_passed, greatest_one}
 use Rattle.tftp_ends.proofs.SenderRules.{one_part}
@@ -103,5 +103,9 @@ module _ (r : Receiver) (sound : IsSoundReceiver r) where
       pub changed : ((other : List ℕ) × (map.get r.held k ≡ Some other) × (other ≢ bytes)) → FirstEndBroken r.terms passed (Data k bytes) BlockChanged
       changed other = first_is r.terms passed (Data k bytes) BlockChanged 25 refl not_back (other.0, (after.blocks k other.0).1 other.1, other.2)
 
-      pub nothing_broken : ((other : List ℕ) × (map.get r.held k ≡ Some other) × (other ≢ bytes) → ⊥) → (rule : EndRule) → EndBroken r.terms passed (Data k bytes) rule → ⊥
-      nothing_broken same = no_block_rule r.terms passed k bytes not_back (λ b. same (b.0, (after.blocks k b.0).0 b.1, b.2))
+      pub nothing_broken : ((other : List ℕ) → map.get r.held k ≡ Some other → other ≡ bytes) → NoneBroken r.terms passed (Data k bytes)
+      nothing_broken same = no_block_rule r.terms passed k bytes not_back (λ b. b.2 (same b.0 ((after.blocks k b.0).0 b.1)))
+
+      pub refused : (rejection : Rejection) → CannotHold r.held k bytes rejection → IsFound r.terms passed (Data k bytes) (Err rejection)
+      refused (Rejection.Broken rule) why = subst (FirstEndBroken r.terms passed (Data k bytes)) (sym why.0) (changed why.1)
+      refused Rejection.Memory why = nothing_broken (λ other is. let no : None ≡ Some other = sym why ∙ is in absurd (cc))

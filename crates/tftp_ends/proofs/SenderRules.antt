@@ -1,20 +1,34 @@
 -- The rules of blocks and acknowledgements at a sender, by the numbers that it keeps.
-use Rattle.std.proofs.Common.{◌≡◌, ◌≢◌, ◌↔◌, ◌⊎◌, ℕ, ◌+◌, ◌<◌, ◌≤◌, List, length, Some, inl, inr, refl, arith}
+use Rattle.std.proofs.Common.{◌≡◌, ◌≢◌, ◌↔◌, ◌⊎◌, ℕ, ◌+◌, ◌<◌, ◌≤◌, List, Some, None, Err, inl, inr, refl, sym, subst, ◌∙◌, arith}
 use Rattle.std.proofs.lemmas.Bool.{cases_eq}
 use Rattle.std.specs.FinMap as map
-use Rattle.tftp_packet.specs.{Data, Ack, Side, Get, Put, End}
-use Rattle.tftp_hosts.specs.{In, Out, Datagram}
+use Rattle.tftp_packet.specs.{Data, Ack, Side, Get, Put, End, Client, Server}
+use Rattle.tftp_hosts.specs.{Dir, In, Out, Datagram}
 use Rattle.tftp_model.specs.Roles.{sender_of, receiver_of}
-use Rattle.tftp_rules.specs.{Passed, HasPassed, BlockPassed, IsTop, IsAckedAt, IsReachedAt, EndBroken, FirstEndBroken, AckZeroWaits, usable, EndRule, BlockSkipped, GoneBack, BlockChanged, AckAhead, AckZero}
+use Rattle.tftp_rules.specs.{author_of, Passed, HasPassed, BlockPassed, IsTop, IsAckedAt, IsReachedAt, EndBroken, FirstEndBroken, AckZeroWaits, usable, EndRule, BlockSkipped, GoneBack, BlockChanged, AckAhead, AckZero}
 use Rattle.tftp_blocks.specs.{IsHighest}
-use Rattle.tftp_ends.specs.{Sender, IsSenderAfter, IsHeld, MaySend, IsSoundSender, IsKnown, IsOpen, NoneBelow}
+use Rattle.tftp_ends.specs.{Sender, IsSenderAfter, IsHeld, IsSoundSender, IsKnown, NoneBelow, CannotHold, IsFound, NoneBroken, Rejection}
 use Rattle.tftp_ends.proofs.FirstRules.{first_is, before_24, before_25, before_26, before_27, no_block_rule, no_ack_rule}
-use Rattle.tftp_ends.proofs.SoundStates.{fits_it, held_from_one}
+use Rattle.tftp_ends.proofs.SoundStates.{held_from_one}
 use Rattle.tftp_ends.proofs.Passing.{came_usable, usable_passed, greatest_kept, greatest_one}
 
 pub one_part : (named : End) (side : Side) → named ≡ sender_of side → named ≡ receiver_of side → ⊥
 one_part named Get sends receives = absurd (cc)
 one_part named Put sends receives = absurd (cc)
+
+-- what an end sends goes out at it, and what the other end sends comes in
+pub own_way : (named author : End) (dir : Dir) → author_of named dir ≡ author → named ≡ author → dir ≡ Out
+own_way named author Out of own = refl
+own_way Client author In of own = absurd (cc)
+own_way Server author In of own = absurd (cc)
+
+pub other_way : (named author : End) (dir : Dir) → author_of named dir ≡ author → (named ≡ author → ⊥) → dir ≡ In
+other_way named author In of other = refl
+other_way named author Out of other = absurd (other of)
+
+pub out_of : (dir : Dir) → (dir ≢ In) → dir ≡ Out
+out_of In other = absurd (other refl)
+out_of Out other = refl
 
 module _ (s : Sender) (sound : IsSoundSender s) where
   held_one : (k : ℕ) → IsHeld s.held k → 1 ≤ k
@@ -110,12 +124,13 @@ module _ (s : Sender) (sound : IsSoundSender s) where
       pub changed : k ≤ top + 1 → (s.terms.windowsize ≢ 1) ⊎ (top ≤ k) → ((other : List ℕ) × (map.get s.held k ≡ Some other) × (other ≢ bytes)) → FirstEndBroken s.terms passed (Data k bytes) BlockChanged
       changed near either other = first_is s.terms passed (Data k bytes) BlockChanged 25 refl (not_back near either) (other.0, (after.blocks k other.0).1 other.1, other.2)
 
-      pub nothing_broken : k ≤ top + 1 → (s.terms.windowsize ≢ 1) ⊎ (top ≤ k) → ((other : List ℕ) × (map.get s.held k ≡ Some other) × (other ≢ bytes) → ⊥) → (rule : EndRule) → EndBroken s.terms passed (Data k bytes) rule → ⊥
-      nothing_broken near either same = no_block_rule s.terms passed k bytes (not_back near either) (λ b. same (b.0, (after.blocks k b.0).0 b.1, b.2))
+      pub nothing_broken : k ≤ top + 1 → (s.terms.windowsize ≢ 1) ⊎ (top ≤ k) → ((other : List ℕ) → map.get s.held k ≡ Some other → other ≡ bytes) → NoneBroken s.terms passed (Data k bytes)
+      nothing_broken near either same = no_block_rule s.terms passed k bytes (not_back near either) (λ b. b.2 (same b.0 ((after.blocks k b.0).0 b.1)))
 
-  pub may_send : (k : ℕ) (bytes : List ℕ) (long top : ℕ) → length bytes ≡ long → IsHighest s.held top → IsOpen s.terms s.held s.answered k long → k ≤ top + 1
-      → ((other : List ℕ) → map.get s.held k ≡ Some other → other ≡ bytes) → MaySend s k bytes
-  may_send k bytes long top is highest opens near same = record {
-    fits = fits_it s.terms s.held k bytes long s.answered is sound.sound opens acked_held same;
-    below = λ n one less. held_to top (elim (cases_eq top 0) [ inl none ↦ inl none | inr some ↦ inr (highest.held_there (omega (arith, some))) ]) n one (omega arith);
-  }
+      pub refused : k ≤ top + 1 → (s.terms.windowsize ≢ 1) ⊎ (top ≤ k) → (rejection : Rejection) → CannotHold s.held k bytes rejection → IsFound s.terms passed (Data k bytes) (Err rejection)
+      refused near either (Rejection.Broken rule) why = subst (FirstEndBroken s.terms passed (Data k bytes)) (sym why.0) (changed near either why.1)
+      refused near either Rejection.Memory why = nothing_broken near either (λ other is. let no : None ≡ Some other = sym why ∙ is in absurd (cc))
+
+  -- each block below one that is not skipped is held
+  pub below_it : (k top : ℕ) → IsHighest s.held top → k ≤ top + 1 → (n : ℕ) → 1 ≤ n → n < k → IsHeld s.held n
+  below_it k top highest near n one less = held_to top (elim (cases_eq top 0) [ inl none ↦ inl none | inr some ↦ inr (highest.held_there (omega (arith, some))) ]) n one (omega arith)

@@ -1,10 +1,10 @@
 -- What is so of the numbers that a state keeps stays so.
-use Rattle.std.proofs.Common.{◌≡◌, ◌≢◌, ◌⊎◌, ℕ, ◌+◌, ◌≤◌, max, Bool, List, length, Some, None, Option, zero, suc, inl, inr, refl, sym, subst, ap, ◌∙◌, arith}
+use Rattle.std.proofs.Common.{◌≡◌, ◌≢◌, ◌⊎◌, ℕ, ◌+◌, ◌<◌, ◌≤◌, max, Bool, List, length, Some, None, Option, zero, suc, inl, inr, refl, sym, subst, ap, ◌∙◌, arith}
 use Rattle.std.proofs.lemmas.Bool.{cases_lt, cases_eq}
 use Rattle.std.specs.FinMap as map
 use Rattle.tftp_rules.specs.{IsSender, IsReceiver, Terms}
 use Rattle.tftp_blocks.specs.{Held, nothing_held, IsHeldFront, Takes, Placing, Differs, Places}
-use Rattle.tftp_ends.specs.{Sender, Receiver, IsHeld, HasLengthBySize, Fits, MaySend, MayAcknowledge, IsSound, IsSoundSender, IsSoundReceiver, HasRightLength, IsOpen}
+use Rattle.tftp_ends.specs.{Sender, Receiver, IsHeld, HasLengthBySize, IsSound, IsSoundSender, IsSoundReceiver, HasRightLength}
 use Rattle.tftp_blocks.proofs.Stores.{placed_is_held, others_are_kept}
 
 -- ---- a block more
@@ -32,55 +32,62 @@ module _ (old new : Held) (k : ℕ) (bytes : List ℕ) (placing : Placing) (plac
     | inr differs ↦ (held.0, others_are_kept old new k bytes placing places n differs ∙ held.1)
   ]
 
-pub sound_more : (t : Terms) (old new : Held) (k : ℕ) (bytes : List ℕ) (placing : Placing) → IsSound t old → Fits t old k bytes → k ≤ 65535 → Places old new k bytes placing → IsSound t new
-sound_more t old new k bytes placing sound fits small places = record {
+-- the length that an agreed size leaves a block
+abbrev pub IsSized : Terms → ℕ → ℕ → Type 0
+IsSized t k long = (size : ℕ) → t.size ≡ Some size → HasLengthBySize t.blksize size k long
+
+pub sound_more : (t : Terms) (old new : Held) (k : ℕ) (bytes : List ℕ) (placing : Placing) → IsSound t old → 1 ≤ k → k ≤ 65535 → IsSized t k (length bytes) → Places old new k bytes placing
+    → ((other : List ℕ) → map.get old k ≡ Some other → other ≡ bytes) → IsSound t new
+sound_more t old new k bytes placing sound one small sized places same = record {
   blksize = sound.blksize;
   windowsize = sound.windowsize;
-  from_one = let one = fits.takes.from_one in others_are_kept old new k bytes placing places 0 (λ none. absurd (omega (arith, none))) ∙ sound.from_one;
-  numbers = λ n held. elim (this_or_before old new k bytes placing places fits.same n held.0 held.1) [
+  from_one = others_are_kept old new k bytes placing places 0 (λ none. absurd (omega (arith, none))) ∙ sound.from_one;
+  numbers = λ n held. elim (this_or_before old new k bytes placing places same n held.0 held.1) [
     | inl this ↦ omega (arith, this.0)
     | inr before ↦ sound.numbers n (held.0, before)
   ];
-  sized = λ size n other is held. elim (this_or_before old new k bytes placing places fits.same n other held) [
-    | inl this ↦ let there = fits.sized size is in rw (this.0, this.1) there
+  sized = λ size n other is held. elim (this_or_before old new k bytes placing places same n other held) [
+    | inl this ↦ let there = sized size is in rw (this.0, this.1) there
     | inr before ↦ sound.sized size n other is before
   ];
 }
 
-pub sound_sent : (s : Sender) (new : Held) (k top : ℕ) (bytes : List ℕ) (placing : Placing) → IsSoundSender s → MaySend s k bytes → k ≤ 65535 → Places s.held new k bytes placing
+pub sound_sent : (s : Sender) (new : Held) (k top : ℕ) (bytes : List ℕ) (placing : Placing) → IsSoundSender s → 1 ≤ k → k ≤ 65535 → IsSized s.terms k (length bytes)
+    → ((n : ℕ) → 1 ≤ n → n < k → IsHeld s.held n) → Places s.held new k bytes placing → ((other : List ℕ) → map.get s.held k ≡ Some other → other ≡ bytes)
     → (top ≡ s.usable_top) ⊎ (top ≡ max s.usable_top k)
     → IsSoundSender (record { terms = s.terms; held = new; answered = s.answered; zero = s.zero; usable_top = top; stopped = s.stopped })
-sound_sent s new k top bytes placing sound may small places either = record {
-  sound = sound_more s.terms s.held new k bytes placing sound.sound may.fits small places;
+sound_sent s new k top bytes placing sound one small sized below places same either = record {
+  sound = sound_more s.terms s.held new k bytes placing sound.sound one small sized places same;
   sends = sound.sends;
-  in_order = λ n above held one most. elim (this_or_before s.held new k bytes placing places may.fits.same above held.0 held.1) [
+  in_order = λ n above held low most. elim (this_or_before s.held new k bytes placing places same above held.0 held.1) [
     | inl this ↦ elim (cases_lt n k) [
-      | inl less ↦ still n (may.below n one less)
-      | inr rest ↦ let is : k ≡ n = omega (arith, this.0) in (bytes, ap (map.get new) (sym is) ∙ held_there s.held new k bytes placing places may.fits.same)
+      | inl less ↦ still n (below n low less)
+      | inr rest ↦ let is : k ≡ n = omega (arith, this.0) in (bytes, ap (map.get new) (sym is) ∙ held_there s.held new k bytes placing places same)
     ]
-    | inr before ↦ still n (sound.in_order n above (held.0, before) one most)
+    | inr before ↦ still n (sound.in_order n above (held.0, before) low most)
   ];
   sent = elim either [
     | inl is ↦ kept is
     | inr is ↦ elim (cases_lt s.usable_top k) [
-      | inl less ↦ let same : k ≡ top = omega (arith, is) in inr (subst (IsHeld new) same (bytes, held_there s.held new k bytes placing places may.fits.same))
+      | inl less ↦ let there : k ≡ top = omega (arith, is) in inr (subst (IsHeld new) there (bytes, held_there s.held new k bytes placing places same))
       | inr rest ↦ kept (omega (arith, is))
     ]
   ];
   answered = let was = sound.answered in elim either [ inl is ↦ omega (arith, is) | inr is ↦ omega (arith, is) ];
 } where
   still : (n : ℕ) → IsHeld s.held n → IsHeld new n
-  still n held = still_held s.held new k bytes placing places may.fits.same n held
+  still n held = still_held s.held new k bytes placing places same n held
 
   kept : top ≡ s.usable_top → (top ≡ 0) ⊎ IsHeld new top
   kept is = elim sound.sent [ inl none ↦ inl (is ∙ none) | inr held ↦ inr (subst (IsHeld new) (sym is) (still s.usable_top held)) ]
 
-pub sound_taken : (r : Receiver) (new : Held) (k : ℕ) (bytes : List ℕ) (placing : Placing) → IsSoundReceiver r → Fits r.terms r.held k bytes → k ≤ 65535 → Places r.held new k bytes placing
+pub sound_taken : (r : Receiver) (new : Held) (k : ℕ) (bytes : List ℕ) (placing : Placing) → IsSoundReceiver r → 1 ≤ k → k ≤ 65535 → IsSized r.terms k (length bytes) → Places r.held new k bytes placing
+    → ((other : List ℕ) → map.get r.held k ≡ Some other → other ≡ bytes)
     → IsSoundReceiver (record { terms = r.terms; held = new; acked = r.acked; usable_acked = r.usable_acked; zero = r.zero; stopped = r.stopped })
-sound_taken r new k bytes placing sound fits small places = record {
-  sound = sound_more r.terms r.held new k bytes placing sound.sound fits small places;
+sound_taken r new k bytes placing sound one small sized places same = record {
+  sound = sound_more r.terms r.held new k bytes placing sound.sound one small sized places same;
   receives = sound.receives;
-  taken = λ n one most. still_held r.held new k bytes placing places fits.same n (sound.taken n one most);
+  taken = λ n low most. still_held r.held new k bytes placing places same n (sound.taken n low most);
   usable = sound.usable;
 }
 
@@ -161,24 +168,16 @@ fresh_receiver r blksize windowsize receives empty acked usable_acked = record {
 }
 
 -- an ACK of what has come
-pub sound_acked : (r : Receiver) (j acked usable_acked : ℕ) (came : Bool) → IsSoundReceiver r → MayAcknowledge r j → acked ≡ max r.acked j → (usable_acked ≡ r.usable_acked) ⊎ (usable_acked ≡ max r.usable_acked j)
+pub sound_acked : (r : Receiver) (j acked usable_acked : ℕ) (came : Bool) → IsSoundReceiver r → (front : ℕ) → IsHeldFront r.held front → j ≤ front → acked ≡ max r.acked j → (usable_acked ≡ r.usable_acked) ⊎ (usable_acked ≡ max r.usable_acked j)
     → IsSoundReceiver (record { terms = r.terms; held = r.held; acked = acked; usable_acked = usable_acked; zero = came; stopped = r.stopped })
-sound_acked r j acked usable_acked came sound may is either = record {
+sound_acked r j acked usable_acked came sound front up_to near is either = record {
   sound = sound.sound;
   receives = sound.receives;
   taken = λ k one most. elim (cases_lt r.acked k) [
-    | inl less ↦ let front = has_front r.terms r.held sound.sound in let near = may front.0 front.1 in front.1.below k one (omega arith)
+    | inl less ↦ up_to.below k one (omega arith)
     | inr under ↦ sound.taken k one under
   ];
   usable = let was = sound.usable in elim either [ inl same ↦ omega arith | inr more ↦ omega arith ];
-}
-
-pub fits_it : (t : Terms) (held : Held) (k : ℕ) (bytes : List ℕ) (long n : ℕ) → length bytes ≡ long → IsSound t held → IsOpen t held n k long → ((i : ℕ) → 1 ≤ i → i ≤ n → IsHeld held i)
-    → ((other : List ℕ) → map.get held k ≡ Some other → other ≡ bytes) → Fits t held k bytes
-fits_it t held k bytes long n is sound opens all same = record {
-  takes = subst (λ x. Takes t.blksize t.windowsize held k x) (sym is) (takes_it t held k long n sound opens.right opens.from_one all opens.within);
-  same = same;
-  sized = λ size agreed. subst (HasLengthBySize t.blksize size k) (sym is) (opens.right.sized size agreed);
 }
 
 pub held_from_one : (t : Terms) (held : Held) → IsSound t held → (k : ℕ) → IsHeld held k → 1 ≤ k

@@ -1,13 +1,16 @@
 pub mod Known
 pub mod States
 pub mod StatesKept
+pub mod Rejections
 pub mod NamedEnds
 pub mod Parts
 pub use Known.{HasNoRequest, HasNumbers, IsNewStray, KnownIds, NotesStrays, StandsFor, among_all, answer_of, answers, datagram_as, first_answer, is_noted, is_other, other_end, peer_cmp, sides_of}
-pub use States.{AreBlocks, Fits, HasLengthBySize, IsAllAnswered, IsAllTaken, IsAside, IsBeforeBlocks, IsHeld, IsReceiverAfter, IsSenderAfter, MayAcknowledge, MaySend, Receiver, Says, Sender, has_stopped, replied}
-pub use StatesKept.{AreWholeBelow, EndsThere, HasRightLength, IsEnd, IsKnown, IsOpen, IsShortTop, IsSound, IsSoundReceiver, IsSoundSender, NoneBelow}
-pub use NamedEnds.{HoldsBlock, HoldsWire, IsEndAfter, IsEndDone, IsNewBlock, IsOfItsAuthor, MayKeep, NamedEnd, Receives, Sends, held_of, terms_of}
+pub use States.{AreBlocks, HasLengthBySize, IsAllAnswered, IsAllTaken, IsAside, IsBeforeBlocks, IsBlockOrAck, IsHeld, IsNewBlock, IsOfItsAuthor, IsReceiverAfter, IsSenderAfter, Receiver, Says, Sender, has_stopped, replied}
+pub use StatesKept.{AreWholeBelow, EndsThere, HasRightLength, IsEnd, IsKnown, IsShortTop, IsSound, IsSoundReceiver, IsSoundSender, NoneBelow}
+pub use Rejections.{CannotHold, IsFound, NoneBroken}
+pub use NamedEnds.{HoldsBlock, HoldsWire, IsEndAfter, IsEndDone, NamedEnd, Receives, Sends, held_of, terms_of}
 pub use Parts.{end_of}
 pub use declared.ports.PortFault.{PortFault}
 pub use declared.ports.Sides.{Sides}
+pub use declared.rejection.Rejection.{Rejection}
 pub use declared.route.Route.{Route}

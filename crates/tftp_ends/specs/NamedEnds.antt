@@ -1,13 +1,11 @@
 -- What the named end keeps from the reply on, whichever end it is, and for which datagrams that stands. The list `passed`
 -- has the datagrams of the transfer that have passed at this end, the newest first.
-use Rattle.std.specs.Prelude.{◌≡◌, ℕ, ◌≤◌, Bool, List, Some, None, if◌then◌else◌}
+use Rattle.std.specs.Prelude.{◌≡◌, ℕ, List, Some}
 use Rattle.std.specs.FinMap as map
-use Rattle.tftp_packet.specs.{Message, Data, Ack}
-use Rattle.tftp_hosts.specs.{Dir, Datagram}
-use Rattle.tftp_model.specs.Roles.{sender_of, receiver_of}
-use Rattle.tftp_rules.specs.{author_of, IsJoined, IsLast, Terms}
+use Rattle.tftp_hosts.specs.{Datagram}
+use Rattle.tftp_rules.specs.{IsJoined, IsLast, Terms}
 use Rattle.tftp_blocks.specs.{Held, IsHeldFront, IsJoin}
-use Rattle.tftp_ends.specs.States.{Sender, Receiver, stopped_sender, stopped_receiver, IsSenderAfter, IsReceiverAfter, IsAllAnswered, IsAllTaken, MaySend, MayAcknowledge, Fits}
+use Rattle.tftp_ends.specs.States.{Sender, Receiver, IsSenderAfter, IsReceiverAfter, IsAllAnswered, IsAllTaken}
 
 -- the state of the sender or of the receiver
 pub data NamedEnd : Type 0 where
@@ -26,35 +24,6 @@ held_of (Receives r) = r.held
 abbrev pub IsEndAfter : NamedEnd → List Datagram → Type 0
 IsEndAfter (Sends s) passed = IsSenderAfter s passed
 IsEndAfter (Receives r) passed = IsReceiverAfter r passed
-
--- the same, when an ERROR comes in
-abbrev pub stopped_end : NamedEnd → NamedEnd
-stopped_end (Sends s) = Sends (stopped_sender s)
-stopped_end (Receives r) = Receives (stopped_receiver r)
-
--- The end stands for these datagrams, once it is told whether an ERROR came in among them.
-abbrev pub IsEndWith : Bool → NamedEnd → List Datagram → Type 0
-IsEndWith stopped end passed = IsEndAfter (if stopped then stopped_end end else end) passed
-
--- a message that the end may keep
-abbrev pub MayKeep : NamedEnd → Message → Type 0
-MayKeep (Sends s) (Data k bytes) = MaySend s k bytes
-MayKeep (Sends s) (Ack j) = j ≤ s.usable_top
-MayKeep (Receives r) (Data k bytes) = Fits r.terms r.held k bytes
-MayKeep (Receives r) (Ack j) = MayAcknowledge r j
-MayKeep _ _ = Unit {0}
-
--- A message that goes this way is sent by the end that has such: blocks by the sender, ACKs by the receiver (RFC 1350,
--- section 2).
-abbrev pub IsOfItsAuthor : Terms → Dir → Message → Type 0
-IsOfItsAuthor t dir (Data k bytes) = author_of t.named dir ≡ sender_of t.side
-IsOfItsAuthor t dir (Ack j) = author_of t.named dir ≡ receiver_of t.side
-IsOfItsAuthor t dir _ = Unit {0}
-
--- a block that is not held
-abbrev pub IsNewBlock : NamedEnd → Message → Type 0
-IsNewBlock end (Data k bytes) = map.get (held_of end) k ≡ None
-IsNewBlock end _ = ⊥
 
 -- the end is the sender and holds this block, which it has sent (RFC 1350, section 2)
 abbrev pub HoldsBlock : NamedEnd → ℕ → List ℕ → Type 0

@@ -1,13 +1,13 @@
 -- What an end keeps of a transfer whose request has been answered, and for which datagrams that stands. The list `passed`
 -- has the datagrams of the transfer that have passed at this end, the newest first.
-use Rattle.std.specs.Prelude.{◌≡◌, ◌↔◌, ◌⊎◌, ℕ, ◌+◌, ◌/◌, ◌%◌, ◌<◌, ◌≤◌, Bool, true, List, length, Option, Some, cond}
+use Rattle.std.specs.Prelude.{◌≡◌, ◌↔◌, ◌⊎◌, ℕ, ◌+◌, ◌/◌, ◌%◌, ◌<◌, ◌≤◌, Bool, true, List, Some, None}
 use Rattle.std.specs.List.{list_any}
 use Rattle.std.specs.FinMap as map
-use Rattle.tftp_packet.specs.{Message, Request, Data, Ack, Error, Oack, Spells, Side}
+use Rattle.tftp_packet.specs.{Message, Request, Data, Ack, Error, Oack, Spells}
 use Rattle.tftp_hosts.specs.{Dir, In, Out, Datagram}
 use Rattle.tftp_model.specs.Roles.{sender_of, receiver_of}
-use Rattle.tftp_rules.specs.{Passed, HasPassed, brings_error, usable, IsTop, IsAnswered, IsAcked, IsFront, IsLast, Reply, Plain, Oacked, Terms}
-use Rattle.tftp_blocks.specs.{Held, IsHeldFront, Takes}
+use Rattle.tftp_rules.specs.{author_of, Passed, HasPassed, brings_error, usable, IsTop, IsAnswered, IsAcked, IsFront, IsLast, Reply, Terms}
+use Rattle.tftp_blocks.specs.{Held}
 
 -- an ERROR of the other end has come in
 abbrev pub has_stopped : List Datagram → Bool
@@ -27,11 +27,6 @@ pub record Sender : Type 0 where
   pub zero : Bool  -- an ACK 0 came in
   pub usable_top : ℕ  -- the highest block that went out before an ERROR came in
   pub stopped : Bool  -- an ERROR came in
-
--- what the sender knows at its start
-abbrev pub sender_terms : Side → Bool → ℕ → ℕ → Option ℕ → Terms
-sender_terms side oacked blksize windowsize size =
-    record { named = sender_of side; side = side; reply = cond oacked Oacked Plain; blksize = blksize; windowsize = windowsize; size = size }
 
 -- The sender stands for these datagrams.
 pub record IsSenderAfter (s : Sender) (passed : List Datagram) : Type 0 where
@@ -57,11 +52,6 @@ pub record Receiver : Type 0 where
   pub usable_acked : ℕ  -- the highest ACK that went out before an ERROR came in
   pub zero : Bool  -- an ACK 0 went out before an ERROR came in
   pub stopped : Bool  -- an ERROR came in
-
--- what the receiver knows at its start
-abbrev pub receiver_terms : Side → Bool → ℕ → ℕ → Option ℕ → Terms
-receiver_terms side oacked blksize windowsize size =
-    record { named = receiver_of side; side = side; reply = cond oacked Oacked Plain; blksize = blksize; windowsize = windowsize; size = size }
 
 -- The receiver stands for these datagrams.
 pub record IsReceiverAfter (r : Receiver) (passed : List Datagram) : Type 0 where
@@ -101,6 +91,24 @@ IsAside dir _ = ⊥
 abbrev pub Says : Datagram → Dir → Message → Type 0
 Says d dir m = (d.dir ≡ dir) × Spells d.payload m
 
+-- A message that goes this way is sent by the end that has such: blocks by the sender, ACKs by the receiver (RFC 1350,
+-- section 2).
+abbrev pub IsOfItsAuthor : Terms → Dir → Message → Type 0
+IsOfItsAuthor t dir (Data k bytes) = author_of t.named dir ≡ sender_of t.side
+IsOfItsAuthor t dir (Ack j) = author_of t.named dir ≡ receiver_of t.side
+IsOfItsAuthor t dir _ = Unit {0}
+
+-- a block or an acknowledgement
+abbrev pub IsBlockOrAck : Message → Type 0
+IsBlockOrAck (Data k bytes) = Unit {0}
+IsBlockOrAck (Ack j) = Unit {0}
+IsBlockOrAck _ = ⊥
+
+-- a block that is not held
+abbrev pub IsNewBlock : Held → Message → Type 0
+IsNewBlock held (Data k bytes) = map.get held k ≡ None
+IsNewBlock held _ = ⊥
+
 -- the last block is known, and its ACK has come (RFC 1350, section 6)
 abbrev pub IsAllAnswered : Terms → List Datagram → Type 0
 IsAllAnswered t passed = (last : ℕ) × IsLast t passed last × Passed In (Ack last) passed
@@ -109,28 +117,12 @@ IsAllAnswered t passed = (last : ℕ) × IsLast t passed last × Passed In (Ack 
 abbrev pub IsAllTaken : Terms → List Datagram → Type 0
 IsAllTaken t passed = (last : ℕ) × IsLast t passed last × IsFront passed last × Passed Out (Ack last) passed
 
--- ---- which blocks may be kept
+-- ---- blocks
 
 -- the length that block k has in a wire of this size (RFC 1350, section 2; RFC 2349)
 abbrev pub HasLengthBySize : ℕ → ℕ → ℕ → ℕ → Type 0
 HasLengthBySize b size k long = ((k ≤ size / b) × (long ≡ b)) ⊎ ((k ≡ size / b + 1) × (long ≡ size % b))
 
--- A block that fits those that are held: the store takes it, it is no other one with the same number, and it has the
--- length that an agreed size leaves it.
-pub record Fits (t : Terms) (held : Held) (k : ℕ) (bytes : List ℕ) : Type 0 where
-  pub takes : Takes t.blksize t.windowsize held k (length bytes)
-  pub same : (other : List ℕ) → map.get held k ≡ Some other → other ≡ bytes
-  pub sized : (size : ℕ) → t.size ≡ Some size → HasLengthBySize t.blksize size k (length bytes)
-
 -- the block is held
 abbrev pub IsHeld : Held → ℕ → Type 0
 IsHeld held k = (bytes : List ℕ) × (map.get held k ≡ Some bytes)
-
--- a block that the sender may keep: it fits, and each one below it is held
-pub record MaySend (s : Sender) (k : ℕ) (bytes : List ℕ) : Type 0 where
-  pub fits : Fits s.terms s.held k bytes
-  pub below : (n : ℕ) → 1 ≤ n → n < k → IsHeld s.held n
-
--- an ACK that the receiver may note: all blocks up to it have come
-abbrev pub MayAcknowledge : Receiver → ℕ → Type 0
-MayAcknowledge r j = (front : ℕ) → IsHeldFront r.held front → j ≤ front

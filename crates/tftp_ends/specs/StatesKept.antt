@@ -98,12 +98,6 @@ pub record IsKnown (t : Terms) (passed : List Datagram) (held : Held) (has_zero 
 abbrev pub NoneBelow : Terms → List Datagram → Message → ℕ → Type 0
 NoneBelow t passed m n = (other : EndRule) → end_number other < n → EndBroken t passed m other → ⊥
 
--- a block that a state may keep, if no other one has its number
-pub record IsOpen (t : Terms) (held : Held) (acked k long : ℕ) : Type 0 where
-  pub from_one : 1 ≤ k
-  pub right : HasRightLength t held k long
-  pub within : k ≤ acked + t.windowsize
-
 -- ---- codes
 
 abbrev pub number_of_end : End → ℕ

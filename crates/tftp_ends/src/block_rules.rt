@@ -1,21 +1,20 @@
 //! The rules of blocks and acknowledgements, by the numbers and blocks that a state keeps.
 
-ghost use Rattle.std.specs.Prelude.{◌≡◌, ◌≢◌, ◌↔◌, ℕ, ◌≤◌, List, length, None, Some, IsTrue, true, false, MatchOption, OnOk, OnErr, IfErr};
+ghost use Rattle.std.specs.Prelude.{◌≡◌, ◌↔◌, ℕ, ◌≤◌, List, length, Some, IsTrue, true, false, MatchOption, OnOk, OnErr, IfErr};
 ghost use Rattle.std.specs.FinMap as map;
 ghost use Rattle.tftp_packet.specs.{Data, Ack};
 ghost use Rattle.tftp_hosts.specs.{Datagram};
 ghost use Rattle.tftp_blocks.specs.{Takes, Placing, Places};
 ghost use Rattle.tftp_rules.specs.{HasPassed, HasWrongLength, BlocksWait, AckZeroWaits, FirstEndBroken};
-ghost use Rattle.tftp_ends.specs.States.{AreBlocks, HasLengthBySize};
-ghost use Rattle.tftp_ends.specs.StatesKept.{IsSound, IsShortTop, AreWhole, IsEnd, HasNoEnd, EndsElsewhere, EndsThere, HasRightLength, IsKnown, NoneBelow, IsOpen};
+ghost use Rattle.tftp_ends.specs.Rejections.{CannotHold};
+ghost use Rattle.tftp_ends.specs.States.{AreBlocks, HasLengthBySize, IsHeld};
+ghost use Rattle.tftp_ends.specs.StatesKept.{IsSound, IsShortTop, AreWhole, IsEnd, HasNoEnd, EndsElsewhere, EndsThere, HasRightLength, IsKnown, NoneBelow};
 
-use std::alloc::{AllocError, Global};
-use tftp_blocks::Delivered;
+use crate::rejection::Rejection;
+use std::alloc::Global;
+use tftp_blocks::{Delivered, Placed};
 use tftp_packet::Side;
 use tftp_rules::{EndRule, Reply, Terms};
-
-/// What is wrong with a block or an acknowledgement: one of the rules of these.
-pub type EndFault = EndRule;
 
 /// Whether blocks wait for an ACK 0 (RFC 1350, section 4; RFC 2347). `zero` tells whether one has passed.
 fn blocks_wait(terms: &Terms, zero: bool) -> bool
@@ -137,61 +136,52 @@ pub(crate) fn may_open<D: Delivered>(
     acked: u16,
     number: u16,
     len: usize,
-) -> Result<(), EndFault>
+) -> Result<(), EndRule>
     requires sound { IsSound terms.now (D.held store.now) }
     requires block_size { D.block_size store.now ≡ terms.now.blksize }
+    requires taken { (k : ℕ) → 1 ≤ k → k ≤ acked → IsHeld (D.held store.now) k }
     ensures lawful { (passed : List Datagram) (bytes : List ℕ) → IsKnown terms.now passed (D.held store.now) zero acked → length bytes ≡ len
         → OnOk result (NoneBelow terms.now passed (Data number bytes) 23) }
     ensures first { (passed : List Datagram) (bytes : List ℕ) → IsKnown terms.now passed (D.held store.now) zero acked → length bytes ≡ len
         → IfErr result (FirstEndBroken terms.now passed (Data number bytes)) }
-    ensures open { OnOk result (IsOpen terms.now (D.held store.now) acked number len) }
+    ensures takes { OnOk result (Takes terms.now.blksize terms.now.windowsize (D.held store.now) number len) }
+    ensures sized { OnOk result ((size : ℕ) → terms.now.size ≡ Some size → HasLengthBySize terms.now.blksize size number len) }
 {
     if blocks_wait(terms, zero) {
-        return Err(EndFault::NotStarted);
+        return Err(EndRule::NotStarted);
     }
     if number == 0 {
-        return Err(EndFault::BlockZero);
+        return Err(EndRule::BlockZero);
     }
     if is_beyond(terms, number, len) {
-        return Err(EndFault::BeyondBlock65535);
+        return Err(EndRule::BeyondBlock65535);
     }
     if has_wrong_length(terms, store, number, len) {
-        return Err(EndFault::BlockLength);
+        return Err(EndRule::BlockLength);
     }
     if u32::from(acked) + u32::from(terms.windowsize) < u32::from(number) {
-        return Err(EndFault::WindowOverrun);
+        return Err(EndRule::WindowOverrun);
     }
     Ok(())
 }
 
-/// Whether the block is held with other bytes (RFC 1350, section 2).
-pub(crate) fn is_other<D: Delivered>(store: &D, number: u16, bytes: &[u8]) -> bool
-    ensures { IsTrue result ↔ ((other : List ℕ) × (map.get (D.held store.now) number ≡ Some other) × (other ≢ bytes.now)) }
-{
-    match store.block(number) {
-        Some(held) => held != bytes,
-        None => false,
-    }
-}
-
-/// Holds a block that is none with other bytes. One that is held is not compared once more.
+/// Holds a block, unless one with other bytes is held (RFC 1350, section 2).
 pub(crate) fn hold_block<D: Delivered>(
     store: &mut D,
     alloc: Global,
     number: u16,
     bytes: &[u8],
-) -> Result<(), AllocError>
-    requires takes { Takes (D.block_size store.old) (D.window store.old) (D.held store.old) number (length bytes.now) }
-    requires same { (other : List ℕ) → map.get (D.held store.old) number ≡ Some other → other ≡ bytes.now }
+) -> Result<(), Rejection>
+    requires { Takes (D.block_size store.old) (D.window store.old) (D.held store.old) number (length bytes.now) }
     ensures ok { OnOk result ((placing : Placing) × Places (D.held store.old) (D.held store.new) number bytes.now placing) }
+    ensures same { OnOk result ((other : List ℕ) → map.get (D.held store.old) number ≡ Some other → other ≡ bytes.now) }
+    ensures refused { IfErr result (CannotHold (D.held store.old) number bytes.now) }
     ensures err { OnErr result (D.held store.new ≡ D.held store.old) }
-    ensures absent { OnErr result (map.get (D.held store.old) number ≡ None) }
     ensures block_size { D.block_size store.new ≡ D.block_size store.old }
     ensures window { D.window store.new ≡ D.window store.old }
 {
-    if store.block(number).is_some() {
-        return Ok(());
+    match store.put(alloc, number, bytes)? {
+        Placed::New | Placed::Same => Ok(()),
+        Placed::Differs => Err(Rejection::Broken(EndRule::BlockChanged)),
     }
-    store.put(alloc, number, bytes)?;
-    Ok(())
 }

@@ -5,14 +5,15 @@ mod block_rules;
 mod named_end;
 mod ports;
 mod receiver_state;
+mod rejection;
 mod route;
 mod sender_state;
 pub mod state_laws;
 mod strays;
 
-pub use block_rules::EndFault;
 pub use named_end::NamedEnd;
 pub use ports::{PortFault, Ports};
 pub use receiver_state::ReceiverState;
+pub use rejection::Rejection;
 pub use route::Route;
 pub use sender_state::SenderState;

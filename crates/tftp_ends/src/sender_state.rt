@@ -1,27 +1,32 @@
-ghost use Rattle.std.specs.Prelude.{◌≡◌, ◌↔◌, ℕ, ◌≤◌, List, ◌∷◌, None, Some, IsTrue, false, true, OnOk, OnErr, IfErr};
+ghost use Rattle.std.specs.Prelude.{◌≡◌, ◌↔◌, ℕ, ◌≤◌, List, ◌∷◌, None, Some, IsTrue, true, Err, OnOk, OnErr, IfErr};
 ghost use Rattle.std.specs.FinMap as map;
-ghost use Rattle.tftp_packet.specs.{Data, Ack, Error};
+ghost use Rattle.tftp_packet.specs.{Data, Ack, Error, meaning};
 ghost use Rattle.tftp_hosts.specs.{In, Out, Datagram};
 ghost use Rattle.tftp_blocks.specs.{nothing_held};
-ghost use Rattle.tftp_rules.specs.{IsSender, EndBroken, FirstEndBroken, EndRule as Rule};
+ghost use Rattle.tftp_rules.specs.{IsSender, FirstEndBroken};
 ghost use Rattle.tftp_ends.specs.NamedEnds.{Sends, HoldsWire};
+ghost use Rattle.tftp_ends.specs.Rejections.{IsFound, NoneBroken};
 ghost use Rattle.tftp_ends.specs.States.{
   has_stopped,
-  sender_terms,
   stopped_sender,
   IsSenderAfter,
   IsBeforeBlocks,
   IsAllAnswered,
-  MaySend,
+  IsBlockOrAck,
+  IsNewBlock,
+  IsOfItsAuthor,
   Says,
 };
+ghost use Rattle.tftp_ends.specs.declared.rejection.Rejection.{Rejection as RejectionKind};
 
-use crate::block_rules::{EndFault, ack_zero_waits, hold_block, is_other, last_block, may_open};
-use std::alloc::{AllocError, Global};
+use crate::block_rules::{ack_zero_waits, hold_block, last_block, may_open};
+use crate::rejection::Rejection;
+use std::alloc::Global;
 use std::marker::Model;
 use tftp_blocks::Delivered;
-use tftp_packet::{End, Side};
-use tftp_rules::{Reply, Terms};
+use tftp_hosts::Dir;
+use tftp_packet::Packet;
+use tftp_rules::{EndRule, Terms};
 
 /// The end that sends the file, from when the request is answered. It keeps the blocks and a few numbers, and no list of
 /// what has passed.
@@ -56,53 +61,62 @@ impl<D: Delivered> Model for SenderState<D> {
 }
 
 impl<D: Delivered> SenderState<D> {
-    /// The sender of a transfer whose request was answered, by an OACK or without one. `wire_len` is the size of the wire
-    /// where that was agreed. Takes no memory.
-    pub fn new(
-        side: Side,
-        oacked: bool,
-        blksize: u16,
-        windowsize: u16,
-        wire_len: Option<u64>,
-        store: D,
-    ) -> Self
-        requires blksize { 8 ≤ blksize }
-        requires windowsize { 1 ≤ windowsize }
+    /// The sender of a transfer whose request was answered, with these terms. `stopped` tells whether an ERROR has come in
+    /// before (RFC 1350, section 7). Takes no memory.
+    pub fn new(terms: Terms, store: D, stopped: bool) -> Self
+        requires sends { IsSender terms }
+        requires blksize { 8 ≤ terms.blksize }
+        requires windowsize { 1 ≤ terms.windowsize }
         requires empty { D.held store ≡ nothing_held }
-        requires block_size { D.block_size store ≡ blksize }
-        requires window { D.window store ≡ windowsize }
-        ensures terms { result.terms ≡ sender_terms side oacked blksize windowsize wire_len }
-        ensures before { (passed : List Datagram) → IsBeforeBlocks passed → has_stopped passed ≡ false → IsSenderAfter result passed }
-        ensures stopped { (passed : List Datagram) → IsBeforeBlocks passed → has_stopped passed ≡ true → IsSenderAfter (stopped_sender result) passed }
+        requires block_size { D.block_size store ≡ terms.blksize }
+        requires window { D.window store ≡ terms.windowsize }
+        ensures terms { result.terms ≡ terms }
+        ensures before { (passed : List Datagram) → IsBeforeBlocks passed → has_stopped passed ≡ stopped → IsSenderAfter result passed }
     {
         SenderState {
-            terms: Terms {
-                named: match side {
-                    Side::Get => End::Server,
-                    Side::Put => End::Client,
-                },
-                side,
-                reply: if oacked { Reply::Oacked } else { Reply::Plain },
-                blksize,
-                windowsize,
-                size: wire_len,
-            },
+            terms,
             store,
             answered: 0,
             zero: false,
             usable_top: 0,
-            stopped: false,
+            stopped,
         }
     }
 
-    /// Whether a block may go out, or the first rule that it breaks (RFC 1350, sections 2, 4 and 5; RFC 2347; RFC 2348;
-    /// RFC 2349; RFC 7440, section 4).
-    pub fn may_data(&self, number: u16, bytes: &[u8]) -> Result<(), EndFault>
-        ensures lawful { (passed : List Datagram) → IsSenderAfter self.now passed
-            → OnOk result ((rule : Rule) → EndBroken self.now.terms passed (Data number bytes.now) rule → ⊥) }
-        ensures first { (passed : List Datagram) → IsSenderAfter self.now passed
-            → IfErr result (FirstEndBroken self.now.terms passed (Data number bytes.now)) }
-        ensures may { OnOk result (MaySend self.now number bytes.now) }
+    /// Keeps a packet that passes here, or tells the first rule that it breaks (RFC 1350, sections 2, 4 and 5; RFC 2347;
+    /// RFC 2348; RFC 2349; RFC 7440, section 4). Memory is taken for a block that is not held alone.
+    pub fn pass(&mut self, alloc: Global, dir: Dir, packet: &Packet<'_>) -> Result<(), Rejection>
+        ensures found { (passed : List Datagram) → IsSenderAfter self.old passed → IsFound self.old.terms passed (meaning packet.now) result }
+        ensures after { (passed : List Datagram) (d : Datagram) → IsSenderAfter self.old passed → Says d dir (meaning packet.now)
+            → IsOfItsAuthor self.old.terms dir (meaning packet.now) → OnOk result (IsSenderAfter self.new (d ∷ passed)) }
+        ensures memory { result ≡ Err RejectionKind.Memory → IsNewBlock self.old.held (meaning packet.now) }
+        ensures others { OnErr result (IsBlockOrAck (meaning packet.now)) }
+        ensures err { OnErr result (self.new ≡ self.old) }
+        ensures terms { self.new.terms ≡ self.old.terms }
+    {
+        match packet {
+            Packet::Data { block, bytes } => self.pass_data(alloc, *block, bytes)?,
+            Packet::Ack { block } => self.pass_ack(*block)?,
+            Packet::Error { .. } => {
+                if dir == Dir::In {
+                    self.peer_stopped();
+                }
+            }
+            Packet::Request(_) => {}
+            Packet::Oack(_) => {}
+        }
+        Ok(())
+    }
+
+    /// Keeps a block that goes out, as `pass` says it.
+    fn pass_data(&mut self, alloc: Global, number: u16, bytes: &[u8]) -> Result<(), Rejection>
+        ensures found { (passed : List Datagram) → IsSenderAfter self.old passed → IsFound self.old.terms passed (Data number bytes.now) result }
+        ensures after { (passed : List Datagram) (d : Datagram) → IsSenderAfter self.old passed → Says d Out (Data number bytes.now)
+            → OnOk result (IsSenderAfter self.new (d ∷ passed)) }
+        ensures memory { result ≡ Err RejectionKind.Memory → map.get self.old.held number ≡ None }
+        ensures err { OnErr result (self.new ≡ self.old) }
+        ensures terms { self.new.terms ≡ self.old.terms }
+        ensures sends { IsSender self.old.terms }
     {
         may_open(
             &self.terms,
@@ -114,27 +128,11 @@ impl<D: Delivered> SenderState<D> {
         )?;
         let top = self.store.highest();
         if u32::from(top) + 1 < u32::from(number) {
-            return Err(EndFault::BlockSkipped);
+            return Err(Rejection::Broken(EndRule::BlockSkipped));
         }
         if self.terms.windowsize == 1 && number < top {
-            return Err(EndFault::GoneBack);
+            return Err(Rejection::Broken(EndRule::GoneBack));
         }
-        if is_other(&self.store, number, bytes) {
-            return Err(EndFault::BlockChanged);
-        }
-        Ok(())
-    }
-
-    /// Keeps a block that goes out. After want of memory, which a block that is held never meets, nothing has changed.
-    pub fn sent(&mut self, alloc: Global, number: u16, bytes: &[u8]) -> Result<(), AllocError>
-        requires { MaySend self.old number bytes.now }
-        ensures ok { (passed : List Datagram) (d : Datagram) → IsSenderAfter self.old passed → Says d Out (Data number bytes.now)
-            → OnOk result (IsSenderAfter self.new (d ∷ passed)) }
-        ensures err { OnErr result (self.new ≡ self.old) }
-        ensures absent { OnErr result (map.get self.old.held number ≡ None) }
-        ensures terms { self.new.terms ≡ self.old.terms }
-        ensures sends { IsSender self.old.terms }
-    {
         hold_block(&mut self.store, alloc, number, bytes)?;
         if !self.stopped {
             self.usable_top = self.usable_top.max(number);
@@ -142,36 +140,29 @@ impl<D: Delivered> SenderState<D> {
         Ok(())
     }
 
-    /// Whether an ACK may come in, or the first rule that it breaks (RFC 1350, sections 2 and 4; RFC 2347; RFC 7440,
-    /// section 4).
-    pub fn may_ack(&self, number: u16) -> Result<(), EndFault>
-        ensures lawful { (passed : List Datagram) → IsSenderAfter self.now passed
-            → OnOk result ((rule : Rule) → EndBroken self.now.terms passed (Ack number) rule → ⊥) }
-        ensures first { (passed : List Datagram) → IsSenderAfter self.now passed
-            → IfErr result (FirstEndBroken self.now.terms passed (Ack number)) }
-        ensures may { OnOk result (number ≤ self.now.usable_top) }
-    {
-        if self.usable_top < number {
-            return Err(EndFault::AckAhead);
-        }
-        if number == 0 && ack_zero_waits(&self.terms, self.usable_top > 0) {
-            return Err(EndFault::AckZero);
-        }
-        Ok(())
-    }
-
-    /// Notes an ACK that comes in.
-    pub fn got_ack(&mut self, number: u16)
-        requires { number ≤ self.old.usable_top }
+    /// Notes an ACK that comes in, as `pass` says it.
+    fn pass_ack(&mut self, number: u16) -> Result<(), EndRule>
+        ensures lawful { (passed : List Datagram) → IsSenderAfter self.old passed
+            → OnOk result (NoneBroken self.old.terms passed (Ack number)) }
+        ensures first { (passed : List Datagram) → IsSenderAfter self.old passed
+            → IfErr result (FirstEndBroken self.old.terms passed (Ack number)) }
         ensures after { (passed : List Datagram) (d : Datagram) → IsSenderAfter self.old passed → Says d In (Ack number)
-            → IsSenderAfter self.new (d ∷ passed) }
+            → OnOk result (IsSenderAfter self.new (d ∷ passed)) }
+        ensures err { OnErr result (self.new ≡ self.old) }
         ensures terms { self.new.terms ≡ self.old.terms }
         ensures sends { IsSender self.old.terms }
     {
+        if self.usable_top < number {
+            return Err(EndRule::AckAhead);
+        }
+        if number == 0 && ack_zero_waits(&self.terms, self.usable_top > 0) {
+            return Err(EndRule::AckZero);
+        }
         self.answered = self.answered.max(number);
         if number == 0 {
             self.zero = true;
         }
+        Ok(())
     }
 
     /// Notes that an ERROR comes in. What goes out from then on the other end can't have used (RFC 1350, section 7).

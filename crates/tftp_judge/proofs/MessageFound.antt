@@ -3,12 +3,13 @@ use Rattle.std.proofs.Common.{◌≡◌, ◌≢◌, ◌⊎◌, ℕ, ◌+◌, ◌
 use Rattle.std.proofs.lemmas.Bool.{false≢true}
 use Rattle.tftp_packet.specs.{OptionMap, no_options, Message, RequestParts, Side, Get, Put, End, Client, Server}
 use Rattle.tftp_hosts.specs.{Dir, Out, Datagram, Header}
+use Rattle.tftp_ends.specs.{IsBlockOrAck, Rejection}
 use Rattle.tftp_rules.specs.{author_of, end_number, EndBroken, FirstEndBroken, Passed, Terms, EndRule}
 use Rattle.tftp_nego.specs.{MayAgree, FirstFault, number, NegoFault}
 use Rattle.tftp_nego.proofs.Tested.{no_fault}
 use Rattle.tftp_law.specs.{number_of, Agrees, Begins, NotAnswered, FirstAnswer, IsWrongKind, GoesOn, ClientWentOn, AreTermsAfter, BlockSent, RequestBreaks, FirstOackBreaks, LaterOackBreaks, OackBreaks, TermsBreak, KindBreaks, MessageBreaks, rule_of_end, Rule}
 use Rattle.tftp_law.proofs.FirstBroken.OneMessage.{kind_from}
-use Rattle.tftp_judge.specs.{Finds, NoneBreaks, IsFirstOf, IsBlockOrAck, stop_of_fault, Stop}
+use Rattle.tftp_judge.specs.{Finds, NoneBreaks, IsFirstOf, stop_of_fault, stop_of_rejection, Stop}
 use Rattle.tftp_judge.proofs.FirstAnswers.{not_both, first_once, terms_once, block_answers}
 
 -- rules that are broken in the same cases, and more that follows
@@ -25,6 +26,26 @@ finds_memory P A r is none = subst (Finds P A) (sym (is.1 ∙ ap (λ (s : Stop).
 pub finds_stop : (P : Rule → Type 0) (A B : Type 0) (stop : Stop) → Finds P A (Err stop) → Finds P B (Err stop)
 finds_stop P A B (Stop.Broken rule) found = found
 finds_stop P A B Stop.Memory found = found
+
+-- what follows where it passes
+pub finds_with : (P : Rule → Type 0) (A : Type 0) (r : Result (Unit {0}) Stop) → Finds P (Unit {0}) r → OnOk r A → Finds P A r
+finds_with P A (Ok x) found a = (found.0, a)
+finds_with P A (Err stop) found a = finds_stop P (Unit {0}) A stop found
+
+-- what the named end refuses
+pub finds_rejected : (P : Rule → Type 0) (A : Type 0) (rejection : Rejection) (r : Result (Unit {0}) Stop) → (stop : Stop) × (r ≡ Err stop) × (stop ≡ stop_of_rejection rejection)
+    → Finds P A (Err (stop_of_rejection rejection)) → Finds P A r
+finds_rejected P A rejection r is found = subst (Finds P A) (sym (is.1 ∙ ap (λ (s : Stop). Err s) is.2)) found
+
+memory_by : (rejection : Rejection) → stop_of_rejection rejection ≡ Stop.Memory → rejection ≡ Rejection.Memory
+memory_by (Rejection.Broken rule) is = absurd (cc)
+memory_by Rejection.Memory is = refl
+
+pub rejected_by_memory : (rejection : Rejection) (r : Result (Unit {0}) Stop) → (stop : Stop) × (r ≡ Err stop) × (stop ≡ stop_of_rejection rejection) → r ≡ Err Stop.Memory → rejection ≡ Rejection.Memory
+rejected_by_memory rejection r is wants =
+    let both : Err is.0 ≡ Err Stop.Memory = sym is.1 ∙ wants in
+    let stop : is.0 ≡ Stop.Memory = cc in
+    memory_by rejection (sym is.2 ∙ stop)
 
 -- ---- a request
 

@@ -16,7 +16,7 @@ blocks_of (Sends s) passed after = after.blocks
 blocks_of (Receives r) passed after = after.blocks
 
 -- a block that the end does not hold has not passed
-new_to : (end : NamedEnd) (passed : List Datagram) (dir : Dir) (m : Message) → IsEndAfter end passed → IsNewBlock end m → IsNew passed dir m
+new_to : (end : NamedEnd) (passed : List Datagram) (dir : Dir) (m : Message) → IsEndAfter end passed → IsNewBlock (held_of end) m → IsNew passed dir m
 new_to end passed dir (Message.Data k bytes) after new = λ other p. let there : Some other ≡ None = sym ((blocks_of end passed after k other).0 p) ∙ new in cc
 new_to end passed dir (Message.Ack j) after new = new
 new_to end passed dir (Message.Request asked) after new = absurd new
@@ -29,7 +29,7 @@ new_on h asked passed (Begun end) dir m is new = new_to end passed dir m is.afte
 new_on h asked passed (Agreed options end) dir m is new = new_to end passed dir m is.after new
 
 -- no block has passed before the answer
-pub new_before : (end : NamedEnd) (passed : List Datagram) (dir : Dir) (m : Message) → IsBeforeBlocks passed → IsNewBlock end m → IsNew passed dir m
+pub new_before : (end : NamedEnd) (passed : List Datagram) (dir : Dir) (m : Message) → IsBeforeBlocks passed → IsNewBlock (held_of end) m → IsNew passed dir m
 new_before end passed dir (Message.Data k bytes) before new = λ other p. before.no_block k other p
 new_before end passed dir (Message.Ack j) before new = new
 new_before end passed dir (Message.Request asked) before new = absurd new

@@ -1,15 +1,15 @@
 -- The block or the ACK that answers a request without an OACK, and what comes once a request is answered.
-use Rattle.std.proofs.Common.{◌≡◌, ◌↔◌, ℕ, ◌≤◌, List, ◌∷◌, inl, inr, refl, sym, subst, ap, ◌∙◌, arith}
+use Rattle.std.proofs.Common.{◌≡◌, ◌↔◌, ℕ, ◌≤◌, List, ◌∷◌, Err, inl, inr, refl, sym, subst, ap, ◌∙◌, arith}
 use Rattle.std.proofs.lemmas.Bool.{cases_lt}
 use Rattle.tftp_packet.specs.{Message, RequestParts, Side, Get, Put, End, Client, Server}
 use Rattle.tftp_hosts.specs.{Dir, In, Out, Datagram, Header}
-use Rattle.tftp_ends.specs.{NamedEnd, terms_of, IsEndAfter, IsOfItsAuthor, IsBeforeBlocks, Says}
+use Rattle.tftp_ends.specs.{NamedEnd, terms_of, IsEndAfter, IsOfItsAuthor, IsBeforeBlocks, IsBlockOrAck, Says, IsFound, NoneBroken, Rejection}
 use Rattle.tftp_model.specs.Roles.{sender_of, receiver_of}
 use Rattle.tftp_rules.specs.{author_of, BlocksWait, AckZeroWaits, AckBreaks, BlockPassed, EndBroken, FirstEndBroken, IsFront, IsReachedAt, IsTop, end_number, usable, EndRule, NoReply, Plain, Terms}
 use Rattle.tftp_ends.proofs.BeforeReply.{read_alike, ack_put_alike}
 use Rattle.tftp_ends.proofs.Passing.{none_greatest, usable_passed}
 use Rattle.tftp_law.specs.{AreTermsAfter, TermsBreak, rule_of_end, Answer, Agrees, Begins, IsAnswer, IsWrongKind, NotAnswered, plain_terms, terms_after, Rule}
-use Rattle.tftp_judge.specs.{WaitsForReply, NoneBreaks, IsFirstOf, IsBlockOrAck, HasBegun}
+use Rattle.tftp_judge.specs.{WaitsForReply, Finds, NoneBreaks, IsFirstOf, HasBegun, stop_of_rejection}
 use Rattle.tftp_judge.proofs.MessageFound.{no_end, first_end}
 
 -- ---- before blocks
@@ -83,7 +83,7 @@ module _ (h : Header) (asked : RequestParts) (passed : List Datagram) (none : No
         first = λ low less b. now.first low less ((both low).0 b);
       })
 
-  module _ (m : Message) (is : IsBlockOrAck m) (other : WaitsForReply asked.side m → ⊥) (t : Terms) (same : t ≡ plain_terms h asked.side Plain) (lawful : (e : EndRule) → EndBroken t passed m e → ⊥) where
+  module _ (m : Message) (is : IsBlockOrAck m) (other : WaitsForReply asked.side m → ⊥) (t : Terms) (same : t ≡ plain_terms h asked.side Plain) (lawful : NoneBroken t passed m) where
     lawful_before : (e : EndRule) → EndBroken (plain_terms h asked.side NoReply) passed m e → ⊥
     lawful_before e b = lawful e (subst (λ (u : Terms). EndBroken u passed m e) (sym same) ((alike m asked.side refl is other e).0 b))
 
@@ -109,6 +109,12 @@ module _ (h : Header) (asked : RequestParts) (passed : List Datagram) (none : No
       terms = terms ∙ same;
       after = after;
     }
+
+  -- what the end refuses that would begin
+  pub not_begun : (m : Message) → IsBlockOrAck m → (WaitsForReply asked.side m → ⊥) → (t : Terms) → t ≡ plain_terms h asked.side Plain → (A : Type 0) (rejection : Rejection) → IsFound t passed m (Err rejection)
+      → Finds (TermsBreak h asked passed m) A (Err (stop_of_rejection rejection))
+  not_begun m is other t same A (Rejection.Broken rule) found = first_broken m is other t same rule found
+  not_begun m is other t same A Rejection.Memory found = none_broken m is other t same found
 
 -- ---- once a request is answered
 
@@ -145,3 +151,8 @@ module _ (h : Header) (asked : RequestParts) (passed : List Datagram) (answer : 
 
   pub begun_first : (e : EndRule) → FirstEndBroken (terms_of end) passed m e → IsFirstOf (TermsBreak h asked passed m) (rule_of_end e)
   begun_first e first = first_end h asked passed m (terms_of end) (inr (answer, begun.answered, begun.terms)) e first
+
+  -- the same of what the end refuses
+  pub begun_refused : (rejection : Rejection) → IsFound (terms_of end) passed m (Err rejection) → Finds (TermsBreak h asked passed m) (Unit {0}) (Err (stop_of_rejection rejection))
+  begun_refused (Rejection.Broken rule) found = begun_first rule found
+  begun_refused Rejection.Memory found = begun_lawful found

@@ -2,15 +2,16 @@
 use Rattle.std.proofs.Common.{◌≡◌, ◌↔◌, ℕ, Bool, true, List, ◌∷◌, inl, inr, refl, sym, subst, ◌∙◌}
 use Rattle.tftp_packet.specs.{OptionMap, Message, RequestParts, Spells, Side, Get, Put, End, Client, Server}
 use Rattle.tftp_hosts.specs.{Dir, In, Out, Datagram, Header}
-use Rattle.tftp_ends.specs.{NamedEnd, Sends, Receives, terms_of, IsEndAfter, IsBeforeBlocks, IsAside, Says}
-use Rattle.tftp_ends.proofs.AfterReceiver.{receiver_aside}
-use Rattle.tftp_ends.proofs.AfterSender.{sender_aside}
+use Rattle.tftp_ends.specs.{NamedEnd, terms_of, IsEndAfter, IsBeforeBlocks, IsAside, IsBlockOrAck, Says}
+use Rattle.tftp_ends.proofs.EndsAside.{end_aside}
 use Rattle.tftp_ends.proofs.Passing.{another, aside_no_block, aside_no_ack}
 use Rattle.tftp_law.specs.{AckSent, BlockSent, Answer, Agrees, Begins, FirstAnswer, IsAnswer, IsWrongKind, NotAnswered, terms_after}
 use Rattle.tftp_law.proofs.Spelled.{spelled_once}
 use Rattle.tftp_judge.proofs.ErrorsAside.{errors_aside}
-use Rattle.tftp_judge.specs.{DiffersByCourse, DiffersBySent, IsBlockOrAck, HasAgreed, Unanswered, Begun, Agreed, HasBegun, IsCourse, Transfer, IsTransferAfter, Errors, AreErrors}
+use Rattle.tftp_judge.specs.{DiffersByCourse, DiffersBySent, HasAgreed, HasAnswer, Unanswered, Begun, Agreed, HasBegun, IsCourse, Transfer, IsTransferAfter, Errors, AreErrors, course_of}
 use Rattle.tftp_judge.specs.Kept.{Course}
+use Rattle.tftp_judge.specs.declared.course.Course.{Course as Kept}
+use Rattle.tftp_judge.specs.declared.course.Course.TheVariants as kept
 
 -- a message of no such kind
 abbrev pub IsNoBlock : Message → Type 0
@@ -57,9 +58,10 @@ module _ (d : Datagram) (way : Dir) (m : Message) (passed : List Datagram) (says
 
 -- ---- the end that began
 
-pub end_aside : (end : NamedEnd) (passed : List Datagram) (d : Datagram) (m : Message) → IsEndAfter end passed → Spells d.payload m → IsAside d.dir m → IsEndAfter end (d ∷ passed)
-end_aside (Sends s) passed d m after spells is = sender_aside s passed d m after spells is
-end_aside (Receives r) passed d m after spells is = receiver_aside r passed d m after spells is
+pub has_answer : {D : Type 0} (course : Kept D) → (course ≡ kept.Unanswered → ⊥) → HasAnswer (course_of course)
+has_answer kept.Unanswered other = absurd (other refl)
+has_answer (kept.Begun end) other = tt
+has_answer (kept.Agreed options end) other = tt
 
 pub begun_more : (h : Header) (asked : RequestParts) (passed : List Datagram) (d : Datagram) (answer : Answer) (old new : NamedEnd) → HasBegun h asked passed answer old
     → terms_of new ≡ terms_of old → IsEndAfter new (d ∷ passed) → HasBegun h asked (d ∷ passed) answer new

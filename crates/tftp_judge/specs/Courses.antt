@@ -1,7 +1,7 @@
 -- What may come by how the request was answered.
 use Rattle.std.specs.Prelude.{◌≡◌}
 use Rattle.tftp_packet.specs.{Message, Data, Side, Put}
-use Rattle.tftp_ends.specs.{IsNewBlock, MayKeep}
+use Rattle.tftp_ends.specs.{IsNewBlock, held_of}
 use Rattle.tftp_judge.specs.Kept.{Course, Unanswered, Begun, Agreed, Transfer}
 
 -- the request is answered
@@ -10,17 +10,11 @@ HasAnswer Unanswered = ⊥
 HasAnswer (Begun end) = Unit {0}
 HasAnswer (Agreed options end) = Unit {0}
 
--- a message that the end may keep, where it has begun
-abbrev pub MayKeepOn : Course → Message → Type 0
-MayKeepOn Unanswered m = Unit {0}
-MayKeepOn (Begun end) m = MayKeep end m
-MayKeepOn (Agreed options end) m = MayKeep end m
-
 -- a block that the end does not hold, once it has begun
 abbrev pub IsNewBlockOn : Course → Message → Type 0
 IsNewBlockOn Unanswered m = ⊥
-IsNewBlockOn (Begun end) m = IsNewBlock end m
-IsNewBlockOn (Agreed options end) m = IsNewBlock end m
+IsNewBlockOn (Begun end) m = IsNewBlock (held_of end) m
+IsNewBlockOn (Agreed options end) m = IsNewBlock (held_of end) m
 
 -- a block of a write, which waits for the reply (RFC 1350, section 4)
 abbrev pub WaitsForReply : Side → Message → Type 0

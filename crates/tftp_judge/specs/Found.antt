@@ -1,9 +1,8 @@
 -- What is found of one datagram or message, by the rules that it may break.
 use Rattle.std.specs.Prelude.{◌≡◌, ◌+◌, ◌<◌, List, length, Result, Ok, Err}
-use Rattle.tftp_packet.specs.{Message, Data, Ack}
 use Rattle.tftp_hosts.specs.{Datagram, Header}
-use Rattle.tftp_ends.specs.{PortFault}
-use Rattle.tftp_law.specs.{Passes, number_of, FirstBroken, Rule, ForeignPort, WrongPort, OackEmpty, MulticastAgreed, OptionNotRequested, OptionOutsideProfile, OptionValue, BeyondBlock65535}
+use Rattle.tftp_ends.specs.{PortFault, Rejection}
+use Rattle.tftp_law.specs.{Passes, number_of, rule_of_end, FirstBroken, Rule, ForeignPort, WrongPort, OackEmpty, MulticastAgreed, OptionNotRequested, OptionOutsideProfile, OptionValue, BeyondBlock65535}
 use Rattle.tftp_law.specs.declared.rule.Rule.TheVariants.{StrayAnswer}
 use Rattle.tftp_nego.specs.{NegoFault}
 use Rattle.tftp_judge.specs.Memory.{TakesMemory}
@@ -38,12 +37,6 @@ Refuses h earlier d (refusal.Unlawful index rule) = (index ≡ length earlier + 
 Refuses h earlier d (refusal.Memory count) = (count ≡ length earlier) × Passes h earlier d × TakesMemory h earlier d
 Refuses h earlier d _ = ⊥
 
--- a block or an acknowledgement
-abbrev pub IsBlockOrAck : Message → Type 0
-IsBlockOrAck (Data k bytes) = Unit {0}
-IsBlockOrAck (Ack j) = Unit {0}
-IsBlockOrAck _ = ⊥
-
 -- why an OACK may not be agreed to, among all reasons
 abbrev pub stop_of_fault : NegoFault → Stop
 stop_of_fault NegoFault.OackEmpty = Broken OackEmpty
@@ -60,3 +53,8 @@ stop_by_port PortFault.ForeignPort = Broken ForeignPort
 stop_by_port PortFault.WrongPort = Broken WrongPort
 stop_by_port PortFault.StrayAnswer = Broken StrayAnswer
 stop_by_port PortFault.Memory = Memory
+
+-- why a packet does not pass at the named end, among all reasons
+abbrev pub stop_of_rejection : Rejection → Stop
+stop_of_rejection (Rejection.Broken rule) = Broken (rule_of_end rule)
+stop_of_rejection Rejection.Memory = Memory

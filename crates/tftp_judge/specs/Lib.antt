@@ -15,7 +15,7 @@ pub use Kept.{Agreed, AreBytesOf, AreErrors, Begun, ErrorText, Errors, HasBegun,
 pub use SentByKept.{AreFlags, HasAgreed, HasBlock, HasSentBy, HasSentIn, IsAgreedBy, flags_of}
 pub use Memory.{IsNew, TakesForJoin, TakesMemory}
 pub use KeptCode.{course_of}
-pub use Found.{Finds, FindsOf, IsBlockOrAck, IsFirstOf, NoneBreaks, Refuses, stop_by_port, stop_of_fault}
+pub use Found.{Finds, FindsOf, IsFirstOf, NoneBreaks, Refuses, stop_by_port, stop_of_fault, stop_of_rejection}
 pub use Extracted.{Extracts, WritesFile}
 pub use Courses.{DiffersByCourse, DiffersBySent, HasAnswer, IsNewBlockOn, WaitsForReply}
 pub use declared.extraction.OutFault.{OutFault}

@@ -1,19 +1,21 @@
-ghost use Rattle.std.specs.Prelude.{◌≡◌, ◌⊎◌, ◌↔◌, IsTrue, List, ◌∷◌, OnOk, IfErr, OnErr};
+ghost use Rattle.std.specs.Prelude.{◌≡◌, ◌⊎◌, ◌↔◌, IsTrue, List, ◌∷◌, Err, OnOk, OnErr};
 ghost use Rattle.tftp_packet.specs.{Message, RequestParts, Spells, meaning, map_of};
 ghost use Rattle.tftp_hosts.specs.{Datagram, Header};
 ghost use Rattle.tftp_rules.specs.{author_of};
-ghost use Rattle.tftp_ends.specs.{Says};
-ghost use Rattle.tftp_law.specs.{TermsBreak, rule_of_end, IsError, IsWrongKind};
-ghost use Rattle.tftp_judge.specs.Courses.{HasAnswer, IsNewBlockOn, MayKeepOn};
-ghost use Rattle.tftp_judge.specs.Found.{NoneBreaks, IsFirstOf};
+ghost use Rattle.tftp_ends.specs.{IsBlockOrAck, Says};
+ghost use Rattle.tftp_law.specs.{TermsBreak, IsError, IsWrongKind};
+ghost use Rattle.tftp_judge.specs.Courses.{HasAnswer, IsNewBlockOn};
+ghost use Rattle.tftp_judge.specs.Found.{Finds};
 ghost use Rattle.tftp_judge.specs.Kept.{IsCourse};
 ghost use Rattle.tftp_judge.specs.KeptCode.{course_of};
 ghost use Rattle.tftp_judge.specs.SentByKept.{HasAgreed, HasBlock, IsAgreedBy};
+ghost use Rattle.tftp_judge.specs.declared.stop.Stop.{Stop as StopKind};
 
 use crate::first_oack::FirstOack;
-use std::alloc::{AllocError, Global};
+use crate::stop::Stop;
+use std::alloc::Global;
 use tftp_blocks::Delivered;
-use tftp_ends::{EndFault, NamedEnd};
+use tftp_ends::NamedEnd;
 use tftp_hosts::Dir;
 use tftp_packet::{OptionsView, Packet, same_options};
 
@@ -29,36 +31,23 @@ pub enum Course<D: Delivered + Drop> {
 }
 
 impl<D: Delivered + Drop> Course<D> {
-    /// Whether a block or an ACK may pass, or the first rule that it breaks, once the request was answered.
-    pub fn may_pass(&self, packet: &Packet<'_>) -> Result<(), EndFault>
-        ensures lawful { (h : Header) (asked : RequestParts) (passed : List Datagram) → HasAnswer (course_of self.now)
-            → IsCourse h asked passed (course_of self.now) → OnOk result (NoneBreaks (TermsBreak h asked passed (meaning packet.now))) }
-        ensures first { (h : Header) (asked : RequestParts) (passed : List Datagram) → HasAnswer (course_of self.now)
-            → IsCourse h asked passed (course_of self.now)
-            → IfErr result (λ rule. IsFirstOf (TermsBreak h asked passed (meaning packet.now)) (rule_of_end rule)) }
-        ensures may { OnOk result (MayKeepOn (course_of self.now) (meaning packet.now)) }
-    {
-        match self {
-            Course::Unanswered => Ok(()),
-            Course::Begun(end) => end.may_pass(packet),
-            Course::Agreed(_, end) => end.may_pass(packet),
-        }
-    }
-
-    /// Keeps a packet that passes this way. Memory is taken for a block that is not held alone. Before the request is answered that is an ERROR, which changes nothing here.
-    pub fn pass(&mut self, alloc: Global, dir: Dir, packet: &Packet<'_>) -> Result<(), AllocError>
-        requires { MayKeepOn (course_of self.old) (meaning packet.now) }
+    /// Keeps a packet that passes this way, or tells the first rule that it breaks, once the request was answered. Memory is
+    /// taken for a block that is not held alone. Before the request is answered that is an ERROR, which changes nothing here.
+    pub fn pass(&mut self, alloc: Global, dir: Dir, packet: &Packet<'_>) -> Result<(), Stop>
+        ensures finds { (h : Header) (asked : RequestParts) (passed : List Datagram) → HasAnswer (course_of self.old)
+            → IsCourse h asked passed (course_of self.old) → Finds (TermsBreak h asked passed (meaning packet.now)) (Unit {0}) result }
         ensures ok { (h : Header) (asked : RequestParts) (passed : List Datagram) (d : Datagram)
             → IsCourse h asked passed (course_of self.old) → Says d dir (meaning packet.now)
             → (IsWrongKind (author_of h.named dir) asked.side (meaning packet.now) → ⊥)
             → HasAnswer (course_of self.old) ⊎ IsError (meaning packet.now) → OnOk result (IsCourse h asked (d ∷ passed) (course_of self.new)) }
-        ensures absent { OnErr result (IsNewBlockOn (course_of self.old) (meaning packet.now)) }
+        ensures memory { result ≡ Err StopKind.Memory → IsNewBlockOn (course_of self.old) (meaning packet.now) }
+        ensures others { OnErr result (IsBlockOrAck (meaning packet.now)) }
         ensures err { OnErr result (course_of self.new ≡ course_of self.old) }
     {
         match self {
             Course::Unanswered => Ok(()),
-            Course::Begun(end) => end.pass(alloc, dir, packet),
-            Course::Agreed(_, end) => end.pass(alloc, dir, packet),
+            Course::Begun(end) => Ok(end.pass(alloc, dir, packet)?),
+            Course::Agreed(_, end) => Ok(end.pass(alloc, dir, packet)?),
         }
     }
 

@@ -1,11 +1,11 @@
 ghost use Rattle.std.specs.Prelude.{◌≡◌, ◌≢◌, ◌≤◌, ◌↔◌, IsTrue, true, ℕ, List, [], ◌∷◌, length, reverse, OnOk, OnErr, IfErr, Err};
 ghost use Rattle.tftp_packet.specs.{OptionMap, Message, Get, Spells, meaning, parts, map_of};
 ghost use Rattle.tftp_hosts.specs.{Out, Datagram, Header};
-ghost use Rattle.tftp_ends.specs.{terms_of, IsEndAfter, IsBeforeBlocks, Says};
-ghost use Rattle.tftp_rules.specs.{transfer_of, author_of as author_by_way, NoReply, Plain};
-ghost use Rattle.tftp_law.specs.{MessageBreaks, FirstOackBreaks, LaterOackBreaks, OackBreaks, RequestBreaks, TermsBreak, BlockSent, AckSent, rule_of_end as rule_by_end, OneEnded, IsEnded, Agrees, ClientWentOn, FirstAsked, GoesOn, IsWrongKind, plain_terms as plain_terms_of, terms_after};
-ghost use Rattle.tftp_judge.specs.Found.{Finds, stop_of_fault, IsBlockOrAck};
-ghost use Rattle.tftp_judge.specs.Courses.{HasAnswer, WaitsForReply, DiffersByCourse, DiffersBySent};
+ghost use Rattle.tftp_ends.specs.{terms_of, IsEndAfter, IsBeforeBlocks, IsBlockOrAck, Says};
+ghost use Rattle.tftp_rules.specs.{transfer_of, author_of as author_by_way, Plain};
+ghost use Rattle.tftp_law.specs.{MessageBreaks, FirstOackBreaks, LaterOackBreaks, OackBreaks, RequestBreaks, TermsBreak, BlockSent, AckSent, OneEnded, IsEnded, Agrees, ClientWentOn, FirstAsked, GoesOn, IsWrongKind, plain_terms as plain_terms_of, terms_after};
+ghost use Rattle.tftp_judge.specs.Found.{Finds, stop_of_fault};
+ghost use Rattle.tftp_judge.specs.Courses.{WaitsForReply, DiffersByCourse, DiffersBySent};
 ghost use Rattle.tftp_judge.specs.Memory.{IsNew, TakesForJoin};
 ghost use Rattle.tftp_judge.specs.Kept.{AreErrors, Unanswered, IsCourse, IsTransferAfter, IsTransferOf};
 ghost use Rattle.tftp_judge.specs.SentByKept.{HasAgreed, HasSentBy, IsAgreedBy, flags_of};
@@ -32,7 +32,7 @@ use tftp_nego::{Agreed, NegoFault, agree, nothing_agreed};
 use tftp_packet::{
     End, Mode, OptionsView, Packet, Request, RequestView, Side, same_options, same_request,
 };
-use tftp_rules::{EndRule, Reply, Terms};
+use tftp_rules::{Reply, Terms};
 
 /// The transfer from its first request on: what was asked for and answered, the named end, and what it has sent.
 #[derive(Drop)]
@@ -278,7 +278,6 @@ impl<D: Delivered + Drop> Transfer<D> {
 
     /// The named end, which begins with the first answer (RFC 1350, section 4; RFC 2347). Takes no memory.
     fn begin(&self, alloc: Global, terms: Terms) -> NamedEnd<D>
-        requires replied { terms.reply ≢ NoReply }
         requires blksize { 8 ≤ terms.blksize }
         requires windowsize { 1 ≤ terms.windowsize }
         ensures terms { terms_of result ≡ terms }
@@ -319,7 +318,7 @@ impl<D: Delivered + Drop> Transfer<D> {
     {
         match &self.course {
             Course::Unanswered => self.pass_answer(alloc, dir, packet),
-            _ => self.pass_later(alloc, dir, packet),
+            _ => self.course.pass(alloc, dir, packet),
         }
     }
 
@@ -341,30 +340,8 @@ impl<D: Delivered + Drop> Transfer<D> {
             return Err(Stop::Broken(Rule::NotStarted));
         }
         let mut end = self.begin(alloc, plain_terms(self.named, self.asked.side()));
-        if let Err(rule) = end.may_pass(packet) {
-            return Err(Stop::Broken(rule_of_end(rule)));
-        }
         end.pass(alloc, dir, packet)?;
         self.course = Course::Begun(end);
-        Ok(())
-    }
-
-    /// A block or an ACK once the request was answered.
-    fn pass_later(&mut self, alloc: Global, dir: Dir, packet: &Packet<'_>) -> Result<(), Stop>
-        requires { HasAnswer self.old.course }
-        ensures finds { (h : Header) (passed : List Datagram) (d : Datagram) → IsTransferAfter self.old h passed
-            → Says d dir (meaning packet.now)
-            → (IsWrongKind (author_by_way h.named dir) self.old.asked.side (meaning packet.now) → ⊥)
-            → Finds (TermsBreak h self.old.asked passed (meaning packet.now)) (IsCourse h self.old.asked (d ∷ passed) self.new.course) result }
-        ensures memory { (h : Header) (passed : List Datagram) → IsTransferAfter self.old h passed → result ≡ Err StopKind.Memory
-            → IsNew passed dir (meaning packet.now) }
-        ensures rest { DiffersByCourse self.old self.new }
-        ensures err { OnErr result (self.new ≡ self.old) }
-    {
-        if let Err(rule) = self.course.may_pass(packet) {
-            return Err(Stop::Broken(rule_of_end(rule)));
-        }
-        self.course.pass(alloc, dir, packet)?;
         Ok(())
     }
 
@@ -443,7 +420,6 @@ impl<D: Delivered + Drop> Transfer<D> {
 /// What is known where nothing is agreed (RFC 1350, section 2).
 fn plain_terms(named: End, side: Side) -> Terms
     ensures are { (h : Header) → h.named ≡ named → result ≡ plain_terms_of h side Plain }
-    ensures replied { result.reply ≢ NoReply }
     ensures blksize { 8 ≤ result.blksize }
     ensures windowsize { 1 ≤ result.windowsize }
 {
@@ -460,7 +436,6 @@ fn plain_terms(named: End, side: Side) -> Terms
 /// What is known where these options are agreed (RFC 2348; RFC 2349; RFC 7440).
 fn agreed_terms(named: End, asked: &Request, agreed: &Agreed) -> Terms
     ensures are { (h : Header) → h.named ≡ named → result ≡ terms_after h asked.now (Agrees agreed.now) }
-    ensures replied { result.reply ≢ NoReply }
     ensures blksize { 8 ≤ result.blksize }
     ensures windowsize { 1 ≤ result.windowsize }
 {
@@ -499,23 +474,5 @@ fn stop_of(fault: NegoFault) -> Stop
         NegoFault::OptionValue => Stop::Broken(Rule::OptionValue),
         NegoFault::BeyondBlock65535 => Stop::Broken(Rule::BeyondBlock65535),
         NegoFault::Memory => Stop::Memory,
-    }
-}
-
-/// A rule of blocks and acknowledgements (RFC 1350, section 2; RFC 7440, section 4) among all rules.
-fn rule_of_end(rule: EndRule) -> Rule
-    ensures { result ≡ rule_by_end rule }
-{
-    match rule {
-        EndRule::NotStarted => Rule::NotStarted,
-        EndRule::BlockZero => Rule::BlockZero,
-        EndRule::BeyondBlock65535 => Rule::BeyondBlock65535,
-        EndRule::BlockLength => Rule::BlockLength,
-        EndRule::WindowOverrun => Rule::WindowOverrun,
-        EndRule::BlockSkipped => Rule::BlockSkipped,
-        EndRule::GoneBack => Rule::GoneBack,
-        EndRule::BlockChanged => Rule::BlockChanged,
-        EndRule::AckAhead => Rule::AckAhead,
-        EndRule::AckZero => Rule::AckZero,
     }
 }

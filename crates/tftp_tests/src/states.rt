@@ -1,24 +1,22 @@
 //! The states of the two ends, on each of the two stores by the same steps.
 
-ghost use Rattle.std.specs.Prelude.{◌≤◌, OnOk};
-ghost use Rattle.tftp_ends.specs.{Fits, MayAcknowledge, MaySend};
+ghost use Rattle.std.specs.Prelude.{◌≡◌};
+ghost use Rattle.tftp_model.specs.Roles.{sender_of as sends_for, receiver_of as receives_for};
 
 use std::alloc::AllocError;
 use std::test::Fail;
 use tftp_blocks::{Delivered, MapDelivered, RingDelivered};
-use tftp_ends::{EndFault, ReceiverState, SenderState};
-use tftp_packet::Side;
+use tftp_ends::{ReceiverState, Rejection, SenderState};
+use tftp_hosts::Dir;
+use tftp_packet::{End, Packet, Side};
+use tftp_rules::{EndRule, Reply, Terms};
 
 /// A call of a state, and what it answers.
 enum Step {
-    /// Whether a block may go out at a sender, or come in at a receiver.
-    May(u16, &'static [u8], Result<(), EndFault>),
-    /// Whether an ACK may come in, or go out.
-    MayAck(u16, Result<(), EndFault>),
-    /// A block that may pass does.
-    Data(u16, &'static [u8]),
-    /// An ACK that may pass does.
-    Ack(u16),
+    /// A block: one that goes out at a sender, or comes in at a receiver.
+    Data(u16, &'static [u8], Result<(), EndRule>),
+    /// An ACK, which comes in, or goes out.
+    Ack(u16, Result<(), EndRule>),
     /// The other end's ERROR.
     Stopped,
     /// Whether the end is done.
@@ -32,114 +30,90 @@ enum Step {
 /// How a state begins: its side, whether an OACK was agreed, the block size, the window, and the size if it is agreed.
 type Start = (Side, bool, u16, u16, Option<u64>);
 
-/// Whether a block may go out. It promises no more than `sent` wants, and the same function of a receiver no more than
-/// `take_data` wants, since all that the libraries promise is dear to read again where a call rests on it.
-fn may_go_out<D: Delivered>(
-    sender: &SenderState<D>,
-    number: u16,
-    bytes: &[u8],
-) -> Result<(), EndFault>
-    ensures { OnOk result (MaySend sender.now number bytes.now) }
-{
-    sender.may_data(number, bytes)
-}
-
-/// Sends a block that may go out; false where a growth is refused.
-fn is_sent<D: Delivered>(
-    rt: &HostRuntime,
-    sender: &mut SenderState<D>,
-    number: u16,
-    bytes: &[u8],
-) -> Result<bool, Fail> {
-    match may_go_out(sender, number, bytes) {
-        Ok(()) => Ok(sender.sent(rt.alloc(), number, bytes).is_ok()),
-        Err(_) => Err(Fail::new("may not go out")),
+/// Whether an answer is the one that is wanted.
+fn is_wanted(answer: Result<(), Rejection>, wanted: Result<(), EndRule>) -> bool {
+    match (answer, wanted) {
+        (Ok(()), Ok(())) => true,
+        (Err(Rejection::Broken(rule)), Err(other)) => rule == other,
+        _ => false,
     }
 }
 
-/// Sends a block that may go out. Where a growth is refused the block still may, and is sent then.
-fn send<D: Delivered>(
+/// Hands a packet to a sender.
+fn pass_at_sender<D: Delivered>(
     rt: &HostRuntime,
     sender: &mut SenderState<D>,
-    number: u16,
-    bytes: &[u8],
-) -> Result<(), Fail> {
-    if is_sent(rt, sender, number, bytes)? || is_sent(rt, sender, number, bytes)? {
-        return Ok(());
+    dir: Dir,
+    packet: &Packet<'_>,
+) -> Result<(), Rejection> {
+    sender.pass(rt.alloc(), dir, packet)
+}
+
+/// What a sender answers to a packet. Where a growth is refused the packet is handed over once more.
+fn answer_of_sender<D: Delivered>(
+    rt: &HostRuntime,
+    sender: &mut SenderState<D>,
+    dir: Dir,
+    packet: &Packet<'_>,
+) -> Result<(), Rejection> {
+    match pass_at_sender(rt, sender, dir, packet) {
+        Err(Rejection::Memory) => pass_at_sender(rt, sender, dir, packet),
+        answer => answer,
     }
-    Err(Fail::from(AllocError))
 }
 
-/// Whether a block may come in.
-fn may_come_in<D: Delivered>(
-    receiver: &ReceiverState<D>,
-    number: u16,
-    bytes: &[u8],
-) -> Result<(), EndFault>
-    ensures { OnOk result (Fits receiver.now.terms receiver.now.held number bytes.now) }
-{
-    receiver.may_data(number, bytes)
-}
-
-/// Takes a block that may come in; false where a growth is refused.
-fn is_taken<D: Delivered>(
+/// Hands a packet to a receiver.
+fn pass_at_receiver<D: Delivered>(
     rt: &HostRuntime,
     receiver: &mut ReceiverState<D>,
-    number: u16,
-    bytes: &[u8],
-) -> Result<bool, Fail> {
-    match may_come_in(receiver, number, bytes) {
-        Ok(()) => Ok(receiver.take_data(rt.alloc(), number, bytes).is_ok()),
-        Err(_) => Err(Fail::new("may not come in")),
+    dir: Dir,
+    packet: &Packet<'_>,
+) -> Result<(), Rejection> {
+    receiver.pass(rt.alloc(), dir, packet)
+}
+
+/// What a receiver answers to a packet, likewise.
+fn answer_of_receiver<D: Delivered>(
+    rt: &HostRuntime,
+    receiver: &mut ReceiverState<D>,
+    dir: Dir,
+    packet: &Packet<'_>,
+) -> Result<(), Rejection> {
+    match pass_at_receiver(rt, receiver, dir, packet) {
+        Err(Rejection::Memory) => pass_at_receiver(rt, receiver, dir, packet),
+        answer => answer,
     }
 }
 
-/// Takes a block that may come in. Where a growth is refused the block still may, and is taken then.
+/// A block.
+fn data(block: u16, bytes: &'static [u8]) -> Packet<'static> {
+    Packet::Data { block, bytes }
+}
+
+/// An acknowledgement.
+fn ack(block: u16) -> Packet<'static> {
+    Packet::Ack { block }
+}
+
+/// The ERROR of the end that stops.
+fn error() -> Packet<'static> {
+    Packet::Error {
+        code: 0,
+        message: b"stop",
+    }
+}
+
+/// Takes a block that comes in.
 fn take<D: Delivered>(
     rt: &HostRuntime,
     receiver: &mut ReceiverState<D>,
     number: u16,
-    bytes: &[u8],
+    bytes: &'static [u8],
 ) -> Result<(), Fail> {
-    if is_taken(rt, receiver, number, bytes)? || is_taken(rt, receiver, number, bytes)? {
-        return Ok(());
-    }
-    Err(Fail::from(AllocError))
-}
-
-/// Whether an ACK may come in. It promises no more than `got_ack` wants.
-fn may_hear<D: Delivered>(sender: &SenderState<D>, number: u16) -> Result<(), EndFault>
-    ensures { OnOk result (number ≤ sender.now.usable_top) }
-{
-    sender.may_ack(number)
-}
-
-/// Notes an ACK that may come in.
-fn hear<D: Delivered>(sender: &mut SenderState<D>, number: u16) -> Result<(), Fail> {
-    match may_hear(sender, number) {
-        Ok(()) => {
-            sender.got_ack(number);
-            Ok(())
-        }
-        Err(_) => Err(Fail::new("ACK may not come in")),
-    }
-}
-
-/// Whether an ACK may go out. It promises no more than `sent_ack` wants.
-fn may_acknowledge<D: Delivered>(receiver: &ReceiverState<D>, number: u16) -> Result<(), EndFault>
-    ensures { OnOk result (MayAcknowledge receiver.now number) }
-{
-    receiver.may_ack(number)
-}
-
-/// Notes an ACK that may go out.
-fn acknowledge<D: Delivered>(receiver: &mut ReceiverState<D>, number: u16) -> Result<(), Fail> {
-    match may_acknowledge(receiver, number) {
-        Ok(()) => {
-            receiver.sent_ack(number);
-            Ok(())
-        }
-        Err(_) => Err(Fail::new("ACK may not go out")),
+    match answer_of_receiver(rt, receiver, Dir::In, &data(number, bytes)) {
+        Ok(()) => Ok(()),
+        Err(Rejection::Memory) => Err(Fail::from(AllocError)),
+        Err(Rejection::Broken(_)) => Err(Fail::new("may not come in")),
     }
 }
 
@@ -153,42 +127,21 @@ fn has_front<D: Delivered>(store: &D, front: u16, pending: usize) -> bool {
     store.front() == front && store.pending() == pending
 }
 
-/// Whether a sender answers what is wanted to a step that changes nothing.
-fn sender_answers<D: Delivered>(sender: &SenderState<D>, step: &Step) -> bool {
-    match step {
-        Step::May(number, bytes, wanted) => may_go_out(sender, *number, bytes) == *wanted,
-        Step::MayAck(number, wanted) => may_hear(sender, *number) == *wanted,
-        Step::Done(done) => sender.done() == *done,
-        Step::Block(number, bytes) => has_block(sender.store(), *number, bytes),
-        Step::Front(front, pending) => has_front(sender.store(), *front, *pending),
-        _ => false,
-    }
-}
-
 /// Whether the call answers what is wanted, at a sender.
-fn sender_holds<D: Delivered>(
-    rt: &HostRuntime,
-    sender: &mut SenderState<D>,
-    step: &Step,
-) -> Result<bool, Fail> {
+fn sender_holds<D: Delivered>(rt: &HostRuntime, sender: &mut SenderState<D>, step: &Step) -> bool {
     match step {
-        Step::Data(number, bytes) => send(rt, sender, *number, bytes)?,
-        Step::Ack(number) => hear(sender, *number)?,
-        Step::Stopped => sender.peer_stopped(),
-        _ => return Ok(sender_answers(sender, step)),
-    }
-    Ok(true)
-}
-
-/// Whether a receiver answers what is wanted to a step that changes nothing.
-fn receiver_answers<D: Delivered>(receiver: &ReceiverState<D>, step: &Step) -> bool {
-    match step {
-        Step::May(number, bytes, wanted) => may_come_in(receiver, *number, bytes) == *wanted,
-        Step::MayAck(number, wanted) => may_acknowledge(receiver, *number) == *wanted,
-        Step::Done(done) => receiver.done() == *done,
-        Step::Block(number, bytes) => has_block(receiver.store(), *number, bytes),
-        Step::Front(front, pending) => has_front(receiver.store(), *front, *pending),
-        _ => false,
+        Step::Data(number, bytes, wanted) => {
+            let answer = answer_of_sender(rt, sender, Dir::Out, &data(*number, *bytes));
+            is_wanted(answer, *wanted)
+        }
+        Step::Ack(number, wanted) => {
+            let answer = answer_of_sender(rt, sender, Dir::In, &ack(*number));
+            is_wanted(answer, *wanted)
+        }
+        Step::Stopped => answer_of_sender(rt, sender, Dir::In, &error()).is_ok(),
+        Step::Done(done) => sender.done() == *done,
+        Step::Block(number, bytes) => has_block(sender.store(), *number, *bytes),
+        Step::Front(front, pending) => has_front(sender.store(), *front, *pending),
     }
 }
 
@@ -197,57 +150,64 @@ fn receiver_holds<D: Delivered>(
     rt: &HostRuntime,
     receiver: &mut ReceiverState<D>,
     step: &Step,
-) -> Result<bool, Fail> {
+) -> bool {
     match step {
-        Step::Data(number, bytes) => take(rt, receiver, *number, bytes)?,
-        Step::Ack(number) => acknowledge(receiver, *number)?,
-        Step::Stopped => receiver.peer_stopped(),
-        _ => return Ok(receiver_answers(receiver, step)),
+        Step::Data(number, bytes, wanted) => {
+            let answer = answer_of_receiver(rt, receiver, Dir::In, &data(*number, *bytes));
+            is_wanted(answer, *wanted)
+        }
+        Step::Ack(number, wanted) => {
+            let answer = answer_of_receiver(rt, receiver, Dir::Out, &ack(*number));
+            is_wanted(answer, *wanted)
+        }
+        Step::Stopped => answer_of_receiver(rt, receiver, Dir::In, &error()).is_ok(),
+        Step::Done(done) => receiver.done() == *done,
+        Step::Block(number, bytes) => has_block(receiver.store(), *number, *bytes),
+        Step::Front(front, pending) => has_front(receiver.store(), *front, *pending),
     }
-    Ok(true)
 }
 
 /// A server sends two blocks in a window of two, once its OACK is acknowledged.
 const READ_IN_WINDOWS: &[Step] = &[
-    Step::May(1, b"11111111", Err(EndFault::NotStarted)),
-    Step::MayAck(0, Ok(())),
-    Step::Ack(0),
-    Step::May(2, b"22222222", Err(EndFault::BlockSkipped)),
-    Step::May(3, b"33333333", Err(EndFault::WindowOverrun)),
-    Step::Data(1, b"11111111"),
-    Step::Data(2, b"22222222"),
-    Step::May(1, b"11111111", Ok(())),
-    Step::May(1, b"11111112", Err(EndFault::BlockChanged)),
-    Step::MayAck(3, Err(EndFault::AckAhead)),
-    Step::Ack(1),
-    Step::Ack(0),
-    Step::Data(3, b"33"),
+    Step::Data(1, b"11111111", Err(EndRule::NotStarted)),
+    Step::Ack(0, Ok(())),
+    Step::Ack(0, Ok(())),
+    Step::Data(2, b"22222222", Err(EndRule::BlockSkipped)),
+    Step::Data(3, b"33333333", Err(EndRule::WindowOverrun)),
+    Step::Data(1, b"11111111", Ok(())),
+    Step::Data(2, b"22222222", Ok(())),
+    Step::Data(1, b"11111111", Ok(())),
+    Step::Data(1, b"11111112", Err(EndRule::BlockChanged)),
+    Step::Ack(3, Err(EndRule::AckAhead)),
+    Step::Ack(1, Ok(())),
+    Step::Ack(0, Ok(())),
+    Step::Data(3, b"33", Ok(())),
     Step::Done(false),
-    Step::Ack(3),
+    Step::Ack(3, Ok(())),
     Step::Done(true),
     Step::Block(3, b"33"),
 ];
 
 /// A sender hears of no block that it sent after the ERROR.
 const STOPPED_SENDER: &[Step] = &[
-    Step::Ack(0),
-    Step::Data(1, b"11111111"),
-    Step::Ack(1),
+    Step::Ack(0, Ok(())),
+    Step::Data(1, b"11111111", Ok(())),
+    Step::Ack(1, Ok(())),
     Step::Stopped,
-    Step::Data(2, b"22"),
-    Step::MayAck(2, Err(EndFault::AckAhead)),
+    Step::Data(2, b"22", Ok(())),
+    Step::Ack(2, Err(EndRule::AckAhead)),
     Step::Stopped,
-    Step::MayAck(2, Err(EndFault::AckAhead)),
-    Step::May(1, b"11111111", Err(EndFault::GoneBack)),
+    Step::Ack(2, Err(EndRule::AckAhead)),
+    Step::Data(1, b"11111111", Err(EndRule::GoneBack)),
     Step::Done(false),
 ];
 
 /// The largest window goes past the last number that a block can have.
 const LARGEST_SENDER: &[Step] = &[
-    Step::Data(1, b"11111111"),
-    Step::Ack(1),
-    Step::May(65535, b"1111111", Err(EndFault::BlockSkipped)),
-    Step::May(65535, b"11111111", Err(EndFault::BeyondBlock65535)),
+    Step::Data(1, b"11111111", Ok(())),
+    Step::Ack(1, Ok(())),
+    Step::Data(65535, b"1111111", Err(EndRule::BlockSkipped)),
+    Step::Data(65535, b"11111111", Err(EndRule::BeyondBlock65535)),
 ];
 
 /// A sender by its name, with the highest block that it has sent at the end.
@@ -277,84 +237,84 @@ const SENDERS: &[Sender] = &[
 
 /// A server takes a block of a write before the one below it.
 const WRITTEN_OUT_OF_ORDER: &[Step] = &[
-    Step::MayAck(0, Err(EndFault::AckZero)),
-    Step::May(0, b"00000000", Err(EndFault::BlockZero)),
-    Step::Data(2, b"22222222"),
-    Step::MayAck(0, Ok(())),
-    Step::MayAck(2, Err(EndFault::AckAhead)),
-    Step::May(2, b"222", Err(EndFault::BlockLength)),
-    Step::Data(3, b"333"),
-    Step::Data(1, b"11111111"),
+    Step::Ack(0, Err(EndRule::AckZero)),
+    Step::Data(0, b"00000000", Err(EndRule::BlockZero)),
+    Step::Data(2, b"22222222", Ok(())),
+    Step::Ack(0, Ok(())),
+    Step::Ack(2, Err(EndRule::AckAhead)),
+    Step::Data(2, b"222", Err(EndRule::BlockLength)),
+    Step::Data(3, b"333", Ok(())),
+    Step::Data(1, b"11111111", Ok(())),
     Step::Done(false),
-    Step::Ack(2),
+    Step::Ack(2, Ok(())),
     Step::Done(false),
-    Step::Ack(3),
+    Step::Ack(3, Ok(())),
     Step::Done(true),
-    Step::May(4, b"44444444", Err(EndFault::BlockLength)),
+    Step::Data(4, b"44444444", Err(EndRule::BlockLength)),
     Step::Front(3, 0),
 ];
 
 /// What a receiver acknowledges after an ERROR has come in, the other end has not used; but it may be all there was.
 const STOPPED_RECEIVER: &[Step] = &[
-    Step::May(1, b"11111111", Err(EndFault::NotStarted)),
-    Step::Ack(0),
-    Step::Data(1, b"11111111"),
+    Step::Data(1, b"11111111", Err(EndRule::NotStarted)),
+    Step::Ack(0, Ok(())),
+    Step::Data(1, b"11111111", Ok(())),
     Step::Stopped,
-    Step::Ack(1),
-    Step::May(2, b"22222222", Err(EndFault::WindowOverrun)),
-    Step::May(1, b"11111111", Ok(())),
+    Step::Ack(1, Ok(())),
+    Step::Data(2, b"22222222", Err(EndRule::WindowOverrun)),
+    Step::Data(1, b"11111111", Ok(())),
     Step::Stopped,
-    Step::May(2, b"22222222", Err(EndFault::WindowOverrun)),
+    Step::Data(2, b"22222222", Err(EndRule::WindowOverrun)),
 ];
 
 /// ACK 0 after the ERROR.
 const STOPPED_AT_ONCE: &[Step] = &[
     Step::Stopped,
-    Step::Ack(0),
-    Step::May(1, b"1", Err(EndFault::NotStarted)),
+    Step::Ack(0, Ok(())),
+    Step::Data(1, b"1", Err(EndRule::NotStarted)),
 ];
 
 /// A receiver that has all blocks is done by an ACK after the ERROR too.
 const STOPPED_AT_THE_END: &[Step] = &[
-    Step::MayAck(0, Err(EndFault::AckZero)),
-    Step::Data(1, b"hi"),
+    Step::Ack(0, Err(EndRule::AckZero)),
+    Step::Data(1, b"hi", Ok(())),
     Step::Stopped,
     Step::Done(false),
-    Step::Ack(1),
+    Step::Ack(1, Ok(())),
     Step::Done(true),
 ];
 
 /// An agreed size tells which block is the last, and how long it is.
 const KNOWN_SIZE: &[Step] = &[
-    Step::May(1, b"1111111", Err(EndFault::BlockLength)),
-    Step::May(2, b"22222222", Err(EndFault::BlockLength)),
-    Step::May(2, b"2", Err(EndFault::BlockLength)),
-    Step::May(3, b"33333333", Err(EndFault::BlockLength)),
-    Step::Data(2, b"22"),
-    Step::Data(1, b"11111111"),
-    Step::Ack(2),
+    Step::Data(1, b"1111111", Err(EndRule::BlockLength)),
+    Step::Data(2, b"22222222", Err(EndRule::BlockLength)),
+    Step::Data(2, b"2", Err(EndRule::BlockLength)),
+    Step::Data(3, b"33333333", Err(EndRule::BlockLength)),
+    Step::Data(2, b"22", Ok(())),
+    Step::Data(1, b"11111111", Ok(())),
+    Step::Ack(2, Ok(())),
     Step::Done(true),
 ];
 
 const EMPTY: &[Step] = &[
-    Step::May(1, b"", Ok(())),
-    Step::May(1, b"1", Err(EndFault::BlockLength)),
+    Step::Data(1, b"", Ok(())),
+    Step::Data(1, b"1", Err(EndRule::BlockLength)),
 ];
 
-const ONE_WHOLE_BLOCK: &[Step] = &[Step::May(2, b"", Ok(()))];
+const ONE_WHOLE_BLOCK: &[Step] = &[Step::Data(2, b"", Ok(()))];
 
 const THE_LARGEST_SIZE: &[Step] = &[
-    Step::May(1, b"11111111", Ok(())),
-    Step::May(1, b"1", Err(EndFault::BlockLength)),
+    Step::Data(1, b"11111111", Ok(())),
+    Step::Data(1, b"1", Err(EndRule::BlockLength)),
 ];
 
 const LARGEST_RECEIVER: &[Step] = &[
-    Step::Data(65535, b"1111111"),
-    Step::Data(1, b"11111111"),
-    Step::Ack(1),
-    Step::Data(65534, b"11111111"),
+    Step::Data(65535, b"1111111", Ok(())),
+    Step::Data(1, b"11111111", Ok(())),
+    Step::Ack(1, Ok(())),
+    Step::Data(65534, b"11111111", Ok(())),
     Step::Front(1, 2),
-    Step::May(65534, b"1111111", Err(EndFault::BlockLength)),
+    Step::Data(65534, b"1111111", Err(EndRule::BlockLength)),
 ];
 
 /// A receiver by its name, with the wire that it has at the end.
@@ -403,7 +363,7 @@ const RECEIVERS: &[Receiver] = &[
         "the largest size",
         (Side::Get, false, 8, 1, Some(u64::MAX)),
         THE_LARGEST_SIZE,
-        b"",
+        b"11111111",
     ),
     (
         "a receiver with the largest window",
@@ -413,6 +373,31 @@ const RECEIVERS: &[Receiver] = &[
     ),
 ];
 
+/// The end that sends the file.
+fn sender_for(side: Side) -> End
+    ensures { result ≡ sends_for side }
+{
+    match side {
+        Side::Get => End::Server,
+        Side::Put => End::Client,
+    }
+}
+
+/// The end that gets it.
+fn receiver_for(side: Side) -> End
+    ensures { result ≡ receives_for side }
+{
+    match side {
+        Side::Get => End::Client,
+        Side::Put => End::Server,
+    }
+}
+
+/// How the request was answered.
+fn reply_of(oacked: bool) -> Reply {
+    if oacked { Reply::Oacked } else { Reply::Plain }
+}
+
 /// A new sender, unless its block size or its window is too small.
 fn sender_of<D: Delivered>(
     rt: &HostRuntime,
@@ -421,8 +406,16 @@ fn sender_of<D: Delivered>(
     if blksize < 8 || windowsize < 1 {
         return None;
     }
+    let terms = Terms {
+        named: sender_for(side),
+        side,
+        reply: reply_of(oacked),
+        blksize,
+        windowsize,
+        size,
+    };
     let store = D::new(rt.alloc(), blksize, windowsize);
-    Some(SenderState::new(side, oacked, blksize, windowsize, size, store))
+    Some(SenderState::new(terms, store, false))
 }
 
 /// Fails unless each step answers what is wanted.
@@ -433,7 +426,7 @@ fn all_hold_at_sender<D: Delivered>(
     steps: &[Step],
 ) -> Result<(), Fail> {
     for (index, step) in steps.iter().enumerate() {
-        if !sender_holds(rt, sender, step)? {
+        if !sender_holds(rt, sender, step) {
             return Err(Fail::from((name, index)));
         }
     }
@@ -471,8 +464,16 @@ fn receiver_of<D: Delivered>(
     if blksize < 8 || windowsize < 1 {
         return None;
     }
+    let terms = Terms {
+        named: receiver_for(side),
+        side,
+        reply: reply_of(oacked),
+        blksize,
+        windowsize,
+        size,
+    };
     let store = D::new(rt.alloc(), blksize, windowsize);
-    Some(ReceiverState::new(side, oacked, blksize, windowsize, size, store))
+    Some(ReceiverState::new(terms, store, false))
 }
 
 /// Fails unless each step answers what is wanted.
@@ -483,7 +484,7 @@ fn all_hold_at_receiver<D: Delivered>(
     steps: &[Step],
 ) -> Result<(), Fail> {
     for (index, step) in steps.iter().enumerate() {
-        if !receiver_holds(rt, receiver, step)? {
+        if !receiver_holds(rt, receiver, step) {
             return Err(Fail::from((name, index)));
         }
     }
@@ -539,32 +540,34 @@ fn take_all_but_one<D: Delivered>(
 }
 
 /// How many blocks wait before the first is there, what an ACK of it is answered then, how many wait after it, and whether
-/// all is done.
-type Filled = (usize, Result<(), EndFault>, usize, bool);
+/// the first ACK and the last pass and all is done.
+type Filled = (usize, Result<(), Rejection>, usize, bool);
 
 /// That of a receiver which takes a whole window.
 fn filled<D: Delivered>(rt: &HostRuntime, receiver: &mut ReceiverState<D>) -> Result<Filled, Fail> {
-    acknowledge(receiver, 0)?;
+    let started = answer_of_receiver(rt, receiver, Dir::Out, &ack(0));
     take_all_but_one(rt, receiver)?;
     let waiting = waiting_of(receiver);
-    let early = may_acknowledge(receiver, 1);
+    let early = answer_of_receiver(rt, receiver, Dir::Out, &ack(1));
     take(rt, receiver, 1, b"........")?;
     let left = waiting_of(receiver);
-    acknowledge(receiver, 65535)?;
-    Ok((waiting, early, left, receiver.done()))
+    let last = answer_of_receiver(rt, receiver, Dir::Out, &ack(65535));
+    let done = started.is_ok() && last.is_ok() && receiver.done();
+    Ok((waiting, early, left, done))
 }
 
 /// That of a new receiver.
 fn filled_on<D: Delivered + Drop>(rt: &HostRuntime) -> Result<Filled, Fail> {
-    let store = D::new(rt.alloc(), 8, 65535);
-    let mut receiver = ReceiverState::new(Side::Get, true, 8, 65535, None, store);
-    filled(rt, &mut receiver)
+    match receiver_of::<D>(rt, (Side::Get, true, 8, 65535, None)) {
+        Some(mut receiver) => filled(rt, &mut receiver),
+        None => Err(Fail::new("no receiver")),
+    }
 }
 
 /// All blocks but the first wait, the highest before the others, and none waits once the first is there.
 fn whole_window<D: Delivered + Drop>(rt: &HostRuntime) -> Result<(), Fail> {
     let (waiting, early, left, done) = filled_on::<D>(rt)?;
-    if waiting == 65534 && early == Err(EndFault::AckAhead) && left == 0 && done {
+    if waiting == 65534 && early == Err(Rejection::Broken(EndRule::AckAhead)) && left == 0 && done {
         Ok(())
     } else {
         Err(Fail::from((waiting, early, left, done)))

@@ -3,6 +3,7 @@ use Rattle.tftp_packet.specs.{Data}
 use Rattle.tftp_rules.specs.{HasWrongLength, usable, BlockLength, WindowOverrun}
 use Rattle.tftp_ends.proofs.FirstRules.{first_is, before_19, before_20, before_21, before_22, before_23, refute}
 use Rattle.tftp_ends.proofs.EndLengths.{right_not_wrong}
+use Rattle.tftp_ends.proofs.SoundStates.{takes_it}
 use Rattle.tftp_ends.proofs.block_rules.may_open.Goals as goal
 
 pub returns-then-has_wrong_length-clause-first : goal.returns-then-has_wrong_length-clause-first
@@ -39,12 +40,12 @@ returns-clause-lawful g c = λ passed bytes known long.
     (right_not_wrong _ _ passed c.args.number bytes c.args.len known.blocks c.requires.sound long c.if-number-eq0.false (c.has_wrong_length.ensures.right c.if-has_wrong_length.false)))
     (λ b. let same = known.only b.0 b.1 in let over = b.2 in let x = c.from.ensures in let y = c.from-2.ensures in let z = c.from-3.ensures in omega arith)
 
-pub returns-clause-open : goal.returns-clause-open
-returns-clause-open g c =
+pub returns-clause-takes : goal.returns-clause-takes
+returns-clause-takes g c =
     let near = c.if-from.false in
     let some = c.if-number-eq0.false in
-    record {
-      from_one = omega arith;
-      right = c.has_wrong_length.ensures.right c.if-has_wrong_length.false;
-      within = let x = c.from.ensures in let y = c.from-2.ensures in let z = c.from-3.ensures in omega arith;
-    }
+    takes_it _ _ c.args.number c.args.len c.args.acked c.requires.sound (c.has_wrong_length.ensures.right c.if-has_wrong_length.false) (omega arith) c.requires.taken
+    (let x = c.from.ensures in let y = c.from-2.ensures in let z = c.from-3.ensures in omega arith)
+
+pub returns-clause-sized : goal.returns-clause-sized
+returns-clause-sized g c = (c.has_wrong_length.ensures.right c.if-has_wrong_length.false).sized

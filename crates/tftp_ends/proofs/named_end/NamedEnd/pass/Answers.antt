@@ -1,27 +1,28 @@
-use Rattle.std.proofs.Common.{rules, ◌≡◌, ◌≢◌, refl, sym, subst, ap, ◌∙◌}
+use Rattle.std.proofs.Common.{List, ◌∷◌, OnOk, sym, subst, ap, ◌∙◌}
 use Rattle.tftp_packet.specs.{meaning}
-use Rattle.tftp_hosts.specs.{Dir, In, Out}
-use Rattle.tftp_ends.specs.{Says, IsAside}
-use Rattle.tftp_ends.proofs.EndsAside.{end_aside}
+use Rattle.tftp_hosts.specs.{Datagram}
+use Rattle.tftp_ends.specs.{NamedEnd, Sends, Receives, terms_of, IsEndAfter, IsFound, IsOfItsAuthor, Says, end_of}
+use Rattle.tftp_ends.proofs.named_end.NamedEnd.pass.Goals.{in-Sends, in-Receives}
 use Rattle.tftp_ends.proofs.named_end.NamedEnd.pass.Goals as goal
 
--- what does not come in goes out
-out : (dir : Dir) → (dir ≢ In) → dir ≡ Out
-out In other = absurd (other refl)
-out Out other = refl
+pub returns-clause-found : goal.returns-clause-found
+returns-clause-found g c = elim c.match-self.branch [
+  | in-Sends w ↦ rw w.result-is
+      (subst (λ (e : NamedEnd). (passed : List Datagram) → IsEndAfter e passed → IsFound (terms_of e) passed (meaning c.args.packet.now) w.pass.result)
+      (sym (ap end_of w.in-Sends.is) ∙ c.self.view_is) w.pass.ensures.found)
+  | in-Receives w ↦ rw w.result-is
+      (subst (λ (e : NamedEnd). (passed : List Datagram) → IsEndAfter e passed → IsFound (terms_of e) passed (meaning c.args.packet.now) w.pass-in-Receives.result)
+      (sym (ap end_of w.in-Receives.is) ∙ c.self.view_is) w.pass-in-Receives.ensures.found)
+]
 
-pub returns-then-eq-clause-ok : goal.returns-then-eq-clause-ok
-returns-then-eq-clause-ok g c = λ passed d after says of.
-    c.peer_stopped.ensures.after passed d c.in-Error.code c.in-Error.message.now after (subst (λ m. Says d In m) (ap meaning c.in-Error.is) (subst (λ dir. Says d dir (meaning c.args.packet.now)) (search rules) says))
-
-pub returns-else-eq-clause-ok : goal.returns-else-eq-clause-ok
-returns-else-eq-clause-ok g c = λ passed d after says of.
-    end_aside _ passed d (meaning c.args.packet.now) after says.1 (subst (IsAside d.dir) (ap meaning (sym c.in-Error.is)) (says.0 ∙ out c.args.dir (search rules)))
-
-pub returns-in-Request-clause-ok : goal.returns-in-Request-clause-ok
-returns-in-Request-clause-ok g c = λ passed d after says of.
-    end_aside _ passed d (meaning c.args.packet.now) after says.1 (subst (IsAside d.dir) (ap meaning (sym c.in-Request.is)) tt)
-
-pub returns-in-Oack-clause-ok : goal.returns-in-Oack-clause-ok
-returns-in-Oack-clause-ok g c = λ passed d after says of.
-    end_aside _ passed d (meaning c.args.packet.now) after says.1 (subst (IsAside d.dir) (ap meaning (sym c.in-Oack.is)) tt)
+pub returns-clause-after : goal.returns-clause-after
+returns-clause-after g c = elim c.match-self.branch [
+  | in-Sends w ↦ rw (w.result-is, w.self-inside-is)
+      (subst (λ (e : NamedEnd). (passed : List Datagram) (d : Datagram) → IsEndAfter e passed → Says d c.args.dir (meaning c.args.packet.now) → IsOfItsAuthor (terms_of e) c.args.dir (meaning c.args.packet.now)
+      → OnOk w.pass.result (IsEndAfter (Sends w.pass.new.self) (d ∷ passed)))
+      (sym (ap end_of w.in-Sends.is) ∙ c.self.view_is) w.pass.ensures.after)
+  | in-Receives w ↦ rw (w.result-is, w.self-inside-is)
+      (subst (λ (e : NamedEnd). (passed : List Datagram) (d : Datagram) → IsEndAfter e passed → Says d c.args.dir (meaning c.args.packet.now) → IsOfItsAuthor (terms_of e) c.args.dir (meaning c.args.packet.now)
+      → OnOk w.pass-in-Receives.result (IsEndAfter (Receives w.pass-in-Receives.new.self) (d ∷ passed)))
+      (sym (ap end_of w.in-Receives.is) ∙ c.self.view_is) w.pass-in-Receives.ensures.after)
+]
