@@ -53,6 +53,6 @@ loop-gathered-preserved g c =
       going = answered.standing;
       reading = other_side (λ h. h) answered.tally ∙ inv.reading;
       writing = told.0;
-      few = omega (arith, inv.few, answered.rises);
+      few = omega (arith, inv.few, answered.rises refl);
       shown = one_more _ _ _ _ _ _ c.loop-gathered.capture c.next_into.new.self c.loop-gathered.gathered c.put_datagram.new.gathered c.loop-gathered.number c.next_into.new.datagram put.0 inv.shown inv.going answered.continues answered.standing put.1 told.1;
     }
