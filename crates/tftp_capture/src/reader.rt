@@ -2,7 +2,7 @@ ghost use Rattle.std.specs.Prelude.{◌≡◌, ◌≢◌, ◌+◌, ◌^◌, ◌<
 ghost use Rattle.std.specs.Io.KnownBytes.{prepend_known, Consumes, IsAtEnd};
 ghost use Rattle.tftp_capture.specs.CaptureText.{Header as HeaderParts, Numbered};
 ghost use Rattle.tftp_capture.specs.Fields.{filled_if, header_of};
-ghost use Rattle.tftp_capture.specs.Lines.{most_ahead};
+ghost use Rattle.tftp_capture.specs.Lines.{most_ahead, unread, HoldsLine, HoldsNoLine};
 ghost use Rattle.tftp_capture.specs.History.{Answers, Continues, FailsToBegin, GoesOn, HasService, IsAtTextEnd, IsReadFault, IsReadStanding, KeepsAnswer, StandsFor, standing_after};
 
 use crate::datagram::{Datagram, Header};
@@ -65,7 +65,7 @@ impl CaptureReader {
     /// Reads the header with lines of which none was read yet.
     fn begin_with<R: Read>(mut lines: Lines, reader: &mut Tallied<R>) -> Result<Self, CaptureFault>
         requires clean { reader.old.1 ≡ false }
-        requires fresh { lines ≡ record { ahead = []; line = []; taken = 0; count = 0; version = Version.One } }
+        requires fresh { lines ≡ unread }
         ensures ok { IfOk result (λ begun. (taken : List ℕ) × Consumes (R.remaining reader.old.0) (prepend_known begun.lines.ahead (R.remaining reader.new.0)) taken
             × GoesOn begun.header begun.lines begun.count taken []) }
         ensures open { IfOk result (λ begun. begun.standing ≡ Standing.Open) }
@@ -154,6 +154,16 @@ impl CaptureReader {
                 Err(fault)
             }
         }
+    }
+
+    /// Whether the next datagram may have to be waited for, as from a pipe or a terminal: no whole line that says something
+    /// is left of what was read ahead, and the last read gave fewer than the 65,536 bytes that were asked for. A file gives
+    /// fewer only at its end. While this is true the next call of `next_into` reads before it answers.
+    pub fn may_wait(&self) -> bool
+        ensures waits { result ≡ true → (self.now.lines.full ≡ false) × HoldsNoLine self.now.lines.ahead }
+        ensures ready { result ≡ false → (self.now.lines.full ≡ true) ⊎ HoldsLine self.now.lines.ahead }
+    {
+        self.lines.may_wait()
     }
 
     /// The header.

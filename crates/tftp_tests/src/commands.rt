@@ -9,6 +9,7 @@ use tftp_commands::run;
 mod extracts;
 mod failures;
 mod normals;
+mod pipes;
 mod shows;
 mod texts;
 mod words;
