@@ -159,6 +159,11 @@ pub writes_rest : {W E : Type 0} (contents : W → Option (List ℕ)) (t0 t1 t2 
 writes_rest contents t0 t1 t2 (Ok x) h0 h1 text p q = (q.0, gathers_all _ _ _ _ _ _ p q.1)
 writes_rest contents t0 t1 t2 (Err e) h0 h1 text p q = (q.0, prefix_all _ _ _ _ _ _ p q.1)
 
+-- all that waited was written with the text, and nothing waits, or it was not
+pub adds_all : {W E : Type 0} (contents : W → Option (List ℕ)) (t0 t1 : W × Bool) (r : Result (Unit {0}) E) (h0 h1 text : List ℕ) → Writes contents t0 t1 r (h0 ++ text) → OnOk r (h1 ≡ []) → Adds contents t0 t1 r h0 h1 text
+adds_all contents t0 t1 (Ok x) h0 h1 text p none = (p.0, record { written = h0 ++ text; are = sym (append-nil (h0 ++ text)) ∙ ap (λ l. (h0 ++ text) ++ l) (sym none); appended = p.1 })
+adds_all contents t0 t1 (Err e) h0 h1 text p none = p
+
 -- all that was to be written was
 pub writes_all : {W E : Type 0} (contents : W → Option (List ℕ)) (t0 t1 : W × Bool) (P : Type 0) (r : Result (Unit {0}) E) (bytes : List ℕ) → (Appends (contents t0.0) (contents t1.0) bytes → P) → Writes contents t0 t1 r bytes → OnOk r P
 writes_all contents t0 t1 P (Ok x) bytes f q = f q.1

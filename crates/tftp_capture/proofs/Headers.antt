@@ -53,7 +53,7 @@ no_shorter Two = lit≤ tt
 
 -- what is held once the version is known
 abbrev pub in_version : Version → LineState → LineState
-in_version version state = record { ahead = state.ahead; line = state.line; taken = state.taken; count = state.count; version = version }
+in_version version state = record state { version = version }
 
 known_head : (k0 k1 : Option (List ℕ)) (version : Version) (state : LineState) (bytes : List ℕ) → Consumes k0 k1 bytes → LineEnds {T = Unit {0}} (Ok tt) state.line 131070 (2 ^ 40 - 0) bytes → state.line ≡ head_line version
     → state.taken ≡ 0 + length state.line + 1 → state.count ≡ 0 + 1 → Begun k0 k1 (in_version version state) (EndLine version)

@@ -1,10 +1,11 @@
 -- Lines that say nothing, taken one after another.
-use Rattle.std.proofs.Common.{◌≡◌, ℕ, ◌+◌, ◌≤◌, true, List, [], ◌∷◌, ◌++◌, length, All, Option, Ok, ap, ◌∙◌, subst, arith, append-nil, length-append}
+use Rattle.std.proofs.Common.{◌≡◌, ℕ, ◌+◌, ◌<◌, ◌≤◌, true, false, List, [], ◌∷◌, ◌++◌, length, take, drop, get_or, All, Option, Ok, sym, ap, ◌∙◌, subst, arith, append_assoc, append-nil, take-append-drop, length-append}
 use Rattle.std.specs.Io.KnownBytes.{Consumes}
 use Rattle.std.proofs.KnownBytes.{Consumes-trans}
 use Rattle.std.proofs.lemmas.List.Concat.{flat_map-append}
 use Rattle.std.proofs.lemmas.List.Elements.{All-push}
-use Rattle.tftp_capture.specs.{longest_line, says_nothing, whole_lines, IsSkipped, LineEnds, LineState}
+use Rattle.tftp_capture.specs.{longest_line, says_nothing, whole_lines, HasNoEnd, HoldsLine, IsSilent, IsSkipped, LineEnds, LineState}
+use Rattle.tftp_capture.proofs.Bytes.{line_ended}
 
 pub whole_lines-push : (lines : List (List ℕ)) (line : List ℕ) → whole_lines (lines ++ line ∷ []) ≡ whole_lines lines ++ (line ++ 10 ∷ [])
 whole_lines-push lines line = flat_map-append (λ (l : List ℕ). l ++ 10 ∷ []) lines (line ∷ []) ∙ ap (λ l. whole_lines lines ++ l) (append-nil (line ++ 10 ∷ []))
@@ -33,3 +34,40 @@ skipped_more old mid new k0 k1 k2 room bytes s consumed ends nothing taken count
       count = omega (arith, s.count, count, length-append s.skipped (new.line ∷ []));
       version = same ∙ s.version;
     }
+
+-- ---- lines among the bytes that are held
+
+-- bytes up to their first LF, and what comes behind it
+pub divided : (bytes : List ℕ) (count : ℕ) → count < length bytes → get_or bytes count 0 ≡ 10 → bytes ≡ take count bytes ++ 10 ∷ drop (count + 1) bytes
+divided bytes count within here =
+    sym (take-append-drop (count + 1) bytes) ∙ ap (λ l. l ++ drop (count + 1) bytes) (line_ended bytes count within here) ∙ append_assoc (take count bytes) (10 ∷ []) (drop (count + 1) bytes)
+
+-- lines that say nothing, and then the rest
+pub record Passes (bytes rest : List ℕ) : Type 0 where
+  pub silent : List (List ℕ)
+  pub are : bytes ≡ whole_lines silent ++ rest
+  pub nothing : All IsSilent silent
+
+pub passes_one : (bytes rest : List ℕ) (count : ℕ) → Passes bytes rest → count < length rest → get_or rest count 0 ≡ 10 → HasNoEnd (take count rest) → says_nothing (take count rest) ≡ true
+    → Passes bytes (drop (count + 1) rest)
+passes_one bytes rest count p within here no_end nothing =
+    let line = take count rest in
+    let more = drop (count + 1) rest in
+    record {
+      silent = p.silent ++ line ∷ [];
+      are =
+          p.are ∙ ap (λ l. whole_lines p.silent ++ l) (divided rest count within here ∙ sym (append_assoc line (10 ∷ []) more)) ∙ sym (append_assoc (whole_lines p.silent) (line ++ 10 ∷ []) more)
+          ∙ ap (λ l. l ++ more) (sym (whole_lines-push p.silent line));
+      nothing = All-push IsSilent p.silent line p.nothing (record { nothing = nothing; no_end = no_end });
+    }
+
+pub held_line : (bytes rest : List ℕ) (count : ℕ) → Passes bytes rest → count < length rest → get_or rest count 0 ≡ 10 → HasNoEnd (take count rest) → says_nothing (take count rest) ≡ false → HoldsLine bytes
+held_line bytes rest count p within here no_end says = record {
+  silent = p.silent;
+  line = take count rest;
+  more = drop (count + 1) rest;
+  are = p.are ∙ ap (λ l. whole_lines p.silent ++ l) (divided rest count within here);
+  nothing = p.nothing;
+  no_end = no_end;
+  says = says;
+}

@@ -1,5 +1,5 @@
 -- What a reader of captures holds, and for what bytes and datagrams it stands.
-use Rattle.std.specs.Prelude.{◌≡◌, ℕ, ◌+◌, ◌^◌, ◌<◌, ◌≤◌, ◌⊎◌, ◌==◌, List, [], ◌∷◌, ◌++◌, length, Option, Some, None, Result, Ok, Err}
+use Rattle.std.specs.Prelude.{◌≡◌, ℕ, ◌+◌, ◌^◌, ◌<◌, ◌≤◌, ◌⊎◌, ◌==◌, Bool, false, List, [], ◌∷◌, ◌++◌, length, Option, Some, None, Result, Ok, Err}
 use Rattle.std.specs.Io.KnownBytes.{Consumes}
 use Rattle.tftp_capture.specs.declared.fault.TextFault.TheVariants.{Truncated}
 use Rattle.tftp_capture.specs.declared.fault.CaptureFault.{CaptureFault}
@@ -151,14 +151,8 @@ pub record FailsToBegin (before after : Option (List ℕ)) (fault : CaptureFault
   pub near : length ahead ≤ most_ahead
   pub memory : MemoryTells fault taken ahead []
 
--- no datagram was given
-abbrev pub GivesNone : Result (Option Owned) CaptureFault → Type 0
-GivesNone (Ok (Some d)) = ⊥
-GivesNone (Ok None) = Unit {0}
-GivesNone (Err fault) = Unit {0}
-
 -- the answer of a reader that goes on no more
-abbrev pub KeepsAnswer : Standing → Result (Option Owned) CaptureFault → Type 0
+abbrev pub KeepsAnswer : Standing → Result Bool CaptureFault → Type 0
 KeepsAnswer Open result = Unit {0}
-KeepsAnswer Over result = result ≡ Ok None
+KeepsAnswer Over result = result ≡ Ok false
 KeepsAnswer (Failed fault) result = result ≡ Err fault

@@ -1,5 +1,5 @@
 -- Where the lines of a reader end, in its bytes.
-use Rattle.std.specs.Prelude.{◌≡◌, ◌≢◌, ℕ, zero, suc, ◌+◌, ◌-◌, ◌^◌, ◌<◌, ◌≤◌, ◌⊎◌, true, false, List, [], ◌∷◌, ◌++◌, length, take, All, Option, Result, Ok, Err, OnOk, OnErr}
+use Rattle.std.specs.Prelude.{◌≡◌, ◌≢◌, ℕ, zero, suc, ◌+◌, ◌-◌, ◌^◌, ◌<◌, ◌≤◌, ◌⊎◌, Bool, true, false, List, [], ◌∷◌, ◌++◌, length, take, All, Option, Result, Ok, Err, OnOk, OnErr}
 use Rattle.std.specs.Io.KnownBytes.{Consumes}
 use Rattle.tftp_capture.specs.CaptureText.{longest_line, says_nothing, whole_lines}
 use Rattle.tftp_capture.specs.declared.fault.TextFault.TheVariants.{LineTooLong, Truncated, TrailingText, TextTooLong}
@@ -7,9 +7,10 @@ use Rattle.tftp_capture.specs.declared.fault.CaptureFault.{CaptureFault}
 use Rattle.tftp_capture.specs.declared.fault.CaptureFault.TheVariants as faults
 use Rattle.tftp_capture.specs.declared.stop.Stop.{Stop}
 use Rattle.tftp_capture.specs.declared.version.Version.{Version}
+use Rattle.tftp_capture.specs.declared.version.Version.TheVariants.{One}
 use Rattle.tftp_capture.specs.declared.stop.Stop.TheVariants.{Text, Read, Memory}
 
--- how many bytes are read ahead of their use at most
+-- how many bytes are read at once, and ahead of their use, at most
 abbrev pub most_ahead : ℕ
 most_ahead = 65536
 
@@ -67,14 +68,47 @@ LeavesEnd (Ok _) room bytes ahead = Unit {0}
 
 -- ---- lines, one after another
 
--- what a source of lines holds: bytes read ahead, the line last read, how many bytes and lines were read, and the version
--- of the lines that follow
+-- bytes read ahead, and whether the read that gave them gave as many as were asked for
+pub record SupplyState : Type 0 where
+  pub bytes : List ℕ
+  pub full : Bool
+
+-- what a source of lines holds: bytes read ahead, whether the last read gave as many as were asked for, the line last
+-- read, how many bytes and lines were read, and the version of the lines that follow
 pub record LineState : Type 0 where
   pub ahead : List ℕ
+  pub full : Bool
   pub line : List ℕ
   pub taken : ℕ
   pub count : ℕ
   pub version : Version
+
+-- lines of which none was read yet
+abbrev pub unread : LineState
+unread = record { ahead = []; full = false; line = []; taken = 0; count = 0; version = One }
+
+-- a whole line that says nothing
+pub record IsSilent (line : List ℕ) : Type 0 where
+  pub nothing : says_nothing line ≡ true
+  pub no_end : HasNoEnd line
+
+-- a whole line that says something is among the bytes, after lines that say nothing
+pub record HoldsLine (bytes : List ℕ) : Type 0 where
+  pub silent : List (List ℕ)
+  pub line : List ℕ
+  pub more : List ℕ
+  pub are : bytes ≡ whole_lines silent ++ (line ++ 10 ∷ more)
+  pub nothing : All IsSilent silent
+  pub no_end : HasNoEnd line
+  pub says : says_nothing line ≡ false
+
+-- the bytes are lines that say nothing, and a part of one more
+pub record HoldsNoLine (bytes : List ℕ) : Type 0 where
+  pub silent : List (List ℕ)
+  pub part : List ℕ
+  pub are : bytes ≡ whole_lines silent ++ part
+  pub nothing : All IsSilent silent
+  pub no_end : HasNoEnd part
 
 -- a whole line of at most so many bytes that says nothing
 pub record IsSkipped (longest : ℕ) (line : List ℕ) : Type 0 where

@@ -15,6 +15,7 @@ mod lines;
 mod reader;
 mod standing;
 mod stop;
+mod supply;
 mod tallied;
 mod version;
 mod whole;

@@ -2,9 +2,9 @@ ghost use Rattle.std.specs.Prelude.{◌≡◌, ◌≢◌, ◌+◌, ◌<◌, ◌�
 ghost use Rattle.std.specs.Io.KnownBytes.{prepend_known, Consumes, IsAtEnd};
 ghost use Rattle.tftp_capture.specs.Lines.{bytes_lying, line_at, most_ahead, LeavesEnd, LineEnds};
 
-use crate::ahead::Ahead;
 use crate::fault::TextFault;
 use crate::stop::Stop;
+use crate::supply::Supply;
 use crate::tallied::Tallied;
 use memchr::memchr;
 use std::io::Read;
@@ -26,22 +26,22 @@ pub fn count_before(bytes: &[u8], value: u8) -> usize
 /// in what is read ahead it stays there, and the answer is how many bytes it has with its LF; else it is gathered in
 /// `line`, and the answer is 0.
 pub fn read_line<R: Read>(
-    ahead: &mut Ahead,
+    ahead: &mut Supply,
     reader: &mut Tallied<R>,
     line: &mut Vec<u8>,
     longest: usize,
     room: u64,
 ) -> Result<usize, Stop>
-    ensures ends { (bytes : List ℕ) × Consumes (prepend_known ahead.old (R.remaining reader.old.0)) (prepend_known (drop (bytes_lying result) ahead.new) (R.remaining reader.new.0)) bytes
-        × LineEnds result (line_at (bytes_lying result) line.new.items ahead.new) longest room bytes × LeavesEnd result room bytes ahead.new }
-    ensures lies { bytes_lying result ≤ length ahead.new }
-    ensures fits { OnOk result (length (line_at (bytes_lying result) line.new.items ahead.new) < room) }
+    ensures ends { (bytes : List ℕ) × Consumes (prepend_known ahead.old.bytes (R.remaining reader.old.0)) (prepend_known (drop (bytes_lying result) ahead.new.bytes) (R.remaining reader.new.0)) bytes
+        × LineEnds result (line_at (bytes_lying result) line.new.items ahead.new.bytes) longest room bytes × LeavesEnd result room bytes ahead.new.bytes }
+    ensures lies { bytes_lying result ≤ length ahead.new.bytes }
+    ensures fits { OnOk result (length (line_at (bytes_lying result) line.new.items ahead.new.bytes) < room) }
     ensures narrow { bytes_lying result ≤ longest + 1 }
-    ensures few { length ahead.new ≤ most_ahead }
+    ensures few { length ahead.new.bytes ≤ most_ahead }
     ensures bounded { vec_len line.new ≤ longest }
-    ensures end { result ≡ Err (Stop.Text TextFault.Truncated) → IsAtEnd (prepend_known ahead.new (R.remaining reader.new.0)) }
+    ensures end { result ≡ Err (Stop.Text TextFault.Truncated) → IsAtEnd (prepend_known ahead.new.bytes (R.remaining reader.new.0)) }
     ensures read { result ≡ Err Stop.Read → reader.new.1 ≡ true }
-    ensures drained { result ≡ Err Stop.Read → ahead.new ≡ [] }
+    ensures drained { result ≡ Err Stop.Read → ahead.new.bytes ≡ [] }
     ensures tally { result ≢ Err Stop.Read → reader.new.1 ≡ reader.old.1 }
 {
     line.clear();

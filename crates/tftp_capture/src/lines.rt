@@ -1,12 +1,12 @@
-ghost use Rattle.std.specs.Prelude.{◌≡◌, ◌≢◌, ◌+◌, ◌-◌, ◌^◌, ◌≤◌, ℕ, List, [], length, true, IfOk, OnOk, OnErr};
+ghost use Rattle.std.specs.Prelude.{◌≡◌, ◌≢◌, ◌+◌, ◌-◌, ◌^◌, ◌≤◌, ◌⊎◌, ℕ, List, [], length, true, false, IfOk, OnOk, OnErr};
 ghost use Rattle.std.specs.Io.KnownBytes.{prepend_known, Consumes, IsAtEnd};
-ghost use Rattle.tftp_capture.specs.Lines.{most_ahead, LeavesEnd, LineEnds, ReachesLine, TextEnds};
+ghost use Rattle.tftp_capture.specs.Lines.{most_ahead, unread, HoldsLine, HoldsNoLine, LeavesEnd, LineEnds, ReachesLine, TextEnds};
 ghost use Rattle.tftp_capture.specs.CaptureText.{longest_line, says_nothing};
 
-use crate::ahead::Ahead;
 use crate::fault::TextFault;
-use crate::line::read_line;
+use crate::line::{count_before, read_line};
 use crate::stop::Stop;
+use crate::supply::Supply;
 use crate::tallied::Tallied;
 use crate::version::Version;
 use std::alloc::{AllocError, Global};
@@ -21,7 +21,7 @@ const LONGEST_TEXT: u64 = 1 << 40;
 /// gathered.
 #[derive(Drop)]
 pub struct Lines {
-    ahead: Ahead,
+    ahead: Supply,
     lies: usize,
     line: Vec<u8>,
     taken: u64,
@@ -36,9 +36,9 @@ impl Model for Lines {
 
     ghost Value = { LineState };
 
-    ghost view = { λ a. record { ahead = drop a.lies a.ahead; line = line_at a.lies a.line.items a.ahead; taken = a.taken; count = a.count; version = a.version } };
+    ghost view = { λ a. record { ahead = drop a.lies a.ahead.bytes; full = a.ahead.full; line = line_at a.lies a.line.items a.ahead.bytes; taken = a.taken; count = a.count; version = a.version } };
 
-    ghost invariant = { λ a. (vec_len a.line ≤ longest_line a.version) × (a.lies ≤ longest_line a.version + 1) × (a.lies ≤ length a.ahead) × (length a.ahead ≤ most_ahead) × (a.count ≤ a.taken) × (a.taken ≤ 2 ^ 40) };
+    ghost invariant = { λ a. (vec_len a.line ≤ longest_line a.version) × (a.lies ≤ longest_line a.version + 1) × (a.lies ≤ length a.ahead.bytes) × (length a.ahead.bytes ≤ most_ahead) × (a.count ≤ a.taken) × (a.taken ≤ 2 ^ 40) };
 }
 
 /// Whether a line is empty or a comment.
@@ -52,12 +52,30 @@ fn is_skipped(line: &[u8]) -> bool
     }
 }
 
+/// Whether a whole line that says something is among the bytes, which begin with a line.
+fn holds_line(bytes: &[u8]) -> bool
+    ensures found { result ≡ true → HoldsLine bytes.now }
+    ensures none { result ≡ false → HoldsNoLine bytes.now }
+{
+    let mut rest = bytes;
+    'lines: loop {
+        let count = count_before(rest, b'\n');
+        if count == rest.len() {
+            return false;
+        }
+        if !is_skipped(&rest[..count]) {
+            return true;
+        }
+        rest = &rest[count + 1..];
+    }
+}
+
 impl Lines {
     /// Nothing is read yet, and the first line may be as long as a line of version 1.
     pub fn new(alloc: Global) -> Result<Self, AllocError>
-        ensures { IfOk result (λ lines. lines ≡ record { ahead = []; line = []; taken = 0; count = 0; version = Version.One }) }
+        ensures { IfOk result (λ lines. lines ≡ unread) }
     {
-        let ahead = Ahead::new(alloc)?;
+        let ahead = Supply::new(alloc)?;
         Ok(Lines {
             ahead,
             lies: 0,
@@ -71,7 +89,7 @@ impl Lines {
     /// The lines that follow are of this version.
     pub fn go_on_in(&mut self, version: Version)
         requires first { self.old.version ≡ Version.One }
-        ensures { self.new ≡ record { ahead = self.old.ahead; line = self.old.line; taken = self.old.taken; count = self.old.count; version = version } }
+        ensures { self.new ≡ record self.old { version = version } }
     {
         self.version = version;
     }
@@ -105,6 +123,15 @@ impl Lines {
     {
         let _taken = self.taken;
         self.count
+    }
+
+    /// Whether the next line that says something may have to be waited for: it is not whole in what is read ahead, and
+    /// the last read gave less than was asked for.
+    pub fn may_wait(&self) -> bool
+        ensures waits { result ≡ true → (self.now.full ≡ false) × HoldsNoLine self.now.ahead }
+        ensures ready { result ≡ false → (self.now.full ≡ true) ⊎ HoldsLine self.now.ahead }
+    {
+        !self.ahead.is_full() && !holds_line(&self.ahead.as_slice()[self.lies..])
     }
 
     /// Reads the next line.

@@ -1,9 +1,9 @@
-ghost use Rattle.std.specs.Prelude.{◌≡◌, ◌≢◌, ◌+◌, ◌^◌, ◌<◌, ◌≤◌, ◌⊎◌, ℕ, List, [], length, true, false, IfOk, IfErr, IfSome, IsErrAnd, OnOk};
+ghost use Rattle.std.specs.Prelude.{◌≡◌, ◌≢◌, ◌+◌, ◌^◌, ◌<◌, ◌≤◌, ◌⊎◌, ℕ, List, [], length, true, false, IfOk, IfErr, IsErrAnd, OnOk};
 ghost use Rattle.std.specs.Io.KnownBytes.{prepend_known, Consumes, IsAtEnd};
 ghost use Rattle.tftp_capture.specs.CaptureText.{Header as HeaderParts, Numbered};
 ghost use Rattle.tftp_capture.specs.Fields.{filled_if, header_of};
-ghost use Rattle.tftp_capture.specs.Lines.{most_ahead};
-ghost use Rattle.tftp_capture.specs.History.{Answers, Continues, FailsToBegin, GivesNone, GoesOn, HasService, IsAtTextEnd, IsReadFault, IsReadStanding, KeepsAnswer, StandsFor, standing_after};
+ghost use Rattle.tftp_capture.specs.Lines.{most_ahead, unread, HoldsLine, HoldsNoLine};
+ghost use Rattle.tftp_capture.specs.History.{Answers, Continues, FailsToBegin, GoesOn, HasService, IsAtTextEnd, IsReadFault, IsReadStanding, KeepsAnswer, StandsFor, standing_after};
 
 use crate::datagram::{Datagram, Header};
 use crate::fault::{CaptureFault, TextFault};
@@ -65,7 +65,7 @@ impl CaptureReader {
     /// Reads the header with lines of which none was read yet.
     fn begin_with<R: Read>(mut lines: Lines, reader: &mut Tallied<R>) -> Result<Self, CaptureFault>
         requires clean { reader.old.1 ≡ false }
-        requires fresh { lines ≡ record { ahead = []; line = []; taken = 0; count = 0; version = Version.One } }
+        requires fresh { lines ≡ unread }
         ensures ok { IfOk result (λ begun. (taken : List ℕ) × Consumes (R.remaining reader.old.0) (prepend_known begun.lines.ahead (R.remaining reader.new.0)) taken
             × GoesOn begun.header begun.lines begun.count taken []) }
         ensures open { IfOk result (λ begun. begun.standing ≡ Standing.Open) }
@@ -107,40 +107,6 @@ impl CaptureReader {
         })
     }
 
-    /// The next datagram; none, for good, once the text has ended without a fault. A fault is
-    /// answered for good.
-    pub fn next<R: Read>(
-        &mut self,
-        alloc: Global,
-        reader: &mut Tallied<R>,
-    ) -> Result<Option<Datagram>, CaptureFault>
-        requires told { IsReadStanding self.old.standing → reader.old.1 ≡ true }
-        ensures continues { (text : List ℕ) (datagrams : List Numbered) → StandsFor self.old text datagrams
-            → Continues self.old self.new (prepend_known self.old.lines.ahead (R.remaining reader.old.0)) (prepend_known self.new.lines.ahead (R.remaining reader.new.0)) result text datagrams }
-        ensures standing { self.new.standing ≡ standing_after result }
-        ensures kept { KeepsAnswer self.old.standing result }
-        ensures untouched { self.old.standing ≢ Standing.Open → (self.new ≡ self.old) × (reader.new ≡ reader.old) }
-        ensures end { self.old.standing ≡ Standing.Open → result ≡ Ok None → IsAtEnd (prepend_known self.new.lines.ahead (R.remaining reader.new.0)) }
-        ensures cut { self.old.standing ≡ Standing.Open → IfErr result (λ fault. IsAtTextEnd fault → IsAtEnd (prepend_known self.new.lines.ahead (R.remaining reader.new.0))) }
-        ensures read { IfErr result (λ fault. IsReadFault fault → reader.new.1 ≡ true) }
-        ensures tally { IsErrAnd result IsReadFault ⊎ (reader.new.1 ≡ reader.old.1) }
-        ensures drained { self.old.standing ≡ Standing.Open → IfErr result (λ fault. IsReadFault fault → self.new.lines.ahead ≡ []) }
-        ensures near { self.old.standing ≡ Standing.Open → length self.new.lines.ahead ≤ most_ahead }
-        ensures told { IsReadStanding self.new.standing → reader.new.1 ≡ true }
-        ensures rises { IfOk result (λ answer. IfSome answer (λ _. self.old.handed < self.new.handed)) }
-        ensures line { self.new.handed ≤ 2 ^ 40 }
-        ensures stays { GivesNone result → self.new.handed ≡ self.old.handed }
-        ensures fits { IfOk result (λ answer. IfSome answer (λ d. length d.payload ≤ 65527)) }
-        ensures header { self.new.header ≡ self.old.header }
-    {
-        let mut datagram = Datagram::empty(alloc);
-        match self.next_into(reader, &mut datagram) {
-            Ok(true) => Ok(Some(datagram)),
-            Ok(false) => Ok(None),
-            Err(fault) => Err(fault),
-        }
-    }
-
     /// Reads the next datagram into what the caller holds, in the memory of its payload; false, for good, once the text
     /// has ended without a fault. A fault is answered for good. Where no datagram was read, nothing is said of what the
     /// caller holds.
@@ -153,19 +119,19 @@ impl CaptureReader {
         ensures continues { (text : List ℕ) (datagrams : List Numbered) → StandsFor self.old text datagrams
             → Continues self.old self.new (prepend_known self.old.lines.ahead (R.remaining reader.old.0)) (prepend_known self.new.lines.ahead (R.remaining reader.new.0)) (filled_if result datagram.new) text datagrams }
         ensures standing { self.new.standing ≡ standing_after (filled_if result datagram.new) }
-        ensures kept { KeepsAnswer self.old.standing (filled_if result datagram.new) }
+        ensures kept { KeepsAnswer self.old.standing result }
         ensures untouched { self.old.standing ≢ Standing.Open → (self.new ≡ self.old) × (reader.new ≡ reader.old) }
-        ensures end { self.old.standing ≡ Standing.Open → (filled_if result datagram.new) ≡ Ok None → IsAtEnd (prepend_known self.new.lines.ahead (R.remaining reader.new.0)) }
-        ensures cut { self.old.standing ≡ Standing.Open → IfErr (filled_if result datagram.new) (λ fault. IsAtTextEnd fault → IsAtEnd (prepend_known self.new.lines.ahead (R.remaining reader.new.0))) }
-        ensures read { IfErr (filled_if result datagram.new) (λ fault. IsReadFault fault → reader.new.1 ≡ true) }
-        ensures tally { IsErrAnd (filled_if result datagram.new) IsReadFault ⊎ (reader.new.1 ≡ reader.old.1) }
-        ensures drained { self.old.standing ≡ Standing.Open → IfErr (filled_if result datagram.new) (λ fault. IsReadFault fault → self.new.lines.ahead ≡ []) }
+        ensures end { self.old.standing ≡ Standing.Open → result ≡ Ok false → IsAtEnd (prepend_known self.new.lines.ahead (R.remaining reader.new.0)) }
+        ensures cut { self.old.standing ≡ Standing.Open → IfErr result (λ fault. IsAtTextEnd fault → IsAtEnd (prepend_known self.new.lines.ahead (R.remaining reader.new.0))) }
+        ensures read { IfErr result (λ fault. IsReadFault fault → reader.new.1 ≡ true) }
+        ensures tally { IsErrAnd result IsReadFault ⊎ (reader.new.1 ≡ reader.old.1) }
+        ensures drained { self.old.standing ≡ Standing.Open → IfErr result (λ fault. IsReadFault fault → self.new.lines.ahead ≡ []) }
         ensures near { self.old.standing ≡ Standing.Open → length self.new.lines.ahead ≤ most_ahead }
         ensures told { IsReadStanding self.new.standing → reader.new.1 ≡ true }
-        ensures rises { IfOk (filled_if result datagram.new) (λ answer. IfSome answer (λ _. self.old.handed < self.new.handed)) }
+        ensures rises { result ≡ Ok true → self.old.handed < self.new.handed }
         ensures line { self.new.handed ≤ 2 ^ 40 }
-        ensures stays { GivesNone (filled_if result datagram.new) → self.new.handed ≡ self.old.handed }
-        ensures fits { IfOk (filled_if result datagram.new) (λ answer. IfSome answer (λ d. length d.payload ≤ 65527)) }
+        ensures stays { result ≢ Ok true → self.new.handed ≡ self.old.handed }
+        ensures fits { result ≡ Ok true → length datagram.new.payload ≤ 65527 }
         ensures header { self.new.header ≡ self.old.header }
     {
         match self.standing {
@@ -188,6 +154,16 @@ impl CaptureReader {
                 Err(fault)
             }
         }
+    }
+
+    /// Whether the next datagram may have to be waited for, as from a pipe or a terminal: no whole line that says something
+    /// is left of what was read ahead, and the last read gave fewer than the 65,536 bytes that were asked for. A file gives
+    /// fewer only at its end. While this is true the next call of `next_into` reads before it answers.
+    pub fn may_wait(&self) -> bool
+        ensures waits { result ≡ true → (self.now.lines.full ≡ false) × HoldsNoLine self.now.lines.ahead }
+        ensures ready { result ≡ false → (self.now.lines.full ≡ true) ⊎ HoldsLine self.now.lines.ahead }
+    {
+        self.lines.may_wait()
     }
 
     /// The header.
@@ -217,16 +193,16 @@ fn read_on<R: Read>(
 ) -> Result<bool, CaptureFault>
     ensures answers { (header : HeaderParts) (text : List ℕ) (datagrams : List Numbered) → GoesOn header lines.old count text datagrams
         → Answers (prepend_known lines.old.ahead (R.remaining reader.old.0)) (prepend_known lines.new.ahead (R.remaining reader.new.0)) (filled_if result datagram.new) header lines.new count text datagrams }
-    ensures end { (filled_if result datagram.new) ≡ Ok None → IsAtEnd (prepend_known lines.new.ahead (R.remaining reader.new.0)) }
-    ensures cut { IfErr (filled_if result datagram.new) (λ fault. IsAtTextEnd fault → IsAtEnd (prepend_known lines.new.ahead (R.remaining reader.new.0))) }
-    ensures read { IfErr (filled_if result datagram.new) (λ fault. IsReadFault fault → reader.new.1 ≡ true) }
-    ensures drained { IfErr (filled_if result datagram.new) (λ fault. IsReadFault fault → lines.new.ahead ≡ []) }
+    ensures end { result ≡ Ok false → IsAtEnd (prepend_known lines.new.ahead (R.remaining reader.new.0)) }
+    ensures cut { IfErr result (λ fault. IsAtTextEnd fault → IsAtEnd (prepend_known lines.new.ahead (R.remaining reader.new.0))) }
+    ensures read { IfErr result (λ fault. IsReadFault fault → reader.new.1 ≡ true) }
+    ensures drained { IfErr result (λ fault. IsReadFault fault → lines.new.ahead ≡ []) }
     ensures near { length lines.new.ahead ≤ most_ahead }
-    ensures tally { IsErrAnd (filled_if result datagram.new) IsReadFault ⊎ (reader.new.1 ≡ reader.old.1) }
-    ensures rises { IfOk (filled_if result datagram.new) (λ answer. IfSome answer (λ _. lines.old.count < lines.new.count)) }
+    ensures tally { IsErrAnd result IsReadFault ⊎ (reader.new.1 ≡ reader.old.1) }
+    ensures rises { result ≡ Ok true → lines.old.count < lines.new.count }
     ensures grows { lines.old.count ≤ lines.new.count }
     ensures few { lines.new.count ≤ 2 ^ 40 }
-    ensures fits { IfOk (filled_if result datagram.new) (λ answer. IfSome answer (λ d. length d.payload ≤ 65527)) }
+    ensures fits { result ≡ Ok true → length datagram.new.payload ≤ 65527 }
 {
     if let Err(stop) = lines.next_said(reader) {
         let due = lines.count() + 1;

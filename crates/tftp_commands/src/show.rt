@@ -1,4 +1,4 @@
-ghost use Rattle.std.specs.Prelude.{◌≡◌, ◌++◌, ◌^◌, ◌<◌, ℕ, List, Some, true, false, codes, decimal, OnOk, OnErr};
+ghost use Rattle.std.specs.Prelude.{◌≡◌, ◌++◌, ◌^◌, ◌<◌, ℕ, List, [], Some, true, false, codes, decimal, OnOk};
 ghost use Rattle.std.specs.Io.KnownBytes.{Consumes};
 ghost use Rattle.tftp_packet.specs.{meaning};
 ghost use Rattle.tftp_capture.specs.{datagram_of, Adds};
@@ -18,6 +18,7 @@ use tftp_packet::{Packet, read_packet};
 
 /// Shows the datagrams of a capture text, up to its end or its first fault, as they come: a line each, numbered from
 /// 1. Nothing is judged; at most one line of the text, 65,536 bytes read ahead and 16,384 bytes to be written are held.
+/// Where the next datagram may have to be waited for, as from a pipe, nothing is held back.
 pub fn show<R: Read, W: Write>(
     alloc: Global,
     reader: &mut Tallied<R>,
@@ -45,10 +46,30 @@ pub fn show<R: Read, W: Write>(
             Err(fault) => return finish(gathered, writer, Some(fault)),
         }
         number += 1;
-        if put_datagram(&mut gathered, writer, number, &datagram).is_err() {
+        let wait = capture.may_wait();
+        if show_datagram(&mut gathered, writer, number, &datagram, wait).is_err() {
             return Status::Fault;
         }
     }
+}
+
+/// Adds the line of the datagram with this number; before a wait all is written.
+fn show_datagram<W: Write>(
+    gathered: &mut Gathered,
+    writer: &mut Tallied<W>,
+    number: u64,
+    datagram: &Datagram,
+    wait: bool,
+) -> Result<(), WriteFault>
+    requires clean { writer.old.1 ≡ false }
+    ensures adds { (line : List ℕ) × IsDatagramLine number (datagram_of datagram.now) line × Adds W.contents writer.old writer.new result gathered.old gathered.new line }
+    ensures early { wait ≡ true → OnOk result (gathered.new ≡ []) }
+{
+    put_datagram(gathered, writer, number, datagram)?;
+    if wait {
+        return gathered.write(writer);
+    }
+    Ok(())
 }
 
 /// Adds the line of the fault, if there is one, and writes what waits.

@@ -7,7 +7,7 @@ use crate::told::{Named, tell_apart, tell_several, told};
 use anyhow::{Result, bail};
 use std::alloc::Global;
 use std::io::Read;
-use tftp_capture::{CaptureReader, Tallied};
+use tftp_capture::{CaptureReader, Datagram, Tallied};
 use tftp_packet::End;
 use tftp_session::{Asked, Session, TextAt, TextFault, requests_of};
 
@@ -85,9 +85,11 @@ fn read_out<R: Read + Drop>(alloc: Global, mut reader: R) -> Result<Vec<u8>> {
 fn first_payload(alloc: Global, text: &[u8]) -> Result<Vec<u8>> {
     let mut reader = Tallied::new(text);
     let mut capture = CaptureReader::begin(alloc, &mut reader)?;
-    match capture.next(alloc, &mut reader)? {
-        Some(datagram) => Ok(Vec::from_slice(alloc, datagram.payload.as_slice())?),
-        None => Ok(Vec::new(alloc)),
+    let mut first = Datagram::empty(alloc);
+    if capture.next_into(&mut reader, &mut first)? {
+        Ok(first.payload.into_vec())
+    } else {
+        Ok(Vec::new(alloc))
     }
 }
 

@@ -5,6 +5,8 @@ use std::test::Fail;
 use tftp_capture::{DripReader, DripWriter, Tallied};
 use tftp_commands::run;
 
+mod pipes;
+
 /// A command, what it writes of the read of `hi`, and the status.
 type Said = (&'static [&'static str], &'static str, u8);
 

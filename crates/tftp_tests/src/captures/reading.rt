@@ -32,8 +32,14 @@ impl<'a> Reading<'a> {
         }
     }
 
+    /// The next datagram, in memory of its own.
     pub fn next(&mut self, rt: &HostRuntime) -> Result<Option<Datagram>, CaptureFault> {
-        self.capture.next(rt.alloc(), &mut self.reader)
+        let mut datagram = Datagram::empty(rt.alloc());
+        if self.fill(&mut datagram)? {
+            Ok(Some(datagram))
+        } else {
+            Ok(None)
+        }
     }
 
     /// Reads the next datagram into one that is held.

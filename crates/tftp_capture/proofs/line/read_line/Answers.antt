@@ -9,7 +9,7 @@ use Rattle.tftp_capture.proofs.line.read_line.Goals.{then-room-length, else-room
 
 pub returns-then-over-clause-ends : goal.returns-then-over-clause-ends
 returns-then-over-clause-ends g c =
-    let held = c.fill.new.self in
+    let held = c.fill.new.self.bytes in
     let line = c.pieces.line.items in
     let count = c.count_before-count.result in
     let all : length c.as_slice-held.result.now ≡ length held = ap length c.as_slice-held.ensures.value in
@@ -29,7 +29,7 @@ returns-then-over-clause-ends g c =
 
 pub returns-then-length-longest-clause-ends : goal.returns-then-length-longest-clause-ends
 returns-then-length-longest-clause-ends g c =
-    let held = c.fill.new.self in
+    let held = c.fill.new.self.bytes in
     let line = c.pieces.line.items in
     let count = c.count_before-count.result in
     let no_end = rw c.as_slice-held.ensures.value at c.count_before-count.ensures.none_before in
@@ -57,7 +57,7 @@ returns-then-length-longest-clause-ends g c =
 
 pub returns-then-whole-3-clause-ends : goal.returns-then-whole-3-clause-ends
 returns-then-whole-3-clause-ends g c =
-    let held = c.fill.new.self in
+    let held = c.fill.new.self.bytes in
     let line = c.pieces.line.items in
     let count = c.count_before-count.result in
     let ended : take (count + 1) held ≡ take count held ++ 10 ∷ [] = line_ended held count (rw c.as_slice-held.ensures.value at c.if-whole-3.true) (rw c.as_slice-held.ensures.value at (c.count_before-count.ensures.here c.if-whole-3.true)) in
@@ -91,7 +91,7 @@ returns-then-whole-3-clause-ends g c =
 
 pub returns-then-is_err-2-clause-ends : goal.returns-then-is_err-2-clause-ends
 returns-then-is_err-2-clause-ends g c =
-    let held = c.fill.new.self in
+    let held = c.fill.new.self.bytes in
     let line = c.pieces.line.items in
     let count = c.count_before-count.result in
     let no_end = rw c.as_slice-held.ensures.value at c.count_before-count.ensures.none_before in
@@ -120,7 +120,7 @@ returns-then-is_err-2-clause-ends g c =
 
 pub returns-then-is_empty-2-clause-ends : goal.returns-then-is_empty-2-clause-ends
 returns-then-is_empty-2-clause-ends g c =
-    let held = c.fill.new.self in
+    let held = c.fill.new.self.bytes in
     let count = c.count_before-count.result in
     let empty : length c.pieces.line.items ≡ 0 = grind (arith, nat_tests) in
     let none = no_bytes c.pieces.line.items empty in

@@ -7,7 +7,7 @@ abbrev pub invariant-pieces : goal.invariant-pieces
 invariant-pieces g l = record {
   tally : l.reader.1 ≡ l.fn.reader.1;
   part : IsPartOfLine l.line.items l.longest l.room;
-  taken : Consumes (prepend_known l.fn.ahead (g.R.Read.remaining l.fn.reader.0)) (prepend_known l.ahead (g.R.Read.remaining l.reader.0)) l.line.items;
+  taken : Consumes (prepend_known l.fn.ahead.bytes (g.R.Read.remaining l.fn.reader.0)) (prepend_known l.ahead.bytes (g.R.Read.remaining l.reader.0)) l.line.items;
 }
 
 abbrev pub decreases-pieces : goal.decreases-pieces

@@ -34,8 +34,8 @@ returns-then-is_err-clause-said g c =
     let inv = c.loop-gathered.invariant in
     let answered = rw c.in-Ok-true.field-0-test at c.in-Ok-true.ensures in
     let failed = sym c.is_err.ensures.value ∙ c.if-is_err.true in
-    let put = c.put_datagram.ensures.adds in
-    let told = not_added g.W.Write.contents c.loop-gathered.writer c.put_datagram.new.writer c.put_datagram.result _ _ _ failed put.2 in
+    let put = c.show_datagram.ensures.adds in
+    let told = not_added g.W.Write.contents c.loop-gathered.writer c.show_datagram.new.writer c.show_datagram.result _ _ _ failed put.2 in
     cut_here _ _ _ _ _ _ c.loop-gathered.capture c.next_into.new.self c.loop-gathered.gathered c.loop-gathered.number c.next_into.new.datagram put.0 _ _ inv.shown inv.going answered.continues answered.standing
     (other_side (λ h. h) answered.tally ∙ inv.reading) told.0 put.1 told.1
 
@@ -47,12 +47,12 @@ loop-gathered-preserved g c =
     let inv = c.loop-gathered.invariant in
     let answered = rw c.in-Ok-true.field-0-test at c.in-Ok-true.ensures in
     let passed = sym c.is_err.ensures.value ∙ c.if-is_err.false in
-    let put = c.put_datagram.ensures.adds in
-    let told = added g.W.Write.contents c.loop-gathered.writer c.put_datagram.new.writer c.put_datagram.result _ _ _ passed put.2 in
+    let put = c.show_datagram.ensures.adds in
+    let told = added g.W.Write.contents c.loop-gathered.writer c.show_datagram.new.writer c.show_datagram.result _ _ _ passed put.2 in
     record {
       going = answered.standing;
       reading = other_side (λ h. h) answered.tally ∙ inv.reading;
       writing = told.0;
-      few = omega (arith, inv.few, answered.rises);
-      shown = one_more _ _ _ _ _ _ c.loop-gathered.capture c.next_into.new.self c.loop-gathered.gathered c.put_datagram.new.gathered c.loop-gathered.number c.next_into.new.datagram put.0 inv.shown inv.going answered.continues answered.standing put.1 told.1;
+      few = omega (arith, inv.few, answered.rises refl);
+      shown = one_more _ _ _ _ _ _ c.loop-gathered.capture c.next_into.new.self c.loop-gathered.gathered c.show_datagram.new.gathered c.loop-gathered.number c.next_into.new.datagram put.0 inv.shown inv.going answered.continues answered.standing put.1 told.1;
     }

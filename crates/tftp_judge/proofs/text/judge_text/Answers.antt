@@ -1,4 +1,4 @@
-use Rattle.std.proofs.Common.{◌≡◌, ◌⊎◌, Bool, false, [], Ok, Err, refl, ap, ◌∙◌, reverse, subst, inl, inr, arith}
+use Rattle.std.proofs.Common.{◌≡◌, ◌⊎◌, Bool, false, [], Ok, Err, ap, ◌∙◌, reverse, subst, inl, inr, arith}
 use Rattle.std.specs.Io.KnownBytes.{prepend_known}
 use Rattle.std.proofs.lemmas.Result.{err_from_is_err_and}
 use Rattle.tftp_capture.specs.{IsReadFault, IsReadStanding}
@@ -87,10 +87,10 @@ returns-in_err-next_into-clause-exact g c = found_exact _ _ _ _ (stopped g c)
 
 pub feed-requires : goal.feed-requires
 feed-requires g c =
-    let rises = rw c.if-branch.true at c.in_ok-next_into.ensures.rises in
+    let rises = c.in_ok-next_into.ensures.rises (ap Ok c.if-branch.true) in
     record {
       few = omega (arith, c.loop-datagram.invariant.lines, rises, c.in_ok-next_into.ensures.line);
-      short = rw c.if-branch.true at c.in_ok-next_into.ensures.fits;
+      short = c.in_ok-next_into.ensures.fits (ap Ok c.if-branch.true);
     }
 
 -- the judge has refused it
@@ -102,7 +102,7 @@ refused g c =
     rw (p.1, p.2)
     (found_refused (g.R.Read.remaining c.args.reader.now.0) (prepend_known c.loop-datagram.capture.lines.ahead (g.R.Read.remaining c.loop-datagram.reader.0)) (g.R.Read.remaining c.next_into.new.reader.0) c.loop-datagram.capture c.next_into.new.self
     c.loop-datagram.judge i.goes i.follows c.next_into.new.datagram (rw c.if-branch.true at e.continues) (rw c.if-branch.true at e.standing) e.header c.in_err-feed.field-0.0 c.next_into.new.reader.1
-    (still_clean c.next_into.new.reader.1 c.loop-datagram.reader.1 (rw c.if-branch.true at e.tally) i.clean) (e.near i.goes) (c.in_err-feed.ensures.refuses c.loop-datagram.capture.header (reverse (unnumbered i.follows.datagrams)) i.follows.accepted))
+    (still_clean c.next_into.new.reader.1 c.loop-datagram.reader.1 e.tally i.clean) (e.near i.goes) (c.in_err-feed.ensures.refuses c.loop-datagram.capture.header (reverse (unnumbered i.follows.datagrams)) i.follows.accepted))
 
 pub returns-in_err-feed-clause-judged : goal.returns-in_err-feed-clause-judged
 returns-in_err-feed-clause-judged g c = found_judged _ _ _ _ (refused g c)
@@ -121,18 +121,18 @@ returns-in_err-feed-clause-exact g c = found_exact _ _ _ _ (refused g c)
 
 pub loop-datagram-smaller : goal.loop-datagram-smaller
 loop-datagram-smaller g c =
-    let rises = rw c.if-branch.true at c.in_ok-next_into.ensures.rises in
+    let rises = c.in_ok-next_into.ensures.rises (ap Ok c.if-branch.true) in
     omega (arith, rises, c.in_ok-next_into.ensures.line)
 
 pub loop-datagram-preserved : goal.loop-datagram-preserved
 loop-datagram-preserved g c =
     let e = c.in_ok-next_into.ensures in
     let i = c.loop-datagram.invariant in
-    let rises = rw c.if-branch.true at e.rises in
+    let rises = e.rises (ap Ok c.if-branch.true) in
     let ready = rw c.if-branch.true at e.standing in
     record {
       goes = ready;
-      clean = still_clean c.next_into.new.reader.1 c.loop-datagram.reader.1 (rw c.if-branch.true at e.tally) i.clean;
+      clean = still_clean c.next_into.new.reader.1 c.loop-datagram.reader.1 e.tally i.clean;
       lines = omega (arith, i.lines, rises, c.in_ok-feed.ensures.counts);
       follows = follows_on (g.R.Read.remaining c.args.reader.now.0) (prepend_known c.loop-datagram.capture.lines.ahead (g.R.Read.remaining c.loop-datagram.reader.0)) (g.R.Read.remaining c.next_into.new.reader.0) c.loop-datagram.capture c.next_into.new.self
           c.loop-datagram.judge i.goes i.follows c.next_into.new.datagram (rw c.if-branch.true at e.continues) ready e.header c.feed.new.self
@@ -149,8 +149,8 @@ unfinished g c =
     let none = c.if-branch.false in
     rw (p.1, p.2)
     (found_unfinished (g.R.Read.remaining c.args.reader.now.0) (prepend_known c.loop-datagram.capture.lines.ahead (g.R.Read.remaining c.loop-datagram.reader.0)) (g.R.Read.remaining c.next_into.new.reader.0) c.loop-datagram.capture c.next_into.new.self
-    c.loop-datagram.judge i.goes i.follows (rw none at e.continues) (rw none at e.standing) e.header ((rw none at e.end) i.goes refl) c.next_into.new.reader.1
-    (still_clean c.next_into.new.reader.1 c.loop-datagram.reader.1 (rw none at e.tally) i.clean) c.in_err-finish.field-0.0
+    c.loop-datagram.judge i.goes i.follows (rw none at e.continues) (rw none at e.standing) e.header (e.end i.goes (ap Ok none)) c.next_into.new.reader.1
+    (still_clean c.next_into.new.reader.1 c.loop-datagram.reader.1 e.tally i.clean) c.in_err-finish.field-0.0
     (λ count is. (c.in_err-finish.ensures.joins c.loop-datagram.capture.header (reverse (unnumbered i.follows.datagrams)) count i.follows.accepted (ap Err is)).2) c.in_err-finish.ensures.verdict)
 
 pub returns-in_err-finish-clause-judged : goal.returns-in_err-finish-clause-judged
@@ -174,8 +174,8 @@ meant g c =
     let i = c.loop-datagram.invariant in
     let none = c.if-branch.false in
     found_meaning (g.R.Read.remaining c.args.reader.now.0) (prepend_known c.loop-datagram.capture.lines.ahead (g.R.Read.remaining c.loop-datagram.reader.0)) (g.R.Read.remaining c.next_into.new.reader.0) c.loop-datagram.capture c.next_into.new.self
-    c.loop-datagram.judge i.goes i.follows (rw none at e.continues) (rw none at e.standing) e.header ((rw none at e.end) i.goes refl) c.next_into.new.reader.1
-    (still_clean c.next_into.new.reader.1 c.loop-datagram.reader.1 (rw none at e.tally) i.clean) c.in_ok-finish.field-0 c.in_ok-finish.ensures.verdict
+    c.loop-datagram.judge i.goes i.follows (rw none at e.continues) (rw none at e.standing) e.header (e.end i.goes (ap Ok none)) c.next_into.new.reader.1
+    (still_clean c.next_into.new.reader.1 c.loop-datagram.reader.1 e.tally i.clean) c.in_ok-finish.field-0 c.in_ok-finish.ensures.verdict
 
 pub returns-clause-judged : goal.returns-clause-judged
 returns-clause-judged g c = found_judged _ _ _ _ (meant g c)

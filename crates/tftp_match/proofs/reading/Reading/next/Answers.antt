@@ -1,4 +1,4 @@
-use Rattle.std.proofs.Common.{◌≡◌, ◌⊎◌, Bool, false, None, inl, inr, refl, sym, ◌∙◌, subst}
+use Rattle.std.proofs.Common.{◌≡◌, ◌⊎◌, Bool, false, None, Ok, inl, inr, refl, sym, ap, ◌∙◌, subst}
 use Rattle.tftp_capture.specs.{datagram_of, IsReadFault}
 use Rattle.tftp_judge.specs.{IsJudgeAfter}
 use Rattle.tftp_match.specs.{IsGiven, IsHalted, Ended, Fault}
@@ -20,7 +20,7 @@ returns-in-Ok-true-clause-given g c = λ _ before h read judge on accepted.
     subst (λ x. IsGiven before (g.R.Read.remaining c.next_into.new.reader.0) c.next_into.new.reader.1 c.next_into.new.self x read (datagram_of c.next_into.new.datagram)) on.header
     (given before _ (g.R.Read.remaining c.next_into.new.reader.0) c.args.self.now.capture c.next_into.new.self judge read on.ready on.has (subst (λ x. IsJudgeAfter judge x read) (sym on.header) accepted)
     c.next_into.new.datagram c.next_into.new.reader.1 (rw test at e.continues) (rw test at e.standing) e.header
-    (still_clean c.next_into.new.reader.1 c.args.reader.now.1 (rw test at e.tally) on.clean) (e.near on.ready))
+    (still_clean c.next_into.new.reader.1 c.args.reader.now.1 e.tally on.clean) (e.near on.ready))
 
 pub returns-in-Ok-false-clause-halted : goal.returns-in-Ok-false-clause-halted
 returns-in-Ok-false-clause-halted g c = λ _ before h read judge on accepted.
@@ -30,8 +30,8 @@ returns-in-Ok-false-clause-halted g c = λ _ before h read judge on accepted.
       refl,
       subst (λ x. IsHalted before (g.R.Read.remaining c.next_into.new.reader.0) c.next_into.new.reader.1 Ended None x read) on.header
           (halted_end before _ (g.R.Read.remaining c.next_into.new.reader.0) c.args.self.now.capture c.next_into.new.self judge read on.ready on.has (subst (λ x. IsJudgeAfter judge x read) (sym on.header) accepted)
-          (rw test at e.continues) (rw test at e.standing) e.header ((rw test at e.end) on.ready refl) c.next_into.new.reader.1
-          (still_clean c.next_into.new.reader.1 c.args.reader.now.1 (rw test at e.tally) on.clean)),
+          (rw test at e.continues) (rw test at e.standing) e.header (e.end on.ready (ap Ok test)) c.next_into.new.reader.1
+          (still_clean c.next_into.new.reader.1 c.args.reader.now.1 e.tally on.clean)),
     )
 
 pub returns-in-Err-clause-halted : goal.returns-in-Err-clause-halted
