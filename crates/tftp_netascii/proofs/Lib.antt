@@ -4,3 +4,4 @@ pub mod CanonicalLemmas
 pub mod RunReads
 pub mod Moved
 pub mod LengthLemmas
+pub mod OneByOne

@@ -8,7 +8,7 @@ use Rattle.tftp_netascii.proofs.ReadsLemmas.{no_pair}
 nothing : (file : List ℕ) → Reads [] file → Reads (13 ∷ []) (13 ∷ file)
 nothing _ end = itself 13 [] [] (λ p. p) end
 
-return_reads : (tail after file : List ℕ) (byte : ℕ) → ReadsAfterReturn tail byte after → Reads after file → Reads (13 ∷ tail) (byte ∷ file)
+pub return_reads : (tail after file : List ℕ) (byte : ℕ) → ReadsAfterReturn tail byte after → Reads after file → Reads (13 ∷ tail) (byte ∷ file)
 return_reads [] after file byte stands reads =
     subst (λ b. Reads (13 ∷ []) (b ∷ file)) (sym stands.0) (nothing file (subst (λ w. Reads w file) stands.1 reads))
 return_reads (y ∷ ys) after file byte stands reads = elim stands [

@@ -3,10 +3,26 @@ use Rattle.std.proofs.Math.ListN.{set}
 use Rattle.std.proofs.Math.Seq.{paste, take-append_seam}
 use Rattle.std.proofs.lemmas.List.{length-drop, take_rest}
 use Rattle.std.proofs.lemmas.List.Edits.{take-paste}
-use Rattle.tftp_netascii.specs.{Reads}
+use Rattle.tftp_netascii.specs.{Reads, file_of}
+use Rattle.tftp_netascii.proofs.ReadsLemmas.{Reads-file_of, Reads-is}
 use Rattle.tftp_netascii.proofs.Moved.{further, kept, done}
 use Rattle.tftp_netascii.proofs.RunReads.{run_and_return, run_to_end}
 use Rattle.tftp_netascii.proofs.in_place.decode_in_place.Goals as goal
+
+pub loop-run-preserved-then-size-lt-LONG : goal.loop-run-preserved-then-size-lt-LONG
+loop-run-preserved-then-size-lt-LONG c =
+    let bytes = c.loop-run.bytes in
+    let place = c.read_bytes-place.result in
+    let new = c.read_bytes-place.new.bytes in
+    record {
+      size = c.read_bytes-place.auto.bytes ∙ c.loop-run.invariant.size;
+      behind = c.read_bytes-place.ensures.behind;
+      within = c.read_bytes-place.ensures.within;
+      reads = λ file reads.
+          let same : take place.written new ++ file ≡ take c.loop-run.written bytes ++ file_of (drop c.loop-run.read bytes) =
+          ap (λ l. take place.written new ++ l) (Reads-is (drop place.read new) file reads) ∙ c.read_bytes-place.ensures.file in
+          subst (Reads c.args.text.now.items) (sym same) (c.loop-run.invariant.reads (file_of (drop c.loop-run.read bytes)) (Reads-file_of (drop c.loop-run.read bytes)));
+    }
 
 pub loop-run-preserved : goal.loop-run-preserved
 loop-run-preserved c =
