@@ -6,6 +6,7 @@ from __future__ import annotations
 import os
 import pathlib
 import subprocess
+import tempfile
 from collections.abc import Sequence
 
 from normal import Output
@@ -29,9 +30,13 @@ class ShimmedTrial(Trial):
         environment = {"LD_PRELOAD": str(self.shim), "MET": str(self.met), "PATH": os.environ.get("PATH", "")}
         environment.update({variable: str(value) for variable, value in shim.items()})
         called = [self.program if name is None else name, *words]
-        done = subprocess.run(
-            called, executable=self.program, input=given, capture_output=True, env=environment, timeout=60
-        )
+        # A file gives all that is asked for, where a pipe may give less.
+        with tempfile.TemporaryFile() as file:
+            file.write(given)
+            file.seek(0)
+            done = subprocess.run(
+                called, executable=self.program, stdin=file, capture_output=True, env=environment, timeout=60
+            )
         return (done.stdout, done.returncode), done.stderr == b"", self.met.exists()
 
     def expect(self, name: str, got: Got, *outputs: Output) -> None:
