@@ -4,7 +4,7 @@ ghost use Rattle.std.specs.Prelude.{◌≡◌, ◌↔◌, ℕ, ◌≤◌, List, 
 ghost use Rattle.std.specs.FinMap as map;
 ghost use Rattle.tftp_packet.specs.{Data, Ack};
 ghost use Rattle.tftp_hosts.specs.{Datagram};
-ghost use Rattle.tftp_blocks.specs.{Takes, Placing, Places};
+ghost use Rattle.tftp_blocks.specs.{IsHighest, IsOrderly, Takes, Placing, Places};
 ghost use Rattle.tftp_rules.specs.{HasPassed, HasWrongLength, BlocksWait, AckZeroWaits, FirstEndBroken};
 ghost use Rattle.tftp_ends.specs.Rejections.{CannotHold};
 ghost use Rattle.tftp_ends.specs.States.{AreBlocks, HasLengthBySize, IsHeld};
@@ -38,12 +38,12 @@ pub(crate) fn ack_zero_waits(terms: &Terms, any_block: bool) -> bool
     }
 }
 
-/// The block that is shorter than the others, and so the last, if it is held (RFC 1350, section 2).
-fn short_block<D: Delivered>(store: &D, block_size: usize) -> Option<u16>
-    requires { D.block_size store.now ≡ block_size }
+/// The block that is shorter than the others, and so the last, if it is held (RFC 1350, section 2). It is the highest.
+fn short_block<D: Delivered>(store: &D, highest: u16, block_size: usize) -> Option<u16>
+    requires highest { IsHighest (D.held store.now) highest }
+    requires orderly { IsOrderly block_size (D.held store.now) }
     ensures { MatchOption result (AreWhole block_size (D.held store.now)) (IsShortTop block_size (D.held store.now)) }
 {
-    let highest = store.highest();
     match store.block(highest) {
         Some(bytes) => {
             if bytes.len() < block_size {
@@ -63,7 +63,7 @@ pub(crate) fn last_block<D: Delivered>(terms: &Terms, store: &D) -> Option<u64>
 {
     match terms.size {
         Some(size) => Some(size / u64::from(terms.blksize) + 1),
-        None => match short_block(store, usize::from(terms.blksize)) {
+        None => match short_block(store, store.highest(), usize::from(terms.blksize)) {
             Some(last) => Some(u64::from(last)),
             None => None,
         },
@@ -85,22 +85,36 @@ fn has_length_by_size(block_size: u64, size: u64, number: u64, len: u64) -> bool
 
 /// Whether a block that is no longer than the others can't have its length, where no size was agreed (RFC 1350, section
 /// 2).
-fn ends_elsewhere<D: Delivered>(store: &D, block_size: usize, number: u16, len: usize) -> bool
-    requires block_size { D.block_size store.now ≡ block_size }
+fn ends_elsewhere<D: Delivered>(
+    store: &D,
+    highest: u16,
+    block_size: usize,
+    number: u16,
+    len: usize,
+) -> bool
+    requires highest { IsHighest (D.held store.now) highest }
+    requires orderly { IsOrderly block_size (D.held store.now) }
     requires fits { len ≤ block_size }
     ensures wrong { result ≡ true → EndsElsewhere block_size (D.held store.now) number len }
     ensures right { result ≡ false → EndsThere block_size (D.held store.now) number len }
 {
-    match short_block(store, block_size) {
+    match short_block(store, highest, block_size) {
         Some(last) => number > last || (len == block_size) != (number < last),
-        None => len < block_size && number <= store.highest(),
+        None => len < block_size && number <= highest,
     }
 }
 
 /// Whether a block can't have this length beside those that are held (RFC 1350, section 2; RFC 2348; RFC 2349).
-fn has_wrong_length<D: Delivered>(terms: &Terms, store: &D, number: u16, len: usize) -> bool
+fn has_wrong_length<D: Delivered>(
+    terms: &Terms,
+    store: &D,
+    highest: u16,
+    number: u16,
+    len: usize,
+) -> bool
     requires sound { IsSound terms.now (D.held store.now) }
-    requires block_size { D.block_size store.now ≡ terms.now.blksize }
+    requires highest { IsHighest (D.held store.now) highest }
+    requires orderly { IsOrderly terms.now.blksize (D.held store.now) }
     ensures wrong { result ≡ true → (passed : List Datagram) → AreBlocks passed (D.held store.now) → HasWrongLength terms.now passed number len }
     ensures right { result ≡ false → HasRightLength terms.now (D.held store.now) number len }
 {
@@ -115,7 +129,7 @@ fn has_wrong_length<D: Delivered>(terms: &Terms, store: &D, number: u16, len: us
             u64::from(number),
             len as u64,
         ),
-        None => ends_elsewhere(store, usize::from(block_size), number, len),
+        None => ends_elsewhere(store, highest, usize::from(block_size), number, len),
     }
 }
 
@@ -127,18 +141,20 @@ fn is_beyond(terms: &Terms, number: u16, len: usize) -> bool
 }
 
 /// The first rule that a block of this length breaks, of those that are the same at both ends and do not compare its
-/// bytes. `acked` is the highest ACK that the sender can go by (RFC 1350, sections 2, 4 and 5; RFC 2347; RFC 2348; RFC
-/// 2349; RFC 7440, section 4).
+/// bytes (RFC 1350, sections 2, 4 and 5; RFC 2347; RFC 2348; RFC 2349; RFC 7440, section 4). `highest` is the highest
+/// block that is held, or 0, and `acked` the highest ACK that the sender can go by.
 pub(crate) fn may_open<D: Delivered>(
     terms: &Terms,
     store: &D,
+    highest: u16,
     zero: bool,
     acked: u16,
     number: u16,
     len: usize,
 ) -> Result<(), EndRule>
     requires sound { IsSound terms.now (D.held store.now) }
-    requires block_size { D.block_size store.now ≡ terms.now.blksize }
+    requires highest { IsHighest (D.held store.now) highest }
+    requires orderly { IsOrderly terms.now.blksize (D.held store.now) }
     requires taken { (k : ℕ) → 1 ≤ k → k ≤ acked → IsHeld (D.held store.now) k }
     ensures lawful { (passed : List Datagram) (bytes : List ℕ) → IsKnown terms.now passed (D.held store.now) zero acked → length bytes ≡ len
         → OnOk result (NoneBelow terms.now passed (Data number bytes) 23) }
@@ -156,7 +172,7 @@ pub(crate) fn may_open<D: Delivered>(
     if is_beyond(terms, number, len) {
         return Err(EndRule::BeyondBlock65535);
     }
-    if has_wrong_length(terms, store, number, len) {
+    if has_wrong_length(terms, store, highest, number, len) {
         return Err(EndRule::BlockLength);
     }
     if u32::from(acked) + u32::from(terms.windowsize) < u32::from(number) {

@@ -121,6 +121,7 @@ impl<D: Delivered> ReceiverState<D> {
         may_open(
             &self.terms,
             &self.store,
+            self.store.highest(),
             self.zero,
             self.usable_acked,
             number,

@@ -118,15 +118,16 @@ impl<D: Delivered> SenderState<D> {
         ensures terms { self.new.terms ≡ self.old.terms }
         ensures sends { IsSender self.old.terms }
     {
+        let top = self.store.highest();
         may_open(
             &self.terms,
             &self.store,
+            top,
             self.zero,
             self.answered,
             number,
             bytes.len(),
         )?;
-        let top = self.store.highest();
         if u32::from(top) + 1 < u32::from(number) {
             return Err(Rejection::Broken(EndRule::BlockSkipped));
         }

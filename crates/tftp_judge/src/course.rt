@@ -31,8 +31,8 @@ pub enum Course<D: Delivered + Drop> {
 }
 
 impl<D: Delivered + Drop> Course<D> {
-    /// Keeps a packet that passes this way, or tells the first rule that it breaks, once the request was answered. Memory is
-    /// taken for a block that is not held alone. Before the request is answered that is an ERROR, which changes nothing here.
+    /// Keeps a packet that passes this way, or tells the first rule that it breaks. Memory is taken for a block that is not
+    /// held alone. Before the request is answered only an ERROR comes here, which changes nothing.
     pub fn pass(&mut self, alloc: Global, dir: Dir, packet: &Packet<'_>) -> Result<(), Stop>
         ensures finds { (h : Header) (asked : RequestParts) (passed : List Datagram) → HasAnswer (course_of self.old)
             → IsCourse h asked passed (course_of self.old) → Finds (TermsBreak h asked passed (meaning packet.now)) (Unit {0}) result }
