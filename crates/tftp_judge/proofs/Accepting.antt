@@ -43,7 +43,7 @@ low_rule _ low = absurd (omega arith)
 
 module _ (h : Header) (earlier : List Datagram) (d : Datagram) where
   foreign_first : route_of h earlier d ≡ Route.ForeignPort → FirstBroken h earlier d Rule.ForeignPort
-  foreign_first is = record { broken = is; first = below } where
+  foreign_first is = (is, below) where
     below : (other : Rule) → number_of other < 1 → Broken h earlier d other → ⊥
     below other low b = elim (low_rule other (omega arith)) [
       | inl same ↦ let n = ap number_of same in omega arith
@@ -51,7 +51,7 @@ module _ (h : Header) (earlier : List Datagram) (d : Datagram) where
     ]
 
   wrong_first : route_of h earlier d ≡ Route.WrongPort → FirstBroken h earlier d Rule.WrongPort
-  wrong_first is = record { broken = is; first = below } where
+  wrong_first is = (is, below) where
     below : (other : Rule) → number_of other < 2 → Broken h earlier d other → ⊥
     below other low b = elim (low_rule other (omega arith)) [
       | inl same ↦ let at : route_of h earlier d ≡ Route.ForeignPort = subst (Broken h earlier d) same b in absurd (cc)
@@ -59,7 +59,7 @@ module _ (h : Header) (earlier : List Datagram) (d : Datagram) where
     ]
 
   pub stray_first : PortBroken h earlier d PortRule.BadAnswer → FirstBroken h earlier d Rule.StrayAnswer
-  stray_first is = record { broken = is; first = below } where
+  stray_first is = (is, below) where
     at : (r : Route) → (r ≡ Route.NoStrayAnswer) ⊎ (r ≡ Route.StrayAnswer) → (r ≡ Route.ForeignPort → ⊥) × (r ≡ Route.WrongPort → ⊥)
     at r (inl e) = (λ x. cc, λ x. cc)
     at r (inr e) = (λ x. cc, λ x. cc)

@@ -48,7 +48,7 @@ unlawful_at h ds line d index rule passed number broken = record {
   split = unnumbered_one ds line d;
   index_is = number ∙ ap (λ n. n + 1) (length-reverse (unnumbered ds));
   lawful = (lawful h (unnumbered ds)).1 passed;
-  unlawful = λ is. (subst (OneEnded h) (newest_first (unnumbered ds) d) ((lawful h (unnumbered ds ++ d ∷ [])).0 is)).0.lawful rule broken.broken;
+  unlawful = λ is. (subst (OneEnded h) (newest_first (unnumbered ds) d) ((lawful h (unnumbered ds ++ d ∷ [])).0 is)).0.lawful rule broken.0;
   broken = broken;
 }
 

@@ -71,11 +71,11 @@ module _ (h : Header) (earlier : List Datagram) (d : Datagram) where
       elim (named r) [
         | inl plain ↦ elim (named q) [
           | inl also ↦ sym plain ∙ ap rule_at same ∙ also
-          | inr bad ↦ both_malformed r q Short bad.0 (malformed_at r plain (same ∙ ap number_of bad.1)) bad.1 one.broken other.broken
+          | inr bad ↦ both_malformed r q Short bad.0 (malformed_at r plain (same ∙ ap number_of bad.1)) bad.1 one.0 other.0
         ]
         | inr bad ↦ elim (named q) [
-          | inl also ↦ both_malformed r q bad.0 Short bad.1 (malformed_at q also (sym same ∙ ap number_of bad.1)) one.broken other.broken
-          | inr worse ↦ both_malformed r q bad.0 worse.0 bad.1 worse.1 one.broken other.broken
+          | inl also ↦ both_malformed r q bad.0 Short bad.1 (malformed_at q also (sym same ∙ ap number_of bad.1)) one.0 other.0
+          | inr worse ↦ both_malformed r q bad.0 worse.0 bad.1 worse.1 one.0 other.0
         ]
       ]
 

@@ -1,5 +1,6 @@
 -- What is found of one datagram or message, by the rules that it may break.
-use Rattle.std.specs.Prelude.{◌≡◌, ◌+◌, ◌<◌, List, length, Result, Ok, Err}
+use Rattle.std.specs.Prelude.{◌≡◌, ◌+◌, List, length, Result, Ok, Err}
+use Rattle.tftp_packet.specs.{IsFirst}
 use Rattle.tftp_hosts.specs.{Datagram, Header}
 use Rattle.tftp_ends.specs.{PortFault, Rejection}
 use Rattle.tftp_law.specs.{Passes, number_of, rule_of_end, FirstBroken, Rule, ForeignPort, WrongPort, OackEmpty, MulticastAgreed, OptionNotRequested, OptionOutsideProfile, OptionValue, BeyondBlock65535}
@@ -16,7 +17,7 @@ NoneBreaks Breaks = (rule : Rule) → Breaks rule → ⊥
 
 -- the rule is the first of those that are broken
 abbrev pub IsFirstOf : (Rule → Type 0) → Rule → Type 0
-IsFirstOf Breaks rule = Breaks rule × ((other : Rule) → number_of other < number_of rule → Breaks other → ⊥)
+IsFirstOf Breaks rule = IsFirst number_of Breaks rule
 
 -- No rule is broken, and then this holds; or the first that is; or memory is wanting, where none is broken.
 abbrev pub Finds : (Rule → Type 0) → Type 0 → Result (Unit {0}) Stop → Type 0

@@ -37,13 +37,15 @@ AckSent passed = (j : ℕ) × Passed Out (Message.Ack j) passed
 abbrev pub ClientWentOn : List Datagram → Type 0
 ClientWentOn passed = BlockSent passed ⊎ AckSent passed
 
--- a request: that is not the first one again, or that comes after an ACK or a block (RFC 1350, section 4)
+-- a request
 abbrev pub RequestBreaks : RequestParts → List Datagram → Dir → RequestParts → Rule → Type 0
+-- it is not the first one again (RFC 1350, section 4)
 RequestBreaks asked passed dir now RequestChanged = now ≢ asked
+-- the client sends it after an ACK or a block (RFC 1350, section 4)
 RequestBreaks asked passed dir now RequestAfterStart = (dir ≡ Out) × ClientWentOn passed
 RequestBreaks asked passed dir now _ = ⊥
 
--- the first OACK: without an option, or with one that may not be agreed (RFC 2347; RFC 2348; RFC 2349; RFC 7440, section 3)
+-- the first OACK: it has no option, or one that may not be agreed (RFC 2347; RFC 2348; RFC 2349; RFC 7440, section 3)
 abbrev pub FirstOackBreaks : RequestParts → OptionMap → Rule → Type 0
 FirstOackBreaks asked oack OackEmpty = Holds NegoFault.OackEmpty asked oack
 FirstOackBreaks asked oack MulticastAgreed = Holds NegoFault.MulticastAgreed asked oack
@@ -53,18 +55,20 @@ FirstOackBreaks asked oack OptionValue = Holds NegoFault.OptionValue asked oack
 FirstOackBreaks asked oack BeyondBlock65535 = Holds NegoFault.BeyondBlock65535 asked oack
 FirstOackBreaks asked oack _ = ⊥
 
--- a later OACK, in the terms of the first one
+-- an OACK after the first one, where that one is known
 abbrev pub LaterOackBreaks : Side → List Datagram → Dir → OptionMap → OptionMap → Rule → Type 0
 LaterOackBreaks side passed dir first oack OackChanged = oack ≢ first
 LaterOackBreaks side passed dir first oack OackAfterStart = (dir ≡ Out) × (side ≡ Get) × BlockSent passed
 LaterOackBreaks side passed dir first oack _ = ⊥
 
--- an OACK: where the request was answered without one; that is not the first one again; that the server of a read sends
--- after a block; or the first one (RFC 2347)
+-- an OACK
 abbrev pub OackBreaks : RequestParts → List Datagram → Dir → OptionMap → Rule → Type 0
+-- the request was answered without one (RFC 2347)
 OackBreaks asked passed dir oack ReplyChanged = FirstAnswer asked.side passed Begins
+-- it is not the first one again, or the server of a read sends it after a block (RFC 2347)
 OackBreaks asked passed dir oack OackChanged = (first : OptionMap) × FirstAnswer asked.side passed (Agrees first) × (oack ≢ first)
 OackBreaks asked passed dir oack OackAfterStart = (dir ≡ Out) × (asked.side ≡ Get) × BlockSent passed
+-- it is the first one
 OackBreaks asked passed dir oack rule = NotAnswered asked.side passed × FirstOackBreaks asked oack rule
 
 -- the rules of blocks and acknowledgements among all rules
@@ -92,7 +96,8 @@ KindBreaks h asked passed dir (Message.Oack oack) rule = OackBreaks asked passed
 KindBreaks h asked passed dir (Message.Data k bytes) rule = TermsBreak h asked passed (Message.Data k bytes) rule
 KindBreaks h asked passed dir (Message.Ack j) rule = TermsBreak h asked passed (Message.Ack j) rule
 
--- any message: its sender has nothing of this kind to send, or its end sends it after an ERROR, or it breaks a rule of its kind
+-- Any message: its sender has nothing of this kind to send, or its end sends it after an ERROR, or it breaks a rule of its
+-- kind.
 abbrev pub MessageBreaks : Header → RequestParts → List Datagram → Dir → Message → Rule → Type 0
 MessageBreaks h asked passed dir m rule =
     ((rule ≡ WrongKind) × IsWrongKind (author_of h.named dir) asked.side m)

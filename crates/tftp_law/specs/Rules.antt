@@ -1,7 +1,7 @@
 -- The rules that a datagram may break after those that have passed, in the order in which they are tried. The list
 -- `earlier` has the datagrams that have passed at the named end, the newest first.
-use Rattle.std.specs.Prelude.{◌≡◌, ℕ, ◌<◌, List, None, true}
-use Rattle.tftp_packet.specs.{Message, RequestParts, Spells, FirstFault}
+use Rattle.std.specs.Prelude.{◌≡◌, ℕ, List, None, true}
+use Rattle.tftp_packet.specs.{IsFirst, Message, RequestParts, Spells, FirstFault}
 use Rattle.tftp_hosts.specs.{Datagram, Header}
 use Rattle.tftp_rules.specs.{Route, asks, first_of, route_of, is_of_transfer, transfer_of, PortRule, PortBroken}
 use Rattle.tftp_law.specs.Replies.{FirstAsked}
@@ -66,6 +66,5 @@ Broken h earlier d (Malformed fault) = (is_of_transfer (route_of h earlier d) �
 Broken h earlier d rule = MessageBroken h earlier d rule
 
 -- the first rule in their order that the datagram breaks
-pub record FirstBroken (h : Header) (earlier : List Datagram) (d : Datagram) (rule : Rule) : Type 0 where
-  pub broken : Broken h earlier d rule
-  pub first : (other : Rule) → number_of other < number_of rule → Broken h earlier d other → ⊥
+abbrev pub FirstBroken : Header → List Datagram → Datagram → Rule → Type 0
+FirstBroken h earlier d rule = IsFirst number_of (Broken h earlier d) rule

@@ -145,7 +145,7 @@ module _ (before now after : Option (List ℕ)) (old new : ReaderState) (judge :
             let begun = subst (λ t. Begins t old.header with_one) (sym are) (begins_more (all one goes) more on.lines old.header with_one (subst (λ x. Stands (all one goes) on.lines [] (Body new.lines.version x) with_one) same on.stands)) in
             let (named, front) = front_in text old.header k with_one es begun datagrams in
             let first_part = lawful_front k es has.datagrams new.handed (datagram_of d) read front has.is (subst (λ x. OneEnded x read) (sym named) accepted.lawful)
-            (λ lawful. (subst (λ x. OneEnded x (datagram_of d ∷ read)) named lawful).0.lawful rule broken.broken) in
+            (λ lawful. (subst (λ x. OneEnded x (datagram_of d ∷ read)) named lawful).0.lawful rule broken.0) in
             (named, first_part.0, first_part.1)
         by (Memory count) refuses of text is k es datagrams = absurd of
         by (Aborted b code) refuses of text is k es datagrams = absurd refuses

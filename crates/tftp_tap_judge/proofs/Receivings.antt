@@ -21,7 +21,7 @@ module _ (s : TapSides) (side : Side) (passed : List TapDatagram) (d : TapDatagr
 
   -- what the judge there refuses
   pub refused_found : (refusal : Refusal) → Refuses (header_at s side) (kept_between s side passed) now refusal → (After : Type 0) → FindsTo (ReceiverBreaks s side passed d) After (Err (stop_by_refusal refusal))
-  refused_found (of_end.Unlawful index rule) r After = ((stays, r.1.broken), λ other low b. r.1.first other low b.1)
+  refused_found (of_end.Unlawful index rule) r After = ((stays, r.1.0), λ other low b. r.1.1 other low b.1)
   refused_found (of_end.Memory count) r After = λ rule b. r.1.lawful rule b.1
   refused_found _ r After = absurd r
 

@@ -1,7 +1,7 @@
 -- What a datagram of the transfer breaks by itself between the ends, apart from what the end that gets the file would find.
 -- The list `passed` has the datagrams of the transfer that have passed, the newest first.
-use Rattle.std.specs.Prelude.{◌≡◌, ◌⊎◌, ◌<◌, ℕ, List, Option, Some, None, Result, Ok, Err}
-use Rattle.tftp_packet.specs.{Message, RequestParts, meaning, Spells, FirstFault, Packet, PacketFault, End, Client}
+use Rattle.std.specs.Prelude.{◌≡◌, ◌⊎◌, ℕ, List, Option, Some, None, Result, Ok, Err}
+use Rattle.tftp_packet.specs.{IsFirst, Message, RequestParts, meaning, Spells, FirstFault, Packet, PacketFault, End, Client}
 use Rattle.tftp_law.specs.{IsWrongKind, number_of, Rule}
 use Rattle.tftp_law.specs.declared.rule.Rule.TheVariants as rule
 use Rattle.tftp_tap.specs.{TapDatagram, TapSides, PassingBreaks, LateBreaks, LateBroken, TapRoute}
@@ -10,7 +10,7 @@ use Rattle.tftp_tap_judge.specs.TapSeen.{ErrorPassed}
 -- none is broken, or this is the first that is
 abbrev pub FindsRule : (Rule → Type 0) → Option Rule → Type 0
 FindsRule Breaks None = (rule : Rule) → Breaks rule → ⊥
-FindsRule Breaks (Some rule) = Breaks rule × ((other : Rule) → number_of other < number_of rule → Breaks other → ⊥)
+FindsRule Breaks (Some rule) = IsFirst number_of Breaks rule
 
 -- by what it says, and by what had passed before an ERROR
 abbrev pub OwnBreaks : TapSides → List TapDatagram → TapRoute → TapDatagram → Rule → Type 0

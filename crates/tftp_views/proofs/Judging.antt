@@ -54,7 +54,7 @@ module _ (h : Header) (given : List Datagram) where
     split = ap reverse at.are ∙ newest_last at.later at.earlier at.datagram;
     index_is = at.refused.0 ∙ ap (λ n. n + 1) (sym (length-reverse at.earlier));
     lawful = subst (OneEnded h) (sym (reverse-reverse at.earlier)) at.lawful;
-    unlawful = λ legal. (subst (OneEnded h) whole legal).0.lawful rule at.refused.1.broken;
+    unlawful = λ legal. (subst (OneEnded h) whole legal).0.lawful rule at.refused.1.0;
     broken = subst (λ l. FirstBroken h l at.datagram rule) (sym (reverse-reverse at.earlier)) at.refused.1;
   }
     where

@@ -169,7 +169,7 @@ module _ (h : Header) (b : Start h) where
       → IsRefused h (datagrams b.es) e.0 rule
   refused_next e rule here test broken =
       let parts = and_parts (not_oack e.1) (keeps_below (number_of rule) h (b.known []) b.es e) test in
-      record { lawful = b.lawful; broken = record { broken = broken; first = none_under (number_of rule) h (b.known []) b.es e b.spelled here (b.knows []) parts.0 parts.1 } }
+      record { lawful = b.lawful; broken = (broken, none_under (number_of rule) h (b.known []) b.es e b.spelled here (b.knows []) parts.0 parts.1) }
 
   -- it breaks a rule by what it says, where this was asked for first
   pub breaks_so : (e : Spelled) (asked : RequestParts) (rule : Rule) → Spells e.0.payload e.1 → is_of_transfer (route_of h (datagrams b.es) e.0) ≡ true → asked_by (first_asked h b.es) ≡ Some (Message.Request asked)
@@ -189,7 +189,7 @@ module _ (h : Header) (b : Start h) where
       let more = and_parts (is_of_transfer (route_of h (datagrams b.es) e.0)) (keeps_below (number_of (rule_of_end end)) h (b.known []) b.es e) parts.1 in
       let here = spelled_it e.0.payload e.1 parts.0 in
       let first = none_under (number_of (rule_of_end end)) h (b.known []) b.es e b.spelled here (b.knows []) (no_offer e.0.payload e.1 parts.0) more.1 in
-      record { lawful = b.lawful; broken = record { broken = by here more.0 (b.known []) (b.knows []) broken; first = first } }
+      record { lawful = b.lawful; broken = (by here more.0 (b.known []) (b.knows []) broken, first) }
     where
       by : Spells e.0.payload e.1 → is_of_transfer (route_of h (datagrams b.es) e.0) ≡ true → (o : Option Terms) → o ≡ terms_of h b.es → WhereKnown o (λ t. EndBroken t (transfer_of h (datagrams b.es)) e.1 end)
           → Broken h (datagrams b.es) e.0 (rule_of_end end)

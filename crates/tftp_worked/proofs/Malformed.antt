@@ -35,7 +35,7 @@ too_long = ((refl, λ e. omega (arith, e)), before)
 pub ack_length_refused : IsRefused at_client (reverse read_without_its_ack) acknowledges_too_long (Rule.Malformed AckLength)
 ack_length_refused = record {
   lawful = plain_begun.lawful;
-  broken = record { broken = (refl, too_long); first = under_malformed at_client (reverse read_without_its_ack) acknowledges_too_long refl (λ none. let e = none.0 in cc) };
+  broken = ((refl, too_long), under_malformed at_client (reverse read_without_its_ack) acknowledges_too_long refl (λ none. let e = none.0 in cc));
 }
 
 -- ---- a request in an obsolete mode
@@ -46,5 +46,5 @@ mail_mode = mode_fault 1 (inl refl) (codes "a") (codes "mail") [] _ (search rule
 pub mail_refused : IsRefused at_client [] asks_for_mail (Rule.Malformed MailMode)
 mail_refused = record {
   lawful = tt;
-  broken = record { broken = (refl, mail_mode); first = under_malformed at_client [] asks_for_mail refl (λ none. let e = none.1 in cc) };
+  broken = ((refl, mail_mode), under_malformed at_client [] asks_for_mail refl (λ none. let e = none.1 in cc));
 }

@@ -53,10 +53,10 @@ none_before_late rule low b = none_under 8 at_client (plain.known []) plain.es p
 pub late_request_refused : IsRefused at_client (reverse one_block_read) asks_for_a Rule.RequestAfterStart
 late_request_refused = record {
   lawful = plain.lawful;
-  broken = record {
-    broken = breaks_so at_client plain plain_asks asked Rule.RequestAfterStart request_spelled refl refl (inr (inr (refl, inr (1, inl (refl, ack_spelled)))));
-    first = none_before_late;
-  };
+  broken = (
+    breaks_so at_client plain plain_asks asked Rule.RequestAfterStart request_spelled refl refl (inr (inr (refl, inr (1, inl (refl, ack_spelled))))),
+    none_before_late,
+  );
 }
 
 -- ---- the first OACK
@@ -78,12 +78,12 @@ module _ (dq dr : Datagram) (r : RequestParts) (options : OptionMap) (asks_it : 
       → IsRefused at_client (dq ∷ []) dr rule
   offer_refused rule fault breaks lawful known asked_is first none routed keeps wrong fine = record {
     lawful = lawful;
-    broken = record {
-      broken = back at_client (dq ∷ []) dr (Message.Oack options) r routed agrees (asked_there at_client es (dq, Message.Request r) r first asks_it) rule
-          (inr (inr (breaks (unanswered_there at_client r.side es (asks_it, tt) none, wrong))));
-      first = none_below (number_of rule) at_client t es e (asks_it, tt) agrees (known_by at_client es (asks_it, tt) t known)
-          (first_oack_keeps at_client es e (asks_it, tt) agrees t (known_by at_client es (asks_it, tt) t known) (number_of rule) r options asked_is none refl fine) keeps;
-    };
+    broken = (
+      back at_client (dq ∷ []) dr (Message.Oack options) r routed agrees (asked_there at_client es (dq, Message.Request r) r first asks_it) rule
+          (inr (inr (breaks (unanswered_there at_client r.side es (asks_it, tt) none, wrong)))),
+      none_below (number_of rule) at_client t es e (asks_it, tt) agrees (known_by at_client es (asks_it, tt) t known)
+          (first_oack_keeps at_client es e (asks_it, tt) agrees t (known_by at_client es (asks_it, tt) t known) (number_of rule) r options asked_is none refl fine) keeps,
+    );
   }
 
 -- without an option

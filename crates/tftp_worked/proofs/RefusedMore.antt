@@ -43,7 +43,7 @@ foreign_refused = refused_next at_client astray (comes_to_another_port, Message.
 pub unasked_refused : IsRefused at_client [] brings_hi Rule.NoRequest
 unasked_refused = record {
   lawful = tt;
-  broken = record { broken = (refl, refl); first = none_under 4 at_client None [] plain_hi tt hi_spelled refl refl refl };
+  broken = ((refl, refl), none_under 4 at_client None [] plain_hi tt hi_spelled refl refl refl);
 }
 
 pub kind_refused : IsRefused at_client (reverse only_asked) ack_zero Rule.WrongKind
@@ -87,7 +87,7 @@ many_refused =
     let keeps = first_oack_keeps at_client size_asked.es offer size_asked.spelled here t known 20 request (eight_and_size 524280) refl refl refl
     (fine 20 request (eight_and_size 524280) (two_answer request blksize tsize 8 0 8 524280 refl (found blksize tsize 8 0 blksize) (found blksize tsize 8 0 tsize) (inl (refl, omega arith)) (inr (inr (inr (refl, λ put. absurd (cc))))))
     (not_empty (eight_and_size 524280) blksize 8 (found blksize tsize 8 524280 blksize)) (λ low. absurd (omega arith))) in
-    record { lawful = size_asked.lawful; broken = record { broken = too_many; first = none_below 20 at_client t size_asked.es offer size_asked.spelled here known keeps refl } }
+    record { lawful = size_asked.lawful; broken = (too_many, none_below 20 at_client t size_asked.es offer size_asked.spelled here known keeps refl) }
 
 -- an OACK after a block
 abbrev four_hi : Start at_client
@@ -102,10 +102,10 @@ reply_refused =
     let keeps = later_oack_keeps at_client four_hi.es offer four_hi.spelled here (four_hi.known []) known 10 request Begins (record { request = refl; answered = refl }) (λ low. absurd (omega arith)) in
     record {
       lawful = four_hi.lawful;
-      broken = record {
-        broken = breaks_so at_client four_hi offer request Rule.ReplyChanged here refl refl (inr (inr (answered_there at_client Get four_hi.es Begins four_hi.spelled refl)));
-        first = none_below 10 at_client (four_hi.known []) four_hi.es offer four_hi.spelled here known keeps refl;
-      };
+      broken = (
+        breaks_so at_client four_hi offer request Rule.ReplyChanged here refl refl (inr (inr (answered_there at_client Get four_hi.es Begins four_hi.spelled refl))),
+        none_below 10 at_client (four_hi.known []) four_hi.es offer four_hi.spelled here known keeps refl,
+      );
     }
 
 -- another OACK
@@ -125,10 +125,10 @@ oack_refused =
     let keeps = later_oack_keeps at_client b.es offer b.spelled here (b.known []) known 16 request (Agrees eight_by_four) (record { request = refl; answered = refl }) (λ low. absurd (omega arith)) in
     record {
       lawful = b.lawful;
-      broken = record {
-        broken = breaks_so at_client b offer request Rule.OackChanged here refl refl (inr (inr (eight_by_four, answered_there at_client Get b.es (Agrees eight_by_four) b.spelled refl, other_options)));
-        first = none_below 16 at_client (b.known []) b.es offer b.spelled here known keeps refl;
-      };
+      broken = (
+        breaks_so at_client b offer request Rule.OackChanged here refl refl (inr (inr (eight_by_four, answered_there at_client Get b.es (Agrees eight_by_four) b.spelled refl, other_options))),
+        none_below 16 at_client (b.known []) b.es offer b.spelled here known keeps refl,
+      );
     }
 
 -- the OACK again after a block, at the server
@@ -145,8 +145,8 @@ late_refused =
     let keeps = later_oack_keeps at_service late.es offer late.spelled here (late.known []) known 17 request (Agrees eight_by_four) fixed (λ low. same_again at_service late.es offer late.spelled here request eight_by_four fixed refl) in
     record {
       lawful = late.lawful;
-      broken = record {
-        broken = breaks_so at_service late offer request Rule.OackAfterStart here refl refl (inr (inr (refl, refl, (1, codes "11111111", inl (refl, data_spells 1 (codes "11111111") refl)))));
-        first = none_below 17 at_service (late.known []) late.es offer late.spelled here known keeps refl;
-      };
+      broken = (
+        breaks_so at_service late offer request Rule.OackAfterStart here refl refl (inr (inr (refl, refl, (1, codes "11111111", inl (refl, data_spells 1 (codes "11111111") refl))))),
+        none_below 17 at_service (late.known []) late.es offer late.spelled here known keeps refl,
+      );
     }

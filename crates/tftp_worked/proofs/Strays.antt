@@ -65,10 +65,10 @@ server_error_4_refused = refused_next at_server (after at_server served (strays 
 pub first_is_read : IsRefused at_client (reverse only_asked) comes_astray (Rule.Malformed Short)
 first_is_read = record {
   lawful = plain_asked.lawful;
-  broken = record {
-    broken = (refl, first_fault comes_astray.payload Short (inl (omega arith)));
-    first = under_malformed at_client (reverse only_asked) comes_astray refl (λ none. let e = none.0 in cc);
-  };
+  broken = (
+    (refl, first_fault comes_astray.payload Short (inl (omega arith))),
+    under_malformed at_client (reverse only_asked) comes_astray refl (λ none. let e = none.0 in cc),
+  );
 }
 
 none_is_earlier : (rule : Rule) → number_of rule < 1 → Broken at_server (reverse only_is_asked) comes_to_service rule → ⊥
@@ -76,4 +76,4 @@ none_is_earlier Rule.ForeignPort low b = omega arith
 none_is_earlier _ low b = omega arith
 
 pub other_port_refused : IsRefused at_server (reverse only_is_asked) comes_to_service Rule.ForeignPort
-other_port_refused = record { lawful = served.lawful; broken = record { broken = refl; first = none_is_earlier } }
+other_port_refused = record { lawful = served.lawful; broken = (refl, none_is_earlier) }

@@ -107,7 +107,7 @@ module _ (h : Header) (earlier : List Datagram) (d : Datagram) (m : Message) (as
   -- ---- what is found of it
 
   pub first_by : (rule : Rule) → Breaks rule → ((other : Rule) → number_of other < number_of rule → Breaks other → ⊥) → FirstBroken h earlier d rule
-  first_by rule breaks none = record { broken = back rule breaks; first = λ other low b. none other low (there other b) }
+  first_by rule breaks none = (back rule breaks, λ other low b. none other low (there other b))
 
   pub lawful_by : ((rule : Rule) → Breaks rule → ⊥) → (rule : Rule) → Broken h earlier d rule → ⊥
   lawful_by none rule b = none rule (there rule b)
