@@ -29,6 +29,7 @@ const PIECES: &[Piece] = &[
 
 /// How many datagrams have come, how many lines were written by how many writes, and whether more was read while one that
 /// had come was not written.
+#[derive(Drop)]
 struct Pipe {
     come: Cell<usize>,
     lines: Cell<usize>,
@@ -79,8 +80,12 @@ struct Counting<'a> {
 impl Write for Counting<'_> {
     fn write(&mut self, buf: &[u8]) -> io::Result<usize> {
         let lines = buf.iter().filter(|byte| **byte == b'\n').count();
-        self.pipe.lines.set(self.pipe.lines.get().saturating_add(lines));
-        self.pipe.writes.set(self.pipe.writes.get().saturating_add(1));
+        self.pipe
+            .lines
+            .set(self.pipe.lines.get().saturating_add(lines));
+        self.pipe
+            .writes
+            .set(self.pipe.writes.get().saturating_add(1));
         Ok(buf.len())
     }
 
@@ -90,10 +95,16 @@ impl Write for Counting<'_> {
 }
 
 /// Shows what a reader gives, and answers the status.
-fn shown<R: Read>(rt: &HostRuntime, reader: R, pipe: &Pipe) -> u8 {
+fn shown<R: Read + Drop>(rt: &HostRuntime, reader: R, pipe: &Pipe) -> u8 {
     let mut reader = Tallied::new(reader);
     let mut writer = Tallied::new(Counting { pipe });
-    run(rt.alloc(), &["tftp-audit", "show"], &mut reader, &mut writer).code()
+    run(
+        rt.alloc(),
+        &["tftp-audit", "show"],
+        &mut reader,
+        &mut writer,
+    )
+    .code()
 }
 
 #[test]
