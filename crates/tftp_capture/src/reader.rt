@@ -139,7 +139,7 @@ impl CaptureReader {
 
     /// Whether the next datagram may have to be waited for, as from a pipe or a terminal: no whole line that says something
     /// is left of what was read ahead, and the last read gave fewer than the 65,536 bytes that were asked for. A file gives
-    /// fewer only at its end. While this is true the next call of `next_into` reads before it answers.
+    /// fewer only at its end.
     pub fn may_wait(&self) -> bool
         ensures waits { result ≡ true → (self.now.lines.full ≡ false) × HoldsNoLine self.now.lines.ahead }
         ensures ready { result ≡ false → (self.now.lines.full ≡ true) ⊎ HoldsLine self.now.lines.ahead }
