@@ -4,7 +4,7 @@ use Rattle.std.specs.List.{AllZip}
 use Rattle.std.proofs.lemmas.List.{length-map}
 use Rattle.std.proofs.lemmas.List.Elements.{All-append, All-cons, All-head, All-nil, All-tail}
 use Rattle.tftp_capture.specs.CaptureText.{Datagram, Header}
-use Rattle.tftp_capture.specs.{IsCapture, IsPort, Numbered, SaysDatagram, SaysDatagrams, end_line, head_line, line_with_host, longest_line, said, service_line, text_with_hosts, total_line, whole_lines, Entry, IsEntry, commented_text, entry_line, numbered_in, said_in, Two}
+use Rattle.tftp_capture.specs.{IsCapture, IsPort, Numbered, SaysDatagram, SaysDatagrams, end_line, head_line, line_with_host, said, service_line, text_with_hosts, total_line, Entry, IsEntry, commented_text, entry_line, numbered_in, said_in, Two}
 use Rattle.tftp_capture.specs.Commented.Entry.{Comment, Passed}
 use Rattle.tftp_capture.specs.CaptureText.Due.{Nothing}
 use Rattle.tftp_capture.proofs.Canonical.{IsWholeLine, end_whole, head_whole, host_narrow, host_no_end, host_said, host_says, lines_le, no_lf_text, number_whole, stands-whole_lines, wider}

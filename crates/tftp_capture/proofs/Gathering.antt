@@ -147,6 +147,14 @@ pub adds_more : {W E : Type 0} (contents : W → Option (List ℕ)) (t0 t1 t2 : 
 adds_more contents t0 t1 t2 (Ok x) h0 h1 h2 first second p q = (q.0, gathers_more _ _ _ _ _ _ _ _ p q.1)
 adds_more contents t0 t1 t2 (Err e) h0 h1 h2 first second p q = (q.0, prefix_after _ _ _ _ _ _ _ p q.1)
 
+-- the first pieces of a line were added, and then the others were, or were not
+pub line_added : {W E : Type 0} (contents : W → Option (List ℕ)) (t0 t1 t2 : W × Bool) (r : Result (Unit {0}) E) (h0 h1 h2 head tail line : List ℕ) → head ++ tail ≡ line → Gathers (contents t0.0) (contents t1.0) h0 h1 head
+    → Adds contents t1 t2 r h1 h2 tail → Adds contents t0 t2 r h0 h2 line
+line_added contents t0 t1 t2 r h0 h1 h2 head tail line are p q = adds_same contents t0 t2 r h0 h2 (head ++ tail) line are (adds_more contents t0 t1 t2 r h0 h1 h2 head tail p q)
+
+pub head_failed : (c0 c1 : Option (List ℕ)) (h0 head tail line : List ℕ) → head ++ tail ≡ line → AppendsPrefix c0 c1 (h0 ++ head) → AppendsPrefix c0 c1 (h0 ++ line)
+head_failed c0 c1 h0 head tail line are p = subst (λ (l : List ℕ). AppendsPrefix c0 c1 (h0 ++ l)) are (rw append_assoc at (prefix_of c0 c1 (h0 ++ head) tail p))
+
 -- what waited was written, and then the bytes were, or were not
 pub writes_past : {W E : Type 0} (contents : W → Option (List ℕ)) (t0 t1 t2 : W × Bool) (r : Result (Unit {0}) E) (held bytes : List ℕ) → Appends (contents t0.0) (contents t1.0) held
     → Writes contents t1 t2 r bytes → Adds contents t0 t2 r held [] bytes

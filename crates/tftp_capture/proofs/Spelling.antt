@@ -1,5 +1,5 @@
 -- The lines of a text, in the pieces that are written.
-use Rattle.std.proofs.Common.{◌≡◌, ℕ, ◌+◌, ◌-◌, ◌/◌, ◌%◌, slice_index, List, [], ◌∷◌, ◌++◌, length, map, take, drop, codes, decimal, Option, refl, sym, ap, ◌∙◌, arith, append_assoc, append-nil, length-append, take-append-drop}
+use Rattle.std.proofs.Common.{◌≡◌, ◌≢◌, ℕ, ◌+◌, ◌-◌, ◌/◌, ◌%◌, slice_index, List, [], ◌∷◌, ◌++◌, length, map, take, drop, codes, decimal, Option, refl, sym, ap, ◌∙◌, arith, append_assoc, append-nil, length-append, take-append-drop}
 use Rattle.std.specs.Io.KnownBytes.{Appends}
 use Rattle.std.proofs.Math.Seq.{take-add}
 use Rattle.std.proofs.KnownBytes.{Appends-trans}
@@ -28,6 +28,11 @@ datagram_pieces d word local remote e f h = rw (e, f, h) (simp append_assoc)
 pub host_pieces : (d : Datagram) (word local host remote : List ℕ) → word ≡ dir_word d.dir → local ≡ decimal d.local → host ≡ d.host → remote ≡ decimal d.remote
     → (word ++ (codes " " ++ (local ++ (codes " " ++ (host ++ (codes " " ++ (remote ++ codes " "))))))) ++ (payload_text d.payload ++ 10 ∷ []) ≡ line_with_host d ++ 10 ∷ []
 host_pieces d word local host remote e f i h = rw (e, f, i, h) (simp append_assoc)
+
+-- a payload that is not empty
+pub payload_digits : (payload : List ℕ) → length payload ≢ 0 → payload_text payload ≡ encode_lower payload
+payload_digits [] some = absurd (some refl)
+payload_digits (b ∷ bs) some = refl
 
 pub encode-append : (xs ys : List ℕ) → encode_lower (xs ++ ys) ≡ encode_lower xs ++ encode_lower ys
 unfolding encode_with

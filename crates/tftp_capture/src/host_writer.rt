@@ -191,6 +191,5 @@ fn put_datagram<W: Write>(
     };
     let name = host.bytes();
     gathered.add_all(writer, &[word, b" ", local, b" ", name, b" ", remote, b" "])?;
-    put_payload(gathered, writer, payload)?;
-    gathered.add(writer, b"\n")
+    put_payload(gathered, writer, payload)
 }

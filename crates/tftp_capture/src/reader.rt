@@ -2,7 +2,7 @@ ghost use Rattle.std.specs.Prelude.{◌≡◌, ◌≢◌, ◌+◌, ◌^◌, ◌<
 ghost use Rattle.std.specs.Io.KnownBytes.{prepend_known, Consumes, IsAtEnd};
 ghost use Rattle.tftp_capture.specs.CaptureText.{Header as HeaderParts, Numbered};
 ghost use Rattle.tftp_capture.specs.Fields.{filled_if, header_of};
-ghost use Rattle.tftp_capture.specs.Lines.{most_ahead, unread, HoldsLine, HoldsNoLine};
+ghost use Rattle.tftp_capture.specs.Lines.{most_ahead, HoldsLine, HoldsNoLine};
 ghost use Rattle.tftp_capture.specs.History.{Answers, Continues, FailsToBegin, GoesOn, HasService, IsAtTextEnd, IsReadFault, IsReadStanding, KeepsAnswer, StandsFor, standing_after};
 
 use crate::datagram::{Datagram, Header};
@@ -56,28 +56,9 @@ impl CaptureReader {
         ensures tally { IfErr result (λ fault. (IsReadFault fault → ⊥) → reader.new.1 ≡ false) }
         ensures clean { OnOk result (reader.new.1 ≡ false) }
     {
-        match Lines::new(alloc) {
-            Ok(lines) => CaptureReader::begin_with(lines, reader),
-            Err(_) => Err(CaptureFault::Memory(1)),
-        }
-    }
-
-    /// Reads the header with lines of which none was read yet.
-    fn begin_with<R: Read>(mut lines: Lines, reader: &mut Tallied<R>) -> Result<Self, CaptureFault>
-        requires clean { reader.old.1 ≡ false }
-        requires fresh { lines ≡ unread }
-        ensures ok { IfOk result (λ begun. (taken : List ℕ) × Consumes (R.remaining reader.old.0) (prepend_known begun.lines.ahead (R.remaining reader.new.0)) taken
-            × GoesOn begun.header begun.lines begun.count taken []) }
-        ensures open { IfOk result (λ begun. begun.standing ≡ Standing.Open) }
-        ensures line { IfOk result (λ begun. 3 ≤ begun.handed) }
-        ensures service { IfOk result (λ begun. (taken : List ℕ) × Consumes (R.remaining reader.old.0) (prepend_known begun.lines.ahead (R.remaining reader.new.0)) taken
-            × HasService taken begun.header begun.handed) }
-        ensures err { IfErr result (λ fault. FailsToBegin (R.remaining reader.old.0) (R.remaining reader.new.0) fault) }
-        ensures end { IfErr result (λ fault. IsAtTextEnd fault → IsAtEnd (R.remaining reader.new.0)) }
-        ensures read { IfErr result (λ fault. IsReadFault fault → reader.new.1 ≡ true) }
-        ensures tally { IfErr result (λ fault. (IsReadFault fault → ⊥) → reader.new.1 ≡ false) }
-        ensures clean { OnOk result (reader.new.1 ≡ false) }
-    {
+        let Ok(mut lines) = Lines::new(alloc) else {
+            return Err(CaptureFault::Memory(1));
+        };
         if let Err(stop) = lines.next(reader) {
             return Err(stop.at(1));
         }
@@ -158,7 +139,7 @@ impl CaptureReader {
 
     /// Whether the next datagram may have to be waited for, as from a pipe or a terminal: no whole line that says something
     /// is left of what was read ahead, and the last read gave fewer than the 65,536 bytes that were asked for. A file gives
-    /// fewer only at its end. While this is true the next call of `next_into` reads before it answers.
+    /// fewer only at its end.
     pub fn may_wait(&self) -> bool
         ensures waits { result ≡ true → (self.now.lines.full ≡ false) × HoldsNoLine self.now.lines.ahead }
         ensures ready { result ≡ false → (self.now.lines.full ≡ true) ⊎ HoldsLine self.now.lines.ahead }

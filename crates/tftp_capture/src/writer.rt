@@ -168,8 +168,7 @@ fn put_datagram<W: Write>(
         Dir::Out => b"out".as_slice(),
     };
     gathered.add_all(writer, &[word, b" ", local, b" ", remote, b" "])?;
-    put_payload(gathered, writer, payload)?;
-    gathered.add(writer, b"\n")
+    put_payload(gathered, writer, payload)
 }
 
 /// The line of the total.
@@ -186,17 +185,18 @@ pub fn put_total<W: Write>(
     gathered.add_all(writer, &[b"total ", number, b"\n"])
 }
 
-/// The last field of a datagram's line.
+/// The last field of a datagram's line, and the line's end.
 pub fn put_payload<W: Write>(
     gathered: &mut Gathered,
     writer: &mut Tallied<W>,
     payload: &[u8],
 ) -> Result<(), WriteFault>
     requires clean { writer.old.1 ≡ false }
-    ensures adds { Adds W.contents writer.old writer.new result gathered.old gathered.new (payload_text payload.now) }
+    ensures adds { Adds W.contents writer.old writer.new result gathered.old gathered.new (payload_text payload.now ++ 10 ∷ []) }
 {
     if payload.is_empty() {
-        return gathered.add(writer, b"-");
+        return gathered.add(writer, b"-\n");
     }
-    gathered.add_hex(writer, payload)
+    gathered.add_hex(writer, payload)?;
+    gathered.add(writer, b"\n")
 }

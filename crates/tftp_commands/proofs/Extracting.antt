@@ -1,12 +1,12 @@
 -- What was written of a text whose file was asked for.
-use Rattle.std.proofs.Common.{◌≡◌, ℕ, List, Bool, true, false, true≢false, Option, Result, Ok, Err, refl, sym, ap, ◌∙◌, subst}
+use Rattle.std.proofs.Common.{◌≡◌, ℕ, List, Bool, true, false, true≢false, Option, Some, Result, Ok, Err, refl, sym, ap, ◌∙◌, subst}
 use Rattle.std.specs.Io.KnownBytes.{Consumes, IsAtEnd}
 use Rattle.std.proofs.KnownBytes.{Appends-nil}
 use Rattle.tftp_model.specs.{Meaning}
 use Rattle.tftp_judge.specs.{Extracts, EndsText, IsReadVerdict, IsTextVerdict, SaysReadFailed, OutFault, Verdict}
 use Rattle.tftp_judge.specs.declared.extraction.OutFault.TheVariants as fault
 use Rattle.tftp_judge.proofs.ReadVerdicts.{read_is_text}
-use Rattle.tftp_commands.specs.{Status, verdict_status, IsExtracted, extracted, IsWritten, Output, given}
+use Rattle.tftp_commands.specs.{Status, verdict_status, IsExtracted, extracted, IsWritten, Output, Runs, given}
 use Rattle.tftp_commands.specs.declared.status.Status.TheVariants as status
 
 abbrev pub status_after : Result (Unit {0}) OutFault → Status
@@ -44,7 +44,7 @@ module _ {W : Type 0} (contents : W → Option (List ℕ)) (old new : W × Bool)
         (read : List ℕ) × (said : Result Meaning Verdict) × Consumes before after read × IsReadVerdict read said × (EndsText said → IsAtEnd after) × (SaysReadFailed said → failed ≡ true) × (failed ≡ true → SaysReadFailed said)
         × Extracts contents old new said result
 
-    pub extracted_said : Told → (read : List ℕ) × (output : Output) × Consumes before after read × IsExtracted (record { read = read; left = after; failed = failed }) output
+    extracted_said : Told → (read : List ℕ) × (output : Output) × Consumes before after read × IsExtracted (record { read = read; left = after; failed = failed }) output
         × IsWritten (contents old.0) (contents new.0) new.1 output (status_after result)
     extracted_said (read, said, consumed, is_said, at_end, reads, tally, is) = (
       read,
@@ -54,7 +54,7 @@ module _ {W : Type 0} (contents : W → Option (List ℕ)) (old new : W × Bool)
       written said result clean is,
     )
 
-    pub extracted_whole : Told → failed ≡ false → (text : List ℕ) → (said : Result Meaning Verdict) × IsTextVerdict text said × Extracts contents old new said result
+    extracted_whole : Told → failed ≡ false → (text : List ℕ) → (said : Result Meaning Verdict) × IsTextVerdict text said × Extracts contents old new said result
         → (output : Output) × IsExtracted (given text) output × IsWritten (contents old.0) (contents new.0) new.1 output (status_after result)
     extracted_whole (read, one, consumed, is_said, at_end, reads, tally, was) sound text (said, is_text, is) = (
       extracted said,
@@ -69,3 +69,11 @@ module _ {W : Type 0} (contents : W → Option (List ℕ)) (old new : W × Bool)
       },
       written said result clean is,
     )
+
+  pub extracted_runs : {R : Type 0} (remaining : R → Option (List ℕ)) (r0 r1 : R × Bool) (result : Result (Unit {0}) OutFault) (clean : old.1 ≡ false) → Told (remaining r0.0) (remaining r1.0) r1.1 result clean
+      → ((text : List ℕ) → remaining r0.0 ≡ Some text → r1.1 ≡ false → (said : Result Meaning Verdict) × IsTextVerdict text said × Extracts contents old new said result)
+      → Runs remaining contents IsExtracted r0 r1 old new (status_after result)
+  extracted_runs remaining r0 r1 result clean told whole = record {
+    said = extracted_said (remaining r0.0) (remaining r1.0) r1.1 result clean told;
+    whole = λ text tells sound. extracted_whole (remaining r0.0) (remaining r1.0) r1.1 result clean told sound text (whole text tells sound);
+  }

@@ -3,6 +3,7 @@ pub mod Memory
 pub mod Commands
 pub mod Written
 pub mod FaultLines
+pub mod Judging
 pub mod Lines
 pub mod Showing
 pub mod Unlawful

@@ -1,7 +1,6 @@
 -- The lines of datagrams.
-use Rattle.std.proofs.Common.{◌≡◌, ◌↔◌, inl, inr, ℕ, ◌+◌, Bool, List, [], ◌∷◌, ◌++◌, length, codes, decimal, Option, Result, Ok, Err, IfOk, refl, sym, ap, ◌∙◌, subst, append_assoc, append-nil, arith}
-use Rattle.tftp_capture.specs.{Adds, AppendsPrefix, Gathers, Numbered, dir_word}
-use Rattle.tftp_capture.proofs.Gathering.{adds_more, adds_same, prefix_of}
+use Rattle.std.proofs.Common.{◌≡◌, ◌↔◌, inl, inr, ℕ, ◌+◌, List, [], ◌∷◌, ◌++◌, length, codes, decimal, Result, Ok, Err, IfOk, refl, sym, ap, ◌∙◌, subst, append_assoc, append-nil, arith}
+use Rattle.tftp_capture.specs.{Numbered, dir_word}
 use Rattle.tftp_hosts.specs.{Dir}
 use Rattle.tftp_packet.specs.{Spells, FirstFault, meaning, Packet, PacketFault}
 use Rattle.tftp_commands.specs.{packet_fault_name, message_text, AreLines, IsDatagramLine, IsPayloadText}
@@ -38,11 +37,3 @@ line_pieces number dir n d text is_number is_dir =
     ∙ append_assoc (decimal number ++ codes " " ++ dir_word dir) (32 ∷ []) tail
     ∙ append_assoc (decimal number ++ codes " ") (dir_word dir) (32 ∷ tail)
     ∙ append_assoc (decimal number) (32 ∷ []) (dir_word dir ++ (32 ∷ tail)))
-
--- the first pieces of a line were added, and then the others were, or were not
-pub line_added : {W E : Type 0} (contents : W → Option (List ℕ)) (t0 t1 t2 : W × Bool) (r : Result (Unit {0}) E) (h0 h1 h2 head tail line : List ℕ) → head ++ tail ≡ line → Gathers (contents t0.0) (contents t1.0) h0 h1 head
-    → Adds contents t1 t2 r h1 h2 tail → Adds contents t0 t2 r h0 h2 line
-line_added contents t0 t1 t2 r h0 h1 h2 head tail line are p q = adds_same contents t0 t2 r h0 h2 (head ++ tail) line are (adds_more contents t0 t1 t2 r h0 h1 h2 head tail p q)
-
-pub head_failed : (c0 c1 : Option (List ℕ)) (h0 head tail line : List ℕ) → head ++ tail ≡ line → AppendsPrefix c0 c1 (h0 ++ head) → AppendsPrefix c0 c1 (h0 ++ line)
-head_failed c0 c1 h0 head tail line are p = subst (λ (l : List ℕ). AppendsPrefix c0 c1 (h0 ++ l)) are (rw append_assoc at (prefix_of c0 c1 (h0 ++ head) tail p))

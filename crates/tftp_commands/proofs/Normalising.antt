@@ -1,5 +1,5 @@
 -- What was written of a text whose normal text was asked for.
-use Rattle.std.proofs.Common.{◌≡◌, ℕ, List, Bool, true, false, true≢false, Option, Result, Ok, Err, refl, sym, ◌∙◌, subst}
+use Rattle.std.proofs.Common.{◌≡◌, ℕ, List, Bool, true, false, true≢false, Option, Some, Result, Ok, Err, refl, sym, ◌∙◌, subst}
 use Rattle.std.specs.Io.KnownBytes.{Consumes, IsAtEnd}
 use Rattle.std.proofs.KnownBytes.{Appends-nil}
 use Rattle.tftp_capture.specs.declared.fault.CaptureFault.TheVariants.{Memory}
@@ -8,7 +8,7 @@ use Rattle.tftp_judge.specs.{EndsText, IsReadVerdict, IsTextVerdict, SaysReadFai
 use Rattle.tftp_judge.proofs.ReadVerdicts.{read_is_text}
 use Rattle.tftp_normal.specs.{Normalises, NormalFault}
 use Rattle.tftp_normal.specs.declared.fault.NormalFault.TheVariants as fault
-use Rattle.tftp_commands.specs.{Status, verdict_status, IsJudged, IsNormalised, normalised, IsWritten, Output, Source, given}
+use Rattle.tftp_commands.specs.{Status, verdict_status, IsJudged, IsNormalised, normalised, IsWritten, Output, Runs, Source, given}
 use Rattle.tftp_commands.specs.declared.status.Status.TheVariants as status
 use Rattle.tftp_commands.proofs.Memory.{memory_judged}
 
@@ -79,7 +79,7 @@ module _ {W : Type 0} (contents : W → Option (List ℕ)) (old new : W × Bool)
         (read : List ℕ) × (said : Result Meaning Verdict) × Consumes before after read × IsReadVerdict read said × (EndsText said → IsAtEnd after) × (SaysReadFailed said → failed ≡ true) × (failed ≡ true → SaysReadFailed said)
         × Normalises contents old new said result
 
-    pub normalised_said : Told → (read : List ℕ) × (output : Output) × Consumes before after read × IsNormalised (record { read = read; left = after; failed = failed }) output
+    normalised_said : Told → (read : List ℕ) × (output : Output) × Consumes before after read × IsNormalised (record { read = read; left = after; failed = failed }) output
         × IsWritten (contents old.0) (contents new.0) new.1 output (status_after result)
     normalised_said (read, said, consumed, is_said, at_end, reads, tally, is) = (
       read,
@@ -93,7 +93,7 @@ module _ {W : Type 0} (contents : W → Option (List ℕ)) (old new : W × Bool)
       written said result clean is,
     )
 
-    pub normalised_whole : Told → failed ≡ false → (text : List ℕ) → (said : Result Meaning Verdict) × IsTextVerdict text said × Normalises contents old new said result
+    normalised_whole : Told → failed ≡ false → (text : List ℕ) → (said : Result Meaning Verdict) × IsTextVerdict text said × Normalises contents old new said result
         → (output : Output) × IsNormalised (given text) output × IsWritten (contents old.0) (contents new.0) new.1 output (status_after result)
     normalised_whole (read, one, consumed, is_said, at_end, reads, tally, was) sound text (said, is_text, is) = (
       normalised (told said result),
@@ -108,3 +108,11 @@ module _ {W : Type 0} (contents : W → Option (List ℕ)) (old new : W × Bool)
       },
       written said result clean is,
     )
+
+  pub normalised_runs : {R : Type 0} (remaining : R → Option (List ℕ)) (r0 r1 : R × Bool) (result : Result (Unit {0}) NormalFault) (clean : old.1 ≡ false) → Told (remaining r0.0) (remaining r1.0) r1.1 result clean
+      → ((text : List ℕ) → remaining r0.0 ≡ Some text → r1.1 ≡ false → (said : Result Meaning Verdict) × IsTextVerdict text said × Normalises contents old new said result)
+      → Runs remaining contents IsNormalised r0 r1 old new (status_after result)
+  normalised_runs remaining r0 r1 result clean told whole = record {
+    said = normalised_said (remaining r0.0) (remaining r1.0) r1.1 result clean told;
+    whole = λ text tells sound. normalised_whole (remaining r0.0) (remaining r1.0) r1.1 result clean told sound text (whole text tells sound);
+  }

@@ -9,7 +9,7 @@ use Rattle.tftp_capture.specs.CaptureText.{Header}
 use Rattle.tftp_capture.specs.CaptureText.Due.{Body}
 use Rattle.tftp_capture.proofs.Staying.{stays}
 use Rattle.tftp_capture.proofs.Gathering.{gathers_more, gathers_none, prefix_after}
-use Rattle.tftp_commands.specs.{Status, IsWritten, Output, AreFirst, AreLines, Ending, Whole, Faulty, Cut, EndsBy, IsDatagramLine, IsShown, last_line, status_of, given}
+use Rattle.tftp_commands.specs.{Status, IsWritten, Output, AreFirst, AreLines, Ending, Whole, Faulty, Cut, EndsBy, IsDatagramLine, IsShown, Runs, last_line, status_of, given}
 use Rattle.tftp_commands.specs.declared.status.Status.TheVariants as status
 use Rattle.tftp_commands.proofs.Lines.{lines_more}
 use Rattle.tftp_commands.proofs.Written.{written_after}
@@ -250,7 +250,7 @@ ends_given (Faulty (Text line fault)) text read rest failed cut ds e clean h = b
     by (inr other) = (subst (λ l. HasFault l ds line fault) (sym e) (stays read rest ds line fault other h.0), λ _. refl, refl)
 
 -- of a text that was given whole the output is that of the text
-pub whole_text : (text : List ℕ) (start now before after : Option (List ℕ)) (failed cut : Bool) (result : Status) → start ≡ Some text → failed ≡ false → Said start now failed before after cut result
+whole_text : (text : List ℕ) (start now before after : Option (List ℕ)) (failed cut : Bool) (result : Status) → start ≡ Some text → failed ≡ false → Said start now failed before after cut result
     → (output : Output) × IsShown (given text) cut output × IsWritten before after cut output result
 whole_text text start now before after failed cut result tells clean said = by now (subst (λ s. Said s now failed before after cut result) tells said)
   where
@@ -268,6 +268,14 @@ whole_text text start now before after failed cut result tells clean said = by n
       },
       s.4,
     )
+
+-- the run, whatever comes of it
+pub shown_runs : {R W : Type 0} (remaining : R → Option (List ℕ)) (contents : W → Option (List ℕ)) (r0 r1 : R × Bool) (w0 w1 : W × Bool) (result : Status) → Said (remaining r0.0) (remaining r1.0) r1.1 (contents w0.0) (contents w1.0) w1.1 result
+    → Runs remaining contents (λ source. IsShown source w1.1) r0 r1 w0 w1 result
+shown_runs remaining contents r0 r1 w0 w1 result said = record {
+  said = said;
+  whole = λ text tells clean. whole_text text (remaining r0.0) (remaining r1.0) (contents w0.0) (contents w1.0) r1.1 w1.1 result tells clean said;
+}
 
 -- it is the other one
 pub other_side : {P Q : Type 0} → (P → ⊥) → P ⊎ Q → Q

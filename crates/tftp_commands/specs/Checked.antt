@@ -1,5 +1,5 @@
 -- What `check` prints of a capture text: one line, with what its datagrams mean, or why it is not accepted.
-use Rattle.std.specs.Prelude.{◌≡◌, ℕ, ◌++◌, List, [], length, codes, decimal, Result, Ok, Err}
+use Rattle.std.specs.Prelude.{ℕ, ◌++◌, List, [], length, codes, decimal, Result, Ok, Err}
 use Rattle.tftp_packet.specs.{mode_name}
 use Rattle.tftp_model.specs.{Meaning}
 use Rattle.tftp_law.specs.{blocks_of, rule_name, number_of, Rule, Malformed}
@@ -7,7 +7,7 @@ use Rattle.tftp_judge.specs.{Refusal, Unlawful, Aborted, Incomplete, NormalTooLo
 use Rattle.tftp_judge.specs.declared.refusal.Refusal.TheVariants.{Memory}
 use Rattle.tftp_commands.specs.declared.status.Status.{Status}
 use Rattle.tftp_commands.specs.declared.status.Status.TheVariants as status
-use Rattle.tftp_commands.specs.Judged.{IsJudged}
+use Rattle.tftp_commands.specs.Judged.{IsToldBy}
 use Rattle.tftp_commands.specs.Names.{by_name, packet_fault_name, side_name}
 use Rattle.tftp_commands.specs.Outputs.{Output, fault_line, memory_line}
 use Rattle.tftp_commands.specs.Sources.{Source}
@@ -47,7 +47,5 @@ checked (Ok m) = record { bytes = accepted_line m; status = status.Success }
 checked (Err verdict) = record { bytes = verdict_line verdict; status = verdict_status verdict }
 
 -- the output is that of what there is to say of what was read
-pub record IsChecked (source : Source) (output : Output) : Type 0 where
-  pub said : Result Meaning Verdict
-  pub judged : IsJudged source said
-  pub is : output ≡ checked said
+abbrev pub IsChecked : Source → Output → Type 0
+IsChecked = IsToldBy checked

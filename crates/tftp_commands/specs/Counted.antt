@@ -1,12 +1,12 @@
 -- What `count` prints of a capture text: one line, with how many datagrams its normal capture has, or why it is not
 -- accepted.
-use Rattle.std.specs.Prelude.{◌≡◌, ℕ, ◌++◌, List, codes, decimal, Result, Ok, Err}
+use Rattle.std.specs.Prelude.{ℕ, ◌++◌, List, codes, decimal, Result, Ok, Err}
 use Rattle.tftp_model.specs.{Meaning}
 use Rattle.tftp_judge.specs.{Verdict}
 use Rattle.tftp_normal.specs.{normal_count}
 use Rattle.tftp_commands.specs.declared.status.Status.TheVariants as status
 use Rattle.tftp_commands.specs.Checked.{checked}
-use Rattle.tftp_commands.specs.Judged.{IsJudged}
+use Rattle.tftp_commands.specs.Judged.{IsToldBy}
 use Rattle.tftp_commands.specs.Outputs.{Output}
 use Rattle.tftp_commands.specs.Sources.{Source}
 
@@ -19,7 +19,5 @@ counted (Ok m) = record { bytes = counted_line m; status = status.Success }
 counted (Err verdict) = checked (Err verdict)
 
 -- the output is that of what there is to say of what was read
-pub record IsCounted (source : Source) (output : Output) : Type 0 where
-  pub said : Result Meaning Verdict
-  pub judged : IsJudged source said
-  pub is : output ≡ counted said
+abbrev pub IsCounted : Source → Output → Type 0
+IsCounted = IsToldBy counted

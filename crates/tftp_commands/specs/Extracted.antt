@@ -1,10 +1,10 @@
 -- What `extract` writes of a capture text: its file, and nothing where it is not accepted.
-use Rattle.std.specs.Prelude.{◌≡◌, [], Result, Ok, Err}
+use Rattle.std.specs.Prelude.{[], Result, Ok, Err}
 use Rattle.tftp_model.specs.{Meaning}
 use Rattle.tftp_judge.specs.{Verdict}
 use Rattle.tftp_commands.specs.declared.status.Status.TheVariants as status
 use Rattle.tftp_commands.specs.Checked.{verdict_status}
-use Rattle.tftp_commands.specs.Judged.{IsJudged}
+use Rattle.tftp_commands.specs.Judged.{IsToldBy}
 use Rattle.tftp_commands.specs.Outputs.{Output}
 use Rattle.tftp_commands.specs.Sources.{Source}
 
@@ -14,7 +14,5 @@ extracted (Ok m) = record { bytes = m.file; status = status.Success }
 extracted (Err verdict) = record { bytes = []; status = verdict_status verdict }
 
 -- the output is that of what there is to say of what was read
-pub record IsExtracted (source : Source) (output : Output) : Type 0 where
-  pub said : Result Meaning Verdict
-  pub judged : IsJudged source said
-  pub is : output ≡ extracted said
+abbrev pub IsExtracted : Source → Output → Type 0
+IsExtracted = IsToldBy extracted

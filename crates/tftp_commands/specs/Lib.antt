@@ -2,6 +2,7 @@ pub mod Words
 pub mod Names
 pub mod Outputs
 pub mod Sources
+pub mod Running
 pub mod Shown
 pub mod Judged
 pub mod Checked
@@ -15,7 +16,8 @@ pub use Names.{by_name, packet_fault_name, text_fault_name}
 pub use Outputs.{IsWritten, Output, fault_line, memory_line, usage_line}
 pub use Sources.{Source, given}
 pub use Shown.{AreFirst, AreLines, Cut, Ending, EndsBy, Faulty, IsDatagramLine, IsPayloadText, IsShown, Whole, last_line, message_text, status_of}
-pub use Judged.{IsJudged}
+pub use Judged.{IsJudged, IsToldBy}
+pub use Running.{Runs}
 pub use Checked.{IsChecked, checked, detail, refusal_line, verdict_status}
 pub use Extracted.{IsExtracted, extracted}
 pub use Normalised.{IsNormalised, normalised}

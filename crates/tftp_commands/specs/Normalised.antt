@@ -1,11 +1,11 @@
 -- What `normal` writes of a capture text: its normal text, and nothing where it is not accepted.
-use Rattle.std.specs.Prelude.{◌≡◌, [], Result, Ok, Err}
+use Rattle.std.specs.Prelude.{[], Result, Ok, Err}
 use Rattle.tftp_model.specs.{Meaning}
 use Rattle.tftp_judge.specs.{Verdict}
 use Rattle.tftp_normal.specs.{normal_text}
 use Rattle.tftp_commands.specs.declared.status.Status.TheVariants as status
 use Rattle.tftp_commands.specs.Checked.{verdict_status}
-use Rattle.tftp_commands.specs.Judged.{IsJudged}
+use Rattle.tftp_commands.specs.Judged.{IsToldBy}
 use Rattle.tftp_commands.specs.Outputs.{Output}
 use Rattle.tftp_commands.specs.Sources.{Source}
 
@@ -16,7 +16,5 @@ normalised (Err verdict) = record { bytes = []; status = verdict_status verdict 
 
 -- The output is that of what there is to say of what was read; that memory was wanting is said too where it was to write
 -- what is accepted.
-pub record IsNormalised (source : Source) (output : Output) : Type 0 where
-  pub said : Result Meaning Verdict
-  pub judged : IsJudged source said
-  pub is : output ≡ normalised said
+abbrev pub IsNormalised : Source → Output → Type 0
+IsNormalised = IsToldBy normalised

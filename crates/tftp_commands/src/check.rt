@@ -1,9 +1,7 @@
-ghost use Rattle.std.specs.Prelude.{◌≡◌, ℕ, List, Some, true, false, OnOk, OnErr};
-ghost use Rattle.std.specs.Io.KnownBytes.{Appends, Consumes};
-ghost use Rattle.tftp_capture.specs.{AppendsPrefix};
+ghost use Rattle.std.specs.Prelude.{◌≡◌, false, Ok, Err};
 ghost use Rattle.tftp_commands.specs.Checked.{IsChecked, checked};
-ghost use Rattle.tftp_commands.specs.Outputs.{IsWritten, Output};
-ghost use Rattle.tftp_commands.specs.Sources.{Source, given};
+ghost use Rattle.tftp_commands.specs.Outputs.{IsWritten};
+ghost use Rattle.tftp_commands.specs.Running.{Runs};
 
 use crate::output::write_out;
 use crate::status::Status;
@@ -21,11 +19,7 @@ pub fn check<R: Read, W: Write>(
 ) -> Status
     requires reading { reader.old.1 ≡ false }
     requires writing { writer.old.1 ≡ false }
-    ensures said { (read : List ℕ) × (output : Output) × Consumes (R.remaining reader.old.0) (R.remaining reader.new.0) read
-        × IsChecked (record { read = read; left = R.remaining reader.new.0; failed = reader.new.1 }) output
-        × IsWritten (W.contents writer.old.0) (W.contents writer.new.0) writer.new.1 output result }
-    ensures whole { (text : List ℕ) → R.remaining reader.old.0 ≡ Some text → reader.new.1 ≡ false
-        → (output : Output) × IsChecked (given text) output × IsWritten (W.contents writer.old.0) (W.contents writer.new.0) writer.new.1 output result }
+    ensures { Runs R.remaining W.contents IsChecked reader.old reader.new writer.old writer.new result }
 {
     match judge_text(alloc, reader) {
         Ok(meaning) => say_accepted(alloc, writer, &meaning),

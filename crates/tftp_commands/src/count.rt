@@ -1,9 +1,8 @@
-ghost use Rattle.std.specs.Prelude.{◌≡◌, ℕ, List, Some, false, Ok};
-ghost use Rattle.std.specs.Io.KnownBytes.{Consumes};
+ghost use Rattle.std.specs.Prelude.{◌≡◌, false, Ok};
 ghost use Rattle.tftp_capture.specs.{Adds};
 ghost use Rattle.tftp_commands.specs.Counted.{IsCounted, counted, counted_line};
-ghost use Rattle.tftp_commands.specs.Outputs.{IsWritten, Output};
-ghost use Rattle.tftp_commands.specs.Sources.{Source, given};
+ghost use Rattle.tftp_commands.specs.Outputs.{IsWritten};
+ghost use Rattle.tftp_commands.specs.Running.{Runs};
 
 use crate::check::say_verdict;
 use crate::output::write_out;
@@ -23,11 +22,7 @@ pub fn count<R: Read, W: Write>(
 ) -> Status
     requires reading { reader.old.1 ≡ false }
     requires writing { writer.old.1 ≡ false }
-    ensures said { (read : List ℕ) × (output : Output) × Consumes (R.remaining reader.old.0) (R.remaining reader.new.0) read
-        × IsCounted (record { read = read; left = R.remaining reader.new.0; failed = reader.new.1 }) output
-        × IsWritten (W.contents writer.old.0) (W.contents writer.new.0) writer.new.1 output result }
-    ensures whole { (text : List ℕ) → R.remaining reader.old.0 ≡ Some text → reader.new.1 ≡ false
-        → (output : Output) × IsCounted (given text) output × IsWritten (W.contents writer.old.0) (W.contents writer.new.0) writer.new.1 output result }
+    ensures { Runs R.remaining W.contents IsCounted reader.old reader.new writer.old writer.new result }
 {
     match judge_text(alloc, reader) {
         Ok(meaning) => say_counted(alloc, writer, &meaning),

@@ -1,8 +1,6 @@
-ghost use Rattle.std.specs.Prelude.{◌≡◌, ℕ, List, Some, false};
-ghost use Rattle.std.specs.Io.KnownBytes.{Consumes};
+ghost use Rattle.std.specs.Prelude.{◌≡◌, false};
 ghost use Rattle.tftp_commands.specs.Extracted.{IsExtracted};
-ghost use Rattle.tftp_commands.specs.Outputs.{IsWritten, Output};
-ghost use Rattle.tftp_commands.specs.Sources.{Source, given};
+ghost use Rattle.tftp_commands.specs.Running.{Runs};
 
 use crate::status::Status;
 use crate::verdicts::status_of;
@@ -20,11 +18,7 @@ pub fn extract<R: Read, W: Write>(
 ) -> Status
     requires reading { reader.old.1 ≡ false }
     requires writing { writer.old.1 ≡ false }
-    ensures said { (read : List ℕ) × (output : Output) × Consumes (R.remaining reader.old.0) (R.remaining reader.new.0) read
-        × IsExtracted (record { read = read; left = R.remaining reader.new.0; failed = reader.new.1 }) output
-        × IsWritten (W.contents writer.old.0) (W.contents writer.new.0) writer.new.1 output result }
-    ensures whole { (text : List ℕ) → R.remaining reader.old.0 ≡ Some text → reader.new.1 ≡ false
-        → (output : Output) × IsExtracted (given text) output × IsWritten (W.contents writer.old.0) (W.contents writer.new.0) writer.new.1 output result }
+    ensures { Runs R.remaining W.contents IsExtracted reader.old reader.new writer.old writer.new result }
 {
     match tftp_judge::extract(alloc, reader, writer) {
         Ok(()) => Status::Success,

@@ -1,9 +1,8 @@
-ghost use Rattle.std.specs.Prelude.{◌≡◌, ◌++◌, ◌^◌, ◌<◌, ℕ, List, [], Some, true, false, codes, decimal, OnOk};
-ghost use Rattle.std.specs.Io.KnownBytes.{Consumes};
+ghost use Rattle.std.specs.Prelude.{◌≡◌, ◌++◌, ℕ, List, [], true, false, codes, decimal, OnOk};
 ghost use Rattle.tftp_packet.specs.{meaning};
 ghost use Rattle.tftp_capture.specs.{datagram_of, Adds};
-ghost use Rattle.tftp_commands.specs.Outputs.{IsWritten, Output};
-ghost use Rattle.tftp_commands.specs.Sources.{Source, given};
+ghost use Rattle.tftp_commands.specs.Outputs.{IsWritten};
+ghost use Rattle.tftp_commands.specs.Running.{Runs};
 ghost use Rattle.tftp_commands.specs.Shown.{message_text, ending_of, last_line, status_of, IsDatagramLine, IsPayloadText, IsShown};
 
 use crate::faults::put_fault;
@@ -26,11 +25,7 @@ pub fn show<R: Read, W: Write>(
 ) -> Status
     requires reading { reader.old.1 ≡ false }
     requires writing { writer.old.1 ≡ false }
-    ensures said { (read : List ℕ) × (output : Output) × Consumes (R.remaining reader.old.0) (R.remaining reader.new.0) read
-        × IsShown (record { read = read; left = R.remaining reader.new.0; failed = reader.new.1 }) writer.new.1 output
-        × IsWritten (W.contents writer.old.0) (W.contents writer.new.0) writer.new.1 output result }
-    ensures whole { (text : List ℕ) → R.remaining reader.old.0 ≡ Some text → reader.new.1 ≡ false
-        → (output : Output) × IsShown (given text) writer.new.1 output × IsWritten (W.contents writer.old.0) (W.contents writer.new.0) writer.new.1 output result }
+    ensures { Runs R.remaining W.contents (λ source. IsShown source writer.new.1) reader.old reader.new writer.old writer.new result }
 {
     let mut gathered = Gathered::new(alloc);
     let mut capture = match CaptureReader::begin(alloc, reader) {

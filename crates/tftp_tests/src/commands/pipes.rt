@@ -29,6 +29,7 @@ const PIECES: &[Piece] = &[
 
 /// How many datagrams have come, how many lines were written by how many writes, and whether more was read while one that
 /// had come was not written.
+#[derive(Drop)]
 struct Pipe {
     come: Cell<usize>,
     lines: Cell<usize>,
@@ -94,7 +95,7 @@ impl Write for Counting<'_> {
 }
 
 /// Shows what a reader gives, and answers the status.
-fn shown<R: Read>(rt: &HostRuntime, reader: R, pipe: &Pipe) -> u8 {
+fn shown<R: Read + Drop>(rt: &HostRuntime, reader: R, pipe: &Pipe) -> u8 {
     let mut reader = Tallied::new(reader);
     let mut writer = Tallied::new(Counting { pipe });
     run(

@@ -1,71 +1,14 @@
-use Rattle.std.proofs.Common.{Ok, Err, refl, rules, sym, ◌∙◌}
-use Rattle.std.proofs.lemmas.Bool.{false≢true}
+use Rattle.std.proofs.Common.{Ok, Err}
 use Rattle.tftp_commands.specs.{checked}
-use Rattle.tftp_judge.proofs.ReadVerdicts.{read_is_text}
+use Rattle.tftp_commands.proofs.Judging.{judged_runs}
 use Rattle.tftp_commands.proofs.check.check.Goals as goal
 
-pub returns-in-Ok-clause-said : goal.returns-in-Ok-clause-said
-returns-in-Ok-clause-said g c =
-    let judged = c.in-Ok.ensures.judged in (
-      judged.0,
-      checked (Ok c.in-Ok.meaning),
-      judged.1,
-      record {
-        said = Ok c.in-Ok.meaning;
-        judged = record {
-          is_said = read_is_text judged.0 (Ok c.in-Ok.meaning) judged.2;
-          at_end = c.in-Ok.ensures.ended;
-          failed = (c.in-Ok.ensures.read, c.in-Ok.ensures.tally);
-        };
-        is = refl;
-      },
-      c.say_accepted.ensures,
-    )
+pub returns-in-Ok : goal.returns-in-Ok
+returns-in-Ok g c =
+    let e = c.in-Ok.ensures in
+    judged_runs g.R.Read.remaining g.W.Write.contents checked c.args.reader.now c.judge_text.new.reader c.args.writer.now c.say_accepted.new.writer (Ok c.in-Ok.meaning) _ e.judged e.ended e.read e.tally e.whole c.say_accepted.ensures
 
-pub returns-in-Ok-clause-whole : goal.returns-in-Ok-clause-whole
-returns-in-Ok-clause-whole g c = λ text all clean. (
-  checked (Ok c.in-Ok.meaning),
-  record {
-    said = Ok c.in-Ok.meaning;
-    judged = record {
-      is_said = c.in-Ok.ensures.whole text all clean;
-      at_end = λ _. search rules;
-      failed = (λ none. absurd none, λ failed. absurd (false≢true failed));
-    };
-    is = refl;
-  },
-  c.say_accepted.ensures,
-)
-
-pub returns-in-Err-clause-said : goal.returns-in-Err-clause-said
-returns-in-Err-clause-said g c =
-    let judged = c.in-Err.ensures.judged in (
-      judged.0,
-      checked (Err c.in-Err.verdict),
-      judged.1,
-      record {
-        said = Err c.in-Err.verdict;
-        judged = record {
-          is_said = read_is_text judged.0 (Err c.in-Err.verdict) judged.2;
-          at_end = c.in-Err.ensures.ended;
-          failed = (c.in-Err.ensures.read, c.in-Err.ensures.tally);
-        };
-        is = refl;
-      },
-      c.say_verdict.ensures,
-    )
-
-pub returns-in-Err-clause-whole : goal.returns-in-Err-clause-whole
-returns-in-Err-clause-whole g c = λ text all clean. (
-  checked (Err c.in-Err.verdict),
-  record {
-    said = Err c.in-Err.verdict;
-    judged = record {
-      is_said = c.in-Err.ensures.whole text all clean;
-      at_end = λ _. search rules;
-      failed = (λ says. sym clean ∙ c.in-Err.ensures.read says, λ failed. absurd (false≢true failed));
-    };
-    is = refl;
-  },
-  c.say_verdict.ensures,
-)
+pub returns-in-Err : goal.returns-in-Err
+returns-in-Err g c =
+    let e = c.in-Err.ensures in
+    judged_runs g.R.Read.remaining g.W.Write.contents checked c.args.reader.now c.judge_text.new.reader c.args.writer.now c.say_verdict.new.writer (Err c.in-Err.verdict) _ e.judged e.ended e.read e.tally e.whole c.say_verdict.ensures

@@ -1,9 +1,9 @@
 use Rattle.std.proofs.Common.{◌++◌, codes, decimal, inl, inr, refl, ap, ◌∙◌}
 use Rattle.tftp_packet.specs.{meaning}
-use Rattle.tftp_capture.proofs.Gathering.{adds_err}
+use Rattle.tftp_capture.proofs.Gathering.{adds_err, head_failed, line_added}
 use Rattle.tftp_capture.specs.{dir_word}
 use Rattle.tftp_commands.specs.{message_text}
-use Rattle.tftp_commands.proofs.Lines.{head_failed, line_added, line_pieces, payload_said}
+use Rattle.tftp_commands.proofs.Lines.{line_pieces, payload_said}
 use Rattle.tftp_commands.proofs.show.put_datagram.Goals as goal
 
 pub returns-in_err-add_all : goal.returns-in_err-add_all
