@@ -11,6 +11,7 @@ pub mod HeldWire
 pub mod AllDone
 pub mod BeforeReply
 pub mod NotedPeers
+pub mod RowLemmas
 pub mod KeptIds
 pub mod RouteSides
 pub mod KeptAtClient

@@ -2,6 +2,7 @@
 #![tactic(auto)]
 
 mod block_rules;
+mod linked;
 mod named_end;
 mod ports;
 mod receiver_state;

@@ -3,6 +3,7 @@ ghost use Rattle.tftp_hosts.specs.{PeerId};
 ghost use Rattle.tftp_rules.specs.{same_peer};
 ghost use Rattle.tftp_ends.specs.Known.{is_noted};
 
+use crate::linked::{Linked, add, is_full, is_linked, mark};
 use std::alloc::{AllocError, Global};
 use std::cmp::Ordering;
 use std::collections::BTreeSet;
@@ -87,19 +88,26 @@ impl Ord for Peer {
     }
 }
 
-/// The peers that strays came from.
+/// The peers that strays came from, each in a row that its hash leads to, or in a tree where that row is full.
 #[derive(Drop)]
 pub struct Strays {
-    peers: BTreeSet<Peer>,
+    alloc: Global,
+    /// Of each row how many peers are linked up to its latest one, or 0.
+    latest: Vec<u32>,
+    links: Vec<Linked>,
+    others: BTreeSet<Peer>,
 }
 
 impl Model for Strays {
-    ghost use Rattle.std.specs.Prelude.{List};
+    ghost use Rattle.std.specs.Prelude.{List, ◌++◌};
     ghost use Rattle.tftp_hosts.specs.Capture.{PeerId};
+    ghost use Rattle.tftp_ends.specs.Rows.{IsLinked, peers_of};
 
     ghost Value = { List PeerId };
 
-    ghost view = { λ s. s.peers.keys };
+    ghost view = { λ s. peers_of s.links.items ++ s.others.keys };
+
+    ghost invariant = { λ s. IsLinked s.latest.items s.links.items };
 }
 
 impl Strays {
@@ -108,7 +116,10 @@ impl Strays {
         ensures { result ≡ [] }
     {
         Strays {
-            peers: BTreeSet::new(alloc),
+            alloc,
+            latest: Vec::new(alloc),
+            links: Vec::new(alloc),
+            others: BTreeSet::new(alloc),
         }
     }
 
@@ -116,7 +127,7 @@ impl Strays {
     pub fn have(&self, peer: Peer) -> bool
         ensures { result ≡ is_noted peer self.now }
     {
-        self.peers.contains(&peer)
+        is_linked(&self.latest, &self.links, &peer, mark(&peer)) || self.others.contains(&peer)
     }
 
     /// Notes that a stray came from this peer. Takes memory only for a peer that was not noted.
@@ -125,7 +136,18 @@ impl Strays {
         ensures err { OnErr result (self.new ≡ self.old) }
         ensures absent { OnErr result (is_noted peer self.old ≡ false) }
     {
-        self.peers.insert(peer)?;
+        let mark = mark(&peer);
+        if is_linked(&self.latest, &self.links, &peer, mark) {
+            return Ok(());
+        }
+        if is_full(&self.latest, &self.links, mark) {
+            self.others.insert(peer)?;
+            return Ok(());
+        }
+        if self.others.contains(&peer) {
+            return Ok(());
+        }
+        add(self.alloc, &mut self.latest, &mut self.links, peer, mark)?;
         Ok(())
     }
 }
