@@ -14,6 +14,10 @@ use Rattle.tftp_capture.specs.declared.stop.Stop.TheVariants.{Text, Read, Memory
 abbrev pub most_ahead : ℕ
 most_ahead = 65536
 
+-- how many bytes a line of any version has at most
+abbrev pub most_of_line : ℕ
+most_of_line = 131116
+
 abbrev pub fault_at : Stop → ℕ → CaptureFault
 fault_at (Text fault) line = faults.Text line fault
 fault_at Read line = faults.Read line
@@ -53,10 +57,9 @@ abbrev pub bytes_lying : Result ℕ Stop → ℕ
 bytes_lying (Ok count) = count
 bytes_lying (Err stop) = 0
 
--- a line that lies in the bytes read ahead with its LF, or where none does what was gathered
-abbrev pub line_at : (lies : ℕ) (gathered ahead : List ℕ) → List ℕ
-line_at zero gathered ahead = gathered
-line_at (suc count) gathered ahead = take count ahead
+-- the line that lies there so
+abbrev pub line_at : (lies : ℕ) (ahead : List ℕ) → List ℕ
+line_at lies ahead = take (lies - 1) ahead
 
 -- Where memory was refused in a line, all of it that was read is taken: nothing is ahead, or its LF is, for which the
 -- text has room.

@@ -9,7 +9,7 @@ use std::io::Read;
 use std::marker::Model;
 
 /// How many bytes are read at once.
-pub const ROOM: usize = 65536;
+const ROOM: usize = 65536;
 
 /// Bytes that were read ahead of their use, at most 65,536. They stand in memory that is asked for once, and not on the
 /// stack, where each move would copy them.

@@ -16,29 +16,27 @@ use std::marker::Model;
 /// The most bytes of a text.
 const LONGEST_TEXT: u64 = 1 << 40;
 
-/// The lines of a text, one after another: at most one line and the bytes read ahead are held. A line that lies whole
-/// in what is read ahead is handed out there; `lies` is then how many bytes it has with its LF, and 0 where the line was
-/// gathered.
+/// The lines of a text, one after another: at most one line and the bytes read ahead are held. A line is handed out where it
+/// lies in what is held; `lies` is how many bytes it has with its LF, and 0 where none was read.
 #[derive(Drop)]
 pub struct Lines {
     ahead: Supply,
     lies: usize,
-    line: Vec<u8>,
     taken: u64,
     count: u64,
     version: Version,
 }
 
 impl Model for Lines {
-    ghost use Rattle.std.specs.Prelude.{◌+◌, ◌^◌, ◌≤◌, length, drop, vec_len};
+    ghost use Rattle.std.specs.Prelude.{◌+◌, ◌^◌, ◌≤◌, length, drop};
     ghost use Rattle.tftp_capture.specs.CaptureText.{longest_line};
     ghost use Rattle.tftp_capture.specs.Lines.{line_at, most_ahead, LineState};
 
     ghost Value = { LineState };
 
-    ghost view = { λ a. record { ahead = drop a.lies a.ahead.bytes; full = a.ahead.full; line = line_at a.lies a.line.items a.ahead.bytes; taken = a.taken; count = a.count; version = a.version } };
+    ghost view = { λ a. record { ahead = drop a.lies a.ahead.bytes; full = a.ahead.full; line = line_at a.lies a.ahead.bytes; taken = a.taken; count = a.count; version = a.version } };
 
-    ghost invariant = { λ a. (vec_len a.line ≤ longest_line a.version) × (a.lies ≤ longest_line a.version + 1) × (a.lies ≤ length a.ahead.bytes) × (length a.ahead.bytes ≤ most_ahead) × (a.count ≤ a.taken) × (a.taken ≤ 2 ^ 40) };
+    ghost invariant = { λ a. (a.lies ≤ longest_line a.version + 1) × (a.lies ≤ length a.ahead.bytes) × (length a.ahead.bytes ≤ a.lies + most_ahead) × (a.count ≤ a.taken) × (a.taken ≤ 2 ^ 40) };
 }
 
 /// Whether a line is empty or a comment.
@@ -79,7 +77,6 @@ impl Lines {
         Ok(Lines {
             ahead,
             lies: 0,
-            line: Vec::new(alloc),
             taken: 0,
             count: 0,
             version: Version::One,
@@ -108,10 +105,7 @@ impl Lines {
         ensures value { result.now ≡ self.now.line }
         ensures narrow { length self.now.line ≤ longest_line self.now.version }
     {
-        match self.lies {
-            0 => self.line.as_slice(),
-            lies => &self.ahead.as_slice()[..lies - 1],
-        }
+        &self.ahead.as_slice()[..self.lies.saturating_sub(1)]
     }
 
     /// How many lines were read.
@@ -154,8 +148,8 @@ impl Lines {
         self.lies = 0;
         let longest = self.version.longest_line();
         let room = LONGEST_TEXT - self.taken;
-        self.lies = read_line(&mut self.ahead, reader, &mut self.line, longest, room)?;
-        self.taken += self.line().len() as u64 + 1;
+        self.lies = read_line(&mut self.ahead, reader, longest, room)?;
+        self.taken += self.lies as u64;
         self.count += 1;
         Ok(())
     }

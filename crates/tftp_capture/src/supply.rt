@@ -1,46 +1,61 @@
-ghost use Rattle.std.specs.Prelude.{◌≡◌, ◌≢◌, ◌≤◌, ◌==◌, [], length, drop, true, false, IfOk, OnOk, OnErr};
-ghost use Rattle.std.specs.Io.KnownBytes.{prepend_known, Keeps, IsAtEnd};
-ghost use Rattle.tftp_capture.specs.Lines.{most_ahead};
+ghost use Rattle.std.specs.Prelude.{◌≡◌, ◌≢◌, ◌≤◌, ◌==◌, ◌+◌, ◌-◌, ◌++◌, ℕ, List, [], length, take, drop, true, false, IfOk, OnOk, OnErr};
+ghost use Rattle.std.specs.Io.KnownBytes.{prepend_known, Consumes, Keeps, IsAtEnd};
+ghost use Rattle.tftp_capture.specs.Lines.{most_ahead, most_of_line};
 
-use crate::ahead::{Ahead, ROOM};
 use crate::tallied::Tallied;
 use std::alloc::{AllocError, Global};
 use std::io;
 use std::io::Read;
 use std::marker::Model;
 
-/// Bytes of a text that were read ahead, and whether the last read gave as many as were asked for. A file does so but at
-/// its end; a pipe or a terminal gives what there is.
+/// How many bytes are read at once.
+const AT_ONCE: usize = 65_536;
+
+/// How many bytes there is room for: the longest line, of 131,116, and those of one read behind it.
+const ROOM: usize = 196_652;
+
+/// Bytes of a text that were read and not yet let go, and whether the last read gave as many as were asked for. A file does
+/// so but at its end; a pipe or a terminal gives what there is. They stand in memory that is asked for once, and not on the
+/// stack, where each move would copy them; where one more read finds no room behind them, they are moved to its front.
 #[derive(Drop)]
 pub struct Supply {
-    ahead: Ahead,
+    buf: Vec<u8>,
+    start: usize,
+    end: usize,
     full: bool,
 }
 
 impl Model for Supply {
+    ghost use Rattle.std.specs.Prelude.{take, drop, vec_len, ◌≡◌, ◌≤◌};
     ghost use Rattle.tftp_capture.specs.Lines.{SupplyState};
 
     ghost Value = { SupplyState };
 
-    ghost view = { λ s. record { bytes = s.ahead; full = s.full } };
+    ghost view = { λ s. record { bytes = drop s.start (take s.end s.buf.items); full = s.full } };
+
+    ghost invariant = { λ s. (s.start ≤ s.end) × (s.end ≤ 196652) × (vec_len s.buf ≡ 196652) };
 }
 
 impl Supply {
-    /// Nothing was read yet.
+    /// Nothing was read yet; it takes the memory for what will be.
     pub fn new(alloc: Global) -> Result<Self, AllocError>
         ensures { IfOk result (λ supply. supply ≡ record { bytes = []; full = false }) }
     {
-        let ahead = Ahead::new(alloc)?;
-        Ok(Supply { ahead, full: false })
+        let buf = vec![in alloc; 0; ROOM]?;
+        Ok(Supply {
+            buf,
+            start: 0,
+            end: 0,
+            full: false,
+        })
     }
 
     /// The bytes that are held.
     #[inline]
     pub fn as_slice(&self) -> &[u8]
-        ensures value { result.now ≡ self.now.bytes }
-        ensures few { length self.now.bytes ≤ most_ahead }
+        ensures { result.now ≡ self.now.bytes }
     {
-        self.ahead.as_slice()
+        &self.buf[self.start..self.end]
     }
 
     /// Whether the last read gave as many bytes as were asked for.
@@ -57,28 +72,87 @@ impl Supply {
         requires { count ≤ length self.old.bytes }
         ensures value { self.new.bytes ≡ drop count self.old.bytes }
         ensures full { self.new.full ≡ self.old.full }
-        ensures few { length self.new.bytes ≤ most_ahead }
     {
-        self.ahead.consume(count);
+        self.start += count;
+    }
+
+    /// Reads once, at most 65,536 bytes, behind what is held, which is moved to the front of its memory. Nothing has come
+    /// only at the reader's end.
+    pub fn read_on<R: Read>(&mut self, reader: &mut Tallied<R>) -> io::Result<()>
+        requires room { length self.old.bytes ≤ most_of_line }
+        ensures more { (more : List ℕ) × (self.new.bytes ≡ self.old.bytes ++ more) × (length more ≤ most_ahead) }
+        ensures full { OnOk result (self.new.full ≡ (length self.new.bytes - length self.old.bytes == most_ahead)) }
+        ensures kept { Keeps (prepend_known self.old.bytes (R.remaining reader.old.0)) (prepend_known self.new.bytes (R.remaining reader.new.0)) }
+        ensures end { IfOk result (λ _. length self.new.bytes ≡ length self.old.bytes → IsAtEnd (R.remaining reader.new.0)) }
+        ensures ok { OnOk result (reader.new.1 ≡ reader.old.1) }
+        ensures err { OnErr result (reader.new.1 ≡ true) }
+        ensures none { OnErr result (self.new.bytes ≡ self.old.bytes) }
+    {
+        let held = self.end - self.start;
+        let came = read_behind(reader, &mut self.buf, self.start, self.end);
+        self.start = 0;
+        self.end = held;
+        match came {
+            Ok(count) => {
+                self.end = held + count;
+                self.full = count == AT_ONCE;
+                Ok(())
+            }
+            Err(error) => Err(error),
+        }
     }
 
     /// Reads once where nothing is held; then nothing is held only at the reader's end.
-    #[inline]
     pub fn fill<R: Read>(&mut self, reader: &mut Tallied<R>) -> io::Result<()>
-        ensures few { length self.new.bytes ≤ most_ahead }
+        ensures few { self.old.bytes ≡ [] → length self.new.bytes ≤ most_ahead }
+        ensures held { self.old.bytes ≢ [] → self.new.bytes ≡ self.old.bytes }
         ensures kept { Keeps (prepend_known self.old.bytes (R.remaining reader.old.0)) (prepend_known self.new.bytes (R.remaining reader.new.0)) }
-        ensures held { self.old.bytes ≢ [] → (self.new ≡ self.old) × (reader.new ≡ reader.old) }
-        ensures full { self.old.bytes ≡ [] → OnOk result (self.new.full ≡ (length self.new.bytes == most_ahead)) }
         ensures end { IfOk result (λ _. length self.new.bytes ≡ 0 → IsAtEnd (prepend_known self.new.bytes (R.remaining reader.new.0))) }
         ensures ok { OnOk result (reader.new.1 ≡ reader.old.1) }
         ensures err { OnErr result (reader.new.1 ≡ true) }
         ensures drained { OnErr result (self.new.bytes ≡ []) }
     {
-        if !self.ahead.as_slice().is_empty() {
+        if !self.as_slice().is_empty() {
             return Ok(());
         }
-        self.ahead.fill(reader)?;
-        self.full = self.ahead.as_slice().len() == ROOM;
-        Ok(())
+        self.read_on(reader)
     }
+}
+
+/// Moves the bytes from `start` to `end` to the front, if they are not there.
+fn move_to_front(buf: &mut [u8], start: usize, end: usize)
+    requires order { start ≤ end }
+    requires within { end ≤ length buf.old }
+    ensures moved { take (end - start) buf.new ≡ drop start (take end buf.old) }
+    ensures len { length buf.new ≡ length buf.old }
+{
+    if start > 0 {
+        buf.copy_within(start..end, 0);
+    }
+}
+
+/// Moves the bytes from `start` to `end` to the front, and reads once behind them, at most 65,536. Answers how many have
+/// come.
+fn read_behind<R: Read>(
+    reader: &mut Tallied<R>,
+    buf: &mut [u8],
+    start: usize,
+    end: usize,
+) -> io::Result<usize>
+    requires order { start ≤ end }
+    requires within { end ≤ length buf.old }
+    requires room { end - start + most_ahead ≤ length buf.old }
+    ensures len { length buf.new ≡ length buf.old }
+    ensures front { take (end - start) buf.new ≡ drop start (take end buf.old) }
+    ensures more { IfOk result (λ count. (more : List ℕ) × (take (end - start + count) buf.new ≡ drop start (take end buf.old) ++ more)
+        × (length more ≡ count) × (count ≤ most_ahead) × Consumes (R.remaining reader.old.0) (R.remaining reader.new.0) more
+        × (count ≡ 0 → IsAtEnd (R.remaining reader.new.0))) }
+    ensures kept { OnErr result (Keeps (R.remaining reader.old.0) (R.remaining reader.new.0)) }
+    ensures ok { OnOk result (reader.new.1 ≡ reader.old.1) }
+    ensures err { OnErr result (reader.new.1 ≡ true) }
+{
+    move_to_front(buf, start, end);
+    let held = end - start;
+    let count = reader.read(&mut buf[held..held + AT_ONCE])?;
+    Ok(count)
 }

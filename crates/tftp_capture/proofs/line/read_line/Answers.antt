@@ -1,151 +1,165 @@
-use Rattle.std.proofs.Common.{◌≡◌, ◌≢◌, ◌+◌, ◌-◌, ◌<◌, ◌≤◌, [], ◌∷◌, ◌++◌, length, take, get_or, sym, ap, ◌∙◌, arith, append_assoc, length-append, length-take-le}
+use Rattle.std.proofs.Common.{◌≡◌, ◌≢◌, ◌+◌, ◌-◌, ◌<◌, ◌≤◌, ◌∷◌, ◌++◌, [], length, take, drop, get_or, sym, ap, ◌∙◌, arith, rules, length-append, length-take-le}
 use Rattle.std.proofs.lemmas.Bool.Decides.{nat_tests}
-use Rattle.std.proofs.lemmas.Grind.{common_steps}
-use Rattle.std.proofs.lemmas.List.Elements.{All-append}
-use Rattle.tftp_capture.proofs.Bytes.{end_ahead, taken_step, taken_all, byte_at, no_end_at, line_ended, line_lies}
-use Rattle.tftp_capture.proofs.Payloads.{no_bytes}
+use Rattle.std.proofs.lemmas.List.{get_or-drop, length-drop, take_rest}
+use Rattle.std.proofs.Math.Seq.{take-length}
+use Rattle.std.proofs.KnownBytes.{Keeps-trans}
+use Rattle.tftp_capture.specs.{HasNoEnd, IsPartOfLine}
+use Rattle.tftp_capture.proofs.Bytes.{byte_in, held_all, held_first, held_some, line_ended, line_lies, no_end_at, no_end_on}
 use Rattle.tftp_capture.proofs.line.read_line.Goals as goal
-use Rattle.tftp_capture.proofs.line.read_line.Goals.{then-room-length, else-room-length+then-whole, else-room-length+else-whole, else-room-longest-via-then-room-longest+else-over, else-room-longest-via-else-room-longest}
+use Rattle.tftp_capture.proofs.line.read_line.Goals.{then-room-count, else-room-count+then-whole, else-room-count+else-whole, else-room-longest-via-then-room-longest+else-over, else-room-longest-via-else-room-longest}
 
 pub returns-then-over-clause-ends : goal.returns-then-over-clause-ends
 returns-then-over-clause-ends g c =
-    let held = c.fill.new.self.bytes in
-    let line = c.pieces.line.items in
-    let count = c.count_before-count.result in
-    let all : length c.as_slice-held.result.now ≡ length held = ap length c.as_slice-held.ensures.value in
-    let low : length line ≤ c.args.room = c.pieces.invariant.part.short in
-    let places : (c.args.room ≤ length line + count) × (c.args.room < length line + length held) =
-    elim c.if-room-length.branch [
-      | then-room-length w ↦ (omega arith, omega arith)
-      | else-room-length+then-whole w ↦ (grind (arith, nat_tests), grind (arith, nat_tests))
-      | else-room-length+else-whole w ↦ (grind (arith, nat_tests), grind (arith, nat_tests))
-    ] in
-    let at = byte_at line held count c.args.room c.pieces.invariant.part.no_end (rw c.as_slice-held.ensures.value at c.count_before-count.ensures.none_before) low places.0 places.1 in (
-      line ++ held,
-      rw (c.consume.ensures.value, c.as_slice-held.ensures.value) (taken_all _ _ _ line held c.pieces.invariant.taken c.fill.ensures.kept),
-      (get_or held (c.args.room - length line) 0, at, c.if-room-longest.true),
-      tt,
+    let held = c.reads.ahead.bytes in
+    let seen = c.reads.seen in
+    let found = c.count_before.result in
+    let same = c.as_slice-held.ensures in
+    let all : length c.as_slice-held.result.now ≡ length held = ap length same in
+    let no_end : HasNoEnd (take (seen + found) held) = no_end_on held seen found c.reads.invariant.part.no_end (rw same at (rw take_rest at c.count_before.ensures.none_before)) in
+    let places : (c.args.room ≤ seen + found) × (c.args.room < length held) =
+    elim c.if-room-count.branch [
+      | then-room-count w ↦ (omega arith, omega (arith, all, length-drop seen held, rw same at (rw take_rest at c.count_before.ensures.within)))
+      | else-room-count+then-whole w ↦ (grind (arith, nat_tests), grind (arith, nat_tests))
+      | else-room-count+else-whole w ↦ (grind (arith, nat_tests), grind (arith, nat_tests))
+    ] in (
+      held,
+      rw (c.consume.ensures.value, same) (held_all _ _ held c.reads.invariant.kept),
+      (get_or held c.args.room 0, byte_in held (seen + found) c.args.room no_end places.0 places.1, c.if-room-longest.true),
     )
 
-pub returns-then-length-longest-clause-ends : goal.returns-then-length-longest-clause-ends
-returns-then-length-longest-clause-ends g c =
-    let held = c.fill.new.self.bytes in
-    let line = c.pieces.line.items in
-    let count = c.count_before-count.result in
-    let no_end = rw c.as_slice-held.ensures.value at c.count_before-count.ensures.none_before in
-    let all : length c.as_slice-held.result.now ≡ length held = ap length c.as_slice-held.ensures.value in
-    let low : length line ≤ c.args.longest = c.pieces.invariant.part.narrow in
-    let high : c.args.longest < length line + count = omega arith in
-    let within : c.args.longest < length line + length held = omega arith in (
-      line ++ held,
-      rw (c.consume-then-length-longest.ensures.value, c.as_slice-held.ensures.value) (taken_all _ _ _ line held c.pieces.invariant.taken c.fill.ensures.kept),
+pub returns-then-count-longest-clause-ends : goal.returns-then-count-longest-clause-ends
+returns-then-count-longest-clause-ends g c =
+    let held = c.reads.ahead.bytes in
+    let seen = c.reads.seen in
+    let found = c.count_before.result in
+    let same = c.as_slice-held.ensures in
+    let all : length c.as_slice-held.result.now ≡ length held = ap length same in
+    let no_end : HasNoEnd (take (seen + found) held) = no_end_on held seen found c.reads.invariant.part.no_end (rw same at (rw take_rest at c.count_before.ensures.none_before)) in
+    let upto : seen + found ≤ length held = omega (arith, length-drop seen held, c.reads.invariant.within, rw same at (rw take_rest at c.count_before.ensures.within)) in
+    let high : c.args.longest < seen + found = c.if-count-longest.true in
+    let within : c.args.longest < length held = omega (arith, upto, high) in (
+      held,
+      rw (c.consume-then-count-longest.ensures.value, same) (held_all _ _ held c.reads.invariant.kept),
       (
-        get_or held (c.args.longest - length line) 0,
-        byte_at line held count c.args.longest c.pieces.invariant.part.no_end no_end low (omega arith) within,
-        no_end_at held count (c.args.longest - length line) no_end (omega arith) (omega arith),
+        get_or held c.args.longest 0,
+        byte_in held (seen + found) c.args.longest no_end (omega (arith, high)) within,
+        no_end_at held (seen + found) c.args.longest no_end high within,
         elim c.else-room-longest.branch [
-          | else-room-longest-via-then-room-longest+else-over w ↦ elim c.if-room-length.branch [
-            | then-room-length v ↦ grind (arith, nat_tests)
-            | else-room-length+then-whole v ↦ grind (arith, nat_tests)
-            | else-room-length+else-whole v ↦ grind (arith, nat_tests)
+          | else-room-longest-via-then-room-longest+else-over w ↦ elim c.if-room-count.branch [
+            | then-room-count v ↦ grind (arith, nat_tests)
+            | else-room-count+then-whole v ↦ grind (arith, nat_tests)
+            | else-room-count+else-whole v ↦ grind (arith, nat_tests)
           ]
           | else-room-longest-via-else-room-longest w ↦ omega arith
         ],
       ),
-      tt,
     )
 
-pub returns-then-whole-3-clause-ends : goal.returns-then-whole-3-clause-ends
-returns-then-whole-3-clause-ends g c =
-    let held = c.fill.new.self.bytes in
-    let line = c.pieces.line.items in
-    let count = c.count_before-count.result in
-    let ended : take (count + 1) held ≡ take count held ++ 10 ∷ [] = line_ended held count (rw c.as_slice-held.ensures.value at c.if-whole-3.true) (rw c.as_slice-held.ensures.value at (c.count_before-count.ensures.here c.if-whole-3.true)) in
-    let no_end = rw c.as_slice-held.ensures.value at c.count_before-count.ensures.none_before in
-    let all : length c.as_slice-held.result.now ≡ length held = ap length c.as_slice-held.ensures.value in
-    let grew : c.extend_from_slice.new.self.items ≡ line ++ take count held = rw (← c.as_slice-held.ensures.value) (grind (arith, common_steps)) in
-    let size : length c.extend_from_slice.new.self.items ≡ length line + count =
-    ap length grew ∙ length-append line (take count held) ∙ ap (λ n. length line + n) (length-take-le count held (omega arith)) in
-    let fits : length line + count < c.args.room =
+pub returns-then-whole-2-clause-ends : goal.returns-then-whole-2-clause-ends
+returns-then-whole-2-clause-ends g c =
+    let held = c.reads.ahead.bytes in
+    let seen = c.reads.seen in
+    let found = c.count_before.result in
+    let same = c.as_slice-held.ensures in
+    let all : length c.as_slice-held.result.now ≡ length held = ap length same in
+    let no_end : HasNoEnd (take (seen + found) held) = no_end_on held seen found c.reads.invariant.part.no_end (rw same at (rw take_rest at c.count_before.ensures.none_before)) in
+    let within : seen + found < length held = rw same at c.if-whole-2.true in
+    let behind : found < length (drop seen held) = omega (arith, length-drop seen held, within) in
+    let here : get_or held (seen + found) 0 ≡ 10 = sym (get_or-drop seen held found 0) ∙ (rw same at (rw take_rest at c.count_before.ensures.here)) behind in
+    let ended : take (seen + found + 1) held ≡ take (seen + found) held ++ 10 ∷ [] = line_ended held (seen + found) within here in
+    let size : length (take (seen + found) held) ≡ seen + found = length-take-le (seen + found) held (omega (arith, within)) in
+    let fits : seen + found < c.args.room =
     elim c.else-room-longest.branch [
-      | else-room-longest-via-then-room-longest+else-over w ↦ elim c.if-room-length.branch [
-        | then-room-length v ↦ grind (arith, nat_tests)
-        | else-room-length+then-whole v ↦ grind (arith, nat_tests)
-        | else-room-length+else-whole v ↦ grind (arith, nat_tests)
+      | else-room-longest-via-then-room-longest+else-over w ↦ elim c.if-room-count.branch [
+        | then-room-count v ↦ grind (arith, nat_tests)
+        | else-room-count+then-whole v ↦ grind (arith, nat_tests)
+        | else-room-count+else-whole v ↦ grind (arith, nat_tests)
       ]
       | else-room-longest-via-else-room-longest w ↦ omega arith
     ] in (
-      line ++ take (count + 1) held,
-      rw c.consume-then-whole-3.ensures.value (taken_step _ _ _ line held (count + 1) c.pieces.invariant.taken c.fill.ensures.kept),
-      (
-        ap (λ l. line ++ l) ended ∙ sym (append_assoc line (take count held) (10 ∷ [])) ∙ ap (λ l. l ++ 10 ∷ []) (sym grew),
-        record {
-          no_end = rw grew (All-append (λ b. b ≢ 10) line (take count held) c.pieces.invariant.part.no_end no_end);
-          narrow = omega arith;
-          short = omega arith;
-        },
-        omega arith,
-      ),
-      tt,
-    )
-
-pub returns-then-is_err-2-clause-ends : goal.returns-then-is_err-2-clause-ends
-returns-then-is_err-2-clause-ends g c =
-    let held = c.fill.new.self.bytes in
-    let line = c.pieces.line.items in
-    let count = c.count_before-count.result in
-    let no_end = rw c.as_slice-held.ensures.value at c.count_before-count.ensures.none_before in
-    let all : length c.as_slice-held.result.now ≡ length held = ap length c.as_slice-held.ensures.value in
-    let upto : count ≤ length held = omega arith in
-    let here : count < length held → get_or held count 0 ≡ 10 = rw c.as_slice-held.ensures.value at c.count_before-count.ensures.here in
-    let size : length (line ++ take count held) ≡ length line + count = length-append line (take count held) ∙ ap (λ n. length line + n) (length-take-le count held upto) in
-    let fits : (length line + count ≤ c.args.room) × (count < length held → length line + count < c.args.room) =
-    elim c.else-room-longest.branch [
-      | else-room-longest-via-then-room-longest+else-over w ↦ elim c.if-room-length.branch [
-        | then-room-length v ↦ (grind (arith, nat_tests), λ h. grind (arith, nat_tests))
-        | else-room-length+then-whole v ↦ (grind (arith, nat_tests), λ h. grind (arith, nat_tests))
-        | else-room-length+else-whole v ↦ (grind (arith, nat_tests), λ h. grind (arith, nat_tests))
-      ]
-      | else-room-longest-via-else-room-longest w ↦ (omega arith, λ h. omega arith)
-    ] in (
-      line ++ take count held,
-      rw c.consume-then-is_err-2.ensures.value (taken_step _ _ _ line held count c.pieces.invariant.taken c.fill.ensures.kept),
-      record {
-        no_end = All-append (λ b. b ≢ 10) line (take count held) c.pieces.invariant.part.no_end no_end;
-        narrow = omega arith;
-        short = omega (arith, size, fits.0);
-      },
-      rw c.consume-then-is_err-2.ensures.value (end_ahead held count c.args.room (length (line ++ take count held)) upto here (λ h. omega (arith, size, fits.1 h))),
-    )
-
-pub returns-then-is_empty-2-clause-ends : goal.returns-then-is_empty-2-clause-ends
-returns-then-is_empty-2-clause-ends g c =
-    let held = c.fill.new.self.bytes in
-    let count = c.count_before-count.result in
-    let empty : length c.pieces.line.items ≡ 0 = grind (arith, nat_tests) in
-    let none = no_bytes c.pieces.line.items empty in
-    let ended : take (count + 1) held ≡ take count held ++ 10 ∷ [] = line_ended held count (rw c.as_slice-held.ensures.value at c.if-whole-2.true) (rw c.as_slice-held.ensures.value at (c.count_before-count.ensures.here c.if-whole-2.true)) in
-    let all : length c.as_slice-held.result.now ≡ length held = ap length c.as_slice-held.ensures.value in
-    let size : length (take count held) ≡ count = length-take-le count held (omega arith) in
-    let fits : count < c.args.room =
-    elim c.else-room-longest.branch [
-      | else-room-longest-via-then-room-longest+else-over w ↦ elim c.if-room-length.branch [
-        | then-room-length v ↦ grind (arith, nat_tests)
-        | else-room-length+then-whole v ↦ grind (arith, nat_tests)
-        | else-room-length+else-whole v ↦ grind (arith, nat_tests)
-      ]
-      | else-room-longest-via-else-room-longest w ↦ omega arith
-    ] in (
-      take (count + 1) held,
-      rw none at (taken_step _ _ _ c.pieces.line.items held (count + 1) c.pieces.invariant.taken c.fill.ensures.kept),
-      rw (line_lies count c.pieces.line.items held) (
+      take (seen + found + 1) held,
+      held_some _ _ held (seen + found + 1) c.reads.invariant.kept,
+      rw (line_lies (seen + found) held) (
         ended,
-        record {
-          no_end = rw c.as_slice-held.ensures.value at c.count_before-count.ensures.none_before;
-          narrow = omega arith;
-          short = omega arith;
-        },
-        omega arith,
+        record { no_end = no_end; narrow = omega (arith, size, c.if-count-longest.false); short = omega (arith, size, fits) },
+        omega (arith, size, fits),
       ),
-      tt,
     )
+
+pub returns-in-Err-clause-ends : goal.returns-in-Err-clause-ends
+returns-in-Err-clause-ends g c =
+    let held = c.reads.ahead.bytes in
+    let seen = c.reads.seen in
+    let found = c.count_before.result in
+    let same = c.as_slice-held.ensures in
+    let all : length c.as_slice-held.result.now ≡ length held = ap length same in
+    let no_end : HasNoEnd (take (seen + found) held) = no_end_on held seen found c.reads.invariant.part.no_end (rw same at (rw take_rest at c.count_before.ensures.none_before)) in
+    let whole : seen + found ≡ length held = omega (arith, all, length-drop seen held, c.reads.invariant.within, c.if-whole-2.false, rw same at (rw take_rest at c.count_before.ensures.within)) in
+    let fits : length held ≤ c.args.room =
+    elim c.else-room-longest.branch [
+      | else-room-longest-via-then-room-longest+else-over w ↦ elim c.if-room-count.branch [
+        | then-room-count v ↦ grind (arith, nat_tests)
+        | else-room-count+then-whole v ↦ grind (arith, nat_tests)
+        | else-room-count+else-whole v ↦ grind (arith, nat_tests)
+      ]
+      | else-room-longest-via-else-room-longest w ↦ omega arith
+    ] in (
+      held,
+      rw (c.consume-in-Err.ensures.value, same, c.in-Err.ensures.none) (held_all _ _ held (Keeps-trans _ _ _ c.reads.invariant.kept (rw c.in-Err.ensures.none at c.in-Err.ensures.kept))),
+      record { no_end = rw (whole, take-length) at no_end; narrow = omega (arith, whole, c.if-count-longest.false); short = fits },
+    )
+
+pub returns-then-as_slice-all-clause-ends : goal.returns-then-as_slice-all-clause-ends
+returns-then-as_slice-all-clause-ends g c =
+    let held = c.reads.ahead.bytes in
+    let new = c.read_on.new.self.bytes in
+    let seen = c.reads.seen in
+    let found = c.count_before.result in
+    let same = c.as_slice-held.ensures in
+    let all : length c.as_slice-held.result.now ≡ length held = ap length same in
+    let no_end : HasNoEnd (take (seen + found) held) = no_end_on held seen found c.reads.invariant.part.no_end (rw same at (rw take_rest at c.count_before.ensures.none_before)) in
+    let whole : seen + found ≡ length held = omega (arith, all, length-drop seen held, c.reads.invariant.within, c.if-whole-2.false, rw same at (rw take_rest at c.count_before.ensures.within)) in
+    let front : take (length held) new ≡ held = ap (take (length held)) c.read_on.ensures.more.1 ∙ held_first held c.read_on.ensures.more.0 in
+    let fits : length held ≤ c.args.room =
+    elim c.else-room-longest.branch [
+      | else-room-longest-via-then-room-longest+else-over w ↦ elim c.if-room-count.branch [
+        | then-room-count v ↦ grind (arith, nat_tests)
+        | else-room-count+then-whole v ↦ grind (arith, nat_tests)
+        | else-room-count+else-whole v ↦ grind (arith, nat_tests)
+      ]
+      | else-room-longest-via-else-room-longest w ↦ omega arith
+    ] in (
+      held,
+      rw (c.consume-then-as_slice-all.ensures.value, same) (rw front at (held_some _ _ new (length held) (Keeps-trans _ _ _ c.reads.invariant.kept c.read_on.ensures.kept))),
+      record { no_end = rw (whole, take-length) at no_end; narrow = omega (arith, whole, c.if-count-longest.false); short = fits },
+    )
+
+pub reads-preserved : goal.reads-preserved
+reads-preserved g c =
+    let held = c.reads.ahead.bytes in
+    let new = c.read_on.new.self.bytes in
+    let seen = c.reads.seen in
+    let found = c.count_before.result in
+    let same = c.as_slice-held.ensures in
+    let all : length c.as_slice-held.result.now ≡ length held = ap length same in
+    let no_end : HasNoEnd (take (seen + found) held) = no_end_on held seen found c.reads.invariant.part.no_end (rw same at (rw take_rest at c.count_before.ensures.none_before)) in
+    let whole : seen + found ≡ length held = omega (arith, all, length-drop seen held, c.reads.invariant.within, c.if-whole-2.false, rw same at (rw take_rest at c.count_before.ensures.within)) in
+    let front : take (length held) new ≡ held = ap (take (length held)) c.read_on.ensures.more.1 ∙ held_first held c.read_on.ensures.more.0 in
+    let grew : length new ≡ length held + length c.read_on.ensures.more.0 = ap length c.read_on.ensures.more.1 ∙ length-append held c.read_on.ensures.more.0 in
+    let fits : length held ≤ c.args.room =
+    elim c.else-room-longest.branch [
+      | else-room-longest-via-then-room-longest+else-over w ↦ elim c.if-room-count.branch [
+        | then-room-count v ↦ grind (arith, nat_tests)
+        | else-room-count+then-whole v ↦ grind (arith, nat_tests)
+        | else-room-count+else-whole v ↦ grind (arith, nat_tests)
+      ]
+      | else-room-longest-via-else-room-longest w ↦ omega arith
+    ] in
+    let part : IsPartOfLine held c.args.longest c.args.room = record { no_end = rw (whole, take-length) at no_end; narrow = omega (arith, whole, c.if-count-longest.false); short = fits } in
+    record {
+      tally = rw c.in_default.is at c.read_on.ensures.ok ∙ c.reads.invariant.tally;
+      within = omega (arith, all, grew);
+      near = omega (arith, all, grew, c.read_on.ensures.more.2);
+      part = rw (same, front) part;
+      kept = Keeps-trans _ _ _ c.reads.invariant.kept c.read_on.ensures.kept;
+    }

@@ -1,14 +1,16 @@
-use Rattle.std.proofs.Common.{◌≡◌, ◌-◌, vec_len}
-use Rattle.std.specs.Io.KnownBytes.{prepend_known, Consumes}
-use Rattle.tftp_capture.specs.{IsPartOfLine}
+use Rattle.std.proofs.Common.{◌≡◌, ◌+◌, ◌-◌, ◌≤◌, length, take}
+use Rattle.std.specs.Io.KnownBytes.{prepend_known, Keeps}
+use Rattle.tftp_capture.specs.{IsPartOfLine, most_ahead}
 use Rattle.tftp_capture.proofs.line.read_line.Given as goal
 
-abbrev pub invariant-pieces : goal.invariant-pieces
-invariant-pieces g l = record {
+abbrev pub invariant-reads : goal.invariant-reads
+invariant-reads g l = record {
   tally : l.reader.1 ≡ l.fn.reader.1;
-  part : IsPartOfLine l.line.items l.longest l.room;
-  taken : Consumes (prepend_known l.fn.ahead.bytes (g.R.Read.remaining l.fn.reader.0)) (prepend_known l.ahead.bytes (g.R.Read.remaining l.reader.0)) l.line.items;
+  within : l.seen ≤ length l.ahead.bytes;
+  near : length l.ahead.bytes ≤ l.seen + most_ahead;
+  part : IsPartOfLine (take l.seen l.ahead.bytes) l.longest l.room;
+  kept : Keeps (prepend_known l.fn.ahead.bytes (g.R.Read.remaining l.fn.reader.0)) (prepend_known l.ahead.bytes (g.R.Read.remaining l.reader.0));
 }
 
-abbrev pub decreases-pieces : goal.decreases-pieces
-decreases-pieces g l = l.longest - vec_len l.line
+abbrev pub decreases-reads : goal.decreases-reads
+decreases-reads g l = l.longest + most_ahead - length l.ahead.bytes
