@@ -349,9 +349,10 @@ class SaidTrial(ShimmedTrial):
     def names_of_the_program(self) -> None:
         """The program's name is any word, and no command."""
         for name in ("", "check", "--help", "/usr/bin/tftp-audit"):
-            self.expect(f"called {name!r}", self.run(["check"], READ_OF_HI, name), (ACCEPTED.encode() + b"\n", 0))
-            self.expect(f"called {name!r} alone", self.run([], b"", name), (b"fault usage\n", 2))
-        self.expect("no command", self.run(["tftp-audit"], b"", "check"), (b"fault usage\n", 2))
+            checked = self.run_as(name, ["check"], READ_OF_HI, {})
+            self.expect(f"called {name!r}", checked, (ACCEPTED.encode() + b"\n", 0))
+            self.expect(f"called {name!r} alone", self.run_as(name, [], b"", {}), (b"fault usage\n", 2))
+        self.expect("no command", self.run_as("check", ["tftp-audit"], b"", {}), (b"fault usage\n", 2))
 
 
 def main(program: str, folder: str) -> int:

@@ -7,7 +7,7 @@ import os
 import pathlib
 import subprocess
 import tempfile
-from collections.abc import Sequence
+from collections.abc import Mapping, Sequence
 
 from normal import Output
 from trial import Trial
@@ -23,19 +23,21 @@ class ShimmedTrial(Trial):
         super().__init__()
         self.program, self.shim, self.met = program, folder / "refuse.so", folder / "met"
 
-    def run(self, words: Sequence[str | bytes], given: bytes, name: str | None = None, **shim: int) -> Got:
-        """What the program, called by this name, writes and its status, whether it wrote no error, and whether the
-        shim's call was met."""
+    def run(self, words: Sequence[str | bytes], given: bytes, **shim: int) -> Got:
+        """What the program writes and its status, whether it wrote no error, and whether the shim's call was met."""
+        return self.run_as(self.program, words, given, shim)
+
+    def run_as(self, name: str, words: Sequence[str | bytes], given: bytes, shim: Mapping[str, int]) -> Got:
+        """The same of the program called by this name."""
         self.met.unlink(missing_ok=True)
         environment = {"LD_PRELOAD": str(self.shim), "MET": str(self.met), "PATH": os.environ.get("PATH", "")}
         environment.update({variable: str(value) for variable, value in shim.items()})
-        called = [self.program if name is None else name, *words]
         # A file gives all that is asked for, where a pipe may give less.
         with tempfile.TemporaryFile() as file:
             file.write(given)
             file.seek(0)
             done = subprocess.run(
-                called, executable=self.program, stdin=file, capture_output=True, env=environment, timeout=60
+                [name, *words], executable=self.program, stdin=file, capture_output=True, env=environment, timeout=60
             )
         return (done.stdout, done.returncode), done.stderr == b"", self.met.exists()
 
