@@ -110,6 +110,9 @@ returns-in_err-feed-clause-judged g c = found_judged _ _ _ _ (refused g c)
 pub returns-in_err-feed-clause-ended : goal.returns-in_err-feed-clause-ended
 returns-in_err-feed-clause-ended g c = found_ended _ _ _ _ (refused g c)
 
+pub returns-in_err-feed-clause-read : goal.returns-in_err-feed-clause-read
+returns-in_err-feed-clause-read g c = (refused g c).failing
+
 pub returns-in_err-feed-clause-tally : goal.returns-in_err-feed-clause-tally
 returns-in_err-feed-clause-tally g c = found_tally _ _ _ _ (refused g c)
 
