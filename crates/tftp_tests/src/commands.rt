@@ -11,20 +11,21 @@ mod pipes;
 type Said = (&'static [&'static str], &'static str, u8);
 
 /// Runs the program on a text. It promises nothing, so that what `run` promises is read only here.
-fn ran(rt: &HostRuntime, words: &[&str], text: &[u8], writer: &mut Tallied<DripWriter>) -> u8 {
+fn ran(rt: &HostRuntime, words: &[&str], text: &[u8], drip: DripWriter) -> (u8, DripWriter) {
     let mut reader = Tallied::new(DripReader::new(text, 7, 0, None));
-    run(rt.alloc(), words, &mut reader, writer).code()
+    let mut writer = Tallied::new(drip);
+    let status = run(rt.alloc(), words, &mut reader, &mut writer).code();
+    (status, writer.into_inner())
 }
 
 /// Fails unless this is written of the read of `hi`, with this status.
 fn says(rt: &HostRuntime, (words, output, status): &Said) -> Result<(), Fail> {
-    let mut writer = Tallied::new(DripWriter::new(rt.alloc(), 65_536, 5, 0, false)?);
-    let ended = ran(rt, *words, READ_OF_HI, &mut writer);
-    let taken = writer.into_inner();
-    if ended == *status && taken.taken() == output.as_bytes() {
+    let drip = DripWriter::new(rt.alloc(), 65_536, 5, 0, false)?;
+    let (ended, written) = ran(rt, *words, READ_OF_HI, drip);
+    if ended == *status && written.taken() == output.as_bytes() {
         Ok(())
     } else {
-        Err(Fail::from((ended, taken.taken().len())))
+        Err(Fail::from((ended, written.taken().len())))
     }
 }
 
