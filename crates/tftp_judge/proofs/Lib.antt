@@ -24,3 +24,4 @@ mod Extracting
 pub mod TakenMemory
 pub mod StaysAfter
 pub mod Replied
+pub mod CameCanonical

@@ -8,6 +8,7 @@ pub mod KeptCode
 pub mod Found
 pub mod Extracted
 pub mod Courses
+pub mod Contents
 pub use Verdicts.{IsSaid, IsUnlawfulAt, IsVerdict, IsVerdictBy, IsVerdictByRules}
 pub use TextVerdict.{AllLawful, BeginsBy, EndsText, IsCaptureBy, IsFaultOf, IsLineOf, IsOfText, IsReadVerdict, IsTextVerdict, LawfulBefore, NoFaultBefore, SaysReadFailed, WantsMemory, WantsToJudge, WantsToRead, unnumbered}
 pub use Ending.{IsUnfinished}
@@ -18,6 +19,8 @@ pub use KeptCode.{course_of}
 pub use Found.{Finds, FindsOf, IsFirstOf, NoneBreaks, Refuses, stop_by_port, stop_of_fault, stop_of_rejection}
 pub use Extracted.{Extracts, WritesFile}
 pub use Courses.{DiffersByCourse, DiffersBySent, HasAnswer, IsNewBlockOn, WaitsForReply}
+pub use Contents.{file_in, IsCanonical}
+pub use declared.file.FileBytes.{FileBytes}
 pub use declared.extraction.OutFault.{OutFault}
 pub use declared.refusal.Refusal.{Refusal}
 pub use declared.refusal.Refusal.TheVariants.{Aborted, Incomplete, NormalTooLong, Unlawful}

@@ -10,6 +10,15 @@ use tftp_blocks::Delivered;
 use tftp_netascii::{Lengths, decode_in_place, file_lengths};
 use tftp_packet::Mode;
 
+/// The bytes of a file, or of the wire that carries it.
+#[derive(Debug, Drop)]
+pub enum FileBytes {
+    /// Those of the file.
+    File(Vec<u8>),
+    /// Those of the one wire that is written for the file, as they came.
+    Wire(Vec<u8>),
+}
+
 /// A file that is kept as the wire that came with it, and its lengths. Contracts see the mode and the file.
 #[derive(Debug, Drop)]
 pub struct CarriedFile {
@@ -34,6 +43,7 @@ impl Model for CarriedFile {
 impl CarriedFile {
     ghost use Rattle.std.specs.Prelude.{◌≡◌, length};
     ghost use Rattle.tftp_law.specs.Fitting.{ReadsAs, written_wire};
+    ghost use Rattle.tftp_judge.specs.Contents.{file_in, IsCanonical};
 
     /// The file that a wire reads as (RFC 1350, section 1). It is counted, and takes no memory.
     pub fn of(mode: Mode, wire: Vec<u8>) -> Self
@@ -81,6 +91,19 @@ impl CarriedFile {
             Mode::Netascii => decode_in_place(&mut wire),
         }
         wire
+    }
+
+    /// The wire that came, where it is the one that is written for the file, as it always is in octet mode; else the bytes of
+    /// the file, as `into_bytes` reads them. So what is written for the file is made anew only where that is another wire.
+    pub fn into_file_bytes(self) -> FileBytes
+        ensures file { file_in self.0 result ≡ self.1 }
+        ensures canonical { IsCanonical self.0 result }
+    {
+        if self.lengths.encoded != self.wire.len() as u64 {
+            return FileBytes::File(self.into_bytes());
+        }
+        let CarriedFile { wire, .. } = self;
+        FileBytes::Wire(wire)
     }
 }
 

@@ -19,6 +19,7 @@ mod transfer;
 mod verdict;
 
 pub use extraction::{OutFault, extract};
+pub use file::FileBytes;
 pub use judging::Judge;
 pub use kinds::is_wrong_kind;
 pub use meaning::{Meaning, MeaningParts};

@@ -1,4 +1,4 @@
-use crate::file::CarriedFile;
+use crate::file::{CarriedFile, FileBytes};
 use std::marker::Model;
 use tftp_packet::{Options, Request};
 
@@ -19,8 +19,8 @@ pub struct MeaningParts {
     pub request: Request,
     /// The options that the server agreed to, perhaps none.
     pub agreed: Options,
-    /// The bytes of the file.
-    pub file: Vec<u8>,
+    /// The bytes of the file, or of its canonical wire where that is the one which came.
+    pub file: FileBytes,
     /// How many blocks the canonical wire of the file has, the last one too.
     pub blocks: u16,
 }
@@ -37,7 +37,7 @@ impl Model for Meaning {
 
     ghost view = { λ m. meaning_from (m.request, (m.agreed, m.file.1)) };
 
-    ghost invariant = { λ m. CanBeWritten (meaning_from (m.request, (m.agreed, m.file.1))) × (m.blocks ≡ blocks_of (meaning_from (m.request, (m.agreed, m.file.1)))) };
+    ghost invariant = { λ m. CanBeWritten (meaning_from (m.request, (m.agreed, m.file.1))) × (m.blocks ≡ blocks_of (meaning_from (m.request, (m.agreed, m.file.1)))) × (m.file.0 ≡ m.request.mode) };
 }
 
 impl Meaning {
@@ -45,11 +45,13 @@ impl Meaning {
     ghost use Rattle.tftp_model.specs.Meanings.{request_of};
     ghost use Rattle.tftp_law.specs.Writable.{blocks_of, CanBeWritten};
     ghost use Rattle.tftp_law.specs.Owned.{meaning_from};
+    ghost use Rattle.tftp_judge.specs.Contents.{file_in, IsCanonical};
 
     /// Takes the parts over, and no memory. The number of the blocks is that of the canonical wire.
     pub(crate) fn of(request: Request, agreed: Options, file: CarriedFile, blocks: u16) -> Self
         requires can { CanBeWritten (meaning_from (request, (agreed, file.1))) }
         requires counted { blocks ≡ blocks_of (meaning_from (request, (agreed, file.1))) }
+        requires mode { file.0 ≡ request.mode }
         ensures { result ≡ meaning_from (request, (agreed, file.1)) }
     {
         Meaning {
@@ -93,9 +95,11 @@ impl Meaning {
         file.into_bytes()
     }
 
-    /// All parts, the file read as `into_file` reads it. Whatever is meant can be written.
+    /// All parts; the file is read as `into_file` reads it only where the wire that came is not the canonical one. Whatever
+    /// is meant can be written.
     pub fn into_parts(self) -> MeaningParts
-        ensures parts { meaning_from (result.request, (result.agreed, result.file.items)) ≡ self }
+        ensures parts { meaning_from (result.request, (result.agreed, file_in result.request.mode result.file)) ≡ self }
+        ensures canonical { IsCanonical result.request.mode result.file }
         ensures count { result.blocks ≡ blocks_of self }
         ensures can { CanBeWritten self }
     {
@@ -108,7 +112,7 @@ impl Meaning {
         MeaningParts {
             request,
             agreed,
-            file: file.into_bytes(),
+            file: file.into_file_bytes(),
             blocks,
         }
     }

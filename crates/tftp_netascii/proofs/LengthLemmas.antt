@@ -1,9 +1,9 @@
 -- What is counted of a text gives the lengths of the file that it reads as, and of the text that is written for it.
-use Rattle.std.proofs.Common.{◌≡◌, ◌≢◌, ◌≤◌, ℕ, Bool, true, false, cond, eqb, List, [], ◌∷◌, ◌+◌, length, ◌++◌, refl, ap, ⊎_elim, inl, inr, subst, sym, arith}
+use Rattle.std.proofs.Common.{◌≡◌, ◌≢◌, ◌≤◌, ℕ, Bool, true, false, true≢false, cond, eqb, List, [], ◌∷◌, ◌+◌, length, ◌++◌, refl, ap, ◌∙◌, ⊎_elim, inl, inr, subst, sym, arith}
 use Rattle.std.proofs.lemmas.Bool.{cases_eq, ne_eqb, cases_Bool}
 use Rattle.tftp_netascii.specs.{Reads, end, line_end, bare_return, itself, BeginsWithPair, canonical_wire, file_of, count_after, begins_control, is_second}
 use Rattle.tftp_netascii.proofs.ReadsLemmas.{Reads-file_of}
-use Rattle.tftp_netascii.proofs.CanonicalLemmas.{is_control, length-canonical_cons}
+use Rattle.tftp_netascii.proofs.CanonicalLemmas.{is_control, canonical_bytes-plain, length-canonical_cons}
 
 pub count_after-most : (test : ℕ → ℕ → Bool) (before : ℕ) (w : List ℕ) → count_after test before w ≤ length w
 count_after-most test before [] = omega arith
@@ -78,3 +78,41 @@ file_counted w = (counted 0 w (file_of w) refl (Reads-file_of w)).0
 
 pub encoded_counted : (w : List ℕ) → length (canonical_wire (file_of w)) ≡ length (file_of w) + count_after begins_control 0 w
 encoded_counted w = (counted 0 w (file_of w) refl (Reads-file_of w)).1
+
+-- a text that reads as a file is no longer than the one that is written for it
+pub no_longer : (w f : List ℕ) → Reads w f → length w ≤ length (canonical_wire f)
+no_longer _ _ end = omega arith
+no_longer _ _ (line_end w f reads) = omega (arith, no_longer w f reads, length-canonical_cons 10 f)
+no_longer _ _ (bare_return w f reads) = omega (arith, no_longer w f reads, length-canonical_cons 13 f)
+no_longer _ _ (itself x w f none reads) = omega (arith, no_longer w f reads, length-canonical_cons x f)
+
+longer_by_one : (m n : ℕ) → m ≤ n → 1 + m ≡ 1 + 1 + n → ⊥
+longer_by_one m n most long = omega (arith, most, long)
+
+no_line_feed : (x : ℕ) → is_control x ≡ false → x ≢ 10
+no_line_feed x plain is = true≢false (sym (subst (λ (y : ℕ). is_control y ≡ true) (sym is) refl) ∙ plain)
+
+no_return : (x : ℕ) → is_control x ≡ false → x ≢ 13
+no_return x plain is = true≢false (sym (subst (λ (y : ℕ). is_control y ≡ true) (sym is) refl) ∙ plain)
+
+-- and where it is as long, it is that one
+pub as_long : (w f : List ℕ) → Reads w f → length w ≡ length (canonical_wire f) → w ≡ canonical_wire f
+as_long _ _ end long = refl
+as_long _ _ (line_end w f reads) long =
+    let written = length-canonical_cons 10 f in
+    ap (λ (t : List ℕ). 13 ∷ 10 ∷ t) (as_long w f reads (omega (arith, written, long)))
+as_long _ _ (bare_return w f reads) long =
+    let written = length-canonical_cons 13 f in
+    ap (λ (t : List ℕ). 13 ∷ 0 ∷ t) (as_long w f reads (omega (arith, written, long)))
+as_long _ _ (itself x w f none reads) long =
+    let written = length-canonical_cons x f in
+    let most = no_longer w f reads in
+    ⊎_elim
+    (λ (e : is_control x ≡ true).
+    let cost : cond {A = ℕ} (is_control x) 1 0 ≡ 1 = rw e refl in
+    absurd (longer_by_one (length w) (length (canonical_wire f)) most (omega (arith, long, written, cost))))
+    (λ (e : is_control x ≡ false).
+    let cost : cond {A = ℕ} (is_control x) 1 0 ≡ 0 = rw e refl in
+    let same = as_long w f reads (omega (arith, long, written, cost)) in
+    rw (canonical_bytes-plain x (no_line_feed x e) (no_return x e)) (ap (λ (t : List ℕ). x ∷ t) same))
+    (cases_Bool (is_control x))

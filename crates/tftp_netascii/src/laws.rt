@@ -1,6 +1,6 @@
 //! What holds of every netascii text. These functions do nothing: their contracts are the laws. One counts a small text.
 
-ghost use Rattle.std.specs.Prelude.{◌≡◌, Bool, ℕ, List, [], ◌∷◌};
+ghost use Rattle.std.specs.Prelude.{◌≡◌, ◌≤◌, Bool, ℕ, List, [], ◌∷◌, length};
 ghost use Rattle.tftp_netascii.specs.Netascii.{Reads, canonical_wire, file_of, nul, lf, cr};
 ghost use Rattle.tftp_netascii.specs.Decoder.{StandsFor};
 
@@ -25,6 +25,13 @@ pub fn canonical_wires_read_as_their_files()
 pub fn canonical_wires_are_written_again()
     ensures { (file other : List ℕ) → Reads (canonical_wire file) other
         → canonical_wire other ≡ canonical_wire file }
+{}
+
+/// A text that reads as a file is no longer than the one that is written for it, and as long only where it is that one.
+pub fn canonical_wires_are_the_longest()
+    ensures no_longer { (wire file : List ℕ) → Reads wire file → length wire ≤ length (canonical_wire file) }
+    ensures as_long { (wire file : List ℕ) → Reads wire file → length wire ≡ length (canonical_wire file)
+        → wire ≡ canonical_wire file }
 {}
 
 /// The bytes that were fed determine what a decoder holds back and what it has written, however

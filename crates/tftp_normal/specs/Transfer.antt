@@ -2,16 +2,18 @@
 use Rattle.std.specs.Prelude.{◌≡◌, ℕ, ◌-◌, ◌≤◌, List, length, take}
 use Rattle.tftp_model.specs.{Meaning}
 use Rattle.tftp_law.specs.{meaning_from, blocks_of, CanBeWritten}
+use Rattle.tftp_judge.specs.{file_in, IsCanonical}
 use Rattle.tftp_normal.specs.declared.transfer.Transfer.TheInside as transfer
 use Rattle.tftp_normal.specs.declared.data_packets.DataPackets.TheInside as packets
 
 abbrev pub meaning_in : transfer.Inside → Meaning
-meaning_in t = meaning_from (t.request.now, (t.agreed.now, t.file.now))
+meaning_in t = meaning_from (t.request.now, (t.agreed.now, file_in t.request.now.mode t.file.now))
 
--- it can be written, and has so many blocks
+-- it can be written, and has so many blocks; a wire is kept only where it is the one that is written
 pub record IsToBeWritten (t : transfer.Inside) : Type 0 where
   pub can : CanBeWritten (meaning_in t)
   pub counted : t.blocks ≡ blocks_of (meaning_in t)
+  pub canonical : IsCanonical t.request.now.mode t.file.now
 
 -- what contracts see of the DATA in turn: what is left of the wire, the size of a block, and the packet that was made last
 pub record DataState : Type 0 where

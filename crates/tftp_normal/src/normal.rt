@@ -34,7 +34,7 @@ pub fn normal_capture<W: Write>(
         file,
         blocks,
     } = meaning.into_parts();
-    let transfer = Transfer::of(&request, &agreed, file.as_slice(), blocks);
+    let transfer = Transfer::of(&request, &agreed, &file, blocks);
     write_normal(alloc, &transfer, writer)
 }
 

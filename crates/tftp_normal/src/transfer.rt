@@ -3,16 +3,18 @@
 ghost use Rattle.std.specs.Prelude.{◌≡◌, codes};
 ghost use Rattle.tftp_model.specs.{option_or};
 
+use crate::wire_blocks::WireBlocks;
 use std::alloc::{AllocError, Global};
 use std::marker::Model;
-use tftp_packet::{Mode, Options, Request, Side, Value, write_oack, write_request};
+use tftp_judge::FileBytes;
+use tftp_packet::{Options, Request, Side, Value, write_oack, write_request};
 
 /// A transfer that can be written, and the number of the blocks of its wire.
 #[derive(Drop)]
 pub(crate) struct Transfer<'a> {
     request: &'a Request,
     agreed: &'a Options,
-    file: &'a [u8],
+    file: &'a FileBytes,
     blocks: u16,
 }
 
@@ -38,13 +40,21 @@ impl<'a> Transfer<'a> {
     ghost use Rattle.tftp_model.specs.Meanings.{request_of, blksize_of, windowsize_of};
     ghost use Rattle.tftp_law.specs.Owned.{meaning_from};
     ghost use Rattle.tftp_law.specs.Writable.{blocks_of, CanBeWritten};
+    ghost use Rattle.tftp_law.specs.Fitting.{written_wire};
+    ghost use Rattle.tftp_judge.specs.{file_in, IsCanonical};
     ghost use Rattle.tftp_normal.specs.Normal.{normal_count};
 
     /// Takes the parts, and no memory.
-    pub(crate) fn of(request: &'a Request, agreed: &'a Options, file: &'a [u8], blocks: u16) -> Self
-        requires can { CanBeWritten (meaning_from (request.now, (agreed.now, file.now))) }
-        requires counted { blocks ≡ blocks_of (meaning_from (request.now, (agreed.now, file.now))) }
-        ensures { result ≡ meaning_from (request.now, (agreed.now, file.now)) }
+    pub(crate) fn of(
+        request: &'a Request,
+        agreed: &'a Options,
+        file: &'a FileBytes,
+        blocks: u16,
+    ) -> Self
+        requires can { CanBeWritten (meaning_from (request.now, (agreed.now, file_in request.now.mode file.now))) }
+        requires counted { blocks ≡ blocks_of (meaning_from (request.now, (agreed.now, file_in request.now.mode file.now))) }
+        requires canonical { IsCanonical request.now.mode file.now }
+        ensures { result ≡ meaning_from (request.now, (agreed.now, file_in request.now.mode file.now)) }
     {
         Transfer {
             request,
@@ -61,18 +71,14 @@ impl<'a> Transfer<'a> {
         self.request.side()
     }
 
-    /// How the file goes over the wire.
-    pub(crate) fn mode(&self) -> Mode
-        ensures { result ≡ self.now.mode }
+    /// The whole wire of the file. Where that is the one which came, nothing is spelled anew.
+    pub(crate) fn wire(&self) -> WireBlocks<'a>
+        ensures { result ≡ written_wire self.now.mode self.now.file }
     {
-        self.request.mode()
-    }
-
-    /// The bytes of the file.
-    pub(crate) fn file(&self) -> &'a [u8]
-        ensures { result.now ≡ self.now.file }
-    {
-        self.file
+        match self.file {
+            FileBytes::File(bytes) => WireBlocks::new(self.request.mode(), bytes.as_slice()),
+            FileBytes::Wire(wire) => WireBlocks::as_it_is(wire.as_slice()),
+        }
     }
 
     /// How many blocks the wire has.

@@ -55,6 +55,13 @@ impl<'a> WireBlocks<'a> {
         }
     }
 
+    /// A wire whose bytes are at hand.
+    pub(crate) fn as_it_is(wire: &'a [u8]) -> Self
+        ensures { result ≡ wire.now }
+    {
+        WireBlocks::new(Mode::Octet, wire)
+    }
+
     /// Fills a block from its front with what comes next, as far as it goes, and tells how many bytes those are.
     pub(crate) fn fill(&mut self, block: &mut [u8]) -> usize
         ensures within { result ≤ length block.old }

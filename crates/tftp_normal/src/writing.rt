@@ -14,7 +14,6 @@ ghost use Rattle.tftp_normal.specs.Writing.{asked_by, sent_by, datagrams_of, Put
 use crate::data_packets::DataPackets;
 use crate::fault::NormalFault;
 use crate::transfer::Transfer;
-use crate::wire_blocks::WireBlocks;
 use std::alloc::Global;
 use std::io::Write;
 use tftp_capture::{CaptureWriter, Header, Tallied, WriteFault};
@@ -213,8 +212,7 @@ pub(crate) fn write_normal<W: Write>(
 {
     let request = transfer.request_payload(alloc)?;
     let oack = transfer.oack_payload(alloc)?;
-    let wire = WireBlocks::new(transfer.mode(), transfer.file());
-    let mut packets = DataPackets::new(alloc, wire, transfer.block_size())?;
+    let mut packets = DataPackets::new(alloc, transfer.wire(), transfer.block_size())?;
     write_capture(
         alloc,
         transfer,

@@ -8,7 +8,7 @@ use std::test::Fail;
 use tftp_blocks::{Delivered, MapDelivered, RingDelivered};
 use tftp_capture::{Datagram, Header};
 use tftp_hosts::{Dir, Host};
-use tftp_judge::{Judge, Meaning, Refusal, Rule};
+use tftp_judge::{FileBytes, Judge, Meaning, Refusal, Rule};
 use tftp_packet::{Bytes, End as Side};
 
 /// A judge on this store. Contracts see nothing of it, so that what the library promises of its judges is read only here,
@@ -59,10 +59,14 @@ fn is_file_of(meaning: Meaning, file: &[u8]) -> bool {
     read.as_slice() == file && size == file.len() as u64
 }
 
-/// Whether a meaning has this name, this file and so many blocks.
-fn are_parts_of(meaning: Meaning, name: &[u8], file: &[u8], blocks: u16) -> bool {
+/// Whether a meaning has the name `t`, one block, and these bytes: those of the wire as it came, or of the file.
+fn are_parts_of(meaning: Meaning, as_it_came: bool, bytes: &[u8]) -> bool {
     let parts = meaning.into_parts();
-    parts.request.name() == name && parts.file.as_slice() == file && parts.blocks == blocks
+    let are_kept = match &parts.file {
+        FileBytes::File(file) => !as_it_came && file.as_slice() == bytes,
+        FileBytes::Wire(wire) => as_it_came && wire.as_slice() == bytes,
+    };
+    parts.request.name() == b"t" && are_kept && parts.blocks == 1
 }
 
 /// What a judge answers at the end, likewise.
@@ -95,9 +99,9 @@ impl End {
     }
 
     /// Whether a file was accepted that was asked for by this name, is this one, and has so many blocks.
-    pub fn has_parts(self, name: &[u8], file: &[u8], blocks: u16) -> bool {
+    pub fn has_parts(self, as_it_came: bool, bytes: &[u8]) -> bool {
         match self.answer {
-            Ok(meaning) => are_parts_of(meaning, name, file, blocks),
+            Ok(meaning) => are_parts_of(meaning, as_it_came, bytes),
             Err(_) => false,
         }
     }
@@ -260,19 +264,31 @@ const READ_OF_TEXT: &[Row] = &[
     ((Dir::Out, 41000, ACK_1), Ok(())),
 ];
 
-/// What is judged of that text.
-fn end_of_text<D: Delivered + Drop>(alloc: Global) -> Result<End, Fail> {
+/// The read of the same text, as no sender should write it: a bare LF, and a CR at the end.
+const READ_OF_BARE_TEXT: &[Row] = &[
+    ((Dir::Out, 69, b"\x00\x01t\x00netascii\x00"), Ok(())),
+    ((Dir::In, 41000, b"\x00\x03\x00\x01a\nb\r"), Ok(())),
+    ((Dir::Out, 41000, ACK_1), Ok(())),
+];
+
+/// What is judged of such a text.
+fn end_of_text<D: Delivered + Drop>(alloc: Global, rows: &[Row]) -> Result<End, Fail> {
     let mut judging = Judging::<D>::new(alloc, &HEADER);
-    all_have_answers(alloc, &mut judging, READ_OF_TEXT, 3)?;
+    all_have_answers(alloc, &mut judging, rows, 3)?;
     Ok(judging.finish(alloc))
 }
 
-/// The text is read, and counted, whether the file is asked for alone or all parts are.
+/// The text is read, and counted, whether the file is asked for alone or all parts are. Where the wire is the canonical one
+/// it is among the parts as it came.
 fn reads_text<D: Delivered + Drop>(alloc: Global) -> Result<(), Fail> {
-    let is_file = end_of_text::<D>(alloc)?.has_file(b"a\nb\r");
-    is_so(is_file, "another file")?;
-    let are_parts = end_of_text::<D>(alloc)?.has_parts(b"t", b"a\nb\r", 1);
-    is_so(are_parts, "other parts")
+    for rows in [READ_OF_TEXT, READ_OF_BARE_TEXT] {
+        let is_file = end_of_text::<D>(alloc, rows)?.has_file(b"a\nb\r");
+        is_so(is_file, "another file")?;
+    }
+    let are_parts = end_of_text::<D>(alloc, READ_OF_TEXT)?.has_parts(true, b"a\r\nb\r\0");
+    is_so(are_parts, "other parts")?;
+    let are_parts = end_of_text::<D>(alloc, READ_OF_BARE_TEXT)?.has_parts(false, b"a\nb\r");
+    is_so(are_parts, "other parts of bare ends of lines")
 }
 
 #[test]

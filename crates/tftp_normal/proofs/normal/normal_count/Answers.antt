@@ -1,7 +1,7 @@
-use Rattle.std.proofs.Common.{◌≡◌, ◌+◌, ◌≤◌, length, ap, subst, sym, ◌∙◌, codes}
+use Rattle.std.proofs.Common.{◌≡◌, ◌+◌, ◌≤◌, ap, subst, sym, ◌∙◌, codes}
 use Rattle.tftp_packet.specs.{OptionMap}
 use Rattle.tftp_model.specs.{option_or, windowsize_of}
-use Rattle.tftp_normal.specs.{normal_count, normal_datagrams}
+use Rattle.tftp_normal.specs.{normal_count}
 use Rattle.tftp_normal.proofs.Lengths.{counted}
 use Rattle.tftp_normal.proofs.Windows.{counted_by_parts}
 use Rattle.tftp_normal.proofs.normal.normal_count.Goals as goal

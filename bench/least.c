@@ -1,0 +1,109 @@
+/* The least that a program has to do before it can say that a read in octet mode is lawful, in plain C, beside which
+   least.py measures tftp-audit check: it reads the text by 65,536 bytes, finds the end of each line and the spaces in it,
+   decodes the digits of each payload by 32 at a time and sees that they are digits, keeps the blocks in one piece of
+   memory, where each is decoded at its place, and compares one that comes again. It tests no rule, no port and no number,
+   and a text that is no lawful read it takes for anything. It prints how many lines there were, and bytes of the file. */
+#include <smmintrin.h>
+#include <stdio.h>
+#include <stdlib.h>
+#include <string.h>
+#include <unistd.h>
+
+enum { AT_ONCE = 65536, LONGEST_LINE = 131116 };
+
+static unsigned char text[LONGEST_LINE + AT_ONCE];
+static unsigned char again[65536];
+
+/* The values of 16 digits of either case; what is none makes bits of `wrong`. */
+static __m128i values(__m128i digits, __m128i *wrong) {
+    __m128i number = _mm_sub_epi8(digits, _mm_set1_epi8('0'));
+    __m128i letter = _mm_sub_epi8(_mm_or_si128(digits, _mm_set1_epi8(32)), _mm_set1_epi8('a'));
+    __m128i is_number = _mm_cmpeq_epi8(_mm_min_epu8(number, _mm_set1_epi8(9)), number);
+    __m128i is_letter = _mm_cmpeq_epi8(_mm_min_epu8(letter, _mm_set1_epi8(5)), letter);
+    *wrong = _mm_or_si128(*wrong, _mm_andnot_si128(_mm_or_si128(is_number, is_letter), _mm_set1_epi8(1)));
+    return _mm_blendv_epi8(_mm_add_epi8(letter, _mm_set1_epi8(10)), number, is_number);
+}
+
+/* 16 bytes of 32 digits. */
+static void decode_16(const unsigned char *digits, unsigned char *bytes, __m128i *wrong) {
+    __m128i weights = _mm_set1_epi16(0x0110);
+    __m128i first = values(_mm_loadu_si128((const __m128i *)digits), wrong);
+    __m128i second = values(_mm_loadu_si128((const __m128i *)(digits + 16)), wrong);
+    __m128i pairs = _mm_packus_epi16(_mm_maddubs_epi16(first, weights), _mm_maddubs_epi16(second, weights));
+    _mm_storeu_si128((__m128i *)bytes, pairs);
+}
+
+/* Decodes by 16 bytes, what is left over by way of a copy. */
+static int decode(const unsigned char *digits, size_t count, unsigned char *bytes) {
+    __m128i wrong = _mm_setzero_si128();
+    size_t at = 0;
+    for (; at + 16 <= count; at += 16) decode_16(digits + 2 * at, bytes + at, &wrong);
+    unsigned char last[32], decoded[16];
+    memset(last, '0', sizeof last);
+    memcpy(last, digits + 2 * at, 2 * (count - at));
+    decode_16(last, decoded, &wrong);
+    memcpy(bytes + at, decoded, count - at);
+    return _mm_testz_si128(wrong, wrong);
+}
+
+struct file {
+    unsigned char *bytes;
+    size_t length, room, block_size;
+    unsigned next;
+};
+
+/* Room for one more block, by doubling what there was. */
+static void make_room(struct file *file) {
+    if (file->room - file->length >= sizeof again) return;
+    file->room = 2 * file->room + sizeof again;
+    file->bytes = realloc(file->bytes, file->room);
+    if (!file->bytes) exit(2);
+}
+
+static int take_block(struct file *file, unsigned number, const unsigned char *digits, size_t length) {
+    if (number == file->next) {
+        make_room(file);
+        int whole = decode(digits, length, file->bytes + file->length);
+        if (number == 1) file->block_size = length;
+        file->length += length;
+        file->next++;
+        return whole;
+    }
+    if (!number || number > file->next || length > sizeof again) return 0;
+    return decode(digits, length, again) && !memcmp(again, file->bytes + (number - 1) * file->block_size, length);
+}
+
+/* The last piece of a line, which spells its payload, or nothing. */
+static const unsigned char *payload_of(const unsigned char *line, const unsigned char *end) {
+    for (int spaces = 0; spaces < 3; spaces++) {
+        line = memchr(line, ' ', end - line);
+        if (!line) return end;
+        line++;
+    }
+    return line;
+}
+
+static int take_line(struct file *file, const unsigned char *line, const unsigned char *end) {
+    const unsigned char *digits = payload_of(line, end);
+    size_t length = (end - digits) / 2;
+    unsigned char head[4];
+    if (length < sizeof head) return 1;
+    if (!decode(digits, sizeof head, head)) return 0;
+    if (head[1] != 3) return 1;
+    return take_block(file, head[2] << 8 | head[3], digits + 2 * sizeof head, length - sizeof head);
+}
+
+int main(void) {
+    struct file file = {NULL, 0, 0, 0, 1};
+    size_t held = 0, lines = 0;
+    int whole = 1;
+    for (ssize_t came; (came = read(0, text + held, AT_ONCE)) > 0;) {
+        const unsigned char *line = text, *all = text + held + came, *end;
+        for (; (end = memchr(line, '\n', all - line)); line = end + 1, lines++) whole &= take_line(&file, line, end);
+        held = all - line;
+        if (held > LONGEST_LINE) return 2;
+        memmove(text, line, held);
+    }
+    printf("lines %zu bytes %zu%s\n", lines, file.length, whole ? "" : ", not whole");
+    return !whole;
+}
