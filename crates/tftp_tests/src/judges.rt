@@ -66,7 +66,7 @@ fn are_parts_of(meaning: Meaning, as_it_came: bool, bytes: &[u8]) -> bool {
         FileBytes::File(file) => !as_it_came && file.as_slice() == bytes,
         FileBytes::Wire(wire) => as_it_came && wire.as_slice() == bytes,
     };
-    parts.request.name() == b"t" && are_kept && parts.blocks == 1
+    parts.request.name() == b"t".as_slice() && are_kept && parts.blocks == 1
 }
 
 /// What a judge answers at the end, likewise.
@@ -98,7 +98,7 @@ impl End {
         }
     }
 
-    /// Whether a file was accepted that was asked for by this name, is this one, and has so many blocks.
+    /// Whether a file of one block was accepted that was asked for as `t`, and is kept as these bytes of its wire, or of itself.
     pub fn has_parts(self, as_it_came: bool, bytes: &[u8]) -> bool {
         match self.answer {
             Ok(meaning) => are_parts_of(meaning, as_it_came, bytes),
