@@ -177,6 +177,12 @@ pub writes_all : {W E : Type 0} (contents : W → Option (List ℕ)) (t0 t1 : W 
 writes_all contents t0 t1 P (Ok x) bytes f q = f q.1
 writes_all contents t0 t1 P (Err e) bytes f q = tt
 
+-- what follows of a text that was added
+pub adds_then : {W E : Type 0} (contents : W → Option (List ℕ)) (t0 t1 : W × Bool) (P : Type 0) (r : Result (Unit {0}) E) (h0 h1 text : List ℕ) → (Gathers (contents t0.0) (contents t1.0) h0 h1 text → P) → Adds contents t0 t1 r h0 h1 text
+    → OnOk r P
+adds_then contents t0 t1 P (Ok x) h0 h1 text f q = f q.1
+adds_then contents t0 t1 P (Err e) h0 h1 text f q = tt
+
 -- what a call did that succeeded, and what one did that failed
 pub added : {W E : Type 0} (contents : W → Option (List ℕ)) (t0 t1 : W × Bool) (r : Result (Unit {0}) E) (h0 h1 text : List ℕ) → is_err r ≡ false → Adds contents t0 t1 r h0 h1 text
     → (t1.1 ≡ false) × Gathers (contents t0.0) (contents t1.0) h0 h1 text

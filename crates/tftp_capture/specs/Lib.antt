@@ -18,7 +18,7 @@ pub use InTwo.{in_version_two, is_way, line_in_two, lines_in_two, pieces_in_two}
 pub use Lines.{HasByteAt, HasNoEnd, HoldsLine, HoldsNoLine, IsPartOfLine, IsSilent, IsSkipped, LeavesEnd, LineEnds, LineState, ReachesLine, SupplyState, TextEnds, fault_at, line_at, most_ahead, most_of_line, unread}
 pub use Tally.{Adds, AppendsPrefix, Gathers, Writes}
 pub use Worked.{line, named_datagrams, named_text, worked_header, worked_text}
-pub use Written.{HasWritten, HasWrittenHosts, WriterState, header_text, header_text_in}
+pub use Written.{HasWritten, HasWrittenHosts, WriterState, header_text, header_text_in, host_field, line_naming}
 pub use declared.fault.CaptureFault.{CaptureFault}
 pub use declared.fault.TextFault.{TextFault}
 pub use declared.fault.TextFault.TheVariants.{BadEnd, BadHeader, BadHex, BadHost, BadLine, BadPort, BadService, LineTooLong, PayloadTooLong, TextTooLong, TotalWrong, TrailingText, Truncated}

@@ -54,10 +54,10 @@ module _ (m : Meaning) (request oack : List ℕ) (asked : request ≡ canonical 
       ∙ ap (λ d. d ∷ normal_datagram m Oack ∷ []) asks
       ∙ ap (λ d. asked_by request ∷ d ∷ []) answers
 
-  pub request_failed : (c0 c1 : Option (List ℕ)) (s : WriterState) → s.failed ≡ false → AppendsPrefix c0 c1 (s.held ++ lines_of (asked_by request ∷ [])) → AppendsPrefix c0 c1 (s.held ++ lines_of (datagrams_of m (opening m)))
-  request_failed c0 c1 s going p =
+  pub request_failed : (c0 c1 : Option (List ℕ)) (s : WriterState) → AppendsPrefix c0 c1 (s.held ++ lines_of (asked_by request ∷ [])) → AppendsPrefix c0 c1 (s.held ++ lines_of (datagrams_of m (opening m)))
+  request_failed c0 c1 s p =
       let b = begins in
-      subst (λ ds. AppendsPrefix c0 c1 (s.held ++ lines_of ds)) (sym b.1) (put_failed c0 c0 c1 s s [] (asked_by request ∷ []) b.0 (put_none c0 s going) p)
+      subst (λ ds. AppendsPrefix c0 c1 (s.held ++ lines_of ds)) (sym b.1) (put_failed c0 c0 c1 s s [] (asked_by request ∷ []) b.0 (put_none c0 s) p)
 
   pub answer_failed : (c0 c1 c2 : Option (List ℕ)) (s t : WriterState) → Get ≡ m.side → map.len m.agreed ≢ 0 → HasPut c0 c1 s t (asked_by request ∷ []) → AppendsPrefix c1 c2 (t.held ++ lines_of (sent_by Server oack ∷ []))
       → AppendsPrefix c0 c2 (s.held ++ lines_of (datagrams_of m (opening m)))

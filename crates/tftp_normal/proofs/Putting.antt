@@ -10,14 +10,13 @@ use Rattle.tftp_normal.specs.{lines_of, HasPut, Puts}
 pub lines_both : (ds es : List Datagram) → lines_of (ds ++ es) ≡ lines_of ds ++ lines_of es
 lines_both ds es = ap whole_lines (map-append datagram_line ds es) ∙ flat_map-append (λ (l : List ℕ). l ++ 10 ∷ []) (each datagram_line ds) (each datagram_line es)
 
-pub put_none : (c : Option (List ℕ)) (s : WriterState) → s.failed ≡ false → HasPut c c s s []
-put_none c s going = record { gathers = gathers_none c s.held; count = omega arith; going = going }
+pub put_none : (c : Option (List ℕ)) (s : WriterState) → HasPut c c s s []
+put_none c s = record { gathers = gathers_none c s.held; count = omega arith }
 
 pub put_more : (c0 c1 c2 : Option (List ℕ)) (s t u : WriterState) (ds es : List Datagram) → HasPut c0 c1 s t ds → HasPut c1 c2 t u es → HasPut c0 c2 s u (ds ++ es)
 put_more c0 c1 c2 s t u ds es p q = record {
   gathers = subst (Gathers c0 c2 s.held u.held) (sym (lines_both ds es)) (gathers_more c0 c1 c2 s.held t.held u.held (lines_of ds) (lines_of es) p.gathers q.gathers);
   count = let first = p.count in let second = q.count in let both = length-append ds es in omega (arith, first, second, both);
-  going = q.going;
 }
 
 -- some were put, and then others were not
@@ -49,8 +48,8 @@ pub record Putting (before now : Option (List ℕ)) (old new : WriterState) (res
   pub put : HasPut before now old new done
   pub whole : done ++ rest ≡ all
 
-pub putting_first : (c : Option (List ℕ)) (s : WriterState) (all : List Datagram) → s.failed ≡ false → Putting c c s s all all
-putting_first c s all going = record { done = []; put = put_none c s going; whole = refl }
+pub putting_first : (c : Option (List ℕ)) (s : WriterState) (all : List Datagram) → Putting c c s s all all
+putting_first c s all = record { done = []; put = put_none c s; whole = refl }
 
 pub putting_next : (c0 c1 c2 : Option (List ℕ)) (s t u : WriterState) (ds rest all : List Datagram) → Putting c0 c1 s t (ds ++ rest) all → HasPut c1 c2 t u ds → Putting c0 c2 s u rest all
 putting_next c0 c1 c2 s t u ds rest all p q = record { done = p.done ++ ds; put = put_more c0 c1 c2 s t u p.done ds p.put q; whole = append_assoc p.done ds rest ∙ p.whole }

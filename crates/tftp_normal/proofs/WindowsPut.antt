@@ -27,10 +27,10 @@ module _ (m : Meaning) where
     pub few : k + count * w < n + w
     pub putting : Putting c0 c1 s t (datagrams_of m (windows_after w n k count)) all_windows
 
-  pub windows_first : 1 ≤ w → (c : Option (List ℕ)) (s : WriterState) → s.failed ≡ false → WindowsLeft c c s s 0
-  windows_first some c s going =
+  pub windows_first : 1 ≤ w → (c : Option (List ℕ)) (s : WriterState) → WindowsLeft c c s s 0
+  windows_first some c s =
       let held = windows_hold n w some in
-      record { count = windows_of m; enough = omega (arith, held.0); few = omega (arith, held.1); putting = putting_first c s all_windows going }
+      record { count = windows_of m; enough = omega (arith, held.0); few = omega (arith, held.1); putting = putting_first c s all_windows }
 
   -- the next window, up to a block: its blocks, its ACK, and what is left then
   record Front (c0 c1 : Option (List ℕ)) (s t : WriterState) (k last : ℕ) : Type 0 where

@@ -30,7 +30,6 @@ lines_of datagrams = whole_lines (each datagram_line datagrams)
 pub record HasPut (before after : Option (List ℕ)) (old new : WriterState) (datagrams : List Datagram) : Type 0 where
   pub gathers : Gathers before after old.held new.held (lines_of datagrams)
   pub count : new.count ≡ old.count + length datagrams
-  pub going : new.failed ≡ false
 
 -- What a call that puts datagrams does, however it ends: nothing failed, and they were put; or the writer has failed, and
 -- what it holds grew by a part of what waited and their lines, from their start, and not by all.

@@ -37,7 +37,6 @@ fn put_from<W: Write>(
     writer: &mut Tallied<W>,
 ) -> Result<(), WriteFault>
     requires clean { writer.old.1 ≡ false }
-    requires going { capture.old.failed ≡ false }
     requires few { capture.old.count + 1 ≤ 2 ^ 40 }
     requires short { length payload.now ≤ 65527 }
     ensures { Puts W.contents writer.old writer.new result capture.old capture.new (sent_by author payload.now ∷ []) }
@@ -57,7 +56,6 @@ fn put_ack<W: Write>(
     writer: &mut Tallied<W>,
 ) -> Result<(), WriteFault>
     requires clean { writer.old.1 ≡ false }
-    requires going { capture.old.failed ≡ false }
     requires few { capture.old.count + 1 ≤ 2 ^ 40 }
     ensures { Puts W.contents writer.old writer.new result capture.old capture.new (sent_by author (canonical (Message.Ack block)) ∷ []) }
 {
@@ -75,7 +73,6 @@ fn put_blocks<W: Write>(
     writer: &mut Tallied<W>,
 ) -> Result<(), WriteFault>
     requires clean { writer.old.1 ≡ false }
-    requires going { capture.old.failed ≡ false }
     requires order { acked ≤ last }
     requires few { capture.old.count + (last - acked) ≤ 2 ^ 40 }
     requires size { packets.old.size ≡ blksize_of transfer.now }
@@ -105,7 +102,6 @@ fn put_windows<W: Write>(
     writer: &mut Tallied<W>,
 ) -> Result<(), WriteFault>
     requires clean { writer.old.1 ≡ false }
-    requires going { capture.old.failed ≡ false }
     requires window { 1 ≤ windowsize_of transfer.now }
     requires few { capture.old.count + length (datagrams_of transfer.now (windows_after (windowsize_of transfer.now) (blocks_of transfer.now) 0 (windows_of transfer.now))) ≤ 2 ^ 40 }
     requires size { packets.old.size ≡ blksize_of transfer.now }
@@ -135,7 +131,6 @@ fn put_opening<W: Write>(
     writer: &mut Tallied<W>,
 ) -> Result<(), WriteFault>
     requires clean { writer.old.1 ≡ false }
-    requires going { capture.old.failed ≡ false }
     requires few { capture.old.count + 3 ≤ 2 ^ 40 }
     requires request { request.now ≡ canonical (Message.Request (request_of transfer.now)) }
     requires request_short { length request.now ≤ 65527 }
@@ -162,7 +157,6 @@ fn put_request<W: Write>(
     writer: &mut Tallied<W>,
 ) -> Result<(), WriteFault>
     requires clean { writer.old.1 ≡ false }
-    requires going { capture.old.failed ≡ false }
     requires few { capture.old.count + 1 ≤ 2 ^ 40 }
     requires short { length request.now ≤ 65527 }
     ensures { Puts W.contents writer.old writer.new result capture.old capture.new (asked_by request.now ∷ []) }

@@ -168,11 +168,9 @@ impl TransferText {
         noted: &Noted,
     ) -> Result<(), WriteFault>
         requires clean { writer.old.1 ≡ false }
-        requires fresh { capture.old.failed ≡ false }
         requires few { capture.old.count < 2 ^ 40 }
         requires whole { CanBeWritten noted.now }
         ensures clean { OnOk result (writer.new.1 ≡ false) }
-        ensures fresh { OnOk result (capture.new.failed ≡ false) }
         ensures counted { OnOk result (capture.new.count ≤ capture.old.count + 1) }
         ensures failed { OnErr result (writer.new.1 ≡ true) }
         ensures written { (start : Option (List ℕ)) (header : HeaderParts) (entries : List Entry)

@@ -1,6 +1,6 @@
 //! A text that is written, of either version.
 
-ghost use Rattle.std.specs.Prelude.{◌≡◌, true, false};
+ghost use Rattle.std.specs.Prelude.{◌≡◌, false};
 
 use std::alloc::Global;
 use std::marker::Model;
@@ -33,7 +33,7 @@ impl Model for Writing {
 
     ghost view = { λ _. tt };
 
-    ghost invariant = { λ a. (a.capture.failed ≡ true → a.writer.1 ≡ true) × (a.writer.1 ≡ false → a.capture.count ≡ a.puts) };
+    ghost invariant = { λ a. a.writer.1 ≡ false → a.capture.count ≡ a.puts };
 }
 
 impl Writing {
@@ -113,7 +113,7 @@ impl Model for HostWriting {
 
     ghost view = { λ _. tt };
 
-    ghost invariant = { λ a. (a.capture.failed ≡ true → a.writer.1 ≡ true) × (a.writer.1 ≡ false → a.capture.count ≡ a.puts) };
+    ghost invariant = { λ a. a.writer.1 ≡ false → a.capture.count ≡ a.puts };
 }
 
 impl HostWriting {

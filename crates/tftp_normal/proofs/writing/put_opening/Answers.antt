@@ -10,7 +10,7 @@ use Rattle.tftp_normal.proofs.writing.put_opening.Goals as goal
 pub returns-in_err-put_request : goal.returns-in_err-put_request
 returns-in_err-put_request g c =
     puts_err g.W.Write.contents c.args.writer.now c.put_request.new.writer c.from_residual.result c.args.capture.now c.put_request.new.capture _ c.from_residual.ensures.0 c.in_err-put_request.ensures.0
-    (request_failed c.args.transfer.now c.args.request.now c.args.oack.now c.requires.request c.requires.oack _ _ c.args.capture.now c.requires.going c.in_err-put_request.ensures.1)
+    (request_failed c.args.transfer.now c.args.request.now c.args.oack.now c.requires.request c.requires.oack _ _ c.args.capture.now c.in_err-put_request.ensures.1)
 
 pub returns-in_err-put_from-in-Get-false : goal.returns-in_err-put_from-in-Get-false
 returns-in_err-put_from-in-Get-false g c =

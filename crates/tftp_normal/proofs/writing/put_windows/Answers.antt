@@ -13,11 +13,10 @@ use Rattle.tftp_normal.proofs.writing.put_windows.Goals.{in-Get, in-Put}
 pub loop-acked-init : goal.loop-acked-init
 loop-acked-init g c = record {
   clean = c.requires.clean;
-  going = c.requires.going;
   order = omega arith;
   size = c.requires.size;
   left = c.requires.left ∙ left_at_start c.args.transfer.now;
-  windows = windows_first c.args.transfer.now c.requires.window _ _ c.requires.going;
+  windows = windows_first c.args.transfer.now c.requires.window _ _;
 }
 
 pub put_blocks-requires-clause-few : goal.put_blocks-requires-clause-few
@@ -60,7 +59,6 @@ loop-acked-preserved g c =
     ap (λ e. sent_by e (canonical (Message.Ack c.window_end-last.result))) author ∙ ack_datagram c.args.transfer.now c.window_end-last.result in
     record {
       clean = c.in_ok-put_ack.ensures.0;
-      going = c.in_ok-put_ack.ensures.1.going;
       order = omega (arith, c.window_end-last.ensures);
       size = c.in_ok-put_blocks.ensures.size ∙ c.loop-acked.invariant.size;
       left = c.in_ok-put_blocks.ensures.left;

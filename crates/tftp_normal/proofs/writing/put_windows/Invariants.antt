@@ -7,7 +7,6 @@ use Rattle.tftp_normal.proofs.writing.put_windows.Given as goal
 abbrev pub invariant-loop-acked : goal.invariant-loop-acked
 invariant-loop-acked g l = record {
   clean : l.writer.1 ≡ false;
-  going : l.capture.failed ≡ false;
   order : l.acked ≤ blocks_of l.transfer;
   size : l.packets.size ≡ blksize_of l.transfer;
   left : l.packets.left ≡ drop (l.acked * blksize_of l.transfer) (wire_of l.transfer);

@@ -17,7 +17,6 @@ loop-noted-init g c =
     let same = c.in_ok-comment.ensures.counted in
     record {
       clean = search rules;
-      fresh = search rules;
       counted = omega (arith, none, same);
       written = λ start header entries h. added_none start _ c.comment.new.self header entries (ShowsNotes c.args.end c.args.self.now 0) h (λ name placed notes. refl);
     }
@@ -29,7 +28,6 @@ loop-noted-preserved g c =
     let items : c.deref-noted-items.result.now ≡ c.args.self.now.noted = c.deref-noted-items.ensures.value ∙ ap (λ (t : Notes). t.noted) c.self.view_is in
     record {
       clean = search rules;
-      fresh = search rules;
       counted = omega (arith, c.in_ok-put.ensures.counted, c.loop-noted.invariant.counted);
       written = λ start header entries h.
           let so = c.loop-noted.invariant.written start header entries h in

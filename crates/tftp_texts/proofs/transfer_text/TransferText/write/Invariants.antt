@@ -10,7 +10,6 @@ use Rattle.tftp_texts.proofs.transfer_text.TransferText.write.Given as goal
 abbrev pub invariant-loop-noted : goal.invariant-loop-noted
 invariant-loop-noted g l = record {
   clean : l.writer.1 ≡ false;
-  fresh : l.capture.failed ≡ false;
   counted : l.capture.count ≤ l.noted-index;
   written : (start : Option (List ℕ)) (header : Header) (entries : List Entry) → HasWrittenHosts start (g.W.Write.contents l.initial.writer.0) l.initial.capture header entries
       → (more : List Entry) × HasWrittenHosts start (g.W.Write.contents l.writer.0) l.capture header (entries ++ more) × All HasComment more
