@@ -3,12 +3,11 @@ use Rattle.std.proofs.Common.{◌≡◌, ◌⊎◌, inl, inr, ℕ, Bool, true, f
 use Rattle.std.specs.List.{list_any}
 use Rattle.std.proofs.lemmas.Bool.{true≢false, eqb-true}
 use Rattle.tftp_packet.specs.{Side, End, Client, Server, opcode_of}
-use Rattle.tftp_hosts.specs.{Datagram}
+use Rattle.tftp_hosts.specs.{Datagram, same_peer}
 use Rattle.tftp_model.specs.Roles.{receiver_of}
 use Rattle.tftp_judge.specs.{Refuses, IsJudgeAfter, Judge, TakesMemory, Refusal}
 use Rattle.tftp_judge.specs.declared.refusal.Refusal.TheVariants as of_end
 use Rattle.tftp_tap.specs.{TapDatagram, TapSides, side_of, AreApart, is_left_out, same_end, asks_in, ends_in, tap_tests, header_at, kept_between, recorded_at}
-use Rattle.tftp_rules.specs.{same_peer}
 use Rattle.tftp_tap.proofs.KeptOf.{is_or_not, any_here, any_more, kept_in}
 use Rattle.tftp_tap.proofs.TapTests.{source_is}
 use Rattle.tftp_law.proofs.Division.RouteTests.{same_is}
