@@ -1,7 +1,7 @@
 -- When the client is none of the other two sides.
 use Rattle.std.proofs.Common.{◌≡◌, ◌⊎◌, Bool, true, false, true≢false, List, refl, sym, ap, ◌∙◌, subst, inl, inr, ◌||◌, ◌==◌, not}
 use Rattle.std.proofs.lemmas.Bool.{and_from, eq-eqb}
-use Rattle.tftp_rules.specs.{same_peer}
+use Rattle.tftp_hosts.specs.{same_peer}
 use Rattle.tftp_ends.proofs.NotedPeers.{is_same, same_itself}
 use Rattle.tftp_parties.specs.{IsAddress}
 use Rattle.tftp_parties.proofs.Addresses.{called_one}
@@ -70,9 +70,9 @@ to_itself x whole is = by (either (same_endpoint x.client server) (same_endpoint
 -- hosts that are called the same are one
 same_named : (one other : Endpoint) → IsAddress one.address → IsAddress other.address → peer_of one ≡ peer_of other → same_endpoint one other ≡ true
 same_named one other here there same =
-    and_from (same_address one.address other.address) (one.port == other.port)
-    ((called_one one.address other.address here there).1 (ap (λ (p : PeerId). p.host) same))
+    and_from (one.port == other.port) (same_address one.address other.address)
     (eq-eqb one.port other.port (ap (λ (p : PeerId). p.port) same))
+    ((called_one one.address other.address here there).1 (ap (λ (p : PeerId). p.host) same))
 
 none_of : (a b : Bool) → (a || b) ≡ false → (a ≡ false) × (b ≡ false)
 none_of false false e = (refl, refl)

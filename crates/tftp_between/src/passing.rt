@@ -8,10 +8,11 @@ ghost use Rattle.tftp_transfers.specs.{AreEndsAfter};
 ghost use Rattle.tftp_lines.specs.{Placed};
 
 use std::alloc::{AllocError, Global};
+use tftp_hosts::Peer;
 use tftp_lines::{Endpoint, Transfer};
 use tftp_packet::Bytes;
 use tftp_parties::host_of;
-use tftp_tap::{Endpoint as Side, Sides};
+use tftp_tap::Sides;
 use tftp_tap_judge::TapDatagram;
 use tftp_transfers::TransferEnds;
 use tftp_views::Party;
@@ -32,19 +33,19 @@ pub fn sides_of(transfer: &Transfer, ends: &TransferEnds) -> Sides
     }
 }
 
-fn peer_of(end: Endpoint) -> Side
+fn peer_of(end: Endpoint) -> Peer
     ensures { result ≡ peer_of end }
 {
-    Side {
+    Peer {
         host: host_of(&end.address),
         port: end.port,
     }
 }
 
-fn side_of(party: &Party) -> Side
+fn side_of(party: &Party) -> Peer
     ensures { result ≡ side_of party.now }
 {
-    Side {
+    Peer {
         host: party.host,
         port: party.end.port,
     }

@@ -5,9 +5,9 @@ use Rattle.std.specs.List.{list_any}
 use Rattle.std.specs.Ordering.{is_eq}
 use Rattle.std.proofs.lemmas.Bool.{false≢true, and_from, and_parts, eqb-true, eq-eqb}
 use Rattle.std.proofs.lemmas.Slice.Eq.{bytes_eq-Decides}
-use Rattle.tftp_hosts.specs.{Datagram, PeerId, peer_of}
-use Rattle.tftp_rules.specs.{same_peer, goes_out, comes_in, first_of, or_this, has_come_from}
-use Rattle.tftp_ends.specs.{is_noted, peer_cmp, NotesStrays}
+use Rattle.tftp_hosts.specs.{Datagram, PeerId, peer_of, same_peer, peer_cmp}
+use Rattle.tftp_rules.specs.{goes_out, comes_in, first_of, or_this, has_come_from}
+use Rattle.tftp_ends.specs.{is_noted, NotesStrays}
 
 same_by_order : (one other : PeerId) → is_eq (peer_cmp one other) ≡ same_peer one other
 same_by_order one other = sym (search (comparing, rules))
@@ -31,13 +31,13 @@ noted_more peer other old new has = sym (noted_by_order other new) ∙ has ∙ o
 
 pub is_same : (one other : PeerId) → same_peer one other ≡ true → one ≡ other
 is_same one other e =
-    let parts = and_parts (bytes_eq one.host other.host) (one.port == other.port) e in
-    let host = (bytes_eq-Decides one.host other.host).0 parts.0 in
-    let port = eqb-true one.port other.port parts.1 in
+    let parts = and_parts (one.port == other.port) (bytes_eq one.host other.host) e in
+    let host = (bytes_eq-Decides one.host other.host).0 parts.1 in
+    let port = eqb-true one.port other.port parts.0 in
     λ i. record { host = host i; port = port i }
 
 pub same_itself : (peer : PeerId) → same_peer peer peer ≡ true
-same_itself peer = and_from _ _ ((bytes_eq-Decides peer.host peer.host).1 refl) (eq-eqb peer.port peer.port refl)
+same_itself peer = and_from _ _ (eq-eqb peer.port peer.port refl) ((bytes_eq-Decides peer.host peer.host).1 refl)
 
 -- ---- what is noted, after one datagram more
 

@@ -2,21 +2,14 @@
 -- where strays came from (RFC 1350, section 4).
 use Rattle.std.specs.Prelude.{◌≡◌, ℕ, ◌&&◌, not, Bool, false, List, [], Option, Some, None, option_map, Result, Ok, Err}
 use Rattle.std.specs.List.{list_any}
-use Rattle.std.specs.declared.cmp.Ordering.{Ordering}
-use Rattle.std.specs.Ordering.{nat_cmp, on, then_cmp}
-use Rattle.std.specs.Cmp.Lexicographic.{slice_cmp}
 use Rattle.tftp_packet.specs.{opcode_of, End, Client, Server}
-use Rattle.tftp_hosts.specs.{Dir, Datagram, Header, PeerId, peer_of}
-use Rattle.tftp_rules.specs.{Route, same_peer, comes_in, goes_out, asks, first_of, has_come_from, route_of}
+use Rattle.tftp_hosts.specs.{Dir, Datagram, Header, PeerId, peer_of, same_peer}
+use Rattle.tftp_rules.specs.{Route, comes_in, goes_out, asks, first_of, has_come_from, route_of}
 use Rattle.tftp_ends.specs.declared.route.Route.{Route as MayPass}
 use Rattle.tftp_ends.specs.declared.route.Route.TheVariants as may
 use Rattle.tftp_ends.specs.declared.ports.PortFault.{PortFault}
 use Rattle.tftp_ends.specs.declared.ports.Seen.{Seen}
 use Rattle.tftp_ends.specs.declared.ports.Sides.{Sides}
-
--- an order of peers: by the port, and then by the bytes of the host
-abbrev pub peer_cmp : PeerId → PeerId → Ordering
-peer_cmp = then_cmp (on (λ p. p.port) nat_cmp) (on (λ p. p.host) (slice_cmp nat_cmp))
 
 -- a stray came from there
 abbrev pub is_noted : PeerId → List PeerId → Bool

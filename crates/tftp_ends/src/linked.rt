@@ -5,9 +5,9 @@ ghost use Rattle.std.specs.Prelude.{◌≡◌, ◌-◌, ◌^◌, ◌+◌, ◌<�
 ghost use Rattle.tftp_ends.specs.Known.{is_noted};
 ghost use Rattle.tftp_ends.specs.Rows.{AreLinked, IsLinked, mark_of, peers_of, rows_of};
 
-use crate::strays::Peer;
 use std::alloc::{AllocError, Global};
 use std::hash::{DefaultHasher, Hasher};
+use tftp_hosts::Peer;
 
 /// How many rows there are at the least.
 const FIRST_ROWS: usize = 16;

@@ -15,11 +15,11 @@ ghost use Rattle.tftp_ends.specs.Known.{
 };
 
 use crate::route::Route;
-use crate::strays::{Peer, Strays};
+use crate::strays::Strays;
 use std::alloc::{AllocError, Global};
 use std::convert::From;
 use std::marker::Model;
-use tftp_hosts::{Dir, Host};
+use tftp_hosts::{Dir, Host, Peer};
 use tftp_packet::End;
 
 /// Why a datagram is none of the transfer, nor a stray.

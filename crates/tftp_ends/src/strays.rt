@@ -1,92 +1,12 @@
 ghost use Rattle.std.specs.Prelude.{◌≡◌, ◌||◌, [], false, OnOk, OnErr};
-ghost use Rattle.tftp_hosts.specs.{PeerId};
-ghost use Rattle.tftp_rules.specs.{same_peer};
+ghost use Rattle.tftp_hosts.specs.{PeerId, same_peer};
 ghost use Rattle.tftp_ends.specs.Known.{is_noted};
 
 use crate::linked::{Linked, add, is_full, is_linked, mark};
 use std::alloc::{AllocError, Global};
-use std::cmp::Ordering;
 use std::collections::BTreeSet;
 use std::marker::Model;
-use tftp_hosts::Host;
-
-/// The other side of a datagram: a host, and a port there (RFC 1350, section 4).
-#[derive(Clone, Copy)]
-pub struct Peer {
-    /// The host, by the bytes that name it.
-    pub host: Host,
-    /// The port there.
-    pub port: u16,
-}
-
-impl Model for Peer {
-    ghost use Rattle.tftp_hosts.specs.Capture.{PeerId};
-
-    ghost Value = { PeerId };
-
-    ghost view = { λ p. record { host = p.host; port = p.port } };
-
-    ghost inverse = { λ v. record { host = v.host; port = v.port } };
-}
-
-impl PartialEq for Peer {
-    ghost use Rattle.std.proofs.Common.{rules};
-    ghost use Rattle.std.specs.Cmp.Rules.{comparing};
-    ghost use Rattle.tftp_rules.specs.Ports.{same_peer};
-
-    ghost eq = { same_peer };
-
-    ghost laws = { Prim.search (comparing, rules) };
-
-    fn eq(&self, other: &Peer) -> bool {
-        self.port == other.port && self.host == other.host
-    }
-}
-
-impl Eq for Peer {
-    ghost use Rattle.std.proofs.Common.{rules};
-    ghost use Rattle.std.specs.Cmp.Rules.{comparing};
-
-    ghost laws = { Prim.search (comparing, rules) };
-}
-
-impl PartialOrd for Peer {
-    ghost use Rattle.std.specs.Cmp.{partial_order_from_own_ties};
-    ghost use Rattle.std.proofs.Common.{rules};
-    ghost use Rattle.std.specs.Cmp.Rules.{comparing};
-    ghost use Rattle.std.specs.Ordering.{as_partial_cmp};
-    ghost use Rattle.tftp_ends.specs.Known.{peer_cmp};
-
-    ghost partial_cmp = { as_partial_cmp peer_cmp };
-
-    ghost laws = { partial_order_from_own_ties (Prim.search (comparing, rules)) (Prim.search (comparing, rules)) };
-
-    fn partial_cmp(&self, other: &Peer) -> Option<Ordering> {
-        Some(self.cmp(other))
-    }
-}
-
-/// By the port first: most strays have one host.
-impl Ord for Peer {
-    ghost use Rattle.std.proofs.Common.{rules};
-    ghost use Rattle.std.specs.Cmp.Rules.{comparing};
-    ghost use Rattle.tftp_ends.specs.Known.{peer_cmp};
-
-    ghost cmp = { peer_cmp };
-
-    ghost total = { Prim.search (comparing, rules) };
-
-    ghost matches_partial_cmp = { Prim.search (comparing, rules) };
-
-    ghost matches_eq = { Prim.search (comparing, rules) };
-
-    fn cmp(&self, other: &Peer) -> Ordering {
-        match self.port.cmp(&other.port) {
-            Ordering::Equal => self.host.bytes().cmp(other.host.bytes()),
-            unequal => unequal,
-        }
-    }
-}
+use tftp_hosts::Peer;
 
 /// The peers that strays came from, each in a row that its hash leads to, or in a tree where that row is full.
 #[derive(Drop)]

@@ -1,5 +1,9 @@
 -- A capture: where it was taken, and what passed there (RFC 1350, section 4).
-use Rattle.std.specs.Prelude.{ℕ, List}
+use Rattle.std.specs.Prelude.{ℕ, ◌==◌, ◌&&◌, Bool, List}
+use Rattle.std.specs.Str.{bytes_eq}
+use Rattle.std.specs.declared.cmp.Ordering.{Ordering}
+use Rattle.std.specs.Ordering.{nat_cmp, on, then_cmp}
+use Rattle.std.specs.Cmp.Lexicographic.{slice_cmp}
 use Rattle.tftp_hosts.specs.declared.dir.Dir.{Dir}
 use Rattle.tftp_packet.specs.{End}
 
@@ -23,3 +27,11 @@ pub record PeerId : Type 0 where
 
 abbrev pub peer_of : Datagram → PeerId
 peer_of d = record { host = d.host; port = d.remote }
+
+-- the same port, and the same host, byte by byte
+abbrev pub same_peer : PeerId → PeerId → Bool
+same_peer one other = (one.port == other.port) && bytes_eq one.host other.host
+
+-- an order of peers: by the port, and then by the bytes of the host
+abbrev pub peer_cmp : PeerId → PeerId → Ordering
+peer_cmp = then_cmp (on (λ p. p.port) nat_cmp) (on (λ p. p.host) (slice_cmp nat_cmp))

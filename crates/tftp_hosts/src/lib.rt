@@ -3,6 +3,8 @@
 
 mod dir;
 mod host;
+mod peer;
 
 pub use dir::Dir;
 pub use host::Host;
+pub use peer::Peer;

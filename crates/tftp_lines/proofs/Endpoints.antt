@@ -21,13 +21,13 @@ is_same_address x y e =
 
 pub is_same : (one other : Endpoint) → same_endpoint one other ≡ true → one ≡ other
 is_same one other e =
-    let parts = and_parts (same_address one.address other.address) (one.port == other.port) e in
-    let address = is_same_address one.address other.address parts.0 in
-    let port = eqb-true one.port other.port parts.1 in
+    let parts = and_parts (one.port == other.port) (same_address one.address other.address) e in
+    let address = is_same_address one.address other.address parts.1 in
+    let port = eqb-true one.port other.port parts.0 in
     λ i. record { address = address i; port = port i }
 
-address_itself : (x : Address) → same_address x x ≡ true
+pub address_itself : (x : Address) → same_address x x ≡ true
 address_itself x = and_from _ _ ((bytes_eq-Decides (bytes_of x) (bytes_of x)).1 refl) (eq-eqb (version_of x) (version_of x) refl)
 
 pub same_itself : (one : Endpoint) → same_endpoint one one ≡ true
-same_itself one = and_from _ _ (address_itself one.address) (eq-eqb one.port one.port refl)
+same_itself one = and_from _ _ (eq-eqb one.port one.port refl) (address_itself one.address)

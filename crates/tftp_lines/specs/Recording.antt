@@ -33,11 +33,15 @@ abbrev pub same_address : Address → Address → Bool
 same_address one other = bytes_eq (bytes_of one) (bytes_of other) && (version_of one == version_of other)
 
 abbrev pub same_endpoint : Endpoint → Endpoint → Bool
-same_endpoint one other = same_address one.address other.address && (one.port == other.port)
+same_endpoint one other = (one.port == other.port) && same_address one.address other.address
 
--- an order of endpoints: by the port, the IP version, and the bytes of the address
+-- an order of addresses: by the IP version, and then by the bytes
+abbrev pub address_cmp : Address → Address → Ordering
+address_cmp = then_cmp (on version_of nat_cmp) (on bytes_of (slice_cmp nat_cmp))
+
+-- an order of endpoints: by the port, and then by the address
 abbrev pub endpoint_cmp : Endpoint → Endpoint → Ordering
-endpoint_cmp = then_cmp (on (λ e. e.port) nat_cmp) (then_cmp (on (λ e. version_of e.address) nat_cmp) (on (λ e. bytes_of e.address) (slice_cmp nat_cmp)))
+endpoint_cmp = then_cmp (on (λ e. e.port) nat_cmp) (on (λ e. e.address) address_cmp)
 
 -- ---- payloads (RFC 1350, section 5; RFC 2347)
 

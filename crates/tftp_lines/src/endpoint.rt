@@ -14,13 +14,14 @@ pub enum Address {
     V6([u8; 16]),
 }
 
-/// A host and a UDP port there (RFC 768), which is a transfer id (RFC 1350, section 4).
-#[derive(Clone, Copy, Debug)]
+/// A host and a UDP port there (RFC 768), which is a transfer id (RFC 1350, section 4). Ordered by the port first, since many
+/// endpoints of a recording are at one host.
+#[derive(Clone, Copy, Debug, PartialEq, Eq, PartialOrd, Ord)]
 pub struct Endpoint {
-    /// The host's address.
-    pub address: Address,
     /// The port there.
     pub port: u16,
+    /// The host's address.
+    pub address: Address,
 }
 
 impl Address {
@@ -66,50 +67,29 @@ impl Eq for Address {
     ghost laws = { Prim.search (comparing, rules) };
 }
 
-impl PartialEq for Endpoint {
-    ghost use Rattle.std.proofs.Common.{rules};
-    ghost use Rattle.std.specs.Cmp.Rules.{comparing};
-    ghost use Rattle.tftp_lines.specs.Recording.{same_endpoint};
-
-    ghost eq = { same_endpoint };
-
-    ghost laws = { Prim.search (comparing, rules) };
-
-    fn eq(&self, other: &Endpoint) -> bool {
-        self.port == other.port && self.address == other.address
-    }
-}
-
-impl Eq for Endpoint {
-    ghost use Rattle.std.proofs.Common.{rules};
-    ghost use Rattle.std.specs.Cmp.Rules.{comparing};
-
-    ghost laws = { Prim.search (comparing, rules) };
-}
-
-impl PartialOrd for Endpoint {
+impl PartialOrd for Address {
     ghost use Rattle.std.specs.Cmp.{partial_order_from_own_ties};
     ghost use Rattle.std.proofs.Common.{rules};
     ghost use Rattle.std.specs.Cmp.Rules.{comparing};
     ghost use Rattle.std.specs.Ordering.{as_partial_cmp};
-    ghost use Rattle.tftp_lines.specs.Recording.{endpoint_cmp};
+    ghost use Rattle.tftp_lines.specs.Recording.{address_cmp};
 
-    ghost partial_cmp = { as_partial_cmp endpoint_cmp };
+    ghost partial_cmp = { as_partial_cmp address_cmp };
 
     ghost laws = { partial_order_from_own_ties (Prim.search (comparing, rules)) (Prim.search (comparing, rules)) };
 
-    fn partial_cmp(&self, other: &Endpoint) -> Option<Ordering> {
+    fn partial_cmp(&self, other: &Address) -> Option<Ordering> {
         Some(self.cmp(other))
     }
 }
 
-/// By the port first: many endpoints of a recording are at one host.
-impl Ord for Endpoint {
+/// By the IP version first.
+impl Ord for Address {
     ghost use Rattle.std.proofs.Common.{rules};
     ghost use Rattle.std.specs.Cmp.Rules.{comparing};
-    ghost use Rattle.tftp_lines.specs.Recording.{endpoint_cmp};
+    ghost use Rattle.tftp_lines.specs.Recording.{address_cmp};
 
-    ghost cmp = { endpoint_cmp };
+    ghost cmp = { address_cmp };
 
     ghost total = { Prim.search (comparing, rules) };
 
@@ -117,23 +97,9 @@ impl Ord for Endpoint {
 
     ghost matches_eq = { Prim.search (comparing, rules) };
 
-    fn cmp(&self, other: &Endpoint) -> Ordering {
-        match self.port.cmp(&other.port) {
-            Ordering::Equal => self.cmp_address(other),
-            unequal => unequal,
-        }
-    }
-}
-
-impl Endpoint {
-    ghost use Rattle.std.specs.Ordering.{nat_cmp, on, then_cmp};
-    ghost use Rattle.std.specs.Cmp.Lexicographic.{slice_cmp};
-
-    fn cmp_address(&self, other: &Endpoint) -> Ordering
-        ensures { result ≡ then_cmp (on (λ a. version_of a) nat_cmp) (on (λ a. bytes_of a) (slice_cmp nat_cmp)) self.now.address other.now.address }
-    {
-        match self.address.version().cmp(&other.address.version()) {
-            Ordering::Equal => self.address.bytes().cmp(other.address.bytes()),
+    fn cmp(&self, other: &Address) -> Ordering {
+        match self.version().cmp(&other.version()) {
+            Ordering::Equal => self.bytes().cmp(other.bytes()),
             unequal => unequal,
         }
     }

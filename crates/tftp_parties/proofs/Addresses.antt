@@ -1,6 +1,5 @@
 -- A host's name tells its address.
 use Rattle.std.proofs.Common.{◌≡◌, ◌↔◌, ℕ, suc, ◌+◌, ◌-◌, ◌*◌, ◌/◌, ◌%◌, ◌^◌, ◌<◌, true, List, [], ◌∷◌, length, refl, arith, ap, sym, subst, ◌∙◌}
-use Rattle.std.proofs.lemmas.Bool.{and_parts}
 use Rattle.std.proofs.lemmas.List.Elements.{recursion_from_All}
 use Rattle.std.proofs.NetLemmas.Texts.{IsDotted-ipv4_text, IsColonHex-ipv6_text}
 use Rattle.std.proofs.NetLemmas.Theorems.{IsIpText_unique}
@@ -11,7 +10,7 @@ use Rattle.std.specs.Net.Grammar.{IsIpText}
 use Rattle.std.specs.Net.Text.{ip_text, ipv4_text, ipv6_text}
 use Rattle.tftp_hosts.specs.{IsHost, IsSign}
 use Rattle.tftp_lines.specs.{same_address, Address, V4, V6}
-use Rattle.tftp_lines.proofs.Endpoints.{is_same_address, same_itself}
+use Rattle.tftp_lines.proofs.Endpoints.{is_same_address, address_itself}
 use Rattle.tftp_parties.specs.{AreBytes, IsAddress, address_of, host_name}
 use Rattle.tftp_parties.proofs.Names.{ipv4_few, ipv4_signs, ipv4_some, ipv6_few, ipv6_signs, ipv6_some, same_segments, segments_fit, some_segments}
 
@@ -60,13 +59,10 @@ one_called a b is_a is_b same =
     let one : ip_of a ≡ ip_of b = IsIpText_unique (host_name b) (ip_of a) (ip_of b) (subst (λ (text : List ℕ). IsIpText text (ip_of a)) same (called_by a is_a)) (called_by b is_b) in
     sym (told_again a is_a) ∙ ap address_in one ∙ told_again b is_b
 
-itself : (a : Address) → same_address a a ≡ true
-itself a = (and_parts (same_address a a) _ (same_itself (record { address = a; port = 0 }))).0
-
 pub called_one : (a b : Address) → IsAddress a → IsAddress b → (same_address a b ≡ true) ↔ (host_name a ≡ host_name b)
 called_one a b is_a is_b = (
   λ same. ap host_name (is_same_address a b same),
-  λ same. subst (λ (x : Address). same_address a x ≡ true) (one_called a b is_a is_b same) (itself a),
+  λ same. subst (λ (x : Address). same_address a x ≡ true) (one_called a b is_a is_b same) (address_itself a),
 )
 
 pub is_host : (a : Address) → IsAddress a → IsHost (host_name a)

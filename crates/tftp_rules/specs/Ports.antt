@@ -2,9 +2,8 @@
 -- list `earlier` has the datagrams that have passed, the newest first.
 use Rattle.std.specs.Prelude.{◌≡◌, ◌⊎◌, ℕ, ◌==◌, ◌&&◌, ◌||◌, not, Bool, true, false, List, [], ◌∷◌, Option, Some, None, option_map, if◌then◌else◌}
 use Rattle.std.specs.List.{list_any}
-use Rattle.std.specs.Str.{bytes_eq}
 use Rattle.tftp_packet.specs.{Message, Spells, opcode_of, End, Client, Server}
-use Rattle.tftp_hosts.specs.{Dir, In, Out, Datagram, Header, PeerId, peer_of}
+use Rattle.tftp_hosts.specs.{Dir, In, Out, Datagram, Header, PeerId, peer_of, same_peer}
 
 -- where a datagram belongs, or which rule of ports it breaks
 pub data Route : Type 0 where
@@ -24,10 +23,6 @@ goes_out d = is_out d.dir where
 
 abbrev pub comes_in : Datagram → Bool
 comes_in d = not (goes_out d)
-
--- the same host, byte by byte, and the same port there
-abbrev pub same_peer : PeerId → PeerId → Bool
-same_peer one other = bytes_eq one.host other.host && (one.port == other.port)
 
 -- the payload begins as a request does (RFC 1350, section 5)
 abbrev pub begins_request : Datagram → Bool

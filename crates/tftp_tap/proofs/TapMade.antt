@@ -3,10 +3,10 @@ use Rattle.std.proofs.Common.{◌≡◌, ◌⊎◌, ℕ, Bool, true, false, List
 use Rattle.std.specs.List.{list_any}
 use Rattle.std.proofs.lemmas.Bool.{true≢false, cases_lt}
 use Rattle.tftp_packet.specs.{Message, RequestParts, Spells, Side, Get, Put, End, Client, Server}
-use Rattle.tftp_hosts.specs.{Datagram, Header}
+use Rattle.tftp_hosts.specs.{Datagram, Header, same_peer}
 use Rattle.tftp_model.specs.Machines.{receiver_of}
 use Rattle.tftp_model.specs.{MachinePacket, Req, Oack, Data, Ack, Error, is_error}
-use Rattle.tftp_rules.specs.{Route, same_peer, route_of, is_of_transfer, asks}
+use Rattle.tftp_rules.specs.{Route, route_of, is_of_transfer, asks}
 use Rattle.tftp_model.proofs.Members.{contains_first, contains_later}
 use Rattle.tftp_law.specs.{packet_of, packet_route, packet_in, says_some, OneEnded, Passes, IsRead, Broken, Rule}
 use Rattle.tftp_law.specs.declared.rule.Rule.TheVariants as rule

@@ -3,10 +3,10 @@ use Rattle.std.proofs.Common.{◌≡◌, ◌<◌, Bool, true, false, List, [], �
 use Rattle.std.specs.List.{list_any}
 use Rattle.std.proofs.lemmas.Bool.{true≢false}
 use Rattle.tftp_packet.specs.{Message, RequestParts, Spells, Side, Get, Put, End, Client, Server, OptionMap}
-use Rattle.tftp_hosts.specs.{In, Out, Datagram, Header}
+use Rattle.tftp_hosts.specs.{In, Out, Datagram, Header, same_peer}
 use Rattle.tftp_model.specs.Machines.{sender_of, receiver_of}
 use Rattle.tftp_model.specs.{MachinePacket, Req, Oack, Data, Ack, Error, is_error}
-use Rattle.tftp_rules.specs.{same_peer, asks, transfer_of, IsSender, EndBroken, EndRule, NoReply, Terms}
+use Rattle.tftp_rules.specs.{asks, transfer_of, IsSender, EndBroken, EndRule, NoReply, Terms}
 use Rattle.tftp_model.proofs.Members.{contains_first, contains_later, contains_cases, contains_none}
 use Rattle.tftp_law.specs.{packet_in, says_some, number_of, FirstAsked, Answer, Agrees, Begins, AreTerms, plain_terms, terms_after, IsWrongKind, KindBreaks, MessageBreaks, MessageBroken, Broken, rule_of_end, Rule}
 use Rattle.tftp_law.specs.declared.rule.Rule.TheVariants as rule

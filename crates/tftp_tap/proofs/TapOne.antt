@@ -2,8 +2,9 @@
 use Rattle.std.proofs.Common.{◌≡◌, ℕ, Bool, true, false, List, [], ◌∷◌, Contains, Some, inl, inr, refl, sym, subst, ap, ◌∙◌, arith, ◌||◌, not}
 use Rattle.std.proofs.lemmas.Bool.{true≢false, cases_lt}
 use Rattle.tftp_packet.specs.{Message, End, Client, Server}
+use Rattle.tftp_hosts.specs.{same_peer}
 use Rattle.tftp_model.specs.{Meaning, MachinePacket, Req, Oack, Data, Ack, Error, is_error}
-use Rattle.tftp_rules.specs.{same_peer, first_of}
+use Rattle.tftp_rules.specs.{first_of}
 use Rattle.tftp_model.proofs.Members.{contains_cases, contains_none}
 use Rattle.tftp_law.specs.{says_of, says_some, number_of, Rule}
 use Rattle.tftp_law.proofs.Division.RouteTests.{is_same}

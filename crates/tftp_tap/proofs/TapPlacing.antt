@@ -2,8 +2,8 @@
 use Rattle.std.proofs.Common.{◌≡◌, ℕ, true, false, List, [], ◌∷◌, Any, inl, inr, refl, sym, subst, ◌∙◌, ◌&&◌, ◌==◌}
 use Rattle.std.proofs.lemmas.Bool.{true≢false, eq-eqb}
 use Rattle.tftp_packet.specs.{Message, Spells, End, Client, Server}
+use Rattle.tftp_hosts.specs.{same_peer}
 use Rattle.tftp_model.specs.{MachinePacket, Req, Oack, Data, Ack, Error}
-use Rattle.tftp_rules.specs.{same_peer}
 use Rattle.tftp_law.specs.{BeginsAsRequest, says_some}
 use Rattle.tftp_law.specs.declared.rule.Rule.TheVariants as rule
 use Rattle.tftp_law.proofs.Division.RouteTests.{same_is, is_same, apart_is}

@@ -3,9 +3,9 @@
 use Rattle.std.specs.Prelude.{◌≡◌, ◌≢◌, ◌⊎◌, ℕ, ◌<◌, ◌≤◌, ◌&&◌, ◌||◌, not, Bool, true, false, List, [], ◌∷◌, map, Any, Option, Some, None, option_map, if◌then◌else◌}
 use Rattle.std.specs.List.{list_any}
 use Rattle.tftp_packet.specs.{Message, RequestParts, Spells, FirstFault, Side, Get, Put, End, Client, Server}
-use Rattle.tftp_hosts.specs.{In, Out, Datagram, Header}
+use Rattle.tftp_hosts.specs.{In, Out, Datagram, Header, same_peer}
 use Rattle.tftp_model.specs.Roles.{receiver_of}
-use Rattle.tftp_rules.specs.{same_peer, first_of}
+use Rattle.tftp_rules.specs.{first_of}
 use Rattle.tftp_law.specs.{Broken, IsWrongKind, number_of, Rule}
 use Rattle.tftp_law.specs.declared.rule.Rule.TheVariants as rule
 use Rattle.tftp_tap.specs.TapCapture.{PeerId, TapDatagram, TapSides, side_of}

@@ -5,10 +5,11 @@ ghost use Rattle.tftp_tap.specs.TapRoutes.{has_gone, tap_route};
 ghost use Rattle.tftp_tap.specs.TapPorts.{StandsForTap};
 
 use crate::route::TapRoute;
-use crate::sides::{Endpoint, Passing, Sides};
+use crate::sides::{Passing, Sides};
 use crate::ways::{Way, Ways};
 use std::alloc::{AllocError, Global};
 use std::marker::Model;
+use tftp_hosts::Peer;
 
 /// The ports of a tap: the sides of one transfer, and from where to where datagrams have gone (RFC 1350, section 4).
 #[derive(Drop)]
@@ -38,7 +39,7 @@ impl TapPorts {
 
     /// Where a datagram belongs that goes from here to there, after those that have passed; its opcode is the first two bytes of
     /// its payload, as a number, and 0 where it has none.
-    pub fn route(&self, source: Endpoint, destination: Endpoint, opcode: u16) -> TapRoute
+    pub fn route(&self, source: Peer, destination: Peer, opcode: u16) -> TapRoute
         ensures { (s : TapSides) (earlier : List TapDatagram) (payload : List ℕ) → StandsForTap self.now s earlier → opcode_of payload ≡ opcode
             → result ≡ tap_route s earlier (record { source = source; destination = destination; payload = payload }) }
     {
@@ -61,7 +62,7 @@ impl TapPorts {
 
     /// Notes a datagram that has passed. Takes memory only for one that goes a way that none has gone; after want of it nothing
     /// has changed.
-    pub fn note(&mut self, source: Endpoint, destination: Endpoint) -> Result<(), AllocError>
+    pub fn note(&mut self, source: Peer, destination: Peer) -> Result<(), AllocError>
         ensures ok { (s : TapSides) (earlier : List TapDatagram) (payload : List ℕ) → StandsForTap self.old s earlier
             → OnOk result (StandsForTap self.new s (record { source = source; destination = destination; payload = payload } ∷ earlier)) }
         ensures err { OnErr result (self.new ≡ self.old) }

@@ -4,97 +4,18 @@ ghost use Rattle.tftp_tap.specs.TapCapture.{TapDatagram};
 ghost use Rattle.tftp_tap.specs.TapRoutes.{asks_in, ends_in, has_gone, route_astray, route_from_client, route_from_server, route_from_elsewhere, tap_route};
 
 use crate::route::TapRoute;
-use std::cmp::Ordering;
 use std::marker::Model;
-use tftp_hosts::Host;
-
-/// One side of a datagram: a host, and a port there (RFC 1350, section 4).
-#[derive(Clone, Copy)]
-pub struct Endpoint {
-    /// The host, by the bytes that name it.
-    pub host: Host,
-    /// The port there, 1 to 65535.
-    pub port: u16,
-}
-
-impl Model for Endpoint {
-    ghost use Rattle.tftp_tap.specs.TapCapture.{PeerId};
-
-    ghost Value = { PeerId };
-
-    ghost view = { λ p. record { host = p.host; port = p.port } };
-
-    ghost inverse = { λ v. record { host = v.host; port = v.port } };
-}
-
-impl PartialEq for Endpoint {
-    ghost use Rattle.std.proofs.Common.{rules};
-    ghost use Rattle.std.specs.Cmp.Rules.{comparing};
-    ghost use Rattle.tftp_rules.specs.Ports.{same_peer};
-
-    ghost eq = { same_peer };
-
-    ghost laws = { Prim.search (comparing, rules) };
-
-    fn eq(&self, other: &Endpoint) -> bool {
-        self.port == other.port && self.host == other.host
-    }
-}
-
-impl Eq for Endpoint {
-    ghost use Rattle.std.proofs.Common.{rules};
-    ghost use Rattle.std.specs.Cmp.Rules.{comparing};
-
-    ghost laws = { Prim.search (comparing, rules) };
-}
-
-impl PartialOrd for Endpoint {
-    ghost use Rattle.std.specs.Cmp.{partial_order_from_own_ties};
-    ghost use Rattle.std.proofs.Common.{rules};
-    ghost use Rattle.std.specs.Cmp.Rules.{comparing};
-    ghost use Rattle.std.specs.Ordering.{as_partial_cmp};
-    ghost use Rattle.tftp_ends.specs.Known.{peer_cmp};
-
-    ghost partial_cmp = { as_partial_cmp peer_cmp };
-
-    ghost laws = { partial_order_from_own_ties (Prim.search (comparing, rules)) (Prim.search (comparing, rules)) };
-
-    fn partial_cmp(&self, other: &Endpoint) -> Option<Ordering> {
-        Some(self.cmp(other))
-    }
-}
-
-/// By the port first: most endpoints have one of two hosts.
-impl Ord for Endpoint {
-    ghost use Rattle.std.proofs.Common.{rules};
-    ghost use Rattle.std.specs.Cmp.Rules.{comparing};
-    ghost use Rattle.tftp_ends.specs.Known.{peer_cmp};
-
-    ghost cmp = { peer_cmp };
-
-    ghost total = { Prim.search (comparing, rules) };
-
-    ghost matches_partial_cmp = { Prim.search (comparing, rules) };
-
-    ghost matches_eq = { Prim.search (comparing, rules) };
-
-    fn cmp(&self, other: &Endpoint) -> Ordering {
-        match self.port.cmp(&other.port) {
-            Ordering::Equal => self.host.bytes().cmp(other.host.bytes()),
-            unequal => unequal,
-        }
-    }
-}
+use tftp_hosts::Peer;
 
 /// The sides of one transfer, as a tap is told them: who asks, where, and who goes on with it (RFC 1350, section 4).
 #[derive(Clone, Copy)]
 pub struct Sides {
     /// The client's side.
-    pub client: Endpoint,
+    pub client: Peer,
     /// Where the client sends its requests.
-    pub asked: Endpoint,
+    pub asked: Peer,
     /// Where the server goes on.
-    pub server: Endpoint,
+    pub server: Peer,
 }
 
 impl Model for Sides {
@@ -112,9 +33,9 @@ impl Model for Sides {
 #[derive(Clone, Copy)]
 pub struct Passing {
     /// Where it comes from.
-    pub source: Endpoint,
+    pub source: Peer,
     /// Where it goes.
-    pub destination: Endpoint,
+    pub destination: Peer,
     /// Its first two bytes, as a number, and 0 where it has none (RFC 1350, section 5).
     pub opcode: u16,
     /// Whether something has gone from its destination to its source.

@@ -1,19 +1,18 @@
 ghost use Rattle.std.specs.Prelude.{◌≡◌, ◌||◌, false, [], OnOk, OnErr};
 ghost use Rattle.tftp_tap.specs.TapPorts.{WayIds, same_way, is_noted};
 
-use crate::sides::Endpoint;
 use std::alloc::{AllocError, Global};
-use std::cmp::Ordering;
 use std::collections::BTreeSet;
 use std::marker::Model;
+use tftp_hosts::Peer;
 
 /// From where to where a datagram goes.
-#[derive(Clone, Copy)]
+#[derive(Clone, Copy, PartialEq, Eq, PartialOrd, Ord)]
 pub struct Way {
     /// Where it comes from.
-    pub from: Endpoint,
+    pub from: Peer,
     /// Where it goes.
-    pub to: Endpoint,
+    pub to: Peer,
 }
 
 impl Model for Way {
@@ -24,65 +23,6 @@ impl Model for Way {
     ghost view = { λ w. record { from = w.from; to = w.to } };
 
     ghost inverse = { λ v. record { from = v.from; to = v.to } };
-}
-
-impl PartialEq for Way {
-    ghost use Rattle.std.proofs.Common.{rules};
-    ghost use Rattle.std.specs.Cmp.Rules.{comparing};
-    ghost use Rattle.tftp_tap.specs.TapPorts.{same_way};
-
-    ghost eq = { same_way };
-
-    ghost laws = { Prim.search (comparing, rules) };
-
-    fn eq(&self, other: &Way) -> bool {
-        self.from == other.from && self.to == other.to
-    }
-}
-
-impl Eq for Way {
-    ghost use Rattle.std.proofs.Common.{rules};
-    ghost use Rattle.std.specs.Cmp.Rules.{comparing};
-
-    ghost laws = { Prim.search (comparing, rules) };
-}
-
-impl PartialOrd for Way {
-    ghost use Rattle.std.specs.Cmp.{partial_order_from_own_ties};
-    ghost use Rattle.std.proofs.Common.{rules};
-    ghost use Rattle.std.specs.Cmp.Rules.{comparing};
-    ghost use Rattle.std.specs.Ordering.{as_partial_cmp};
-    ghost use Rattle.tftp_tap.specs.TapPorts.{way_cmp};
-
-    ghost partial_cmp = { as_partial_cmp way_cmp };
-
-    ghost laws = { partial_order_from_own_ties (Prim.search (comparing, rules) depth 9) (Prim.search (comparing, rules) depth 9) };
-
-    fn partial_cmp(&self, other: &Way) -> Option<Ordering> {
-        Some(self.cmp(other))
-    }
-}
-
-/// By where it comes from first.
-impl Ord for Way {
-    ghost use Rattle.std.proofs.Common.{rules};
-    ghost use Rattle.std.specs.Cmp.Rules.{comparing};
-    ghost use Rattle.tftp_tap.specs.TapPorts.{way_cmp};
-
-    ghost cmp = { way_cmp };
-
-    ghost total = { Prim.search (comparing, rules) };
-
-    ghost matches_partial_cmp = { Prim.search (comparing, rules) };
-
-    ghost matches_eq = { Prim.search (comparing, rules) };
-
-    fn cmp(&self, other: &Way) -> Ordering {
-        match self.from.cmp(&other.from) {
-            Ordering::Equal => self.to.cmp(&other.to),
-            unequal => unequal,
-        }
-    }
 }
 
 /// The ways that datagrams went.

@@ -4,7 +4,8 @@ use Rattle.std.specs.List.{list_any}
 use Rattle.std.proofs.lemmas.Bool.{true≢false}
 use Rattle.tftp_packet.specs.{Message, RequestParts, Spells, FirstFault, PacketFault, Client, Server}
 use Rattle.tftp_packet.proofs.NoFault.{no_fault}
-use Rattle.tftp_rules.specs.{first_of, same_peer}
+use Rattle.tftp_hosts.specs.{same_peer}
+use Rattle.tftp_rules.specs.{first_of}
 use Rattle.tftp_judge.specs.{NoneBreaks}
 use Rattle.tftp_law.specs.{OneEnded, Passes, number_of, Rule}
 use Rattle.tftp_law.specs.declared.rule.Rule.TheVariants as rule

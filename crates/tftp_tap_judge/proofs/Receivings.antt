@@ -3,12 +3,11 @@ use Rattle.std.proofs.Common.{◌≡◌, ◌⊎◌, inl, inr, ℕ, Bool, true, f
 use Rattle.std.specs.List.{list_any}
 use Rattle.std.proofs.lemmas.Bool.{true≢false, eqb-true}
 use Rattle.tftp_packet.specs.{Side, End, Client, Server, opcode_of}
-use Rattle.tftp_hosts.specs.{Datagram}
+use Rattle.tftp_hosts.specs.{Datagram, same_peer}
 use Rattle.tftp_model.specs.Roles.{receiver_of}
-use Rattle.tftp_judge.specs.{Refuses, IsJudgeAfter, Judge, TakesMemory, Refusal}
+use Rattle.tftp_judge.specs.{NoneBreaks, Refuses, IsJudgeAfter, Judge, TakesMemory, Refusal}
 use Rattle.tftp_judge.specs.declared.refusal.Refusal.TheVariants as of_end
 use Rattle.tftp_tap.specs.{TapDatagram, TapSides, side_of, AreApart, is_left_out, same_end, asks_in, ends_in, tap_tests, header_at, kept_between, recorded_at}
-use Rattle.tftp_rules.specs.{same_peer}
 use Rattle.tftp_tap.proofs.KeptOf.{is_or_not, any_here, any_more, kept_in}
 use Rattle.tftp_tap.proofs.TapTests.{source_is}
 use Rattle.tftp_law.proofs.Division.RouteTests.{same_is}
@@ -41,6 +40,20 @@ module _ (s : TapSides) (side : Side) (passed : List TapDatagram) (d : TapDatagr
       asked = subst (λ l. list_any (tap_tests s).asks l ≡ true) (sym kept_now) (any_more (tap_tests s).asks d (kept_there s side passed) is.asked);
       answered = said ∙ ap (λ b. same_end Server from || b) is.answered ∙ sym any_answers ∙ ap (list_any (tap_tests s).answers) (sym kept_now);
     }
+
+-- what is left out changes nothing at that end, and breaks no rule there
+pub left_out : (s : TapSides) (side : Side) (passed : List TapDatagram) (d : TapDatagram) (r : Receiving) → is_left_out (tap_tests s) (receiver_of side) d (kept_there s side passed) ≡ true → IsReceiving r s side passed
+    → NoneBreaks (ReceiverBreaks s side passed d) × IsReceiving r s side (d ∷ passed)
+left_out s side passed d r left is =
+    let same : kept_there s side (d ∷ passed) ≡ kept_there s side passed = rw left refl in (
+      λ rule b. true≢false (sym left ∙ b.0),
+      record {
+        end = is.end;
+        judge = subst (λ l. IsJudgeAfter r.judge (header_at s side) (map (recorded_at s (receiver_of side)) l)) (sym same) is.judge;
+        asked = subst (λ l. list_any (tap_tests s).asks l ≡ true) (sym same) is.asked;
+        answered = subst (λ l. r.answered ≡ list_any (tap_tests s).answers l) (sym same) is.answered;
+      },
+    )
 
 -- nothing is kept before the first request, which is
 pub kept_alone : (s : TapSides) (side : Side) (d : TapDatagram) → AreApart s → d.source ≡ s.client → asks_in d.payload ≡ true → kept_there s side (d ∷ []) ≡ d ∷ []

@@ -14,10 +14,10 @@ use std::alloc::Global;
 use std::marker::Model;
 use tftp_blocks::Delivered;
 use tftp_capture::Datagram;
-use tftp_hosts::Dir;
+use tftp_hosts::{Dir, Peer};
 use tftp_law::Rule;
 use tftp_packet::{End, Packet, Request, opcode, own_request, read_packet};
-use tftp_tap::{Endpoint, Sides, TapPorts, TapRoute};
+use tftp_tap::{Sides, TapPorts, TapRoute};
 
 /// What is kept of the datagrams that have passed between the ends: the ways that they went, and the transfer from its first
 /// request on.
@@ -176,10 +176,10 @@ fn first_request(alloc: Global, payload: &[u8]) -> Result<(Request, TapNotes), S
     Ok((asked, notes))
 }
 
-fn port_of(endpoint: Endpoint) -> u16
-    ensures { result ≡ endpoint.port }
+fn port_of(peer: Peer) -> u16
+    ensures { result ≡ peer.port }
 {
-    endpoint.port
+    peer.port
 }
 
 /// A datagram from this end, as the end that gets the file would have recorded it.

@@ -1,9 +1,9 @@
 -- At either end a list has parts by its routes, where the oldest deed is the client's request.
 use Rattle.std.proofs.Common.{◌≡◌, ℕ, Bool, List, [], Option, Some, None, option_map, refl, sym, subst, ◌&&◌}
 use Rattle.tftp_packet.specs.{End, Client, Server}
-use Rattle.tftp_hosts.specs.{Datagram, Header, PeerId, peer_of}
+use Rattle.tftp_hosts.specs.{Datagram, Header, PeerId, peer_of, same_peer}
 use Rattle.tftp_model.specs.{Meaning}
-use Rattle.tftp_rules.specs.{goes_out, comes_in, asks, first_of, same_peer}
+use Rattle.tftp_rules.specs.{goes_out, comes_in, asks, first_of}
 use Rattle.tftp_law.specs.{Division, datagrams_of, view_in, TransferIds, Saying, HavePartsBy, HaveParts, says_of, AreRoutedBy, AreRouted, Starts}
 use Rattle.tftp_law.proofs.Division.Routed.{named_is}
 use Rattle.tftp_law.proofs.Division.ClientParts.{ClientIds, parted_at_client}

@@ -3,9 +3,9 @@ use Rattle.std.proofs.Common.{◌≡◌, ◌⊎◌, ℕ, Bool, true, false, List
 use Rattle.std.proofs.lemmas.Bool.{false≢true, eqb-true, eq-eqb, false_from_ne_true, and_from, and_parts}
 use Rattle.std.proofs.lemmas.Slice.Eq.{bytes_eq-Decides}
 use Rattle.tftp_packet.specs.{Message, RequestParts, Spells, side_opcode, opcode_of, Side, Get, Put}
-use Rattle.tftp_hosts.specs.{In, Out, Datagram, PeerId}
+use Rattle.tftp_hosts.specs.{In, Out, Datagram, PeerId, same_peer}
 use Rattle.tftp_model.specs.{Meaning, MachinePacket, Req, Oack, Data, Ack, message_of, Error}
-use Rattle.tftp_rules.specs.{goes_out, comes_in, begins_request, begins_error, first_of, or_this, same_peer}
+use Rattle.tftp_rules.specs.{goes_out, comes_in, begins_request, begins_error, first_of, or_this}
 use Rattle.tftp_law.specs.{Saying}
 use Rattle.tftp_law.proofs.FirstBroken.FirstRequests.{first_stays}
 
@@ -61,13 +61,13 @@ module _ (test : Datagram → Bool) where
 -- ---- peers: the same exactly if they are equal
 
 pub same_is : (a b : PeerId) → a ≡ b → same_peer a b ≡ true
-same_is a b e = and_from _ _ ((bytes_eq-Decides a.host b.host).1 (ap (λ (p : PeerId). p.host) e)) (eq-eqb a.port b.port (ap (λ (p : PeerId). p.port) e))
+same_is a b e = and_from _ _ (eq-eqb a.port b.port (ap (λ (p : PeerId). p.port) e)) ((bytes_eq-Decides a.host b.host).1 (ap (λ (p : PeerId). p.host) e))
 
 pub is_same : (a b : PeerId) → same_peer a b ≡ true → a ≡ b
 is_same a b e =
-    let parts = and_parts (bytes_eq a.host b.host) (a.port == b.port) e in
-    let host = (bytes_eq-Decides a.host b.host).0 parts.0 in
-    let port = eqb-true a.port b.port parts.1 in
+    let parts = and_parts (a.port == b.port) (bytes_eq a.host b.host) e in
+    let host = (bytes_eq-Decides a.host b.host).0 parts.1 in
+    let port = eqb-true a.port b.port parts.0 in
     λ i. record { host = host i; port = port i }
 
 pub apart_is : (a b : PeerId) → same_peer a b ≡ false → a ≡ b → ⊥

@@ -1,7 +1,13 @@
 use Rattle.std.proofs.Common.{◌≡◌, true, ◌∷◌, sym, ap, subst, ◌∙◌, is_some}
-use Rattle.tftp_lines.specs.{is_between, live, line, IsLineOf, IsLineKept, place_of_talk}
+use Rattle.tftp_lines.specs.{is_between, clock, live, line, IsLineOf, IsLineKept, place_of_talk}
+use Rattle.tftp_lines.proofs.Silences.{live_later}
 use Rattle.tftp_transfers.proofs.AllLines.{on_ok_map, lines_more, live_whole, at_talk}
 use Rattle.tftp_transfers.proofs.all_lines.note.Goals as goal
+
+pub returns-in-None : goal.returns-in-None
+returns-in-None c older d stands later seen between clients some =
+    let silent = subst (IsLineKept c.args.client older) (sym c.in-None.ensures.value) (stands c.args.client) in
+    absurd (some (live_later (clock older) c.args.now (line c.args.client older) later silent))
 
 pub returns-in-Some : goal.returns-in-Some
 returns-in-Some c older d stands later seen between clients some =

@@ -1,7 +1,14 @@
 use Rattle.std.proofs.Common.{◌≡◌, ◌∷◌, refl, sym, ap, subst, is_some}
-use Rattle.tftp_lines.specs.{Opens, line, IsLineOf, IsLineKept}
+use Rattle.tftp_lines.specs.{Opens, clock, line, IsLineOf, IsLineKept}
+use Rattle.tftp_lines.proofs.Silences.{live_later}
 use Rattle.tftp_transfers.proofs.AllLines.{on_ok_both, lines_more, live_whole}
 use Rattle.tftp_transfers.proofs.all_lines.reopen.Goals as goal
+
+pub returns-in-None : goal.returns-in-None
+returns-in-None c older d stands later of some =
+    let client = c.args.transfer.client in
+    let silent = subst (IsLineKept client older) (sym c.in-None.ensures.value) (stands client) in
+    absurd (some (live_later (clock older) c.args.now (line client older) later silent))
 
 pub returns-in-Some : goal.returns-in-Some
 returns-in-Some c older d stands later of some =

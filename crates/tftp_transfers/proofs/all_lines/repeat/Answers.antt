@@ -1,7 +1,13 @@
 use Rattle.std.proofs.Common.{◌≡◌, ◌∷◌, sym, ap, subst, ◌∙◌, is_some}
-use Rattle.tftp_lines.specs.{Repeats, same_endpoint, live, line, place_asked, IsLineOf, IsLineKept}
+use Rattle.tftp_lines.specs.{Repeats, same_endpoint, clock, live, line, place_asked, IsLineOf, IsLineKept}
+use Rattle.tftp_lines.proofs.Silences.{live_later}
 use Rattle.tftp_transfers.proofs.AllLines.{on_ok_map, lines_more, live_whole, repeats_live}
 use Rattle.tftp_transfers.proofs.all_lines.repeat.Goals as goal
+
+pub returns-in-None : goal.returns-in-None
+returns-in-None c older d number x stands later from passed client is =
+    let silent = subst (IsLineKept c.args.client older) (sym c.in-None.ensures.value) (stands c.args.client) in
+    absurd (repeats_live number d x (live c.args.now (line c.args.client older)) is (live_later (clock older) c.args.now (line c.args.client older) later silent))
 
 pub returns-in-Some : goal.returns-in-Some
 returns-in-Some c older d number x stands later from passed client is =

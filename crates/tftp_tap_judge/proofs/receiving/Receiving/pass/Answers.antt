@@ -7,8 +7,14 @@ use Rattle.tftp_law.specs.{Passes}
 use Rattle.tftp_tap.specs.{same_end, header_at, kept_between}
 use Rattle.tftp_tap_judge.specs.{IsReceiving, Receiving, FindsTo, ReceiverBreaks, Stop}
 use Rattle.tftp_tap_judge.specs.declared.stop.Stop.TheVariants as stop
-use Rattle.tftp_tap_judge.proofs.Receivings.{kept_more, refused_found, refused_takes, recorded_same, said_client, said_server}
+use Rattle.tftp_tap_judge.proofs.Receivings.{kept_more, left_out, refused_found, refused_takes, recorded_same, said_client, said_server}
 use Rattle.tftp_tap_judge.proofs.receiving.Receiving.pass.Goals as goal
+
+pub returns-then-leaves_out-clause-finds : goal.returns-then-leaves_out-clause-finds
+returns-then-leaves_out-clause-finds g c = λ s side passed d apart is source recorded.
+    let opcode = ap opcode_of (recorded_same s (receiver_of side) d _ recorded ∙ sym c.as_slice.ensures) ∙ sym c.opcode.ensures in
+    let left = c.leaves_out.ensures s side passed d apart is source opcode ∙ c.if-leaves_out.true in
+    left_out s side passed d c.args.self.now left is
 
 pub returns-in-Err-clause-finds : goal.returns-in-Err-clause-finds
 returns-in-Err-clause-finds g c = λ s side passed d apart is source recorded.
