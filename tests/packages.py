@@ -43,7 +43,7 @@ fn tftp_low::one: proved
 logic /somewhere/project.json: libraries=1 sum=5a
 logic=proved functions=1 sum=5a
 rt: tftp_low proved
-== tftp_tests: its tests
+== tftp_low_tests: its tests
 logic=proved tests=2 functions=3 sum=5a
 == tftp_open
 logic=not-proved functions=1 sum=5a
@@ -54,7 +54,7 @@ PROVED = """
 gate:
     logic: libraries=1 sum=5a
     tftp_low: logic=proved functions=1 sum=5a
-    tftp_tests: its tests: logic=proved tests=2 functions=3 sum=5a
+    tftp_low_tests: its tests: logic=proved tests=2 functions=3 sum=5a
     rt: ok; must-fail edits: 10 refused
 
 tftp-audit:

@@ -1,6 +1,6 @@
-"""What each command says of texts, on the built program: of the captures of the scripts of crates/tftp_tests, of texts
-with each fault, of the longest lines, and where a read fails. Each text is given whole, and byte by byte with the
-output taken so.
+"""What each command says of texts, on the built program: of the captures of the scripts of the tests in crates/, of
+texts with each fault, of the longest lines, and where a read fails. Each text is given whole, and byte by byte with
+the output taken so.
 
     said.py PROGRAM FOLDER
 
@@ -175,7 +175,7 @@ def line_after(text: bytes, taken: int) -> int:
 
 def normals() -> Iterator[tuple[bytes, str, bytes]]:
     """Captures, what is said of each, and its normal text."""
-    both = iter(captures(constant("cases/normals.rt", "SCRIPT")))
+    both = iter(captures(constant("tftp_trials/src/normals.rt", "SCRIPT")))
     for text, said in both:
         yield text, said, next(both)[0]
 
@@ -199,7 +199,7 @@ class SaidTrial(ShimmedTrial):
 
     def captures_of_scripts(self) -> None:
         for case in CASES:
-            for text, said in captures(constant(f"cases/{case}.rt", "SCRIPT")):
+            for text, said in captures(constant(f"tftp_judge_tests/src/cases/{case}.rt", "SCRIPT")):
                 status, line = said.split(" ", 1)
                 self.line("check", text, line, int(status))
         for host in HOSTS:
@@ -241,7 +241,7 @@ class SaidTrial(ShimmedTrial):
             self.line("count", text, count, status)
 
     def files(self) -> None:
-        for text, digits in captures(constant("cases/files.rt", "SCRIPT")):
+        for text, digits in captures(constant("tftp_judge_tests/src/cases/files.rt", "SCRIPT")):
             self.says("extract", text, bytes.fromhex(digits.replace("-", "")), 0)
         six, file = capture(CLIENT, OF_SIX_BLOCKS), b"".join(b"%d" % block * 8 for block in range(1, 6)) + b"666"
         self.fail_writes("extract of six blocks", ["extract"], six, (file, 0))

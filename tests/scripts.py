@@ -1,5 +1,5 @@
-"""The scripts of crates/tftp_tests: captures, and what is said of each. scripts.rt there says how one is written; here
-they are read for the built program, so that each stands once.
+"""The scripts of crates/tftp_judge_tests and of crates/tftp_trials: captures, and what is said of each. scripts.rt of
+tftp_trials says how one is written; here they are read for the built program, so that each stands once.
 """
 from __future__ import annotations
 
@@ -7,14 +7,14 @@ import pathlib
 import re
 from collections.abc import Iterator
 
-SOURCES = pathlib.Path(__file__).parent.parent / "crates" / "tftp_tests" / "src"
+CRATES = pathlib.Path(__file__).parent.parent / "crates"
 CLIENT = "tftp-capture 1, end client, service 69"
 REPEATED = re.compile(r"\{([^*{}]+)\*(\d+)\}")
 
 
 def constant(file: str, name: str) -> str:
-    """The text of this constant in a file of the tests' sources: it has no escapes."""
-    source = (SOURCES / file).read_text()
+    """The text of this constant in a file, named from the folder of the crates: it has no escapes."""
+    source = (CRATES / file).read_text()
     found = re.search(rf'const {name}: &str = "([^"\\]*)";', source)
     assert found, f"no {name} in {file}"
     return found[1]
@@ -25,7 +25,7 @@ def names_of(script: str) -> dict[str, str]:
     return dict(line.split(" = ", 1) for line in script.splitlines() if " = " in line)
 
 
-SHARED = names_of(constant("scripts.rt", "NAMES"))
+SHARED = names_of(constant("tftp_trials/src/scripts.rt", "NAMES"))
 
 
 def line_of(line: str) -> bytes:

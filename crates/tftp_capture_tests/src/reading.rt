@@ -1,0 +1,73 @@
+//! A text that is read, and how far.
+
+ghost use Rattle.std.specs.Prelude.{◌≡◌, true};
+ghost use Rattle.tftp_capture.specs.{IsReadStanding};
+
+use std::alloc::Global;
+use std::marker::Model;
+use tftp_capture::{CaptureFault, CaptureReader, Datagram, DripReader, Header, Tallied};
+
+/// A text whose header was read. Contracts see nothing of it, so that what the library promises of its readers is read
+/// only here, where it is called.
+#[derive(Drop)]
+pub struct Reading<'a> {
+    reader: Tallied<DripReader<'a>>,
+    capture: CaptureReader,
+}
+
+impl<'a> Model for Reading<'a> {
+    ghost Value = { Unit {0} };
+
+    ghost view = { λ _. tt };
+
+    ghost invariant = { λ a. IsReadStanding a.capture.standing → a.reader.1 ≡ true };
+}
+
+impl<'a> Reading<'a> {
+    /// The fault of a header, and whether a read failed.
+    pub fn begin(alloc: Global, drip: DripReader<'a>) -> Result<Self, (CaptureFault, bool)> {
+        let mut reader = Tallied::new(drip);
+        match CaptureReader::begin(alloc, &mut reader) {
+            Ok(capture) => Ok(Reading { reader, capture }),
+            Err(fault) => Err((fault, reader.failed())),
+        }
+    }
+
+    /// The next datagram, in memory of its own.
+    pub fn next(&mut self, alloc: Global) -> Result<Option<Datagram>, CaptureFault> {
+        let mut datagram = Datagram::empty(alloc);
+        if self.fill(&mut datagram)? {
+            Ok(Some(datagram))
+        } else {
+            Ok(None)
+        }
+    }
+
+    /// Reads the next datagram into one that is held.
+    pub fn fill(&mut self, held: &mut Datagram) -> Result<bool, CaptureFault> {
+        self.capture.next_into(&mut self.reader, held)
+    }
+
+    /// The line of what was handed out last, counted from 1; that of the service before the first datagram.
+    pub fn line(&self) -> u64 {
+        self.capture.line()
+    }
+
+    /// The named end and the service port.
+    pub fn header(&self) -> Header {
+        *self.capture.header()
+    }
+
+    /// Whether a read failed.
+    pub fn has_failed(&self) -> bool {
+        self.reader.failed()
+    }
+
+    /// The line of the next datagram.
+    pub fn next_line(&mut self, alloc: Global) -> Result<Option<u64>, CaptureFault> {
+        match self.next(alloc)? {
+            Some(_) => Ok(Some(self.line())),
+            None => Ok(None),
+        }
+    }
+}

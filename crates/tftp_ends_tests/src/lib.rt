@@ -1,0 +1,9 @@
+//! Tests of the stores of blocks, and of the code at one end: its states and its ports.
+#![tactic(auto)]
+
+#[cfg(test)]
+mod ports;
+#[cfg(test)]
+mod states;
+#[cfg(test)]
+mod stores;

@@ -1,0 +1,5 @@
+//! Tests of netascii.
+#![tactic(auto)]
+
+#[cfg(test)]
+mod netascii;

@@ -1,0 +1,9 @@
+//! Tests of packets, options and hosts, and of what OACKs agree to.
+#![tactic(auto)]
+
+#[cfg(test)]
+mod agreements;
+#[cfg(test)]
+mod packets;
+#[cfg(test)]
+mod views;

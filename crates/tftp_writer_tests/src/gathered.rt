@@ -1,0 +1,175 @@
+//! Pieces and digits that are gathered before they are written.
+
+use crate::writes::has_written;
+use crate::writing::{Written, written};
+use std::alloc::{AllocError, Global};
+use std::marker::Model;
+use std::test::Fail;
+use tftp_capture::{DripWriter, Gathered, Tallied, WriteFault};
+use tftp_trials::texts::long;
+
+/// What is gathered, and where it is written. Contracts see nothing of it.
+#[derive(Drop)]
+struct Gathering {
+    writer: Tallied<DripWriter>,
+    gathered: Gathered,
+}
+
+impl Model for Gathering {
+    ghost Value = { Unit {0} };
+
+    ghost view = { λ _. tt };
+}
+
+/// Each of its calls is made where no write has failed.
+impl Gathering {
+    fn new(alloc: Global, drip: DripWriter) -> Self {
+        Gathering {
+            writer: Tallied::new(drip),
+            gathered: Gathered::new(alloc),
+        }
+    }
+
+    fn add(&mut self, bytes: &[u8]) -> Result<(), WriteFault> {
+        if self.writer.failed() {
+            return Err(WriteFault);
+        }
+        self.gathered.add(&mut self.writer, bytes)
+    }
+
+    fn add_all(&mut self, pieces: &[&[u8]]) -> Result<(), WriteFault> {
+        if self.writer.failed() {
+            return Err(WriteFault);
+        }
+        self.gathered.add_all(&mut self.writer, pieces)
+    }
+
+    fn add_hex(&mut self, bytes: &[u8]) -> Result<(), WriteFault> {
+        if self.writer.failed() {
+            return Err(WriteFault);
+        }
+        self.gathered.add_hex(&mut self.writer, bytes)
+    }
+
+    fn write(&mut self) -> Result<(), WriteFault> {
+        if self.writer.failed() {
+            return Err(WriteFault);
+        }
+        self.gathered.write(&mut self.writer)
+    }
+
+    /// Two bytes as they are, and the others as digits; what waits is written.
+    fn take_digits(&mut self, bytes: &[u8]) -> Result<(), WriteFault> {
+        self.add(b"- ")?;
+        self.add_hex(bytes)?;
+        self.write()
+    }
+
+    /// The bytes in pieces of 100, of 16,384, of 16,385 and of what is left; what waits is written.
+    fn take_pieces(&mut self, bytes: &[u8]) -> Result<(), WriteFault> {
+        let (short, rest) = bytes.split_at(bytes.len().min(100));
+        let (full, rest) = rest.split_at(rest.len().min(16_384));
+        let (long, rest) = rest.split_at(rest.len().min(16_385));
+        self.add(short)?;
+        self.add_all(&[full, long, b"", rest])?;
+        self.write()
+    }
+
+    fn written(self, answer: Result<(), WriteFault>) -> Written {
+        let Gathering { writer, .. } = self;
+        written(writer, answer)
+    }
+}
+
+/// Gathers digits there.
+fn digits_gathered(rt: &HostRuntime, drip: DripWriter, bytes: &[u8]) -> Written {
+    let mut gathering = Gathering::new(rt.alloc(), drip);
+    let answer = gathering.take_digits(bytes);
+    gathering.written(answer)
+}
+
+/// Gathers pieces there.
+fn pieces_gathered(rt: &HostRuntime, drip: DripWriter, bytes: &[u8]) -> Written {
+    let mut gathering = Gathering::new(rt.alloc(), drip);
+    let answer = gathering.take_pieces(bytes);
+    gathering.written(answer)
+}
+
+/// The digits of two bytes and 9,000 times another, after what is as it was.
+fn many_digits(rt: &HostRuntime) -> Result<Vec<u8>, AllocError> {
+    let mut text = Vec::from_slice(rt.alloc(), b"- 001f")?;
+    for _ in 0..9000 {
+        text.extend_from_slice(b"ab")?;
+    }
+    Ok(text)
+}
+
+/// Fails unless these bytes are gathered as those digits where each write takes so many bytes.
+fn are_digits_in(rt: &HostRuntime, piece: usize, bytes: &[u8], text: &[u8]) -> Result<(), Fail> {
+    let drip = DripWriter::new(rt.alloc(), text.len(), piece, 0, false)?;
+    has_written(&digits_gathered(rt, drip, bytes), Ok(()), text)
+}
+
+/// More digits than wait together.
+#[test]
+fn bytes_are_gathered_as_digits(rt: HostRuntime) -> Result<(), Fail> {
+    let bytes = long(rt.alloc(), b"\x00\x1f", (0xab, 9000))?;
+    let text = many_digits(&rt)?;
+    are_digits_in(&rt, usize::MAX, bytes.as_slice(), text.as_slice())?;
+    are_digits_in(&rt, 7, bytes.as_slice(), text.as_slice())
+}
+
+/// Bytes that repeat after 251.
+fn other_bytes(rt: &HostRuntime) -> Result<Vec<u8>, AllocError> {
+    let mut bytes = Vec::new(rt.alloc());
+    for index in 0..32_879u32 {
+        bytes.push((index % 251) as u8)?;
+    }
+    Ok(bytes)
+}
+
+/// How many bytes each write takes, the write that fails, and how many bytes are taken then.
+type Row = (usize, u64, usize);
+
+/// Writes of any size, and such that fail.
+const ROWS: &[Row] = &[
+    (usize::MAX, 0, 32_879),
+    (1000, 0, 32_879),
+    (7, 0, 32_879),
+    (usize::MAX, 1, 0),
+    (usize::MAX, 2, 100),
+    (usize::MAX, 3, 16_484),
+    (usize::MAX, 4, 32_869),
+];
+
+/// Fails unless so many bytes are taken, and all where no write fails: by an error, or by taking none.
+fn takes(
+    rt: &HostRuntime,
+    bytes: &[u8],
+    (piece, fails_at, taken): &Row,
+    none: bool,
+) -> Result<(), Fail> {
+    let drip = DripWriter::new(rt.alloc(), bytes.len(), *piece, *fails_at, none)?;
+    let wanted = if *fails_at == 0 {
+        Ok(())
+    } else {
+        Err(WriteFault)
+    };
+    let front = bytes.get(..*taken).unwrap_or(b"");
+    has_written(&pieces_gathered(rt, drip, bytes), wanted, front)
+}
+
+/// Fails unless that is so of each row.
+fn all_take(rt: &HostRuntime, bytes: &[u8]) -> Result<(), Fail> {
+    for row in ROWS {
+        takes(rt, bytes, row, false)?;
+        takes(rt, bytes, row, true)?;
+    }
+    Ok(())
+}
+
+#[test]
+fn pieces_of_any_length_are_gathered(rt: HostRuntime) -> Result<(), Fail> {
+    let bytes = other_bytes(&rt)?;
+    all_take(&rt, bytes.as_slice())
+}
