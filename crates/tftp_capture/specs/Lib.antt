@@ -1,7 +1,6 @@
 pub mod CaptureText
 pub mod Commented
 pub mod Digits
-pub mod Drips
 pub mod Fields
 pub mod History
 pub mod InTwo

@@ -4,7 +4,6 @@
 mod ahead;
 mod datagram;
 mod digits;
-mod drip;
 mod fault;
 mod fields;
 mod gathered;
@@ -23,7 +22,6 @@ mod writer;
 
 pub use ahead::Ahead;
 pub use datagram::{Datagram, Header};
-pub use drip::{DripReader, DripWriter};
 pub use fault::{CaptureFault, TextFault, WriteFault};
 pub use gathered::Gathered;
 pub use host_writer::HostCaptureWriter;

@@ -3,8 +3,9 @@
 use crate::reading::Reading;
 use crate::texts::changed;
 use std::test::Fail;
-use tftp_capture::{CaptureFault, Datagram, DripReader, TextFault};
+use tftp_capture::{CaptureFault, Datagram, TextFault};
 use tftp_hosts::Dir;
+use tftp_trials::drip::DripReader;
 use tftp_trials::texts::READ;
 
 /// What is read into: the answer, and the line then.

@@ -5,9 +5,10 @@ use crate::outcomes::{Outcome, gives, read_out};
 use crate::reading::Reading;
 use crate::texts::{Line, with_line};
 use std::test::Fail;
-use tftp_capture::{CaptureFault, DripReader, Header, TextFault};
+use tftp_capture::{CaptureFault, Header, TextFault};
 use tftp_packet::End;
 use tftp_trials::comparing::is_so;
+use tftp_trials::drip::DripReader;
 use tftp_trials::texts::{NAMED, READ};
 
 /// The header of a text, and its last line.

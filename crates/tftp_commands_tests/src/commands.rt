@@ -1,8 +1,9 @@
 //! The commands, each once: what they say of many texts is tried on the built program.
 
 use std::test::Fail;
-use tftp_capture::{DripReader, DripWriter, Tallied};
+use tftp_capture::Tallied;
 use tftp_commands::run;
+use tftp_trials::drip::{DripReader, DripWriter};
 use tftp_trials::texts::READ;
 
 mod pipes;

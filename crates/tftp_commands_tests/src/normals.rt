@@ -2,9 +2,10 @@
 
 use std::alloc::AllocError;
 use std::test::Fail;
-use tftp_capture::{DripReader, DripWriter, Tallied};
+use tftp_capture::Tallied;
 use tftp_judge::{Meaning, Verdict, judge_text};
 use tftp_normal::{NormalFault, normal_capture, normal_count, normalise};
+use tftp_trials::drip::{DripReader, DripWriter};
 use tftp_trials::normals::SCRIPT;
 use tftp_trials::scripts::Script;
 use tftp_trials::texts::READ;

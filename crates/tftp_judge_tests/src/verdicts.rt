@@ -4,11 +4,12 @@ use crate::judges::{End, Judging};
 use std::alloc::{AllocError, Global};
 use std::test::Fail;
 use tftp_blocks::Delivered;
-use tftp_capture::{CaptureFault, DripReader, Tallied};
+use tftp_capture::{CaptureFault, Tallied};
 use tftp_capture_tests::reading::Reading;
 use tftp_judge::{By, Meaning, Refusal, Rule, Verdict, judge_text};
 use tftp_packet::{Mode, Side};
 use tftp_trials::comparing::is_so;
+use tftp_trials::drip::DripReader;
 
 /// Feeds a judge the datagrams that are left of a text, up to the first fault or one that it refuses.
 fn feed_all<D: Delivered + Drop>(

@@ -2,10 +2,11 @@
 
 use crate::fragments::let_go_any;
 use std::test::Fail;
-use tftp_capture::{DripReader, Tallied};
+use tftp_capture::Tallied;
 use tftp_pcap::{FaultKind, PcapFault};
 use tftp_recording::{Event, Fate, LeftOut, RecordingReader};
 use tftp_trials::comparing::is_so;
+use tftp_trials::drip::DripReader;
 
 /// A classic recording (draft-ietf-opsawg-pcap) of raw IP: the last part of a datagram, a whole datagram, a part, the
 /// first part of the datagram, TCP, a part, a part with other bytes than the one before it, and a part 31 s later; and of

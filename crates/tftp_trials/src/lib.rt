@@ -1,7 +1,9 @@
-//! What the tests of several libraries share: comparisons, scripts of captures, and texts. It tries nothing itself.
+//! What the tests of several libraries share: comparisons, scripts of captures, texts, and readers and writers that fail
+//! where they are told to. It tries nothing itself.
 #![tactic(auto)]
 
 pub mod comparing;
+pub mod drip;
 pub mod normals;
 pub mod scripts;
 pub mod texts;

@@ -5,7 +5,8 @@ use crate::writing::{Written, written};
 use std::alloc::{AllocError, Global};
 use std::marker::Model;
 use std::test::Fail;
-use tftp_capture::{DripWriter, Gathered, Tallied, WriteFault};
+use tftp_capture::{Gathered, Tallied, WriteFault};
+use tftp_trials::drip::DripWriter;
 use tftp_trials::texts::long;
 
 /// What is gathered, and where it is written. Contracts see nothing of it.

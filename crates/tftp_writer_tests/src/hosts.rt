@@ -3,8 +3,8 @@
 use crate::writes::{DATAGRAMS, HEADER, has_written};
 use crate::writing::{write_with_comment, write_with_host};
 use std::test::Fail;
-use tftp_capture::DripWriter;
 use tftp_hosts::Host;
+use tftp_trials::drip::DripWriter;
 use tftp_trials::texts::{COMMENTED, NAMED};
 
 /// Fails unless the text of `NAMED`, whose host is this, is written where each write takes so many bytes.

@@ -4,8 +4,9 @@ ghost use Rattle.std.specs.Prelude.{◌≡◌, false};
 
 use std::alloc::Global;
 use std::marker::Model;
-use tftp_capture::{CaptureWriter, DripWriter, Header, HostCaptureWriter, Tallied, WriteFault};
+use tftp_capture::{CaptureWriter, Header, HostCaptureWriter, Tallied, WriteFault};
 use tftp_hosts::{Dir, Host};
+use tftp_trials::drip::DripWriter;
 
 /// A datagram by its direction, its port at the named end, the port at the other and its payload.
 pub type Row<'a> = (Dir, u16, u16, &'a [u8]);

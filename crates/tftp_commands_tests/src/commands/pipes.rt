@@ -6,8 +6,9 @@ use std::io;
 use std::io::{Read, Write};
 use std::slice::Iter;
 use std::test::Fail;
-use tftp_capture::{DripReader, Tallied};
+use tftp_capture::Tallied;
 use tftp_commands::run;
+use tftp_trials::drip::DripReader;
 
 /// A piece of a text, and how many datagrams have come with it.
 type Piece = (&'static str, usize);
