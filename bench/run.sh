@@ -2,8 +2,9 @@
 # How fast the program and the libraries are, and the most memory that they take, each beside `wc -l` and `cat` on the
 # same bytes: bench/run.sh PROGRAM BENCH TRANSFERS MATCH, where BENCH is the program of crates/tftp_bench, TRANSFERS the
 # one that reads recordings, and MATCH the one that reads both ends. First a table of the program's commands
-# (commands.sh), the texts that cost most, and both ends; then a line for each call of the libraries, and for the
-# verdicts on recordings. The texts, of up to 1 GB, stand in a folder that is removed at the end.
+# (commands.sh), then `check` beside the least that any program has to do (least.c), the texts that cost most, and both
+# ends; then a line for each call of the libraries, and for the verdicts on recordings. The texts, of up to 1 GB, stand in a
+# folder that is removed at the end.
 set -eu
 here=$(dirname "$0")
 program=$1
@@ -13,6 +14,9 @@ match=$4
 folder=$(mktemp -d)
 trap 'rm -rf "$folder"' EXIT
 text=$folder/text
+
+# As the launchers have the programs run (tools/commands.sh).
+export GLIBC_TUNABLES="${GLIBC_TUNABLES-glibc.malloc.hugetlb=1}"
 
 generate() {
     python3 "$here/generate.py" "$@" >"$text"
@@ -25,6 +29,8 @@ measure() {
 }
 
 sh "$here/commands.sh" "$program"
+cc -O3 -march=x86-64-v2 -o "$folder/least" "$here/least.c"
+python3 "$here/least.py" "$program" "$folder/least"
 python3 "$here/worst.py" "$program" || echo "A text takes more than it may."
 python3 "$here/matching.py" "$program" "$match" || echo "A pair takes more than it may."
 

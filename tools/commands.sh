@@ -3,6 +3,11 @@
 # own, and before `run_command` `program`, the proved program's place.
 version=0.2.0
 
+# What a program keeps of a large capture lies in large pages where the system has them, which spares up to a fifth of the
+# time (glibc 2.35 or later; others pass over it). Who has set tunables keeps them.
+GLIBC_TUNABLES=${GLIBC_TUNABLES-glibc.malloc.hugetlb=1}
+export GLIBC_TUNABLES
+
 say() {
     printf '%s: %s\n' "$name" "$1" >&2
 }
