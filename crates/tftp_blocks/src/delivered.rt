@@ -17,7 +17,7 @@ use std::alloc::{AllocError, Global};
 
 /// What became of a block that was handed over.
 #[derive(Clone, Copy, Debug, PartialEq, Eq)]
-pub enum Placed {
+pub enum PutOutcome {
     /// It was not held, and now it is.
     New,
     /// It is held with the same bytes.
@@ -55,7 +55,7 @@ pub trait Delivered: Sized {
         ensures { (result ≡ true) ↔ Takes (block_size self.now) (window self.now) (held self.now) number len };
 
     /// Holds a block.
-    fn put(&mut self, alloc: Global, number: u16, bytes: &[u8]) -> Result<Placed, AllocError>
+    fn put(&mut self, alloc: Global, number: u16, bytes: &[u8]) -> Result<PutOutcome, AllocError>
         requires { Takes (block_size self.old) (window self.old) (held self.old) number (length bytes.now) }
         ensures ok { IfOk result (λ placed. Places (held self.old) (held self.new) number bytes.now (placing placed)) }
         ensures err { OnErr result (held self.new ≡ held self.old) }

@@ -8,6 +8,6 @@ mod ring_delivered;
 mod taking;
 mod waiting;
 
-pub use delivered::{Delivered, Placed};
+pub use delivered::{Delivered, PutOutcome};
 pub use map_delivered::MapDelivered;
 pub use ring_delivered::RingDelivered;

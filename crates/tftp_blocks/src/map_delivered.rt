@@ -4,7 +4,7 @@ ghost use Rattle.std.specs.Ordering.{nat_cmp};
 ghost use Rattle.tftp_blocks.specs.Store.{IsHeldFront, IsJoin};
 ghost use Rattle.tftp_blocks.specs.Kept.{held_in};
 
-use crate::delivered::{Delivered, Placed};
+use crate::delivered::{Delivered, PutOutcome};
 use crate::taking::may_take;
 use std::alloc::{AllocError, Global};
 use std::collections::BTreeMap;
@@ -69,13 +69,13 @@ impl Delivered for MapDelivered {
         )
     }
 
-    fn put(&mut self, alloc: Global, number: u16, bytes: &[u8]) -> Result<Placed, AllocError> {
+    fn put(&mut self, alloc: Global, number: u16, bytes: &[u8]) -> Result<PutOutcome, AllocError> {
         match self.by_number.get(&number) {
             Some(held) => {
                 if held.as_slice() == bytes {
-                    return Ok(Placed::Same);
+                    return Ok(PutOutcome::Same);
                 }
-                return Ok(Placed::Differs);
+                return Ok(PutOutcome::Differs);
             }
             None => {}
         }
@@ -84,7 +84,7 @@ impl Delivered for MapDelivered {
         self.by_number.insert(number, copy)?;
         self.highest = self.highest.max(number);
         self.front = front_after(&self.by_number, self.front);
-        Ok(Placed::New)
+        Ok(PutOutcome::New)
     }
 
     fn front(&self) -> u16 {

@@ -2,7 +2,7 @@ ghost use Rattle.std.specs.Prelude.{◌≡◌, ◌+◌, ◌≤◌, [], None, len
 ghost use Rattle.std.specs.Vec.{vec_capacity};
 ghost use Rattle.tftp_blocks.specs.Ring.{cut, leading, filled, IsRow};
 
-use crate::delivered::{Delivered, Placed};
+use crate::delivered::{Delivered, PutOutcome};
 use crate::taking::may_take;
 use crate::waiting::Waiting;
 use std::alloc::{AllocError, Global};
@@ -87,13 +87,13 @@ impl Delivered for RingDelivered {
         )
     }
 
-    fn put(&mut self, alloc: Global, number: u16, bytes: &[u8]) -> Result<Placed, AllocError> {
+    fn put(&mut self, alloc: Global, number: u16, bytes: &[u8]) -> Result<PutOutcome, AllocError> {
         match self.block(number) {
             Some(held) => {
                 if held == bytes {
-                    return Ok(Placed::Same);
+                    return Ok(PutOutcome::Same);
                 }
-                return Ok(Placed::Differs);
+                return Ok(PutOutcome::Differs);
             }
             None => {}
         }
@@ -103,7 +103,7 @@ impl Delivered for RingDelivered {
             let waiting = usize::from(self.waiting) * usize::from(self.block_size);
             self.pending.hold(alloc, waiting, place, bytes)?;
             self.waiting += 1;
-            return Ok(Placed::New);
+            return Ok(PutOutcome::New);
         }
         let following = self.pending.following(self.block_size);
         self.joined.reserve(bytes.len() + following)?;
@@ -114,7 +114,7 @@ impl Delivered for RingDelivered {
             self.front = advance(&mut self.joined, &mut self.pending, number, self.block_size);
             self.waiting -= self.front - number;
         }
-        Ok(Placed::New)
+        Ok(PutOutcome::New)
     }
 
     fn front(&self) -> u16 {

@@ -2,13 +2,13 @@
 use Rattle.std.specs.Prelude.{ℕ, List, codes}
 use Rattle.tftp_packet.specs.{Side, Get, Put, PacketFault, Short, Opcode, AckLength, NoTerminator, OddOptions, EmptyOptionName, DuplicateOption, UnknownMode, MailMode, RequestTooLong}
 use Rattle.tftp_capture.specs.{TextFault, BadHeader, BadEnd, BadService, LineTooLong, BadLine, BadPort, BadHost, BadHex, PayloadTooLong, TotalWrong, Truncated, TrailingText, TextTooLong}
-use Rattle.tftp_law.specs.{By, Local, Peer}
+use Rattle.tftp_law.specs.{AbortedBy, Local, Peer}
 
 abbrev pub side_name : Side → List ℕ
 side_name Get = codes "get"
 side_name Put = codes "put"
 
-abbrev pub by_name : By → List ℕ
+abbrev pub by_name : AbortedBy → List ℕ
 by_name Local = codes "local"
 by_name Peer = codes "peer"
 

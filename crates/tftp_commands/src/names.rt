@@ -5,7 +5,7 @@ ghost use Rattle.tftp_commands.specs.Names.{by_name as by_word, packet_fault_nam
 
 use tftp_capture::TextFault;
 use tftp_hosts::Dir;
-use tftp_judge::By;
+use tftp_judge::AbortedBy;
 use tftp_packet::{Mode, PacketFault, Side};
 
 /// The word that a verdict has for the side.
@@ -19,12 +19,12 @@ pub fn side_name(side: Side) -> &'static [u8]
 }
 
 /// The word of the end that ended a transfer.
-pub fn by_name(by: By) -> &'static [u8]
+pub fn by_name(by: AbortedBy) -> &'static [u8]
     ensures { result.now ≡ by_word by }
 {
     match by {
-        By::Local => b"local",
-        By::Peer => b"peer",
+        AbortedBy::Local => b"local",
+        AbortedBy::Peer => b"peer",
     }
 }
 

@@ -9,7 +9,7 @@ use crate::status::Status;
 use itoa::Buffer;
 use std::io::Write;
 use tftp_capture::{Gathered, Tallied, WriteFault};
-use tftp_judge::{By, Meaning, Refusal, Rule, Verdict};
+use tftp_judge::{AbortedBy, Meaning, Refusal, Rule, Verdict};
 
 /// The status that goes with a text that is not accepted.
 pub fn status_of(verdict: Verdict) -> Status
@@ -122,7 +122,7 @@ fn detail_of(rule: Rule) -> (&'static [u8], &'static [u8])
 fn put_aborted<W: Write>(
     gathered: &mut Gathered,
     writer: &mut Tallied<W>,
-    by: By,
+    by: AbortedBy,
     code: u16,
 ) -> Result<(), WriteFault>
     requires clean { writer.old.1 ≡ false }

@@ -12,7 +12,7 @@ ghost use Rattle.tftp_ends.specs.StatesKept.{IsSound, IsShortTop, AreWhole, IsEn
 
 use crate::rejection::Rejection;
 use std::alloc::Global;
-use tftp_blocks::{Delivered, Placed};
+use tftp_blocks::{Delivered, PutOutcome};
 use tftp_packet::Side;
 use tftp_rules::{EndRule, Reply, Terms};
 
@@ -197,7 +197,7 @@ pub(crate) fn hold_block<D: Delivered>(
     ensures window { D.window store.new ≡ D.window store.old }
 {
     match store.put(alloc, number, bytes)? {
-        Placed::New | Placed::Same => Ok(()),
-        Placed::Differs => Err(Rejection::Broken(EndRule::BlockChanged)),
+        PutOutcome::New | PutOutcome::Same => Ok(()),
+        PutOutcome::Differs => Err(Rejection::Broken(EndRule::BlockChanged)),
     }
 }

@@ -2,12 +2,12 @@
 
 use std::alloc::AllocError;
 use std::test::Fail;
-use tftp_blocks::{Delivered, MapDelivered, Placed, RingDelivered};
+use tftp_blocks::{Delivered, MapDelivered, PutOutcome, RingDelivered};
 
 /// A call of a store, and what it answers.
 enum Step {
     /// A block is put.
-    Put(u16, &'static [u8], Placed),
+    Put(u16, &'static [u8], PutOutcome),
     /// Whether a block of this length is taken.
     Takes(u16, usize, bool),
     /// The front, the highest block and the number of those that wait.
@@ -38,7 +38,7 @@ fn put_once<D: Delivered>(
     number: u16,
     bytes: &[u8],
     refused: &'static str,
-) -> Result<Option<Placed>, Fail> {
+) -> Result<Option<PutOutcome>, Fail> {
     if !store.takes(number, bytes.len()) {
         return Err(Fail::new(refused));
     }
@@ -54,7 +54,7 @@ fn put<D: Delivered>(
     store: &mut D,
     number: u16,
     bytes: &[u8],
-) -> Result<Placed, Fail> {
+) -> Result<PutOutcome, Fail> {
     let before = state_of(store, number);
     if let Some(placed) = put_once(rt, store, number, bytes, "not taken")? {
         return Ok(placed);
@@ -87,11 +87,11 @@ fn holds<D: Delivered>(rt: &HostRuntime, store: &mut D, step: &Step) -> Result<b
 const FOUR_BLOCKS: &[Step] = &[
     Step::Stands(0, 0, 0),
     Step::Takes(0, 8, false),
-    Step::Put(1, b"11111111", Placed::New),
-    Step::Put(1, b"11111111", Placed::Same),
-    Step::Put(1, b"11111112", Placed::Differs),
+    Step::Put(1, b"11111111", PutOutcome::New),
+    Step::Put(1, b"11111111", PutOutcome::Same),
+    Step::Put(1, b"11111112", PutOutcome::Differs),
     Step::Block(1, Some(b"11111111")),
-    Step::Put(4, b"44444444", Placed::New),
+    Step::Put(4, b"44444444", PutOutcome::New),
     Step::Stands(1, 4, 1),
     Step::Block(3, None),
     Step::Block(4, Some(b"44444444")),
@@ -99,22 +99,22 @@ const FOUR_BLOCKS: &[Step] = &[
     Step::Takes(6, 8, false),
     Step::Takes(3, 7, false),
     Step::Takes(3, 9, false),
-    Step::Put(4, b"44444445", Placed::Differs),
-    Step::Put(2, b"22222222", Placed::New),
-    Step::Put(3, b"33333333", Placed::New),
+    Step::Put(4, b"44444445", PutOutcome::Differs),
+    Step::Put(2, b"22222222", PutOutcome::New),
+    Step::Put(3, b"33333333", PutOutcome::New),
     Step::Stands(4, 4, 0),
 ];
 
 /// A short block is the last one. What waits is not in the wire.
 const SHORT_BLOCK: &[Step] = &[
-    Step::Put(1, b"11111111", Placed::New),
-    Step::Put(3, b"333", Placed::New),
+    Step::Put(1, b"11111111", PutOutcome::New),
+    Step::Put(3, b"333", PutOutcome::New),
     Step::Takes(4, 8, false),
     Step::Takes(4, 3, false),
     Step::Takes(3, 8, false),
     Step::Takes(3, 4, true),
     Step::Takes(2, 3, false),
-    Step::Put(3, b"3333", Placed::Differs),
+    Step::Put(3, b"3333", PutOutcome::Differs),
     Step::Stands(1, 3, 1),
 ];
 
@@ -172,7 +172,7 @@ fn keeps<D: Delivered + Drop>(rt: &HostRuntime, (name, steps, wanted): &Case) ->
 /// Fails unless each block but the first is new, the highest before the others.
 fn all_are_new<D: Delivered>(rt: &HostRuntime, store: &mut D) -> Result<(), Fail> {
     for below in 0..65534u16 {
-        if put(rt, store, 65535 - below, b"........")? != Placed::New {
+        if put(rt, store, 65535 - below, b"........")? != PutOutcome::New {
             return Err(Fail::from(below));
         }
     }
@@ -180,7 +180,7 @@ fn all_are_new<D: Delivered>(rt: &HostRuntime, store: &mut D) -> Result<(), Fail
 }
 
 /// Whether all blocks but the first wait, what becomes of the first, and whether none waits then.
-fn filled<D: Delivered>(rt: &HostRuntime, store: &mut D) -> Result<(bool, Placed, bool), Fail> {
+fn filled<D: Delivered>(rt: &HostRuntime, store: &mut D) -> Result<(bool, PutOutcome, bool), Fail> {
     all_are_new(rt, store)?;
     let waits = stands(store, 0, 65535, 65534);
     let last = put(rt, store, 1, b"........")?;
@@ -194,7 +194,7 @@ fn whole_window<D: Delivered + Drop>(rt: &HostRuntime) -> Result<(), Fail> {
     let wire = wire_of(rt, store);
     let (waits, last, stands) = found?;
     let length = wire?.len();
-    if waits && last == Placed::New && stands && length == 524_280 {
+    if waits && last == PutOutcome::New && stands && length == 524_280 {
         Ok(())
     } else {
         Err(Fail::from((waits, last, stands, length)))

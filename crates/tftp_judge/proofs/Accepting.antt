@@ -10,7 +10,7 @@ use Rattle.tftp_ends.proofs.KeptSteps.{passing_is}
 use Rattle.tftp_law.specs.{OneEnded, Passes, number_of, Broken, FirstAsked, FirstBroken, Rule, MessageBreaks}
 use Rattle.tftp_law.proofs.FirstBroken.FirstRequests.{before_is, asks_is, first_stays}
 use Rattle.tftp_law.proofs.FirstBroken.OneMessage.{first_by, lawful_by}
-use Rattle.tftp_judge.specs.{Finds, FindsOf, stop_by_port, Stop, Keeper, Transfer, HasKept, IsKept, IsTransferAfter}
+use Rattle.tftp_judge.specs.{Finds, FindsOf, error_by_port, PassError, JudgeState, Transfer, HasKept, IsKept, IsTransferAfter}
 use Rattle.tftp_judge.proofs.PassFound.{off_passes, main_passes, first_lawful}
 
 -- ---- routes
@@ -74,16 +74,16 @@ module _ (h : Header) (earlier : List Datagram) (d : Datagram) where
     ]
 
   -- a fault tells the rule
-  port_first_by : (r : Route) → route_of h earlier d ≡ r → (fault : PortFault) → Err fault ≡ answer_of r → (rule : Rule) → (After : Type 0) → FindsOf h earlier d After (Err (stop_by_port fault))
+  port_first_by : (r : Route) → route_of h earlier d ≡ r → (fault : PortFault) → Err fault ≡ answer_of r → (rule : Rule) → (After : Type 0) → FindsOf h earlier d After (Err (error_by_port fault))
   port_first_by Route.Request is fault e rule After = absurd (cc)
   port_first_by Route.Peer is fault e rule After = absurd (cc)
   port_first_by Route.Stray is fault e rule After = absurd (cc)
   port_first_by Route.StrayAnswer is fault e rule After = absurd (cc)
-  port_first_by Route.ForeignPort is fault e rule After = let same : PortFault.ForeignPort ≡ fault = cc in subst (λ f. FindsOf h earlier d After (Err (stop_by_port f))) same (foreign_first is)
-  port_first_by Route.WrongPort is fault e rule After = let same : PortFault.WrongPort ≡ fault = cc in subst (λ f. FindsOf h earlier d After (Err (stop_by_port f))) same (wrong_first is)
-  port_first_by Route.NoStrayAnswer is fault e rule After = let same : PortFault.StrayAnswer ≡ fault = cc in subst (λ f. FindsOf h earlier d After (Err (stop_by_port f))) same (stray_first (inl is))
+  port_first_by Route.ForeignPort is fault e rule After = let same : PortFault.ForeignPort ≡ fault = cc in subst (λ f. FindsOf h earlier d After (Err (error_by_port f))) same (foreign_first is)
+  port_first_by Route.WrongPort is fault e rule After = let same : PortFault.WrongPort ≡ fault = cc in subst (λ f. FindsOf h earlier d After (Err (error_by_port f))) same (wrong_first is)
+  port_first_by Route.NoStrayAnswer is fault e rule After = let same : PortFault.StrayAnswer ≡ fault = cc in subst (λ f. FindsOf h earlier d After (Err (error_by_port f))) same (stray_first (inl is))
 
-  pub port_first : (fault : PortFault) (After : Type 0) → Err fault ≡ answer_of (route_of h earlier d) → FindsOf h earlier d After (Err (stop_by_port fault))
+  pub port_first : (fault : PortFault) (After : Type 0) → Err fault ≡ answer_of (route_of h earlier d) → FindsOf h earlier d After (Err (error_by_port fault))
   port_first fault After e = port_first_by (route_of h earlier d) refl fault e Rule.ForeignPort After
 
   -- what passes by its route and is none of the transfer
@@ -137,17 +137,17 @@ first_kept h earlier d t none is spells after =
 -- ---- a message
 
 found_by : (h : Header) (earlier : List Datagram) (d : Datagram) (m : Message) (t new : Transfer) → is_of_transfer (route_of h earlier d) ≡ true → Spells d.payload m → IsKept h earlier (Some t)
-    → new.asked ≡ t.asked → (r : Result (Unit {0}) Stop) → Finds (MessageBreaks h t.asked (transfer_of h earlier) d.dir m) (IsTransferAfter new h (d ∷ transfer_of h earlier)) r
+    → new.asked ≡ t.asked → (r : Result (Unit {0}) PassError) → Finds (MessageBreaks h t.asked (transfer_of h earlier) d.dir m) (IsTransferAfter new h (d ∷ transfer_of h earlier)) r
     → FindsOf h earlier d (IsKept h (d ∷ earlier) (Some new)) r
 found_by h earlier d m t new on spells (first, after) same (Ok _) (none, next) = (
   main_passes h earlier d m on spells (lawful_by h earlier d m t.asked on spells first none),
   main_kept h earlier d new on (subst (FirstAsked h earlier) (sym same) first) next,
 )
-found_by h earlier d m t new on spells (first, after) same (Err (Stop.Broken rule)) found = first_by h earlier d m t.asked on spells first rule found.0 found.1
-found_by h earlier d m t new on spells (first, after) same (Err Stop.Memory) none = main_passes h earlier d m on spells (lawful_by h earlier d m t.asked on spells first none)
+found_by h earlier d m t new on spells (first, after) same (Err (PassError.Broken rule)) found = first_by h earlier d m t.asked on spells first rule found.0 found.1
+found_by h earlier d m t new on spells (first, after) same (Err PassError.Memory) none = main_passes h earlier d m on spells (lawful_by h earlier d m t.asked on spells first none)
 
 pub message_found : (h : Header) (earlier : List Datagram) (d : Datagram) (dir : Dir) (m : Message) (t new : Transfer) → d.dir ≡ dir → is_of_transfer (route_of h earlier d) ≡ true → Spells d.payload m → IsKept h earlier (Some t)
-    → new.asked ≡ t.asked → (r : Result (Unit {0}) Stop) → Finds (MessageBreaks h t.asked (transfer_of h earlier) dir m) (IsTransferAfter new h (d ∷ transfer_of h earlier)) r
+    → new.asked ≡ t.asked → (r : Result (Unit {0}) PassError) → Finds (MessageBreaks h t.asked (transfer_of h earlier) dir m) (IsTransferAfter new h (d ∷ transfer_of h earlier)) r
     → FindsOf h earlier d (IsKept h (d ∷ earlier) (Some new)) r
 message_found h earlier d dir m t new way on spells kept same r found =
     found_by h earlier d m t new on spells kept same r
@@ -193,13 +193,13 @@ routed_by h earlier d after result route ok answer passes =
     }
 
 -- what is found of a message is found of the datagram
-pub keeper_found : (h : Header) (earlier : List Datagram) (d : Datagram) (new : Keeper) → new.header ≡ h → (Passes h earlier d → StandsFor new.ports h (d ∷ earlier)) → (r : Result (Unit {0}) Stop)
+pub state_found : (h : Header) (earlier : List Datagram) (d : Datagram) (new : JudgeState) → new.header ≡ h → (Passes h earlier d → StandsFor new.ports h (d ∷ earlier)) → (r : Result (Unit {0}) PassError)
     → FindsOf h earlier d (IsKept h (d ∷ earlier) new.transfer) r → FindsOf h earlier d (HasKept new h (d ∷ earlier)) r
-keeper_found h earlier d new header ports (Ok _) (passes, kept) = (passes, record { header = header; ports = ports passes; kept = kept })
-keeper_found h earlier d new header ports (Err (Stop.Broken rule)) found = found
-keeper_found h earlier d new header ports (Err Stop.Memory) found = found
+state_found h earlier d new header ports (Ok _) (passes, kept) = (passes, record { header = header; ports = ports passes; kept = kept })
+state_found h earlier d new header ports (Err (PassError.Broken rule)) found = found
+state_found h earlier d new header ports (Err PassError.Memory) found = found
 
-pub stray_found : (h : Header) (earlier : List Datagram) (d : Datagram) (new : Keeper) (route : MayPass) → Routed h earlier d new.ports route → is_of_transfer (among_all route) ≡ false → (among_all route ≡ Route.StrayAnswer → SaysUnknownId d)
+pub stray_found : (h : Header) (earlier : List Datagram) (d : Datagram) (new : JudgeState) (route : MayPass) → Routed h earlier d new.ports route → is_of_transfer (among_all route) ≡ false → (among_all route ≡ Route.StrayAnswer → SaysUnknownId d)
     → new.header ≡ h → IsKept h earlier new.transfer → Passes h earlier d × HasKept new h (d ∷ earlier)
 stray_found h earlier d new route routed off answers header kept =
     let passes = strays_pass h earlier d route routed.is off (λ stray bad. elim bad [
@@ -216,7 +216,7 @@ stray_found h earlier d new route routed off answers header kept =
 
 -- what does not pass by its ports; or a stray, for which memory is wanting
 pub fault_found : (h : Header) (earlier : List Datagram) (d : Datagram) (After : Type 0) (result : Result MayPass PortFault) (fault : PortFault) → result ≡ Err fault
-    → (result ≢ Err PortFault.Memory → result ≡ answer_of (route_of h earlier d)) → (result ≡ Err PortFault.Memory → IsNewStray h earlier d) → FindsOf h earlier d After (Err (stop_by_port fault))
+    → (result ≢ Err PortFault.Memory → result ≡ answer_of (route_of h earlier d)) → (result ≡ Err PortFault.Memory → IsNewStray h earlier d) → FindsOf h earlier d After (Err (error_by_port fault))
 fault_found h earlier d After result PortFault.ForeignPort is answer memory = port_first h earlier d PortFault.ForeignPort After (sym is ∙ answer (λ e. let same = sym is ∙ e in cc))
 fault_found h earlier d After result PortFault.WrongPort is answer memory = port_first h earlier d PortFault.WrongPort After (sym is ∙ answer (λ e. let same = sym is ∙ e in cc))
 fault_found h earlier d After result PortFault.StrayAnswer is answer memory = port_first h earlier d PortFault.StrayAnswer After (sym is ∙ answer (λ e. let same = sym is ∙ e in cc))

@@ -19,8 +19,8 @@ use Rattle.tftp_law.proofs.Soundness.Settled.{settled, last_one}
 use Rattle.tftp_law.proofs.Whole.TwoEnds.{whole}
 use Rattle.tftp_law.proofs.Accord.WhoSends.{two_parts}
 use Rattle.tftp_law.proofs.Written.Written.{shown_can_be_written}
-use Rattle.tftp_judge.specs.{IsUnfinished, HasBegun, IsCourse, Transfer, IsTransferAfter, IsVerdictByRules, Refusal, NormalTooLong}
-use Rattle.tftp_judge.specs.Kept.{Course}
+use Rattle.tftp_judge.specs.{IsUnfinished, HasBegun, IsExchange, Transfer, IsTransferAfter, IsVerdictByRules, Refusal, NormalTooLong}
+use Rattle.tftp_judge.specs.Kept.{Exchange}
 use Rattle.tftp_judge.specs.declared.refusal.Refusal.TheVariants.{Memory}
 use Rattle.tftp_judge.proofs.Ended.{end_is, unfinished_by}
 use Rattle.tftp_judge.proofs.FirstAnswers.{first_once, terms_once}
@@ -179,14 +179,14 @@ abbrev pub BeganBy : Header → RequestParts → List Datagram → OptionMap →
 BeganBy h asked through agreed end = (answer : Answer) × HasBegun h asked through answer end × IsAnsweredBy answer agreed
 
 module _ (h : Header) (t : Transfer) (through : List Datagram) (after : IsTransferAfter t h through) where
-  pub begun_by : (end : NamedEnd) (agreed : OptionMap) → t.course ≡ Course.Begun end → agreed ≡ no_options → BeganBy h t.asked through agreed end
-  begun_by end agreed is none = (Answer.Begins, subst (IsCourse h t.asked through) is after.course, none)
+  pub begun_by : (end : NamedEnd) (agreed : OptionMap) → t.exchange ≡ Exchange.Begun end → agreed ≡ no_options → BeganBy h t.asked through agreed end
+  begun_by end agreed is none = (Answer.Begins, subst (IsExchange h t.asked through) is after.exchange, none)
 
-  pub agreed_to : (end : NamedEnd) (agreed : OptionMap) → t.course ≡ Course.Agreed agreed end → BeganBy h t.asked through agreed end
-  agreed_to end agreed is = (Answer.Agrees agreed, subst (IsCourse h t.asked through) is after.course, refl)
+  pub agreed_to : (end : NamedEnd) (agreed : OptionMap) → t.exchange ≡ Exchange.Agreed agreed end → BeganBy h t.asked through agreed end
+  agreed_to end agreed is = (Answer.Agrees agreed, subst (IsExchange h t.asked through) is after.exchange, refl)
 
-  pub unanswered_by : t.course ≡ Course.Unanswered → NotAnswered t.asked.side through × IsBeforeBlocks through
-  unanswered_by is = subst (IsCourse h t.asked through) is after.course
+  pub unanswered_by : t.exchange ≡ Exchange.Unanswered → NotAnswered t.asked.side through × IsBeforeBlocks through
+  unanswered_by is = subst (IsExchange h t.asked through) is after.exchange
 
 pub held_file : (held other : Held) (mode wanted : Mode) (file : List ℕ) → held ≡ other → mode ≡ wanted → HoldsFile held mode file → HoldsFile other wanted file
 held_file held other mode wanted file is same holds = subst (λ x. HoldsFile x wanted file) is (subst (λ x. HoldsFile held x file) same holds)

@@ -5,7 +5,7 @@ use Rattle.tftp_hosts.specs.{Dir, In, Out, Datagram}
 use Rattle.tftp_rules.specs.{Passed}
 use Rattle.tftp_ends.specs.{has_stopped}
 use Rattle.tftp_ends.proofs.Passing.{another, stopped_out, stopped_with}
-use Rattle.tftp_law.specs.{IsErrorBy, By}
+use Rattle.tftp_law.specs.{IsErrorBy, AbortedBy}
 use Rattle.tftp_law.proofs.Spelled.{spelled_once}
 use Rattle.tftp_judge.specs.{ErrorText, Errors, IsErrorOf, IsFirstError, AreErrors}
 
@@ -17,10 +17,10 @@ module _ (d : Datagram) (passed : List Datagram) (m : Message) (spells : Spells 
   kept dir None none = λ code text p. none code text (back dir code text p)
   kept dir (Some error) is = (inr is.0, λ code text p. is.1 code text (back dir code text p))
 
-  no_error : (by : By) (code : ℕ) → IsErrorBy d by code → ⊥
+  no_error : (by : AbortedBy) (code : ℕ) → IsErrorBy d by code → ⊥
   no_error by code e = other code e.1 (spelled_once d.payload m (Message.Error code e.1) spells e.2)
 
-  first_aside : (o : Option (By × ℕ)) → IsFirstError passed o → IsFirstError (d ∷ passed) o
+  first_aside : (o : Option (AbortedBy × ℕ)) → IsFirstError passed o → IsFirstError (d ∷ passed) o
   first_aside None none = (no_error, none)
   first_aside (Some error) first = inl first
 

@@ -9,42 +9,42 @@ use Rattle.tftp_nego.specs.{MayAgree, FirstFault, number, NegoFault}
 use Rattle.tftp_nego.proofs.Tested.{no_fault}
 use Rattle.tftp_law.specs.{number_of, Agrees, Begins, NotAnswered, FirstAnswer, IsWrongKind, GoesOn, ClientWentOn, AreTermsAfter, BlockSent, RequestBreaks, FirstOackBreaks, LaterOackBreaks, OackBreaks, TermsBreak, KindBreaks, MessageBreaks, rule_of_end, Rule}
 use Rattle.tftp_law.proofs.FirstBroken.OneMessage.{kind_from}
-use Rattle.tftp_judge.specs.{Finds, NoneBreaks, IsFirstOf, stop_of_fault, stop_of_rejection, Stop}
+use Rattle.tftp_judge.specs.{Finds, NoneBreaks, IsFirstOf, error_of_fault, error_of_rejection, PassError}
 use Rattle.tftp_judge.proofs.FirstAnswers.{not_both, first_once, terms_once, block_answers}
 
 -- rules that are broken in the same cases, and more that follows
-pub finds_by : (P Q : Rule → Type 0) (A B : Type 0) → ((rule : Rule) → P rule → Q rule) → ((rule : Rule) → Q rule → P rule) → (A → B) → (r : Result (Unit {0}) Stop) → Finds P A r → Finds Q B r
+pub finds_by : (P Q : Rule → Type 0) (A B : Type 0) → ((rule : Rule) → P rule → Q rule) → ((rule : Rule) → Q rule → P rule) → (A → B) → (r : Result (Unit {0}) PassError) → Finds P A r → Finds Q B r
 finds_by P Q A B there back more (Ok x) found = ((λ rule q. found.0 rule (back rule q)), more found.1)
-finds_by P Q A B there back more (Err (Stop.Broken rule)) found = (there rule found.0, λ other low q. found.1 other low (back other q))
-finds_by P Q A B there back more (Err Stop.Memory) found = λ rule q. found rule (back rule q)
+finds_by P Q A B there back more (Err (PassError.Broken rule)) found = (there rule found.0, λ other low q. found.1 other low (back other q))
+finds_by P Q A B there back more (Err PassError.Memory) found = λ rule q. found rule (back rule q)
 
 -- want of memory, where none is broken
-pub finds_memory : (P : Rule → Type 0) (A : Type 0) (r : Result (Unit {0}) Stop) → (stop : Stop) × (r ≡ Err stop) × (stop ≡ Stop.Memory) → NoneBreaks P → Finds P A r
-finds_memory P A r is none = subst (Finds P A) (sym (is.1 ∙ ap (λ (s : Stop). Err s) is.2)) none
+pub finds_memory : (P : Rule → Type 0) (A : Type 0) (r : Result (Unit {0}) PassError) → (stop : PassError) × (r ≡ Err stop) × (stop ≡ PassError.Memory) → NoneBreaks P → Finds P A r
+finds_memory P A r is none = subst (Finds P A) (sym (is.1 ∙ ap (λ (s : PassError). Err s) is.2)) none
 
 -- what stops says nothing of what follows
-pub finds_stop : (P : Rule → Type 0) (A B : Type 0) (stop : Stop) → Finds P A (Err stop) → Finds P B (Err stop)
-finds_stop P A B (Stop.Broken rule) found = found
-finds_stop P A B Stop.Memory found = found
+pub finds_stop : (P : Rule → Type 0) (A B : Type 0) (stop : PassError) → Finds P A (Err stop) → Finds P B (Err stop)
+finds_stop P A B (PassError.Broken rule) found = found
+finds_stop P A B PassError.Memory found = found
 
 -- what follows where it passes
-pub finds_with : (P : Rule → Type 0) (A : Type 0) (r : Result (Unit {0}) Stop) → Finds P (Unit {0}) r → OnOk r A → Finds P A r
+pub finds_with : (P : Rule → Type 0) (A : Type 0) (r : Result (Unit {0}) PassError) → Finds P (Unit {0}) r → OnOk r A → Finds P A r
 finds_with P A (Ok x) found a = (found.0, a)
 finds_with P A (Err stop) found a = finds_stop P (Unit {0}) A stop found
 
 -- what the named end refuses
-pub finds_rejected : (P : Rule → Type 0) (A : Type 0) (rejection : Rejection) (r : Result (Unit {0}) Stop) → (stop : Stop) × (r ≡ Err stop) × (stop ≡ stop_of_rejection rejection)
-    → Finds P A (Err (stop_of_rejection rejection)) → Finds P A r
-finds_rejected P A rejection r is found = subst (Finds P A) (sym (is.1 ∙ ap (λ (s : Stop). Err s) is.2)) found
+pub finds_rejected : (P : Rule → Type 0) (A : Type 0) (rejection : Rejection) (r : Result (Unit {0}) PassError) → (stop : PassError) × (r ≡ Err stop) × (stop ≡ error_of_rejection rejection)
+    → Finds P A (Err (error_of_rejection rejection)) → Finds P A r
+finds_rejected P A rejection r is found = subst (Finds P A) (sym (is.1 ∙ ap (λ (s : PassError). Err s) is.2)) found
 
-memory_by : (rejection : Rejection) → stop_of_rejection rejection ≡ Stop.Memory → rejection ≡ Rejection.Memory
+memory_by : (rejection : Rejection) → error_of_rejection rejection ≡ PassError.Memory → rejection ≡ Rejection.Memory
 memory_by (Rejection.Broken rule) is = absurd (cc)
 memory_by Rejection.Memory is = refl
 
-pub rejected_by_memory : (rejection : Rejection) (r : Result (Unit {0}) Stop) → (stop : Stop) × (r ≡ Err stop) × (stop ≡ stop_of_rejection rejection) → r ≡ Err Stop.Memory → rejection ≡ Rejection.Memory
+pub rejected_by_memory : (rejection : Rejection) (r : Result (Unit {0}) PassError) → (stop : PassError) × (r ≡ Err stop) × (stop ≡ error_of_rejection rejection) → r ≡ Err PassError.Memory → rejection ≡ Rejection.Memory
 rejected_by_memory rejection r is wants =
-    let both : Err is.0 ≡ Err Stop.Memory = sym is.1 ∙ wants in
-    let stop : is.0 ≡ Stop.Memory = cc in
+    let both : Err is.0 ≡ Err PassError.Memory = sym is.1 ∙ wants in
+    let stop : is.0 ≡ PassError.Memory = cc in
     memory_by rejection (sym is.2 ∙ stop)
 
 -- ---- a request
@@ -96,7 +96,7 @@ module _ (asked : RequestParts) (oack : OptionMap) where
   fault_first f first Rule.BeyondBlock65535 low b = first.1 NegoFault.BeyondBlock65535 (in_order NegoFault.BeyondBlock65535 f low) b
   fault_first f first other low b = absurd b
 
-  pub fault_found : (A : Type 0) (f : NegoFault) → (f ≢ NegoFault.Memory → FirstFault asked oack f) → (f ≡ NegoFault.Memory → NoneBreaks (FirstOackBreaks asked oack)) → Finds (FirstOackBreaks asked oack) A (Err (stop_of_fault f))
+  pub fault_found : (A : Type 0) (f : NegoFault) → (f ≢ NegoFault.Memory → FirstFault asked oack f) → (f ≡ NegoFault.Memory → NoneBreaks (FirstOackBreaks asked oack)) → Finds (FirstOackBreaks asked oack) A (Err (error_of_fault f))
   fault_found A NegoFault.OackEmpty first none = let is = first (λ e. cc) in (is.0, fault_first NegoFault.OackEmpty is)
   fault_found A NegoFault.MulticastAgreed first none = let is = first (λ e. cc) in (is.0, fault_first NegoFault.MulticastAgreed is)
   fault_found A NegoFault.OptionNotRequested first none = let is = first (λ e. cc) in (is.0, fault_first NegoFault.OptionNotRequested is)
@@ -130,7 +130,7 @@ module _ (asked : RequestParts) (passed : List Datagram) (dir : Dir) (oack : Opt
     first_back Rule.OackAfterStart (out, get, (k, bytes, sent)) = block_answers Out k bytes passed sent (subst (λ side. NotAnswered side passed) get none)
     first_back rule b = b.1
 
-    pub first_oack_finds : (A : Type 0) (r : Result (Unit {0}) Stop) → Finds (FirstOackBreaks asked oack) A r → Finds (OackBreaks asked passed dir oack) A r
+    pub first_oack_finds : (A : Type 0) (r : Result (Unit {0}) PassError) → Finds (FirstOackBreaks asked oack) A r → Finds (OackBreaks asked passed dir oack) A r
     first_oack_finds A = finds_by (FirstOackBreaks asked oack) (OackBreaks asked passed dir oack) A A first_there first_back (λ a. a)
 
   module _ (first : OptionMap) (answered : FirstAnswer asked.side passed (Agrees first)) where
@@ -148,7 +148,7 @@ module _ (asked : RequestParts) (passed : List Datagram) (dir : Dir) (oack : Opt
     later_back Rule.OackAfterStart b = b
     later_back rule b = absurd (not_both asked.side passed (Agrees first) b.0 answered)
 
-    pub later_oack_finds : (A B : Type 0) → (A → B) → (r : Result (Unit {0}) Stop) → Finds (LaterOackBreaks asked.side passed dir first oack) A r → Finds (OackBreaks asked passed dir oack) B r
+    pub later_oack_finds : (A B : Type 0) → (A → B) → (r : Result (Unit {0}) PassError) → Finds (LaterOackBreaks asked.side passed dir first oack) A r → Finds (OackBreaks asked passed dir oack) B r
     later_oack_finds A B = finds_by (LaterOackBreaks asked.side passed dir first oack) (OackBreaks asked passed dir oack) A B later_there later_back
 
 -- ---- a block or an ACK
@@ -194,16 +194,16 @@ module _ (h : Header) (asked : RequestParts) (passed : List Datagram) (dir : Dir
   kind_back rule (inr (inl (is, on))) = absurd (stays on)
   kind_back rule (inr (inr b)) = b
 
-  pub kind_finds : (A : Type 0) (r : Result (Unit {0}) Stop) → Finds (KindBreaks h asked passed dir m) A r → Finds (MessageBreaks h asked passed dir m) A r
+  pub kind_finds : (A : Type 0) (r : Result (Unit {0}) PassError) → Finds (KindBreaks h asked passed dir m) A r → Finds (MessageBreaks h asked passed dir m) A r
   kind_finds A = finds_by (KindBreaks h asked passed dir m) (MessageBreaks h asked passed dir m) A A kind_there kind_back (λ a. a)
 
 -- an ERROR breaks none of them
-pub error_finds : (h : Header) (asked : RequestParts) (passed : List Datagram) (dir : Dir) (code : ℕ) (text : List ℕ) (A : Type 0) (r : Result (Unit {0}) Stop) → OnOk r A → IfErr r (λ stop. stop ≡ Stop.Memory)
+pub error_finds : (h : Header) (asked : RequestParts) (passed : List Datagram) (dir : Dir) (code : ℕ) (text : List ℕ) (A : Type 0) (r : Result (Unit {0}) PassError) → OnOk r A → IfErr r (λ stop. stop ≡ PassError.Memory)
     → Finds (KindBreaks h asked passed dir (Message.Error code text)) A r
 error_finds h asked passed dir code text A (Ok x) a memory = ((λ rule b. b), a)
 error_finds h asked passed dir code text A (Err stop) a memory = finds_memory (KindBreaks h asked passed dir (Message.Error code text)) A (Err stop) (stop, refl, memory) (λ rule b. b)
 
-pub block_finds : (h : Header) (asked : RequestParts) (passed : List Datagram) (dir : Dir) (m : Message) (A : Type 0) (r : Result (Unit {0}) Stop) → IsBlockOrAck m → Finds (TermsBreak h asked passed m) A r
+pub block_finds : (h : Header) (asked : RequestParts) (passed : List Datagram) (dir : Dir) (m : Message) (A : Type 0) (r : Result (Unit {0}) PassError) → IsBlockOrAck m → Finds (TermsBreak h asked passed m) A r
     → Finds (KindBreaks h asked passed dir m) A r
 block_finds h asked passed dir (Message.Data k bytes) A r is found = found
 block_finds h asked passed dir (Message.Ack j) A r is found = found
@@ -256,7 +256,7 @@ module _ (h : Header) (asked : RequestParts) (passed : List Datagram) (dir : Dir
 
     module _ (stays : GoesOn passed dir (Message.Request asked) → ⊥) where
       pub again_late : dir ≡ Out → ClientWentOn passed → IsFirstOf Again Rule.RequestAfterStart
-      again_late out went = kind_finds h asked passed dir (Message.Request asked) (right_by (author_of h.named dir) other) stays (Unit {0}) (Err (Stop.Broken Rule.RequestAfterStart)) (request_late asked passed dir asked refl out went)
+      again_late out went = kind_finds h asked passed dir (Message.Request asked) (right_by (author_of h.named dir) other) stays (Unit {0}) (Err (PassError.Broken Rule.RequestAfterStart)) (request_late asked passed dir asked refl out went)
 
       pub again_passes : (dir ≡ Out → ClientWentOn passed → ⊥) → NoneBreaks Again
       again_passes early = (kind_finds h asked passed dir (Message.Request asked) (right_by (author_of h.named dir) other) stays (Unit {0}) (Ok tt) (request_passes asked passed dir asked refl early, tt)).0
@@ -313,12 +313,12 @@ module _ (h : Header) (asked : RequestParts) (passed : List Datagram) (dir : Dir
     oack_again_goes none (stop, is, went, differs, inr (code, text, e)) = cc
 
     module _ (first : FirstAnswer asked.side passed (Agrees oack)) (stays : GoesOn passed dir (Message.Oack oack) → ⊥) where
-      oack_found : (r : Result (Unit {0}) Stop) → Finds (LaterOackBreaks asked.side passed dir oack oack) (Unit {0}) r → Finds OackAgain (Unit {0}) r
+      oack_found : (r : Result (Unit {0}) PassError) → Finds (LaterOackBreaks asked.side passed dir oack oack) (Unit {0}) r → Finds OackAgain (Unit {0}) r
       oack_found r found = kind_finds h asked passed dir (Message.Oack oack) (oack_right_by (author_of h.named dir) other) stays (Unit {0}) r
           (later_oack_finds asked passed dir oack oack first (Unit {0}) (Unit {0}) (λ a. a) r found)
 
       pub oack_again_late : (dir ≡ Out) × (asked.side ≡ Get) × BlockSent passed → IsFirstOf OackAgain Rule.OackAfterStart
-      oack_again_late late = oack_found (Err (Stop.Broken Rule.OackAfterStart)) (later_late asked.side passed dir oack oack refl late)
+      oack_again_late late = oack_found (Err (PassError.Broken Rule.OackAfterStart)) (later_late asked.side passed dir oack oack refl late)
 
       pub oack_again_passes : ((dir ≡ Out) × (asked.side ≡ Get) × BlockSent passed → ⊥) → NoneBreaks OackAgain
       oack_again_passes early = (oack_found (Ok tt) (later_passes asked.side passed dir oack oack refl early, tt)).0

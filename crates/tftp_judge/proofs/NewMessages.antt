@@ -6,8 +6,8 @@ use Rattle.tftp_ends.specs.{NamedEnd, Sends, Receives, IsEndAfter, IsNewBlock, h
 use Rattle.tftp_rules.specs.{HasPassed, Passed}
 use Rattle.tftp_law.specs.{Agrees, NotAnswered}
 use Rattle.std.specs.Prelude.{refl}
-use Rattle.tftp_judge.specs.{IsNewBlockOn, Unanswered, Begun, Agreed, IsCourse, IsNew}
-use Rattle.tftp_judge.specs.Kept.{Course}
+use Rattle.tftp_judge.specs.{IsNewBlockOn, Unanswered, Begun, Agreed, IsExchange, IsNew}
+use Rattle.tftp_judge.specs.Kept.{Exchange}
 
 -- ---- blocks
 
@@ -23,7 +23,7 @@ new_to end passed dir (Message.Request asked) after new = absurd new
 new_to end passed dir (Message.Oack options) after new = absurd new
 new_to end passed dir (Message.Error code text) after new = absurd new
 
-pub new_on : (h : Header) (asked : RequestParts) (passed : List Datagram) (course : Course) (dir : Dir) (m : Message) → IsCourse h asked passed course → IsNewBlockOn course m → IsNew passed dir m
+pub new_on : (h : Header) (asked : RequestParts) (passed : List Datagram) (exchange : Exchange) (dir : Dir) (m : Message) → IsExchange h asked passed exchange → IsNewBlockOn exchange m → IsNew passed dir m
 new_on h asked passed Unanswered dir m is new = absurd new
 new_on h asked passed (Begun end) dir m is new = new_to end passed dir m is.after new
 new_on h asked passed (Agreed options end) dir m is new = new_to end passed dir m is.after new
@@ -37,11 +37,11 @@ new_before end passed dir (Message.Oack options) before new = absurd new
 new_before end passed dir (Message.Error code text) before new = absurd new
 
 -- an ERROR is no block
-pub no_block_of_error : (course : Course) (m : Message) (code : ℕ) (text : List ℕ) → m ≡ Message.Error code text → IsNewBlockOn course m → ⊥
-no_block_of_error course (Message.Data k bytes) code text is new = cc
-no_block_of_error course (Message.Ack j) code text is new = cc
-no_block_of_error course (Message.Request asked) code text is new = cc
-no_block_of_error course (Message.Oack options) code text is new = cc
+pub no_block_of_error : (exchange : Exchange) (m : Message) (code : ℕ) (text : List ℕ) → m ≡ Message.Error code text → IsNewBlockOn exchange m → ⊥
+no_block_of_error exchange (Message.Data k bytes) code text is new = cc
+no_block_of_error exchange (Message.Ack j) code text is new = cc
+no_block_of_error exchange (Message.Request asked) code text is new = cc
+no_block_of_error exchange (Message.Oack options) code text is new = cc
 no_block_of_error Unanswered (Message.Error other words) code text is new = new
 no_block_of_error (Begun end) (Message.Error other words) code text is new = new
 no_block_of_error (Agreed options end) (Message.Error other words) code text is new = new

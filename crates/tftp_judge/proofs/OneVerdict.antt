@@ -3,7 +3,7 @@ use Rattle.std.proofs.Common.{◌≡◌, ◌⊎◌, ℕ, ◌+◌, ◌-◌, List,
 use Rattle.tftp_packet.specs.{PacketFault, Short}
 use Rattle.tftp_packet.proofs.FaultOrder.{first_fault_unique}
 use Rattle.tftp_hosts.specs.{Datagram, Header}
-use Rattle.tftp_law.specs.{number_of, Broken, FirstBroken, By, Rule, IsLawful}
+use Rattle.tftp_law.specs.{number_of, Broken, FirstBroken, AbortedBy, Rule, IsLawful}
 use Rattle.tftp_model.specs.{Meaning}
 use Rattle.tftp_judge.specs.{IsSaid, IsUnlawfulAt, IsVerdict, Refusal, Unlawful, Aborted, Incomplete, NormalTooLong}
 use Rattle.tftp_judge.specs.declared.refusal.Refusal.TheVariants.{Memory}
@@ -129,7 +129,7 @@ one_place h ds i j r q u v = by (ordered u.before v.before u.datagram v.datagram
 
 -- of lawful datagrams
 module _ (h : Header) (ds : List Datagram) where
-  aborted_or : (by : By) (code : ℕ) (w : Refusal) → IsSaid (Err w) → IsVerdict h ds (Err (Aborted by code)) → IsVerdict h ds (Err w) → Aborted by code ≡ w
+  aborted_or : (by : AbortedBy) (code : ℕ) (w : Refusal) → IsSaid (Err w) → IsVerdict h ds (Err (Aborted by code)) → IsVerdict h ds (Err w) → Aborted by code ≡ w
   aborted_or by code (Unlawful j q) said one other = absurd (not_lawful h ds j q other one.0)
   aborted_or by code (Aborted also other_code) said one other =
       let same = one_first (transfer_of h (reverse ds)) by also code other_code one.2 other.2 in

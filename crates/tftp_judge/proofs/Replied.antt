@@ -9,7 +9,7 @@ use Rattle.tftp_rules.specs.{author_of, BlocksWait, AckZeroWaits, AckBreaks, Blo
 use Rattle.tftp_ends.proofs.BeforeReply.{read_alike, ack_put_alike}
 use Rattle.tftp_ends.proofs.Passing.{none_greatest, usable_passed}
 use Rattle.tftp_law.specs.{AreTermsAfter, TermsBreak, rule_of_end, Answer, Agrees, Begins, IsAnswer, IsWrongKind, NotAnswered, plain_terms, terms_after, Rule}
-use Rattle.tftp_judge.specs.{WaitsForReply, Finds, NoneBreaks, IsFirstOf, HasBegun, stop_of_rejection}
+use Rattle.tftp_judge.specs.{WaitsForReply, Finds, NoneBreaks, IsFirstOf, HasBegun, error_of_rejection}
 use Rattle.tftp_judge.proofs.MessageFound.{no_end, first_end}
 
 -- ---- before blocks
@@ -112,7 +112,7 @@ module _ (h : Header) (asked : RequestParts) (passed : List Datagram) (none : No
 
   -- what the end refuses that would begin
   pub not_begun : (m : Message) → IsBlockOrAck m → (WaitsForReply asked.side m → ⊥) → (t : Terms) → t ≡ plain_terms h asked.side Plain → (A : Type 0) (rejection : Rejection) → IsFound t passed m (Err rejection)
-      → Finds (TermsBreak h asked passed m) A (Err (stop_of_rejection rejection))
+      → Finds (TermsBreak h asked passed m) A (Err (error_of_rejection rejection))
   not_begun m is other t same A (Rejection.Broken rule) found = first_broken m is other t same rule found
   not_begun m is other t same A Rejection.Memory found = none_broken m is other t same found
 
@@ -153,6 +153,6 @@ module _ (h : Header) (asked : RequestParts) (passed : List Datagram) (answer : 
   begun_first e first = first_end h asked passed m (terms_of end) (inr (answer, begun.answered, begun.terms)) e first
 
   -- the same of what the end refuses
-  pub begun_refused : (rejection : Rejection) → IsFound (terms_of end) passed m (Err rejection) → Finds (TermsBreak h asked passed m) (Unit {0}) (Err (stop_of_rejection rejection))
+  pub begun_refused : (rejection : Rejection) → IsFound (terms_of end) passed m (Err rejection) → Finds (TermsBreak h asked passed m) (Unit {0}) (Err (error_of_rejection rejection))
   begun_refused (Rejection.Broken rule) found = begun_first rule found
   begun_refused Rejection.Memory found = begun_lawful found

@@ -8,10 +8,10 @@ use Rattle.tftp_ends.proofs.Passing.{another, aside_no_block, aside_no_ack}
 use Rattle.tftp_law.specs.{AckSent, BlockSent, Answer, Agrees, Begins, FirstAnswer, IsAnswer, IsWrongKind, NotAnswered, terms_after}
 use Rattle.tftp_law.proofs.Spelled.{spelled_once}
 use Rattle.tftp_judge.proofs.ErrorsAside.{errors_aside}
-use Rattle.tftp_judge.specs.{DiffersByCourse, DiffersBySent, HasAgreed, HasAnswer, Unanswered, Begun, Agreed, HasBegun, IsCourse, Transfer, IsTransferAfter, Errors, AreErrors, course_of}
-use Rattle.tftp_judge.specs.Kept.{Course}
-use Rattle.tftp_judge.specs.declared.course.Course.{Course as Kept}
-use Rattle.tftp_judge.specs.declared.course.Course.TheVariants as kept
+use Rattle.tftp_judge.specs.{DiffersByExchange, DiffersBySent, HasAgreed, HasAnswer, Unanswered, Begun, Agreed, HasBegun, IsExchange, Transfer, IsTransferAfter, Errors, AreErrors, exchange_of}
+use Rattle.tftp_judge.specs.Kept.{Exchange}
+use Rattle.tftp_judge.specs.declared.exchange.Exchange.{Exchange as Kept}
+use Rattle.tftp_judge.specs.declared.exchange.Exchange.TheVariants as kept
 
 -- a message of no such kind
 abbrev pub IsNoBlock : Message → Type 0
@@ -58,7 +58,7 @@ module _ (d : Datagram) (way : Dir) (m : Message) (passed : List Datagram) (says
 
 -- ---- the end that began
 
-pub has_answer : {D : Type 0} (course : Kept D) → (course ≡ kept.Unanswered → ⊥) → HasAnswer (course_of course)
+pub has_answer : {D : Type 0} (exchange : Kept D) → (exchange ≡ kept.Unanswered → ⊥) → HasAnswer (exchange_of exchange)
 has_answer kept.Unanswered other = absurd (other refl)
 has_answer (kept.Begun end) other = tt
 has_answer (kept.Agreed options end) other = tt
@@ -68,20 +68,20 @@ pub begun_more : (h : Header) (asked : RequestParts) (passed : List Datagram) (d
 begun_more h asked passed d answer old new begun same after = record { answered = inl begun.answered; terms = same ∙ begun.terms; after = after }
 
 module _ (h : Header) (asked : RequestParts) (passed : List Datagram) (d : Datagram) (m : Message) (spells : Spells d.payload m) (is : IsAside d.dir m) where
-  pub course_aside : (course : Course) → (course ≡ Unanswered → AnswersNothing asked.side m) → IsCourse h asked passed course → IsCourse h asked (d ∷ passed) course
-  course_aside Unanswered other kept = (
+  pub exchange_aside : (exchange : Exchange) → (exchange ≡ Unanswered → AnswersNothing asked.side m) → IsExchange h asked passed exchange → IsExchange h asked (d ∷ passed) exchange
+  exchange_aside Unanswered other kept = (
     still_unanswered d d.dir m passed (refl, spells) asked.side (other refl) kept.0,
     still_before_blocks d d.dir m passed (refl, spells) (aside_no_block d.dir m is) (aside_no_ack d.dir m is) kept.1,
   )
-  course_aside (Begun end) other kept = begun_more h asked passed d Begins end end kept refl (end_aside end passed d m kept.after spells is)
-  course_aside (Agreed options end) other kept = begun_more h asked passed d (Agrees options) end end kept refl (end_aside end passed d m kept.after spells is)
+  exchange_aside (Begun end) other kept = begun_more h asked passed d Begins end end kept refl (end_aside end passed d m kept.after spells is)
+  exchange_aside (Agreed options end) other kept = begun_more h asked passed d (Agrees options) end end kept refl (end_aside end passed d m kept.after spells is)
 
 -- the whole transfer, where the message is no ERROR
 pub transfer_aside : (t : Transfer) (h : Header) (passed : List Datagram) (d : Datagram) (m : Message) → IsTransferAfter t h passed → Spells d.payload m → IsAside d.dir m → IsNoError m
-    → (t.course ≡ Unanswered → AnswersNothing t.asked.side m) → IsTransferAfter t h (d ∷ passed)
+    → (t.exchange ≡ Unanswered → AnswersNothing t.asked.side m) → IsTransferAfter t h (d ∷ passed)
 transfer_aside t h passed d m after spells is no_error other = record {
   named = after.named;
-  course = course_aside h t.asked passed d m spells is t.course other after.course;
+  exchange = exchange_aside h t.asked passed d m spells is t.exchange other after.exchange;
   block_sent = block_flag_kept d d.dir m passed (refl, spells) t.block_sent (aside_no_block d.dir m is) after.block_sent;
   ack_sent = ack_flag_kept d d.dir m passed (refl, spells) t.ack_sent (aside_no_ack d.dir m is) after.ack_sent;
   errors = errors_aside t.errors passed d m after.errors spells no_error;
@@ -104,28 +104,28 @@ pub transfer_with_request : (t : Transfer) (h : Header) (passed : List Datagram)
 transfer_with_request t h passed d now after spells =
     transfer_aside t h passed d (Message.Request now) after spells tt (λ code text e. absurd (cc)) (λ e. request_answers_nothing t.asked.side now)
 
-pub transfer_with_later_oack : (t : Transfer) (h : Header) (passed : List Datagram) (d : Datagram) (oack options : OptionMap) (end : NamedEnd) → t.course ≡ Agreed options end → IsTransferAfter t h passed
+pub transfer_with_later_oack : (t : Transfer) (h : Header) (passed : List Datagram) (d : Datagram) (oack options : OptionMap) (end : NamedEnd) → t.exchange ≡ Agreed options end → IsTransferAfter t h passed
     → Spells d.payload (Message.Oack oack) → IsTransferAfter t h (d ∷ passed)
 transfer_with_later_oack t h passed d oack options end is after spells =
     transfer_aside t h passed d (Message.Oack oack) after spells tt (λ code text e. absurd (cc)) (λ e. let no : Unanswered ≡ Agreed options end = sym e ∙ is in absurd (cc))
 
 -- ---- the first OACK again
 
-pub agreed_first : (h : Header) (asked : RequestParts) (passed : List Datagram) (course : Course) (given : OptionMap) → HasAgreed course given → IsCourse h asked passed course
+pub agreed_first : (h : Header) (asked : RequestParts) (passed : List Datagram) (exchange : Exchange) (given : OptionMap) → HasAgreed exchange given → IsExchange h asked passed exchange
     → FirstAnswer asked.side passed (Agrees given)
 agreed_first h asked passed Unanswered given is kept = absurd is
 agreed_first h asked passed (Begun end) given is kept = absurd is
 agreed_first h asked passed (Agreed options end) given is kept = subst (λ o. FirstAnswer asked.side passed (Agrees o)) (sym is) kept.answered
 
-was_answered : (course : Course) (given : OptionMap) → HasAgreed course given → course ≡ Unanswered → ⊥
+was_answered : (exchange : Exchange) (given : OptionMap) → HasAgreed exchange given → exchange ≡ Unanswered → ⊥
 was_answered Unanswered given is e = is
 was_answered (Begun end) given is e = is
 was_answered (Agreed options end) given is e = absurd (cc)
 
-pub transfer_with_oack_again : (t : Transfer) (h : Header) (passed : List Datagram) (d : Datagram) (given : OptionMap) → HasAgreed t.course given → IsTransferAfter t h passed
+pub transfer_with_oack_again : (t : Transfer) (h : Header) (passed : List Datagram) (d : Datagram) (given : OptionMap) → HasAgreed t.exchange given → IsTransferAfter t h passed
     → Spells d.payload (Message.Oack given) → IsTransferAfter t h (d ∷ passed)
 transfer_with_oack_again t h passed d given is after spells =
-    transfer_aside t h passed d (Message.Oack given) after spells tt (λ code text e. absurd (cc)) (λ e. absurd (was_answered t.course given is e))
+    transfer_aside t h passed d (Message.Oack given) after spells tt (λ code text e. absurd (cc)) (λ e. absurd (was_answered t.exchange given is e))
 
 -- ---- a block or an ACK that was kept
 
@@ -137,28 +137,28 @@ is_no_error (Message.Error other words) is code text e = absurd is
 is_no_error (Message.Oack o) is code text e = absurd is
 
 pub transfer_kept : (old kept new : Transfer) (h : Header) (passed : List Datagram) (d : Datagram) (m : Message) → IsTransferAfter old h passed → Spells d.payload m → IsBlockOrAck m
-    → DiffersByCourse old kept → DiffersBySent kept new → IsCourse h old.asked (d ∷ passed) kept.course
+    → DiffersByExchange old kept → DiffersBySent kept new → IsExchange h old.asked (d ∷ passed) kept.exchange
     → ((kept.block_sent ≡ true) ↔ BlockSent passed → (new.block_sent ≡ true) ↔ BlockSent (d ∷ passed))
     → ((kept.ack_sent ≡ true) ↔ AckSent passed → (new.ack_sent ≡ true) ↔ AckSent (d ∷ passed))
     → IsTransferAfter new h (d ∷ passed)
-transfer_kept old kept new h passed d m after spells is by_course by_sent course block_sent ack_sent = record {
-  named = by_sent.0 ∙ by_course.0 ∙ after.named;
-  course = subst (λ (a : RequestParts). IsCourse h a (d ∷ passed) new.course) (sym (by_sent.1 ∙ by_course.1)) (subst (IsCourse h old.asked (d ∷ passed)) (sym by_sent.2) course);
-  block_sent = block_sent (subst (λ (b : Bool). (b ≡ true) ↔ BlockSent passed) (sym by_course.2) after.block_sent);
-  ack_sent = ack_sent (subst (λ (b : Bool). (b ≡ true) ↔ AckSent passed) (sym by_course.3) after.ack_sent);
-  errors = subst (λ (e : Errors). AreErrors e (d ∷ passed)) (sym (by_sent.3 ∙ by_course.4)) (errors_aside old.errors passed d m after.errors spells (is_no_error m is));
+transfer_kept old kept new h passed d m after spells is by_exchange by_sent exchange block_sent ack_sent = record {
+  named = by_sent.0 ∙ by_exchange.0 ∙ after.named;
+  exchange = subst (λ (a : RequestParts). IsExchange h a (d ∷ passed) new.exchange) (sym (by_sent.1 ∙ by_exchange.1)) (subst (IsExchange h old.asked (d ∷ passed)) (sym by_sent.2) exchange);
+  block_sent = block_sent (subst (λ (b : Bool). (b ≡ true) ↔ BlockSent passed) (sym by_exchange.2) after.block_sent);
+  ack_sent = ack_sent (subst (λ (b : Bool). (b ≡ true) ↔ AckSent passed) (sym by_exchange.3) after.ack_sent);
+  errors = subst (λ (e : Errors). AreErrors e (d ∷ passed)) (sym (by_sent.3 ∙ by_exchange.4)) (errors_aside old.errors passed d m after.errors spells (is_no_error m is));
 }
 
 -- ---- the first OACK
 
-pub transfer_agreed : (old : Transfer) (h : Header) (passed : List Datagram) (d : Datagram) (oack agreed : OptionMap) (end : NamedEnd) → IsTransferAfter old h passed → old.course ≡ Unanswered
+pub transfer_agreed : (old : Transfer) (h : Header) (passed : List Datagram) (d : Datagram) (oack agreed : OptionMap) (end : NamedEnd) → IsTransferAfter old h passed → old.exchange ≡ Unanswered
     → Spells d.payload (Message.Oack oack) → agreed ≡ oack → terms_of end ≡ terms_after h old.asked (Agrees agreed) → (IsBeforeBlocks passed → IsEndAfter end passed)
-    → IsTransferAfter (record { named = old.named; asked = old.asked; course = Agreed agreed end; block_sent = old.block_sent; ack_sent = old.ack_sent; errors = old.errors }) h (d ∷ passed)
+    → IsTransferAfter (record { named = old.named; asked = old.asked; exchange = Agreed agreed end; block_sent = old.block_sent; ack_sent = old.ack_sent; errors = old.errors }) h (d ∷ passed)
 transfer_agreed old h passed d oack agreed end after unanswered spells same terms begun =
-    let kept = subst (IsCourse h old.asked passed) unanswered after.course in
+    let kept = subst (IsExchange h old.asked passed) unanswered after.exchange in
     record {
       named = after.named;
-      course = record {
+      exchange = record {
         answered = inr (kept.0, (Message.Oack oack, spells, sym same));
         terms = terms;
         after = end_aside end passed d (Message.Oack oack) (begun kept.1) spells tt;
@@ -176,21 +176,21 @@ error_is_right Client Put code text wrong = wrong
 error_is_right Server Get code text wrong = wrong
 error_is_right Server Put code text wrong = wrong
 
-pub error_waits_for_none : (h : Header) (asked : RequestParts) (passed : List Datagram) (d : Datagram) (dir : Dir) (code : ℕ) (text : List ℕ) (course : Course) → course ≡ Unanswered
-    → Says d dir (Message.Error code text) → IsCourse h asked passed course → IsCourse h asked (d ∷ passed) course
-error_waits_for_none h asked passed d dir code text course unanswered says kept =
-    let was = subst (IsCourse h asked passed) unanswered kept in
-    subst (IsCourse h asked (d ∷ passed)) (sym unanswered) (
+pub error_waits_for_none : (h : Header) (asked : RequestParts) (passed : List Datagram) (d : Datagram) (dir : Dir) (code : ℕ) (text : List ℕ) (exchange : Exchange) → exchange ≡ Unanswered
+    → Says d dir (Message.Error code text) → IsExchange h asked passed exchange → IsExchange h asked (d ∷ passed) exchange
+error_waits_for_none h asked passed d dir code text exchange unanswered says kept =
+    let was = subst (IsExchange h asked passed) unanswered kept in
+    subst (IsExchange h asked (d ∷ passed)) (sym unanswered) (
       still_unanswered d dir (Message.Error code text) passed says asked.side (error_answers_nothing asked.side code text) was.0,
       still_before_blocks d dir (Message.Error code text) passed says (λ k bytes e. absurd (cc)) (λ j e. absurd (cc)) was.1,
     )
 
-pub transfer_with_error : (old : Transfer) (h : Header) (passed : List Datagram) (d : Datagram) (dir : Dir) (code : ℕ) (text : List ℕ) (course : Course) (errors : Errors) → IsTransferAfter old h passed
-    → Says d dir (Message.Error code text) → IsCourse h old.asked (d ∷ passed) course → AreErrors errors (d ∷ passed)
-    → IsTransferAfter (record { named = old.named; asked = old.asked; course = course; block_sent = old.block_sent; ack_sent = old.ack_sent; errors = errors }) h (d ∷ passed)
-transfer_with_error old h passed d dir code text course errors after says now are = record {
+pub transfer_with_error : (old : Transfer) (h : Header) (passed : List Datagram) (d : Datagram) (dir : Dir) (code : ℕ) (text : List ℕ) (exchange : Exchange) (errors : Errors) → IsTransferAfter old h passed
+    → Says d dir (Message.Error code text) → IsExchange h old.asked (d ∷ passed) exchange → AreErrors errors (d ∷ passed)
+    → IsTransferAfter (record { named = old.named; asked = old.asked; exchange = exchange; block_sent = old.block_sent; ack_sent = old.ack_sent; errors = errors }) h (d ∷ passed)
+transfer_with_error old h passed d dir code text exchange errors after says now are = record {
   named = after.named;
-  course = now;
+  exchange = now;
   block_sent = block_flag_kept d dir (Message.Error code text) passed says old.block_sent (λ k bytes e. absurd (cc)) after.block_sent;
   ack_sent = ack_flag_kept d dir (Message.Error code text) passed says old.ack_sent (λ j e. absurd (cc)) after.ack_sent;
   errors = are;

@@ -9,8 +9,8 @@ use Rattle.tftp_nego.specs.{NegoFault}
 use Rattle.tftp_judge.specs.Memory.{TakesMemory}
 use Rattle.tftp_judge.specs.declared.refusal.Refusal.{Refusal}
 use Rattle.tftp_judge.specs.declared.refusal.Refusal.TheVariants as refusal
-use Rattle.tftp_judge.specs.declared.stop.Stop.{Stop}
-use Rattle.tftp_judge.specs.declared.stop.Stop.TheVariants.{Broken, Memory}
+use Rattle.tftp_judge.specs.declared.pass_error.PassError.{PassError}
+use Rattle.tftp_judge.specs.declared.pass_error.PassError.TheVariants.{Broken, Memory}
 
 abbrev pub NoneBreaks : (Rule → Type 0) → Type 0
 NoneBreaks Breaks = (rule : Rule) → Breaks rule → ⊥
@@ -20,13 +20,13 @@ abbrev pub IsFirstOf : (Rule → Type 0) → Rule → Type 0
 IsFirstOf Breaks rule = IsFirst number_of Breaks rule
 
 -- No rule is broken, and then this holds; or the first that is; or memory is wanting, where none is broken.
-abbrev pub Finds : (Rule → Type 0) → Type 0 → Result (Unit {0}) Stop → Type 0
+abbrev pub Finds : (Rule → Type 0) → Type 0 → Result (Unit {0}) PassError → Type 0
 Finds Breaks After (Ok _) = NoneBreaks Breaks × After
 Finds Breaks After (Err (Broken rule)) = IsFirstOf Breaks rule
 Finds Breaks After (Err Memory) = NoneBreaks Breaks
 
 -- the same of a datagram after those before it
-abbrev pub FindsOf : Header → List Datagram → Datagram → Type 0 → Result (Unit {0}) Stop → Type 0
+abbrev pub FindsOf : Header → List Datagram → Datagram → Type 0 → Result (Unit {0}) PassError → Type 0
 FindsOf h earlier d After (Ok _) = Passes h earlier d × After
 FindsOf h earlier d After (Err (Broken rule)) = FirstBroken h earlier d rule
 FindsOf h earlier d After (Err Memory) = Passes h earlier d
@@ -39,23 +39,23 @@ Refuses h earlier d (refusal.Memory count) = (count ≡ length earlier) × Passe
 Refuses h earlier d _ = ⊥
 
 -- why an OACK may not be agreed to, among all reasons
-abbrev pub stop_of_fault : NegoFault → Stop
-stop_of_fault NegoFault.OackEmpty = Broken OackEmpty
-stop_of_fault NegoFault.MulticastAgreed = Broken MulticastAgreed
-stop_of_fault NegoFault.OptionNotRequested = Broken OptionNotRequested
-stop_of_fault NegoFault.OptionOutsideProfile = Broken OptionOutsideProfile
-stop_of_fault NegoFault.OptionValue = Broken OptionValue
-stop_of_fault NegoFault.BeyondBlock65535 = Broken BeyondBlock65535
-stop_of_fault NegoFault.Memory = Memory
+abbrev pub error_of_fault : NegoFault → PassError
+error_of_fault NegoFault.OackEmpty = Broken OackEmpty
+error_of_fault NegoFault.MulticastAgreed = Broken MulticastAgreed
+error_of_fault NegoFault.OptionNotRequested = Broken OptionNotRequested
+error_of_fault NegoFault.OptionOutsideProfile = Broken OptionOutsideProfile
+error_of_fault NegoFault.OptionValue = Broken OptionValue
+error_of_fault NegoFault.BeyondBlock65535 = Broken BeyondBlock65535
+error_of_fault NegoFault.Memory = Memory
 
 -- why a datagram does not pass by its ports, among all reasons
-abbrev pub stop_by_port : PortFault → Stop
-stop_by_port PortFault.ForeignPort = Broken ForeignPort
-stop_by_port PortFault.WrongPort = Broken WrongPort
-stop_by_port PortFault.StrayAnswer = Broken StrayAnswer
-stop_by_port PortFault.Memory = Memory
+abbrev pub error_by_port : PortFault → PassError
+error_by_port PortFault.ForeignPort = Broken ForeignPort
+error_by_port PortFault.WrongPort = Broken WrongPort
+error_by_port PortFault.StrayAnswer = Broken StrayAnswer
+error_by_port PortFault.Memory = Memory
 
 -- why a packet does not pass at the named end, among all reasons
-abbrev pub stop_of_rejection : Rejection → Stop
-stop_of_rejection (Rejection.Broken rule) = Broken (rule_of_end rule)
-stop_of_rejection Rejection.Memory = Memory
+abbrev pub error_of_rejection : Rejection → PassError
+error_of_rejection (Rejection.Broken rule) = Broken (rule_of_end rule)
+error_of_rejection Rejection.Memory = Memory

@@ -5,7 +5,7 @@ use Rattle.tftp_packet.specs.{OptionMap, Message, RequestParts, Spells, End}
 use Rattle.tftp_hosts.specs.{Dir, In, Out, Datagram, Header}
 use Rattle.tftp_ends.specs.{KnownIds, StandsFor, NamedEnd, terms_of, IsEndAfter, has_stopped, IsBeforeBlocks}
 use Rattle.tftp_rules.specs.{transfer_of, Passed}
-use Rattle.tftp_law.specs.{FirstError, NoErrorPassed, AckSent, BlockSent, OneEnded, Answer, Agrees, Begins, FirstAnswer, FirstAsked, NotAnswered, terms_after, By}
+use Rattle.tftp_law.specs.{FirstError, NoErrorPassed, AckSent, BlockSent, OneEnded, Answer, Agrees, Begins, FirstAnswer, FirstAsked, NotAnswered, terms_after, AbortedBy}
 use Rattle.tftp_judge.specs.declared.refusal.Refusal.{Refusal}
 
 -- ---- ERRORs
@@ -17,7 +17,7 @@ ErrorText = ℕ × List ℕ
 pub record Errors : Type 0 where
   pub sent : Option ErrorText  -- the one that went out, whenever
   pub heard : Option ErrorText  -- the one that came in
-  pub first : Option (By × ℕ)  -- whose the first was, and its code
+  pub first : Option (AbortedBy × ℕ)  -- whose the first was, and its code
 
 -- every ERROR that went this way is this one, and it did go; or none did
 abbrev pub IsErrorOf : Dir → List Datagram → Option ErrorText → Type 0
@@ -26,7 +26,7 @@ IsErrorOf dir passed (Some error) =
     Passed dir (Message.Error error.0 error.1) passed
     × ((code : ℕ) (text : List ℕ) → Passed dir (Message.Error code text) passed → (code ≡ error.0) × (text ≡ error.1))
 
-abbrev pub IsFirstError : List Datagram → Option (By × ℕ) → Type 0
+abbrev pub IsFirstError : List Datagram → Option (AbortedBy × ℕ) → Type 0
 IsFirstError passed None = NoErrorPassed passed
 IsFirstError passed (Some error) = FirstError passed error.0 error.1
 
@@ -39,15 +39,15 @@ pub record AreErrors (errors : Errors) (passed : List Datagram) : Type 0 where
 -- ---- the transfer
 
 -- how the request was answered, and the end that began with it: not yet, without an OACK, or by an OACK
-pub data Course : Type 0 where
-  Unanswered : Course
-  Begun : (end : NamedEnd) → Course
-  Agreed : (options : OptionMap) (end : NamedEnd) → Course
+pub data Exchange : Type 0 where
+  Unanswered : Exchange
+  Begun : (end : NamedEnd) → Exchange
+  Agreed : (options : OptionMap) (end : NamedEnd) → Exchange
 
 pub record Transfer : Type 0 where
   pub named : End
   pub asked : RequestParts  -- the first request
-  pub course : Course
+  pub exchange : Exchange
   pub block_sent : Bool  -- the named end has sent a block
   pub ack_sent : Bool  -- it has sent an ACK
   pub errors : Errors
@@ -58,15 +58,15 @@ pub record HasBegun (h : Header) (asked : RequestParts) (passed : List Datagram)
   pub terms : terms_of end ≡ terms_after h asked answer
   pub after : IsEndAfter end passed
 
-abbrev pub IsCourse : Header → RequestParts → List Datagram → Course → Type 0
-IsCourse h asked passed Unanswered = NotAnswered asked.side passed × IsBeforeBlocks passed
-IsCourse h asked passed (Begun end) = HasBegun h asked passed Begins end
-IsCourse h asked passed (Agreed options end) = HasBegun h asked passed (Agrees options) end
+abbrev pub IsExchange : Header → RequestParts → List Datagram → Exchange → Type 0
+IsExchange h asked passed Unanswered = NotAnswered asked.side passed × IsBeforeBlocks passed
+IsExchange h asked passed (Begun end) = HasBegun h asked passed Begins end
+IsExchange h asked passed (Agreed options end) = HasBegun h asked passed (Agrees options) end
 
 -- The transfer stands for these datagrams of it.
 pub record IsTransferAfter (t : Transfer) (h : Header) (passed : List Datagram) : Type 0 where
   pub named : t.named ≡ h.named
-  pub course : IsCourse h t.asked passed t.course
+  pub exchange : IsExchange h t.asked passed t.exchange
   pub block_sent : (t.block_sent ≡ true) ↔ BlockSent passed
   pub ack_sent : (t.ack_sent ≡ true) ↔ AckSent passed
   pub errors : AreErrors t.errors passed
@@ -80,14 +80,14 @@ pub record IsTransferOf (t : Transfer) (h : Header) (earlier : List Datagram) : 
 
 -- ---- the judge
 
-pub record Keeper : Type 0 where
+pub record JudgeState : Type 0 where
   pub header : Header
   pub ports : KnownIds
   pub transfer : Option Transfer  -- from the first request on
   pub of_transfer : Bool  -- the last datagram that passed its ports was of the transfer
 
 pub record Judge : Type 0 where
-  pub keeper : Keeper
+  pub state : JudgeState
   pub fed : ℕ
   pub refused : Option Refusal  -- what is answered for good
 
@@ -106,7 +106,7 @@ abbrev pub AreOackBytes : List ℕ → OptionMap → Type 0
 AreOackBytes bytes options = (bytes ≡ []) ⊎ Spells bytes (Message.Oack options)
 
 -- what is kept of these datagrams
-pub record HasKept (k : Keeper) (h : Header) (earlier : List Datagram) : Type 0 where
+pub record HasKept (k : JudgeState) (h : Header) (earlier : List Datagram) : Type 0 where
   pub header : k.header ≡ h
   pub ports : StandsFor k.ports h earlier
   pub kept : IsKept h earlier k.transfer
@@ -115,7 +115,7 @@ pub record HasKept (k : Keeper) (h : Header) (earlier : List Datagram) : Type 0 
 pub record IsJudgeAfter (j : Judge) (h : Header) (earlier : List Datagram) : Type 0 where
   pub lawful : OneEnded h earlier
   pub short : All (λ (d : Datagram). length d.payload ≤ 65527) earlier
-  pub has_kept : HasKept j.keeper h earlier
+  pub has_kept : HasKept j.state h earlier
   pub fed : j.fed ≡ length earlier
   pub goes_on : j.refused ≡ None
 

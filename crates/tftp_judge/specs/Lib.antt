@@ -7,23 +7,23 @@ pub mod Memory
 pub mod KeptCode
 pub mod Found
 pub mod Extracted
-pub mod Courses
+pub mod Exchanges
 pub mod Contents
 pub use Verdicts.{IsSaid, IsUnlawfulAt, IsVerdict, IsVerdictBy, IsVerdictByRules}
 pub use TextVerdict.{AllLawful, BeginsBy, EndsText, IsCaptureBy, IsFaultOf, IsLineOf, IsOfText, IsReadVerdict, IsTextVerdict, LawfulBefore, NoFaultBefore, SaysReadFailed, WantsMemory, WantsToJudge, WantsToRead, unnumbered}
 pub use Ending.{IsUnfinished}
-pub use Kept.{Agreed, AreBytesOf, AreErrors, Begun, ErrorText, Errors, HasBegun, HasKept, IsCourse, IsErrorOf, IsFirstError, IsJudgeAfter, IsKept, IsTransferAfter, IsTransferOf, Judge, Keeper, Transfer, Unanswered}
+pub use Kept.{Agreed, AreBytesOf, AreErrors, Begun, ErrorText, Errors, HasBegun, HasKept, IsExchange, IsErrorOf, IsFirstError, IsJudgeAfter, IsKept, IsTransferAfter, IsTransferOf, Judge, JudgeState, Transfer, Unanswered}
 pub use SentByKept.{AreFlags, HasAgreed, HasBlock, HasSentBy, HasSentIn, IsAgreedBy, flags_of}
 pub use Memory.{IsNew, TakesForJoin, TakesMemory}
-pub use KeptCode.{course_of}
-pub use Found.{Finds, FindsOf, IsFirstOf, NoneBreaks, Refuses, stop_by_port, stop_of_fault, stop_of_rejection}
+pub use KeptCode.{exchange_of}
+pub use Found.{Finds, FindsOf, IsFirstOf, NoneBreaks, Refuses, error_by_port, error_of_fault, error_of_rejection}
 pub use Extracted.{Extracts, WritesFile}
-pub use Courses.{DiffersByCourse, DiffersBySent, HasAnswer, IsNewBlockOn, WaitsForReply}
+pub use Exchanges.{DiffersByExchange, DiffersBySent, HasAnswer, IsNewBlockOn, WaitsForReply}
 pub use Contents.{file_in, IsCanonical}
 pub use declared.file.FileBytes.{FileBytes}
 pub use declared.extraction.OutFault.{OutFault}
 pub use declared.refusal.Refusal.{Refusal}
 pub use declared.refusal.Refusal.TheVariants.{Aborted, Incomplete, NormalTooLong, Unlawful}
-pub use declared.stop.Stop.{Stop}
+pub use declared.pass_error.PassError.{PassError}
 pub use declared.verdict.Verdict.{Verdict}
 pub use declared.verdict.Verdict.TheVariants.{Capture, Refused}

@@ -14,7 +14,7 @@ use crate::refusal::Refusal;
 use std::alloc::{AllocError, Global};
 use std::marker::Model;
 use tftp_hosts::Dir;
-use tftp_law::By;
+use tftp_law::AbortedBy;
 use tftp_packet::{Bytes, Packet};
 
 /// An ERROR that has passed (RFC 1350, section 5).
@@ -37,7 +37,7 @@ impl Model for ErrorText {
 pub struct Errors {
     sent: Option<ErrorText>,
     heard: Option<ErrorText>,
-    first: Option<(By, u16)>,
+    first: Option<(AbortedBy, u16)>,
 }
 
 impl Model for Errors {
@@ -56,12 +56,12 @@ fn is_error(packet: &Packet<'_>) -> bool
 }
 
 /// The end that sent what went this way.
-fn by_of(dir: Dir) -> By
+fn by_of(dir: Dir) -> AbortedBy
     ensures { result ≡ by_way dir }
 {
     match dir {
-        Dir::Out => By::Local,
-        Dir::In => By::Peer,
+        Dir::Out => AbortedBy::Local,
+        Dir::In => AbortedBy::Peer,
     }
 }
 

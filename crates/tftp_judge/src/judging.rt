@@ -11,11 +11,11 @@ ghost use Rattle.tftp_judge.specs.SentByKept.{HasSentIn, flags_of};
 ghost use Rattle.tftp_judge.specs.Verdicts.{IsVerdict};
 ghost use Rattle.tftp_judge.specs.declared.refusal.Refusal.{Refusal as RefusalKind};
 
-use crate::keeping::Keeper;
+use crate::keeping::JudgeState;
 use crate::meaning::Meaning;
+use crate::pass_error::PassError;
 use crate::refusal::Refusal;
 use crate::sent_acks::SentAcks;
-use crate::stop::Stop;
 use std::alloc::Global;
 use std::marker::Model;
 use tftp_blocks::Delivered;
@@ -26,7 +26,7 @@ use tftp_packet::Packet;
 /// it keeps are the transfer ids, the first request, what was agreed, a few numbers and the blocks.
 #[derive(Drop)]
 pub struct Judge<D: Delivered + Drop> {
-    keeper: Keeper<D>,
+    state: JudgeState<D>,
     fed: u64,
     refused: Option<Refusal>,
 }
@@ -41,9 +41,9 @@ impl<D: Delivered + Drop> Model for Judge<D> {
 
     ghost coded = { Prim.hlevel (codes, sender_code, receiver_code, options_code, parts_code) };
 
-    ghost view = { λ j. record { keeper = j.keeper; fed = j.fed; refused = j.refused } };
+    ghost view = { λ j. record { state = j.state; fed = j.fed; refused = j.refused } };
 
-    ghost invariant = { λ j. StandsForSome (record { keeper = j.keeper; fed = j.fed; refused = j.refused }) };
+    ghost invariant = { λ j. StandsForSome (record { state = j.state; fed = j.fed; refused = j.refused }) };
 }
 
 impl<D: Delivered + Drop> Judge<D> {
@@ -52,7 +52,7 @@ impl<D: Delivered + Drop> Judge<D> {
         ensures { IsJudgeAfter result (header_of header.now) [] }
     {
         Judge {
-            keeper: Keeper::new(alloc, header),
+            state: JudgeState::new(alloc, header),
             fed: 0,
             refused: None,
         }
@@ -82,16 +82,16 @@ impl<D: Delivered + Drop> Judge<D> {
 
         // Where the datagram belongs; and a refusal leaves what is known of the transfer as it was.
         ensures routed { (h : HeaderParts) (earlier : List DatagramParts) → IsJudgeAfter self.old h earlier
-            → OnOk result (self.new.keeper.of_transfer ≡ is_of_transfer (route_of h earlier (datagram_of datagram.now))) }
-        ensures stays { IfErr result (λ _. self.new.keeper.transfer ≡ self.old.keeper.transfer) }
+            → OnOk result (self.new.state.of_transfer ≡ is_of_transfer (route_of h earlier (datagram_of datagram.now))) }
+        ensures stays { IfErr result (λ _. self.new.state.transfer ≡ self.old.state.transfer) }
     {
         if let Some(refusal) = self.refused {
             return Err(refusal);
         }
-        if let Err(stop) = self.keeper.pass(alloc, datagram) {
+        if let Err(stop) = self.state.pass(alloc, datagram) {
             let refusal = match stop {
-                Stop::Broken(rule) => Refusal::Unlawful(self.fed + 1, rule),
-                Stop::Memory => Refusal::Memory(self.fed),
+                PassError::Broken(rule) => Refusal::Unlawful(self.fed + 1, rule),
+                PassError::Memory => Refusal::Memory(self.fed),
             };
             self.refused = Some(refusal);
             return Err(refusal);
@@ -104,18 +104,18 @@ impl<D: Delivered + Drop> Judge<D> {
     /// 1350, section 2), also after a refusal. Of ACKs the judge keeps the highest alone, so their flags are the caller's.
     #[inline]
     pub fn has_sent(&self, acks: &SentAcks, packet: &Packet<'_>) -> bool
-        ensures { IsTrue result ↔ HasSentIn self.now.keeper.transfer (flags_of acks.now) (meaning packet.now) }
+        ensures { IsTrue result ↔ HasSentIn self.now.state.transfer (flags_of acks.now) (meaning packet.now) }
     {
-        self.keeper.has_sent(acks, packet)
+        self.state.has_sent(acks, packet)
     }
 
     /// Whether the last datagram that was accepted was one of the transfer, and neither a stray nor the answer to one (RFC
     /// 1350, section 4). After a refusal it tells nothing.
     #[inline]
     pub fn last_was_of_transfer(&self) -> bool
-        ensures { result ≡ self.now.keeper.of_transfer }
+        ensures { result ≡ self.now.state.of_transfer }
     {
-        self.keeper.last_was_of_transfer()
+        self.state.last_was_of_transfer()
     }
 
     /// The refusal that it answers for good, if it has refused a datagram.
@@ -145,14 +145,14 @@ impl<D: Delivered + Drop> Judge<D> {
         ensures for_good { (refusal : RefusalKind) → self.refused ≡ Some refusal → result ≡ Err refusal }
     {
         let Judge {
-            keeper,
+            state,
             fed,
             refused,
         } = self;
         if let Some(refusal) = refused {
             return Err(refusal);
         }
-        match keeper.into_transfer() {
+        match state.into_transfer() {
             Some(transfer) => transfer.finish(alloc, fed),
             None => Err(Refusal::Incomplete(fed)),
         }

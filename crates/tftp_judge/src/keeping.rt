@@ -5,14 +5,14 @@ ghost use Rattle.tftp_hosts.specs.{Datagram as DatagramParts, Header as HeaderPa
 ghost use Rattle.tftp_ends.specs.{among_all};
 ghost use Rattle.tftp_rules.specs.{route_of, is_of_transfer, SaysUnknownId};
 ghost use Rattle.tftp_law.specs.{OneEnded};
-ghost use Rattle.tftp_judge.specs.Found.{FindsOf, stop_by_port};
+ghost use Rattle.tftp_judge.specs.Found.{FindsOf, error_by_port};
 ghost use Rattle.tftp_judge.specs.Kept.{HasKept, IsKept, IsTransferAfter, Transfer as TransferParts};
 ghost use Rattle.tftp_judge.specs.Memory.{TakesMemory};
 ghost use Rattle.tftp_judge.specs.SentByKept.{HasSentIn, flags_of};
-ghost use Rattle.tftp_judge.specs.declared.stop.Stop.{Stop as StopKind};
+ghost use Rattle.tftp_judge.specs.declared.pass_error.PassError.{PassError as PassErrorKind};
 
+use crate::pass_error::PassError;
 use crate::sent_acks::SentAcks;
-use crate::stop::Stop;
 use crate::transfer::Transfer;
 use std::alloc::Global;
 use std::marker::Model;
@@ -25,7 +25,7 @@ use tftp_packet::{Bytes, Packet, RequestView, opcode, own_request, read_packet};
 
 /// What is kept of the datagrams that have passed: the transfer ids, and the transfer from its first request on.
 #[derive(Drop)]
-pub struct Keeper<D: Delivered + Drop> {
+pub struct JudgeState<D: Delivered + Drop> {
     header: Header,
     ports: Ports,
     transfer: Option<Transfer<D>>,
@@ -35,14 +35,14 @@ pub struct Keeper<D: Delivered + Drop> {
     of_transfer: bool,
 }
 
-impl<D: Delivered + Drop> Model for Keeper<D> {
+impl<D: Delivered + Drop> Model for JudgeState<D> {
     ghost use Rattle.std.specs.Coded.{codes};
     ghost use Rattle.tftp_ends.specs.StatesKept.{sender_code, receiver_code};
     ghost use Rattle.tftp_packet.specs.Owned.{options_code, parts_code};
     ghost use Rattle.tftp_capture.specs.Fields.{header_of};
-    ghost use Rattle.tftp_judge.specs.Kept.{AreBytesOf, Keeper};
+    ghost use Rattle.tftp_judge.specs.Kept.{AreBytesOf, JudgeState};
 
-    ghost Value = { Keeper };
+    ghost Value = { JudgeState };
 
     ghost coded = { Prim.hlevel (codes, sender_code, receiver_code, options_code, parts_code) };
 
@@ -56,12 +56,12 @@ impl<D: Delivered + Drop> Model for Keeper<D> {
     ghost invariant = { λ k. AreBytesOf k.asked k.transfer };
 }
 
-impl<D: Delivered + Drop> Keeper<D> {
+impl<D: Delivered + Drop> JudgeState<D> {
     /// Before the first datagram of a capture with this header. Takes no memory.
     pub fn new(alloc: Global, header: &Header) -> Self
         ensures { HasKept result (header_of header.now) [] }
     {
-        Keeper {
+        JudgeState {
             header: *header,
             ports: Ports::new(alloc, header.named, header.service),
             transfer: None,
@@ -71,10 +71,10 @@ impl<D: Delivered + Drop> Keeper<D> {
     }
 
     /// What is found of a datagram after those that have passed; where it passes it is kept.
-    pub fn pass(&mut self, alloc: Global, datagram: &Datagram) -> Result<(), Stop>
+    pub fn pass(&mut self, alloc: Global, datagram: &Datagram) -> Result<(), PassError>
         ensures finds { (h : HeaderParts) (earlier : List DatagramParts) → OneEnded h earlier → HasKept self.old h earlier
             → FindsOf h earlier (datagram_of datagram.now) (HasKept self.new h (datagram_of datagram.now ∷ earlier)) result }
-        ensures memory { (h : HeaderParts) (earlier : List DatagramParts) → HasKept self.old h earlier → result ≡ Err StopKind.Memory
+        ensures memory { (h : HeaderParts) (earlier : List DatagramParts) → HasKept self.old h earlier → result ≡ Err PassErrorKind.Memory
             → TakesMemory h earlier (datagram_of datagram.now) }
         ensures routed { (h : HeaderParts) (earlier : List DatagramParts) → HasKept self.old h earlier
             → OnOk result (self.new.of_transfer ≡ is_of_transfer (route_of h earlier (datagram_of datagram.now))) }
@@ -89,7 +89,7 @@ impl<D: Delivered + Drop> Keeper<D> {
             opcode(payload),
         ) {
             Ok(route) => route,
-            Err(fault) => return Err(stop_of_port(fault)),
+            Err(fault) => return Err(error_of_port(fault)),
         };
         self.of_transfer = belongs(route);
         match route {
@@ -98,7 +98,7 @@ impl<D: Delivered + Drop> Keeper<D> {
                 if says_unknown_id(payload) {
                     Ok(())
                 } else {
-                    Err(Stop::Broken(Rule::StrayAnswer))
+                    Err(PassError::Broken(Rule::StrayAnswer))
                 }
             }
             Route::Stray => Ok(()),
@@ -139,13 +139,13 @@ impl<D: Delivered + Drop> Keeper<D> {
         route: Route,
         dir: Dir,
         payload: &[u8],
-    ) -> Result<(), Stop>
+    ) -> Result<(), PassError>
         ensures finds { (h : HeaderParts) (earlier : List DatagramParts) (d : DatagramParts) → self.old.header ≡ h → OneEnded h earlier
             → IsKept h earlier self.old.transfer → among_all route ≡ route_of h earlier d → is_of_transfer (among_all route) ≡ true → d.dir ≡ dir
             → d.payload ≡ payload.now → FindsOf h earlier d (IsKept h (d ∷ earlier) self.new.transfer) result }
         ensures memory { (h : HeaderParts) (earlier : List DatagramParts) (d : DatagramParts) → IsKept h earlier self.old.transfer
             → among_all route ≡ route_of h earlier d → is_of_transfer (among_all route) ≡ true → d.dir ≡ dir → d.payload ≡ payload.now
-            → result ≡ Err StopKind.Memory → TakesMemory h earlier d }
+            → result ≡ Err PassErrorKind.Memory → TakesMemory h earlier d }
         ensures header { self.new.header ≡ self.old.header }
         ensures ports { self.new.ports ≡ self.old.ports }
         ensures of_transfer { self.new.of_transfer ≡ self.old.of_transfer }
@@ -169,24 +169,24 @@ impl<D: Delivered + Drop> Keeper<D> {
         route: Route,
         dir: Dir,
         payload: &[u8],
-    ) -> Result<(), Stop>
+    ) -> Result<(), PassError>
         ensures finds { (h : HeaderParts) (earlier : List DatagramParts) (d : DatagramParts) → self.old.header ≡ h → OneEnded h earlier
             → IsKept h earlier self.old.transfer → among_all route ≡ route_of h earlier d → is_of_transfer (among_all route) ≡ true → d.dir ≡ dir
             → d.payload ≡ payload.now → FindsOf h earlier d (IsKept h (d ∷ earlier) self.new.transfer) result }
         ensures memory { (h : HeaderParts) (earlier : List DatagramParts) (d : DatagramParts) → IsKept h earlier self.old.transfer
             → among_all route ≡ route_of h earlier d → is_of_transfer (among_all route) ≡ true → d.dir ≡ dir → d.payload ≡ payload.now
-            → result ≡ Err StopKind.Memory → TakesMemory h earlier d }
+            → result ≡ Err PassErrorKind.Memory → TakesMemory h earlier d }
         ensures header { self.new.header ≡ self.old.header }
         ensures ports { self.new.ports ≡ self.old.ports }
         ensures of_transfer { self.new.of_transfer ≡ self.old.of_transfer }
         ensures err { OnErr result (self.new.transfer ≡ self.old.transfer) }
     {
         if self.transfer.is_none() && route == Route::Peer {
-            return Err(Stop::Broken(Rule::NoRequest));
+            return Err(PassError::Broken(Rule::NoRequest));
         }
         let packet = match read_packet(payload) {
             Ok(packet) => packet,
-            Err(fault) => return Err(Stop::Broken(Rule::Malformed(fault))),
+            Err(fault) => return Err(PassError::Broken(Rule::Malformed(fault))),
         };
         if let Some(transfer) = &mut self.transfer {
             transfer.pass(alloc, dir, &packet)?;
@@ -195,17 +195,22 @@ impl<D: Delivered + Drop> Keeper<D> {
         }
         match &packet {
             Packet::Request(asked) => self.begin(alloc, asked, payload),
-            _ => Err(Stop::Broken(Rule::NoRequest)),
+            _ => Err(PassError::Broken(Rule::NoRequest)),
         }
     }
 
     /// The transfer begins, with its first request, whose bytes these are.
-    fn begin(&mut self, alloc: Global, asked: &RequestView<'_>, payload: &[u8]) -> Result<(), Stop>
+    fn begin(
+        &mut self,
+        alloc: Global,
+        asked: &RequestView<'_>,
+        payload: &[u8],
+    ) -> Result<(), PassError>
         requires { Spells payload.now (Message.Request (parts asked.now)) }
         ensures begins { OnOk result ((transfer : TransferParts) × (self.new.transfer ≡ Some transfer) × (transfer.asked ≡ parts asked.now)
             × ((h : HeaderParts) (d : DatagramParts) → h.named ≡ self.old.header.named → Spells d.payload (Message.Request transfer.asked)
             → IsTransferAfter transfer h (d ∷ []))) }
-        ensures wanting { IfErr result (λ stop. stop ≡ StopKind.Memory) }
+        ensures wanting { IfErr result (λ stop. stop ≡ PassErrorKind.Memory) }
         ensures err { OnErr result (self.new.transfer ≡ self.old.transfer) }
         ensures header { self.new.header ≡ self.old.header }
         ensures ports { self.new.ports ≡ self.old.ports }
@@ -230,14 +235,14 @@ fn belongs(route: Route) -> bool
 }
 
 /// Why a datagram does not pass by its ports (RFC 1350, section 4).
-fn stop_of_port(fault: PortFault) -> Stop
-    ensures { result ≡ stop_by_port fault }
+fn error_of_port(fault: PortFault) -> PassError
+    ensures { result ≡ error_by_port fault }
 {
     match fault {
-        PortFault::ForeignPort => Stop::Broken(Rule::ForeignPort),
-        PortFault::WrongPort => Stop::Broken(Rule::WrongPort),
-        PortFault::StrayAnswer => Stop::Broken(Rule::StrayAnswer),
-        PortFault::Memory => Stop::Memory,
+        PortFault::ForeignPort => PassError::Broken(Rule::ForeignPort),
+        PortFault::WrongPort => PassError::Broken(Rule::WrongPort),
+        PortFault::StrayAnswer => PassError::Broken(Rule::StrayAnswer),
+        PortFault::Memory => PassError::Memory,
     }
 }
 

@@ -1,8 +1,8 @@
 //! The judge of captures: the verdict on datagrams one by one, and on a capture text; and the file of a text.
 #![tactic(auto)]
 
-mod course;
 mod errors;
+mod exchange;
 mod extraction;
 mod file;
 mod first_oack;
@@ -11,9 +11,9 @@ mod keeping;
 mod kinds;
 pub mod laws;
 mod meaning;
+mod pass_error;
 mod refusal;
 mod sent_acks;
-mod stop;
 mod text;
 mod transfer;
 mod verdict;
@@ -26,5 +26,5 @@ pub use meaning::{Meaning, MeaningParts};
 pub use refusal::Refusal;
 pub use sent_acks::SentAcks;
 pub use text::judge_text;
-pub use tftp_law::{By, Rule};
+pub use tftp_law::{AbortedBy, Rule};
 pub use verdict::Verdict;

@@ -1,4 +1,4 @@
-use tftp_law::{By, Rule};
+use tftp_law::{AbortedBy, Rule};
 
 /// Why the datagrams of a capture are not accepted.
 #[derive(Clone, Copy, Debug, PartialEq, Eq)]
@@ -8,7 +8,7 @@ pub enum Refusal {
     Unlawful(u64, Rule),
     /// A run shows them, and none as a whole transfer, which an ERROR ended: the end that sent the first one, and its code
     /// (RFC 1350, section 7).
-    Aborted(By, u16),
+    Aborted(AbortedBy, u16),
     /// A run shows them, and none as a whole transfer, which no ERROR ended; how many they are.
     Incomplete(u64),
     /// A run shows them as a whole transfer, of a text whose canonical form has more than 65535 blocks (RFC 1350, section

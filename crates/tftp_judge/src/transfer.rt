@@ -4,24 +4,24 @@ ghost use Rattle.tftp_hosts.specs.{Out, Datagram, Header};
 ghost use Rattle.tftp_ends.specs.{terms_of, IsEndAfter, IsBeforeBlocks, IsBlockOrAck, Says};
 ghost use Rattle.tftp_rules.specs.{transfer_of, author_of as author_by_way, Plain};
 ghost use Rattle.tftp_law.specs.{MessageBreaks, FirstOackBreaks, LaterOackBreaks, OackBreaks, RequestBreaks, TermsBreak, BlockSent, AckSent, OneEnded, IsEnded, Agrees, ClientWentOn, FirstAsked, GoesOn, IsWrongKind, plain_terms as plain_terms_of, terms_after};
-ghost use Rattle.tftp_judge.specs.Found.{Finds, stop_of_fault};
-ghost use Rattle.tftp_judge.specs.Courses.{WaitsForReply, DiffersByCourse, DiffersBySent};
+ghost use Rattle.tftp_judge.specs.Found.{Finds, error_of_fault};
+ghost use Rattle.tftp_judge.specs.Exchanges.{WaitsForReply, DiffersByExchange, DiffersBySent};
 ghost use Rattle.tftp_judge.specs.Memory.{IsNew, TakesForJoin};
-ghost use Rattle.tftp_judge.specs.Kept.{AreErrors, Unanswered, IsCourse, IsTransferAfter, IsTransferOf};
+ghost use Rattle.tftp_judge.specs.Kept.{AreErrors, Unanswered, IsExchange, IsTransferAfter, IsTransferOf};
 ghost use Rattle.tftp_judge.specs.SentByKept.{HasAgreed, HasSentBy, IsAgreedBy, flags_of};
 ghost use Rattle.tftp_judge.specs.Verdicts.{IsVerdictByRules};
 ghost use Rattle.tftp_judge.specs.declared.refusal.Refusal.{Refusal as RefusalKind};
-ghost use Rattle.tftp_judge.specs.declared.stop.Stop.{Stop as StopKind};
+ghost use Rattle.tftp_judge.specs.declared.pass_error.PassError.{PassError as PassErrorKind};
 
-use crate::course::Course;
 use crate::errors::Errors;
+use crate::exchange::Exchange;
 use crate::file::{file_of, written_blocks};
 use crate::first_oack::FirstOack;
 use crate::kinds::{author_of, is_wrong_kind};
 use crate::meaning::Meaning;
+use crate::pass_error::PassError;
 use crate::refusal::Refusal;
 use crate::sent_acks::SentAcks;
-use crate::stop::Stop;
 use std::alloc::Global;
 use std::marker::Model;
 use tftp_blocks::Delivered;
@@ -39,7 +39,7 @@ use tftp_rules::{Reply, Terms};
 pub struct Transfer<D: Delivered + Drop> {
     named: End,
     asked: Request,
-    course: Course<D>,
+    exchange: Exchange<D>,
     block_sent: bool,
     ack_sent: bool,
     errors: Errors,
@@ -50,7 +50,7 @@ impl<D: Delivered + Drop> Model for Transfer<D> {
     ghost use Rattle.std.specs.Coded.{codes};
     ghost use Rattle.tftp_ends.specs.StatesKept.{sender_code, receiver_code};
     ghost use Rattle.tftp_packet.specs.Owned.{options_code, parts_code};
-    ghost use Rattle.tftp_judge.specs.KeptCode.{course_of};
+    ghost use Rattle.tftp_judge.specs.KeptCode.{exchange_of};
 
     ghost Value = { Transfer };
 
@@ -59,7 +59,7 @@ impl<D: Delivered + Drop> Model for Transfer<D> {
     ghost view = { λ t. record {
       named = t.named;
       asked = t.asked;
-      course = course_of t.course;
+      exchange = exchange_of t.exchange;
       block_sent = t.block_sent;
       ack_sent = t.ack_sent;
       errors = t.errors;
@@ -76,7 +76,7 @@ impl<D: Delivered + Drop> Transfer<D> {
         Transfer {
             named,
             asked,
-            course: Course::Unanswered,
+            exchange: Exchange::Unanswered,
             block_sent: false,
             ack_sent: false,
             errors: Errors::none(),
@@ -85,20 +85,20 @@ impl<D: Delivered + Drop> Transfer<D> {
 
     /// What a packet breaks that comes after the first request; where it breaks no rule it is kept. Memory is taken for the
     /// first OACK, a block that is not held and the first ERROR of an end.
-    pub fn pass(&mut self, alloc: Global, dir: Dir, packet: &Packet<'_>) -> Result<(), Stop>
+    pub fn pass(&mut self, alloc: Global, dir: Dir, packet: &Packet<'_>) -> Result<(), PassError>
         ensures finds { (h : Header) (passed : List Datagram) (d : Datagram) → IsTransferAfter self.old h passed
             → Says d dir (meaning packet.now)
             → Finds (MessageBreaks h self.old.asked passed dir (meaning packet.now)) (IsTransferAfter self.new h (d ∷ passed)) result }
-        ensures memory { (h : Header) (passed : List Datagram) → IsTransferAfter self.old h passed → result ≡ Err StopKind.Memory
+        ensures memory { (h : Header) (passed : List Datagram) → IsTransferAfter self.old h passed → result ≡ Err PassErrorKind.Memory
             → IsNew passed dir (meaning packet.now) }
         ensures asked { self.new.asked ≡ self.old.asked }
         ensures err { OnErr result (self.new ≡ self.old) }
     {
         if is_wrong_kind(author_of(self.named, dir), self.asked.side(), packet) {
-            return Err(Stop::Broken(Rule::WrongKind));
+            return Err(PassError::Broken(Rule::WrongKind));
         }
         if self.errors.goes_on(dir, packet) {
-            return Err(Stop::Broken(Rule::AfterError));
+            return Err(PassError::Broken(Rule::AfterError));
         }
         match packet {
             Packet::Request(now) => self.pass_request(dir, now),
@@ -110,66 +110,66 @@ impl<D: Delivered + Drop> Transfer<D> {
 
     /// What the first request breaks that comes again with the same bytes, as `pass` says it: a server sends it, its end has
     /// sent an ERROR, or the client has sent a block or an ACK (RFC 1350, sections 4 and 7).
-    pub fn pass_again(&self, dir: Dir) -> Result<(), Stop>
+    pub fn pass_again(&self, dir: Dir) -> Result<(), PassError>
         ensures finds { (h : Header) (passed : List Datagram) (d : Datagram) → IsTransferAfter self.now h passed
             → Says d dir (Message.Request self.now.asked)
             → Finds (MessageBreaks h self.now.asked passed dir (Message.Request self.now.asked)) (IsTransferAfter self.now h (d ∷ passed)) result }
-        ensures takes_none { result ≢ Err StopKind.Memory }
+        ensures takes_none { result ≢ Err PassErrorKind.Memory }
     {
         if author_of(self.named, dir) == End::Server {
-            return Err(Stop::Broken(Rule::WrongKind));
+            return Err(PassError::Broken(Rule::WrongKind));
         }
         if dir == Dir::In {
             return Ok(());
         }
         if self.errors.has_gone_out() {
-            return Err(Stop::Broken(Rule::AfterError));
+            return Err(PassError::Broken(Rule::AfterError));
         }
         if self.client_went_on() {
-            return Err(Stop::Broken(Rule::RequestAfterStart));
+            return Err(PassError::Broken(Rule::RequestAfterStart));
         }
         Ok(())
     }
 
     /// What the first OACK breaks that comes again with the same bytes, as `pass` says it: a client sends it, its end has
     /// sent an ERROR, or the server of a read has sent a block (RFC 1350, section 7; RFC 2347).
-    pub fn pass_oack_again(&self, dir: Dir) -> Result<(), Stop>
+    pub fn pass_oack_again(&self, dir: Dir) -> Result<(), PassError>
         ensures finds { (h : Header) (passed : List Datagram) (d : Datagram) (given : OptionMap) → IsTransferAfter self.now h passed
-            → HasAgreed self.now.course given → Says d dir (Message.Oack given)
+            → HasAgreed self.now.exchange given → Says d dir (Message.Oack given)
             → Finds (MessageBreaks h self.now.asked passed dir (Message.Oack given)) (IsTransferAfter self.now h (d ∷ passed)) result }
-        ensures takes_none { result ≢ Err StopKind.Memory }
+        ensures takes_none { result ≢ Err PassErrorKind.Memory }
     {
         if author_of(self.named, dir) == End::Client {
-            return Err(Stop::Broken(Rule::WrongKind));
+            return Err(PassError::Broken(Rule::WrongKind));
         }
         if dir != Dir::Out {
             return Ok(());
         }
         let has_stopped = self.errors.has_gone_out();
         if has_stopped {
-            return Err(Stop::Broken(Rule::AfterError));
+            return Err(PassError::Broken(Rule::AfterError));
         }
         if self.late_oack(dir) {
-            return Err(Stop::Broken(Rule::OackAfterStart));
+            return Err(PassError::Broken(Rule::OackAfterStart));
         }
         Ok(())
     }
 
     /// A request after the first one: it is not that one again, or it comes after a block or an ACK of the client (RFC
     /// 1350, section 4).
-    fn pass_request(&mut self, dir: Dir, now: &RequestView<'_>) -> Result<(), Stop>
+    fn pass_request(&mut self, dir: Dir, now: &RequestView<'_>) -> Result<(), PassError>
         ensures finds { (h : Header) (passed : List Datagram) (d : Datagram) → IsTransferAfter self.old h passed
             → Says d dir (Message.Request (parts now.now))
             → Finds (RequestBreaks self.old.asked passed dir (parts now.now)) (IsTransferAfter self.new h (d ∷ passed)) result }
-        ensures takes_none { result ≢ Err StopKind.Memory }
+        ensures takes_none { result ≢ Err PassErrorKind.Memory }
         ensures asked { self.new.asked ≡ self.old.asked }
         ensures err { OnErr result (self.new ≡ self.old) }
     {
         if !same_request(&self.asked, now) {
-            return Err(Stop::Broken(Rule::RequestChanged));
+            return Err(PassError::Broken(Rule::RequestChanged));
         }
         if dir == Dir::Out && self.client_went_on() {
-            return Err(Stop::Broken(Rule::RequestAfterStart));
+            return Err(PassError::Broken(Rule::RequestAfterStart));
         }
         Ok(())
     }
@@ -182,51 +182,61 @@ impl<D: Delivered + Drop> Transfer<D> {
         code: u16,
         message: &[u8],
         packet: &Packet<'_>,
-    ) -> Result<(), Stop>
+    ) -> Result<(), PassError>
         requires { meaning packet.now ≡ Message.Error code message.now }
         ensures ok { (h : Header) (passed : List Datagram) (d : Datagram) → IsTransferAfter self.old h passed
             → Says d dir (Message.Error code message.now) → (GoesOn passed dir (Message.Error code message.now) → ⊥)
             → OnOk result (IsTransferAfter self.new h (d ∷ passed)) }
-        ensures err { IfErr result (λ stop. stop ≡ StopKind.Memory) }
+        ensures err { IfErr result (λ stop. stop ≡ PassErrorKind.Memory) }
         ensures absent { (h : Header) (passed : List Datagram) → IsTransferAfter self.old h passed
             → OnErr result (IsNew passed dir (Message.Error code message.now)) }
         ensures asked { self.new.asked ≡ self.old.asked }
         ensures err_stays { OnErr result (self.new ≡ self.old) }
     {
         self.errors.note(alloc, dir, code, message)?;
-        self.course.pass(alloc, dir, packet)?;
+        self.exchange.pass(alloc, dir, packet)?;
         Ok(())
     }
 
     /// An OACK, by how the request was answered before (RFC 2347).
-    fn pass_oack(&mut self, alloc: Global, dir: Dir, oack: &OptionsView<'_>) -> Result<(), Stop>
+    fn pass_oack(
+        &mut self,
+        alloc: Global,
+        dir: Dir,
+        oack: &OptionsView<'_>,
+    ) -> Result<(), PassError>
         ensures finds { (h : Header) (passed : List Datagram) (d : Datagram) → IsTransferAfter self.old h passed
             → Says d dir (Message.Oack (map_of oack.now))
             → Finds (OackBreaks self.old.asked passed dir (map_of oack.now)) (IsTransferAfter self.new h (d ∷ passed)) result }
-        ensures memory { (h : Header) (passed : List Datagram) → IsTransferAfter self.old h passed → result ≡ Err StopKind.Memory
+        ensures memory { (h : Header) (passed : List Datagram) → IsTransferAfter self.old h passed → result ≡ Err PassErrorKind.Memory
             → IsNew passed dir (Message.Oack (map_of oack.now)) }
         ensures asked { self.new.asked ≡ self.old.asked }
         ensures err { OnErr result (self.new ≡ self.old) }
     {
-        match &self.course {
-            Course::Begun(_) => Err(Stop::Broken(Rule::ReplyChanged)),
-            Course::Agreed(first, _) => self.later_oack(dir, first, oack),
-            Course::Unanswered => self.first_oack(alloc, oack),
+        match &self.exchange {
+            Exchange::Begun(_) => Err(PassError::Broken(Rule::ReplyChanged)),
+            Exchange::Agreed(first, _) => self.later_oack(dir, first, oack),
+            Exchange::Unanswered => self.first_oack(alloc, oack),
         }
     }
 
     /// What an OACK breaks after the first one: it is not that one again, or the server of a read sends it after a block
     /// (RFC 2347).
-    fn later_oack(&self, dir: Dir, first: &FirstOack, oack: &OptionsView<'_>) -> Result<(), Stop>
+    fn later_oack(
+        &self,
+        dir: Dir,
+        first: &FirstOack,
+        oack: &OptionsView<'_>,
+    ) -> Result<(), PassError>
         ensures finds { (h : Header) (passed : List Datagram) → IsTransferAfter self.now h passed
             → Finds (LaterOackBreaks self.now.asked.side passed dir first.now (map_of oack.now)) (Unit {0}) result }
-        ensures takes_none { result ≢ Err StopKind.Memory }
+        ensures takes_none { result ≢ Err PassErrorKind.Memory }
     {
         if !same_options(first.agreed().options(), oack) {
-            return Err(Stop::Broken(Rule::OackChanged));
+            return Err(PassError::Broken(Rule::OackChanged));
         }
         if self.late_oack(dir) {
-            return Err(Stop::Broken(Rule::OackAfterStart));
+            return Err(PassError::Broken(Rule::OackAfterStart));
         }
         Ok(())
     }
@@ -242,9 +252,9 @@ impl<D: Delivered + Drop> Transfer<D> {
     /// Whether the first OACK had these bytes. Where its bytes were not kept it is not known by them.
     #[inline]
     pub fn has_agreed_by(&self, payload: &[u8]) -> bool
-        ensures { IsTrue result → IsAgreedBy self.now.course payload.now }
+        ensures { IsTrue result → IsAgreedBy self.now.exchange payload.now }
     {
-        self.course.has_agreed_by(payload)
+        self.exchange.has_agreed_by(payload)
     }
 
     /// Keeps the bytes of a packet that has passed, where it is the first OACK; without memory for them it keeps none.
@@ -253,14 +263,14 @@ impl<D: Delivered + Drop> Transfer<D> {
         ensures { self.new ≡ self.old }
     {
         if let Packet::Oack(oack) = packet {
-            self.course.keep_oack(alloc, oack, payload);
+            self.exchange.keep_oack(alloc, oack, payload);
         }
     }
 
     /// What the first OACK breaks: it has no option, or one that may not be agreed (RFC 2347; RFC 2348; RFC 2349;
     /// RFC 7440, section 3). Else the named end begins.
-    fn first_oack(&mut self, alloc: Global, oack: &OptionsView<'_>) -> Result<(), Stop>
-        requires { self.old.course ≡ Unanswered }
+    fn first_oack(&mut self, alloc: Global, oack: &OptionsView<'_>) -> Result<(), PassError>
+        requires { self.old.exchange ≡ Unanswered }
         ensures finds { (h : Header) (passed : List Datagram) (d : Datagram) → IsTransferAfter self.old h passed
             → Spells d.payload (Message.Oack (map_of oack.now))
             → Finds (FirstOackBreaks self.old.asked (map_of oack.now)) (IsTransferAfter self.new h (d ∷ passed)) result }
@@ -272,7 +282,7 @@ impl<D: Delivered + Drop> Transfer<D> {
             Err(fault) => return Err(stop_of(fault)),
         };
         let end = self.begin(alloc, agreed_terms(self.named, &self.asked, &agreed));
-        self.course = Course::Agreed(FirstOack::of(alloc, agreed), end);
+        self.exchange = Exchange::Agreed(FirstOack::of(alloc, agreed), end);
         Ok(())
     }
 
@@ -288,13 +298,13 @@ impl<D: Delivered + Drop> Transfer<D> {
     }
 
     /// A block or an ACK, by the rules of these (RFC 1350, sections 2, 4 and 5; RFC 7440, section 4).
-    fn pass_block(&mut self, alloc: Global, dir: Dir, packet: &Packet<'_>) -> Result<(), Stop>
+    fn pass_block(&mut self, alloc: Global, dir: Dir, packet: &Packet<'_>) -> Result<(), PassError>
         requires { IsBlockOrAck (meaning packet.now) }
         ensures finds { (h : Header) (passed : List Datagram) (d : Datagram) → IsTransferAfter self.old h passed
             → Says d dir (meaning packet.now)
             → (IsWrongKind (author_by_way h.named dir) self.old.asked.side (meaning packet.now) → ⊥)
             → Finds (TermsBreak h self.old.asked passed (meaning packet.now)) (IsTransferAfter self.new h (d ∷ passed)) result }
-        ensures memory { (h : Header) (passed : List Datagram) → IsTransferAfter self.old h passed → result ≡ Err StopKind.Memory
+        ensures memory { (h : Header) (passed : List Datagram) → IsTransferAfter self.old h passed → result ≡ Err PassErrorKind.Memory
             → IsNew passed dir (meaning packet.now) }
         ensures asked { self.new.asked ≡ self.old.asked }
         ensures err { OnErr result (self.new ≡ self.old) }
@@ -305,43 +315,43 @@ impl<D: Delivered + Drop> Transfer<D> {
     }
 
     /// The named end keeps a block or an ACK that breaks no rule.
-    fn keep_block(&mut self, alloc: Global, dir: Dir, packet: &Packet<'_>) -> Result<(), Stop>
+    fn keep_block(&mut self, alloc: Global, dir: Dir, packet: &Packet<'_>) -> Result<(), PassError>
         requires { IsBlockOrAck (meaning packet.now) }
         ensures finds { (h : Header) (passed : List Datagram) (d : Datagram) → IsTransferAfter self.old h passed
             → Says d dir (meaning packet.now)
             → (IsWrongKind (author_by_way h.named dir) self.old.asked.side (meaning packet.now) → ⊥)
-            → Finds (TermsBreak h self.old.asked passed (meaning packet.now)) (IsCourse h self.old.asked (d ∷ passed) self.new.course) result }
-        ensures memory { (h : Header) (passed : List Datagram) → IsTransferAfter self.old h passed → result ≡ Err StopKind.Memory
+            → Finds (TermsBreak h self.old.asked passed (meaning packet.now)) (IsExchange h self.old.asked (d ∷ passed) self.new.exchange) result }
+        ensures memory { (h : Header) (passed : List Datagram) → IsTransferAfter self.old h passed → result ≡ Err PassErrorKind.Memory
             → IsNew passed dir (meaning packet.now) }
-        ensures rest { DiffersByCourse self.old self.new }
+        ensures rest { DiffersByExchange self.old self.new }
         ensures err { OnErr result (self.new ≡ self.old) }
     {
-        match &self.course {
-            Course::Unanswered => self.pass_answer(alloc, dir, packet),
-            _ => self.course.pass(alloc, dir, packet),
+        match &self.exchange {
+            Exchange::Unanswered => self.pass_answer(alloc, dir, packet),
+            _ => self.exchange.pass(alloc, dir, packet),
         }
     }
 
     /// The first block of a read, or the ACK 0 of a write, which answers the request without an OACK (RFC 1350, section
     /// 4).
-    fn pass_answer(&mut self, alloc: Global, dir: Dir, packet: &Packet<'_>) -> Result<(), Stop>
-        requires unanswered { self.old.course ≡ Unanswered }
+    fn pass_answer(&mut self, alloc: Global, dir: Dir, packet: &Packet<'_>) -> Result<(), PassError>
+        requires unanswered { self.old.exchange ≡ Unanswered }
         requires kind { IsBlockOrAck (meaning packet.now) }
         ensures finds { (h : Header) (passed : List Datagram) (d : Datagram) → IsTransferAfter self.old h passed
             → Says d dir (meaning packet.now)
             → (IsWrongKind (author_by_way h.named dir) self.old.asked.side (meaning packet.now) → ⊥)
-            → Finds (TermsBreak h self.old.asked passed (meaning packet.now)) (IsCourse h self.old.asked (d ∷ passed) self.new.course) result }
-        ensures memory { (h : Header) (passed : List Datagram) → IsTransferAfter self.old h passed → result ≡ Err StopKind.Memory
+            → Finds (TermsBreak h self.old.asked passed (meaning packet.now)) (IsExchange h self.old.asked (d ∷ passed) self.new.exchange) result }
+        ensures memory { (h : Header) (passed : List Datagram) → IsTransferAfter self.old h passed → result ≡ Err PassErrorKind.Memory
             → IsNew passed dir (meaning packet.now) }
-        ensures rest { DiffersByCourse self.old self.new }
+        ensures rest { DiffersByExchange self.old self.new }
         ensures err { OnErr result (self.new ≡ self.old) }
     {
         if waits_for_reply(self.asked.side(), packet) {
-            return Err(Stop::Broken(Rule::NotStarted));
+            return Err(PassError::Broken(Rule::NotStarted));
         }
         let mut end = self.begin(alloc, plain_terms(self.named, self.asked.side()));
         end.pass(alloc, dir, packet)?;
-        self.course = Course::Begun(end);
+        self.exchange = Exchange::Begun(end);
         Ok(())
     }
 
@@ -351,8 +361,8 @@ impl<D: Delivered + Drop> Transfer<D> {
     {
         match packet {
             Packet::Request(asked) => self.named == End::Client && same_request(&self.asked, asked),
-            Packet::Oack(oack) => self.named == End::Server && self.course.has_agreed(oack),
-            Packet::Data { block, bytes } => self.course.has_sent(*block, bytes),
+            Packet::Oack(oack) => self.named == End::Server && self.exchange.has_agreed(oack),
+            Packet::Data { block, bytes } => self.exchange.has_sent(*block, bytes),
             Packet::Ack { block } => acks.has(*block),
             Packet::Error { code, message } => self.errors.has_sent(*code, message),
         }
@@ -370,14 +380,14 @@ impl<D: Delivered + Drop> Transfer<D> {
     {
         let Transfer {
             asked,
-            course,
+            exchange,
             errors,
             ..
         } = self;
-        let (agreed, end) = match course {
-            Course::Unanswered => return Err(errors.unfinished(count)),
-            Course::Begun(end) => (nothing_agreed(alloc), end),
-            Course::Agreed(first, end) => (first.into_agreed(), end),
+        let (agreed, end) = match exchange {
+            Exchange::Unanswered => return Err(errors.unfinished(count)),
+            Exchange::Begun(end) => (nothing_agreed(alloc), end),
+            Exchange::Agreed(first, end) => (first.into_agreed(), end),
         };
         if !end.done() {
             return Err(errors.unfinished(count));
@@ -463,16 +473,16 @@ fn waits_for_reply(side: Side, packet: &Packet<'_>) -> bool
 }
 
 /// Why an OACK that may not be agreed to does not pass (RFC 2347).
-fn stop_of(fault: NegoFault) -> Stop
-    ensures { result ≡ stop_of_fault fault }
+fn stop_of(fault: NegoFault) -> PassError
+    ensures { result ≡ error_of_fault fault }
 {
     match fault {
-        NegoFault::OackEmpty => Stop::Broken(Rule::OackEmpty),
-        NegoFault::MulticastAgreed => Stop::Broken(Rule::MulticastAgreed),
-        NegoFault::OptionNotRequested => Stop::Broken(Rule::OptionNotRequested),
-        NegoFault::OptionOutsideProfile => Stop::Broken(Rule::OptionOutsideProfile),
-        NegoFault::OptionValue => Stop::Broken(Rule::OptionValue),
-        NegoFault::BeyondBlock65535 => Stop::Broken(Rule::BeyondBlock65535),
-        NegoFault::Memory => Stop::Memory,
+        NegoFault::OackEmpty => PassError::Broken(Rule::OackEmpty),
+        NegoFault::MulticastAgreed => PassError::Broken(Rule::MulticastAgreed),
+        NegoFault::OptionNotRequested => PassError::Broken(Rule::OptionNotRequested),
+        NegoFault::OptionOutsideProfile => PassError::Broken(Rule::OptionOutsideProfile),
+        NegoFault::OptionValue => PassError::Broken(Rule::OptionValue),
+        NegoFault::BeyondBlock65535 => PassError::Broken(Rule::BeyondBlock65535),
+        NegoFault::Memory => PassError::Memory,
     }
 }

@@ -6,7 +6,7 @@ use std::test::Fail;
 use tftp_blocks::Delivered;
 use tftp_capture::{CaptureFault, Tallied};
 use tftp_capture_tests::reading::Reading;
-use tftp_judge::{By, Meaning, Refusal, Rule, Verdict, judge_text};
+use tftp_judge::{AbortedBy, Meaning, Refusal, Rule, Verdict, judge_text};
 use tftp_packet::{Mode, Side};
 use tftp_trials::comparing::is_so;
 use tftp_trials::drip::DripReader;
@@ -84,8 +84,12 @@ fn unlawful_line(alloc: Global, index: u64, rule: Rule) -> Result<String, AllocE
 pub fn refused_line(alloc: Global, refusal: Refusal) -> Result<String, AllocError> {
     match refusal {
         Refusal::Unlawful(index, rule) => unlawful_line(alloc, index, rule),
-        Refusal::Aborted(By::Local, code) => format!(in alloc; "aborted by local code {code}\n"),
-        Refusal::Aborted(By::Peer, code) => format!(in alloc; "aborted by peer code {code}\n"),
+        Refusal::Aborted(AbortedBy::Local, code) => format!(in alloc;
+            "aborted by local code {code}\n"
+        ),
+        Refusal::Aborted(AbortedBy::Peer, code) => format!(in alloc;
+            "aborted by peer code {code}\n"
+        ),
         Refusal::Incomplete(count) => format!(in alloc; "incomplete after {count}\n"),
         Refusal::NormalTooLong => String::from_str(alloc, "too long when normal\n"),
         Refusal::Memory(_) => String::from_str(alloc, "fault memory\n"),

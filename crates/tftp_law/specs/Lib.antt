@@ -28,7 +28,7 @@ pub use Owned.{meaning_from}
 pub use Accord.{Accords, AreRouted, AreRoutedBy, SaysAs, SaysAsBy, Stands, Starts, packet_route, part_route, request_at, request_back}
 pub use Divisions.{Divides, FindPlaces, FindsPlace, packet_in, says_some}
 pub use Writable.{CanBeWritten, HasPayload, blocks_of, wire_of}
-pub use declared.by.By.{By}
-pub use declared.by.By.TheVariants.{Local, Peer}
+pub use declared.aborted_by.AbortedBy.{AbortedBy}
+pub use declared.aborted_by.AbortedBy.TheVariants.{Local, Peer}
 pub use declared.rule.Rule.{Rule}
 pub use declared.rule.Rule.TheVariants.{BeyondBlock65535, BlockSkipped, ForeignPort, GoneBack, Malformed, MulticastAgreed, OackEmpty, OptionNotRequested, OptionOutsideProfile, OptionValue, WrongPort}

@@ -11,7 +11,7 @@ ghost use Rattle.tftp_law.specs.Law.{Shows, IsLawful, IsLawfulUpTo};
 ghost use Rattle.tftp_law.specs.Rules.{number_of, FirstBroken};
 ghost use Rattle.tftp_law.specs.declared.rule.Rule.{Rule};
 ghost use Rattle.tftp_law.specs.Aborted.{IsAborted, IsNotAborted};
-ghost use Rattle.tftp_law.specs.declared.by.By.{By};
+ghost use Rattle.tftp_law.specs.declared.aborted_by.AbortedBy.{AbortedBy};
 ghost use Rattle.tftp_law.specs.OneEnd.{OneEnded, IsRefused, Meant};
 
 /// Options that may be agreed have none of the faults of an OACK, where there are any (RFC 2347).
@@ -40,12 +40,12 @@ pub fn refused_does_not_pass()
 
 /// The ERROR that ended a transfer is one: it has one author and one code. And lawful datagrams have one, or none.
 pub fn the_first_error_is_one()
-    ensures one { (header : Header) (earlier : List Datagram) (by other : By) (code number : ℕ)
+    ensures one { (header : Header) (earlier : List Datagram) (by other : AbortedBy) (code number : ℕ)
         → IsAborted header earlier by code → IsAborted header earlier other number → (by ≡ other) × (code ≡ number) }
-    ensures none { (header : Header) (earlier : List Datagram) (by : By) (code : ℕ) → IsNotAborted header earlier
+    ensures none { (header : Header) (earlier : List Datagram) (by : AbortedBy) (code : ℕ) → IsNotAborted header earlier
         → IsAborted header earlier by code → ⊥ }
     ensures either { (header : Header) (earlier : List Datagram) → OneEnded header earlier
-        → ((by : By) × (code : ℕ) × IsAborted header earlier by code) ⊎ IsNotAborted header earlier }
+        → ((by : AbortedBy) × (code : ℕ) × IsAborted header earlier by code) ⊎ IsNotAborted header earlier }
 {}
 
 /// A capture that the rules accept has one meaning.

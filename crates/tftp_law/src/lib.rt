@@ -1,10 +1,10 @@
 //! What is lawful, and what a capture shows: by the runs of two ends, and by the rules at one end.
 #![tactic(auto)]
 
-mod by;
+mod aborted_by;
 pub mod laws;
 mod rule;
 pub mod two_ends;
 
-pub use by::By;
+pub use aborted_by::AbortedBy;
 pub use rule::Rule;

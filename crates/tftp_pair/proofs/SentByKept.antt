@@ -12,8 +12,8 @@ use Rattle.tftp_law.proofs.Accord.Moments.{sent_moment, took_moment}
 use Rattle.tftp_law.proofs.Accord.PassedIsDone.{told_passed}
 use Rattle.tftp_law.proofs.Soundness.RulesDivide.{divides}
 use Rattle.tftp_law.proofs.Whole.TwoEnds.{some}
-use Rattle.tftp_judge.specs.Kept.{Course}
-use Rattle.tftp_judge.specs.{Unanswered, Begun, Agreed, Transfer, ErrorText, IsErrorOf, IsCourse, IsTransferAfter, IsTransferOf, HasBlock, HasAgreed, AreFlags, HasSentBy}
+use Rattle.tftp_judge.specs.Kept.{Exchange}
+use Rattle.tftp_judge.specs.{Unanswered, Begun, Agreed, Transfer, ErrorText, IsErrorOf, IsExchange, IsTransferAfter, IsTransferOf, HasBlock, HasAgreed, AreFlags, HasSentBy}
 use Rattle.tftp_pair.proofs.Spelt.{packet_is}
 use Rattle.tftp_pair.proofs.CommonMeaning.{out_is, in_is, oack_out, request_out, agrees_passed}
 
@@ -26,10 +26,10 @@ holds (Sends s) passed after k bytes = (
 )
 holds (Receives r) passed after k bytes = (λ p. after.takes_blocks k bytes p, λ none. absurd none)
 
-has_block : (h : Header) (asked : RequestParts) (passed : List Datagram) (c : Course) → IsCourse h asked passed c → (k : ℕ) (bytes : List ℕ) → Passed Out (Message.Data k bytes) passed ↔ HasBlock c k bytes
-has_block h asked passed Unanswered course k bytes = (λ p. course.1.no_block k bytes (inr p), λ none. absurd none)
-has_block h asked passed (Begun end) course k bytes = holds end passed course.after k bytes
-has_block h asked passed (Agreed options end) course k bytes = holds end passed course.after k bytes
+has_block : (h : Header) (asked : RequestParts) (passed : List Datagram) (c : Exchange) → IsExchange h asked passed c → (k : ℕ) (bytes : List ℕ) → Passed Out (Message.Data k bytes) passed ↔ HasBlock c k bytes
+has_block h asked passed Unanswered exchange k bytes = (λ p. exchange.1.no_block k bytes (inr p), λ none. absurd none)
+has_block h asked passed (Begun end) exchange k bytes = holds end passed exchange.after k bytes
+has_block h asked passed (Agreed options end) exchange k bytes = holds end passed exchange.after k bytes
 
 -- ---- ERRORs
 
@@ -85,16 +85,16 @@ module _ (h : Header) (m : Meaning) (wire : List ℕ) (division : Division) (acc
       let (before, may, kept) = took_moment m wire h.named (view_in division) own q at in
       (subst (MayCome m wire h.named before) is may).client
 
-  has_oack : (asked : RequestParts) (c : Course) → FirstAsked h (datagrams_of division) asked → IsCourse h asked ps c → (o : OptionMap) → Passed Out (Message.Oack o) ps ↔ ((h.named ≡ Server) × HasAgreed c o)
-  has_oack asked Unanswered first course o = (λ p. absurd (no_oack asked.side Out o ps course.0 p), λ both. absurd both.1)
-  has_oack asked (Begun end) first course o = (
-    λ p. absurd (oack_some o p (acc.plain (subst (λ (r : RequestParts). FirstAnswer r.side ps Begins) (acc.asked asked first) course.answered))),
+  has_oack : (asked : RequestParts) (c : Exchange) → FirstAsked h (datagrams_of division) asked → IsExchange h asked ps c → (o : OptionMap) → Passed Out (Message.Oack o) ps ↔ ((h.named ≡ Server) × HasAgreed c o)
+  has_oack asked Unanswered first exchange o = (λ p. absurd (no_oack asked.side Out o ps exchange.0 p), λ both. absurd both.1)
+  has_oack asked (Begun end) first exchange o = (
+    λ p. absurd (oack_some o p (acc.plain (subst (λ (r : RequestParts). FirstAnswer r.side ps Begins) (acc.asked asked first) exchange.answered))),
     λ both. absurd both.1,
   )
-  has_oack asked (Agreed options end) first course o =
-      let mine : m.agreed ≡ options = acc.oacked options (subst (λ (r : RequestParts). FirstAnswer r.side ps (Agrees options)) (acc.asked asked first) course.answered) in (
+  has_oack asked (Agreed options end) first exchange o =
+      let mine : m.agreed ≡ options = acc.oacked options (subst (λ (r : RequestParts). FirstAnswer r.side ps (Agrees options)) (acc.asked asked first) exchange.answered) in (
         λ p. let out = oack_out h m wire division routed own o p in (out.0, sym out.1 ∙ mine),
-        λ both. elim (agrees_passed asked.side ps options course.answered) [
+        λ both. elim (agrees_passed asked.side ps options exchange.answered) [
           | inl came ↦ let apart : Server ≡ Client = sym both.0 ∙ oack_in_client options came in absurd (cc)
           | inr went ↦ subst (λ x. Passed Out (Message.Oack x) ps) (sym both.1) went
         ],
@@ -102,8 +102,8 @@ module _ (h : Header) (m : Meaning) (wire : List ℕ) (division : Division) (acc
 
   by_message : (t : Transfer) (flags : ℕ → Bool) → FirstAsked h (datagrams_of division) t.asked → IsTransferAfter t h ps → AreFlags flags ps → (x : Message) → Passed Out x ps ↔ HasSentBy t flags x
   by_message t flags first after are (Message.Request r) = subst (λ e. Passed Out (Message.Request r) ps ↔ ((e ≡ Client) × (r ≡ t.asked))) (sym after.named) (has_request t.asked r first)
-  by_message t flags first after are (Message.Oack o) = subst (λ e. Passed Out (Message.Oack o) ps ↔ ((e ≡ Server) × HasAgreed t.course o)) (sym after.named) (has_oack t.asked t.course first after.course o)
-  by_message t flags first after are (Message.Data k bytes) = has_block h t.asked ps t.course after.course k bytes
+  by_message t flags first after are (Message.Oack o) = subst (λ e. Passed Out (Message.Oack o) ps ↔ ((e ≡ Server) × HasAgreed t.exchange o)) (sym after.named) (has_oack t.asked t.exchange first after.exchange o)
+  by_message t flags first after are (Message.Data k bytes) = has_block h t.asked ps t.exchange after.exchange k bytes
   by_message t flags first after are (Message.Ack j) = ((are j).1, (are j).0)
   by_message t flags first after are (Message.Error code text) = has_error ps t.errors.sent after.errors.sent code text
 

@@ -15,15 +15,15 @@ use Rattle.tftp_pair_judge.proofs.Merging.{but_turned, merges_held, merges_in, m
 
 -- ---- what was sent
 
-pub sent_by_side : (s : Side) (h : Header) (read : List Datagram) → IsSideAfter s h read → (m : Message) → Passed Out m (transfer_of h read) ↔ HasSentIn s.judge.keeper.transfer (flags_of s.acks) m
-sent_by_side s h read after m = by s.judge.keeper.transfer after.kept where
+pub sent_by_side : (s : Side) (h : Header) (read : List Datagram) → IsSideAfter s h read → (m : Message) → Passed Out m (transfer_of h read) ↔ HasSentIn s.judge.state.transfer (flags_of s.acks) m
+sent_by_side s h read after m = by s.judge.state.transfer after.kept where
   by : (t : Option Transfer) → IsKept h read t → Passed Out m (transfer_of h read) ↔ HasSentIn t (flags_of s.acks) m
   by None kept = (λ p. absurd (subst (λ (ds : List Datagram). Passed Out m (transfer_of h ds)) kept p), λ none. absurd none)
   by (Some t) kept = sent_by_kept t h read (flags_of s.acks) (record { lawful = after.lawful; short = after.short; asked = kept.0; after = kept.1 }) after.acks m
 
 -- a payload that spells this message
 pub payload_sent : (s : Side) (h : Header) (read : List Datagram) → IsSideAfter s h read → (payload : List ℕ) (m : Message) → Spells payload m → (b : Bool)
-    → IsTrue b ↔ HasSentIn s.judge.keeper.transfer (flags_of s.acks) m → IsTrue b ↔ WasSent payload (transfer_of h read)
+    → IsTrue b ↔ HasSentIn s.judge.state.transfer (flags_of s.acks) m → IsTrue b ↔ WasSent payload (transfer_of h read)
 payload_sent s h read after payload m spells b is = (
   λ sent. (m, spells, (sent_by_side s h read after m).1 (is.0 sent)),
   λ was. is.1 ((sent_by_side s h read after m).0 (subst (λ x. Passed Out x (transfer_of h read)) (spelled_once payload was.0 m was.1 spells) was.2)),
@@ -120,14 +120,14 @@ same_side old new h read same after = record {
   goes_on = λ none. subst (λ (j : Judge). IsJudgeAfter j h read) (sym same.0) (after.goes_on (ap (λ (j : Judge). j.refused) (sym same.0) ∙ none));
   lawful = after.lawful;
   short = after.short;
-  kept = subst (λ (j : Judge). IsKept h read j.keeper.transfer) (sym same.0) after.kept;
+  kept = subst (λ (j : Judge). IsKept h read j.state.transfer) (sym same.0) after.kept;
   fed = ap (λ (j : Judge). j.fed) same.0 ∙ after.fed;
   few = after.few;
   acks = subst (λ (ws : List ℕ). AreFlags (flags_of ws) (transfer_of h read)) (sym same.1) after.acks;
   counted = subst (λ (counts : Option Counted). AreCounted counts (transfer_of h read)) (sym same.2) after.counted;
 }
 
-pub refused_side : (old new : Side) (h : Header) (read : List Datagram) (r : Refusal) → new.judge.refused ≡ Some r → new.judge.keeper.transfer ≡ old.judge.keeper.transfer → new.judge.fed ≡ old.judge.fed → new.acks ≡ old.acks → new.counts ≡ old.counts
+pub refused_side : (old new : Side) (h : Header) (read : List Datagram) (r : Refusal) → new.judge.refused ≡ Some r → new.judge.state.transfer ≡ old.judge.state.transfer → new.judge.fed ≡ old.judge.fed → new.acks ≡ old.acks → new.counts ≡ old.counts
     → IsSideAfter old h read → IsSideAfter new h read
 refused_side old new h read r refused transfer fed acks counts after = record {
   goes_on = λ none. let e : Some r ≡ None = sym refused ∙ none in absurd (cc);

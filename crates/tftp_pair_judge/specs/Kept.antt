@@ -24,7 +24,7 @@ pub record IsSideAfter (s : Side) (h : Header) (read : List Datagram) : Type 0 w
   pub goes_on : s.judge.refused ≡ None → IsJudgeAfter s.judge h read
   pub lawful : OneEnded h read
   pub short : All (λ (d : Datagram). length d.payload ≤ 65527) read
-  pub kept : IsKept h read s.judge.keeper.transfer
+  pub kept : IsKept h read s.judge.state.transfer
   pub fed : s.judge.fed ≡ length read
   pub few : length read ≤ 2 ^ 40
   pub acks : AreFlags (flags_of s.acks) (transfer_of h read)

@@ -7,6 +7,6 @@ mod NotesAfter
 mod Receivings
 mod TransferFound
 mod KeptLawful
-mod KeeperFound
+mod StateFound
 mod TapShown
 mod TapVerdictFound

@@ -11,15 +11,15 @@ use Rattle.tftp_tap.specs.{TapDatagram, TapSides, side_of, AreApart, is_left_out
 use Rattle.tftp_tap.proofs.KeptOf.{is_or_not, any_here, any_more, kept_in}
 use Rattle.tftp_tap.proofs.TapTests.{source_is}
 use Rattle.tftp_law.proofs.Division.RouteTests.{same_is}
-use Rattle.tftp_tap_judge.specs.{IsReceiving, Receiving, kept_there, FindsTo, ReceiverBreaks, stop_by_refusal}
-use Rattle.tftp_tap_judge.specs.declared.stop.Stop.TheVariants as stop
+use Rattle.tftp_tap_judge.specs.{IsReceiving, Receiving, kept_there, FindsTo, ReceiverBreaks, error_by_refusal}
+use Rattle.tftp_tap_judge.specs.declared.tap_pass_error.TapPassError.TheVariants as stop
 
 module _ (s : TapSides) (side : Side) (passed : List TapDatagram) (d : TapDatagram) (stays : is_left_out (tap_tests s) (receiver_of side) d (kept_there s side passed) ≡ false) where
   abbrev now : Datagram
   now = recorded_at s (receiver_of side) d
 
   -- what the judge there refuses
-  pub refused_found : (refusal : Refusal) → Refuses (header_at s side) (kept_between s side passed) now refusal → (After : Type 0) → FindsTo (ReceiverBreaks s side passed d) After (Err (stop_by_refusal refusal))
+  pub refused_found : (refusal : Refusal) → Refuses (header_at s side) (kept_between s side passed) now refusal → (After : Type 0) → FindsTo (ReceiverBreaks s side passed d) After (Err (error_by_refusal refusal))
   refused_found (of_end.Unlawful index rule) r After = ((stays, r.1.0), λ other low b. r.1.1 other low b.1)
   refused_found (of_end.Memory count) r After = λ rule b. r.1.lawful rule b.1
   refused_found _ r After = absurd r
@@ -92,7 +92,7 @@ recorded_payload s end d = by (is_or_not (same_peer d.source (side_of s end))) w
 pub recorded_same : (s : TapSides) (end : End) (d : TapDatagram) (x : Datagram) → x ≡ recorded_at s end d → d.payload ≡ x.payload
 recorded_same s end d x is = sym (ap (λ (y : Datagram). y.payload) is ∙ recorded_payload s end d)
 
-pub refused_takes : (s : TapSides) (side : Side) (passed : List TapDatagram) (d : TapDatagram) (refusal : Refusal) → Refuses (header_at s side) (kept_between s side passed) (recorded_at s (receiver_of side) d) refusal → stop_by_refusal refusal ≡ stop.Memory → TakesMemory (header_at s side) (kept_between s side passed) (recorded_at s (receiver_of side) d)
+pub refused_takes : (s : TapSides) (side : Side) (passed : List TapDatagram) (d : TapDatagram) (refusal : Refusal) → Refuses (header_at s side) (kept_between s side passed) (recorded_at s (receiver_of side) d) refusal → error_by_refusal refusal ≡ stop.Memory → TakesMemory (header_at s side) (kept_between s side passed) (recorded_at s (receiver_of side) d)
 refused_takes s side passed d (of_end.Unlawful index rule) r is = cc
 refused_takes s side passed d (of_end.Memory count) r is = r.2
 refused_takes s side passed d _ r is = absurd r

@@ -62,12 +62,12 @@ pub record IsTapTransfer (t : TapTransfer) (s : TapSides) (passed : List TapData
 -- ---- the judge
 
 -- what is kept of all that has passed
-pub record TapKeeper : Type 0 where
+pub record TapState : Type 0 where
   pub ports : KnownWays
   pub transfer : Option TapTransfer  -- from the first request on
 
 pub record TapJudge : Type 0 where
-  pub keeper : TapKeeper
+  pub state : TapState
   pub fed : ℕ
   pub refused : Option TapRefusal  -- what is answered for good
 
@@ -77,7 +77,7 @@ IsKeptAtTap s passed None = passed ≡ []
 IsKeptAtTap s passed (Some transfer) = IsTapTransfer transfer s passed
 
 -- what is kept of these datagrams
-pub record HasKeptAtTap (k : TapKeeper) (s : TapSides) (earlier : List TapDatagram) : Type 0 where
+pub record HasKeptAtTap (k : TapState) (s : TapSides) (earlier : List TapDatagram) : Type 0 where
   pub ports : StandsForTap k.ports s earlier
   pub kept : IsKeptAtTap s (transfer_between s earlier) k.transfer
 
@@ -95,10 +95,10 @@ IsFewFed (Some transfer) = transfer.receiving.judge.fed < 2 ^ 40
 pub record IsTapJudge (j : TapJudge) (s : TapSides) (earlier : List TapDatagram) : Type 0 where
   pub apart : AreApart s
   pub lawful : BreaksNoTapRule s earlier
-  pub kept : HasKeptAtTap j.keeper s earlier
+  pub kept : HasKeptAtTap j.state s earlier
   pub fed : j.fed ≡ length earlier
   pub goes_on : j.refused ≡ None
 
 -- unless it has refused one, it has fed the judge at that end no more than it was fed
 abbrev pub IsFedWithin : TapJudge → Type 0
-IsFedWithin j = j.refused ≡ None → FedWithin j.keeper.transfer j.fed
+IsFedWithin j = j.refused ≡ None → FedWithin j.state.transfer j.fed

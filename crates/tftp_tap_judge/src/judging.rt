@@ -6,9 +6,9 @@ ghost use Rattle.tftp_tap_judge.specs.TapVerdict.{IsTapVerdict};
 ghost use Rattle.tftp_tap_judge.specs.declared.refusal.TapRefusal.{TapRefusal as RefusalKind};
 
 use crate::datagram::TapDatagram;
-use crate::keeping::TapKeeper;
+use crate::keeping::TapState;
 use crate::refusal::TapRefusal;
-use crate::stop::Stop;
+use crate::tap_pass_error::TapPassError;
 use std::alloc::Global;
 use std::marker::Model;
 use tftp_blocks::Delivered;
@@ -20,7 +20,7 @@ use tftp_tap::Sides;
 /// they went, what had passed before an ERROR, and the judge of the end that gets the file.
 #[derive(Drop)]
 pub struct TapJudge<D: Delivered + Drop> {
-    keeper: TapKeeper<D>,
+    state: TapState<D>,
     fed: u64,
     refused: Option<TapRefusal>,
 }
@@ -35,9 +35,9 @@ impl<D: Delivered + Drop> Model for TapJudge<D> {
 
     ghost coded = { Prim.hlevel (codes, sender_code, receiver_code, options_code, parts_code) };
 
-    ghost view = { λ j. record { keeper = j.keeper; fed = j.fed; refused = j.refused } };
+    ghost view = { λ j. record { state = j.state; fed = j.fed; refused = j.refused } };
 
-    ghost invariant = { λ j. IsFedWithin (record { keeper = j.keeper; fed = j.fed; refused = j.refused }) };
+    ghost invariant = { λ j. IsFedWithin (record { state = j.state; fed = j.fed; refused = j.refused }) };
 }
 
 impl<D: Delivered + Drop> TapJudge<D> {
@@ -48,7 +48,7 @@ impl<D: Delivered + Drop> TapJudge<D> {
         ensures goes_on { result.refused ≡ None }
     {
         TapJudge {
-            keeper: TapKeeper::new(alloc, sides),
+            state: TapState::new(alloc, sides),
             fed: 0,
             refused: None,
         }
@@ -79,10 +79,10 @@ impl<D: Delivered + Drop> TapJudge<D> {
         if let Some(refusal) = self.refused {
             return Err(refusal);
         }
-        if let Err(stop) = self.keeper.pass(alloc, datagram) {
+        if let Err(stop) = self.state.pass(alloc, datagram) {
             let refusal = match stop {
-                Stop::Breaks(rule) => TapRefusal::Unlawful(self.fed + 1, rule),
-                Stop::Memory => TapRefusal::Memory(self.fed),
+                TapPassError::Breaks(rule) => TapRefusal::Unlawful(self.fed + 1, rule),
+                TapPassError::Memory => TapRefusal::Memory(self.fed),
             };
             self.refused = Some(refusal);
             return Err(refusal);
@@ -113,14 +113,14 @@ impl<D: Delivered + Drop> TapJudge<D> {
         ensures for_good { (refusal : RefusalKind) → self.refused ≡ Some refusal → result ≡ Err refusal }
     {
         let TapJudge {
-            keeper,
+            state,
             fed,
             refused,
         } = self;
         if let Some(refusal) = refused {
             return Err(refusal);
         }
-        match keeper.into_transfer() {
+        match state.into_transfer() {
             Some(transfer) => transfer.finish(alloc, fed),
             None => Err(TapRefusal::Incomplete(fed)),
         }

@@ -4,11 +4,11 @@ ghost use Rattle.tftp_tap.specs.{TapDatagram as Passing, TapSides, side_of, AreA
 ghost use Rattle.tftp_tap_judge.specs.TapKept.{FedWithin, HasKeptAtTap, IsFewFed, IsKeptAtTap};
 ghost use Rattle.tftp_tap_judge.specs.TapSeen.{AreNotes};
 ghost use Rattle.tftp_tap_judge.specs.TapStops.{BeginsAtTap, FindsAtTap, IsNoRequest, IsRecorded, TakesMemoryAtTap, passing_of};
-ghost use Rattle.tftp_tap_judge.specs.declared.stop.Stop.{Stop as StopKind};
+ghost use Rattle.tftp_tap_judge.specs.declared.tap_pass_error.TapPassError.{TapPassError as TapPassErrorKind};
 
 use crate::datagram::TapDatagram;
 use crate::notes::TapNotes;
-use crate::stop::Stop;
+use crate::tap_pass_error::TapPassError;
 use crate::transfer::{TapTransfer, receiver_of_file};
 use std::alloc::Global;
 use std::marker::Model;
@@ -22,44 +22,44 @@ use tftp_tap::{Sides, TapPorts, TapRoute};
 /// What is kept of the datagrams that have passed between the ends: the ways that they went, and the transfer from its first
 /// request on.
 #[derive(Drop)]
-pub struct TapKeeper<D: Delivered + Drop> {
+pub struct TapState<D: Delivered + Drop> {
     ports: TapPorts,
     transfer: Option<TapTransfer<D>>,
 }
 
-impl<D: Delivered + Drop> Model for TapKeeper<D> {
+impl<D: Delivered + Drop> Model for TapState<D> {
     ghost use Rattle.std.specs.Coded.{codes};
     ghost use Rattle.tftp_ends.specs.StatesKept.{sender_code, receiver_code};
     ghost use Rattle.tftp_packet.specs.Owned.{options_code, parts_code};
-    ghost use Rattle.tftp_tap_judge.specs.TapKept.{TapKeeper};
+    ghost use Rattle.tftp_tap_judge.specs.TapKept.{TapState};
 
-    ghost Value = { TapKeeper };
+    ghost Value = { TapState };
 
     ghost coded = { Prim.hlevel (codes, sender_code, receiver_code, options_code, parts_code) };
 
     ghost view = { λ k. record { ports = k.ports; transfer = k.transfer } };
 }
 
-impl<D: Delivered + Drop> TapKeeper<D> {
+impl<D: Delivered + Drop> TapState<D> {
     /// Before the first datagram of a transfer with these sides. Takes no memory.
     pub fn new(alloc: Global, sides: Sides) -> Self
         ensures kept { HasKeptAtTap result sides [] }
         ensures fed { FedWithin result.transfer 0 }
     {
-        TapKeeper {
+        TapState {
             ports: TapPorts::new(alloc, sides),
             transfer: None,
         }
     }
 
     /// What is found of a datagram after those that have passed; where it passes it is kept.
-    pub fn pass(&mut self, alloc: Global, datagram: TapDatagram) -> Result<(), Stop>
+    pub fn pass(&mut self, alloc: Global, datagram: TapDatagram) -> Result<(), TapPassError>
         requires few { IsFewFed self.old.transfer }
         requires short { length datagram.payload ≤ 65527 }
         ensures finds { (s : TapSides) (earlier : List Passing) → AreApart s → BreaksNoTapRule s earlier → HasKeptAtTap self.old s earlier
             → FindsAtTap s earlier (passing_of datagram) (HasKeptAtTap self.new s (passing_of datagram ∷ earlier)) result }
         ensures memory { (s : TapSides) (earlier : List Passing) → AreApart s → BreaksNoTapRule s earlier → HasKeptAtTap self.old s earlier
-            → result ≡ Err StopKind.Memory → TakesMemoryAtTap s earlier (passing_of datagram) }
+            → result ≡ Err TapPassErrorKind.Memory → TakesMemoryAtTap s earlier (passing_of datagram) }
         ensures fed { (n : ℕ) → FedWithin self.old.transfer n → OnOk result (FedWithin self.new.transfer (n + 1)) }
     {
         let source = datagram.source;
@@ -72,7 +72,12 @@ impl<D: Delivered + Drop> TapKeeper<D> {
     }
 
     /// The same of a datagram with this route; from where to where it went is not kept.
-    fn pass_by(&mut self, alloc: Global, route: TapRoute, datagram: TapDatagram) -> Result<(), Stop>
+    fn pass_by(
+        &mut self,
+        alloc: Global,
+        route: TapRoute,
+        datagram: TapDatagram,
+    ) -> Result<(), TapPassError>
         requires few { IsFewFed self.old.transfer }
         requires short { length datagram.payload ≤ 65527 }
         ensures finds { (s : TapSides) (earlier : List Passing) → AreApart s → BreaksNoTapRule s earlier
@@ -80,7 +85,7 @@ impl<D: Delivered + Drop> TapKeeper<D> {
             → FindsAtTap s earlier (passing_of datagram) (IsKeptAtTap s (transfer_between s (passing_of datagram ∷ earlier)) self.new.transfer) result }
         ensures memory { (s : TapSides) (earlier : List Passing) → AreApart s → BreaksNoTapRule s earlier
             → IsKeptAtTap s (transfer_between s earlier) self.old.transfer → route ≡ tap_route s earlier (passing_of datagram)
-            → result ≡ Err StopKind.Memory → TakesMemoryAtTap s earlier (passing_of datagram) }
+            → result ≡ Err TapPassErrorKind.Memory → TakesMemoryAtTap s earlier (passing_of datagram) }
         ensures ports { self.new.ports ≡ self.old.ports }
         ensures fed { (n : ℕ) → FedWithin self.old.transfer n → OnOk result (FedWithin self.new.transfer (n + 1)) }
     {
@@ -94,17 +99,22 @@ impl<D: Delivered + Drop> TapKeeper<D> {
                 if says_unknown_id(datagram.payload.as_slice()) {
                     Ok(())
                 } else {
-                    Err(Stop::Breaks(Rule::StrayAnswer))
+                    Err(TapPassError::Breaks(Rule::StrayAnswer))
                 }
             }
-            TapRoute::ForeignPort => Err(Stop::Breaks(Rule::ForeignPort)),
-            TapRoute::WrongPort => Err(Stop::Breaks(Rule::WrongPort)),
-            TapRoute::NoStrayAnswer => Err(Stop::Breaks(Rule::StrayAnswer)),
+            TapRoute::ForeignPort => Err(TapPassError::Breaks(Rule::ForeignPort)),
+            TapRoute::WrongPort => Err(TapPassError::Breaks(Rule::WrongPort)),
+            TapRoute::NoStrayAnswer => Err(TapPassError::Breaks(Rule::StrayAnswer)),
         }
     }
 
     /// What is found of a datagram of the transfer, which comes from this end.
-    fn pass_message(&mut self, alloc: Global, from: End, datagram: TapDatagram) -> Result<(), Stop>
+    fn pass_message(
+        &mut self,
+        alloc: Global,
+        from: End,
+        datagram: TapDatagram,
+    ) -> Result<(), TapPassError>
         requires few { IsFewFed self.old.transfer }
         requires short { length datagram.payload ≤ 65527 }
         ensures finds { (s : TapSides) (earlier : List Passing) → AreApart s → BreaksNoTapRule s earlier
@@ -112,7 +122,7 @@ impl<D: Delivered + Drop> TapKeeper<D> {
             → is_passing (tap_route s earlier (passing_of datagram)) ≡ true
             → FindsAtTap s earlier (passing_of datagram) (IsKeptAtTap s (passing_of datagram ∷ transfer_between s earlier) self.new.transfer) result }
         ensures memory { (s : TapSides) (earlier : List Passing) → AreApart s → IsKeptAtTap s (transfer_between s earlier) self.old.transfer
-            → datagram.source ≡ side_of s from → result ≡ Err StopKind.Memory → TakesMemoryAtTap s earlier (passing_of datagram) }
+            → datagram.source ≡ side_of s from → result ≡ Err TapPassErrorKind.Memory → TakesMemoryAtTap s earlier (passing_of datagram) }
         ensures ports { self.new.ports ≡ self.old.ports }
         ensures fed { (n : ℕ) → FedWithin self.old.transfer n → OnOk result (FedWithin self.new.transfer (n + 1)) }
     {
@@ -141,7 +151,7 @@ fn begun<D: Delivered + Drop>(
     alloc: Global,
     from: End,
     datagram: TapDatagram,
-) -> Result<TapTransfer<D>, Stop>
+) -> Result<TapTransfer<D>, TapPassError>
     requires short { length datagram.payload ≤ 65527 }
     ensures finds { (s : TapSides) (earlier : List Passing) → AreApart s → BreaksNoTapRule s earlier → transfer_between s earlier ≡ []
         → datagram.source ≡ side_of s from → is_passing (tap_route s earlier (passing_of datagram)) ≡ true
@@ -149,7 +159,7 @@ fn begun<D: Delivered + Drop>(
     ensures fed { IfOk result (λ transfer. transfer.receiving.judge.fed ≡ 1) }
 {
     if from == End::Server {
-        return Err(Stop::Breaks(Rule::NoRequest));
+        return Err(TapPassError::Breaks(Rule::NoRequest));
     }
     let service = port_of(datagram.destination);
     let (asked, notes) = first_request(alloc, datagram.payload.as_slice())?;
@@ -158,17 +168,17 @@ fn begun<D: Delivered + Drop>(
 }
 
 /// What a payload of the client asks for, as the first of a transfer, and what is noted of it (RFC 1350, section 5).
-fn first_request(alloc: Global, payload: &[u8]) -> Result<(Request, TapNotes), Stop>
+fn first_request(alloc: Global, payload: &[u8]) -> Result<(Request, TapNotes), TapPassError>
     ensures found { IfOk result (λ first. Spells payload.now (Message.Request first.0)
         × ((s : TapSides) (d : Passing) → AreApart s → d.source ≡ s.client → d.payload ≡ payload.now → AreNotes first.1 s (d ∷ []))) }
     ensures breaks { IfErr result (λ stop. IsNoRequest payload.now stop) }
 {
     let packet = match read_packet(payload) {
         Ok(packet) => packet,
-        Err(fault) => return Err(Stop::Breaks(Rule::Malformed(fault))),
+        Err(fault) => return Err(TapPassError::Breaks(Rule::Malformed(fault))),
     };
     let Packet::Request(asked) = &packet else {
-        return Err(Stop::Breaks(Rule::NoRequest));
+        return Err(TapPassError::Breaks(Rule::NoRequest));
     };
     let asked = own_request(alloc, asked)?;
     let mut notes = TapNotes::new(alloc);

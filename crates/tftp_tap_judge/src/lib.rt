@@ -10,7 +10,7 @@ mod notes;
 mod receiving;
 mod refusal;
 mod seen;
-mod stop;
+mod tap_pass_error;
 mod transfer;
 
 pub use datagram::TapDatagram;

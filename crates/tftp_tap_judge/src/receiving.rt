@@ -6,9 +6,9 @@ ghost use Rattle.tftp_law.specs.{Passes};
 ghost use Rattle.tftp_tap.specs.{TapDatagram, TapSides, side_of, AreApart, is_left_out, same_end, asks_in, tap_tests, header_at, kept_between, recorded_at};
 ghost use Rattle.tftp_tap_judge.specs.TapKept.{IsReceiving, kept_there};
 ghost use Rattle.tftp_tap_judge.specs.TapStops.{FindsTo, IsRecorded, ReceiverBreaks};
-ghost use Rattle.tftp_tap_judge.specs.declared.stop.Stop.{Stop as StopKind};
+ghost use Rattle.tftp_tap_judge.specs.declared.tap_pass_error.TapPassError.{TapPassError as TapPassErrorKind};
 
-use crate::stop::{Stop, stop_of};
+use crate::tap_pass_error::{TapPassError, error_of};
 use std::alloc::Global;
 use std::marker::Model;
 use tftp_blocks::Delivered;
@@ -41,14 +41,19 @@ impl<D: Delivered + Drop> Model for Receiving<D> {
 
 impl<D: Delivered + Drop> Receiving<D> {
     /// After the first request, of a transfer whose file this end gets.
-    pub fn begin(alloc: Global, end: End, service: u16, request: &Datagram) -> Result<Self, Stop>
+    pub fn begin(
+        alloc: Global,
+        end: End,
+        service: u16,
+        request: &Datagram,
+    ) -> Result<Self, TapPassError>
         requires short { length request.now.payload ≤ 65527 }
         ensures ok { (s : TapSides) (side : Way) (d : TapDatagram) → AreApart s → end ≡ receiver_of side → service ≡ s.asked.port
             → d.source ≡ s.client → asks_in d.payload ≡ true → IsRecorded s end d request.now
             → Passes (header_at s side) [] (recorded_at s end d) → IfOk result (λ receiving. IsReceiving receiving s side (d ∷ [])) }
         ensures err { (s : TapSides) (side : Way) (d : TapDatagram) → end ≡ receiver_of side → service ≡ s.asked.port
             → IsRecorded s end d request.now → Passes (header_at s side) [] (recorded_at s end d)
-            → IfErr result (λ stop. stop ≡ StopKind.Memory) }
+            → IfErr result (λ stop. stop ≡ TapPassErrorKind.Memory) }
         ensures fed { IfOk result (λ receiving. receiving.judge.fed ≡ 1) }
     {
         let mut judge = Judge::new(
@@ -59,7 +64,7 @@ impl<D: Delivered + Drop> Receiving<D> {
             },
         );
         if let Err(refusal) = judge.feed(alloc, request) {
-            return Err(stop_of(refusal));
+            return Err(error_of(refusal));
         }
         Ok(Receiving {
             judge,
@@ -77,14 +82,19 @@ impl<D: Delivered + Drop> Receiving<D> {
     }
 
     /// What this end would find of the next datagram, which comes from an end of the transfer; nothing of one that is left out.
-    pub fn pass(&mut self, alloc: Global, from: End, datagram: &Datagram) -> Result<(), Stop>
+    pub fn pass(
+        &mut self,
+        alloc: Global,
+        from: End,
+        datagram: &Datagram,
+    ) -> Result<(), TapPassError>
         requires few { self.old.judge.fed < 2 ^ 40 }
         requires short { length datagram.now.payload ≤ 65527 }
         ensures finds { (s : TapSides) (side : Way) (passed : List TapDatagram) (d : TapDatagram) → AreApart s → IsReceiving self.old s side passed
             → d.source ≡ side_of s from → IsRecorded s (receiver_of side) d datagram.now
             → FindsTo (ReceiverBreaks s side passed d) (IsReceiving self.new s side (d ∷ passed)) result }
         ensures memory { (s : TapSides) (side : Way) (passed : List TapDatagram) (d : TapDatagram) → IsReceiving self.old s side passed
-            → IsRecorded s (receiver_of side) d datagram.now → result ≡ Err StopKind.Memory
+            → IsRecorded s (receiver_of side) d datagram.now → result ≡ Err TapPassErrorKind.Memory
             → TakesMemory (header_at s side) (kept_between s side passed) (recorded_at s (receiver_of side) d) }
         ensures fed { OnOk result (self.new.judge.fed ≤ self.old.judge.fed + 1) }
     {
@@ -92,7 +102,7 @@ impl<D: Delivered + Drop> Receiving<D> {
             return Ok(());
         }
         if let Err(refusal) = self.judge.feed(alloc, datagram) {
-            return Err(stop_of(refusal));
+            return Err(error_of(refusal));
         }
         if is_server(from) {
             self.answered = true;

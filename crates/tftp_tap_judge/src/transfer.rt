@@ -7,12 +7,12 @@ ghost use Rattle.tftp_tap_judge.specs.TapKept.{IsFirstError, IsTapTransfer};
 ghost use Rattle.tftp_tap_judge.specs.TapSeen.{AreNotes};
 ghost use Rattle.tftp_tap_judge.specs.TapStops.{FindsTo, IsReadUnless, IsRecorded, TakesInTransfer, TransferBreaks};
 ghost use Rattle.tftp_tap_judge.specs.TapVerdict.{IsTapVerdict, said_at_tap, unfinished_by};
-ghost use Rattle.tftp_tap_judge.specs.declared.stop.Stop.{Stop as StopKind};
+ghost use Rattle.tftp_tap_judge.specs.declared.tap_pass_error.TapPassError.{TapPassError as TapPassErrorKind};
 
 use crate::notes::TapNotes;
 use crate::receiving::Receiving;
 use crate::refusal::TapRefusal;
-use crate::stop::{Stop, first_of};
+use crate::tap_pass_error::{TapPassError, first_of};
 use std::alloc::Global;
 use std::marker::Model;
 use tftp_blocks::Delivered;
@@ -57,13 +57,13 @@ impl<D: Delivered + Drop> TapTransfer<D> {
         notes: TapNotes,
         service: u16,
         request: &Datagram,
-    ) -> Result<Self, Stop>
+    ) -> Result<Self, TapPassError>
         requires short { length request.now.payload ≤ 65527 }
         ensures ok { (s : TapSides) (d : TapDatagram) → AreApart s → service ≡ s.asked.port → d.source ≡ s.client
             → Spells d.payload (Message.Request asked) → AreNotes notes s (d ∷ []) → IsRecorded s (receiver_of asked.side) d request.now
             → Passes (header_at s asked.side) [] (recorded_at s (receiver_of asked.side) d) → IfOk result (λ transfer. IsTapTransfer transfer s (d ∷ [])) }
         ensures err { (s : TapSides) (d : TapDatagram) → service ≡ s.asked.port → IsRecorded s (receiver_of asked.side) d request.now
-            → Passes (header_at s asked.side) [] (recorded_at s (receiver_of asked.side) d) → IfErr result (λ stop. stop ≡ StopKind.Memory) }
+            → Passes (header_at s asked.side) [] (recorded_at s (receiver_of asked.side) d) → IfErr result (λ stop. stop ≡ TapPassErrorKind.Memory) }
         ensures fed { IfOk result (λ transfer. transfer.receiving.judge.fed ≡ 1) }
     {
         let receiving = Receiving::begin(alloc, receiver_of_file(asked.side()), service, request)?;
@@ -85,7 +85,12 @@ impl<D: Delivered + Drop> TapTransfer<D> {
 
     /// What the next datagram breaks, which comes from this end of the transfer; where it breaks no rule it is kept. The datagram is
     /// as the end that gets the file would have recorded it.
-    pub fn pass(&mut self, alloc: Global, from: End, datagram: &Datagram) -> Result<(), Stop>
+    pub fn pass(
+        &mut self,
+        alloc: Global,
+        from: End,
+        datagram: &Datagram,
+    ) -> Result<(), TapPassError>
         requires few { self.old.receiving.judge.fed < 2 ^ 40 }
         requires short { length datagram.now.payload ≤ 65527 }
         ensures finds { (s : TapSides) (earlier : List TapDatagram) (d : TapDatagram) → AreApart s → BreaksNoTapRule s earlier
@@ -93,7 +98,7 @@ impl<D: Delivered + Drop> TapTransfer<D> {
             → IsRecorded s (receiver_of self.old.asked.side) d datagram.now
             → FindsTo (TransferBreaks s (transfer_between s earlier) (tap_route s earlier d) d) (IsTapTransfer self.new s (d ∷ transfer_between s earlier)) result }
         ensures memory { (s : TapSides) (passed : List TapDatagram) (d : TapDatagram) → IsTapTransfer self.old s passed
-            → d.source ≡ side_of s from → IsRecorded s (receiver_of self.old.asked.side) d datagram.now → result ≡ Err StopKind.Memory
+            → d.source ≡ side_of s from → IsRecorded s (receiver_of self.old.asked.side) d datagram.now → result ≡ Err TapPassErrorKind.Memory
             → TakesInTransfer s passed d }
         ensures read { (s : TapSides) (passed : List TapDatagram) (d : TapDatagram) → AreApart s → IsTapTransfer self.old s passed
             → d.source ≡ side_of s from → IsRecorded s (receiver_of self.old.asked.side) d datagram.now → IsReadUnless result d.payload }
@@ -108,7 +113,7 @@ impl<D: Delivered + Drop> TapTransfer<D> {
                 keep_first_error(&mut self.first_error, from, packet);
                 Ok(())
             }
-            Err(fault) => Err(Stop::Breaks(Rule::Malformed(*fault))),
+            Err(fault) => Err(TapPassError::Breaks(Rule::Malformed(*fault))),
         }
     }
 

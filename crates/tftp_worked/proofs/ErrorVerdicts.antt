@@ -4,7 +4,7 @@ use Rattle.tftp_packet.specs.{Num, Get}
 use Rattle.tftp_hosts.specs.{Datagram, Header}
 use Rattle.tftp_model.specs.{Meaning, two_bytes, eight_a_block}
 use Rattle.tftp_rules.specs.{NoReply, Plain}
-use Rattle.tftp_law.specs.{IsAborted, By, Local, Peer, IsLawful, IsRefused, Meant, plain_terms, Rule}
+use Rattle.tftp_law.specs.{IsAborted, AbortedBy, Local, Peer, IsLawful, IsRefused, Meant, plain_terms, Rule}
 use Rattle.tftp_law.proofs.Whole.TwoEnds.{whole}
 use Rattle.tftp_judge.specs.{IsVerdict, Unlawful, Aborted}
 use Rattle.tftp_worked.specs.{at_client, acknowledges_hi, says_forbidden, read_refused, read_refused_twice, read_given_up, read_given_up_twice, stopped_at_the_end, stopped_after_the_end, block_after_error, before_late_answer, late_answer}
@@ -16,7 +16,7 @@ use Rattle.tftp_worked.proofs.Unfinished.{no_errors, means_nothing}
 use Rattle.tftp_worked.proofs.ErrorsShown.{refused_lawful, refused_again_lawful, given_up_lawful, given_up_again_lawful, stopped_shown, stopped_after_shown, after_lawful, late_lawful, another_is_unlawful, ack_is_unlawful, late_is_unlawful}
 use Rattle.tftp_worked.proofs.Verdicts.{accepted}
 
-aborted : (h : Header) (ds : List Datagram) (by : By) (code : ℕ) → IsLawful h ds → ((m : Meaning) → Meant h (reverse ds) m → ⊥) → IsAborted h (reverse ds) by code → IsVerdict h ds (Err (Aborted by code))
+aborted : (h : Header) (ds : List Datagram) (by : AbortedBy) (code : ℕ) → IsLawful h ds → ((m : Meaning) → Meant h (reverse ds) m → ⊥) → IsAborted h (reverse ds) by code → IsVerdict h ds (Err (Aborted by code))
 aborted h ds by code lawful nothing first = (lawful, (λ m shown. nothing m ((whole h m ds).1 shown)), first)
 
 -- ---- ended by the server

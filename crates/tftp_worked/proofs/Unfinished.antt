@@ -5,7 +5,7 @@ use Rattle.tftp_packet.specs.{Message, Spells}
 use Rattle.tftp_hosts.specs.{Dir, In, Out, Datagram, Header}
 use Rattle.tftp_model.specs.{Meaning}
 use Rattle.tftp_rules.specs.{transfer_of, Passed, IsReceiver, Terms}
-use Rattle.tftp_law.specs.{IsErrorBy, NoErrorPassed, By, IsWhole, Meant}
+use Rattle.tftp_law.specs.{IsErrorBy, NoErrorPassed, AbortedBy, IsWhole, Meant}
 use Rattle.tftp_law.proofs.Spelled.{spelled_once}
 use Rattle.tftp_worked.proofs.Payloads.{Spelled, datagrams, AllSpelled}
 use Rattle.tftp_worked.proofs.Passing.{main_of, every, every_is, terms_are}
@@ -13,7 +13,7 @@ use Rattle.tftp_worked.proofs.Chains.{Start}
 use Rattle.tftp_worked.proofs.RuleTests.{not_error}
 
 -- what spells something else is no ERROR
-no_error_by : (d : Datagram) (m : Message) → Spells d.payload m → not_error m ≡ true → (by : By) (code : ℕ) → IsErrorBy d by code → ⊥
+no_error_by : (d : Datagram) (m : Message) → Spells d.payload m → not_error m ≡ true → (by : AbortedBy) (code : ℕ) → IsErrorBy d by code → ⊥
 no_error_by d m s t by code e = false≢true (subst (λ x. not_error x ≡ true) (spelled_once d.payload m (Message.Error code e.1) s e.2) t)
 
 abbrev pub none_stops : List Spelled → Bool

@@ -3,7 +3,7 @@ use Rattle.tftp_packet.specs.{Message, Spells, End, Client, Server}
 use Rattle.tftp_model.specs.Roles.{receiver_of}
 use Rattle.tftp_tap.specs.{PeerId, side_of}
 use Rattle.tftp_tap_judge.specs.{BeginsAtTap, IsNoRequest, IsRecorded, passing_of}
-use Rattle.tftp_tap_judge.proofs.KeeperFound.{begun_found, begun_with, client_passes, client_to, first_passes, server_found}
+use Rattle.tftp_tap_judge.proofs.StateFound.{begun_found, begun_with, client_passes, client_to, first_passes, server_found}
 use Rattle.tftp_tap_judge.proofs.keeping.begun.Goals as goal
 
 pub returns-then-eq-clause-finds : goal.returns-then-eq-clause-finds

@@ -1,7 +1,7 @@
 use Rattle.std.proofs.Common.{◌≡◌, List, [], rules, sym, subst}
 use Rattle.tftp_packet.specs.{Message, RequestParts, meaning, Spells, parts, Packet, Client}
 use Rattle.tftp_tap_judge.specs.{IsOtherError}
-use Rattle.tftp_tap_judge.proofs.KeeperFound.{wants_memory}
+use Rattle.tftp_tap_judge.proofs.StateFound.{wants_memory}
 use Rattle.tftp_tap_judge.proofs.keeping.first_request.Goals as goal
 
 pub returns-in_err-asked-clause-breaks : goal.returns-in_err-asked-clause-breaks

@@ -1,4 +1,4 @@
-use Rattle.tftp_law.specs.{By, by_of as by_way, GoesOn}
+use Rattle.tftp_law.specs.{AbortedBy, by_of as by_way, GoesOn}
 use Rattle.std.proofs.Common.{◌≡◌, ℕ, true, false, true≢false, Option, None, Some, sym, subst, ap, ◌∙◌, is_some}
 use Rattle.tftp_packet.specs.{Message}
 use Rattle.tftp_judge.specs.{Errors}
@@ -6,10 +6,10 @@ use Rattle.tftp_judge.proofs.ErrorsNoted.{noted_in, noted_out}
 use Rattle.tftp_judge.proofs.errors.Errors.note.Goals as goal
 use Rattle.tftp_judge.proofs.errors.Errors.note.Goals.{in-Out+in_ok-keep_first-in-Out, in-In+in_ok-keep_first-in-In}
 
-not_some : (first : Option (By × ℕ)) (y : By × ℕ) → first ≡ Some y → is_some first ≡ false → ⊥
+not_some : (first : Option (AbortedBy × ℕ)) (y : AbortedBy × ℕ) → first ≡ Some y → is_some first ≡ false → ⊥
 not_some first y is none = true≢false (sym (ap is_some is) ∙ none)
 
-not_none : (first : Option (By × ℕ)) → first ≡ None → is_some first ≡ true → ⊥
+not_none : (first : Option (AbortedBy × ℕ)) → first ≡ None → is_some first ≡ true → ⊥
 not_none first is some = true≢false (sym some ∙ ap is_some is)
 
 -- src/errors.rt:134:5

@@ -2,7 +2,7 @@ use Rattle.std.proofs.Common.{◌∷◌, Err, refl, sym, subst, ap, ◌∙◌}
 use Rattle.tftp_packet.specs.{RequestParts, OptionMap, map_of}
 use Rattle.tftp_nego.specs.{MayAgree, FirstFault}
 use Rattle.tftp_law.specs.{FirstOackBreaks, Agrees, terms_after}
-use Rattle.tftp_judge.specs.{Finds, Transfer, IsTransferAfter, Stop}
+use Rattle.tftp_judge.specs.{Finds, Transfer, IsTransferAfter, PassError}
 use Rattle.tftp_judge.proofs.MessageFound.{fault_found, none_of_agreed}
 use Rattle.tftp_judge.proofs.StaysAfter.{transfer_agreed}
 use Rattle.tftp_judge.proofs.transfer.Transfer.first_oack.Goals as goal
@@ -10,7 +10,7 @@ use Rattle.tftp_judge.proofs.transfer.Transfer.first_oack.Goals as goal
 pub returns-in-Err-clause-finds : goal.returns-in-Err-clause-finds
 returns-in-Err-clause-finds g c = λ h passed d after spells.
     let asked_is = ap (λ (t : Transfer). t.asked) c.self.view_is in
-    subst (λ (stop : Stop). Finds (FirstOackBreaks c.args.self.now.asked (map_of c.args.oack.now)) (IsTransferAfter c.args.self.now h (d ∷ passed)) (Err stop)) (sym c.stop_of.ensures)
+    subst (λ (stop : PassError). Finds (FirstOackBreaks c.args.self.now.asked (map_of c.args.oack.now)) (IsTransferAfter c.args.self.now h (d ∷ passed)) (Err stop)) (sym c.stop_of.ensures)
     (fault_found c.args.self.now.asked (map_of c.args.oack.now) (IsTransferAfter c.args.self.now h (d ∷ passed)) c.in-Err.fault
     (λ some. subst (λ (asked : RequestParts). FirstFault asked (map_of c.args.oack.now) c.in-Err.fault) asked_is ((c.in-Err.ensures.fault c.in-Err.fault some).0 refl))
     (λ is. let may = c.in-Err.ensures.memory (ap (λ f. Err f) is) in none_of_agreed c.args.self.now.asked (map_of c.args.oack.now) may.0 (subst (λ (asked : RequestParts). MayAgree asked (map_of c.args.oack.now)) asked_is may.1)))
@@ -23,6 +23,6 @@ returns-clause-finds g c = λ h passed d after spells.
       none_of_agreed c.args.self.now.asked (map_of c.args.oack.now)
           (λ e. ok.1 (ok.0 ∙ e))
           (subst (λ (asked : RequestParts). MayAgree asked (map_of c.args.oack.now)) asked_is (subst (λ (o : OptionMap). MayAgree c.self.inside.asked o) ok.0 ok.2)),
-      transfer_agreed _ h passed d (map_of c.args.oack.now) c.of.result c.begin-end.result was (ap (λ (t : Transfer). t.course) c.self.view_is ∙ c.requires) spells (c.of.ensures ∙ ok.0)
+      transfer_agreed _ h passed d (map_of c.args.oack.now) c.of.result c.begin-end.result was (ap (λ (t : Transfer). t.exchange) c.self.view_is ∙ c.requires) spells (c.of.ensures ∙ ok.0)
           (c.begin-end.ensures.terms ∙ c.agreed_terms.ensures.are h (sym was.named) ∙ ap (λ (o : OptionMap). terms_after h c.self.inside.asked (Agrees o)) (sym c.of.ensures)) (c.begin-end.ensures.before passed after.errors),
     )

@@ -5,21 +5,21 @@ use Rattle.tftp_packet.specs.{meaning, Side}
 use Rattle.tftp_ends.specs.{terms_of}
 use Rattle.tftp_rules.specs.{Plain}
 use Rattle.tftp_law.specs.{Begins, plain_terms}
-use Rattle.tftp_judge.specs.{WaitsForReply, Transfer, IsCourse}
+use Rattle.tftp_judge.specs.{WaitsForReply, Transfer, IsExchange}
 use Rattle.tftp_judge.proofs.MessageFound.{finds_rejected}
 use Rattle.tftp_judge.proofs.Replied.{not_started, not_begun, none_broken, has_begun, of_author}
 use Rattle.tftp_judge.proofs.transfer.Transfer.pass_answer.Goals as goal
 
 pub returns-then-waits_for_reply-clause-finds : goal.returns-then-waits_for_reply-clause-finds
 returns-then-waits_for_reply-clause-finds g c = λ h passed d after says right.
-    let kept = subst (IsCourse h c.args.self.now.asked passed) c.requires.unanswered after.course in
+    let kept = subst (IsExchange h c.args.self.now.asked passed) c.requires.unanswered after.exchange in
     let side : c.side.result ≡ c.args.self.now.asked.side = c.side.ensures ∙ ap (λ (t : Transfer). t.asked.side) c.self.view_is in
     not_started h c.args.self.now.asked passed kept.0 kept.1 (meaning c.args.packet.now) c.side.result (sym side) (c.waits_for_reply.ensures.0 c.if-waits_for_reply.true)
 
 pub returns-in_err-pass-clause-finds : goal.returns-in_err-pass-clause-finds
 returns-in_err-pass-clause-finds g c = λ h passed d after says right.
     let asked = c.args.self.now.asked in
-    let kept = subst (IsCourse h asked passed) c.requires.unanswered after.course in
+    let kept = subst (IsExchange h asked passed) c.requires.unanswered after.exchange in
     let side : c.side.result ≡ asked.side = c.side.ensures ∙ ap (λ (t : Transfer). t.asked.side) c.self.view_is in
     let other : WaitsForReply asked.side (meaning c.args.packet.now) → ⊥ =
     λ waits. false≢true (sym c.if-waits_for_reply.false ∙ c.waits_for_reply.ensures.1 (subst (λ (s : Side). WaitsForReply s (meaning c.args.packet.now)) (sym side) waits)) in
@@ -27,13 +27,13 @@ returns-in_err-pass-clause-finds g c = λ h passed d after says right.
     c.begin-end.ensures.terms ∙ c.plain_terms.ensures.are h (sym after.named ∙ sym (ap (λ (t : Transfer). t.named) c.self.view_is))
     ∙ ap (λ (s : Side). plain_terms h s Plain) (c.side-2.ensures ∙ ap (λ (t : Transfer). t.asked.side) c.self.view_is) in
     finds_rejected _ _ c.in_err-pass.field-0.0 c.from_residual.result (err_from_is_err_and c.from_residual.result c.from_residual.ensures.1)
-    (not_begun h asked passed kept.0 kept.1 (meaning c.args.packet.now) c.requires.kind other (terms_of c.begin-end.result) terms (IsCourse h asked (d ∷ passed) c.args.self.now.course) c.in_err-pass.field-0.0
+    (not_begun h asked passed kept.0 kept.1 (meaning c.args.packet.now) c.requires.kind other (terms_of c.begin-end.result) terms (IsExchange h asked (d ∷ passed) c.args.self.now.exchange) c.in_err-pass.field-0.0
     (c.in_err-pass.ensures.found passed (c.begin-end.ensures.before passed after.errors kept.1)))
 
 pub returns-clause-finds : goal.returns-clause-finds
 returns-clause-finds g c = λ h passed d after says right.
     let asked = c.args.self.now.asked in
-    let kept = subst (IsCourse h asked passed) c.requires.unanswered after.course in
+    let kept = subst (IsExchange h asked passed) c.requires.unanswered after.exchange in
     let side : c.side.result ≡ asked.side = c.side.ensures ∙ ap (λ (t : Transfer). t.asked.side) c.self.view_is in
     let other : WaitsForReply asked.side (meaning c.args.packet.now) → ⊥ =
     λ waits. false≢true (sym c.if-waits_for_reply.false ∙ c.waits_for_reply.ensures.1 (subst (λ (s : Side). WaitsForReply s (meaning c.args.packet.now)) (sym side) waits)) in

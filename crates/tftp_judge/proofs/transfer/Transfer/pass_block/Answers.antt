@@ -1,7 +1,7 @@
 use Rattle.std.proofs.Common.{◌≡◌, ◌∷◌, Err, ◌∙◌, subst, rules}
 use Rattle.tftp_packet.specs.{meaning}
 use Rattle.tftp_law.specs.{TermsBreak}
-use Rattle.tftp_judge.specs.{Finds, IsCourse, IsTransferAfter}
+use Rattle.tftp_judge.specs.{Finds, IsExchange, IsTransferAfter}
 use Rattle.tftp_judge.proofs.MessageFound.{finds_stop}
 use Rattle.tftp_judge.proofs.StaysAfter.{transfer_kept}
 use Rattle.tftp_judge.proofs.transfer.Transfer.pass_block.Goals as goal
@@ -10,7 +10,7 @@ pub returns-in_err-keep_block-clause-finds : goal.returns-in_err-keep_block-clau
 returns-in_err-keep_block-clause-finds g c = λ h passed d after says right.
     let same : Err c.in_err-keep_block.field-0.0 ≡ c.from_residual.result = search rules in
     subst (Finds (TermsBreak h c.args.self.now.asked passed (meaning c.args.packet.now)) (IsTransferAfter c.keep_block.new.self h (d ∷ passed))) same
-    (finds_stop (TermsBreak h c.args.self.now.asked passed (meaning c.args.packet.now)) (IsCourse h c.args.self.now.asked (d ∷ passed) c.keep_block.new.self.course) (IsTransferAfter c.keep_block.new.self h (d ∷ passed)) c.in_err-keep_block.field-0.0 (c.in_err-keep_block.ensures.finds h passed d after says right))
+    (finds_stop (TermsBreak h c.args.self.now.asked passed (meaning c.args.packet.now)) (IsExchange h c.args.self.now.asked (d ∷ passed) c.keep_block.new.self.exchange) (IsTransferAfter c.keep_block.new.self h (d ∷ passed)) c.in_err-keep_block.field-0.0 (c.in_err-keep_block.ensures.finds h passed d after says right))
 
 pub returns-clause-finds : goal.returns-clause-finds
 returns-clause-finds g c = λ h passed d after says right.

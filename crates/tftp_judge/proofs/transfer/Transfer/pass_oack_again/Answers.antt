@@ -23,7 +23,7 @@ pub returns-then-ne-clause-finds : goal.returns-then-ne-clause-finds
 returns-then-ne-clause-finds g c = λ h passed d given after agreed says.
     let t = c.args.self.now in
     let server = other g (goal.at.returns-then-ne-clause-finds g c).Else-eq h passed after in
-    let first = agreed_first h t.asked passed t.course given agreed after.course in
+    let first = agreed_first h t.asked passed t.exchange given agreed after.exchange in
     let not_out : c.args.dir ≡ Out → ⊥ = λ out. true≢false (rw out at c.if-ne.ensures) in (
       oack_again_passes h t.asked passed c.args.dir given server first (oack_again_goes h t.asked passed c.args.dir given server (λ out stop. not_out out)) (λ late. not_out late.0),
       transfer_with_oack_again t h passed d given agreed after says.1,
@@ -40,7 +40,7 @@ returns-then-late_oack-clause-finds g c = λ h passed d given after agreed says.
     let t = c.args.self.now in
     let at = (goal.at.returns-then-late_oack-clause-finds g c).Else-eq in
     let server = other g at h passed after in
-    let first = agreed_first h t.asked passed t.course given agreed after.course in
+    let first = agreed_first h t.asked passed t.exchange given agreed after.exchange in
     let stays = oack_again_goes h t.asked passed c.args.dir given server (λ out stop. false≢true (sym c.if-has_stopped.false ∙ (c.has_gone_out-has_stopped.ensures passed (errors g at h passed after)).1 stop)) in
     oack_again_late h t.asked passed c.args.dir given server first stays ((c.late_oack.ensures h passed after).0 c.if-late_oack.true)
 
@@ -49,7 +49,7 @@ returns-clause-finds g c = λ h passed d given after agreed says.
     let t = c.args.self.now in
     let at = (goal.at.returns-clause-finds g c).Else-eq in
     let server = other g at h passed after in
-    let first = agreed_first h t.asked passed t.course given agreed after.course in
+    let first = agreed_first h t.asked passed t.exchange given agreed after.exchange in
     let stays = oack_again_goes h t.asked passed c.args.dir given server (λ out stop. false≢true (sym c.if-has_stopped.false ∙ (c.has_gone_out-has_stopped.ensures passed (errors g at h passed after)).1 stop)) in (
       oack_again_passes h t.asked passed c.args.dir given server first stays (λ late. false≢true (sym c.if-late_oack.false ∙ (c.late_oack.ensures h passed after).1 late)),
       transfer_with_oack_again t h passed d given agreed after says.1,

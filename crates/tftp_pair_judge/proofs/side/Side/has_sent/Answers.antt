@@ -8,4 +8,4 @@ use Rattle.tftp_pair_judge.proofs.side.Side.has_sent.Goals as goal
 pub returns-in-Ok : goal.returns-in-Ok
 returns-in-Ok g c = λ h read after.
     payload_sent c.args.self.now h read after c.args.payload.now (meaning c.in-Ok.packet) c.in-Ok.ensures.found c.has_sent.result
-    (subst (λ (s : Side). IsTrue c.has_sent.result ↔ HasSentIn s.judge.keeper.transfer (flags_of s.acks) (meaning c.in-Ok.packet)) c.self.view_is c.has_sent.ensures)
+    (subst (λ (s : Side). IsTrue c.has_sent.result ↔ HasSentIn s.judge.state.transfer (flags_of s.acks) (meaning c.in-Ok.packet)) c.self.view_is c.has_sent.ensures)

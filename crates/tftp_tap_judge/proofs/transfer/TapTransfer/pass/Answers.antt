@@ -3,9 +3,9 @@ use Rattle.std.proofs.lemmas.Result.{err_from_is_err_and}
 use Rattle.tftp_packet.specs.{RequestParts, meaning}
 use Rattle.tftp_model.specs.Roles.{receiver_of}
 use Rattle.tftp_tap.specs.{TapDatagram, TapSides, AreApart, side_of, is_passing, tap_route, transfer_between, BreaksNoTapRule, Request}
-use Rattle.tftp_tap_judge.specs.{IsReadOf, IsReceiving, IsTapTransfer, TapTransfer, FindsTo, IsReadUnless, IsRecorded, TransferBreaks, Stop}
-use Rattle.tftp_tap_judge.specs.declared.stop.Stop.TheVariants.{Memory}
-use Rattle.tftp_tap_judge.proofs.KeeperFound.{none_there}
+use Rattle.tftp_tap_judge.specs.{IsReadOf, IsReceiving, IsTapTransfer, TapTransfer, FindsTo, IsReadUnless, IsRecorded, TransferBreaks, TapPassError}
+use Rattle.tftp_tap_judge.specs.declared.tap_pass_error.TapPassError.TheVariants.{Memory}
+use Rattle.tftp_tap_judge.proofs.StateFound.{none_there}
 use Rattle.tftp_tap_judge.proofs.Receivings.{recorded_same}
 use Rattle.tftp_tap_judge.proofs.TransferFound.{answer_read, asked_stays, found_err, memory_smaller, no_fault_in, no_other_error, read_of, reads_in, transfer_found}
 use Rattle.tftp_tap_judge.proofs.transfer.TapTransfer.pass.Given.{Over}
@@ -72,7 +72,7 @@ returns-in_err-first_of-clause-read g c = λ s passed d apart is source recorded
     let was : c.first_of.result ≡ Err c.in_err-first_of.field-0.0 = search rules in
     let same : Err c.in_err-first_of.field-0.0 ≡ c.from_residual.result = search rules in
     let read = read_is g at s d recorded in
-    subst (λ (r : Result (Unit {0}) Stop). IsReadUnless r d.payload) (sym c.first_of.ensures ∙ was ∙ same)
+    subst (λ (r : Result (Unit {0}) TapPassError). IsReadUnless r d.payload) (sym c.first_of.ensures ∙ was ∙ same)
     (answer_read s passed Request d c.breaks-own.result c.pass.result c.read_packet-read.result read (c.breaks-own.ensures s passed Request d kept.notes apart kept.asked source read))
 
 pub returns-in_err-note-in-Ok-clause-finds : goal.returns-in_err-note-in-Ok-clause-finds
@@ -95,7 +95,7 @@ pub returns-in_err-note-in-Ok-clause-read : goal.returns-in_err-note-in-Ok-claus
 returns-in_err-note-in-Ok-clause-read g c = λ s passed d apart is source recorded.
     let at = (goal.at.returns-in_err-note-in-Ok-clause-read g c).After-first_of in
     let p = err_from_is_err_and c.from_residual-in_err-note-in-Ok.result c.from_residual-in_err-note-in-Ok.ensures.1 in
-    subst (λ (r : Result (Unit {0}) Stop). IsReadUnless r d.payload) (sym (p.1 ∙ ap Err p.2)) (meaning c.in-Ok.packet, subst (IsReadOf d.payload) c.in-Ok.is (read_is g at s d recorded))
+    subst (λ (r : Result (Unit {0}) TapPassError). IsReadUnless r d.payload) (sym (p.1 ∙ ap Err p.2)) (meaning c.in-Ok.packet, subst (IsReadOf d.payload) c.in-Ok.is (read_is g at s d recorded))
 
 pub returns-in_ok-note-in-Ok-clause-finds : goal.returns-in_ok-note-in-Ok-clause-finds
 returns-in_ok-note-in-Ok-clause-finds g c = λ s earlier d apart lawful is source passing recorded.

@@ -4,15 +4,15 @@ ghost use Rattle.tftp_hosts.specs.{Datagram, Header};
 ghost use Rattle.tftp_rules.specs.{author_of};
 ghost use Rattle.tftp_ends.specs.{IsBlockOrAck, Says};
 ghost use Rattle.tftp_law.specs.{TermsBreak, IsError, IsWrongKind};
-ghost use Rattle.tftp_judge.specs.Courses.{HasAnswer, IsNewBlockOn};
+ghost use Rattle.tftp_judge.specs.Exchanges.{HasAnswer, IsNewBlockOn};
 ghost use Rattle.tftp_judge.specs.Found.{Finds};
-ghost use Rattle.tftp_judge.specs.Kept.{IsCourse};
-ghost use Rattle.tftp_judge.specs.KeptCode.{course_of};
+ghost use Rattle.tftp_judge.specs.Kept.{IsExchange};
+ghost use Rattle.tftp_judge.specs.KeptCode.{exchange_of};
 ghost use Rattle.tftp_judge.specs.SentByKept.{HasAgreed, HasBlock, IsAgreedBy};
-ghost use Rattle.tftp_judge.specs.declared.stop.Stop.{Stop as StopKind};
+ghost use Rattle.tftp_judge.specs.declared.pass_error.PassError.{PassError as PassErrorKind};
 
 use crate::first_oack::FirstOack;
-use crate::stop::Stop;
+use crate::pass_error::PassError;
 use std::alloc::Global;
 use tftp_blocks::Delivered;
 use tftp_ends::NamedEnd;
@@ -21,7 +21,7 @@ use tftp_packet::{OptionsView, Packet, same_options};
 
 /// How the request was answered, and the named end that began with the answer (RFC 1350, section 4; RFC 2347).
 #[derive(Drop)]
-pub enum Course<D: Delivered + Drop> {
+pub enum Exchange<D: Delivered + Drop> {
     /// Not yet.
     Unanswered,
     /// By a block or an ACK 0, and so with nothing agreed.
@@ -30,45 +30,45 @@ pub enum Course<D: Delivered + Drop> {
     Agreed(FirstOack, NamedEnd<D>),
 }
 
-impl<D: Delivered + Drop> Course<D> {
+impl<D: Delivered + Drop> Exchange<D> {
     /// Keeps a packet that passes this way, or tells the first rule that it breaks. Memory is taken for a block that is not
     /// held alone. Before the request is answered only an ERROR comes here, which changes nothing.
-    pub fn pass(&mut self, alloc: Global, dir: Dir, packet: &Packet<'_>) -> Result<(), Stop>
-        ensures finds { (h : Header) (asked : RequestParts) (passed : List Datagram) → HasAnswer (course_of self.old)
-            → IsCourse h asked passed (course_of self.old) → Finds (TermsBreak h asked passed (meaning packet.now)) (Unit {0}) result }
+    pub fn pass(&mut self, alloc: Global, dir: Dir, packet: &Packet<'_>) -> Result<(), PassError>
+        ensures finds { (h : Header) (asked : RequestParts) (passed : List Datagram) → HasAnswer (exchange_of self.old)
+            → IsExchange h asked passed (exchange_of self.old) → Finds (TermsBreak h asked passed (meaning packet.now)) (Unit {0}) result }
         ensures ok { (h : Header) (asked : RequestParts) (passed : List Datagram) (d : Datagram)
-            → IsCourse h asked passed (course_of self.old) → Says d dir (meaning packet.now)
+            → IsExchange h asked passed (exchange_of self.old) → Says d dir (meaning packet.now)
             → (IsWrongKind (author_of h.named dir) asked.side (meaning packet.now) → ⊥)
-            → HasAnswer (course_of self.old) ⊎ IsError (meaning packet.now) → OnOk result (IsCourse h asked (d ∷ passed) (course_of self.new)) }
-        ensures memory { result ≡ Err StopKind.Memory → IsNewBlockOn (course_of self.old) (meaning packet.now) }
+            → HasAnswer (exchange_of self.old) ⊎ IsError (meaning packet.now) → OnOk result (IsExchange h asked (d ∷ passed) (exchange_of self.new)) }
+        ensures memory { result ≡ Err PassErrorKind.Memory → IsNewBlockOn (exchange_of self.old) (meaning packet.now) }
         ensures others { OnErr result (IsBlockOrAck (meaning packet.now)) }
-        ensures err { OnErr result (course_of self.new ≡ course_of self.old) }
+        ensures err { OnErr result (exchange_of self.new ≡ exchange_of self.old) }
     {
         match self {
-            Course::Unanswered => Ok(()),
-            Course::Begun(end) => Ok(end.pass(alloc, dir, packet)?),
-            Course::Agreed(_, end) => Ok(end.pass(alloc, dir, packet)?),
+            Exchange::Unanswered => Ok(()),
+            Exchange::Begun(end) => Ok(end.pass(alloc, dir, packet)?),
+            Exchange::Agreed(_, end) => Ok(end.pass(alloc, dir, packet)?),
         }
     }
 
     /// Whether the server agreed to these options, by an OACK (RFC 2347).
     pub fn has_agreed(&self, oack: &OptionsView<'_>) -> bool
-        ensures { IsTrue result ↔ HasAgreed (course_of self.now) (map_of oack.now) }
+        ensures { IsTrue result ↔ HasAgreed (exchange_of self.now) (map_of oack.now) }
     {
         match self {
-            Course::Unanswered => false,
-            Course::Begun(_) => false,
-            Course::Agreed(first, _) => same_options(first.agreed().options(), oack),
+            Exchange::Unanswered => false,
+            Exchange::Begun(_) => false,
+            Exchange::Agreed(first, _) => same_options(first.agreed().options(), oack),
         }
     }
 
     /// Whether the first OACK had these bytes. Where its bytes were not kept it is not known by them.
     #[inline]
     pub fn has_agreed_by(&self, payload: &[u8]) -> bool
-        ensures { IsTrue result → IsAgreedBy (course_of self.now) payload.now }
+        ensures { IsTrue result → IsAgreedBy (exchange_of self.now) payload.now }
     {
         match self {
-            Course::Agreed(first, _) => first.has_bytes(payload),
+            Exchange::Agreed(first, _) => first.has_bytes(payload),
             _ => false,
         }
     }
@@ -76,9 +76,9 @@ impl<D: Delivered + Drop> Course<D> {
     /// Keeps the bytes of an OACK that has passed, unless some are kept.
     pub fn keep_oack(&mut self, alloc: Global, oack: &OptionsView<'_>, payload: &[u8])
         requires { Spells payload.now (Message.Oack (map_of oack.now)) }
-        ensures { course_of self.new ≡ course_of self.old }
+        ensures { exchange_of self.new ≡ exchange_of self.old }
     {
-        if let Course::Agreed(first, _) = self {
+        if let Exchange::Agreed(first, _) = self {
             if !first.has_kept() && same_options(first.agreed().options(), oack) {
                 first.keep(alloc, payload);
             }
@@ -87,12 +87,12 @@ impl<D: Delivered + Drop> Course<D> {
 
     /// Whether the named end has sent this block, with these bytes (RFC 1350, section 2).
     pub fn has_sent(&self, number: u16, bytes: &[u8]) -> bool
-        ensures { IsTrue result ↔ HasBlock (course_of self.now) number bytes.now }
+        ensures { IsTrue result ↔ HasBlock (exchange_of self.now) number bytes.now }
     {
         match self {
-            Course::Unanswered => false,
-            Course::Begun(end) => end.has_sent(number, bytes),
-            Course::Agreed(_, end) => end.has_sent(number, bytes),
+            Exchange::Unanswered => false,
+            Exchange::Begun(end) => end.has_sent(number, bytes),
+            Exchange::Agreed(_, end) => end.has_sent(number, bytes),
         }
     }
 }

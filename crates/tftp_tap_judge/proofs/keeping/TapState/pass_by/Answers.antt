@@ -2,8 +2,8 @@ use Rattle.std.proofs.Common.{◌≡◌, List, true, inl, inr, sym, subst, ap, �
 use Rattle.tftp_packet.specs.{Message, Spells}
 use Rattle.tftp_tap.specs.{is_passing, tap_route}
 use Rattle.tftp_tap_judge.specs.{passing_of}
-use Rattle.tftp_tap_judge.proofs.KeeperFound.{answer_found, is_from_client, is_from_server, main_found, source_client, source_server}
-use Rattle.tftp_tap_judge.proofs.keeping.TapKeeper.pass_by.Goals as goal
+use Rattle.tftp_tap_judge.proofs.StateFound.{answer_found, is_from_client, is_from_server, main_found, source_client, source_server}
+use Rattle.tftp_tap_judge.proofs.keeping.TapState.pass_by.Goals as goal
 
 pub returns-in-Request-clause-finds : goal.returns-in-Request-clause-finds
 returns-in-Request-clause-finds g c = λ s earlier apart lawful kept is.

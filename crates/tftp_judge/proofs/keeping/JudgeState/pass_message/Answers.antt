@@ -2,16 +2,16 @@ use Rattle.std.proofs.Common.{◌≡◌, true, List, ◌∷◌, Option, Some, re
 use Rattle.std.proofs.lemmas.Slice.Eq.{bytes_eq-Decides}
 use Rattle.tftp_packet.specs.{Message, Spells}
 use Rattle.tftp_rules.specs.{route_of, is_of_transfer, transfer_of}
-use Rattle.tftp_judge.specs.{FindsOf, AreBytesOf, Keeper, Transfer, IsKept}
+use Rattle.tftp_judge.specs.{FindsOf, AreBytesOf, JudgeState, Transfer, IsKept}
 use Rattle.tftp_judge.proofs.Accepting.{message_found}
-use Rattle.tftp_judge.proofs.keeping.Keeper.pass_message.Goals as goal
+use Rattle.tftp_judge.proofs.keeping.JudgeState.pass_message.Goals as goal
 
 pub returns-then-eq-clause-finds : goal.returns-then-eq-clause-finds
 returns-then-eq-clause-finds g c = λ h earlier d at one kept is on dir payload.
     let t = c.in-Some.transfer in
     let m = Message.Request t.asked in
     let routed : is_of_transfer (route_of h earlier d) ≡ true = ap is_of_transfer (sym is) ∙ on in
-    let there : c.args.self.now.transfer ≡ Some t = sym (ap (λ (k : Keeper). k.transfer) c.self.view_is) ∙ c.in-Some.is in
+    let there : c.args.self.now.transfer ≡ Some t = sym (ap (λ (k : JudgeState). k.transfer) c.self.view_is) ∙ c.in-Some.is in
     let same : c.args.payload.now ≡ c.self.inside.asked = (bytes_eq-Decides c.args.payload.now c.as_slice.result.now).0 (sym c.if-eq.ensures) ∙ c.as_slice.ensures in
     let bytes : Spells c.self.inside.asked m = subst (AreBytesOf c.self.inside.asked) c.in-Some.is c.self.invariant in
     let spells : Spells d.payload m = subst (λ (bytes : List _). Spells bytes m) (sym (payload ∙ same)) bytes in
@@ -25,7 +25,7 @@ returns-then-has_agreed_by-clause-finds g c = λ h earlier d at one kept is on d
     let (given, agreed, bytes) = c.has_agreed_by.ensures c.if-has_agreed_by.true in
     let m = Message.Oack given in
     let routed : is_of_transfer (route_of h earlier d) ≡ true = ap is_of_transfer (sym is) ∙ on in
-    let there : c.args.self.now.transfer ≡ Some t = sym (ap (λ (k : Keeper). k.transfer) c.self.view_is) ∙ c.in-Some.is in
+    let there : c.args.self.now.transfer ≡ Some t = sym (ap (λ (k : JudgeState). k.transfer) c.self.view_is) ∙ c.in-Some.is in
     let spells : Spells d.payload m = subst (λ (bytes : List _). Spells bytes m) (sym payload) bytes in
     let kept_now : IsKept h earlier (Some t) = subst (λ (o : Option Transfer). IsKept h earlier o) there kept in
     subst (λ (o : Option Transfer). FindsOf h earlier d (IsKept h (d ∷ earlier) o) c.pass_oack_again.result) (sym there)

@@ -1,7 +1,7 @@
 use Rattle.std.proofs.Common.{◌≡◌, [], ◌∷◌, refl, rules, sym, subst, ap, ◌∙◌}
 use Rattle.tftp_packet.specs.{Message, RequestParts, Spells, parts}
-use Rattle.tftp_judge.specs.{IsTransferAfter, Keeper, Transfer}
-use Rattle.tftp_judge.proofs.keeping.Keeper.begin.Goals as goal
+use Rattle.tftp_judge.specs.{IsTransferAfter, JudgeState, Transfer}
+use Rattle.tftp_judge.proofs.keeping.JudgeState.begin.Goals as goal
 
 pub returns-clause-begins : goal.returns-clause-begins
 returns-clause-begins g c =
@@ -12,5 +12,5 @@ returns-clause-begins g c =
       refl,
       asked ∙ own,
       λ h d named spells. subst (λ (t : Transfer). IsTransferAfter t h (d ∷ [])) (sym is)
-          (c.of-2.ensures.after h d (named ∙ sym (ap (λ (k : Keeper). k.header.named) c.self.view_is)) (subst (λ (r : RequestParts). Spells d.payload (Message.Request r)) asked spells)),
+          (c.of-2.ensures.after h d (named ∙ sym (ap (λ (k : JudgeState). k.header.named) c.self.view_is)) (subst (λ (r : RequestParts). Spells d.payload (Message.Request r)) asked spells)),
     )

@@ -5,16 +5,16 @@ use Rattle.tftp_capture.specs.{datagram_of, header_of}
 use Rattle.tftp_hosts.specs.{Datagram, Header}
 use Rattle.tftp_ends.specs.{KnownIds, StandsFor, HasNumbers, among_all}
 use Rattle.tftp_rules.specs.{is_of_transfer}
-use Rattle.tftp_judge.specs.{FindsOf, Stop, HasKept, Keeper}
-use Rattle.tftp_judge.proofs.Accepting.{Routed, fault_found, keeper_found, routed_by, stray_first, stray_found}
-use Rattle.tftp_judge.proofs.keeping.Keeper.pass.Given.{Over}
-use Rattle.tftp_judge.proofs.keeping.Keeper.pass.Goals as goal
-use Rattle.tftp_judge.proofs.keeping.Keeper.pass.Goals.{then-says_unknown_id, else-says_unknown_id, After-opcode, In-Ok}
+use Rattle.tftp_judge.specs.{FindsOf, PassError, HasKept, JudgeState}
+use Rattle.tftp_judge.proofs.Accepting.{Routed, fault_found, state_found, routed_by, stray_first, stray_found}
+use Rattle.tftp_judge.proofs.keeping.JudgeState.pass.Given.{Over}
+use Rattle.tftp_judge.proofs.keeping.JudgeState.pass.Goals as goal
+use Rattle.tftp_judge.proofs.keeping.JudgeState.pass.Goals.{then-says_unknown_id, else-says_unknown_id, After-opcode, In-Ok}
 
 -- what is kept, by the fields
 known : (g : Over) (c : After-opcode g) (h : Header) (earlier : List Datagram) → HasKept c.args.self.now h earlier
     → HasKept (record { header = header_of c.self.inside.header; ports = c.self.inside.ports; transfer = c.self.inside.transfer; of_transfer = c.self.inside.of_transfer }) h earlier
-known g c h earlier has = subst (λ (k : Keeper). HasKept k h earlier) (sym c.self.view_is) has
+known g c h earlier has = subst (λ (k : JudgeState). HasKept k h earlier) (sym c.self.view_is) has
 
 numbers : (g : Over) (c : After-opcode g) → HasNumbers (datagram_of c.args.datagram.now) c.args.datagram.now.dir c.args.datagram.now.local_port c.args.datagram.now.remote_host c.args.datagram.now.remote_port c.opcode.result
 numbers g c = record { dir = refl; local = refl; host = refl; remote = refl; opcode = sym (c.opcode.ensures ∙ ap opcode_of c.as_slice-payload.ensures) }
@@ -32,7 +32,7 @@ returns-in-Request-clause-finds g c h earlier lawful has =
     let at = known g (goal.at.returns-in-Request-clause-finds g c).After-opcode h earlier has in
     let by_ports = routed g (goal.at.returns-in-Request-clause-finds g c).In-Ok h earlier at.ports (numbers g (goal.at.returns-in-Request-clause-finds g c).After-opcode) in
     let on : is_of_transfer (among_all c.in-Ok.route) ≡ true = elim c.in-Request.is [ inl is ↦ ap (λ r. is_of_transfer (among_all r)) is | inr is ↦ ap (λ r. is_of_transfer (among_all r)) is ] in
-    keeper_found h earlier d c.pass_message.new.self (c.pass_message.ensures.header ∙ at.header) (λ passes. subst (λ (ids : KnownIds). StandsFor ids h (d ∷ earlier)) (sym c.pass_message.ensures.ports) (by_ports.ports passes)) c.pass_message.result
+    state_found h earlier d c.pass_message.new.self (c.pass_message.ensures.header ∙ at.header) (λ passes. subst (λ (ids : KnownIds). StandsFor ids h (d ∷ earlier)) (sym c.pass_message.ensures.ports) (by_ports.ports passes)) c.pass_message.result
     (c.pass_message.ensures.finds h earlier d at.header lawful at.kept (sym by_ports.is) on refl (sym c.as_slice-payload.ensures))
 
 pub returns-after-says_unknown_id-clause-finds : goal.returns-after-says_unknown_id-clause-finds
@@ -60,5 +60,5 @@ returns-in-Err-clause-finds g c h earlier lawful has =
     let d = datagram_of c.args.datagram.now in
     let stands = (known g (goal.at.returns-in-Err-clause-finds g c).After-opcode h earlier has).ports in
     let numbered = numbers g (goal.at.returns-in-Err-clause-finds g c).After-opcode in
-    (subst (λ (stop : Stop). FindsOf h earlier d (Unit {0}) (Err stop)) (sym c.stop_of_port.ensures)
+    (subst (λ (stop : PassError). FindsOf h earlier d (Unit {0}) (Err stop)) (sym c.error_of_port.ensures)
     (fault_found h earlier d (Unit {0}) c.class.result c.in-Err.fault c.in-Err.is (c.class.ensures.answer h earlier d stands numbered) (c.class.ensures.memory h earlier d stands numbered)))

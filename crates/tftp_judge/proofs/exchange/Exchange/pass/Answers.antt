@@ -3,7 +3,7 @@ use Rattle.tftp_packet.specs.{meaning}
 use Rattle.tftp_law.specs.{Agrees, Begins}
 use Rattle.tftp_judge.proofs.MessageFound.{finds_rejected}
 use Rattle.tftp_judge.proofs.Replied.{begun_lawful, begun_refused}
-use Rattle.tftp_judge.proofs.course.Course.pass.Goals as goal
+use Rattle.tftp_judge.proofs.exchange.Exchange.pass.Goals as goal
 
 pub returns-in_err-pass-in-Begun-clause-finds : goal.returns-in_err-pass-in-Begun-clause-finds
 returns-in_err-pass-in-Begun-clause-finds g c = λ h asked passed answered kept.

@@ -9,34 +9,34 @@ use tftp_rules::EndRule;
 
 /// Why a datagram does not pass.
 #[derive(Clone, Copy, Debug, PartialEq, Eq)]
-pub enum Stop {
+pub enum PassError {
     /// The first rule that it breaks.
     Broken(Rule),
     /// A growth was refused.
     Memory,
 }
 
-impl From<AllocError> for Stop {
+impl From<AllocError> for PassError {
     ghost use Rattle.std.specs.Prelude.{◌≡◌};
-    ghost use Rattle.tftp_judge.specs.declared.stop.Stop.{Stop};
+    ghost use Rattle.tftp_judge.specs.declared.pass_error.PassError.{PassError};
 
-    ghost from_gives = { λ _ stop. stop ≡ Stop.Memory };
+    ghost from_gives = { λ _ stop. stop ≡ PassError.Memory };
 
     fn from(_error: AllocError) -> Self {
-        Stop::Memory
+        PassError::Memory
     }
 }
 
-impl From<Rejection> for Stop {
+impl From<Rejection> for PassError {
     ghost use Rattle.std.specs.Prelude.{◌≡◌};
-    ghost use Rattle.tftp_judge.specs.Found.{stop_of_rejection};
+    ghost use Rattle.tftp_judge.specs.Found.{error_of_rejection};
 
-    ghost from_gives = { λ rejection stop. stop ≡ stop_of_rejection rejection };
+    ghost from_gives = { λ rejection stop. stop ≡ error_of_rejection rejection };
 
     fn from(rejection: Rejection) -> Self {
         match rejection {
-            Rejection::Broken(rule) => Stop::Broken(rule_of_end(rule)),
-            Rejection::Memory => Stop::Memory,
+            Rejection::Broken(rule) => PassError::Broken(rule_of_end(rule)),
+            Rejection::Memory => PassError::Memory,
         }
     }
 }

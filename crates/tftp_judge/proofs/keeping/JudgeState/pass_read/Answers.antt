@@ -5,28 +5,28 @@ use Rattle.tftp_hosts.specs.{Datagram, Header}
 use Rattle.tftp_rules.specs.{Route, route_of, is_of_transfer, transfer_of}
 use Rattle.tftp_ends.specs.declared.route.Route.TheVariants as may
 use Rattle.tftp_law.specs.{OneEnded, Passes}
-use Rattle.tftp_judge.specs.{FindsOf, Keeper, Transfer, IsKept, IsTransferAfter, IsNew}
-use Rattle.tftp_judge.specs.declared.stop.Stop.{Stop}
+use Rattle.tftp_judge.specs.{FindsOf, JudgeState, Transfer, IsKept, IsTransferAfter, IsNew}
+use Rattle.tftp_judge.specs.declared.pass_error.PassError.{PassError}
 use Rattle.tftp_judge.proofs.Accepting.{first_passes, message_found, peer_is, request_found}
-use Rattle.tftp_judge.proofs.keeping.Keeper.pass_read.Goals as goal
-use Rattle.tftp_judge.proofs.keeping.Keeper.pass_read.Goals.{else-is_none-via-then-is_none+else-eq, else-is_none-via-else-is_none}
+use Rattle.tftp_judge.proofs.keeping.JudgeState.pass_read.Goals as goal
+use Rattle.tftp_judge.proofs.keeping.JudgeState.pass_read.Goals.{else-is_none-via-then-is_none+else-eq, else-is_none-via-else-is_none}
 
 -- what is found of the first request, by whether there was memory for it
-began : (h : Header) (earlier : List Datagram) (d : Datagram) (named : End) (asked : RequestParts) (after : Option Transfer) (r : Result (Unit {0}) Stop) → h.named ≡ named → OneEnded h earlier → earlier ≡ []
+began : (h : Header) (earlier : List Datagram) (d : Datagram) (named : End) (asked : RequestParts) (after : Option Transfer) (r : Result (Unit {0}) PassError) → h.named ≡ named → OneEnded h earlier → earlier ≡ []
     → is_of_transfer (route_of h earlier d) ≡ true → (route_of h earlier d ≡ Route.Peer → ⊥) → Spells d.payload (Message.Request asked)
     → OnOk r ((t : Transfer) × (after ≡ Some t) × (t.asked ≡ asked) × ((i : Header) (e : Datagram) → i.named ≡ named → Spells e.payload (Message.Request t.asked) → IsTransferAfter t i (e ∷ [])))
-    → IfErr r (λ stop. stop ≡ Stop.Memory) → FindsOf h earlier d (IsKept h (d ∷ earlier) after) r
+    → IfErr r (λ stop. stop ≡ PassError.Memory) → FindsOf h earlier d (IsKept h (d ∷ earlier) after) r
 began h earlier d named asked after (Ok _) at one none on other spells (t, is, same, begins) wanting =
     let said : Spells d.payload (Message.Request t.asked) = subst (λ (r : RequestParts). Spells d.payload (Message.Request r)) (sym same) spells in
     subst (λ (o : Option Transfer). Passes h earlier d × IsKept h (d ∷ earlier) o) (sym is) (request_found h earlier d t one none on other said (begins h d at said))
 began h earlier d named asked after (Err stop) at one none on other spells begins wanting =
-    subst (λ (s : Stop). FindsOf h earlier d (IsKept h (d ∷ earlier) after) (Err s)) (sym wanting) (first_passes h earlier d (Message.Request asked) none on other spells one)
+    subst (λ (s : PassError). FindsOf h earlier d (IsKept h (d ∷ earlier) after) (Err s)) (sym wanting) (first_passes h earlier d (Message.Request asked) none on other spells one)
 
 pub returns-in_err-pass-clause-finds : goal.returns-in_err-pass-clause-finds
 returns-in_err-pass-clause-finds g c = λ h earlier d at one kept is on dir payload.
     let routed : is_of_transfer (route_of h earlier d) ≡ true = ap is_of_transfer (sym is) ∙ on in
     let spells : Spells d.payload (meaning c.in-Ok.packet) = subst (λ (bytes : List _). Spells bytes (meaning c.in-Ok.packet)) (sym payload) c.in-Ok.ensures.found in
-    let there : c.args.self.now.transfer ≡ Some c.in-Some.transfer = sym (ap (λ (k : Keeper). k.transfer) c.self.view_is) ∙ c.in-Some.is in
+    let there : c.args.self.now.transfer ≡ Some c.in-Some.transfer = sym (ap (λ (k : JudgeState). k.transfer) c.self.view_is) ∙ c.in-Some.is in
     let kept_now : IsKept h earlier (Some c.in-Some.transfer) = subst (λ (t : Option Transfer). IsKept h earlier t) there kept in
     let same : Err c.in_err-pass.field-0.0 ≡ c.from_residual.result = search rules in
     subst (FindsOf h earlier d (IsKept h (d ∷ earlier) (Some c.pass.new.self))) same
@@ -40,7 +40,7 @@ returns-in-Some-clause-finds g c = λ h earlier d at one kept is on dir payload.
     let passed = transfer_of h earlier in
     let routed : is_of_transfer (route_of h earlier d) ≡ true = ap is_of_transfer (sym is) ∙ on in
     let spells : Spells d.payload m = subst (λ (bytes : List _). Spells bytes m) (sym payload) c.in-Ok.ensures.found in
-    let there : c.args.self.now.transfer ≡ Some t = sym (ap (λ (k : Keeper). k.transfer) c.self.view_is) ∙ c.in-Some.is in
+    let there : c.args.self.now.transfer ≡ Some t = sym (ap (λ (k : JudgeState). k.transfer) c.self.view_is) ∙ c.in-Some.is in
     let kept_now : IsKept h earlier (Some t) = subst (λ (o : Option Transfer). IsKept h earlier o) there kept in
     let found = c.in_ok-pass.ensures.finds h passed d kept_now.1 (dir, spells) in
     message_found h earlier d c.args.dir m t c.keep_oack.new.self dir routed spells kept_now (ap (λ (u : Transfer). u.asked) c.keep_oack.ensures ∙ c.pass.ensures.asked) (Ok tt)
@@ -49,7 +49,7 @@ returns-in-Some-clause-finds g c = λ h earlier d at one kept is on dir payload.
 pub returns-in-Request-clause-finds : goal.returns-in-Request-clause-finds
 returns-in-Request-clause-finds g c = λ h earlier d at one kept is on dir payload.
     let routed : is_of_transfer (route_of h earlier d) ≡ true = ap is_of_transfer (sym is) ∙ on in
-    let there : c.args.self.now.transfer ≡ None = sym (ap (λ (k : Keeper). k.transfer) c.self.view_is) ∙ c.in_default.is in
+    let there : c.args.self.now.transfer ≡ None = sym (ap (λ (k : JudgeState). k.transfer) c.self.view_is) ∙ c.in_default.is in
     let none : earlier ≡ [] = subst (λ (t : Option Transfer). IsKept h earlier t) there kept in
     let spells : Spells d.payload (Message.Request (parts c.in-Request.asked)) =
     subst (λ (p : Packet). Spells d.payload (meaning p)) c.in-Request.is (subst (λ (bytes : List _). Spells bytes (meaning c.in-Ok.packet)) (sym payload) c.in-Ok.ensures.found) in
@@ -57,14 +57,14 @@ returns-in-Request-clause-finds g c = λ h earlier d at one kept is on dir paylo
       | else-is_none-via-then-is_none+else-eq w ↦ let same : c.args.route ≡ may.Peer = peer_is c.args.route (is ∙ peer) in false≢true (rw same at w.if-eq.ensures)
       | else-is_none-via-else-is_none w ↦ search rules
     ] in
-    let named : h.named ≡ c.self.inside.header.named = ap (λ (x : Header). x.named) (sym at) ∙ sym (ap (λ (k : Keeper). k.header.named) c.self.view_is) in
+    let named : h.named ≡ c.self.inside.header.named = ap (λ (x : Header). x.named) (sym at) ∙ sym (ap (λ (k : JudgeState). k.header.named) c.self.view_is) in
     began h earlier d c.self.inside.header.named (parts c.in-Request.asked) c.begin.new.self.transfer c.begin.result named one none routed other spells c.begin.ensures.begins c.begin.ensures.wanting
 
 -- ---- want of memory
 
 pub returns-in_err-pass-clause-memory : goal.returns-in_err-pass-clause-memory
 returns-in_err-pass-clause-memory g c = λ h earlier d kept is on dir payload want.
-    let there : c.args.self.now.transfer ≡ Some c.in-Some.transfer = sym (ap (λ (k : Keeper). k.transfer) c.self.view_is) ∙ c.in-Some.is in
+    let there : c.args.self.now.transfer ≡ Some c.in-Some.transfer = sym (ap (λ (k : JudgeState). k.transfer) c.self.view_is) ∙ c.in-Some.is in
     let kept_now : IsKept h earlier (Some c.in-Some.transfer) = subst (λ (t : Option Transfer). IsKept h earlier t) there kept in
     let same : Err c.in_err-pass.field-0.0 ≡ c.from_residual.result = search rules in
     inr (
