@@ -18,7 +18,7 @@ from refusals import Rule
 from repository import TOP
 from trial import Trial
 
-TABLE, SPECS = "tools/tftp_tools/rules.py", TOP / "crates" / "tftp_law" / "specs"
+TABLE, CRATES = "tools/tftp_tools/rules.py", TOP / "crates"
 # Changes of earlier versions are told with the names that were printed then, so the page of changes is none of these.
 SCRIPTS, PAGES = ("tools", "tests", "bench"), ("docs", "share", "README.md", "CONTRIBUTING.md")
 # What the sources call their rules and files, and messages of commits: these are no printed names.
@@ -32,19 +32,22 @@ WRITTEN = ("docs/VERDICTS.md", "docs/SPECIFICATION.md", "share/wireshark/tftp-au
 def defined(file: str, function: str, value: str) -> dict[str, str]:
     """What a definition answers for each rule."""
     line = re.compile(rf"(?m)^{function} \(?(\w+)(?: fault\))? = {value}$")
-    return dict(line.findall((SPECS / file).read_text()))
+    return dict(line.findall((CRATES / file).read_text()))
 
 
 def try_definition(trial: Trial) -> None:
     """The numbers and names of the table are those of the definitions."""
-    numbers = defined("Rules.antt", "number_of", r"(\d+)")
-    names = defined("RuleNames.antt", "rule_name", r'codes "(\w+)"')
+    number, name = r"(\d+)", r'codes "(\w+)"'
+    numbers = defined("tftp_law/specs/Rules.antt", "number_of", number)
+    numbers |= defined("tftp_rules/specs/Rules.antt", "end_number", number)
+    names = defined("tftp_law/specs/RuleNames.antt", "rule_name", name)
+    names |= defined("tftp_rules/specs/EndNames.antt", "end_name", name)
     trial.check("27 rules are defined", len(numbers) == 27 and numbers.keys() == names.keys(), (numbers, names))
     of_crates = {int(numbers[rule]): names[rule] for rule in numbers}
     of_table = {rule.number: rule.printed for rule in Rule}
     for number in sorted(of_crates.keys() | of_table.keys()):
         got = of_table.get(number), of_crates.get(number)
-        trial.check(f"rule {number} in {TABLE} as in RuleNames.antt", got[0] == got[1], got)
+        trial.check(f"rule {number} in {TABLE} as in the definitions", got[0] == got[1], got)
 
 
 def texts(folder: pathlib.Path, among: tuple[str, ...]) -> Iterator[tuple[str, str]]:

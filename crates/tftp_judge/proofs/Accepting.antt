@@ -8,6 +8,7 @@ use Rattle.tftp_rules.specs.{Route, asks, first_of, or_this, begins_request, is_
 use Rattle.tftp_ends.specs.declared.route.Route.TheVariants as may
 use Rattle.tftp_ends.proofs.KeptSteps.{passing_is}
 use Rattle.tftp_law.specs.{OneEnded, Passes, number_of, Broken, FirstAsked, FirstBroken, Rule, MessageBreaks}
+use Rattle.tftp_law.proofs.FirstBroken.OneMessage.{end_from}
 use Rattle.tftp_law.proofs.FirstBroken.FirstRequests.{before_is, asks_is, first_stays}
 use Rattle.tftp_law.proofs.FirstBroken.OneMessage.{first_by, lawful_by}
 use Rattle.tftp_judge.specs.{Finds, FindsOf, error_by_port, PassError, JudgeState, Transfer, HasKept, IsKept, IsTransferAfter}
@@ -39,6 +40,7 @@ peer_is may.StrayAnswer e = absurd (cc)
 low_rule : (r : Rule) → number_of r < 3 → (r ≡ Rule.ForeignPort) ⊎ (r ≡ Rule.WrongPort)
 low_rule Rule.ForeignPort low = inl refl
 low_rule Rule.WrongPort low = inr refl
+low_rule (Rule.Block e) low = let high = end_from e in absurd (omega (arith, low, high))
 low_rule _ low = absurd (omega arith)
 
 module _ (h : Header) (earlier : List Datagram) (d : Datagram) where

@@ -7,7 +7,7 @@ use Rattle.tftp_ends.specs.{IsBlockOrAck, Rejection}
 use Rattle.tftp_rules.specs.{author_of, end_number, EndBroken, FirstEndBroken, Passed, Terms, EndRule}
 use Rattle.tftp_nego.specs.{MayAgree, FirstFault, number, NegoFault}
 use Rattle.tftp_nego.proofs.Tested.{no_fault}
-use Rattle.tftp_law.specs.{number_of, Agrees, Begins, NotAnswered, FirstAnswer, IsWrongKind, GoesOn, ClientWentOn, AreTermsAfter, BlockSent, RequestBreaks, FirstOackBreaks, LaterOackBreaks, OackBreaks, TermsBreak, KindBreaks, MessageBreaks, rule_of_end, Rule}
+use Rattle.tftp_law.specs.{number_of, Agrees, Begins, NotAnswered, FirstAnswer, IsWrongKind, GoesOn, ClientWentOn, AreTermsAfter, BlockSent, RequestBreaks, FirstOackBreaks, LaterOackBreaks, OackBreaks, TermsBreak, KindBreaks, MessageBreaks, Rule}
 use Rattle.tftp_law.proofs.FirstBroken.OneMessage.{kind_from}
 use Rattle.tftp_judge.specs.{Finds, NoneBreaks, IsFirstOf, error_of_fault, error_of_rejection, PassError}
 use Rattle.tftp_judge.proofs.FirstAnswers.{not_both, first_once, terms_once, block_answers}
@@ -93,7 +93,7 @@ module _ (asked : RequestParts) (oack : OptionMap) where
   fault_first f first Rule.OptionNotRequested low b = first.1 NegoFault.OptionNotRequested (in_order NegoFault.OptionNotRequested f low) b
   fault_first f first Rule.OptionOutsideProfile low b = first.1 NegoFault.OptionOutsideProfile (in_order NegoFault.OptionOutsideProfile f low) b
   fault_first f first Rule.OptionValue low b = first.1 NegoFault.OptionValue (in_order NegoFault.OptionValue f low) b
-  fault_first f first Rule.BeyondBlock65535 low b = first.1 NegoFault.BeyondBlock65535 (in_order NegoFault.BeyondBlock65535 f low) b
+  fault_first f first (Rule.Block EndRule.BeyondBlock65535) low b = first.1 NegoFault.BeyondBlock65535 (in_order NegoFault.BeyondBlock65535 f low) b
   fault_first f first other low b = absurd b
 
   pub fault_found : (A : Type 0) (f : NegoFault) → (f ≢ NegoFault.Memory → FirstFault asked oack f) → (f ≡ NegoFault.Memory → NoneBreaks (FirstOackBreaks asked oack)) → Finds (FirstOackBreaks asked oack) A (Err (error_of_fault f))
@@ -111,7 +111,7 @@ module _ (asked : RequestParts) (oack : OptionMap) where
   none_of_agreed some may Rule.OptionNotRequested b = no_fault asked oack some may NegoFault.OptionNotRequested b
   none_of_agreed some may Rule.OptionOutsideProfile b = no_fault asked oack some may NegoFault.OptionOutsideProfile b
   none_of_agreed some may Rule.OptionValue b = no_fault asked oack some may NegoFault.OptionValue b
-  none_of_agreed some may Rule.BeyondBlock65535 b = no_fault asked oack some may NegoFault.BeyondBlock65535 b
+  none_of_agreed some may (Rule.Block EndRule.BeyondBlock65535) b = no_fault asked oack some may NegoFault.BeyondBlock65535 b
   none_of_agreed some may rule b = absurd b
 
 -- ---- an OACK, by how the request was answered
@@ -153,9 +153,8 @@ module _ (asked : RequestParts) (passed : List Datagram) (dir : Dir) (oack : Opt
 
 -- ---- a block or an ACK
 
-number_is : (e : EndRule) → number_of (rule_of_end e) ≡ end_number e
-number_is EndRule.NotStarted = refl
-number_is _ = refl
+number_is : (e : EndRule) → number_of (Rule.Block e) ≡ end_number e
+number_is e = refl
 
 module _ (h : Header) (asked : RequestParts) (passed : List Datagram) (m : Message) (t : Terms) (known : AreTermsAfter h asked passed t) where
   same_terms : (e : EndRule) (u : Terms) → AreTermsAfter h asked passed u → EndBroken u passed m e → EndBroken t passed m e
@@ -164,10 +163,10 @@ module _ (h : Header) (asked : RequestParts) (passed : List Datagram) (m : Messa
   pub no_end : ((e : EndRule) → EndBroken t passed m e → ⊥) → NoneBreaks (TermsBreak h asked passed m)
   no_end none rule (e, is, u, at, b) = none e (same_terms e u at b)
 
-  pub first_end : (e : EndRule) → FirstEndBroken t passed m e → IsFirstOf (TermsBreak h asked passed m) (rule_of_end e)
+  pub first_end : (e : EndRule) → FirstEndBroken t passed m e → IsFirstOf (TermsBreak h asked passed m) (Rule.Block e)
   first_end e first = ((e, refl, t, known, first.broken), below)
     where
-      below : (other : Rule) → number_of other < number_of (rule_of_end e) → TermsBreak h asked passed m other → ⊥
+      below : (other : Rule) → number_of other < number_of (Rule.Block e) → TermsBreak h asked passed m other → ⊥
       below other low (f, is, u, at, b) =
           let here = number_is e in
           let there = ap number_of is ∙ number_is f in

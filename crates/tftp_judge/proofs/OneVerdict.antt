@@ -7,7 +7,7 @@ use Rattle.tftp_law.specs.{number_of, Broken, FirstBroken, AbortedBy, Rule, IsLa
 use Rattle.tftp_model.specs.{Meaning}
 use Rattle.tftp_judge.specs.{IsSaid, IsUnlawfulAt, IsVerdict, Refusal, Unlawful, Aborted, Incomplete, NormalTooLong}
 use Rattle.tftp_judge.specs.declared.refusal.Refusal.TheVariants.{Memory}
-use Rattle.tftp_rules.specs.{transfer_of}
+use Rattle.tftp_rules.specs.{transfer_of, EndRule}
 use Rattle.tftp_law.proofs.FirstBroken.FirstError.{one_first, none_first}
 use Rattle.tftp_law.proofs.Whole.Beginnings.{beginning_is_lawful}
 use Rattle.tftp_law.proofs.Whole.TwoEnds.{one_shown}
@@ -35,24 +35,29 @@ in_order =
     ∷ Rule.OptionValue
     ∷ Rule.OackChanged
     ∷ Rule.OackAfterStart
-    ∷ Rule.NotStarted
-    ∷ Rule.BlockZero
-    ∷ Rule.BeyondBlock65535
-    ∷ Rule.BlockLength
-    ∷ Rule.WindowOverrun
-    ∷ Rule.BlockSkipped
-    ∷ Rule.GoneBack
-    ∷ Rule.BlockChanged
-    ∷ Rule.AckAhead
-    ∷ Rule.AckZero
+    ∷ (Rule.Block EndRule.NotStarted)
+    ∷ (Rule.Block EndRule.BlockZero)
+    ∷ (Rule.Block EndRule.BeyondBlock65535)
+    ∷ (Rule.Block EndRule.BlockLength)
+    ∷ (Rule.Block EndRule.WindowOverrun)
+    ∷ (Rule.Block EndRule.BlockSkipped)
+    ∷ (Rule.Block EndRule.GoneBack)
+    ∷ (Rule.Block EndRule.BlockChanged)
+    ∷ (Rule.Block EndRule.AckAhead)
+    ∷ (Rule.Block EndRule.AckZero)
     ∷ []
 
 abbrev rule_at : ℕ → Rule
 rule_at n = get_or in_order (n - 1) Rule.ForeignPort
 
+of_end : (e : EndRule) → rule_at (number_of (Rule.Block e)) ≡ Rule.Block e
+of_end EndRule.NotStarted = refl
+of_end _ = refl
+
 -- a rule is the one with its number, or that a packet is malformed
 named : (r : Rule) → (rule_at (number_of r) ≡ r) ⊎ ((fault : PacketFault) × (r ≡ Rule.Malformed fault))
 named (Rule.Malformed fault) = inr (fault, refl)
+named (Rule.Block rule) = inl (of_end rule)
 named _ = inl refl
 
 malformed_at : (r : Rule) → rule_at (number_of r) ≡ r → number_of r ≡ 5 → r ≡ Rule.Malformed Short

@@ -8,7 +8,7 @@ use Rattle.tftp_model.specs.Roles.{sender_of, receiver_of}
 use Rattle.tftp_rules.specs.{author_of, BlocksWait, AckZeroWaits, AckBreaks, BlockPassed, EndBroken, FirstEndBroken, IsFront, IsReachedAt, IsTop, end_number, usable, EndRule, NoReply, Plain, Terms}
 use Rattle.tftp_ends.proofs.BeforeReply.{read_alike, ack_put_alike}
 use Rattle.tftp_ends.proofs.Passing.{none_greatest, usable_passed}
-use Rattle.tftp_law.specs.{AreTermsAfter, TermsBreak, rule_of_end, Answer, Agrees, Begins, IsAnswer, IsWrongKind, NotAnswered, plain_terms, terms_after, Rule}
+use Rattle.tftp_law.specs.{AreTermsAfter, TermsBreak, Answer, Agrees, Begins, IsAnswer, IsWrongKind, NotAnswered, plain_terms, terms_after, Rule}
 use Rattle.tftp_judge.specs.{WaitsForReply, Finds, NoneBreaks, IsFirstOf, HasBegun, error_of_rejection}
 use Rattle.tftp_judge.proofs.MessageFound.{no_end, first_end}
 
@@ -45,7 +45,7 @@ module _ (h : Header) (asked : RequestParts) (passed : List Datagram) (none : No
   known = inl (none, refl)
 
   -- a block of a write
-  pub not_started : (m : Message) (side : Side) → asked.side ≡ side → WaitsForReply side m → IsFirstOf (TermsBreak h asked passed m) Rule.NotStarted
+  pub not_started : (m : Message) (side : Side) → asked.side ≡ side → WaitsForReply side m → IsFirstOf (TermsBreak h asked passed m) (Rule.Block EndRule.NotStarted)
   not_started (Message.Data k bytes) Put put waits =
       first_end h asked passed (Message.Data k bytes) (plain_terms h asked.side NoReply) known EndRule.NotStarted (record {
         broken = subst (λ (x : Side). BlocksWait x NoReply (usable passed)) (sym put) tt;
@@ -74,7 +74,7 @@ module _ (h : Header) (asked : RequestParts) (passed : List Datagram) (none : No
   alike (Message.Oack o) Put put is other = absurd is
 
   pub first_broken : (m : Message) → IsBlockOrAck m → (WaitsForReply asked.side m → ⊥) → (t : Terms) → t ≡ plain_terms h asked.side Plain → (e : EndRule) → FirstEndBroken t passed m e
-      → IsFirstOf (TermsBreak h asked passed m) (rule_of_end e)
+      → IsFirstOf (TermsBreak h asked passed m) (Rule.Block e)
   first_broken m is other t same e first =
       let now = subst (λ (u : Terms). FirstEndBroken u passed m e) same first in
       let both : IsAlike m = alike m asked.side refl is other in
@@ -149,7 +149,7 @@ module _ (h : Header) (asked : RequestParts) (passed : List Datagram) (answer : 
   pub begun_lawful : ((e : EndRule) → EndBroken (terms_of end) passed m e → ⊥) → NoneBreaks (TermsBreak h asked passed m)
   begun_lawful none_of = no_end h asked passed m (terms_of end) (inr (answer, begun.answered, begun.terms)) none_of
 
-  pub begun_first : (e : EndRule) → FirstEndBroken (terms_of end) passed m e → IsFirstOf (TermsBreak h asked passed m) (rule_of_end e)
+  pub begun_first : (e : EndRule) → FirstEndBroken (terms_of end) passed m e → IsFirstOf (TermsBreak h asked passed m) (Rule.Block e)
   begun_first e first = first_end h asked passed m (terms_of end) (inr (answer, begun.answered, begun.terms)) e first
 
   -- the same of what the end refuses

@@ -3,7 +3,8 @@ use Rattle.std.specs.Prelude.{◌≡◌, ◌+◌, List, length, Result, Ok, Err}
 use Rattle.tftp_packet.specs.{IsFirst}
 use Rattle.tftp_hosts.specs.{Datagram, Header}
 use Rattle.tftp_ends.specs.{PortFault, Rejection}
-use Rattle.tftp_law.specs.{Passes, number_of, rule_of_end, FirstBroken, Rule, ForeignPort, WrongPort, OackEmpty, MulticastAgreed, OptionNotRequested, OptionOutsideProfile, OptionValue, BeyondBlock65535}
+use Rattle.tftp_rules.specs.{EndRule}
+use Rattle.tftp_law.specs.{Passes, number_of, FirstBroken, Rule, ForeignPort, WrongPort, OackEmpty, MulticastAgreed, OptionNotRequested, OptionOutsideProfile, OptionValue, Block}
 use Rattle.tftp_law.specs.declared.rule.Rule.TheVariants.{StrayAnswer}
 use Rattle.tftp_nego.specs.{NegoFault}
 use Rattle.tftp_judge.specs.Memory.{TakesMemory}
@@ -45,7 +46,7 @@ error_of_fault NegoFault.MulticastAgreed = Broken MulticastAgreed
 error_of_fault NegoFault.OptionNotRequested = Broken OptionNotRequested
 error_of_fault NegoFault.OptionOutsideProfile = Broken OptionOutsideProfile
 error_of_fault NegoFault.OptionValue = Broken OptionValue
-error_of_fault NegoFault.BeyondBlock65535 = Broken BeyondBlock65535
+error_of_fault NegoFault.BeyondBlock65535 = Broken (Block EndRule.BeyondBlock65535)
 error_of_fault NegoFault.Memory = Memory
 
 -- why a datagram does not pass by its ports, among all reasons
@@ -57,5 +58,5 @@ error_by_port PortFault.Memory = Memory
 
 -- why a packet does not pass at the named end, among all reasons
 abbrev pub error_of_rejection : Rejection → PassError
-error_of_rejection (Rejection.Broken rule) = Broken (rule_of_end rule)
+error_of_rejection (Rejection.Broken rule) = Broken (Block rule)
 error_of_rejection Rejection.Memory = Memory

@@ -1,11 +1,7 @@
-ghost use Rattle.std.specs.Prelude.{◌≡◌};
-ghost use Rattle.tftp_law.specs.{rule_of_end as rule_by_end};
-
 use std::alloc::AllocError;
 use std::convert::From;
 use tftp_ends::Rejection;
 use tftp_law::Rule;
-use tftp_rules::EndRule;
 
 /// Why a datagram does not pass.
 #[derive(Clone, Copy, Debug, PartialEq, Eq)]
@@ -35,26 +31,8 @@ impl From<Rejection> for PassError {
 
     fn from(rejection: Rejection) -> Self {
         match rejection {
-            Rejection::Broken(rule) => PassError::Broken(rule_of_end(rule)),
+            Rejection::Broken(rule) => PassError::Broken(Rule::Block(rule)),
             Rejection::Memory => PassError::Memory,
         }
-    }
-}
-
-/// A rule of blocks and acknowledgements (RFC 1350, section 2; RFC 7440, section 4) among all rules.
-fn rule_of_end(rule: EndRule) -> Rule
-    ensures { result ≡ rule_by_end rule }
-{
-    match rule {
-        EndRule::NotStarted => Rule::NotStarted,
-        EndRule::BlockZero => Rule::BlockZero,
-        EndRule::BeyondBlock65535 => Rule::BeyondBlock65535,
-        EndRule::BlockLength => Rule::BlockLength,
-        EndRule::WindowOverrun => Rule::WindowOverrun,
-        EndRule::BlockSkipped => Rule::BlockSkipped,
-        EndRule::GoneBack => Rule::GoneBack,
-        EndRule::BlockChanged => Rule::BlockChanged,
-        EndRule::AckAhead => Rule::AckAhead,
-        EndRule::AckZero => Rule::AckZero,
     }
 }

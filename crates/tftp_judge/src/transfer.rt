@@ -32,7 +32,7 @@ use tftp_nego::{Agreed, NegoFault, agree, nothing_agreed};
 use tftp_packet::{
     End, Mode, OptionsView, Packet, Request, RequestView, Side, same_options, same_request,
 };
-use tftp_rules::{Reply, Terms};
+use tftp_rules::{EndRule, Reply, Terms};
 
 /// The transfer from its first request on: what was asked for and answered, the named end, and what it has sent.
 #[derive(Drop)]
@@ -347,7 +347,7 @@ impl<D: Delivered + Drop> Transfer<D> {
         ensures err { OnErr result (self.new ≡ self.old) }
     {
         if waits_for_reply(self.asked.side(), packet) {
-            return Err(PassError::Broken(Rule::NotStarted));
+            return Err(PassError::Broken(Rule::Block(EndRule::NotStarted)));
         }
         let mut end = self.begin(alloc, plain_terms(self.named, self.asked.side()));
         end.pass(alloc, dir, packet)?;
@@ -482,7 +482,7 @@ fn stop_of(fault: NegoFault) -> PassError
         NegoFault::OptionNotRequested => PassError::Broken(Rule::OptionNotRequested),
         NegoFault::OptionOutsideProfile => PassError::Broken(Rule::OptionOutsideProfile),
         NegoFault::OptionValue => PassError::Broken(Rule::OptionValue),
-        NegoFault::BeyondBlock65535 => PassError::Broken(Rule::BeyondBlock65535),
+        NegoFault::BeyondBlock65535 => PassError::Broken(Rule::Block(EndRule::BeyondBlock65535)),
         NegoFault::Memory => PassError::Memory,
     }
 }

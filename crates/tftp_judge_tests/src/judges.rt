@@ -9,6 +9,7 @@ use tftp_capture::{Datagram, Header};
 use tftp_hosts::{Dir, Host};
 use tftp_judge::{FileBytes, Judge, Meaning, Refusal, Rule};
 use tftp_packet::{Bytes, End as Side};
+use tftp_rules::EndRule;
 use tftp_trials::comparing::is_so;
 
 /// A judge on this store. Contracts see nothing of it, so that what the library promises of its judges is read only here,
@@ -205,7 +206,7 @@ fn all_have_answers<D: Delivered + Drop>(
 }
 
 /// The refusal of block 2 before block 1.
-const OVERRUN: Refusal = Refusal::Unlawful(2, Rule::WindowOverrun);
+const OVERRUN: Refusal = Refusal::Unlawful(2, Rule::Block(EndRule::WindowOverrun));
 
 /// A refusal is answered for good.
 const REFUSED: &[Row] = &[

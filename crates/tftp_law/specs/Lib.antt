@@ -22,7 +22,7 @@ pub use Replies.{Agrees, Answer, Answers, AreTerms, AreTermsAfter, Begins, First
 pub use Rules.{Broken, FirstBroken, MessageBroken, Says, number_of}
 pub use RuleNames.{rule_name}
 pub use OneEnd.{IsAgreed, IsEnded, IsJoined, IsRead, IsRefused, IsWhole, Meant, OneEnded, Passes}
-pub use MessageRules.{AckSent, BlockSent, ClientWentOn, FirstOackBreaks, GoesOn, IsError, IsWrongKind, KindBreaks, LaterOackBreaks, MessageBreaks, OackBreaks, RequestBreaks, TermsBreak, rule_of_end}
+pub use MessageRules.{AckSent, BlockSent, ClientWentOn, FirstOackBreaks, GoesOn, IsError, IsWrongKind, KindBreaks, LaterOackBreaks, MessageBreaks, OackBreaks, RequestBreaks, TermsBreak}
 pub use Aborted.{FirstError, IsAborted, IsErrorBy, IsNotAborted, NoErrorPassed, by_of}
 pub use Owned.{meaning_from}
 pub use Accord.{Accords, AreRouted, AreRoutedBy, SaysAs, SaysAsBy, Stands, Starts, packet_route, part_route, request_at, request_back}
@@ -31,4 +31,4 @@ pub use Writable.{CanBeWritten, HasPayload, blocks_of, wire_of}
 pub use declared.aborted_by.AbortedBy.{AbortedBy}
 pub use declared.aborted_by.AbortedBy.TheVariants.{Local, Peer}
 pub use declared.rule.Rule.{Rule}
-pub use declared.rule.Rule.TheVariants.{BeyondBlock65535, BlockSkipped, ForeignPort, GoneBack, Malformed, MulticastAgreed, OackEmpty, OptionNotRequested, OptionOutsideProfile, OptionValue, WrongPort}
+pub use declared.rule.Rule.TheVariants.{Block, ForeignPort, Malformed, MulticastAgreed, OackEmpty, OptionNotRequested, OptionOutsideProfile, OptionValue, WrongPort}

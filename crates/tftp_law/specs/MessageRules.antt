@@ -7,7 +7,7 @@ use Rattle.tftp_rules.specs.{author_of, Passed, EndBroken, Terms, EndRule}
 use Rattle.tftp_nego.specs.{Holds, NegoFault}
 use Rattle.tftp_law.specs.Replies.{Agrees, Begins, NotAnswered, FirstAnswer, AreTermsAfter}
 use Rattle.tftp_law.specs.declared.rule.Rule.{Rule}
-use Rattle.tftp_law.specs.declared.rule.Rule.TheVariants.{WrongKind, AfterError, RequestChanged, RequestAfterStart, ReplyChanged, OackEmpty, MulticastAgreed, OptionNotRequested, OptionOutsideProfile, OptionValue, OackChanged, OackAfterStart, NotStarted, BlockZero, BeyondBlock65535, BlockLength, WindowOverrun, BlockSkipped, GoneBack, BlockChanged, AckAhead, AckZero}
+use Rattle.tftp_law.specs.declared.rule.Rule.TheVariants.{WrongKind, AfterError, RequestChanged, RequestAfterStart, ReplyChanged, OackEmpty, MulticastAgreed, OptionNotRequested, OptionOutsideProfile, OptionValue, OackChanged, OackAfterStart, Block}
 
 -- what the client may not send on this side, and what the server may not (RFC 1350, sections 2 and 4)
 abbrev pub IsWrongKind : End → Side → Message → Type 0
@@ -52,7 +52,7 @@ FirstOackBreaks asked oack MulticastAgreed = Holds NegoFault.MulticastAgreed ask
 FirstOackBreaks asked oack OptionNotRequested = Holds NegoFault.OptionNotRequested asked oack
 FirstOackBreaks asked oack OptionOutsideProfile = Holds NegoFault.OptionOutsideProfile asked oack
 FirstOackBreaks asked oack OptionValue = Holds NegoFault.OptionValue asked oack
-FirstOackBreaks asked oack BeyondBlock65535 = Holds NegoFault.BeyondBlock65535 asked oack
+FirstOackBreaks asked oack (Block EndRule.BeyondBlock65535) = Holds NegoFault.BeyondBlock65535 asked oack
 FirstOackBreaks asked oack _ = ⊥
 
 -- an OACK after the first one, where that one is known
@@ -71,22 +71,9 @@ OackBreaks asked passed dir oack OackAfterStart = (dir ≡ Out) × (asked.side �
 -- it is the first one
 OackBreaks asked passed dir oack rule = NotAnswered asked.side passed × FirstOackBreaks asked oack rule
 
--- the rules of blocks and acknowledgements among all rules
-abbrev pub rule_of_end : EndRule → Rule
-rule_of_end EndRule.NotStarted = NotStarted
-rule_of_end EndRule.BlockZero = BlockZero
-rule_of_end EndRule.BeyondBlock65535 = BeyondBlock65535
-rule_of_end EndRule.BlockLength = BlockLength
-rule_of_end EndRule.WindowOverrun = WindowOverrun
-rule_of_end EndRule.BlockSkipped = BlockSkipped
-rule_of_end EndRule.GoneBack = GoneBack
-rule_of_end EndRule.BlockChanged = BlockChanged
-rule_of_end EndRule.AckAhead = AckAhead
-rule_of_end EndRule.AckZero = AckZero
-
 -- a block or an ACK (RFC 1350, sections 2, 4 and 5; RFC 2347; RFC 2349; RFC 7440, section 4)
 abbrev pub TermsBreak : Header → RequestParts → List Datagram → Message → Rule → Type 0
-TermsBreak h asked passed m rule = (e : EndRule) × (rule ≡ rule_of_end e) × (t : Terms) × AreTermsAfter h asked passed t × EndBroken t passed m e
+TermsBreak h asked passed m rule = (e : EndRule) × (rule ≡ Block e) × (t : Terms) × AreTermsAfter h asked passed t × EndBroken t passed m e
 
 -- by the kind of message
 abbrev pub KindBreaks : Header → RequestParts → List Datagram → Dir → Message → Rule → Type 0

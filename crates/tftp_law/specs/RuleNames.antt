@@ -1,7 +1,8 @@
 -- The names of the rules, as they are printed.
 use Rattle.std.specs.Prelude.{ℕ, List, codes}
+use Rattle.tftp_rules.specs.{end_name}
 use Rattle.tftp_law.specs.declared.rule.Rule.{Rule}
-use Rattle.tftp_law.specs.declared.rule.Rule.TheVariants.{ForeignPort, WrongPort, StrayAnswer, NoRequest, Malformed, WrongKind, AfterError, RequestChanged, RequestAfterStart, ReplyChanged, OackEmpty, MulticastAgreed, OptionNotRequested, OptionOutsideProfile, OptionValue, OackChanged, OackAfterStart, NotStarted, BlockZero, BeyondBlock65535, BlockLength, WindowOverrun, BlockSkipped, GoneBack, BlockChanged, AckAhead, AckZero}
+use Rattle.tftp_law.specs.declared.rule.Rule.TheVariants.{ForeignPort, WrongPort, StrayAnswer, NoRequest, Malformed, WrongKind, AfterError, RequestChanged, RequestAfterStart, ReplyChanged, OackEmpty, MulticastAgreed, OptionNotRequested, OptionOutsideProfile, OptionValue, OackChanged, OackAfterStart, Block}
 
 -- a rule's own name; what is wrong with a payload is no part of it
 abbrev pub rule_name : Rule → List ℕ
@@ -22,13 +23,4 @@ rule_name OptionOutsideProfile = codes "OptionOutsideProfile"
 rule_name OptionValue = codes "OptionValue"
 rule_name OackChanged = codes "OackChanged"
 rule_name OackAfterStart = codes "OackAfterStart"
-rule_name NotStarted = codes "NotStarted"
-rule_name BlockZero = codes "BlockZero"
-rule_name BeyondBlock65535 = codes "BeyondBlock65535"
-rule_name BlockLength = codes "BlockLength"
-rule_name WindowOverrun = codes "WindowOverrun"
-rule_name BlockSkipped = codes "BlockSkipped"
-rule_name GoneBack = codes "GoneBack"
-rule_name BlockChanged = codes "BlockChanged"
-rule_name AckAhead = codes "AckAhead"
-rule_name AckZero = codes "AckZero"
+rule_name (Block rule) = end_name rule

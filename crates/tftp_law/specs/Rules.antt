@@ -3,11 +3,11 @@
 use Rattle.std.specs.Prelude.{◌≡◌, ℕ, List, None, true}
 use Rattle.tftp_packet.specs.{IsFirst, Message, RequestParts, Spells, FirstFault}
 use Rattle.tftp_hosts.specs.{Datagram, Header}
-use Rattle.tftp_rules.specs.{Route, asks, first_of, route_of, is_of_transfer, transfer_of, PortRule, PortBroken}
+use Rattle.tftp_rules.specs.{Route, asks, first_of, route_of, is_of_transfer, transfer_of, PortRule, PortBroken, end_number}
 use Rattle.tftp_law.specs.Replies.{FirstAsked}
 use Rattle.tftp_law.specs.MessageRules.{MessageBreaks}
 use Rattle.tftp_law.specs.declared.rule.Rule.{Rule}
-use Rattle.tftp_law.specs.declared.rule.Rule.TheVariants.{ForeignPort, WrongPort, StrayAnswer, NoRequest, Malformed, WrongKind, AfterError, RequestChanged, RequestAfterStart, ReplyChanged, OackEmpty, MulticastAgreed, OptionNotRequested, OptionOutsideProfile, OptionValue, OackChanged, OackAfterStart, NotStarted, BlockZero, BeyondBlock65535, BlockLength, WindowOverrun, BlockSkipped, GoneBack, BlockChanged, AckAhead, AckZero}
+use Rattle.tftp_law.specs.declared.rule.Rule.TheVariants.{ForeignPort, WrongPort, StrayAnswer, NoRequest, Malformed, WrongKind, AfterError, RequestChanged, RequestAfterStart, ReplyChanged, OackEmpty, MulticastAgreed, OptionNotRequested, OptionOutsideProfile, OptionValue, OackChanged, OackAfterStart, Block}
 
 -- the numbers of the rules, in the order in which they are tried
 abbrev pub number_of : Rule → ℕ
@@ -28,16 +28,7 @@ number_of OptionOutsideProfile = 14
 number_of OptionValue = 15
 number_of OackChanged = 16
 number_of OackAfterStart = 17
-number_of NotStarted = 18
-number_of BlockZero = 19
-number_of BeyondBlock65535 = 20
-number_of BlockLength = 21
-number_of WindowOverrun = 22
-number_of BlockSkipped = 23
-number_of GoneBack = 24
-number_of BlockChanged = 25
-number_of AckAhead = 26
-number_of AckZero = 27
+number_of (Block rule) = end_number rule
 
 -- the datagram has one of the transfer's routes, and spells this
 pub record Says (h : Header) (earlier : List Datagram) (d : Datagram) (m : Message) : Type 0 where

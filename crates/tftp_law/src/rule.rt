@@ -3,6 +3,7 @@ ghost use Rattle.tftp_law.specs.RuleNames.{rule_name};
 ghost use Rattle.tftp_law.specs.Rules.{number_of};
 
 use tftp_packet::PacketFault;
+use tftp_rules::EndRule;
 
 /// A rule that a datagram may break, in the order in which the rules are tried.
 #[derive(Clone, Copy, Debug, PartialEq, Eq)]
@@ -41,26 +42,8 @@ pub enum Rule {
     OackChanged,
     /// The server of a read sends an OACK after a block (RFC 2347).
     OackAfterStart,
-    /// A block before the request is answered, or the answer is taken (RFC 1350, section 4; RFC 2347).
-    NotStarted,
-    /// Blocks are numbered from 1 (RFC 1350, section 5).
-    BlockZero,
-    /// A file of more than 65535 blocks (RFC 1350, section 5; RFC 2349).
-    BeyondBlock65535,
-    /// A length that the block can't have at its place (RFC 1350, section 2; RFC 2348; RFC 2349).
-    BlockLength,
-    /// A block more than a window ahead of what was acknowledged (RFC 7440, section 4).
-    WindowOverrun,
-    /// The sender left a block out (RFC 1350, section 2).
-    BlockSkipped,
-    /// In lock step the sender went back (RFC 1350, section 2).
-    GoneBack,
-    /// A block came again with other bytes (RFC 1350, section 2).
-    BlockChanged,
-    /// An ACK of what has not come, or was not sent (RFC 1350, section 2; RFC 7440, section 4).
-    AckAhead,
-    /// An ACK 0 that answers nothing (RFC 1350, section 4; RFC 2347).
-    AckZero,
+    /// A rule of blocks and acknowledgements (RFC 1350, sections 2, 4 and 5; RFC 2347; RFC 2348; RFC 2349; RFC 7440).
+    Block(EndRule),
 }
 
 impl Rule {
@@ -86,16 +69,7 @@ impl Rule {
             Rule::OptionValue => 15,
             Rule::OackChanged => 16,
             Rule::OackAfterStart => 17,
-            Rule::NotStarted => 18,
-            Rule::BlockZero => 19,
-            Rule::BeyondBlock65535 => 20,
-            Rule::BlockLength => 21,
-            Rule::WindowOverrun => 22,
-            Rule::BlockSkipped => 23,
-            Rule::GoneBack => 24,
-            Rule::BlockChanged => 25,
-            Rule::AckAhead => 26,
-            Rule::AckZero => 27,
+            Rule::Block(rule) => rule.number(),
         }
     }
 
@@ -121,16 +95,7 @@ impl Rule {
             Rule::OptionValue => "OptionValue",
             Rule::OackChanged => "OackChanged",
             Rule::OackAfterStart => "OackAfterStart",
-            Rule::NotStarted => "NotStarted",
-            Rule::BlockZero => "BlockZero",
-            Rule::BeyondBlock65535 => "BeyondBlock65535",
-            Rule::BlockLength => "BlockLength",
-            Rule::WindowOverrun => "WindowOverrun",
-            Rule::BlockSkipped => "BlockSkipped",
-            Rule::GoneBack => "GoneBack",
-            Rule::BlockChanged => "BlockChanged",
-            Rule::AckAhead => "AckAhead",
-            Rule::AckZero => "AckZero",
+            Rule::Block(rule) => rule.name(),
         }
     }
 }

@@ -1,3 +1,7 @@
+ghost use Rattle.std.specs.Prelude.{◌≡◌};
+ghost use Rattle.tftp_rules.specs.EndNames.{end_name};
+ghost use Rattle.tftp_rules.specs.Rules.{end_number};
+
 /// A rule of blocks and acknowledgements, in the order in which they are tried.
 #[derive(Clone, Copy, Debug, PartialEq, Eq)]
 pub enum EndRule {
@@ -21,4 +25,42 @@ pub enum EndRule {
     AckAhead,
     /// An ACK 0 that answers nothing (RFC 1350, section 4; RFC 2347).
     AckZero,
+}
+
+impl EndRule {
+    /// The rule's place among all rules, 18 to 27.
+    pub fn number(self) -> u8
+        ensures { result ≡ end_number self }
+    {
+        match self {
+            EndRule::NotStarted => 18,
+            EndRule::BlockZero => 19,
+            EndRule::BeyondBlock65535 => 20,
+            EndRule::BlockLength => 21,
+            EndRule::WindowOverrun => 22,
+            EndRule::BlockSkipped => 23,
+            EndRule::GoneBack => 24,
+            EndRule::BlockChanged => 25,
+            EndRule::AckAhead => 26,
+            EndRule::AckZero => 27,
+        }
+    }
+
+    /// The rule's name as it is printed.
+    pub fn name(self) -> &'static str
+        ensures { result.now ≡ end_name self }
+    {
+        match self {
+            EndRule::NotStarted => "NotStarted",
+            EndRule::BlockZero => "BlockZero",
+            EndRule::BeyondBlock65535 => "BeyondBlock65535",
+            EndRule::BlockLength => "BlockLength",
+            EndRule::WindowOverrun => "WindowOverrun",
+            EndRule::BlockSkipped => "BlockSkipped",
+            EndRule::GoneBack => "GoneBack",
+            EndRule::BlockChanged => "BlockChanged",
+            EndRule::AckAhead => "AckAhead",
+            EndRule::AckZero => "AckZero",
+        }
+    }
 }

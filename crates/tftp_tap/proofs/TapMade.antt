@@ -6,7 +6,7 @@ use Rattle.tftp_packet.specs.{Message, RequestParts, Spells, Side, Get, Put, End
 use Rattle.tftp_hosts.specs.{Datagram, Header, same_peer}
 use Rattle.tftp_model.specs.Machines.{receiver_of}
 use Rattle.tftp_model.specs.{MachinePacket, Req, Oack, Data, Ack, Error, is_error}
-use Rattle.tftp_rules.specs.{Route, route_of, is_of_transfer, asks}
+use Rattle.tftp_rules.specs.{Route, route_of, is_of_transfer, asks, EndRule}
 use Rattle.tftp_model.proofs.Members.{contains_first, contains_later}
 use Rattle.tftp_law.specs.{packet_of, packet_route, packet_in, says_some, OneEnded, Passes, IsRead, Broken, Rule}
 use Rattle.tftp_law.specs.declared.rule.Rule.TheVariants as rule
@@ -175,7 +175,7 @@ module _ (s : TapSides) (apart : AreApart s) (asked : RequestParts) where
       late_put Get same never = absurd (cc)
 
       of_block : (n : Message) → Spells c.datagram.payload n → packet_in n ≡ Some (Data k) → (HasKind IsReply (before_error (tap_tests s) Client (map datagram_in cs)) → ⊥) → ⊥
-      of_block (Message.Data i bytes) t at never = lawful.late rule.NotStarted (record { asked = asked; first = first; message = Message.Data i bytes; says = t; breaks = late_put asked.side put never })
+      of_block (Message.Data i bytes) t at never = lawful.late (rule.Block EndRule.NotStarted) (record { asked = asked; first = first; message = Message.Data i bytes; says = t; breaks = late_put asked.side put never })
       of_block (Message.Request q) t at never = absurd (cc)
       of_block (Message.Oack options) t at never = absurd (cc)
       of_block (Message.Ack j) t at never = absurd (cc)

@@ -8,7 +8,7 @@ use Rattle.tftp_model.specs.Machines.{sender_of, receiver_of}
 use Rattle.tftp_model.specs.{MachinePacket, Req, Oack, Data, Ack, Error, is_error}
 use Rattle.tftp_rules.specs.{asks, transfer_of, IsSender, EndBroken, EndRule, NoReply, Terms}
 use Rattle.tftp_model.proofs.Members.{contains_first, contains_later, contains_cases, contains_none}
-use Rattle.tftp_law.specs.{packet_in, says_some, number_of, FirstAsked, Answer, Agrees, Begins, AreTerms, plain_terms, terms_after, IsWrongKind, KindBreaks, MessageBreaks, MessageBroken, Broken, rule_of_end, Rule}
+use Rattle.tftp_law.specs.{packet_in, says_some, number_of, FirstAsked, Answer, Agrees, Begins, AreTerms, plain_terms, terms_after, IsWrongKind, KindBreaks, MessageBreaks, MessageBroken, Broken, Rule}
 use Rattle.tftp_law.specs.declared.rule.Rule.TheVariants as rule
 use Rattle.tftp_law.proofs.Spelled.{spelled_once}
 use Rattle.tftp_law.proofs.FirstBroken.FirstRequests.{request_same, some_same}
@@ -129,7 +129,7 @@ module _ (s : TapSides) (apart : AreApart s) (asked : RequestParts) (cs : List C
     abbrev inner : List Datagram
     inner = transfer_of (header_at s asked.side) (map (recorded_at s (receiver_of asked.side)) (map datagram_in (kept_of pair_tests (receiver_of asked.side) cs)))
 
-    end_never : (n : Message) (e : EndRule) → IsOfSending (rule_of_end e) → (t : Terms) → Known t → EndBroken t inner n e → ⊥
+    end_never : (n : Message) (e : EndRule) → IsOfSending (Rule.Block e) → (t : Terms) → Known t → EndBroken t inner n e → ⊥
     end_never (Message.Data k bytes) EndRule.BlockSkipped of t known b = inner_receives t known b.0
     end_never (Message.Data k bytes) EndRule.GoneBack of t known b = inner_receives t known b.0
     end_never (Message.Ack j) EndRule.BlockSkipped of t known b = b
@@ -147,8 +147,8 @@ module _ (s : TapSides) (apart : AreApart s) (asked : RequestParts) (cs : List C
     kind_never (Message.Oack options) t other first rule.OackAfterStart of b =
         oack_out (goes_out_is (receiver_of asked.side) b.0) (ap (λ (q : RequestParts). q.side) (sym (inner_asked other first)) ∙ b.1) options t
     kind_never (Message.Oack options) t other first rule.RequestAfterStart of b = b.1
-    kind_never (Message.Oack options) t other first rule.BlockSkipped of b = b.1
-    kind_never (Message.Oack options) t other first rule.GoneBack of b = b.1
+    kind_never (Message.Oack options) t other first (rule.Block EndRule.BlockSkipped) of b = b.1
+    kind_never (Message.Oack options) t other first (rule.Block EndRule.GoneBack) of b = b.1
     kind_never (Message.Oack options) t other first broken of b = absurd of
     kind_never (Message.Data k bytes) t other first broken of (e, is, u, known, b) = end_never (Message.Data k bytes) e (subst IsOfSending is of) u (other, first, known) b
     kind_never (Message.Ack j) t other first broken of (e, is, u, known, b) = end_never (Message.Ack j) e (subst IsOfSending is of) u (other, first, known) b
@@ -164,8 +164,8 @@ module _ (s : TapSides) (apart : AreApart s) (asked : RequestParts) (cs : List C
     kept_never : (broken : Rule) → IsOfSending broken → Broken (header_at s asked.side) (map (recorded_at s (receiver_of asked.side)) (map datagram_in (kept_of pair_tests (receiver_of asked.side) cs))) (recorded_at s (receiver_of asked.side) d) broken → ⊥
     kept_never rule.RequestAfterStart of b = message_never rule.RequestAfterStart of b
     kept_never rule.OackAfterStart of b = message_never rule.OackAfterStart of b
-    kept_never rule.BlockSkipped of b = message_never rule.BlockSkipped of b
-    kept_never rule.GoneBack of b = message_never rule.GoneBack of b
+    kept_never (rule.Block EndRule.BlockSkipped) of b = message_never (rule.Block EndRule.BlockSkipped) of b
+    kept_never (rule.Block EndRule.GoneBack) of b = message_never (rule.Block EndRule.GoneBack) of b
     kept_never broken of b = absurd of
 
 late_never : (s : TapSides) (passed : List TapDatagram) (d : TapDatagram) (broken : Rule) → IsOfSending broken → LateBroken s passed d broken → ⊥
@@ -173,45 +173,45 @@ late_never s passed d broken of l = by l.message broken of l.breaks where
   by : (n : Message) (broken : Rule) → IsOfSending broken → LateBreaks s l.asked.side passed n broken → ⊥
   by (Message.Request q) rule.RequestAfterStart of b = b
   by (Message.Request q) rule.OackAfterStart of b = b
-  by (Message.Request q) rule.BlockSkipped of b = b
-  by (Message.Request q) rule.GoneBack of b = b
+  by (Message.Request q) (rule.Block EndRule.BlockSkipped) of b = b
+  by (Message.Request q) (rule.Block EndRule.GoneBack) of b = b
   by (Message.Oack options) rule.RequestAfterStart of b = b
   by (Message.Oack options) rule.OackAfterStart of b = b
-  by (Message.Oack options) rule.BlockSkipped of b = b
-  by (Message.Oack options) rule.GoneBack of b = b
+  by (Message.Oack options) (rule.Block EndRule.BlockSkipped) of b = b
+  by (Message.Oack options) (rule.Block EndRule.GoneBack) of b = b
   by (Message.Data k bytes) rule.RequestAfterStart of b = b
   by (Message.Data k bytes) rule.OackAfterStart of b = b
-  by (Message.Data k bytes) rule.BlockSkipped of b = b
-  by (Message.Data k bytes) rule.GoneBack of b = b
+  by (Message.Data k bytes) (rule.Block EndRule.BlockSkipped) of b = b
+  by (Message.Data k bytes) (rule.Block EndRule.GoneBack) of b = b
   by (Message.Ack j) rule.RequestAfterStart of b = b
   by (Message.Ack j) rule.OackAfterStart of b = b
-  by (Message.Ack j) rule.BlockSkipped of b = b
-  by (Message.Ack j) rule.GoneBack of b = b
+  by (Message.Ack j) (rule.Block EndRule.BlockSkipped) of b = b
+  by (Message.Ack j) (rule.Block EndRule.GoneBack) of b = b
   by (Message.Error code text) rule.RequestAfterStart of b = b
   by (Message.Error code text) rule.OackAfterStart of b = b
-  by (Message.Error code text) rule.BlockSkipped of b = b
-  by (Message.Error code text) rule.GoneBack of b = b
+  by (Message.Error code text) (rule.Block EndRule.BlockSkipped) of b = b
+  by (Message.Error code text) (rule.Block EndRule.GoneBack) of b = b
   by n broken of b = absurd of
 
 low_number : (broken : Rule) → IsOfSending broken → 6 < number_of broken
 low_number rule.RequestAfterStart of = omega arith
 low_number rule.OackAfterStart of = omega arith
-low_number rule.BlockSkipped of = omega arith
-low_number rule.GoneBack of = omega arith
+low_number (rule.Block EndRule.BlockSkipped) of = omega arith
+low_number (rule.Block EndRule.GoneBack) of = omega arith
 low_number broken of = absurd of
 
 sides_never : (route : TapRoute) (d : TapDatagram) (broken : Rule) → IsOfSending broken → SidesBreak route d broken → ⊥
 sides_never route d rule.RequestAfterStart of b = b
 sides_never route d rule.OackAfterStart of b = b
-sides_never route d rule.BlockSkipped of b = b
-sides_never route d rule.GoneBack of b = b
+sides_never route d (rule.Block EndRule.BlockSkipped) of b = b
+sides_never route d (rule.Block EndRule.GoneBack) of b = b
 sides_never route d broken of b = absurd of
 
 passing_never : (s : TapSides) (passed : List TapDatagram) (route : TapRoute) (d : TapDatagram) (broken : Rule) → IsOfSending broken → PassingBreaks s passed route d broken → ⊥
 passing_never s passed route d rule.RequestAfterStart of b = b
 passing_never s passed route d rule.OackAfterStart of b = b
-passing_never s passed route d rule.BlockSkipped of b = b
-passing_never s passed route d rule.GoneBack of b = b
+passing_never s passed route d (rule.Block EndRule.BlockSkipped) of b = b
+passing_never s passed route d (rule.Block EndRule.GoneBack) of b = b
 passing_never s passed route d broken of b = absurd of
 
 pub never_first : (s : TapSides) (earlier : List TapDatagram) (d : TapDatagram) (broken : Rule) → AreApart s → BreaksNoTapRule s earlier → FirstTapBroken s earlier d broken → IsOfSending broken → ⊥

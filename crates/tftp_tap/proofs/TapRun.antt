@@ -7,6 +7,7 @@ use Rattle.tftp_model.specs.{Meaning, request_of, SomethingAgreed, MachinePacket
 use Rattle.tftp_model.specs.Machines.{other_end, sender_of, receiver_of}
 use Rattle.tftp_model.proofs.Members.{contains_first, contains_later, contains_cases, contains_none}
 use Rattle.tftp_model.proofs.Stops.{lawful_tail}
+use Rattle.tftp_rules.specs.{EndRule}
 use Rattle.tftp_law.specs.{view_in, says_of, packet_of, Fits, AreRouted, packet_in, says_some}
 use Rattle.tftp_law.specs.declared.rule.Rule.TheVariants as rule
 use Rattle.tftp_law.proofs.Soundness.MadeMeaning.{some_accord}
@@ -158,7 +159,7 @@ module _ (s : TapSides) (apart : AreApart s) (asked : RequestParts) where
 
     block_sent : (j : ℕ) → c.pass.packet ≡ Ack j → (k : ℕ) → 1 ≤ k → k ≤ j → HasSent (heard (as_at (other_end c.pass.from) (map pass_in cs))) (Data k)
     block_sent j packet k low high = elim (decide_before s apart asked (IsBlock k) (decide_block k) (receiver_of asked.side) cs each) [
-      | inr never ↦ absurd (lawful.late rule.AckAhead (record { asked = asked; first = first_of_all (not_request j packet); message = Message.Ack j; says = ack_message j packet; breaks = (k, low, high, never) }))
+      | inr never ↦ absurd (lawful.late (rule.Block EndRule.AckAhead) (record { asked = asked; first = first_of_all (not_request j packet); message = Message.Ack j; says = ack_message j packet; breaks = (k, low, high, never) }))
       | inl there ↦
           let r = receiver_of asked.side in
           let found = find_kind (IsBlock k) Both (before_error pair_tests r cs) (both_before r) there in
@@ -210,7 +211,7 @@ module _ (s : TapSides) (apart : AreApart s) (asked : RequestParts) where
             any_more_asks x bs some = let found = some_of pair_tests.asks bs some in any_of pair_tests.asks (x ∷ bs) found.0 (contains_later x bs found.0 found.1) found.2
 
     late_zero : (x : Side) → asked.side ≡ x → (j : ℕ) → c.pass.packet ≡ Ack j → j ≡ 0 → IsLateZero s x (map datagram_in cs) → ⊥
-    late_zero x same j packet none late = lawful.late rule.AckZero (record {
+    late_zero x same j packet none late = lawful.late (rule.Block EndRule.AckZero) (record {
       asked = asked;
       first = first_of_all (not_request j packet);
       message = Message.Ack j;

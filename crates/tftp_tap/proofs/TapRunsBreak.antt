@@ -7,6 +7,7 @@ use Rattle.tftp_packet.proofs.NoFault.{no_fault}
 use Rattle.tftp_model.specs.{Meaning, request_of, MachinePacket, Req, Oack, Data, Ack, Error, HasSent, message_of, is_error, heard, LetsStartOn, LetsAckZeroOn, IsOneSided}
 use Rattle.tftp_model.specs.Machines.{other_end, sender_of, receiver_of}
 use Rattle.tftp_model.proofs.Members.{contains_first, contains_later}
+use Rattle.tftp_rules.specs.{EndRule}
 use Rattle.tftp_law.specs.{Fits, says_of, view_in, says_some, OneEnded, IsWrongKind, Broken, Rule}
 use Rattle.tftp_law.specs.declared.rule.Rule.TheVariants as rule
 use Rattle.tftp_law.proofs.Spelled.{spelled_once}
@@ -314,9 +315,9 @@ module _ (s : TapSides) (apart : AreApart s) (m : Meaning) (wire : List ℕ) (fi
       ]
 
     late_breaks : (p : MachinePacket) (broken : Rule) → c.pass.packet ≡ p → LateBreaks s m.side (map datagram_in cs) (message_of m wire p) broken → ⊥
-    late_breaks (Data k) rule.NotStarted same late = late_block m.side (subst (λ q. IsInTime m wire (map pass_in cs) c.pass.from q) same (in_time m wire c.pass.from c.pass.packet (map pass_in cs) allowed)) late
-    late_breaks (Ack j) rule.AckAhead same late = late_ack j (subst (MayPass m wire (map pass_in cs) c.pass.from) same allowed) late
-    late_breaks (Ack j) rule.AckZero same late = late_zero (subst (λ q. MayPass m wire (map pass_in cs) c.pass.from (Ack q)) late.0 (subst (MayPass m wire (map pass_in cs) c.pass.from) same allowed)) late.1
+    late_breaks (Data k) (rule.Block EndRule.NotStarted) same late = late_block m.side (subst (λ q. IsInTime m wire (map pass_in cs) c.pass.from q) same (in_time m wire c.pass.from c.pass.packet (map pass_in cs) allowed)) late
+    late_breaks (Ack j) (rule.Block EndRule.AckAhead) same late = late_ack j (subst (MayPass m wire (map pass_in cs) c.pass.from) same allowed) late
+    late_breaks (Ack j) (rule.Block EndRule.AckZero) same late = late_zero (subst (λ q. MayPass m wire (map pass_in cs) c.pass.from (Ack q)) late.0 (subst (MayPass m wire (map pass_in cs) c.pass.from) same allowed)) late.1
     late_breaks p broken same late = absurd late
 
     late_broken : (broken : Rule) → LateBroken s (map datagram_in cs) c.datagram broken → ⊥

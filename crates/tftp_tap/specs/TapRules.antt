@@ -5,7 +5,7 @@ use Rattle.std.specs.List.{list_any}
 use Rattle.tftp_packet.specs.{Message, RequestParts, Spells, FirstFault, Side, Get, Put, End, Client, Server}
 use Rattle.tftp_hosts.specs.{In, Out, Datagram, Header, same_peer}
 use Rattle.tftp_model.specs.Roles.{receiver_of}
-use Rattle.tftp_rules.specs.{first_of}
+use Rattle.tftp_rules.specs.{first_of, EndRule}
 use Rattle.tftp_law.specs.{Broken, IsWrongKind, number_of, Rule}
 use Rattle.tftp_law.specs.declared.rule.Rule.TheVariants as rule
 use Rattle.tftp_tap.specs.TapCapture.{PeerId, TapDatagram, TapSides, side_of}
@@ -90,9 +90,9 @@ IsLateBlock s Get passed = ⊥
 IsLateBlock s Put passed = HasKind IsReply (before_error (tap_tests s) Client passed) → ⊥
 
 abbrev pub LateBreaks : TapSides → Side → List TapDatagram → Message → Rule → Type 0
-LateBreaks s side passed (Message.Data k bytes) rule.NotStarted = IsLateBlock s side passed
-LateBreaks s side passed (Message.Ack j) rule.AckAhead = IsLateAck s side passed j
-LateBreaks s side passed (Message.Ack j) rule.AckZero = (j ≡ 0) × IsLateZero s side passed
+LateBreaks s side passed (Message.Data k bytes) (rule.Block EndRule.NotStarted) = IsLateBlock s side passed
+LateBreaks s side passed (Message.Ack j) (rule.Block EndRule.AckAhead) = IsLateAck s side passed j
+LateBreaks s side passed (Message.Ack j) (rule.Block EndRule.AckZero) = (j ≡ 0) × IsLateZero s side passed
 LateBreaks s side passed _ _ = ⊥
 
 -- by what the datagram says
@@ -178,6 +178,6 @@ told_server s tapped = by (first_of (goes_on_to s) tapped) (first_of (λ (d : Ta
 abbrev pub IsOfSending : Rule → Type 0
 IsOfSending rule.RequestAfterStart = Unit {0}
 IsOfSending rule.OackAfterStart = Unit {0}
-IsOfSending rule.BlockSkipped = Unit {0}
-IsOfSending rule.GoneBack = Unit {0}
+IsOfSending (rule.Block EndRule.BlockSkipped) = Unit {0}
+IsOfSending (rule.Block EndRule.GoneBack) = Unit {0}
 IsOfSending _ = ⊥

@@ -2,20 +2,21 @@
 use Rattle.std.proofs.Common.{◌≡◌, ◌⊎◌, ℕ, ◌+◌, ◌<◌, ◌≤◌, List, Option, Some, None, inl, inr, refl, sym, subst, arith}
 use Rattle.tftp_packet.specs.{Message, RequestParts, Side, End, Client, Server}
 use Rattle.tftp_model.specs.Roles.{receiver_of}
+use Rattle.tftp_rules.specs.{EndRule}
 use Rattle.tftp_law.specs.{IsWrongKind, number_of, Rule}
 use Rattle.tftp_law.specs.declared.rule.Rule.TheVariants as rule
 use Rattle.tftp_tap.specs.{TapDatagram, TapSides, before_error, tap_tests, LateBreaks, IsLateAck, IsLateZero, IsLateBlock}
 use Rattle.tftp_tap_judge.specs.{Marks, AreMarks, FindsRule, IsOtherError, IsOtherRequest, MessageBreaks}
 
 module _ (s : TapSides) (side : Side) (passed : List TapDatagram) where
-  late_data : (k : ℕ) (bytes : List ℕ) (r : Rule) → LateBreaks s side passed (Message.Data k bytes) r → (r ≡ rule.NotStarted) × IsLateBlock s side passed
-  late_data k bytes rule.NotStarted b = (refl, b)
+  late_data : (k : ℕ) (bytes : List ℕ) (r : Rule) → LateBreaks s side passed (Message.Data k bytes) r → (r ≡ (rule.Block EndRule.NotStarted)) × IsLateBlock s side passed
+  late_data k bytes (rule.Block EndRule.NotStarted) b = (refl, b)
   late_data k bytes r b = absurd b
 
   late_ack : (j : ℕ) (r : Rule) → LateBreaks s side passed (Message.Ack j) r
-      → ((r ≡ rule.AckAhead) × IsLateAck s side passed j) ⊎ ((r ≡ rule.AckZero) × (j ≡ 0) × IsLateZero s side passed)
-  late_ack j rule.AckAhead b = inl (refl, b)
-  late_ack j rule.AckZero b = inr (refl, b.0, b.1)
+      → ((r ≡ (rule.Block EndRule.AckAhead)) × IsLateAck s side passed j) ⊎ ((r ≡ (rule.Block EndRule.AckZero)) × (j ≡ 0) × IsLateZero s side passed)
+  late_ack j (rule.Block EndRule.AckAhead) b = inl (refl, b)
+  late_ack j (rule.Block EndRule.AckZero) b = inr (refl, b.0, b.1)
   late_ack j r b = absurd b
 
   late_request : (q : RequestParts) (r : Rule) → LateBreaks s side passed (Message.Request q) r → ⊥
@@ -37,7 +38,7 @@ module _ (s : TapSides) (side : Side) (passed : List TapDatagram) where
 -- ---- an ACK, by what had passed before the receiver's ERROR
 
 module _ (s : TapSides) (side : Side) (passed : List TapDatagram) (marks : Marks) (are : AreMarks marks (before_error (tap_tests s) (receiver_of side) passed)) (j : ℕ) where
-  pub ahead_found : j ≤ 65535 → marks.front < j → FindsRule (LateBreaks s side passed (Message.Ack j)) (Some rule.AckAhead)
+  pub ahead_found : j ≤ 65535 → marks.front < j → FindsRule (LateBreaks s side passed (Message.Ack j)) (Some (rule.Block EndRule.AckAhead))
   ahead_found fits high = (
     (marks.front + 1, omega arith, omega (arith, high), are.next (omega (arith, fits, high))),
     λ other low b. elim (late_ack s side passed j other b) [ inl same ↦ omega (arith, subst (λ x. number_of x < 26) same.0 low) | inr same ↦ omega (arith, subst (λ x. number_of x < 26) same.0 low) ],
@@ -46,7 +47,7 @@ module _ (s : TapSides) (side : Side) (passed : List TapDatagram) (marks : Marks
   not_ahead : j ≤ marks.front → IsLateAck s side passed j → ⊥
   not_ahead low (k, one, high, never) = never (are.below k one (omega (arith, high, low)))
 
-  pub zero_found : j ≤ marks.front → j ≡ 0 → IsLateZero s side passed → FindsRule (LateBreaks s side passed (Message.Ack j)) (Some rule.AckZero)
+  pub zero_found : j ≤ marks.front → j ≡ 0 → IsLateZero s side passed → FindsRule (LateBreaks s side passed (Message.Ack j)) (Some (rule.Block EndRule.AckZero))
   zero_found low none late = (
     (none, late),
     λ other less b. elim (late_ack s side passed j other b) [ inl same ↦ absurd (not_ahead low same.1) | inr same ↦ omega (arith, subst (λ x. number_of x < 27) same.0 less) ],

@@ -14,6 +14,7 @@ use std::marker::Model;
 use tftp_judge::is_wrong_kind;
 use tftp_law::Rule;
 use tftp_packet::{End, Packet, PacketFault, Request, Side, same_request};
+use tftp_rules::EndRule;
 
 /// What has passed of a transfer between its ends, and what had passed before the first ERROR of each (RFC 1350, section 7).
 #[derive(Drop)]
@@ -119,7 +120,7 @@ impl TapNotes {
             }
             Packet::Data { .. } => {
                 if self.is_late_block(asked.side()) {
-                    Some(Rule::NotStarted)
+                    Some(Rule::Block(EndRule::NotStarted))
                 } else {
                     None
                 }
@@ -188,10 +189,10 @@ impl TapNotes {
     {
         let before = self.usable(receiver_of_file(side));
         if block > before.front {
-            return Some(Rule::AckAhead);
+            return Some(Rule::Block(EndRule::AckAhead));
         }
         if block == 0 && self.is_late_zero(side) {
-            return Some(Rule::AckZero);
+            return Some(Rule::Block(EndRule::AckZero));
         }
         None
     }

@@ -1,7 +1,8 @@
 //! Laws of the definitions in `specs/`. Each is the contract of a function that does nothing.
 
 ghost use Rattle.std.specs.Prelude.{◌≡◌, ◌∷◌, [], Any, Bool, IsSome, None, Option, Some, true, false};
-ghost use Rattle.tftp_law.specs.{BlockSkipped, GoneBack};
+ghost use Rattle.tftp_rules.specs.{EndRule};
+ghost use Rattle.tftp_law.specs.{Block};
 ghost use Rattle.tftp_verdict_rows.specs.Told.{Tells, both_row, plain_row, rows_told, said_at};
 ghost use Rattle.tftp_verdict_rows.specs.declared.row.Point.{Point as PointKind};
 ghost use Rattle.tftp_verdict_rows.specs.declared.row.Point.TheVariants.{Client, Server, Between};
@@ -16,8 +17,8 @@ pub fn what_is_judged_is_told()
 
 /// A client that accepts and a server that refuses are told in two rows; a transfer that was judged between its ends in one.
 pub fn worked_rows()
-    ensures both { rows_told (Some Accepted) (Some (Refused GoneBack (Some 5))) None false ≡ plain_row Client ∷ plain_row Server ∷ [] }
-    ensures alike { rows_told (Some (Refused BlockSkipped (Some 5))) (Some (Refused BlockSkipped (Some 5))) None true ≡ both_row ∷ [] }
+    ensures both { rows_told (Some Accepted) (Some (Refused (Block EndRule.GoneBack) (Some 5))) None false ≡ plain_row Client ∷ plain_row Server ∷ [] }
+    ensures alike { rows_told (Some (Refused (Block EndRule.BlockSkipped) (Some 5))) (Some (Refused (Block EndRule.BlockSkipped) (Some 5))) None true ≡ both_row ∷ [] }
     ensures between { rows_told None None (Some Accepted) true ≡ plain_row Between ∷ [] }
     ensures nowhere { rows_told None None None true ≡ [] }
 {}

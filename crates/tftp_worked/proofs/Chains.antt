@@ -5,7 +5,7 @@ use Rattle.tftp_packet.specs.{OptionMap, Message, RequestParts, Spells, Side}
 use Rattle.tftp_hosts.specs.{Header}
 use Rattle.tftp_rules.specs.{or_this, asks, route_of, is_of_transfer, transfer_of, EndBroken, Terms, EndRule}
 use Rattle.tftp_nego.specs.{Holds, NegoFault}
-use Rattle.tftp_law.specs.{number_of, Answer, Agrees, terms_after, AreTerms, rule_of_end, MessageBreaks, Broken, Rule, OneEnded, IsRefused}
+use Rattle.tftp_law.specs.{number_of, Answer, Agrees, terms_after, AreTerms, MessageBreaks, Broken, Rule, OneEnded, IsRefused}
 use Rattle.tftp_worked.proofs.Payloads.{Spelled, datagrams, AllSpelled, spells_it, spelled_it}
 use Rattle.tftp_law.proofs.FirstBroken.Answering.{answer_of}
 use Rattle.tftp_law.proofs.FirstBroken.OneMessage.{end_breaks, back}
@@ -182,20 +182,20 @@ module _ (h : Header) (b : Start h) where
 
   -- a rule of blocks and acknowledgements
   pub refused_end : (e : Spelled) (end : EndRule)
-      → (spells_it e.0.payload e.1 && (is_of_transfer (route_of h (datagrams b.es) e.0) && keeps_below (number_of (rule_of_end end)) h (b.known []) b.es e)) ≡ true
-      → WhereKnown (b.known []) (λ t. EndBroken t (transfer_of h (datagrams b.es)) e.1 end) → IsRefused h (datagrams b.es) e.0 (rule_of_end end)
+      → (spells_it e.0.payload e.1 && (is_of_transfer (route_of h (datagrams b.es) e.0) && keeps_below (number_of (Rule.Block end)) h (b.known []) b.es e)) ≡ true
+      → WhereKnown (b.known []) (λ t. EndBroken t (transfer_of h (datagrams b.es)) e.1 end) → IsRefused h (datagrams b.es) e.0 (Rule.Block end)
   refused_end e end test broken =
-      let parts = and_parts (spells_it e.0.payload e.1) (is_of_transfer (route_of h (datagrams b.es) e.0) && keeps_below (number_of (rule_of_end end)) h (b.known []) b.es e) test in
-      let more = and_parts (is_of_transfer (route_of h (datagrams b.es) e.0)) (keeps_below (number_of (rule_of_end end)) h (b.known []) b.es e) parts.1 in
+      let parts = and_parts (spells_it e.0.payload e.1) (is_of_transfer (route_of h (datagrams b.es) e.0) && keeps_below (number_of (Rule.Block end)) h (b.known []) b.es e) test in
+      let more = and_parts (is_of_transfer (route_of h (datagrams b.es) e.0)) (keeps_below (number_of (Rule.Block end)) h (b.known []) b.es e) parts.1 in
       let here = spelled_it e.0.payload e.1 parts.0 in
-      let first = none_under (number_of (rule_of_end end)) h (b.known []) b.es e b.spelled here (b.knows []) (no_offer e.0.payload e.1 parts.0) more.1 in
+      let first = none_under (number_of (Rule.Block end)) h (b.known []) b.es e b.spelled here (b.knows []) (no_offer e.0.payload e.1 parts.0) more.1 in
       record { lawful = b.lawful; broken = (by here more.0 (b.known []) (b.knows []) broken, first) }
     where
       by : Spells e.0.payload e.1 → is_of_transfer (route_of h (datagrams b.es) e.0) ≡ true → (o : Option Terms) → o ≡ terms_of h b.es → WhereKnown o (λ t. EndBroken t (transfer_of h (datagrams b.es)) e.1 end)
-          → Broken h (datagrams b.es) e.0 (rule_of_end end)
+          → Broken h (datagrams b.es) e.0 (Rule.Block end)
       by here main (Some t) is broken =
           let (asked, first, known) = terms_back h b.es t b.spelled (sym is) in
-          back h (datagrams b.es) e.0 e.1 asked main here first (rule_of_end end) (end_breaks h asked (transfer_of h (datagrams b.es)) e.0.dir e.1 t known end broken)
+          back h (datagrams b.es) e.0 e.1 asked main here first (Rule.Block end) (end_breaks h asked (transfer_of h (datagrams b.es)) e.0.dir e.1 t known end broken)
       by here main None is broken = absurd broken
 
 -- an OACK after the first answer is none of the first, and below rule n it breaks none of their rules, where it says the

@@ -3,7 +3,7 @@ use Rattle.std.proofs.Common.{◌≡◌, ℕ, List, [], ◌∷◌, ◌++◌, ◌
 use Rattle.tftp_packet.specs.{Num, Get}
 use Rattle.tftp_hosts.specs.{Datagram, Header}
 use Rattle.tftp_model.specs.{Meaning, two_bytes, eight_a_block}
-use Rattle.tftp_rules.specs.{NoReply, Plain}
+use Rattle.tftp_rules.specs.{NoReply, Plain, EndRule}
 use Rattle.tftp_law.specs.{IsAborted, AbortedBy, Local, Peer, IsLawful, IsRefused, Meant, plain_terms, Rule}
 use Rattle.tftp_law.proofs.Whole.TwoEnds.{whole}
 use Rattle.tftp_judge.specs.{IsVerdict, Unlawful, Aborted}
@@ -74,5 +74,5 @@ another_verdict = unlawful_last at_client read_refused says_forbidden Rule.After
 pub ack_verdict : IsVerdict at_client (read_given_up ++ acknowledges_hi ∷ []) (Err (Unlawful 4 Rule.AfterError))
 ack_verdict = unlawful_last at_client read_given_up acknowledges_hi Rule.AfterError given_up_lawful ack_is_unlawful ack_refused 4 refl
 
-pub late_verdict : IsVerdict at_client (before_late_answer ++ late_answer ∷ []) (Err (Unlawful 7 Rule.WindowOverrun))
-late_verdict = unlawful_last at_client before_late_answer late_answer Rule.WindowOverrun late_lawful late_is_unlawful late_refused 7 refl
+pub late_verdict : IsVerdict at_client (before_late_answer ++ late_answer ∷ []) (Err (Unlawful 7 (Rule.Block EndRule.WindowOverrun)))
+late_verdict = unlawful_last at_client before_late_answer late_answer (Rule.Block EndRule.WindowOverrun) late_lawful late_is_unlawful late_refused 7 refl

@@ -10,7 +10,7 @@ use Rattle.tftp_packet.proofs.NoFault.{no_fault}
 use Rattle.tftp_model.specs.Roles.{sender_of}
 use Rattle.tftp_rules.specs.{author_of, Route, asks, first_of, route_of, is_of_transfer, transfer_of, SaysUnknownId, Passed, HasPassed, BlockPassed, IsTop, IsHigh, IsLast, LastIsUnknown, IsNotLengthOf, HasWrongLength, BlocksWait, AckZeroWaits, IsSender, IsAckedAt, IsReachedAt, BlockBreaks, AckBreaks, EndBroken, usable, Terms, EndRule}
 use Rattle.tftp_nego.specs.{Holds, NegoFault}
-use Rattle.tftp_law.specs.{number_of, rule_of_end, FirstAsked, Agrees, Begins, NotAnswered, FirstAnswer, AreTerms, IsError, IsWrongKind, GoesOn, BlockSent, ClientWentOn, TermsBreak, KindBreaks, MessageBreaks, MessageBroken, Broken, Rule, IsRead, Passes}
+use Rattle.tftp_law.specs.{number_of, FirstAsked, Agrees, Begins, NotAnswered, FirstAnswer, AreTerms, IsError, IsWrongKind, GoesOn, BlockSent, ClientWentOn, TermsBreak, KindBreaks, MessageBreaks, MessageBroken, Broken, Rule, IsRead, Passes}
 use Rattle.tftp_law.proofs.Spelled.{spelled_once}
 use Rattle.tftp_worked.proofs.Payloads.{Spelled, datagrams, AllSpelled, all_from}
 use Rattle.tftp_worked.proofs.Passing.{same_dir, as_block, holds, block_is, passed_as, main_of, main_is, main_spelled, used_of, all_used, used_is, every, some, every_is, some_is, first_asked, first_is, asked_by, asked_is, first_answer, answered_is}
@@ -381,16 +381,16 @@ module _ (h : Header) (es : List Spelled) (e : Spelled) (s : AllSpelled es) (her
     pub none_early : (n : ℕ) → OackKeeps n → keeps_below n h t es e ≡ true → (rule : Rule) → IsEarly n (number_of rule) → Broken h (datagrams es) e.0 rule → ⊥
     none_early n o is =
         let end_test = λ (r : EndRule). not (is_main h es e) || end_keeps t (main_of h es) e.1 r in
-        let parts = and_parts (list_all (λ r. (nat_le n (number_of r) && nat_le n 27) || keeps h t es e r) tested) (list_all (λ r. (nat_le n (number_of (rule_of_end r)) && nat_le n 27) || end_test r) end_rules) is in
+        let parts = and_parts (list_all (λ r. (nat_le n (number_of r) && nat_le n 27) || keeps h t es e r) tested) (list_all (λ r. (nat_le n (number_of (Rule.Block r)) && nat_le n 27) || end_test r) end_rules) is in
         by (all_from (λ r. (nat_le n (number_of r) && nat_le n 27) || keeps h t es e r) (λ r. IsEarly n (number_of r) → keeps h t es e r ≡ true) (λ r. kept_early n (number_of r) (keeps h t es e r)) tested parts.0)
-        (all_from (λ r. (nat_le n (number_of (rule_of_end r)) && nat_le n 27) || end_test r) (λ r. IsEarly n (number_of (rule_of_end r)) → end_test r ≡ true) (λ r. kept_early n (number_of (rule_of_end r)) (end_test r)) end_rules parts.1)
+        (all_from (λ r. (nat_le n (number_of (Rule.Block r)) && nat_le n 27) || end_test r) (λ r. IsEarly n (number_of (Rule.Block r)) → end_test r ≡ true) (λ r. kept_early n (number_of (Rule.Block r)) (end_test r)) end_rules parts.1)
       where
         -- by what it says
         said : AllByRecursion (λ r. IsEarly n (number_of r) → keeps h t es e r ≡ true) tested
-            → AllByRecursion (λ r. IsEarly n (number_of (rule_of_end r)) → (not (is_main h es e) || end_keeps t (main_of h es) e.1 r) ≡ true) end_rules
+            → AllByRecursion (λ r. IsEarly n (number_of (Rule.Block r)) → (not (is_main h es e) || end_keeps t (main_of h es) e.1 r) ≡ true) end_rules
             → (rule : Rule) → IsEarly n (number_of rule) → MessageBroken h (datagrams es) e.0 rule → ⊥
         said k l rule low b = of_message b.message (spelled_once e.0.payload e.1 b.message here b.says.spells) rule low b.breaks where
-          ends : (f : EndRule) → IsEarly n (number_of (rule_of_end f)) → (not (is_main h es e) || end_keeps t (main_of h es) e.1 f) ≡ true
+          ends : (f : EndRule) → IsEarly n (number_of (Rule.Block f)) → (not (is_main h es e) || end_keeps t (main_of h es) e.1 f) ≡ true
           ends EndRule.NotStarted below = l.0 below
           ends EndRule.BlockZero below = l.1.0 below
           ends EndRule.BeyondBlock65535 below = l.1.1.0 below
@@ -420,7 +420,7 @@ module _ (h : Header) (es : List Spelled) (e : Spelled) (s : AllSpelled es) (her
           of_kind (Message.Oack oack) says Rule.OptionNotRequested below is = of_first oack says NegoFault.OptionNotRequested (omega arith) below is
           of_kind (Message.Oack oack) says Rule.OptionOutsideProfile below is = of_first oack says NegoFault.OptionOutsideProfile (omega arith) below is
           of_kind (Message.Oack oack) says Rule.OptionValue below is = of_first oack says NegoFault.OptionValue (omega arith) below is
-          of_kind (Message.Oack oack) says Rule.BeyondBlock65535 below is = of_first oack says NegoFault.BeyondBlock65535 (omega arith) below is
+          of_kind (Message.Oack oack) says (Rule.Block EndRule.BeyondBlock65535) below is = of_first oack says NegoFault.BeyondBlock65535 (omega arith) below is
           of_kind (Message.Oack oack) says Rule.OackChanged below is =
               o.changed (early n 16 (omega arith) below) (record { asked = b.asked; first = b.first; oack = oack; says = says; agreed = is.0; answered = is.1; differs = is.2 })
           of_kind (Message.Oack oack) says Rule.OackAfterStart below is = early_oack b.asked b.first b.says.routed oack says (k.1.1.1.1.1.1.1.1.1.0 below) is.2
@@ -436,7 +436,7 @@ module _ (h : Header) (es : List Spelled) (e : Spelled) (s : AllSpelled es) (her
           of_message m says r below (inr (inr kind)) = of_kind m says r below kind
 
         by : AllByRecursion (λ r. IsEarly n (number_of r) → keeps h t es e r ≡ true) tested
-            → AllByRecursion (λ r. IsEarly n (number_of (rule_of_end r)) → (not (is_main h es e) || end_keeps t (main_of h es) e.1 r) ≡ true) end_rules
+            → AllByRecursion (λ r. IsEarly n (number_of (Rule.Block r)) → (not (is_main h es e) || end_keeps t (main_of h es) e.1 r) ≡ true) end_rules
             → (rule : Rule) → IsEarly n (number_of rule) → Broken h (datagrams es) e.0 rule → ⊥
         by k l Rule.ForeignPort low b = not_foreign_port (k.0 low) b
         by k l Rule.WrongPort low b = not_wrong_port (k.1.0 low) b

@@ -36,7 +36,7 @@ in_four = after at_client read_by_four four_news refl
 in_four_acked : IsAcked (transfer_of at_client (datagrams in_four.es)) 2
 in_four_acked = record { member = inr (inl (refl, ack_spells 2 refl)); most = most_acked at_client in_four 2 refl }
 
-pub overrun_refused : IsRefused at_client (reverse before_overrun) block_seven Rule.WindowOverrun
+pub overrun_refused : IsRefused at_client (reverse before_overrun) block_seven (Rule.Block EndRule.WindowOverrun)
 overrun_refused = refused_end at_client in_four (came 7 (codes "77777777")) EndRule.WindowOverrun refl (2, inr (refl, in_four_acked), omega arith)
 
 -- ---- a block that was sent before a later one, in lock step
@@ -50,7 +50,7 @@ back_top = record {
   most = λ k block. most_sent at_client went_back 2 refl k block.0 block.1;
 }
 
-pub back_refused : IsRefused at_client (reverse before_going_back) goes_back Rule.GoneBack
+pub back_refused : IsRefused at_client (reverse before_going_back) goes_back (Rule.Block EndRule.GoneBack)
 back_refused = refused_end at_client went_back (went 1 ones) EndRule.GoneBack refl (refl, refl, (2, back_top, omega arith))
 
 -- ---- a block that was left out
@@ -58,7 +58,7 @@ back_refused = refused_end at_client went_back (went 1 ones) EndRule.GoneBack re
 skip_top : IsTop (transfer_of at_client (datagrams write_by_two.es)) 0
 skip_top = record { member = inl refl; most = λ k block. most_sent at_client write_by_two 0 refl k block.0 block.1 }
 
-pub skip_refused : IsRefused at_client (reverse before_skip) block_two Rule.BlockSkipped
+pub skip_refused : IsRefused at_client (reverse before_skip) block_two (Rule.Block EndRule.BlockSkipped)
 skip_refused = refused_end at_client write_by_two (went 2 twos) EndRule.BlockSkipped refl (refl, (0, skip_top, omega arith))
 
 -- ---- ACK 0 before a block
@@ -73,12 +73,12 @@ no_block_yet k bytes p = elim p [
     no_block dir (Message.Data i b) = false
     no_block dir _ = true
 
-pub zero_refused : IsRefused at_client (reverse before_ack_zero) ack_zero Rule.AckZero
+pub zero_refused : IsRefused at_client (reverse before_ack_zero) ack_zero (Rule.Block EndRule.AckZero)
 zero_refused = refused_end at_client write_by_four (acked 0) EndRule.AckZero refl (refl, no_block_yet)
 
 -- ---- block 65535, as long as a block
 
-pub last_refused : IsRefused at_client (reverse before_last_number) last_number Rule.BeyondBlock65535
+pub last_refused : IsRefused at_client (reverse before_last_number) last_number (Rule.Block EndRule.BeyondBlock65535)
 last_refused = refused_end at_client (after at_client read_by_most (acks 0 ∷ []) refl) (last_number, Message.Data 65535 ones) EndRule.BeyondBlock65535 refl (refl, omega arith)
 
 -- ---- ten bytes
@@ -86,10 +86,10 @@ last_refused = refused_end at_client (after at_client read_by_most (acks 0 ∷ [
 other_bytes : ones ≡ codes "11111112" → ⊥
 other_bytes e = let is : false ≡ true = (bytes_eq-Decides ones (codes "11111112")).1 e in false≢true is
 
-pub changed_refused : IsRefused at_client (reverse before_changed_block) changed_block Rule.BlockChanged
+pub changed_refused : IsRefused at_client (reverse before_changed_block) changed_block (Rule.Block EndRule.BlockChanged)
 changed_refused = refused_end at_client (after at_client read_of_ten changed_news refl) (came 1 (codes "11111112")) EndRule.BlockChanged refl (ones, inl (inl (refl, data_spells 1 ones refl)), other_bytes)
 
-pub short_refused : IsRefused at_client (reverse before_short_block) short_block Rule.BlockLength
+pub short_refused : IsRefused at_client (reverse before_short_block) short_block (Rule.Block EndRule.BlockLength)
 short_refused = refused_end at_client (after at_client read_of_ten (acks 1 ∷ changed_news) refl) (came 2 (codes "2")) EndRule.BlockLength refl
     (inr (inl (2, inr (10, refl, omega arith), inr (inr (inr (refl, 10, refl, (λ e. omega arith)))))))
 
@@ -105,5 +105,5 @@ no_zero_yet p = elim p [
     no_ack dir (Message.Ack j) = false
     no_ack dir _ = true
 
-pub early_refused : IsRefused at_client (reverse before_taking_offer) block_too_early Rule.NotStarted
+pub early_refused : IsRefused at_client (reverse before_taking_offer) block_too_early (Rule.Block EndRule.NotStarted)
 early_refused = refused_end at_client read_by_four (came 1 ones) EndRule.NotStarted refl no_zero_yet

@@ -104,7 +104,7 @@ stopped = after at_client read_by_eight stopped_news refl
 late_acked : IsAcked (usable (transfer_of at_client (datagrams stopped.es))) 0
 late_acked = record { member = inl refl; most = most_used at_client stopped 0 refl }
 
-pub late_refused : IsRefused at_client (reverse before_late_answer) late_answer Rule.WindowOverrun
+pub late_refused : IsRefused at_client (reverse before_late_answer) late_answer (Rule.Block EndRule.WindowOverrun)
 late_refused = refused_end at_client stopped (came 2 (codes "89")) EndRule.WindowOverrun refl (0, inr (refl, late_acked), omega arith)
 
 -- ---- at a server that has not answered

@@ -49,7 +49,7 @@ unasked_refused = record {
 pub kind_refused : IsRefused at_client (reverse only_asked) ack_zero Rule.WrongKind
 kind_refused = refused_next at_client plain_asked (ack_zero, Message.Ack 0) Rule.WrongKind (ack_spells 0 refl) refl (breaks_so at_client plain_asked (ack_zero, Message.Ack 0) asked Rule.WrongKind (ack_spells 0 refl) refl refl (inl (refl, tt)))
 
-pub zero_block_refused : IsRefused at_client (reverse only_asked) block_zero Rule.BlockZero
+pub zero_block_refused : IsRefused at_client (reverse only_asked) block_zero (Rule.Block EndRule.BlockZero)
 zero_block_refused = refused_end at_client plain_asked (block_zero, Message.Data 0 []) EndRule.BlockZero refl refl
 
 -- ---- an ACK of a block that has not come
@@ -64,20 +64,20 @@ begun_front = record {
   next = λ later. false≢true (every_is at_client plain_begun.es is_first In (Message.Data 2 later.0) plain_begun.spelled refl later.1);
 }
 
-pub ahead_refused : IsRefused at_client (reverse read_without_its_ack) acknowledges_two Rule.AckAhead
+pub ahead_refused : IsRefused at_client (reverse read_without_its_ack) acknowledges_two (Rule.Block EndRule.AckAhead)
 ahead_refused = refused_end at_client plain_begun (acknowledges_two, Message.Ack 2) EndRule.AckAhead refl (1, inr (refl, begun_front), omega arith)
 
 -- ---- OACKs
 
-too_many : Broken at_client (datagrams size_asked.es) too_many_blocks Rule.BeyondBlock65535
+too_many : Broken at_client (datagrams size_asked.es) too_many_blocks (Rule.Block EndRule.BeyondBlock65535)
 too_many =
     let here = oack_spells (sized (codes "524280")) (eight_and_size 524280) refl many_is in
     let unanswered = unanswered_there at_client Get size_asked.es size_asked.spelled refl in
     let wrong : Holds NegoFault.BeyondBlock65535 (asks_for Get (eight_and_size 0)) (eight_and_size 524280)
     = (524280, refl, found blksize tsize 8 524280 tsize, subst (λ b. 65535 < 524280 / b + 1) (sym (ap (number_or 512) (found blksize tsize 8 524280 blksize))) (omega arith)) in
-    breaks_so at_client size_asked (too_many_blocks, Message.Oack (eight_and_size 524280)) (asks_for Get (eight_and_size 0)) Rule.BeyondBlock65535 here refl refl (inr (inr (unanswered, wrong)))
+    breaks_so at_client size_asked (too_many_blocks, Message.Oack (eight_and_size 524280)) (asks_for Get (eight_and_size 0)) (Rule.Block EndRule.BeyondBlock65535) here refl refl (inr (inr (unanswered, wrong)))
 
-pub many_refused : IsRefused at_client (reverse (asks_for_size ∷ [])) too_many_blocks Rule.BeyondBlock65535
+pub many_refused : IsRefused at_client (reverse (asks_for_size ∷ [])) too_many_blocks (Rule.Block EndRule.BeyondBlock65535)
 many_refused =
     let offer : Spelled = (too_many_blocks, Message.Oack (eight_and_size 524280)) in
     let request : RequestParts = asks_for Get (eight_and_size 0) in

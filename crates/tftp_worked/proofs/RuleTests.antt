@@ -6,7 +6,7 @@ use Rattle.tftp_packet.specs.{Message, Side, Get, Put, End, Client, Server}
 use Rattle.tftp_hosts.specs.{Dir, In, Out, Header}
 use Rattle.tftp_model.specs.Roles.{sender_of, receiver_of}
 use Rattle.tftp_rules.specs.{author_of, Route, route_of, is_of_transfer, Reply, NoReply, Plain, Oacked, Terms, EndRule, NotStarted, BlockZero, BeyondBlock65535, BlockLength, WindowOverrun, BlockSkipped, GoneBack, BlockChanged, AckAhead, AckZero}
-use Rattle.tftp_law.specs.{Answer, Begins, number_of, rule_of_end, Rule}
+use Rattle.tftp_law.specs.{Answer, Begins, number_of, Rule}
 use Rattle.tftp_worked.proofs.Payloads.{Spelled, datagrams}
 use Rattle.tftp_worked.proofs.Passing.{same_dir, as_block, as_ack, holds, main_of, used_of, every, some, first_asked, asked_by, first_answer}
 
@@ -239,4 +239,4 @@ end_rules = NotStarted ∷ BlockZero ∷ BeyondBlock65535 ∷ BlockLength ∷ Wi
 abbrev pub keeps_below : ℕ → Header → Option Terms → List Spelled → Spelled → Bool
 keeps_below n h t es e =
     list_all (λ rule. (nat_le n (number_of rule) && nat_le n 27) || keeps h t es e rule) tested
-    && list_all (λ rule. (nat_le n (number_of (rule_of_end rule)) && nat_le n 27) || (not (is_main h es e) || end_keeps t (main_of h es) e.1 rule)) end_rules
+    && list_all (λ rule. (nat_le n (number_of (Rule.Block rule)) && nat_le n 27) || (not (is_main h es e) || end_keeps t (main_of h es) e.1 rule)) end_rules

@@ -55,10 +55,10 @@ none_acked = record {
     is_no_ack dir (Message.Ack j) = false
     is_no_ack dir _ = true
 
-overrun_refused : IsRefused worked_header (asks ∷ []) (brings 2) Rule.WindowOverrun
+overrun_refused : IsRefused worked_header (asks ∷ []) (brings 2) (Rule.Block EndRule.WindowOverrun)
 overrun_refused = refused_end worked_header begun (brings 2, Message.Data 2 (codes "hi")) EndRule.WindowOverrun refl (0, inr (refl, none_acked), omega arith)
 
-overrun_by_rules : IsVerdictByRules worked_header (read_of 2) (Err (Unlawful 2 Rule.WindowOverrun))
+overrun_by_rules : IsVerdictByRules worked_header (read_of 2) (Err (Unlawful 2 (Rule.Block EndRule.WindowOverrun)))
 overrun_by_rules = record {
   before = asks ∷ [];
   datagram = brings 2;
@@ -66,16 +66,16 @@ overrun_by_rules = record {
   split = refl;
   index_is = refl;
   lawful = begun.lawful;
-  unlawful = λ passes. refused_does_not_pass worked_header (asks ∷ []) (brings 2) Rule.WindowOverrun overrun_refused passes;
+  unlawful = λ passes. refused_does_not_pass worked_header (asks ∷ []) (brings 2) (Rule.Block EndRule.WindowOverrun) overrun_refused passes;
   broken = overrun_refused.broken;
 }
 
-pub overrun_refused_at : IsTextVerdict overrun_text (Err (Refused (Unlawful 2 Rule.WindowOverrun)))
+pub overrun_refused_at : IsTextVerdict overrun_text (Err (Refused (Unlawful 2 (Rule.Block EndRule.WindowOverrun))))
 overrun_refused_at = (
   worked_header,
   numbered 4 (read_of 2),
   capture_begins overrun_text worked_header (numbered 4 (read_of 2)) overrun_said,
-  (verdict worked_header (read_of 2) (Err (Unlawful 2 Rule.WindowOverrun))).1 overrun_by_rules,
+  (verdict worked_header (read_of 2) (Err (Unlawful 2 (Rule.Block EndRule.WindowOverrun)))).1 overrun_by_rules,
 )
 
 -- ---- a version that there is not

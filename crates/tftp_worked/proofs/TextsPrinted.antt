@@ -10,6 +10,7 @@ use Rattle.tftp_capture.specs.{numbered, line, worked_header, worked_text, BadHe
 use Rattle.tftp_capture.specs.declared.fault.CaptureFault.TheVariants.{Text}
 use Rattle.tftp_model.specs.{two_bytes}
 use Rattle.tftp_model.proofs.Worked.{one_block, two_is_plan}
+use Rattle.tftp_rules.specs.{EndRule}
 use Rattle.tftp_law.specs.{Rule}
 use Rattle.tftp_judge.specs.{Unlawful, Capture, Refused}
 use Rattle.tftp_normal.specs.{normal_count, opening_count, window_count, two_bytes_text}
@@ -30,7 +31,7 @@ no_failure none = (λ p. absurd (none p), λ e. absurd (false≢true e))
 read_judged : IsJudged (given worked_text) (Ok two_bytes)
 read_judged = record { is_said = read_accepted; at_end = λ _. refl; failed = no_failure (λ p. p) }
 
-overrun_judged : IsJudged (given overrun_text) (Err (Refused (Unlawful 2 Rule.WindowOverrun)))
+overrun_judged : IsJudged (given overrun_text) (Err (Refused (Unlawful 2 (Rule.Block EndRule.WindowOverrun))))
 overrun_judged = record { is_said = overrun_refused_at; at_end = λ none. absurd none; failed = no_failure (λ p. p) }
 
 unversioned_judged : IsJudged (given unversioned_text) (Err (Capture (Text 1 BadHeader)))
@@ -51,7 +52,7 @@ read_checked = record { said = Ok two_bytes; judged = read_judged; is = sym (ap 
 
 pub overrun_checked : IsChecked (given overrun_text) (with_refusal (line (codes "refused datagram 2 rule 22 WindowOverrun")))
 unfolding digits
-overrun_checked = record { said = Err (Refused (Unlawful 2 Rule.WindowOverrun)); judged = overrun_judged; is = refl }
+overrun_checked = record { said = Err (Refused (Unlawful 2 (Rule.Block EndRule.WindowOverrun))); judged = overrun_judged; is = refl }
 
 pub unversioned_checked : IsChecked (given unversioned_text) (with_fault (line (codes "fault line 1 BadHeader")))
 unfolding digits

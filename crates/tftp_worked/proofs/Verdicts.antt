@@ -2,6 +2,7 @@
 use Rattle.std.proofs.Common.{List, [], ◌∷◌, ◌++◌, reverse, Ok, Err, refl}
 use Rattle.tftp_hosts.specs.{Datagram, Header}
 use Rattle.tftp_model.specs.{Meaning, two_bytes, six_blocks}
+use Rattle.tftp_rules.specs.{EndRule}
 use Rattle.tftp_law.specs.{Rule, Shows, IsNotAborted}
 use Rattle.tftp_judge.specs.{IsVerdict, IsVerdictByRules, Unlawful, Incomplete}
 use Rattle.tftp_worked.specs.{at_client, one_block_read, read_without_its_ack, window_out_of_order, before_overrun, block_seven}
@@ -30,7 +31,7 @@ begin_has_no_error = no_errors plain_begun.es plain_begun.spelled refl
 pub begin_incomplete : IsVerdict at_client read_without_its_ack (Err (Incomplete 2))
 begin_incomplete = (begin_is_lawful, (λ m shown. begin_shows_nothing m shown.0 shown.1), begin_has_no_error, refl)
 
-pub overrun_verdict : IsVerdict at_client (before_overrun ++ block_seven ∷ []) (Err (Unlawful 8 Rule.WindowOverrun))
+pub overrun_verdict : IsVerdict at_client (before_overrun ++ block_seven ∷ []) (Err (Unlawful 8 (Rule.Block EndRule.WindowOverrun)))
 overrun_verdict = record {
   before = before_overrun;
   datagram = block_seven;
@@ -45,7 +46,7 @@ overrun_verdict = record {
 pub read_by_rules : IsVerdictByRules at_client one_block_read (Ok two_bytes)
 read_by_rules = (plain_passes, plain_meant, read_is_shown.writable)
 
-pub overrun_by_rules : IsVerdictByRules at_client (before_overrun ++ block_seven ∷ []) (Err (Unlawful 8 Rule.WindowOverrun))
+pub overrun_by_rules : IsVerdictByRules at_client (before_overrun ++ block_seven ∷ []) (Err (Unlawful 8 (Rule.Block EndRule.WindowOverrun)))
 overrun_by_rules = record {
   before = before_overrun;
   datagram = block_seven;
@@ -53,6 +54,6 @@ overrun_by_rules = record {
   split = refl;
   index_is = refl;
   lawful = overrun_refused.lawful;
-  unlawful = λ passes. refused_does_not_pass at_client (reverse before_overrun) block_seven Rule.WindowOverrun overrun_refused passes;
+  unlawful = λ passes. refused_does_not_pass at_client (reverse before_overrun) block_seven (Rule.Block EndRule.WindowOverrun) overrun_refused passes;
   broken = overrun_refused.broken;
 }

@@ -3,6 +3,7 @@
 //! nothing.
 
 ghost use Rattle.std.specs.Prelude.{[], ◌∷◌, reverse};
+ghost use Rattle.tftp_rules.specs.{EndRule};
 ghost use Rattle.tftp_law.specs.{Rule, OneEnded, IsRefused, Meant};
 ghost use Rattle.tftp_model.specs.{two_bytes};
 ghost use Rattle.tftp_worked.specs.Worked.{at_client, brings_hi, acknowledges_hi, acknowledges_two, one_block_read, read_without_its_ack};
@@ -113,7 +114,7 @@ pub fn an_end_goes_no_further_than_its_error()
 
 /// What comes in after an ERROR was sent before it, and so no block answers an ACK that went out after the ERROR came in.
 pub fn blocks_answer_no_ack_after_an_error()
-    ensures { IsRefused at_client (reverse before_late_answer) late_answer Rule.WindowOverrun }
+    ensures { IsRefused at_client (reverse before_late_answer) late_answer (Rule.Block EndRule.WindowOverrun) }
 {}
 
 /// A server that has not answered is asked at the service port, and nothing else comes there (RFC 1350, section 4).
@@ -123,7 +124,7 @@ pub fn server_is_stopped_once_it_has_answered()
 
 /// No block is acknowledged before it and all below it have come in (RFC 1350, section 2).
 pub fn acks_follow_the_blocks()
-    ensures { IsRefused at_client (reverse read_without_its_ack) acknowledges_two Rule.AckAhead }
+    ensures { IsRefused at_client (reverse read_without_its_ack) acknowledges_two (Rule.Block EndRule.AckAhead) }
 {}
 
 /// An OACK comes before the file or not at all, and says one thing (RFC 2347).
@@ -136,31 +137,31 @@ pub fn one_reply_answers_a_request()
 /// With options the first block of a read waits for ACK 0 (RFC 2347), and block numbers begin with 1 (RFC 1350,
 /// section 5).
 pub fn blocks_begin_in_order()
-    ensures early { IsRefused at_client (reverse before_taking_offer) block_too_early Rule.NotStarted }
-    ensures zero { IsRefused at_client (reverse only_asked) block_zero Rule.BlockZero }
+    ensures early { IsRefused at_client (reverse before_taking_offer) block_too_early (Rule.Block EndRule.NotStarted) }
+    ensures zero { IsRefused at_client (reverse only_asked) block_zero (Rule.Block EndRule.BlockZero) }
 {}
 
 /// Blocks have numbers of two bytes (RFC 1350, section 5). Block 65535 is the last, and so is shorter than a block; and a
 /// size that needs more blocks may not be agreed.
 pub fn blocks_end_at_65535()
-    ensures block { IsRefused at_client (reverse before_last_number) last_number Rule.BeyondBlock65535 }
-    ensures size { IsRefused at_client (reverse (asks_for_size ∷ [])) too_many_blocks Rule.BeyondBlock65535 }
+    ensures block { IsRefused at_client (reverse before_last_number) last_number (Rule.Block EndRule.BeyondBlock65535) }
+    ensures size { IsRefused at_client (reverse (asks_for_size ∷ [])) too_many_blocks (Rule.Block EndRule.BeyondBlock65535) }
 {}
 
 /// The agreed size says which block is the last and how long it is (RFC 2349), and a block that comes again is the same.
 pub fn blocks_are_those_of_the_file()
-    ensures length { IsRefused at_client (reverse before_short_block) short_block Rule.BlockLength }
-    ensures changed { IsRefused at_client (reverse before_changed_block) changed_block Rule.BlockChanged }
+    ensures length { IsRefused at_client (reverse before_short_block) short_block (Rule.Block EndRule.BlockLength) }
+    ensures changed { IsRefused at_client (reverse before_changed_block) changed_block (Rule.Block EndRule.BlockChanged) }
 {}
 
 /// Blocks go in order and at most a window ahead (RFC 7440, section 4), and in lock step never back (RFC 1350, section 2).
 pub fn blocks_keep_to_the_window()
-    ensures overrun { IsRefused at_client (reverse before_overrun) block_seven Rule.WindowOverrun }
-    ensures skipped { IsRefused at_client (reverse before_skip) block_two Rule.BlockSkipped }
-    ensures back { IsRefused at_client (reverse before_going_back) goes_back Rule.GoneBack }
+    ensures overrun { IsRefused at_client (reverse before_overrun) block_seven (Rule.Block EndRule.WindowOverrun) }
+    ensures skipped { IsRefused at_client (reverse before_skip) block_two (Rule.Block EndRule.BlockSkipped) }
+    ensures back { IsRefused at_client (reverse before_going_back) goes_back (Rule.Block EndRule.GoneBack) }
 {}
 
 /// On a write with options ACK 0 has nothing to answer before a block has gone out (RFC 2347).
 pub fn ack_zero_answers_something()
-    ensures { IsRefused at_client (reverse before_ack_zero) ack_zero Rule.AckZero }
+    ensures { IsRefused at_client (reverse before_ack_zero) ack_zero (Rule.Block EndRule.AckZero) }
 {}

@@ -5,6 +5,7 @@ ghost use Rattle.std.specs.Prelude.{◌∷◌, ◌++◌, false, Ok, Err, codes};
 ghost use Rattle.tftp_capture.specs.{line, worked_text, BadHeader};
 ghost use Rattle.tftp_capture.specs.declared.fault.CaptureFault.TheVariants.{Text};
 ghost use Rattle.tftp_model.specs.{two_bytes};
+ghost use Rattle.tftp_rules.specs.{EndRule};
 ghost use Rattle.tftp_law.specs.{Rule};
 ghost use Rattle.tftp_judge.specs.{IsTextVerdict, Unlawful, Capture, Refused};
 ghost use Rattle.tftp_normal.specs.{line_end_cut, two_bytes_text};
@@ -15,7 +16,7 @@ ghost use Rattle.tftp_worked.specs.WorkedTexts.{lines_text, overrun_text, unvers
 /// one with a fault has it as its verdict.
 pub fn texts_have_their_verdicts()
     ensures accepted { IsTextVerdict worked_text (Ok two_bytes) }
-    ensures refused { IsTextVerdict overrun_text (Err (Refused (Unlawful 2 Rule.WindowOverrun))) }
+    ensures refused { IsTextVerdict overrun_text (Err (Refused (Unlawful 2 (Rule.Block EndRule.WindowOverrun)))) }
     ensures fault { IsTextVerdict unversioned_text (Err (Capture (Text 1 BadHeader))) }
 {}
 

@@ -3,6 +3,7 @@
 
 ghost use Rattle.std.specs.Prelude.{[], ◌∷◌, ◌++◌, Ok, Err};
 ghost use Rattle.tftp_model.specs.{two_bytes, six_blocks};
+ghost use Rattle.tftp_rules.specs.{EndRule};
 ghost use Rattle.tftp_law.specs.{Rule, Local, Peer};
 ghost use Rattle.tftp_judge.specs.{IsVerdict, IsVerdictByRules, Unlawful, Aborted, Incomplete};
 ghost use Rattle.tftp_worked.specs.Worked.{at_client, brings_hi, acknowledges_hi, acknowledges_two, one_block_read, read_without_its_ack};
@@ -60,7 +61,7 @@ pub fn shown_is_accepted()
 /// The rules say the same of the read, and of the capture with a block beyond the window.
 pub fn rules_give_the_verdict()
     ensures accepted { IsVerdictByRules at_client one_block_read (Ok two_bytes) }
-    ensures refused { IsVerdictByRules at_client (before_overrun ++ block_seven ∷ []) (Err (Unlawful 8 Rule.WindowOverrun)) }
+    ensures refused { IsVerdictByRules at_client (before_overrun ++ block_seven ∷ []) (Err (Unlawful 8 (Rule.Block EndRule.WindowOverrun))) }
 {}
 
 /// A lawful capture that shows none is incomplete, with the number of its datagrams.
@@ -70,7 +71,7 @@ pub fn beginning_is_incomplete()
 
 /// The first datagram that no run has is named, from 1, with the first rule that it breaks.
 pub fn overrun_is_unlawful()
-    ensures { IsVerdict at_client (before_overrun ++ block_seven ∷ []) (Err (Unlawful 8 Rule.WindowOverrun)) }
+    ensures { IsVerdict at_client (before_overrun ++ block_seven ∷ []) (Err (Unlawful 8 (Rule.Block EndRule.WindowOverrun))) }
 {}
 
 /// A lawful capture that shows none, and in which an ERROR was sent, was aborted by the end that sent the first one, with
@@ -93,7 +94,7 @@ pub fn whole_transfer_is_accepted_with_an_error()
 pub fn what_follows_an_error_is_unlawful()
     ensures another { IsVerdict at_client (read_refused ++ says_forbidden ∷ []) (Err (Unlawful 3 Rule.AfterError)) }
     ensures ack { IsVerdict at_client (read_given_up ++ acknowledges_hi ∷ []) (Err (Unlawful 4 Rule.AfterError)) }
-    ensures late { IsVerdict at_client (before_late_answer ++ late_answer ∷ []) (Err (Unlawful 7 Rule.WindowOverrun)) }
+    ensures late { IsVerdict at_client (before_late_answer ++ late_answer ∷ []) (Err (Unlawful 7 (Rule.Block EndRule.WindowOverrun))) }
 {}
 
 /// What breaks a rule of ports is in no run, and is named with that rule (RFC 1350, section 4).
@@ -110,22 +111,22 @@ pub fn requests_and_replies_have_their_verdicts()
     ensures reply { IsVerdict at_client (before_changed_reply ++ agrees_to_four ∷ []) (Err (Unlawful 3 Rule.ReplyChanged)) }
     ensures oack { IsVerdict at_client (before_taking_offer ++ agrees_to_eight ∷ []) (Err (Unlawful 3 Rule.OackChanged)) }
     ensures late_oack { IsVerdict at_service (before_late_oack ++ late_oack ∷ []) (Err (Unlawful 5 Rule.OackAfterStart)) }
-    ensures too_many { IsVerdict at_client (asks_for_size ∷ too_many_blocks ∷ []) (Err (Unlawful 2 Rule.BeyondBlock65535)) }
+    ensures too_many { IsVerdict at_client (asks_for_size ∷ too_many_blocks ∷ []) (Err (Unlawful 2 (Rule.Block EndRule.BeyondBlock65535))) }
 {}
 
 /// What breaks a rule of blocks is named with that rule (RFC 1350, sections 2 and 5; RFC 2349; RFC 7440, section 4).
 pub fn blocks_have_their_verdicts()
-    ensures early { IsVerdict at_client (before_taking_offer ++ block_too_early ∷ []) (Err (Unlawful 3 Rule.NotStarted)) }
-    ensures zero { IsVerdict at_client (only_asked ++ block_zero ∷ []) (Err (Unlawful 2 Rule.BlockZero)) }
-    ensures last { IsVerdict at_client (before_last_number ++ last_number ∷ []) (Err (Unlawful 4 Rule.BeyondBlock65535)) }
-    ensures short { IsVerdict at_client (before_short_block ++ short_block ∷ []) (Err (Unlawful 6 Rule.BlockLength)) }
-    ensures skipped { IsVerdict at_client (before_skip ++ block_two ∷ []) (Err (Unlawful 3 Rule.BlockSkipped)) }
-    ensures back { IsVerdict at_client (before_going_back ++ goes_back ∷ []) (Err (Unlawful 7 Rule.GoneBack)) }
-    ensures changed { IsVerdict at_client (before_changed_block ++ changed_block ∷ []) (Err (Unlawful 5 Rule.BlockChanged)) }
+    ensures early { IsVerdict at_client (before_taking_offer ++ block_too_early ∷ []) (Err (Unlawful 3 (Rule.Block EndRule.NotStarted))) }
+    ensures zero { IsVerdict at_client (only_asked ++ block_zero ∷ []) (Err (Unlawful 2 (Rule.Block EndRule.BlockZero))) }
+    ensures last { IsVerdict at_client (before_last_number ++ last_number ∷ []) (Err (Unlawful 4 (Rule.Block EndRule.BeyondBlock65535))) }
+    ensures short { IsVerdict at_client (before_short_block ++ short_block ∷ []) (Err (Unlawful 6 (Rule.Block EndRule.BlockLength))) }
+    ensures skipped { IsVerdict at_client (before_skip ++ block_two ∷ []) (Err (Unlawful 3 (Rule.Block EndRule.BlockSkipped))) }
+    ensures back { IsVerdict at_client (before_going_back ++ goes_back ∷ []) (Err (Unlawful 7 (Rule.Block EndRule.GoneBack))) }
+    ensures changed { IsVerdict at_client (before_changed_block ++ changed_block ∷ []) (Err (Unlawful 5 (Rule.Block EndRule.BlockChanged))) }
 {}
 
 /// An ACK that breaks a rule is named with that rule (RFC 1350, section 2; RFC 2347).
 pub fn acks_have_their_verdicts()
-    ensures ahead { IsVerdict at_client (read_without_its_ack ++ acknowledges_two ∷ []) (Err (Unlawful 3 Rule.AckAhead)) }
-    ensures zero { IsVerdict at_client (before_ack_zero ++ ack_zero ∷ []) (Err (Unlawful 3 Rule.AckZero)) }
+    ensures ahead { IsVerdict at_client (read_without_its_ack ++ acknowledges_two ∷ []) (Err (Unlawful 3 (Rule.Block EndRule.AckAhead))) }
+    ensures zero { IsVerdict at_client (before_ack_zero ++ ack_zero ∷ []) (Err (Unlawful 3 (Rule.Block EndRule.AckZero))) }
 {}

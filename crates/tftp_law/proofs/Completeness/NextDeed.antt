@@ -168,7 +168,7 @@ module _ (h : Header) (m : Meaning) (wire : List ℕ) (fits : Fits m wire)
     by Rule.OptionNotRequested b = no_agreement_fault (request_of m) m.agreed fits.may_agree something NegoFault.OptionNotRequested b.1
     by Rule.OptionOutsideProfile b = no_agreement_fault (request_of m) m.agreed fits.may_agree something NegoFault.OptionOutsideProfile b.1
     by Rule.OptionValue b = no_agreement_fault (request_of m) m.agreed fits.may_agree something NegoFault.OptionValue b.1
-    by Rule.BeyondBlock65535 b = no_agreement_fault (request_of m) m.agreed fits.may_agree something NegoFault.BeyondBlock65535 b.1
+    by (Rule.Block EndRule.BeyondBlock65535) b = no_agreement_fault (request_of m) m.agreed fits.may_agree something NegoFault.BeyondBlock65535 b.1
     by rule b = b.1
 
   by_author : (dir : Dir) (e : End) (x : Message) → h.named ≡ e → IsWrongKind (author_of h.named dir) m.side x → IsWrongKind (author_of e dir) m.side x

@@ -5,13 +5,13 @@ use Rattle.tftp_packet.specs.{OptionMap, Message, RequestParts, Spells}
 use Rattle.tftp_packet.proofs.NoFault.{no_fault}
 use Rattle.tftp_hosts.specs.{Dir, Datagram, Header}
 use Rattle.tftp_rules.specs.{Route, asks, first_of, route_of, is_of_transfer, transfer_of, PortRule, PortBroken, EndBroken, Terms, EndRule}
-use Rattle.tftp_law.specs.{number_of, FirstBroken, FirstAsked, Broken, MessageBroken, AreTermsAfter, RequestBreaks, OackBreaks, TermsBreak, KindBreaks, MessageBreaks, rule_of_end, Rule}
+use Rattle.tftp_law.specs.{number_of, FirstBroken, FirstAsked, Broken, MessageBroken, AreTermsAfter, RequestBreaks, OackBreaks, TermsBreak, KindBreaks, MessageBreaks, Rule}
 use Rattle.tftp_law.proofs.Spelled.{spelled_once}
 use Rattle.tftp_law.proofs.FirstBroken.FirstRequests.{asked_once}
 
 -- ---- the numbers of a message's rules
 
-end_from : (e : EndRule) → 18 ≤ number_of (rule_of_end e)
+pub end_from : (e : EndRule) → 18 ≤ number_of (Rule.Block e)
 end_from EndRule.NotStarted = omega arith
 end_from _ = omega arith
 
@@ -30,7 +30,7 @@ module _ (h : Header) (asked : RequestParts) (passed : List Datagram) (dir : Dir
   oack_from oack Rule.OptionNotRequested b = omega arith
   oack_from oack Rule.OptionOutsideProfile b = omega arith
   oack_from oack Rule.OptionValue b = omega arith
-  oack_from oack Rule.BeyondBlock65535 b = omega arith
+  oack_from oack (Rule.Block EndRule.BeyondBlock65535) b = omega arith
   oack_from oack rule b = absurd b.1
 
   terms_from : (m : Message) (rule : Rule) → TermsBreak h asked passed m rule → 8 ≤ number_of rule
@@ -50,7 +50,7 @@ module _ (h : Header) (asked : RequestParts) (passed : List Datagram) (dir : Dir
   message_from m rule (inr (inr b)) = let high = kind_from m rule b in omega arith
 
   -- what breaks a rule of blocks and acknowledgements is a block or an ACK
-  pub end_breaks : (m : Message) (t : Terms) → AreTermsAfter h asked passed t → (e : EndRule) → EndBroken t passed m e → MessageBreaks h asked passed dir m (rule_of_end e)
+  pub end_breaks : (m : Message) (t : Terms) → AreTermsAfter h asked passed t → (e : EndRule) → EndBroken t passed m e → MessageBreaks h asked passed dir m (Rule.Block e)
   end_breaks (Message.Data k bytes) t known e b = inr (inr (e, refl, t, known, b))
   end_breaks (Message.Ack j) t known e b = inr (inr (e, refl, t, known, b))
   end_breaks _ t known e b = absurd b
@@ -116,4 +116,4 @@ module _ (h : Header) (earlier : List Datagram) (d : Datagram) (m : Message) (as
   none_by none rule b = none rule (back rule b)
 
   pub no_end_by : ((rule : Rule) → Broken h earlier d rule → ⊥) → (t : Terms) → AreTermsAfter h asked (transfer_of h earlier) t → (e : EndRule) → EndBroken t (transfer_of h earlier) m e → ⊥
-  no_end_by none t known e b = none_by none (rule_of_end e) (end_breaks h asked (transfer_of h earlier) d.dir m t known e b)
+  no_end_by none t known e b = none_by none (Rule.Block e) (end_breaks h asked (transfer_of h earlier) d.dir m t known e b)

@@ -8,7 +8,7 @@ use Rattle.tftp_packet.specs.{OptionMap, OptionValue, Num, Text, no_options, is_
 use Rattle.tftp_nego.specs.{number_or, option_or, MayAgree, AreInRange, Holds, NegoFault}
 use Rattle.tftp_hosts.specs.{Datagram, Header}
 use Rattle.tftp_model.specs.{Meaning, request_of, block, block_count}
-use Rattle.tftp_rules.specs.{asks, first_of, or_this, route_of, is_of_transfer, transfer_of, HasPassed, NoReply, Plain, Terms}
+use Rattle.tftp_rules.specs.{asks, first_of, or_this, route_of, is_of_transfer, transfer_of, HasPassed, NoReply, Plain, Terms, EndRule}
 use Rattle.tftp_nego.proofs.Numbers.{map_in_range}
 use Rattle.tftp_netascii.proofs.DecoderLemmas.{Reads-exists}
 use Rattle.tftp_law.specs.{ReadsAs, FirstAsked, Answer, Agrees, Begins, IsAnswer, Answers, NotAnswered, FirstAnswer, size_from, plain_terms, terms_after, OackBreaks, Rule, Passes, OneEnded, Accords, AreTermsAfter}
@@ -58,7 +58,7 @@ module _ (h : Header) (earlier : List Datagram) (d : Datagram) (passes : Passes 
   no_fault NegoFault.OptionNotRequested holds = keeps Rule.OptionNotRequested (none, holds)
   no_fault NegoFault.OptionOutsideProfile holds = keeps Rule.OptionOutsideProfile (none, holds)
   no_fault NegoFault.OptionValue holds = keeps Rule.OptionValue (none, holds)
-  no_fault NegoFault.BeyondBlock65535 holds = keeps Rule.BeyondBlock65535 (none, holds)
+  no_fault NegoFault.BeyondBlock65535 holds = keeps (Rule.Block EndRule.BeyondBlock65535) (none, holds)
   no_fault NegoFault.Memory holds = holds
 
 module _ (h : Header) where

@@ -1,4 +1,5 @@
 use Rattle.std.proofs.Common.{refl}
+use Rattle.tftp_rules.specs.{EndRule}
 use Rattle.tftp_law.specs.{Rule}
 use Rattle.tftp_worked.specs.{at_client, before_changed_block, before_going_back, before_last_number, before_short_block, before_taking_offer, block_too_early, block_zero, changed_block, goes_back, last_number, only_asked, short_block, before_skip, block_two}
 use Rattle.tftp_worked.proofs.ByRules.{refused_verdict}
@@ -7,22 +8,22 @@ use Rattle.tftp_worked.proofs.RefusedMore.{zero_block_refused}
 use Rattle.tftp_worked.proofs.worked_verdicts.blocks_have_their_verdicts.Goals as goal
 
 pub returns-clause-early : goal.returns-clause-early
-returns-clause-early c = refused_verdict at_client before_taking_offer block_too_early Rule.NotStarted 3 refl refl early_refused
+returns-clause-early c = refused_verdict at_client before_taking_offer block_too_early (Rule.Block EndRule.NotStarted) 3 refl refl early_refused
 
 pub returns-clause-zero : goal.returns-clause-zero
-returns-clause-zero c = refused_verdict at_client only_asked block_zero Rule.BlockZero 2 refl refl zero_block_refused
+returns-clause-zero c = refused_verdict at_client only_asked block_zero (Rule.Block EndRule.BlockZero) 2 refl refl zero_block_refused
 
 pub returns-clause-last : goal.returns-clause-last
-returns-clause-last c = refused_verdict at_client before_last_number last_number Rule.BeyondBlock65535 4 refl refl last_refused
+returns-clause-last c = refused_verdict at_client before_last_number last_number (Rule.Block EndRule.BeyondBlock65535) 4 refl refl last_refused
 
 pub returns-clause-short : goal.returns-clause-short
-returns-clause-short c = refused_verdict at_client before_short_block short_block Rule.BlockLength 6 refl refl short_refused
+returns-clause-short c = refused_verdict at_client before_short_block short_block (Rule.Block EndRule.BlockLength) 6 refl refl short_refused
 
 pub returns-clause-skipped : goal.returns-clause-skipped
-returns-clause-skipped c = refused_verdict at_client before_skip block_two Rule.BlockSkipped 3 refl refl skip_refused
+returns-clause-skipped c = refused_verdict at_client before_skip block_two (Rule.Block EndRule.BlockSkipped) 3 refl refl skip_refused
 
 pub returns-clause-back : goal.returns-clause-back
-returns-clause-back c = refused_verdict at_client before_going_back goes_back Rule.GoneBack 7 refl refl back_refused
+returns-clause-back c = refused_verdict at_client before_going_back goes_back (Rule.Block EndRule.GoneBack) 7 refl refl back_refused
 
 pub returns-clause-changed : goal.returns-clause-changed
-returns-clause-changed c = refused_verdict at_client before_changed_block changed_block Rule.BlockChanged 5 refl refl changed_refused
+returns-clause-changed c = refused_verdict at_client before_changed_block changed_block (Rule.Block EndRule.BlockChanged) 5 refl refl changed_refused

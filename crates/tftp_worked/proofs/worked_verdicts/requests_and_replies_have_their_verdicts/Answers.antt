@@ -1,4 +1,5 @@
 use Rattle.std.proofs.Common.{[], ◌∷◌, refl}
+use Rattle.tftp_rules.specs.{EndRule}
 use Rattle.tftp_law.specs.{Rule}
 use Rattle.tftp_worked.specs.{at_client, brings_hi, ack_zero, agrees_to_eight, agrees_to_four, asks_for_size, before_changed_reply, before_late_oack, before_taking_offer, late_oack, only_asked, too_many_blocks, at_service}
 use Rattle.tftp_worked.proofs.ByRules.{refused_verdict}
@@ -21,4 +22,4 @@ pub returns-clause-late_oack : goal.returns-clause-late_oack
 returns-clause-late_oack c = refused_verdict at_service before_late_oack late_oack Rule.OackAfterStart 5 refl refl late_refused
 
 pub returns-clause-too_many : goal.returns-clause-too_many
-returns-clause-too_many c = refused_verdict at_client (asks_for_size ∷ []) too_many_blocks Rule.BeyondBlock65535 2 refl refl many_refused
+returns-clause-too_many c = refused_verdict at_client (asks_for_size ∷ []) too_many_blocks (Rule.Block EndRule.BeyondBlock65535) 2 refl refl many_refused
