@@ -22,7 +22,7 @@ TABLE, CRATES = "tools/tftp_tools/rules.py", TOP / "crates"
 # Changes of earlier versions are told with the names that were printed then, so the page of changes is none of these.
 SCRIPTS, PAGES = ("tools", "tests", "bench"), ("docs", "share", "README.md", "CONTRIBUTING.md")
 # What the sources call their rules and files, and messages of commits: these are no printed names.
-OF_SOURCES = re.compile(r"`[A-Z]\w+`|Unlawful\(\d+, \w+\)|\"tftp_law: [^\"]*\"")
+OF_SOURCES = re.compile(r"`[A-Z]\w+`|Unlawful\(\d+, \w+(?:\(\w+\))?\)|\"tftp_law: [^\"]*\"")
 # Pages that are made of the sources, and so have what these call their rules.
 MADE = "docs/contracts/"
 # What has each rule.
