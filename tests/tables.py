@@ -37,11 +37,11 @@ def defined(file: str, function: str, value: str) -> dict[str, str]:
 
 def try_definition(trial: Trial) -> None:
     """The numbers and names of the table are those of the definitions."""
-    number, name = r"(\d+)", r'codes "(\w+)"'
-    numbers = defined("tftp_law/specs/Rules.antt", "number_of", number)
-    numbers |= defined("tftp_rules/specs/Rules.antt", "end_number", number)
-    names = defined("tftp_law/specs/RuleNames.antt", "rule_name", name)
-    names |= defined("tftp_rules/specs/EndNames.antt", "end_name", name)
+    decimal, quoted = r"(\d+)", r'codes "(\w+)"'
+    numbers = defined("tftp_law/specs/Rules.antt", "number_of", decimal)
+    numbers |= defined("tftp_rules/specs/Rules.antt", "end_number", decimal)
+    names = defined("tftp_law/specs/RuleNames.antt", "rule_name", quoted)
+    names |= defined("tftp_rules/specs/EndNames.antt", "end_name", quoted)
     trial.check("27 rules are defined", len(numbers) == 27 and numbers.keys() == names.keys(), (numbers, names))
     of_crates = {int(numbers[rule]): names[rule] for rule in numbers}
     of_table = {rule.number: rule.printed for rule in Rule}
