@@ -23,12 +23,13 @@ def main(program: str, least: str, megabytes: str = "100") -> None:
     with tempfile.TemporaryDirectory() as folder:
         path = os.path.join(folder, "capture")
         for words in KINDS:
+            generate = [sys.executable, str(GENERATE), "capture", f"{megabytes}000000", *words]
             with open(path, "wb") as text:
-                subprocess.run([sys.executable, str(GENERATE), "capture", f"{megabytes}000000", *words], stdout=text, check=True)
+                subprocess.run(generate, stdout=text, check=True)
             check, floor, lines = best_of(RUNS, path, [program, "check"], [least], LINES)
             print(
-                f"blocks of {words[0]:>5}: check {check.seconds:.4f} s, {figures(check.seconds / lines.seconds)} times wc -l;"
-                f" the least {floor.seconds:.4f} s, {figures(floor.seconds / lines.seconds)} times wc -l;"
+                f"blocks of {words[0]:>5}: check {check.seconds:.4f} s, {figures(check.seconds / lines.seconds)} times"
+                f" wc -l; the least {floor.seconds:.4f} s, {figures(floor.seconds / lines.seconds)} times wc -l;"
                 f" check {figures(check.seconds / floor.seconds)} times the least",
                 flush=True,
             )
