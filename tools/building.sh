@@ -187,6 +187,7 @@ become_program() {
     is_built || build
     link=$(dirname "$program")/$name
     [ -h "$link" ] || ln -s "$crate" "$link" 2>/dev/null || link=$program
+    ask_for_large_pages
     exec "$link" "$@"
 }
 

@@ -3,11 +3,6 @@
 # own, and before `run_command` `program`, the proved program's place.
 version=0.2.0
 
-# What a program keeps of a large capture lies in large pages where the system has them, which spares up to a fifth of the
-# time (glibc 2.35 or later; others pass over it). Who has set tunables keeps them.
-GLIBC_TUNABLES=${GLIBC_TUNABLES-glibc.malloc.hugetlb=1}
-export GLIBC_TUNABLES
-
 say() {
     printf '%s: %s\n' "$name" "$1" >&2
 }
@@ -78,8 +73,15 @@ take_words() {
     [ "$#" -eq 1 ] || [ "$2" = - ] || is_readable "$2" || refuse_file "$2"
 }
 
+# Asks the system to lay what a program keeps of a large capture in large pages, which spares up to a fifth of the time
+# (glibc 2.35 or later; others pass over it). Who has set tunables keeps them.
+ask_for_large_pages() {
+    export GLIBC_TUNABLES="${GLIBC_TUNABLES-glibc.malloc.hugetlb=1}"
+}
+
 # Becomes the program.
 run_command() {
+    ask_for_large_pages
     if ! is_command "$@" || [ "$#" -ne 2 ]; then
         exec "$program" "$@"
     elif [ "$2" = - ]; then
