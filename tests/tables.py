@@ -40,8 +40,12 @@ def try_definition(trial: Trial) -> None:
     decimal, quoted = r"(\d+)", r'codes "(\w+)"'
     numbers = defined("tftp_law/specs/Rules.antt", "number_of", decimal)
     numbers |= defined("tftp_rules/specs/Rules.antt", "end_number", decimal)
+    numbers |= defined("tftp_rules/specs/PortNames.antt", "port_number", decimal)
+    numbers |= defined("tftp_nego/specs/AgreementNames.antt", "agreement_number", decimal)
     names = defined("tftp_law/specs/RuleNames.antt", "rule_name", quoted)
     names |= defined("tftp_rules/specs/EndNames.antt", "end_name", quoted)
+    names |= defined("tftp_rules/specs/PortNames.antt", "port_name", quoted)
+    names |= defined("tftp_nego/specs/AgreementNames.antt", "agreement_name", quoted)
     trial.check("27 rules are defined", len(numbers) == 27 and numbers.keys() == names.keys(), (numbers, names))
     of_crates = {int(numbers[rule]): names[rule] for rule in numbers}
     of_table = {rule.number: rule.printed for rule in Rule}

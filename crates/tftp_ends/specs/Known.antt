@@ -4,7 +4,7 @@ use Rattle.std.specs.Prelude.{◌≡◌, ℕ, ◌&&◌, not, Bool, false, List, 
 use Rattle.std.specs.List.{list_any}
 use Rattle.tftp_packet.specs.{opcode_of, End, Client, Server}
 use Rattle.tftp_hosts.specs.{Dir, Datagram, Header, PeerId, peer_of, same_peer}
-use Rattle.tftp_rules.specs.{Route, comes_in, goes_out, asks, first_of, has_come_from, route_of}
+use Rattle.tftp_rules.specs.{Route, comes_in, goes_out, asks, first_of, has_come_from, route_of, PortRule}
 use Rattle.tftp_ends.specs.declared.route.Route.{Route as MayPass}
 use Rattle.tftp_ends.specs.declared.route.Route.TheVariants as may
 use Rattle.tftp_ends.specs.declared.ports.PortFault.{PortFault}
@@ -77,9 +77,9 @@ answer_of Route.Request = Ok may.Request
 answer_of Route.Peer = Ok may.Peer
 answer_of Route.Stray = Ok may.Stray
 answer_of Route.StrayAnswer = Ok may.StrayAnswer
-answer_of Route.ForeignPort = Err PortFault.ForeignPort
-answer_of Route.WrongPort = Err PortFault.WrongPort
-answer_of Route.NoStrayAnswer = Err PortFault.StrayAnswer
+answer_of Route.ForeignPort = Err (PortFault.Broken PortRule.Foreign)
+answer_of Route.WrongPort = Err (PortFault.Broken PortRule.Wrong)
+answer_of Route.NoStrayAnswer = Err (PortFault.Broken PortRule.BadAnswer)
 
 -- a route that may pass, among all routes
 abbrev pub among_all : MayPass → Route

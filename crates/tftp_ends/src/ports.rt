@@ -21,16 +21,13 @@ use std::convert::From;
 use std::marker::Model;
 use tftp_hosts::{Dir, Host, Peer};
 use tftp_packet::End;
+use tftp_rules::PortRule;
 
 /// Why a datagram is none of the transfer, nor a stray.
 #[derive(Clone, Copy, Debug, PartialEq, Eq)]
 pub enum PortFault {
-    /// The port at the named end is not the transfer's (RFC 1350, section 4).
-    ForeignPort,
-    /// The other side is none that it may go to (RFC 1350, section 4).
-    WrongPort,
-    /// Something else than an ERROR to where a stray came from (RFC 1350, section 4).
-    StrayAnswer,
+    /// The first rule of ports and hosts that it breaks; of what answers a stray it is only seen that it is no ERROR.
+    Broken(PortRule),
     /// No memory to note where a stray came from.
     Memory,
 }
@@ -216,7 +213,7 @@ impl Ports {
         } else if seen.port_of_server(self.named) == self.service {
             Ok(Route::Request)
         } else {
-            Err(PortFault::WrongPort)
+            Err(PortFault::Broken(PortRule::Wrong))
         }
     }
 
@@ -228,13 +225,13 @@ impl Ports {
             (datagram_as seen.now payload)) }
     {
         if seen.sides.local != first.local {
-            return Err(PortFault::ForeignPort);
+            return Err(PortFault::Broken(PortRule::Foreign));
         }
         let is_request = seen.begins_request();
         match (seen.dir, &self.answered) {
             (Dir::Out, _) if is_request && seen.sides.peer == first.peer => Ok(Route::Request),
-            (Dir::Out, _) if is_request => Err(PortFault::WrongPort),
-            (Dir::Out, None) => Err(PortFault::WrongPort),
+            (Dir::Out, _) if is_request => Err(PortFault::Broken(PortRule::Wrong)),
+            (Dir::Out, None) => Err(PortFault::Broken(PortRule::Wrong)),
             (Dir::Out, Some(answer)) => self.route_out(answer.peer, seen),
             (Dir::In, Some(answer)) if seen.sides.peer != answer.peer => Ok(Route::Stray),
             (Dir::In, _) => Ok(Route::Peer),
@@ -253,15 +250,17 @@ impl Ports {
         let is_to_service = is_request && seen.sides.local == self.service;
         match (&self.answered, seen.dir) {
             (None, Dir::Out) if seen.sides.peer == client => Ok(Route::Peer),
-            (None, Dir::Out) => Err(PortFault::WrongPort),
+            (None, Dir::Out) => Err(PortFault::Broken(PortRule::Wrong)),
             (None, Dir::In) => self.route_to_service(client, seen),
-            (Some(own), Dir::Out) if seen.sides.local != own.local => Err(PortFault::ForeignPort),
+            (Some(own), Dir::Out) if seen.sides.local != own.local => Err(PortFault::Broken(
+                PortRule::Foreign,
+            )),
             (Some(_), Dir::Out) => self.route_out(client, seen),
             (Some(own), Dir::In) if seen.sides.local != own.local || is_to_service => {
                 self.route_to_service(client, seen)
             }
             (Some(_), Dir::In) if seen.sides.peer != client => Ok(Route::Stray),
-            (Some(_), Dir::In) if is_request => Err(PortFault::WrongPort),
+            (Some(_), Dir::In) if is_request => Err(PortFault::Broken(PortRule::Wrong)),
             (Some(_), Dir::In) => Ok(Route::Peer),
         }
     }
@@ -272,11 +271,11 @@ impl Ports {
             → result ≡ answer_of (definitions.route_to_service self.now.header client (datagram_as seen.now payload)) }
     {
         if seen.sides.local != self.service || seen.sides.peer != client {
-            Err(PortFault::ForeignPort)
+            Err(PortFault::Broken(PortRule::Foreign))
         } else if seen.begins_request() {
             Ok(Route::Request)
         } else {
-            Err(PortFault::WrongPort)
+            Err(PortFault::Broken(PortRule::Wrong))
         }
     }
 
@@ -289,11 +288,11 @@ impl Ports {
         if seen.sides.peer == other {
             Ok(Route::Peer)
         } else if !self.strays.have(seen.sides.peer) {
-            Err(PortFault::WrongPort)
+            Err(PortFault::Broken(PortRule::Wrong))
         } else if seen.begins_error() {
             Ok(Route::StrayAnswer)
         } else {
-            Err(PortFault::StrayAnswer)
+            Err(PortFault::Broken(PortRule::BadAnswer))
         }
     }
 }

@@ -4,6 +4,14 @@ use std::test::Fail;
 use tftp_ends::{PortFault, Ports, Route};
 use tftp_hosts::{Dir, Host};
 use tftp_packet::End;
+use tftp_rules::PortRule;
+
+/// The faults that a datagram has by the rules of ports.
+const FOREIGN: Result<Route, PortFault> = Err(PortFault::Broken(PortRule::Foreign));
+
+const WRONG: Result<Route, PortFault> = Err(PortFault::Broken(PortRule::Wrong));
+
+const BAD_ANSWER: Result<Route, PortFault> = Err(PortFault::Broken(PortRule::BadAnswer));
 
 /// A datagram by its direction, its port at the named end, the other host, the port there and the
 /// opcode; and what is answered.
@@ -58,37 +66,37 @@ fn answers(rt: &HostRuntime, end: End, service: u16, rows: &[Row]) -> Result<(),
 
 /// A read, a stray, and what answers it.
 const WITH_A_STRAY: &[Row] = &[
-    (Dir::Out, 40000, b"-", 70, 1, Err(PortFault::WrongPort)),
+    (Dir::Out, 40000, b"-", 70, 1, WRONG),
     (Dir::Out, 40000, b"-", 69, 1, Ok(Route::Request)),
     (Dir::In, 40000, b"-", 41000, 3, Ok(Route::Peer)),
     (Dir::In, 40000, b"-", 42000, 3, Ok(Route::Stray)),
     (Dir::Out, 40000, b"-", 42000, 5, Ok(Route::StrayAnswer)),
-    (Dir::Out, 40000, b"-", 42000, 4, Err(PortFault::StrayAnswer)),
+    (Dir::Out, 40000, b"-", 42000, 4, BAD_ANSWER),
 ];
 
 /// Before the first request, before the server is known, and after.
 const AT_A_CLIENT: &[Row] = &[
     (Dir::In, 40000, b"-", 41000, 3, Ok(Route::Peer)),
     (Dir::Out, 40000, b"-", 69, 4, Ok(Route::Peer)),
-    (Dir::Out, 40000, b"-", 70, 2, Err(PortFault::WrongPort)),
+    (Dir::Out, 40000, b"-", 70, 2, WRONG),
     (Dir::Out, 40000, b"-", 69, 2, Ok(Route::Request)),
-    (Dir::Out, 40001, b"-", 69, 2, Err(PortFault::ForeignPort)),
-    (Dir::In, 40001, b"-", 44000, 4, Err(PortFault::ForeignPort)),
+    (Dir::Out, 40001, b"-", 69, 2, FOREIGN),
+    (Dir::In, 40001, b"-", 44000, 4, FOREIGN),
     (Dir::Out, 40000, b"-", 69, 2, Ok(Route::Request)),
-    (Dir::Out, 40000, b"-", 70, 2, Err(PortFault::WrongPort)),
-    (Dir::Out, 40000, b"-", 41000, 3, Err(PortFault::WrongPort)),
+    (Dir::Out, 40000, b"-", 70, 2, WRONG),
+    (Dir::Out, 40000, b"-", 41000, 3, WRONG),
     (Dir::In, 40000, b"-", 41001, 4, Ok(Route::Peer)),
     (Dir::Out, 40000, b"-", 41001, 3, Ok(Route::Peer)),
     (Dir::In, 40000, b"-", 41001, 1, Ok(Route::Peer)),
-    (Dir::Out, 40000, b"-", 42000, 5, Err(PortFault::WrongPort)),
+    (Dir::Out, 40000, b"-", 42000, 5, WRONG),
     (Dir::In, 40000, b"-", 42000, 1, Ok(Route::Stray)),
     (Dir::In, 40000, b"-", 41001, 4, Ok(Route::Peer)),
     (Dir::In, 40000, b"-", 42000, 4, Ok(Route::Stray)),
     (Dir::Out, 40000, b"-", 42000, 5, Ok(Route::StrayAnswer)),
-    (Dir::Out, 40000, b"-", 42000, 0, Err(PortFault::StrayAnswer)),
-    (Dir::Out, 40000, b"-", 42000, 1, Err(PortFault::WrongPort)),
-    (Dir::Out, 40000, b"-", 44000, 5, Err(PortFault::WrongPort)),
-    (Dir::Out, 40000, b"-", 41000, 3, Err(PortFault::WrongPort)),
+    (Dir::Out, 40000, b"-", 42000, 0, BAD_ANSWER),
+    (Dir::Out, 40000, b"-", 42000, 1, WRONG),
+    (Dir::Out, 40000, b"-", 44000, 5, WRONG),
+    (Dir::Out, 40000, b"-", 41000, 3, WRONG),
     (Dir::Out, 40000, b"-", 41001, 5, Ok(Route::Peer)),
     (Dir::Out, 40000, b"-", 69, 1, Ok(Route::Request)),
 ];
@@ -96,30 +104,30 @@ const AT_A_CLIENT: &[Row] = &[
 /// Before the first request, before the server's own port is known, and after.
 const AT_A_SERVER: &[Row] = &[
     (Dir::Out, 3000, b"-", 2000, 3, Ok(Route::Peer)),
-    (Dir::In, 6970, b"-", 2000, 1, Err(PortFault::WrongPort)),
+    (Dir::In, 6970, b"-", 2000, 1, WRONG),
     (Dir::In, 6969, b"-", 2000, 4, Ok(Route::Peer)),
     (Dir::In, 6969, b"-", 2000, 1, Ok(Route::Request)),
     (Dir::In, 6969, b"-", 2000, 2, Ok(Route::Request)),
-    (Dir::In, 6969, b"-", 2001, 1, Err(PortFault::ForeignPort)),
-    (Dir::In, 6969, b"-", 2000, 4, Err(PortFault::WrongPort)),
-    (Dir::In, 6969, b"-", 2001, 4, Err(PortFault::ForeignPort)),
-    (Dir::In, 3001, b"-", 2000, 4, Err(PortFault::ForeignPort)),
-    (Dir::Out, 3001, b"-", 2001, 3, Err(PortFault::WrongPort)),
+    (Dir::In, 6969, b"-", 2001, 1, FOREIGN),
+    (Dir::In, 6969, b"-", 2000, 4, WRONG),
+    (Dir::In, 6969, b"-", 2001, 4, FOREIGN),
+    (Dir::In, 3001, b"-", 2000, 4, FOREIGN),
+    (Dir::Out, 3001, b"-", 2001, 3, WRONG),
     (Dir::Out, 3001, b"-", 2000, 3, Ok(Route::Peer)),
-    (Dir::Out, 3000, b"-", 2000, 3, Err(PortFault::ForeignPort)),
+    (Dir::Out, 3000, b"-", 2000, 3, FOREIGN),
     (Dir::In, 3001, b"-", 2000, 4, Ok(Route::Peer)),
-    (Dir::In, 3001, b"-", 2000, 1, Err(PortFault::WrongPort)),
+    (Dir::In, 3001, b"-", 2000, 1, WRONG),
     (Dir::In, 6969, b"-", 2000, 1, Ok(Route::Request)),
-    (Dir::In, 6969, b"-", 2001, 1, Err(PortFault::ForeignPort)),
-    (Dir::In, 6969, b"-", 2000, 4, Err(PortFault::WrongPort)),
-    (Dir::In, 6969, b"-", 2001, 4, Err(PortFault::ForeignPort)),
-    (Dir::In, 3000, b"-", 2000, 4, Err(PortFault::ForeignPort)),
-    (Dir::Out, 3001, b"-", 2002, 5, Err(PortFault::WrongPort)),
+    (Dir::In, 6969, b"-", 2001, 1, FOREIGN),
+    (Dir::In, 6969, b"-", 2000, 4, WRONG),
+    (Dir::In, 6969, b"-", 2001, 4, FOREIGN),
+    (Dir::In, 3000, b"-", 2000, 4, FOREIGN),
+    (Dir::Out, 3001, b"-", 2002, 5, WRONG),
     (Dir::In, 3001, b"-", 2002, 1, Ok(Route::Stray)),
     (Dir::In, 3001, b"-", 2002, 4, Ok(Route::Stray)),
     (Dir::Out, 3001, b"-", 2002, 5, Ok(Route::StrayAnswer)),
-    (Dir::Out, 3001, b"-", 2002, 1, Err(PortFault::StrayAnswer)),
-    (Dir::Out, 3001, b"-", 2001, 5, Err(PortFault::WrongPort)),
+    (Dir::Out, 3001, b"-", 2002, 1, BAD_ANSWER),
+    (Dir::Out, 3001, b"-", 2001, 5, WRONG),
     (Dir::Out, 3001, b"-", 2000, 3, Ok(Route::Peer)),
     (Dir::In, 3001, b"-", 2000, 5, Ok(Route::Peer)),
 ];
@@ -130,24 +138,17 @@ const AT_THE_SERVICE_PORT: &[Row] = &[
     (Dir::Out, 69, b"-", 2000, 3, Ok(Route::Peer)),
     (Dir::In, 69, b"-", 2000, 1, Ok(Route::Request)),
     (Dir::In, 69, b"-", 2000, 4, Ok(Route::Peer)),
-    (Dir::In, 69, b"-", 2001, 1, Err(PortFault::ForeignPort)),
-    (Dir::Out, 69, b"-", 2001, 5, Err(PortFault::WrongPort)),
+    (Dir::In, 69, b"-", 2001, 1, FOREIGN),
+    (Dir::Out, 69, b"-", 2001, 5, WRONG),
     (Dir::In, 69, b"-", 2001, 4, Ok(Route::Stray)),
     (Dir::Out, 69, b"-", 2001, 5, Ok(Route::StrayAnswer)),
-    (Dir::Out, 70, b"-", 2000, 3, Err(PortFault::ForeignPort)),
+    (Dir::Out, 70, b"-", 2000, 3, FOREIGN),
 ];
 
 /// A stray from another host at the server's port, and a request to another host.
 const HOSTS_AT_A_CLIENT: &[Row] = &[
     (Dir::Out, 40000, b"10.0.0.1", 69, 1, Ok(Route::Request)),
-    (
-        Dir::Out,
-        40000,
-        b"10.0.0.2",
-        69,
-        1,
-        Err(PortFault::WrongPort),
-    ),
+    (Dir::Out, 40000, b"10.0.0.2", 69, 1, WRONG),
     (Dir::In, 40000, b"10.0.0.1", 41000, 3, Ok(Route::Peer)),
     (Dir::In, 40000, b"10.0.0.9", 41000, 3, Ok(Route::Stray)),
     (
@@ -158,22 +159,8 @@ const HOSTS_AT_A_CLIENT: &[Row] = &[
         5,
         Ok(Route::StrayAnswer),
     ),
-    (
-        Dir::Out,
-        40000,
-        b"10.0.0.9",
-        41000,
-        4,
-        Err(PortFault::StrayAnswer),
-    ),
-    (
-        Dir::Out,
-        40000,
-        b"10.0.0.8",
-        41000,
-        5,
-        Err(PortFault::WrongPort),
-    ),
+    (Dir::Out, 40000, b"10.0.0.9", 41000, 4, BAD_ANSWER),
+    (Dir::Out, 40000, b"10.0.0.8", 41000, 5, WRONG),
     (Dir::Out, 40000, b"10.0.0.1", 41000, 4, Ok(Route::Peer)),
 ];
 
@@ -181,14 +168,7 @@ const HOSTS_AT_A_CLIENT: &[Row] = &[
 const ANOTHER_HOST_ANSWERS: &[Row] = &[
     (Dir::Out, 40000, b"10.0.0.1", 69, 1, Ok(Route::Request)),
     (Dir::In, 40000, b"10.0.0.2", 41000, 3, Ok(Route::Peer)),
-    (
-        Dir::Out,
-        40000,
-        b"10.0.0.1",
-        41000,
-        4,
-        Err(PortFault::WrongPort),
-    ),
+    (Dir::Out, 40000, b"10.0.0.1", 41000, 4, WRONG),
     (Dir::Out, 40000, b"10.0.0.2", 41000, 4, Ok(Route::Peer)),
     (Dir::Out, 40000, b"10.0.0.1", 69, 1, Ok(Route::Request)),
 ];
@@ -196,42 +176,14 @@ const ANOTHER_HOST_ANSWERS: &[Row] = &[
 /// Two hosts with one port.
 const HOSTS_AT_A_SERVER: &[Row] = &[
     (Dir::In, 69, b"10.0.0.1", 2000, 1, Ok(Route::Request)),
-    (
-        Dir::In,
-        69,
-        b"10.0.0.2",
-        2000,
-        1,
-        Err(PortFault::ForeignPort),
-    ),
-    (
-        Dir::Out,
-        3000,
-        b"10.0.0.2",
-        2000,
-        3,
-        Err(PortFault::WrongPort),
-    ),
+    (Dir::In, 69, b"10.0.0.2", 2000, 1, FOREIGN),
+    (Dir::Out, 3000, b"10.0.0.2", 2000, 3, WRONG),
     (Dir::Out, 3000, b"10.0.0.1", 2000, 3, Ok(Route::Peer)),
     (Dir::In, 3000, b"10.0.0.2", 2000, 4, Ok(Route::Stray)),
     (Dir::Out, 3000, b"10.0.0.2", 2000, 5, Ok(Route::StrayAnswer)),
-    (
-        Dir::Out,
-        3000,
-        b"10.0.0.3",
-        2000,
-        5,
-        Err(PortFault::WrongPort),
-    ),
+    (Dir::Out, 3000, b"10.0.0.3", 2000, 5, WRONG),
     (Dir::In, 3000, b"10.0.0.1", 2000, 4, Ok(Route::Peer)),
-    (
-        Dir::In,
-        69,
-        b"10.0.0.2",
-        2000,
-        1,
-        Err(PortFault::ForeignPort),
-    ),
+    (Dir::In, 69, b"10.0.0.2", 2000, 1, FOREIGN),
 ];
 
 /// The end, its service port, and what passes there.
@@ -316,7 +268,7 @@ fn noted_at_a_client(rt: &HostRuntime) -> Result<Noted, Fail> {
 #[test]
 fn client_notes_each_stray(rt: HostRuntime) -> Result<(), Fail> {
     let (asked, known, still, refused) = noted_at_a_client(&rt)?;
-    if asked && known && still && refused == Err(PortFault::WrongPort) {
+    if asked && known && still && refused == WRONG {
         Ok(())
     } else {
         Err(Fail::from((asked, known, still, refused)))

@@ -8,7 +8,7 @@ use Rattle.tftp_rules.specs.{Route, asks, first_of, or_this, begins_request, is_
 use Rattle.tftp_ends.specs.declared.route.Route.TheVariants as may
 use Rattle.tftp_ends.proofs.KeptSteps.{passing_is}
 use Rattle.tftp_law.specs.{OneEnded, Passes, number_of, Broken, FirstAsked, FirstBroken, Rule, MessageBreaks}
-use Rattle.tftp_law.proofs.FirstBroken.OneMessage.{end_from}
+use Rattle.tftp_law.proofs.FirstBroken.OneMessage.{agreement_from, end_from}
 use Rattle.tftp_law.proofs.FirstBroken.FirstRequests.{before_is, asks_is, first_stays}
 use Rattle.tftp_law.proofs.FirstBroken.OneMessage.{first_by, lawful_by}
 use Rattle.tftp_judge.specs.{Finds, FindsOf, error_by_port, PassError, JudgeState, Transfer, HasKept, IsKept, IsTransferAfter}
@@ -37,14 +37,15 @@ peer_is may.StrayAnswer e = absurd (cc)
 
 -- ---- the first rules
 
-low_rule : (r : Rule) → number_of r < 3 → (r ≡ Rule.ForeignPort) ⊎ (r ≡ Rule.WrongPort)
-low_rule Rule.ForeignPort low = inl refl
-low_rule Rule.WrongPort low = inr refl
-low_rule (Rule.Block e) low = let high = end_from e in absurd (omega (arith, low, high))
+low_rule : (r : Rule) → number_of r < 3 → (r ≡ Rule.Port PortRule.Foreign) ⊎ (r ≡ Rule.Port PortRule.Wrong)
+low_rule (Rule.Port PortRule.Foreign) low = inl refl
+low_rule (Rule.Port PortRule.Wrong) low = inr refl
+low_rule (Rule.Agreement broken) low = absurd (omega (arith, low, agreement_from broken))
+low_rule (Rule.Block e) low = absurd (omega (arith, low, end_from e))
 low_rule _ low = absurd (omega arith)
 
 module _ (h : Header) (earlier : List Datagram) (d : Datagram) where
-  foreign_first : route_of h earlier d ≡ Route.ForeignPort → FirstBroken h earlier d Rule.ForeignPort
+  foreign_first : route_of h earlier d ≡ Route.ForeignPort → FirstBroken h earlier d (Rule.Port PortRule.Foreign)
   foreign_first is = (is, below) where
     below : (other : Rule) → number_of other < 1 → Broken h earlier d other → ⊥
     below other low b = elim (low_rule other (omega arith)) [
@@ -52,7 +53,7 @@ module _ (h : Header) (earlier : List Datagram) (d : Datagram) where
       | inr same ↦ let n = ap number_of same in omega arith
     ]
 
-  wrong_first : route_of h earlier d ≡ Route.WrongPort → FirstBroken h earlier d Rule.WrongPort
+  wrong_first : route_of h earlier d ≡ Route.WrongPort → FirstBroken h earlier d (Rule.Port PortRule.Wrong)
   wrong_first is = (is, below) where
     below : (other : Rule) → number_of other < 2 → Broken h earlier d other → ⊥
     below other low b = elim (low_rule other (omega arith)) [
@@ -60,7 +61,7 @@ module _ (h : Header) (earlier : List Datagram) (d : Datagram) where
       | inr same ↦ let n = ap number_of same in omega arith
     ]
 
-  pub stray_first : PortBroken h earlier d PortRule.BadAnswer → FirstBroken h earlier d Rule.StrayAnswer
+  pub stray_first : PortBroken h earlier d PortRule.BadAnswer → FirstBroken h earlier d (Rule.Port PortRule.BadAnswer)
   stray_first is = (is, below) where
     at : (r : Route) → (r ≡ Route.NoStrayAnswer) ⊎ (r ≡ Route.StrayAnswer) → (r ≡ Route.ForeignPort → ⊥) × (r ≡ Route.WrongPort → ⊥)
     at r (inl e) = (λ x. cc, λ x. cc)
@@ -81,12 +82,12 @@ module _ (h : Header) (earlier : List Datagram) (d : Datagram) where
   port_first_by Route.Peer is fault e rule After = absurd (cc)
   port_first_by Route.Stray is fault e rule After = absurd (cc)
   port_first_by Route.StrayAnswer is fault e rule After = absurd (cc)
-  port_first_by Route.ForeignPort is fault e rule After = let same : PortFault.ForeignPort ≡ fault = cc in subst (λ f. FindsOf h earlier d After (Err (error_by_port f))) same (foreign_first is)
-  port_first_by Route.WrongPort is fault e rule After = let same : PortFault.WrongPort ≡ fault = cc in subst (λ f. FindsOf h earlier d After (Err (error_by_port f))) same (wrong_first is)
-  port_first_by Route.NoStrayAnswer is fault e rule After = let same : PortFault.StrayAnswer ≡ fault = cc in subst (λ f. FindsOf h earlier d After (Err (error_by_port f))) same (stray_first (inl is))
+  port_first_by Route.ForeignPort is fault e rule After = let same : PortFault.Broken PortRule.Foreign ≡ fault = cc in subst (λ f. FindsOf h earlier d After (Err (error_by_port f))) same (foreign_first is)
+  port_first_by Route.WrongPort is fault e rule After = let same : PortFault.Broken PortRule.Wrong ≡ fault = cc in subst (λ f. FindsOf h earlier d After (Err (error_by_port f))) same (wrong_first is)
+  port_first_by Route.NoStrayAnswer is fault e rule After = let same : PortFault.Broken PortRule.BadAnswer ≡ fault = cc in subst (λ f. FindsOf h earlier d After (Err (error_by_port f))) same (stray_first (inl is))
 
   pub port_first : (fault : PortFault) (After : Type 0) → Err fault ≡ answer_of (route_of h earlier d) → FindsOf h earlier d After (Err (error_by_port fault))
-  port_first fault After e = port_first_by (route_of h earlier d) refl fault e Rule.ForeignPort After
+  port_first fault After e = port_first_by (route_of h earlier d) refl fault e (Rule.Port PortRule.Foreign) After
 
   -- what passes by its route and is none of the transfer
   pub strays_pass : (route : MayPass) → route_of h earlier d ≡ among_all route → is_of_transfer (among_all route) ≡ false → (among_all route ≡ Route.StrayAnswer → PortBroken h earlier d PortRule.BadAnswer → ⊥) → Passes h earlier d
@@ -212,14 +213,12 @@ stray_found h earlier d new route routed off answers header kept =
       record {
         header = header;
         ports = routed.ports passes;
-        kept = off_kept h earlier d new.transfer kept (ap is_of_transfer routed.is ∙ off) (passes.lawful Rule.WrongPort);
+        kept = off_kept h earlier d new.transfer kept (ap is_of_transfer routed.is ∙ off) (passes.lawful (Rule.Port PortRule.Wrong));
       },
     )
 
 -- what does not pass by its ports; or a stray, for which memory is wanting
 pub fault_found : (h : Header) (earlier : List Datagram) (d : Datagram) (After : Type 0) (result : Result MayPass PortFault) (fault : PortFault) → result ≡ Err fault
     → (result ≢ Err PortFault.Memory → result ≡ answer_of (route_of h earlier d)) → (result ≡ Err PortFault.Memory → IsNewStray h earlier d) → FindsOf h earlier d After (Err (error_by_port fault))
-fault_found h earlier d After result PortFault.ForeignPort is answer memory = port_first h earlier d PortFault.ForeignPort After (sym is ∙ answer (λ e. let same = sym is ∙ e in cc))
-fault_found h earlier d After result PortFault.WrongPort is answer memory = port_first h earlier d PortFault.WrongPort After (sym is ∙ answer (λ e. let same = sym is ∙ e in cc))
-fault_found h earlier d After result PortFault.StrayAnswer is answer memory = port_first h earlier d PortFault.StrayAnswer After (sym is ∙ answer (λ e. let same = sym is ∙ e in cc))
+fault_found h earlier d After result (PortFault.Broken port) is answer memory = port_first h earlier d (PortFault.Broken port) After (sym is ∙ answer (λ e. let same = sym is ∙ e in cc))
 fault_found h earlier d After result PortFault.Memory is answer memory = strays_pass h earlier d may.Stray (memory is).0 refl (λ stray bad. absurd (cc))

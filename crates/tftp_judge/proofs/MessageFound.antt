@@ -65,52 +65,19 @@ module _ (asked : RequestParts) (passed : List Datagram) (dir : Dir) (now : Requ
 
 -- ---- the first OACK
 
--- the faults' numbers among those of the rules
-abbrev fault_number : NegoFault → ℕ
-fault_number NegoFault.OackEmpty = 11
-fault_number NegoFault.MulticastAgreed = 12
-fault_number NegoFault.OptionNotRequested = 13
-fault_number NegoFault.OptionOutsideProfile = 14
-fault_number NegoFault.OptionValue = 15
-fault_number NegoFault.BeyondBlock65535 = 20
-fault_number NegoFault.Memory = 21
-
-spread : (f : NegoFault) → ((fault_number f ≡ number f + 10) × (number f ≤ 5)) ⊎ ((fault_number f ≡ number f + 14) × (6 ≤ number f))
-spread NegoFault.BeyondBlock65535 = inr (omega arith, omega arith)
-spread NegoFault.Memory = inr (omega arith, omega arith)
-spread _ = inl (omega arith, omega arith)
-
-in_order : (g f : NegoFault) → fault_number g < fault_number f → number g < number f
-in_order g f low = elim (spread g) [
-  | inl a ↦ elim (spread f) [ inl b ↦ omega arith | inr b ↦ omega arith ]
-  | inr a ↦ elim (spread f) [ inl b ↦ omega arith | inr b ↦ omega arith ]
-]
-
 module _ (asked : RequestParts) (oack : OptionMap) where
-  fault_first : (f : NegoFault) → FirstFault asked oack f → (other : Rule) → number_of other < fault_number f → FirstOackBreaks asked oack other → ⊥
-  fault_first f first Rule.OackEmpty low b = first.1 NegoFault.OackEmpty (in_order NegoFault.OackEmpty f low) b
-  fault_first f first Rule.MulticastAgreed low b = first.1 NegoFault.MulticastAgreed (in_order NegoFault.MulticastAgreed f low) b
-  fault_first f first Rule.OptionNotRequested low b = first.1 NegoFault.OptionNotRequested (in_order NegoFault.OptionNotRequested f low) b
-  fault_first f first Rule.OptionOutsideProfile low b = first.1 NegoFault.OptionOutsideProfile (in_order NegoFault.OptionOutsideProfile f low) b
-  fault_first f first Rule.OptionValue low b = first.1 NegoFault.OptionValue (in_order NegoFault.OptionValue f low) b
-  fault_first f first (Rule.Block EndRule.BeyondBlock65535) low b = first.1 NegoFault.BeyondBlock65535 (in_order NegoFault.BeyondBlock65535 f low) b
+  fault_first : (f : NegoFault) → FirstFault asked oack f → (other : Rule) → number_of other < number f → FirstOackBreaks asked oack other → ⊥
+  fault_first f first (Rule.Agreement broken) low b = first.1 (NegoFault.Broken broken) low b
+  fault_first f first (Rule.Block EndRule.BeyondBlock65535) low b = first.1 NegoFault.BeyondBlock65535 low b
   fault_first f first other low b = absurd b
 
   pub fault_found : (A : Type 0) (f : NegoFault) → (f ≢ NegoFault.Memory → FirstFault asked oack f) → (f ≡ NegoFault.Memory → NoneBreaks (FirstOackBreaks asked oack)) → Finds (FirstOackBreaks asked oack) A (Err (error_of_fault f))
-  fault_found A NegoFault.OackEmpty first none = let is = first (λ e. cc) in (is.0, fault_first NegoFault.OackEmpty is)
-  fault_found A NegoFault.MulticastAgreed first none = let is = first (λ e. cc) in (is.0, fault_first NegoFault.MulticastAgreed is)
-  fault_found A NegoFault.OptionNotRequested first none = let is = first (λ e. cc) in (is.0, fault_first NegoFault.OptionNotRequested is)
-  fault_found A NegoFault.OptionOutsideProfile first none = let is = first (λ e. cc) in (is.0, fault_first NegoFault.OptionOutsideProfile is)
-  fault_found A NegoFault.OptionValue first none = let is = first (λ e. cc) in (is.0, fault_first NegoFault.OptionValue is)
+  fault_found A (NegoFault.Broken broken) first none = let is = first (λ e. cc) in (is.0, fault_first (NegoFault.Broken broken) is)
   fault_found A NegoFault.BeyondBlock65535 first none = let is = first (λ e. cc) in (is.0, fault_first NegoFault.BeyondBlock65535 is)
   fault_found A NegoFault.Memory first none = none refl
 
   pub none_of_agreed : oack ≢ no_options → MayAgree asked oack → NoneBreaks (FirstOackBreaks asked oack)
-  none_of_agreed some may Rule.OackEmpty b = no_fault asked oack some may NegoFault.OackEmpty b
-  none_of_agreed some may Rule.MulticastAgreed b = no_fault asked oack some may NegoFault.MulticastAgreed b
-  none_of_agreed some may Rule.OptionNotRequested b = no_fault asked oack some may NegoFault.OptionNotRequested b
-  none_of_agreed some may Rule.OptionOutsideProfile b = no_fault asked oack some may NegoFault.OptionOutsideProfile b
-  none_of_agreed some may Rule.OptionValue b = no_fault asked oack some may NegoFault.OptionValue b
+  none_of_agreed some may (Rule.Agreement broken) b = no_fault asked oack some may (NegoFault.Broken broken) b
   none_of_agreed some may (Rule.Block EndRule.BeyondBlock65535) b = no_fault asked oack some may NegoFault.BeyondBlock65535 b
   none_of_agreed some may rule b = absurd b
 

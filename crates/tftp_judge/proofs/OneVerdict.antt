@@ -7,7 +7,8 @@ use Rattle.tftp_law.specs.{number_of, Broken, FirstBroken, AbortedBy, Rule, IsLa
 use Rattle.tftp_model.specs.{Meaning}
 use Rattle.tftp_judge.specs.{IsSaid, IsUnlawfulAt, IsVerdict, Refusal, Unlawful, Aborted, Incomplete, NormalTooLong}
 use Rattle.tftp_judge.specs.declared.refusal.Refusal.TheVariants.{Memory}
-use Rattle.tftp_rules.specs.{transfer_of, EndRule}
+use Rattle.tftp_rules.specs.{transfer_of, EndRule, PortRule}
+use Rattle.tftp_nego.specs.{AgreementRule}
 use Rattle.tftp_law.proofs.FirstBroken.FirstError.{one_first, none_first}
 use Rattle.tftp_law.proofs.Whole.Beginnings.{beginning_is_lawful}
 use Rattle.tftp_law.proofs.Whole.TwoEnds.{one_shown}
@@ -18,37 +19,45 @@ use Rattle.tftp_law.proofs.FirstBroken.FirstBroken.{one_first_broken}
 -- the rules in their order, each at its number less one
 abbrev in_order : List Rule
 in_order =
-    Rule.ForeignPort
-    ∷ Rule.WrongPort
-    ∷ Rule.StrayAnswer
+    Rule.Port PortRule.Foreign
+    ∷ Rule.Port PortRule.Wrong
+    ∷ Rule.Port PortRule.BadAnswer
     ∷ Rule.NoRequest
-    ∷ (Rule.Malformed Short)
+    ∷ Rule.Malformed Short
     ∷ Rule.WrongKind
     ∷ Rule.AfterError
     ∷ Rule.RequestChanged
     ∷ Rule.RequestAfterStart
     ∷ Rule.ReplyChanged
-    ∷ Rule.OackEmpty
-    ∷ Rule.MulticastAgreed
-    ∷ Rule.OptionNotRequested
-    ∷ Rule.OptionOutsideProfile
-    ∷ Rule.OptionValue
+    ∷ Rule.Agreement AgreementRule.OackEmpty
+    ∷ Rule.Agreement AgreementRule.MulticastAgreed
+    ∷ Rule.Agreement AgreementRule.OptionNotRequested
+    ∷ Rule.Agreement AgreementRule.OptionOutsideProfile
+    ∷ Rule.Agreement AgreementRule.OptionValue
     ∷ Rule.OackChanged
     ∷ Rule.OackAfterStart
-    ∷ (Rule.Block EndRule.NotStarted)
-    ∷ (Rule.Block EndRule.BlockZero)
-    ∷ (Rule.Block EndRule.BeyondBlock65535)
-    ∷ (Rule.Block EndRule.BlockLength)
-    ∷ (Rule.Block EndRule.WindowOverrun)
-    ∷ (Rule.Block EndRule.BlockSkipped)
-    ∷ (Rule.Block EndRule.GoneBack)
-    ∷ (Rule.Block EndRule.BlockChanged)
-    ∷ (Rule.Block EndRule.AckAhead)
-    ∷ (Rule.Block EndRule.AckZero)
+    ∷ Rule.Block EndRule.NotStarted
+    ∷ Rule.Block EndRule.BlockZero
+    ∷ Rule.Block EndRule.BeyondBlock65535
+    ∷ Rule.Block EndRule.BlockLength
+    ∷ Rule.Block EndRule.WindowOverrun
+    ∷ Rule.Block EndRule.BlockSkipped
+    ∷ Rule.Block EndRule.GoneBack
+    ∷ Rule.Block EndRule.BlockChanged
+    ∷ Rule.Block EndRule.AckAhead
+    ∷ Rule.Block EndRule.AckZero
     ∷ []
 
 abbrev rule_at : ℕ → Rule
-rule_at n = get_or in_order (n - 1) Rule.ForeignPort
+rule_at n = get_or in_order (n - 1) (Rule.Port PortRule.Foreign)
+
+of_port : (port : PortRule) → rule_at (number_of (Rule.Port port)) ≡ Rule.Port port
+of_port PortRule.Foreign = refl
+of_port _ = refl
+
+of_agreement : (broken : AgreementRule) → rule_at (number_of (Rule.Agreement broken)) ≡ Rule.Agreement broken
+of_agreement AgreementRule.OackEmpty = refl
+of_agreement _ = refl
 
 of_end : (e : EndRule) → rule_at (number_of (Rule.Block e)) ≡ Rule.Block e
 of_end EndRule.NotStarted = refl
@@ -57,6 +66,8 @@ of_end _ = refl
 -- a rule is the one with its number, or that a packet is malformed
 named : (r : Rule) → (rule_at (number_of r) ≡ r) ⊎ ((fault : PacketFault) × (r ≡ Rule.Malformed fault))
 named (Rule.Malformed fault) = inr (fault, refl)
+named (Rule.Port rule) = inl (of_port rule)
+named (Rule.Agreement rule) = inl (of_agreement rule)
 named (Rule.Block rule) = inl (of_end rule)
 named _ = inl refl
 

@@ -4,8 +4,7 @@ use Rattle.tftp_packet.specs.{IsFirst}
 use Rattle.tftp_hosts.specs.{Datagram, Header}
 use Rattle.tftp_ends.specs.{PortFault, Rejection}
 use Rattle.tftp_rules.specs.{EndRule}
-use Rattle.tftp_law.specs.{Passes, number_of, FirstBroken, Rule, ForeignPort, WrongPort, OackEmpty, MulticastAgreed, OptionNotRequested, OptionOutsideProfile, OptionValue, Block}
-use Rattle.tftp_law.specs.declared.rule.Rule.TheVariants.{StrayAnswer}
+use Rattle.tftp_law.specs.{Passes, number_of, FirstBroken, Rule, Port, Agreement, Block}
 use Rattle.tftp_nego.specs.{NegoFault}
 use Rattle.tftp_judge.specs.Memory.{TakesMemory}
 use Rattle.tftp_judge.specs.declared.refusal.Refusal.{Refusal}
@@ -41,19 +40,13 @@ Refuses h earlier d _ = ⊥
 
 -- why an OACK may not be agreed to, among all reasons
 abbrev pub error_of_fault : NegoFault → PassError
-error_of_fault NegoFault.OackEmpty = Broken OackEmpty
-error_of_fault NegoFault.MulticastAgreed = Broken MulticastAgreed
-error_of_fault NegoFault.OptionNotRequested = Broken OptionNotRequested
-error_of_fault NegoFault.OptionOutsideProfile = Broken OptionOutsideProfile
-error_of_fault NegoFault.OptionValue = Broken OptionValue
+error_of_fault (NegoFault.Broken rule) = Broken (Agreement rule)
 error_of_fault NegoFault.BeyondBlock65535 = Broken (Block EndRule.BeyondBlock65535)
 error_of_fault NegoFault.Memory = Memory
 
 -- why a datagram does not pass by its ports, among all reasons
 abbrev pub error_by_port : PortFault → PassError
-error_by_port PortFault.ForeignPort = Broken ForeignPort
-error_by_port PortFault.WrongPort = Broken WrongPort
-error_by_port PortFault.StrayAnswer = Broken StrayAnswer
+error_by_port (PortFault.Broken rule) = Broken (Port rule)
 error_by_port PortFault.Memory = Memory
 
 -- why a packet does not pass at the named end, among all reasons

@@ -22,6 +22,7 @@ use tftp_ends::{PortFault, Ports, Route};
 use tftp_hosts::Dir;
 use tftp_law::Rule;
 use tftp_packet::{Bytes, Packet, RequestView, opcode, own_request, read_packet};
+use tftp_rules::PortRule;
 
 /// What is kept of the datagrams that have passed: the transfer ids, and the transfer from its first request on.
 #[derive(Drop)]
@@ -98,7 +99,7 @@ impl<D: Delivered + Drop> JudgeState<D> {
                 if says_unknown_id(payload) {
                     Ok(())
                 } else {
-                    Err(PassError::Broken(Rule::StrayAnswer))
+                    Err(PassError::Broken(Rule::Port(PortRule::BadAnswer)))
                 }
             }
             Route::Stray => Ok(()),
@@ -239,9 +240,7 @@ fn error_of_port(fault: PortFault) -> PassError
     ensures { result ≡ error_by_port fault }
 {
     match fault {
-        PortFault::ForeignPort => PassError::Broken(Rule::ForeignPort),
-        PortFault::WrongPort => PassError::Broken(Rule::WrongPort),
-        PortFault::StrayAnswer => PassError::Broken(Rule::StrayAnswer),
+        PortFault::Broken(rule) => PassError::Broken(Rule::Port(rule)),
         PortFault::Memory => PassError::Memory,
     }
 }

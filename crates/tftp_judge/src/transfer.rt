@@ -477,11 +477,7 @@ fn stop_of(fault: NegoFault) -> PassError
     ensures { result ≡ error_of_fault fault }
 {
     match fault {
-        NegoFault::OackEmpty => PassError::Broken(Rule::OackEmpty),
-        NegoFault::MulticastAgreed => PassError::Broken(Rule::MulticastAgreed),
-        NegoFault::OptionNotRequested => PassError::Broken(Rule::OptionNotRequested),
-        NegoFault::OptionOutsideProfile => PassError::Broken(Rule::OptionOutsideProfile),
-        NegoFault::OptionValue => PassError::Broken(Rule::OptionValue),
+        NegoFault::Broken(rule) => PassError::Broken(Rule::Agreement(rule)),
         NegoFault::BeyondBlock65535 => PassError::Broken(Rule::Block(EndRule::BeyondBlock65535)),
         NegoFault::Memory => PassError::Memory,
     }

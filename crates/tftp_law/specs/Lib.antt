@@ -7,7 +7,6 @@ pub mod MessageRules
 pub mod Rules
 pub mod RuleNames
 pub mod OneEnd
-pub mod PortRules
 pub mod Aborted
 pub mod Settled
 pub mod Owned
@@ -31,4 +30,4 @@ pub use Writable.{CanBeWritten, HasPayload, blocks_of, wire_of}
 pub use declared.aborted_by.AbortedBy.{AbortedBy}
 pub use declared.aborted_by.AbortedBy.TheVariants.{Local, Peer}
 pub use declared.rule.Rule.{Rule}
-pub use declared.rule.Rule.TheVariants.{Block, ForeignPort, Malformed, MulticastAgreed, OackEmpty, OptionNotRequested, OptionOutsideProfile, OptionValue, WrongPort}
+pub use declared.rule.Rule.TheVariants.{Agreement, Block, Malformed, Port}

@@ -4,10 +4,10 @@ use Rattle.std.specs.Prelude.{◌≡◌, ◌≢◌, ◌⊎◌, ℕ, List}
 use Rattle.tftp_packet.specs.{OptionMap, Message, RequestParts, Side, Get, Put, End, Client, Server}
 use Rattle.tftp_hosts.specs.{Dir, Out, Datagram, Header}
 use Rattle.tftp_rules.specs.{author_of, Passed, EndBroken, Terms, EndRule}
-use Rattle.tftp_nego.specs.{Holds, NegoFault}
+use Rattle.tftp_nego.specs.{AgreementBroken, Holds, NegoFault}
 use Rattle.tftp_law.specs.Replies.{Agrees, Begins, NotAnswered, FirstAnswer, AreTermsAfter}
 use Rattle.tftp_law.specs.declared.rule.Rule.{Rule}
-use Rattle.tftp_law.specs.declared.rule.Rule.TheVariants.{WrongKind, AfterError, RequestChanged, RequestAfterStart, ReplyChanged, OackEmpty, MulticastAgreed, OptionNotRequested, OptionOutsideProfile, OptionValue, OackChanged, OackAfterStart, Block}
+use Rattle.tftp_law.specs.declared.rule.Rule.TheVariants.{WrongKind, AfterError, RequestChanged, RequestAfterStart, ReplyChanged, Agreement, OackChanged, OackAfterStart, Block}
 
 -- what the client may not send on this side, and what the server may not (RFC 1350, sections 2 and 4)
 abbrev pub IsWrongKind : End → Side → Message → Type 0
@@ -47,11 +47,7 @@ RequestBreaks asked passed dir now _ = ⊥
 
 -- the first OACK: it has no option, or one that may not be agreed (RFC 2347; RFC 2348; RFC 2349; RFC 7440, section 3)
 abbrev pub FirstOackBreaks : RequestParts → OptionMap → Rule → Type 0
-FirstOackBreaks asked oack OackEmpty = Holds NegoFault.OackEmpty asked oack
-FirstOackBreaks asked oack MulticastAgreed = Holds NegoFault.MulticastAgreed asked oack
-FirstOackBreaks asked oack OptionNotRequested = Holds NegoFault.OptionNotRequested asked oack
-FirstOackBreaks asked oack OptionOutsideProfile = Holds NegoFault.OptionOutsideProfile asked oack
-FirstOackBreaks asked oack OptionValue = Holds NegoFault.OptionValue asked oack
+FirstOackBreaks asked oack (Agreement rule) = AgreementBroken rule asked oack
 FirstOackBreaks asked oack (Block EndRule.BeyondBlock65535) = Holds NegoFault.BeyondBlock65535 asked oack
 FirstOackBreaks asked oack _ = ⊥
 

@@ -3,17 +3,16 @@
 use Rattle.std.specs.Prelude.{◌≡◌, ℕ, List, None, true}
 use Rattle.tftp_packet.specs.{IsFirst, Message, RequestParts, Spells, FirstFault}
 use Rattle.tftp_hosts.specs.{Datagram, Header}
-use Rattle.tftp_rules.specs.{Route, asks, first_of, route_of, is_of_transfer, transfer_of, PortRule, PortBroken, end_number}
+use Rattle.tftp_rules.specs.{Route, asks, first_of, route_of, is_of_transfer, transfer_of, PortBroken, port_number, end_number}
+use Rattle.tftp_nego.specs.{agreement_number}
 use Rattle.tftp_law.specs.Replies.{FirstAsked}
 use Rattle.tftp_law.specs.MessageRules.{MessageBreaks}
 use Rattle.tftp_law.specs.declared.rule.Rule.{Rule}
-use Rattle.tftp_law.specs.declared.rule.Rule.TheVariants.{ForeignPort, WrongPort, StrayAnswer, NoRequest, Malformed, WrongKind, AfterError, RequestChanged, RequestAfterStart, ReplyChanged, OackEmpty, MulticastAgreed, OptionNotRequested, OptionOutsideProfile, OptionValue, OackChanged, OackAfterStart, Block}
+use Rattle.tftp_law.specs.declared.rule.Rule.TheVariants.{Port, NoRequest, Malformed, WrongKind, AfterError, RequestChanged, RequestAfterStart, ReplyChanged, Agreement, OackChanged, OackAfterStart, Block}
 
 -- the numbers of the rules, in the order in which they are tried
 abbrev pub number_of : Rule → ℕ
-number_of ForeignPort = 1
-number_of WrongPort = 2
-number_of StrayAnswer = 3
+number_of (Port rule) = port_number rule
 number_of NoRequest = 4
 number_of (Malformed fault) = 5
 number_of WrongKind = 6
@@ -21,11 +20,7 @@ number_of AfterError = 7
 number_of RequestChanged = 8
 number_of RequestAfterStart = 9
 number_of ReplyChanged = 10
-number_of OackEmpty = 11
-number_of MulticastAgreed = 12
-number_of OptionNotRequested = 13
-number_of OptionOutsideProfile = 14
-number_of OptionValue = 15
+number_of (Agreement rule) = agreement_number rule
 number_of OackChanged = 16
 number_of OackAfterStart = 17
 number_of (Block rule) = end_number rule
@@ -46,9 +41,7 @@ pub record MessageBroken (h : Header) (earlier : List Datagram) (d : Datagram) (
 -- when a datagram breaks each rule
 abbrev pub Broken : Header → List Datagram → Datagram → Rule → Type 0
 -- its ports or its host are not the transfer's (RFC 1350, section 4)
-Broken h earlier d ForeignPort = PortBroken h earlier d PortRule.Foreign
-Broken h earlier d WrongPort = PortBroken h earlier d PortRule.Wrong
-Broken h earlier d StrayAnswer = PortBroken h earlier d PortRule.BadAnswer
+Broken h earlier d (Port rule) = PortBroken h earlier d rule
 -- the first datagram is no request (RFC 1350, section 4)
 Broken h earlier d NoRequest = (first_of (asks h) earlier ≡ None) × (route_of h earlier d ≡ Route.Peer)
 -- it is no packet (RFC 1350, section 5; RFC 2347)

@@ -2,18 +2,15 @@ ghost use Rattle.std.specs.Prelude.{◌≡◌};
 ghost use Rattle.tftp_law.specs.RuleNames.{rule_name};
 ghost use Rattle.tftp_law.specs.Rules.{number_of};
 
+use tftp_nego::AgreementRule;
 use tftp_packet::PacketFault;
-use tftp_rules::EndRule;
+use tftp_rules::{EndRule, PortRule};
 
 /// A rule that a datagram may break, in the order in which the rules are tried.
 #[derive(Clone, Copy, Debug, PartialEq, Eq)]
 pub enum Rule {
-    /// The port at the named end is not the transfer's (RFC 1350, section 4).
-    ForeignPort,
-    /// The host or the port at the other side is none that the datagram may go to (RFC 1350, section 4).
-    WrongPort,
-    /// A stray is answered by something else than ERROR 5 (RFC 1350, section 4).
-    StrayAnswer,
+    /// A rule of ports and hosts (RFC 1350, section 4).
+    Port(PortRule),
     /// The transfer does not begin with a request (RFC 1350, section 4).
     NoRequest,
     /// The payload spells no packet (RFC 1350, section 5; RFC 2347).
@@ -28,16 +25,8 @@ pub enum Rule {
     RequestAfterStart,
     /// An OACK where the request was answered without one (RFC 2347).
     ReplyChanged,
-    /// The first OACK has no option (RFC 2347).
-    OackEmpty,
-    /// The first OACK agrees to `multicast` (RFC 2090).
-    MulticastAgreed,
-    /// The first OACK has an option that was not requested (RFC 2347).
-    OptionNotRequested,
-    /// The first OACK has an option that is not supported (RFC 2347).
-    OptionOutsideProfile,
-    /// The first OACK has a value that may not answer the one requested (RFC 2348; RFC 2349; RFC 7440).
-    OptionValue,
+    /// A rule on what the first OACK may agree to (RFC 2347; RFC 2348; RFC 2349; RFC 7440).
+    Agreement(AgreementRule),
     /// An OACK that is not the first one again (RFC 2347).
     OackChanged,
     /// The server of a read sends an OACK after a block (RFC 2347).
@@ -52,9 +41,7 @@ impl Rule {
         ensures { result ≡ number_of self }
     {
         match self {
-            Rule::ForeignPort => 1,
-            Rule::WrongPort => 2,
-            Rule::StrayAnswer => 3,
+            Rule::Port(rule) => rule.number(),
             Rule::NoRequest => 4,
             Rule::Malformed(_) => 5,
             Rule::WrongKind => 6,
@@ -62,11 +49,7 @@ impl Rule {
             Rule::RequestChanged => 8,
             Rule::RequestAfterStart => 9,
             Rule::ReplyChanged => 10,
-            Rule::OackEmpty => 11,
-            Rule::MulticastAgreed => 12,
-            Rule::OptionNotRequested => 13,
-            Rule::OptionOutsideProfile => 14,
-            Rule::OptionValue => 15,
+            Rule::Agreement(rule) => rule.number(),
             Rule::OackChanged => 16,
             Rule::OackAfterStart => 17,
             Rule::Block(rule) => rule.number(),
@@ -78,9 +61,7 @@ impl Rule {
         ensures { result.now ≡ rule_name self }
     {
         match self {
-            Rule::ForeignPort => "ForeignPort",
-            Rule::WrongPort => "WrongPort",
-            Rule::StrayAnswer => "StrayAnswer",
+            Rule::Port(rule) => rule.name(),
             Rule::NoRequest => "NoRequest",
             Rule::Malformed(_) => "Malformed",
             Rule::WrongKind => "WrongKind",
@@ -88,11 +69,7 @@ impl Rule {
             Rule::RequestChanged => "RequestChanged",
             Rule::RequestAfterStart => "RequestAfterStart",
             Rule::ReplyChanged => "ReplyChanged",
-            Rule::OackEmpty => "OackEmpty",
-            Rule::MulticastAgreed => "MulticastAgreed",
-            Rule::OptionNotRequested => "OptionNotRequested",
-            Rule::OptionOutsideProfile => "OptionOutsideProfile",
-            Rule::OptionValue => "OptionValue",
+            Rule::Agreement(rule) => rule.name(),
             Rule::OackChanged => "OackChanged",
             Rule::OackAfterStart => "OackAfterStart",
             Rule::Block(rule) => rule.name(),

@@ -2,19 +2,21 @@
 use Rattle.std.proofs.Common.{◌≡◌, ℕ, ◌-◌, ◌≤◌, [], ◌∷◌, get_or, refl, arith}
 use Rattle.tftp_packet.specs.{OptionMap, RequestParts}
 use Rattle.tftp_packet.proofs.FirstOf.{first_one, Unless, first_unless}
-use Rattle.tftp_nego.specs.{NegoFault, OackEmpty, MulticastAgreed, OptionNotRequested, OptionOutsideProfile, OptionValue, BeyondBlock65535, Memory, Holds, number, FirstFault}
+use Rattle.tftp_nego.specs.{NegoFault, Broken, OackEmpty, MulticastAgreed, OptionNotRequested, OptionOutsideProfile, OptionValue, BeyondBlock65535, Memory, Holds, number, FirstFault}
 
--- the fault with this number
+-- the fault with this number; the numbers between are no fault's, as if want of memory stood there
 abbrev pub fault_at : ℕ → NegoFault
-fault_at n = get_or (OackEmpty ∷ MulticastAgreed ∷ OptionNotRequested ∷ OptionOutsideProfile ∷ OptionValue ∷ BeyondBlock65535 ∷ Memory ∷ []) (n - 1) Memory
+fault_at n = get_or (Broken OackEmpty ∷ Broken MulticastAgreed ∷ Broken OptionNotRequested ∷ Broken OptionOutsideProfile ∷ Broken OptionValue ∷ Memory ∷ Memory ∷ Memory ∷ Memory ∷ BeyondBlock65535 ∷ []) (n - 11) Memory
 
 pub fault_is : (f : NegoFault) → fault_at (number f) ≡ f
-fault_is OackEmpty = refl
+fault_is (Broken OackEmpty) = refl
+fault_is (Broken _) = refl
 fault_is _ = refl
 
-from_one : (f : NegoFault) → 1 ≤ number f
-from_one OackEmpty = omega arith
-from_one _ = omega arith
+from_eleven : (f : NegoFault) → 11 ≤ number f
+from_eleven (Broken OackEmpty) = omega arith
+from_eleven (Broken _) = omega arith
+from_eleven _ = omega arith
 
 module _ (request : RequestParts) (agreed : OptionMap) where
   abbrev pub HoldsOfIt : NegoFault → Type 0
@@ -24,5 +26,5 @@ module _ (request : RequestParts) (agreed : OptionMap) where
   first_fault_unique = first_one number HoldsOfIt fault_at fault_is
 
   -- a fault that holds is the first, unless one that stands before it does
-  pub first_fault : (f : NegoFault) → Holds f request agreed → Unless number HoldsOfIt fault_at fault_is (number f - 1) 1 (FirstFault request agreed f)
-  first_fault = first_unless number HoldsOfIt fault_at fault_is 1 from_one
+  pub first_fault : (f : NegoFault) → Holds f request agreed → Unless number HoldsOfIt fault_at fault_is (number f - 11) 11 (FirstFault request agreed f)
+  first_fault = first_unless number HoldsOfIt fault_at fault_is 11 from_eleven

@@ -4,8 +4,9 @@ use Rattle.std.proofs.lemmas.Slice.Eq.{bytes_eq-Decides}
 use Rattle.std.specs.FinMap as map
 use Rattle.std.proofs.lemmas.Bool.{cases_lt}
 use Rattle.tftp_packet.specs.{OptionMap, OptionValue, Num, Text, no_options, lower, value_of, RequestParts, Pair, map_of, AreApart, Side, Get, Put}
-use Rattle.tftp_nego.specs.{NegoFault, MayAnswer, MayAgree, Holds, FirstFault, HasOption, IsOutsideProfile, IsWrongNumber, IsWrongValue, EachName, SomeName, IsInProfile, IsAnswered, IsUnanswered, AreNot, IsLowered, IsKept, IsSize, AllAnswered, SomeUnanswered, FitsNumbers}
+use Rattle.tftp_nego.specs.{AgreementRule, NegoFault, MayAnswer, MayAgree, AgreementBroken, Holds, FirstFault, HasOption, IsOutsideProfile, IsWrongNumber, IsWrongValue, EachName, SomeName, IsInProfile, IsAnswered, IsUnanswered, AreNot, IsLowered, IsKept, IsSize, AllAnswered, SomeUnanswered, FitsNumbers}
 use Rattle.tftp_nego.specs.declared.fault.NegoFault.TheVariants as fault
+use Rattle.tftp_nego.specs.declared.rule.AgreementRule.TheVariants as rule
 use Rattle.tftp_nego.proofs.OptionMaps.{text_of_value, each_in_map, some_in_map, has_not_empty, some_not_empty}
 use Rattle.tftp_nego.proofs.FaultOrder.{first_fault}
 
@@ -84,7 +85,7 @@ pub may_agree : (request : RequestParts) (agreed : OptionMap) → AllAsked reque
 may_agree request agreed all fits = record { asked = all; size = fits }
 
 -- ---- what each test excludes
-pub all_requested_no_fault : (request : RequestParts) (pairs : List Pair) → EachName (HasOption request.options) pairs → Holds fault.OptionNotRequested request (map_of pairs) → ⊥
+pub all_requested_no_fault : (request : RequestParts) (pairs : List Pair) → EachName (HasOption request.options) pairs → AgreementBroken rule.OptionNotRequested request (map_of pairs) → ⊥
 all_requested_no_fault request pairs each (name, has, none) =
     let (value, found) = each_in_map (HasOption request.options) pairs each name has in
     let same : None ≡ Some value = sym none ∙ found in cc
@@ -95,10 +96,10 @@ known_not_outside name (inr (inl e)) outside = outside.1 e
 known_not_outside name (inr (inr (inl e))) outside = outside.2 e
 known_not_outside name (inr (inr (inr e))) outside = outside.3 e
 
-pub all_known_no_fault : (request : RequestParts) (pairs : List Pair) → EachName IsInProfile pairs → Holds fault.OptionOutsideProfile request (map_of pairs) → ⊥
+pub all_known_no_fault : (request : RequestParts) (pairs : List Pair) → EachName IsInProfile pairs → AgreementBroken rule.OptionOutsideProfile request (map_of pairs) → ⊥
 all_known_no_fault request pairs each (name, has, outside) = known_not_outside name (each_in_map IsInProfile pairs each name has) outside
 
-pub all_asked_no_fault : (request : RequestParts) (agreed : OptionMap) → AllAsked request agreed → Holds fault.OptionValue request agreed → ⊥
+pub all_asked_no_fault : (request : RequestParts) (agreed : OptionMap) → AllAsked request agreed → AgreementBroken rule.OptionValue request agreed → ⊥
 all_asked_no_fault request agreed all (name, asked, given, had, has, wrong) =
     let (n, a, has_asked, is, may) = all name given has in
     let one : Some asked ≡ Some (Num n) = sym had ∙ has_asked in
@@ -109,17 +110,21 @@ all_asked_no_fault request agreed all (name, asked, given, had, has, wrong) =
 fits_no_fault : (request : RequestParts) (agreed : OptionMap) → MayAgree request agreed → Holds fault.BeyondBlock65535 request agreed → ⊥
 fits_no_fault request agreed may (size, octet, has, beyond) = let fits = may.size octet size has in omega (arith, fits, beyond)
 
+-- where each option was asked for and may be given, and there is one, no rule is broken
+pub agreement_kept : (request : RequestParts) (agreed : OptionMap) → agreed ≢ no_options → AllAsked request agreed → (broken : AgreementRule) → AgreementBroken broken request agreed → ⊥
+agreement_kept request agreed some all rule.OackEmpty h = some h
+agreement_kept request agreed some all rule.MulticastAgreed (value, has) =
+    let (n, a, had, is, answers) = all (codes "multicast") value has in may_no_multicast request.side n a answers
+agreement_kept request agreed some all rule.OptionNotRequested (name, (value, has), none) =
+    let (n, a, had, is, answers) = all name value has in
+    let same : None ≡ Some (Num n) = sym none ∙ had in cc
+agreement_kept request agreed some all rule.OptionOutsideProfile (name, (value, has), outside) =
+    let (n, a, had, is, answers) = all name value has in may_in_profile request.side name n a answers outside
+agreement_kept request agreed some all rule.OptionValue h = all_asked_no_fault request agreed all h
+
 -- what may be agreed has no fault
 pub no_fault : (request : RequestParts) (agreed : OptionMap) → agreed ≢ no_options → MayAgree request agreed → (f : NegoFault) → Holds f request agreed → ⊥
-no_fault request agreed some may fault.OackEmpty h = some h
-no_fault request agreed some may fault.MulticastAgreed (value, has) =
-    let (n, a, had, is, answers) = may.asked (codes "multicast") value has in may_no_multicast request.side n a answers
-no_fault request agreed some may fault.OptionNotRequested (name, (value, has), none) =
-    let (n, a, had, is, answers) = may.asked name value has in
-    let same : None ≡ Some (Num n) = sym none ∙ had in cc
-no_fault request agreed some may fault.OptionOutsideProfile (name, (value, has), outside) =
-    let (n, a, had, is, answers) = may.asked name value has in may_in_profile request.side name n a answers outside
-no_fault request agreed some may fault.OptionValue h = all_asked_no_fault request agreed may.asked h
+no_fault request agreed some may (fault.Broken broken) h = agreement_kept request agreed some may.asked broken h
 no_fault request agreed some may fault.BeyondBlock65535 h = fits_no_fault request agreed may h
 no_fault request agreed some may fault.Memory h = h
 
@@ -130,7 +135,7 @@ wrong_value May side name so (Num n) (Text text) never = tt
 wrong_value May side name so (Text text) value never = tt
 
 unanswered_at : (May : ℕ → ℕ → Type 0) (request : RequestParts) (agreed : OptionMap) (name : List ℕ) → ((n a : ℕ) → (May n a → ⊥) → IsWrongNumber request.side name n a)
-    → ((key : List ℕ) → HasOption agreed key → HasOption request.options key) → IsUnanswered May request.options agreed name → Holds fault.OptionValue request agreed
+    → ((key : List ℕ) → HasOption agreed key → HasOption request.options key) → IsUnanswered May request.options agreed name → AgreementBroken rule.OptionValue request agreed
 unanswered_at May request agreed name so requested (value, has, inl none) =
     let (was, had) = requested name (value, has) in
     let same : None ≡ Some was = sym none ∙ had in absurd (let x : ⊥ = cc in x)
@@ -144,41 +149,42 @@ not_size : (side : Side) (n a : ℕ) → (IsSize side n a → ⊥) → (side ≡
 not_size Get n a never = absurd (never (λ e. absurd (let x : ⊥ = cc in x)))
 not_size Put n a never = (refl, λ e. never (λ _. e))
 
-some_unanswered : (request : RequestParts) (agreed : OptionMap) → ((key : List ℕ) → HasOption agreed key → HasOption request.options key) → SomeUnanswered request agreed → Holds fault.OptionValue request agreed
+some_unanswered : (request : RequestParts) (agreed : OptionMap) → ((key : List ℕ) → HasOption agreed key → HasOption request.options key) → SomeUnanswered request agreed → AgreementBroken rule.OptionValue request agreed
 some_unanswered request agreed requested (inl h) = unanswered_at IsLowered request agreed (codes "blksize") (λ n a never. inl (refl, not_lowered n a never)) requested h
 some_unanswered request agreed requested (inr (inl h)) = unanswered_at IsKept request agreed (codes "timeout") (λ n a never. inr (inr (inl (refl, never)))) requested h
 some_unanswered request agreed requested (inr (inr (inl h))) = unanswered_at IsLowered request agreed (codes "windowsize") (λ n a never. inr (inl (refl, not_lowered n a never))) requested h
 some_unanswered request agreed requested (inr (inr (inr h))) = unanswered_at (IsSize request.side) request agreed (codes "tsize") (λ n a never. let p = not_size request.side n a never in inr (inr (inr (refl, p.0, p.1)))) requested h
 
-pub unanswered_fault : (request : RequestParts) (pairs : List Pair) → EachName (HasOption request.options) pairs → SomeUnanswered request (map_of pairs) → Holds fault.OptionValue request (map_of pairs)
+pub unanswered_fault : (request : RequestParts) (pairs : List Pair) → EachName (HasOption request.options) pairs → SomeUnanswered request (map_of pairs) → AgreementBroken rule.OptionValue request (map_of pairs)
 unanswered_fault request pairs each some = some_unanswered request (map_of pairs) (λ name has. each_in_map (HasOption request.options) pairs each name has) some
 
 -- ---- the first fault, where the tests before it passed
-pub first_multicast : (request : RequestParts) (pairs : List Pair) → Holds fault.MulticastAgreed request (map_of pairs) → FirstFault request (map_of pairs) fault.MulticastAgreed
-first_multicast request pairs has = first_fault request (map_of pairs) fault.MulticastAgreed has (has_not_empty (map_of pairs) (codes "multicast") has)
+pub first_multicast : (request : RequestParts) (pairs : List Pair) → AgreementBroken rule.MulticastAgreed request (map_of pairs) → FirstFault request (map_of pairs) (fault.Broken rule.MulticastAgreed)
+first_multicast request pairs has = first_fault request (map_of pairs) (fault.Broken rule.MulticastAgreed) has (has_not_empty (map_of pairs) (codes "multicast") has)
 
-pub first_not_requested : (request : RequestParts) (pairs : List Pair) → AreApart pairs → pairs ≢ [] → (Holds fault.MulticastAgreed request (map_of pairs) → ⊥)
-    → SomeName (λ name. map.get request.options name ≡ None) pairs → FirstFault request (map_of pairs) fault.OptionNotRequested
+pub first_not_requested : (request : RequestParts) (pairs : List Pair) → AreApart pairs → pairs ≢ [] → (AgreementBroken rule.MulticastAgreed request (map_of pairs) → ⊥)
+    → SomeName (λ name. map.get request.options name ≡ None) pairs → FirstFault request (map_of pairs) (fault.Broken rule.OptionNotRequested)
 first_not_requested request pairs apart some single found =
-    first_fault request (map_of pairs) fault.OptionNotRequested (some_in_map (λ name. map.get request.options name ≡ None) pairs apart found) (some_not_empty pairs apart some) single
+    first_fault request (map_of pairs) (fault.Broken rule.OptionNotRequested) (some_in_map (λ name. map.get request.options name ≡ None) pairs apart found) (some_not_empty pairs apart some) single
 
-pub first_outside : (request : RequestParts) (pairs : List Pair) → AreApart pairs → pairs ≢ [] → (Holds fault.MulticastAgreed request (map_of pairs) → ⊥)
-    → EachName (HasOption request.options) pairs → SomeName IsOutsideProfile pairs → FirstFault request (map_of pairs) fault.OptionOutsideProfile
+pub first_outside : (request : RequestParts) (pairs : List Pair) → AreApart pairs → pairs ≢ [] → (AgreementBroken rule.MulticastAgreed request (map_of pairs) → ⊥)
+    → EachName (HasOption request.options) pairs → SomeName IsOutsideProfile pairs → FirstFault request (map_of pairs) (fault.Broken rule.OptionOutsideProfile)
 first_outside request pairs apart some single requested found =
-    first_fault request (map_of pairs) fault.OptionOutsideProfile (some_in_map IsOutsideProfile pairs apart found) (some_not_empty pairs apart some) single (all_requested_no_fault request pairs requested)
+    first_fault request (map_of pairs) (fault.Broken rule.OptionOutsideProfile) (some_in_map IsOutsideProfile pairs apart found) (some_not_empty pairs apart some) single (all_requested_no_fault request pairs requested)
 
-pub first_wrong_value : (request : RequestParts) (pairs : List Pair) → AreApart pairs → pairs ≢ [] → (Holds fault.MulticastAgreed request (map_of pairs) → ⊥)
-    → EachName (HasOption request.options) pairs → EachName IsInProfile pairs → SomeUnanswered request (map_of pairs) → FirstFault request (map_of pairs) fault.OptionValue
+pub first_wrong_value : (request : RequestParts) (pairs : List Pair) → AreApart pairs → pairs ≢ [] → (AgreementBroken rule.MulticastAgreed request (map_of pairs) → ⊥)
+    → EachName (HasOption request.options) pairs → EachName IsInProfile pairs → SomeUnanswered request (map_of pairs) → FirstFault request (map_of pairs) (fault.Broken rule.OptionValue)
 first_wrong_value request pairs apart some single requested known found =
-    first_fault request (map_of pairs) fault.OptionValue (unanswered_fault request pairs requested found) (some_not_empty pairs apart some) single
+    first_fault request (map_of pairs) (fault.Broken rule.OptionValue) (unanswered_fault request pairs requested found) (some_not_empty pairs apart some) single
     (all_requested_no_fault request pairs requested) (all_known_no_fault request pairs known)
 
-pub first_beyond : (request : RequestParts) (pairs : List Pair) → AreApart pairs → pairs ≢ [] → (Holds fault.MulticastAgreed request (map_of pairs) → ⊥)
+pub first_beyond : (request : RequestParts) (pairs : List Pair) → AreApart pairs → pairs ≢ [] → (AgreementBroken rule.MulticastAgreed request (map_of pairs) → ⊥)
     → EachName (HasOption request.options) pairs → EachName IsInProfile pairs → AllAnswered request (map_of pairs) → Holds fault.BeyondBlock65535 request (map_of pairs)
     → FirstFault request (map_of pairs) fault.BeyondBlock65535
 first_beyond request pairs apart some single requested known all found =
     first_fault request (map_of pairs) fault.BeyondBlock65535 found (some_not_empty pairs apart some) single
     (all_requested_no_fault request pairs requested) (all_known_no_fault request pairs known) (all_asked_no_fault request (map_of pairs) (all_asked request pairs known all))
+    (λ h. h) (λ h. h) (λ h. h) (λ h. h)
 
 pub tested_agrees : (request : RequestParts) (pairs : List Pair) → AreApart pairs → pairs ≢ [] → EachName IsInProfile pairs → AllAnswered request (map_of pairs) → FitsNumbers request (map_of pairs)
     → (map_of pairs ≢ no_options) × MayAgree request (map_of pairs)

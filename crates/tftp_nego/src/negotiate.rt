@@ -7,6 +7,7 @@ ghost use Rattle.tftp_nego.specs.declared.fault.NegoFault.{NegoFault};
 use crate::agreed::Agreed;
 use crate::fault::NegoFault;
 use crate::names::{all_known, all_requested, names_multicast};
+use crate::rule::AgreementRule;
 use crate::values::{all_values, fits_block_numbers};
 use std::alloc::Global;
 use tftp_packet::{OptionsView, Request, own_options};
@@ -31,19 +32,19 @@ fn test_options(request: &Request, oack: &OptionsView<'_>) -> Result<(), NegoFau
     ensures err { IfErr result (FirstFault request.now (map_of oack.now)) }
 {
     if oack.is_empty() {
-        return Err(NegoFault::OackEmpty);
+        return Err(NegoFault::Broken(AgreementRule::OackEmpty));
     }
     if names_multicast(oack) {
-        return Err(NegoFault::MulticastAgreed);
+        return Err(NegoFault::Broken(AgreementRule::MulticastAgreed));
     }
     if !all_requested(request, oack) {
-        return Err(NegoFault::OptionNotRequested);
+        return Err(NegoFault::Broken(AgreementRule::OptionNotRequested));
     }
     if !all_known(oack) {
-        return Err(NegoFault::OptionOutsideProfile);
+        return Err(NegoFault::Broken(AgreementRule::OptionOutsideProfile));
     }
     if !all_values(request, oack) {
-        return Err(NegoFault::OptionValue);
+        return Err(NegoFault::Broken(AgreementRule::OptionValue));
     }
     if !fits_block_numbers(request, oack) {
         return Err(NegoFault::BeyondBlock65535);

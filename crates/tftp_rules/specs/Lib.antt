@@ -1,13 +1,17 @@
 pub mod Ports
+pub mod PortNames
 pub mod Authors
 pub mod Rules
 pub mod EndNames
 pub mod Joined
-pub use Ports.{BadAnswer, Foreign, PortBroken, PortRule, Route, SaysUnknownId, Wrong, asks, begins_error, begins_request, comes_in, first_of, goes_out, has_come_from, is_from_client, is_of_transfer, or_this, port_of_server, route_after, route_at_client, route_at_server, route_before, route_of, route_out, route_to_service, transfer_of}
+pub use Ports.{PortBroken, Route, SaysUnknownId, asks, begins_error, begins_request, comes_in, first_of, goes_out, has_come_from, is_from_client, is_of_transfer, or_this, port_of_server, route_after, route_at_client, route_at_server, route_before, route_of, route_out, route_to_service, transfer_of}
+pub use PortNames.{port_name, port_number}
 pub use Authors.{author_of}
 pub use Rules.{AckBreaks, AckZeroWaits, BlockBreaks, BlockPassed, BlocksWait, EndBroken, FirstEndBroken, HasPassed, HasWrongLength, IsAcked, IsAckedAt, IsAnswered, IsFront, IsGreatest, IsHigh, IsLast, IsNotLengthOf, IsReachedAt, IsReceiver, IsSender, IsTop, LastIsUnknown, Passed, brings_error, end_number, usable}
 pub use EndNames.{end_name}
 pub use Joined.{IsJoined}
+pub use declared.port_rule.PortRule.{PortRule}
+pub use declared.port_rule.PortRule.TheVariants.{BadAnswer, Foreign, Wrong}
 pub use declared.rule.EndRule.{EndRule}
 pub use declared.rule.EndRule.TheVariants.{AckAhead, AckZero, BeyondBlock65535, BlockChanged, BlockLength, BlockSkipped, BlockZero, GoneBack, NotStarted, WindowOverrun}
 pub use declared.terms.Reply.{Reply}

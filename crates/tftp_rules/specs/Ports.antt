@@ -4,6 +4,8 @@ use Rattle.std.specs.Prelude.{◌≡◌, ◌⊎◌, ℕ, ◌==◌, ◌&&◌, ◌
 use Rattle.std.specs.List.{list_any}
 use Rattle.tftp_packet.specs.{Message, Spells, opcode_of, End, Client, Server}
 use Rattle.tftp_hosts.specs.{Dir, In, Out, Datagram, Header, PeerId, peer_of, same_peer}
+use Rattle.tftp_rules.specs.declared.port_rule.PortRule.{PortRule}
+use Rattle.tftp_rules.specs.declared.port_rule.PortRule.TheVariants.{Foreign, Wrong, BadAnswer}
 
 -- where a datagram belongs, or which rule of ports it breaks
 pub data Route : Type 0 where
@@ -137,12 +139,7 @@ transfer_of h (d ∷ earlier) = if is_of_transfer (route_of h earlier d) then d 
 abbrev pub SaysUnknownId : Datagram → Type 0
 SaysUnknownId d = (text : List ℕ) × Spells d.payload (Message.Error 5 text)
 
-pub data PortRule : Type 0 where
-  Foreign : PortRule
-  Wrong : PortRule
-  BadAnswer : PortRule
-
--- when a datagram breaks the rules of ports, which are the first three
+-- when a datagram breaks the rules of ports
 abbrev pub PortBroken : Header → List Datagram → Datagram → PortRule → Type 0
 PortBroken h earlier d Foreign = route_of h earlier d ≡ ForeignPort
 PortBroken h earlier d Wrong = route_of h earlier d ≡ WrongPort

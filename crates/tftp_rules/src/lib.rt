@@ -2,8 +2,10 @@
 //! and the rules of blocks and acknowledgements. The code that keeps to them is `tftp_ends`.
 #![tactic(auto)]
 
+mod port_rule;
 mod rule;
 mod terms;
 
+pub use port_rule::PortRule;
 pub use rule::EndRule;
 pub use terms::{Reply, Terms};

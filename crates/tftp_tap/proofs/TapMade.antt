@@ -13,7 +13,7 @@ use Rattle.tftp_law.specs.declared.rule.Rule.TheVariants as rule
 use Rattle.tftp_law.proofs.Division.RouteTests.{IsTold}
 use Rattle.tftp_law.proofs.Spelled.{spelled_once}
 use Rattle.tftp_law.proofs.FirstBroken.FirstRequests.{some_same}
-use Rattle.tftp_law.proofs.FirstBroken.OneMessage.{only_messages}
+use Rattle.tftp_law.proofs.FirstBroken.OneMessage.{only_messages, port_off}
 use Rattle.tftp_law.proofs.Division.Divided.{any_none, any_cases, any_first, any_later}
 use Rattle.tftp_tap.specs.{deed_at, TapDatagram, TapSides, side_of, AreApart, is_left_out, kept_of, before_error, same_end, is_request, tap_tests, recorded_at, header_at, FirstTapAsked, Says, HasKind, IsReply, IsLateBlock, is_of_ports}
 use Rattle.tftp_tap.proofs.KeptOf.{is_or_not, any_here, any_skip, any_of, some_of, before_there, kept_out, kept_in, kept_more, kept_plain, kept_asks}
@@ -25,9 +25,7 @@ use Rattle.tftp_tap.proofs.TapLawful.{Lawful, AreLawful, server_after, is_req_or
 
 -- what breaks a rule of ports at an end is none of the transfer there
 pub ports_off : (h : Header) (earlier : List Datagram) (d : Datagram) (broken : Rule) → is_of_ports broken ≡ true → Broken h earlier d broken → is_of_transfer (route_of h earlier d) ≡ false
-ports_off h earlier d rule.ForeignPort ports b = ap is_of_transfer b
-ports_off h earlier d rule.WrongPort ports b = ap is_of_transfer b
-ports_off h earlier d rule.StrayAnswer ports b = elim b [ inl none ↦ ap is_of_transfer none | inr bad ↦ ap is_of_transfer bad.0 ]
+ports_off h earlier d (rule.Port port) ports b = port_off h earlier d port b
 ports_off h earlier d broken ports b = absurd (true≢false (sym ports))
 
 -- ---- messages of a kind

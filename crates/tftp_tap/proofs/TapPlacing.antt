@@ -4,6 +4,7 @@ use Rattle.std.proofs.lemmas.Bool.{true≢false, eq-eqb}
 use Rattle.tftp_packet.specs.{Message, Spells, End, Client, Server}
 use Rattle.tftp_hosts.specs.{same_peer}
 use Rattle.tftp_model.specs.{MachinePacket, Req, Oack, Data, Ack, Error}
+use Rattle.tftp_rules.specs.{PortRule}
 use Rattle.tftp_law.specs.{BeginsAsRequest, says_some}
 use Rattle.tftp_law.specs.declared.rule.Rule.TheVariants as rule
 use Rattle.tftp_law.proofs.Division.RouteTests.{same_is, is_same, apart_is}
@@ -75,10 +76,10 @@ module _ (s : TapSides) (apart : AreApart s) where
     read_as route is = subst (λ r. IsTapRead r d) is passes.read
 
     not_wrong : tap_route s (tapped_of earlier) d ≡ TapRoute.WrongPort → ⊥
-    not_wrong is = passes.lawful rule.WrongPort (inl is)
+    not_wrong is = passes.lawful (rule.Port PortRule.Wrong) (inl is)
 
     not_foreign : tap_route s (tapped_of earlier) d ≡ TapRoute.ForeignPort → ⊥
-    not_foreign is = passes.lawful rule.ForeignPort (inl is)
+    not_foreign is = passes.lawful (rule.Port PortRule.Foreign) (inl is)
 
     -- a packet of the end, whatever its kind
     of_end : (x : Pass) → d.source ≡ side_of s x.from → GoesThere s earlier d x.from x.packet → says_some x.packet d.payload → HasPart
@@ -103,7 +104,7 @@ module _ (s : TapSides) (apart : AreApart s) where
     astray e source client server is = elim (is_or_not (has_gone d.destination d.source (tapped_of earlier))) [
       | inr never ↦ absurd (not_wrong (is ∙ wrong never))
       | inl gone ↦ elim (is_or_not (ends_in d.payload)) [
-        | inr other ↦ absurd (passes.lawful rule.StrayAnswer (inl (inl (is ∙ bad gone other))))
+        | inr other ↦ absurd (passes.lawful (rule.Port PortRule.BadAnswer) (inl (inl (is ∙ bad gone other))))
         | inl ends ↦ (StrayAnswer, record { own = (e, source); there = gone_stray d.destination d.source e source client server earlier parts gone; spells = read_as TapRoute.StrayAnswer (is ∙ good gone ends) })
       ]
     ]

@@ -7,7 +7,7 @@ use Rattle.tftp_packet.proofs.NoFault.{no_fault}
 use Rattle.tftp_model.specs.{Meaning, request_of, MachinePacket, Req, Oack, Data, Ack, Error, HasSent, message_of, is_error, heard, LetsStartOn, LetsAckZeroOn, IsOneSided}
 use Rattle.tftp_model.specs.Machines.{other_end, sender_of, receiver_of}
 use Rattle.tftp_model.proofs.Members.{contains_first, contains_later}
-use Rattle.tftp_rules.specs.{EndRule}
+use Rattle.tftp_rules.specs.{EndRule, PortRule}
 use Rattle.tftp_law.specs.{Fits, says_of, view_in, says_some, OneEnded, IsWrongKind, Broken, Rule}
 use Rattle.tftp_law.specs.declared.rule.Rule.TheVariants as rule
 use Rattle.tftp_law.proofs.Spelled.{spelled_once}
@@ -30,9 +30,9 @@ use Rattle.tftp_tap.proofs.TapBefore.{before_map, before_each, some_each, kind_t
 
 -- a route of which no rule of sides is broken
 sides_none : (d : TapDatagram) (route : TapRoute) → (route ≡ TapRoute.ForeignPort → ⊥) → (route ≡ TapRoute.WrongPort → ⊥) → (route ≡ TapRoute.NoStrayAnswer → ⊥) → (route ≡ TapRoute.StrayAnswer → ⊥) → (broken : Rule) → SidesBreak route d broken → ⊥
-sides_none d route one two three four rule.ForeignPort b = one b
-sides_none d route one two three four rule.WrongPort b = two b
-sides_none d route one two three four rule.StrayAnswer b = elim b [ inl bad ↦ three bad | inr not ↦ four not.0 ]
+sides_none d route one two three four (rule.Port PortRule.Foreign) b = one b
+sides_none d route one two three four (rule.Port PortRule.Wrong) b = two b
+sides_none d route one two three four (rule.Port PortRule.BadAnswer) b = elim b [ inl bad ↦ three bad | inr not ↦ four not.0 ]
 sides_none d route one two three four broken b = absurd b
 
 -- ---- what passes is known
@@ -404,9 +404,9 @@ module _ (s : TapSides) (apart : AreApart s) (m : Meaning) (wire : List ℕ) (fi
   }
     where
       answer_breaks : (broken : Rule) → SidesBreak TapRoute.StrayAnswer d broken → ⊥
-      answer_breaks rule.ForeignPort b = cc
-      answer_breaks rule.WrongPort b = cc
-      answer_breaks rule.StrayAnswer b = elim b [ inl bad ↦ absurd (cc) | inr not ↦ not.1 text says ]
+      answer_breaks (rule.Port PortRule.Foreign) b = cc
+      answer_breaks (rule.Port PortRule.Wrong) b = cc
+      answer_breaks (rule.Port PortRule.BadAnswer) b = elim b [ inl bad ↦ absurd (cc) | inr not ↦ not.1 text says ]
       answer_breaks broken b = b
 
   module _ where

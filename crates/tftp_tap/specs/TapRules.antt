@@ -5,7 +5,7 @@ use Rattle.std.specs.List.{list_any}
 use Rattle.tftp_packet.specs.{Message, RequestParts, Spells, FirstFault, Side, Get, Put, End, Client, Server}
 use Rattle.tftp_hosts.specs.{In, Out, Datagram, Header, same_peer}
 use Rattle.tftp_model.specs.Roles.{receiver_of}
-use Rattle.tftp_rules.specs.{first_of, EndRule}
+use Rattle.tftp_rules.specs.{first_of, EndRule, PortRule}
 use Rattle.tftp_law.specs.{Broken, IsWrongKind, number_of, Rule}
 use Rattle.tftp_law.specs.declared.rule.Rule.TheVariants as rule
 use Rattle.tftp_tap.specs.TapCapture.{PeerId, TapDatagram, TapSides, side_of}
@@ -58,9 +58,9 @@ IsReply _ = ⊥
 
 -- ports and hosts (RFC 1350, section 4)
 abbrev pub SidesBreak : TapRoute → TapDatagram → Rule → Type 0
-SidesBreak route d rule.ForeignPort = route ≡ TapRoute.ForeignPort
-SidesBreak route d rule.WrongPort = route ≡ TapRoute.WrongPort
-SidesBreak route d rule.StrayAnswer = (route ≡ TapRoute.NoStrayAnswer) ⊎ ((route ≡ TapRoute.StrayAnswer) × ((text : List ℕ) → Spells d.payload (Message.Error 5 text) → ⊥))
+SidesBreak route d (rule.Port PortRule.Foreign) = route ≡ TapRoute.ForeignPort
+SidesBreak route d (rule.Port PortRule.Wrong) = route ≡ TapRoute.WrongPort
+SidesBreak route d (rule.Port PortRule.BadAnswer) = (route ≡ TapRoute.NoStrayAnswer) ⊎ ((route ≡ TapRoute.StrayAnswer) × ((text : List ℕ) → Spells d.payload (Message.Error 5 text) → ⊥))
 SidesBreak route d _ = ⊥
 
 -- an ERROR of an end after another one of it (RFC 1350, section 7)
@@ -106,9 +106,7 @@ PassingBreaks s passed route d _ = ⊥
 
 -- the rules of ports and hosts, which between the ends are told by the two sides alone
 abbrev pub is_of_ports : Rule → Bool
-is_of_ports rule.ForeignPort = true
-is_of_ports rule.WrongPort = true
-is_of_ports rule.StrayAnswer = true
+is_of_ports (rule.Port port) = true
 is_of_ports _ = false
 
 -- What is kept breaks what it would break at the receiver, who recorded just what is kept, but for the rules of ports.

@@ -5,7 +5,7 @@ use Rattle.std.proofs.lemmas.Bool.{true≢false}
 use Rattle.tftp_packet.specs.{Message, RequestParts, Spells, FirstFault, PacketFault, Client, Server}
 use Rattle.tftp_packet.proofs.NoFault.{no_fault}
 use Rattle.tftp_hosts.specs.{same_peer}
-use Rattle.tftp_rules.specs.{first_of}
+use Rattle.tftp_rules.specs.{first_of, PortRule}
 use Rattle.tftp_judge.specs.{NoneBreaks}
 use Rattle.tftp_law.specs.{OneEnded, Passes, number_of, Rule}
 use Rattle.tftp_law.specs.declared.rule.Rule.TheVariants as rule
@@ -26,9 +26,9 @@ use Rattle.tftp_tap_judge.proofs.TransferFound.{asked_first, asked_stays}
 
 -- its route breaks no rule
 pub sides_none : (d : TapDatagram) (r : TapRoute) → is_passing r ≡ true → (broken : Rule) → SidesBreak r d broken → ⊥
-sides_none d r passing rule.ForeignPort b = true≢false (sym passing ∙ ap is_passing b)
-sides_none d r passing rule.WrongPort b = true≢false (sym passing ∙ ap is_passing b)
-sides_none d r passing rule.StrayAnswer b = elim b [ inl bad ↦ true≢false (sym passing ∙ ap is_passing bad) | inr other ↦ true≢false (sym passing ∙ ap is_passing other.0) ]
+sides_none d r passing (rule.Port PortRule.Foreign) b = true≢false (sym passing ∙ ap is_passing b)
+sides_none d r passing (rule.Port PortRule.Wrong) b = true≢false (sym passing ∙ ap is_passing b)
+sides_none d r passing (rule.Port PortRule.BadAnswer) b = elim b [ inl bad ↦ true≢false (sym passing ∙ ap is_passing bad) | inr other ↦ true≢false (sym passing ∙ ap is_passing other.0) ]
 sides_none d r passing broken b = absurd b
 
 read_passing : (d : TapDatagram) (r : TapRoute) → is_passing r ≡ true → (m : Message) → Spells d.payload m → IsTapRead r d
@@ -235,9 +235,9 @@ module _ (s : TapSides) (earlier : List TapDatagram) (d : TapDatagram) where
   )
     where
       breaks : (r : Rule) → SidesBreak route.Stray d r → ⊥
-      breaks rule.ForeignPort b = cc
-      breaks rule.WrongPort b = cc
-      breaks rule.StrayAnswer b = elim b [ inl bad ↦ absurd (cc) | inr other ↦ let bad = other.0 in absurd (cc) ]
+      breaks (rule.Port PortRule.Foreign) b = cc
+      breaks (rule.Port PortRule.Wrong) b = cc
+      breaks (rule.Port PortRule.BadAnswer) b = elim b [ inl bad ↦ absurd (cc) | inr other ↦ let bad = other.0 in absurd (cc) ]
       breaks r b = absurd b
 
   pub answer_found : tap_route s earlier d ≡ route.StrayAnswer → (text : List ℕ) → Spells d.payload (Message.Error 5 text) → (t : Option TapTransfer) → IsKeptAtTap s (transfer_between s earlier) t
@@ -251,41 +251,41 @@ module _ (s : TapSides) (earlier : List TapDatagram) (d : TapDatagram) where
   )
     where
       breaks : (r : Rule) → SidesBreak route.StrayAnswer d r → ⊥
-      breaks rule.ForeignPort b = cc
-      breaks rule.WrongPort b = cc
-      breaks rule.StrayAnswer b = elim b [ inl bad ↦ absurd (cc) | inr other ↦ other.1 text says ]
+      breaks (rule.Port PortRule.Foreign) b = cc
+      breaks (rule.Port PortRule.Wrong) b = cc
+      breaks (rule.Port PortRule.BadAnswer) b = elim b [ inl bad ↦ absurd (cc) | inr other ↦ other.1 text says ]
       breaks r b = absurd b
 
-  pub foreign_found : tap_route s earlier d ≡ route.ForeignPort → FirstTapBroken s earlier d rule.ForeignPort
+  pub foreign_found : tap_route s earlier d ≡ route.ForeignPort → FirstTapBroken s earlier d (rule.Port PortRule.Foreign)
   foreign_found at = record { breaks = inl at; first = λ r low b. breaks r low (subst (λ (x : TapRoute). SidesBreak x d r) at (of_route (ap is_passing at) r b)) } where
     breaks : (r : Rule) → number_of r < 1 → SidesBreak route.ForeignPort d r → ⊥
-    breaks rule.ForeignPort low b = omega arith
-    breaks rule.WrongPort low b = omega arith
-    breaks rule.StrayAnswer low b = omega arith
+    breaks (rule.Port PortRule.Foreign) low b = omega arith
+    breaks (rule.Port PortRule.Wrong) low b = omega arith
+    breaks (rule.Port PortRule.BadAnswer) low b = omega arith
     breaks r low b = absurd b
 
-  pub wrong_found : tap_route s earlier d ≡ route.WrongPort → FirstTapBroken s earlier d rule.WrongPort
+  pub wrong_found : tap_route s earlier d ≡ route.WrongPort → FirstTapBroken s earlier d (rule.Port PortRule.Wrong)
   wrong_found at = record { breaks = inl at; first = λ r low b. breaks r low (subst (λ (x : TapRoute). SidesBreak x d r) at (of_route (ap is_passing at) r b)) } where
     breaks : (r : Rule) → number_of r < 2 → SidesBreak route.WrongPort d r → ⊥
-    breaks rule.ForeignPort low b = cc
-    breaks rule.WrongPort low b = omega arith
-    breaks rule.StrayAnswer low b = omega arith
+    breaks (rule.Port PortRule.Foreign) low b = cc
+    breaks (rule.Port PortRule.Wrong) low b = omega arith
+    breaks (rule.Port PortRule.BadAnswer) low b = omega arith
     breaks r low b = absurd b
 
-  pub no_answer_found : tap_route s earlier d ≡ route.NoStrayAnswer → FirstTapBroken s earlier d rule.StrayAnswer
+  pub no_answer_found : tap_route s earlier d ≡ route.NoStrayAnswer → FirstTapBroken s earlier d (rule.Port PortRule.BadAnswer)
   no_answer_found at = record { breaks = inl (inl at); first = λ r low b. breaks r low (subst (λ (x : TapRoute). SidesBreak x d r) at (of_route (ap is_passing at) r b)) } where
     breaks : (r : Rule) → number_of r < 3 → SidesBreak route.NoStrayAnswer d r → ⊥
-    breaks rule.ForeignPort low b = cc
-    breaks rule.WrongPort low b = cc
-    breaks rule.StrayAnswer low b = omega arith
+    breaks (rule.Port PortRule.Foreign) low b = cc
+    breaks (rule.Port PortRule.Wrong) low b = cc
+    breaks (rule.Port PortRule.BadAnswer) low b = omega arith
     breaks r low b = absurd b
 
-  pub bad_answer_found : tap_route s earlier d ≡ route.StrayAnswer → ((text : List ℕ) → Spells d.payload (Message.Error 5 text) → ⊥) → FirstTapBroken s earlier d rule.StrayAnswer
+  pub bad_answer_found : tap_route s earlier d ≡ route.StrayAnswer → ((text : List ℕ) → Spells d.payload (Message.Error 5 text) → ⊥) → FirstTapBroken s earlier d (rule.Port PortRule.BadAnswer)
   bad_answer_found at says = record { breaks = inl (inr (at, says)); first = λ r low b. breaks r low (subst (λ (x : TapRoute). SidesBreak x d r) at (of_route (ap is_passing at) r b)) } where
     breaks : (r : Rule) → number_of r < 3 → SidesBreak route.StrayAnswer d r → ⊥
-    breaks rule.ForeignPort low b = cc
-    breaks rule.WrongPort low b = cc
-    breaks rule.StrayAnswer low b = omega arith
+    breaks (rule.Port PortRule.Foreign) low b = cc
+    breaks (rule.Port PortRule.Wrong) low b = cc
+    breaks (rule.Port PortRule.BadAnswer) low b = omega arith
     breaks r low b = absurd b
 
   -- and the way that it went

@@ -4,7 +4,7 @@ use Rattle.std.proofs.lemmas.Bool.{true≢false, ltb-true, ltb-false}
 use Rattle.tftp_packet.specs.{Message, RequestParts, Spells, FirstFault, meaning, Packet, PacketFault, End}
 use Rattle.tftp_judge.specs.{NoneBreaks}
 use Rattle.tftp_hosts.specs.{Datagram, Header}
-use Rattle.tftp_rules.specs.{is_of_transfer, or_this, route_of}
+use Rattle.tftp_rules.specs.{is_of_transfer, or_this, route_of, PortRule}
 use Rattle.tftp_model.specs.Roles.{receiver_of}
 use Rattle.tftp_law.specs.{Broken, number_of, Rule}
 use Rattle.tftp_law.specs.declared.rule.Rule.TheVariants as rule
@@ -20,9 +20,7 @@ use Rattle.tftp_tap_judge.proofs.OwnFound.{asked_same, other_error}
 
 -- what breaks another rule than one of ports at an end is of the transfer there
 content_on : (h : Header) (earlier : List Datagram) (d : Datagram) (broken : Rule) → is_of_ports broken ≡ false → Broken h earlier d broken → is_of_transfer (route_of h earlier d) ≡ true
-content_on h earlier d rule.ForeignPort content b = absurd (true≢false content)
-content_on h earlier d rule.WrongPort content b = absurd (true≢false content)
-content_on h earlier d rule.StrayAnswer content b = absurd (true≢false content)
+content_on h earlier d (rule.Port port) content b = absurd (true≢false content)
 content_on h earlier d rule.NoRequest content b = ap is_of_transfer b.1
 content_on h earlier d (rule.Malformed fault) content b = b.0
 content_on h earlier d _ content b = b.says.routed

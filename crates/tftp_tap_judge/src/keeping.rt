@@ -17,6 +17,7 @@ use tftp_capture::Datagram;
 use tftp_hosts::{Dir, Peer};
 use tftp_law::Rule;
 use tftp_packet::{End, Packet, Request, opcode, own_request, read_packet};
+use tftp_rules::PortRule;
 use tftp_tap::{Sides, TapPorts, TapRoute};
 
 /// What is kept of the datagrams that have passed between the ends: the ways that they went, and the transfer from its first
@@ -99,12 +100,12 @@ impl<D: Delivered + Drop> TapState<D> {
                 if says_unknown_id(datagram.payload.as_slice()) {
                     Ok(())
                 } else {
-                    Err(TapPassError::Breaks(Rule::StrayAnswer))
+                    Err(TapPassError::Breaks(Rule::Port(PortRule::BadAnswer)))
                 }
             }
-            TapRoute::ForeignPort => Err(TapPassError::Breaks(Rule::ForeignPort)),
-            TapRoute::WrongPort => Err(TapPassError::Breaks(Rule::WrongPort)),
-            TapRoute::NoStrayAnswer => Err(TapPassError::Breaks(Rule::StrayAnswer)),
+            TapRoute::ForeignPort => Err(TapPassError::Breaks(Rule::Port(PortRule::Foreign))),
+            TapRoute::WrongPort => Err(TapPassError::Breaks(Rule::Port(PortRule::Wrong))),
+            TapRoute::NoStrayAnswer => Err(TapPassError::Breaks(Rule::Port(PortRule::BadAnswer))),
         }
     }
 

@@ -56,8 +56,5 @@ pub fn first_of(own: Option<Rule>, found: Result<(), TapPassError>) -> Result<()
 fn tells_ports(rule: Rule) -> bool
     ensures { result ≡ is_of_ports rule }
 {
-    matches!(
-        rule,
-        Rule::ForeignPort | Rule::WrongPort | Rule::StrayAnswer
-    )
+    matches!(rule, Rule::Port(_))
 }

@@ -7,6 +7,7 @@ use tftp_commands::{say_accepted, say_verdict};
 use tftp_judge::{Meaning, Refusal, Rule, Verdict};
 use tftp_packet::End;
 use tftp_recording_judge::Verdicts;
+use tftp_rules::PortRule;
 use tftp_session::Ended;
 use tftp_tap_judge::TapRefusal;
 use tftp_verdict_rows::{Place, Point, Row, Rows, Said, rows_told};
@@ -204,7 +205,10 @@ impl Viewed {
                 found,
                 Err(TapRefusal::Incomplete(_) | TapRefusal::Aborted(_, _))
             ),
-            may_be_asked: matches!(found, Err(TapRefusal::Unlawful(_, Rule::StrayAnswer))),
+            may_be_asked: matches!(
+                found,
+                Err(TapRefusal::Unlawful(_, Rule::Port(PortRule::BadAnswer)))
+            ),
             line: line?,
         })
     }

@@ -4,14 +4,14 @@ use Rattle.std.proofs.lemmas.Bool.{and_parts, false≢true}
 use Rattle.tftp_packet.specs.{OptionMap, Message, RequestParts, Spells, Side}
 use Rattle.tftp_hosts.specs.{Header}
 use Rattle.tftp_rules.specs.{or_this, asks, route_of, is_of_transfer, transfer_of, EndBroken, Terms, EndRule}
-use Rattle.tftp_nego.specs.{Holds, NegoFault}
+use Rattle.tftp_nego.specs.{AgreementBroken, AgreementRule, Holds, NegoFault, agreement_number, number}
 use Rattle.tftp_law.specs.{number_of, Answer, Agrees, terms_after, AreTerms, MessageBreaks, Broken, Rule, OneEnded, IsRefused}
 use Rattle.tftp_worked.proofs.Payloads.{Spelled, datagrams, AllSpelled, spells_it, spelled_it}
 use Rattle.tftp_law.proofs.FirstBroken.Answering.{answer_of}
 use Rattle.tftp_law.proofs.FirstBroken.OneMessage.{end_breaks, back}
 use Rattle.tftp_worked.proofs.Passing.{kept_if, main_of, first_asked, asked_by, asked_is, asked_back, first_answer, or_now, unanswered_is, answered_is, terms_of, terms_from, terms_by, terms_are, terms_back}
 use Rattle.tftp_worked.proofs.RuleTests.{not_oack, keeps_below}
-use Rattle.tftp_worked.proofs.Kept.{passes_by, passes_is, none_below, no_oack, place, FirstOack, OtherOack, OackKeeps, not_answered}
+use Rattle.tftp_worked.proofs.Kept.{passes_by, passes_is, none_below, no_oack, FirstOack, OtherOack, OackKeeps, not_answered}
 
 -- what is known of the transfer, if it is these terms
 pub known_by : (h : Header) (es : List Spelled) (s : AllSpelled es) (t : Option Terms) → t ≡ terms_of h es → (u : Terms) → AreTerms h (datagrams es) u → t ≡ Some u
@@ -35,11 +35,7 @@ none_under n h t es e s here is other test =
 
 -- its faults below n
 pub record OackFine (asked : RequestParts) (oack : OptionMap) (n : ℕ) : Type 0 where
-  pub empty : 11 < n → Holds NegoFault.OackEmpty asked oack → ⊥
-  pub multicast : 12 < n → Holds NegoFault.MulticastAgreed asked oack → ⊥
-  pub not_requested : 13 < n → Holds NegoFault.OptionNotRequested asked oack → ⊥
-  pub outside : 14 < n → Holds NegoFault.OptionOutsideProfile asked oack → ⊥
-  pub bad_value : 15 < n → Holds NegoFault.OptionValue asked oack → ⊥
+  pub agreement : (broken : AgreementRule) → agreement_number broken < n → AgreementBroken broken asked oack → ⊥
   pub beyond : 20 < n → Holds NegoFault.BeyondBlock65535 asked oack → ⊥
 
 same_request : (a b : RequestParts) → Some (Message.Request a) ≡ Some (Message.Request b) → a ≡ b
@@ -55,12 +51,8 @@ oack_fault h es e s here asked oack is says fault first =
     let options : first.oack ≡ oack = same_oack first.oack oack (sym first.says ∙ says) in
     subst (λ r. Holds fault r oack) request (subst (λ o. Holds fault first.asked o) options first.wrong)
 
-no_fault_below : (asked : RequestParts) (oack : OptionMap) (n : ℕ) → OackFine asked oack n → (fault : NegoFault) → place fault < n → Holds fault asked oack → ⊥
-no_fault_below asked oack n fine NegoFault.OackEmpty low holds = fine.empty low holds
-no_fault_below asked oack n fine NegoFault.MulticastAgreed low holds = fine.multicast low holds
-no_fault_below asked oack n fine NegoFault.OptionNotRequested low holds = fine.not_requested low holds
-no_fault_below asked oack n fine NegoFault.OptionOutsideProfile low holds = fine.outside low holds
-no_fault_below asked oack n fine NegoFault.OptionValue low holds = fine.bad_value low holds
+no_fault_below : (asked : RequestParts) (oack : OptionMap) (n : ℕ) → OackFine asked oack n → (fault : NegoFault) → number fault < n → Holds fault asked oack → ⊥
+no_fault_below asked oack n fine (NegoFault.Broken broken) low holds = fine.agreement broken low holds
 no_fault_below asked oack n fine NegoFault.BeyondBlock65535 low holds = fine.beyond low holds
 no_fault_below asked oack n fine NegoFault.Memory low holds = holds
 

@@ -4,6 +4,7 @@ use Rattle.tftp_packet.specs.{Message}
 use Rattle.tftp_model.specs.{request_of, Sent, Took, Req, Data, Ack, two_bytes, two_bytes_view}
 use Rattle.tftp_model.proofs.Defaults.{default_blksize}
 use Rattle.tftp_model.proofs.Worked.{two_bytes_is_view, two_bytes_complete}
+use Rattle.tftp_rules.specs.{PortRule}
 use Rattle.tftp_law.specs.{TransferIds, Shows, IsRefused, Rule}
 use Rattle.tftp_worked.specs.{at_client, at_server, server_host, asks_for_a, brings_hi, acknowledges_hi, is_asked_for_a, third_host, comes_from_third_host, answers_third_host, read_with_a_third_host, after_third_host, acknowledges_third_host, read_from_third_host, answered_from_third_host, asks_third_host, third_host_asks, only_is_asked, only_asked}
 use Rattle.tftp_worked.proofs.Spelled.{request_spelled, hi_spelled, ack_spelled, unknown_id_spelled}
@@ -37,17 +38,17 @@ from_third_is_shown = two_shown at_client two_bytes_view read_from_third_host tw
 abbrev request : Message
 request = Message.Request (request_of two_bytes)
 
-pub third_refused : IsRefused at_client (reverse after_third_host) acknowledges_third_host Rule.StrayAnswer
-third_refused = refused_next at_client (after at_client plain_begun (third ∷ []) refl) (acknowledges_third_host, Message.Ack 1) Rule.StrayAnswer ack_spelled refl (inl refl)
+pub third_refused : IsRefused at_client (reverse after_third_host) acknowledges_third_host (Rule.Port PortRule.BadAnswer)
+third_refused = refused_next at_client (after at_client plain_begun (third ∷ []) refl) (acknowledges_third_host, Message.Ack 1) (Rule.Port PortRule.BadAnswer) ack_spelled refl (inl refl)
 
-pub asked_refused : IsRefused at_client (reverse answered_from_third_host) acknowledges_hi Rule.WrongPort
-asked_refused = refused_next at_client (after at_client plain_asked (third ∷ []) refl) (acknowledges_hi, Message.Ack 1) Rule.WrongPort ack_spelled refl refl
+pub asked_refused : IsRefused at_client (reverse answered_from_third_host) acknowledges_hi (Rule.Port PortRule.Wrong)
+asked_refused = refused_next at_client (after at_client plain_asked (third ∷ []) refl) (acknowledges_hi, Message.Ack 1) (Rule.Port PortRule.Wrong) ack_spelled refl refl
 
-pub other_request_refused : IsRefused at_client (reverse only_asked) asks_third_host Rule.WrongPort
-other_request_refused = refused_next at_client plain_asked (asks_third_host, request) Rule.WrongPort request_spelled refl refl
+pub other_request_refused : IsRefused at_client (reverse only_asked) asks_third_host (Rule.Port PortRule.Wrong)
+other_request_refused = refused_next at_client plain_asked (asks_third_host, request) (Rule.Port PortRule.Wrong) request_spelled refl refl
 
 abbrev pub served : Start at_server
 served = request_alone at_server (is_asked_for_a, request) request_spelled refl
 
-pub other_client_refused : IsRefused at_server (reverse only_is_asked) third_host_asks Rule.ForeignPort
-other_client_refused = refused_next at_server served (third_host_asks, request) Rule.ForeignPort request_spelled refl refl
+pub other_client_refused : IsRefused at_server (reverse only_is_asked) third_host_asks (Rule.Port PortRule.Foreign)
+other_client_refused = refused_next at_server served (third_host_asks, request) (Rule.Port PortRule.Foreign) request_spelled refl refl

@@ -8,8 +8,8 @@ use Rattle.tftp_packet.specs.{OptionMap, Message, RequestParts, Spells, Side, Ge
 use Rattle.tftp_hosts.specs.{Dir, In, Out, Datagram, Header}
 use Rattle.tftp_packet.proofs.NoFault.{no_fault}
 use Rattle.tftp_model.specs.Roles.{sender_of}
-use Rattle.tftp_rules.specs.{author_of, Route, asks, first_of, route_of, is_of_transfer, transfer_of, SaysUnknownId, Passed, HasPassed, BlockPassed, IsTop, IsHigh, IsLast, LastIsUnknown, IsNotLengthOf, HasWrongLength, BlocksWait, AckZeroWaits, IsSender, IsAckedAt, IsReachedAt, BlockBreaks, AckBreaks, EndBroken, usable, Terms, EndRule}
-use Rattle.tftp_nego.specs.{Holds, NegoFault}
+use Rattle.tftp_rules.specs.{author_of, Route, asks, first_of, route_of, is_of_transfer, transfer_of, SaysUnknownId, Passed, HasPassed, BlockPassed, IsTop, IsHigh, IsLast, LastIsUnknown, IsNotLengthOf, HasWrongLength, BlocksWait, AckZeroWaits, IsSender, IsAckedAt, IsReachedAt, BlockBreaks, AckBreaks, EndBroken, usable, Terms, EndRule, PortRule}
+use Rattle.tftp_nego.specs.{Holds, NegoFault, AgreementRule, agreement_number, number}
 use Rattle.tftp_law.specs.{number_of, FirstAsked, Agrees, Begins, NotAnswered, FirstAnswer, AreTerms, IsError, IsWrongKind, GoesOn, BlockSent, ClientWentOn, TermsBreak, KindBreaks, MessageBreaks, MessageBroken, Broken, Rule, IsRead, Passes}
 use Rattle.tftp_law.proofs.Spelled.{spelled_once}
 use Rattle.tftp_worked.proofs.Payloads.{Spelled, datagrams, AllSpelled, all_from}
@@ -81,15 +81,9 @@ not_last t last k long e wrong = elim (or_cases (nat_lt k last && long == t.blks
       ]
 ]
 
--- the number of the rule that a fault of an OACK's options breaks
-abbrev pub place : NegoFault → ℕ
-place NegoFault.OackEmpty = 11
-place NegoFault.MulticastAgreed = 12
-place NegoFault.OptionNotRequested = 13
-place NegoFault.OptionOutsideProfile = 14
-place NegoFault.OptionValue = 15
-place NegoFault.BeyondBlock65535 = 20
-place NegoFault.Memory = 0
+agreement_few : (broken : AgreementRule) → agreement_number broken < 28
+agreement_few AgreementRule.OackEmpty = omega arith
+agreement_few _ = omega arith
 
 module _ (h : Header) (es : List Spelled) (e : Spelled) (s : AllSpelled es) (here : Spells e.0.payload e.1) where
   abbrev passed : List Datagram
@@ -356,7 +350,7 @@ module _ (h : Header) (es : List Spelled) (e : Spelled) (s : AllSpelled es) (her
 
     -- an OACK that comes first or later breaks none of its rules below n
     pub record OackKeeps (n : ℕ) : Type 0 where
-      pub first : (fault : NegoFault) → place fault < n → FirstOack fault → ⊥
+      pub first : (fault : NegoFault) → number fault < n → FirstOack fault → ⊥
       pub changed : 16 < n → OtherOack → ⊥
 
     -- below n, or any where there are no more than those below n
@@ -406,8 +400,8 @@ module _ (h : Header) (es : List Spelled) (e : Spelled) (s : AllSpelled es) (her
           of_end m says r below (f, is, u, after, broken) =
               end_kept f b.says.routed (ends f (subst (λ x. IsEarly n (number_of x)) is below)) u (b.asked, b.first, after) (subst (λ x. EndBroken u passed x f) (sym says) broken)
 
-          of_first : (oack : OptionMap) → e.1 ≡ Message.Oack oack → (fault : NegoFault) → place fault < 28 → IsEarly n (place fault) → NotAnswered b.asked.side passed × Holds fault b.asked oack → ⊥
-          of_first oack says fault few below is = o.first fault (early n (place fault) few below) (record { asked = b.asked; first = b.first; oack = oack; says = says; unanswered = is.0; wrong = is.1 })
+          of_first : (oack : OptionMap) → e.1 ≡ Message.Oack oack → (fault : NegoFault) → number fault < 28 → IsEarly n (number fault) → NotAnswered b.asked.side passed × Holds fault b.asked oack → ⊥
+          of_first oack says fault few below is = o.first fault (early n (number fault) few below) (record { asked = b.asked; first = b.first; oack = oack; says = says; unanswered = is.0; wrong = is.1 })
 
           of_kind : (m : Message) → e.1 ≡ m → (r : Rule) → IsEarly n (number_of r) → KindBreaks h b.asked passed e.0.dir m r → ⊥
           of_kind (Message.Request now) says Rule.RequestChanged below is = first_request b.asked b.first b.says.routed now says (k.1.1.1.1.1.1.0 below)
@@ -415,17 +409,13 @@ module _ (h : Header) (es : List Spelled) (e : Spelled) (s : AllSpelled es) (her
           of_kind (Message.Request now) says r below is = is
           of_kind (Message.Error code text) says r below is = is
           of_kind (Message.Oack oack) says Rule.ReplyChanged below is = not_plain b.asked b.first b.says.routed oack says (k.1.1.1.1.1.1.1.1.0 below) is
-          of_kind (Message.Oack oack) says Rule.OackEmpty below is = of_first oack says NegoFault.OackEmpty (omega arith) below is
-          of_kind (Message.Oack oack) says Rule.MulticastAgreed below is = of_first oack says NegoFault.MulticastAgreed (omega arith) below is
-          of_kind (Message.Oack oack) says Rule.OptionNotRequested below is = of_first oack says NegoFault.OptionNotRequested (omega arith) below is
-          of_kind (Message.Oack oack) says Rule.OptionOutsideProfile below is = of_first oack says NegoFault.OptionOutsideProfile (omega arith) below is
-          of_kind (Message.Oack oack) says Rule.OptionValue below is = of_first oack says NegoFault.OptionValue (omega arith) below is
+          of_kind (Message.Oack oack) says (Rule.Agreement broken) below is = of_first oack says (NegoFault.Broken broken) (agreement_few broken) below is
           of_kind (Message.Oack oack) says (Rule.Block EndRule.BeyondBlock65535) below is = of_first oack says NegoFault.BeyondBlock65535 (omega arith) below is
           of_kind (Message.Oack oack) says Rule.OackChanged below is =
               o.changed (early n 16 (omega arith) below) (record { asked = b.asked; first = b.first; oack = oack; says = says; agreed = is.0; answered = is.1; differs = is.2 })
           of_kind (Message.Oack oack) says Rule.OackAfterStart below is = early_oack b.asked b.first b.says.routed oack says (k.1.1.1.1.1.1.1.1.1.0 below) is.2
           of_kind (Message.Oack oack) says r below is = is.1
-          of_kind (Message.Data number bytes) says r below is = of_end (Message.Data number bytes) says r below is
+          of_kind (Message.Data k bytes) says r below is = of_end (Message.Data k bytes) says r below is
           of_kind (Message.Ack j) says r below is = of_end (Message.Ack j) says r below is
 
           of_message : (m : Message) → e.1 ≡ m → (r : Rule) → IsEarly n (number_of r) → MessageBreaks h b.asked passed e.0.dir m r → ⊥
@@ -438,9 +428,9 @@ module _ (h : Header) (es : List Spelled) (e : Spelled) (s : AllSpelled es) (her
         by : AllByRecursion (λ r. IsEarly n (number_of r) → keeps h t es e r ≡ true) tested
             → AllByRecursion (λ r. IsEarly n (number_of (Rule.Block r)) → (not (is_main h es e) || end_keeps t (main_of h es) e.1 r) ≡ true) end_rules
             → (rule : Rule) → IsEarly n (number_of rule) → Broken h (datagrams es) e.0 rule → ⊥
-        by k l Rule.ForeignPort low b = not_foreign_port (k.0 low) b
-        by k l Rule.WrongPort low b = not_wrong_port (k.1.0 low) b
-        by k l Rule.StrayAnswer low b = good_answer (k.1.1.0 low) b
+        by k l (Rule.Port PortRule.Foreign) low b = not_foreign_port (k.0 low) b
+        by k l (Rule.Port PortRule.Wrong) low b = not_wrong_port (k.1.0 low) b
+        by k l (Rule.Port PortRule.BadAnswer) low b = good_answer (k.1.1.0 low) b
         by k l Rule.NoRequest low b = has_request (k.1.1.1.0 low) b.0 b.1
         by k l (Rule.Malformed fault) low b = no_fault e.0.payload e.1 fault here.1 b.1.0
         by k l rule low b = said k l rule low b

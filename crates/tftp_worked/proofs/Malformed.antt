@@ -6,6 +6,7 @@ use Rattle.tftp_packet.proofs.RequestCases.{mode_fault}
 use Rattle.tftp_hosts.specs.{Datagram, Header}
 use Rattle.tftp_rules.specs.{route_of, is_of_transfer}
 use Rattle.tftp_law.specs.{number_of, Broken, IsRefused, Rule}
+use Rattle.tftp_law.proofs.FirstBroken.OneMessage.{agreement_from, port_off}
 use Rattle.tftp_worked.specs.{at_client, read_without_its_ack, acknowledges_too_long, asks_for_mail}
 use Rattle.tftp_worked.proofs.BlockNumbers.{from_18}
 use Rattle.tftp_worked.proofs.Bases.{plain_begun}
@@ -13,12 +14,10 @@ use Rattle.tftp_worked.proofs.Bases.{plain_begun}
 module _ (h : Header) (earlier : List Datagram) (d : Datagram) (routed : is_of_transfer (route_of h earlier d) ≡ true) (asked : Broken h earlier d Rule.NoRequest → ⊥) where
   -- a datagram of the transfer breaks no rule of ports
   pub under_malformed : (rule : Rule) → number_of rule < 5 → Broken h earlier d rule → ⊥
-  under_malformed Rule.ForeignPort low b = false≢true (sym (ap is_of_transfer b) ∙ routed)
-  under_malformed Rule.WrongPort low b = false≢true (sym (ap is_of_transfer b) ∙ routed)
-  under_malformed Rule.StrayAnswer low (inl b) = false≢true (sym (ap is_of_transfer b) ∙ routed)
-  under_malformed Rule.StrayAnswer low (inr b) = false≢true (sym (ap is_of_transfer b.0) ∙ routed)
+  under_malformed (Rule.Port port) low b = false≢true (sym (port_off h earlier d port b) ∙ routed)
   under_malformed Rule.NoRequest low b = asked b
-  under_malformed (Rule.Block e) low b = let from = from_18 e in omega (arith, low, from)
+  under_malformed (Rule.Agreement broken) low b = omega (arith, low, agreement_from broken)
+  under_malformed (Rule.Block e) low b = omega (arith, low, from_18 e)
   under_malformed _ low b = omega arith
 
 -- ---- an ACK with a byte too many

@@ -4,13 +4,13 @@ use Rattle.std.proofs.lemmas.Bool.{false≢true}
 use Rattle.std.proofs.lemmas.Slice.Eq.{bytes_eq-Decides}
 use Rattle.std.specs.FinMap as map
 use Rattle.tftp_packet.specs.{OptionMap, OptionValue, Num, Text, no_options, value_of, is_known_number, is_number, range_of, map_of, Message, RequestParts, Spells, Get, Octet}
-use Rattle.tftp_nego.specs.{Holds, NegoFault}
+use Rattle.tftp_nego.specs.{Holds, NegoFault, AgreementRule, agreement_number, AgreementBroken}
 use Rattle.tftp_hosts.specs.{Datagram}
 use Rattle.tftp_rules.specs.{route_of, is_of_transfer, transfer_of, Terms, NoReply}
 use Rattle.tftp_model.specs.{eight_a_block}
 use Rattle.tftp_model.proofs.Worked.{eight_for_blksize}
 use Rattle.tftp_law.specs.{number_of, plain_terms, NotAnswered, OackBreaks, MessageBreaks, Broken, OneEnded, IsRefused, Rule}
-use Rattle.tftp_law.proofs.FirstBroken.OneMessage.{breaks_by, back}
+use Rattle.tftp_law.proofs.FirstBroken.OneMessage.{agreement_from, breaks_by, back}
 use Rattle.tftp_worked.specs.{at_client, asks_for_a, one_block_read, request, oack, by_eight, only_asked, asks_for_b, agrees_to_none, agrees_unasked, by_multicast, only_multicast_asked, agrees_to_multicast, by_foo, only_foo_asked, agrees_to_foo, only_512_asked, agrees_to_1024}
 use Rattle.tftp_worked.proofs.BlockNumbers.{from_18}
 use Rattle.tftp_worked.proofs.Spelled.{request_spelled, ack_spelled}
@@ -92,13 +92,9 @@ module _ (dq dr : Datagram) (r : RequestParts) (options : OptionMap) (asks_it : 
 nothing_spelled : Spells (oack []) (Message.Oack no_options)
 nothing_spelled = oack_spells [] no_options refl refl
 
-pub none_refused : IsRefused at_client (reverse only_asked) agrees_to_none Rule.OackEmpty
-none_refused = offer_refused asks_for_a agrees_to_none asked no_options request_spelled nothing_spelled Rule.OackEmpty NegoFault.OackEmpty (λ f. f) plain_asked.lawful refl refl refl refl refl refl refl (record {
-  empty = λ low. absurd (omega arith);
-  multicast = λ low. absurd (omega arith);
-  not_requested = λ low. absurd (omega arith);
-  outside = λ low. absurd (omega arith);
-  bad_value = λ low. absurd (omega arith);
+pub none_refused : IsRefused at_client (reverse only_asked) agrees_to_none (Rule.Agreement AgreementRule.OackEmpty)
+none_refused = offer_refused asks_for_a agrees_to_none asked no_options request_spelled nothing_spelled (Rule.Agreement AgreementRule.OackEmpty) (NegoFault.Broken AgreementRule.OackEmpty) (λ f. f) plain_asked.lawful refl refl refl refl refl refl refl (record {
+  agreement = λ broken low. absurd (omega (arith, low, agreement_from broken));
   beyond = λ low. absurd (omega arith);
 })
 
@@ -116,16 +112,16 @@ multicast_asked = request_spells Get by_multicast multicast refl multicast_is
 multicast_agreed : Spells (oack by_multicast) (Message.Oack multicast)
 multicast_agreed = oack_spells by_multicast multicast refl multicast_is
 
-pub multicast_refused : IsRefused at_client (reverse only_multicast_asked) agrees_to_multicast Rule.MulticastAgreed
+multicast_kept : (broken : AgreementRule) → agreement_number broken < 12 → AgreementBroken broken (asks_for Get multicast) multicast → ⊥
+multicast_kept AgreementRule.OackEmpty low = has_some multicast (codes "multicast") (Text []) (found_single (codes "multicast") (Text []) (codes "multicast"))
+multicast_kept _ low = absurd (omega arith)
+
+pub multicast_refused : IsRefused at_client (reverse only_multicast_asked) agrees_to_multicast (Rule.Agreement AgreementRule.MulticastAgreed)
 multicast_refused =
     let there = found_single (codes "multicast") (Text []) (codes "multicast") in
-    offer_refused _ agrees_to_multicast (asks_for Get multicast) multicast multicast_asked multicast_agreed Rule.MulticastAgreed NegoFault.MulticastAgreed (λ f. f)
+    offer_refused _ agrees_to_multicast (asks_for Get multicast) multicast multicast_asked multicast_agreed (Rule.Agreement AgreementRule.MulticastAgreed) (NegoFault.Broken AgreementRule.MulticastAgreed) (λ f. f)
     (one_more at_client None [] (_, Message.Request (asks_for Get multicast)) tt multicast_asked refl refl refl tt) refl refl refl refl refl refl (Text [], there) (record {
-      empty = λ low. has_some multicast (codes "multicast") (Text []) there;
-      multicast = λ low. absurd (omega arith);
-      not_requested = λ low. absurd (omega arith);
-      outside = λ low. absurd (omega arith);
-      bad_value = λ low. absurd (omega arith);
+      agreement = multicast_kept;
       beyond = λ low. absurd (omega arith);
     })
 
@@ -133,36 +129,39 @@ multicast_refused =
 eight_agreed : Spells (oack by_eight) (Message.Oack eight_a_block)
 eight_agreed = oack_spells by_eight eight_a_block refl eight_is
 
-pub unasked_refused : IsRefused at_client (reverse only_asked) agrees_unasked Rule.OptionNotRequested
+eight_kept : (broken : AgreementRule) → agreement_number broken < 13 → AgreementBroken broken asked eight_a_block → ⊥
+eight_kept AgreementRule.OackEmpty low = has_some eight_a_block blksize (Num 8) eight_for_blksize
+eight_kept AgreementRule.MulticastAgreed low = not_there eight_a_block (codes "multicast") (found_single blksize (Num 8) (codes "multicast"))
+eight_kept _ low = absurd (omega arith)
+
+pub unasked_refused : IsRefused at_client (reverse only_asked) agrees_unasked (Rule.Agreement AgreementRule.OptionNotRequested)
 unasked_refused =
-    offer_refused asks_for_a agrees_unasked asked eight_a_block request_spelled eight_agreed Rule.OptionNotRequested NegoFault.OptionNotRequested (λ f. f) plain_asked.lawful refl refl refl refl refl refl
+    offer_refused asks_for_a agrees_unasked asked eight_a_block request_spelled eight_agreed (Rule.Agreement AgreementRule.OptionNotRequested) (NegoFault.Broken AgreementRule.OptionNotRequested) (λ f. f) plain_asked.lawful refl refl refl refl refl refl
     (blksize, (Num 8, eight_for_blksize), map.get-empty _ blksize) (record {
-      empty = λ low. has_some eight_a_block blksize (Num 8) eight_for_blksize;
-      multicast = λ low. not_there eight_a_block (codes "multicast") (found_single blksize (Num 8) (codes "multicast"));
-      not_requested = λ low. absurd (omega arith);
-      outside = λ low. absurd (omega arith);
-      bad_value = λ low. absurd (omega arith);
+      agreement = eight_kept;
       beyond = λ low. absurd (omega arith);
     })
 
 -- with an option that was asked for with some value
 module _ (name : List ℕ) (a b : OptionValue) (r : RequestParts) (has : map.get r.options name ≡ Some a) where
-  was_asked : Holds NegoFault.OptionNotRequested r (single name b) → ⊥
+  was_asked : AgreementBroken AgreementRule.OptionNotRequested r (single name b) → ⊥
   was_asked (other, (value, given), none) =
       let same = only_single name b other value given in
       not_there r.options other none (a, ap (map.get r.options) same.0 ∙ has)
 
-  -- the faults that come before the fifth, of a name that is not "multicast"
+  -- the rules before that of the value, of a name that is not "multicast"
   pub offer_fine : (n : ℕ) → n ≤ 15 → map.get (single name b) name ≡ Some b → map.get (single name b) (codes "multicast") ≡ None
-      → (14 < n → Holds NegoFault.OptionOutsideProfile r (single name b) → ⊥) → OackFine r (single name b) n
+      → (14 < n → AgreementBroken AgreementRule.OptionOutsideProfile r (single name b) → ⊥) → OackFine r (single name b) n
   offer_fine n few there none inside = record {
-    empty = λ low. has_some (single name b) name b there;
-    multicast = λ low. not_there (single name b) (codes "multicast") none;
-    not_requested = λ low. was_asked;
-    outside = inside;
-    bad_value = λ low. absurd (omega arith);
+    agreement = kept;
     beyond = λ low. absurd (omega arith);
-  }
+  } where
+    kept : (broken : AgreementRule) → agreement_number broken < n → AgreementBroken broken r (single name b) → ⊥
+    kept AgreementRule.OackEmpty low = has_some (single name b) name b there
+    kept AgreementRule.MulticastAgreed low = not_there (single name b) (codes "multicast") none
+    kept AgreementRule.OptionNotRequested low = was_asked
+    kept AgreementRule.OptionOutsideProfile low = inside low
+    kept AgreementRule.OptionValue low = absurd (omega (arith, low, few))
 
 -- with an option that nobody knows
 abbrev foo : OptionMap
@@ -185,9 +184,9 @@ foo_there = found_single (codes "foo") (Text (codes "1")) (codes "foo")
 other_length : (one other : List ℕ) → length one ≢ length other → one ≢ other
 other_length one other differ e = differ (ap length e)
 
-pub foo_refused : IsRefused at_client (reverse only_foo_asked) agrees_to_foo Rule.OptionOutsideProfile
+pub foo_refused : IsRefused at_client (reverse only_foo_asked) agrees_to_foo (Rule.Agreement AgreementRule.OptionOutsideProfile)
 foo_refused =
-    offer_refused _ agrees_to_foo (asks_for Get foo) foo foo_asked foo_agreed Rule.OptionOutsideProfile NegoFault.OptionOutsideProfile (λ f. f)
+    offer_refused _ agrees_to_foo (asks_for Get foo) foo foo_asked foo_agreed (Rule.Agreement AgreementRule.OptionOutsideProfile) (NegoFault.Broken AgreementRule.OptionOutsideProfile) (λ f. f)
     (one_more at_client None [] (_, Message.Request (asks_for Get foo)) tt foo_asked refl refl refl tt) refl refl refl refl refl refl
     (codes "foo", (Text (codes "1"), foo_there), (other_length _ _ (λ e. omega (arith, e)), other_length _ _ (λ e. omega (arith, e)), other_length _ _ (λ e. omega (arith, e)), other_length _ _ (λ e. omega (arith, e))))
     (offer_fine (codes "foo") (Text (codes "1")) (Text (codes "1")) (asks_for Get foo) foo_there 14 (omega arith) foo_there (found_single (codes "foo") (Text (codes "1")) (codes "multicast")) (λ low. absurd (omega arith)))
@@ -214,14 +213,14 @@ agreed_1024 : Spells (oack ((codes "blksize", codes "1024") ∷ [])) (Message.Oa
 agreed_1024 = oack_spells ((codes "blksize", codes "1024") ∷ []) of_1024 refl of_1024_is
 
 -- the block size is in the profile
-blksize_inside : Holds NegoFault.OptionOutsideProfile (asks_for Get of_512) of_1024 → ⊥
+blksize_inside : AgreementBroken AgreementRule.OptionOutsideProfile (asks_for Get of_512) of_1024 → ⊥
 blksize_inside (name, (value, has), outside) = outside.0 (only_single blksize (Num 1024) name value has).0
 
-pub larger_refused : IsRefused at_client (reverse only_512_asked) agrees_to_1024 Rule.OptionValue
+pub larger_refused : IsRefused at_client (reverse only_512_asked) agrees_to_1024 (Rule.Agreement AgreementRule.OptionValue)
 larger_refused =
     let asked_for = found_single blksize (Num 512) blksize in
     let given = found_single blksize (Num 1024) blksize in
-    offer_refused _ agrees_to_1024 (asks_for Get of_512) of_1024 asked_512 agreed_1024 Rule.OptionValue NegoFault.OptionValue (λ f. f)
+    offer_refused _ agrees_to_1024 (asks_for Get of_512) of_1024 asked_512 agreed_1024 (Rule.Agreement AgreementRule.OptionValue) (NegoFault.Broken AgreementRule.OptionValue) (λ f. f)
     (one_more at_client None [] (_, Message.Request (asks_for Get of_512)) tt asked_512 refl refl refl tt) refl refl refl refl refl refl
     (blksize, Num 512, Num 1024, asked_for, given, inl (refl, omega arith))
     (offer_fine blksize (Num 512) (Num 1024) (asks_for Get of_512) asked_for 15 (omega arith) given (found_single blksize (Num 1024) (codes "multicast")) (λ low. blksize_inside))

@@ -10,7 +10,7 @@ use Rattle.tftp_model.proofs.Worked.{eight_for_blksize}
 use Rattle.tftp_rules.specs.{Oacked, Terms}
 use Rattle.tftp_nego.specs.{MayAnswer, MayAgree, Holds, NegoFault}
 use Rattle.tftp_law.specs.{Agrees, size_from, terms_after}
-use Rattle.tftp_law.proofs.FirstBroken.Agreed.{AllAnswer, no_option_fault}
+use Rattle.tftp_nego.proofs.Tested.{AllAsked, agreement_kept}
 use Rattle.tftp_worked.proofs.Chains.{OackFine}
 use Rattle.tftp_worked.proofs.OneOption.{has_some, name_is, found_single, only_single}
 
@@ -28,7 +28,7 @@ only_two one other a b name value e = by_first (eq_by_cmp (slice_cmp nat_cmp) na
     by_first false false test rest found = absurd (cc)
 
 pub two_answer : (r : RequestParts) (one other : List ℕ) (a b c d : ℕ) → r.options ≡ two one a other b → map.get (two one a other b) one ≡ Some (Num a) → map.get (two one a other b) other ≡ Some (Num b)
-    → MayAnswer r.side one a c → MayAnswer r.side other b d → AllAnswer r (two one c other d)
+    → MayAnswer r.side one a c → MayAnswer r.side other b d → AllAsked r (two one c other d)
 two_answer r one other a b c d is first second may also name value e = elim (only_two one other c d name value e) [
   | inl at ↦ (a, c, subst (λ o. map.get o name ≡ Some (Num a)) (sym is) (subst (λ n. map.get (two one a other b) n ≡ Some (Num a)) (sym at.0) first), at.1, subst (λ n. MayAnswer r.side n a c) (sym at.0) may)
   | inr at ↦ (b, d, subst (λ o. map.get o name ≡ Some (Num b)) (sym is) (subst (λ n. map.get (two one a other b) n ≡ Some (Num b)) (sym at.0) second), at.1, subst (λ n. MayAnswer r.side n b d) (sym at.0) also)
@@ -38,13 +38,9 @@ two_answer r one other a b c d is first second may also name value e = elim (onl
 pub not_empty : (options : OptionMap) (name : List ℕ) (a : ℕ) → map.get options name ≡ Some (Num a) → options ≢ no_options
 not_empty options name a = has_some options name (Num a)
 
-pub fine : (n : ℕ) (asked : RequestParts) (oack : OptionMap) → AllAnswer asked oack → oack ≢ no_options → (20 < n → Holds NegoFault.BeyondBlock65535 asked oack → ⊥) → OackFine asked oack n
+pub fine : (n : ℕ) (asked : RequestParts) (oack : OptionMap) → AllAsked asked oack → oack ≢ no_options → (20 < n → Holds NegoFault.BeyondBlock65535 asked oack → ⊥) → OackFine asked oack n
 fine n asked oack all there few = record {
-  empty = λ _. no_option_fault asked oack all there NegoFault.OackEmpty (λ e. cc);
-  multicast = λ _. no_option_fault asked oack all there NegoFault.MulticastAgreed (λ e. cc);
-  not_requested = λ _. no_option_fault asked oack all there NegoFault.OptionNotRequested (λ e. cc);
-  outside = λ _. no_option_fault asked oack all there NegoFault.OptionOutsideProfile (λ e. cc);
-  bad_value = λ _. no_option_fault asked oack all there NegoFault.OptionValue (λ e. cc);
+  agreement = λ broken low. agreement_kept asked oack there all broken;
   beyond = few;
 }
 

@@ -4,7 +4,7 @@ use Rattle.std.proofs.lemmas.Bool.{leb-true}
 use Rattle.tftp_packet.specs.{Message, no_options, Spells, Put}
 use Rattle.tftp_hosts.specs.{Out, Header}
 use Rattle.tftp_model.specs.{request_of, two_bytes}
-use Rattle.tftp_rules.specs.{transfer_of, Passed, IsAcked, usable, EndRule}
+use Rattle.tftp_rules.specs.{transfer_of, Passed, IsAcked, usable, EndRule, PortRule}
 use Rattle.tftp_law.specs.{Rule, OneEnded, IsRefused}
 use Rattle.tftp_worked.specs.{at_client, acknowledges_hi, request, at_service, is_asked, says_not_found, says_forbidden, stops, gives_up, read_refused, read_refused_twice, read_given_up, read_given_up_twice, stopped_at_the_end, stopped_after_the_end, block_after_error, before_late_answer, late_answer, only_offered, stops_unanswered}
 use Rattle.tftp_worked.proofs.Spelled.{ack_spelled}
@@ -112,5 +112,5 @@ late_refused = refused_end at_client stopped (came 2 (codes "89")) EndRule.Windo
 abbrev offered : Start at_service
 offered = request_alone at_service (is_asked (request 2 []), Message.Request (asks_for Put no_options)) (request_spells Put [] no_options refl refl) refl
 
-pub unanswered_refused : IsRefused at_service (reverse only_offered) stops_unanswered Rule.WrongPort
-unanswered_refused = refused_next at_service offered (stops_unanswered, Message.Error 0 []) Rule.WrongPort stop_spelled refl refl
+pub unanswered_refused : IsRefused at_service (reverse only_offered) stops_unanswered (Rule.Port PortRule.Wrong)
+unanswered_refused = refused_next at_service offered (stops_unanswered, Message.Error 0 []) (Rule.Port PortRule.Wrong) stop_spelled refl refl

@@ -4,7 +4,7 @@ use Rattle.std.specs.FinMap as map
 use Rattle.std.specs.Cmp.Lexicographic.{nat_list_cmp_total}
 use Rattle.tftp_packet.specs.{Num, Message, RequestParts, Get}
 use Rattle.tftp_model.specs.{number_or, request_of, two_bytes, eight_a_block, eight_by_four}
-use Rattle.tftp_rules.specs.{IsFront, BlockPassed, transfer_of, EndRule}
+use Rattle.tftp_rules.specs.{IsFront, BlockPassed, transfer_of, EndRule, PortRule}
 use Rattle.tftp_model.proofs.Worked.{four_of_both}
 use Rattle.tftp_nego.specs.{Holds, NegoFault}
 use Rattle.tftp_law.specs.{Begins, Agrees, Broken, Rule, IsRefused}
@@ -31,14 +31,14 @@ stray = (comes_from_elsewhere, Message.Data 1 (codes "hi"))
 abbrev pub astray : Start at_client
 astray = after at_client plain_begun (stray ∷ []) refl
 
-pub stray_refused : IsRefused at_client (reverse before_answering) acknowledges_stray Rule.StrayAnswer
-stray_refused = refused_next at_client astray (acknowledges_stray, Message.Ack 1) Rule.StrayAnswer (ack_spells 1 refl) refl (inl refl)
+pub stray_refused : IsRefused at_client (reverse before_answering) acknowledges_stray (Rule.Port PortRule.BadAnswer)
+stray_refused = refused_next at_client astray (acknowledges_stray, Message.Ack 1) (Rule.Port PortRule.BadAnswer) (ack_spells 1 refl) refl (inl refl)
 
-pub nobody_refused : IsRefused at_client (reverse before_answering) acknowledges_nobody Rule.WrongPort
-nobody_refused = refused_next at_client astray (acknowledges_nobody, Message.Ack 1) Rule.WrongPort (ack_spells 1 refl) refl refl
+pub nobody_refused : IsRefused at_client (reverse before_answering) acknowledges_nobody (Rule.Port PortRule.Wrong)
+nobody_refused = refused_next at_client astray (acknowledges_nobody, Message.Ack 1) (Rule.Port PortRule.Wrong) (ack_spells 1 refl) refl refl
 
-pub foreign_refused : IsRefused at_client (reverse before_answering) comes_to_another_port Rule.ForeignPort
-foreign_refused = refused_next at_client astray (comes_to_another_port, Message.Data 1 (codes "hi")) Rule.ForeignPort hi_spelled refl refl
+pub foreign_refused : IsRefused at_client (reverse before_answering) comes_to_another_port (Rule.Port PortRule.Foreign)
+foreign_refused = refused_next at_client astray (comes_to_another_port, Message.Data 1 (codes "hi")) (Rule.Port PortRule.Foreign) hi_spelled refl refl
 
 pub unasked_refused : IsRefused at_client [] brings_hi Rule.NoRequest
 unasked_refused = record {

@@ -5,7 +5,7 @@ use Rattle.std.specs.List.{list_all}
 use Rattle.tftp_packet.specs.{Message, Side, Get, Put, End, Client, Server}
 use Rattle.tftp_hosts.specs.{Dir, In, Out, Header}
 use Rattle.tftp_model.specs.Roles.{sender_of, receiver_of}
-use Rattle.tftp_rules.specs.{author_of, Route, route_of, is_of_transfer, Reply, NoReply, Plain, Oacked, Terms, EndRule, NotStarted, BlockZero, BeyondBlock65535, BlockLength, WindowOverrun, BlockSkipped, GoneBack, BlockChanged, AckAhead, AckZero}
+use Rattle.tftp_rules.specs.{author_of, Route, route_of, is_of_transfer, Reply, NoReply, Plain, Oacked, Terms, EndRule, NotStarted, BlockZero, BeyondBlock65535, BlockLength, WindowOverrun, BlockSkipped, GoneBack, BlockChanged, AckAhead, AckZero, PortRule}
 use Rattle.tftp_law.specs.{Answer, Begins, number_of, Rule}
 use Rattle.tftp_worked.proofs.Payloads.{Spelled, datagrams}
 use Rattle.tftp_worked.proofs.Passing.{same_dir, as_block, as_ack, holds, main_of, used_of, every, some, first_asked, asked_by, first_answer}
@@ -216,9 +216,9 @@ abbrev pub is_main : Header → List Spelled → Spelled → Bool
 is_main h es e = is_of_transfer (route_of h (datagrams es) e.0)
 
 abbrev pub keeps : Header → Option Terms → List Spelled → Spelled → Rule → Bool
-keeps h t es e Rule.ForeignPort = not_foreign (route_of h (datagrams es) e.0)
-keeps h t es e Rule.WrongPort = not_wrong (route_of h (datagrams es) e.0)
-keeps h t es e Rule.StrayAnswer = answers_well (route_of h (datagrams es) e.0) e.1
+keeps h t es e (Rule.Port PortRule.Foreign) = not_foreign (route_of h (datagrams es) e.0)
+keeps h t es e (Rule.Port PortRule.Wrong) = not_wrong (route_of h (datagrams es) e.0)
+keeps h t es e (Rule.Port PortRule.BadAnswer) = answers_well (route_of h (datagrams es) e.0) e.1
 keeps h t es e Rule.NoRequest = not (not_asked (asked_by (first_asked h es))) || not_peer (route_of h (datagrams es) e.0)
 keeps h t es e Rule.WrongKind = not (is_main h es e) || kind_is_right (author_of h.named e.0.dir) (asked_by (first_asked h es)) e.1
 keeps h t es e Rule.AfterError = not (is_main h es e) || every (same_stop e.0.dir e.1) (main_of h es)
@@ -230,7 +230,7 @@ keeps h t es e _ = true
 
 -- the rules of which `keeps` tells more, and those of blocks and acknowledgements
 abbrev pub tested : List Rule
-tested = Rule.ForeignPort ∷ Rule.WrongPort ∷ Rule.StrayAnswer ∷ Rule.NoRequest ∷ Rule.WrongKind ∷ Rule.AfterError ∷ Rule.RequestChanged ∷ Rule.RequestAfterStart ∷ Rule.ReplyChanged ∷ Rule.OackAfterStart ∷ []
+tested = Rule.Port PortRule.Foreign ∷ Rule.Port PortRule.Wrong ∷ Rule.Port PortRule.BadAnswer ∷ Rule.NoRequest ∷ Rule.WrongKind ∷ Rule.AfterError ∷ Rule.RequestChanged ∷ Rule.RequestAfterStart ∷ Rule.ReplyChanged ∷ Rule.OackAfterStart ∷ []
 
 abbrev pub end_rules : List EndRule
 end_rules = NotStarted ∷ BlockZero ∷ BeyondBlock65535 ∷ BlockLength ∷ WindowOverrun ∷ BlockSkipped ∷ GoneBack ∷ BlockChanged ∷ AckAhead ∷ AckZero ∷ []

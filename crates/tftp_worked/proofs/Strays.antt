@@ -5,6 +5,7 @@ use Rattle.tftp_packet.proofs.FaultOrder.{first_fault}
 use Rattle.tftp_model.specs.{Sent, Took, Req, Data, Ack, two_bytes, two_bytes_view, two_bytes_server_view}
 use Rattle.tftp_model.proofs.Defaults.{default_blksize}
 use Rattle.tftp_model.proofs.Worked.{two_bytes_is_view, two_bytes_complete, two_bytes_is_server_view, two_bytes_complete_at_server}
+use Rattle.tftp_rules.specs.{PortRule}
 use Rattle.tftp_law.specs.{TransferIds, Shows, number_of, Broken, IsRefused, Rule}
 use Rattle.tftp_law.proofs.Spelled.{spelled_once}
 use Rattle.tftp_worked.specs.{at_client, at_server, server_host, asks_for_a, brings_hi, comes_astray, is_asked_for_a, sends_hi, is_told, error, only_is_asked, only_asked, before_answering, comes_from_elsewhere, acknowledges_stray, strays_to_server, server_answers_stray, read_with_a_stray_at_server, answers_by_error_4, after_a_stray_at_server, server_answers_by_error_4, read_from_first_port, comes_to_service}
@@ -49,8 +50,8 @@ code_of _ = 0
 not_unknown : (text : List ℕ) → Spells (error 4 []) (Message.Error 5 text) → ⊥
 not_unknown text s = let is : 4 ≡ 5 = ap code_of (spelled_once (error 4 []) (Message.Error 4 []) (Message.Error 5 text) error_4 s) in omega (arith, is)
 
-pub error_4_refused : IsRefused at_client (reverse before_answering) answers_by_error_4 Rule.StrayAnswer
-error_4_refused = refused_next at_client astray (answers_by_error_4, Message.Error 4 []) Rule.StrayAnswer error_4 refl (inr (refl, λ s. not_unknown s.0 s.1))
+pub error_4_refused : IsRefused at_client (reverse before_answering) answers_by_error_4 (Rule.Port PortRule.BadAnswer)
+error_4_refused = refused_next at_client astray (answers_by_error_4, Message.Error 4 []) (Rule.Port PortRule.BadAnswer) error_4 refl (inr (refl, λ s. not_unknown s.0 s.1))
 
 abbrev sends : Spelled
 sends = (sends_hi, Message.Data 1 (codes "hi"))
@@ -58,8 +59,8 @@ sends = (sends_hi, Message.Data 1 (codes "hi"))
 abbrev strays : Spelled
 strays = (strays_to_server, Message.Ack 1)
 
-pub server_error_4_refused : IsRefused at_server (reverse after_a_stray_at_server) server_answers_by_error_4 Rule.StrayAnswer
-server_error_4_refused = refused_next at_server (after at_server served (strays ∷ sends ∷ []) refl) (server_answers_by_error_4, Message.Error 4 []) Rule.StrayAnswer error_4 refl (inr (refl, λ s. not_unknown s.0 s.1))
+pub server_error_4_refused : IsRefused at_server (reverse after_a_stray_at_server) server_answers_by_error_4 (Rule.Port PortRule.BadAnswer)
+server_error_4_refused = refused_next at_server (after at_server served (strays ∷ sends ∷ []) refl) (server_answers_by_error_4, Message.Error 4 []) (Rule.Port PortRule.BadAnswer) error_4 refl (inr (refl, λ s. not_unknown s.0 s.1))
 
 -- ---- before the server has answered
 
@@ -73,9 +74,9 @@ first_is_read = record {
 }
 
 none_is_earlier : (rule : Rule) → number_of rule < 1 → Broken at_server (reverse only_is_asked) comes_to_service rule → ⊥
-none_is_earlier Rule.ForeignPort low b = omega arith
+none_is_earlier (Rule.Port PortRule.Foreign) low b = omega arith
 none_is_earlier (Rule.Block e) low b = let from = from_18 e in omega (arith, low, from)
 none_is_earlier _ low b = omega arith
 
-pub other_port_refused : IsRefused at_server (reverse only_is_asked) comes_to_service Rule.ForeignPort
+pub other_port_refused : IsRefused at_server (reverse only_is_asked) comes_to_service (Rule.Port PortRule.Foreign)
 other_port_refused = record { lawful = served.lawful; broken = (refl, none_is_earlier) }

@@ -2,7 +2,7 @@
 //! of a function that does nothing.
 
 ghost use Rattle.std.specs.Prelude.{◌≡◌, reverse};
-ghost use Rattle.tftp_rules.specs.{Route, route_of};
+ghost use Rattle.tftp_rules.specs.{Route, route_of, PortRule};
 ghost use Rattle.tftp_model.specs.{two_bytes};
 ghost use Rattle.tftp_law.specs.{Shows, IsRefused, Rule};
 ghost use Rattle.tftp_worked.specs.Worked.{at_client, at_server, acknowledges_hi, read_without_its_ack};
@@ -24,19 +24,19 @@ ghost use Rattle.tftp_worked.specs.WorkedRules.{only_asked};
 pub fn third_host_is_no_server()
     ensures stray { route_of at_client (reverse read_without_its_ack) comes_from_third_host ≡ Route.Stray }
     ensures answered { Shows at_client two_bytes read_with_a_third_host }
-    ensures acknowledged { IsRefused at_client (reverse after_third_host) acknowledges_third_host Rule.StrayAnswer }
+    ensures acknowledged { IsRefused at_client (reverse after_third_host) acknowledges_third_host (Rule.Port PortRule.BadAnswer) }
 {}
 
 /// A server may answer from another host than the one asked, and then is there: an ACK to the host that was asked breaks
 /// rule 2.
 pub fn server_may_answer_from_another_host()
     ensures shown { Shows at_client two_bytes read_from_third_host }
-    ensures fixed { IsRefused at_client (reverse answered_from_third_host) acknowledges_hi Rule.WrongPort }
+    ensures fixed { IsRefused at_client (reverse answered_from_third_host) acknowledges_hi (Rule.Port PortRule.Wrong) }
 {}
 
 /// The requests of a transfer are one client's to one host. A client's to another breaks rule 2, and at the server one
 /// from another breaks rule 1.
 pub fn one_host_asks_one_host()
-    ensures client { IsRefused at_client (reverse only_asked) asks_third_host Rule.WrongPort }
-    ensures server { IsRefused at_server (reverse only_is_asked) third_host_asks Rule.ForeignPort }
+    ensures client { IsRefused at_client (reverse only_asked) asks_third_host (Rule.Port PortRule.Wrong) }
+    ensures server { IsRefused at_server (reverse only_is_asked) third_host_asks (Rule.Port PortRule.Foreign) }
 {}

@@ -3,6 +3,7 @@
 
 ghost use Rattle.std.specs.Prelude.{[], ◌∷◌, ◌++◌, reverse, Err};
 ghost use Rattle.tftp_packet.specs.{AckLength, MailMode};
+ghost use Rattle.tftp_nego.specs.{AgreementRule};
 ghost use Rattle.tftp_law.specs.{IsRefused, Rule};
 ghost use Rattle.tftp_judge.specs.{IsVerdict, Unlawful};
 ghost use Rattle.tftp_worked.specs.Worked.{at_client, asks_for_a, one_block_read, read_without_its_ack};
@@ -39,22 +40,22 @@ pub fn one_request_is_made()
 
 /// An OACK has some option, each of which was asked for (RFC 2347).
 pub fn oacks_agree_to_what_was_asked()
-    ensures empty { IsRefused at_client (reverse only_asked) agrees_to_none Rule.OackEmpty }
-    ensures unasked { IsRefused at_client (reverse only_asked) agrees_unasked Rule.OptionNotRequested }
-    ensures empty_verdict { IsVerdict at_client (only_asked ++ agrees_to_none ∷ []) (Err (Unlawful 2 Rule.OackEmpty)) }
-    ensures unasked_verdict { IsVerdict at_client (only_asked ++ agrees_unasked ∷ []) (Err (Unlawful 2 Rule.OptionNotRequested)) }
+    ensures empty { IsRefused at_client (reverse only_asked) agrees_to_none (Rule.Agreement AgreementRule.OackEmpty) }
+    ensures unasked { IsRefused at_client (reverse only_asked) agrees_unasked (Rule.Agreement AgreementRule.OptionNotRequested) }
+    ensures empty_verdict { IsVerdict at_client (only_asked ++ agrees_to_none ∷ []) (Err (Unlawful 2 (Rule.Agreement AgreementRule.OackEmpty))) }
+    ensures unasked_verdict { IsVerdict at_client (only_asked ++ agrees_unasked ∷ []) (Err (Unlawful 2 (Rule.Agreement AgreementRule.OptionNotRequested))) }
 {}
 
 /// And each is one of the four of the profile: "multicast" (RFC 2090) has a rule of its own, and others share one.
 pub fn oacks_keep_to_the_profile()
-    ensures multicast { IsRefused at_client (reverse only_multicast_asked) agrees_to_multicast Rule.MulticastAgreed }
-    ensures unknown { IsRefused at_client (reverse only_foo_asked) agrees_to_foo Rule.OptionOutsideProfile }
-    ensures multicast_verdict { IsVerdict at_client (only_multicast_asked ++ agrees_to_multicast ∷ []) (Err (Unlawful 2 Rule.MulticastAgreed)) }
-    ensures unknown_verdict { IsVerdict at_client (only_foo_asked ++ agrees_to_foo ∷ []) (Err (Unlawful 2 Rule.OptionOutsideProfile)) }
+    ensures multicast { IsRefused at_client (reverse only_multicast_asked) agrees_to_multicast (Rule.Agreement AgreementRule.MulticastAgreed) }
+    ensures unknown { IsRefused at_client (reverse only_foo_asked) agrees_to_foo (Rule.Agreement AgreementRule.OptionOutsideProfile) }
+    ensures multicast_verdict { IsVerdict at_client (only_multicast_asked ++ agrees_to_multicast ∷ []) (Err (Unlawful 2 (Rule.Agreement AgreementRule.MulticastAgreed))) }
+    ensures unknown_verdict { IsVerdict at_client (only_foo_asked ++ agrees_to_foo ∷ []) (Err (Unlawful 2 (Rule.Agreement AgreementRule.OptionOutsideProfile))) }
 {}
 
 /// A server makes the blocks no larger than it was asked to (RFC 2348).
 pub fn oacks_raise_no_block_size()
-    ensures larger { IsRefused at_client (reverse only_512_asked) agrees_to_1024 Rule.OptionValue }
-    ensures verdict { IsVerdict at_client (only_512_asked ++ agrees_to_1024 ∷ []) (Err (Unlawful 2 Rule.OptionValue)) }
+    ensures larger { IsRefused at_client (reverse only_512_asked) agrees_to_1024 (Rule.Agreement AgreementRule.OptionValue) }
+    ensures verdict { IsVerdict at_client (only_512_asked ++ agrees_to_1024 ∷ []) (Err (Unlawful 2 (Rule.Agreement AgreementRule.OptionValue))) }
 {}

@@ -3,7 +3,7 @@
 //! nothing.
 
 ghost use Rattle.std.specs.Prelude.{[], ◌∷◌, reverse};
-ghost use Rattle.tftp_rules.specs.{EndRule};
+ghost use Rattle.tftp_rules.specs.{EndRule, PortRule};
 ghost use Rattle.tftp_law.specs.{Rule, OneEnded, IsRefused, Meant};
 ghost use Rattle.tftp_model.specs.{two_bytes};
 ghost use Rattle.tftp_worked.specs.Worked.{at_client, brings_hi, acknowledges_hi, acknowledges_two, one_block_read, read_without_its_ack};
@@ -78,9 +78,9 @@ pub fn one_block_read_means_two_bytes()
 /// At its transfer id the client hears one server (RFC 1350, section 4). What comes to another port, what goes to a port
 /// that nothing came from, and what answers a stray by no ERROR 5 breaks one of the first three rules.
 pub fn ports_are_the_transfers()
-    ensures foreign { IsRefused at_client (reverse before_answering) comes_to_another_port Rule.ForeignPort }
-    ensures wrong { IsRefused at_client (reverse before_answering) acknowledges_nobody Rule.WrongPort }
-    ensures stray { IsRefused at_client (reverse before_answering) acknowledges_stray Rule.StrayAnswer }
+    ensures foreign { IsRefused at_client (reverse before_answering) comes_to_another_port (Rule.Port PortRule.Foreign) }
+    ensures wrong { IsRefused at_client (reverse before_answering) acknowledges_nobody (Rule.Port PortRule.Wrong) }
+    ensures stray { IsRefused at_client (reverse before_answering) acknowledges_stray (Rule.Port PortRule.BadAnswer) }
 {}
 
 /// Nothing comes before a request (RFC 1350, section 4).
@@ -119,7 +119,7 @@ pub fn blocks_answer_no_ack_after_an_error()
 
 /// A server that has not answered is asked at the service port, and nothing else comes there (RFC 1350, section 4).
 pub fn server_is_stopped_once_it_has_answered()
-    ensures { IsRefused at_service (reverse only_offered) stops_unanswered Rule.WrongPort }
+    ensures { IsRefused at_service (reverse only_offered) stops_unanswered (Rule.Port PortRule.Wrong) }
 {}
 
 /// No block is acknowledged before it and all below it have come in (RFC 1350, section 2).

@@ -4,6 +4,7 @@
 ghost use Rattle.std.specs.Prelude.{[], ◌∷◌, ◌++◌, reverse, Ok, Err};
 ghost use Rattle.tftp_packet.specs.{Short};
 ghost use Rattle.tftp_model.specs.{two_bytes};
+ghost use Rattle.tftp_rules.specs.{PortRule};
 ghost use Rattle.tftp_law.specs.{Shows, IsRefused, Rule};
 ghost use Rattle.tftp_judge.specs.{IsVerdict, Unlawful};
 ghost use Rattle.tftp_worked.specs.Worked.{at_client, at_server, comes_astray};
@@ -28,10 +29,10 @@ pub fn server_answers_a_stray()
 /// Nothing but ERROR 5, "Unknown transfer ID", answers a stray: another ERROR breaks rule 3, and no run of two ends has it,
 /// at the client and at the server.
 pub fn another_error_answers_no_stray()
-    ensures client { IsRefused at_client (reverse before_answering) answers_by_error_4 Rule.StrayAnswer }
-    ensures server { IsRefused at_server (reverse after_a_stray_at_server) server_answers_by_error_4 Rule.StrayAnswer }
-    ensures client_verdict { IsVerdict at_client (before_answering ++ answers_by_error_4 ∷ []) (Err (Unlawful 4 Rule.StrayAnswer)) }
-    ensures server_verdict { IsVerdict at_server (after_a_stray_at_server ++ server_answers_by_error_4 ∷ []) (Err (Unlawful 4 Rule.StrayAnswer)) }
+    ensures client { IsRefused at_client (reverse before_answering) answers_by_error_4 (Rule.Port PortRule.BadAnswer) }
+    ensures server { IsRefused at_server (reverse after_a_stray_at_server) server_answers_by_error_4 (Rule.Port PortRule.BadAnswer) }
+    ensures client_verdict { IsVerdict at_client (before_answering ++ answers_by_error_4 ∷ []) (Err (Unlawful 4 (Rule.Port PortRule.BadAnswer))) }
+    ensures server_verdict { IsVerdict at_server (after_a_stray_at_server ++ server_answers_by_error_4 ∷ []) (Err (Unlawful 4 (Rule.Port PortRule.BadAnswer))) }
 {}
 
 /// Before a server has answered, nothing that comes to its client is a stray: what comes first is the server's, from
@@ -46,6 +47,6 @@ pub fn first_to_answer_is_the_server()
 /// Before it has answered, a server is known at the service port alone, where what comes from another port than its
 /// client's breaks rule 1.
 pub fn nothing_strays_to_a_silent_server()
-    ensures refused { IsRefused at_server (reverse only_is_asked) comes_to_service Rule.ForeignPort }
-    ensures verdict { IsVerdict at_server (only_is_asked ++ comes_to_service ∷ []) (Err (Unlawful 2 Rule.ForeignPort)) }
+    ensures refused { IsRefused at_server (reverse only_is_asked) comes_to_service (Rule.Port PortRule.Foreign) }
+    ensures verdict { IsVerdict at_server (only_is_asked ++ comes_to_service ∷ []) (Err (Unlawful 2 (Rule.Port PortRule.Foreign))) }
 {}

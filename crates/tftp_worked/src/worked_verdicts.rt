@@ -3,7 +3,7 @@
 
 ghost use Rattle.std.specs.Prelude.{[], ◌∷◌, ◌++◌, Ok, Err};
 ghost use Rattle.tftp_model.specs.{two_bytes, six_blocks};
-ghost use Rattle.tftp_rules.specs.{EndRule};
+ghost use Rattle.tftp_rules.specs.{EndRule, PortRule};
 ghost use Rattle.tftp_law.specs.{Rule, Local, Peer};
 ghost use Rattle.tftp_judge.specs.{IsVerdict, IsVerdictByRules, Unlawful, Aborted, Incomplete};
 ghost use Rattle.tftp_worked.specs.Worked.{at_client, brings_hi, acknowledges_hi, acknowledges_two, one_block_read, read_without_its_ack};
@@ -99,9 +99,9 @@ pub fn what_follows_an_error_is_unlawful()
 
 /// What breaks a rule of ports is in no run, and is named with that rule (RFC 1350, section 4).
 pub fn ports_have_their_verdicts()
-    ensures foreign { IsVerdict at_client (before_answering ++ comes_to_another_port ∷ []) (Err (Unlawful 4 Rule.ForeignPort)) }
-    ensures wrong { IsVerdict at_client (before_answering ++ acknowledges_nobody ∷ []) (Err (Unlawful 4 Rule.WrongPort)) }
-    ensures stray { IsVerdict at_client (before_answering ++ acknowledges_stray ∷ []) (Err (Unlawful 4 Rule.StrayAnswer)) }
+    ensures foreign { IsVerdict at_client (before_answering ++ comes_to_another_port ∷ []) (Err (Unlawful 4 (Rule.Port PortRule.Foreign))) }
+    ensures wrong { IsVerdict at_client (before_answering ++ acknowledges_nobody ∷ []) (Err (Unlawful 4 (Rule.Port PortRule.Wrong))) }
+    ensures stray { IsVerdict at_client (before_answering ++ acknowledges_stray ∷ []) (Err (Unlawful 4 (Rule.Port PortRule.BadAnswer))) }
 {}
 
 /// What breaks a rule of requests, or of what answers them, is named with that rule (RFC 1350, section 4; RFC 2347).

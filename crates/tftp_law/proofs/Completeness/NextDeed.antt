@@ -8,7 +8,7 @@ use Rattle.tftp_model.specs.{Meaning, request_of, SomethingAgreed, NothingAgreed
 use Rattle.tftp_model.specs.Roles.{sender_of, receiver_of}
 use Rattle.tftp_rules.specs.{author_of, transfer_of, Passed, HasPassed, AckZeroWaits, BlockBreaks, AckBreaks, EndBroken, usable, EndRule, NoReply, Plain, Oacked, Terms}
 use Rattle.tftp_law.specs.{Fits, Division, datagrams_of, view_in, dir_of, packet_of, AreRouted, Answer, Agrees, Begins, NotAnswered, FirstAnswer, IsWrongKind, RequestBreaks, OackBreaks, TermsBreak, MessageBreaks, Rule}
-use Rattle.tftp_law.proofs.FirstBroken.Agreed.{no_agreement_fault}
+use Rattle.tftp_nego.proofs.Tested.{agreement_kept, no_fault}
 use Rattle.tftp_law.proofs.FirstBroken.FirstAnswered.{first_one, not_both as answered_not}
 use Rattle.tftp_law.proofs.Accord.BlockLengths.{not_beyond, not_misfit, not_changed}
 use Rattle.tftp_law.proofs.Accord.PassedIsDone.{usable_in, used_passed, block_sent, ack_went, sent_block, not_both, ack_not_ahead_in, ack_not_ahead_out, within_window_in}
@@ -163,12 +163,8 @@ module _ (h : Header) (m : Meaning) (wire : List ℕ) (fits : Fits m wire)
     by Rule.ReplyChanged b = let e = first_is Begins b in cc
     by Rule.OackChanged (was, first, differs) = let e = first_is (Agrees was) first in differs (cc)
     by Rule.OackAfterStart (out, get, (k, bytes, p)) = early out get k bytes p
-    by Rule.OackEmpty b = no_agreement_fault (request_of m) m.agreed fits.may_agree something NegoFault.OackEmpty b.1
-    by Rule.MulticastAgreed b = no_agreement_fault (request_of m) m.agreed fits.may_agree something NegoFault.MulticastAgreed b.1
-    by Rule.OptionNotRequested b = no_agreement_fault (request_of m) m.agreed fits.may_agree something NegoFault.OptionNotRequested b.1
-    by Rule.OptionOutsideProfile b = no_agreement_fault (request_of m) m.agreed fits.may_agree something NegoFault.OptionOutsideProfile b.1
-    by Rule.OptionValue b = no_agreement_fault (request_of m) m.agreed fits.may_agree something NegoFault.OptionValue b.1
-    by (Rule.Block EndRule.BeyondBlock65535) b = no_agreement_fault (request_of m) m.agreed fits.may_agree something NegoFault.BeyondBlock65535 b.1
+    by (Rule.Agreement broken) b = agreement_kept (request_of m) m.agreed something fits.may_agree.asked broken b.1
+    by (Rule.Block EndRule.BeyondBlock65535) b = no_fault (request_of m) m.agreed something fits.may_agree NegoFault.BeyondBlock65535 b.1
     by rule b = b.1
 
   by_author : (dir : Dir) (e : End) (x : Message) → h.named ≡ e → IsWrongKind (author_of h.named dir) m.side x → IsWrongKind (author_of e dir) m.side x

@@ -3,12 +3,12 @@ use Rattle.std.proofs.Common.{◌≡◌, ℕ, ◌≤◌, Bool, true, false, List
 use Rattle.tftp_packet.specs.{Message, RequestParts, Spells, opcode_of, End, Client, Server}
 use Rattle.tftp_hosts.specs.{Dir, In, Out, Datagram, Header}
 use Rattle.tftp_model.specs.{Meaning, MachinePacket, Req, Oack, Data, Ack, Deed, Sent, Took, message_of, Error, IsOneSided}
-use Rattle.tftp_rules.specs.{Route, asks, first_of, route_of, is_of_transfer}
+use Rattle.tftp_rules.specs.{Route, asks, first_of, route_of, is_of_transfer, PortRule}
 use Rattle.tftp_packet.proofs.NoFault.{no_fault}
 use Rattle.tftp_law.specs.Dress.{StrayAnswer}
 use Rattle.tftp_law.specs.{Part, Main, Stray, Division, datagrams_of, view_in, dir_of, packet_of, TransferIds, says_of, HasPartBy, HavePartsBy, HaveParts, packet_route, part_route, SaysAsBy, AreRoutedBy, request_at, request_back, Starts, packet_in, says_some, FindsPlace, FindPlaces, Divides, Broken, number_of, IsRead, Rule}
 use Rattle.tftp_law.proofs.Spelled.{spelled_once}
-use Rattle.tftp_law.proofs.FirstBroken.OneMessage.{end_from}
+use Rattle.tftp_law.proofs.FirstBroken.OneMessage.{agreement_from, end_from}
 use Rattle.tftp_law.proofs.FirstBroken.FirstRequests.{begins_asked, or_some, asks_route}
 use Rattle.tftp_law.proofs.Division.RouteTests.{two_ways, IsTold, request_begins}
 use Rattle.tftp_law.proofs.Division.Routed.{routed_by, starts_of}
@@ -238,12 +238,13 @@ module _ (h : Header) where
         peer_is_other deed (ap part_route (sym is) ∙ peer) (cc)
 
     lawful : (rule : Rule) → number_of rule ≤ 5 → Broken h (datagrams_of x) d rule → ⊥
-    lawful Rule.ForeignPort low b = subst (λ r. IsRead r d) b read
-    lawful Rule.WrongPort low b = subst (λ r. IsRead r d) b read
-    lawful Rule.StrayAnswer low b = elim b [ inl is ↦ subst (λ r. IsRead r d) is read | inr is ↦ is.1 (subst (λ r. IsRead r d) is.0 read) ]
+    lawful (Rule.Port PortRule.Foreign) low b = subst (λ r. IsRead r d) b read
+    lawful (Rule.Port PortRule.Wrong) low b = subst (λ r. IsRead r d) b read
+    lawful (Rule.Port PortRule.BadAnswer) low b = elim b [ inl is ↦ subst (λ r. IsRead r d) is read | inr is ↦ is.1 (subst (λ r. IsRead r d) is.0 read) ]
     lawful Rule.NoRequest low b = first_main d part x starts (none_view h says_some x routed.2 (starts_before h.named d part x starts) b.0) (sym routed.0 ∙ b.1)
     lawful (Rule.Malformed fault) low b = let (m, s) = spelled (route_of h (datagrams_of x) d) d b.0 read in no_fault d.payload m fault s.1 b.1.0
-    lawful (Rule.Block e) low b = let high = end_from e in omega (arith, low, high)
+    lawful (Rule.Agreement broken) low b = omega (arith, low, agreement_from broken)
+    lawful (Rule.Block e) low b = omega (arith, low, end_from e)
     lawful _ low b = omega (arith, low)
 
   places_of : (x : Division) → Starts h.named (view_in x) → AreRoutedBy h says_some x → FindPlaces h (datagrams_of x)

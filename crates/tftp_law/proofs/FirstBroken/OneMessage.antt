@@ -5,6 +5,7 @@ use Rattle.tftp_packet.specs.{OptionMap, Message, RequestParts, Spells}
 use Rattle.tftp_packet.proofs.NoFault.{no_fault}
 use Rattle.tftp_hosts.specs.{Dir, Datagram, Header}
 use Rattle.tftp_rules.specs.{Route, asks, first_of, route_of, is_of_transfer, transfer_of, PortRule, PortBroken, EndBroken, Terms, EndRule}
+use Rattle.tftp_nego.specs.{AgreementRule}
 use Rattle.tftp_law.specs.{number_of, FirstBroken, FirstAsked, Broken, MessageBroken, AreTermsAfter, RequestBreaks, OackBreaks, TermsBreak, KindBreaks, MessageBreaks, Rule}
 use Rattle.tftp_law.proofs.Spelled.{spelled_once}
 use Rattle.tftp_law.proofs.FirstBroken.FirstRequests.{asked_once}
@@ -14,6 +15,14 @@ use Rattle.tftp_law.proofs.FirstBroken.FirstRequests.{asked_once}
 pub end_from : (e : EndRule) → 18 ≤ number_of (Rule.Block e)
 end_from EndRule.NotStarted = omega arith
 end_from _ = omega arith
+
+pub agreement_from : (broken : AgreementRule) → 11 ≤ number_of (Rule.Agreement broken)
+agreement_from AgreementRule.OackEmpty = omega arith
+agreement_from _ = omega arith
+
+pub port_to : (port : PortRule) → number_of (Rule.Port port) ≤ 3
+port_to PortRule.Foreign = omega arith
+port_to _ = omega arith
 
 module _ (h : Header) (asked : RequestParts) (passed : List Datagram) (dir : Dir) where
   request_from : (now : RequestParts) (rule : Rule) → RequestBreaks asked passed dir now rule → 8 ≤ number_of rule
@@ -25,11 +34,7 @@ module _ (h : Header) (asked : RequestParts) (passed : List Datagram) (dir : Dir
   oack_from oack Rule.ReplyChanged b = omega arith
   oack_from oack Rule.OackChanged b = omega arith
   oack_from oack Rule.OackAfterStart b = omega arith
-  oack_from oack Rule.OackEmpty b = omega arith
-  oack_from oack Rule.MulticastAgreed b = omega arith
-  oack_from oack Rule.OptionNotRequested b = omega arith
-  oack_from oack Rule.OptionOutsideProfile b = omega arith
-  oack_from oack Rule.OptionValue b = omega arith
+  oack_from oack (Rule.Agreement broken) b = let high = agreement_from broken in omega arith
   oack_from oack (Rule.Block EndRule.BeyondBlock65535) b = omega arith
   oack_from oack rule b = absurd b.1
 
@@ -58,11 +63,16 @@ module _ (h : Header) (asked : RequestParts) (passed : List Datagram) (dir : Dir
 -- ---- which rules a datagram can break
 
 module _ (h : Header) (earlier : List Datagram) (d : Datagram) where
+  -- what breaks a rule of ports is none of the transfer
+  pub port_off : (port : PortRule) → PortBroken h earlier d port → is_of_transfer (route_of h earlier d) ≡ false
+  port_off PortRule.Foreign b = ap is_of_transfer b
+  port_off PortRule.Wrong b = ap is_of_transfer b
+  port_off PortRule.BadAnswer (inl none) = ap is_of_transfer none
+  port_off PortRule.BadAnswer (inr bad) = ap is_of_transfer bad.0
+
   -- those of ports, where it is none of the transfer
   pub only_ports : is_of_transfer (route_of h earlier d) ≡ false → ((port : PortRule) → PortBroken h earlier d port → ⊥) → (rule : Rule) → Broken h earlier d rule → ⊥
-  only_ports off kept Rule.ForeignPort b = kept PortRule.Foreign b
-  only_ports off kept Rule.WrongPort b = kept PortRule.Wrong b
-  only_ports off kept Rule.StrayAnswer b = kept PortRule.BadAnswer b
+  only_ports off kept (Rule.Port port) b = kept port b
   only_ports off kept Rule.NoRequest b = false≢true (sym off ∙ ap is_of_transfer b.1)
   only_ports off kept (Rule.Malformed fault) b = false≢true (sym off ∙ b.0)
   only_ports off kept rule b = false≢true (sym off ∙ b.says.routed)
@@ -70,10 +80,7 @@ module _ (h : Header) (earlier : List Datagram) (d : Datagram) where
   -- those of messages, where it is one of the transfer
   pub only_messages : (m : Message) → is_of_transfer (route_of h earlier d) ≡ true → Spells d.payload m → (first_of (asks h) earlier ≡ None → route_of h earlier d ≡ Route.Peer → ⊥)
       → (rule : Rule) → Broken h earlier d rule → MessageBroken h earlier d rule
-  only_messages m on spells begun Rule.ForeignPort b = absurd (false≢true (sym (ap is_of_transfer b) ∙ on))
-  only_messages m on spells begun Rule.WrongPort b = absurd (false≢true (sym (ap is_of_transfer b) ∙ on))
-  only_messages m on spells begun Rule.StrayAnswer (inl none) = absurd (false≢true (sym (ap is_of_transfer none) ∙ on))
-  only_messages m on spells begun Rule.StrayAnswer (inr bad) = absurd (false≢true (sym (ap is_of_transfer bad.0) ∙ on))
+  only_messages m on spells begun (Rule.Port port) b = absurd (false≢true (sym (port_off port b) ∙ on))
   only_messages m on spells begun Rule.NoRequest b = absurd (begun b.0 b.1)
   only_messages m on spells begun (Rule.Malformed fault) b = absurd (no_fault d.payload m fault spells.1 b.1.0)
   only_messages m on spells begun rule b = b
@@ -97,9 +104,7 @@ module _ (h : Header) (earlier : List Datagram) (d : Datagram) (m : Message) (as
   low rule b few = let high = message_from h asked (transfer_of h earlier) d.dir m rule b in omega arith
 
   pub back : (rule : Rule) → Breaks rule → Broken h earlier d rule
-  back Rule.ForeignPort b = absurd (low Rule.ForeignPort b (omega arith))
-  back Rule.WrongPort b = absurd (low Rule.WrongPort b (omega arith))
-  back Rule.StrayAnswer b = absurd (low Rule.StrayAnswer b (omega arith))
+  back (Rule.Port port) b = absurd (low (Rule.Port port) b (omega (arith, port_to port)))
   back Rule.NoRequest b = absurd (low Rule.NoRequest b (omega arith))
   back (Rule.Malformed fault) b = absurd (low (Rule.Malformed fault) b (omega arith))
   back rule b = record { message = m; says = record { routed = routed; spells = spells }; asked = asked; first = first; breaks = b }

@@ -53,11 +53,7 @@ module _ (h : Header) (earlier : List Datagram) (d : Datagram) (passes : Passes 
   keeps rule b = none_by h earlier d (Message.Oack options) asked main spells first passes.lawful rule (inr (inr b))
 
   no_fault : (fault : NegoFault) → Holds fault asked options → ⊥
-  no_fault NegoFault.OackEmpty holds = keeps Rule.OackEmpty (none, holds)
-  no_fault NegoFault.MulticastAgreed holds = keeps Rule.MulticastAgreed (none, holds)
-  no_fault NegoFault.OptionNotRequested holds = keeps Rule.OptionNotRequested (none, holds)
-  no_fault NegoFault.OptionOutsideProfile holds = keeps Rule.OptionOutsideProfile (none, holds)
-  no_fault NegoFault.OptionValue holds = keeps Rule.OptionValue (none, holds)
+  no_fault (NegoFault.Broken broken) holds = keeps (Rule.Agreement broken) (none, holds)
   no_fault NegoFault.BeyondBlock65535 holds = keeps (Rule.Block EndRule.BeyondBlock65535) (none, holds)
   no_fault NegoFault.Memory holds = holds
 

@@ -5,6 +5,7 @@ use Rattle.tftp_packet.specs.{OptionMap, Message, RequestParts, Spells, Side, Ge
 use Rattle.tftp_hosts.specs.{Dir, In, Out, Datagram, Header}
 use Rattle.tftp_model.specs.{Meaning, request_of, SomethingAgreed, Req, Oack, Ack, Error, Sent, Took, History, MaySendReq, MaySendOack, MaySendError, heard, MayComeOack, MayComeError}
 use Rattle.tftp_rules.specs.{transfer_of, Passed, usable}
+use Rattle.tftp_nego.specs.{AgreementRule}
 use Rattle.tftp_law.proofs.Soundness.SameOrNot.{same_request, same_options, same_text}
 use Rattle.tftp_law.specs.{Division, datagrams_of, view_in, Agrees, IsAnswer, FirstAnswer, Rule}
 use Rattle.tftp_law.proofs.Accord.PassedIsDone.{told_passed, sent_block}
@@ -40,7 +41,7 @@ module _ {h : Header} {m : Meaning} {wire : List ℕ} {division : Division} {d :
     agreed_now = elim (reply_now h m wire next.acc.fits division next.routed next.own) [
       | inl none ↦
           let same = next.acc.oacked o (subst (λ p. FirstAnswer m.side p (Agrees o)) (sym (more next)) (inr (none, (Message.Oack o, s, oack_is m.side)))) in
-          (same, λ nothing. keeps next (Message.Oack o) s Rule.OackEmpty (inr (inr (none, sym same ∙ nothing))))
+          (same, λ nothing. keeps next (Message.Oack o) s (Rule.Agreement AgreementRule.OackEmpty) (inr (inr (none, sym same ∙ nothing))))
       | inr some ↦ elim some [
         | inl x ↦ elim (same_options m.agreed o) [
           | inl same ↦ (same, x.0)

@@ -1,4 +1,5 @@
 use Rattle.std.proofs.Common.{refl}
+use Rattle.tftp_nego.specs.{AgreementRule}
 use Rattle.tftp_law.specs.{Rule}
 use Rattle.tftp_worked.specs.{at_client, only_asked, agrees_to_none, agrees_unasked}
 use Rattle.tftp_worked.proofs.ByRules.{refused_verdict}
@@ -12,7 +13,7 @@ pub returns-clause-unasked : goal.returns-clause-unasked
 returns-clause-unasked c = unasked_refused
 
 pub returns-clause-empty_verdict : goal.returns-clause-empty_verdict
-returns-clause-empty_verdict c = refused_verdict at_client only_asked agrees_to_none Rule.OackEmpty 2 refl refl none_refused
+returns-clause-empty_verdict c = refused_verdict at_client only_asked agrees_to_none (Rule.Agreement AgreementRule.OackEmpty) 2 refl refl none_refused
 
 pub returns-clause-unasked_verdict : goal.returns-clause-unasked_verdict
-returns-clause-unasked_verdict c = refused_verdict at_client only_asked agrees_unasked Rule.OptionNotRequested 2 refl refl unasked_refused
+returns-clause-unasked_verdict c = refused_verdict at_client only_asked agrees_unasked (Rule.Agreement AgreementRule.OptionNotRequested) 2 refl refl unasked_refused

@@ -1,4 +1,5 @@
 use Rattle.std.proofs.Common.{refl}
+use Rattle.tftp_nego.specs.{AgreementRule}
 use Rattle.tftp_law.specs.{Rule}
 use Rattle.tftp_worked.specs.{at_client, only_multicast_asked, agrees_to_multicast, only_foo_asked, agrees_to_foo}
 use Rattle.tftp_worked.proofs.ByRules.{refused_verdict}
@@ -12,7 +13,7 @@ pub returns-clause-unknown : goal.returns-clause-unknown
 returns-clause-unknown c = foo_refused
 
 pub returns-clause-multicast_verdict : goal.returns-clause-multicast_verdict
-returns-clause-multicast_verdict c = refused_verdict at_client only_multicast_asked agrees_to_multicast Rule.MulticastAgreed 2 refl refl multicast_refused
+returns-clause-multicast_verdict c = refused_verdict at_client only_multicast_asked agrees_to_multicast (Rule.Agreement AgreementRule.MulticastAgreed) 2 refl refl multicast_refused
 
 pub returns-clause-unknown_verdict : goal.returns-clause-unknown_verdict
-returns-clause-unknown_verdict c = refused_verdict at_client only_foo_asked agrees_to_foo Rule.OptionOutsideProfile 2 refl refl foo_refused
+returns-clause-unknown_verdict c = refused_verdict at_client only_foo_asked agrees_to_foo (Rule.Agreement AgreementRule.OptionOutsideProfile) 2 refl refl foo_refused

@@ -1,4 +1,5 @@
 use Rattle.std.proofs.Common.{refl}
+use Rattle.tftp_nego.specs.{AgreementRule}
 use Rattle.tftp_law.specs.{Rule}
 use Rattle.tftp_worked.specs.{at_client, only_512_asked, agrees_to_1024}
 use Rattle.tftp_worked.proofs.ByRules.{refused_verdict}
@@ -9,4 +10,4 @@ pub returns-clause-larger : goal.returns-clause-larger
 returns-clause-larger c = larger_refused
 
 pub returns-clause-verdict : goal.returns-clause-verdict
-returns-clause-verdict c = refused_verdict at_client only_512_asked agrees_to_1024 Rule.OptionValue 2 refl refl larger_refused
+returns-clause-verdict c = refused_verdict at_client only_512_asked agrees_to_1024 (Rule.Agreement AgreementRule.OptionValue) 2 refl refl larger_refused

@@ -1,4 +1,5 @@
 use Rattle.std.proofs.Common.{refl}
+use Rattle.tftp_rules.specs.{PortRule}
 use Rattle.tftp_law.specs.{Rule}
 use Rattle.tftp_worked.specs.{at_client, at_server, before_answering, answers_by_error_4, after_a_stray_at_server, server_answers_by_error_4}
 use Rattle.tftp_worked.proofs.ByRules.{refused_verdict}
@@ -12,7 +13,7 @@ pub returns-clause-server : goal.returns-clause-server
 returns-clause-server c = server_error_4_refused
 
 pub returns-clause-client_verdict : goal.returns-clause-client_verdict
-returns-clause-client_verdict c = refused_verdict at_client before_answering answers_by_error_4 Rule.StrayAnswer 4 refl refl error_4_refused
+returns-clause-client_verdict c = refused_verdict at_client before_answering answers_by_error_4 (Rule.Port PortRule.BadAnswer) 4 refl refl error_4_refused
 
 pub returns-clause-server_verdict : goal.returns-clause-server_verdict
-returns-clause-server_verdict c = refused_verdict at_server after_a_stray_at_server server_answers_by_error_4 Rule.StrayAnswer 4 refl refl server_error_4_refused
+returns-clause-server_verdict c = refused_verdict at_server after_a_stray_at_server server_answers_by_error_4 (Rule.Port PortRule.BadAnswer) 4 refl refl server_error_4_refused

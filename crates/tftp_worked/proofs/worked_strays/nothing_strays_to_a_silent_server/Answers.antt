@@ -1,4 +1,5 @@
 use Rattle.std.proofs.Common.{refl}
+use Rattle.tftp_rules.specs.{PortRule}
 use Rattle.tftp_law.specs.{Rule}
 use Rattle.tftp_worked.specs.{at_server, only_is_asked, comes_to_service}
 use Rattle.tftp_worked.proofs.ByRules.{refused_verdict}
@@ -9,4 +10,4 @@ pub returns-clause-refused : goal.returns-clause-refused
 returns-clause-refused c = other_port_refused
 
 pub returns-clause-verdict : goal.returns-clause-verdict
-returns-clause-verdict c = refused_verdict at_server only_is_asked comes_to_service Rule.ForeignPort 2 refl refl other_port_refused
+returns-clause-verdict c = refused_verdict at_server only_is_asked comes_to_service (Rule.Port PortRule.Foreign) 2 refl refl other_port_refused

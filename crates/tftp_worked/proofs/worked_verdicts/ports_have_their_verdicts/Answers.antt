@@ -1,4 +1,5 @@
 use Rattle.std.proofs.Common.{refl}
+use Rattle.tftp_rules.specs.{PortRule}
 use Rattle.tftp_law.specs.{Rule}
 use Rattle.tftp_worked.specs.{at_client, acknowledges_nobody, acknowledges_stray, before_answering, comes_to_another_port}
 use Rattle.tftp_worked.proofs.ByRules.{refused_verdict}
@@ -6,10 +7,10 @@ use Rattle.tftp_worked.proofs.RefusedMore.{foreign_refused, nobody_refused, stra
 use Rattle.tftp_worked.proofs.worked_verdicts.ports_have_their_verdicts.Goals as goal
 
 pub returns-clause-foreign : goal.returns-clause-foreign
-returns-clause-foreign c = refused_verdict at_client before_answering comes_to_another_port Rule.ForeignPort 4 refl refl foreign_refused
+returns-clause-foreign c = refused_verdict at_client before_answering comes_to_another_port (Rule.Port PortRule.Foreign) 4 refl refl foreign_refused
 
 pub returns-clause-wrong : goal.returns-clause-wrong
-returns-clause-wrong c = refused_verdict at_client before_answering acknowledges_nobody Rule.WrongPort 4 refl refl nobody_refused
+returns-clause-wrong c = refused_verdict at_client before_answering acknowledges_nobody (Rule.Port PortRule.Wrong) 4 refl refl nobody_refused
 
 pub returns-clause-stray : goal.returns-clause-stray
-returns-clause-stray c = refused_verdict at_client before_answering acknowledges_stray Rule.StrayAnswer 4 refl refl stray_refused
+returns-clause-stray c = refused_verdict at_client before_answering acknowledges_stray (Rule.Port PortRule.BadAnswer) 4 refl refl stray_refused
