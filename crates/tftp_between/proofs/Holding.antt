@@ -1,5 +1,5 @@
 -- What is held until it is known who the server is, and is then given to the judge of the sides.
-use Rattle.std.proofs.Common.{◌≡◌, ℕ, ◌≤◌, true, false, List, [], ◌∷◌, ◌++◌, length, Some, None, refl, sym, ap, ◌∙◌, subst, append_assoc, append-nil, arith, map, reverse, Option, Result, Ok, Err, OnOk}
+use Rattle.std.proofs.Common.{◌≡◌, ℕ, ◌≤◌, true, false, List, [], ◌∷◌, ◌++◌, length, Some, None, refl, sym, ap, ◌∙◌, subst, append_assoc, append-nil, map, reverse, Option, Result, Ok, Err, OnOk}
 use Rattle.std.specs.List.{All}
 use Rattle.std.specs.declared.alloc.AllocError.{AllocError}
 use Rattle.std.proofs.lemmas.List.{length-map, length-reverse, map-append, reverse-append, reverse-reverse}
@@ -8,7 +8,7 @@ use Rattle.tftp_tap.specs.{TapDatagram}
 use Rattle.tftp_tap_judge.specs.{passing_of, TapDatagram as Owned}
 use Rattle.tftp_parties.specs.{host_name}
 use Rattle.tftp_lines.specs.{Place, Transfer, Placed, is_of}
-use Rattle.tftp_transfers.specs.{is_settled, client_view}
+use Rattle.tftp_transfers.specs.{is_settled}
 use Rattle.tftp_views.specs.{Party, IsFed}
 use Rattle.tftp_between.specs.{are_apart, between_capture, is_to_itself, passed_of, sides_of, sides_with, AreHeld, Between, BetweenBy, HasPassed, IsBetweenAfter, IsGoingOn, IsWaiting, View, counted_by, given_to, passed_as}
 use Rattle.tftp_between.proofs.Feeding.{captured_too, passed_fed}
@@ -95,14 +95,6 @@ goes_on_too old new v w p older of held same is goes passed = record {
 
 pub as_many : (v : View) (placed : List Placed) → IsWaiting v placed → length v.held ≡ length (between_capture v.transfer placed)
 as_many v placed waits = sym (length-map v.held passing_of) ∙ ap length waits.held ∙ length-reverse (between_capture v.transfer placed)
-
-pub held_own : (v : View) (placed : List Placed) → IsBetweenAfter v placed → length v.held ≤ length (client_view v.transfer.number placed)
-held_own v placed = by v.judge where
-  by : (o : Option Between) → BetweenBy o v placed → length v.held ≤ length (client_view v.transfer.number placed)
-  by None waits =
-      let same : length v.held ≡ length (client_view v.transfer.number placed) = as_many v placed waits ∙ length-map (client_view v.transfer.number placed) (λ (p : Placed). passed_of p.datagram) in
-      omega arith
-  by (Some b) goes = let none : length v.held ≡ 0 = ap length goes.none in omega arith
 
 -- ---- in the end
 

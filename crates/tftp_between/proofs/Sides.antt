@@ -38,14 +38,6 @@ second_is false false e = absurd (true≢false (sym e))
 same_if : (one other : PeerId) → one ≡ other → same_peer one other ≡ true
 same_if one other same = subst (λ p. same_peer one p ≡ true) same (same_itself one)
 
-pub apart_by : (s : TapSides) → are_apart s ≡ true → AreApart s
-apart_by s apart =
-    let off = neither (same_peer s.client s.server) (same_peer s.client s.asked) apart in
-    record {
-      server = λ same. true≢false (sym (same_if s.client s.server same) ∙ off.0);
-      asked = λ same. true≢false (sym (same_if s.client s.asked same) ∙ off.1);
-    }
-
 pub not_apart : (s : TapSides) → are_apart s ≡ false → AreApart s → ⊥
 not_apart s off apart = by (one_of (same_peer s.client s.server) (same_peer s.client s.asked) off) where
   by : (same_peer s.client s.server ≡ true) ⊎ (same_peer s.client s.asked ≡ true) → ⊥

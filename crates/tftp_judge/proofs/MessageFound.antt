@@ -37,16 +37,6 @@ pub finds_rejected : (P : Rule → Type 0) (A : Type 0) (rejection : Rejection) 
     → Finds P A (Err (error_of_rejection rejection)) → Finds P A r
 finds_rejected P A rejection r is found = subst (Finds P A) (sym (is.1 ∙ ap (λ (s : PassError). Err s) is.2)) found
 
-memory_by : (rejection : Rejection) → error_of_rejection rejection ≡ PassError.Memory → rejection ≡ Rejection.Memory
-memory_by (Rejection.Broken rule) is = absurd (cc)
-memory_by Rejection.Memory is = refl
-
-pub rejected_by_memory : (rejection : Rejection) (r : Result (Unit {0}) PassError) → (stop : PassError) × (r ≡ Err stop) × (stop ≡ error_of_rejection rejection) → r ≡ Err PassError.Memory → rejection ≡ Rejection.Memory
-rejected_by_memory rejection r is wants =
-    let both : Err is.0 ≡ Err PassError.Memory = sym is.1 ∙ wants in
-    let stop : is.0 ≡ PassError.Memory = cc in
-    memory_by rejection (sym is.2 ∙ stop)
-
 -- ---- a request
 
 module _ (asked : RequestParts) (passed : List Datagram) (dir : Dir) (now : RequestParts) where
@@ -218,10 +208,6 @@ right_kind h asked dir m author side b e f right tells wrong =
 
 -- ---- the first request again
 
-server_asks : (side : Side) (asked : RequestParts) → IsWrongKind Server side (Message.Request asked)
-server_asks Get asked = tt
-server_asks Put asked = tt
-
 client_asks : (side : Side) (asked : RequestParts) → IsWrongKind Client side (Message.Request asked) → ⊥
 client_asks Get asked wrong = wrong
 client_asks Put asked wrong = wrong
@@ -230,23 +216,11 @@ module _ (h : Header) (asked : RequestParts) (passed : List Datagram) (dir : Dir
   abbrev Again : Rule → Type 0
   Again = MessageBreaks h asked passed dir (Message.Request asked)
 
-  pub again_wrong : author_of h.named dir ≡ Server → IsFirstOf Again Rule.WrongKind
-  again_wrong server = (inl (refl, subst (λ (e : End). IsWrongKind e asked.side (Message.Request asked)) (sym server) (server_asks asked.side asked)), below)
-    where
-      below : (other : Rule) → number_of other < 6 → Again other → ⊥
-      below other low (inl (is, wrong)) = let same = ap number_of is in omega (arith, low, same)
-      below other low (inr (inl (is, on))) = let same = ap number_of is in omega (arith, low, same)
-      below other low (inr (inr b)) = let high = kind_from h asked passed dir (Message.Request asked) other b in omega (arith, low, high)
-
   right_by : (author : End) → (author ≡ Server → ⊥) → IsWrongKind author asked.side (Message.Request asked) → ⊥
   right_by Client other wrong = client_asks asked.side asked wrong
   right_by Server other wrong = other refl
 
   module _ (other : author_of h.named dir ≡ Server → ⊥) where
-    pub again_ended : dir ≡ Out → (code : ℕ) × (text : List ℕ) × Passed Out (Message.Error code text) passed → IsFirstOf Again Rule.AfterError
-    again_ended out (code, text, stop) = gone_on h asked passed dir (Message.Request asked) (right_by (author_of h.named dir) other)
-        (Message.Error code text, (code, text, refl), subst (λ way. Passed way (Message.Error code text) passed) (sym out) stop, (λ e. cc), inl out)
-
     -- no ERROR went this way, or it came in
     pub again_goes : (dir ≡ Out → (code : ℕ) × (text : List ℕ) × Passed Out (Message.Error code text) passed → ⊥) → GoesOn passed dir (Message.Request asked) → ⊥
     again_goes none (stop, (code, text, is), went, differs, inl out) =
@@ -276,10 +250,6 @@ module _ (side : Side) (passed : List Datagram) (dir : Dir) (first oack : Option
   later_passes early Rule.OackAfterStart b = early b
   later_passes early rule b = b
 
-client_agrees : (side : Side) (oack : OptionMap) → IsWrongKind Client side (Message.Oack oack)
-client_agrees Get oack = tt
-client_agrees Put oack = tt
-
 server_agrees : (side : Side) (oack : OptionMap) → IsWrongKind Server side (Message.Oack oack) → ⊥
 server_agrees Get oack wrong = wrong
 server_agrees Put oack wrong = wrong
@@ -287,14 +257,6 @@ server_agrees Put oack wrong = wrong
 module _ (h : Header) (asked : RequestParts) (passed : List Datagram) (dir : Dir) (oack : OptionMap) where
   abbrev OackAgain : Rule → Type 0
   OackAgain = MessageBreaks h asked passed dir (Message.Oack oack)
-
-  pub oack_again_wrong : author_of h.named dir ≡ Client → IsFirstOf OackAgain Rule.WrongKind
-  oack_again_wrong client = (inl (refl, subst (λ (e : End). IsWrongKind e asked.side (Message.Oack oack)) (sym client) (client_agrees asked.side oack)), below)
-    where
-      below : (other : Rule) → number_of other < 6 → OackAgain other → ⊥
-      below other low (inl (is, wrong)) = let same = ap number_of is in omega (arith, low, same)
-      below other low (inr (inl (is, on))) = let same = ap number_of is in omega (arith, low, same)
-      below other low (inr (inr b)) = let high = kind_from h asked passed dir (Message.Oack oack) other b in omega (arith, low, high)
 
   oack_right_by : (author : End) → (author ≡ Client → ⊥) → IsWrongKind author asked.side (Message.Oack oack) → ⊥
   oack_right_by Client other wrong = other refl

@@ -1,50 +1,17 @@
 -- For which messages memory is taken: those that are new after the ones that have passed.
-use Rattle.std.proofs.Common.{◌≡◌, inl, inr, ℕ, List, [], ◌∷◌, None, Some, sym, ◌∙◌}
-use Rattle.tftp_packet.specs.{OptionMap, Message, RequestParts, Side}
-use Rattle.tftp_hosts.specs.{Dir, Datagram, Header}
-use Rattle.tftp_ends.specs.{NamedEnd, Sends, Receives, IsEndAfter, IsNewBlock, held_of, AreBlocks, IsBeforeBlocks}
+use Rattle.std.proofs.Common.{inl, inr, List, [], ◌∷◌}
+use Rattle.tftp_packet.specs.{OptionMap, Message, Side}
+use Rattle.tftp_hosts.specs.{Dir, Datagram}
+use Rattle.tftp_ends.specs.{NamedEnd, Sends, Receives, IsEndAfter, held_of, AreBlocks}
 use Rattle.tftp_rules.specs.{HasPassed, Passed}
 use Rattle.tftp_law.specs.{Agrees, NotAnswered}
 use Rattle.std.specs.Prelude.{refl}
-use Rattle.tftp_judge.specs.{IsNewBlockOn, Unanswered, Begun, Agreed, IsExchange, IsNew}
-use Rattle.tftp_judge.specs.Kept.{Exchange}
 
 -- ---- blocks
 
 pub blocks_of : (end : NamedEnd) (passed : List Datagram) → IsEndAfter end passed → AreBlocks passed (held_of end)
 blocks_of (Sends s) passed after = after.blocks
 blocks_of (Receives r) passed after = after.blocks
-
--- a block that the end does not hold has not passed
-new_to : (end : NamedEnd) (passed : List Datagram) (dir : Dir) (m : Message) → IsEndAfter end passed → IsNewBlock (held_of end) m → IsNew passed dir m
-new_to end passed dir (Message.Data k bytes) after new = λ other p. let there : Some other ≡ None = sym ((blocks_of end passed after k other).0 p) ∙ new in cc
-new_to end passed dir (Message.Ack j) after new = new
-new_to end passed dir (Message.Request asked) after new = absurd new
-new_to end passed dir (Message.Oack options) after new = absurd new
-new_to end passed dir (Message.Error code text) after new = absurd new
-
-pub new_on : (h : Header) (asked : RequestParts) (passed : List Datagram) (exchange : Exchange) (dir : Dir) (m : Message) → IsExchange h asked passed exchange → IsNewBlockOn exchange m → IsNew passed dir m
-new_on h asked passed Unanswered dir m is new = absurd new
-new_on h asked passed (Begun end) dir m is new = new_to end passed dir m is.after new
-new_on h asked passed (Agreed options end) dir m is new = new_to end passed dir m is.after new
-
--- no block has passed before the answer
-pub new_before : (end : NamedEnd) (passed : List Datagram) (dir : Dir) (m : Message) → IsBeforeBlocks passed → IsNewBlock (held_of end) m → IsNew passed dir m
-new_before end passed dir (Message.Data k bytes) before new = λ other p. before.no_block k other p
-new_before end passed dir (Message.Ack j) before new = new
-new_before end passed dir (Message.Request asked) before new = absurd new
-new_before end passed dir (Message.Oack options) before new = absurd new
-new_before end passed dir (Message.Error code text) before new = absurd new
-
--- an ERROR is no block
-pub no_block_of_error : (exchange : Exchange) (m : Message) (code : ℕ) (text : List ℕ) → m ≡ Message.Error code text → IsNewBlockOn exchange m → ⊥
-no_block_of_error exchange (Message.Data k bytes) code text is new = cc
-no_block_of_error exchange (Message.Ack j) code text is new = cc
-no_block_of_error exchange (Message.Request asked) code text is new = cc
-no_block_of_error exchange (Message.Oack options) code text is new = cc
-no_block_of_error Unanswered (Message.Error other words) code text is new = new
-no_block_of_error (Begun end) (Message.Error other words) code text is new = new
-no_block_of_error (Agreed options end) (Message.Error other words) code text is new = new
 
 -- ---- the first OACK
 

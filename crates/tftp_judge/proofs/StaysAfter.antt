@@ -93,10 +93,6 @@ pub request_answers_nothing : (side : Side) (now : RequestParts) → AnswersNoth
 request_answers_nothing Get now answer is = absurd is
 request_answers_nothing Put now answer is = absurd is
 
-pub error_answers_nothing : (side : Side) (code : ℕ) (text : List ℕ) → AnswersNothing side (Message.Error code text)
-error_answers_nothing Get code text answer is = absurd is
-error_answers_nothing Put code text answer is = absurd is
-
 -- ---- by kind
 
 pub transfer_with_request : (t : Transfer) (h : Header) (passed : List Datagram) (d : Datagram) (now : RequestParts) → IsTransferAfter t h passed → Spells d.payload (Message.Request now)
@@ -175,15 +171,6 @@ error_is_right Client Get code text wrong = wrong
 error_is_right Client Put code text wrong = wrong
 error_is_right Server Get code text wrong = wrong
 error_is_right Server Put code text wrong = wrong
-
-pub error_waits_for_none : (h : Header) (asked : RequestParts) (passed : List Datagram) (d : Datagram) (dir : Dir) (code : ℕ) (text : List ℕ) (exchange : Exchange) → exchange ≡ Unanswered
-    → Says d dir (Message.Error code text) → IsExchange h asked passed exchange → IsExchange h asked (d ∷ passed) exchange
-error_waits_for_none h asked passed d dir code text exchange unanswered says kept =
-    let was = subst (IsExchange h asked passed) unanswered kept in
-    subst (IsExchange h asked (d ∷ passed)) (sym unanswered) (
-      still_unanswered d dir (Message.Error code text) passed says asked.side (error_answers_nothing asked.side code text) was.0,
-      still_before_blocks d dir (Message.Error code text) passed says (λ k bytes e. absurd (cc)) (λ j e. absurd (cc)) was.1,
-    )
 
 pub transfer_with_error : (old : Transfer) (h : Header) (passed : List Datagram) (d : Datagram) (dir : Dir) (code : ℕ) (text : List ℕ) (exchange : Exchange) (errors : Errors) → IsTransferAfter old h passed
     → Says d dir (Message.Error code text) → IsExchange h old.asked (d ∷ passed) exchange → AreErrors errors (d ∷ passed)

@@ -71,14 +71,6 @@ not_goes c o q d between other = by_test (goes c q d)
     (λ this. absurd (false≢true (sym other ∙ subst (λ e. same_endpoint o e ≡ true) (other_goes c o q d between other this) (same_itself o))))
     (λ off. off)
 
-turned : (c o : Endpoint) (d : Recorded) → is_between c o d ≡ true → is_between o c d ≡ true
-turned c o d between = or_turned (goes c o d) (goes o c d) between where
-  or_turned : (a b : Bool) → (a || b) ≡ true → (b || a) ≡ true
-  or_turned true true e = refl
-  or_turned true false e = refl
-  or_turned false true e = refl
-  or_turned false false e = e
-
 came_from : (c o q : Endpoint) (d : Recorded) → is_between c o d ≡ true → goes q c d ≡ true → o ≡ q
 came_from c o q d between this =
     let to = and_parts (same_endpoint d.source q) (same_endpoint d.target c) this in

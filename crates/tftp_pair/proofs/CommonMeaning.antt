@@ -21,7 +21,7 @@ use Rattle.tftp_law.proofs.Spelled.{spelled_once}
 use Rattle.tftp_pair.specs.{AreMerged, MaySendEach, IsBrought, AreMergedBy}
 use Rattle.tftp_pair.proofs.Merged.{turned, to_client_went}
 use Rattle.tftp_pair.proofs.TwoViews.{view_each}
-use Rattle.tftp_pair.proofs.Counted.{client_took, server_took}
+use Rattle.tftp_pair.proofs.Counted.{server_took}
 use Rattle.tftp_pair.proofs.Spelt.{packet_is, spelt, deeds_merged}
 use Rattle.tftp_pair.proofs.Starting.{no_zero_sent}
 
@@ -160,9 +160,6 @@ module _ (hc hs : Header) (dc ds : Division) (at_client : hc.named ≡ Client) (
 
   views_merged : AreMerged (view_in dc) (view_in ds)
   views_merged = deeds_merged mc ms wc ws (view_in dc) (view_in ds) pc ps (spelt hc mc wc dc routed_client) (spelt hs ms ws ds routed_server) merged
-
-  carried_to_client : (p : MachinePacket) → HasTaken (view_in dc) p → HasSent (view_in ds) p
-  carried_to_client = client_took (view_in dc) (view_in ds) views_merged
 
   carried_to_server : (p : MachinePacket) → HasTaken (view_in ds) p → HasSent (view_in dc) p
   carried_to_server = server_took (view_in dc) (view_in ds) views_merged

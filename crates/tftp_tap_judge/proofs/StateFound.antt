@@ -225,21 +225,6 @@ module _ (s : TapSides) (earlier : List TapDatagram) (d : TapDatagram) where
   aside : is_passing (tap_route s earlier d) ≡ false → (t : Option TapTransfer) → IsKeptAtTap s (transfer_between s earlier) t → IsKeptAtTap s (transfer_between s (d ∷ earlier)) t
   aside off t kept = subst (λ (l : List TapDatagram). IsKeptAtTap s l t) (sym (transfer_off s earlier d off)) kept
 
-  pub stray_found : tap_route s earlier d ≡ route.Stray → (t : Option TapTransfer) → IsKeptAtTap s (transfer_between s earlier) t → TapPasses s earlier d × IsKeptAtTap s (transfer_between s (d ∷ earlier)) t
-  stray_found at t kept = (
-    record {
-      read = subst (λ (r : TapRoute). IsTapRead r d) (sym at) tt;
-      lawful = λ r b. breaks r (subst (λ (x : TapRoute). SidesBreak x d r) at (of_route (ap is_passing at) r b));
-    },
-    aside (ap is_passing at) t kept,
-  )
-    where
-      breaks : (r : Rule) → SidesBreak route.Stray d r → ⊥
-      breaks rule.ForeignPort b = cc
-      breaks rule.WrongPort b = cc
-      breaks rule.StrayAnswer b = elim b [ inl bad ↦ absurd (cc) | inr other ↦ let bad = other.0 in absurd (cc) ]
-      breaks r b = absurd b
-
   pub answer_found : tap_route s earlier d ≡ route.StrayAnswer → (text : List ℕ) → Spells d.payload (Message.Error 5 text) → (t : Option TapTransfer) → IsKeptAtTap s (transfer_between s earlier) t
       → TapPasses s earlier d × IsKeptAtTap s (transfer_between s (d ∷ earlier)) t
   answer_found at text says t kept = (
@@ -255,44 +240,6 @@ module _ (s : TapSides) (earlier : List TapDatagram) (d : TapDatagram) where
       breaks rule.WrongPort b = cc
       breaks rule.StrayAnswer b = elim b [ inl bad ↦ absurd (cc) | inr other ↦ other.1 text says ]
       breaks r b = absurd b
-
-  pub foreign_found : tap_route s earlier d ≡ route.ForeignPort → FirstTapBroken s earlier d rule.ForeignPort
-  foreign_found at = record { breaks = inl at; first = λ r low b. breaks r low (subst (λ (x : TapRoute). SidesBreak x d r) at (of_route (ap is_passing at) r b)) } where
-    breaks : (r : Rule) → number_of r < 1 → SidesBreak route.ForeignPort d r → ⊥
-    breaks rule.ForeignPort low b = omega arith
-    breaks rule.WrongPort low b = omega arith
-    breaks rule.StrayAnswer low b = omega arith
-    breaks r low b = absurd b
-
-  pub wrong_found : tap_route s earlier d ≡ route.WrongPort → FirstTapBroken s earlier d rule.WrongPort
-  wrong_found at = record { breaks = inl at; first = λ r low b. breaks r low (subst (λ (x : TapRoute). SidesBreak x d r) at (of_route (ap is_passing at) r b)) } where
-    breaks : (r : Rule) → number_of r < 2 → SidesBreak route.WrongPort d r → ⊥
-    breaks rule.ForeignPort low b = cc
-    breaks rule.WrongPort low b = omega arith
-    breaks rule.StrayAnswer low b = omega arith
-    breaks r low b = absurd b
-
-  pub no_answer_found : tap_route s earlier d ≡ route.NoStrayAnswer → FirstTapBroken s earlier d rule.StrayAnswer
-  no_answer_found at = record { breaks = inl (inl at); first = λ r low b. breaks r low (subst (λ (x : TapRoute). SidesBreak x d r) at (of_route (ap is_passing at) r b)) } where
-    breaks : (r : Rule) → number_of r < 3 → SidesBreak route.NoStrayAnswer d r → ⊥
-    breaks rule.ForeignPort low b = cc
-    breaks rule.WrongPort low b = cc
-    breaks rule.StrayAnswer low b = omega arith
-    breaks r low b = absurd b
-
-  pub bad_answer_found : tap_route s earlier d ≡ route.StrayAnswer → ((text : List ℕ) → Spells d.payload (Message.Error 5 text) → ⊥) → FirstTapBroken s earlier d rule.StrayAnswer
-  bad_answer_found at says = record { breaks = inl (inr (at, says)); first = λ r low b. breaks r low (subst (λ (x : TapRoute). SidesBreak x d r) at (of_route (ap is_passing at) r b)) } where
-    breaks : (r : Rule) → number_of r < 3 → SidesBreak route.StrayAnswer d r → ⊥
-    breaks rule.ForeignPort low b = cc
-    breaks rule.WrongPort low b = cc
-    breaks rule.StrayAnswer low b = omega arith
-    breaks r low b = absurd b
-
-  -- and the way that it went
-  pub found_with : (One Other : Type 0) (result : Result (Unit {0}) TapPassError) → (One → Other) → FindsAtTap s earlier d One result → FindsAtTap s earlier d Other result
-  found_with One Other (Ok u) turn f = (f.0, turn f.1)
-  found_with One Other (Err (Breaks r)) turn f = f
-  found_with One Other (Err Memory) turn f = f
 
 -- ---- which end it comes from
 

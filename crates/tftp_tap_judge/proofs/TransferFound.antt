@@ -1,5 +1,5 @@
 -- What is found of a datagram of a transfer between the ends, and what is kept of it.
-use Rattle.std.proofs.Common.{◌≡◌, ◌⊎◌, ℕ, true, false, List, [], ◌∷◌, Option, Some, None, Result, Ok, Err, inl, inr, refl, sym, subst, ap, ◌∙◌, arith, ◌↔◌, ◌&&◌, not, nat_lt, is_some, IfOk}
+use Rattle.std.proofs.Common.{◌≡◌, ◌⊎◌, ℕ, true, false, List, [], ◌∷◌, Option, Some, None, Result, Ok, Err, inl, inr, refl, sym, subst, ap, ◌∙◌, arith, ◌↔◌, ◌&&◌, not, nat_lt, IfOk}
 use Rattle.std.proofs.lemmas.Bool.{true≢false, ltb-true, ltb-false}
 use Rattle.tftp_packet.specs.{Message, RequestParts, Spells, FirstFault, meaning, Packet, PacketFault, End}
 use Rattle.tftp_judge.specs.{NoneBreaks}
@@ -14,7 +14,7 @@ use Rattle.tftp_tap.specs.{TapDatagram, TapSides, side_of, AreApart, tap_tests, 
 use Rattle.tftp_tap.proofs.KeptOf.{is_or_not}
 use Rattle.tftp_tap.proofs.TapMade.{ports_off}
 use Rattle.tftp_tap.proofs.TapTests.{asks_says}
-use Rattle.tftp_tap_judge.specs.{FindsRule, IsOtherError, IsReadOf, OwnBreaks, IsErrorOf, IsFirstError, NoErrorAtTap, FindsTo, IsReadUnless, ReceiverBreaks, TransferBreaks, smaller_of, TapPassError, Breaks}
+use Rattle.tftp_tap_judge.specs.{FindsRule, IsOtherError, IsReadOf, OwnBreaks, IsErrorOf, NoErrorAtTap, FindsTo, IsReadUnless, ReceiverBreaks, TransferBreaks, smaller_of, TapPassError, Breaks}
 use Rattle.tftp_tap_judge.specs.declared.tap_pass_error.TapPassError.TheVariants.{Memory}
 use Rattle.tftp_tap_judge.proofs.OwnFound.{asked_same, other_error}
 
@@ -131,10 +131,6 @@ no_error_in s d m says other end code e = other code e.1 (spelled_once d.payload
 
 pub none_after : (s : TapSides) (passed : List TapDatagram) (d : TapDatagram) (m : Message) → Spells d.payload m → ((code : ℕ) (text : List ℕ) → m ≡ Message.Error code text → ⊥) → NoErrorAtTap s passed → NoErrorAtTap s (d ∷ passed)
 none_after s passed d m says other none = (no_error_in s d m says other, none)
-
-pub first_after : (s : TapSides) (passed : List TapDatagram) (d : TapDatagram) (first : Option (End × ℕ)) → is_some first ≡ true → IsFirstError s passed first → IsFirstError s (d ∷ passed) first
-first_after s passed d None some is = absurd (true≢false (sym some))
-first_after s passed d (Some first) some is = inl is
 
 pub request_no_error : (s : TapSides) (d : TapDatagram) (asked : RequestParts) → Spells d.payload (Message.Request asked) → NoErrorAtTap s (d ∷ [])
 request_no_error s d asked says = none_after s [] d (Message.Request asked) says (λ code text is. cc) tt

@@ -1,5 +1,5 @@
 -- How the words begin.
-use Rattle.std.proofs.Common.{◌≡◌, ◌≢◌, inl, inr, ℕ, [], ◌∷◌, ◌++◌, length, true, false, Option, Some, codes, ◌==◌, refl, sym, ap, ◌∙◌, append-nil, get_or, subst, arith}
+use Rattle.std.proofs.Common.{◌≡◌, ◌≢◌, inl, inr, ℕ, [], ◌∷◌, ◌++◌, length, true, false, Option, Some, codes, ◌==◌, sym, ap, ◌∙◌, append-nil, get_or, subst, arith}
 use Rattle.tftp_words.specs.{Point, Word, Part, Service, Json, At, Plain, IsOption, IsPlain, IsPort, Gives, Begins, point_word}
 use Rattle.std.proofs.lemmas.List.{append_cancel_left}
 
@@ -67,13 +67,6 @@ no_port word next text k plain json option none (Service port) count begins =
 no_port word next text k plain json option none Json count begins = not_json word next count json begins
 no_port word next text k plain json option none (At point) count begins = two_names word next text (point_word point) k count option (point_given word next point count begins)
 no_port word next text k plain json option none (Plain w) count begins = not_plain word w next count plain begins
-
-pub no_point : (word : Word) (next : Option Word) (text : Word) (k : ℕ) → (IsPlain word → ⊥) → word ≢ codes "--json" → Gives (codes "--end") word next text k → ((point : Point) → text ≢ point_word point)
-    → (p : Part) (count : ℕ) → Begins word next p count → ⊥
-no_point word next text k plain json option none (Service port) count begins = let given = service_given word next port count begins in two_names word next given.0 text count k given.2 option
-no_point word next text k plain json option none Json count begins = not_json word next count json begins
-no_point word next text k plain json option none (At point) count begins = none point (one_value (codes "--end") word next text (point_word point) k count option (point_given word next point count begins))
-no_point word next text k plain json option none (Plain w) count begins = not_plain word w next count plain begins
 
 pub no_part : (word : Word) (next : Option Word) → (IsPlain word → ⊥) → word ≢ codes "--json" → ((v : Word) (k : ℕ) → Gives (codes "--service") word next v k → ⊥) → ((v : Word) (k : ℕ) → Gives (codes "--end") word next v k → ⊥)
     → (p : Part) (count : ℕ) → Begins word next p count → ⊥
