@@ -13,12 +13,9 @@ use Rattle.tftp_views.specs.{Party, IsFed}
 use Rattle.tftp_between.specs.{are_apart, between_capture, is_to_itself, passed_of, sides_of, sides_with, AreHeld, Between, BetweenBy, HasPassed, IsBetweenAfter, IsGoingOn, IsWaiting, View, counted_by, given_to, passed_as}
 use Rattle.tftp_between.proofs.Feeding.{captured_too, passed_fed}
 use Rattle.tftp_views.proofs.Settling.{settled_stays}
+use Rattle.tftp_views.proofs.Holding.{on_ok}
 use Rattle.tftp_between.proofs.Settling.{ends_too, same_own, server_too, settled_too, sides_stay}
 use Rattle.tftp_between.proofs.Sides.{to_itself}
-
-pub on_ok : {A B : Type 0} (r : Result (Unit {0}) AllocError) → (A → B) → OnOk r A → OnOk r B
-on_ok (Ok u) f a = f a
-on_ok (Err e) f a = tt
 
 -- ---- the oldest of those that are held are given first
 

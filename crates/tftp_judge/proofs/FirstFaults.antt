@@ -10,6 +10,7 @@ use Rattle.tftp_law.specs.{IsLawful}
 use Rattle.tftp_law.proofs.Whole.Beginnings.{beginning_is_lawful, empty_is_lawful}
 use Rattle.tftp_judge.specs.{EndsText, IsFaultOf, IsLineOf, IsReadVerdict, NoFaultBefore, IsTextVerdict, SaysReadFailed, unnumbered, Capture}
 use Rattle.tftp_judge.proofs.WantOfMemory.{before_want, line_of, no_fault_before}
+use Rattle.tftp_judge.proofs.OneTextVerdict.{front_lawful}
 
 -- ---- what is said stays, whatever follows
 
@@ -50,11 +51,6 @@ fault_kinds (Text line TextTooLong) = inl (λ e. cc)
 
 abbrev pub LawfulIn : List ℕ → List Numbered → Type 0
 LawfulIn text ds = (h : Header) (es : List Numbered) → Begins text h es → BeginsWith ds es → IsLawful h (unnumbered es)
-
--- the datagrams that come first of lawful ones are lawful
-front_lawful : (h : Header) (ds es : List Numbered) → IsLawful h (unnumbered ds) → BeginsWith ds es → IsLawful h (unnumbered es)
-front_lawful h ds es lawful (rest, is) =
-    beginning_is_lawful h (unnumbered es) (unnumbered rest) (subst (IsLawful h) (ap unnumbered is ∙ map-append (λ (n : Numbered). n.1) es rest) lawful)
 
 -- the datagrams before the fault are known, and lawful
 pub lawful_in : (text : List ℕ) (h : Header) (ds : List Numbered) → Begins text h ds → IsLawful h (unnumbered ds) → LawfulIn text ds

@@ -114,7 +114,7 @@ ended text h ds (Memory count) spare capture is = absurd (spare count refl)
 
 -- ---- the reader's answers
 
-clean_says : (failed : Bool) (P : Type 0) → failed ≡ false → failed ≡ true → P
+pub clean_says : (failed : Bool) (P : Type 0) → failed ≡ false → failed ≡ true → P
 clean_says failed P clean is = absurd (true≢false (sym is ∙ clean))
 
 clean_or : (fault : CaptureFault) (failed : Bool) → IsReadFault fault ⊎ (failed ≡ false) → (IsReadFault fault → ⊥) → failed ≡ false

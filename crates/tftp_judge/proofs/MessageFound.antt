@@ -9,8 +9,10 @@ use Rattle.tftp_nego.specs.{MayAgree, FirstFault, number, NegoFault}
 use Rattle.tftp_nego.proofs.Tested.{no_fault}
 use Rattle.tftp_law.specs.{number_of, Agrees, Begins, NotAnswered, FirstAnswer, IsWrongKind, GoesOn, ClientWentOn, AreTermsAfter, BlockSent, RequestBreaks, FirstOackBreaks, LaterOackBreaks, OackBreaks, TermsBreak, KindBreaks, MessageBreaks, Rule}
 use Rattle.tftp_law.proofs.FirstBroken.OneMessage.{kind_from}
+use Rattle.tftp_law.proofs.FirstBroken.FirstAnswered.{first_one, not_both}
+use Rattle.tftp_law.proofs.Accord.WhoSends.{request_kind, oack_kind}
 use Rattle.tftp_judge.specs.{Finds, NoneBreaks, IsFirstOf, error_of_fault, error_of_rejection, PassError}
-use Rattle.tftp_judge.proofs.FirstAnswers.{not_both, first_once, terms_once, block_answers}
+use Rattle.tftp_judge.proofs.FirstAnswers.{terms_once, block_answers}
 
 -- rules that are broken in the same cases, and more that follows
 pub finds_by : (P Q : Rule → Type 0) (A B : Type 0) → ((rule : Rule) → P rule → Q rule) → ((rule : Rule) → Q rule → P rule) → (A → B) → (r : Result (Unit {0}) PassError) → Finds P A r → Finds Q B r
@@ -130,10 +132,10 @@ module _ (asked : RequestParts) (passed : List Datagram) (dir : Dir) (oack : Opt
     later_there rule b = absurd b
 
     agreed_once : (was : OptionMap) → FirstAnswer asked.side passed (Agrees was) → was ≡ first
-    agreed_once was is = let same : Agrees was ≡ Agrees first = first_once asked.side passed (Agrees was) (Agrees first) is answered in cc
+    agreed_once was is = let same : Agrees was ≡ Agrees first = first_one asked.side passed (Agrees was) (Agrees first) is answered in cc
 
     later_back : (rule : Rule) → OackBreaks asked passed dir oack rule → LaterOackBreaks asked.side passed dir first oack rule
-    later_back Rule.ReplyChanged b = let same : Begins ≡ Agrees first = first_once asked.side passed Begins (Agrees first) b answered in absurd (cc)
+    later_back Rule.ReplyChanged b = let same : Begins ≡ Agrees first = first_one asked.side passed Begins (Agrees first) b answered in absurd (cc)
     later_back Rule.OackChanged (was, is, apart) = λ same. apart (same ∙ sym (agreed_once was is))
     later_back Rule.OackAfterStart b = b
     later_back rule b = absurd (not_both asked.side passed (Agrees first) b.0 answered)
@@ -208,16 +210,12 @@ right_kind h asked dir m author side b e f right tells wrong =
 
 -- ---- the first request again
 
-client_asks : (side : Side) (asked : RequestParts) → IsWrongKind Client side (Message.Request asked) → ⊥
-client_asks Get asked wrong = wrong
-client_asks Put asked wrong = wrong
-
 module _ (h : Header) (asked : RequestParts) (passed : List Datagram) (dir : Dir) where
   abbrev Again : Rule → Type 0
   Again = MessageBreaks h asked passed dir (Message.Request asked)
 
   right_by : (author : End) → (author ≡ Server → ⊥) → IsWrongKind author asked.side (Message.Request asked) → ⊥
-  right_by Client other wrong = client_asks asked.side asked wrong
+  right_by Client other wrong = request_kind asked.side asked wrong
   right_by Server other wrong = other refl
 
   module _ (other : author_of h.named dir ≡ Server → ⊥) where
@@ -250,17 +248,13 @@ module _ (side : Side) (passed : List Datagram) (dir : Dir) (first oack : Option
   later_passes early Rule.OackAfterStart b = early b
   later_passes early rule b = b
 
-server_agrees : (side : Side) (oack : OptionMap) → IsWrongKind Server side (Message.Oack oack) → ⊥
-server_agrees Get oack wrong = wrong
-server_agrees Put oack wrong = wrong
-
 module _ (h : Header) (asked : RequestParts) (passed : List Datagram) (dir : Dir) (oack : OptionMap) where
   abbrev OackAgain : Rule → Type 0
   OackAgain = MessageBreaks h asked passed dir (Message.Oack oack)
 
   oack_right_by : (author : End) → (author ≡ Client → ⊥) → IsWrongKind author asked.side (Message.Oack oack) → ⊥
   oack_right_by Client other wrong = other refl
-  oack_right_by Server other wrong = server_agrees asked.side oack wrong
+  oack_right_by Server other wrong = oack_kind asked.side oack wrong
 
   module _ (other : author_of h.named dir ≡ Client → ⊥) where
     pub oack_again_ended : dir ≡ Out → (code : ℕ) × (text : List ℕ) × Passed Out (Message.Error code text) passed → IsFirstOf OackAgain Rule.AfterError

@@ -5,6 +5,7 @@ use Rattle.tftp_hosts.specs.{Dir, Datagram}
 use Rattle.tftp_ends.specs.{NamedEnd, Sends, Receives, IsEndAfter, held_of, AreBlocks}
 use Rattle.tftp_rules.specs.{HasPassed, Passed}
 use Rattle.tftp_law.specs.{Agrees, NotAnswered}
+use Rattle.tftp_law.proofs.Accord.FirstReply.{no_oack}
 use Rattle.std.specs.Prelude.{refl}
 
 -- ---- blocks
@@ -15,11 +16,6 @@ blocks_of (Receives r) passed after = after.blocks
 
 -- ---- the first OACK
 
-no_oack_there : (side : Side) (way : Dir) (other : OptionMap) (passed : List Datagram) → NotAnswered side passed → Passed way (Message.Oack other) passed → ⊥
-no_oack_there side way other [] none p = p
-no_oack_there side way other (d ∷ passed) none (inl now) = none.0 (Agrees other) (Message.Oack other, now.1, refl)
-no_oack_there side way other (d ∷ passed) none (inr before) = no_oack_there side way other passed none.1 before
-
 pub no_oack : (side : Side) (passed : List Datagram) → NotAnswered side passed → (other : OptionMap) → HasPassed (Message.Oack other) passed → ⊥
-no_oack side passed none other (inl came) = no_oack_there side _ other passed none came
-no_oack side passed none other (inr went) = no_oack_there side _ other passed none went
+no_oack side passed none other (inl came) = no_oack side _ other passed none came
+no_oack side passed none other (inr went) = no_oack side _ other passed none went

@@ -36,7 +36,7 @@ module _ (passed : List Datagram) (before : IsBeforeBlocks passed) where
 
 -- ---- the message that answers
 
-lowest : (e : EndRule) → 18 ≤ end_number e
+pub lowest : (e : EndRule) → 18 ≤ end_number e
 lowest EndRule.NotStarted = omega arith
 lowest _ = omega arith
 

@@ -3,6 +3,7 @@ use Rattle.std.proofs.Common.{◌≡◌, ◌≤◌, ◌⊎◌, ℕ, inl, inr, Bo
 use Rattle.std.specs.Io.KnownBytes.{Consumes, IsAtEnd, prepend_known}
 use Rattle.tftp_capture.specs.{Numbered, most_ahead, FailsToBegin, FaultTells, IsAtTextEnd, IsReadFault, MemoryTells, CaptureFault}
 use Rattle.tftp_capture.specs.declared.fault.CaptureFault.TheVariants.{Text, Read, Memory}
+use Rattle.tftp_capture.proofs.Headers.{at_end_rest}
 use Rattle.tftp_model.specs.{Meaning}
 use Rattle.tftp_judge.specs.{EndsText, IsOfText, IsReadVerdict, IsTextVerdict, SaysReadFailed, WantsMemory, Verdict, Capture, Refused}
 use Rattle.tftp_judge.specs.declared.refusal.Refusal.TheVariants as refusal
@@ -21,14 +22,10 @@ no_front : (ahead rest : List ℕ) → ahead ++ rest ≡ [] → (ahead ≡ []) �
 no_front [] rest e = (refl, e)
 no_front (b ∷ bs) rest e = absurd (omega (arith, ap length e))
 
-end_inside : (after : Option (List ℕ)) (ahead : List ℕ) → IsAtEnd (prepend_known ahead after) → IsAtEnd after
-end_inside None ahead e = tt
-end_inside (Some rest) ahead e = (no_front ahead rest e).1
-
 -- what is read ahead is consumed too
 pub closed : (before after : Option (List ℕ)) (taken ahead : List ℕ) (AtEnd Drained : Type 0) → Consumes before (prepend_known ahead after) taken → (AtEnd → IsAtEnd (prepend_known ahead after)) → (Drained → ahead ≡ [])
     → Closed before after taken ahead AtEnd Drained
-closed None after taken ahead AtEnd Drained consumed end drained = record { ahead = []; consumed = tt; ended = λ h. (refl, end_inside after ahead (end h)); drained = λ h. refl; all_held = inl refl }
+closed None after taken ahead AtEnd Drained consumed end drained = record { ahead = []; consumed = tt; ended = λ h. (refl, at_end_rest after ahead (end h)); drained = λ h. refl; all_held = inl refl }
 closed (Some x) None taken ahead AtEnd Drained consumed end drained = absurd consumed
 closed (Some x) (Some y) taken ahead AtEnd Drained consumed end drained = record {
   ahead = ahead;

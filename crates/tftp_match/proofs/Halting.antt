@@ -14,7 +14,7 @@ use Rattle.tftp_law.specs.{OneEnded}
 use Rattle.tftp_judge.specs.{Refuses, IsJudgeAfter, Judge, IsOfText, IsReadVerdict, IsTextVerdict, SaysReadFailed, unnumbered, IsVerdict, Refusal, Unlawful, Aborted, Incomplete, NormalTooLong, Verdict, Capture, Refused as RefusedFor}
 use Rattle.tftp_judge.specs.declared.refusal.Refusal.TheVariants.{Memory}
 use Rattle.tftp_judge.proofs.FirstFaults.{begins_longer, fault_kinds}
-use Rattle.tftp_judge.proofs.Follows.{Follows, found_fault, found_refused}
+use Rattle.tftp_judge.proofs.Follows.{Follows, found_fault, found_refused, clean_says}
 use Rattle.tftp_judge.proofs.TextFound.{Closed, Found, closed, found_ended, found_exact, found_judged, found_tally, found_whole}
 use Rattle.tftp_capture.specs.CaptureText.Due.{Body}
 use Rattle.tftp_pair.specs.{IsLawfulTo}
@@ -33,9 +33,6 @@ judged_of before after failed r found = record {
   whole = found_whole before after failed r found;
   exact = found_exact before after failed r found;
 }
-
-clean_says : (failed : Bool) (P : Type 0) → failed ≡ false → failed ≡ true → P
-clean_says failed P clean is = absurd (true≢false (sym is ∙ clean))
 
 -- of the whole text that is over
 ended : (text : List ℕ) (h : Header) (ds : List Numbered) (refusal : Refusal) → ((count : ℕ) → refusal ≡ Memory count → ⊥) → IsCapture text h ds → IsVerdict h (unnumbered ds) (Err refusal)

@@ -4,11 +4,8 @@ use Rattle.std.specs.Result.{IsOkAnd}
 use Rattle.tftp_frames.specs.{SpellsFrame, Packet, shown, HoldsUdp, SpellsUdp, Udp, FrameFault, UdpFault, IpPacket}
 use Rattle.tftp_fragments.specs.{Arrival, SetState, IsTried, MayBePut, PutEnds, Sets, room_of_all, Outcome, Full}
 use Rattle.tftp_fragments.specs.Whole.{Part}
+use Rattle.tftp_fragments.proofs.Rooms.{on_err}
 use Rattle.tftp_recording.specs.{MakesRoom}
-
-pub on_err : {A E : Type 0} (r : Result A E) (X : Type 0) → X → OnErr r X
-on_err (Ok a) X x = tt
-on_err (Err e) X x = x
 
 pub spells_here : (link other : ℕ) (bytes others : List ℕ) (p : Packet) → other ≡ link → others ≡ bytes → SpellsFrame link bytes p → SpellsFrame other others p
 spells_here link other bytes others p e f h = subst (λ (l : ℕ). SpellsFrame l others p) (sym e) (subst (λ (l : List ℕ). SpellsFrame link l p) (sym f) h)

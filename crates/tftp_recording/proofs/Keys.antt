@@ -5,12 +5,9 @@ use Rattle.std.specs.Ordering.{is_eq}
 use Rattle.std.specs.declared.cmp.Ordering.{Ordering}
 use Rattle.std.specs.declared.cmp.Ordering.TheVariants.{Equal}
 use Rattle.std.proofs.lemmas.Cmp.{tied_itself}
+use Rattle.std.proofs.lemmas.Bool.{cases_Bool}
 use Rattle.tftp_fragments.specs.{key_cmp, same_key, key_total, Sets, set_at}
 use Rattle.tftp_fragments.specs.declared.key.Key.{Key}
-
-pub truth : (b : Bool) → (b ≡ true) ⊎ (b ≡ false)
-truth true = inl refl
-truth false = inr refl
 
 equal_if : (o : Ordering) → is_eq o ≡ true → o ≡ Equal
 equal_if Equal e = refl

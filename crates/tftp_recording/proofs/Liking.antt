@@ -1,16 +1,14 @@
 -- Which packets are copies, by what is told of them.
 use Rattle.std.proofs.Common.{◌≡◌, ◌↔◌, ℕ, Bool, true, false, inr, List, ◌∷◌, Option, Some, IsTrue, refl, sym, subst, ap}
+use Rattle.std.proofs.lemmas.Bool.{false≢true}
 use Rattle.tftp_copies.specs.{Packet as Recorded, IsCopy, RecentState, StandsFor}
 use Rattle.tftp_frames.specs.{Packet, is_identified, SpellsFrame, Fragment}
 use Rattle.tftp_fragments.specs.{Sets}
 use Rattle.tftp_pcap.specs.{FrameParts}
 use Rattle.tftp_recording.specs.{DoesNothing, IsNoPart, Wants, WantsPart, key_of, key_protocol, Comes, IsLike, likeness_by, recorded, Likeness}
 
-impossible : false ≡ true → ⊥
-impossible e = cc
-
 like_by : (came : List Recorded) (time : Option ℕ) (p : Packet) (one identified : Bool) → IsTrue one ↔ IsCopy came (recorded time p) → identified ≡ is_identified p → IsLike came time p (likeness_by one identified)
-like_by came time p false identified told e = λ copy. impossible (told.1 copy)
+like_by came time p false identified told e = λ copy. false≢true (told.1 copy)
 like_by came time p true false told e = (told.0 refl, sym e)
 like_by came time p true true told e = (told.0 refl, sym e)
 

@@ -1,5 +1,6 @@
 -- What becomes of a frame is one thing.
 use Rattle.std.proofs.Common.{◌≡◌, ℕ, true, false, inl, inr, List, ◌∷◌, Option, Some, None, refl, sym, ap, ◌∙◌, subst}
+use Rattle.std.proofs.lemmas.Bool.{false≢true}
 use Rattle.tftp_copies.specs.{Packet as Recorded}
 use Rattle.tftp_fragments.specs.{content_of as put_together, Outcome, Waits as Held, Apart as Torn, Empty as Bare, TooLong as Long, Full as Crowded}
 use Rattle.tftp_fragments.specs.Whole.{Content}
@@ -17,18 +18,15 @@ use Rattle.tftp_recording.specs.declared.fate.LeftOut.TheVariants.{Copy}
 use Rattle.tftp_recording.specs.declared.likeness.Likeness.TheVariants as likeness
 use Rattle.tftp_recording.proofs.KeptOnce.{IsSame}
 
-impossible : false ≡ true → ⊥
-impossible e = cc
-
 -- ---- likeness
 
 like_one : (before : List Recorded) (time : Option ℕ) (p : Packet) (l m : Likeness) → IsLike before time p l → IsLike before time p m → l ≡ m
 like_one before time p likeness.New likeness.Doubtful a b = absurd (a b.0)
 like_one before time p likeness.New likeness.Copy a b = absurd (a b.0)
 like_one before time p likeness.Doubtful likeness.New a b = absurd (b a.0)
-like_one before time p likeness.Doubtful likeness.Copy a b = absurd (impossible (sym a.1 ∙ b.1))
+like_one before time p likeness.Doubtful likeness.Copy a b = absurd (false≢true (sym a.1 ∙ b.1))
 like_one before time p likeness.Copy likeness.New a b = absurd (b a.0)
-like_one before time p likeness.Copy likeness.Doubtful a b = absurd (impossible (sym b.1 ∙ a.1))
+like_one before time p likeness.Copy likeness.Doubtful a b = absurd (false≢true (sym b.1 ∙ a.1))
 like_one before time p _ _ a b = refl
 
 pub comes_one : (before : List Recorded) (frame : FrameParts) (l m : Likeness) (came now : List Recorded) → Comes before frame l came → Comes before frame m now → (l ≡ m) × (came ≡ now)

@@ -3,11 +3,11 @@ use Rattle.std.proofs.Common.{rules, arith, ◌≡◌, ◌≤◌, ◌<◌, ℕ, 
 use Rattle.std.specs.BTreeMap.{get, is_at, BTreeMap, IsLowerBound, IsUnchanged}
 use Rattle.std.specs.Map.{lookup}
 use Rattle.std.specs.Ordering.{is_eq, is_gt, nat_cmp}
-use Rattle.std.proofs.lemmas.Bool.{eqb-true, or_parts}
+use Rattle.std.proofs.lemmas.Bool.{eqb-true, or_parts, or_right}
 use Rattle.tftp_lines.specs.{Place, Opens, Transfer, Recorded, Placed, newest_of, transfer_of, may_be_answer_of}
 use Rattle.tftp_transfers.specs.{place_of, placed, is_about, opened_it, is_it}
 use Rattle.tftp_lines.proofs.Lines.{by_test}
-use Rattle.tftp_transfers.proofs.Numbers.{none_answers_before, none_before, opening_number}
+use Rattle.tftp_transfers.proofs.Numbers.{none_answers_before, none_before, opening_number, length_placed}
 use Rattle.tftp_views.specs.{Naming}
 use Rattle.tftp_recording_judge.specs.{Judging, AreCrowded, AreHanded, AreKept, IsCrowded, IsKept, IsUnheard, IsWatching, Watched, is_among, opened}
 use Rattle.tftp_recording_judge.proofs.Watching.{watching_on, watching_unheard}
@@ -169,14 +169,10 @@ crowded_more old new w m none updates crowded = by_test (m == crowded.number)
 
 -- ---- before an opening
 
-placed_length : (named : List ℕ) (recorded : List Recorded) → length (placed named recorded) ≡ length recorded
-placed_length named [] = refl
-placed_length named (d ∷ recorded) = ap suc (placed_length named recorded)
-
 pub unheard_before : (named : List ℕ) (recorded : List Recorded) (now : ℕ) (d : Recorded) (x : Transfer) → place_of named (placed named recorded) now d ≡ Opens x → IsUnheard x.number (placed named recorded)
 unheard_before named recorded now d x opens =
     let number : x.number ≡ length (placed named recorded) = opening_number named (placed named recorded) now d x opens in
-    let same : length (placed named recorded) ≡ length recorded = placed_length named recorded in
+    let same : length (placed named recorded) ≡ length recorded = length_placed named recorded in
     let up : length recorded ≤ x.number = omega arith in
     (none_before named recorded x.number up, none_answers_before named recorded x.number up)
 
@@ -189,13 +185,9 @@ kept_here watched judging name out all k w was kept =
     let number : w.transfer.number ≡ k = opened_number k all w.transfer held.0 in
     (number, (ap (λ n. opened n all) number ∙ held.0, held.1))
 
-or_yes : (one other : Bool) → other ≡ true → (one || other) ≡ true
-or_yes true other is = refl
-or_yes false other is = is
-
 kept_out : (judging : Judging) (name : Naming) (out : List ℕ) (m : ℕ) (all : List Placed) (n : ℕ) (o : Option Watched) → IsKept judging name out all all n o → IsKept judging name (m ∷ out) all all n o
 kept_out judging name out m all n None (inl none) = inl none
-kept_out judging name out m all n None (inr gone) = inr (or_yes (m == n) (is_among n out) gone)
+kept_out judging name out m all n None (inr gone) = inr (or_right (m == n) (is_among n out) gone)
 kept_out judging name out m all n (Some w) kept = kept
 
 pub kept_less : (old new : BTreeMap ℕ Watched) (judging : Judging) (name : Naming) (out : List ℕ) (all : List Placed) (k : ℕ) (w : Watched) → get nat_cmp old k ≡ Some w

@@ -8,15 +8,12 @@ use Rattle.tftp_views.specs.{Naming, Client, View}
 use Rattle.tftp_between.specs.{View as Between}
 use Rattle.tftp_between.proofs.Holding.{passes_by as between_passes_by}
 use Rattle.tftp_transfers.proofs.OwnDatagrams.{about_none}
+use Rattle.tftp_transfers.proofs.AllLines.{on_ok_map}
 use Rattle.tftp_views.proofs.Holding.{passes_by}
 use Rattle.tftp_views.proofs.Passing.{client_passes_by, doubts_pass_by}
 use Rattle.tftp_recording_judge.specs.{Judging, AreJudgesAfter, BetweenStands, ClientStands, IsUnheard, IsWatching, Judges, ServerStands, Watched}
 
 -- ---- at each point
-
-pub on_ok_map : {X E P Q : Type 0} (r : Result X E) → (P → Q) → OnOk r P → OnOk r Q
-on_ok_map (Ok x) f is = f is
-on_ok_map (Err e) f is = tt
 
 pub on_ok_when : {X E A B : Type 0} (C : Type 0) (r : Result X E) → B → (A → OnOk r C) → OnOk r (B × (A → C))
 on_ok_when C (Ok x) here then = (here, then)

@@ -1,7 +1,7 @@
 -- What is kept of what passed may pass, and the other way round.
 use Rattle.std.proofs.Common.{◌≡◌, ℕ, Bool, true, false, List, [], ◌∷◌, Contains, inl, inr, refl, sym, subst, ap, ◌∙◌, ◌&&◌}
 use Rattle.std.specs.List.{list_any}
-use Rattle.std.proofs.lemmas.Bool.{true≢false}
+use Rattle.std.proofs.lemmas.Bool.{true≢false, or_parts, cases_Bool, and_parts}
 use Rattle.tftp_packet.specs.{Side, Get, Put, End, Client, Server}
 use Rattle.tftp_model.specs.{Meaning, MachinePacket, Req, Oack, Data, Ack, Error, History, HasSent, HasTaken, is_error, takes_error, heard, LetsStartOn, LetsAckZeroOn, MayCome, IsOneSided}
 use Rattle.tftp_model.specs.Machines.{other_end, receiver_of}
@@ -10,7 +10,7 @@ use Rattle.tftp_tap.proofs.Passed.{at_sent, at_took, sent_passed, took_passed}
 use Rattle.tftp_tap.proofs.Ordered.{ack_asked, client_reads}
 use Rattle.tftp_tap.proofs.OneTap.{Has}
 use Rattle.tftp_tap.proofs.AtReceiver.{receiver_is}
-use Rattle.tftp_tap.proofs.KeptOf.{is_or_not, or_false, and_true, any_of, none_of, some_of, none_in, before_all, before_less, before_more, kept_out, kept_in, kept_there, kept_plain, kept_asks, kept_quiet}
+use Rattle.tftp_tap.proofs.KeptOf.{any_of, none_of, some_of, none_in, before_all, before_less, before_more, kept_out, kept_in, kept_there, kept_plain, kept_asks, kept_quiet}
 
 -- ---- what an end has heard is what passed before the other's ERROR
 
@@ -26,7 +26,7 @@ any_takes e (x ∷ passed) = rw (takes_is e x.from x.packet, any_takes e passed)
 
 pub heard_is : (e : End) (passed : List Pass) → heard (as_at e passed) ≡ as_at e (before_error pass_tests (other_end e) passed)
 heard_is e [] = refl
-heard_is e (x ∷ passed) = elim (is_or_not (list_any (pass_tests.ends (other_end e)) (x ∷ passed))) [
+heard_is e (x ∷ passed) = elim (cases_Bool (list_any (pass_tests.ends (other_end e)) (x ∷ passed))) [
   | inl some ↦ over (any_takes e (x ∷ passed) ∙ some) ∙ heard_is e passed ∙ ap (as_at e) (sym (before_less pass_tests (other_end e) x passed some))
   | inr none ↦ going (any_takes e (x ∷ passed) ∙ none) ∙ ap (as_at e) (sym (before_all pass_tests (other_end e) (x ∷ passed) none))
 ]
@@ -56,7 +56,7 @@ request_plain f Req asks e = quiet_of f Req refl e
 request_plain f Oack asks e = quiet_of f Oack refl e
 request_plain f (Data k) asks e = quiet_of f (Data k) refl e
 request_plain f (Ack j) asks e = quiet_of f (Ack j) refl e
-request_plain f (Error code text) asks e = absurd (true≢false (sym (and_true (same_end Client f) false asks).1))
+request_plain f (Error code text) asks e = absurd (true≢false (sym (and_parts (same_end Client f) false asks).1))
 
 request_is : (x : Pass) → pass_tests.asks x ≡ true → x ≡ record { from = Client; packet = Req }
 request_is x asks = by x.from x.packet refl refl asks where
@@ -101,10 +101,10 @@ module _ (r : End) where
   -- what is kept of what passed before an ERROR is before it in what is kept
   pub before_kept : (o : End) (passed : List Pass) (e : End) (p : MachinePacket) → is_error p ≡ false → Has (before_error pass_tests o passed) e p → Has (before_error pass_tests o (kept_at r passed)) e p
   before_kept o [] e p plain at = at
-  before_kept o (x ∷ passed) e p plain at = elim (is_or_not (list_any (pass_tests.ends o) (x ∷ passed))) [
+  before_kept o (x ∷ passed) e p plain at = elim (cases_Bool (list_any (pass_tests.ends o) (x ∷ passed))) [
     | inl some ↦
         let before = before_kept o passed e p plain (subst (λ v. Has v e p) (before_less pass_tests o x passed some) at) in
-        elim (is_or_not (is_left_out pass_tests r x (kept_at r passed))) [
+        elim (cases_Bool (is_left_out pass_tests r x (kept_at r passed))) [
           | inl out ↦ subst (λ v. Has (before_error pass_tests o v) e p) (sym (kept_out pass_tests r x passed out)) before
           | inr stays ↦ subst (λ v. Has (before_error pass_tests o v) e p) (sym (kept_in pass_tests r x passed stays)) (before_more pass_tests o x (kept_at r passed) (record { from = e; packet = p }) before)
         ]
@@ -152,7 +152,7 @@ module _ (r : End) where
 module _ (m : Meaning) (wire : List ℕ) where
   pub kept_may : (r : End) (passed : List Pass) → MayPassEach m wire passed → MayPassEach m wire (kept_at r passed)
   kept_may r [] may = tt
-  kept_may r (x ∷ passed) may = elim (is_or_not (is_left_out pass_tests r x (kept_at r passed))) [
+  kept_may r (x ∷ passed) may = elim (cases_Bool (is_left_out pass_tests r x (kept_at r passed))) [
     | inl out ↦ subst (MayPassEach m wire) (sym (kept_out pass_tests r x passed out)) (kept_may r passed may.1)
     | inr stays ↦ subst (MayPassEach m wire) (sym (kept_in pass_tests r x passed stays))
         (come_by m wire (other_end x.from) (as_at (other_end x.from) passed) (as_at (other_end x.from) (kept_at r passed)) (suits_kept r (other_end x.from) passed) x.packet may.0, kept_may r passed may.1)
@@ -169,7 +169,7 @@ module _ (m : Meaning) (wire : List ℕ) where
   no_ack_first : (passed : List Pass) → Client ≡ receiver_of m.side → MayPassEach m wire (kept_at Client passed)
       → is_left_out pass_tests Client (record { from = Client; packet = Req }) (kept_at Client passed) ≡ false → (j : ℕ) → HasSent (as_at Client (kept_at Client passed)) (Ack j) → ⊥
   no_ack_first passed is may stays j at =
-      let first = or_false (list_any pass_tests.asks (kept_at Client passed)) _ stays in
+      let first = or_parts (list_any pass_tests.asks (kept_at Client passed)) _ stays in
       let asked = ack_asked m wire (kept_at Client passed) may (client_reads m.side is) j (sent_passed Client (Ack j) (kept_at Client passed) at) in
       true≢false (sym (any_of pass_tests.asks (kept_at Client passed) (record { from = Client; packet = Req }) asked refl) ∙ first.0)
 
@@ -193,7 +193,7 @@ module _ (m : Meaning) (wire : List ℕ) where
 
   pub kept_order : (r : End) → r ≡ receiver_of m.side → (passed : List Pass) → MayPassEach m wire passed → KeepsOrderEach r (as_at r (kept_at r passed))
   kept_order r is [] may = tt
-  kept_order r is (x ∷ passed) may = elim (is_or_not (is_left_out pass_tests r x (kept_at r passed))) [
+  kept_order r is (x ∷ passed) may = elim (cases_Bool (is_left_out pass_tests r x (kept_at r passed))) [
     | inl out ↦ subst (λ v. KeepsOrderEach r (as_at r v)) (sym (kept_out pass_tests r x passed out)) (kept_order r is passed may.1)
     | inr stays ↦ subst (λ v. KeepsOrderEach r (as_at r v)) (sym (kept_in pass_tests r x passed stays))
         (order_of r x.from is x.packet passed may.0 (kept_may r passed may.1) stays (kept_order r is passed may.1))

@@ -1,7 +1,7 @@
 -- What breaks no rule between the ends is kept as a capture of the receiver that breaks none.
 use Rattle.std.proofs.Common.{◌≡◌, ◌⊎◌, ℕ, Bool, true, false, List, [], ◌∷◌, Contains, Some, inl, inr, refl, sym, subst, ap, ◌∙◌, arith, ◌&&◌, map}
 use Rattle.std.specs.List.{list_any}
-use Rattle.std.proofs.lemmas.Bool.{true≢false, cases_lt}
+use Rattle.std.proofs.lemmas.Bool.{true≢false, cases_lt, cases_Bool}
 use Rattle.tftp_packet.specs.{Message, RequestParts, Spells, Side, Get, Put, End, Client, Server}
 use Rattle.tftp_hosts.specs.{Datagram, Header, same_peer}
 use Rattle.tftp_model.specs.Machines.{receiver_of}
@@ -16,7 +16,7 @@ use Rattle.tftp_law.proofs.FirstBroken.FirstRequests.{some_same}
 use Rattle.tftp_law.proofs.FirstBroken.OneMessage.{only_messages}
 use Rattle.tftp_law.proofs.Division.Divided.{any_none, any_cases, any_first, any_later}
 use Rattle.tftp_tap.specs.{deed_at, TapDatagram, TapSides, side_of, AreApart, is_left_out, kept_of, before_error, same_end, is_request, tap_tests, recorded_at, header_at, FirstTapAsked, Says, HasKind, IsReply, IsLateBlock, is_of_ports}
-use Rattle.tftp_tap.proofs.KeptOf.{is_or_not, any_here, any_skip, any_of, some_of, before_there, kept_out, kept_in, kept_more, kept_plain, kept_asks}
+use Rattle.tftp_tap.proofs.KeptOf.{any_here, any_skip, any_of, some_of, before_there, kept_out, kept_in, kept_more, kept_plain, kept_asks}
 use Rattle.tftp_tap.proofs.TapTests.{asks_some}
 use Rattle.tftp_tap.proofs.TapRouted.{Carried}
 use Rattle.tftp_tap.proofs.TapRecorded.{Agrees, Each, kept_each, out_same, kept_map, IsCarried, pair_tests, datagram_in, datagrams_each, Known, AreKnown, placed_datagrams, placed_routes}
@@ -80,7 +80,7 @@ told_some = record {
   plain (Error code text) other = refl
 
 pub recorded_payload : (s : TapSides) (r : End) (d : TapDatagram) → (recorded_at s r d).payload ≡ d.payload
-recorded_payload s r d = elim (is_or_not (same_peer d.source (side_of s r))) [ inl own ↦ yours own | inr other ↦ theirs other ] where
+recorded_payload s r d = elim (cases_Bool (same_peer d.source (side_of s r))) [ inl own ↦ yours own | inr other ↦ theirs other ] where
   yours : same_peer d.source (side_of s r) ≡ true → (recorded_at s r d).payload ≡ d.payload
   yours is = rw (is) refl
 
@@ -113,7 +113,7 @@ module _ (s : TapSides) (apart : AreApart s) (asked : RequestParts) where
   -- on a read all of the server's is kept
   answers_get : (cs : List Carried) → list_any pair_tests.answers cs ≡ true → list_any pair_tests.answers (kept_of pair_tests Client cs) ≡ true
   answers_get [] some = some
-  answers_get (c ∷ cs) some = elim (is_or_not (pair_tests.answers c)) [
+  answers_get (c ∷ cs) some = elim (cases_Bool (pair_tests.answers c)) [
     | inl now ↦ subst (λ l. list_any pair_tests.answers l ≡ true) (sym (kept_in pair_tests Client c cs (stays c.pass.from now))) (any_here pair_tests.answers c (kept_of pair_tests Client cs) now)
     | inr other ↦
         let found = some_of pair_tests.answers (kept_of pair_tests Client cs) (answers_get cs (sym (any_skip pair_tests.answers c cs other) ∙ some)) in
@@ -195,7 +195,7 @@ module _ (s : TapSides) (apart : AreApart s) (asked : RequestParts) where
       nothing none from other = true≢false (sym (ap (list_any pair_tests.answers) (sym none) ∙ lawful.answered from other))
 
       error_out : (p : MachinePacket) → c.pass.from ≡ Client → is_error c.pass.packet ≡ true → is_left_out pair_tests Server c (kept_of pair_tests Server cs) ≡ false → list_any pair_tests.answers (kept_of pair_tests Server cs) ≡ true
-      error_out p from error stays = elim (is_or_not (list_any pair_tests.answers (kept_of pair_tests Server cs))) [
+      error_out p from error stays = elim (cases_Bool (list_any pair_tests.answers (kept_of pair_tests Server cs))) [
         | inl some ↦ some
         | inr none ↦ absurd (true≢false (sym (out none) ∙ stays))
       ]
@@ -237,7 +237,7 @@ module _ (s : TapSides) (apart : AreApart s) (asked : RequestParts) where
       let begins = begins_before s apart asked c cs lawful.1 each.1 first in
       let before = known_kept cs each.1 lawful.1 right.1 begins in
       let r = receiver_of asked.side in
-      elim (is_or_not (is_left_out pair_tests r c (kept_of pair_tests r cs))) [
+      elim (cases_Bool (is_left_out pair_tests r c (kept_of pair_tests r cs))) [
         | inl out ↦ subst AreKnown (sym (kept_out pair_tests r c cs out)) before
         | inr stays ↦ subst AreKnown (sym (kept_in pair_tests r c cs stays)) (known_next c cs each.0 lawful.0 right.0 begins each.1 right.1 stays, before)
       ]
@@ -292,7 +292,7 @@ module _ (s : TapSides) (apart : AreApart s) (asked : RequestParts) where
           let same : kept_of (tap_tests s) r (map datagram_in cs) ≡ map datagram_in ks = kept_map datagram_in pair_tests (tap_tests s) r cs agree in
           let out : is_left_out (tap_tests s) r c.datagram (map datagram_in ks) ≡ is_left_out pair_tests r c ks
           = out_same datagram_in pair_tests (tap_tests s) r c ks (datagrams_each s apart (c ∷ []) (is, tt)).0 (kept_each (Agrees datagram_in pair_tests (tap_tests s)) pair_tests r cs agree) in
-          elim (is_or_not (is_of_ports broken)) [
+          elim (cases_Bool (is_of_ports broken)) [
             | inl ports ↦ true≢false (sym (ap is_of_transfer route ∙ of_packet c.pass.packet) ∙ ports_off (header_at s asked.side) (map (recorded_at s r) (map datagram_in ks)) (recorded_at s r c.datagram) broken ports b)
             | inr content ↦ lawful.kept broken (record {
               of_content = content;
@@ -326,7 +326,7 @@ module _ (s : TapSides) (apart : AreApart s) (asked : RequestParts) where
       let begins = begins_before s apart asked c cs lawful.1 each.1 first in
       let before = ended_kept cs each.1 lawful.1 right.1 begins in
       let r = receiver_of asked.side in
-      elim (is_or_not (is_left_out pair_tests r c (kept_of pair_tests r cs))) [
+      elim (cases_Bool (is_left_out pair_tests r c (kept_of pair_tests r cs))) [
         | inl out ↦ subst (λ l. OneEnded (header_at s asked.side) (map (recorded_at s r) (map datagram_in l))) (sym (kept_out pair_tests r c cs out)) before
         | inr stays ↦ subst (λ l. OneEnded (header_at s asked.side) (map (recorded_at s r) (map datagram_in l))) (sym (kept_in pair_tests r c cs stays)) (
           ended_next c cs each.0 lawful.0 right.0 begins each.1 (kept_each (IsCarried s says_some) pair_tests r cs each.1)

@@ -1,7 +1,7 @@
 -- What is kept of a division, as the receiver's capture.
 use Rattle.std.proofs.Common.{◌≡◌, ◌⊎◌, Bool, true, false, List, [], ◌∷◌, Any, inl, inr, refl, sym, subst, ap, ◌∙◌, map}
 use Rattle.std.specs.List.{list_any}
-use Rattle.std.proofs.lemmas.Bool.{true≢false}
+use Rattle.std.proofs.lemmas.Bool.{true≢false, cases_Bool}
 use Rattle.tftp_packet.specs.{End, Client, Server}
 use Rattle.tftp_hosts.specs.{In, Out, Datagram, Header, peer_of, same_peer}
 use Rattle.tftp_model.specs.Machines.{other_end}
@@ -12,7 +12,7 @@ use Rattle.tftp_law.proofs.Division.Routed.{routed_by}
 use Rattle.tftp_law.proofs.Division.Divided.{any_first, any_later}
 use Rattle.tftp_tap.specs.{Pass, deed_at, as_at, TapDatagram, TapSides, side_of, AreApart, Tests, is_left_out, kept_of, same_end, pass_tests, TapPart, TapPlaced, TapDivision, tapped_of, passed_of, GoesThere, CarriesPass, HasTapPart, HaveTapParts, tap_tests, recorded_at}
 use Rattle.tftp_tap.specs.TapDress as tap
-use Rattle.tftp_tap.proofs.KeptOf.{is_or_not, kept_out, kept_in, any_skip}
+use Rattle.tftp_tap.proofs.KeptOf.{kept_out, kept_in, any_skip}
 use Rattle.tftp_tap.proofs.TapTests.{source_is, asks_some, ends_some}
 use Rattle.tftp_tap.proofs.TapRouted.{Carried, add_main, mains}
 
@@ -29,7 +29,7 @@ Each P (x ∷ xs) = P x × Each P xs
 
 pub kept_each : {X : Type 0} (P : X → Type 0) (t : Tests X) (r : End) (xs : List X) → Each P xs → Each P (kept_of t r xs)
 kept_each P t r [] each = tt
-kept_each P t r (x ∷ xs) each = elim (is_or_not (is_left_out t r x (kept_of t r xs))) [
+kept_each P t r (x ∷ xs) each = elim (cases_Bool (is_left_out t r x (kept_of t r xs))) [
   | inl out ↦ subst (Each P) (sym (kept_out t r x xs out)) (kept_each P t r xs each.1)
   | inr stays ↦ subst (Each P) (sym (kept_in t r x xs stays)) (each.0, kept_each P t r xs each.1)
 ]
@@ -69,7 +69,7 @@ module _ {X Y : Type 0} (f : X → Y) (t : Tests X) (u : Tests Y) where
       let before = kept_map r xs each.1 in
       let same : is_left_out u r (f x) (kept_of u r (map f xs)) ≡ is_left_out t r x (kept_of t r xs)
       = ap (is_left_out u r (f x)) before ∙ out_same r x (kept_of t r xs) each.0 (kept_each (Agrees f t u) t r xs each.1) in
-      elim (is_or_not (is_left_out t r x (kept_of t r xs))) [
+      elim (cases_Bool (is_left_out t r x (kept_of t r xs))) [
         | inl out ↦ kept_out u r (f x) (map f xs) (same ∙ out) ∙ before ∙ ap (map f) (sym (kept_out t r x xs out))
         | inr stays ↦ kept_in u r (f x) (map f xs) (same ∙ stays) ∙ ap (λ l. f x ∷ l) before ∙ ap (map f) (sym (kept_in t r x xs stays))
       ]
@@ -201,7 +201,7 @@ module _ (s : TapSides) (apart : AreApart s) where
 
   any_from : (r : End) (says : Saying) (ks : List Carried) → Each (IsCarried s says) ks → list_any pair_tests.answers ks ≡ true → Any (λ (p : Placed). p.datagram.dir ≡ from_server r) (placed s r ks)
   any_from r says [] each some = absurd (true≢false (sym some))
-  any_from r says (k ∷ ks) each some = elim (is_or_not (pair_tests.answers k)) [
+  any_from r says (k ∷ ks) each some = elim (cases_Bool (pair_tests.answers k)) [
     | inl now ↦ any_first (λ (p : Placed). p.datagram.dir ≡ from_server r) (place s r k) (placed s r ks) (from_dir r k says each.0 now)
     | inr other ↦ any_later (λ (p : Placed). p.datagram.dir ≡ from_server r) (place s r k) (placed s r ks) (any_from r says ks each.1 (sym (any_skip pair_tests.answers k ks other) ∙ some))
   ]

@@ -1,6 +1,6 @@
 -- The route of a datagram that passed between the ends is that of its part.
 use Rattle.std.proofs.Common.{◌≡◌, true, false, List, [], ◌∷◌, Any, inl, inr, refl, sym, subst, ap, ◌∙◌, ◌&&◌, ◌==◌, map}
-use Rattle.std.proofs.lemmas.Bool.{eqb-true}
+use Rattle.std.proofs.lemmas.Bool.{eqb-true, cases_Bool, and_parts}
 use Rattle.tftp_packet.specs.{Message, End, Client, Server}
 use Rattle.tftp_hosts.specs.{same_peer}
 use Rattle.tftp_model.specs.{MachinePacket, Req, Oack, Data, Ack, Error}
@@ -11,7 +11,7 @@ use Rattle.tftp_law.proofs.Division.Divided.{any_none, any_cases}
 use Rattle.tftp_tap.specs.{Pass, is_request, PeerId, TapDatagram, TapSides, side_of, AreApart, TapPart, Main, TapPlaced, TapDivision, tapped_of, IsMainFrom, GoesThere, CarriesPass, PassesAstray, AnswersTapStray, HasTapPart, HaveTapParts, asks_in, has_gone, tap_route, is_passing, transfer_between, TapRoute}
 use Rattle.tftp_tap.specs.TapDress.{Stray, StrayAnswer}
 use Rattle.tftp_tap.proofs.OneTapDivision.{no_stray_side}
-use Rattle.tftp_tap.proofs.KeptOf.{is_or_not, and_true, any_more}
+use Rattle.tftp_tap.proofs.KeptOf.{any_more}
 use Rattle.tftp_tap.proofs.TapTests.{asks_says, ends_says, asks_some, source_is}
 
 -- the main datagrams, each with its packet
@@ -79,9 +79,9 @@ module _ (s : TapSides) (apart : AreApart s) where
     by Server p source goes asks = rw (source_is s apart d Server Client source, source_is s apart d Server Server source, same_is d.destination s.client goes) refl
 
   no_request_in : (d : TapDatagram) → PassesAstray s d → d.destination ≡ s.server → ((s.server.port == s.asked.port) && asks_in d.payload) ≡ false
-  no_request_in d p to = elim (is_or_not ((s.server.port == s.asked.port) && asks_in d.payload)) [
+  no_request_in d p to = elim (cases_Bool ((s.server.port == s.asked.port) && asks_in d.payload)) [
     | inr other ↦ other
-    | inl is ↦ let both = and_true (s.server.port == s.asked.port) (asks_in d.payload) is in absurd (p.no_request to (eqb-true s.server.port s.asked.port both.0) (byte_begins d.payload both.1))
+    | inl is ↦ let both = and_parts (s.server.port == s.asked.port) (asks_in d.payload) is in absurd (p.no_request to (eqb-true s.server.port s.asked.port both.0) (byte_begins d.payload both.1))
   ]
 
   stray_route : (earlier : TapDivision) (d : TapDatagram) → PassesAstray s d → tap_route s (tapped_of earlier) d ≡ TapRoute.Stray

@@ -1,7 +1,7 @@
 -- What breaks no rule between the ends is what some run shows there.
 use Rattle.std.proofs.Common.{◌≡◌, ◌⊎◌, ℕ, ◌≤◌, Bool, true, false, List, [], ◌∷◌, Any, Contains, Some, inl, inr, refl, sym, subst, ap, ◌∙◌, arith, ◌&&◌, ◌||◌, not, map}
 use Rattle.std.specs.List.{list_any}
-use Rattle.std.proofs.lemmas.Bool.{true≢false, cases_lt}
+use Rattle.std.proofs.lemmas.Bool.{true≢false, cases_lt, cases_Bool, cases_eq}
 use Rattle.tftp_packet.specs.{no_options, Message, RequestParts, Spells, Side, Get, Put, End, Client, Server}
 use Rattle.tftp_model.specs.{Meaning, request_of, SomethingAgreed, MachinePacket, Req, Oack, Data, Ack, Error, HasSent, HasTaken, MayAckZeroOn, is_error, heard, LetsAckZeroOn, MayComeError, IsOneSided}
 use Rattle.tftp_model.specs.Machines.{other_end, sender_of, receiver_of}
@@ -23,7 +23,7 @@ use Rattle.tftp_tap.specs.{Pass, deed_at, as_at, MayPassEach, TapDatagram, TapSi
 use Rattle.tftp_tap.proofs.Passed.{sent_at, at_sent, took_passed}
 use Rattle.tftp_tap.proofs.AtReceiver.{receiver_is}
 use Rattle.tftp_tap.proofs.OneTap.{Has, pass_moment, begun}
-use Rattle.tftp_tap.proofs.KeptOf.{is_or_not, any_skip, any_of, some_of, before_there, before_all, before_less, kept_out, kept_in, kept_there, kept_plain, kept_asks}
+use Rattle.tftp_tap.proofs.KeptOf.{any_skip, any_of, some_of, before_there, before_all, before_less, kept_out, kept_in, kept_there, kept_plain, kept_asks}
 use Rattle.tftp_tap.proofs.TapKept.{before_sent}
 use Rattle.tftp_tap.proofs.TapBack.{kept_tells}
 use Rattle.tftp_tap.proofs.TapRouted.{Carried}
@@ -44,16 +44,10 @@ has_pass bs b e p at from packet = subst (Contains (map pass_in bs)) (whole b.pa
 before_has : (o : End) (cs : List Carried) (b : Carried) (e : End) (p : MachinePacket) → Contains (before_error pair_tests o cs) b → b.pass.from ≡ e → b.pass.packet ≡ p → Has (before_error pass_tests o (map pass_in cs)) e p
 before_has o cs b e p at from packet = subst (λ l. Has l e p) (sym (before_map pass_in pair_tests pass_tests o cs (passes_each cs))) (has_pass (before_error pair_tests o cs) b e p at from packet)
 
-same_number : (a b : ℕ) → (a ≡ b) ⊎ (a ≡ b → ⊥)
-same_number a b = elim (cases_lt a b) [
-  | inl below ↦ inr (λ is. omega (arith, below))
-  | inr up ↦ elim (cases_lt b a) [ inl above ↦ inr (λ is. omega (arith, above)) | inr down ↦ inl (omega (arith, up, down)) ]
-]
-
 decide_block : (k : ℕ) → Decides (IsBlock k)
 decide_block k (Message.Request asked) = inr (λ is. is)
 decide_block k (Message.Oack options) = inr (λ is. is)
-decide_block k (Message.Data i bytes) = same_number i k
+decide_block k (Message.Data i bytes) = cases_eq i k
 decide_block k (Message.Ack j) = inr (λ is. is)
 decide_block k (Message.Error code text) = inr (λ is. is)
 
@@ -188,9 +182,9 @@ module _ (s : TapSides) (apart : AreApart s) (asked : RequestParts) where
     -- the request has passed before the server's first ERROR
     request_before : (bs : List Carried) → AreLawful s bs → Each (IsCarried s says_some) bs → list_any pair_tests.asks bs ≡ true → list_any pair_tests.asks (before_error pair_tests Server bs) ≡ true
     request_before [] lawful each some = some
-    request_before (b ∷ bs) lawful each some = elim (is_or_not (list_any (pair_tests.ends Server) (b ∷ bs))) [
+    request_before (b ∷ bs) lawful each some = elim (cases_Bool (list_any (pair_tests.ends Server) (b ∷ bs))) [
       | inr none ↦ subst (λ l. list_any pair_tests.asks l ≡ true) (sym (before_all pair_tests Server (b ∷ bs) none)) some
-      | inl ended ↦ subst (λ l. list_any pair_tests.asks l ≡ true) (sym (before_less pair_tests Server b bs ended)) (request_before bs lawful.1 each.1 (elim (is_or_not (pair_tests.ends Server b)) [
+      | inl ended ↦ subst (λ l. list_any pair_tests.asks l ≡ true) (sym (before_less pair_tests Server b bs ended)) (request_before bs lawful.1 each.1 (elim (cases_Bool (pair_tests.ends Server b)) [
         | inl now ↦ server_after s apart b bs lawful.0 (server_is b.pass.from b.pass.packet now) each.1
         | inr other ↦ asks_later bs lawful.1 each.1 (sym (any_skip (pair_tests.ends Server) b bs other) ∙ ended)
       ]))
@@ -202,7 +196,7 @@ module _ (s : TapSides) (apart : AreApart s) (asked : RequestParts) where
 
         asks_later : (bs : List Carried) → AreLawful s bs → Each (IsCarried s says_some) bs → list_any (pair_tests.ends Server) bs ≡ true → list_any pair_tests.asks bs ≡ true
         asks_later [] lawful each ended = absurd (true≢false (sym ended))
-        asks_later (x ∷ bs) lawful each ended = elim (is_or_not (pair_tests.ends Server x)) [
+        asks_later (x ∷ bs) lawful each ended = elim (cases_Bool (pair_tests.ends Server x)) [
           | inl now ↦ any_more_asks x bs (server_after s apart x bs lawful.0 (server_is x.pass.from x.pass.packet now) each.1)
           | inr other ↦ any_more_asks x bs (asks_later bs lawful.1 each.1 (sym (any_skip (pair_tests.ends Server) x bs other) ∙ ended))
         ]
@@ -357,7 +351,7 @@ module _ (s : TapSides) (apart : AreApart s) (asked : RequestParts) where
         })
 
         equal : Any (λ (x : TapDatagram). (x.source ≡ side_of s c.pass.from) × Spells x.payload (Message.Error one words)) (map datagram_in cs) → (one ≡ code) × (words ≡ text)
-        equal before = elim (same_number one code) [
+        equal before = elim (cases_eq one code) [
           | inr differs ↦ absurd (other (λ both. differs (sym both.0)) before)
           | inl number ↦ elim (same_text words text) [
             | inr differs ↦ absurd (other (λ both. differs (sym both.1)) before)
@@ -391,7 +385,7 @@ module _ (s : TapSides) (apart : AreApart s) (asked : RequestParts) where
     by false false = refl
 
   own_rest : (m : Meaning) (wire : List ℕ) (r : End) (c : Carried) (cs : List Carried) → IsOneSided m wire r (as_at r (map pass_in (kept_of pair_tests r (c ∷ cs)))) → IsOneSided m wire r (as_at r (map pass_in (kept_of pair_tests r cs)))
-  own_rest m wire r c cs own = elim (is_or_not (is_left_out pair_tests r c (kept_of pair_tests r cs))) [
+  own_rest m wire r c cs own = elim (cases_Bool (is_left_out pair_tests r c (kept_of pair_tests r cs))) [
     | inl out ↦ subst (λ l. IsOneSided m wire r (as_at r (map pass_in l))) (kept_out pair_tests r c cs out) own
     | inr stays ↦ lawful_tail m wire r (deed_at r c.pass.from c.pass.packet) (as_at r (map pass_in (kept_of pair_tests r cs))) (subst (λ l. IsOneSided m wire r (as_at r (map pass_in l))) (kept_in pair_tests r c cs stays) own)
   ]

@@ -179,7 +179,7 @@ module _ (bound : ℕ) where
 
 -- ---- a whole recording
 
-length_placed : (named : List ℕ) (recorded : List Recorded) → length (placed named recorded) ≡ length recorded
+pub length_placed : (named : List ℕ) (recorded : List Recorded) → length (placed named recorded) ≡ length recorded
 length_placed named [] = refl
 length_placed named (d ∷ recorded) = ap suc (length_placed named recorded)
 

@@ -24,6 +24,7 @@ use Rattle.tftp_worked.proofs.ReadShown.{ids, read_dressed, two_shown}
 use Rattle.tftp_worked.proofs.MoreShown.{eights_fit}
 use Rattle.tftp_worked.proofs.Bases.{asks_for, plain_asks, plain_hi, plain_begun, read_by_eight}
 use Rattle.tftp_worked.proofs.RefusedErrors.{not_found_spelled, stop_spelled, not_found, forbidden, full, plain_ack}
+use Rattle.tftp_worked.proofs.Chains.{same_oack}
 
 -- ---- reads of two bytes
 
@@ -163,9 +164,6 @@ late_all = came 2 (codes "89") ∷ stopped_news
 abbrev late : List Spelled
 late = late_all ++ read_by_eight.es
 
-same_options : (p q : OptionMap) → Message.Oack p ≡ Message.Oack q → p ≡ q
-same_options p q e = cc
-
 abbrev is_ack_zero : MachinePacket → Bool
 is_ack_zero (Ack j) = nat_le j 0
 is_ack_zero _ = true
@@ -184,7 +182,7 @@ pub late_is_unlawful : IsLawful at_client (before_late_answer ++ late_answer ∷
 late_is_unlawful (m, wire, seen) =
     let dress = seen.dressed in
     let meant = client_meant m wire dress.ids late_all (comes (oack by_eight), Message.Oack eight_a_block) (asks (request 1 by_eight), Message.Request (asks_for Get eight_a_block)) dress.division dress.whole dress.parts read_by_eight.spelled refl in
-    let agreed : m.agreed ≡ eight_a_block = same_options m.agreed eight_a_block meant.1.1.1.1.1.1.0 in
+    let agreed : m.agreed ≡ eight_a_block = same_oack m.agreed eight_a_block meant.1.1.1.1.1.1.0 in
     late_is_out m wire (one_sided_as m wire seen.view (deeds_for late) seen.run (sym dress.main ∙ meant.0)) (ap (λ o. option_or 1 o (codes "windowsize")) agreed ∙ one_at_a_time)
 
 -- ---- at a server that has not answered
