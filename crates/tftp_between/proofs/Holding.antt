@@ -13,8 +13,8 @@ use Rattle.tftp_views.specs.{Party, IsFed}
 use Rattle.tftp_between.specs.{are_apart, between_capture, is_to_itself, passed_of, sides_of, sides_with, AreHeld, Between, BetweenBy, HasPassed, IsBetweenAfter, IsGoingOn, IsWaiting, View, counted_by, given_to, passed_as}
 use Rattle.tftp_between.proofs.Feeding.{captured_too, passed_fed}
 use Rattle.tftp_views.proofs.Settling.{settled_stays}
-use Rattle.tftp_views.proofs.Holding.{on_ok}
-use Rattle.tftp_between.proofs.Settling.{ends_too, same_own, server_too, settled_too, sides_stay}
+use Rattle.tftp_views.proofs.Holding.{on_ok, ends_too, same_own, server_too, settled_too}
+use Rattle.tftp_between.proofs.Settling.{itself, sides_stay}
 use Rattle.tftp_between.proofs.Sides.{to_itself}
 
 -- ---- the oldest of those that are held are given first
@@ -62,19 +62,19 @@ held_short held d short is = All-append (λ (d : Owned). length d.payload ≤ 65
 pub passes_by : (v : View) (p : Placed) (older : List Placed) → is_of v.transfer.number p ≡ false → IsBetweenAfter v older → IsBetweenAfter v (p ∷ older)
 passes_by v p older off = by v.judge where
   same : between_capture v.transfer (p ∷ older) ≡ between_capture v.transfer older
-  same = ap (map (λ (q : Placed). passed_of q.datagram)) (same_own v.transfer.number p older off)
+  same = ap (map (λ (q : Placed). passed_of q.datagram)) (same_own v.transfer.number (is_of v.transfer.number) (itself v.transfer.number) p older off)
 
   by : (o : Option Between) → BetweenBy o v older → BetweenBy o v (p ∷ older)
   by None waits = record {
     number = waits.number;
-    ends = ends_too v.transfer.number p older off v.ends waits.number waits.ends;
-    unsettled = sym (settled_too v.transfer.number p older off) ∙ waits.unsettled;
+    ends = ends_too v.transfer.number (is_of v.transfer.number) (itself v.transfer.number) p older off v.ends waits.number waits.ends;
+    unsettled = sym (settled_too v.transfer.number (is_of v.transfer.number) (itself v.transfer.number) p older off) ∙ waits.unsettled;
     held = subst (AreHeld v.held) (sym same) waits.held;
   }
   by (Some b) goes = record {
-    settled = sym (settled_too v.transfer.number p older off) ∙ goes.settled;
+    settled = sym (settled_too v.transfer.number (is_of v.transfer.number) (itself v.transfer.number) p older off) ∙ goes.settled;
     none = goes.none;
-    sides = goes.sides ∙ ap (sides_with v.transfer) (server_too v.transfer.number p older off);
+    sides = goes.sides ∙ ap (sides_with v.transfer) (server_too v.transfer.number (is_of v.transfer.number) (itself v.transfer.number) p older off);
     passed = subst (HasPassed b) (sym same) goes.passed;
   }
 
